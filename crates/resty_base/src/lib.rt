@@ -2,6 +2,7 @@
 //! dictionary, and the files and sinks through which the program reads and writes.
 #![tactic(auto)]
 
+mod boxed;
 mod dictionary;
 mod files;
 mod lists;
@@ -10,6 +11,7 @@ mod range;
 mod sinks;
 mod whole_numbers;
 
+pub use boxed::Boxed;
 pub use bytes::Bytes;
 pub use dictionary::{DictAnswer, DictCall, DictValue, How};
 pub use files::{DiskFiles, Fetched, Files, MemFiles};

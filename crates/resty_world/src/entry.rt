@@ -1,5 +1,5 @@
 use crate::{Event, TimerAnswer};
-use resty_base::{Bytes, DictAnswer, DictCall, Id, Ms, StrandId};
+use resty_base::{Boxed, Bytes, DictAnswer, DictCall, Id, Ms, StrandId};
 
 /// One entry of a history: what was given, what was done, what was answered.
 #[derive(Debug, Drop)]
@@ -19,7 +19,7 @@ pub enum Entry {
     /// A log line, and whether it was written.
     Log(StrandId, Bytes, bool),
     /// A call of the dictionary of that name, and its answer.
-    Dict(StrandId, Bytes, Box<DictCall>, Box<DictAnswer>),
+    Dict(StrandId, Bytes, Boxed<DictCall>, Boxed<DictAnswer>),
     /// An idle socket of that key was taken from the pool: its number and its uses, none where there was none.
     Take(StrandId, Bytes, Option<(u64, u32)>),
     /// A socket went back to the pool: its key, how long it may be idle, the pool's size, and the socket that was closed for it.
