@@ -1,0 +1,98 @@
+-- What happens: to one strand, and to all of them. Lists of actions have the newest first.
+use Rattle.std.specs.Prelude.{ℕ, Bool, true, false, List, Option, ◌==◌}
+use Rattle.resty_base.specs.declared.names.Ms.{Ms}
+use Rattle.resty_base.specs.declared.names.StrandId.{StrandId}
+use Rattle.resty_base.specs.declared.dictionary.DictCall.{DictCall}
+use Rattle.resty_base.specs.declared.dictionary.DictAnswer.{DictAnswer}
+use Rattle.resty_world.specs.declared.answers.TimerAnswer.{TimerAnswer}
+use Rattle.resty_world.specs.declared.event.Event.{Event}
+use Rattle.strand_contract.specs.declared.turns.Place.{Place}
+use Rattle.strand_contract.specs.declared.turns.Place.TheVariants as place
+use Rattle.strand_contract.specs.declared.turns.Start.{Start}
+
+-- what every living strand is told
+pub data Word : Type 0 where
+  Moment : (t : ℕ) → Word
+  Stop : Word
+
+-- what happens to one strand. Jobs start as J says
+pub data Action (J : Type 0) : Type 0 where
+  -- it begins, at a moment
+  Began : (now : ℕ) (start : Start J) → Action J
+  -- what is given at its places; sockets are numbered by its own count
+  Came : (at : Place) (bytes : List ℕ) → Action J
+  Ended : (at : Place) → Action J
+  Broke : (at : Place) → Action J
+  TakesAgain : (at : Place) → Action J
+  Connected : (sock : ℕ) → Action J
+  Refused : (sock : ℕ) → Action J
+  -- what it does, with the answer
+  Put : (at : Place) (bytes : List ℕ) → Action J
+  Later : (at : Place) → Action J
+  Lost : (at : Place) → Action J
+  Closed : (at : Place) → Action J
+  Logged : (line : List ℕ) (done : Bool) → Action J
+  Asked : (zone : ℕ) (call : DictCall) (answer : DictAnswer) → Action J
+  Took : (key : List ℕ) (uses : Option ℕ) → Action J
+  Dialled : (host : List ℕ) (port : ℕ) (done : Bool) → Action J
+  Kept : (sock : ℕ) (key : List ℕ) (idle : Ms) (size : ℕ) → Action J
+  Timed : (due : Ms) (answer : TimerAnswer) → Action J
+  -- it is given up for want of memory
+  Dropped : Action J
+  -- internal, without an entry: a thread runs, an offer of a place begins, a deadline is taken, Stop ends it, its life is over
+  Ran : (thread : ℕ) → Action J
+  Offered : (at : Place) → Action J
+  Due : (number : ℕ) → Action J
+  Halted : Action J
+  Gone : Action J
+
+-- one strand's own execution is made of what it is told and of what happens to it
+pub data LocalAction (J : Type 0) : Type 0 where
+  Told : (w : Word) → LocalAction J
+  Did : (x : Action J) → LocalAction J
+
+-- an execution of all strands
+pub data GlobalAction (J : Type 0) : Type 0 where
+  -- of one strand; where it gains a socket or closes one of the pool's, with the world's number of that
+  Of : (s : StrandId) (x : Action J) (sock : Option ℕ) → GlobalAction J
+  Everyone : (w : Word) → GlobalAction J
+  -- a connection is turned away as it arrives
+  TurnedAway : (c : ℕ) → GlobalAction J
+  -- an idle socket of the pool gives something, or is closed
+  IdleGave : (e : Event) → GlobalAction J
+  IdleClosed : (n : ℕ) → GlobalAction J
+
+-- the two are the same place
+abbrev pub same_place : Place → Place → Bool
+same_place place.Client place.Client = true
+same_place (place.Sock k) (place.Sock j) = k == j
+same_place place.Client (place.Sock j) = false
+same_place (place.Sock k) place.Client = false
+
+-- actions that leave no entry
+abbrev pub is_internal : {J : Type 0} → Action J → Bool
+is_internal (Ran k) = true
+is_internal (Offered q) = true
+is_internal (Due n) = true
+is_internal Halted = true
+is_internal Gone = true
+is_internal x = false
+
+-- actions that begin a turn which is an event of the strand's own: something given, a deadline, the beginning, the end by Stop
+abbrev pub is_event : {J : Type 0} → Action J → Bool
+is_event (Began now start) = true
+is_event (Came q b) = true
+is_event (Ended q) = true
+is_event (Broke q) = true
+is_event (TakesAgain q) = true
+is_event (Connected k) = true
+is_event (Refused k) = true
+is_event (Due n) = true
+is_event Halted = true
+is_event x = false
+
+-- events that the world gives
+abbrev pub is_given : {J : Type 0} → Action J → Bool
+is_given (Due n) = false
+is_given Halted = false
+is_given x = is_event x

@@ -1,0 +1,147 @@
+-- The order of the turns of all strands: no line of waiting turns is in it, only which turn made which.
+use Rattle.std.specs.Prelude.{◌≡◌, ℕ, Bool, true, false, not, ◌||◌, ◌&&◌, List, [], ◌∷◌, ◌++◌, if◌then◌else◌}
+use Rattle.resty_base.specs.declared.names.StrandId.{StrandId}
+use Rattle.resty_world.specs.Ids.{same_strand}
+use Rattle.strand_contract.specs.declared.turns.Place.{Place}
+use Rattle.strand_contract.specs.declared.turns.Act.{Act}
+use Rattle.strand_contract.specs.declared.turns.Act.TheVariants as act
+use Rattle.strand_contract.specs.Actions.{Action, Began, Dropped, Ran, Offered, Due, Halted, Did, GlobalAction, Of, is_event, is_given}
+use Rattle.strand_contract.specs.Behaviors.{Behavior}
+use Rattle.strand_contract.specs.Alone.{lives, waiting, to_offer, offers, IsBetween}
+use Rattle.strand_contract.specs.Executions.{projection, has_given}
+
+-- xs is ys with some left out, in the same order
+pub data IsSubsequence {A : Type 0} : List A → List A → Type 0 where
+  none : IsSubsequence [] []
+  keep : {x : A} {xs ys : List A} → IsSubsequence xs ys → IsSubsequence (x ∷ xs) (x ∷ ys)
+  skip : {y : A} {xs ys : List A} → IsSubsequence xs ys → IsSubsequence xs (y ∷ ys)
+
+-- each element with its strand; and those of one strand
+abbrev pub with_strand : {A : Type 0} → StrandId → List A → List (StrandId × A)
+with_strand s [] = []
+with_strand s (x ∷ xs) = (s, x) ∷ with_strand s xs
+
+abbrev pub only : {A : Type 0} → StrandId → List (StrandId × A) → List A
+only s [] = []
+only s (x ∷ xs) = if same_strand s x.0 then x.1 ∷ only s xs else only s xs
+
+-- threads that are put in line, and those that run, the oldest first
+abbrev pub readied : {J : Type 0} → List (Act J) → List ℕ
+readied [] = []
+readied (act.Ready k ∷ acts) = k ∷ readied acts
+readied (a ∷ acts) = readied acts
+
+abbrev pub run_of : {J : Type 0} → Action J → List ℕ
+run_of (Ran k) = k ∷ []
+run_of x = []
+
+abbrev pub all_readied : {J : Type 0} → Behavior J → List (GlobalAction J) → List (StrandId × ℕ)
+all_readied b [] = []
+all_readied b (Of s x n ∷ ms) = all_readied b ms ++ with_strand s (readied (b.acts (Did x ∷ projection s ms)))
+all_readied b (m ∷ ms) = all_readied b ms
+
+abbrev pub all_run : {J : Type 0} → List (GlobalAction J) → List (StrandId × ℕ)
+all_run [] = []
+all_run (Of s x n ∷ ms) = all_run ms ++ with_strand s (run_of x)
+all_run (m ∷ ms) = all_run ms
+
+-- places that are put in line, and those whose offer begins, the oldest first
+abbrev pub offer_of : {J : Type 0} → Action J → List Place
+offer_of (Offered q) = q ∷ []
+offer_of x = []
+
+abbrev pub all_placed : {J : Type 0} → Behavior J → List (GlobalAction J) → List (StrandId × Place)
+all_placed b [] = []
+all_placed b (Of s x n ∷ ms) = all_placed b ms ++ with_strand s (offers (b.acts (Did x ∷ projection s ms)))
+all_placed b (m ∷ ms) = all_placed b ms
+
+abbrev pub all_offered : {J : Type 0} → List (GlobalAction J) → List (StrandId × Place)
+all_offered [] = []
+all_offered (Of s x n ∷ ms) = all_offered ms ++ with_strand s (offer_of x)
+all_offered (m ∷ ms) = all_offered ms
+
+-- strands that begin, and those that Stop ends, the oldest first
+abbrev pub beginning_of : {J : Type 0} → StrandId → Action J → List StrandId
+beginning_of s (Began now start) = s ∷ []
+beginning_of s x = []
+
+abbrev pub all_begun : {J : Type 0} → List (GlobalAction J) → List StrandId
+all_begun [] = []
+all_begun (Of s x n ∷ ms) = all_begun ms ++ beginning_of s x
+all_begun (m ∷ ms) = all_begun ms
+
+abbrev pub ending_of : {J : Type 0} → StrandId → Action J → List StrandId
+ending_of s Halted = s ∷ []
+ending_of s x = []
+
+abbrev pub all_halted : {J : Type 0} → List (GlobalAction J) → List StrandId
+all_halted [] = []
+all_halted (Of s x n ∷ ms) = all_halted ms ++ ending_of s x
+all_halted (m ∷ ms) = all_halted ms
+
+-- the newest turn of all is an offer
+abbrev pub is_offer : {J : Type 0} → Action J → Bool
+is_offer (Offered q) = true
+is_offer x = false
+
+abbrev pub is_run : {J : Type 0} → Action J → Bool
+is_run (Ran k) = true
+is_run x = false
+
+abbrev pub offers_last : {J : Type 0} → List (GlobalAction J) → Bool
+offers_last [] = false
+offers_last (Of s x n ∷ ms) = is_offer x || (not (is_run x || is_event x) && offers_last ms)
+offers_last (m ∷ ms) = false
+
+-- the strand has had a part in what the last given event began
+abbrev pub was_touched : {J : Type 0} → StrandId → List (GlobalAction J) → Bool
+was_touched s [] = false
+was_touched s (Of t x n ∷ ms) = same_strand s t || (not (is_given x) && was_touched s ms)
+was_touched s (m ∷ ms) = not (has_given m) && was_touched s ms
+
+-- no turn of a living strand is under way; no place, no thread of one is in line
+abbrev pub NoneUnderWay : {J : Type 0} → Behavior J → List (GlobalAction J) → Type 0
+NoneUnderWay b ms = (s : StrandId) → lives (projection s ms) ≡ true → IsBetween b (projection s ms)
+
+abbrev pub NoPlaceInLine : {J : Type 0} → Behavior J → List (GlobalAction J) → Type 0
+NoPlaceInLine b ms = (s : StrandId) → lives (projection s ms) ≡ true → to_offer b (projection s ms) ≡ []
+
+abbrev pub NoThreadInLine : {J : Type 0} → Behavior J → List (GlobalAction J) → Type 0
+NoThreadInLine b ms = (s : StrandId) → lives (projection s ms) ≡ true → waiting b (projection s ms) ≡ []
+
+-- of what was put in line by all, this is the first that still waits: whatever a living strand has in line was put there no earlier
+pub record IsFirstWaiting {A : Type 0} (line : List (StrandId × A)) (waits : StrandId → List A → Type 0) (s : StrandId) (x : A) : Type 0 where
+  pub before : List (StrandId × A)
+  pub after : List (StrandId × A)
+  pub here : line ≡ before ++ (s, x) ∷ after
+  pub first : (t : StrandId) (xs : List A) → waits t xs → IsSubsequence xs (only t ((s, x) ∷ after))
+
+-- a living strand's threads, and its places, in line
+abbrev pub HasThreads : {J : Type 0} → Behavior J → List (GlobalAction J) → StrandId → List ℕ → Type 0
+HasThreads b ms t xs = (lives (projection t ms) ≡ true) × (xs ≡ waiting b (projection t ms))
+
+abbrev pub HasPlaces : {J : Type 0} → Behavior J → List (GlobalAction J) → StrandId → List Place → Type 0
+HasPlaces b ms t xs = (lives (projection t ms) ≡ true) × (xs ≡ to_offer b (projection t ms))
+
+-- Turns don't interleave. A thread runs, after offers, only where no place is left in line, and a place is offered, after
+-- runs and events, only where no thread is; of those in line each is the first. A strand is dropped at an event of its own
+abbrev pub TurnsInOrder : {J : Type 0} → Behavior J → List (GlobalAction J) → Type 0
+TurnsInOrder b [] = Unit {0}
+TurnsInOrder b (Of s (Ran k) n ∷ ms) =
+    TurnsInOrder b ms × NoneUnderWay b ms × (offers_last ms ≡ true → NoPlaceInLine b ms)
+    × IsFirstWaiting (all_readied b ms) (HasThreads b ms) s k
+TurnsInOrder b (Of s (Offered q) n ∷ ms) =
+    TurnsInOrder b ms × NoneUnderWay b ms × (offers_last ms ≡ false → NoThreadInLine b ms)
+    × IsFirstWaiting (all_placed b ms) (HasPlaces b ms) s q
+TurnsInOrder b (Of s (Due at) n ∷ ms) = TurnsInOrder b ms × NoneUnderWay b ms
+TurnsInOrder b (Of s Halted n ∷ ms) = TurnsInOrder b ms × NoneUnderWay b ms
+TurnsInOrder b (Of s Dropped n ∷ ms) = TurnsInOrder b ms × (was_touched s ms ≡ true)
+TurnsInOrder b (m ∷ ms) = TurnsInOrder b ms
+
+-- The turns are in order: runs in the order in which their threads were put in line, offers likewise, and the ends by Stop in
+-- the order of beginning. (Deadlines have no order among strands yet.)
+pub record IsOrdered {J : Type 0} (b : Behavior J) (ms : List (GlobalAction J)) : Type 0 where
+  pub runs : IsSubsequence (all_run ms) (all_readied b ms)
+  pub offered : IsSubsequence (all_offered ms) (all_placed b ms)
+  pub ends : IsSubsequence (all_halted ms) (all_begun ms)
+  pub turns : TurnsInOrder b ms

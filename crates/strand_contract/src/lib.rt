@@ -1,0 +1,9 @@
+//! What the engine knows of a strand: the turns that it takes, as a function of what happened to it, and the calls by
+//! which it takes them. The definitions of executions, of their histories and of their order stand beside it.
+#![tactic(auto)]
+
+mod contract;
+mod turns;
+
+pub use contract::StrandContract;
+pub use turns::{Act, Acts, Answer, Place, Seen, Start};
