@@ -1,0 +1,22 @@
+-- The execution in which nothing happens.
+use Rattle.std.proofs.Common.{◌≡◌, true, false, refl, []}
+use Rattle.resty_world.specs.Book.{Book}
+use Rattle.strand_contract.specs.Behaviors.{Behavior}
+use Rattle.strand_contract.specs.Order.{none}
+use Rattle.engine.specs.Right.{IsFresh, IsRight}
+
+pub fresh-right : {J : Type 0} (b : Behavior J) (book : Book) → IsFresh book → IsRight b book
+fresh-right b book fresh = record {
+  execution = [];
+  history = fresh.history;
+  offered = fresh.offered;
+  lawful = record {
+    alone = λ s. tt;
+    begins = tt;
+    given = tt;
+    rests = λ s. record { idle = λ on. absurd (let e : false ≡ true = on in cc); closed = λ off q. refl };
+  };
+  kept = (tt, λ s on. absurd (let e : false ≡ true = on in cc));
+  plain = tt;
+  ordered = record { runs = none; offered = none; ends = none; turns = tt };
+}

@@ -1,0 +1,67 @@
+-- What a world that was served tells.
+use Rattle.std.specs.Prelude.{◌≡◌, ◌≢◌, ℕ, ◌+◌, Bool, false, List, [], ◌∷◌, length, Option, Some, None, IfSome}
+use Rattle.resty_base.specs.Counting.{Rose}
+use Rattle.resty_base.specs.declared.names.Id.{Id}
+use Rattle.resty_world.specs.declared.entry.Entry.{Entry}
+use Rattle.resty_world.specs.declared.entry.Entry.TheVariants as entry
+use Rattle.resty_world.specs.declared.event.Event.{Event}
+use Rattle.resty_world.specs.declared.event.Event.TheVariants as event
+use Rattle.resty_world.specs.Book.{Book}
+use Rattle.resty_world.specs.Given.{IsBadLine}
+use Rattle.strand_contract.specs.Actions.{GlobalAction}
+use Rattle.strand_contract.specs.Behaviors.{Behavior}
+use Rattle.strand_contract.specs.Executions.{external, offered_lengths, IsLawful, IsKept, IsPlain}
+use Rattle.strand_contract.specs.Order.{IsOrdered}
+use Rattle.engine.specs.declared.server.Ended.{Ended}
+use Rattle.engine.specs.declared.server.Ended.TheVariants as ended
+
+-- what is told is this
+abbrev pub Tells : {A : Type 0} → Option (List A) → List A → Type 0
+Tells None xs = Unit {0}
+Tells (Some told) xs = told ≡ xs
+
+-- a world at which nothing has happened
+pub record IsFresh (book : Book) : Type 0 where
+  pub history : Tells book.history []
+  pub offered : Tells book.offered []
+  pub arrivals : book.arrivals ≡ 0
+  pub dials : book.dials ≡ 0
+  pub none_open : (x : Id) → book.is_open x ≡ false
+
+-- the world's history is that of one execution, which is lawful, kept, plain and ordered
+pub record IsRight {J : Type 0} (b : Behavior J) (book : Book) : Type 0 where
+  pub execution : List (GlobalAction J)
+  pub history : Tells book.history (external b execution)
+  pub offered : Tells book.offered (offered_lengths b execution)
+  pub lawful : IsLawful b execution
+  pub kept : IsKept b execution
+  pub plain : IsPlain b execution
+  pub ordered : IsOrdered b execution
+
+-- the events that were given, the newest first
+abbrev pub events_of : List Entry → List Event
+events_of [] = []
+events_of (entry.Given e ∷ h) = e ∷ events_of h
+events_of (e ∷ h) = events_of h
+
+-- Stop was given last, or not at all
+abbrev pub IsStopped : List Entry → Type 0
+IsStopped h = (before : List Event) × (events_of h ≡ event.Stop ∷ before)
+
+abbrev pub HasNoStop : List Event → Type 0
+HasNoStop [] = Unit {0}
+HasNoStop (event.Stop ∷ es) = ⊥
+HasNoStop (e ∷ es) = HasNoStop es
+
+-- so many events were given, and none of them was Stop
+pub record IsSpent (events : ℕ) (h : List Entry) : Type 0 where
+  pub count : length (events_of h) ≡ events
+  pub no_stop : HasNoStop (events_of h)
+
+-- how serving ends: by Stop, once all events are given, by a fault, at a bad line, or for want of memory
+abbrev pub EndsBy : ℕ → Book → Book → Ended → Type 0
+EndsBy events old new ended.Stopped = IfSome new.history IsStopped × (new.faults ≡ old.faults)
+EndsBy events old new (ended.Spent n) = (n ≡ events) × IfSome new.history (IsSpent events) × (new.faults ≡ old.faults)
+EndsBy events old new ended.WorldFault = Rose old.faults new.faults
+EndsBy events old new (ended.BadLine n) = IsBadLine new n × (new.faults ≡ old.faults)
+EndsBy events old new ended.Memory = new.faults ≡ old.faults
