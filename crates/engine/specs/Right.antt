@@ -1,5 +1,5 @@
 -- What a world that was served tells.
-use Rattle.std.specs.Prelude.{◌≡◌, ◌≢◌, ℕ, ◌+◌, Bool, false, List, [], ◌∷◌, length, Option, Some, None, IfSome}
+use Rattle.std.specs.Prelude.{◌≡◌, ◌⊎◌, ℕ, false, List, [], ◌∷◌, length, Option, Some, None, IfSome}
 use Rattle.resty_base.specs.Counting.{Rose}
 use Rattle.resty_base.specs.declared.names.Id.{Id}
 use Rattle.resty_world.specs.declared.entry.Entry.{Entry}
@@ -58,10 +58,20 @@ pub record IsSpent (events : ℕ) (h : List Entry) : Type 0 where
   pub count : length (events_of h) ≡ events
   pub no_stop : HasNoStop (events_of h)
 
+-- a log line wasn't written
+abbrev pub HasFailedLog : List Entry → Type 0
+HasFailedLog [] = ⊥
+HasFailedLog (entry.Log who line false ∷ h) = Unit {0}
+HasFailedLog (e ∷ h) = HasFailedLog h
+
+-- the world failed where Stop was still to be given, or a log line wasn't written
+abbrev pub IsFaulted : List Entry → Type 0
+IsFaulted h = HasNoStop (events_of h) ⊎ HasFailedLog h
+
 -- how serving ends: by Stop, once all events are given, by a fault, at a bad line, or for want of memory
 abbrev pub EndsBy : ℕ → Book → Book → Ended → Type 0
 EndsBy events old new ended.Stopped = IfSome new.history IsStopped × (new.faults ≡ old.faults)
 EndsBy events old new (ended.Spent n) = (n ≡ events) × IfSome new.history (IsSpent events) × (new.faults ≡ old.faults)
-EndsBy events old new ended.WorldFault = Rose old.faults new.faults
+EndsBy events old new ended.WorldFault = Rose old.faults new.faults × IfSome new.history IsFaulted
 EndsBy events old new (ended.BadLine n) = IsBadLine new n × (new.faults ≡ old.faults)
 EndsBy events old new ended.Memory = new.faults ≡ old.faults

@@ -1,5 +1,5 @@
 -- The events that a world gives.
-use Rattle.std.specs.Prelude.{◌≡◌, ℕ, ◌+◌, ◌-◌, ◌<◌, ◌≤◌, Bool, true, false, not, ◌&&◌, nat_lt, nat_le, List, [], ◌∷◌, length, slice_get, Option, Some, None, if◌then◌else◌}
+use Rattle.std.specs.Prelude.{◌≡◌, ℕ, ◌+◌, ◌<◌, ◌≤◌, Bool, true, false, not, ◌&&◌, nat_lt, nat_le, List, [], ◌∷◌, length, slice_get, Option, Some, None, if◌then◌else◌}
 use Rattle.resty_base.specs.Counting.{RoseWhere}
 use Rattle.resty_base.specs.declared.names.Id.{Id}
 use Rattle.resty_base.specs.declared.names.Id.TheVariants as id
@@ -79,14 +79,19 @@ abbrev pub names_absent : ℕ → ℕ → Option Id → Bool
 names_absent arrivals dials None = false
 names_absent arrivals dials (Some i) = not (was_there arrivals dials i)
 
--- line n of the schedule names an id that was never there
+-- line n of the schedule is the next after those that were passed, and names an id that was never there
 pub record IsBadLine (book : Book) (n : ℕ) : Type 0 where
   pub lines : List SchedLine
   pub schedule : book.schedule ≡ Some lines
+  pub next : n ≡ book.passed + 1
   pub bad : SchedLine
-  pub numbered : 0 < n
-  pub here : slice_get lines (n - 1) ≡ Some bad
+  pub here : slice_get lines book.passed ≡ Some bad
   pub absent : names_absent book.arrivals book.dials (named_id bad) ≡ true
+
+-- a line is called bad only where it is
+abbrev pub IsBad : Book → Event → Type 0
+IsBad book (event.BadLine n) = IsBadLine book n
+IsBad book e = Unit {0}
 
 -- what a world may give: connections are numbered as they arrive, and all else comes of what is open
 abbrev pub IsFit : Book → Event → Type 0
@@ -100,7 +105,7 @@ IsFit book (event.Refused n) = book.is_open (id.Sock n) ≡ true
 IsFit book (event.Moment t) = t.0 ≤ 99_999_999_999_999
 IsFit book event.Stop = Unit {0}
 IsFit book event.Fault = Unit {0}
-IsFit book (event.BadLine n) = IsBadLine book n
+IsFit book (event.BadLine n) = Unit {0}
 IsFit book event.Memory = Unit {0}
 
 -- the world gave this event
@@ -110,6 +115,7 @@ pub record Gave (old new : Book) (e : Event) : Type 0 where
   pub schedule : new.schedule ≡ old.schedule
   pub passed : old.passed ≤ new.passed
   pub fit : IsFit old e
+  pub bad : IsBad new e
   pub is_open : (x : Id) → new.is_open x ≡ (if arrives e x then true else old.is_open x)
   pub has_ended : (x : Id) → new.has_ended x ≡ (if arrives e x then false else if ends e x then true else old.has_ended x)
   pub id_place : (x : Id) → new.id_place x ≡ (if arrives e x then true else old.id_place x)
