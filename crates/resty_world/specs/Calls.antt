@@ -109,3 +109,14 @@ is_strand (Some t) s = same_strand s t
 abbrev pub handed_back : {A : Type 0} → Option A → Entry → Option Entry
 handed_back None e = Some e
 handed_back (Some h) e = None
+
+-- the entry is one that is noted; the others are the world's own, of what it gave and what its calls did
+abbrev pub is_noted : Entry → Bool
+is_noted (entry.Given e) = false
+is_noted (entry.Put i bytes) = false
+is_noted (entry.Later i) = false
+is_noted (entry.Lost i) = false
+is_noted (entry.Close i) = false
+is_noted (entry.Dial who host port n) = false
+is_noted (entry.Log who line written) = false
+is_noted e = true

@@ -14,7 +14,7 @@ pub trait World {
     ghost use Rattle.resty_base.specs.Counting.{RoseWhere};
     ghost use Rattle.resty_world.specs.declared.entry.Entry.{Entry};
     ghost use Rattle.resty_world.specs.Book.{Book, KeepsIds, KeepsCourse, told};
-    ghost use Rattle.resty_world.specs.Calls.{port_after, listen_failed, wrote_entry, wrote_offer, IsPiece, write_lost, dial_entry, dials_id, dials_of, IsNextSocket, dial_failed, log_entry, log_failed, uses_place, HasPlace, room_of, sets_place, is_strand, handed_back};
+    ghost use Rattle.resty_world.specs.Calls.{port_after, listen_failed, wrote_entry, wrote_offer, IsPiece, write_lost, dial_entry, dials_id, dials_of, IsNextSocket, dial_failed, log_entry, log_failed, uses_place, HasPlace, room_of, sets_place, is_strand, handed_back, is_noted};
     ghost use Rattle.resty_world.specs.Given.{Gave};
     ghost use Rattle.resty_world.specs.Ids.{same_id};
 
@@ -112,7 +112,8 @@ pub trait World {
     /// Adds an entry to the history, within the room or the place that is set aside for it. It takes no memory, and
     /// hands the entry back where the world tells no history.
     fn note(&mut self, entry: Entry) -> Option<Entry>
-        requires { HasPlace (book self.old) (uses_place entry) }
+        requires kind { is_noted entry ≡ true }
+        requires place { HasPlace (book self.old) (uses_place entry) }
         ensures history { (book self.new).history ≡ told (entry ∷ []) (book self.old).history }
         ensures handed_back { result ≡ handed_back (book self.old).history entry }
         ensures offered { (book self.new).offered ≡ (book self.old).offered }
