@@ -1,1 +1,6 @@
+pub mod Acts
 pub mod Empty
+pub mod Going
+pub mod Lists
+pub mod Marks
+pub mod Totals

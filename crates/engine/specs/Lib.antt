@@ -1,1 +1,4 @@
+pub mod Engine
 pub mod Right
+pub mod Slots
+pub mod Standing

@@ -1,0 +1,263 @@
+-- One lemma for each act that is carried out, for the end of a turn, and for a strand that is given up.
+use Rattle.std.proofs.Common.{◌≡◌, ◌⊎◌, ℕ, ◌+◌, ◌-◌, ◌<◌, ◌≤◌, Bool, true, false, not, ◌||◌, ◌&&◌, ◌==◌, List, [], ◌∷◌, ◌++◌, Option, Some, None, if◌then◌else◌, refl, sym, ap, subst, ◌∙◌, append_assoc, append-nil, inl, inr, arith}
+use Rattle.std.proofs.lemmas.Bool.{eqb-true}
+use Rattle.resty_base.specs.declared.names.Id.TheVariants as id
+use Rattle.resty_base.specs.declared.names.StrandId.{StrandId}
+use Rattle.resty_base.specs.declared.names.StrandId.TheVariants as strand
+use Rattle.resty_world.specs.declared.entry.Entry.{Entry}
+use Rattle.resty_world.specs.declared.entry.Entry.TheVariants as entry
+use Rattle.resty_world.specs.declared.answers.Logged.{Logged as LogAnswer}
+use Rattle.resty_world.specs.declared.answers.Logged.TheVariants as logged
+use Rattle.resty_world.specs.Book.{Book, KeepsIds, told}
+use Rattle.resty_world.specs.Calls.{log_entry}
+use Rattle.strand_contract.specs.declared.turns.Place.{Place}
+use Rattle.strand_contract.specs.declared.turns.Place.TheVariants as place
+use Rattle.strand_contract.specs.declared.turns.Act.{Act}
+use Rattle.strand_contract.specs.declared.turns.Act.TheVariants as act
+use Rattle.strand_contract.specs.Actions.{Action, LocalAction, Did, GlobalAction, Of, Closed, Logged, Dropped, Gone}
+use Rattle.strand_contract.specs.Behaviors.{Behavior}
+use Rattle.strand_contract.specs.Alone.{lives, was_dropped, moment, is_open, has_ended, todo, carried, left_by, waiting, lined_up, run_by, to_offer, offers, offered_by, armed, armed_by, taken_by, offering, begun_offer, but, in_offers, is_stopping, is_before, Enabled, IsExecution, IsFirstOpen}
+use Rattle.strand_contract.specs.Executions.{projection, external, offered_lengths, present, open_connections}
+use Rattle.strand_contract.specs.Laws.{IsLastAct, is_still}
+use Rattle.strand_contract.specs.Order.{IsSubsequence, keep, with_strand, only, readied, run_of, offer_of, all_readied, all_run, all_placed, all_offered, all_begun, all_halted, offers_last, was_touched, TurnsInOrder}
+use Rattle.engine.specs.declared.engine.Seat.{Seat}
+use Rattle.engine.specs.Right.{Tells}
+use Rattle.engine.specs.Standing.{Held, is_to_end, Fit, Common, Around, Near, Busy, Falls, Standing, IsOffer}
+use Rattle.engine.proofs.Lists.{by_test, clash, same-true, sub-more, sub-through, sub-front, sub-same, only-same, only-other, tells-more, tells-same}
+use Rattle.engine.proofs.Marks.{projection-same, projection-other, touches, fit-same, SameHeld, held-same, SameBook, book-same, MayCome, common-next, around-next}
+
+pub sub-behind : {A : Type 0} (xs : List A) {ys zs : List A} → IsSubsequence ys zs → IsSubsequence (xs ++ ys) (xs ++ zs)
+sub-behind [] r = r
+sub-behind (x ∷ xs) r = keep (sub-behind xs r)
+
+pub ends-still : {A : Type 0} (xs ys : List A) → IsSubsequence xs ys → IsSubsequence (xs ++ []) (ys ++ [])
+ends-still xs ys h = simp append-nil h
+
+-- a still action leaves what ran and what is to run
+pub lines-still : {A : Type 0} (s : StrandId) (xs rl ys : List (StrandId × A)) (r u : List A) → r ≡ [] → u ≡ [] → IsSubsequence (xs ++ rl) ys → IsSubsequence (xs ++ with_strand s r ++ rl) (ys ++ with_strand s u)
+lines-still s xs rl ys r u er eu h = rw (er, eu) (simp append-nil h)
+
+not-before-client : (p : Place) → is_before p place.Client ≡ true → ⊥
+not-before-client place.Client h = absurd (let e : false ≡ true = h in cc)
+not-before-client (place.Sock k) h = absurd (let e : false ≡ true = h in cc)
+
+pub none-open : {J : Type 0} (es : List (LocalAction J)) → is_open place.Client es ≡ false → ((k : ℕ) → is_open (place.Sock k) es ≡ false) → (q : Place) → is_open q es ≡ false
+none-open es client socks place.Client = client
+none-open es client socks (place.Sock k) = socks k
+
+-- an offer isn't begun anew by a closing, nor goes on
+pub offer-closed : (go o : Bool) (p : Option Place) → IsOffer go o p → IsOffer go false (but place.Client p)
+offer-closed go o None h = λ on. refl
+offer-closed go o (Some place.Client) h = λ on. refl
+offer-closed go o (Some (place.Sock k)) h = absurd h
+
+module _ {J S : Type 0} (b : Behavior J) (st : S → List (LocalAction J) → Type 0) (c : ℕ) where
+  -- fewer turns are to come
+  pub around-lists : (al o : Bool) (h : Held S) (threads threads' : List (StrandId × ℕ)) (places places' : List (StrandId × Place)) (book : Book) (ms : List (GlobalAction J))
+      → Around b st c al o h threads places book ms → IsSubsequence threads' threads → IsSubsequence places' places → Around b st c al o h threads' places' book ms
+  around-lists al o h threads threads' places places' book ms a runs list = record {
+    each = a.each;
+    dead = a.dead;
+    closed = a.closed;
+    shut = a.shut;
+    out = a.out;
+    arrived = a.arrived;
+    alive = a.alive;
+    line_open = a.line_open;
+    client = a.client;
+    no_socket = a.no_socket;
+    id_aside = a.id_aside;
+    strand_aside = a.strand_aside;
+    common = record {
+      alone = a.common.alone;
+      begins = a.common.begins;
+      given = a.common.given;
+      kept = a.common.kept;
+      plain = a.common.plain;
+      runs = sub-through (sub-behind (all_run ms) runs) a.common.runs;
+      offered = sub-through (sub-behind (all_offered ms) list) a.common.offered;
+      ends = a.common.ends;
+      turns = a.common.turns;
+      told = a.common.told;
+      offers_told = a.common.offers_told;
+      unborn = a.common.unborn;
+      jobless = a.common.jobless;
+      no_socket = a.common.no_socket;
+      count = a.common.count;
+      present = a.common.present;
+    };
+  }
+
+  -- what a busy strand leaves when it is given up
+  pub near-falls : (acts : List (Act J)) (go o : Bool) (h : Held S) (book : Book) (ms : List (GlobalAction J)) → Near b st c acts go o h book ms → Falls b st c o h book ms
+  near-falls acts go o h book ms y = record {
+    around = around-lists true o h _ h.queue _ h.places book ms y.around (sub-front h.queue _) (sub-front h.places _);
+    last = y.last;
+    touched = y.touched;
+  }
+
+  -- the strand is gone
+  pub around-dead : (h : Held S) (book : Book) (ms : List (GlobalAction J)) → Around b st c false false h h.queue h.places book ms → (h.in_offers ≡ false → offers_last ms ≡ true → h.places ≡ []) → (h.in_offers ≡ true → offers_last ms ≡ false → h.queue ≡ []) → Standing b st h book ms
+  around-dead h book ms a runs_flip offers_flip = record {
+    each = λ t live. by_test (t == c)
+        (λ e. clash (subst (λ (i : ℕ). lives (projection (strand.Conn i) ms) ≡ true) (eqb-true t c e) live) a.alive)
+        (λ ne. a.each t ne live);
+    dead = λ t gone. by_test (t == c)
+        (λ e. subst (λ (i : ℕ). h.seats (strand.Conn i) ≡ None) (sym (eqb-true t c e)) a.out)
+        (λ ne. a.dead t ne gone);
+    closed = λ t gone. by_test (t == c)
+        (λ e. subst (λ (i : ℕ). book.is_open (id.Conn i) ≡ false) (sym (eqb-true t c e)) a.line_open)
+        (λ ne. a.closed t ne gone);
+    shut = λ t gone q. by_test (t == c)
+        (λ e. subst (λ (i : ℕ). is_open q (projection (strand.Conn i) ms) ≡ false) (sym (eqb-true t c e)) (none-open (projection (strand.Conn c) ms) a.client a.no_socket q))
+        (λ ne. a.shut t ne gone q);
+    flip_to_runs = runs_flip;
+    flip_to_offers = offers_flip;
+    common = a.common;
+  }
+
+  module _ (quiet : (a : LocalAction J) (es : List (LocalAction J)) → is_still a ≡ true → b.acts (a ∷ es) ≡ []) where
+    dropped : (o : Bool) (h : Held S) (book book1 : Book) (ms : List (GlobalAction J)) → Falls b st c o h book ms
+        → SameBook c book book1 → book1.is_open (id.Conn c) ≡ book.is_open (id.Conn c) → book1.id_place (id.Conn c) ≡ book.id_place (id.Conn c) → book1.arrivals ≡ book.arrivals
+        → ((n : ℕ) → book1.is_open (id.Sock n) ≡ book.is_open (id.Sock n))
+        → book1.history ≡ told (entry.Dropped (strand.Conn c) ∷ []) book.history → book1.offered ≡ book.offered
+        → Around b st c false o h h.queue h.places book1 (Of (strand.Conn c) Dropped None ∷ ms)
+    dropped o h book book1 ms f same opened aside arrivals socks history told_offers =
+        let a : Around b st c true o h h.queue h.places book ms = f.around in
+        let none : b.acts (Did Dropped ∷ projection (strand.Conn c) ms) ≡ [] = quiet (Did Dropped) (projection (strand.Conn c) ms) refl in
+        around-next b st c ms Dropped true false o o h h h.queue h.queue h.places h.places book book1 a (held-same c h) same a.out refl (opened ∙ a.line_open) a.client a.no_socket
+        (λ on. aside ∙ a.id_aside on) (λ e. absurd (let x : false ≡ true = e in cc)) (rw arrivals a.arrived)
+        (common-next b st c ms Dropped h.queue h.queue h.places h.places h.now h.connections h.connections book book1 a.common
+        (record {
+          enabled = a.alive;
+          begins = a.common.begins;
+          given = (a.common.given, λ e. absurd (let x : false ≡ true = e in cc));
+          kept = (a.common.kept, λ e. absurd (let x : false ≡ true = e in cc));
+          plain = a.common.plain;
+          ends = ends-still (all_halted ms) (all_begun ms) a.common.ends;
+          turns = (a.common.turns, f.touched);
+          counts = a.common.count;
+        }) (rw arrivals a.arrived) (omega (arith, arrivals)) (λ n. socks n ∙ a.common.no_socket n)
+        (tells-more book.history book1.history (entry.Dropped (strand.Conn c) ∷ []) (external b ms) a.common.told history)
+        (tells-same book.offered book1.offered (offered_lengths b ms) a.common.offers_told told_offers)
+        (lines-still (strand.Conn c) (all_run ms) h.queue (all_readied b ms) [] (readied (b.acts (Did Dropped ∷ projection (strand.Conn c) ms))) refl (ap readied none) a.common.runs)
+        (lines-still (strand.Conn c) (all_offered ms) h.places (all_placed b ms) [] (offers (b.acts (Did Dropped ∷ projection (strand.Conn c) ms))) refl (ap offers none) a.common.offered))
+
+    -- its line was closed before
+    pub fallen-shut : (h : Held S) (book book1 : Book) (ms : List (GlobalAction J)) → Falls b st c false h book ms
+        → SameBook c book book1 → book1.is_open (id.Conn c) ≡ book.is_open (id.Conn c) → book1.id_place (id.Conn c) ≡ book.id_place (id.Conn c) → book1.arrivals ≡ book.arrivals
+        → ((n : ℕ) → book1.is_open (id.Sock n) ≡ book.is_open (id.Sock n))
+        → book1.history ≡ told (entry.Dropped (strand.Conn c) ∷ []) book.history → book1.offered ≡ book.offered
+        → Standing b st h book1 (Of (strand.Conn c) Dropped None ∷ ms)
+    fallen-shut h book book1 ms f same opened aside arrivals socks history told_offers =
+        around-dead h book1 (Of (strand.Conn c) Dropped None ∷ ms) (dropped false h book book1 ms f same opened aside arrivals socks history told_offers) (λ run on. clash on (f.last ∙ run)) (λ offer off. clash (f.last ∙ offer) off)
+
+    -- its line is closed after it
+    pub fallen-open : (h h' : Held S) (book book1 book2 : Book) (ms : List (GlobalAction J)) → Falls b st c true h book ms
+        → SameBook c book book1 → book1.is_open (id.Conn c) ≡ book.is_open (id.Conn c) → book1.id_place (id.Conn c) ≡ book.id_place (id.Conn c) → book1.arrivals ≡ book.arrivals
+        → ((n : ℕ) → book1.is_open (id.Sock n) ≡ book.is_open (id.Sock n))
+        → book1.history ≡ told (entry.Dropped (strand.Conn c) ∷ []) book.history → book1.offered ≡ book.offered
+        → SameBook c book1 book2 → book2.is_open (id.Conn c) ≡ false → book2.arrivals ≡ book1.arrivals
+        → ((n : ℕ) → book2.is_open (id.Sock n) ≡ book1.is_open (id.Sock n))
+        → book2.history ≡ told (entry.Close (id.Conn c) ∷ []) book1.history → book2.offered ≡ book1.offered
+        → h' ≡ record h { connections = h.connections - 1 }
+        → Standing b st h' book2 (Of (strand.Conn c) (Closed place.Client) None ∷ Of (strand.Conn c) Dropped None ∷ ms)
+    fallen-open h h' book book1 book2 ms f same opened aside arrivals socks history told_offers same2 closed arrivals2 socks2 history2 offers2 held =
+        let fell : List (GlobalAction J) = Of (strand.Conn c) Dropped None ∷ ms in
+        let a : Around b st c false true h h.queue h.places book1 fell = dropped true h book book1 ms f same opened aside arrivals socks history told_offers in
+        let none : b.acts (Did (Closed place.Client) ∷ projection (strand.Conn c) fell) ≡ [] = quiet (Did (Closed place.Client)) (projection (strand.Conn c) fell) refl in
+        let g : Held S = record h { connections = h.connections - 1 } in
+        rw held (around-dead g book2 (Of (strand.Conn c) (Closed place.Client) None ∷ fell)
+        (around-next b st c fell (Closed place.Client) false false true false h g h.queue h.queue h.places h.places book1 book2 a
+        (record { seats = λ t ne. refl; queue = λ t ne. refl; places = λ t ne. refl; in_offers = refl; now = refl; ends = λ t ne. refl }) same2 a.out a.alive closed refl a.no_socket
+        (λ e. absurd (let x : false ≡ true = e in cc)) (λ e. absurd (let x : false ≡ true = e in cc)) (rw arrivals2 a.arrived)
+        (common-next b st c fell (Closed place.Client) h.queue h.queue h.places h.places h.now h.connections (h.connections - 1) book1 book2 a.common
+        (record {
+          enabled = inr (record { dropped = ap was_dropped (projection-same c Dropped None ms); opened = a.client; first = λ p before. absurd (not-before-client p before) });
+          begins = a.common.begins;
+          given = (a.common.given, λ e. absurd (let x : false ≡ true = e in cc));
+          kept = (a.common.kept, λ e. absurd (let x : false ≡ true = e in cc));
+          plain = a.common.plain;
+          ends = ends-still (all_halted fell) (all_begun fell) a.common.ends;
+          turns = a.common.turns;
+          counts = ap (λ n. n - 1) a.common.count;
+        }) (rw arrivals2 a.arrived) (omega (arith, arrivals2)) (λ n. socks2 n ∙ a.common.no_socket n)
+        (tells-more book1.history book2.history (entry.Close (id.Conn c) ∷ []) (external b fell) a.common.told history2)
+        (tells-same book1.offered book2.offered (offered_lengths b fell) a.common.offers_told offers2)
+        (lines-still (strand.Conn c) (all_run fell) h.queue (all_readied b fell) [] (readied (b.acts (Did (Closed place.Client) ∷ projection (strand.Conn c) fell))) refl (ap readied none) a.common.runs)
+        (lines-still (strand.Conn c) (all_offered fell) h.places (all_placed b fell) [] (offers (b.acts (Did (Closed place.Client) ∷ projection (strand.Conn c) fell))) refl (ap offers none) a.common.offered)))
+        (λ run on. clash on (f.last ∙ run)) (λ offer off. clash (f.last ∙ offer) off))
+
+  -- a thread is put in line
+  pub busy-ready : (x : S) (k : ℕ) (acts : List (Act J)) (go o : Bool) (h h' : Held S) (book : Book) (ms : List (GlobalAction J))
+      → Busy b st c x (act.Ready k ∷ acts) go o h book ms → h' ≡ record h { queue = h.queue ++ (strand.Conn c, k) ∷ [] } → Busy b st c x acts go o h' book ms
+  busy-ready x k acts go o h h' book ms y held = rw held (record {
+    near = record {
+      around = record {
+        each = λ t ne live. fit-same refl refl refl refl refl (only-other (strand.Conn t) (strand.Conn c) k h.queue ne) refl refl refl refl refl (y.near.around.each t ne live);
+        dead = y.near.around.dead;
+        closed = y.near.around.closed;
+        shut = y.near.around.shut;
+        out = y.near.around.out;
+        arrived = y.near.around.arrived;
+        alive = y.near.around.alive;
+        line_open = y.near.around.line_open;
+        client = y.near.around.client;
+        no_socket = y.near.around.no_socket;
+        id_aside = y.near.around.id_aside;
+        strand_aside = y.near.around.strand_aside;
+        common = rw append_assoc y.near.around.common;
+      };
+      to_do = y.near.to_do;
+      last_act = y.near.last_act;
+      threads = ap (λ l. lined_up acts l) (only-same (strand.Conn c) k h.queue) ∙ y.near.threads;
+      offered = y.near.offered;
+      deadlines = y.near.deadlines;
+      kind = y.near.kind;
+      offer = y.near.offer;
+      moment = y.near.moment;
+      stopping = y.near.stopping;
+      no_more = y.near.no_more;
+      not_to_end = y.near.not_to_end;
+      last = y.near.last;
+      touched = y.near.touched;
+    };
+    stands = y.stands;
+  })
+
+  -- a place is put in line
+  pub busy-offer : (x : S) (q : Place) (acts : List (Act J)) (go o : Bool) (h h' : Held S) (book : Book) (ms : List (GlobalAction J))
+      → Busy b st c x (act.Offer q ∷ acts) go o h book ms → h' ≡ record h { places = h.places ++ (strand.Conn c, q) ∷ [] } → Busy b st c x acts go o h' book ms
+  busy-offer x q acts go o h h' book ms y held = rw held (record {
+    near = record {
+      around = record {
+        each = λ t ne live. fit-same refl refl refl refl refl refl (only-other (strand.Conn t) (strand.Conn c) q h.places ne) refl refl refl refl (y.near.around.each t ne live);
+        dead = y.near.around.dead;
+        closed = y.near.around.closed;
+        shut = y.near.around.shut;
+        out = y.near.around.out;
+        arrived = y.near.around.arrived;
+        alive = y.near.around.alive;
+        line_open = y.near.around.line_open;
+        client = y.near.around.client;
+        no_socket = y.near.around.no_socket;
+        id_aside = y.near.around.id_aside;
+        strand_aside = y.near.around.strand_aside;
+        common = rw append_assoc y.near.around.common;
+      };
+      to_do = y.near.to_do;
+      last_act = y.near.last_act;
+      threads = y.near.threads;
+      offered = ap (λ l. l ++ offers acts) (only-same (strand.Conn c) q h.places) ∙ append_assoc (only (strand.Conn c) h.places) (q ∷ []) (offers acts) ∙ y.near.offered;
+      deadlines = y.near.deadlines;
+      kind = y.near.kind;
+      offer = y.near.offer;
+      moment = y.near.moment;
+      stopping = y.near.stopping;
+      no_more = y.near.no_more;
+      not_to_end = y.near.not_to_end;
+      last = y.near.last;
+      touched = y.near.touched;
+    };
+    stands = y.stands;
+  })

@@ -1,0 +1,64 @@
+use resty_base::StrandId;
+use std::alloc::Global;
+use std::collections::BTreeMap;
+
+/// A seat for each strand that lives, in the order in which they began.
+#[derive(Drop)]
+pub struct Slots<X> {
+    pub held: BTreeMap<u64, X>,
+}
+
+impl<X: Drop> Slots<X> {
+    ghost use Rattle.std.specs.Prelude.{◌≡◌, ◌≤◌, ◌<◌, ◌+◌, ℕ, Some, None, IfSome, IsSome, true, false, if◌then◌else◌};
+    ghost use Rattle.resty_base.specs.declared.names.StrandId.{StrandId};
+    ghost use Rattle.resty_world.specs.Ids.{same_strand};
+    ghost use Rattle.engine.specs.Slots.{slot_at, total, value_of};
+
+    /// No seats; takes no memory.
+    pub fn new(alloc: Global) -> Slots<X>
+        ensures empty { (s : StrandId) → slot_at result s ≡ None }
+        ensures total { (f : X → ℕ) → total f result ≡ 0 }
+    {
+        Slots {
+            held: BTreeMap::new(alloc),
+        }
+    }
+
+    /// Takes what the strand's seat holds, if it has one.
+    pub fn take_out(&mut self, who: StrandId) -> Option<X>
+        ensures value { result ≡ slot_at self.old who }
+        ensures rest { (s : StrandId) → slot_at self.new s ≡ (if same_strand s who then None else slot_at self.old s) }
+        ensures total { (f : X → ℕ) → total f self.new + value_of f result ≡ total f self.old }
+    {
+        match who {
+            StrandId::Conn(connection) => self.held.remove(&connection),
+            StrandId::Job(_) => None,
+        }
+    }
+
+    /// Gives a connection's strand a seat; where memory is wanting the strand is dropped, and false is told.
+    pub fn put_back(&mut self, connection: u64, x: X) -> bool
+        requires { slot_at self.old (StrandId.Conn connection) ≡ None }
+        ensures done { result ≡ true → (s : StrandId) → slot_at self.new s ≡ (if same_strand s (StrandId.Conn connection) then Some x else slot_at self.old s) }
+        ensures refused { result ≡ false → (s : StrandId) → slot_at self.new s ≡ slot_at self.old s }
+        ensures total { (f : X → ℕ) → total f self.new ≤ total f self.old + f x }
+    {
+        match self.held.insert(connection, x) {
+            Ok(_) => true,
+            Err(_) => false,
+        }
+    }
+
+    /// The first connection from this one on whose strand has a seat.
+    pub fn first_from(&self, from: u64) -> Option<u64>
+        ensures from { IfSome result (λ c. from ≤ c) }
+        ensures seated { IfSome result (λ c. IsSome (slot_at self.now (StrandId.Conn c))) }
+        ensures first { IfSome result (λ c. (t : ℕ) → from ≤ t → t < c → slot_at self.now (StrandId.Conn t) ≡ None) }
+        ensures none { result ≡ None → (t : ℕ) → from ≤ t → slot_at self.now (StrandId.Conn t) ≡ None }
+    {
+        match self.held.range(from..).next() {
+            Some((connection, _)) => Some(*connection),
+            None => None,
+        }
+    }
+}
