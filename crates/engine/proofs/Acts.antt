@@ -261,3 +261,206 @@ module _ {J S : Type 0} (b : Behavior J) (st : S → List (LocalAction J) → Ty
     };
     stands = y.stands;
   })
+
+abbrev pub done_of : LogAnswer → Bool
+done_of logged.Done = true
+done_of logged.Failed = false
+done_of logged.Memory = false
+
+pub log_entry-done : (s : StrandId) (line : List ℕ) (r : LogAnswer) → (r ≡ logged.Memory → ⊥) → log_entry s line r ≡ entry.Log s line (done_of r) ∷ []
+log_entry-done s line logged.Done h = refl
+log_entry-done s line logged.Failed h = refl
+log_entry-done s line logged.Memory h = absurd (h refl)
+
+pub offer-logged : {J : Type 0} (line : List ℕ) (done : Bool) (es : List (LocalAction J)) (go o : Bool) → IsOffer go o (begun_offer es) → IsOffer go o (begun_offer (Did (Logged line done) ∷ es))
+offer-logged line done es go o h = h
+
+module _ {J S : Type 0} (b : Behavior J) (st : S → List (LocalAction J) → Type 0) (c : ℕ)
+    (still : (x : S) (a : LocalAction J) (es : List (LocalAction J)) → is_still a ≡ true → st x es → st x (a ∷ es))
+    (quiet : (a : LocalAction J) (es : List (LocalAction J)) → is_still a ≡ true → b.acts (a ∷ es) ≡ []) where
+  -- the client's line is hung up
+  pub busy-closed : (x : S) (rest : List (Act J)) (go : Bool) (h h' : Held S) (book book' : Book) (ms : List (GlobalAction J))
+      → Busy b st c x (act.HangUp place.Client ∷ rest) go true h book ms
+      → SameBook c book book' → book'.is_open (id.Conn c) ≡ false → book'.has_ended (id.Conn c) ≡ book.has_ended (id.Conn c) → book'.strand_place (strand.Conn c) ≡ book.strand_place (strand.Conn c) → book'.arrivals ≡ book.arrivals
+      → ((n : ℕ) → book'.is_open (id.Sock n) ≡ book.is_open (id.Sock n))
+      → book'.history ≡ told (entry.Close (id.Conn c) ∷ []) book.history → book'.offered ≡ book.offered
+      → h' ≡ record h { connections = h.connections - 1 }
+      → Busy b st c x rest go false h' book' (Of (strand.Conn c) (Closed place.Client) None ∷ ms)
+  busy-closed x rest go h h' book book' ms y same closed ended aside arrivals socks history told_offers held =
+      let z : Action J = Closed place.Client in
+      let es : List (LocalAction J) = projection (strand.Conn c) ms in
+      let a = y.near.around in
+      let none : b.acts (Did z ∷ es) ≡ [] = quiet (Did z) es refl in
+      let own : projection (strand.Conn c) (Of (strand.Conn c) z None ∷ ms) ≡ Did z ∷ es = projection-same c z None ms in
+      let g : Held S = record h { connections = h.connections - 1 } in
+      rw held (record {
+        near = record {
+          around = around-next b st c ms z true true true false h g _ (h.queue ++ with_strand (strand.Conn c) (readied rest)) _ (h.places ++ with_strand (strand.Conn c) (offers rest)) book book' a
+              (record { seats = λ t ne. refl; queue = λ t ne. refl; places = λ t ne. refl; in_offers = refl; now = refl; ends = λ t ne. refl }) same a.out a.alive closed refl a.no_socket
+              (λ e. absurd (let w : false ≡ true = e in cc)) (λ on. aside ∙ a.strand_aside on) (rw arrivals a.arrived)
+              (common-next b st c ms z _ (h.queue ++ with_strand (strand.Conn c) (readied rest)) _ (h.places ++ with_strand (strand.Conn c) (offers rest)) h.now h.connections (h.connections - 1) book book' a.common
+              (record {
+                enabled = inl ((carried rest, y.near.to_do), a.client);
+                begins = a.common.begins;
+                given = (a.common.given, λ e. absurd (let w : false ≡ true = e in cc));
+                kept = (a.common.kept, λ e. absurd (let w : false ≡ true = e in cc));
+                plain = a.common.plain;
+                ends = ends-still (all_halted ms) (all_begun ms) a.common.ends;
+                turns = a.common.turns;
+                counts = ap (λ n. n - 1) a.common.count;
+              }) (rw arrivals a.arrived) (omega (arith, arrivals)) (λ n. socks n ∙ a.common.no_socket n)
+              (tells-more book.history book'.history (entry.Close (id.Conn c) ∷ []) (external b ms) a.common.told history)
+              (tells-same book.offered book'.offered (offered_lengths b ms) a.common.offers_told told_offers)
+              (lines-still (strand.Conn c) (all_run ms) _ (all_readied b ms) [] (readied (b.acts (Did z ∷ es))) refl (ap readied none) a.common.runs)
+              (lines-still (strand.Conn c) (all_offered ms) _ (all_placed b ms) [] (offers (b.acts (Did z ∷ es))) refl (ap offers none) a.common.offered));
+          to_do = ap (todo b) own ∙ (rw (none, y.near.to_do) (append-nil (carried rest)));
+          last_act = y.near.last_act;
+          threads = sym (ap (waiting b) own ∙ (rw none (sym y.near.threads)));
+          offered = sym (ap (to_offer b) own ∙ (rw none (append-nil (to_offer b es) ∙ sym y.near.offered)));
+          deadlines = sym (ap (armed b) own ∙ (rw none (sym y.near.deadlines)));
+          kind = ap in_offers own ∙ y.near.kind;
+          offer = subst (λ (fs : List (LocalAction J)). IsOffer go false (begun_offer fs)) (sym own) (offer-closed go true (begun_offer es) y.near.offer);
+          moment = ap moment own ∙ y.near.moment;
+          stopping = ap is_stopping own ∙ y.near.stopping;
+          no_more = ap (has_ended place.Client) own ∙ y.near.no_more ∙ sym ended;
+          not_to_end = y.near.not_to_end;
+          last = y.near.last;
+          touched = touches c z None ms;
+        };
+        stands = subst (λ (fs : List (LocalAction J)). st x fs) (sym own) (still x (Did z) es refl y.stands);
+      })
+
+  -- a log line is written, or isn't
+  pub busy-logged : (x : S) (line : List ℕ) (r : LogAnswer) (rest : List (Act J)) (go o : Bool) (h : Held S) (book book' : Book) (ms : List (GlobalAction J))
+      → Busy b st c x (act.Log line ∷ rest) go o h book ms
+      → (r ≡ logged.Memory → ⊥) → KeepsIds book book'
+      → book'.history ≡ told (log_entry (strand.Conn c) line r) book.history → book'.offered ≡ book.offered
+      → Busy b st c x rest go o h book' (Of (strand.Conn c) (Logged line (done_of r)) None ∷ ms)
+  busy-logged x line r rest go o h book book' ms y ok ids history told_offers =
+      let z : Action J = Logged line (done_of r) in
+      let es : List (LocalAction J) = projection (strand.Conn c) ms in
+      let a = y.near.around in
+      let none : b.acts (Did z ∷ es) ≡ [] = quiet (Did z) es refl in
+      let own : projection (strand.Conn c) (Of (strand.Conn c) z None ∷ ms) ≡ Did z ∷ es = projection-same c z None ms in
+      record {
+        near = record {
+          around = around-next b st c ms z true true o o h h _ (h.queue ++ with_strand (strand.Conn c) (readied rest)) _ (h.places ++ with_strand (strand.Conn c) (offers rest)) book book' a
+              (held-same c h) (record { is_open = λ t ne. ids.is_open (id.Conn t); has_ended = λ t ne. ids.has_ended (id.Conn t); id_place = λ t ne. ids.id_place (id.Conn t); strand_place = λ t ne. ids.strand_place (strand.Conn t) }) a.out a.alive (ids.is_open (id.Conn c) ∙ a.line_open) a.client a.no_socket
+              (λ on. ids.id_place (id.Conn c) ∙ a.id_aside on) (λ on. ids.strand_place (strand.Conn c) ∙ a.strand_aside on) (rw ids.arrivals a.arrived)
+              (common-next b st c ms z _ (h.queue ++ with_strand (strand.Conn c) (readied rest)) _ (h.places ++ with_strand (strand.Conn c) (offers rest)) h.now h.connections h.connections book book' a.common
+              (record {
+                enabled = (carried rest, y.near.to_do);
+                begins = a.common.begins;
+                given = (a.common.given, λ e. absurd (let w : false ≡ true = e in cc));
+                kept = (a.common.kept, λ e. absurd (let w : false ≡ true = e in cc));
+                plain = a.common.plain;
+                ends = ends-still (all_halted ms) (all_begun ms) a.common.ends;
+                turns = a.common.turns;
+                counts = a.common.count;
+              }) (rw ids.arrivals a.arrived) (omega (arith, ids.arrivals)) (λ n. ids.is_open (id.Sock n) ∙ a.common.no_socket n)
+              (tells-more book.history book'.history (entry.Log (strand.Conn c) line (done_of r) ∷ []) (external b ms) a.common.told (history ∙ ap (λ e. told e book.history) (log_entry-done (strand.Conn c) line r ok)))
+              (tells-same book.offered book'.offered (offered_lengths b ms) a.common.offers_told told_offers)
+              (lines-still (strand.Conn c) (all_run ms) _ (all_readied b ms) [] (readied (b.acts (Did z ∷ es))) refl (ap readied none) a.common.runs)
+              (lines-still (strand.Conn c) (all_offered ms) _ (all_placed b ms) [] (offers (b.acts (Did z ∷ es))) refl (ap offers none) a.common.offered));
+          to_do = ap (todo b) own ∙ (rw (none, y.near.to_do) (append-nil (carried rest)));
+          last_act = y.near.last_act;
+          threads = sym (ap (waiting b) own ∙ (rw none (sym y.near.threads)));
+          offered = sym (ap (to_offer b) own ∙ (rw none (append-nil (to_offer b es) ∙ sym y.near.offered)));
+          deadlines = sym (ap (armed b) own ∙ (rw none (sym y.near.deadlines)));
+          kind = ap in_offers own ∙ y.near.kind;
+          offer = subst (λ (fs : List (LocalAction J)). IsOffer go o (begun_offer fs)) (sym own) y.near.offer;
+          moment = ap moment own ∙ y.near.moment;
+          stopping = ap is_stopping own ∙ y.near.stopping;
+          no_more = ap (has_ended place.Client) own ∙ y.near.no_more ∙ sym (ids.has_ended (id.Conn c));
+          not_to_end = y.near.not_to_end;
+          last = y.near.last;
+          touched = touches c z None ms;
+        };
+        stands = subst (λ (fs : List (LocalAction J)). st x fs) (sym own) (still x (Did z) es refl y.stands);
+      }
+
+  -- its life is over
+  pub standing-gone : (x : S) (rest : List (Act J)) (go : Bool) (h : Held S) (book : Book) (ms : List (GlobalAction J))
+      → Busy b st c x (act.Gone ∷ rest) go false h book ms
+      → Standing b st h book (Of (strand.Conn c) Gone None ∷ ms)
+  standing-gone x rest go h book ms y =
+      let es : List (LocalAction J) = projection (strand.Conn c) ms in
+      let none : b.acts (Did Gone ∷ es) ≡ [] = quiet (Did Gone) es refl in
+      let a = around-lists b st c true false h _ h.queue _ h.places book ms y.near.around (sub-front h.queue _) (sub-front h.places _) in
+      around-dead b st c h book (Of (strand.Conn c) Gone None ∷ ms)
+      (around-next b st c ms Gone true false false false h h h.queue h.queue h.places h.places book book a (held-same c h) (book-same c book) a.out refl a.line_open a.client a.no_socket
+      (λ e. absurd (let w : false ≡ true = e in cc)) (λ e. absurd (let w : false ≡ true = e in cc)) a.arrived
+      (common-next b st c ms Gone h.queue h.queue h.places h.places h.now h.connections h.connections book book a.common
+      (record {
+        enabled = y.near.to_do ∙ ap (λ l. act.Gone ∷ carried l) y.near.last_act;
+        begins = a.common.begins;
+        given = (a.common.given, λ e. absurd (let w : false ≡ true = e in cc));
+        kept = (a.common.kept, λ e. absurd (let w : false ≡ true = e in cc));
+        plain = a.common.plain;
+        ends = ends-still (all_halted ms) (all_begun ms) a.common.ends;
+        turns = a.common.turns;
+        counts = a.common.count;
+      }) a.arrived (omega arith) a.common.no_socket a.common.told a.common.offers_told
+      (lines-still (strand.Conn c) (all_run ms) h.queue (all_readied b ms) [] (readied (b.acts (Did Gone ∷ es))) refl (ap readied none) a.common.runs)
+      (lines-still (strand.Conn c) (all_offered ms) h.places (all_placed b ms) [] (offers (b.acts (Did Gone ∷ es))) refl (ap offers none) a.common.offered)))
+      (λ run on. clash on (y.near.last ∙ run)) (λ offer off. clash (y.near.last ∙ offer) off)
+
+module _ {J S : Type 0} (b : Behavior J) (st : S → List (LocalAction J) → Type 0) (c : ℕ) where
+  -- what is hung up is open
+  pub client-open : (hangs : (es : List (LocalAction J)) (q : Place) (rest : List (Act J)) → IsExecution b es → todo b es ≡ act.HangUp q ∷ rest → (lives es ≡ true) × (is_open q es ≡ true))
+      → (x : S) (rest : List (Act J)) (go o : Bool) (h : Held S) (book : Book) (ms : List (GlobalAction J))
+      → Busy b st c x (act.HangUp place.Client ∷ rest) go o h book ms → o ≡ true
+  client-open hangs x rest go o h book ms y =
+      sym y.near.around.client ∙ (hangs (projection (strand.Conn c) ms) place.Client (carried rest) (y.near.around.common.alone (strand.Conn c)) y.near.to_do).1
+
+  -- nothing is open where its life is over
+  pub nothing-open : (leaves : (es : List (LocalAction J)) (q : Place) → IsExecution b es → todo b es ≡ act.Gone ∷ [] → is_open q es ≡ false)
+      → (x : S) (rest : List (Act J)) (go o : Bool) (h : Held S) (book : Book) (ms : List (GlobalAction J))
+      → Busy b st c x (act.Gone ∷ rest) go o h book ms → o ≡ false
+  nothing-open leaves x rest go o h book ms y =
+      sym y.near.around.client ∙ leaves (projection (strand.Conn c) ms) place.Client (y.near.around.common.alone (strand.Conn c)) (y.near.to_do ∙ ap (λ l. act.Gone ∷ carried l) y.near.last_act)
+
+  -- a call of the world that leaves all as it is
+  pub around-kept : (al o : Bool) (h : Held S) (threads : List (StrandId × ℕ)) (places : List (StrandId × Place)) (book book' : Book) (ms : List (GlobalAction J))
+      → Around b st c al o h threads places book ms → KeepsIds book book' → book'.history ≡ book.history → book'.offered ≡ book.offered
+      → Around b st c al o h threads places book' ms
+  around-kept al o h threads places book book' ms a ids history told_offers = record {
+    each = λ t ne live. fit-same refl refl refl refl refl refl refl (ids.is_open (id.Conn t)) (ids.has_ended (id.Conn t)) (ids.id_place (id.Conn t)) (ids.strand_place (strand.Conn t)) (a.each t ne live);
+    dead = a.dead;
+    closed = λ t ne gone. ids.is_open (id.Conn t) ∙ a.closed t ne gone;
+    shut = a.shut;
+    out = a.out;
+    arrived = rw ids.arrivals a.arrived;
+    alive = a.alive;
+    line_open = ids.is_open (id.Conn c) ∙ a.line_open;
+    client = a.client;
+    no_socket = a.no_socket;
+    id_aside = λ on. ids.id_place (id.Conn c) ∙ a.id_aside on;
+    strand_aside = λ on. ids.strand_place (strand.Conn c) ∙ a.strand_aside on;
+    common = record {
+      alone = a.common.alone;
+      begins = a.common.begins;
+      given = a.common.given;
+      kept = a.common.kept;
+      plain = a.common.plain;
+      runs = a.common.runs;
+      offered = a.common.offered;
+      ends = a.common.ends;
+      turns = a.common.turns;
+      told = tells-same book.history book'.history (external b ms) a.common.told history;
+      offers_told = tells-same book.offered book'.offered (offered_lengths b ms) a.common.offers_told told_offers;
+      unborn = λ t past. a.common.unborn t (rw ids.arrivals at past);
+      jobless = a.common.jobless;
+      no_socket = λ n. ids.is_open (id.Sock n) ∙ a.common.no_socket n;
+      count = a.common.count;
+      present = a.common.present;
+    };
+  }
+
+  pub falls-kept : (o : Bool) (h : Held S) (book book' : Book) (ms : List (GlobalAction J))
+      → Falls b st c o h book ms → KeepsIds book book' → book'.history ≡ book.history → book'.offered ≡ book.offered → Falls b st c o h book' ms
+  falls-kept o h book book' ms f ids history told_offers = record {
+    around = around-kept true o h h.queue h.places book book' ms f.around ids history told_offers;
+    last = f.last;
+    touched = f.touched;
+  }

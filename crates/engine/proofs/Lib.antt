@@ -3,4 +3,5 @@ pub mod Empty
 pub mod Going
 pub mod Lists
 pub mod Marks
+pub mod Seats
 pub mod Totals

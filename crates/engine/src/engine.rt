@@ -43,6 +43,9 @@ pub enum Carried {
 impl<S: StrandContract> Engine<S> {
     ghost use Rattle.std.specs.Prelude.{◌≡◌, ◌<◌, ◌≤◌, ◌+◌, ℕ, List, [], ◌∷◌, Bool, true, false, Some, None, MatchOption, length};
     ghost use Rattle.strand_contract.specs.Actions.{GlobalAction};
+    ghost use Rattle.strand_contract.specs.Alone.{offering};
+    ghost use Rattle.strand_contract.specs.Executions.{projection};
+    ghost use Rattle.strand_contract.specs.Laws.{is_own_turn};
     ghost use Rattle.strand_contract.specs.declared.turns.Act.{Act};
     ghost use Rattle.engine.specs.Standing.{Standing, Busy, Falls, Turn};
     ghost use Rattle.engine.specs.Engine.{view_of, Stands, work, left_of, Goes};
@@ -63,6 +66,140 @@ impl<S: StrandContract> Engine<S> {
         if is_open {
             world.hang_up(Id::Conn(connection));
             self.connections = self.connections.saturating_sub(1);
+        }
+    }
+
+    /// Carries out one act of a turn.
+    fn carry_out<W: World>(
+        &mut self,
+        site: &S::Site,
+        connection: u64,
+        is_open: &mut bool,
+        act: Act<S::Job>,
+        world: &mut W,
+    ) -> Carried
+        requires { (x : S) × (rest : List (Act S.Job)) × (go : Bool) × (ms : List (GlobalAction S.Job)) × Busy (S.behavior site.now) (S.stands site.now) connection x (act ∷ rest) go is_open.old (view_of self.old) (W.book world.old) ms }
+        ensures done { result ≡ Carried.Done → (x : S) (rest : List (Act S.Job)) (go : Bool) (ms : List (GlobalAction S.Job)) → Busy (S.behavior site.now) (S.stands site.now) connection x (act ∷ rest) go is_open.old (view_of self.old) (W.book world.old) ms
+            → (ms' : List (GlobalAction S.Job)) × Busy (S.behavior site.now) (S.stands site.now) connection x rest go is_open.new (view_of self.new) (W.book world.new) ms' }
+        ensures over { result ≡ Carried.Over → Stands (S.behavior site.now) (S.stands site.now) self.new (W.book world.new) }
+        ensures wanting { result ≡ Carried.Wanting → (ms : List (GlobalAction S.Job)) × Falls (S.behavior site.now) (S.stands site.now) connection is_open.new (view_of self.new) (W.book world.new) ms }
+        ensures goes { Goes W.same W.book world.old world.new self.old.log_failed self.new.log_failed }
+        ensures in_offers { self.new.in_offers ≡ self.old.in_offers }
+        ensures ends_from { self.new.ends_from ≡ self.old.ends_from }
+        ensures work { work S.left self.new ≤ work S.left self.old + 1 }
+    {
+        let _ = site;
+        match act {
+            Act::Ready(thread) => match self.queue.push_back((StrandId::Conn(connection), thread)) {
+                Ok(()) => Carried::Done,
+                Err(_) => Carried::Wanting,
+            },
+            Act::Offer(place) => match self.places.push_back((StrandId::Conn(connection), place)) {
+                Ok(()) => Carried::Done,
+                Err(_) => Carried::Wanting,
+            },
+            Act::HangUp(place) => match place {
+                Place::Client => {
+                    world.hang_up(Id::Conn(connection));
+                    *is_open = false;
+                    self.connections = self.connections.saturating_sub(1);
+                    Carried::Done
+                }
+                Place::Sock(_) => Carried::Wanting,
+            },
+            Act::Log(line) => match world.write_log(
+                self.alloc,
+                StrandId::Conn(connection),
+                line.as_slice(),
+            ) {
+                Logged::Done => Carried::Done,
+                Logged::Failed => {
+                    self.log_failed = true;
+                    Carried::Done
+                }
+                Logged::Memory => Carried::Wanting,
+            },
+            Act::Gone => Carried::Over,
+            // There are no deadlines, sockets, dictionaries, pools and timers yet.
+            _ => Carried::Wanting,
+        }
+    }
+
+    /// Carries out the acts of a turn; the strand comes back if it still lives.
+    fn carry<W: World>(
+        &mut self,
+        site: &S::Site,
+        connection: u64,
+        seat: Seat<S>,
+        mut acts: Acts<S::Job>,
+        going: bool,
+        world: &mut W,
+    ) -> Option<Seat<S>>
+        requires { (ms : List (GlobalAction S.Job)) × Busy (S.behavior site.now) (S.stands site.now) connection seat.strand acts.items going seat.is_open (view_of self.old) (W.book world.old) ms }
+        ensures lives { MatchOption result (Stands (S.behavior site.now) (S.stands site.now) self.new (W.book world.new))
+            (λ next. (ms : List (GlobalAction S.Job)) × Busy (S.behavior site.now) (S.stands site.now) connection next.strand [] going next.is_open (view_of self.new) (W.book world.new) ms) }
+        ensures goes { Goes W.same W.book world.old world.new self.old.log_failed self.new.log_failed }
+        ensures in_offers { self.new.in_offers ≡ self.old.in_offers }
+        ensures ends_from { self.new.ends_from ≡ self.old.ends_from }
+        ensures work { work S.left self.new + left_of S.left result ≤ work S.left self.old + S.left seat.strand + length acts.items }
+    {
+        let Seat {
+            strand,
+            mut is_open,
+        } = seat;
+        while let Some(act) = acts.pop_front() {
+            match self.carry_out(site, connection, &mut is_open, act, world) {
+                Carried::Done => {}
+                Carried::Over => return None,
+                Carried::Wanting => {
+                    self.give_up(site, connection, is_open, world);
+                    return None;
+                }
+            }
+        }
+        Some(Seat { strand, is_open })
+    }
+
+    /// Shows the strand something, and carries out what follows; it comes back if it still lives.
+    fn show<W: World>(
+        &mut self,
+        site: &S::Site,
+        connection: u64,
+        mut seat: Seat<S>,
+        seen: Seen,
+        going: bool,
+        world: &mut W,
+    ) -> Option<Seat<S>>
+        requires { (ms : List (GlobalAction S.Job)) × Turn (S.behavior site.now) (S.stands site.now) connection seat.strand seen going seat.is_open (view_of self.old) (W.book world.old) ms }
+        ensures lives { MatchOption result (Stands (S.behavior site.now) (S.stands site.now) self.new (W.book world.new))
+            (λ next. (ms : List (GlobalAction S.Job)) × Busy (S.behavior site.now) (S.stands site.now) connection next.strand [] going next.is_open (view_of self.new) (W.book world.new) ms) }
+        ensures goes { Goes W.same W.book world.old world.new self.old.log_failed self.new.log_failed }
+        ensures in_offers { self.new.in_offers ≡ self.old.in_offers }
+        ensures ends_from { self.new.ends_from ≡ self.old.ends_from }
+        ensures work { is_own_turn seen ≡ true → work S.left self.new + left_of S.left result ≤ work S.left self.old + S.left seat.strand }
+    {
+        match seat.strand.given(self.alloc, site, self.now, seen) {
+            Ok(acts) => self.carry(site, connection, seat, acts, going, world),
+            Err(_) => {
+                self.give_up(site, connection, seat.is_open, world);
+                None
+            }
+        }
+    }
+
+    /// Gives a strand its seat again, once its turn is over.
+    fn put_back<W: World>(&mut self, site: &S::Site, connection: u64, seat: Seat<S>, world: &mut W)
+        requires { (go : Bool) × (ms : List (GlobalAction S.Job)) × Busy (S.behavior site.now) (S.stands site.now) connection seat.strand [] go seat.is_open (view_of self.old) (W.book world.old) ms
+            × (offering (S.behavior site.now) (projection (StrandId.Conn connection) ms) ≡ None) }
+        ensures standing { Stands (S.behavior site.now) (S.stands site.now) self.new (W.book world.new) }
+        ensures goes { Goes W.same W.book world.old world.new self.old.log_failed self.new.log_failed }
+        ensures in_offers { self.new.in_offers ≡ self.old.in_offers }
+        ensures ends_from { self.new.ends_from ≡ self.old.ends_from }
+        ensures work { work S.left self.new ≤ work S.left self.old + S.left seat.strand }
+    {
+        let is_open = seat.is_open;
+        if !self.seats.put_back(connection, seat) {
+            self.give_up(site, connection, is_open, world);
         }
     }
 }

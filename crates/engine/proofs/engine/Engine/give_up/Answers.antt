@@ -13,13 +13,14 @@ returns-then-is_open-clause-standing g c =
     let n = c.note.ensures in
     let u = c.hang_up.ensures in
     let k = c.args.connection in
-    let f = c.requires.1 in
-    (Of (strand.Conn k) (Closed place.Client) None ∷ Of (strand.Conn k) Dropped None ∷ c.requires.0,
-    fallen-open _ _ k (g.met.S.StrandContract.quiet c.args.site.now) _ _ (g.W.World.book c.args.world.now) (g.W.World.book c.note.new.self) (g.W.World.book c.hang_up.new.self) c.requires.0 (rw c.if-is_open.true at f)
-    (record { is_open = λ t ne. n.is_open (id.Conn t); has_ended = λ t ne. n.has_ended (id.Conn t); id_place = λ t ne. n.id_place (id.Conn t); strand_place = λ t ne. n.strand_place (strand.Conn t) ∙ ap (λ v. if v then false else (g.W.World.book c.args.world.now).strand_place (strand.Conn t)) ne })
-    (n.is_open (id.Conn k)) (n.id_place (id.Conn k)) n.arrivals (λ m. n.is_open (id.Sock m)) n.history n.offered
-    (record { is_open = λ t ne. u.is_open (id.Conn t) ∙ ap (λ v. if v then false else (g.W.World.book c.note.new.self).is_open (id.Conn t)) ne; has_ended = λ t ne. u.has_ended (id.Conn t); id_place = λ t ne. u.id_place (id.Conn t) ∙ ap (λ v. if v then false else (g.W.World.book c.note.new.self).id_place (id.Conn t)) ne; strand_place = λ t ne. u.strand_place (strand.Conn t) })
-    (u.is_open (id.Conn k) ∙ ap (λ v. if v then false else (g.W.World.book c.note.new.self).is_open (id.Conn k)) (same-true k)) u.arrivals (λ m. u.is_open (id.Sock m)) u.history u.offered (rw c.saturating_sub-self.ensures refl))
+    let f = c.requires.1 in (
+      Of (strand.Conn k) (Closed place.Client) None ∷ Of (strand.Conn k) Dropped None ∷ c.requires.0,
+      fallen-open _ _ k (g.met.S.StrandContract.quiet c.args.site.now) _ _ (g.W.World.book c.args.world.now) (g.W.World.book c.note.new.self) (g.W.World.book c.hang_up.new.self) c.requires.0 (rw c.if-is_open.true at f)
+          (record { is_open = λ t ne. n.is_open (id.Conn t); has_ended = λ t ne. n.has_ended (id.Conn t); id_place = λ t ne. n.id_place (id.Conn t); strand_place = λ t ne. n.strand_place (strand.Conn t) ∙ ap (λ v. if v then false else (g.W.World.book c.args.world.now).strand_place (strand.Conn t)) ne })
+          (n.is_open (id.Conn k)) (n.id_place (id.Conn k)) n.arrivals (λ m. n.is_open (id.Sock m)) n.history n.offered
+          (record { is_open = λ t ne. u.is_open (id.Conn t) ∙ ap (λ v. if v then false else (g.W.World.book c.note.new.self).is_open (id.Conn t)) ne; has_ended = λ t ne. u.has_ended (id.Conn t); id_place = λ t ne. u.id_place (id.Conn t) ∙ ap (λ v. if v then false else (g.W.World.book c.note.new.self).id_place (id.Conn t)) ne; strand_place = λ t ne. u.strand_place (strand.Conn t) })
+          (u.is_open (id.Conn k) ∙ ap (λ v. if v then false else (g.W.World.book c.note.new.self).is_open (id.Conn k)) (same-true k)) u.arrivals (λ m. u.is_open (id.Sock m)) u.history u.offered (rw c.saturating_sub-self.ensures refl),
+    )
 
 pub returns-then-is_open-clause-goes : goal.returns-then-is_open-clause-goes
 returns-then-is_open-clause-goes g c =
@@ -30,11 +31,12 @@ returns-then-is_open-clause-goes g c =
 pub returns-else-is_open-clause-standing : goal.returns-else-is_open-clause-standing
 returns-else-is_open-clause-standing g c =
     let n = c.note.ensures in
-    let k = c.args.connection in
-    (Of (strand.Conn k) Dropped None ∷ c.requires.0,
-    fallen-shut _ _ k (g.met.S.StrandContract.quiet c.args.site.now) _ (g.W.World.book c.args.world.now) (g.W.World.book c.note.new.self) c.requires.0 (rw c.if-is_open.false at c.requires.1)
-    (record { is_open = λ t ne. n.is_open (id.Conn t); has_ended = λ t ne. n.has_ended (id.Conn t); id_place = λ t ne. n.id_place (id.Conn t); strand_place = λ t ne. n.strand_place (strand.Conn t) ∙ ap (λ v. if v then false else (g.W.World.book c.args.world.now).strand_place (strand.Conn t)) ne })
-    (n.is_open (id.Conn k)) (n.id_place (id.Conn k)) n.arrivals (λ m. n.is_open (id.Sock m)) n.history n.offered)
+    let k = c.args.connection in (
+      Of (strand.Conn k) Dropped None ∷ c.requires.0,
+      fallen-shut _ _ k (g.met.S.StrandContract.quiet c.args.site.now) _ (g.W.World.book c.args.world.now) (g.W.World.book c.note.new.self) c.requires.0 (rw c.if-is_open.false at c.requires.1)
+          (record { is_open = λ t ne. n.is_open (id.Conn t); has_ended = λ t ne. n.has_ended (id.Conn t); id_place = λ t ne. n.id_place (id.Conn t); strand_place = λ t ne. n.strand_place (strand.Conn t) ∙ ap (λ v. if v then false else (g.W.World.book c.args.world.now).strand_place (strand.Conn t)) ne })
+          (n.is_open (id.Conn k)) (n.id_place (id.Conn k)) n.arrivals (λ m. n.is_open (id.Sock m)) n.history n.offered,
+    )
 
 pub returns-else-is_open-clause-goes : goal.returns-else-is_open-clause-goes
 returns-else-is_open-clause-goes g c =

@@ -1,0 +1,119 @@
+-- Strands that leave their seats, and come back to them.
+use Rattle.std.proofs.Common.{◌≡◌, ℕ, ◌<◌, ◌≤◌, Bool, true, false, ◌==◌, List, [], ◌∷◌, ◌++◌, Option, Some, None, if◌then◌else◌, refl, sym, ap, subst, ◌∙◌, append_assoc, append-nil, inl, inr, arith}
+use Rattle.std.proofs.lemmas.Bool.{eqb-true, cases_lt}
+use Rattle.resty_base.specs.declared.names.Id.TheVariants as id
+use Rattle.resty_base.specs.declared.names.StrandId.{StrandId}
+use Rattle.resty_base.specs.declared.names.StrandId.TheVariants as strand
+use Rattle.resty_world.specs.Book.{Book}
+use Rattle.resty_world.specs.Ids.{same_strand}
+use Rattle.strand_contract.specs.declared.turns.Place.{Place}
+use Rattle.strand_contract.specs.declared.turns.Place.TheVariants as place
+use Rattle.strand_contract.specs.declared.turns.Act.{Act}
+use Rattle.strand_contract.specs.Actions.{LocalAction, GlobalAction}
+use Rattle.strand_contract.specs.Behaviors.{Behavior}
+use Rattle.strand_contract.specs.Alone.{lives, is_open, waiting, to_offer, armed, offering, going_on, begun_offer, in_offers}
+use Rattle.strand_contract.specs.Executions.{projection}
+use Rattle.strand_contract.specs.Order.{IsSubsequence, only, all_run, all_readied, all_offered, all_placed, offers_last}
+use Rattle.engine.specs.declared.engine.Seat.{Seat}
+use Rattle.engine.specs.Standing.{Held, is_to_end, Fit, Common, Around, Near, Busy, Standing, Falls, IsOffer}
+use Rattle.engine.proofs.Lists.{by_test, clash, same-true, strand-true}
+use Rattle.engine.proofs.Marks.{fit-same}
+
+module _ {J S : Type 0} (b : Behavior J) (st : S → List (LocalAction J) → Type 0) (c : ℕ) where
+  -- the turn is over, and nothing is under way
+  pub busy-done : (x : Seat S) (go : Bool) (h h' : Held S) (book : Book) (ms : List (GlobalAction J))
+      → Busy b st c x.strand [] go x.is_open h book ms → offering b (projection (strand.Conn c) ms) ≡ None
+      → ((s : StrandId) → h'.seats s ≡ (if same_strand s (strand.Conn c) then Some x else h.seats s))
+      → h'.queue ≡ h.queue → h'.places ≡ h.places → h'.in_offers ≡ h.in_offers → h'.now ≡ h.now → h'.connections ≡ h.connections → h'.ends_from ≡ h.ends_from
+      → Standing b st h' book ms
+  busy-done x go h h' book ms y still seats queue places phase now count ends =
+      let here : h'.seats (strand.Conn c) ≡ Some x = seats (strand.Conn c) ∙ ap (λ v. if v then Some x else h.seats (strand.Conn c)) (same-true c) in
+      let other = λ (t : ℕ) (ne : (t == c) ≡ false). seats (strand.Conn t) ∙ ap (λ v. if v then Some x else h.seats (strand.Conn t)) ne in
+      let n = y.near in
+      let a = n.around in
+      let es : List (LocalAction J) = projection (strand.Conn c) ms in
+      let mine : Fit b st h.in_offers h.now (is_to_end h.ends_from c) es (h'.seats (strand.Conn c)) (only (strand.Conn c) h.queue) (only (strand.Conn c) h.places) (book.is_open (id.Conn c)) (book.has_ended (id.Conn c)) (book.id_place (id.Conn c)) (book.strand_place (strand.Conn c)) = record {
+        held = (x, here, y.stands, sym a.line_open);
+        no_act = n.to_do;
+        threads = sym n.threads;
+        offered = sym n.offered ∙ append-nil _;
+        no_offer = still;
+        runs_first = λ run on. clash on (n.kind ∙ run);
+        offers_first = λ offer off. clash (n.kind ∙ offer) off;
+        moment = n.moment;
+        no_deadline = sym n.deadlines;
+        no_socket = a.no_socket;
+        stopping = n.stopping ∙ sym n.not_to_end;
+        client = a.client ∙ sym a.line_open;
+        no_more = n.no_more;
+        id_aside = λ on. a.id_aside (sym a.line_open ∙ on);
+        strand_aside = a.strand_aside refl;
+      } in
+      record {
+        each = λ t live. rw (queue, places, phase, now, ends) (by_test (t == c)
+            (λ e. subst (λ (i : ℕ). Fit b st h.in_offers h.now (is_to_end h.ends_from i) (projection (strand.Conn i) ms) (h'.seats (strand.Conn i)) (only (strand.Conn i) h.queue) (only (strand.Conn i) h.places) (book.is_open (id.Conn i)) (book.has_ended (id.Conn i)) (book.id_place (id.Conn i)) (book.strand_place (strand.Conn i))) (sym (eqb-true t c e)) mine)
+            (λ ne. fit-same refl refl refl refl (other t ne) refl refl refl refl refl refl (a.each t ne live)));
+        dead = λ t gone. by_test (t == c)
+            (λ e. clash a.alive (subst (λ (i : ℕ). lives (projection (strand.Conn i) ms) ≡ false) (eqb-true t c e) gone))
+            (λ ne. other t ne ∙ a.dead t ne gone);
+        closed = λ t gone. by_test (t == c)
+            (λ e. clash a.alive (subst (λ (i : ℕ). lives (projection (strand.Conn i) ms) ≡ false) (eqb-true t c e) gone))
+            (λ ne. a.closed t ne gone);
+        shut = λ t gone q. by_test (t == c)
+            (λ e. clash a.alive (subst (λ (i : ℕ). lives (projection (strand.Conn i) ms) ≡ false) (eqb-true t c e) gone))
+            (λ ne. a.shut t ne gone q);
+        flip_to_runs = λ run on. clash on (n.last ∙ sym phase ∙ run);
+        flip_to_offers = λ offer off. clash (n.last ∙ sym phase ∙ offer) off;
+        common = record {
+          alone = a.common.alone;
+          begins = a.common.begins;
+          given = a.common.given;
+          kept = a.common.kept;
+          plain = a.common.plain;
+          runs = rw queue (rw append-nil at a.common.runs);
+          offered = rw places (rw append-nil at a.common.offered);
+          ends = a.common.ends;
+          turns = a.common.turns;
+          told = a.common.told;
+          offers_told = a.common.offers_told;
+          unborn = a.common.unborn;
+          jobless = a.common.jobless;
+          no_socket = a.common.no_socket;
+          count = a.common.count ∙ sym count;
+          present = a.common.present ∙ sym now;
+        };
+      }
+
+  -- the seats stay as they are
+  pub falls-seats : (o : Bool) (h h' : Held S) (book : Book) (ms : List (GlobalAction J))
+      → Falls b st c o h book ms → ((s : StrandId) → h'.seats s ≡ h.seats s)
+      → h'.queue ≡ h.queue → h'.places ≡ h.places → h'.in_offers ≡ h.in_offers → h'.now ≡ h.now → h'.connections ≡ h.connections → h'.ends_from ≡ h.ends_from
+      → Falls b st c o h' book ms
+  falls-seats o h h' book ms f seats queue places phase now count ends = record {
+    around = record {
+      each = λ t ne live. rw (queue, places, phase, now, ends) (fit-same refl refl refl refl (seats (strand.Conn t)) refl refl refl refl refl refl (f.around.each t ne live));
+      dead = λ t ne gone. seats (strand.Conn t) ∙ f.around.dead t ne gone;
+      closed = f.around.closed;
+      shut = f.around.shut;
+      out = seats (strand.Conn c) ∙ f.around.out;
+      arrived = f.around.arrived;
+      alive = f.around.alive;
+      line_open = f.around.line_open;
+      client = f.around.client;
+      no_socket = f.around.no_socket;
+      id_aside = f.around.id_aside;
+      strand_aside = f.around.strand_aside;
+      common = rw (queue, places, now, count) f.around.common;
+    };
+    last = f.last ∙ sym phase;
+    touched = f.touched;
+  }
+
+  -- no offer goes on where none may
+  pub no-offer : (o : Bool) (es : List (LocalAction J)) → IsOffer false o (begun_offer es) → offering b es ≡ None
+  no-offer o es h = closes (begun_offer es) h
+    where
+      closes : (p : Option Place) → IsOffer false o p → going_on b es p ≡ None
+      closes None k = refl
+      closes (Some place.Client) k = absurd (let e : false ≡ true = k in cc)
+      closes (Some (place.Sock j)) k = absurd k
