@@ -5,3 +5,4 @@ pub mod Lists
 pub mod Marks
 pub mod Seats
 pub mod Totals
+pub mod Turns
