@@ -6,3 +6,4 @@ pub mod Marks
 pub mod Seats
 pub mod Totals
 pub mod Turns
+pub mod Writes

@@ -117,3 +117,59 @@ module _ {J S : Type 0} (b : Behavior J) (st : S → List (LocalAction J) → Ty
       closes None k = refl
       closes (Some place.Client) k = absurd (let e : false ≡ true = k in cc)
       closes (Some (place.Sock j)) k = absurd k
+
+-- no place is in line: threads run
+pub to-runs : {J S : Type 0} (b : Behavior J) (st : S → List (LocalAction J) → Type 0) (h h' : Held S) (book : Book) (ms : List (GlobalAction J)) → Standing b st h book ms → h.places ≡ [] → h' ≡ record h { in_offers = false } → Standing b st h' book ms
+to-runs b st h h' book ms g nil held = rw held (record {
+  each = λ t live. let f = g.each t live in record {
+    held = f.held;
+    no_act = f.no_act;
+    threads = f.threads;
+    offered = f.offered;
+    no_offer = f.no_offer;
+    runs_first = λ run on. ap (only (strand.Conn t)) nil;
+    offers_first = λ offer off. absurd (let e : false ≡ true = offer in cc);
+    moment = f.moment;
+    no_deadline = f.no_deadline;
+    no_socket = f.no_socket;
+    stopping = f.stopping;
+    client = f.client;
+    no_more = f.no_more;
+    id_aside = f.id_aside;
+    strand_aside = f.strand_aside;
+  };
+  dead = g.dead;
+  closed = g.closed;
+  shut = g.shut;
+  flip_to_runs = λ run on. nil;
+  flip_to_offers = λ offer off. absurd (let e : false ≡ true = offer in cc);
+  common = g.common;
+})
+
+-- no thread is in line: places are offered
+pub to-offers : {J S : Type 0} (b : Behavior J) (st : S → List (LocalAction J) → Type 0) (h h' : Held S) (book : Book) (ms : List (GlobalAction J)) → Standing b st h book ms → h.queue ≡ [] → h' ≡ record h { in_offers = true } → Standing b st h' book ms
+to-offers b st h h' book ms g nil held = rw held (record {
+  each = λ t live. let f = g.each t live in record {
+    held = f.held;
+    no_act = f.no_act;
+    threads = f.threads;
+    offered = f.offered;
+    no_offer = f.no_offer;
+    runs_first = λ run on. absurd (let e : true ≡ false = run in cc);
+    offers_first = λ offer off. ap (only (strand.Conn t)) nil;
+    moment = f.moment;
+    no_deadline = f.no_deadline;
+    no_socket = f.no_socket;
+    stopping = f.stopping;
+    client = f.client;
+    no_more = f.no_more;
+    id_aside = f.id_aside;
+    strand_aside = f.strand_aside;
+  };
+  dead = g.dead;
+  closed = g.closed;
+  shut = g.shut;
+  flip_to_runs = λ run on. absurd (let e : true ≡ false = run in cc);
+  flip_to_offers = λ offer off. nil;
+  common = g.common;
+})

@@ -178,3 +178,240 @@ module _ {J S : Type 0} (b : Behavior J) (st : S → List (LocalAction J) → Ty
     near = rw gave t.near;
     stands = subst (λ (fs : List (LocalAction J)). st y fs) (sym (projection-same c (action_of b (projection (strand.Conn c) ms) given) None ms)) stands;
   }
+
+no-job : {J : Type 0} (n : ℕ) (ms : List (GlobalAction J)) → projection (strand.Job n) ms ≡ [] → lives (projection (strand.Job n) ms) ≡ true → ⊥
+no-job n ms nil live = absurd (let e : false ≡ true = sym (ap lives nil) ∙ live in cc)
+
+module _ {J S : Type 0} (b : Behavior J) (st : S → List (LocalAction J) → Type 0) (ms : List (GlobalAction J)) (h : Held S) (book : Book) (g : Standing b st h book ms) where
+  pub between : NoneUnderWay b ms
+  between (strand.Conn t) live = record { living = live; no_act = (g.each t live).no_act; no_offer = (g.each t live).no_offer }
+  between (strand.Job n) live = absurd (no-job n ms (g.common.jobless n) live)
+
+  pub no-place : h.places ≡ [] → NoPlaceInLine b ms
+  no-place nil (strand.Conn t) live = (g.each t live).offered ∙ ap (only (strand.Conn t)) nil
+  no-place nil (strand.Job n) live = absurd (no-job n ms (g.common.jobless n) live)
+
+  pub no-thread : h.queue ≡ [] → NoThreadInLine b ms
+  no-thread nil (strand.Conn t) live = (g.each t live).threads ∙ ap (only (strand.Conn t)) nil
+  no-thread nil (strand.Job n) live = absurd (no-job n ms (g.common.jobless n) live)
+
+  pub first-run : (c k : ℕ) (rest : List (StrandId × ℕ)) → h.queue ≡ (strand.Conn c, k) ∷ rest → IsFirstWaiting (all_readied b ms) (HasThreads b ms) (strand.Conn c) k
+  first-run c k rest now =
+      let s = sub-split (all_run ms) (strand.Conn c, k) rest (all_readied b ms) (rw now at g.common.runs) in
+      record { before = s.before; after = s.after; here = s.here; first = λ t xs w. waits t xs w s.after s.rest }
+    where
+      waits : (t : StrandId) (xs : List ℕ) → HasThreads b ms t xs → (after : List (StrandId × ℕ)) → IsSubsequence rest after → IsSubsequence xs (only t ((strand.Conn c, k) ∷ after))
+      waits (strand.Conn t) xs w after r = rw (w.1, (g.each t w.0).threads, now) (only-sub (strand.Conn t) (keep {x = (strand.Conn c, k)} r))
+      waits (strand.Job n) xs w after r = absurd (no-job n ms (g.common.jobless n) w.0)
+
+  pub first-offer : (c : ℕ) (q : Place) (rest : List (StrandId × Place)) → h.places ≡ (strand.Conn c, q) ∷ rest → IsFirstWaiting (all_placed b ms) (HasPlaces b ms) (strand.Conn c) q
+  first-offer c q rest now =
+      let s = sub-split (all_offered ms) (strand.Conn c, q) rest (all_placed b ms) (rw now at g.common.offered) in
+      record { before = s.before; after = s.after; here = s.here; first = λ t xs w. waits t xs w s.after s.rest }
+    where
+      waits : (t : StrandId) (xs : List Place) → HasPlaces b ms t xs → (after : List (StrandId × Place)) → IsSubsequence rest after → IsSubsequence xs (only t ((strand.Conn c, q) ∷ after))
+      waits (strand.Conn t) xs w after r = rw (w.1, (g.each t w.0).offered, now) (only-sub (strand.Conn t) (keep {x = (strand.Conn c, q)} r))
+      waits (strand.Job n) xs w after r = absurd (no-job n ms (g.common.jobless n) w.0)
+
+  -- the front of a line is of a strand that has no seat
+  pub skip-run : (h' : Held S) (s : StrandId) (k : ℕ) (rest : List (StrandId × ℕ)) → h.queue ≡ (s, k) ∷ rest → h.seats s ≡ None
+      → ((t : StrandId) → h'.seats t ≡ (if same_strand t s then None else h.seats t)) → h'.queue ≡ rest → h'.places ≡ h.places → h'.in_offers ≡ h.in_offers → h'.now ≡ h.now → h'.connections ≡ h.connections → h'.ends_from ≡ h.ends_from
+      → Standing b st h' book ms
+  skip-run h' s k rest front gone seats queue places phase now count ends = record {
+    each = λ t live. let f = g.each t live in
+        by_test (same_strand (strand.Conn t) s)
+        (λ e. absurd (seated t s f.held.0 f.held.1 e gone))
+        (λ ne. fit-same phase now (ap (λ o. is_to_end o t) ends) refl (seats (strand.Conn t) ∙ ap (λ v. if v then None else h.seats (strand.Conn t)) ne) (ap (only (strand.Conn t)) queue ∙ sym (ap (only (strand.Conn t)) front ∙ ap (λ v. if v then k ∷ only (strand.Conn t) rest else only (strand.Conn t) rest) ne)) (ap (only (strand.Conn t)) places) refl refl refl refl f);
+    dead = λ t off. by_test (same_strand (strand.Conn t) s)
+        (λ e. seats (strand.Conn t) ∙ ap (λ v. if v then None else h.seats (strand.Conn t)) e)
+        (λ ne. seats (strand.Conn t) ∙ ap (λ v. if v then None else h.seats (strand.Conn t)) ne ∙ g.dead t off);
+    closed = g.closed;
+    shut = g.shut;
+    flip_to_runs = λ run on. places ∙ g.flip_to_runs (sym phase ∙ run) on;
+    flip_to_offers = λ offer off. absurd (let e : (s, k) ∷ rest ≡ [] = sym front ∙ g.flip_to_offers (sym phase ∙ offer) off in cc);
+    common = record {
+      alone = g.common.alone;
+      begins = g.common.begins;
+      given = g.common.given;
+      kept = g.common.kept;
+      plain = g.common.plain;
+      runs = rw queue (sub-through (sub-without (all_run ms) (s, k) rest) (rw front at g.common.runs));
+      offered = rw places g.common.offered;
+      ends = g.common.ends;
+      turns = g.common.turns;
+      told = g.common.told;
+      offers_told = g.common.offers_told;
+      unborn = g.common.unborn;
+      jobless = g.common.jobless;
+      no_socket = g.common.no_socket;
+      count = g.common.count ∙ sym count;
+      present = g.common.present ∙ sym now;
+    };
+  }
+    where
+      seated : (t : ℕ) (s : StrandId) (x : Seat S) → h.seats (strand.Conn t) ≡ Some x → same_strand (strand.Conn t) s ≡ true → h.seats s ≡ None → ⊥
+      seated t (strand.Conn c) x some same nil = let e : Some x ≡ None = sym some ∙ subst (λ (i : ℕ). h.seats (strand.Conn i) ≡ None) (sym (eqb-true t c same)) nil in cc
+      seated t (strand.Job n) x some same nil = absurd (let e : false ≡ true = same in cc)
+
+  pub skip-offer : (h' : Held S) (s : StrandId) (q : Place) (rest : List (StrandId × Place)) → h.places ≡ (s, q) ∷ rest → h.seats s ≡ None
+      → ((t : StrandId) → h'.seats t ≡ (if same_strand t s then None else h.seats t)) → h'.places ≡ rest → h'.queue ≡ h.queue → h'.in_offers ≡ h.in_offers → h'.now ≡ h.now → h'.connections ≡ h.connections → h'.ends_from ≡ h.ends_from
+      → Standing b st h' book ms
+  skip-offer h' s q rest front gone seats places queue phase now count ends = record {
+    each = λ t live. let f = g.each t live in
+        by_test (same_strand (strand.Conn t) s)
+        (λ e. absurd (seated t s f.held.0 f.held.1 e gone))
+        (λ ne. fit-same phase now (ap (λ o. is_to_end o t) ends) refl (seats (strand.Conn t) ∙ ap (λ v. if v then None else h.seats (strand.Conn t)) ne) (ap (only (strand.Conn t)) queue) (ap (only (strand.Conn t)) places ∙ sym (ap (only (strand.Conn t)) front ∙ ap (λ v. if v then q ∷ only (strand.Conn t) rest else only (strand.Conn t) rest) ne)) refl refl refl refl f);
+    dead = λ t off. by_test (same_strand (strand.Conn t) s)
+        (λ e. seats (strand.Conn t) ∙ ap (λ v. if v then None else h.seats (strand.Conn t)) e)
+        (λ ne. seats (strand.Conn t) ∙ ap (λ v. if v then None else h.seats (strand.Conn t)) ne ∙ g.dead t off);
+    closed = g.closed;
+    shut = g.shut;
+    flip_to_runs = λ run on. absurd (let e : (s, q) ∷ rest ≡ [] = sym front ∙ g.flip_to_runs (sym phase ∙ run) on in cc);
+    flip_to_offers = λ offer off. queue ∙ g.flip_to_offers (sym phase ∙ offer) off;
+    common = record {
+      alone = g.common.alone;
+      begins = g.common.begins;
+      given = g.common.given;
+      kept = g.common.kept;
+      plain = g.common.plain;
+      runs = rw queue g.common.runs;
+      offered = rw places (sub-through (sub-without (all_offered ms) (s, q) rest) (rw front at g.common.offered));
+      ends = g.common.ends;
+      turns = g.common.turns;
+      told = g.common.told;
+      offers_told = g.common.offers_told;
+      unborn = g.common.unborn;
+      jobless = g.common.jobless;
+      no_socket = g.common.no_socket;
+      count = g.common.count ∙ sym count;
+      present = g.common.present ∙ sym now;
+    };
+  }
+    where
+      seated : (t : ℕ) (s : StrandId) (x : Seat S) → h.seats (strand.Conn t) ≡ Some x → same_strand (strand.Conn t) s ≡ true → h.seats s ≡ None → ⊥
+      seated t (strand.Conn c) x some same nil = let e : Some x ≡ None = sym some ∙ subst (λ (i : ℕ). h.seats (strand.Conn i) ≡ None) (sym (eqb-true t c same)) nil in cc
+      seated t (strand.Job n) x some same nil = absurd (let e : false ≡ true = same in cc)
+
+  -- a thread runs
+  pub turn-run : (asks : (es : List (LocalAction J)) → IsLastAct (b.acts es)) (c k : ℕ) (rest : List (StrandId × ℕ)) (x : Seat S) (h' : Held S)
+      → h.queue ≡ (strand.Conn c, k) ∷ rest → h.seats (strand.Conn c) ≡ Some x → h.in_offers ≡ false → h.ends_from ≡ None
+      → ((t : StrandId) → h'.seats t ≡ (if same_strand t (strand.Conn c) then None else h.seats t)) → h'.queue ≡ rest → h'.places ≡ h.places → h'.in_offers ≡ h.in_offers → h'.now ≡ h.now → h'.connections ≡ h.connections → h'.ends_from ≡ h.ends_from
+      → Turn b st c x.strand (seen.Run k) false x.is_open h' book ms
+  turn-run asks c k rest x h' front here running no_end seats queue places phase now count ends =
+      let z : Action J = Ran k in
+      let es : List (LocalAction J) = projection (strand.Conn c) ms in
+      let live : lives es ≡ true = seat-lives b st c ms h book x g here in
+      let mine = g.each c live in
+      let fits = seat-fits b st c ms h book x g here in
+      let line : waiting b es ≡ k ∷ only (strand.Conn c) rest = mine.threads ∙ ap (only (strand.Conn c)) front ∙ ap (λ v. if v then k ∷ only (strand.Conn c) rest else only (strand.Conn c) rest) (same-true c) in
+      let out : h'.seats (strand.Conn c) ≡ None = seats (strand.Conn c) ∙ ap (λ v. if v then None else h.seats (strand.Conn c)) (same-true c) in
+      let a = around-leave b st c ms h h' rest h.places book x g here seats
+      (λ t ne. ap (only (strand.Conn t)) queue ∙ sym (ap (only (strand.Conn t)) front ∙ ap (λ v. if v then k ∷ only (strand.Conn t) rest else only (strand.Conn t) rest) ne)) (λ t ne. ap (only (strand.Conn t)) places) phase now count (λ t ne. ap (λ o. is_to_end o t) ends)
+      (sub-through (sub-without (all_run ms) (strand.Conn c, k) rest) (rw front at g.common.runs)) g.common.offered in
+      turn-next b st c ms asks (seen.Run k) x.strand false x.is_open x.is_open h' h' rest h.places book book a fits.0 (mine.moment ∙ sym now)
+      (record { seats = λ t ne. refl; queue = λ t ne. refl; places = λ t ne. refl; in_offers = refl; now = refl; ends = λ t ne. refl }) (book-same c book) out
+      (record {
+        enabled = (record { living = live; no_act = mine.no_act; no_offer = mine.no_offer }, (only (strand.Conn c) rest, sym line), (λ on. mine.offered ∙ (mine.runs_first running on)), (rw mine.no_deadline refl), (mine.stopping ∙ ap (λ o. is_to_end o c) no_end));
+        begins = g.common.begins;
+        given = (g.common.given, λ e. absurd (let w : false ≡ true = e in cc));
+        kept = (g.common.kept, λ e. absurd (let w : false ≡ true = e in cc));
+        plain = g.common.plain;
+        ends = ends-still (all_halted ms) (all_begun ms) g.common.ends;
+        turns = (g.common.turns, between, (λ on. no-place (g.flip_to_runs running on)), first-run c k rest front);
+        counts = g.common.count ∙ sym count;
+      }) live (sym fits.1) (mine.client ∙ sym fits.1) mine.no_socket (λ on. mine.id_aside (sym fits.1 ∙ on)) mine.strand_aside refl (λ n. refl) g.common.told g.common.offers_told
+      (rw (queue, append_assoc) (rw front at g.common.runs)) (rw (places, append-nil) g.common.offered)
+      (record {
+        done = mine.no_act;
+        no_use = refl;
+        line = ap (drop 1) line ∙ sym (ap (only (strand.Conn c)) queue);
+        list = mine.offered ∙ sym (ap (only (strand.Conn c)) places);
+        deadlines = mine.no_deadline;
+        kind = sym (phase ∙ running);
+        offer = (λ e. absurd (let w : false ≡ true = e in cc));
+        moment = mine.moment ∙ sym now;
+        stopping = mine.stopping ∙ ap (λ o. is_to_end o c) no_end;
+        no_more = mine.no_more;
+        not_to_end = ap (λ o. is_to_end o c) (ends ∙ no_end);
+        last = sym (phase ∙ running);
+      })
+
+  -- a place is offered: what is known of the others, and of the strand
+  offer-around : (quiet : (a : LocalAction J) (es : List (LocalAction J)) → is_still a ≡ true → b.acts (a ∷ es) ≡ []) (c : ℕ) (q : Place) (rest : List (StrandId × Place)) (x : Seat S) (h' : Held S)
+      → h.places ≡ (strand.Conn c, q) ∷ rest → h.seats (strand.Conn c) ≡ Some x → h.in_offers ≡ true → h.ends_from ≡ None
+      → ((t : StrandId) → h'.seats t ≡ (if same_strand t (strand.Conn c) then None else h.seats t)) → h'.places ≡ rest → h'.queue ≡ h.queue → h'.in_offers ≡ h.in_offers → h'.now ≡ h.now → h'.connections ≡ h.connections → h'.ends_from ≡ h.ends_from
+      → Around b st c true x.is_open h' h'.queue h'.places book (Of (strand.Conn c) (Offered q) None ∷ ms)
+  offer-around quiet c q rest x h' front here running no_end seats places queue phase now count ends =
+      let z : Action J = Offered q in
+      let es : List (LocalAction J) = projection (strand.Conn c) ms in
+      let live : lives es ≡ true = seat-lives b st c ms h book x g here in
+      let mine = g.each c live in
+      let fits = seat-fits b st c ms h book x g here in
+      let none : b.acts (Did z ∷ es) ≡ [] = quiet (Did z) es refl in
+      let line : to_offer b es ≡ q ∷ only (strand.Conn c) rest = mine.offered ∙ ap (only (strand.Conn c)) front ∙ ap (λ v. if v then q ∷ only (strand.Conn c) rest else only (strand.Conn c) rest) (same-true c) in
+      let out : h'.seats (strand.Conn c) ≡ None = seats (strand.Conn c) ∙ ap (λ v. if v then None else h.seats (strand.Conn c)) (same-true c) in
+      let a = around-leave b st c ms h h' h.queue rest book x g here seats
+      (λ t ne. ap (only (strand.Conn t)) queue) (λ t ne. ap (only (strand.Conn t)) places ∙ sym (ap (only (strand.Conn t)) front ∙ ap (λ v. if v then q ∷ only (strand.Conn t) rest else only (strand.Conn t) rest) ne)) phase now count (λ t ne. ap (λ o. is_to_end o t) ends)
+      g.common.runs (sub-through (sub-without (all_offered ms) (strand.Conn c, q) rest) (rw front at g.common.offered)) in
+      around-next b st c ms z true true x.is_open x.is_open h' h' h.queue h'.queue rest h'.places book book a
+      (record { seats = λ t ne. refl; queue = λ t ne. refl; places = λ t ne. refl; in_offers = refl; now = refl; ends = λ t ne. refl }) (book-same c book) out live (sym fits.1) (mine.client ∙ sym fits.1) mine.no_socket (λ on. mine.id_aside (sym fits.1 ∙ on)) (λ on. mine.strand_aside) a.arrived
+      (common-next b st c ms z h.queue h'.queue rest h'.places h'.now h'.connections h'.connections book book a.common
+      (record {
+        enabled = (record { living = live; no_act = mine.no_act; no_offer = mine.no_offer }, (only (strand.Conn c) rest, sym line), (λ off. mine.threads ∙ (mine.offers_first running off)), (rw mine.no_deadline refl), (mine.stopping ∙ ap (λ o. is_to_end o c) no_end));
+        begins = g.common.begins;
+        given = (g.common.given, λ e. absurd (let w : false ≡ true = e in cc));
+        kept = (g.common.kept, λ e. absurd (let w : false ≡ true = e in cc));
+        plain = g.common.plain;
+        ends = ends-still (all_halted ms) (all_begun ms) g.common.ends;
+        turns = (g.common.turns, between, (λ off. no-thread (g.flip_to_offers running off)), first-offer c q rest front);
+        counts = g.common.count ∙ sym count;
+      }) a.arrived (omega arith) g.common.no_socket g.common.told g.common.offers_told
+      (rw queue (lines-still (strand.Conn c) (all_run ms) h.queue (all_readied b ms) [] (readied (b.acts (Did z ∷ es))) refl (ap readied none) g.common.runs))
+      (rw places (offered-next (all_offered ms) (strand.Conn c, q) rest (all_placed b ms) (with_strand (strand.Conn c) (offers (b.acts (Did z ∷ es)))) (ap (with_strand (strand.Conn c)) (ap offers none)) (rw front at g.common.offered))))
+    where
+      offered-next : (xs : List (StrandId × Place)) (e : StrandId × Place) (l ys more : List (StrandId × Place)) → more ≡ [] → IsSubsequence (xs ++ e ∷ l) ys → IsSubsequence (xs ++ e ∷ [] ++ l) (ys ++ more)
+      offered-next xs e l ys more nil r = rw nil (simp (append_assoc, append-nil) r)
+
+  pub falls-offered : (quiet : (a : LocalAction J) (es : List (LocalAction J)) → is_still a ≡ true → b.acts (a ∷ es) ≡ []) (c : ℕ) (q : Place) (rest : List (StrandId × Place)) (x : Seat S) (h' : Held S)
+      → h.places ≡ (strand.Conn c, q) ∷ rest → h.seats (strand.Conn c) ≡ Some x → h.in_offers ≡ true → h.ends_from ≡ None
+      → ((t : StrandId) → h'.seats t ≡ (if same_strand t (strand.Conn c) then None else h.seats t)) → h'.places ≡ rest → h'.queue ≡ h.queue → h'.in_offers ≡ h.in_offers → h'.now ≡ h.now → h'.connections ≡ h.connections → h'.ends_from ≡ h.ends_from
+      → Falls b st c x.is_open h' book (Of (strand.Conn c) (Offered q) None ∷ ms)
+  falls-offered quiet c q rest x h' front here running no_end seats places queue phase now count ends = record {
+    around = offer-around quiet c q rest x h' front here running no_end seats places queue phase now count ends;
+    last = sym (phase ∙ running);
+    touched = touches c (Offered q) None ms;
+  }
+
+  -- the client's line is offered
+  pub busy-offered : (still : (y : S) (a : LocalAction J) (es : List (LocalAction J)) → is_still a ≡ true → st y es → st y (a ∷ es)) (quiet : (a : LocalAction J) (es : List (LocalAction J)) → is_still a ≡ true → b.acts (a ∷ es) ≡ []) (c : ℕ) (rest : List (StrandId × Place)) (x : Seat S) (h' : Held S)
+      → h.places ≡ (strand.Conn c, place.Client) ∷ rest → h.seats (strand.Conn c) ≡ Some x → h.in_offers ≡ true → h.ends_from ≡ None
+      → ((t : StrandId) → h'.seats t ≡ (if same_strand t (strand.Conn c) then None else h.seats t)) → h'.places ≡ rest → h'.queue ≡ h.queue → h'.in_offers ≡ h.in_offers → h'.now ≡ h.now → h'.connections ≡ h.connections → h'.ends_from ≡ h.ends_from
+      → Busy b st c x.strand [] true x.is_open h' book (Of (strand.Conn c) (Offered place.Client) None ∷ ms)
+  busy-offered still quiet c rest x h' front here running no_end seats places queue phase now count ends =
+      let z : Action J = Offered place.Client in
+      let es : List (LocalAction J) = projection (strand.Conn c) ms in
+      let live : lives es ≡ true = seat-lives b st c ms h book x g here in
+      let mine = g.each c live in
+      let fits = seat-fits b st c ms h book x g here in
+      let none : b.acts (Did z ∷ es) ≡ [] = quiet (Did z) es refl in
+      let own : projection (strand.Conn c) (Of (strand.Conn c) z None ∷ ms) ≡ Did z ∷ es = projection-same c z None ms in
+      let line : to_offer b es ≡ place.Client ∷ only (strand.Conn c) rest = mine.offered ∙ ap (only (strand.Conn c)) front ∙ ap (λ v. if v then place.Client ∷ only (strand.Conn c) rest else only (strand.Conn c) rest) (same-true c) in
+      record {
+        near = record {
+          around = rw (append-nil, append-nil) (offer-around quiet c place.Client rest x h' front here running no_end seats places queue phase now count ends);
+          to_do = ap (todo b) own ∙ (rw (none, mine.no_act) refl);
+          last_act = tt;
+          threads = sym (ap (waiting b) own ∙ (rw none (mine.threads ∙ sym (ap (only (strand.Conn c)) queue))));
+          offered = append-nil _ ∙ sym (ap (to_offer b) own ∙ (rw (none, line) (append-nil _ ∙ sym (ap (only (strand.Conn c)) places))));
+          deadlines = sym (ap (armed b) own ∙ (rw (none, mine.no_deadline) refl));
+          kind = ap in_offers own ∙ sym (phase ∙ running);
+          offer = subst (λ (fs : List (LocalAction J)). IsOffer true x.is_open (begun_offer fs)) (sym own) refl;
+          moment = ap moment own ∙ mine.moment ∙ sym now;
+          stopping = ap is_stopping own ∙ mine.stopping ∙ ap (λ o. is_to_end o c) no_end;
+          no_more = ap (has_ended place.Client) own ∙ mine.no_more;
+          not_to_end = ap (λ o. is_to_end o c) (ends ∙ no_end);
+          last = sym (phase ∙ running);
+          touched = touches c z None ms;
+        };
+        stands = subst (λ (fs : List (LocalAction J)). st x.strand fs) (sym own) (still x.strand (Did z) es refl fits.0);
+      }

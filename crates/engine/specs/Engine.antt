@@ -29,6 +29,10 @@ view_of e = record {
 abbrev pub Stands : {J S : Type 0} → Behavior J → (S → List (LocalAction J) → Type 0) → Engine S → Book → Type 0
 Stands {J} b st e book = (ms : List (GlobalAction J)) × Standing b st (view_of e) book ms
 
+-- the same, where no turn is under way and none is in line
+abbrev pub Rests : {J S : Type 0} → Behavior J → (S → List (LocalAction J) → Type 0) → Engine S → Book → Type 0
+Rests {J} b st e book = (ms : List (GlobalAction J)) × Standing b st (view_of e) book ms × (e.queue.items ≡ []) × (e.places.items ≡ []) × (e.in_offers ≡ false) × (e.ends_from ≡ None)
+
 -- what is left to be done: by the strands, and in line
 abbrev pub seat_left : {S : Type 0} → (S → ℕ) → Seat S → ℕ
 seat_left left seat = left seat.strand

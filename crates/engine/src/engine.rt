@@ -41,14 +41,14 @@ pub enum Carried {
 }
 
 impl<S: StrandContract> Engine<S> {
-    ghost use Rattle.std.specs.Prelude.{◌≡◌, ◌<◌, ◌≤◌, ◌+◌, ℕ, List, [], ◌∷◌, Bool, true, false, Some, None, MatchOption, length};
+    ghost use Rattle.std.specs.Prelude.{◌≡◌, ◌<◌, ◌≤◌, ◌+◌, ℕ, List, [], ◌∷◌, Bool, true, false, Some, None, MatchOption, IfSome, length};
     ghost use Rattle.strand_contract.specs.Actions.{GlobalAction};
     ghost use Rattle.strand_contract.specs.Alone.{offering};
     ghost use Rattle.strand_contract.specs.Executions.{projection};
     ghost use Rattle.strand_contract.specs.Laws.{is_own_turn};
     ghost use Rattle.strand_contract.specs.declared.turns.Act.{Act};
     ghost use Rattle.engine.specs.Standing.{Standing, Busy, Falls, Turn};
-    ghost use Rattle.engine.specs.Engine.{view_of, Stands, work, left_of, Goes};
+    ghost use Rattle.engine.specs.Engine.{view_of, Stands, Rests, work, left_of, Goes};
 
     /// Gives a strand up: tells that it was dropped, and closes its line.
     fn give_up<W: World>(&mut self, site: &S::Site, connection: u64, is_open: bool, world: &mut W)
@@ -177,6 +177,7 @@ impl<S: StrandContract> Engine<S> {
         ensures in_offers { self.new.in_offers ≡ self.old.in_offers }
         ensures ends_from { self.new.ends_from ≡ self.old.ends_from }
         ensures work { is_own_turn seen ≡ true → work S.left self.new + left_of S.left result ≤ work S.left self.old + S.left seat.strand }
+        ensures less { is_own_turn seen ≡ true → IfSome result (λ next. work S.left self.new + S.left next.strand < work S.left self.old + S.left seat.strand) }
     {
         match seat.strand.given(self.alloc, site, self.now, seen) {
             Ok(acts) => self.carry(site, connection, seat, acts, going, world),
@@ -201,5 +202,179 @@ impl<S: StrandContract> Engine<S> {
         if !self.seats.put_back(connection, seat) {
             self.give_up(site, connection, is_open, world);
         }
+    }
+
+    /// Shows the strand something, and gives it its seat again if it still lives.
+    fn take_turn<W: World>(
+        &mut self,
+        site: &S::Site,
+        connection: u64,
+        seat: Seat<S>,
+        seen: Seen,
+        world: &mut W,
+    )
+        requires { (ms : List (GlobalAction S.Job)) × Turn (S.behavior site.now) (S.stands site.now) connection seat.strand seen false seat.is_open (view_of self.old) (W.book world.old) ms }
+        ensures standing { Stands (S.behavior site.now) (S.stands site.now) self.new (W.book world.new) }
+        ensures goes { Goes W.same W.book world.old world.new self.old.log_failed self.new.log_failed }
+        ensures in_offers { self.new.in_offers ≡ self.old.in_offers }
+        ensures ends_from { self.new.ends_from ≡ self.old.ends_from }
+        ensures work { is_own_turn seen ≡ true → work S.left self.new ≤ work S.left self.old + S.left seat.strand }
+    {
+        if let Some(next) = self.show(site, connection, seat, seen, false, world) {
+            self.put_back(site, connection, next, world);
+        }
+    }
+
+    /// Runs the first thread in line whose strand lives, and tells whether there was one.
+    fn run_next<W: World>(&mut self, site: &S::Site, world: &mut W) -> bool
+        requires standing { Stands (S.behavior site.now) (S.stands site.now) self.old (W.book world.old) }
+        requires in_offers { self.old.in_offers ≡ false }
+        requires ends_from { self.old.ends_from ≡ None }
+        ensures standing { Stands (S.behavior site.now) (S.stands site.now) self.new (W.book world.new) }
+        ensures goes { Goes W.same W.book world.old world.new self.old.log_failed self.new.log_failed }
+        ensures in_offers { self.new.in_offers ≡ false }
+        ensures ends_from { self.new.ends_from ≡ None }
+        ensures none { result ≡ false → self.new.queue.items ≡ [] }
+        ensures places { result ≡ false → self.new.places.items ≡ self.old.places.items }
+        ensures kept { work S.left self.new ≤ work S.left self.old }
+        ensures less { result ≡ true → work S.left self.new < work S.left self.old }
+    {
+        while let Some((who, thread)) = self.queue.pop_front() {
+            if let Some(seat) = self.seats.take_out(who) {
+                if let StrandId::Conn(connection) = who {
+                    self.take_turn(site, connection, seat, Seen::Run(thread), world);
+                    return true;
+                }
+            }
+        }
+        false
+    }
+
+    /// Offers the client's line piece by piece, until nothing is left or it is put off.
+    fn offer<W: World>(&mut self, site: &S::Site, connection: u64, mut seat: Seat<S>, world: &mut W)
+        requires { (ms : List (GlobalAction S.Job)) × Busy (S.behavior site.now) (S.stands site.now) connection seat.strand [] true seat.is_open (view_of self.old) (W.book world.old) ms }
+        ensures standing { Stands (S.behavior site.now) (S.stands site.now) self.new (W.book world.new) }
+        ensures goes { Goes W.same W.book world.old world.new self.old.log_failed self.new.log_failed }
+        ensures in_offers { self.new.in_offers ≡ self.old.in_offers }
+        ensures ends_from { self.new.ends_from ≡ self.old.ends_from }
+        ensures work { work S.left self.new ≤ work S.left self.old + S.left seat.strand }
+    {
+        loop {
+            let piece = seat.strand.queued(site, Place::Client);
+            if piece.is_empty() {
+                self.put_back(site, connection, seat, world);
+                return;
+            }
+            match world.put_bytes(self.alloc, Id::Conn(connection), piece) {
+                Wrote::Took(count) => match self.show(
+                    site,
+                    connection,
+                    seat,
+                    Seen::Took(Place::Client, count),
+                    true,
+                    world,
+                ) {
+                    Some(next) => seat = next,
+                    None => return,
+                },
+                Wrote::Later => {
+                    self.take_turn(site, connection, seat, Seen::Later(Place::Client), world);
+                    return;
+                }
+                Wrote::Broken => {
+                    self.take_turn(site, connection, seat, Seen::Lost(Place::Client), world);
+                    return;
+                }
+                Wrote::Memory => {
+                    self.give_up(site, connection, seat.is_open, world);
+                    return;
+                }
+            }
+        }
+    }
+
+    /// Offers the first place in line whose strand lives, and tells whether there was one.
+    fn offer_next<W: World>(&mut self, site: &S::Site, world: &mut W) -> bool
+        requires standing { Stands (S.behavior site.now) (S.stands site.now) self.old (W.book world.old) }
+        requires in_offers { self.old.in_offers ≡ true }
+        requires ends_from { self.old.ends_from ≡ None }
+        ensures standing { Stands (S.behavior site.now) (S.stands site.now) self.new (W.book world.new) }
+        ensures goes { Goes W.same W.book world.old world.new self.old.log_failed self.new.log_failed }
+        ensures in_offers { self.new.in_offers ≡ true }
+        ensures ends_from { self.new.ends_from ≡ None }
+        ensures none { result ≡ false → self.new.places.items ≡ [] }
+        ensures queue { result ≡ false → self.new.queue.items ≡ self.old.queue.items }
+        ensures kept { work S.left self.new ≤ work S.left self.old }
+        ensures less { result ≡ true → work S.left self.new < work S.left self.old }
+    {
+        while let Some((who, place)) = self.places.pop_front() {
+            if let Some(seat) = self.seats.take_out(who) {
+                if let StrandId::Conn(connection) = who {
+                    self.offer_place(site, connection, place, seat, world);
+                    return true;
+                }
+            }
+        }
+        false
+    }
+
+    /// Offers a place of a strand whose turn it is.
+    fn offer_place<W: World>(
+        &mut self,
+        site: &S::Site,
+        connection: u64,
+        place: Place,
+        seat: Seat<S>,
+        world: &mut W,
+    )
+        requires client { place ≡ Place.Client → (ms : List (GlobalAction S.Job)) × Busy (S.behavior site.now) (S.stands site.now) connection seat.strand [] true seat.is_open (view_of self.old) (W.book world.old) ms }
+        requires falls { (ms : List (GlobalAction S.Job)) × Falls (S.behavior site.now) (S.stands site.now) connection seat.is_open (view_of self.old) (W.book world.old) ms }
+        ensures standing { Stands (S.behavior site.now) (S.stands site.now) self.new (W.book world.new) }
+        ensures goes { Goes W.same W.book world.old world.new self.old.log_failed self.new.log_failed }
+        ensures in_offers { self.new.in_offers ≡ self.old.in_offers }
+        ensures ends_from { self.new.ends_from ≡ self.old.ends_from }
+        ensures work { work S.left self.new ≤ work S.left self.old + S.left seat.strand }
+    {
+        match place {
+            Place::Client => self.offer(site, connection, seat, world),
+            // No strand has a socket yet.
+            Place::Sock(_) => self.give_up(site, connection, seat.is_open, world),
+        }
+    }
+
+    /// One turn, of a thread or of a place; false where neither is in line.
+    fn turn<W: World>(&mut self, site: &S::Site, world: &mut W) -> bool
+        requires standing { Stands (S.behavior site.now) (S.stands site.now) self.old (W.book world.old) }
+        requires ends_from { self.old.ends_from ≡ None }
+        ensures standing { Stands (S.behavior site.now) (S.stands site.now) self.new (W.book world.new) }
+        ensures goes { Goes W.same W.book world.old world.new self.old.log_failed self.new.log_failed }
+        ensures ends_from { self.new.ends_from ≡ None }
+        ensures none { result ≡ false → (self.new.queue.items ≡ []) × (self.new.places.items ≡ []) }
+        ensures less { result ≡ true → work S.left self.new < work S.left self.old }
+    {
+        if self.in_offers {
+            if self.offer_next(site, world) {
+                return true;
+            }
+            self.in_offers = false;
+            self.run_next(site, world)
+        } else {
+            if self.run_next(site, world) {
+                return true;
+            }
+            self.in_offers = true;
+            self.offer_next(site, world)
+        }
+    }
+
+    /// All turns, until nothing is in line.
+    fn settle<W: World>(&mut self, site: &S::Site, world: &mut W)
+        requires standing { Stands (S.behavior site.now) (S.stands site.now) self.old (W.book world.old) }
+        requires ends_from { self.old.ends_from ≡ None }
+        ensures rests { Rests (S.behavior site.now) (S.stands site.now) self.new (W.book world.new) }
+        ensures goes { Goes W.same W.book world.old world.new self.old.log_failed self.new.log_failed }
+    {
+        while self.turn(site, world) {}
+        self.in_offers = false;
     }
 }

@@ -1,0 +1,32 @@
+use Rattle.std.proofs.Common.{◌≡◌, ◌<◌, List, ℕ, length, arith}
+use Rattle.std.proofs.lemmas.Grind.{common_steps}
+use Rattle.resty_base.specs.declared.names.StrandId.TheVariants as strand
+use Rattle.strand_contract.specs.declared.turns.Place.TheVariants as place
+use Rattle.strand_contract.specs.Alone.{piece}
+use Rattle.strand_contract.specs.Executions.{projection}
+use Rattle.engine.proofs.Writes.{turn-put, turn-later, turn-lost}
+use Rattle.engine.proofs.engine.Engine.offer.Goals as goal
+
+pub show-requires : goal.show-requires
+show-requires g c =
+    let ms = c.loop-piece.invariant.busy.0 in
+    let y = c.loop-piece.invariant.busy.1 in
+    let now : c.queued-piece.result.now ≡ piece (g.S.StrandContract.behavior c.args.site.now) place.Client (projection (strand.Conn c.args.connection) ms) = c.queued-piece.ensures (projection (strand.Conn c.args.connection) ms) y.stands y.near.to_do in
+    let fits = rw now at c.in-Took.ensures.piece in
+    (ms, turn-put _ _ (g.met.S.StrandContract.asks_last c.args.site.now) c.args.connection _ _ _ _ (g.W.World.book c.put_bytes.new.self) ms y c.in-Took.ensures.ids c.in-Took.count fits.0 fits.1 (rw now at c.in-Took.ensures.history) (rw now at c.in-Took.ensures.offered))
+
+pub take_turn-requires : goal.take_turn-requires
+take_turn-requires g c =
+    let ms = c.loop-piece.invariant.busy.0 in
+    let y = c.loop-piece.invariant.busy.1 in
+    let now : c.queued-piece.result.now ≡ piece (g.S.StrandContract.behavior c.args.site.now) place.Client (projection (strand.Conn c.args.connection) ms) = c.queued-piece.ensures (projection (strand.Conn c.args.connection) ms) y.stands y.near.to_do in
+    let some : 0 < length c.queued-piece.result.now = grind (arith, common_steps) in
+    (ms, turn-later _ _ (g.met.S.StrandContract.asks_last c.args.site.now) c.args.connection _ _ _ _ (g.W.World.book c.put_bytes.new.self) ms y c.in-Later.ensures.ids (rw now at some) c.in-Later.ensures.history (rw now at c.in-Later.ensures.offered))
+
+pub take_turn-requires-in-Broken : goal.take_turn-requires-in-Broken
+take_turn-requires-in-Broken g c =
+    let ms = c.loop-piece.invariant.busy.0 in
+    let y = c.loop-piece.invariant.busy.1 in
+    let now : c.queued-piece.result.now ≡ piece (g.S.StrandContract.behavior c.args.site.now) place.Client (projection (strand.Conn c.args.connection) ms) = c.queued-piece.ensures (projection (strand.Conn c.args.connection) ms) y.stands y.near.to_do in
+    let some : 0 < length c.queued-piece.result.now = grind (arith, common_steps) in
+    (ms, turn-lost _ _ (g.met.S.StrandContract.asks_last c.args.site.now) c.args.connection _ _ _ _ (g.W.World.book c.put_bytes.new.self) ms y c.in-Broken.ensures.ids (rw now at some) c.in-Broken.ensures.history c.in-Broken.ensures.offered)

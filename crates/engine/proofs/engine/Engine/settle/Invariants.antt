@@ -1,0 +1,13 @@
+use Rattle.std.proofs.Common.{◌≡◌, None}
+use Rattle.engine.specs.Engine.{Stands, work, Goes}
+use Rattle.engine.proofs.engine.Engine.settle.Given as goal
+
+abbrev pub invariant-loop : goal.invariant-loop
+invariant-loop g l = record {
+  standing : Stands (g.S.StrandContract.behavior l.site) (g.S.StrandContract.stands l.site) l.self (g.W.World.book l.world);
+  goes : Goes g.W.World.same g.W.World.book l.fn.world l.world l.fn.self.log_failed l.self.log_failed;
+  ends_from : l.self.ends_from ≡ None;
+}
+
+abbrev pub decreases-loop : goal.decreases-loop
+decreases-loop g l = work g.S.StrandContract.left l.self
