@@ -19,7 +19,7 @@ use Rattle.strand_contract.specs.Behaviors.{Behavior}
 use Rattle.strand_contract.specs.Alone.{lives, was_dropped, moment, is_open, has_ended, todo, carried, left_by, waiting, lined_up, run_by, to_offer, offers, offered_by, armed, armed_by, taken_by, offering, begun_offer, but, in_offers, is_stopping, is_before, Enabled, IsExecution, IsFirstOpen}
 use Rattle.strand_contract.specs.Executions.{projection, external, offered_lengths, present, open_connections}
 use Rattle.strand_contract.specs.Laws.{IsLastAct, is_still}
-use Rattle.strand_contract.specs.Order.{IsSubsequence, keep, with_strand, only, readied, run_of, offer_of, all_readied, all_run, all_placed, all_offered, all_begun, all_halted, offers_last, was_touched, TurnsInOrder}
+use Rattle.strand_contract.specs.Order.{IsSubsequence, keep, with_strand, only, readied, run_of, offer_of, all_readied, all_run, all_placed, all_offered, offers_last, was_touched, TurnsInOrder}
 use Rattle.engine.specs.declared.engine.Seat.{Seat}
 use Rattle.engine.specs.Right.{Tells}
 use Rattle.engine.specs.Standing.{Held, is_to_end, Fit, Common, Around, Near, Busy, Falls, Standing, IsOffer}
@@ -29,9 +29,6 @@ use Rattle.engine.proofs.Marks.{projection-same, projection-other, touches, fit-
 pub sub-behind : {A : Type 0} (xs : List A) {ys zs : List A} → IsSubsequence ys zs → IsSubsequence (xs ++ ys) (xs ++ zs)
 sub-behind [] r = r
 sub-behind (x ∷ xs) r = keep (sub-behind xs r)
-
-pub ends-still : {A : Type 0} (xs ys : List A) → IsSubsequence xs ys → IsSubsequence (xs ++ []) (ys ++ [])
-ends-still xs ys h = simp append-nil h
 
 -- a still action leaves what ran and what is to run
 pub lines-still : {A : Type 0} (s : StrandId) (xs rl ys : List (StrandId × A)) (r u : List A) → r ≡ [] → u ≡ [] → IsSubsequence (xs ++ rl) ys → IsSubsequence (xs ++ with_strand s r ++ rl) (ys ++ with_strand s u)
@@ -76,7 +73,6 @@ module _ {J S : Type 0} (b : Behavior J) (st : S → List (LocalAction J) → Ty
       plain = a.common.plain;
       runs = sub-through (sub-behind (all_run ms) runs) a.common.runs;
       offered = sub-through (sub-behind (all_offered ms) list) a.common.offered;
-      ends = a.common.ends;
       turns = a.common.turns;
       told = a.common.told;
       offers_told = a.common.offers_told;
@@ -134,7 +130,6 @@ module _ {J S : Type 0} (b : Behavior J) (st : S → List (LocalAction J) → Ty
           given = (a.common.given, λ e. absurd (let x : false ≡ true = e in cc));
           kept = (a.common.kept, λ e. absurd (let x : false ≡ true = e in cc));
           plain = a.common.plain;
-          ends = ends-still (all_halted ms) (all_begun ms) a.common.ends;
           turns = (a.common.turns, f.touched);
           counts = a.common.count;
         }) (rw arrivals a.arrived) (omega (arith, arrivals)) (λ n. socks n ∙ a.common.no_socket n)
@@ -178,7 +173,6 @@ module _ {J S : Type 0} (b : Behavior J) (st : S → List (LocalAction J) → Ty
           given = (a.common.given, λ e. absurd (let x : false ≡ true = e in cc));
           kept = (a.common.kept, λ e. absurd (let x : false ≡ true = e in cc));
           plain = a.common.plain;
-          ends = ends-still (all_halted fell) (all_begun fell) a.common.ends;
           turns = a.common.turns;
           counts = ap (λ n. n - 1) a.common.count;
         }) (rw arrivals2 a.arrived) (omega (arith, arrivals2)) (λ n. socks2 n ∙ a.common.no_socket n)
@@ -305,7 +299,6 @@ module _ {J S : Type 0} (b : Behavior J) (st : S → List (LocalAction J) → Ty
                 given = (a.common.given, λ e. absurd (let w : false ≡ true = e in cc));
                 kept = (a.common.kept, λ e. absurd (let w : false ≡ true = e in cc));
                 plain = a.common.plain;
-                ends = ends-still (all_halted ms) (all_begun ms) a.common.ends;
                 turns = a.common.turns;
                 counts = ap (λ n. n - 1) a.common.count;
               }) (rw arrivals a.arrived) (omega (arith, arrivals)) (λ n. socks n ∙ a.common.no_socket n)
@@ -354,7 +347,6 @@ module _ {J S : Type 0} (b : Behavior J) (st : S → List (LocalAction J) → Ty
                 given = (a.common.given, λ e. absurd (let w : false ≡ true = e in cc));
                 kept = (a.common.kept, λ e. absurd (let w : false ≡ true = e in cc));
                 plain = a.common.plain;
-                ends = ends-still (all_halted ms) (all_begun ms) a.common.ends;
                 turns = a.common.turns;
                 counts = a.common.count;
               }) (rw ids.arrivals a.arrived) (omega (arith, ids.arrivals)) (λ n. ids.is_open (id.Sock n) ∙ a.common.no_socket n)
@@ -397,7 +389,6 @@ module _ {J S : Type 0} (b : Behavior J) (st : S → List (LocalAction J) → Ty
         given = (a.common.given, λ e. absurd (let w : false ≡ true = e in cc));
         kept = (a.common.kept, λ e. absurd (let w : false ≡ true = e in cc));
         plain = a.common.plain;
-        ends = ends-still (all_halted ms) (all_begun ms) a.common.ends;
         turns = a.common.turns;
         counts = a.common.count;
       }) a.arrived (omega arith) a.common.no_socket a.common.told a.common.offers_told
@@ -445,7 +436,6 @@ module _ {J S : Type 0} (b : Behavior J) (st : S → List (LocalAction J) → Ty
       plain = a.common.plain;
       runs = a.common.runs;
       offered = a.common.offered;
-      ends = a.common.ends;
       turns = a.common.turns;
       told = tells-same book.history book'.history (external b ms) a.common.told history;
       offers_told = tells-same book.offered book'.offered (offered_lengths b ms) a.common.offers_told told_offers;

@@ -18,5 +18,5 @@ fresh-right b book fresh = record {
   };
   kept = (tt, λ s on. absurd (let e : false ≡ true = on in cc));
   plain = tt;
-  ordered = record { runs = none; offered = none; ends = none; turns = tt };
+  ordered = record { runs = none; offered = none; turns = tt };
 }

@@ -15,7 +15,7 @@ use Rattle.strand_contract.specs.Behaviors.{Behavior}
 use Rattle.strand_contract.specs.Alone.{lives, moment, is_open, has_ended, todo, carried, left_by, waiting, lined_up, run_by, to_offer, offers, offered_by, armed, armed_by, taken_by, offering, begun_offer, in_offers, is_stopping, Enabled, IsExecution}
 use Rattle.strand_contract.specs.Executions.{projection, external, offered_lengths, present, open_connections, BeginsRight, IsGivenAtRest, HeldNothingBack, IsPlain}
 use Rattle.strand_contract.specs.Laws.{IsLastAct}
-use Rattle.strand_contract.specs.Order.{IsSubsequence, with_strand, only, readied, run_of, offer_of, all_readied, all_run, all_placed, all_offered, all_begun, all_halted, offers_last, was_touched, TurnsInOrder}
+use Rattle.strand_contract.specs.Order.{IsSubsequence, with_strand, only, readied, run_of, offer_of, all_readied, all_run, all_placed, all_offered, offers_last, was_touched, TurnsInOrder}
 use Rattle.engine.specs.declared.engine.Seat.{Seat}
 use Rattle.engine.specs.Right.{Tells}
 use Rattle.engine.specs.Standing.{Held, is_to_end, Fit, Common, Around, Near, IsOffer}
@@ -68,7 +68,6 @@ pub record MayCome {J : Type 0} (b : Behavior J) (c : ℕ) (x : Action J) (ms : 
   pub given : IsGivenAtRest b (Of (strand.Conn c) x None ∷ ms)
   pub kept : HeldNothingBack b (Of (strand.Conn c) x None ∷ ms)
   pub plain : IsPlain b (Of (strand.Conn c) x None ∷ ms)
-  pub ends : IsSubsequence (all_halted (Of (strand.Conn c) x None ∷ ms)) (all_begun (Of (strand.Conn c) x None ∷ ms))
   pub turns : TurnsInOrder b (Of (strand.Conn c) x None ∷ ms)
   pub counts : open_connections (Of (strand.Conn c) x None ∷ ms) ≡ count
 
@@ -106,7 +105,6 @@ module _ {J S : Type 0} (b : Behavior J) (st : S → List (LocalAction J) → Ty
     plain = may.plain;
     runs = runs;
     offered = offered;
-    ends = may.ends;
     turns = may.turns;
     told = told;
     offers_told = offers_told;

@@ -72,7 +72,6 @@ module _ {J S : Type 0} (b : Behavior J) (st : S → List (LocalAction J) → Ty
           plain = a.common.plain;
           runs = rw queue (rw append-nil at a.common.runs);
           offered = rw places (rw append-nil at a.common.offered);
-          ends = a.common.ends;
           turns = a.common.turns;
           told = a.common.told;
           offers_told = a.common.offers_told;

@@ -19,13 +19,13 @@ use Rattle.strand_contract.specs.Behaviors.{Behavior}
 use Rattle.strand_contract.specs.Alone.{lives, moment, is_open, has_ended, todo, carried, left_by, waiting, run_by, to_offer, offers, offered_by, armed, due, offering, going_on, begun_offer, in_offers, is_stopping, piece, queued, taken, is_some_left, Enabled, IsExecution, IsBetween, IsPrefixOf, IsOfferedAt}
 use Rattle.strand_contract.specs.Executions.{projection, external, offered_lengths}
 use Rattle.strand_contract.specs.Laws.{action_of, is_still, IsLastAct}
-use Rattle.strand_contract.specs.Order.{IsSubsequence, none, keep, skip, with_strand, only, readied, run_of, offer_of, all_readied, all_run, all_placed, all_offered, all_begun, all_halted, offers_last, NoneUnderWay, NoPlaceInLine, NoThreadInLine, IsFirstWaiting, HasThreads, HasPlaces}
+use Rattle.strand_contract.specs.Order.{IsSubsequence, none, keep, skip, with_strand, only, readied, run_of, offer_of, all_readied, all_run, all_placed, all_offered, offers_last, NoneUnderWay, NoPlaceInLine, NoThreadInLine, IsFirstWaiting, HasThreads, HasPlaces}
 use Rattle.engine.specs.declared.engine.Seat.{Seat}
 use Rattle.engine.specs.Right.{Tells}
 use Rattle.engine.specs.Standing.{Held, is_to_end, Fit, Common, Around, Near, Busy, Turn, Standing, Falls, IsOffer}
 use Rattle.engine.proofs.Lists.{by_test, clash, same-true, strand-true, sub-more, sub-through, sub-front, sub-without, tells-more, tells-same}
 use Rattle.engine.proofs.Marks.{projection-same, touches, fit-same, SameHeld, SameBook, book-same, MayCome, common-next, around-next, Begins, near-begins}
-use Rattle.engine.proofs.Acts.{ends-still, lines-still, near-falls, around-lists}
+use Rattle.engine.proofs.Acts.{lines-still, near-falls, around-lists}
 
 -- where one comes after some that are left out of a list, it stands in it, before those behind it
 pub record Splits {A : Type 0} (x : A) (ys zs : List A) : Type 0 where
@@ -119,7 +119,6 @@ module _ {J S : Type 0} (b : Behavior J) (st : S → List (LocalAction J) → Ty
           plain = g.common.plain;
           runs = runs;
           offered = list;
-          ends = g.common.ends;
           turns = g.common.turns;
           told = g.common.told;
           offers_told = g.common.offers_told;
@@ -237,7 +236,6 @@ module _ {J S : Type 0} (b : Behavior J) (st : S → List (LocalAction J) → Ty
       plain = g.common.plain;
       runs = rw queue (sub-through (sub-without (all_run ms) (s, k) rest) (rw front at g.common.runs));
       offered = rw places g.common.offered;
-      ends = g.common.ends;
       turns = g.common.turns;
       told = g.common.told;
       offers_told = g.common.offers_told;
@@ -276,7 +274,6 @@ module _ {J S : Type 0} (b : Behavior J) (st : S → List (LocalAction J) → Ty
       plain = g.common.plain;
       runs = rw queue g.common.runs;
       offered = rw places (sub-through (sub-without (all_offered ms) (s, q) rest) (rw front at g.common.offered));
-      ends = g.common.ends;
       turns = g.common.turns;
       told = g.common.told;
       offers_told = g.common.offers_told;
@@ -316,7 +313,6 @@ module _ {J S : Type 0} (b : Behavior J) (st : S → List (LocalAction J) → Ty
         given = (g.common.given, λ e. absurd (let w : false ≡ true = e in cc));
         kept = (g.common.kept, λ e. absurd (let w : false ≡ true = e in cc));
         plain = g.common.plain;
-        ends = ends-still (all_halted ms) (all_begun ms) g.common.ends;
         turns = (g.common.turns, between, (λ on. no-place (g.flip_to_runs running on)), first-run c k rest front);
         counts = g.common.count ∙ sym count;
       }) live (sym fits.1) (mine.client ∙ sym fits.1) mine.no_socket (λ on. mine.id_aside (sym fits.1 ∙ on)) mine.strand_aside refl (λ n. refl) g.common.told g.common.offers_told
@@ -362,7 +358,6 @@ module _ {J S : Type 0} (b : Behavior J) (st : S → List (LocalAction J) → Ty
         given = (g.common.given, λ e. absurd (let w : false ≡ true = e in cc));
         kept = (g.common.kept, λ e. absurd (let w : false ≡ true = e in cc));
         plain = g.common.plain;
-        ends = ends-still (all_halted ms) (all_begun ms) g.common.ends;
         turns = (g.common.turns, between, (λ off. no-thread (g.flip_to_offers running off)), first-offer c q rest front);
         counts = g.common.count ∙ sym count;
       }) a.arrived (omega arith) g.common.no_socket g.common.told g.common.offers_told

@@ -15,12 +15,11 @@ use Rattle.strand_contract.specs.Behaviors.{Behavior}
 use Rattle.strand_contract.specs.Alone.{lives, moment, is_open, has_ended, todo, left_by, waiting, run_by, to_offer, offered_by, armed, offering, going_on, begun_offer, in_offers, is_stopping, piece, queued, taken, is_some_left, Enabled, IsOfferedAt, IsPrefixOf}
 use Rattle.strand_contract.specs.Executions.{projection, external, offered_lengths, open_connections}
 use Rattle.strand_contract.specs.Laws.{action_of, IsLastAct}
-use Rattle.strand_contract.specs.Order.{run_of, offer_of, all_run, all_readied, all_offered, all_placed, all_begun, all_halted, offers_last}
+use Rattle.strand_contract.specs.Order.{run_of, offer_of, all_run, all_readied, all_offered, all_placed, offers_last}
 use Rattle.engine.specs.Right.{Tells}
 use Rattle.engine.specs.Standing.{Held, Busy, Turn, IsOffer}
 use Rattle.engine.proofs.Lists.{by_test, clash, tells-more}
 use Rattle.engine.proofs.Marks.{SameBook, MayCome, held-same, Begins}
-use Rattle.engine.proofs.Acts.{ends-still}
 use Rattle.engine.proofs.Turns.{turn-next}
 
 some-left : (q : List ℕ) → 0 < length q → is_some_left q ≡ true
@@ -120,7 +119,6 @@ module _ {J S : Type 0} (b : Behavior J) (st : S → List (LocalAction J) → Ty
         given = (a.common.given, λ e. absurd (let w : false ≡ true = e in cc));
         kept = (a.common.kept, λ e. absurd (let w : false ≡ true = e in cc));
         plain = a.common.plain;
-        ends = ends-still (all_halted ms) (all_begun ms) a.common.ends;
         turns = a.common.turns;
         counts = a.common.count;
       }) refl (λ q. refl) refl refl refl refl refl refl refl refl refl refl refl
@@ -142,7 +140,6 @@ module _ {J S : Type 0} (b : Behavior J) (st : S → List (LocalAction J) → Ty
         given = (a.common.given, λ e. absurd (let w : false ≡ true = e in cc));
         kept = (a.common.kept, λ e. absurd (let w : false ≡ true = e in cc));
         plain = a.common.plain;
-        ends = ends-still (all_halted ms) (all_begun ms) a.common.ends;
         turns = a.common.turns;
         counts = a.common.count;
       }) refl (λ q. refl) refl refl refl refl refl refl (λ e. absurd (let w : false ≡ true = e in cc)) refl refl refl refl
@@ -163,7 +160,6 @@ module _ {J S : Type 0} (b : Behavior J) (st : S → List (LocalAction J) → Ty
         given = (a.common.given, λ e. absurd (let w : false ≡ true = e in cc));
         kept = (a.common.kept, λ e. absurd (let w : false ≡ true = e in cc));
         plain = a.common.plain;
-        ends = ends-still (all_halted ms) (all_begun ms) a.common.ends;
         turns = a.common.turns;
         counts = a.common.count;
       }) refl (λ q. refl) refl refl refl refl refl refl (λ e. absurd (let w : false ≡ true = e in cc)) refl refl refl refl

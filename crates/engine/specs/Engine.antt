@@ -7,7 +7,6 @@ use Rattle.resty_world.specs.declared.entry.Entry.{Entry}
 use Rattle.resty_world.specs.declared.event.Event.{Event}
 use Rattle.strand_contract.specs.Actions.{LocalAction, GlobalAction}
 use Rattle.strand_contract.specs.Behaviors.{Behavior}
-use Rattle.strand_contract.specs.Order.{all_halted, all_begun}
 use Rattle.engine.specs.declared.engine.Engine.{Engine}
 use Rattle.engine.specs.declared.engine.Seat.{Seat}
 use Rattle.engine.specs.Right.{events_of, HasFailedLog}

@@ -13,7 +13,7 @@ use Rattle.strand_contract.specs.Behaviors.{Behavior}
 use Rattle.strand_contract.specs.Alone.{lives, moment, is_open, has_ended, todo, carried, waiting, lined_up, to_offer, offers, armed, armed_by, offering, begun_offer, in_offers, is_stopping, IsExecution}
 use Rattle.strand_contract.specs.Executions.{projection, external, offered_lengths, present, open_connections, BeginsRight, IsGivenAtRest, HeldNothingBack, IsPlain}
 use Rattle.strand_contract.specs.Laws.{action_of, IsLastAct}
-use Rattle.strand_contract.specs.Order.{IsSubsequence, with_strand, only, readied, all_readied, all_run, all_placed, all_offered, all_begun, all_halted, offers_last, was_touched, TurnsInOrder}
+use Rattle.strand_contract.specs.Order.{IsSubsequence, with_strand, only, readied, all_readied, all_run, all_placed, all_offered, offers_last, was_touched, TurnsInOrder}
 use Rattle.engine.specs.declared.engine.Seat.{Seat}
 use Rattle.engine.specs.Right.{Tells}
 
@@ -63,7 +63,6 @@ pub record Common {J : Type 0} (b : Behavior J) (threads : List (StrandId × ℕ
   pub plain : IsPlain b ms
   pub runs : IsSubsequence (all_run ms ++ threads) (all_readied b ms)
   pub offered : IsSubsequence (all_offered ms ++ places) (all_placed b ms)
-  pub ends : IsSubsequence (all_halted ms) (all_begun ms)
   pub turns : TurnsInOrder b ms
   pub told : Tells book.history (external b ms)
   pub offers_told : Tells book.offered (offered_lengths b ms)

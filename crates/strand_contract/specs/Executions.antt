@@ -1,5 +1,5 @@
 -- Executions of all strands: each strand's own, the history that is told, and what makes it lawful.
-use Rattle.std.specs.Prelude.{◌≡◌, ℕ, ◌+◌, ◌-◌, ◌<◌, ◌≤◌, max, Bool, true, false, List, [], ◌∷◌, ◌++◌, Option, Some, None, slice_index, length, if◌then◌else◌}
+use Rattle.std.specs.Prelude.{◌≡◌, ℕ, ◌+◌, ◌-◌, ◌<◌, ◌≤◌, max, Bool, true, false, ◌||◌, List, [], ◌∷◌, ◌++◌, Option, Some, None, slice_index, length, if◌then◌else◌}
 use Rattle.resty_base.specs.declared.names.Id.{Id}
 use Rattle.resty_base.specs.declared.names.Id.TheVariants as id
 use Rattle.resty_base.specs.declared.names.StrandId.{StrandId}
@@ -137,10 +137,21 @@ abbrev pub IsStartOf : {J : Type 0} → StrandId → Start J → Type 0
 IsStartOf (strand.Conn k) (start.Client c) = c ≡ k
 IsStartOf s begin = ⊥
 
+-- the strand has begun
+abbrev pub has_begun : {J : Type 0} → StrandId → List (GlobalAction J) → Bool
+has_begun s [] = false
+has_begun s (Of t (Began now begin) n ∷ ms) = same_strand s t || has_begun s ms
+has_begun s (m ∷ ms) = has_begun s ms
+
+-- connections are numbered in the order of their arrival
+abbrev pub IsNewest : {J : Type 0} → StrandId → List (GlobalAction J) → Type 0
+IsNewest (strand.Conn c) ms = (t : ℕ) → has_begun (strand.Conn t) ms ≡ true → t < c
+IsNewest (strand.Job n) ms = Unit {0}
+
 -- each strand begins with its own start, at the present moment
 abbrev pub BeginsRight : {J : Type 0} → List (GlobalAction J) → Type 0
 BeginsRight [] = Unit {0}
-BeginsRight (Of s (Began now begin) n ∷ ms) = BeginsRight ms × IsStartOf s begin × (now ≡ present ms)
+BeginsRight (Of s (Began now begin) n ∷ ms) = BeginsRight ms × IsStartOf s begin × (now ≡ present ms) × IsNewest s ms
 BeginsRight (m ∷ ms) = BeginsRight ms
 
 -- each strand does what it does alone, from its own start and moment, and all are at rest at each given event and at the end

@@ -7,8 +7,8 @@ use Rattle.strand_contract.specs.declared.turns.Act.{Act}
 use Rattle.strand_contract.specs.declared.turns.Act.TheVariants as act
 use Rattle.strand_contract.specs.Actions.{Action, Began, Dropped, Ran, Offered, Due, Halted, Did, GlobalAction, Of, is_event, is_given}
 use Rattle.strand_contract.specs.Behaviors.{Behavior}
-use Rattle.strand_contract.specs.Alone.{lives, waiting, to_offer, offers, IsBetween}
-use Rattle.strand_contract.specs.Executions.{projection, has_given}
+use Rattle.strand_contract.specs.Alone.{lives, is_stopping, waiting, to_offer, offers, IsBetween}
+use Rattle.strand_contract.specs.Executions.{projection, has_given, has_begun}
 
 -- xs is ys with some left out, in the same order
 pub data IsSubsequence {A : Type 0} : List A → List A → Type 0 where
@@ -60,24 +60,11 @@ all_offered [] = []
 all_offered (Of s x n ∷ ms) = all_offered ms ++ with_strand s (offer_of x)
 all_offered (m ∷ ms) = all_offered ms
 
--- strands that begin, and those that Stop ends, the oldest first
-abbrev pub beginning_of : {J : Type 0} → StrandId → Action J → List StrandId
-beginning_of s (Began now start) = s ∷ []
-beginning_of s x = []
-
-abbrev pub all_begun : {J : Type 0} → List (GlobalAction J) → List StrandId
-all_begun [] = []
-all_begun (Of s x n ∷ ms) = all_begun ms ++ beginning_of s x
-all_begun (m ∷ ms) = all_begun ms
-
-abbrev pub ending_of : {J : Type 0} → StrandId → Action J → List StrandId
-ending_of s Halted = s ∷ []
-ending_of s x = []
-
-abbrev pub all_halted : {J : Type 0} → List (GlobalAction J) → List StrandId
-all_halted [] = []
-all_halted (Of s x n ∷ ms) = all_halted ms ++ ending_of s x
-all_halted (m ∷ ms) = all_halted ms
+-- the one strand began before the other
+abbrev pub begun_before : {J : Type 0} → StrandId → StrandId → List (GlobalAction J) → Bool
+begun_before t s [] = false
+begun_before t s (Of r (Began now begin) n ∷ ms) = if same_strand s r then has_begun t ms else begun_before t s ms
+begun_before t s (m ∷ ms) = begun_before t s ms
 
 -- the newest turn of all is an offer
 abbrev pub is_offer : {J : Type 0} → Action J → Bool
@@ -123,8 +110,12 @@ HasThreads b ms t xs = (lives (projection t ms) ≡ true) × (xs ≡ waiting b (
 abbrev pub HasPlaces : {J : Type 0} → Behavior J → List (GlobalAction J) → StrandId → List Place → Type 0
 HasPlaces b ms t xs = (lives (projection t ms) ≡ true) × (xs ≡ to_offer b (projection t ms))
 
+-- whoever began before the strand and lives isn't to be ended by Stop any more
+abbrev pub IsFirstToEnd : {J : Type 0} → StrandId → List (GlobalAction J) → Type 0
+IsFirstToEnd s ms = (t : StrandId) → begun_before t s ms ≡ true → lives (projection t ms) ≡ true → is_stopping (projection t ms) ≡ false
+
 -- Turns don't interleave. A thread runs, after offers, only where no place is left in line, and a place is offered, after
--- runs and events, only where no thread is; of those in line each is the first. A strand is dropped at an event of its own
+-- runs and events, only where no thread is; of those in line each is the first. Stop ends strands in the order of their beginning. A strand is dropped at an event of its own
 abbrev pub TurnsInOrder : {J : Type 0} → Behavior J → List (GlobalAction J) → Type 0
 TurnsInOrder b [] = Unit {0}
 TurnsInOrder b (Of s (Ran k) n ∷ ms) =
@@ -134,14 +125,13 @@ TurnsInOrder b (Of s (Offered q) n ∷ ms) =
     TurnsInOrder b ms × NoneUnderWay b ms × (offers_last ms ≡ false → NoThreadInLine b ms)
     × IsFirstWaiting (all_placed b ms) (HasPlaces b ms) s q
 TurnsInOrder b (Of s (Due at) n ∷ ms) = TurnsInOrder b ms × NoneUnderWay b ms
-TurnsInOrder b (Of s Halted n ∷ ms) = TurnsInOrder b ms × NoneUnderWay b ms
+TurnsInOrder b (Of s Halted n ∷ ms) = TurnsInOrder b ms × NoneUnderWay b ms × IsFirstToEnd s ms
 TurnsInOrder b (Of s Dropped n ∷ ms) = TurnsInOrder b ms × (was_touched s ms ≡ true)
 TurnsInOrder b (m ∷ ms) = TurnsInOrder b ms
 
--- The turns are in order: runs in the order in which their threads were put in line, offers likewise, and the ends by Stop in
--- the order of beginning. (Deadlines have no order among strands yet.)
+-- The turns are in order: runs in the order in which their threads were put in line, offers likewise by their places.
+-- (Deadlines have no order among strands yet.)
 pub record IsOrdered {J : Type 0} (b : Behavior J) (ms : List (GlobalAction J)) : Type 0 where
   pub runs : IsSubsequence (all_run ms) (all_readied b ms)
   pub offered : IsSubsequence (all_offered ms) (all_placed b ms)
-  pub ends : IsSubsequence (all_halted ms) (all_begun ms)
   pub turns : TurnsInOrder b ms
