@@ -46,7 +46,7 @@ pub record SameHeld {S : Type 0} (c : ℕ) (h h' : Held S) : Type 0 where
   pub places : (t : ℕ) → (t == c) ≡ false → only (strand.Conn t) h'.places ≡ only (strand.Conn t) h.places
   pub in_offers : h'.in_offers ≡ h.in_offers
   pub now : h'.now ≡ h.now
-  pub ends : (t : ℕ) → (t == c) ≡ false → is_to_end h'.ends_from t ≡ is_to_end h.ends_from t
+  pub ends : (t : ℕ) → (t == c) ≡ false → is_to_end h'.ending t ≡ is_to_end h.ending t
 
 pub held-same : {S : Type 0} (c : ℕ) (h : Held S) → SameHeld c h h
 held-same c h = record { seats = λ t ne. refl; queue = λ t ne. refl; places = λ t ne. refl; in_offers = refl; now = refl; ends = λ t ne. refl }
@@ -157,7 +157,7 @@ module _ {J S : Type 0} (b : Behavior J) (st : S → List (LocalAction J) → Ty
     pub moment : moment (Did x ∷ projection (strand.Conn c) ms) ≡ h.now
     pub stopping : is_stopping (Did x ∷ projection (strand.Conn c) ms) ≡ false
     pub no_more : has_ended place.Client (Did x ∷ projection (strand.Conn c) ms) ≡ book.has_ended (id.Conn c)
-    pub not_to_end : is_to_end h.ends_from c ≡ false
+    pub not_to_end : is_to_end h.ending c ≡ false
     pub last : offers_last (Of (strand.Conn c) x None ∷ ms) ≡ h.in_offers
 
   pub near-begins : (asks : (es : List (LocalAction J)) → IsLastAct (b.acts es)) (x : Action J) (go o : Bool) (h : Held S) (book : Book)

@@ -24,7 +24,7 @@ module _ {J S : Type 0} (b : Behavior J) (st : S → List (LocalAction J) → Ty
   pub busy-done : (x : Seat S) (go : Bool) (h h' : Held S) (book : Book) (ms : List (GlobalAction J))
       → Busy b st c x.strand [] go x.is_open h book ms → offering b (projection (strand.Conn c) ms) ≡ None
       → ((s : StrandId) → h'.seats s ≡ (if same_strand s (strand.Conn c) then Some x else h.seats s))
-      → h'.queue ≡ h.queue → h'.places ≡ h.places → h'.in_offers ≡ h.in_offers → h'.now ≡ h.now → h'.connections ≡ h.connections → h'.ends_from ≡ h.ends_from
+      → h'.queue ≡ h.queue → h'.places ≡ h.places → h'.in_offers ≡ h.in_offers → h'.now ≡ h.now → h'.connections ≡ h.connections → h'.ending ≡ h.ending
       → Standing b st h' book ms
   busy-done x go h h' book ms y still seats queue places phase now count ends =
       let here : h'.seats (strand.Conn c) ≡ Some x = seats (strand.Conn c) ∙ ap (λ v. if v then Some x else h.seats (strand.Conn c)) (same-true c) in
@@ -32,7 +32,7 @@ module _ {J S : Type 0} (b : Behavior J) (st : S → List (LocalAction J) → Ty
       let n = y.near in
       let a = n.around in
       let es : List (LocalAction J) = projection (strand.Conn c) ms in
-      let mine : Fit b st h.in_offers h.now (is_to_end h.ends_from c) es (h'.seats (strand.Conn c)) (only (strand.Conn c) h.queue) (only (strand.Conn c) h.places) (book.is_open (id.Conn c)) (book.has_ended (id.Conn c)) (book.id_place (id.Conn c)) (book.strand_place (strand.Conn c)) = record {
+      let mine : Fit b st h.in_offers h.now (is_to_end h.ending c) es (h'.seats (strand.Conn c)) (only (strand.Conn c) h.queue) (only (strand.Conn c) h.places) (book.is_open (id.Conn c)) (book.has_ended (id.Conn c)) (book.id_place (id.Conn c)) (book.strand_place (strand.Conn c)) = record {
         held = (x, here, y.stands, sym a.line_open);
         no_act = n.to_do;
         threads = sym n.threads;
@@ -51,7 +51,7 @@ module _ {J S : Type 0} (b : Behavior J) (st : S → List (LocalAction J) → Ty
       } in
       record {
         each = λ t live. rw (queue, places, phase, now, ends) (by_test (t == c)
-            (λ e. subst (λ (i : ℕ). Fit b st h.in_offers h.now (is_to_end h.ends_from i) (projection (strand.Conn i) ms) (h'.seats (strand.Conn i)) (only (strand.Conn i) h.queue) (only (strand.Conn i) h.places) (book.is_open (id.Conn i)) (book.has_ended (id.Conn i)) (book.id_place (id.Conn i)) (book.strand_place (strand.Conn i))) (sym (eqb-true t c e)) mine)
+            (λ e. subst (λ (i : ℕ). Fit b st h.in_offers h.now (is_to_end h.ending i) (projection (strand.Conn i) ms) (h'.seats (strand.Conn i)) (only (strand.Conn i) h.queue) (only (strand.Conn i) h.places) (book.is_open (id.Conn i)) (book.has_ended (id.Conn i)) (book.id_place (id.Conn i)) (book.strand_place (strand.Conn i))) (sym (eqb-true t c e)) mine)
             (λ ne. fit-same refl refl refl refl (other t ne) refl refl refl refl refl refl (a.each t ne live)));
         dead = λ t gone. by_test (t == c)
             (λ e. clash a.alive (subst (λ (i : ℕ). lives (projection (strand.Conn i) ms) ≡ false) (eqb-true t c e) gone))
@@ -86,7 +86,7 @@ module _ {J S : Type 0} (b : Behavior J) (st : S → List (LocalAction J) → Ty
   -- the seats stay as they are
   pub falls-seats : (o : Bool) (h h' : Held S) (book : Book) (ms : List (GlobalAction J))
       → Falls b st c o h book ms → ((s : StrandId) → h'.seats s ≡ h.seats s)
-      → h'.queue ≡ h.queue → h'.places ≡ h.places → h'.in_offers ≡ h.in_offers → h'.now ≡ h.now → h'.connections ≡ h.connections → h'.ends_from ≡ h.ends_from
+      → h'.queue ≡ h.queue → h'.places ≡ h.places → h'.in_offers ≡ h.in_offers → h'.now ≡ h.now → h'.connections ≡ h.connections → h'.ending ≡ h.ending
       → Falls b st c o h' book ms
   falls-seats o h h' book ms f seats queue places phase now count ends = record {
     around = record {

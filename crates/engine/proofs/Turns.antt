@@ -1,4 +1,5 @@
 -- How turns begin: a thread runs, a place is offered, a write is answered.
+use Rattle.engine.specs.declared.engine.Ending.TheVariants as stop
 use Rattle.std.proofs.Common.{◌≡◌, ◌⊎◌, ℕ, zero, suc, ◌+◌, ◌-◌, ◌%◌, ◌<◌, ◌≤◌, Bool, true, false, not, ◌||◌, ◌&&◌, ◌==◌, List, [], ◌∷◌, ◌++◌, take, drop, length, Option, Some, None, if◌then◌else◌, refl, sym, ap, subst, ◌∙◌, append_assoc, append-nil, inl, inr, arith, length-take}
 use Rattle.std.proofs.lemmas.Bool.{eqb-true, cases_lt}
 use Rattle.std.proofs.lemmas.List.{take-append-drop}
@@ -90,7 +91,7 @@ module _ {J S : Type 0} (b : Behavior J) (st : S → List (LocalAction J) → Ty
       → ((t : ℕ) → (t == c) ≡ false → only (strand.Conn t) h'.queue ≡ only (strand.Conn t) h.queue)
       → ((t : ℕ) → (t == c) ≡ false → only (strand.Conn t) h'.places ≡ only (strand.Conn t) h.places)
       → h'.in_offers ≡ h.in_offers → h'.now ≡ h.now → h'.connections ≡ h.connections
-      → ((t : ℕ) → (t == c) ≡ false → is_to_end h'.ends_from t ≡ is_to_end h.ends_from t)
+      → ((t : ℕ) → (t == c) ≡ false → lives (projection (strand.Conn t) ms) ≡ true → is_to_end h'.ending t ≡ is_to_end h.ending t)
       → IsSubsequence (all_run ms ++ threads) (all_readied b ms) → IsSubsequence (all_offered ms ++ places) (all_placed b ms)
       → Around b st c true x.is_open h' threads places book ms
   around-leave h h' threads places book x g here seats hq hp phase now count ends runs list =
@@ -99,7 +100,7 @@ module _ {J S : Type 0} (b : Behavior J) (st : S → List (LocalAction J) → Ty
       let fits = seat-fits h book x g here in
       let others = λ (t : ℕ) (ne : (t == c) ≡ false). seats (strand.Conn t) ∙ ap (λ v. if v then None else h.seats (strand.Conn t)) ne in
       record {
-        each = λ t ne alive. fit-same phase now (ends t ne) refl (others t ne) (hq t ne) (hp t ne) refl refl refl refl (g.each t alive);
+        each = λ t ne alive. fit-same phase now (ends t ne alive) refl (others t ne) (hq t ne) (hp t ne) refl refl refl refl (g.each t alive);
         dead = λ t ne gone. others t ne ∙ g.dead t gone;
         closed = λ t ne gone. g.closed t gone;
         shut = λ t ne gone q. g.shut t gone q;
@@ -214,7 +215,7 @@ module _ {J S : Type 0} (b : Behavior J) (st : S → List (LocalAction J) → Ty
 
   -- the front of a line is of a strand that has no seat
   pub skip-run : (h' : Held S) (s : StrandId) (k : ℕ) (rest : List (StrandId × ℕ)) → h.queue ≡ (s, k) ∷ rest → h.seats s ≡ None
-      → ((t : StrandId) → h'.seats t ≡ (if same_strand t s then None else h.seats t)) → h'.queue ≡ rest → h'.places ≡ h.places → h'.in_offers ≡ h.in_offers → h'.now ≡ h.now → h'.connections ≡ h.connections → h'.ends_from ≡ h.ends_from
+      → ((t : StrandId) → h'.seats t ≡ (if same_strand t s then None else h.seats t)) → h'.queue ≡ rest → h'.places ≡ h.places → h'.in_offers ≡ h.in_offers → h'.now ≡ h.now → h'.connections ≡ h.connections → h'.ending ≡ h.ending
       → Standing b st h' book ms
   skip-run h' s k rest front gone seats queue places phase now count ends = record {
     each = λ t live. let f = g.each t live in
@@ -252,7 +253,7 @@ module _ {J S : Type 0} (b : Behavior J) (st : S → List (LocalAction J) → Ty
       seated t (strand.Job n) x some same nil = absurd (let e : false ≡ true = same in cc)
 
   pub skip-offer : (h' : Held S) (s : StrandId) (q : Place) (rest : List (StrandId × Place)) → h.places ≡ (s, q) ∷ rest → h.seats s ≡ None
-      → ((t : StrandId) → h'.seats t ≡ (if same_strand t s then None else h.seats t)) → h'.places ≡ rest → h'.queue ≡ h.queue → h'.in_offers ≡ h.in_offers → h'.now ≡ h.now → h'.connections ≡ h.connections → h'.ends_from ≡ h.ends_from
+      → ((t : StrandId) → h'.seats t ≡ (if same_strand t s then None else h.seats t)) → h'.places ≡ rest → h'.queue ≡ h.queue → h'.in_offers ≡ h.in_offers → h'.now ≡ h.now → h'.connections ≡ h.connections → h'.ending ≡ h.ending
       → Standing b st h' book ms
   skip-offer h' s q rest front gone seats places queue phase now count ends = record {
     each = λ t live. let f = g.each t live in
@@ -291,8 +292,8 @@ module _ {J S : Type 0} (b : Behavior J) (st : S → List (LocalAction J) → Ty
 
   -- a thread runs
   pub turn-run : (asks : (es : List (LocalAction J)) → IsLastAct (b.acts es)) (c k : ℕ) (rest : List (StrandId × ℕ)) (x : Seat S) (h' : Held S)
-      → h.queue ≡ (strand.Conn c, k) ∷ rest → h.seats (strand.Conn c) ≡ Some x → h.in_offers ≡ false → h.ends_from ≡ None
-      → ((t : StrandId) → h'.seats t ≡ (if same_strand t (strand.Conn c) then None else h.seats t)) → h'.queue ≡ rest → h'.places ≡ h.places → h'.in_offers ≡ h.in_offers → h'.now ≡ h.now → h'.connections ≡ h.connections → h'.ends_from ≡ h.ends_from
+      → h.queue ≡ (strand.Conn c, k) ∷ rest → h.seats (strand.Conn c) ≡ Some x → h.in_offers ≡ false → h.ending ≡ stop.Over
+      → ((t : StrandId) → h'.seats t ≡ (if same_strand t (strand.Conn c) then None else h.seats t)) → h'.queue ≡ rest → h'.places ≡ h.places → h'.in_offers ≡ h.in_offers → h'.now ≡ h.now → h'.connections ≡ h.connections → h'.ending ≡ h.ending
       → Turn b st c x.strand (seen.Run k) false x.is_open h' book ms
   turn-run asks c k rest x h' front here running no_end seats queue places phase now count ends =
       let z : Action J = Ran k in
@@ -303,7 +304,7 @@ module _ {J S : Type 0} (b : Behavior J) (st : S → List (LocalAction J) → Ty
       let line : waiting b es ≡ k ∷ only (strand.Conn c) rest = mine.threads ∙ ap (only (strand.Conn c)) front ∙ ap (λ v. if v then k ∷ only (strand.Conn c) rest else only (strand.Conn c) rest) (same-true c) in
       let out : h'.seats (strand.Conn c) ≡ None = seats (strand.Conn c) ∙ ap (λ v. if v then None else h.seats (strand.Conn c)) (same-true c) in
       let a = around-leave b st c ms h h' rest h.places book x g here seats
-      (λ t ne. ap (only (strand.Conn t)) queue ∙ sym (ap (only (strand.Conn t)) front ∙ ap (λ v. if v then k ∷ only (strand.Conn t) rest else only (strand.Conn t) rest) ne)) (λ t ne. ap (only (strand.Conn t)) places) phase now count (λ t ne. ap (λ o. is_to_end o t) ends)
+      (λ t ne. ap (only (strand.Conn t)) queue ∙ sym (ap (only (strand.Conn t)) front ∙ ap (λ v. if v then k ∷ only (strand.Conn t) rest else only (strand.Conn t) rest) ne)) (λ t ne. ap (only (strand.Conn t)) places) phase now count (λ t ne alive. ap (λ o. is_to_end o t) ends)
       (sub-through (sub-without (all_run ms) (strand.Conn c, k) rest) (rw front at g.common.runs)) g.common.offered in
       turn-next b st c ms asks (seen.Run k) x.strand false x.is_open x.is_open h' h' rest h.places book book a fits.0 (mine.moment ∙ sym now)
       (record { seats = λ t ne. refl; queue = λ t ne. refl; places = λ t ne. refl; in_offers = refl; now = refl; ends = λ t ne. refl }) (book-same c book) out
@@ -334,8 +335,8 @@ module _ {J S : Type 0} (b : Behavior J) (st : S → List (LocalAction J) → Ty
 
   -- a place is offered: what is known of the others, and of the strand
   offer-around : (quiet : (a : LocalAction J) (es : List (LocalAction J)) → is_still a ≡ true → b.acts (a ∷ es) ≡ []) (c : ℕ) (q : Place) (rest : List (StrandId × Place)) (x : Seat S) (h' : Held S)
-      → h.places ≡ (strand.Conn c, q) ∷ rest → h.seats (strand.Conn c) ≡ Some x → h.in_offers ≡ true → h.ends_from ≡ None
-      → ((t : StrandId) → h'.seats t ≡ (if same_strand t (strand.Conn c) then None else h.seats t)) → h'.places ≡ rest → h'.queue ≡ h.queue → h'.in_offers ≡ h.in_offers → h'.now ≡ h.now → h'.connections ≡ h.connections → h'.ends_from ≡ h.ends_from
+      → h.places ≡ (strand.Conn c, q) ∷ rest → h.seats (strand.Conn c) ≡ Some x → h.in_offers ≡ true → h.ending ≡ stop.Over
+      → ((t : StrandId) → h'.seats t ≡ (if same_strand t (strand.Conn c) then None else h.seats t)) → h'.places ≡ rest → h'.queue ≡ h.queue → h'.in_offers ≡ h.in_offers → h'.now ≡ h.now → h'.connections ≡ h.connections → h'.ending ≡ h.ending
       → Around b st c true x.is_open h' h'.queue h'.places book (Of (strand.Conn c) (Offered q) None ∷ ms)
   offer-around quiet c q rest x h' front here running no_end seats places queue phase now count ends =
       let z : Action J = Offered q in
@@ -347,7 +348,7 @@ module _ {J S : Type 0} (b : Behavior J) (st : S → List (LocalAction J) → Ty
       let line : to_offer b es ≡ q ∷ only (strand.Conn c) rest = mine.offered ∙ ap (only (strand.Conn c)) front ∙ ap (λ v. if v then q ∷ only (strand.Conn c) rest else only (strand.Conn c) rest) (same-true c) in
       let out : h'.seats (strand.Conn c) ≡ None = seats (strand.Conn c) ∙ ap (λ v. if v then None else h.seats (strand.Conn c)) (same-true c) in
       let a = around-leave b st c ms h h' h.queue rest book x g here seats
-      (λ t ne. ap (only (strand.Conn t)) queue) (λ t ne. ap (only (strand.Conn t)) places ∙ sym (ap (only (strand.Conn t)) front ∙ ap (λ v. if v then q ∷ only (strand.Conn t) rest else only (strand.Conn t) rest) ne)) phase now count (λ t ne. ap (λ o. is_to_end o t) ends)
+      (λ t ne. ap (only (strand.Conn t)) queue) (λ t ne. ap (only (strand.Conn t)) places ∙ sym (ap (only (strand.Conn t)) front ∙ ap (λ v. if v then q ∷ only (strand.Conn t) rest else only (strand.Conn t) rest) ne)) phase now count (λ t ne alive. ap (λ o. is_to_end o t) ends)
       g.common.runs (sub-through (sub-without (all_offered ms) (strand.Conn c, q) rest) (rw front at g.common.offered)) in
       around-next b st c ms z true true x.is_open x.is_open h' h' h.queue h'.queue rest h'.places book book a
       (record { seats = λ t ne. refl; queue = λ t ne. refl; places = λ t ne. refl; in_offers = refl; now = refl; ends = λ t ne. refl }) (book-same c book) out live (sym fits.1) (mine.client ∙ sym fits.1) mine.no_socket (λ on. mine.id_aside (sym fits.1 ∙ on)) (λ on. mine.strand_aside) a.arrived
@@ -368,8 +369,8 @@ module _ {J S : Type 0} (b : Behavior J) (st : S → List (LocalAction J) → Ty
       offered-next xs e l ys more nil r = rw nil (simp (append_assoc, append-nil) r)
 
   pub falls-offered : (quiet : (a : LocalAction J) (es : List (LocalAction J)) → is_still a ≡ true → b.acts (a ∷ es) ≡ []) (c : ℕ) (q : Place) (rest : List (StrandId × Place)) (x : Seat S) (h' : Held S)
-      → h.places ≡ (strand.Conn c, q) ∷ rest → h.seats (strand.Conn c) ≡ Some x → h.in_offers ≡ true → h.ends_from ≡ None
-      → ((t : StrandId) → h'.seats t ≡ (if same_strand t (strand.Conn c) then None else h.seats t)) → h'.places ≡ rest → h'.queue ≡ h.queue → h'.in_offers ≡ h.in_offers → h'.now ≡ h.now → h'.connections ≡ h.connections → h'.ends_from ≡ h.ends_from
+      → h.places ≡ (strand.Conn c, q) ∷ rest → h.seats (strand.Conn c) ≡ Some x → h.in_offers ≡ true → h.ending ≡ stop.Over
+      → ((t : StrandId) → h'.seats t ≡ (if same_strand t (strand.Conn c) then None else h.seats t)) → h'.places ≡ rest → h'.queue ≡ h.queue → h'.in_offers ≡ h.in_offers → h'.now ≡ h.now → h'.connections ≡ h.connections → h'.ending ≡ h.ending
       → Falls b st c x.is_open h' book (Of (strand.Conn c) (Offered q) None ∷ ms)
   falls-offered quiet c q rest x h' front here running no_end seats places queue phase now count ends = record {
     around = offer-around quiet c q rest x h' front here running no_end seats places queue phase now count ends;
@@ -379,8 +380,8 @@ module _ {J S : Type 0} (b : Behavior J) (st : S → List (LocalAction J) → Ty
 
   -- the client's line is offered
   pub busy-offered : (still : (y : S) (a : LocalAction J) (es : List (LocalAction J)) → is_still a ≡ true → st y es → st y (a ∷ es)) (quiet : (a : LocalAction J) (es : List (LocalAction J)) → is_still a ≡ true → b.acts (a ∷ es) ≡ []) (c : ℕ) (rest : List (StrandId × Place)) (x : Seat S) (h' : Held S)
-      → h.places ≡ (strand.Conn c, place.Client) ∷ rest → h.seats (strand.Conn c) ≡ Some x → h.in_offers ≡ true → h.ends_from ≡ None
-      → ((t : StrandId) → h'.seats t ≡ (if same_strand t (strand.Conn c) then None else h.seats t)) → h'.places ≡ rest → h'.queue ≡ h.queue → h'.in_offers ≡ h.in_offers → h'.now ≡ h.now → h'.connections ≡ h.connections → h'.ends_from ≡ h.ends_from
+      → h.places ≡ (strand.Conn c, place.Client) ∷ rest → h.seats (strand.Conn c) ≡ Some x → h.in_offers ≡ true → h.ending ≡ stop.Over
+      → ((t : StrandId) → h'.seats t ≡ (if same_strand t (strand.Conn c) then None else h.seats t)) → h'.places ≡ rest → h'.queue ≡ h.queue → h'.in_offers ≡ h.in_offers → h'.now ≡ h.now → h'.connections ≡ h.connections → h'.ending ≡ h.ending
       → Busy b st c x.strand [] true x.is_open h' book (Of (strand.Conn c) (Offered place.Client) None ∷ ms)
   busy-offered still quiet c rest x h' front here running no_end seats places queue phase now count ends =
       let z : Action J = Offered place.Client in

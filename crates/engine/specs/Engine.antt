@@ -1,4 +1,5 @@
 -- What the engine stands for.
+use Rattle.engine.specs.declared.engine.Ending.TheVariants as stop
 use Rattle.std.specs.Prelude.{◌≡◌, ℕ, ◌+◌, Bool, true, false, List, [], ◌∷◌, length, Option, Some, None, IfSome}
 use Rattle.std.specs.Option.{option_map}
 use Rattle.resty_base.specs.Counting.{Rose}
@@ -21,7 +22,7 @@ view_of e = record {
   in_offers = e.in_offers;
   now = e.now.0;
   connections = e.connections;
-  ends_from = e.ends_from;
+  ending = e.ending;
 }
 
 -- the engine stands for some execution
@@ -30,7 +31,7 @@ Stands {J} b st e book = (ms : List (GlobalAction J)) × Standing b st (view_of 
 
 -- the same, where no turn is under way and none is in line
 abbrev pub Rests : {J S : Type 0} → Behavior J → (S → List (LocalAction J) → Type 0) → Engine S → Book → Type 0
-Rests {J} b st e book = (ms : List (GlobalAction J)) × Standing b st (view_of e) book ms × (e.queue.items ≡ []) × (e.places.items ≡ []) × (e.in_offers ≡ false) × (e.ends_from ≡ None)
+Rests {J} b st e book = (ms : List (GlobalAction J)) × Standing b st (view_of e) book ms × (e.queue.items ≡ []) × (e.places.items ≡ []) × (e.in_offers ≡ false) × (e.ending ≡ stop.Over)
 
 -- what is left to be done: by the strands, and in line
 abbrev pub seat_left : {S : Type 0} → (S → ℕ) → Seat S → ℕ

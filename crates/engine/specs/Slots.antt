@@ -1,5 +1,5 @@
 -- Seats of strands that live, by strand.
-use Rattle.std.specs.Prelude.{ℕ, ◌+◌, List, [], ◌∷◌, Option, Some, None}
+use Rattle.std.specs.Prelude.{ℕ, ◌+◌, nat_lt, Bool, true, List, [], ◌∷◌, Option, Some, None}
 use Rattle.std.specs.Ordering.{nat_cmp}
 use Rattle.std.specs.BTreeMap.{BTreeMap, get}
 use Rattle.resty_base.specs.declared.names.StrandId.{StrandId}
@@ -22,3 +22,8 @@ total f slots = entries_total f slots.held.entries
 abbrev pub value_of : {X : Type 0} → (X → ℕ) → Option X → ℕ
 value_of f None = 0
 value_of f (Some x) = f x
+
+-- a connection came after another, or after none
+abbrev pub is_after : Option ℕ → ℕ → Bool
+is_after None c = true
+is_after (Some last) c = nat_lt last c

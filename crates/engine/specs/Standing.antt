@@ -1,5 +1,5 @@
 -- What the engine holds, against an execution.
-use Rattle.std.specs.Prelude.{◌≡◌, ℕ, ◌+◌, ◌<◌, ◌≤◌, nat_le, Bool, true, false, ◌==◌, List, [], ◌∷◌, ◌++◌, Option, Some, None}
+use Rattle.std.specs.Prelude.{◌≡◌, ℕ, ◌+◌, ◌<◌, ◌≤◌, Bool, true, false, ◌==◌, List, [], ◌∷◌, ◌++◌, Option, Some, None}
 use Rattle.resty_base.specs.declared.names.Id.TheVariants as id
 use Rattle.resty_base.specs.declared.names.StrandId.{StrandId}
 use Rattle.resty_base.specs.declared.names.StrandId.TheVariants as strand
@@ -14,8 +14,11 @@ use Rattle.strand_contract.specs.Alone.{lives, moment, is_open, has_ended, todo,
 use Rattle.strand_contract.specs.Executions.{projection, external, offered_lengths, present, open_connections, BeginsRight, IsGivenAtRest, HeldNothingBack, IsPlain}
 use Rattle.strand_contract.specs.Laws.{action_of, IsLastAct}
 use Rattle.strand_contract.specs.Order.{IsSubsequence, with_strand, only, readied, all_readied, all_run, all_placed, all_offered, offers_last, was_touched, TurnsInOrder}
+use Rattle.engine.specs.declared.engine.Ending.{Ending}
+use Rattle.engine.specs.declared.engine.Ending.TheVariants as stop
 use Rattle.engine.specs.declared.engine.Seat.{Seat}
 use Rattle.engine.specs.Right.{Tells}
+use Rattle.engine.specs.Slots.{is_after}
 
 -- what the engine holds, in plain values
 pub record Held (S : Type 0) : Type 0 where
@@ -27,13 +30,13 @@ pub record Held (S : Type 0) : Type 0 where
   pub in_offers : Bool
   pub now : ℕ
   pub connections : ℕ
-  -- from which connection on strands are still to be ended by Stop
-  pub ends_from : Option ℕ
+  -- which strands are still to be ended by Stop
+  pub ending : Ending
 
 -- a connection's strand is still to be ended by Stop
-abbrev pub is_to_end : Option ℕ → ℕ → Bool
-is_to_end None c = false
-is_to_end (Some from) c = nat_le from c
+abbrev pub is_to_end : Ending → ℕ → Bool
+is_to_end stop.Over c = false
+is_to_end (stop.After last) c = is_after last c
 
 -- what is held of a connection's strand that lives: `line` are its threads in line, `places` its places
 pub record Fit {J S : Type 0} (b : Behavior J) (st : S → List (LocalAction J) → Type 0) (in_phase : Bool) (now : ℕ) (stops : Bool) (es : List (LocalAction J)) (seat : Option (Seat S)) (line : List ℕ) (places : List Place) (opened ended aside own_aside : Bool) : Type 0 where
@@ -74,7 +77,7 @@ pub record Common {J : Type 0} (b : Behavior J) (threads : List (StrandId × ℕ
 
 -- between two turns
 pub record Standing {J S : Type 0} (b : Behavior J) (st : S → List (LocalAction J) → Type 0) (h : Held S) (book : Book) (ms : List (GlobalAction J)) : Type 0 where
-  pub each : (t : ℕ) → lives (projection (strand.Conn t) ms) ≡ true → Fit b st h.in_offers h.now (is_to_end h.ends_from t) (projection (strand.Conn t) ms) (h.seats (strand.Conn t)) (only (strand.Conn t) h.queue) (only (strand.Conn t) h.places) (book.is_open (id.Conn t)) (book.has_ended (id.Conn t)) (book.id_place (id.Conn t)) (book.strand_place (strand.Conn t))
+  pub each : (t : ℕ) → lives (projection (strand.Conn t) ms) ≡ true → Fit b st h.in_offers h.now (is_to_end h.ending t) (projection (strand.Conn t) ms) (h.seats (strand.Conn t)) (only (strand.Conn t) h.queue) (only (strand.Conn t) h.places) (book.is_open (id.Conn t)) (book.has_ended (id.Conn t)) (book.id_place (id.Conn t)) (book.strand_place (strand.Conn t))
   pub dead : (t : ℕ) → lives (projection (strand.Conn t) ms) ≡ false → h.seats (strand.Conn t) ≡ None
   pub closed : (t : ℕ) → lives (projection (strand.Conn t) ms) ≡ false → book.is_open (id.Conn t) ≡ false
   pub shut : (t : ℕ) → lives (projection (strand.Conn t) ms) ≡ false → (q : Place) → is_open q (projection (strand.Conn t) ms) ≡ false
@@ -84,7 +87,7 @@ pub record Standing {J S : Type 0} (b : Behavior J) (st : S → List (LocalActio
 
 -- within a turn of the connection c's strand, which is out of its seat: what is known of the others. `al` and `opened` tell whether it lives, and whether its line is open
 pub record Around {J S : Type 0} (b : Behavior J) (st : S → List (LocalAction J) → Type 0) (c : ℕ) (al opened : Bool) (h : Held S) (threads : List (StrandId × ℕ)) (places : List (StrandId × Place)) (book : Book) (ms : List (GlobalAction J)) : Type 0 where
-  pub each : (t : ℕ) → (t == c) ≡ false → lives (projection (strand.Conn t) ms) ≡ true → Fit b st h.in_offers h.now (is_to_end h.ends_from t) (projection (strand.Conn t) ms) (h.seats (strand.Conn t)) (only (strand.Conn t) h.queue) (only (strand.Conn t) h.places) (book.is_open (id.Conn t)) (book.has_ended (id.Conn t)) (book.id_place (id.Conn t)) (book.strand_place (strand.Conn t))
+  pub each : (t : ℕ) → (t == c) ≡ false → lives (projection (strand.Conn t) ms) ≡ true → Fit b st h.in_offers h.now (is_to_end h.ending t) (projection (strand.Conn t) ms) (h.seats (strand.Conn t)) (only (strand.Conn t) h.queue) (only (strand.Conn t) h.places) (book.is_open (id.Conn t)) (book.has_ended (id.Conn t)) (book.id_place (id.Conn t)) (book.strand_place (strand.Conn t))
   pub dead : (t : ℕ) → (t == c) ≡ false → lives (projection (strand.Conn t) ms) ≡ false → h.seats (strand.Conn t) ≡ None
   pub closed : (t : ℕ) → (t == c) ≡ false → lives (projection (strand.Conn t) ms) ≡ false → book.is_open (id.Conn t) ≡ false
   pub shut : (t : ℕ) → (t == c) ≡ false → lives (projection (strand.Conn t) ms) ≡ false → (q : Place) → is_open q (projection (strand.Conn t) ms) ≡ false
@@ -117,7 +120,7 @@ pub record Near {J S : Type 0} (b : Behavior J) (st : S → List (LocalAction J)
   pub moment : moment (projection (strand.Conn c) ms) ≡ h.now
   pub stopping : is_stopping (projection (strand.Conn c) ms) ≡ false
   pub no_more : has_ended place.Client (projection (strand.Conn c) ms) ≡ book.has_ended (id.Conn c)
-  pub not_to_end : is_to_end h.ends_from c ≡ false
+  pub not_to_end : is_to_end h.ending c ≡ false
   pub last : offers_last ms ≡ h.in_offers
   pub touched : was_touched (strand.Conn c) ms ≡ true
 

@@ -24,10 +24,19 @@ pub struct Engine<S> {
     pub now: Ms,
     /// How many connections are open.
     pub connections: u64,
-    /// From which connection on strands are still to be ended by Stop.
-    pub ends_from: Option<u64>,
+    /// Which strands are still to be ended by Stop.
+    pub ending: Ending,
     /// Whether a log line wasn't written.
     pub log_failed: bool,
+}
+
+/// Which strands Stop is still to end.
+#[derive(Clone, Copy, Debug, PartialEq, Eq)]
+pub enum Ending {
+    /// None: Stop wasn't given, or has ended all.
+    Over,
+    /// Each that began after this connection; after none, all.
+    After(Option<u64>),
 }
 
 /// How an act was carried out.
@@ -56,7 +65,7 @@ impl<S: StrandContract> Engine<S> {
         ensures standing { Stands (S.behavior site.now) (S.stands site.now) self.new (W.book world.new) }
         ensures goes { Goes W.same W.book world.old world.new self.old.log_failed self.new.log_failed }
         ensures in_offers { self.new.in_offers ≡ self.old.in_offers }
-        ensures ends_from { self.new.ends_from ≡ self.old.ends_from }
+        ensures ending { self.new.ending ≡ self.old.ending }
         ensures seats { self.new.seats ≡ self.old.seats }
         ensures queue { self.new.queue ≡ self.old.queue }
         ensures places { self.new.places ≡ self.old.places }
@@ -85,7 +94,7 @@ impl<S: StrandContract> Engine<S> {
         ensures wanting { result ≡ Carried.Wanting → (ms : List (GlobalAction S.Job)) × Falls (S.behavior site.now) (S.stands site.now) connection is_open.new (view_of self.new) (W.book world.new) ms }
         ensures goes { Goes W.same W.book world.old world.new self.old.log_failed self.new.log_failed }
         ensures in_offers { self.new.in_offers ≡ self.old.in_offers }
-        ensures ends_from { self.new.ends_from ≡ self.old.ends_from }
+        ensures ending { self.new.ending ≡ self.old.ending }
         ensures work { work S.left self.new ≤ work S.left self.old + 1 }
     {
         let _ = site;
@@ -140,7 +149,7 @@ impl<S: StrandContract> Engine<S> {
             (λ next. (ms : List (GlobalAction S.Job)) × Busy (S.behavior site.now) (S.stands site.now) connection next.strand [] going next.is_open (view_of self.new) (W.book world.new) ms) }
         ensures goes { Goes W.same W.book world.old world.new self.old.log_failed self.new.log_failed }
         ensures in_offers { self.new.in_offers ≡ self.old.in_offers }
-        ensures ends_from { self.new.ends_from ≡ self.old.ends_from }
+        ensures ending { self.new.ending ≡ self.old.ending }
         ensures work { work S.left self.new + left_of S.left result ≤ work S.left self.old + S.left seat.strand + length acts.items }
     {
         let Seat {
@@ -175,7 +184,7 @@ impl<S: StrandContract> Engine<S> {
             (λ next. (ms : List (GlobalAction S.Job)) × Busy (S.behavior site.now) (S.stands site.now) connection next.strand [] going next.is_open (view_of self.new) (W.book world.new) ms) }
         ensures goes { Goes W.same W.book world.old world.new self.old.log_failed self.new.log_failed }
         ensures in_offers { self.new.in_offers ≡ self.old.in_offers }
-        ensures ends_from { self.new.ends_from ≡ self.old.ends_from }
+        ensures ending { self.new.ending ≡ self.old.ending }
         ensures work { is_own_turn seen ≡ true → work S.left self.new + left_of S.left result ≤ work S.left self.old + S.left seat.strand }
         ensures less { is_own_turn seen ≡ true → IfSome result (λ next. work S.left self.new + S.left next.strand < work S.left self.old + S.left seat.strand) }
     {
@@ -195,7 +204,7 @@ impl<S: StrandContract> Engine<S> {
         ensures standing { Stands (S.behavior site.now) (S.stands site.now) self.new (W.book world.new) }
         ensures goes { Goes W.same W.book world.old world.new self.old.log_failed self.new.log_failed }
         ensures in_offers { self.new.in_offers ≡ self.old.in_offers }
-        ensures ends_from { self.new.ends_from ≡ self.old.ends_from }
+        ensures ending { self.new.ending ≡ self.old.ending }
         ensures work { work S.left self.new ≤ work S.left self.old + S.left seat.strand }
     {
         let is_open = seat.is_open;
@@ -217,7 +226,7 @@ impl<S: StrandContract> Engine<S> {
         ensures standing { Stands (S.behavior site.now) (S.stands site.now) self.new (W.book world.new) }
         ensures goes { Goes W.same W.book world.old world.new self.old.log_failed self.new.log_failed }
         ensures in_offers { self.new.in_offers ≡ self.old.in_offers }
-        ensures ends_from { self.new.ends_from ≡ self.old.ends_from }
+        ensures ending { self.new.ending ≡ self.old.ending }
         ensures work { is_own_turn seen ≡ true → work S.left self.new ≤ work S.left self.old + S.left seat.strand }
     {
         if let Some(next) = self.show(site, connection, seat, seen, false, world) {
@@ -229,11 +238,11 @@ impl<S: StrandContract> Engine<S> {
     fn run_next<W: World>(&mut self, site: &S::Site, world: &mut W) -> bool
         requires standing { Stands (S.behavior site.now) (S.stands site.now) self.old (W.book world.old) }
         requires in_offers { self.old.in_offers ≡ false }
-        requires ends_from { self.old.ends_from ≡ None }
+        requires ending { self.old.ending ≡ Ending.Over }
         ensures standing { Stands (S.behavior site.now) (S.stands site.now) self.new (W.book world.new) }
         ensures goes { Goes W.same W.book world.old world.new self.old.log_failed self.new.log_failed }
         ensures in_offers { self.new.in_offers ≡ false }
-        ensures ends_from { self.new.ends_from ≡ None }
+        ensures ending { self.new.ending ≡ Ending.Over }
         ensures none { result ≡ false → self.new.queue.items ≡ [] }
         ensures places { result ≡ false → self.new.places.items ≡ self.old.places.items }
         ensures kept { work S.left self.new ≤ work S.left self.old }
@@ -256,7 +265,7 @@ impl<S: StrandContract> Engine<S> {
         ensures standing { Stands (S.behavior site.now) (S.stands site.now) self.new (W.book world.new) }
         ensures goes { Goes W.same W.book world.old world.new self.old.log_failed self.new.log_failed }
         ensures in_offers { self.new.in_offers ≡ self.old.in_offers }
-        ensures ends_from { self.new.ends_from ≡ self.old.ends_from }
+        ensures ending { self.new.ending ≡ self.old.ending }
         ensures work { work S.left self.new ≤ work S.left self.old + S.left seat.strand }
     {
         loop {
@@ -297,11 +306,11 @@ impl<S: StrandContract> Engine<S> {
     fn offer_next<W: World>(&mut self, site: &S::Site, world: &mut W) -> bool
         requires standing { Stands (S.behavior site.now) (S.stands site.now) self.old (W.book world.old) }
         requires in_offers { self.old.in_offers ≡ true }
-        requires ends_from { self.old.ends_from ≡ None }
+        requires ending { self.old.ending ≡ Ending.Over }
         ensures standing { Stands (S.behavior site.now) (S.stands site.now) self.new (W.book world.new) }
         ensures goes { Goes W.same W.book world.old world.new self.old.log_failed self.new.log_failed }
         ensures in_offers { self.new.in_offers ≡ true }
-        ensures ends_from { self.new.ends_from ≡ None }
+        ensures ending { self.new.ending ≡ Ending.Over }
         ensures none { result ≡ false → self.new.places.items ≡ [] }
         ensures queue { result ≡ false → self.new.queue.items ≡ self.old.queue.items }
         ensures kept { work S.left self.new ≤ work S.left self.old }
@@ -332,7 +341,7 @@ impl<S: StrandContract> Engine<S> {
         ensures standing { Stands (S.behavior site.now) (S.stands site.now) self.new (W.book world.new) }
         ensures goes { Goes W.same W.book world.old world.new self.old.log_failed self.new.log_failed }
         ensures in_offers { self.new.in_offers ≡ self.old.in_offers }
-        ensures ends_from { self.new.ends_from ≡ self.old.ends_from }
+        ensures ending { self.new.ending ≡ self.old.ending }
         ensures work { work S.left self.new ≤ work S.left self.old + S.left seat.strand }
     {
         match place {
@@ -345,10 +354,10 @@ impl<S: StrandContract> Engine<S> {
     /// One turn, of a thread or of a place; false where neither is in line.
     fn turn<W: World>(&mut self, site: &S::Site, world: &mut W) -> bool
         requires standing { Stands (S.behavior site.now) (S.stands site.now) self.old (W.book world.old) }
-        requires ends_from { self.old.ends_from ≡ None }
+        requires ending { self.old.ending ≡ Ending.Over }
         ensures standing { Stands (S.behavior site.now) (S.stands site.now) self.new (W.book world.new) }
         ensures goes { Goes W.same W.book world.old world.new self.old.log_failed self.new.log_failed }
-        ensures ends_from { self.new.ends_from ≡ None }
+        ensures ending { self.new.ending ≡ Ending.Over }
         ensures none { result ≡ false → (self.new.queue.items ≡ []) × (self.new.places.items ≡ []) }
         ensures less { result ≡ true → work S.left self.new < work S.left self.old }
     {
@@ -370,7 +379,7 @@ impl<S: StrandContract> Engine<S> {
     /// All turns, until nothing is in line.
     fn settle<W: World>(&mut self, site: &S::Site, world: &mut W)
         requires standing { Stands (S.behavior site.now) (S.stands site.now) self.old (W.book world.old) }
-        requires ends_from { self.old.ends_from ≡ None }
+        requires ending { self.old.ending ≡ Ending.Over }
         ensures rests { Rests (S.behavior site.now) (S.stands site.now) self.new (W.book world.new) }
         ensures goes { Goes W.same W.book world.old world.new self.old.log_failed self.new.log_failed }
     {

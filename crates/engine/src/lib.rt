@@ -5,6 +5,6 @@ mod engine;
 mod server;
 mod slots;
 
-pub use engine::{Carried, Engine, Seat};
+pub use engine::{Carried, Ending, Engine, Seat};
 pub use server::{Ended, serve};
 pub use slots::Slots;

@@ -1,6 +1,7 @@
 use resty_base::StrandId;
 use std::alloc::Global;
 use std::collections::BTreeMap;
+use std::ops::Bound;
 
 /// A seat for each strand that lives, in the order in which they began.
 #[derive(Drop)]
@@ -12,7 +13,7 @@ impl<X: Drop> Slots<X> {
     ghost use Rattle.std.specs.Prelude.{◌≡◌, ◌≤◌, ◌<◌, ◌+◌, ℕ, Some, None, IfSome, IsSome, true, false, if◌then◌else◌};
     ghost use Rattle.resty_base.specs.declared.names.StrandId.{StrandId};
     ghost use Rattle.resty_world.specs.Ids.{same_strand};
-    ghost use Rattle.engine.specs.Slots.{slot_at, total, value_of};
+    ghost use Rattle.engine.specs.Slots.{slot_at, total, value_of, is_after};
 
     /// No seats; takes no memory.
     pub fn new(alloc: Global) -> Slots<X>
@@ -49,14 +50,18 @@ impl<X: Drop> Slots<X> {
         }
     }
 
-    /// The first connection from this one on whose strand has a seat.
-    pub fn first_from(&self, from: u64) -> Option<u64>
-        ensures from { IfSome result (λ c. from ≤ c) }
+    /// The first connection after this one, or of all after none, whose strand has a seat.
+    pub fn first_after(&self, last: Option<u64>) -> Option<u64>
+        ensures after { IfSome result (λ c. is_after last c ≡ true) }
         ensures seated { IfSome result (λ c. IsSome (slot_at self.now (StrandId.Conn c))) }
-        ensures first { IfSome result (λ c. (t : ℕ) → from ≤ t → t < c → slot_at self.now (StrandId.Conn t) ≡ None) }
-        ensures none { result ≡ None → (t : ℕ) → from ≤ t → slot_at self.now (StrandId.Conn t) ≡ None }
+        ensures first { IfSome result (λ c. (t : ℕ) → is_after last t ≡ true → t < c → slot_at self.now (StrandId.Conn t) ≡ None) }
+        ensures none { result ≡ None → (t : ℕ) → is_after last t ≡ true → slot_at self.now (StrandId.Conn t) ≡ None }
     {
-        match self.held.range(from..).next() {
+        let start = match last {
+            None => Bound::Unbounded,
+            Some(connection) => Bound::Excluded(connection),
+        };
+        match self.held.range((start, Bound::Unbounded)).next() {
             Some((connection, _)) => Some(*connection),
             None => None,
         }

@@ -5,7 +5,7 @@ use Rattle.engine.proofs.Going.{goes-stays, goes-joins}
 use Rattle.engine.proofs.engine.Engine.carry.Goals as goal
 
 pub loop-act-init : goal.loop-act-init
-loop-act-init g c = record { busy = c.requires; goes = goes-stays g.W.World.same g.W.World.book _ _ (g.met.W.World.stays _); in_offers = refl; ends_from = refl; work = omega arith }
+loop-act-init g c = record { busy = c.requires; goes = goes-stays g.W.World.same g.W.World.book _ _ (g.met.W.World.stays _); in_offers = refl; ending = refl; work = omega arith }
 
 pub carry_out-requires : goal.carry_out-requires
 carry_out-requires g c =
@@ -21,7 +21,7 @@ loop-act-preserved g c =
       busy = c.in-Done.ensures.done refl c.args.seat.strand c.pop_front.new.self.items c.args.going y.0 (rw now at y.1);
       goes = goes-joins g.W.World.same g.W.World.book _ _ _ _ _ _ (g.met.W.World.joins _ _ _) c.loop-act.invariant.goes c.in-Done.ensures.goes;
       in_offers = c.in-Done.ensures.in_offers ∙ c.loop-act.invariant.in_offers;
-      ends_from = c.in-Done.ensures.ends_from ∙ c.loop-act.invariant.ends_from;
+      ending = c.in-Done.ensures.ending ∙ c.loop-act.invariant.ending;
       work = omega (arith, ap length now, c.in-Done.ensures.work, c.loop-act.invariant.work);
     }
 

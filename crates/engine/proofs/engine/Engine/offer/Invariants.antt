@@ -9,7 +9,7 @@ invariant-loop-piece g l = record {
   busy : (ms : List (GlobalAction g.row.S-Job.Denot)) × Busy (g.S.StrandContract.behavior l.site) (g.S.StrandContract.stands l.site) l.connection l.seat.strand [] true l.seat.is_open (view_of l.self) (g.W.World.book l.world) ms;
   goes : Goes g.W.World.same g.W.World.book l.fn.world l.world l.fn.self.log_failed l.self.log_failed;
   in_offers : l.self.in_offers ≡ l.fn.self.in_offers;
-  ends_from : l.self.ends_from ≡ l.fn.self.ends_from;
+  ending : l.self.ending ≡ l.fn.self.ending;
   work : work g.S.StrandContract.left l.self + g.S.StrandContract.left l.seat.strand ≤ work g.S.StrandContract.left l.fn.self + g.S.StrandContract.left l.fn.seat.strand;
 }
 

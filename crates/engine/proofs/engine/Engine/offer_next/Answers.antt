@@ -17,7 +17,7 @@ offer_place-requires-clause-client g c = λ client.
     let front : c.loop-who.self.places.items ≡ (strand.Conn k, place.Client) ∷ c.pop_front.new.self.items = now ∙ ap (λ w. (w, c.in-Some.place) ∷ c.pop_front.new.self.items) c.in-Conn.is ∙ ap (λ p. (strand.Conn k, p) ∷ c.pop_front.new.self.items) client in
     let here : slot_at c.loop-who.self.seats (strand.Conn k) ≡ Some c.in-Some-take_out.seat = subst (λ (w : StrandId). slot_at c.loop-who.self.seats w ≡ Some c.in-Some-take_out.seat) c.in-Conn.is (sym c.in-Some-take_out.ensures.value) in (
       Of (strand.Conn k) (Offered place.Client) None ∷ ms,
-      busy-offered _ _ ms _ _ c.loop-who.invariant.standing.1 (g.met.S.StrandContract.still c.args.site.now) (g.met.S.StrandContract.quiet c.args.site.now) k c.pop_front.new.self.items c.in-Some-take_out.seat _ front here c.loop-who.invariant.in_offers c.loop-who.invariant.ends_from
+      busy-offered _ _ ms _ _ c.loop-who.invariant.standing.1 (g.met.S.StrandContract.still c.args.site.now) (g.met.S.StrandContract.quiet c.args.site.now) k c.pop_front.new.self.items c.in-Some-take_out.seat _ front here c.loop-who.invariant.in_offers c.loop-who.invariant.ending
           (λ s. subst (λ (w : StrandId). slot_at c.take_out.new.self s ≡ (if same_strand s w then None else slot_at c.loop-who.self.seats s)) c.in-Conn.is (c.take_out.ensures.rest s)) refl refl refl refl refl refl,
     )
 
@@ -29,7 +29,7 @@ offer_place-requires-clause-falls g c =
     let front : c.loop-who.self.places.items ≡ (strand.Conn k, c.in-Some.place) ∷ c.pop_front.new.self.items = now ∙ ap (λ w. (w, c.in-Some.place) ∷ c.pop_front.new.self.items) c.in-Conn.is in
     let here : slot_at c.loop-who.self.seats (strand.Conn k) ≡ Some c.in-Some-take_out.seat = subst (λ (w : StrandId). slot_at c.loop-who.self.seats w ≡ Some c.in-Some-take_out.seat) c.in-Conn.is (sym c.in-Some-take_out.ensures.value) in (
       Of (strand.Conn k) (Offered c.in-Some.place) None ∷ ms,
-      falls-offered _ _ ms _ _ c.loop-who.invariant.standing.1 (g.met.S.StrandContract.quiet c.args.site.now) k c.in-Some.place c.pop_front.new.self.items c.in-Some-take_out.seat _ front here c.loop-who.invariant.in_offers c.loop-who.invariant.ends_from
+      falls-offered _ _ ms _ _ c.loop-who.invariant.standing.1 (g.met.S.StrandContract.quiet c.args.site.now) k c.in-Some.place c.pop_front.new.self.items c.in-Some-take_out.seat _ front here c.loop-who.invariant.in_offers c.loop-who.invariant.ending
           (λ s. subst (λ (w : StrandId). slot_at c.take_out.new.self s ≡ (if same_strand s w then None else slot_at c.loop-who.self.seats s)) c.in-Conn.is (c.take_out.ensures.rest s)) refl refl refl refl refl refl,
     )
 
@@ -41,7 +41,7 @@ loop-who-preserved g c =
       standing = (ms, skip-offer _ _ ms _ _ c.loop-who.invariant.standing.1 _ c.in-Some.who c.in-Some.place c.pop_front.new.self.items now (sym c.in_default-take_out.ensures.value) c.take_out.ensures.rest refl refl refl refl refl refl);
       goes = c.loop-who.invariant.goes;
       in_offers = c.loop-who.invariant.in_offers;
-      ends_from = c.loop-who.invariant.ends_from;
+      ending = c.loop-who.invariant.ending;
       queue = c.loop-who.invariant.queue;
       less = omega (arith, ap length now, c.in_default-take_out.ensures.total (seat_left g.S.StrandContract.left), c.loop-who.invariant.less);
     }

@@ -1,4 +1,5 @@
 use Rattle.std.proofs.Common.{◌≡◌, ◌≤◌, true, length, None}
+use Rattle.engine.specs.declared.engine.Ending.TheVariants as stop
 use Rattle.engine.specs.Engine.{Stands, work, Goes}
 use Rattle.engine.proofs.engine.Engine.offer_next.Given as goal
 
@@ -7,7 +8,7 @@ invariant-loop-who g l = record {
   standing : Stands (g.S.StrandContract.behavior l.site) (g.S.StrandContract.stands l.site) l.self (g.W.World.book l.world);
   goes : Goes g.W.World.same g.W.World.book l.fn.world l.world l.fn.self.log_failed l.self.log_failed;
   in_offers : l.self.in_offers ≡ true;
-  ends_from : l.self.ends_from ≡ None;
+  ending : l.self.ending ≡ stop.Over;
   queue : l.self.queue.items ≡ l.fn.self.queue.items;
   less : work g.S.StrandContract.left l.self ≤ work g.S.StrandContract.left l.fn.self;
 }
