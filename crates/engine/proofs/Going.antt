@@ -64,3 +64,6 @@ pub log-work : (s : StrandId) (line : List ℕ) (r : LogAnswer) → IsWork (log_
 log-work s line logged.Done = record { events = λ h. refl; failed = λ h l. l }
 log-work s line logged.Failed = record { events = λ h. refl; failed = λ h l. tt }
 log-work s line logged.Memory = nothing-work
+
+pub turned-work : (c : ℕ) → IsWork (entry.Turned c ∷ [])
+turned-work c = record { events = λ h. refl; failed = λ h l. l }

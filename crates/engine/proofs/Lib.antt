@@ -1,9 +1,13 @@
 pub mod Acts
+pub mod Arrivals
 pub mod Empty
+pub mod Events
 pub mod Going
 pub mod Lists
 pub mod Marks
 pub mod Seats
+pub mod Serving
 pub mod Totals
 pub mod Turns
+pub mod Words
 pub mod Writes

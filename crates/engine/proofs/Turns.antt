@@ -131,7 +131,7 @@ module _ {J S : Type 0} (b : Behavior J) (st : S → List (LocalAction J) → Ty
         };
       }
 
-  turn-lists : {A : Type 0} (s : StrandId) (xs l ys : List (StrandId × A)) (r more : List A) → IsSubsequence (xs ++ with_strand s r ++ l) ys → IsSubsequence (xs ++ with_strand s r ++ (l ++ with_strand s more)) (ys ++ with_strand s more)
+  pub turn-lists : {A : Type 0} (s : StrandId) (xs l ys : List (StrandId × A)) (r more : List A) → IsSubsequence (xs ++ with_strand s r ++ l) ys → IsSubsequence (xs ++ with_strand s r ++ (l ++ with_strand s more)) (ys ++ with_strand s more)
   turn-lists s xs l ys r more h = rw (← append_assoc (xs ++ with_strand s r) l (with_strand s more)) (sub-more h (with_strand s more))
 
   -- what a strand is shown, out of its seat
@@ -179,7 +179,7 @@ module _ {J S : Type 0} (b : Behavior J) (st : S → List (LocalAction J) → Ty
     stands = subst (λ (fs : List (LocalAction J)). st y fs) (sym (projection-same c (action_of b (projection (strand.Conn c) ms) given) None ms)) stands;
   }
 
-no-job : {J : Type 0} (n : ℕ) (ms : List (GlobalAction J)) → projection (strand.Job n) ms ≡ [] → lives (projection (strand.Job n) ms) ≡ true → ⊥
+pub no-job : {J : Type 0} (n : ℕ) (ms : List (GlobalAction J)) → projection (strand.Job n) ms ≡ [] → lives (projection (strand.Job n) ms) ≡ true → ⊥
 no-job n ms nil live = absurd (let e : false ≡ true = sym (ap lives nil) ∙ live in cc)
 
 module _ {J S : Type 0} (b : Behavior J) (st : S → List (LocalAction J) → Type 0) (ms : List (GlobalAction J)) (h : Held S) (book : Book) (g : Standing b st h book ms) where

@@ -1,11 +1,16 @@
 -- What the engine stands for.
 use Rattle.engine.specs.declared.engine.Ending.TheVariants as stop
 use Rattle.std.specs.Prelude.{◌≡◌, ℕ, ◌+◌, Bool, true, false, List, [], ◌∷◌, length, Option, Some, None, IfSome}
+use Rattle.resty_base.specs.declared.names.Id.{Id}
 use Rattle.std.specs.Option.{option_map}
 use Rattle.resty_base.specs.Counting.{Rose}
 use Rattle.resty_world.specs.Book.{Book}
 use Rattle.resty_world.specs.declared.entry.Entry.{Entry}
 use Rattle.resty_world.specs.declared.event.Event.{Event}
+use Rattle.resty_world.specs.declared.event.Event.TheVariants as event
+use Rattle.strand_contract.specs.declared.turns.Place.TheVariants as place
+use Rattle.strand_contract.specs.declared.turns.Seen.{Seen}
+use Rattle.strand_contract.specs.declared.turns.Seen.TheVariants as seen
 use Rattle.strand_contract.specs.Actions.{LocalAction, GlobalAction}
 use Rattle.strand_contract.specs.Behaviors.{Behavior}
 use Rattle.engine.specs.declared.engine.Engine.{Engine}
@@ -54,3 +59,15 @@ pub record Goes {V : Type 0} (same : V → V → Type 0) (book : V → Book) (ol
   pub later : same old new
   pub events : option_map events_of (book new).history ≡ option_map events_of (book old).history
   pub logs : (faults : ℕ) → Logs faults failed_before (book old) → Logs faults failed (book new)
+
+-- whom an event is for, and what the strand is shown
+abbrev pub shown : Event → Option (Id × Seen)
+shown (event.Bytes i bytes) = Some (i, seen.Bytes place.Client bytes)
+shown (event.Ended i) = Some (i, seen.Ended place.Client)
+shown (event.Broken i) = Some (i, seen.Broken place.Client)
+shown (event.Ready i) = Some (i, seen.Ready place.Client)
+shown e = None
+
+abbrev pub is_stop : Event → Bool
+is_stop event.Stop = true
+is_stop e = false

@@ -1,6 +1,6 @@
 use crate::Slots;
 use resty_base::{Id, Ms, StrandId};
-use resty_world::{Entry, Logged, World, Wrote};
+use resty_world::{Entry, Event, Logged, World, Wrote};
 use std::alloc::Global;
 use std::collections::VecDeque;
 use strand_contract::{Act, Acts, Place, Seen, Start, StrandContract};
@@ -56,8 +56,31 @@ impl<S: StrandContract> Engine<S> {
     ghost use Rattle.strand_contract.specs.Executions.{projection};
     ghost use Rattle.strand_contract.specs.Laws.{is_own_turn};
     ghost use Rattle.strand_contract.specs.declared.turns.Act.{Act};
+    ghost use Rattle.resty_world.specs.Book.{Book};
+    ghost use Rattle.resty_world.specs.Given.{Gave};
+    ghost use Rattle.resty_world.specs.declared.event.Event.{Event};
+    ghost use Rattle.resty_base.specs.declared.names.Id.{Id};
+    ghost use Rattle.engine.specs.Right.{IsFresh};
     ghost use Rattle.engine.specs.Standing.{Standing, Busy, Falls, Turn};
-    ghost use Rattle.engine.specs.Engine.{view_of, Stands, Rests, work, left_of, Goes};
+    ghost use Rattle.engine.specs.Engine.{view_of, Stands, Rests, work, left_of, Goes, shown, is_stop};
+
+    /// No strands, at the moment 0; takes no memory.
+    pub fn new(alloc: Global) -> Engine<S>
+        ensures rests { (site : S.Site) (book : Book) → IsFresh book → Rests (S.behavior site) (S.stands site) result book }
+        ensures log_failed { result.log_failed ≡ false }
+    {
+        Engine {
+            alloc,
+            seats: Slots::new(alloc),
+            queue: VecDeque::new(alloc),
+            places: VecDeque::new(alloc),
+            in_offers: false,
+            now: Ms(0),
+            connections: 0,
+            ending: Ending::Over,
+            log_failed: false,
+        }
+    }
 
     /// Gives a strand up: tells that it was dropped, and closes its line.
     fn give_up<W: World>(&mut self, site: &S::Site, connection: u64, is_open: bool, world: &mut W)
@@ -385,5 +408,104 @@ impl<S: StrandContract> Engine<S> {
     {
         while self.turn(site, world) {}
         self.in_offers = false;
+    }
+
+    /// A connection arrived: its strand begins, or it is turned away where as many are open as may be.
+    fn arrive<W: World>(&mut self, site: &S::Site, connection: u64, world: &mut W)
+        requires { (before : Book) × Rests (S.behavior site.now) (S.stands site.now) self.old before × Gave before (W.book world.old) (Event.Arrive connection) }
+        ensures standing { Stands (S.behavior site.now) (S.stands site.now) self.new (W.book world.new) }
+        ensures goes { Goes W.same W.book world.old world.new self.old.log_failed self.new.log_failed }
+        ensures ending { self.new.ending ≡ Ending.Over }
+    {
+        if u64::from(S::connections(site)) <= self.connections {
+            let _ = world.note(Entry::Turned(connection));
+            world.hang_up(Id::Conn(connection));
+            return;
+        }
+        self.connections += 1;
+        match S::begin(self.alloc, site, self.now, Start::Client(connection)) {
+            Ok((strand, acts)) => {
+                let seat = Seat {
+                    strand,
+                    is_open: true,
+                };
+                if let Some(next) = self.carry(site, connection, seat, acts, false, world) {
+                    self.put_back(site, connection, next, world);
+                }
+            }
+            Err(_) => self.give_up(site, connection, true, world),
+        }
+    }
+
+    /// Something was given at a connection: its strand's turn.
+    fn come<W: World>(&mut self, site: &S::Site, id: Id, seen: Seen, world: &mut W)
+        requires { (before : Book) × (e : Event) × Rests (S.behavior site.now) (S.stands site.now) self.old before × Gave before (W.book world.old) e × (shown e ≡ Some (id, seen)) }
+        ensures standing { Stands (S.behavior site.now) (S.stands site.now) self.new (W.book world.new) }
+        ensures goes { Goes W.same W.book world.old world.new self.old.log_failed self.new.log_failed }
+        ensures ending { self.new.ending ≡ Ending.Over }
+    {
+        if let Id::Conn(connection) = id {
+            if let Some(seat) = self.seats.take_out(StrandId::Conn(connection)) {
+                self.take_turn(site, connection, seat, seen, world);
+            }
+        }
+    }
+
+    /// Ends each strand that lives, in the order in which they began.
+    fn end_all<W: World>(&mut self, site: &S::Site, world: &mut W)
+        requires standing { Stands (S.behavior site.now) (S.stands site.now) self.old (W.book world.old) }
+        requires in_offers { self.old.in_offers ≡ false }
+        requires ending { self.old.ending ≡ Ending.After None }
+        ensures standing { Stands (S.behavior site.now) (S.stands site.now) self.new (W.book world.new) }
+        ensures goes { Goes W.same W.book world.old world.new self.old.log_failed self.new.log_failed }
+        ensures ending { self.new.ending ≡ Ending.Over }
+    {
+        let mut last = None;
+        while let Some(connection) = self.seats.first_after(last) {
+            last = Some(connection);
+            self.ending = Ending::After(last);
+            if let Some(seat) = self.seats.take_out(StrandId::Conn(connection)) {
+                self.take_turn(site, connection, seat, Seen::Stop, world);
+            }
+        }
+        self.ending = Ending::Over;
+    }
+
+    /// Takes what the world gave, up to the turns that follow, and tells whether it was Stop.
+    fn take<W: World>(&mut self, site: &S::Site, event: Event, world: &mut W) -> bool
+        requires { (before : Book) × Rests (S.behavior site.now) (S.stands site.now) self.old before × Gave before (W.book world.old) event }
+        ensures standing { Stands (S.behavior site.now) (S.stands site.now) self.new (W.book world.new) }
+        ensures goes { Goes W.same W.book world.old world.new self.old.log_failed self.new.log_failed }
+        ensures ending { self.new.ending ≡ Ending.Over }
+        ensures stops { result ≡ is_stop event }
+    {
+        match event {
+            Event::Arrive(connection) => self.arrive(site, connection, world),
+            Event::Bytes(id, bytes) => self.come(site, id, Seen::Bytes(Place::Client, bytes), world),
+            Event::Ended(id) => self.come(site, id, Seen::Ended(Place::Client), world),
+            Event::Broken(id) => self.come(site, id, Seen::Broken(Place::Client), world),
+            Event::Ready(id) => self.come(site, id, Seen::Ready(Place::Client), world),
+            Event::Moment(now) => self.now = Ms(now.0.max(self.now.0)),
+            Event::Stop => {
+                self.ending = Ending::After(None);
+                self.end_all(site, world);
+                return true;
+            }
+            // No strand has a socket yet, and the others are no events.
+            _ => {}
+        }
+        false
+    }
+
+    /// Takes what the world gave, with all turns that follow, and tells whether it was Stop.
+    pub fn step<W: World>(&mut self, site: &S::Site, event: Event, world: &mut W) -> bool
+        requires { (before : Book) × Rests (S.behavior site.now) (S.stands site.now) self.old before × Gave before (W.book world.old) event }
+        ensures rests { Rests (S.behavior site.now) (S.stands site.now) self.new (W.book world.new) }
+        ensures goes { Goes W.same W.book world.old world.new self.old.log_failed self.new.log_failed }
+        ensures stops { result ≡ is_stop event }
+    {
+        let is_stop = self.take(site, event, world);
+        self.settle(site, world);
+        is_stop
     }
 }

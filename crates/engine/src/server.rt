@@ -1,6 +1,7 @@
 ghost use Rattle.engine.specs.Right.{IsFresh, IsRight, EndsBy};
 
-use resty_world::World;
+use crate::Engine;
+use resty_world::{Event, World};
 use std::alloc::Global;
 use strand_contract::StrandContract;
 
@@ -31,7 +32,24 @@ pub fn serve<S: StrandContract, W: World>(
     ensures ended { EndsBy events (W.book world.old) (W.book world.new) result }
     ensures same { W.same world.old world.new }
 {
-    let _ = (alloc, site, events);
-    let _ = world;
-    Ended::Memory
+    let mut engine: Engine<S> = Engine::new(alloc);
+    let mut given: u64 = 0;
+    while given < events {
+        match world.next_event(alloc, None) {
+            Event::Fault => return Ended::WorldFault,
+            Event::BadLine(line) => return Ended::BadLine(line),
+            Event::Memory => return Ended::Memory,
+            event => {
+                let is_stop = engine.step(&site, event, world);
+                if engine.log_failed {
+                    return Ended::WorldFault;
+                }
+                if is_stop {
+                    return Ended::Stopped;
+                }
+                given += 1;
+            }
+        }
+    }
+    Ended::Spent(events)
 }

@@ -1,0 +1,203 @@
+-- Connections that arrive: a strand begins, or the connection is turned away.
+use Rattle.engine.specs.declared.engine.Ending.TheVariants as stop
+use Rattle.std.proofs.Common.{◌≡◌, ◌⊎◌, ℕ, ◌+◌, ◌<◌, ◌≤◌, Bool, true, false, not, ◌||◌, ◌&&◌, ◌==◌, List, [], ◌∷◌, ◌++◌, Option, Some, None, if◌then◌else◌, refl, sym, ap, subst, ◌∙◌, append_assoc, append-nil, inl, inr, arith}
+use Rattle.std.proofs.lemmas.Bool.{eqb-true, cases_lt}
+use Rattle.resty_base.specs.declared.names.Id.TheVariants as id
+use Rattle.resty_base.specs.declared.names.StrandId.{StrandId}
+use Rattle.resty_base.specs.declared.names.StrandId.TheVariants as strand
+use Rattle.resty_world.specs.declared.entry.Entry.TheVariants as entry
+use Rattle.resty_world.specs.declared.event.Event.TheVariants as event
+use Rattle.resty_world.specs.Book.{Book, told}
+use Rattle.resty_world.specs.Given.{Gave}
+use Rattle.resty_world.specs.Ids.{same_strand}
+use Rattle.strand_contract.specs.declared.turns.Place.{Place}
+use Rattle.strand_contract.specs.declared.turns.Place.TheVariants as place
+use Rattle.strand_contract.specs.declared.turns.Start.TheVariants as start
+use Rattle.strand_contract.specs.declared.turns.Act.{Act}
+use Rattle.strand_contract.specs.Actions.{Action, LocalAction, Did, GlobalAction, Of, Everyone, TurnedAway, IdleGave, IdleClosed, Began}
+use Rattle.strand_contract.specs.Behaviors.{Behavior}
+use Rattle.strand_contract.specs.Alone.{lives, moment, is_open, has_ended, todo, waiting, to_offer, offers, armed, in_offers, is_stopping, IsExecution, HasNoWork, KeepsNothingBack}
+use Rattle.strand_contract.specs.Executions.{projection, external, offered_lengths, present, open_connections, has_begun}
+use Rattle.strand_contract.specs.Laws.{IsLastAct}
+use Rattle.strand_contract.specs.Order.{with_strand, only, readied, all_run, all_readied, all_offered, all_placed, offers_last}
+use Rattle.engine.specs.declared.engine.Seat.{Seat}
+use Rattle.engine.specs.Right.{Tells}
+use Rattle.engine.specs.Standing.{Held, is_to_end, Fit, Common, Around, Near, Busy, Falls, Standing}
+use Rattle.engine.proofs.Lists.{by_test, clash, same-true, tells-more, tells-same}
+use Rattle.engine.proofs.Marks.{projection-same, touches, SameHeld, SameBook, MayCome, common-next, around-next, Begins, near-begins}
+use Rattle.engine.proofs.Acts.{around-lists}
+use Rattle.engine.proofs.Lists.{sub-front}
+use Rattle.engine.proofs.Turns.{turn-lists}
+use Rattle.engine.proofs.Events.{at-rest, none-holds}
+
+-- a strand that has begun has an execution of its own
+begun-more : {J : Type 0} (test : Bool) (x : LocalAction J) (es : List (LocalAction J)) (rest : Bool) → test || rest ≡ true → (rest ≡ true → es ≡ [] → ⊥) → (if test then x ∷ es else es) ≡ [] → ⊥
+begun-more true x es rest h more nil = let e : x ∷ es ≡ [] = nil in cc
+begun-more false x es rest h more nil = more h nil
+
+tail-more : {J : Type 0} (test : Bool) (x : LocalAction J) (es : List (LocalAction J)) → (es ≡ [] → ⊥) → (if test then x ∷ es else es) ≡ [] → ⊥
+tail-more true x es more nil = let e : x ∷ es ≡ [] = nil in cc
+tail-more false x es more nil = more nil
+
+pub begun-some : {J : Type 0} (s : StrandId) (ms : List (GlobalAction J)) → has_begun s ms ≡ true → projection s ms ≡ [] → ⊥
+begun-some s [] h nil = let e : false ≡ true = h in cc
+begun-some s (Of t (Began now begin) n ∷ ms) h nil = begun-more (same_strand s t) (Did (Began now begin)) (projection s ms) (has_begun s ms) h (begun-some s ms) nil
+begun-some s (Of t x n ∷ ms) h nil = tail-more (same_strand s t) (Did x) (projection s ms) (begun-some s ms h) nil
+begun-some s (Everyone w ∷ ms) h nil = tail-more (lives (projection s ms)) _ (projection s ms) (begun-some s ms h) nil
+begun-some s (TurnedAway c ∷ ms) h nil = begun-some s ms h nil
+begun-some s (IdleGave e ∷ ms) h nil = begun-some s ms h nil
+begun-some s (IdleClosed n ∷ ms) h nil = begun-some s ms h nil
+
+module _ {J S : Type 0} (b : Behavior J) (st : S → List (LocalAction J) → Type 0) (ms : List (GlobalAction J)) (h : Held S) (book : Book) (g : Standing b st h book ms) (queue : h.queue ≡ []) (places : h.places ≡ []) (running : h.in_offers ≡ false) (ending : h.ending ≡ stop.Over)
+    (keeps : (es : List (LocalAction J)) → IsExecution b es → lives es ≡ true → HasNoWork b es → KeepsNothingBack b es) (c : ℕ) (new : c ≡ book.arrivals + 1) where
+  unseen : projection (strand.Conn c) ms ≡ []
+  unseen = g.common.unborn c (omega (arith, new))
+
+  -- whoever began before has a lower number
+  newest : (t : ℕ) → has_begun (strand.Conn t) ms ≡ true → t < c
+  newest t begun = elim (cases_lt book.arrivals t) [ inl past ↦ absurd (begun-some (strand.Conn t) ms begun (g.common.unborn t past)) | inr known ↦ omega (arith, new, known) ]
+
+  -- what is known before the strand begins
+  around-unseen : Around b st c false false h h.queue h.places (record book { arrivals = c }) ms
+  around-unseen = record {
+    each = λ t ne live. g.each t live;
+    dead = λ t ne gone. g.dead t gone;
+    closed = λ t ne gone. g.closed t gone;
+    shut = λ t ne gone q. g.shut t gone q;
+    out = g.dead c (ap lives unseen);
+    arrived = omega arith;
+    alive = ap lives unseen;
+    line_open = g.closed c (ap lives unseen);
+    client = ap (is_open place.Client) unseen;
+    no_socket = λ k. ap (is_open (place.Sock k)) unseen;
+    id_aside = λ e. absurd (let w : false ≡ true = e in cc);
+    strand_aside = λ e. absurd (let w : false ≡ true = e in cc);
+    common = record {
+      alone = g.common.alone;
+      begins = g.common.begins;
+      given = g.common.given;
+      kept = g.common.kept;
+      plain = g.common.plain;
+      runs = g.common.runs;
+      offered = g.common.offered;
+      turns = g.common.turns;
+      told = g.common.told;
+      offers_told = g.common.offers_told;
+      unborn = λ t past. g.common.unborn t (let after : c < t = past in omega (arith, new));
+      jobless = g.common.jobless;
+      no_socket = g.common.no_socket;
+      count = g.common.count;
+      present = g.common.present;
+    };
+  }
+
+  module _ (book' : Book) (gave : Gave book book' (event.Arrive c)) (h' : Held S) (room : h.connections < b.connections) (held : h' ≡ record h { connections = h.connections + 1 }) where
+    around-begun : Around b st c true true h' (h'.queue ++ with_strand (strand.Conn c) (readied (b.acts (Did (Began h.now (start.Client c)) ∷ projection (strand.Conn c) ms)))) (h'.places ++ with_strand (strand.Conn c) (offers (b.acts (Did (Began h.now (start.Client c)) ∷ projection (strand.Conn c) ms)))) book' (Of (strand.Conn c) (Began h.now (start.Client c)) None ∷ ms)
+    around-begun =
+        let z : Action J = Began h.now (start.Client c) in
+        let es : List (LocalAction J) = projection (strand.Conn c) ms in
+        let k : Held S = record h { connections = h.connections + 1 } in
+        rw held (around-next b st c ms z false true false true h k h.queue (h.queue ++ with_strand (strand.Conn c) (readied (b.acts (Did z ∷ es)))) h.places (h.places ++ with_strand (strand.Conn c) (offers (b.acts (Did z ∷ es)))) (record book { arrivals = c }) book' around-unseen
+        (record { seats = λ t ne. refl; queue = λ t ne. refl; places = λ t ne. refl; in_offers = refl; now = refl; ends = λ t ne. refl })
+        (record {
+          is_open = λ t ne. gave.is_open (id.Conn t) ∙ ap (λ v. if v then true else book.is_open (id.Conn t)) ne;
+          has_ended = λ t ne. gave.has_ended (id.Conn t) ∙ ap (λ v. if v then false else book.has_ended (id.Conn t)) ne;
+          id_place = λ t ne. gave.id_place (id.Conn t) ∙ ap (λ v. if v then true else book.id_place (id.Conn t)) ne;
+          strand_place = λ t ne. gave.strand_place (strand.Conn t) ∙ ap (λ v. if v then true else book.strand_place (strand.Conn t)) ne;
+        })
+        around-unseen.out refl
+        (gave.is_open (id.Conn c) ∙ ap (λ v. if v then true else book.is_open (id.Conn c)) (same-true c)) refl (λ k. refl)
+        (λ e. gave.id_place (id.Conn c) ∙ ap (λ v. if v then true else book.id_place (id.Conn c)) (same-true c))
+        (λ e. gave.strand_place (strand.Conn c) ∙ ap (λ v. if v then true else book.strand_place (strand.Conn c)) (same-true c))
+        (omega (arith, new, gave.arrivals))
+        (common-next b st c ms z h.queue (h.queue ++ with_strand (strand.Conn c) (readied (b.acts (Did z ∷ es)))) h.places (h.places ++ with_strand (strand.Conn c) (offers (b.acts (Did z ∷ es)))) h.now h.connections (h.connections + 1) (record book { arrivals = c }) book' around-unseen.common
+        (record {
+          enabled = unseen;
+          begins = (g.common.begins, refl, sym g.common.present, newest);
+          given = (g.common.given, λ e. at-rest b st ms h book g queue places ending);
+          kept = (g.common.kept, λ e. none-holds b st ms h book g queue places ending keeps);
+          plain = (g.common.plain, rw g.common.count room);
+          turns = g.common.turns;
+          counts = ap (λ n. n + 1) g.common.count;
+        })
+        (omega (arith, new, gave.arrivals)) (let later : c ≤ book'.arrivals = omega (arith, new, gave.arrivals) in later) (λ n. gave.is_open (id.Sock n) ∙ g.common.no_socket n)
+        (tells-more book.history book'.history (entry.Given (event.Arrive c) ∷ []) (external b ms) g.common.told gave.history)
+        (tells-same book.offered book'.offered (offered_lengths b ms) g.common.offers_told gave.offered)
+        (turn-lists b st c ms (strand.Conn c) (all_run ms) h.queue (all_readied b ms) [] (readied (b.acts (Did z ∷ es))) (rw append-nil g.common.runs))
+        (turn-lists b st c ms (strand.Conn c) (all_offered ms) h.places (all_placed b ms) [] (offers (b.acts (Did z ∷ es))) (rw append-nil g.common.offered))))
+
+    -- its beginning took no memory, or there was none
+    pub falls-begun : Falls b st c true h' book' (Of (strand.Conn c) (Began h.now (start.Client c)) None ∷ ms)
+    falls-begun = record {
+      around = around-lists b st c true true h' _ h'.queue _ h'.places book' (Of (strand.Conn c) (Began h.now (start.Client c)) None ∷ ms) around-begun (sub-front h'.queue _) (sub-front h'.places _);
+      last = rw held (sym running);
+      touched = touches c (Began h.now (start.Client c)) None ms;
+    }
+
+    pub busy-begun : (asks : (es : List (LocalAction J)) → IsLastAct (b.acts es)) (x : S) (acts : List (Act J)) → st x (Did (Began h.now (start.Client c)) ∷ []) → acts ≡ b.acts (Did (Began h.now (start.Client c)) ∷ [])
+        → Busy b st c x acts false true h' book' (Of (strand.Conn c) (Began h.now (start.Client c)) None ∷ ms)
+    busy-begun asks x acts stands gives =
+        let z : Action J = Began h.now (start.Client c) in
+        let own : projection (strand.Conn c) (Of (strand.Conn c) z None ∷ ms) ≡ Did z ∷ [] = projection-same c z None ms ∙ ap (λ l. Did z ∷ l) unseen in
+        record {
+          near = subst (λ l. Near b st c l false true h' book' (Of (strand.Conn c) z None ∷ ms)) (ap (λ l. b.acts (Did z ∷ l)) unseen ∙ sym gives) (near-begins b st c ms asks z false true h' book' around-begun
+              (record {
+                done = rw unseen refl;
+                no_use = refl;
+                line = rw (unseen, held, queue) refl;
+                list = rw (unseen, held, places) refl;
+                deadlines = rw unseen refl;
+                kind = rw held (sym running);
+                offer = λ e. absurd (let w : false ≡ true = e in cc);
+                moment = rw held refl;
+                stopping = ap is_stopping unseen;
+                no_more = ap (has_ended place.Client) unseen ∙ sym (gave.has_ended (id.Conn c) ∙ ap (λ v. if v then false else book.has_ended (id.Conn c)) (same-true c));
+                not_to_end = rw held (ap (λ o. is_to_end o c) ending);
+                last = rw held (sym running);
+              }));
+          stands = subst (λ (fs : List (LocalAction J)). st x fs) (sym own) stands;
+        }
+
+  -- as many are open as may be
+  pub stands-turned : (book1 book2 book3 : Book) → Gave book book1 (event.Arrive c) → b.connections ≤ h.connections
+      → book2.history ≡ told (entry.Turned c ∷ []) book1.history → book3.history ≡ told (entry.Close (id.Conn c) ∷ []) book2.history → book3.offered ≡ book1.offered
+      → SameBook c book1 book3 → book3.is_open (id.Conn c) ≡ false → book3.arrivals ≡ book1.arrivals → ((n : ℕ) → book3.is_open (id.Sock n) ≡ book1.is_open (id.Sock n))
+      → Standing b st h book3 (TurnedAway c ∷ ms)
+  stands-turned book1 book2 book3 gave full noted closed offers same shut arrivals socks =
+      let other_open = λ (t : ℕ) (ne : (t == c) ≡ false). same.is_open t ne ∙ gave.is_open (id.Conn t) ∙ ap (λ v. if v then true else book.is_open (id.Conn t)) ne in
+      record {
+        each = λ t live. by_test (t == c)
+            (λ e. absurd (let w : false ≡ true = sym (ap lives unseen) ∙ subst (λ (i : ℕ). lives (projection (strand.Conn i) ms) ≡ true) (eqb-true t c e) live in cc))
+            (λ ne. rw (
+              other_open t ne,
+              (same.has_ended t ne ∙ gave.has_ended (id.Conn t) ∙ ap (λ v. if v then false else book.has_ended (id.Conn t)) ne),
+              (same.id_place t ne ∙ gave.id_place (id.Conn t) ∙ ap (λ v. if v then true else book.id_place (id.Conn t)) ne),
+              (same.strand_place t ne ∙ gave.strand_place (strand.Conn t) ∙ ap (λ v. if v then true else book.strand_place (strand.Conn t)) ne),
+            ) (g.each t live));
+        dead = g.dead;
+        closed = λ t gone. by_test (t == c)
+            (λ e. subst (λ (i : ℕ). book3.is_open (id.Conn i) ≡ false) (sym (eqb-true t c e)) shut)
+            (λ ne. other_open t ne ∙ g.closed t gone);
+        shut = g.shut;
+        flip_to_runs = λ run on. absurd (let w : false ≡ true = on in cc);
+        flip_to_offers = λ offer off. queue;
+        common = record {
+          alone = g.common.alone;
+          begins = g.common.begins;
+          given = (g.common.given, λ e. at-rest b st ms h book g queue places ending);
+          kept = (g.common.kept, λ e. none-holds b st ms h book g queue places ending keeps);
+          plain = (g.common.plain, rw g.common.count full);
+          runs = g.common.runs;
+          offered = g.common.offered;
+          turns = g.common.turns;
+          told = tells-more book2.history book3.history (entry.Close (id.Conn c) ∷ []) (entry.Turned c ∷ entry.Given (event.Arrive c) ∷ external b ms)
+              (tells-more book1.history book2.history (entry.Turned c ∷ []) (entry.Given (event.Arrive c) ∷ external b ms)
+              (tells-more book.history book1.history (entry.Given (event.Arrive c) ∷ []) (external b ms) g.common.told gave.history) noted) closed;
+          offers_told = tells-same book.offered book3.offered (offered_lengths b ms) g.common.offers_told (offers ∙ gave.offered);
+          unborn = λ t past. g.common.unborn t (let after : book3.arrivals < t = past in omega (arith, new, arrivals, gave.arrivals));
+          jobless = g.common.jobless;
+          no_socket = λ n. socks n ∙ gave.is_open (id.Sock n) ∙ g.common.no_socket n;
+          count = g.common.count;
+          present = g.common.present;
+        };
+      }

@@ -1,0 +1,255 @@
+-- What a world gives where all strands are at rest: what is known of them there, and the turns that it begins.
+use Rattle.engine.specs.declared.engine.Ending.TheVariants as stop
+use Rattle.std.proofs.Common.{◌≡◌, ℕ, ◌<◌, ◌≤◌, Bool, true, false, ◌==◌, List, [], ◌∷◌, ◌++◌, length, Option, Some, None, if◌then◌else◌, refl, sym, ap, subst, ◌∙◌, append_assoc, append-nil, arith}
+use Rattle.resty_base.specs.declared.names.Id.{Id}
+use Rattle.resty_base.specs.declared.names.Id.TheVariants as id
+use Rattle.resty_base.specs.declared.names.StrandId.{StrandId}
+use Rattle.resty_base.specs.declared.names.StrandId.TheVariants as strand
+use Rattle.resty_world.specs.declared.entry.Entry.TheVariants as entry
+use Rattle.resty_world.specs.declared.event.Event.{Event}
+use Rattle.resty_world.specs.declared.event.Event.TheVariants as event
+use Rattle.resty_world.specs.Book.{Book}
+use Rattle.resty_world.specs.Given.{Gave}
+use Rattle.resty_world.specs.Ids.{same_strand}
+use Rattle.strand_contract.specs.declared.turns.Place.{Place}
+use Rattle.strand_contract.specs.declared.turns.Place.TheVariants as place
+use Rattle.strand_contract.specs.declared.turns.Seen.{Seen}
+use Rattle.strand_contract.specs.declared.turns.Seen.TheVariants as seen
+use Rattle.strand_contract.specs.Actions.{Action, LocalAction, Did, GlobalAction, Of, Came, Ended, Broke, TakesAgain}
+use Rattle.strand_contract.specs.Behaviors.{Behavior}
+use Rattle.strand_contract.specs.Alone.{lives, moment, is_open, has_ended, left_by, waiting, run_by, to_offer, offered_by, begun_offer, in_offers, is_stopping, IsExecution, HasNoWork, KeepsNothingBack, IsGivenAt}
+use Rattle.strand_contract.specs.Executions.{projection, external, offered_lengths, AllQuiescent, NoneHoldsBack}
+use Rattle.strand_contract.specs.Laws.{action_of, IsLastAct}
+use Rattle.strand_contract.specs.Order.{only, run_of, offer_of, all_run, all_offered, offers_last}
+use Rattle.engine.specs.declared.engine.Seat.{Seat}
+use Rattle.engine.specs.Engine.{shown}
+use Rattle.engine.specs.Right.{Tells, IsFresh, IsRight}
+use Rattle.engine.specs.Standing.{Held, is_to_end, Fit, Turn, Standing}
+use Rattle.engine.proofs.Lists.{by_test, clash, same-true, tells-more, tells-same, sub-same}
+use Rattle.engine.proofs.Marks.{SameBook, MayCome}
+use Rattle.engine.proofs.Turns.{seat-lives, seat-fits, around-leave, turn-next, no-job}
+
+-- where nothing has happened, and no strand has a seat
+pub fresh-stands : {J S : Type 0} (b : Behavior J) (st : S → List (LocalAction J) → Type 0) (h : Held S) (book : Book) → IsFresh book → ((s : StrandId) → h.seats s ≡ None)
+    → h.queue ≡ [] → h.places ≡ [] → h.now ≡ 0 → h.connections ≡ 0 → Standing b st h book []
+fresh-stands b st h book fresh seats queue places now count = record {
+  each = λ t live. absurd (let e : false ≡ true = live in cc);
+  dead = λ t gone. seats (strand.Conn t);
+  closed = λ t gone. fresh.none_open (id.Conn t);
+  shut = λ t gone q. refl;
+  flip_to_runs = λ run on. absurd (let e : false ≡ true = on in cc);
+  flip_to_offers = λ offer off. queue;
+  common = record {
+    alone = λ s. tt;
+    begins = tt;
+    given = tt;
+    kept = tt;
+    plain = tt;
+    runs = rw queue (sub-same []);
+    offered = rw places (sub-same []);
+    turns = tt;
+    told = fresh.history;
+    offers_told = fresh.offered;
+    unborn = λ t past. refl;
+    jobless = λ n. refl;
+    no_socket = λ n. fresh.none_open (id.Sock n);
+    count = sym count;
+    present = sym now;
+  };
+}
+
+first-same : {A B : Type 0} (p q : A × B) → Some p ≡ Some q → p.0 ≡ q.0
+first-same p q e = cc
+
+second-same : {A B : Type 0} (p q : A × B) → Some p ≡ Some q → p.1 ≡ q.1
+second-same p q e = cc
+
+-- what is shown comes of what is open
+pub shown-open : (e : Event) (i : Id) (given : Seen) (book book' : Book) → Gave book book' e → shown e ≡ Some (i, given) → book.is_open i ≡ true
+shown-open (event.Bytes j bytes) i given book book' gave is = subst (λ (k : Id). book.is_open k ≡ true) (first-same (j, seen.Bytes place.Client bytes) (i, given) is) gave.fit.0
+shown-open (event.Ended j) i given book book' gave is = subst (λ (k : Id). book.is_open k ≡ true) (first-same (j, seen.Ended place.Client) (i, given) is) gave.fit
+shown-open (event.Broken j) i given book book' gave is = subst (λ (k : Id). book.is_open k ≡ true) (first-same (j, seen.Broken place.Client) (i, given) is) gave.fit
+shown-open (event.Ready j) i given book book' gave is = subst (λ (k : Id). book.is_open k ≡ true) (first-same (j, seen.Ready place.Client) (i, given) is) gave.fit
+shown-open e i given book book' gave is = absurd (let w : None ≡ Some (i, given) = is in cc)
+
+module _ {J S : Type 0} (b : Behavior J) (st : S → List (LocalAction J) → Type 0) (ms : List (GlobalAction J)) (h : Held S) (book : Book) (g : Standing b st h book ms) (queue : h.queue ≡ []) (places : h.places ≡ []) (ending : h.ending ≡ stop.Over) where
+  pub at-rest : AllQuiescent b ms
+  at-rest (strand.Conn t) = record {
+    idle = λ live. let f = g.each t live in record {
+      no_act = f.no_act;
+      no_thread = f.threads ∙ ap (only (strand.Conn t)) queue;
+      no_place = f.offered ∙ ap (only (strand.Conn t)) places;
+      no_offer = f.no_offer;
+      no_deadline = rw f.no_deadline refl;
+      no_stop = f.stopping ∙ ap (λ o. is_to_end o t) ending;
+    };
+    closed = λ off q. g.shut t off q;
+  }
+  at-rest (strand.Job n) = record { idle = λ live. absurd (no-job n ms (g.common.jobless n) live); closed = λ off q. ap (is_open q) (g.common.jobless n) }
+
+  module _ (keeps : (es : List (LocalAction J)) → IsExecution b es → lives es ≡ true → HasNoWork b es → KeepsNothingBack b es) where
+    pub none-holds : NoneHoldsBack b ms
+    none-holds s live = keeps (projection s ms) (g.common.alone s) live ((at-rest s).idle live)
+
+    -- what stands at rest is right
+    pub rests-right : IsRight b book
+    rests-right = record {
+      execution = ms;
+      history = g.common.told;
+      offered = g.common.offers_told;
+      lawful = record { alone = g.common.alone; begins = g.common.begins; given = g.common.given; rests = at-rest };
+      kept = (g.common.kept, none-holds);
+      plain = g.common.plain;
+      ordered = record {
+        runs = rw (queue, append-nil) at g.common.runs;
+        offered = rw (places, append-nil) at g.common.offered;
+        turns = g.common.turns;
+      };
+    }
+
+    -- an id that is open is a connection's whose strand has a seat
+    pub open-seated : (c : ℕ) → book.is_open (id.Conn c) ≡ true → h.seats (strand.Conn c) ≡ None → ⊥
+    open-seated c on nil = by_test (lives (projection (strand.Conn c) ms))
+        (λ live. let f = (g.each c live).held in let e : Some f.0 ≡ None = sym f.1 ∙ nil in cc)
+        (λ gone. clash on (g.closed c gone))
+
+    module _ (asks : (es : List (LocalAction J)) → IsLastAct (b.acts es)) (c : ℕ) (x : Seat S) (h' : Held S) (book' : Book)
+        (here : h.seats (strand.Conn c) ≡ Some x) (running : h.in_offers ≡ false)
+        (seats : (t : StrandId) → h'.seats t ≡ (if same_strand t (strand.Conn c) then None else h.seats t))
+        (queues : h'.queue ≡ h.queue) (lists : h'.places ≡ h.places) (phase : h'.in_offers ≡ h.in_offers) (now : h'.now ≡ h.now) (count : h'.connections ≡ h.connections) (ends : h'.ending ≡ h.ending) where
+      turn-event : (given : Seen)
+          → MayCome b c (action_of b (projection (strand.Conn c) ms) given) ms h'.connections
+          → lives (Did (action_of b (projection (strand.Conn c) ms) given) ∷ projection (strand.Conn c) ms) ≡ lives (projection (strand.Conn c) ms)
+          → ((q : Place) → is_open q (Did (action_of b (projection (strand.Conn c) ms) given) ∷ projection (strand.Conn c) ms) ≡ is_open q (projection (strand.Conn c) ms))
+          → left_by (Did (action_of b (projection (strand.Conn c) ms) given)) [] ≡ []
+          → run_of (action_of b (projection (strand.Conn c) ms) given) ≡ []
+          → offer_of (action_of b (projection (strand.Conn c) ms) given) ≡ []
+          → run_by (Did (action_of b (projection (strand.Conn c) ms) given)) (waiting b (projection (strand.Conn c) ms)) ≡ waiting b (projection (strand.Conn c) ms)
+          → offered_by (Did (action_of b (projection (strand.Conn c) ms) given)) (to_offer b (projection (strand.Conn c) ms)) ≡ to_offer b (projection (strand.Conn c) ms)
+          → in_offers (Did (action_of b (projection (strand.Conn c) ms) given) ∷ projection (strand.Conn c) ms) ≡ false
+          → begun_offer (Did (action_of b (projection (strand.Conn c) ms) given) ∷ projection (strand.Conn c) ms) ≡ None
+          → moment (Did (action_of b (projection (strand.Conn c) ms) given) ∷ projection (strand.Conn c) ms) ≡ moment (projection (strand.Conn c) ms)
+          → is_stopping (Did (action_of b (projection (strand.Conn c) ms) given) ∷ projection (strand.Conn c) ms) ≡ is_stopping (projection (strand.Conn c) ms)
+          → has_ended place.Client (Did (action_of b (projection (strand.Conn c) ms) given) ∷ projection (strand.Conn c) ms) ≡ book'.has_ended (id.Conn c)
+          → offers_last (Of (strand.Conn c) (action_of b (projection (strand.Conn c) ms) given) None ∷ ms) ≡ false
+          → ((y : Id) → book'.is_open y ≡ book.is_open y) → ((y : Id) → book'.id_place y ≡ book.id_place y) → ((s : StrandId) → book'.strand_place s ≡ book.strand_place s)
+          → ((t : ℕ) → (t == c) ≡ false → book'.has_ended (id.Conn t) ≡ book.has_ended (id.Conn t))
+          → book'.arrivals ≡ book.arrivals
+          → Tells book'.history (external b (Of (strand.Conn c) (action_of b (projection (strand.Conn c) ms) given) None ∷ ms))
+          → Tells book'.offered (offered_lengths b (Of (strand.Conn c) (action_of b (projection (strand.Conn c) ms) given) None ∷ ms))
+          → Turn b st c x.strand given false x.is_open h' book' ms
+      turn-event given may live opens no_use no_run no_offer line list kind offer time stopping more last ids aside own_aside ended arrivals told offers_told =
+          let alive : lives (projection (strand.Conn c) ms) ≡ true = seat-lives b st c ms h book x g here in
+          let mine = g.each c alive in
+          let fits = seat-fits b st c ms h book x g here in
+          let out : h'.seats (strand.Conn c) ≡ None = seats (strand.Conn c) ∙ ap (λ v. if v then None else h.seats (strand.Conn c)) (same-true c) in
+          let a = around-leave b st c ms h h' h.queue h.places book x g here seats (λ t ne. ap (only (strand.Conn t)) queues) (λ t ne. ap (only (strand.Conn t)) lists) phase now count (λ t ne living. ap (λ o. is_to_end o t) ends) g.common.runs g.common.offered in
+          turn-next b st c ms asks given x.strand false x.is_open x.is_open h' h' h.queue h.places book book' a fits.0 (mine.moment ∙ sym now)
+          (record { seats = λ t ne. refl; queue = λ t ne. refl; places = λ t ne. refl; in_offers = refl; now = refl; ends = λ t ne. refl })
+          (record { is_open = λ t ne. ids (id.Conn t); has_ended = ended; id_place = λ t ne. aside (id.Conn t); strand_place = λ t ne. own_aside (strand.Conn t) }) out may
+          (live ∙ alive) (ids (id.Conn c) ∙ sym fits.1) (opens place.Client ∙ mine.client ∙ sym fits.1) (λ k. opens (place.Sock k) ∙ mine.no_socket k) (λ on. aside (id.Conn c) ∙ mine.id_aside (sym fits.1 ∙ on)) (own_aside (strand.Conn c) ∙ mine.strand_aside) arrivals (λ n. ids (id.Sock n)) told offers_told
+          (rw (no_run, queues, append-nil) g.common.runs) (rw (no_offer, lists, append-nil) g.common.offered)
+          (record {
+            done = mine.no_act;
+            no_use = no_use;
+            line = line ∙ mine.threads ∙ sym (ap (only (strand.Conn c)) queues);
+            list = list ∙ mine.offered ∙ sym (ap (only (strand.Conn c)) lists);
+            deadlines = mine.no_deadline;
+            kind = kind ∙ sym (phase ∙ running);
+            offer = rw offer (λ e. absurd (let w : false ≡ true = e in cc));
+            moment = time ∙ mine.moment ∙ sym now;
+            stopping = stopping ∙ mine.stopping ∙ ap (λ o. is_to_end o c) ending;
+            no_more = more;
+            not_to_end = ap (λ o. is_to_end o c) (ends ∙ ending);
+            last = last ∙ sym (phase ∙ running);
+          })
+
+      given-at : book.is_open (id.Conn c) ≡ true → IsGivenAt b (projection (strand.Conn c) ms) place.Client
+      given-at on =
+          let alive : lives (projection (strand.Conn c) ms) ≡ true = seat-lives b st c ms h book x g here in
+          record { living = alive; idle = (at-rest (strand.Conn c)).idle alive; opened = (g.each c alive).client ∙ on }
+
+      turn-came : (bytes : List ℕ) → Gave book book' (event.Bytes (id.Conn c) bytes) → Turn b st c x.strand (seen.Bytes place.Client bytes) false x.is_open h' book' ms
+      turn-came bytes gave =
+          let alive : lives (projection (strand.Conn c) ms) ≡ true = seat-lives b st c ms h book x g here in
+          let mine = g.each c alive in
+          turn-event (seen.Bytes place.Client bytes)
+          (record {
+            enabled = (given-at gave.fit.0, mine.no_more ∙ gave.fit.1, gave.fit.2);
+            begins = g.common.begins;
+            given = (g.common.given, λ e. at-rest);
+            kept = (g.common.kept, λ e. none-holds);
+            plain = g.common.plain;
+            turns = g.common.turns;
+            counts = g.common.count ∙ sym count;
+          }) refl (λ q. refl) refl refl refl refl refl refl refl refl refl
+          (mine.no_more ∙ sym (gave.has_ended (id.Conn c))) refl gave.is_open gave.id_place gave.strand_place (λ t ne. gave.has_ended (id.Conn t)) (omega (arith, gave.arrivals))
+          (tells-more book.history book'.history (entry.Given (event.Bytes (id.Conn c) bytes) ∷ []) (external b ms) g.common.told gave.history)
+          (tells-same book.offered book'.offered (offered_lengths b ms) g.common.offers_told gave.offered)
+
+      turn-ended : Gave book book' (event.Ended (id.Conn c)) → Turn b st c x.strand (seen.Ended place.Client) false x.is_open h' book' ms
+      turn-ended gave =
+          turn-event (seen.Ended place.Client)
+          (record {
+            enabled = given-at gave.fit;
+            begins = g.common.begins;
+            given = (g.common.given, λ e. at-rest);
+            kept = (g.common.kept, λ e. none-holds);
+            plain = g.common.plain;
+            turns = g.common.turns;
+            counts = g.common.count ∙ sym count;
+          }) refl (λ q. refl) refl refl refl refl refl refl refl refl refl
+          (sym (gave.has_ended (id.Conn c) ∙ ap (λ v. if v then true else book.has_ended (id.Conn c)) (same-true c))) refl gave.is_open gave.id_place gave.strand_place
+          (λ t ne. gave.has_ended (id.Conn t) ∙ ap (λ v. if v then true else book.has_ended (id.Conn t)) ne) (omega (arith, gave.arrivals))
+          (tells-more book.history book'.history (entry.Given (event.Ended (id.Conn c)) ∷ []) (external b ms) g.common.told gave.history)
+          (tells-same book.offered book'.offered (offered_lengths b ms) g.common.offers_told gave.offered)
+
+      turn-broken : Gave book book' (event.Broken (id.Conn c)) → Turn b st c x.strand (seen.Broken place.Client) false x.is_open h' book' ms
+      turn-broken gave =
+          turn-event (seen.Broken place.Client)
+          (record {
+            enabled = given-at gave.fit;
+            begins = g.common.begins;
+            given = (g.common.given, λ e. at-rest);
+            kept = (g.common.kept, λ e. none-holds);
+            plain = g.common.plain;
+            turns = g.common.turns;
+            counts = g.common.count ∙ sym count;
+          }) refl (λ q. refl) refl refl refl refl refl refl refl refl refl
+          (sym (gave.has_ended (id.Conn c) ∙ ap (λ v. if v then true else book.has_ended (id.Conn c)) (same-true c))) refl gave.is_open gave.id_place gave.strand_place
+          (λ t ne. gave.has_ended (id.Conn t) ∙ ap (λ v. if v then true else book.has_ended (id.Conn t)) ne) (omega (arith, gave.arrivals))
+          (tells-more book.history book'.history (entry.Given (event.Broken (id.Conn c)) ∷ []) (external b ms) g.common.told gave.history)
+          (tells-same book.offered book'.offered (offered_lengths b ms) g.common.offers_told gave.offered)
+
+      turn-again : Gave book book' (event.Ready (id.Conn c)) → Turn b st c x.strand (seen.Ready place.Client) false x.is_open h' book' ms
+      turn-again gave =
+          let alive : lives (projection (strand.Conn c) ms) ≡ true = seat-lives b st c ms h book x g here in
+          turn-event (seen.Ready place.Client)
+          (record {
+            enabled = given-at gave.fit;
+            begins = g.common.begins;
+            given = (g.common.given, λ e. at-rest);
+            kept = (g.common.kept, λ e. none-holds);
+            plain = g.common.plain;
+            turns = g.common.turns;
+            counts = g.common.count ∙ sym count;
+          }) refl (λ q. refl) refl refl refl refl refl refl refl refl refl
+          ((g.each c alive).no_more ∙ sym (gave.has_ended (id.Conn c))) refl gave.is_open gave.id_place gave.strand_place (λ t ne. gave.has_ended (id.Conn t)) (omega (arith, gave.arrivals))
+          (tells-more book.history book'.history (entry.Given (event.Ready (id.Conn c)) ∷ []) (external b ms) g.common.told gave.history)
+          (tells-same book.offered book'.offered (offered_lengths b ms) g.common.offers_told gave.offered)
+
+      -- what a client gives is a turn of its strand
+      pub turn-shown : (e : Event) (given : Seen) → Gave book book' e → shown e ≡ Some (id.Conn c, given) → Turn b st c x.strand given false x.is_open h' book' ms
+      turn-shown (event.Bytes i bytes) given gave is =
+          subst (λ (s : Seen). Turn b st c x.strand s false x.is_open h' book' ms) (second-same (i, seen.Bytes place.Client bytes) (id.Conn c, given) is)
+          (turn-came bytes (subst (λ (j : Id). Gave book book' (event.Bytes j bytes)) (first-same (i, seen.Bytes place.Client bytes) (id.Conn c, given) is) gave))
+      turn-shown (event.Ended i) given gave is =
+          subst (λ (s : Seen). Turn b st c x.strand s false x.is_open h' book' ms) (second-same (i, seen.Ended place.Client) (id.Conn c, given) is)
+          (turn-ended (subst (λ (j : Id). Gave book book' (event.Ended j)) (first-same (i, seen.Ended place.Client) (id.Conn c, given) is) gave))
+      turn-shown (event.Broken i) given gave is =
+          subst (λ (s : Seen). Turn b st c x.strand s false x.is_open h' book' ms) (second-same (i, seen.Broken place.Client) (id.Conn c, given) is)
+          (turn-broken (subst (λ (j : Id). Gave book book' (event.Broken j)) (first-same (i, seen.Broken place.Client) (id.Conn c, given) is) gave))
+      turn-shown (event.Ready i) given gave is =
+          subst (λ (s : Seen). Turn b st c x.strand s false x.is_open h' book' ms) (second-same (i, seen.Ready place.Client) (id.Conn c, given) is)
+          (turn-again (subst (λ (j : Id). Gave book book' (event.Ready j)) (first-same (i, seen.Ready place.Client) (id.Conn c, given) is) gave))
+      turn-shown e given gave is = absurd (let w : None ≡ Some (id.Conn c, given) = is in cc)

@@ -1,0 +1,98 @@
+-- What a world tells between two events, and at the end.
+use Rattle.std.proofs.Common.{◌≡◌, ◌⊎◌, ℕ, ◌+◌, Bool, true, false, List, [], ◌∷◌, ◌++◌, length, Option, Some, None, IfSome, if◌then◌else◌, refl, sym, ap, subst, ◌∙◌, inl, inr, arith}
+use Rattle.std.specs.Option.{option_map}
+use Rattle.resty_base.specs.Counting.{Rose, RoseWhere}
+use Rattle.resty_world.specs.declared.entry.Entry.{Entry}
+use Rattle.resty_world.specs.declared.entry.Entry.TheVariants as entry
+use Rattle.resty_world.specs.declared.event.Event.{Event}
+use Rattle.resty_world.specs.declared.event.Event.TheVariants as event
+use Rattle.resty_world.specs.Book.{Book, told}
+use Rattle.resty_world.specs.Given.{is_event, is_fault, given_entry, Gave}
+use Rattle.strand_contract.specs.Actions.{LocalAction}
+use Rattle.strand_contract.specs.Behaviors.{Behavior}
+use Rattle.strand_contract.specs.Alone.{lives, IsExecution, HasNoWork, KeepsNothingBack}
+use Rattle.strand_contract.specs.Executions.{external, offered_lengths}
+use Rattle.engine.specs.declared.engine.Engine.{Engine}
+use Rattle.engine.specs.Engine.{is_stop, Rests, Logs, Goes}
+use Rattle.engine.specs.Right.{IsRight, IsFresh, Tells, events_of, IsStopped, HasNoStop, IsSpent, HasFailedLog, IsFaulted}
+use Rattle.engine.proofs.Lists.{tells-same, told-nothing}
+use Rattle.engine.proofs.Events.{rests-right}
+
+pub right-same : {J : Type 0} (b : Behavior J) (old new : Book) → IsRight b old → new.history ≡ old.history → new.offered ≡ old.offered → IsRight b new
+right-same b old new r history offers = record {
+  execution = r.execution;
+  history = tells-same old.history new.history (external b r.execution) r.history history;
+  offered = tells-same old.offered new.offered (offered_lengths b r.execution) r.offered offers;
+  lawful = r.lawful;
+  kept = r.kept;
+  plain = r.plain;
+  ordered = r.ordered;
+}
+
+pub engine-right : {J S : Type 0} (b : Behavior J) (st : S → List (LocalAction J) → Type 0) (e : Engine S) (book : Book)
+    → ((es : List (LocalAction J)) → IsExecution b es → lives es ≡ true → HasNoWork b es → KeepsNothingBack b es) → Rests b st e book → IsRight b book
+engine-right b st e book keeps r = rests-right b st r.0 _ book r.1 r.2 r.3 r.5 keeps
+
+-- what wasn't given isn't told
+pub right-still : {J S : Type 0} (b : Behavior J) (st : S → List (LocalAction J) → Type 0) (e : Engine S) (old new : Book) (given : Event)
+    → ((es : List (LocalAction J)) → IsExecution b es → lives es ≡ true → HasNoWork b es → KeepsNothingBack b es) → Rests b st e old → Gave old new given → is_event given ≡ false → IsRight b new
+right-still b st e old new given keeps r gave none = right-same b old new (engine-right b st e old keeps r) (gave.history ∙ ap (λ v. told (if v then entry.Given given ∷ [] else []) old.history) none ∙ told-nothing old.history) gave.offered
+
+pub stop-only : (e : Event) → is_stop e ≡ true → e ≡ event.Stop
+stop-only event.Stop h = refl
+stop-only e h = absurd (let w : false ≡ true = h in cc)
+
+pub no-stop-more : (e : Event) (es : List Event) → is_stop e ≡ false → HasNoStop es → HasNoStop (e ∷ es)
+no-stop-more event.Stop es h none = absurd (let w : true ≡ false = h in cc)
+no-stop-more e es h none = none
+
+pub event-or : (e : Event) → (e ≡ event.Fault → ⊥) → ((n : ℕ) → e ≡ event.BadLine n → ⊥) → (e ≡ event.Memory → ⊥) → (is_event e ≡ true) × (is_fault e ≡ false)
+event-or event.Fault f l m = absurd (f refl)
+event-or (event.BadLine n) f l m = absurd (l n refl)
+event-or event.Memory f l m = absurd (m refl)
+event-or e f l m = (refl, refl)
+
+some-list : {A : Type 0} (x y : A) → Some x ≡ Some y → x ≡ y
+some-list x y e = cc
+
+none-some : {A : Type 0} (x : A) → Some x ≡ None → ⊥
+none-some x e = cc
+
+-- the events that are told once more was given, and the work of it was done
+pub events-more : (old now : List Entry) (given later : Option (List Entry)) (e : Event) → given ≡ told (entry.Given e ∷ []) (Some old) → later ≡ Some now → option_map events_of later ≡ option_map events_of given → events_of now ≡ e ∷ events_of old
+events-more old now given later e gave is same = some-list (events_of now) (e ∷ events_of old) (sym (ap (option_map events_of) is) ∙ same ∙ ap (option_map events_of) gave)
+
+pub stopped : (old given later : Option (List Entry)) → given ≡ told (entry.Given event.Stop ∷ []) old → option_map events_of later ≡ option_map events_of given → IfSome later IsStopped
+stopped old given None gave same = tt
+stopped None given (Some now) gave same = absurd (none-some (events_of now) (same ∙ ap (option_map events_of) gave))
+stopped (Some before) given (Some now) gave same = (events_of before, events-more before now given (Some now) event.Stop gave refl same)
+
+spent-by : (n : ℕ) (now : List Entry) (e : Event) (es : List Event) → is_stop e ≡ false → events_of now ≡ e ∷ es → length es ≡ n → HasNoStop es → IsSpent (n + 1) now
+spent-by n now e es other all count none = record {
+  count = ap length all ∙ omega (arith, count);
+  no_stop = subst HasNoStop (sym all) (no-stop-more e es other none);
+}
+
+pub spent : (n : ℕ) (old given later : Option (List Entry)) (e : Event) → is_stop e ≡ false → given ≡ told (entry.Given e ∷ []) old → option_map events_of later ≡ option_map events_of given → IfSome old (IsSpent n) → IfSome later (IsSpent (n + 1))
+spent n old given None e other gave same was = tt
+spent n None given (Some now) e other gave same was = absurd (none-some (events_of now) (same ∙ ap (option_map events_of) gave))
+spent n (Some before) given (Some now) e other gave same was = spent-by n now e (events_of before) other (events-more before now given (Some now) e gave refl same) was.count was.no_stop
+
+pub fresh-spent : (history : Option (List Entry)) → Tells history [] → IfSome history (IsSpent 0)
+fresh-spent None told_nothing = tt
+fresh-spent (Some h) is = rw is (record { count = refl; no_stop = tt })
+
+-- a fault of the world, and a log line that wasn't written
+pub faulted : (n : ℕ) (old new : Option (List Entry)) → new ≡ old → IfSome old (IsSpent n) → IfSome new IsFaulted
+faulted n None new is was = rw is tt
+faulted n (Some h) new is was = rw is (inl was.no_stop)
+
+pub unwritten : (history : Option (List Entry)) → IfSome history HasFailedLog → IfSome history IsFaulted
+unwritten None f = tt
+unwritten (Some h) f = inr f
+
+pub logs-flag : (n : ℕ) (f f' : Bool) (book : Book) → f ≡ f' → Logs n f book → Logs n f' book
+logs-flag n f f' book same l = subst (λ (v : Bool). Logs n v book) same l
+
+pub fault-free : (e : Event) (before now : ℕ) → is_fault e ≡ false → RoseWhere (is_fault e) before now → now ≡ before
+fault-free e before now none r = let s : RoseWhere false before now = rw none at r in s

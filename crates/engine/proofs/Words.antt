@@ -1,0 +1,220 @@
+-- What every living strand is told, and Stop, which ends them in the order of their beginning.
+use Rattle.engine.specs.declared.engine.Ending.{Ending}
+use Rattle.engine.specs.declared.engine.Ending.TheVariants as stop
+use Rattle.std.proofs.Common.{◌≡◌, ◌⊎◌, ℕ, ◌+◌, ◌-◌, ◌^◌, ◌<◌, ◌≤◌, nat_lt, max, Bool, true, false, ◌||◌, ◌==◌, List, [], ◌∷◌, ◌++◌, Option, Some, None, if◌then◌else◌, refl, sym, ap, subst, ◌∙◌, append_assoc, append-nil, inl, inr, arith}
+use Rattle.std.proofs.lemmas.Bool.{eqb-true, cases_lt}
+use Rattle.std.proofs.lemmas.Bool.Decides.{nat_tests}
+use Rattle.resty_base.specs.declared.names.Id.{Id}
+use Rattle.resty_base.specs.declared.names.Id.TheVariants as id
+use Rattle.resty_base.specs.declared.names.StrandId.{StrandId}
+use Rattle.resty_base.specs.declared.names.StrandId.TheVariants as strand
+use Rattle.resty_world.specs.declared.entry.Entry.TheVariants as entry
+use Rattle.resty_world.specs.declared.event.Event.TheVariants as event
+use Rattle.resty_world.specs.Book.{Book, told}
+use Rattle.resty_world.specs.Ids.{same_strand}
+use Rattle.strand_contract.specs.declared.turns.Place.{Place}
+use Rattle.strand_contract.specs.declared.turns.Place.TheVariants as place
+use Rattle.strand_contract.specs.declared.turns.Act.{Act}
+use Rattle.strand_contract.specs.declared.turns.Seen.TheVariants as seen
+use Rattle.strand_contract.specs.Actions.{Word, Moment, Stop, Action, LocalAction, Told, Did, GlobalAction, Of, Everyone, TurnedAway, IdleGave, IdleClosed, Began, Halted}
+use Rattle.strand_contract.specs.Behaviors.{Behavior}
+use Rattle.strand_contract.specs.Alone.{lives, moment, is_open, has_ended, todo, waiting, to_offer, armed, offering, in_offers, is_stopping, IsExecution, HasNoWork, KeepsNothingBack}
+use Rattle.strand_contract.specs.Executions.{projection, external, offered_lengths, present, open_connections, BeginsRight, has_begun, word_entry}
+use Rattle.strand_contract.specs.Laws.{IsLastAct, is_still}
+use Rattle.strand_contract.specs.Order.{only, begun_before, IsFirstToEnd}
+use Rattle.engine.specs.declared.engine.Seat.{Seat}
+use Rattle.engine.specs.Right.{Tells}
+use Rattle.engine.specs.Slots.{is_after}
+use Rattle.engine.specs.Standing.{Held, is_to_end, Fit, Standing, Turn}
+use Rattle.engine.proofs.Lists.{by_test, clash, same-true, tells-more, tells-same}
+use Rattle.engine.proofs.Marks.{fit-same, SameBook, book-same, MayCome}
+use Rattle.engine.proofs.Turns.{seat-lives, seat-fits, around-leave, turn-next, no-job, between}
+use Rattle.engine.proofs.Events.{at-rest, none-holds}
+
+-- what a word makes of the present moment, and which strands Stop is to end after it
+abbrev pub after_word : Word → ℕ → ℕ
+after_word (Moment t) n = max t n
+after_word Stop n = n
+
+abbrev pub ending_after : Word → Ending
+ending_after (Moment t) = stop.Over
+ending_after Stop = stop.After None
+
+moment-told : {J : Type 0} (w : Word) (es : List (LocalAction J)) → moment (Told w ∷ es) ≡ after_word w (moment es)
+moment-told (Moment t) es = refl
+moment-told Stop es = refl
+
+stopping-told : {J : Type 0} (w : Word) (es : List (LocalAction J)) (t : ℕ) → is_stopping es ≡ false → is_stopping (Told w ∷ es) ≡ is_to_end (ending_after w) t
+stopping-told (Moment u) es t still = still
+stopping-told Stop es t still = refl
+
+present-told : {J : Type 0} (w : Word) (ms : List (GlobalAction J)) → present (Everyone w ∷ ms) ≡ after_word w (present ms)
+present-told (Moment t) ms = refl
+present-told Stop ms = refl
+
+heard : {J : Type 0} (test : Bool) (w : Word) (es : List (LocalAction J)) → test ≡ true → (if test then Told w ∷ es else es) ≡ Told w ∷ es
+heard test w es on = ap (λ v. if v then Told w ∷ es else es) on
+
+unheard : {J : Type 0} (test : Bool) (w : Word) (es : List (LocalAction J)) → test ≡ false → (if test then Told w ∷ es else es) ≡ es
+unheard test w es off = ap (λ v. if v then Told w ∷ es else es) off
+
+module _ {J S : Type 0} (b : Behavior J) (st : S → List (LocalAction J) → Type 0) (ms : List (GlobalAction J)) (h : Held S) (book : Book) (g : Standing b st h book ms) (queue : h.queue ≡ []) (places : h.places ≡ []) (running : h.in_offers ≡ false) (ending : h.ending ≡ stop.Over)
+    (keeps : (es : List (LocalAction J)) → IsExecution b es → lives es ≡ true → HasNoWork b es → KeepsNothingBack b es)
+    (still : (x : S) (a : LocalAction J) (es : List (LocalAction J)) → is_still a ≡ true → st x es → st x (a ∷ es))
+    (quiet : (a : LocalAction J) (es : List (LocalAction J)) → is_still a ≡ true → b.acts (a ∷ es) ≡ []) (w : Word) where
+  alone-told : (s : StrandId) → IsExecution b (projection s (Everyone w ∷ ms))
+  alone-told s = by_test (lives (projection s ms))
+      (λ live. subst (λ (fs : List (LocalAction J)). IsExecution b fs) (sym (heard (lives (projection s ms)) w (projection s ms) live)) (g.common.alone s, (live, (at-rest b st ms h book g queue places ending s).idle live)))
+      (λ gone. subst (λ (fs : List (LocalAction J)). IsExecution b fs) (sym (unheard (lives (projection s ms)) w (projection s ms) gone)) (g.common.alone s))
+
+  fit-told : (t : ℕ) (seat : Option (Seat S)) → seat ≡ h.seats (strand.Conn t) → lives (projection (strand.Conn t) ms) ≡ true
+      → Fit b st false (after_word w h.now) (is_to_end (ending_after w) t) (Told w ∷ projection (strand.Conn t) ms) seat [] [] (book.is_open (id.Conn t)) (book.has_ended (id.Conn t)) (book.id_place (id.Conn t)) (book.strand_place (strand.Conn t))
+  fit-told t seat same live =
+      let f = g.each t live in
+      let es : List (LocalAction J) = projection (strand.Conn t) ms in
+      let none : b.acts (Told w ∷ es) ≡ [] = quiet (Told w) es refl in
+      record {
+        held = (f.held.0, same ∙ f.held.1, still f.held.0.strand (Told w) es refl f.held.2, f.held.3);
+        no_act = rw (none, f.no_act) refl;
+        threads = rw none (f.threads ∙ ap (only (strand.Conn t)) queue);
+        offered = rw none (append-nil _ ∙ f.offered ∙ ap (only (strand.Conn t)) places);
+        no_offer = refl;
+        runs_first = λ run on. refl;
+        offers_first = λ offer off. refl;
+        moment = moment-told w es ∙ ap (after_word w) f.moment;
+        no_deadline = rw (none, f.no_deadline) refl;
+        no_socket = f.no_socket;
+        stopping = stopping-told w es t (f.stopping ∙ ap (λ o. is_to_end o t) ending);
+        client = f.client;
+        no_more = f.no_more;
+        id_aside = f.id_aside;
+        strand_aside = f.strand_aside;
+      }
+
+  -- all are told
+  pub stands-told : (h' : Held S) (book' : Book) → ((s : StrandId) → h'.seats s ≡ h.seats s) → h'.queue ≡ h.queue → h'.places ≡ h.places → h'.in_offers ≡ h.in_offers → h'.now ≡ after_word w h.now → h'.connections ≡ h.connections → h'.ending ≡ ending_after w
+      → book'.history ≡ told (word_entry w ∷ []) book.history → book'.offered ≡ book.offered
+      → ((y : Id) → book'.is_open y ≡ book.is_open y) → ((y : Id) → book'.has_ended y ≡ book.has_ended y) → ((y : Id) → book'.id_place y ≡ book.id_place y) → ((s : StrandId) → book'.strand_place s ≡ book.strand_place s) → book'.arrivals ≡ book.arrivals
+      → Standing b st h' book' (Everyone w ∷ ms)
+  stands-told h' book' seats queues lists phase now count ends history offers opened ended aside own_aside arrivals =
+      let lived = λ (t : ℕ) (gone : lives (projection (strand.Conn t) (Everyone w ∷ ms)) ≡ false). by_test (lives (projection (strand.Conn t) ms))
+          (λ live. clash (let one : lives (Told w ∷ projection (strand.Conn t) ms) ≡ true = live in ap lives (heard (lives (projection (strand.Conn t) ms)) w (projection (strand.Conn t) ms) live) ∙ one) gone)
+          (λ off. off) in
+      record {
+        each = λ t on. by_test (lives (projection (strand.Conn t) ms))
+            (λ live. fit-same (phase ∙ running) now (ap (λ o. is_to_end o t) ends) (heard (lives (projection (strand.Conn t) ms)) w (projection (strand.Conn t) ms) live) refl (ap (only (strand.Conn t)) (queues ∙ queue)) (ap (only (strand.Conn t)) (lists ∙ places)) (opened (id.Conn t)) (ended (id.Conn t)) (aside (id.Conn t)) (own_aside (strand.Conn t)) (fit-told t (h'.seats (strand.Conn t)) (seats (strand.Conn t)) live))
+            (λ gone. clash on (ap lives (unheard (lives (projection (strand.Conn t) ms)) w (projection (strand.Conn t) ms) gone) ∙ gone));
+        dead = λ t gone. seats (strand.Conn t) ∙ g.dead t (lived t gone);
+        closed = λ t gone. opened (id.Conn t) ∙ g.closed t (lived t gone);
+        shut = λ t gone q. ap (is_open q) (unheard (lives (projection (strand.Conn t) ms)) w (projection (strand.Conn t) ms) (lived t gone)) ∙ g.shut t (lived t gone) q;
+        flip_to_runs = λ run on. absurd (let e : false ≡ true = on in cc);
+        flip_to_offers = λ offer off. queues ∙ queue;
+        common = record {
+          alone = alone-told;
+          begins = g.common.begins;
+          given = (g.common.given, λ e. at-rest b st ms h book g queue places ending);
+          kept = (g.common.kept, λ e. none-holds b st ms h book g queue places ending keeps);
+          plain = g.common.plain;
+          runs = rw queues g.common.runs;
+          offered = rw lists g.common.offered;
+          turns = g.common.turns;
+          told = tells-more book.history book'.history (word_entry w ∷ []) (external b ms) g.common.told history;
+          offers_told = tells-same book.offered book'.offered (offered_lengths b ms) g.common.offers_told offers;
+          unborn = λ t past. unheard (lives (projection (strand.Conn t) ms)) w (projection (strand.Conn t) ms) (ap lives (g.common.unborn t (rw arrivals at past))) ∙ g.common.unborn t (rw arrivals at past);
+          jobless = λ n. unheard (lives (projection (strand.Job n) ms)) w (projection (strand.Job n) ms) (ap lives (g.common.jobless n)) ∙ g.common.jobless n;
+          no_socket = λ n. opened (id.Sock n) ∙ g.common.no_socket n;
+          count = g.common.count ∙ sym count;
+          present = present-told w ms ∙ ap (after_word w) g.common.present ∙ sym now;
+        };
+      }
+
+-- connections begin in the order of their numbers
+pub begun-order : {J : Type 0} (t c : ℕ) (ms : List (GlobalAction J)) → BeginsRight ms → begun_before (strand.Conn t) (strand.Conn c) ms ≡ true → t < c
+begun-order t c [] right h = absurd (let e : false ≡ true = h in cc)
+begun-order t c (Of (strand.Conn r) (Began now begin) n ∷ ms) right h = by_test (c == r)
+    (λ same. subst (λ (i : ℕ). t < i) (sym (eqb-true c r same)) (right.3 t (sym (ap (λ v. if v then has_begun (strand.Conn t) ms else begun_before (strand.Conn t) (strand.Conn c) ms) same) ∙ h)))
+    (λ ne. begun-order t c ms right.0 (sym (ap (λ v. if v then has_begun (strand.Conn t) ms else begun_before (strand.Conn t) (strand.Conn c) ms) ne) ∙ h))
+begun-order t c (Of (strand.Job r) (Began now begin) n ∷ ms) right h = begun-order t c ms right.0 h
+begun-order t c (Of s x n ∷ ms) right h = begun-order t c ms right h
+begun-order t c (Everyone w ∷ ms) right h = begun-order t c ms right h
+begun-order t c (TurnedAway d ∷ ms) right h = begun-order t c ms right h
+begun-order t c (IdleGave e ∷ ms) right h = begun-order t c ms right h
+begun-order t c (IdleClosed n ∷ ms) right h = begun-order t c ms right h
+
+-- whoever comes after c, comes after whom c comes after
+after-more : (last : Option ℕ) (c t : ℕ) → is_after last c ≡ true → c < t → is_after last t ≡ nat_lt c t
+after-more None c t h less = grind (arith, nat_tests)
+after-more (Some l) c t h less = grind (arith, nat_tests)
+
+not-after : (c t : ℕ) → t ≤ c → nat_lt c t ≡ false
+not-after c t h = grind (arith, nat_tests)
+
+less-or : (c t : ℕ) → (t == c) ≡ false → (t < c) ⊎ (c < t)
+less-or c t ne = elim (cases_lt t c) [ inl less ↦ inl less | inr more ↦ inr (grind (arith, nat_tests)) ]
+
+module _ {J S : Type 0} (b : Behavior J) (st : S → List (LocalAction J) → Type 0) (ms : List (GlobalAction J)) (h : Held S) (book : Book) (g : Standing b st h book ms) (last : Option ℕ) (ending : h.ending ≡ stop.After last) where
+  -- a living strand whose seat would be empty isn't there
+  seated : (t : ℕ) → lives (projection (strand.Conn t) ms) ≡ true → h.seats (strand.Conn t) ≡ None → ⊥
+  seated t live nil = let f = (g.each t live).held in let e : Some f.0 ≡ None = sym f.1 ∙ nil in cc
+
+  -- no strand that lives is still to be ended
+  pub stands-ended : (h' : Held S) → ((t : ℕ) → is_after last t ≡ true → h.seats (strand.Conn t) ≡ None) → h' ≡ record h { ending = stop.Over } → Standing b st h' book ms
+  stands-ended h' none held = rw held (record {
+    each = λ t live. fit-same refl refl (sym (ap (λ o. is_to_end o t) ending ∙ by_test (is_after last t) (λ on. absurd (seated t live (none t on))) (λ off. off))) refl refl refl refl refl refl refl refl (g.each t live);
+    dead = g.dead;
+    closed = g.closed;
+    shut = g.shut;
+    flip_to_runs = g.flip_to_runs;
+    flip_to_offers = g.flip_to_offers;
+    common = g.common;
+  })
+
+  -- the first that is to be ended takes its last turn
+  pub turn-halt : (asks : (es : List (LocalAction J)) → IsLastAct (b.acts es)) (c : ℕ) (x : Seat S) (h' : Held S)
+      → is_after last c ≡ true → ((t : ℕ) → is_after last t ≡ true → t < c → h.seats (strand.Conn t) ≡ None)
+      → h.seats (strand.Conn c) ≡ Some x → h.in_offers ≡ false
+      → ((s : StrandId) → h'.seats s ≡ (if same_strand s (strand.Conn c) then None else h.seats s)) → h'.queue ≡ h.queue → h'.places ≡ h.places → h'.in_offers ≡ h.in_offers → h'.now ≡ h.now → h'.connections ≡ h.connections → h'.ending ≡ stop.After (Some c)
+      → Turn b st c x.strand seen.Stop false x.is_open h' book ms
+  turn-halt asks c x h' after first here running seats queues lists phase now count ends =
+      let z : Action J = Halted in
+      let es : List (LocalAction J) = projection (strand.Conn c) ms in
+      let live : lives es ≡ true = seat-lives b st c ms h book x g here in
+      let mine = g.each c live in
+      let fits = seat-fits b st c ms h book x g here in
+      let out : h'.seats (strand.Conn c) ≡ None = seats (strand.Conn c) ∙ ap (λ v. if v then None else h.seats (strand.Conn c)) (same-true c) in
+      let passed = λ (t : ℕ) (less : t < c) (alive : lives (projection (strand.Conn t) ms) ≡ true). by_test (is_after last t) (λ on. absurd (seated t alive (first t on less))) (λ off. off) in
+      let others = λ (t : ℕ) (ne : (t == c) ≡ false) (alive : lives (projection (strand.Conn t) ms) ≡ true). ap (λ o. is_to_end o t) ends ∙ elim (less-or c t ne) [
+        inl less ↦ not-after c t (omega (arith, less)) ∙ sym (ap (λ o. is_to_end o t) ending ∙ passed t less alive)
+        | inr more ↦ sym (ap (λ o. is_to_end o t) ending ∙ after-more last c t after more)
+      ] in
+      let a = around-leave b st c ms h h' h.queue h.places book x g here seats (λ t ne. ap (only (strand.Conn t)) queues) (λ t ne. ap (only (strand.Conn t)) lists) phase now count others g.common.runs g.common.offered in
+      turn-next b st c ms asks seen.Stop x.strand false x.is_open x.is_open h' h' h.queue h.places book book a fits.0 (mine.moment ∙ sym now)
+      (record { seats = λ t ne. refl; queue = λ t ne. refl; places = λ t ne. refl; in_offers = refl; now = refl; ends = λ t ne. refl }) (book-same c book) out
+      (record {
+        enabled = (record { living = live; no_act = mine.no_act; no_offer = mine.no_offer }, mine.stopping ∙ ap (λ o. is_to_end o c) ending ∙ after);
+        begins = g.common.begins;
+        given = (g.common.given, λ e. absurd (let w : false ≡ true = e in cc));
+        kept = (g.common.kept, λ e. absurd (let w : false ≡ true = e in cc));
+        plain = g.common.plain;
+        turns = (g.common.turns, between b st ms h book g, earlier);
+        counts = g.common.count ∙ sym count;
+      }) live (sym fits.1) (mine.client ∙ sym fits.1) mine.no_socket (λ on. mine.id_aside (sym fits.1 ∙ on)) mine.strand_aside refl (λ n. refl) g.common.told g.common.offers_told
+      (rw (queues, append-nil) g.common.runs) (rw (lists, append-nil) g.common.offered)
+      (record {
+        done = mine.no_act;
+        no_use = refl;
+        line = mine.threads ∙ sym (ap (only (strand.Conn c)) queues);
+        list = mine.offered ∙ sym (ap (only (strand.Conn c)) lists);
+        deadlines = mine.no_deadline;
+        kind = sym (phase ∙ running);
+        offer = (λ e. absurd (let w : false ≡ true = e in cc));
+        moment = mine.moment ∙ sym now;
+        stopping = refl;
+        no_more = mine.no_more;
+        not_to_end = ap (λ o. is_to_end o c) ends ∙ not-after c c (omega arith);
+        last = sym (phase ∙ running);
+      })
+    where
+      earlier : IsFirstToEnd (strand.Conn c) ms
+      earlier (strand.Conn t) before alive = (g.each t alive).stopping ∙ ap (λ o. is_to_end o t) ending ∙ by_test (is_after last t) (λ on. absurd (seated t alive (first t on (begun-order t c ms g.common.begins before)))) (λ off. off)
+      earlier (strand.Job n) before alive = absurd (no-job n ms (g.common.jobless n) alive)

@@ -1,0 +1,16 @@
+use Rattle.std.proofs.Common.{◌≡◌, true, false, None, Some, refl, sym, ap, subst, ◌∙◌}
+use Rattle.resty_base.specs.declared.names.Id.{Id}
+use Rattle.resty_base.specs.declared.names.Id.TheVariants as id
+use Rattle.resty_base.specs.declared.names.StrandId.TheVariants as strand
+use Rattle.engine.proofs.Lists.{clash}
+use Rattle.engine.proofs.Events.{turn-shown, shown-open, open-seated}
+use Rattle.engine.proofs.engine.Engine.come.Goals as goal
+
+pub take_turn-requires : goal.take_turn-requires
+take_turn-requires g c =
+    let q = c.requires in
+    let r = q.2 in
+    let k = c.in-Conn.connection in (
+      r.0,
+      turn-shown _ _ r.0 _ q.0 r.1 r.2 r.3 r.5 (g.met.S.StrandContract.keeps c.args.site.now) (g.met.S.StrandContract.asks_last c.args.site.now) k c.in-Some.seat _ (g.W.World.book c.args.world.now) (sym c.in-Some.ensures.value) r.4 c.take_out.ensures.rest refl refl refl refl refl refl q.1 c.args.seen q.3 (q.4 ∙ ap (λ i. Some (i, c.args.seen)) c.in-Conn.is),
+    )

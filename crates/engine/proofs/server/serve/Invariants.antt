@@ -1,0 +1,18 @@
+use Rattle.std.proofs.Common.{◌≡◌, ◌≤◌, ◌-◌, ℕ, false, IfSome}
+use Rattle.engine.specs.Engine.{Rests}
+use Rattle.engine.specs.Right.{IsSpent}
+use Rattle.engine.proofs.server.serve.Given as goal
+
+abbrev pub invariant-loop-given : goal.invariant-loop-given
+invariant-loop-given g l = record {
+  rests : Rests (g.S.StrandContract.behavior l.site) (g.S.StrandContract.stands l.site) l.engine (g.W.World.book l.world);
+  same : g.W.World.same l.fn.world l.world;
+  spent : IfSome (g.W.World.book l.world).history (IsSpent l.given);
+  faults : (g.W.World.book l.world).faults ≡ (g.W.World.book l.fn.world).faults;
+  log_failed : l.engine.log_failed ≡ false;
+  within : l.given ≤ l.fn.events;
+  bound : l.events ≡ l.fn.events;
+}
+
+abbrev pub decreases-loop-given : goal.decreases-loop-given
+decreases-loop-given g l = l.events - l.given

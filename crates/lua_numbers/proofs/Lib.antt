@@ -1,0 +1,4 @@
+pub mod DivisionLemmas
+pub mod PowerLemmas
+pub mod NumeralLemmas
+pub mod ReadBack

@@ -1,0 +1,17 @@
+//! The numbers of the Lua profile: whole arithmetic with its faults, and numbers as text.
+#![tactic(auto)]
+
+mod arithmetic;
+mod faults;
+mod laws;
+mod powers;
+mod texts;
+
+pub use arithmetic::{add, div, modulo, mul, neg, sub};
+pub use faults::NumFault;
+pub use laws::text_is_read_back;
+pub use powers::pow;
+pub use texts::{number_of, text_of};
+
+#[cfg(test)]
+mod tests;
