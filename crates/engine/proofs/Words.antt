@@ -98,8 +98,8 @@ module _ {J S : Type 0} (b : Behavior J) (st : S → List (LocalAction J) → Ty
       → Standing b st h' book' (Everyone w ∷ ms)
   stands-told h' book' seats queues lists phase now count ends history offers opened ended aside own_aside arrivals =
       let lived = λ (t : ℕ) (gone : lives (projection (strand.Conn t) (Everyone w ∷ ms)) ≡ false). by_test (lives (projection (strand.Conn t) ms))
-          (λ live. clash (let one : lives (Told w ∷ projection (strand.Conn t) ms) ≡ true = live in ap lives (heard (lives (projection (strand.Conn t) ms)) w (projection (strand.Conn t) ms) live) ∙ one) gone)
-          (λ off. off) in
+      (λ live. clash (let one : lives (Told w ∷ projection (strand.Conn t) ms) ≡ true = live in ap lives (heard (lives (projection (strand.Conn t) ms)) w (projection (strand.Conn t) ms) live) ∙ one) gone)
+      (λ off. off) in
       record {
         each = λ t on. by_test (lives (projection (strand.Conn t) ms))
             (λ live. fit-same (phase ∙ running) now (ap (λ o. is_to_end o t) ends) (heard (lives (projection (strand.Conn t) ms)) w (projection (strand.Conn t) ms) live) refl (ap (only (strand.Conn t)) (queues ∙ queue)) (ap (only (strand.Conn t)) (lists ∙ places)) (opened (id.Conn t)) (ended (id.Conn t)) (aside (id.Conn t)) (own_aside (strand.Conn t)) (fit-told t (h'.seats (strand.Conn t)) (seats (strand.Conn t)) live))
@@ -184,7 +184,7 @@ module _ {J S : Type 0} (b : Behavior J) (st : S → List (LocalAction J) → Ty
       let out : h'.seats (strand.Conn c) ≡ None = seats (strand.Conn c) ∙ ap (λ v. if v then None else h.seats (strand.Conn c)) (same-true c) in
       let passed = λ (t : ℕ) (less : t < c) (alive : lives (projection (strand.Conn t) ms) ≡ true). by_test (is_after last t) (λ on. absurd (seated t alive (first t on less))) (λ off. off) in
       let others = λ (t : ℕ) (ne : (t == c) ≡ false) (alive : lives (projection (strand.Conn t) ms) ≡ true). ap (λ o. is_to_end o t) ends ∙ elim (less-or c t ne) [
-        inl less ↦ not-after c t (omega (arith, less)) ∙ sym (ap (λ o. is_to_end o t) ending ∙ passed t less alive)
+        | inl less ↦ not-after c t (omega (arith, less)) ∙ sym (ap (λ o. is_to_end o t) ending ∙ passed t less alive)
         | inr more ↦ sym (ap (λ o. is_to_end o t) ending ∙ after-more last c t after more)
       ] in
       let a = around-leave b st c ms h h' h.queue h.places book x g here seats (λ t ne. ap (only (strand.Conn t)) queues) (λ t ne. ap (only (strand.Conn t)) lists) phase now count others g.common.runs g.common.offered in

@@ -481,7 +481,12 @@ impl<S: StrandContract> Engine<S> {
     {
         match event {
             Event::Arrive(connection) => self.arrive(site, connection, world),
-            Event::Bytes(id, bytes) => self.come(site, id, Seen::Bytes(Place::Client, bytes), world),
+            Event::Bytes(id, bytes) => self.come(
+                site,
+                id,
+                Seen::Bytes(Place::Client, bytes),
+                world,
+            ),
             Event::Ended(id) => self.come(site, id, Seen::Ended(Place::Client), world),
             Event::Broken(id) => self.come(site, id, Seen::Broken(Place::Client), world),
             Event::Ready(id) => self.come(site, id, Seen::Ready(Place::Client), world),

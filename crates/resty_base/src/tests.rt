@@ -17,3 +17,56 @@ fn whole_numbers_end_at_the_limit(rt: HostRuntime) -> Result<(), Fail> {
     }
     Ok(())
 }
+
+#[test]
+fn files_in_memory_answer_by_name_and_length(rt: HostRuntime) -> Result<(), Fail> {
+    let alloc = rt.alloc();
+    let mut files = MemFiles::new(alloc);
+    files.add(alloc, "a", b"one")?;
+    files.add(alloc, "a", b"three")?;
+    files.fail_at(5)?;
+    for (name, max, expected) in [
+        (
+            "a",
+            5,
+            Fetched::Text(Bytes::copy_from_slice(alloc, b"three")?),
+        ),
+        ("a", 4, Fetched::TooLong),
+        ("b", 5, Fetched::Missing),
+        ("A", 5, Fetched::Missing),
+        ("a", 5, Fetched::Failed),
+        (
+            "a",
+            6,
+            Fetched::Text(Bytes::copy_from_slice(alloc, b"three")?),
+        ),
+    ] {
+        assert_eq!(rt; files.fetch(alloc, name, max), expected, "{name} {max}");
+    }
+    Ok(())
+}
+
+#[test]
+fn a_failed_put_ends_the_bytes_that_are_taken(rt: HostRuntime) -> Result<(), Fail> {
+    let mut sink = MemSink::new(rt.alloc());
+    sink.fail_at(3)?;
+    assert_eq!(rt; put_all(&mut sink, b"one"), Ok(()));
+    assert_eq!(rt; put_all(&mut sink, b""), Ok(()));
+    assert_eq!(rt; put_all(&mut sink, b"two"), Ok(()));
+    assert_eq!(rt; put_all(&mut sink, b"three"), Err(SinkFault));
+    assert_eq!(rt; put_all(&mut sink, b"four"), Ok(()));
+    assert_eq!(rt; sink.taken(), b"onetwofour".as_slice());
+    Ok(())
+}
+
+#[test]
+fn byte_strings_are_listed_in_order(rt: HostRuntime) -> Result<(), Fail> {
+    let alloc = rt.alloc();
+    let mut items = Vec::new(alloc);
+    items.push(Bytes::copy_from_slice(alloc, b"b")?)?;
+    items.push(Bytes::copy_from_slice(alloc, b"a")?)?;
+    let lists = ByteLists::of(items);
+    assert_eq!(rt; lists.as_slice().len(), 2);
+    assert_eq!(rt; lists.into_vec()[0].as_slice(), b"b".as_slice());
+    Ok(())
+}

@@ -1,6 +1,9 @@
 pub mod Actions
 pub mod Alone
 pub mod Behaviors
+pub mod ClientOnly
 pub mod Executions
 pub mod Laws
+pub mod Mute
+pub mod MuteLaws
 pub mod Order

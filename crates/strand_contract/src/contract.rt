@@ -72,9 +72,10 @@ pub trait StrandContract: Drop {
             stands site.now self.new (Did x ∷ es) × (acts.items ≡ (behavior site.now).acts (Did x ∷ es))) }
         ensures left { IfOk result (λ acts. left self.new + length acts.items < left self.old) };
 
-    /// The piece that is offered next at the place. It takes no memory.
+    /// The piece that is offered next at the place, while it lives. It takes no memory.
     fn queued(&self, site: &Self::Site, place: Place) -> &[u8]
-        ensures { (es : List (LocalAction Self.Job)) → stands site.now self.now es → todo (behavior site.now) es ≡ [] → result.now ≡ piece (behavior site.now) place es };
+        ensures { (es : List (LocalAction Self.Job)) → stands site.now self.now es → IsExecution (behavior site.now) es → lives es ≡ true
+            → todo (behavior site.now) es ≡ [] → result.now ≡ piece (behavior site.now) place es };
 
     /// What is no turn of its own leaves it as it is.
     ghost still: { (site : Self.Site) (strand : Self) (a : LocalAction Self.Job) (es : List (LocalAction Self.Job))

@@ -3,7 +3,12 @@
 #![tactic(auto)]
 
 mod contract;
+mod mute;
 mod turns;
 
 pub use contract::StrandContract;
+pub use mute::{Mute, MuteSite};
 pub use turns::{Act, Acts, Answer, Place, Seen, Start};
+
+#[cfg(test)]
+mod tests;

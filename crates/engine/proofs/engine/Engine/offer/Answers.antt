@@ -11,7 +11,7 @@ pub show-requires : goal.show-requires
 show-requires g c =
     let ms = c.loop-piece.invariant.busy.0 in
     let y = c.loop-piece.invariant.busy.1 in
-    let now : c.queued-piece.result.now ≡ piece (g.S.StrandContract.behavior c.args.site.now) place.Client (projection (strand.Conn c.args.connection) ms) = c.queued-piece.ensures (projection (strand.Conn c.args.connection) ms) y.stands y.near.to_do in
+    let now : c.queued-piece.result.now ≡ piece (g.S.StrandContract.behavior c.args.site.now) place.Client (projection (strand.Conn c.args.connection) ms) = c.queued-piece.ensures (projection (strand.Conn c.args.connection) ms) y.stands (y.near.around.common.alone (strand.Conn c.args.connection)) y.near.around.alive y.near.to_do in
     let fits = rw now at c.in-Took.ensures.piece in
     (ms, turn-put _ _ (g.met.S.StrandContract.asks_last c.args.site.now) c.args.connection _ _ _ _ (g.W.World.book c.put_bytes.new.self) ms y c.in-Took.ensures.ids c.in-Took.count fits.0 fits.1 (rw now at c.in-Took.ensures.history) (rw now at c.in-Took.ensures.offered))
 
@@ -19,7 +19,7 @@ pub take_turn-requires : goal.take_turn-requires
 take_turn-requires g c =
     let ms = c.loop-piece.invariant.busy.0 in
     let y = c.loop-piece.invariant.busy.1 in
-    let now : c.queued-piece.result.now ≡ piece (g.S.StrandContract.behavior c.args.site.now) place.Client (projection (strand.Conn c.args.connection) ms) = c.queued-piece.ensures (projection (strand.Conn c.args.connection) ms) y.stands y.near.to_do in
+    let now : c.queued-piece.result.now ≡ piece (g.S.StrandContract.behavior c.args.site.now) place.Client (projection (strand.Conn c.args.connection) ms) = c.queued-piece.ensures (projection (strand.Conn c.args.connection) ms) y.stands (y.near.around.common.alone (strand.Conn c.args.connection)) y.near.around.alive y.near.to_do in
     let some : 0 < length c.queued-piece.result.now = grind (arith, common_steps) in
     (ms, turn-later _ _ (g.met.S.StrandContract.asks_last c.args.site.now) c.args.connection _ _ _ _ (g.W.World.book c.put_bytes.new.self) ms y c.in-Later.ensures.ids (rw now at some) c.in-Later.ensures.history (rw now at c.in-Later.ensures.offered))
 
@@ -27,6 +27,6 @@ pub take_turn-requires-in-Broken : goal.take_turn-requires-in-Broken
 take_turn-requires-in-Broken g c =
     let ms = c.loop-piece.invariant.busy.0 in
     let y = c.loop-piece.invariant.busy.1 in
-    let now : c.queued-piece.result.now ≡ piece (g.S.StrandContract.behavior c.args.site.now) place.Client (projection (strand.Conn c.args.connection) ms) = c.queued-piece.ensures (projection (strand.Conn c.args.connection) ms) y.stands y.near.to_do in
+    let now : c.queued-piece.result.now ≡ piece (g.S.StrandContract.behavior c.args.site.now) place.Client (projection (strand.Conn c.args.connection) ms) = c.queued-piece.ensures (projection (strand.Conn c.args.connection) ms) y.stands (y.near.around.common.alone (strand.Conn c.args.connection)) y.near.around.alive y.near.to_do in
     let some : 0 < length c.queued-piece.result.now = grind (arith, common_steps) in
     (ms, turn-lost _ _ (g.met.S.StrandContract.asks_last c.args.site.now) c.args.connection _ _ _ _ (g.W.World.book c.put_bytes.new.self) ms y c.in-Broken.ensures.ids (rw now at some) c.in-Broken.ensures.history c.in-Broken.ensures.offered)

@@ -1,0 +1,65 @@
+-- Why the work ends at a file.
+use Rattle.std.proofs.Common.{◌≡◌, ℕ, ◌≤◌, List, [], ◌∷◌, length, codes, length-append, Option, Some, None, IfSome, refl, arith}
+use Rattle.resty_base.specs.FileMap.{FileMap}
+use Rattle.resty_world.specs.declared.schedule_line.SchedLine.{SchedLine}
+use Rattle.schedule.specs.Accepted.{IsRefusedAt}
+use Rattle.schedule.specs.LineTexts.{line_text, whole_line, schedule_text}
+use Rattle.strand.specs.Configuration.{IsFaultAt}
+use Rattle.resty.specs.declared.endings.Named.{Named}
+use Rattle.resty.specs.declared.endings.Named.TheVariants as named
+use Rattle.resty.specs.declared.endings.Ending.{Ending}
+use Rattle.resty.specs.declared.endings.Ending.TheVariants as ending
+use Rattle.resty.specs.Reading.{IsUnread}
+use Rattle.resty.specs.Verdict.{Verdict, Usage, Missing, TooLong, NotBuilt, Runs, Holds, HasSite, HasSchedule, IsOfFiles, IsDue, Faults, ending_of, most_of}
+
+-- the verdicts of a configuration, whatever the schedule is; and those of a schedule, where the configuration is accepted
+abbrev pub OfConf : List ℕ → FileMap → Verdict → Type 0
+OfConf conf held v = (schedule : List ℕ) → IsOfFiles conf schedule held v
+
+abbrev pub OfSchedule : List ℕ → FileMap → Verdict → Type 0
+OfSchedule schedule held v = (conf body : List ℕ) → HasSite held conf body → IsOfFiles conf schedule held v
+
+pub conf_unread : (conf : List ℕ) (told : Option FileMap) (faults : Faults) (e : Ending)
+    → IsUnread told conf named.Conf faults.files_before faults.files_after e → IsDue (OfConf conf) told faults e
+conf_unread conf None faults (ending.Missing w) u = tt
+conf_unread conf (Some held) faults (ending.Missing w) u = (Missing w, λ schedule. rw u.0 u.1, refl)
+conf_unread conf None faults (ending.TooLong w) u = tt
+conf_unread conf (Some held) faults (ending.TooLong w) u = (TooLong w, λ schedule. rw u.0 u.1, refl)
+conf_unread conf told faults (ending.Unreadable w) u = u
+conf_unread conf told faults ending.Memory u = tt
+conf_unread conf told faults ending.Done u = absurd u
+conf_unread conf told faults ending.Usage u = absurd u
+conf_unread conf told faults (ending.NotBuilt w n) u = absurd u
+conf_unread conf told faults ending.NotWritten u = absurd u
+
+pub schedule_unread : (schedule : List ℕ) (told : Option FileMap) (faults : Faults) (e : Ending)
+    → IsUnread told schedule named.Schedule faults.files_before faults.files_after e → IsDue (OfSchedule schedule) told faults e
+schedule_unread schedule None faults (ending.Missing w) u = tt
+schedule_unread schedule (Some held) faults (ending.Missing w) u = (Missing w, (λ conf body site. rw u.0 (body, site, u.1)), refl)
+schedule_unread schedule None faults (ending.TooLong w) u = tt
+schedule_unread schedule (Some held) faults (ending.TooLong w) u = (TooLong w, (λ conf body site. rw u.0 (body, site, u.1)), refl)
+schedule_unread schedule told faults (ending.Unreadable w) u = u
+schedule_unread schedule told faults ending.Memory u = tt
+schedule_unread schedule told faults ending.Done u = absurd u
+schedule_unread schedule told faults ending.Usage u = absurd u
+schedule_unread schedule told faults (ending.NotBuilt w n) u = absurd u
+schedule_unread schedule told faults ending.NotWritten u = absurd u
+
+-- a text that is refused at a line
+pub conf_refused : (conf text : List ℕ) (told : Option FileMap) (n : ℕ) → IfSome told (λ held. Holds held conf (most_of named.Conf) text)
+    → IsFaultAt text n → IfSome told (λ held. (v : Verdict) × OfConf conf held v × (ending.NotBuilt named.Conf n ≡ ending_of v))
+conf_refused conf text None n holds refused = tt
+conf_refused conf text (Some held) n holds refused = (NotBuilt named.Conf n, (λ schedule. (text, holds, refused)), refl)
+
+pub schedule_refused : (schedule text : List ℕ) (told : Option FileMap) (n : ℕ)
+    → IfSome told (λ held. Holds held schedule (most_of named.Schedule) text)
+    → IsRefusedAt text n → IfSome told (λ held. (v : Verdict) × OfSchedule schedule held v × (ending.NotBuilt named.Schedule n ≡ ending_of v))
+schedule_refused schedule text None n holds refused = tt
+schedule_refused schedule text (Some held) n holds refused =
+    (NotBuilt named.Schedule n, (λ conf body site. (body, text, site, holds, refused)), refl)
+
+-- a schedule has no more lines than its text has bytes
+pub lines_below : (lines : List SchedLine) → length lines ≤ length (schedule_text lines)
+lines_below [] = omega arith
+lines_below (l ∷ lines) =
+    omega (arith, lines_below lines, length-append (whole_line l) (schedule_text lines), length-append (line_text l) (codes "\n"))

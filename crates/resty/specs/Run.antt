@@ -1,0 +1,32 @@
+-- The run of a schedule.
+use Rattle.std.specs.Prelude.{◌≡◌, Bool, true, false, List}
+use Rattle.std.specs.List.{list_any}
+use Rattle.resty_world.specs.declared.entry.Entry.{Entry}
+use Rattle.resty_world.specs.declared.entry.Entry.TheVariants as entry
+use Rattle.resty_world.specs.declared.schedule_line.SchedLine.{SchedLine}
+use Rattle.schedule.specs.Told.{IsTold}
+use Rattle.strand_contract.specs.Actions.{GlobalAction}
+use Rattle.strand_contract.specs.Behaviors.{Behavior}
+use Rattle.strand_contract.specs.Executions.{external, offered_lengths, IsLawful, IsKept, IsPlain}
+use Rattle.strand_contract.specs.Order.{IsOrdered}
+use Rattle.engine.specs.Right.{IsStopped}
+
+-- The history of a run of these lines: it is that of one execution, which is lawful, kept, plain and ordered, it tells the
+-- lines, and Stop was given last.
+pub record IsRun {J : Type 0} (b : Behavior J) (lines : List SchedLine) (h : List Entry) : Type 0 where
+  pub execution : List (GlobalAction J)
+  pub history : h ≡ external b execution
+  pub told : IsTold lines h (offered_lengths b execution)
+  pub lawful : IsLawful b execution
+  pub kept : IsKept b execution
+  pub plain : IsPlain b execution
+  pub ordered : IsOrdered b execution
+  pub stopped : IsStopped h
+
+-- a strand was given up
+abbrev pub is_dropped : Entry → Bool
+is_dropped (entry.Dropped s) = true
+is_dropped e = false
+
+abbrev pub has_dropped : List Entry → Bool
+has_dropped h = list_any is_dropped h

@@ -1,0 +1,91 @@
+-- What the words and the files decide.
+use Rattle.std.specs.Prelude.{◌≡◌, ℕ, ◌<◌, ◌≤◌, List, length, Option, Some, None, IfSome}
+use Rattle.resty_base.specs.Counting.{Rose}
+use Rattle.resty_base.specs.FileMap.{FileMap}
+use Rattle.resty_world.specs.declared.schedule_line.SchedLine.{SchedLine}
+use Rattle.schedule.specs.Accepted.{IsRead, IsRefusedAt}
+use Rattle.strand.specs.Configuration.{IsSite, IsFaultAt}
+use Rattle.resty.specs.declared.endings.Named.{Named}
+use Rattle.resty.specs.declared.endings.Named.TheVariants as named
+use Rattle.resty.specs.declared.endings.Ending.{Ending}
+use Rattle.resty.specs.declared.endings.Ending.TheVariants as ending
+use Rattle.resty.specs.Words.{Names, IsForm}
+
+-- how many bytes a configuration and a schedule may have
+abbrev pub most_of : Named → ℕ
+most_of named.Conf = 1_048_576
+most_of named.Schedule = 67_108_864
+
+-- the file holds this text, which isn't too long
+pub record Holds (files : FileMap) (name : List ℕ) (most : ℕ) (text : List ℕ) : Type 0 where
+  pub here : files name ≡ Some text
+  pub short : length text ≤ most
+
+-- the file is too long
+pub record IsTooLong (files : FileMap) (name : List ℕ) (most : ℕ) : Type 0 where
+  pub text : List ℕ
+  pub here : files name ≡ Some text
+  pub long : most < length text
+
+-- the file is the configuration of a site whose replies have this body
+pub record HasSite (files : FileMap) (name body : List ℕ) : Type 0 where
+  pub text : List ℕ
+  pub holds : Holds files name (most_of named.Conf) text
+  pub accepted : IsSite text body
+
+-- the file is a schedule of these lines
+pub record HasSchedule (files : FileMap) (name : List ℕ) (lines : List SchedLine) : Type 0 where
+  pub text : List ℕ
+  pub holds : Holds files name (most_of named.Schedule) text
+  pub accepted : IsRead text lines
+
+-- the words aren't a command; or a file is refused: it is missing or too long, or its line of that number is of no form that
+-- is built; or a site and a schedule run
+pub data Verdict : Type 0 where
+  Usage : Verdict
+  Missing : Named → Verdict
+  TooLong : Named → Verdict
+  NotBuilt : Named → ℕ → Verdict
+  Runs : List ℕ → List SchedLine → Verdict
+
+-- the verdict of two files: the first refusal, where the configuration comes first
+abbrev pub IsOfFiles : List ℕ → List ℕ → FileMap → Verdict → Type 0
+IsOfFiles conf schedule files Usage = ⊥
+IsOfFiles conf schedule files (Missing named.Conf) = files conf ≡ None
+IsOfFiles conf schedule files (TooLong named.Conf) = IsTooLong files conf (most_of named.Conf)
+IsOfFiles conf schedule files (NotBuilt named.Conf n) = (text : List ℕ) × Holds files conf (most_of named.Conf) text × IsFaultAt text n
+IsOfFiles conf schedule files (Missing named.Schedule) = (body : List ℕ) × HasSite files conf body × (files schedule ≡ None)
+IsOfFiles conf schedule files (TooLong named.Schedule) =
+    (body : List ℕ) × HasSite files conf body × IsTooLong files schedule (most_of named.Schedule)
+IsOfFiles conf schedule files (NotBuilt named.Schedule n) =
+    (body text : List ℕ) × HasSite files conf body × Holds files schedule (most_of named.Schedule) text × IsRefusedAt text n
+IsOfFiles conf schedule files (Runs body lines) = HasSite files conf body × HasSchedule files schedule lines
+
+-- the verdict of the words and the files
+abbrev pub IsVerdict : List (List ℕ) → FileMap → Verdict → Type 0
+IsVerdict words files Usage = ¬ (IsForm words)
+IsVerdict words files v = (conf schedule : List ℕ) × Names words conf schedule × IsOfFiles conf schedule files v
+
+-- how the work ends by a verdict
+abbrev pub ending_of : Verdict → Ending
+ending_of Usage = ending.Usage
+ending_of (Missing which) = ending.Missing which
+ending_of (TooLong which) = ending.TooLong which
+ending_of (NotBuilt which n) = ending.NotBuilt which n
+ending_of (Runs body lines) = ending.Done
+
+-- how often reading and writing failed, before and after
+pub record Faults : Type 0 where
+  pub files_before : ℕ
+  pub files_after : ℕ
+  pub out_before : ℕ
+  pub out_after : ℕ
+
+-- Why the work ended so: a file can't be read only where reading failed, the output can't be written only where writing failed,
+-- memory may be wanting at any time; else it is the verdict, where the files tell what they hold.
+abbrev pub IsDue : (FileMap → Verdict → Type 0) → Option FileMap → Faults → Ending → Type 0
+IsDue verdict told faults (ending.Unreadable which) = Rose faults.files_before faults.files_after
+IsDue verdict told faults ending.NotWritten =
+    Rose faults.out_before faults.out_after × IfSome told (λ files. (body : List ℕ) × (lines : List SchedLine) × verdict files (Runs body lines))
+IsDue verdict told faults ending.Memory = Unit {0}
+IsDue verdict told faults e = IfSome told (λ files. (v : Verdict) × verdict files v × (e ≡ ending_of v))

@@ -1,0 +1,73 @@
+ghost use Rattle.std.specs.Prelude.{◌≡◌};
+ghost use Rattle.resty.specs.Ending.{code_of, status_of};
+
+/// How the program ended; its exit code is the place in this list, from 0.
+#[derive(Clone, Copy, Debug, PartialEq, Eq)]
+pub enum Status {
+    Done,
+    /// The configuration is refused.
+    Conf,
+    /// The words aren't a command.
+    Usage,
+    /// The schedule is refused.
+    Schedule,
+    /// A file can't be read.
+    ReadFault,
+    /// The output can't be written.
+    WriteFault,
+    /// The world failed.
+    WorldFault,
+    /// As many events as were asked for were given, and none of them was Stop.
+    EventsSpent,
+    /// Want of memory, or a strand was given up for it.
+    Memory,
+}
+
+impl Status {
+    /// The exit code.
+    pub fn code(self) -> u8
+        ensures { result ≡ code_of self }
+    {
+        self as u8
+    }
+}
+
+/// A file that the words name.
+#[derive(Clone, Copy, Debug, PartialEq, Eq)]
+pub enum Named {
+    Conf,
+    Schedule,
+}
+
+/// How the work ended.
+#[derive(Clone, Copy, Debug, PartialEq, Eq)]
+pub enum Ending {
+    Done,
+    Usage,
+    Missing(Named),
+    TooLong(Named),
+    /// The file can't be read.
+    Unreadable(Named),
+    /// This line of the file is of no form that is built yet; lines are numbered from 1.
+    NotBuilt(Named, u64),
+    NotWritten,
+    /// Want of memory.
+    Memory,
+}
+
+impl Ending {
+    /// The status that the program ends with.
+    pub fn status(self) -> Status
+        ensures { result ≡ status_of self }
+    {
+        match self {
+            Ending::Done => Status::Done,
+            Ending::Usage => Status::Usage,
+            Ending::Missing(_) | Ending::TooLong(_) | Ending::Unreadable(_) => Status::ReadFault,
+            Ending::NotBuilt(Named::Conf, _) => Status::Conf,
+            Ending::NotBuilt(Named::Schedule, _) => Status::Schedule,
+            Ending::NotWritten => Status::WriteFault,
+            Ending::Memory => Status::Memory,
+        }
+    }
+}

@@ -1,0 +1,31 @@
+ghost use Rattle.std.specs.Prelude.{◌≡◌, ◌≤◌, length, IfOk};
+ghost use Rattle.schedule.specs.Fitting.{IsSchedule};
+ghost use Rattle.resty.specs.Run.{IsRun};
+
+use engine::{Ended, serve};
+use schedule::{Replay, Schedule};
+use std::alloc::{AllocError, Global};
+use strand_contract::StrandContract;
+
+/// How many events are given at most.
+const EVENTS: u64 = 900_000_000_000_000_000;
+
+/// The world of this schedule, once the strands of the site have served it up to Stop.
+pub fn replayed<S: StrandContract>(
+    alloc: Global,
+    site: S::Site,
+    schedule: Schedule,
+) -> Result<Replay, AllocError>
+    requires whole { IsSchedule schedule }
+    requires few { length schedule ≤ 67_108_864 }
+    ensures { IfOk result (λ world. IsRun (S.behavior site) schedule world.history.entries) }
+{
+    let mut world = Replay::new(alloc, schedule);
+    match serve::<S, Replay>(alloc, site, &mut world, EVENTS) {
+        Ended::Stopped => Ok(world),
+        Ended::Memory => Err(AllocError),
+        Ended::Spent(_) => unreachable!(),
+        Ended::WorldFault => unreachable!(),
+        Ended::BadLine(_) => unreachable!(),
+    }
+}

@@ -1,0 +1,296 @@
+use super::*;
+use resty_base::{MemFiles, MemSink};
+use std::process::Abort;
+use std::test::Fail;
+
+const CONF: &str =
+    "http { server { listen 8080;\nlocation / { content_by_lua_block { ngx.say(\"hi\") } }\n} }\n";
+
+const REPLAY: [&str; 5] = ["replay", "--conf", "t.conf", "--schedule", "t.sched"];
+
+/// What a call of the program answered, and what it wrote.
+#[derive(Drop)]
+struct Ran {
+    status: Status,
+    out: MemSink,
+    err: MemSink,
+}
+
+/// Calls the program with these words over these files and sinks.
+fn call(
+    alloc: Global,
+    words: &[&str],
+    files: &mut MemFiles,
+    mut out: MemSink,
+    mut err: MemSink,
+) -> Result<Ran, Fail> {
+    let mut list = Vec::new(alloc);
+    for word in words {
+        list.push(String::from_str(alloc, *word)?)?;
+    }
+    let mut live = no_world(alloc)?;
+    let status = resty(alloc, list.as_slice(), files, &mut live, &mut out, &mut err);
+    Ok(Ran { status, out, err })
+}
+
+/// The files `t.conf` and `t.sched`.
+fn files_of(alloc: Global, conf: &str, schedule: &str) -> Result<MemFiles, Fail> {
+    let mut files = MemFiles::new(alloc);
+    files.add(alloc, "t.conf", conf.as_bytes())?;
+    files.add(alloc, "t.sched", schedule.as_bytes())?;
+    Ok(files)
+}
+
+/// A replay of these files.
+fn replay(alloc: Global, conf: &str, schedule: &str) -> Result<Ran, Fail> {
+    let mut files = files_of(alloc, conf, schedule)?;
+    call(
+        alloc,
+        &REPLAY,
+        &mut files,
+        MemSink::new(alloc),
+        MemSink::new(alloc),
+    )
+}
+
+/// The call ended so, and wrote this.
+fn expect(rt: &impl Abort, ran: &Ran, status: Status, out: &str, err: &str) {
+    assert!(rt; ran.status == status);
+    assert!(rt; ran.out.taken() == out.as_bytes());
+    assert!(rt; ran.err.taken() == err.as_bytes());
+}
+
+#[test]
+fn one_request_gets_its_reply(rt: HostRuntime) -> Result<(), Fail> {
+    let schedule = "moment 1000\narrive c1\nbytes c1 \"GET / HTTP/1.0\\r\\n\\r\\n\"\nstop\n";
+    let history =
+        "moment 1000\narrive c1\nbytes c1 \"GET / HTTP/1.0\\r\\n\\r\\n\"\nput c1 \"HTTP/1.1 200 OK\\r\\nServer: resty\\r\\nDate: Thu, 01 Jan 1970 00:00:01 GMT\\r\\nContent-Type: text/plain\\r\\nConnection: close\\r\\n\\r\\nhi\\n\"\nclose c1\nstop\n";
+    expect(
+        &rt,
+        &replay(rt.alloc(), CONF, schedule)?,
+        Status::Done,
+        history,
+        "",
+    );
+    Ok(())
+}
+
+#[test]
+fn a_schedule_of_stop_is_its_history(rt: HostRuntime) -> Result<(), Fail> {
+    expect(
+        &rt,
+        &replay(rt.alloc(), CONF, "stop\n")?,
+        Status::Done,
+        "stop\n",
+        "",
+    );
+    Ok(())
+}
+
+#[test]
+fn stop_closes_what_is_open(rt: HostRuntime) -> Result<(), Fail> {
+    let schedule = "arrive c1\nbytes c1 \"GET\"\nstop\n";
+    let history = "arrive c1\nbytes c1 \"GET\"\nstop\nclose c1\n";
+    expect(
+        &rt,
+        &replay(rt.alloc(), CONF, schedule)?,
+        Status::Done,
+        history,
+        "",
+    );
+    Ok(())
+}
+
+#[test]
+fn what_is_not_built_is_refused_at_its_line(rt: HostRuntime) -> Result<(), Fail> {
+    let print =
+        "http { server { listen 8080;\nlocation / { content_by_lua_block { ngx.print(\"x\") } }\n} }\n";
+    let conf_line = "resty: t.conf: line 2: not built yet\n";
+    expect(
+        &rt,
+        &replay(rt.alloc(), print, "stop\n")?,
+        Status::Conf,
+        "",
+        conf_line,
+    );
+    expect(
+        &rt,
+        &replay(rt.alloc(), print, "frob\n")?,
+        Status::Conf,
+        "",
+        conf_line,
+    );
+    let schedule_line = "resty: t.sched: line 2: not built yet\n";
+    for schedule in [
+        "arrive c1\nended c1\nstop\n",
+        "arrive c1\narrive c2\nstop\n",
+        "arrive c1\n",
+    ] {
+        expect(
+            &rt,
+            &replay(rt.alloc(), CONF, schedule)?,
+            Status::Schedule,
+            "",
+            schedule_line,
+        );
+    }
+    Ok(())
+}
+
+#[test]
+fn files_that_are_missing_or_too_long_are_read_faults(rt: HostRuntime) -> Result<(), Fail> {
+    let mut none = MemFiles::new(rt.alloc());
+    let ran = call(
+        rt.alloc(),
+        &REPLAY,
+        &mut none,
+        MemSink::new(rt.alloc()),
+        MemSink::new(rt.alloc()),
+    )?;
+    expect(&rt, &ran, Status::ReadFault, "", "resty: no file t.conf\n");
+    none.add(rt.alloc(), "t.conf", CONF.as_bytes())?;
+    let ran = call(
+        rt.alloc(),
+        &REPLAY,
+        &mut none,
+        MemSink::new(rt.alloc()),
+        MemSink::new(rt.alloc()),
+    )?;
+    expect(&rt, &ran, Status::ReadFault, "", "resty: no file t.sched\n");
+    let long = vec![in rt.alloc(); b'x'; 67_108_865]?;
+    none.add(rt.alloc(), "t.sched", long.as_slice())?;
+    let ran = call(
+        rt.alloc(),
+        &REPLAY,
+        &mut none,
+        MemSink::new(rt.alloc()),
+        MemSink::new(rt.alloc()),
+    )?;
+    expect(
+        &rt,
+        &ran,
+        Status::ReadFault,
+        "",
+        "resty: t.sched is too long\n",
+    );
+    let long = vec![in rt.alloc(); b'x'; 1_048_577]?;
+    none.add(rt.alloc(), "t.conf", long.as_slice())?;
+    let ran = call(
+        rt.alloc(),
+        &REPLAY,
+        &mut none,
+        MemSink::new(rt.alloc()),
+        MemSink::new(rt.alloc()),
+    )?;
+    expect(
+        &rt,
+        &ran,
+        Status::ReadFault,
+        "",
+        "resty: t.conf is too long\n",
+    );
+    Ok(())
+}
+
+#[test]
+fn files_that_fail_are_read_faults(rt: HostRuntime) -> Result<(), Fail> {
+    for (call_number, line) in [
+        (1, "resty: cannot read t.conf\n"),
+        (2, "resty: cannot read t.sched\n"),
+    ] {
+        let mut files = files_of(rt.alloc(), CONF, "stop\n")?;
+        files.fail_at(call_number)?;
+        let ran = call(
+            rt.alloc(),
+            &REPLAY,
+            &mut files,
+            MemSink::new(rt.alloc()),
+            MemSink::new(rt.alloc()),
+        )?;
+        expect(&rt, &ran, Status::ReadFault, "", line);
+    }
+    Ok(())
+}
+
+#[test]
+fn an_output_that_fails_is_a_write_fault(rt: HostRuntime) -> Result<(), Fail> {
+    let mut files = files_of(rt.alloc(), CONF, "stop\n")?;
+    let mut out = MemSink::new(rt.alloc());
+    out.fail_at(1)?;
+    let ran = call(
+        rt.alloc(),
+        &REPLAY,
+        &mut files,
+        out,
+        MemSink::new(rt.alloc()),
+    )?;
+    expect(&rt, &ran, Status::WriteFault, "", "resty: cannot write\n");
+    Ok(())
+}
+
+#[test]
+fn a_failed_line_changes_no_status(rt: HostRuntime) -> Result<(), Fail> {
+    let mut files = MemFiles::new(rt.alloc());
+    let mut err = MemSink::new(rt.alloc());
+    err.fail_at(2)?;
+    let ran = call(
+        rt.alloc(),
+        &REPLAY,
+        &mut files,
+        MemSink::new(rt.alloc()),
+        err,
+    )?;
+    expect(&rt, &ran, Status::ReadFault, "", "resty: no file ");
+    Ok(())
+}
+
+#[test]
+fn words_that_are_no_command_are_usage(rt: HostRuntime) -> Result<(), Fail> {
+    let commands: [&[&str]; 9] = [
+        &[],
+        &["--help"],
+        &["replay"],
+        &["replay", "--conf", "t.conf", "--conf", "t.conf"],
+        &["replay", "--schedule", "t.sched", "--conf", "t.conf"],
+        &["replay", "--conf", "", "--schedule", "t.sched"],
+        &["replay", "--conf", "t.conf", "--schedule", "-t.sched"],
+        &["replay", "--conf", "--", "--schedule", "t.sched"],
+        &["replay", "--conf", "t.conf", "--schedule", "t.sched", "--"],
+    ];
+    for words in commands {
+        let mut files = files_of(rt.alloc(), CONF, "stop\n")?;
+        let ran = call(
+            rt.alloc(),
+            words,
+            &mut files,
+            MemSink::new(rt.alloc()),
+            MemSink::new(rt.alloc()),
+        )?;
+        expect(
+            &rt,
+            &ran,
+            Status::Usage,
+            "",
+            "resty: usage: resty MODE [options]\n",
+        );
+    }
+    Ok(())
+}
+
+#[test]
+fn statuses_are_numbered_in_order(rt: HostRuntime) {
+    let statuses = [
+        Status::Done,
+        Status::Conf,
+        Status::Usage,
+        Status::Schedule,
+        Status::ReadFault,
+        Status::WriteFault,
+        Status::WorldFault,
+        Status::EventsSpent,
+        Status::Memory,
+    ];
+    for (code, status) in statuses.iter().enumerate() {
+        assert_eq!(&rt; usize::from(status.code()), code);
+    }
+}

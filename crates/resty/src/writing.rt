@@ -1,0 +1,49 @@
+ghost use Rattle.std.specs.Prelude.{◌≡◌};
+ghost use Rattle.std.specs.List.{list_any};
+ghost use Rattle.resty.specs.Run.{has_dropped, is_dropped};
+ghost use Rattle.resty.specs.Writing.{WritesHistory};
+
+use crate::endings::Ending;
+use resty_base::{Sink, put_all};
+use resty_world::{Entry, History};
+use schedule::history_text;
+use std::alloc::Global;
+
+/// Writes the text of a history of which serving ended well.
+pub fn write_history<O: Sink>(alloc: Global, history: &History, out: &mut O) -> Ending
+    ensures { WritesHistory history.now.entries result (O.told out.old) (O.faults out.old) (O.told out.new) (O.faults out.new) }
+{
+    let text = match history_text(alloc, history) {
+        Ok(text) => text,
+        Err(_) => return Ending::Memory,
+    };
+    if put_all(out, text.as_slice()).is_err() {
+        return Ending::NotWritten;
+    }
+    if drops_strand(history) {
+        Ending::Memory
+    } else {
+        Ending::Done
+    }
+}
+
+/// Whether a strand was given up.
+fn drops_strand(history: &History) -> bool
+    ensures { result ≡ has_dropped history.now.entries }
+{
+    any_dropped(history.as_slice())
+}
+
+/// Whether one of the entries gives a strand up.
+fn any_dropped(entries: &[Entry]) -> bool
+    ensures { result ≡ list_any is_dropped entries.now }
+{
+    entries.iter().any(is_drop)
+}
+
+/// Whether the entry gives a strand up.
+fn is_drop(entry: &Entry) -> bool
+    ensures { result ≡ is_dropped entry.now }
+{
+    matches!(entry, Entry::Dropped(_))
+}

@@ -1,0 +1,12 @@
+pub mod Accepted
+pub mod Dialling
+pub mod EntryTexts
+pub mod Fitting
+pub mod LineTexts
+pub mod Lines
+pub mod Places
+pub mod ReplayBook
+pub mod Reading
+pub mod Told
+pub mod Unquoting
+pub mod Words

@@ -1,0 +1,53 @@
+use crate::Schedule;
+use resty_world::{Event, SchedLine};
+use std::alloc::AllocError;
+use std::marker::Model;
+
+/// The schedule that a world goes by: each line fits what stands before it, and the last is `stop`.
+#[derive(Drop)]
+pub struct Course {
+    schedule: Schedule,
+}
+
+impl Model for Course {
+    ghost use Rattle.std.specs.Prelude.{List};
+    ghost use Rattle.resty_world.specs.declared.schedule_line.SchedLine.{SchedLine};
+    ghost use Rattle.schedule.specs.Fitting.{IsSchedule};
+
+    ghost Value = { List SchedLine };
+
+    ghost view = { λ course. course.schedule };
+
+    ghost invariant = { λ course. IsSchedule course.schedule };
+}
+
+impl Course {
+    ghost use Rattle.std.specs.Prelude.{◌≡◌, ◌<◌, length, Some, IfSome, MatchOption, slice_get, take};
+    ghost use Rattle.schedule.specs.Fitting.{IsSchedule, Fits};
+
+    /// The course of this schedule.
+    pub fn new(schedule: Schedule) -> Course
+        requires { IsSchedule schedule }
+        ensures { result ≡ schedule }
+    {
+        Course { schedule }
+    }
+
+    /// How many lines there are.
+    pub fn len(&self) -> usize
+        ensures count { result ≡ length self.now }
+        ensures made { IsSchedule self.now }
+    {
+        self.schedule.as_slice().len()
+    }
+
+    /// The line at this place, from 0.
+    pub fn line(&self, at: usize) -> &SchedLine
+        requires { at < length self.now }
+        ensures here { slice_get self.now at ≡ Some result.now }
+        ensures fits { Fits (take at self.now) result.now }
+    {
+        let lines = self.schedule.as_slice();
+        &lines[at]
+    }
+}

@@ -1,0 +1,71 @@
+ghost use Rattle.std.specs.Prelude.{◌≡◌, ◌≢◌, ◌+◌, List, [], MatchResult, length};
+ghost use Rattle.resty_world.specs.declared.schedule_line.SchedLine.{SchedLine};
+ghost use Rattle.schedule.specs.Accepted.{IsRead, IsFaultOf};
+
+use crate::{SchedFault, Schedule};
+use kinds::is_stop;
+use reader::Reader;
+use splits::split_at_first;
+use std::alloc::{AllocError, Global};
+
+mod kinds;
+mod numbers;
+mod quotes;
+mod reader;
+mod splits;
+
+/// The length of the shortest line but `stop`, with its end.
+const SHORTEST_LINE: usize = 9;
+
+/// Reads a schedule: the lines that are built now, the last of which is `stop`.
+pub fn schedule_of(alloc: Global, text: &[u8]) -> Result<Schedule, SchedFault>
+    ensures read { MatchResult result (IsRead text.now) (IsFaultOf text.now) }
+    // A text of a schedule is read as that schedule, unless memory is wanting.
+    ensures accepted { (lines : List SchedLine) → IsRead text.now lines → MatchResult result (λ schedule. schedule ≡ lines) (λ fault. fault ≡ SchedFault.Memory) }
+{
+    read_lines(alloc, text)
+}
+
+/// Reads the lines one after another.
+fn read_lines(alloc: Global, text: &[u8]) -> Result<Schedule, SchedFault>
+    ensures { MatchResult result (IsRead text.now) (IsFaultOf text.now) }
+{
+    let mut reader = Reader::new(alloc);
+    if reader.reserve(most_lines(text)).is_err() {
+        return Err(SchedFault::Memory);
+    }
+    let mut rest = text;
+    while let Some((line, after)) = split_at_first(rest, b'\n') {
+        let read = match reader.read_line(alloc, line) {
+            Ok(Some(read)) => read,
+            Ok(None) => return Err(SchedFault::NotYet(reader.next_number())),
+            Err(AllocError) => return Err(SchedFault::Memory),
+        };
+        let stops = is_stop(&read);
+        if reader.push(read).is_err() {
+            return Err(SchedFault::Memory);
+        }
+        if stops {
+            return finish(reader, after);
+        }
+        rest = after;
+    }
+    Err(SchedFault::NotYet(reader.next_number()))
+}
+
+/// The schedule that was read up to its `stop`, behind which nothing may stand.
+fn finish(reader: Reader, rest: &[u8]) -> Result<Schedule, SchedFault>
+    ensures { MatchResult result (λ schedule. (rest.now ≡ []) × (schedule ≡ reader.lines.items)) (λ fault. (rest.now ≢ []) × (fault ≡ SchedFault.NotYet (length reader.lines.items + 1))) }
+{
+    if rest.is_empty() {
+        Ok(Schedule::new(reader.into_lines()))
+    } else {
+        Err(SchedFault::NotYet(reader.next_number()))
+    }
+}
+
+/// At most how many lines a schedule of this text has.
+fn most_lines(text: &[u8]) -> usize {
+    let ends = text.iter().filter(|byte| **byte == b'\n').count();
+    ends.min(text.len() / SHORTEST_LINE + 1)
+}

@@ -1,0 +1,9 @@
+pub mod Dates
+pub mod Exchange
+pub mod Left
+pub mod Lists
+pub mod Pieces
+pub mod Reading
+pub mod Sites
+pub mod Steps
+pub mod Texts

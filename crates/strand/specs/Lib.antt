@@ -1,0 +1,13 @@
+pub mod Configuration
+pub mod Dates
+pub mod Examples
+pub mod Faults
+pub mod Literal
+pub mod Reading
+pub mod Replies
+pub mod Requests
+pub mod Turns
+pub mod Views
+pub mod Heads
+pub mod Laws
+pub mod Course

@@ -1,0 +1,132 @@
+use crate::{Act, Acts, Answer, Place, Seen, Start, StrandContract};
+use resty_base::Ms;
+use std::alloc::{AllocError, Global};
+use std::collections::VecDeque;
+
+/// The site of strands that answer nothing.
+#[derive(Debug, Drop)]
+pub struct MuteSite;
+
+/// It asks for no timer job.
+#[derive(Debug, Drop)]
+pub struct NoJob;
+
+/// A strand that answers nothing: it waits for Stop.
+#[derive(Debug, Drop)]
+pub struct Mute {
+    is_client: bool,
+    is_over: bool,
+}
+
+impl Mute {
+    ghost use Rattle.std.specs.Prelude.{◌≡◌, true, IfOk};
+    ghost use Rattle.strand_contract.specs.Mute.{end_acts};
+
+    /// Ends its life.
+    fn halt(&mut self, alloc: Global) -> Result<Acts<NoJob>, AllocError>
+        ensures client { self.new.is_client ≡ self.old.is_client }
+        ensures over { self.new.is_over ≡ true }
+        ensures acts { IfOk result (λ acts. acts.items ≡ end_acts self.old.is_client) }
+    {
+        self.is_over = true;
+        let mut acts = VecDeque::new(alloc);
+        if self.is_client {
+            acts.push_back(Act::HangUp(Place::Client))?;
+        }
+        acts.push_back(Act::Gone)?;
+        Ok(acts)
+    }
+}
+
+impl StrandContract for Mute {
+    ghost use Rattle.std.specs.Prelude.{◌≡◌, List, [], ◌∷◌, IfOk, refl, if◌then◌else◌};
+    ghost use Rattle.strand_contract.specs.Actions.{LocalAction, Did, Began};
+    ghost use Rattle.strand_contract.specs.Mute.{is_client, was_halted, mute_behavior};
+    ghost use Rattle.strand_contract.specs.MuteLaws.{mute-still, mute-quiet, mute-asks-last, mute-hangs-up, mute-leaves, mute-keeps};
+
+    type Site = MuteSite;
+
+    type Job = NoJob;
+
+    ghost behavior = { λ site. mute_behavior };
+
+    ghost stands = { λ site strand es. (strand.is_client ≡ is_client es) × (strand.is_over ≡ was_halted es) };
+
+    ghost left = { λ strand. if strand.is_over then 0 else 3 };
+
+    ghost still = { λ site strand a es. mute-still strand.is_client strand.is_over a es };
+
+    ghost quiet = { λ site a es. mute-quiet a es };
+
+    ghost silent = { λ site q a es h. refl };
+
+    ghost asks_last = { λ site es. mute-asks-last es };
+
+    ghost hangs_up_open = { λ site es q rest. mute-hangs-up es q rest };
+
+    ghost leaves_nothing_open = { λ site es q. mute-leaves es q };
+
+    ghost keeps = { λ site es execution lives rests. mute-keeps es };
+
+    fn connections(site: &MuteSite) -> u32 {
+        let _ = site;
+        512
+    }
+
+    fn begin(
+        alloc: Global,
+        site: &MuteSite,
+        now: Ms,
+        start: Start<NoJob>,
+    ) -> Result<(Self, Acts<NoJob>), AllocError>
+        ensures { IfOk result (λ r. ((r.0.is_client ≡ is_client (Did (Began now.0 start) ∷ [])) × (r.0.is_over ≡ was_halted (Did (Began now.0 start) ∷ [])))
+            × (r.1.items ≡ mute_behavior.acts (Did (Began now.0 start) ∷ []))) }
+    {
+        let _ = site;
+        let _ = now;
+        let is_client = match start {
+            Start::Client(_) => true,
+            Start::Job(_, _) => false,
+        };
+        let strand = Mute {
+            is_client,
+            is_over: false,
+        };
+        Ok((strand, VecDeque::new(alloc)))
+    }
+
+    fn given(
+        &mut self,
+        alloc: Global,
+        site: &MuteSite,
+        now: Ms,
+        seen: Seen,
+    ) -> Result<Acts<NoJob>, AllocError> {
+        let _ = site;
+        let _ = now;
+        match seen {
+            Seen::Stop => self.halt(alloc),
+            _ => Ok(VecDeque::new(alloc)),
+        }
+    }
+
+    fn answer(
+        &mut self,
+        alloc: Global,
+        site: &MuteSite,
+        now: Ms,
+        answer: Answer,
+    ) -> Result<Acts<NoJob>, AllocError> {
+        let _ = alloc;
+        let _ = site;
+        let _ = now;
+        let _ = answer;
+        unreachable!()
+    }
+
+    fn queued(&self, site: &MuteSite, place: Place) -> &[u8] {
+        let _ = site;
+        let _ = place;
+        &[]
+    }
+}
