@@ -1,5 +1,5 @@
 -- From what is said of two files to what is said of the words.
-use Rattle.std.proofs.Common.{◌≡◌, ℕ, ◌⊎◌, inl, inr, List, Result, Ok, Err, OnOk, OnErr, Option, Some, None, IfSome, refl, ap, sym, ◌∙◌, slice_index_or}
+use Rattle.std.proofs.Common.{◌≡◌, ℕ, ◌⊎◌, inl, inr, List, Result, Ok, Err, OnOk, OnErr, Option, Some, None, IfSome, refl, ap, sym, ◌∙◌}
 use Rattle.resty_base.specs.Counting.{Rose}
 use Rattle.resty_base.specs.FileMap.{FileMap}
 use Rattle.resty_world.specs.declared.entry.Entry.{Entry}

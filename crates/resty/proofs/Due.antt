@@ -5,12 +5,11 @@ use Rattle.resty_world.specs.declared.schedule_line.SchedLine.{SchedLine}
 use Rattle.schedule.specs.Accepted.{IsRefusedAt}
 use Rattle.schedule.specs.LineTexts.{line_text, whole_line, schedule_text}
 use Rattle.strand.specs.Configuration.{IsFaultAt}
-use Rattle.resty.specs.declared.endings.Named.{Named}
 use Rattle.resty.specs.declared.endings.Named.TheVariants as named
 use Rattle.resty.specs.declared.endings.Ending.{Ending}
 use Rattle.resty.specs.declared.endings.Ending.TheVariants as ending
 use Rattle.resty.specs.Reading.{IsUnread}
-use Rattle.resty.specs.Verdict.{Verdict, Usage, Missing, TooLong, NotBuilt, Runs, Holds, HasSite, HasSchedule, IsOfFiles, IsDue, Faults, ending_of, most_of}
+use Rattle.resty.specs.Verdict.{Verdict, Missing, TooLong, NotBuilt, Holds, HasSite, IsOfFiles, IsDue, Faults, ending_of, most_of}
 
 -- the verdicts of a configuration, whatever the schedule is; and those of a schedule, where the configuration is accepted
 abbrev pub OfConf : List ℕ → FileMap → Verdict → Type 0

@@ -1,5 +1,5 @@
 -- The words and the files have verdicts of one status.
-use Rattle.std.proofs.Common.{◌≡◌, ◌≢◌, ℕ, ◌<◌, ◌≤◌, ◌⊎◌, inl, inr, List, [], ◌∷◌, length, Option, Some, None, Ok, Err, refl, sym, ◌∙◌, ap, subst, arith}
+use Rattle.std.proofs.Common.{◌≡◌, ℕ, ◌⊎◌, inl, inr, List, length, Option, Some, None, Err, refl, sym, ◌∙◌, ap, subst, arith}
 use Rattle.resty_base.specs.FileMap.{FileMap}
 use Rattle.resty_world.specs.declared.schedule_line.SchedLine.{SchedLine}
 use Rattle.schedule.specs.declared.fault.SchedFault.TheVariants as fault
@@ -11,7 +11,7 @@ use Rattle.resty.specs.declared.endings.Named.TheVariants as named
 use Rattle.resty.specs.declared.endings.Status.{Status}
 use Rattle.resty.specs.declared.endings.Status.TheVariants as status
 use Rattle.resty.specs.Ending.{status_of}
-use Rattle.resty.specs.Verdict.{Verdict, Usage, Missing, TooLong, NotBuilt, Runs, Holds, HasSite, HasSchedule, IsTooLong, IsOfFiles, IsVerdict, ending_of, most_of}
+use Rattle.resty.specs.Verdict.{Verdict, Usage, Missing, TooLong, NotBuilt, Runs, Holds, HasSite, IsTooLong, IsOfFiles, IsVerdict, ending_of, most_of}
 use Rattle.resty.specs.Words.{Names, IsForm}
 
 -- what a file is: missing, too long, refused, or accepted

@@ -1,8 +1,6 @@
 -- What a sink took, piece after piece.
-use Rattle.std.proofs.Common.{◌≡◌, ℕ, ◌+◌, ◌<◌, ◌≤◌, List, ◌++◌, length, take, Option, Some, None, refl, ap, sym, append_assoc, arith, length-append}
+use Rattle.std.proofs.Common.{◌≡◌, ℕ, ◌+◌, List, ◌++◌, length, Option, Some, None, refl, ap, append_assoc, arith, length-append}
 use Rattle.std.proofs.Math.Seq.{take-append-add}
-use Rattle.std.proofs.lemmas.List.{take-append-le}
-use Rattle.resty_base.specs.Counting.{Rose}
 use Rattle.resty_base.specs.Taking.{with_more}
 use Rattle.resty.specs.Taking.{TakesAll, TakesPart}
 

@@ -1,9 +1,8 @@
 -- How serving a schedule ends.
-use Rattle.std.proofs.Common.{◌≡◌, ℕ, ◌≤◌, ◌<◌, ◌⊎◌, inl, inr, true, List, length, take, Some, slice_get, sym, ap, ◌∙◌, arith}
+use Rattle.std.proofs.Common.{◌≡◌, ℕ, ◌≤◌, inl, inr, List, length, take, ◌∙◌, arith}
 use Rattle.std.proofs.lemmas.Bool.{cases_lt}
-use Rattle.std.proofs.lemmas.List.{length-take-le, take_all}
+use Rattle.std.proofs.lemmas.List.{length-take-le}
 use Rattle.resty_base.specs.Counting.{Rose}
-use Rattle.resty_world.specs.declared.entry.Entry.{Entry}
 use Rattle.resty_world.specs.declared.schedule_line.SchedLine.{SchedLine}
 use Rattle.resty_world.specs.Given.{IsBadLine}
 use Rattle.schedule.specs.declared.replay.Replay.{Replay}
@@ -11,7 +10,7 @@ use Rattle.schedule.specs.Fitting.{IsSchedule}
 use Rattle.schedule.specs.ReplayBook.{book_of, pieces_in, IsFresh, IsLater}
 use Rattle.schedule.specs.Told.{IsTold}
 use Rattle.strand_contract.specs.Behaviors.{Behavior}
-use Rattle.engine.specs.Right.{events_of, HasNoStop, HasFailedLog, IsStopped, IsSpent, IsFaulted, IsRight}
+use Rattle.engine.specs.Right.{IsStopped, IsSpent, IsFaulted, IsRight}
 use Rattle.resty.specs.Run.{IsRun}
 use Rattle.resty.proofs.Story.{story, no_failed_log, not_at_end, all_passed, never_absent}
 

@@ -1,6 +1,6 @@
 -- What a history that tells the lines of a schedule has of them.
-use Rattle.std.proofs.Common.{◌≡◌, ℕ, zero, suc, ◌+◌, ◌≤◌, ◌<◌, Bool, true, false, cond, not, ◌&&◌, nat_lt, nat_le, min, ◌^◌, ◌-◌, List, [], ◌∷◌, ◌++◌, length, take, refl, Some, None, slice_get, sym, ap, ◌∙◌, arith, length-append, ◌⊎◌, inl, inr}
-use Rattle.std.proofs.lemmas.List.{take_all, same_from_push, length-take-le}
+use Rattle.std.proofs.Common.{◌≡◌, ℕ, zero, suc, ◌+◌, ◌≤◌, ◌<◌, true, false, cond, nat_lt, nat_le, List, [], ◌∷◌, ◌++◌, length, take, refl, Some, None, slice_get, sym, ap, ◌∙◌, arith, length-append, inl, inr}
+use Rattle.std.proofs.lemmas.List.{take_all, same_from_push}
 use Rattle.std.proofs.lemmas.Bool.{cases_lt, lt-ltb, le-leb}
 use Rattle.std.proofs.lemmas.List.Sums.{sum_by-append}
 use Rattle.resty_base.specs.declared.names.Id.TheVariants as id
@@ -10,8 +10,8 @@ use Rattle.resty_world.specs.declared.entry.Entry.{Entry}
 use Rattle.resty_world.specs.declared.entry.Entry.TheVariants as entry
 use Rattle.resty_world.specs.declared.schedule_line.SchedLine.{SchedLine}
 use Rattle.resty_world.specs.declared.schedule_line.SchedLine.TheVariants as line
-use Rattle.resty_world.specs.Given.{named_id, names_absent, was_there}
-use Rattle.schedule.specs.Fitting.{IsSchedule, Fits, FitsLine, FitsEvent}
+use Rattle.resty_world.specs.Given.{named_id, names_absent}
+use Rattle.schedule.specs.Fitting.{IsSchedule, FitsLine}
 use Rattle.schedule.specs.Lines.{arrivals_in, stops_in, is_stop}
 use Rattle.schedule.specs.Told.{IsTold}
 use Rattle.engine.specs.Right.{events_of, HasNoStop, HasFailedLog, IsStopped}

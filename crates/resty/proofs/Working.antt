@@ -1,5 +1,5 @@
 -- From what each step says to what is said of the work.
-use Rattle.std.proofs.Common.{◌≡◌, ◌≢◌, ℕ, ◌⊎◌, inl, inr, true, false, List, Option, Some, None, IfSome, refl, sym, ◌∙◌}
+use Rattle.std.proofs.Common.{◌≡◌, ◌≢◌, ℕ, inl, inr, List, Option, Some, None, IfSome, refl}
 use Rattle.resty_base.specs.Counting.{Rose}
 use Rattle.resty_base.specs.FileMap.{FileMap}
 use Rattle.resty_world.specs.declared.entry.Entry.{Entry}
@@ -12,9 +12,8 @@ use Rattle.resty.specs.declared.endings.Ending.TheVariants as ending
 use Rattle.resty.specs.Ending.{status_of}
 use Rattle.resty.specs.Reading.{EndsReading}
 use Rattle.resty.specs.Run.{IsRun}
-use Rattle.resty.specs.Taking.{TakesAll, TakesPart, TakesNothing}
 use Rattle.resty.specs.Verdict.{Verdict, Runs, HasSite, HasSchedule, IsOfFiles, IsDue, Faults, ending_of}
-use Rattle.resty.specs.Writing.{IsRunOf, Writes, WritesHistory, WritesRun}
+use Rattle.resty.specs.Writing.{Writes, WritesHistory, WritesRun}
 
 -- reading isn't the end of a run
 pub not_usage : (e : Ending) → EndsReading e → e ≢ ending.Usage

@@ -17,7 +17,8 @@ pub fn history_text(alloc: Global, history: &History) -> Result<Bytes, AllocErro
     ensures { IfOk result (λ text. text ≡ history_text history.now.entries) }
 {
     let mut out = Vec::new(alloc);
-    for entry in history.as_slice() {
+    let entries = history.as_slice();
+    for entry in entries {
         entries::put_entry(&mut out, entry)?;
     }
     Ok(Bytes::from_vec(out)?)

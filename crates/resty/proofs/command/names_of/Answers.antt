@@ -1,5 +1,5 @@
-use Rattle.std.proofs.Common.{rules, ◌≡◌, ◌↔◌, IfSome, IfNone, IsTrue, ℕ, ◌+◌, ◌-◌, ◌*◌, ◌<◌, ◌≤◌, length, List, [], ◌∷◌, ◌++◌, get_or, ap, ◌∙◌, codes, string_bytes, map}
-use Rattle.resty.specs.Words.{texts, IsValue, Names, IsForm}
+use Rattle.std.proofs.Common.{rules, ◌≡◌, ap, ◌∙◌, codes, string_bytes, map}
+use Rattle.resty.specs.Words.{IsValue}
 use Rattle.resty.proofs.Five.{five_items}
 use Rattle.resty.proofs.command.names_of.Goals as goal
 

@@ -1,7 +1,6 @@
-use Rattle.std.proofs.Common.{◌≡◌, ℕ, List, refl}
+use Rattle.std.proofs.Common.{refl}
 use Rattle.resty.specs.declared.endings.Ending.TheVariants as ending
 use Rattle.resty.specs.declared.endings.Status.TheVariants as status
-use Rattle.resty.specs.Ending.{line_of, line_in}
 use Rattle.resty.specs.Verdict.{IsOfFiles, IsVerdict, Faults}
 use Rattle.resty.specs.Words.{texts}
 use Rattle.resty.proofs.ByWords.{verdict_of, due_wider, writes_wider, takes, same_line, usage_due, judged, complete}

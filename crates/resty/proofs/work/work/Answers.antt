@@ -1,6 +1,4 @@
-use Rattle.std.proofs.Common.{List, ℕ}
-use Rattle.resty_base.specs.FileMap.{FileMap}
-use Rattle.resty.specs.Verdict.{Verdict, IsOfFiles}
+use Rattle.resty.specs.Verdict.{IsOfFiles}
 use Rattle.resty.proofs.Due.{OfConf}
 use Rattle.resty.proofs.Working.{due_later, always}
 use Rattle.resty.proofs.work.work.Goals as goal

@@ -1,8 +1,5 @@
-use Rattle.std.proofs.Common.{◌≡◌, List, ℕ, IfSome}
-use Rattle.resty_base.specs.FileMap.{FileMap}
-use Rattle.resty.specs.Verdict.{Verdict, IsOfFiles, HasSite, Faults}
-use Rattle.resty.proofs.Due.{OfSchedule}
-use Rattle.resty.proofs.Working.{due_later, reading_writes, not_usage, run_works, of_files}
+use Rattle.resty.specs.Verdict.{IsOfFiles, Faults}
+use Rattle.resty.proofs.Working.{run_works, of_files}
 use Rattle.resty.proofs.work.work_on.Goals as goal
 
 pub returns-in-Ok-clause-due : goal.returns-in-Ok-clause-due

@@ -8,5 +8,5 @@ use Rattle.schedule.proofs.text.history_text.Goals as goal
 pub returns : goal.returns
 returns c =
     let lines = reverse c.args.history.now.entries in
-    let end : length lines ≤ c.loop-entry.entry-index = omega (arith, ap length c.as_slice-entry-items.ensures) in
+    let end : length lines ≤ c.loop-entry.entry-index = omega (arith, ap length c.as_slice-entries.ensures) in
     c.in_ok-from_vec.ensures.ok ∙ c.loop-entry.invariant ∙ ap (flat_map entry_line) (take_all c.loop-entry.entry-index lines end) ∙ sym (history_lines c.args.history.now.entries)

@@ -1,0 +1,14 @@
+pub mod Steps
+pub mod Bodies
+pub mod Capped
+pub mod Closings
+pub mod Fronts
+pub mod Listing
+pub mod Braces
+pub mod Standing
+pub mod Classes
+pub mod Quoted
+pub mod Written
+pub mod Prefixes
+pub mod Walks
+pub mod Balanced

@@ -1,0 +1,16 @@
+pub mod Ascii
+pub mod Characters
+pub mod Readings
+pub mod Pieces
+pub mod Brackets
+pub mod Comments
+pub mod Strings
+pub mod Numerals
+pub mod Words
+pub mod Signs
+pub mod Tokens
+pub mod Blocks
+pub mod Order
+pub mod Balance
+pub mod Writing
+pub mod Laws

@@ -1,0 +1,20 @@
+ghost use Rattle.std.specs.Prelude.{ℕ, List};
+ghost use Rattle.lua_lexer.specs.Balance.{Balances};
+ghost use Rattle.lua_lexer.specs.Laws.{HasOneReading};
+ghost use Rattle.lua_lexer.specs.Writing.{AreKinds, ReadsBack};
+ghost use Rattle.lua_lexer.specs.declared.tokens.TokenKind.{TokenKind};
+
+/// A text has at most one list of tokens and at most one fault, and exactly one of both.
+pub fn one_reading()
+    ensures { (line : ℕ) (text : List ℕ) → HasOneReading line text }
+{}
+
+/// Tokens that are written with single blanks, as a text of any length, are read as tokens of the same kinds.
+pub fn written_tokens_are_read()
+    ensures { (line : ℕ) (kinds : List TokenKind) → AreKinds kinds → ReadsBack line kinds }
+{}
+
+/// Where the inside of a block has tokens, its braces balance.
+pub fn blocks_balance()
+    ensures { (line : ℕ) (text : List ℕ) (from : ℕ) → Balances line text from }
+{}

@@ -1,0 +1,119 @@
+ghost use Rattle.std.specs.Prelude.{◌≡◌, ◌≢◌, ◌≤◌, ◌<◌, ◌+◌, ◌^◌, ◌++◌, Ok, Err, OnOk, IfOk, IfErr, length};
+ghost use Rattle.lua_lexer.specs.Comments.{comment_size};
+ghost use Rattle.lua_lexer.specs.Tokens.{comment, piece, token_of, tokens_of, lexed};
+ghost use Rattle.lua_lexer.specs.Order.{AreInOrder};
+ghost use Rattle.lua_lexer.specs.Pieces.{IsPieceOf};
+ghost use Rattle.lua_lexer.specs.Readings.{Gives};
+
+use crate::brackets::opens;
+use crate::characters::{behind, blanks, front, is_blank, is_word_start, line_ends};
+use crate::comments::{comment_size, is_comment};
+use crate::numerals::numeral;
+use crate::signs::longest_sign;
+use crate::strings::{is_quote, long_string, short_string};
+use crate::tokens::{Piece, TokenKind};
+use crate::words::name_or_word;
+use crate::{LexFault, Token};
+use std::alloc::Global;
+
+/// The length of the longest text that is read.
+const LONGEST: usize = 1_048_576;
+
+/// The comment at the front.
+#[tactic(auto, unfolding(crate::specs::Tokens::comment))]
+fn comment(text: &[u8], line: u32) -> Result<Piece, LexFault>
+    requires { 2 ≤ length text.now }
+    ensures value { result ≡ comment line text.now }
+    ensures within { IfOk result (IsPieceOf text.now) }
+{
+    match comment_size(text) {
+        Some(size) => Ok(Piece { kind: None, size }),
+        None => Err(LexFault::OpenComment(line)),
+    }
+}
+
+/// The piece at the front of a text.
+#[tactic(auto, unfolding(crate::specs::Tokens::piece))]
+fn piece(alloc: Global, text: &[u8], line: u32) -> Result<Piece, LexFault>
+    requires some { 0 < length text.now }
+    requires room { line + length text.now < 2 ^ 32 }
+    ensures value { Gives (λ piece. piece) result (piece line text.now) }
+    ensures within { IfOk result (IsPieceOf text.now) }
+{
+    let first = text[0];
+    if is_blank(first) {
+        Ok(Piece {
+            kind: None,
+            size: blanks(text),
+        })
+    } else if is_word_start(first) {
+        name_or_word(alloc, text)
+    } else if first.is_ascii_digit() {
+        numeral(text, line)
+    } else if is_quote(first) {
+        short_string(alloc, text, line)
+    } else if is_comment(text) {
+        comment(text, line)
+    } else if opens(text) {
+        long_string(alloc, text, line)
+    } else {
+        longest_sign(text, line)
+    }
+}
+
+/// Puts a token at the end, where there is a kind.
+fn push_token(
+    tokens: &mut Vec<Token>,
+    kind: Option<TokenKind>,
+    line: u32,
+    start: usize,
+    end: usize,
+) -> Result<(), LexFault>
+    ensures ok { OnOk result (tokens.new.items ≡ tokens.old.items ++ token_of line start kind end) }
+    ensures err { IfErr result (λ fault. fault ≡ LexFault.Memory) }
+{
+    if let Some(kind) = kind {
+        tokens.push(Token {
+            kind,
+            line,
+            start,
+            end,
+        })?;
+    }
+    Ok(())
+}
+
+/// The tokens of a text that begins on the line `line`, however long it is.
+fn tokens_of(alloc: Global, text: &[u8], line: u32) -> Result<Vec<Token>, LexFault>
+    requires { line + length text.now < 2 ^ 32 }
+    ensures value { Gives (λ tokens. tokens.items) result (tokens_of line text.now) }
+    ensures order { IfOk result (λ tokens. AreInOrder line 0 tokens.items (length text.now)) }
+{
+    let mut tokens = Vec::new(alloc);
+    let mut line = line;
+    let mut start = 0;
+    let mut rest = text;
+    while !rest.is_empty() {
+        let Piece { kind, size } = piece(alloc, rest, line)?;
+        push_token(&mut tokens, kind, line, start, start + size)?;
+        line += line_ends(front(rest, size));
+        rest = behind(rest, size);
+        start += size;
+    }
+    Ok(tokens)
+}
+
+/// The tokens of a text that begins on the line `line`. A fault is the first that is met; `TooLong` comes before all
+/// others, with the line that was passed in. `Memory` is the want of memory.
+#[tactic(auto, unfolding(crate::specs::Tokens::lexed))]
+pub fn lex(alloc: Global, text: &[u8], line: u32) -> Result<Vec<Token>, LexFault>
+    requires { line ≤ 4_293_918_719 }
+    ensures tokens { IfOk result (λ tokens. lexed line text.now ≡ Ok tokens.items) }
+    ensures order { IfOk result (λ tokens. AreInOrder line 0 tokens.items (length text.now)) }
+    ensures fault { IfErr result (λ fault. fault ≢ LexFault.Memory → lexed line text.now ≡ Err fault) }
+{
+    if text.len() > LONGEST {
+        return Err(LexFault::TooLong(line));
+    }
+    tokens_of(alloc, text, line)
+}
