@@ -70,3 +70,29 @@ fn byte_strings_are_listed_in_order(rt: HostRuntime) -> Result<(), Fail> {
     assert_eq!(rt; lists.into_vec()[0].as_slice(), b"b".as_slice());
     Ok(())
 }
+
+#[test]
+fn files_of_the_system_answer_by_name_and_length(rt: HostRuntime) -> Result<(), Fail> {
+    let alloc = rt.alloc();
+    let mut files = DiskFiles::new(&rt);
+    let name = "/proc/sys/kernel/ostype";
+    let text = Bytes::copy_from_slice(alloc, b"Linux\n")?;
+    assert_eq!(rt; files.fetch(alloc, name, 6), Fetched::Text(text));
+    assert_eq!(rt; files.fetch(alloc, name, 5), Fetched::TooLong);
+    assert_eq!(rt;
+        files.fetch(alloc, "/proc/sys/kernel/none", 6),
+        Fetched::Missing
+    );
+    assert_eq!(rt; files.fetch(alloc, "/proc", 6), Fetched::Failed);
+    Ok(())
+}
+
+#[test]
+fn a_stream_takes_all_bytes_in_order(rt: HostRuntime) -> Result<(), Fail> {
+    let mut stream = Vec::new(rt.alloc());
+    let mut sink = StdSink::new(&mut stream);
+    assert_eq!(rt; put_all(&mut sink, b"one"), Ok(()));
+    assert_eq!(rt; put_all(&mut sink, b"two"), Ok(()));
+    assert_eq!(rt; stream.as_slice(), b"onetwo".as_slice());
+    Ok(())
+}

@@ -1,1 +1,2 @@
+pub mod MuteExchange
 pub mod Results
