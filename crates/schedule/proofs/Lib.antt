@@ -2,12 +2,14 @@ pub mod Flags
 pub mod Giving
 pub mod HistoryLines
 pub mod Noting
+pub mod OneHistory
 pub mod OneWay
 pub mod Passing
 pub mod PlacesLemmas
 pub mod Reached
 pub mod ReadingLemmas
 pub mod Skipping
+pub mod Spellings
 pub mod Splitting
 pub mod Unbroken
 pub mod Unquoted

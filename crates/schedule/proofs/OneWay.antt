@@ -12,21 +12,21 @@ use Rattle.resty_world.specs.declared.schedule_line.SchedLine.TheVariants as lin
 use Rattle.schedule.specs.Accepted.{IsRead, IsFaultOf}
 use Rattle.schedule.specs.declared.fault.SchedFault.{SchedFault}
 use Rattle.schedule.specs.declared.fault.SchedFault.TheVariants as fault
-use Rattle.schedule.specs.Fitting.{Fits, FitsLine, IsSchedule, most_arrivals}
+use Rattle.schedule.specs.Fitting.{Fits, FitsLine, IsSchedule, last_connection}
 use Rattle.schedule.specs.LineTexts.{line_text, whole_line, schedule_text}
-use Rattle.schedule.specs.Lines.{arrivals_in, bytes_in, stops_in, is_stop}
+use Rattle.schedule.specs.Lines.{arrivals_in, stops_in, is_stop}
 use Rattle.schedule.specs.Reading.{named_text}
 use Rattle.schedule.specs.Words.{quoted}
-use Rattle.schedule.proofs.ReadingLemmas.{arrivals-push, named_parts, part-small}
+use Rattle.schedule.proofs.ReadingLemmas.{arrivals-push, named_parts}
 use Rattle.schedule.proofs.Splitting.{append-cancel, split-unique}
 use Rattle.schedule.proofs.Unbroken.{line-unbroken, decimal-lacks}
-use Rattle.schedule.proofs.Unquoted.{quoted-unique}
+use Rattle.schedule.proofs.Spellings.{quoted-unique}
 
 -- texts that begin with different bytes
 differs : {C : Type 0} (xs ys : List ℕ) → eqb (get_or xs 0 0) (get_or ys 0 0) ≡ false → xs ≡ ys → C
 differs xs ys apart is = absurd (eqb-false (get_or xs 0 0) (get_or ys 0 0) apart (ap (λ zs. get_or zs 0 0) is))
 
-arrive-alone : (lines : List SchedLine) (k : ℕ) (m : SchedLine) → arrivals_in lines ≤ most_arrivals → FitsLine lines (line.Given (event.Arrive k)) → FitsLine lines m → line_text (line.Given (event.Arrive k)) ≡ line_text m → line.Given (event.Arrive k) ≡ m
+arrive-alone : (lines : List SchedLine) (k : ℕ) (m : SchedLine) → arrivals_in lines ≤ last_connection → FitsLine lines (line.Given (event.Arrive k)) → FitsLine lines m → line_text (line.Given (event.Arrive k)) ≡ line_text m → line.Given (event.Arrive k) ≡ m
 arrive-alone lines k (line.Given (event.Arrive j)) few fits_l fits_m is = ap (λ n. line.Given (event.Arrive n)) (fits_l.next ∙ sym fits_m.next)
 arrive-alone lines k (line.Given (event.Bytes (id.Conn d) e)) few fits_l fits_m is = differs (line_text (line.Given (event.Arrive k))) (line_text (line.Given (event.Bytes (id.Conn d) e))) refl is
 arrive-alone lines k (line.Given (event.Bytes (id.Sock n) e)) few fits_l fits_m is = absurd fits_m
@@ -47,7 +47,7 @@ arrive-alone lines k line.FailLog few fits_l fits_m is = absurd fits_m
 arrive-alone lines k line.FailListen few fits_l fits_m is = absurd fits_m
 arrive-alone lines k (line.FailPut i) few fits_l fits_m is = absurd fits_m
 
-bytes-alone : (lines : List SchedLine) (c : ℕ) (b : List ℕ) (m : SchedLine) → arrivals_in lines ≤ most_arrivals → FitsLine lines (line.Given (event.Bytes (id.Conn c) b)) → FitsLine lines m → line_text (line.Given (event.Bytes (id.Conn c) b)) ≡ line_text m → line.Given (event.Bytes (id.Conn c) b) ≡ m
+bytes-alone : (lines : List SchedLine) (c : ℕ) (b : List ℕ) (m : SchedLine) → arrivals_in lines ≤ last_connection → FitsLine lines (line.Given (event.Bytes (id.Conn c) b)) → FitsLine lines m → line_text (line.Given (event.Bytes (id.Conn c) b)) ≡ line_text m → line.Given (event.Bytes (id.Conn c) b) ≡ m
 bytes-alone lines c b (line.Given (event.Arrive j)) few fits_l fits_m is = differs (line_text (line.Given (event.Bytes (id.Conn c) b))) (line_text (line.Given (event.Arrive j))) refl is
 bytes-alone lines c b (line.Given (event.Bytes (id.Conn d) e)) few fits_l fits_m is =
     let a = fits_l.arrived in let f = fits_m.arrived in
@@ -57,7 +57,7 @@ bytes-alone lines c b (line.Given (event.Bytes (id.Conn d) e)) few fits_l fits_m
     (append_assoc (codes "bytes c" ++ decimal c) (codes " ") (quoted b) ∙ append_assoc (codes "bytes c") (decimal c) (32 ∷ quoted b)) refl
     (decimal-lacks 32 c (omega arith) small_c) d (quoted e) small_d is in
     let number = decimal_injective c d small_c small_d parts.0 in
-    let bytes = quoted-unique b e (part-small (bytes_in c lines) b fits_l.asks) (part-small (bytes_in d lines) e fits_m.asks) parts.1 in
+    let bytes = quoted-unique b e parts.1 in
     ap (λ n. line.Given (event.Bytes (id.Conn n) b)) number ∙ ap (λ v. line.Given (event.Bytes (id.Conn d) v)) bytes
 bytes-alone lines c b (line.Given (event.Bytes (id.Sock n) e)) few fits_l fits_m is = absurd fits_m
 bytes-alone lines c b (line.Given (event.Ended i)) few fits_l fits_m is = absurd fits_m
@@ -77,7 +77,7 @@ bytes-alone lines c b line.FailLog few fits_l fits_m is = absurd fits_m
 bytes-alone lines c b line.FailListen few fits_l fits_m is = absurd fits_m
 bytes-alone lines c b (line.FailPut i) few fits_l fits_m is = absurd fits_m
 
-moment-alone : (lines : List SchedLine) (t : Ms) (m : SchedLine) → arrivals_in lines ≤ most_arrivals → FitsLine lines (line.Given (event.Moment t)) → FitsLine lines m → line_text (line.Given (event.Moment t)) ≡ line_text m → line.Given (event.Moment t) ≡ m
+moment-alone : (lines : List SchedLine) (t : Ms) (m : SchedLine) → arrivals_in lines ≤ last_connection → FitsLine lines (line.Given (event.Moment t)) → FitsLine lines m → line_text (line.Given (event.Moment t)) ≡ line_text m → line.Given (event.Moment t) ≡ m
 moment-alone lines t (line.Given (event.Arrive j)) few fits_l fits_m is = differs (line_text (line.Given (event.Moment t))) (line_text (line.Given (event.Arrive j))) refl is
 moment-alone lines t (line.Given (event.Bytes (id.Conn d) e)) few fits_l fits_m is = differs (line_text (line.Given (event.Moment t))) (line_text (line.Given (event.Bytes (id.Conn d) e))) refl is
 moment-alone lines t (line.Given (event.Bytes (id.Sock n) e)) few fits_l fits_m is = absurd fits_m
@@ -101,7 +101,7 @@ moment-alone lines t line.FailLog few fits_l fits_m is = absurd fits_m
 moment-alone lines t line.FailListen few fits_l fits_m is = absurd fits_m
 moment-alone lines t (line.FailPut i) few fits_l fits_m is = absurd fits_m
 
-stop-alone : (lines : List SchedLine) (m : SchedLine) → arrivals_in lines ≤ most_arrivals → FitsLine lines (line.Given event.Stop) → FitsLine lines m → line_text (line.Given event.Stop) ≡ line_text m → line.Given event.Stop ≡ m
+stop-alone : (lines : List SchedLine) (m : SchedLine) → arrivals_in lines ≤ last_connection → FitsLine lines (line.Given event.Stop) → FitsLine lines m → line_text (line.Given event.Stop) ≡ line_text m → line.Given event.Stop ≡ m
 stop-alone lines (line.Given (event.Arrive j)) few fits_l fits_m is = differs (line_text (line.Given event.Stop)) (line_text (line.Given (event.Arrive j))) refl is
 stop-alone lines (line.Given (event.Bytes (id.Conn d) e)) few fits_l fits_m is = differs (line_text (line.Given event.Stop)) (line_text (line.Given (event.Bytes (id.Conn d) e))) refl is
 stop-alone lines (line.Given (event.Bytes (id.Sock n) e)) few fits_l fits_m is = absurd fits_m
@@ -123,7 +123,7 @@ stop-alone lines line.FailListen few fits_l fits_m is = absurd fits_m
 stop-alone lines (line.FailPut i) few fits_l fits_m is = absurd fits_m
 
 -- a line that fits is known by its text
-line-alone : (lines : List SchedLine) (l m : SchedLine) → arrivals_in lines ≤ most_arrivals → FitsLine lines l → FitsLine lines m → line_text l ≡ line_text m → l ≡ m
+line-alone : (lines : List SchedLine) (l m : SchedLine) → arrivals_in lines ≤ last_connection → FitsLine lines l → FitsLine lines m → line_text l ≡ line_text m → l ≡ m
 line-alone lines (line.Given (event.Arrive k)) m few fits_l fits_m is = arrive-alone lines k m few fits_l fits_m is
 line-alone lines (line.Given (event.Bytes (id.Conn c) b)) m few fits_l fits_m is = bytes-alone lines c b m few fits_l fits_m is
 line-alone lines (line.Given (event.Bytes (id.Sock n) b)) m few fits_l fits_m is = absurd fits_l
@@ -145,7 +145,7 @@ line-alone lines line.FailListen m few fits_l fits_m is = absurd fits_l
 line-alone lines (line.FailPut i) m few fits_l fits_m is = absurd fits_l
 
 -- and so is what stands behind it
-next-alone : (lines : List SchedLine) (l m : SchedLine) (t u : List ℕ) → arrivals_in lines ≤ most_arrivals → FitsLine lines l → FitsLine lines m
+next-alone : (lines : List SchedLine) (l m : SchedLine) (t u : List ℕ) → arrivals_in lines ≤ last_connection → FitsLine lines l → FitsLine lines m
     → whole_line l ++ t ≡ whole_line m ++ u → (l ≡ m) × (t ≡ u)
 next-alone lines l m t u few fits_l fits_m is =
     let ways = split-unique 10 (line_text l) (line_text m) t u (line-unbroken lines l (omega arith) fits_l) (line-unbroken lines m (omega arith) fits_m)
@@ -153,16 +153,16 @@ next-alone lines l m t u few fits_l fits_m is =
     (line-alone lines l m few fits_l fits_m ways.0, ways.1)
 
 -- each line fits what stands before it, from a place on
-abbrev FitsFrom : List SchedLine → List SchedLine → Type 0
+abbrev pub FitsFrom : List SchedLine → List SchedLine → Type 0
 FitsFrom before lines = (i : ℕ) (next : SchedLine) → slice_get lines i ≡ Some next → Fits (before ++ take i lines) next
 
-first-fits : (before lines : List SchedLine) (l : SchedLine) → FitsFrom before (l ∷ lines) → Fits before l
+pub first-fits : (before lines : List SchedLine) (l : SchedLine) → FitsFrom before (l ∷ lines) → Fits before l
 first-fits before lines l fit = subst (λ ls. Fits ls l) (append-nil before) (fit 0 l refl)
 
-rest-fits : (before lines : List SchedLine) (l : SchedLine) → FitsFrom before (l ∷ lines) → FitsFrom (before ++ l ∷ []) lines
+pub rest-fits : (before lines : List SchedLine) (l : SchedLine) → FitsFrom before (l ∷ lines) → FitsFrom (before ++ l ∷ []) lines
 rest-fits before lines l fit i next here = subst (λ ls. Fits ls next) (sym (append_assoc before (l ∷ []) (take i lines))) (fit (suc i) next here)
 
-few-more : (before : List SchedLine) (l : SchedLine) → arrivals_in before ≤ most_arrivals → FitsLine before l → arrivals_in (before ++ l ∷ []) ≤ most_arrivals
+pub few-more : (before : List SchedLine) (l : SchedLine) → arrivals_in before ≤ last_connection → FitsLine before l → arrivals_in (before ++ l ∷ []) ≤ last_connection
 few-more before (line.Given (event.Arrive k)) few fits = let a = fits.next in let w = fits.within in let push = arrivals-push before (line.Given (event.Arrive k)) in omega arith
 few-more before (line.Given (event.Bytes (id.Conn n) b)) few fits = let push = arrivals-push before (line.Given (event.Bytes (id.Conn n) b)) in omega arith
 few-more before (line.Given (event.Bytes (id.Sock n) b)) few fits = absurd fits
@@ -189,7 +189,7 @@ filled [] rest is = let e : 10 ∷ rest ≡ [] = is in cc
 filled (x ∷ line) rest is = let e : x ∷ (line ++ codes "\n" ++ rest) ≡ [] = is in cc
 
 -- a text has lines in one way
-lines-alone : (before ls ms : List SchedLine) → arrivals_in before ≤ most_arrivals → FitsFrom before ls → FitsFrom before ms → schedule_text ls ≡ schedule_text ms → ls ≡ ms
+lines-alone : (before ls ms : List SchedLine) → arrivals_in before ≤ last_connection → FitsFrom before ls → FitsFrom before ms → schedule_text ls ≡ schedule_text ms → ls ≡ ms
 lines-alone before [] [] few fit_l fit_m is = refl
 lines-alone before [] (m ∷ ms) few fit_l fit_m is = absurd (filled (line_text m) (schedule_text ms) (sym is))
 lines-alone before (l ∷ ls) [] few fit_l fit_m is = absurd (filled (line_text l) (schedule_text ls) is)
@@ -202,7 +202,7 @@ lines-alone before (l ∷ ls) (m ∷ ms) few fit_l fit_m is =
     ap (λ z. z ∷ ls) next.0 ∙ ap (λ zs. m ∷ zs) rest
 
 -- a schedule isn't refused
-unrefused : (before ls ms : List SchedLine) (rest : List ℕ) → arrivals_in before ≤ most_arrivals → FitsFrom before ls → FitsFrom before ms → schedule_text ls ++ rest ≡ schedule_text ms
+unrefused : (before ls ms : List SchedLine) (rest : List ℕ) → arrivals_in before ≤ last_connection → FitsFrom before ls → FitsFrom before ms → schedule_text ls ++ rest ≡ schedule_text ms
     → ((next : SchedLine) (after : List ℕ) → Fits (before ++ ls) next → rest ≡ whole_line next ++ after → ⊥) → (rest ≡ [] → stops_in (before ++ ls) ≡ 0) → 0 < stops_in (before ++ ms) → ⊥
 unrefused before [] [] rest few fit_l fit_m is unread unended stops = let none = unended is in omega arith
 unrefused before [] (m ∷ ms) rest few fit_l fit_m is unread unended stops =

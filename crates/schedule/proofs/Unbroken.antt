@@ -27,7 +27,7 @@ abbrev lacks : ℕ → List ℕ → Bool
 lacks d [] = true
 lacks d (x ∷ xs) = if eqb x d then false else lacks d xs
 
-lacks-tells : (d : ℕ) (xs : List ℕ) → lacks d xs ≡ true → Lacks d xs
+pub lacks-tells : (d : ℕ) (xs : List ℕ) → lacks d xs ≡ true → Lacks d xs
 lacks-tells d [] is = All-nil (λ b. b ≢ d)
 lacks-tells d (x ∷ xs) is = by_test (eqb x d)
     (λ same. absurd (let e : false ≡ true = sym (ap (λ b. if b then false else lacks d xs) same) ∙ is in cc))
@@ -67,15 +67,15 @@ spellings-lack : (bytes : List ℕ) → Lacks 10 (flat_map quoted_byte bytes)
 spellings-lack [] = All-nil (λ b. b ≢ 10)
 spellings-lack (x ∷ xs) = All-append (λ b. b ≢ 10) (quoted_byte x) (flat_map quoted_byte xs) (spelling-lacks x) (spellings-lack xs)
 
-joined : (xs ys : List ℕ) → Lacks 10 xs → Lacks 10 ys → Lacks 10 (xs ++ ys)
+pub joined : (xs ys : List ℕ) → Lacks 10 xs → Lacks 10 ys → Lacks 10 (xs ++ ys)
 joined xs ys out_x out_y = All-append (λ b. b ≢ 10) xs ys out_x out_y
 
-quoted-lacks : (bytes : List ℕ) → Lacks 10 (quoted bytes)
+pub quoted-lacks : (bytes : List ℕ) → Lacks 10 (quoted bytes)
 quoted-lacks bytes =
     let quote = lacks-tells 10 (codes "\"") refl in
     joined (codes "\"" ++ flat_map quoted_byte bytes) (codes "\"") (joined (codes "\"") (flat_map quoted_byte bytes) quote (spellings-lack bytes)) quote
 
-numbered-lacks : (text : List ℕ) (n : ℕ) → Lacks 10 text → n < 2 ^ 64 → Lacks 10 (text ++ decimal n)
+pub numbered-lacks : (text : List ℕ) (n : ℕ) → Lacks 10 text → n < 2 ^ 64 → Lacks 10 (text ++ decimal n)
 numbered-lacks text n out within = joined text (decimal n) out (decimal-lacks 10 n (omega arith) within)
 
 -- the text of a line that fits has no end of line in it

@@ -126,17 +126,3 @@ spelling-within rest spelling x reads =
     let size = ap length reads.1 in
     let whole = ap length reads.2 ∙ length-append (quoted_byte x) (drop (length spelling) rest) in
     (omega arith, omega arith)
-
-spellings-unique : (bytes others : List ℕ) → All (λ b. b < 256) bytes → All (λ b. b < 256) others
-    → flat_map quoted_byte bytes ++ codes "\"" ≡ flat_map quoted_byte others ++ codes "\"" → bytes ≡ others
-spellings-unique [] others small_b small_o same = sym (all_read [] others (codes "\"") refl same small_o)
-spellings-unique (x ∷ xs) others small_b small_o same =
-    let rest : List ℕ = flat_map quoted_byte (x ∷ xs) ++ codes "\"" in
-    let ends : rest ≢ codes "\"" = λ is. let e : x ∷ xs ≡ [] = all_read [] (x ∷ xs) rest is refl small_b in absurd cc in
-    let further = one_more [] rest (flat_map quoted_byte xs ++ codes "\"") x (small_b 0 x (omega arith)) (append_assoc (quoted_byte x) (flat_map quoted_byte xs) (codes "\"")) ends others same small_o in
-    ap (λ ys. x ∷ ys) (spellings-unique xs further.0 (λ k d within. small_b (suc k) d (omega arith)) further.3 further.2) ∙ sym further.1
-
--- quoted bytes are known by their text
-pub quoted-unique : (bytes others : List ℕ) → All (λ b. b < 256) bytes → All (λ b. b < 256) others → quoted bytes ≡ quoted others → bytes ≡ others
-quoted-unique bytes others small_b small_o same =
-    spellings-unique bytes others small_b small_o (append-cancel (codes "\"") (flat_map quoted_byte bytes ++ codes "\"") (flat_map quoted_byte others ++ codes "\"") same)

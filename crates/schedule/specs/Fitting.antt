@@ -11,9 +11,9 @@ use Rattle.schedule.specs.Lines.{arrivals_in, bytes_in, latest_in, stops_in}
 abbrev pub the_request : List ℕ
 the_request = codes "GET / HTTP/1.0\r\n\r\n"
 
--- how many connections may arrive for now
-abbrev pub most_arrivals : ℕ
-most_arrivals = 1
+-- the last number that a connection may have: a number has at most 18 digits
+abbrev pub last_connection : ℕ
+last_connection = 999_999_999_999_999_999
 
 -- the bytes are a first part of the text
 pub record IsFirstPart (bytes text : List ℕ) : Type 0 where
@@ -23,7 +23,7 @@ pub record IsFirstPart (bytes text : List ℕ) : Type 0 where
 -- an arrival is the next connection
 pub record FitsArrival (before : List SchedLine) (number : ℕ) : Type 0 where
   pub next : number ≡ arrivals_in before + 1
-  pub within : number ≤ most_arrivals
+  pub within : number ≤ last_connection
 
 -- bytes come from a connection that arrived, and with what it sent before they are a first part of the request
 pub record FitsBytes (before : List SchedLine) (connection : ℕ) (bytes : List ℕ) : Type 0 where

@@ -1,4 +1,5 @@
 pub mod Accepted
+pub mod Built
 pub mod Dialling
 pub mod EntryTexts
 pub mod Fitting

@@ -44,7 +44,7 @@ fn refused_at(alloc: Global, text: &[u8]) -> u64 {
 
 #[test]
 fn texts_are_refused_at_their_line(rt: HostRuntime) {
-    let cases: [(u64, &[u8]); 26] = [
+    let cases: [(u64, &[u8]); 29] = [
         (0, b"stop\n"),
         (
             0,
@@ -66,7 +66,16 @@ fn texts_are_refused_at_their_line(rt: HostRuntime) {
         (1, b"moment 1 \nstop\n"),
         (2, b"arrive c1\nmoment 5\nstop\n"),
         (1, b"arrive c2\nstop\n"),
-        (2, b"arrive c1\narrive c2\nstop\n"),
+        (
+            0,
+            b"arrive c1\narrive c2\nbytes c1 \"G\"\nbytes c2 \"GE\"\nbytes c1 \"E\"\nstop\n",
+        ),
+        (2, b"arrive c1\narrive c1\nstop\n"),
+        (2, b"arrive c1\narrive c3\nstop\n"),
+        (
+            4,
+            b"arrive c1\narrive c2\nbytes c1 \"G\"\nbytes c2 \"E\"\nstop\n",
+        ),
         (1, b"bytes c1 \"G\"\nstop\n"),
         (2, b"arrive c1\nbytes c1 \"\"\nstop\n"),
         (2, b"arrive c1\nbytes c1 \"\\x47\"\nstop\n"),

@@ -15,8 +15,8 @@ use std::alloc::{AllocError, Global};
 /// The one request that a connection may send for now.
 const REQUEST: &[u8; 18] = b"GET / HTTP/1.0\r\n\r\n";
 
-/// How many connections may arrive for now.
-const MOST_ARRIVALS: u64 = 1;
+/// The last number that a connection may have: a number has at most 18 digits.
+const LAST_CONNECTION: u64 = 999_999_999_999_999_999;
 
 /// The last moment.
 const LAST_MOMENT: u64 = 99_999_999_999_999;
@@ -113,7 +113,7 @@ impl Reader {
     fn arrives(&self, number: u64) -> bool
         ensures { IsTrue result ↔ FitsArrival self.now.lines.items number }
     {
-        number <= MOST_ARRIVALS && number == self.sent.len() as u64 + 1
+        number <= LAST_CONNECTION && number == self.sent.len() as u64 + 1
     }
 
     fn read_moment(&self, text: &[u8]) -> Option<u64>
