@@ -1,0 +1,5 @@
+pub mod Alone
+mod Drops
+mod Given
+pub mod OwnSteps
+pub mod Worlds

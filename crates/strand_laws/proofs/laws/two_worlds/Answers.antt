@@ -1,0 +1,5 @@
+use Rattle.strand_laws.proofs.Worlds.{same-part}
+use Rattle.strand_laws.proofs.laws.two_worlds.Goals as goal
+
+pub returns : goal.returns
+returns g c = λ site. same-part (g.S.StrandContract.behavior site) (g.met.S.StrandContract.quiet site)

@@ -1,0 +1,17 @@
+-- What follows where a strand is dropped.
+use Rattle.std.specs.Prelude.{◌≡◌, true, List, [], ◌∷◌}
+use Rattle.strand_contract.specs.Actions.{Closed, Dropped, LocalAction, Did}
+use Rattle.strand_contract.specs.Alone.{lives, is_open}
+
+-- a strand that lived was dropped, and since then only places that were open were closed
+abbrev pub EndsByClosings : {J : Type 0} → List (LocalAction J) → Type 0
+EndsByClosings [] = ⊥
+EndsByClosings (Did Dropped ∷ es) = lives es ≡ true
+EndsByClosings (Did (Closed q) ∷ es) = (is_open q es ≡ true) × EndsByClosings es
+EndsByClosings (a ∷ es) = ⊥
+
+-- what a strand that was dropped did before
+abbrev pub before_drop : {J : Type 0} → List (LocalAction J) → List (LocalAction J)
+before_drop [] = []
+before_drop (Did Dropped ∷ es) = es
+before_drop (a ∷ es) = before_drop es

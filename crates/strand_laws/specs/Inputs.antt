@@ -1,0 +1,46 @@
+-- What came to a strand from outside.
+use Rattle.std.specs.Prelude.{ℕ, Bool, List, [], ◌∷◌, ◌++◌, length}
+use Rattle.strand_contract.specs.declared.turns.Start.{Start}
+use Rattle.strand_contract.specs.declared.turns.Seen.{Seen}
+use Rattle.strand_contract.specs.declared.turns.Seen.TheVariants as seen
+use Rattle.strand_contract.specs.declared.turns.Answer.{Answer}
+use Rattle.strand_contract.specs.declared.turns.Answer.TheVariants as answer
+use Rattle.strand_contract.specs.Actions.{Word, Began, Came, Ended, Broke, TakesAgain, Connected, Refused, Put, Later, Lost, Logged, Asked, Took, Dialled, Kept, Timed, LocalAction, Told, Did}
+
+pub data Input (J : Type 0) : Type 0 where
+  -- its start, with the moment at which it begins
+  Starts : (now : ℕ) (start : Start J) → Input J
+  -- what every living strand is told
+  Hears : (w : Word) → Input J
+  -- what came at its places; of a write, only how much was taken
+  Sees : (shown : Seen) → Input J
+  -- whether a log line was written
+  Wrote : (done : Bool) → Input J
+  -- what its calls were answered
+  Learns : (given : Answer) → Input J
+
+-- the input of an action, none where the strand does it by itself
+abbrev pub inputs_of : {J : Type 0} → LocalAction J → List (Input J)
+inputs_of (Told w) = Hears w ∷ []
+inputs_of (Did (Began now start)) = Starts now start ∷ []
+inputs_of (Did (Came q bytes)) = Sees (seen.Bytes q bytes) ∷ []
+inputs_of (Did (Ended q)) = Sees (seen.Ended q) ∷ []
+inputs_of (Did (Broke q)) = Sees (seen.Broken q) ∷ []
+inputs_of (Did (TakesAgain q)) = Sees (seen.Ready q) ∷ []
+inputs_of (Did (Connected k)) = Sees (seen.Dialled k) ∷ []
+inputs_of (Did (Refused k)) = Sees (seen.Refused k) ∷ []
+inputs_of (Did (Put q bytes)) = Sees (seen.Took q (length bytes)) ∷ []
+inputs_of (Did (Later q)) = Sees (seen.Later q) ∷ []
+inputs_of (Did (Lost q)) = Sees (seen.Lost q) ∷ []
+inputs_of (Did (Logged line done)) = Wrote done ∷ []
+inputs_of (Did (Asked zone call given)) = Learns (answer.Dict given) ∷ []
+inputs_of (Did (Took key uses)) = Learns (answer.Took uses) ∷ []
+inputs_of (Did (Dialled host port done)) = Learns (answer.Dialled done) ∷ []
+inputs_of (Did (Kept k key idle size)) = Learns answer.Kept ∷ []
+inputs_of (Did (Timed at given)) = Learns (answer.Timer given) ∷ []
+inputs_of a = []
+
+-- all that came from outside, the newest first
+abbrev pub gave : {J : Type 0} → List (LocalAction J) → List (Input J)
+gave [] = []
+gave (a ∷ es) = inputs_of a ++ gave es

@@ -1,0 +1,4 @@
+//! Laws of the executions of strands, each the contract of a function that does nothing.
+#![tactic(auto)]
+
+pub mod laws;
