@@ -1,0 +1,9 @@
+use Rattle.worked_example.proofs.Ordered.{unordered}
+use Rattle.worked_example.proofs.Plain.{unplain}
+use Rattle.worked_example.proofs.laws.refusals.Goals as goal
+
+pub returns-clause-not_plain : goal.returns-clause-not_plain
+returns-clause-not_plain c = unplain
+
+pub returns-clause-not_ordered : goal.returns-clause-not_ordered
+returns-clause-not_ordered c = unordered

@@ -1,0 +1,14 @@
+use Rattle.std.proofs.Common.{refl}
+use Rattle.std.specs.Fmt.{digits}
+use Rattle.worked_example.proofs.Texts.{schedule, site}
+use Rattle.worked_example.proofs.laws.texts.Goals as goal
+
+pub returns-clause-site : goal.returns-clause-site
+returns-clause-site c = site
+
+pub returns-clause-schedule : goal.returns-clause-schedule
+returns-clause-schedule c = schedule
+
+pub returns-clause-history : goal.returns-clause-history
+unfolding digits
+returns-clause-history c = refl

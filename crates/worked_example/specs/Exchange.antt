@@ -1,0 +1,49 @@
+-- One exchange: a client asks, gets its reply, and its line is closed. Histories and executions have the newest first.
+use Rattle.std.specs.Prelude.{ℕ, List, [], ◌∷◌, None, codes}
+use Rattle.resty_base.specs.declared.names.Id.TheVariants as id
+use Rattle.resty_base.specs.declared.names.StrandId.TheVariants as strand
+use Rattle.resty_world.specs.declared.event.Event.{Event}
+use Rattle.resty_world.specs.declared.event.Event.TheVariants as event
+use Rattle.resty_world.specs.declared.entry.Entry.{Entry}
+use Rattle.resty_world.specs.declared.entry.Entry.TheVariants as entry
+use Rattle.resty_world.specs.declared.schedule_line.SchedLine.{SchedLine}
+use Rattle.resty_world.specs.declared.schedule_line.SchedLine.TheVariants as line
+use Rattle.strand_contract.specs.declared.turns.Place.TheVariants as place
+use Rattle.strand_contract.specs.declared.turns.Start.TheVariants as start
+use Rattle.strand_contract.specs.Actions.{Moment, Stop, Action, Began, Came, Ran, Offered, Put, Closed, Gone, GlobalAction, Of, Everyone}
+use Rattle.strand.specs.declared.strand.NoJob.{NoJob}
+use Rattle.strand.specs.Examples.{hi_reply}
+
+abbrev pub request : List ℕ
+request = codes "GET / HTTP/1.0\r\n\r\n"
+
+-- what is given
+abbrev pub at_second_1 : Event
+at_second_1 = event.Moment (record { 0 = 1_000 })
+
+abbrev pub arrives : Event
+arrives = event.Arrive 1
+
+abbrev pub asks : Event
+asks = event.Bytes (id.Conn 1) request
+
+-- the lines of the schedule
+abbrev pub lines : List SchedLine
+lines = line.Given at_second_1 ∷ line.Given arrives ∷ line.Given asks ∷ line.Given event.Stop ∷ []
+
+-- the history: up to the request, and whole
+abbrev pub asked : List Entry
+asked = entry.Given asks ∷ entry.Given arrives ∷ entry.Given at_second_1 ∷ []
+
+abbrev pub history : List Entry
+history = entry.Given event.Stop ∷ entry.Close (id.Conn 1) ∷ entry.Put (id.Conn 1) hi_reply ∷ asked
+
+-- the execution: a thread runs for the request, and the reply that it makes is offered
+abbrev pub of_client : Action NoJob → GlobalAction NoJob
+of_client x = Of (strand.Conn 1) x None
+
+abbrev pub exchange : List (GlobalAction NoJob)
+exchange =
+    Everyone Stop ∷ of_client Gone ∷ of_client (Closed place.Client) ∷ of_client (Put place.Client hi_reply)
+    ∷ of_client (Offered place.Client) ∷ of_client (Ran 0) ∷ of_client (Came place.Client request)
+    ∷ of_client (Began 1_000 (start.Client 1)) ∷ Everyone (Moment 1_000) ∷ []

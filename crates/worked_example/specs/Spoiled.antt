@@ -1,0 +1,52 @@
+-- Histories that are the exchange's but for one thing.
+use Rattle.std.specs.Prelude.{◌≡◌, List, [], ◌∷◌, take}
+use Rattle.resty_base.specs.declared.names.Id.TheVariants as id
+use Rattle.resty_base.specs.declared.names.StrandId.TheVariants as strand
+use Rattle.resty_world.specs.declared.event.Event.{Event}
+use Rattle.resty_world.specs.declared.event.Event.TheVariants as event
+use Rattle.resty_world.specs.declared.entry.Entry.{Entry}
+use Rattle.resty_world.specs.declared.entry.Entry.TheVariants as entry
+use Rattle.strand_contract.specs.Actions.{GlobalAction}
+use Rattle.strand_contract.specs.Executions.{external, IsLawful, IsPlain}
+use Rattle.strand.specs.declared.strand.NoJob.{NoJob}
+use Rattle.strand.specs.Examples.{hi, hi_reply}
+use Rattle.strand.specs.Literal.{literal_behavior}
+use Rattle.strand.specs.Replies.{reply}
+use Rattle.worked_example.specs.Exchange.{at_second_1, arrives, asked}
+
+-- the last byte of the reply is lost
+abbrev pub byte_lost : List Entry
+byte_lost = entry.Given event.Stop ∷ entry.Close (id.Conn 1) ∷ entry.Put (id.Conn 1) (take 118 hi_reply) ∷ asked
+
+-- the reply is held back until Stop was given
+abbrev pub put_after_stop : List Entry
+put_after_stop = entry.Close (id.Conn 1) ∷ entry.Put (id.Conn 1) hi_reply ∷ entry.Given event.Stop ∷ asked
+
+-- the reply has the date of a second later
+abbrev pub date_late : List Entry
+date_late = entry.Given event.Stop ∷ entry.Close (id.Conn 1) ∷ entry.Put (id.Conn 1) (reply hi 2_000) ∷ asked
+
+-- the line isn't closed behind the reply
+abbrev pub no_close : List Entry
+no_close = entry.Given event.Stop ∷ entry.Put (id.Conn 1) hi_reply ∷ asked
+
+-- no execution that is lawful and plain has this history
+abbrev pub HasNoExecution : List Entry → Type 0
+HasNoExecution h = (ms : List (GlobalAction NoJob)) → IsLawful (literal_behavior hi) ms → IsPlain (literal_behavior hi) ms → external (literal_behavior hi) ms ≡ h → ⊥
+
+-- the request is never given, though the line is open: Stop closes it
+abbrev pub not_asked : List Entry
+not_asked = entry.Close (id.Conn 1) ∷ entry.Given event.Stop ∷ entry.Given arrives ∷ entry.Given at_second_1 ∷ []
+
+-- the client is turned away, though there is room
+abbrev pub turned_away : List Entry
+turned_away = entry.Given event.Stop ∷ entry.Close (id.Conn 1) ∷ entry.Turned 1 ∷ entry.Given arrives ∷ entry.Given at_second_1 ∷ []
+
+abbrev pub at_second_2 : Event
+at_second_2 = event.Moment (record { 0 = 2_000 })
+
+-- the client's strand is dropped at an event that isn't its own
+abbrev pub dropped_by_others : List Entry
+dropped_by_others =
+    entry.Given event.Stop ∷ entry.Close (id.Conn 1) ∷ entry.Dropped (strand.Conn 1) ∷ entry.Given at_second_2 ∷ entry.Given arrives
+    ∷ entry.Given at_second_1 ∷ []
