@@ -1,6 +1,7 @@
 pub mod Five
 pub mod Pieces
 pub mod Story
+pub mod Built
 pub mod Served
 pub mod Due
 pub mod Working

@@ -9,9 +9,11 @@ use Rattle.schedule.specs.declared.replay.Replay.{Replay}
 use Rattle.schedule.specs.Fitting.{IsSchedule}
 use Rattle.schedule.specs.ReplayBook.{book_of, pieces_in, IsFresh, IsLater}
 use Rattle.schedule.specs.Told.{IsTold}
-use Rattle.strand_contract.specs.Behaviors.{Behavior}
+use Rattle.strand_contract.specs.Executions.{offered_lengths}
+use Rattle.strand.specs.Literal.{literal_behavior}
 use Rattle.engine.specs.Right.{IsStopped, IsSpent, IsFaulted, IsRight}
 use Rattle.resty.specs.Run.{IsRun}
+use Rattle.resty.proofs.Built.{history-built}
 use Rattle.resty.proofs.Story.{story, no_failed_log, not_at_end, all_passed, never_absent}
 
 -- the world still goes by these lines, and tells those that were passed
@@ -64,15 +66,19 @@ never_bad lines world n tells whole bad =
     never_absent (take world.passed lines) (book_of world).arrivals world.dials bad.bad (rw tells.course at arrivals) fits.fits bad.absent
 
 -- where Stop was given, the history is that of a run of all the lines
-pub runs : {J : Type 0} (b : Behavior J) (lines : List SchedLine) (world : Replay) → Tells lines world → IsSchedule lines
-    → IsStopped world.history.entries → IsRight b (book_of world) → IsRun b lines world.history.entries
-runs b lines world tells whole stopped right = record {
-  execution = right.execution;
-  history = right.history;
-  told = rw (← right.offered, ← all_passed lines world.passed world.history.entries (pieces_in world.history.entries) whole tells.told stopped) tells.told;
-  lawful = right.lawful;
-  kept = right.kept;
-  plain = right.plain;
-  ordered = right.ordered;
-  stopped = stopped;
-}
+pub runs : {J : Type 0} (body : List ℕ) (lines : List SchedLine) (world : Replay) → Tells lines world → IsSchedule lines
+    → IsStopped world.history.entries → IsRight {J = J} (literal_behavior body) (book_of world) → IsRun {J = J} (literal_behavior body) lines world.history.entries
+runs body lines world tells whole stopped right =
+    let told : IsTold lines world.history.entries (offered_lengths (literal_behavior body) right.execution) =
+    rw (← right.offered, ← all_passed lines world.passed world.history.entries (pieces_in world.history.entries) whole tells.told stopped) tells.told in
+    record {
+      execution = right.execution;
+      history = right.history;
+      told = told;
+      lawful = right.lawful;
+      kept = right.kept;
+      plain = right.plain;
+      ordered = right.ordered;
+      stopped = stopped;
+      built = history-built body lines world.history.entries (offered_lengths (literal_behavior body) right.execution) right.execution whole told right.history right.lawful.alone right.lawful.begins right.plain;
+    }

@@ -1,6 +1,7 @@
 pub mod Ending
 pub mod Reading
 pub mod Run
+pub mod Serving
 pub mod Taking
 pub mod Verdict
 pub mod Words

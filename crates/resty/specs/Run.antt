@@ -1,9 +1,10 @@
 -- The run of a schedule.
-use Rattle.std.specs.Prelude.{◌≡◌, Bool, true, false, List}
+use Rattle.std.specs.Prelude.{◌≡◌, Bool, true, false, List, All}
 use Rattle.std.specs.List.{list_any}
 use Rattle.resty_world.specs.declared.entry.Entry.{Entry}
 use Rattle.resty_world.specs.declared.entry.Entry.TheVariants as entry
 use Rattle.resty_world.specs.declared.schedule_line.SchedLine.{SchedLine}
+use Rattle.schedule.specs.Built.{IsBuilt}
 use Rattle.schedule.specs.Told.{IsTold}
 use Rattle.strand_contract.specs.Actions.{GlobalAction}
 use Rattle.strand_contract.specs.Behaviors.{Behavior}
@@ -12,7 +13,7 @@ use Rattle.strand_contract.specs.Order.{IsOrdered}
 use Rattle.engine.specs.Right.{IsStopped}
 
 -- The history of a run of these lines: it is that of one execution, which is lawful, kept, plain and ordered, it tells the
--- lines, and Stop was given last.
+-- lines, and Stop was given last. Its entries are all built, so no other history of built entries has its text.
 pub record IsRun {J : Type 0} (b : Behavior J) (lines : List SchedLine) (h : List Entry) : Type 0 where
   pub execution : List (GlobalAction J)
   pub history : h ≡ external b execution
@@ -22,6 +23,7 @@ pub record IsRun {J : Type 0} (b : Behavior J) (lines : List SchedLine) (h : Lis
   pub plain : IsPlain b execution
   pub ordered : IsOrdered b execution
   pub stopped : IsStopped h
+  pub built : All IsBuilt h
 
 -- a strand was given up
 abbrev pub is_dropped : Entry → Bool

@@ -7,6 +7,7 @@ pub mod laws;
 mod messages;
 mod reading;
 mod run;
+pub mod server;
 mod top;
 mod work;
 mod writing;

@@ -1,27 +1,26 @@
 ghost use Rattle.std.specs.Prelude.{◌≡◌, ◌≤◌, length, IfOk};
 ghost use Rattle.schedule.specs.Fitting.{IsSchedule};
 ghost use Rattle.resty.specs.Run.{IsRun};
+ghost use Rattle.strand.specs.declared.strand.NoJob.{NoJob};
+ghost use Rattle.strand.specs.Literal.{literal_behavior};
 
-use engine::{Ended, serve};
+use crate::server::serve;
+use engine::Ended;
 use schedule::{Replay, Schedule};
 use std::alloc::{AllocError, Global};
-use strand_contract::StrandContract;
+use strand::Site;
 
 /// How many events are given at most.
 const EVENTS: u64 = 900_000_000_000_000_000;
 
 /// The world of this schedule, once the strands of the site have served it up to Stop.
-pub fn replayed<S: StrandContract>(
-    alloc: Global,
-    site: S::Site,
-    schedule: Schedule,
-) -> Result<Replay, AllocError>
+pub fn replayed(alloc: Global, site: Site, schedule: Schedule) -> Result<Replay, AllocError>
     requires whole { IsSchedule schedule }
     requires few { length schedule ≤ 67_108_864 }
-    ensures { IfOk result (λ world. IsRun (S.behavior site) schedule world.history.entries) }
+    ensures { IfOk result (λ world. IsRun {J = NoJob} (literal_behavior site) schedule world.history.entries) }
 {
     let mut world = Replay::new(alloc, schedule);
-    match serve::<S, Replay>(alloc, site, &mut world, EVENTS) {
+    match serve(alloc, site, &mut world, EVENTS) {
         Ended::Stopped => Ok(world),
         Ended::Memory => Err(AllocError),
         Ended::Spent(_) => unreachable!(),

@@ -123,7 +123,7 @@ fn what_is_not_built_is_refused_at_its_line(rt: HostRuntime) -> Result<(), Fail>
     let schedule_line = "resty: t.sched: line 2: not built yet\n";
     for schedule in [
         "arrive c1\nended c1\nstop\n",
-        "arrive c1\narrive c2\nstop\n",
+        "arrive c1\narrive c3\nstop\n",
         "arrive c1\n",
     ] {
         expect(
@@ -294,3 +294,6 @@ fn statuses_are_numbered_in_order(rt: HostRuntime) {
         assert_eq!(&rt; usize::from(status.code()), code);
     }
 }
+
+mod connections;
+mod replies;

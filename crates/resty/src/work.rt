@@ -12,7 +12,7 @@ use crate::writing::write_history;
 use resty_base::{Files, Sink};
 use schedule::Schedule;
 use std::alloc::Global;
-use strand::{LiteralStrand, Site};
+use strand::Site;
 
 /// Reads the files, the configuration first, serves the schedule and writes the history.
 pub fn work<F: Files, O: Sink>(
@@ -60,7 +60,7 @@ fn serve_and_write<O: Sink>(alloc: Global, site: Site, schedule: Schedule, out: 
     requires few { length schedule ≤ 67_108_864 }
     ensures { WritesRun site schedule result (O.told out.old) (O.faults out.old) (O.told out.new) (O.faults out.new) }
 {
-    match replayed::<LiteralStrand>(alloc, site, schedule) {
+    match replayed(alloc, site, schedule) {
         Ok(world) => write_history(alloc, world.history(), out),
         Err(_) => Ending::Memory,
     }

@@ -1,0 +1,324 @@
+-- A run of a literal site has a history of built entries alone.
+use Rattle.std.proofs.Common.{◌≡◌, ◌⊎◌, ℕ, ◌≤◌, Bool, true, false, inl, inr, List, [], ◌∷◌, ◌++◌, All, Option, Some, None, if◌then◌else◌, refl, sym, ap, subst, ◌∙◌, arith}
+use Rattle.std.proofs.lemmas.List.Elements.{All-append, All-cons, All-nil}
+use Rattle.resty_base.specs.declared.names.Id.TheVariants as id
+use Rattle.resty_base.specs.declared.names.StrandId.{StrandId}
+use Rattle.resty_base.specs.declared.names.StrandId.TheVariants as strand
+use Rattle.resty_world.specs.Ids.{same_strand}
+use Rattle.resty_world.specs.declared.event.Event.TheVariants as event
+use Rattle.resty_world.specs.declared.entry.Entry.{Entry}
+use Rattle.resty_world.specs.declared.entry.Entry.TheVariants as entry
+use Rattle.resty_world.specs.declared.schedule_line.SchedLine.{SchedLine}
+use Rattle.resty_world.specs.declared.schedule_line.SchedLine.TheVariants as line
+use Rattle.schedule.specs.Built.{IsNumber, IsBuiltEvent, IsBuilt}
+use Rattle.schedule.specs.Fitting.{IsSchedule, FitsLine, last_connection}
+use Rattle.schedule.specs.Lines.{arrivals_in}
+use Rattle.schedule.specs.Told.{IsTold}
+use Rattle.schedule.proofs.OneWay.{FitsFrom, first-fits, rest-fits, few-more}
+use Rattle.schedule.proofs.PlacesLemmas.{same_strand-eq}
+use Rattle.strand_contract.specs.declared.turns.Place.{Place}
+use Rattle.strand_contract.specs.declared.turns.Place.TheVariants as place
+use Rattle.strand_contract.specs.declared.turns.Start.TheVariants as start
+use Rattle.strand_contract.specs.declared.turns.Act.{Act}
+use Rattle.strand_contract.specs.Actions.{Moment, Stop, Action, Began, Came, Ended, Broke, TakesAgain, Connected, Refused, Put, Later, Lost, Closed, Logged, Asked, Took, Dialled, Kept, Timed, Dropped, Ran, Offered, Due, Halted, Gone, LocalAction, Told, Did, GlobalAction, Of, Everyone, TurnedAway, IdleGave, IdleClosed}
+use Rattle.strand_contract.specs.Behaviors.{Behavior}
+use Rattle.strand_contract.specs.Alone.{lives, is_open, is_some_left, queued, going_on, begun_offer, offering, todo, Enabled, IsExecution}
+use Rattle.strand_contract.specs.Executions.{projection, id_at, entry_of, entries_of, external, IsPlain, BeginsRight, IsStartOf}
+use Rattle.strand_contract.specs.ClientOnly.{HasClientOnly, client-only, never, clash}
+use Rattle.strand.specs.Literal.{literal_behavior}
+use Rattle.strand.specs.Laws.{client-only-acts}
+use Rattle.engine.proofs.Lists.{by_test, strand-true}
+
+-- the events of a schedule's lines
+abbrev IsBuiltLine : SchedLine → Type 0
+IsBuiltLine (line.Given e) = IsBuiltEvent e
+IsBuiltLine l = Unit {0}
+
+abbrev AreBuiltLines : List SchedLine → Type 0
+AreBuiltLines [] = Unit {0}
+AreBuiltLines (l ∷ lines) = IsBuiltLine l × AreBuiltLines lines
+
+built-line : (before : List SchedLine) (l : SchedLine) → arrivals_in before ≤ last_connection → FitsLine before l → IsBuiltLine l
+built-line before (line.Given (event.Arrive k)) few fits = let within = fits.within in omega arith
+built-line before (line.Given (event.Bytes (id.Conn c) bytes)) few fits = let arrived = fits.arrived in omega arith
+built-line before (line.Given (event.Moment t)) few fits = let within = fits.within in omega arith
+built-line before (line.Given event.Stop) few fits = tt
+built-line before (line.Given e) few fits = absurd fits
+built-line before l few fits = tt
+
+built-from : (before after : List SchedLine) → arrivals_in before ≤ last_connection → FitsFrom before after → AreBuiltLines after
+built-from before [] few fit = tt
+built-from before (l ∷ after) few fit =
+    let fits = (first-fits before after l fit).fits in
+    (built-line before l few fits, built-from (before ++ l ∷ []) after (few-more before l few fits) (rest-fits before after l fit))
+
+built-lines : (lines : List SchedLine) → IsSchedule lines → AreBuiltLines lines
+built-lines lines whole = built-from [] lines (omega arith) (λ i next here. whole.fit i next here)
+
+front : (xs ys : List SchedLine) → AreBuiltLines (xs ++ ys) → AreBuiltLines xs
+front [] ys all = tt
+front (x ∷ xs) ys all = (all.0, front xs ys all.1)
+
+back : (xs ys : List SchedLine) → AreBuiltLines (xs ++ ys) → AreBuiltLines ys
+back [] ys all = all
+back (x ∷ xs) ys all = back xs ys all.1
+
+-- what a schedule makes of the entries that tell it: its events are built, and each write takes something
+abbrev IsToldEntry : Entry → Type 0
+IsToldEntry (entry.Given e) = IsBuiltEvent e
+IsToldEntry (entry.Later i) = ⊥
+IsToldEntry (entry.Lost i) = ⊥
+IsToldEntry e = Unit {0}
+
+abbrev pub AreToldEntries : List Entry → Type 0
+AreToldEntries [] = Unit {0}
+AreToldEntries (e ∷ h) = IsToldEntry e × AreToldEntries h
+
+entries-told : (lines : List SchedLine) (h : List Entry) (offered : List ℕ) → AreBuiltLines lines → IsTold lines h offered → AreToldEntries h
+entries-told lines [] offered all told = tt
+entries-told lines (entry.Given e ∷ h) offered all told =
+    let before : List SchedLine = told.0 ++ told.1.over in
+    let parts : AreBuiltLines (before ++ line.Given e ∷ []) = subst AreBuiltLines told.1.whole all in
+    ((back before (line.Given e ∷ []) parts).0, entries-told told.0 h offered (front told.0 told.1.over (front before (line.Given e ∷ []) parts)) told.2)
+entries-told lines (entry.Put i bytes ∷ h) offered all told = (tt, entries-told lines h told.0 all told.2)
+entries-told lines (entry.Later i ∷ h) offered all told = absurd told
+entries-told lines (entry.Lost i ∷ h) offered all told = absurd told
+entries-told lines (entry.Close i ∷ h) offered all told = (tt, entries-told lines h offered all told)
+entries-told lines (entry.Dial who host port (Some n) ∷ h) offered all told = (tt, entries-told lines h offered all told.1)
+entries-told lines (entry.Dial who host port None ∷ h) offered all told = absurd told
+entries-told lines (entry.Log who text written ∷ h) offered all told = (tt, entries-told lines h offered all told.1)
+entries-told lines (entry.Dict who zone call answer ∷ h) offered all told = (tt, entries-told lines h offered all told)
+entries-told lines (entry.Take who key got ∷ h) offered all told = (tt, entries-told lines h offered all told)
+entries-told lines (entry.Keep who n key idle size closed ∷ h) offered all told = (tt, entries-told lines h offered all told)
+entries-told lines (entry.Timer who due answer ∷ h) offered all told = (tt, entries-told lines h offered all told)
+entries-told lines (entry.Start n ∷ h) offered all told = (tt, entries-told lines h offered all told)
+entries-told lines (entry.Turned c ∷ h) offered all told = (tt, entries-told lines h offered all told)
+entries-told lines (entry.Dropped s ∷ h) offered all told = (tt, entries-told lines h offered all told)
+
+older : (xs ys : List Entry) → AreToldEntries (xs ++ ys) → AreToldEntries ys
+older [] ys all = all
+older (x ∷ xs) ys all = older xs ys all.1
+
+-- the strand is a connection whose number a line can name
+abbrev IsNumbered : StrandId → Type 0
+IsNumbered (strand.Conn c) = IsNumber c
+IsNumbered (strand.Job n) = ⊥
+
+-- what is used of an execution, which holds of each earlier part of it too
+record Fine {J : Type 0} (body : List ℕ) (ms : List (GlobalAction J)) : Type 0 where
+  alone : (s : StrandId) → IsExecution (literal_behavior body) (projection s ms)
+  begins : BeginsRight ms
+  plain : IsPlain (literal_behavior body) ms
+  told : AreToldEntries (external (literal_behavior body) ms)
+
+unlike : {C : Type 0} → false ≡ true → C
+unlike e = absurd (let no : false ≡ true = e in cc)
+
+no-act : {J : Type 0} {C : Type 0} (a : Act J) (rest : List (Act J)) → [] ≡ a ∷ rest → C
+no-act a rest e = absurd (let no : [] ≡ a ∷ rest = e in cc)
+
+one : (e : Entry) → IsBuilt e → All IsBuilt (e ∷ [])
+one e built = All-cons IsBuilt e [] built (All-nil IsBuilt)
+
+begun-numbered : (J : Type 0) (s : StrandId) (c : ℕ) → IsStartOf {J = J} s (start.Client c) → IsNumber c → IsNumbered s
+begun-numbered J (strand.Conn k) c same small = subst IsNumber same small
+begun-numbered J (strand.Job k) c same small = absurd same
+
+opened-queue : (c : Bool) (bytes : List ℕ) → is_some_left (if c then bytes else []) ≡ true → c ≡ true
+opened-queue true bytes some = refl
+opened-queue false bytes some = unlike some
+
+drop-built : (s : StrandId) → IsNumbered s → IsBuilt (entry.Dropped s)
+drop-built (strand.Conn c) known = known
+drop-built (strand.Job n) known = absurd known
+
+module _ {J : Type 0} where
+  tail-execution : (b : Behavior J) (c : Bool) (a : LocalAction J) (es : List (LocalAction J)) → IsExecution b (if c then a ∷ es else es) → IsExecution b es
+  tail-execution b true a es f = f.0
+  tail-execution b false a es f = f
+
+  head-enabled : (b : Behavior J) (c : Bool) (a : LocalAction J) (es : List (LocalAction J)) → c ≡ true → IsExecution b (if c then a ∷ es else es) → Enabled b es a
+  head-enabled b true a es on f = f.1
+  head-enabled b false a es on f = unlike on
+
+  alone-tail : (b : Behavior J) (m : GlobalAction J) (ms : List (GlobalAction J)) (s : StrandId) → IsExecution b (projection s (m ∷ ms)) → IsExecution b (projection s ms)
+  alone-tail b (Of t x n) ms s f = tail-execution b (same_strand s t) (Did x) (projection s ms) f
+  alone-tail b (Everyone w) ms s f = tail-execution b (lives (projection s ms)) (Told w) (projection s ms) f
+  alone-tail b m ms s f = f
+
+  begins-tail : (m : GlobalAction J) (ms : List (GlobalAction J)) → BeginsRight (m ∷ ms) → BeginsRight ms
+  begins-tail (Of s (Began now begin) n) ms f = f.0
+  begins-tail m ms f = f
+
+  plain-tail : (b : Behavior J) (m : GlobalAction J) (ms : List (GlobalAction J)) → IsPlain b (m ∷ ms) → IsPlain b ms
+  plain-tail b (Of s (Began now (start.Client c)) n) ms f = f.0
+  plain-tail b (Of s (Asked zone call answer) n) ms f = absurd f
+  plain-tail b (Of s (Took key uses) n) ms f = absurd f
+  plain-tail b (Of s (Dialled host port done) n) ms f = absurd f
+  plain-tail b (Of s (Kept k key idle size) n) ms f = absurd f
+  plain-tail b (Of s (Timed at answer) n) ms f = absurd f
+  plain-tail b (TurnedAway c) ms f = f.0
+  plain-tail b (IdleGave e) ms f = absurd f
+  plain-tail b (IdleClosed n) ms f = absurd f
+  plain-tail b m ms f = f
+
+  fine-tail : (body : List ℕ) (m : GlobalAction J) (ms : List (GlobalAction J)) → Fine body (m ∷ ms) → Fine body ms
+  fine-tail body m ms f = record {
+    alone = λ s. alone-tail (literal_behavior body) m ms s (f.alone s);
+    begins = begins-tail m ms f.begins;
+    plain = plain-tail (literal_behavior body) m ms f.plain;
+    told = older (entries_of (literal_behavior body) m ms) (external (literal_behavior body) ms) f.told;
+  }
+
+  no-job : {C : Type 0} (s : StrandId) (n : ℕ) (job : J) → IsStartOf s (start.Job n job) → C
+  no-job (strand.Conn k) n job same = absurd same
+  no-job (strand.Job k) n job same = absurd same
+
+  -- the first action of a strand is its beginning, which is an arrival
+  first-numbered : (body : List ℕ) (s : StrandId) (x : Action J) (n : Option ℕ) (ms : List (GlobalAction J)) → Fine body (Of s x n ∷ ms) → Enabled (literal_behavior body) [] (Did x) → IsNumbered s
+  first-numbered body s (Began now (start.Client c)) n ms f e = begun-numbered J s c f.begins.1 f.told.0
+  first-numbered body s (Began now (start.Job k job)) n ms f e = no-job s k job f.begins.1
+  first-numbered body s (Came q bytes) n ms f e = unlike e.0.living
+  first-numbered body s (Ended q) n ms f e = unlike e.living
+  first-numbered body s (Broke q) n ms f e = unlike e.living
+  first-numbered body s (TakesAgain q) n ms f e = unlike e.living
+  first-numbered body s (Connected k) n ms f e = unlike e.living
+  first-numbered body s (Refused k) n ms f e = unlike e.living
+  first-numbered body s (Put q bytes) n ms f e = unlike e.0.living
+  first-numbered body s (Later q) n ms f e = unlike e.living
+  first-numbered body s (Lost q) n ms f e = unlike e.living
+  first-numbered body s (Closed q) n ms f e = elim e [
+    | inl next ↦ unlike next.1
+    | inr first ↦ unlike first.dropped
+  ]
+  first-numbered body s (Logged text done) n ms f e = no-act _ e.0 e.1
+  first-numbered body s (Asked zone call answer) n ms f e = absurd f.plain
+  first-numbered body s (Took key uses) n ms f e = absurd f.plain
+  first-numbered body s (Dialled host port done) n ms f e = absurd f.plain
+  first-numbered body s (Kept k key idle size) n ms f e = absurd f.plain
+  first-numbered body s (Timed at answer) n ms f e = absurd f.plain
+  first-numbered body s Dropped n ms f e = unlike e
+  first-numbered body s (Ran k) n ms f e = unlike e.0.living
+  first-numbered body s (Offered q) n ms f e = unlike e.0.living
+  first-numbered body s (Due k) n ms f e = unlike e.0.living
+  first-numbered body s Halted n ms f e = unlike e.0.living
+  first-numbered body s Gone n ms f e = no-act _ [] e
+
+  -- a strand to which something happened is numbered
+  numbered : (body : List ℕ) (s : StrandId) (ms : List (GlobalAction J)) → Fine body ms → (projection s ms ≡ []) ⊎ IsNumbered s
+  numbered body s [] f = inl refl
+  numbered body s (Of t x n ∷ ms) f = elim (numbered body s ms (fine-tail body (Of t x n) ms f)) [
+    | inr known ↦ inr known
+    | inl none ↦ by_test (same_strand s t)
+        (λ same. inr (subst IsNumbered (sym (same_strand-eq s t same))
+        (first-numbered body t x n ms f (subst (λ es. Enabled (literal_behavior body) es (Did x)) none
+        (head-enabled (literal_behavior body) (same_strand s t) (Did x) (projection s ms) same (f.alone s))))))
+        (λ other. inl (ap (λ c. if c then Did x ∷ projection s ms else projection s ms) other ∙ none))
+  ]
+  numbered body s (Everyone w ∷ ms) f = elim (numbered body s ms (fine-tail body (Everyone w) ms f)) [
+    | inr known ↦ inr known
+    | inl none ↦ inl (ap (λ es. if lives es then Told w ∷ es else es) none)
+  ]
+  numbered body s (TurnedAway c ∷ ms) f = numbered body s ms (fine-tail body (TurnedAway c) ms f)
+  numbered body s (IdleGave e ∷ ms) f = numbered body s ms (fine-tail body (IdleGave e) ms f)
+  numbered body s (IdleClosed n ∷ ms) f = numbered body s ms (fine-tail body (IdleClosed n) ms f)
+
+  living-numbered : (body : List ℕ) (s : StrandId) (ms : List (GlobalAction J)) → Fine body ms → lives (projection s ms) ≡ true → IsNumbered s
+  living-numbered body s ms f alive = elim (numbered body s ms f) [
+    | inl none ↦ clash (lives (projection s ms)) alive (ap lives none)
+    | inr known ↦ known
+  ]
+
+  open-numbered : (body : List ℕ) (s : StrandId) (q : Place) (ms : List (GlobalAction J)) → Fine body ms → is_open q (projection s ms) ≡ true → IsNumbered s
+  open-numbered body s q ms f opened = elim (numbered body s ms f) [
+    | inl none ↦ clash (is_open q (projection s ms)) opened (ap (is_open q) none)
+    | inr known ↦ known
+  ]
+
+  -- the places of a literal strand are its client's
+  own : (body : List ℕ) (es : List (LocalAction J)) → IsExecution (literal_behavior body) es → HasClientOnly (literal_behavior body) es
+  own body es f = client-only (literal_behavior body) (client-only-acts body) es f
+
+  open-client : (body : List ℕ) (es : List (LocalAction J)) (q : Place) → IsExecution (literal_behavior body) es → is_open q es ≡ true → q ≡ place.Client
+  open-client body es place.Client f opened = refl
+  open-client body es (place.Sock k) f opened = clash (is_open (place.Sock k) es) opened ((own body es f).no_socket k)
+
+  some-queued : (b : Behavior J) (es : List (LocalAction J)) (o : Option Place) (q : Place) → going_on b es o ≡ Some q → is_some_left (queued b q es) ≡ true
+  some-queued b es None q e = absurd (let no : None ≡ Some q = e in cc)
+  some-queued b es (Some p) q e = by_test (is_some_left (queued b p es))
+      (λ on.
+      let same : Some p ≡ Some q = sym (ap (λ c. if c then Some p else None) on) ∙ e in
+      let is : p ≡ q = cc in
+      subst (λ r. is_some_left (queued b r es) ≡ true) is on)
+      (λ off. absurd (let no : None ≡ Some q = sym (ap (λ c. if c then Some p else None) off) ∙ e in cc))
+
+  offered-client : (body : List ℕ) (es : List (LocalAction J)) (q : Place) → IsExecution (literal_behavior body) es → offering (literal_behavior body) es ≡ Some q → q ≡ place.Client
+  offered-client body es q f e = open-client body es q f (opened-queue (is_open q es) _ (some-queued (literal_behavior body) es (begun_offer es) q e))
+
+  put-built : (s : StrandId) (q : Place) (bytes : List ℕ) (ms : List (GlobalAction J)) → IsNumbered s → q ≡ place.Client → IsBuilt (entry.Put (id_at s q ms) bytes)
+  put-built (strand.Conn c) place.Client bytes ms known same = known
+  put-built (strand.Conn c) (place.Sock k) bytes ms known same = absurd (let no : place.Sock k ≡ place.Client = same in cc)
+  put-built (strand.Job n) q bytes ms known same = absurd known
+
+  close-built : (s : StrandId) (q : Place) (ms : List (GlobalAction J)) → IsNumbered s → q ≡ place.Client → IsBuilt (entry.Close (id_at s q ms))
+  close-built (strand.Conn c) place.Client ms known same = known
+  close-built (strand.Conn c) (place.Sock k) ms known same = absurd (let no : place.Sock k ≡ place.Client = same in cc)
+  close-built (strand.Job n) q ms known same = absurd known
+
+  -- the entry of an action that could come
+  entry-built : (body : List ℕ) (s : StrandId) (x : Action J) (n : Option ℕ) (ms : List (GlobalAction J)) → Fine body (Of s x n ∷ ms) → Fine body ms → Enabled (literal_behavior body) (projection s ms) (Did x)
+      → All IsBuilt (entry_of (literal_behavior body) s x n ms)
+  entry-built body s (Began now (start.Client c)) n ms f g e = one (entry.Given (event.Arrive c)) f.told.0
+  entry-built body s (Began now (start.Job k job)) n ms f g e = no-job s k job f.begins.1
+  entry-built body s (Came q bytes) n ms f g e = one (entry.Given (event.Bytes (id_at s q ms) bytes)) f.told.0
+  entry-built body s (Ended q) n ms f g e = one (entry.Given (event.Ended (id_at s q ms))) f.told.0
+  entry-built body s (Broke q) n ms f g e = one (entry.Given (event.Broken (id_at s q ms))) f.told.0
+  entry-built body s (TakesAgain q) n ms f g e = one (entry.Given (event.Ready (id_at s q ms))) f.told.0
+  entry-built body s (Connected k) n ms f g e = absurd f.told.0
+  entry-built body s (Refused k) n ms f g e = absurd f.told.0
+  entry-built body s (Put q bytes) n ms f g e =
+      one (entry.Put (id_at s q ms) bytes) (put-built s q bytes ms (living-numbered body s ms g e.0.living) (offered-client body (projection s ms) q (g.alone s) e.0.offered))
+  entry-built body s (Later q) n ms f g e = absurd f.told.0
+  entry-built body s (Lost q) n ms f g e = absurd f.told.0
+  entry-built body s (Closed q) n ms f g e =
+      let opened : is_open q (projection s ms) ≡ true = elim e [ inl next ↦ next.1 | inr first ↦ first.opened ] in
+      one (entry.Close (id_at s q ms)) (close-built s q ms (open-numbered body s q ms g opened) (open-client body (projection s ms) q (g.alone s) opened))
+  entry-built body s (Logged text done) n ms f g e = never (todo (literal_behavior body) (projection s ms)) _ (own body (projection s ms) (g.alone s)).to_do e.1 (λ none. absurd none)
+  entry-built body s (Asked zone call answer) n ms f g e = absurd f.plain
+  entry-built body s (Took key uses) n ms f g e = absurd f.plain
+  entry-built body s (Dialled host port done) n ms f g e = absurd f.plain
+  entry-built body s (Kept k key idle size) n ms f g e = absurd f.plain
+  entry-built body s (Timed at answer) n ms f g e = absurd f.plain
+  entry-built body s Dropped n ms f g e = one (entry.Dropped s) (drop-built s (living-numbered body s ms g e))
+  entry-built body s (Ran k) n ms f g e = All-nil IsBuilt
+  entry-built body s (Offered q) n ms f g e = All-nil IsBuilt
+  entry-built body s (Due k) n ms f g e = All-nil IsBuilt
+  entry-built body s Halted n ms f g e = All-nil IsBuilt
+  entry-built body s Gone n ms f g e = All-nil IsBuilt
+
+  entries-built : (body : List ℕ) (m : GlobalAction J) (ms : List (GlobalAction J)) → Fine body (m ∷ ms) → Fine body ms → All IsBuilt (entries_of (literal_behavior body) m ms)
+  entries-built body (Of s x n) ms f g = entry-built body s x n ms f g (head-enabled (literal_behavior body) (same_strand s s) (Did x) (projection s ms) (strand-true s) (f.alone s))
+  entries-built body (Everyone (Moment t)) ms f g = one (entry.Given (event.Moment (record { 0 = t }))) f.told.0
+  entries-built body (Everyone Stop) ms f g = one (entry.Given event.Stop) tt
+  entries-built body (TurnedAway c) ms f g =
+      let number : IsNumber c = f.told.1.1.0 in
+      All-cons IsBuilt (entry.Close (id.Conn c)) (entry.Turned c ∷ entry.Given (event.Arrive c) ∷ []) number
+      (All-cons IsBuilt (entry.Turned c) (entry.Given (event.Arrive c) ∷ []) number (one (entry.Given (event.Arrive c)) number))
+  entries-built body (IdleGave e) ms f g = absurd f.plain
+  entries-built body (IdleClosed n) ms f g = absurd f.plain
+
+  all-built : (body : List ℕ) (ms : List (GlobalAction J)) → Fine body ms → All IsBuilt (external (literal_behavior body) ms)
+  all-built body [] f = All-nil IsBuilt
+  all-built body (m ∷ ms) f =
+      let before = fine-tail body m ms f in
+      All-append IsBuilt (entries_of (literal_behavior body) m ms) (external (literal_behavior body) ms) (entries-built body m ms f before) (all-built body ms before)
+
+  -- the history of an execution of a literal site that tells the lines of a schedule
+  pub history-built : (body : List ℕ) (lines : List SchedLine) (h : List Entry) (offered : List ℕ) (ms : List (GlobalAction J)) → IsSchedule lines → IsTold lines h offered
+      → h ≡ external (literal_behavior body) ms → ((s : StrandId) → IsExecution (literal_behavior body) (projection s ms)) → BeginsRight ms → IsPlain (literal_behavior body) ms → All IsBuilt h
+  history-built body lines h offered ms whole told is alone begins plain = subst (All IsBuilt) (sym is) (all-built body ms (record {
+    alone = alone;
+    begins = begins;
+    plain = plain;
+    told = subst AreToldEntries is (entries-told lines h offered (built-lines lines whole) told);
+  }))

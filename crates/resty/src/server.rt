@@ -1,0 +1,73 @@
+//! Serving by the strands of a literal site.
+
+ghost use Rattle.std.specs.Prelude.{◌≡◌, IfOk};
+ghost use Rattle.engine.specs.Engine.{Goes, is_stop};
+ghost use Rattle.engine.specs.Right.{IsFresh, IsRight, EndsBy};
+ghost use Rattle.resty_world.specs.Book.{Book};
+ghost use Rattle.resty_world.specs.Given.{Gave};
+ghost use Rattle.strand.specs.Literal.{literal_behavior};
+ghost use Rattle.strand.specs.declared.strand.NoJob.{NoJob};
+ghost use Rattle.resty.specs.Serving.{Rests, stepped};
+
+use engine::Ended;
+use resty_world::{Event, World};
+use std::alloc::{AllocError, Global};
+use strand::{LiteralStrand, Site};
+
+/// The strands of a site that live, their threads and their places in line.
+#[derive(Drop)]
+pub struct Engine {
+    pub site: Site,
+    pub strands: engine::Engine<LiteralStrand>,
+}
+
+/// What a step came to.
+#[derive(Clone, Copy, Debug, PartialEq, Eq)]
+pub enum Stepped {
+    /// The next event may come.
+    Went,
+    /// The event was Stop.
+    Stopped,
+    /// In this step or an earlier one a log line wasn't written.
+    LogFailed,
+}
+
+impl Engine {
+    /// No strands, at the moment 0.
+    pub fn new(alloc: Global, site: Site) -> Result<Engine, AllocError>
+        ensures { IfOk result (λ engine. (engine.site ≡ site) × ((book : Book) → IsFresh book → Rests engine book)) }
+    {
+        Ok(Engine {
+            site,
+            strands: engine::Engine::new(alloc),
+        })
+    }
+
+    /// Takes an event that the world gave last, with all turns that follow.
+    pub fn step<W: World>(&mut self, event: Event, world: &mut W) -> Stepped
+        requires { (before : Book) × Rests self.old before × Gave before (W.book world.old) event }
+        ensures rests { Rests self.new (W.book world.new) }
+        ensures site { self.new.site ≡ self.old.site }
+        ensures goes { Goes W.same W.book world.old world.new self.old.strands.log_failed self.new.strands.log_failed }
+        ensures stepped { result ≡ stepped (is_stop event) self.new.strands.log_failed }
+    {
+        let is_stop = self.strands.step(&self.site, event, world);
+        if self.strands.log_failed {
+            Stepped::LogFailed
+        } else if is_stop {
+            Stepped::Stopped
+        } else {
+            Stepped::Went
+        }
+    }
+}
+
+/// Serves at most so many events of a world at which nothing has happened.
+pub fn serve<W: World>(alloc: Global, site: Site, world: &mut W, events: u64) -> Ended
+    requires { IsFresh (W.book world.old) }
+    ensures right { IsRight {J = NoJob} (literal_behavior site) (W.book world.new) }
+    ensures ended { EndsBy events (W.book world.old) (W.book world.new) result }
+    ensures same { W.same world.old world.new }
+{
+    engine::serve::<LiteralStrand, W>(alloc, site, world, events)
+}
