@@ -1,0 +1,11 @@
+pub mod Reading
+pub mod CaptureLemmas
+pub mod Answering
+pub mod Repeating
+pub mod Stack
+pub mod Stepping
+pub mod Capturing
+pub mod Walking
+pub mod Resuming
+pub mod Running
+pub mod Balancing

@@ -1,0 +1,512 @@
+ghost use Rattle.std.specs.Prelude.{◌≡◌, ◌≢◌, ◌+◌, ◌-◌, ◌<◌, ◌≤◌, ◌^◌, ◌∷◌, [], IsTrue, IfSome, IfErr, OnOk, Result, Ok, drop, length, Bool, true, false};
+ghost use Rattle.std.specs.List.{prefix_len};
+ghost use Rattle.lua_patterns.specs.declared.answers.PatFault.{PatFault};
+ghost use Rattle.lua_patterns.specs.Classes.{accepts};
+ghost use Rattle.lua_patterns.specs.Trails.{Test, accepts_first, closing_len, balanced_len, repeated_len, behind, captured, whole};
+ghost use Rattle.lua_patterns.specs.Searches.{Outcome};
+ghost use Rattle.lua_patterns.specs.Balance.{AreRight};
+ghost use Rattle.lua_patterns.specs.Matching.{fewer, one_more_byte, next_at, ahead, Before, BeforeItem, Steps, Resumes, Tries, Takes, Ends};
+
+use crate::balance::Balance;
+use crate::captures::{
+    Cap, Capture, OpenCapture, close_at, closed_ones, first_open, forget_last, last_open,
+    open_again, referenced,
+};
+use crate::classes::{Class, accepts, between, from_place};
+use crate::items::{Item, Repeat, SizedItem, item_at};
+use crate::{Found, PatFault};
+use std::alloc::Global;
+
+/// How many captures a match may have.
+const MOST_CAPTURES: usize = 32;
+
+/// What doesn't change during a search: a match may begin at its first place alone where it is anchored.
+#[derive(Clone, Copy)]
+pub(crate) struct Search<'a> {
+    pub subject: &'a [u8],
+    pub pattern: &'a [u8],
+    pub anchored: bool,
+    pub limit: u64,
+}
+
+/// A choice that is open, or what is undone on the way back to an older one.
+#[derive(Clone, Copy, Debug)]
+pub(crate) enum Pending {
+    /// Go on in the pattern at `after` from `place`, and then from the places before it, down to `lowest`.
+    Fewer {
+        after: usize,
+        lowest: usize,
+        place: usize,
+    },
+    /// Take one byte more of the class at `place`, and go on in the pattern at `after`.
+    More {
+        class: Class,
+        after: usize,
+        place: usize,
+    },
+    /// Forget the last capture.
+    Forget,
+    /// Open a capture again.
+    Reopen(OpenCapture),
+}
+
+/// Where a search stands: the tests that it made, where the match would start, the place in the subject, the place in
+/// the pattern, the captures so far, and the choices that are open, the last one last.
+#[derive(Drop)]
+pub(crate) struct State {
+    pub tests: u64,
+    pub start: usize,
+    pub place: usize,
+    pub at: usize,
+    pub captures: Vec<Capture>,
+    pub pending: Vec<Pending>,
+}
+
+/// How a step ends: the match goes on, or doesn't from here, or is whole.
+#[derive(Debug, Drop)]
+pub(crate) enum Step {
+    On,
+    Back,
+    Whole(Found),
+}
+
+/// How many bytes stand up to the closing byte, and with it, that answers the opening byte before them.
+fn closing_len(text: &[u8], opening: u8, closing: u8) -> Option<usize>
+    ensures value { result ≡ closing_len opening closing 0 text.now }
+    ensures within { IfSome result (λ n. n ≤ length text.now) }
+{
+    let mut others: usize = 0;
+    for (index, byte) in text.iter().enumerate() {
+        if *byte == closing {
+            if others == 0 {
+                return Some(index + 1);
+            }
+            others -= 1;
+        } else if *byte == opening {
+            others += 1;
+        }
+    }
+    None
+}
+
+/// How many bytes `%b` takes at the front.
+pub(crate) fn balanced_len(text: &[u8], opening: u8, closing: u8) -> Option<usize>
+    ensures value { result ≡ balanced_len opening closing text.now }
+    ensures within { IfSome result (λ n. n ≤ length text.now) }
+{
+    let (first, rest) = text.split_first()?;
+    if *first != opening {
+        return None;
+    }
+    let len = closing_len(rest, opening, closing)?;
+    Some(len + 1)
+}
+
+/// How many bytes a back reference takes at the front.
+fn repeated_len(subject: &[u8], text: &[u8], cap: Cap) -> Option<usize>
+    ensures value { result ≡ repeated_len subject.now text.now cap }
+    ensures within { IfSome result (λ n. n ≤ length text.now) }
+{
+    let Cap::Span(start, end) = cap else {
+        return None;
+    };
+    let bytes = between(subject, start, end);
+    if text.starts_with(bytes) {
+        Some(bytes.len())
+    } else {
+        None
+    }
+}
+
+impl Search<'_> {
+    /// Makes so many tests, behind those that were made.
+    fn make_tests(&self, made: &mut u64, count: usize) -> Result<(), PatFault>
+        ensures ok { OnOk result ((made.old + count ≤ self.now.limit) × (made.new ≡ made.old + count)) }
+        ensures err { IfErr result (λ wrong. (wrong ≡ PatFault.Tests) × (self.now.limit < made.old + count)) }
+    {
+        if self.limit < *made || self.limit - *made < count as u64 {
+            return Err(PatFault::Tests);
+        }
+        *made += count as u64;
+        Ok(())
+    }
+
+    /// The class accepts the byte at a place, where there is one.
+    fn accepts_at(&self, class: Class, place: usize) -> bool
+        ensures value { result ≡ accepts_first (accepts self.now.pattern.now class) (drop place self.now.subject.now) }
+        ensures within { IsTrue result → place < length self.now.subject.now }
+    {
+        place < self.subject.len() && accepts(self.pattern, class, self.subject[place])
+    }
+
+    /// How many bytes from a place on the class accepts.
+    fn run_len(&self, class: Class, place: usize) -> usize
+        ensures value { result ≡ prefix_len (accepts self.now.pattern.now class) (drop place self.now.subject.now) }
+        ensures within { result ≤ length self.now.subject.now - place }
+    {
+        from_place(self.subject, place)
+            .iter()
+            .take_while(|byte| accepts(self.pattern, class, **byte))
+            .count()
+    }
+
+    /// The class is taken once.
+    fn once(&self, state: &mut State, class: Class, after: usize) -> Result<Step, PatFault>
+        ensures { (expected : Result Outcome PatFault) → BeforeItem self.now.subject.now self.now.pattern.now self.now.anchored self.now.limit state.old (Item.Repeated class Repeat.Once) after expected → Steps self.now.subject.now self.now.pattern.now self.now.anchored self.now.limit state.old state.new expected result }
+    {
+        self.make_tests(&mut state.tests, 1)?;
+        if !self.accepts_at(class, state.place) {
+            return Ok(Step::Back);
+        }
+        state.place += 1;
+        state.at = after;
+        Ok(Step::On)
+    }
+
+    /// The class is taken once, or else not at all.
+    fn optional(&self, state: &mut State, class: Class, after: usize) -> Result<Step, PatFault>
+        ensures { (expected : Result Outcome PatFault) → BeforeItem self.now.subject.now self.now.pattern.now self.now.anchored self.now.limit state.old (Item.Repeated class Repeat.Optional) after expected → Steps self.now.subject.now self.now.pattern.now self.now.anchored self.now.limit state.old state.new expected result }
+    {
+        self.make_tests(&mut state.tests, 1)?;
+        let place = state.place;
+        state.at = after;
+        if !self.accepts_at(class, place) {
+            return Ok(Step::On);
+        }
+        state.pending.push(Pending::Fewer {
+            after,
+            lowest: place,
+            place,
+        })?;
+        state.place = place + 1;
+        Ok(Step::On)
+    }
+
+    /// The class is taken as often as it can be, or else fewer times.
+    fn longest(&self, state: &mut State, class: Class, after: usize) -> Result<Step, PatFault>
+        ensures { (expected : Result Outcome PatFault) → BeforeItem self.now.subject.now self.now.pattern.now self.now.anchored self.now.limit state.old (Item.Repeated class Repeat.Longest) after expected → Steps self.now.subject.now self.now.pattern.now self.now.anchored self.now.limit state.old state.new expected result }
+    {
+        let lowest = state.place;
+        let taken = self.run_len(class, lowest);
+        self.make_tests(&mut state.tests, taken)?;
+        self.make_tests(&mut state.tests, 1)?;
+        state.at = after;
+        if taken == 0 {
+            return Ok(Step::On);
+        }
+        state.place = lowest + taken;
+        state.pending.push(Pending::Fewer {
+            after,
+            lowest,
+            place: lowest + taken - 1,
+        })?;
+        Ok(Step::On)
+    }
+
+    /// The class is taken at least once, as often as it can be.
+    fn longest_of_some(
+        &self,
+        state: &mut State,
+        class: Class,
+        after: usize,
+    ) -> Result<Step, PatFault>
+        ensures { (expected : Result Outcome PatFault) → BeforeItem self.now.subject.now self.now.pattern.now self.now.anchored self.now.limit state.old (Item.Repeated class Repeat.LongestOfSome) after expected → Steps self.now.subject.now self.now.pattern.now self.now.anchored self.now.limit state.old state.new expected result }
+    {
+        self.make_tests(&mut state.tests, 1)?;
+        if !self.accepts_at(class, state.place) {
+            return Ok(Step::Back);
+        }
+        state.place += 1;
+        self.longest(state, class, after)
+    }
+
+    /// The class is taken not at all, or else more and more often.
+    fn shortest(&self, state: &mut State, class: Class, after: usize) -> Result<Step, PatFault>
+        requires further { state.old.at < after }
+        requires within { state.old.at < length self.now.pattern.now }
+        ensures { (expected : Result Outcome PatFault) → BeforeItem self.now.subject.now self.now.pattern.now self.now.anchored self.now.limit state.old (Item.Repeated class Repeat.Shortest) after expected → Steps self.now.subject.now self.now.pattern.now self.now.anchored self.now.limit state.old state.new expected result }
+    {
+        let place = state.place;
+        state.pending.push(Pending::More {
+            class,
+            after,
+            place,
+        })?;
+        state.at = after;
+        Ok(Step::On)
+    }
+
+    /// A class, with what says how often it is taken.
+    fn repeated(
+        &self,
+        state: &mut State,
+        class: Class,
+        repeat: Repeat,
+        after: usize,
+    ) -> Result<Step, PatFault>
+        requires further { state.old.at < after }
+        requires within { state.old.at < length self.now.pattern.now }
+        ensures { (expected : Result Outcome PatFault) → BeforeItem self.now.subject.now self.now.pattern.now self.now.anchored self.now.limit state.old (Item.Repeated class repeat) after expected → Steps self.now.subject.now self.now.pattern.now self.now.anchored self.now.limit state.old state.new expected result }
+    {
+        match repeat {
+            Repeat::Once => self.once(state, class, after),
+            Repeat::Optional => self.optional(state, class, after),
+            Repeat::Longest => self.longest(state, class, after),
+            Repeat::LongestOfSome => self.longest_of_some(state, class, after),
+            Repeat::Shortest => self.shortest(state, class, after),
+        }
+    }
+
+    /// One capture more.
+    fn captured(&self, state: &mut State, capture: Capture, after: usize) -> Result<Step, PatFault>
+        ensures { (expected : Result Outcome PatFault) → Before self.now.subject.now self.now.pattern.now self.now.anchored self.now.limit state.old (captured capture state.old.captures.items (next_at self.now.subject.now self.now.pattern.now state.old.start after state.old.place)) expected → Steps self.now.subject.now self.now.pattern.now self.now.anchored self.now.limit state.old state.new expected result }
+    {
+        if state.captures.as_slice().len() >= MOST_CAPTURES {
+            return Err(PatFault::Captures { tests: state.tests });
+        }
+        self.make_tests(&mut state.tests, 1)?;
+        state.pending.push(Pending::Forget)?;
+        state.captures.push(capture)?;
+        state.at = after;
+        Ok(Step::On)
+    }
+
+    /// The last open capture is closed; `at` is the place of the parenthesis in the pattern.
+    fn closed(&self, state: &mut State, at: usize, after: usize) -> Result<Step, PatFault>
+        ensures { (expected : Result Outcome PatFault) → BeforeItem self.now.subject.now self.now.pattern.now self.now.anchored self.now.limit state.old (Item.Close at) after expected → Steps self.now.subject.now self.now.pattern.now self.now.anchored self.now.limit state.old state.new expected result }
+    {
+        let Some(found) = last_open(&state.captures) else {
+            return Err(PatFault::Malformed {
+                at,
+                tests: state.tests,
+            });
+        };
+        self.make_tests(&mut state.tests, 1)?;
+        state.pending.push(Pending::Reopen(found))?;
+        close_at(&mut state.captures, found, state.place);
+        state.at = after;
+        Ok(Step::On)
+    }
+
+    /// Goes on behind so many bytes, if there are so many.
+    fn behind(&self, state: &mut State, len: Option<usize>, after: usize) -> Result<Step, PatFault>
+        requires { IfSome len (λ n. state.old.place + n < 2 ^ 64) }
+        ensures { (expected : Result Outcome PatFault) → Before self.now.subject.now self.now.pattern.now self.now.anchored self.now.limit state.old (Test ∷ behind state.old.place len (λ p. next_at self.now.subject.now self.now.pattern.now state.old.start after p state.old.captures.items)) expected → Steps self.now.subject.now self.now.pattern.now self.now.anchored self.now.limit state.old state.new expected result }
+    {
+        self.make_tests(&mut state.tests, 1)?;
+        let Some(len) = len else {
+            return Ok(Step::Back);
+        };
+        state.place += len;
+        state.at = after;
+        Ok(Step::On)
+    }
+
+    /// A back reference to the capture of a digit; `at` is its place in the pattern.
+    fn referred(
+        &self,
+        state: &mut State,
+        digit: u8,
+        at: usize,
+        after: usize,
+    ) -> Result<Step, PatFault>
+        ensures { (expected : Result Outcome PatFault) → BeforeItem self.now.subject.now self.now.pattern.now self.now.anchored self.now.limit state.old (Item.Reference digit at) after expected → Steps self.now.subject.now self.now.pattern.now self.now.anchored self.now.limit state.old state.new expected result }
+    {
+        let Some(cap) = referenced(&state.captures, digit) else {
+            return Err(PatFault::Malformed {
+                at,
+                tests: state.tests,
+            });
+        };
+        let len = repeated_len(self.subject, from_place(self.subject, state.place), cap);
+        self.behind(state, len, after)
+    }
+
+    /// The subject's end stands here.
+    fn at_end(&self, state: &mut State, after: usize) -> Result<Step, PatFault>
+        requires further { state.old.at < after }
+        requires within { state.old.at < length self.now.pattern.now }
+        ensures { (expected : Result Outcome PatFault) → BeforeItem self.now.subject.now self.now.pattern.now self.now.anchored self.now.limit state.old (Item.End) after expected → Steps self.now.subject.now self.now.pattern.now self.now.anchored self.now.limit state.old state.new expected result }
+    {
+        if state.place == self.subject.len() {
+            state.at = after;
+            return Ok(Step::On);
+        }
+        self.make_tests(&mut state.tests, 1)?;
+        Ok(Step::Back)
+    }
+
+    /// The pattern's end is reached.
+    fn whole(&self, alloc: Global, state: &mut State) -> Result<Step, PatFault>
+        ensures { (expected : Result Outcome PatFault) → Before self.now.subject.now self.now.pattern.now self.now.anchored self.now.limit state.old (whole state.old.start state.old.place state.old.captures.items) expected → Steps self.now.subject.now self.now.pattern.now self.now.anchored self.now.limit state.old state.new expected result }
+    {
+        if let Some(at) = first_open(&state.captures) {
+            return Err(PatFault::Malformed {
+                at,
+                tests: state.tests,
+            });
+        }
+        self.make_tests(&mut state.tests, 1)?;
+        let captures = closed_ones(alloc, &state.captures)?;
+        Ok(Step::Whole(Found {
+            start: state.start,
+            end: state.place,
+            captures,
+        }))
+    }
+
+    /// One step: the item where the search stands, or the pattern's end.
+    fn step(
+        &self,
+        alloc: Global,
+        state: &mut State,
+        balance: &mut Balance,
+    ) -> Result<Step, PatFault>
+        requires { AreRight self.now.subject.now balance.old.pairs.items }
+        ensures steps { (expected : Result Outcome PatFault) → Before self.now.subject.now self.now.pattern.now self.now.anchored self.now.limit state.old (ahead self.now.subject.now self.now.pattern.now state.old) expected → Steps self.now.subject.now self.now.pattern.now self.now.anchored self.now.limit state.old state.new expected result }
+        ensures right { AreRight self.now.subject.now balance.new.pairs.items }
+    {
+        if state.at >= self.pattern.len() {
+            return self.whole(alloc, state);
+        }
+        let SizedItem { item, size } = item_at(self.pattern, state.at);
+        let after = state.at + size;
+        match item {
+            Item::Repeated(class, repeat) => self.repeated(state, class, repeat, after),
+            Item::Open(at) => {
+                let start = state.place;
+                self.captured(state, Capture::Open { start, at }, after)
+            }
+            Item::Position => {
+                let place = Cap::Position(state.place);
+                self.captured(state, Capture::Closed(place), after)
+            }
+            Item::Close(at) => self.closed(state, at, after),
+            Item::Balanced(opening, closing) => {
+                let len = balance.len_at(alloc, self.subject, state.place, opening, closing)?;
+                self.behind(state, len, after)
+            }
+            Item::Reference(digit, at) => self.referred(state, digit, at, after),
+            Item::End => self.at_end(state, after),
+            Item::Wrong(at) => Err(PatFault::Malformed {
+                at,
+                tests: state.tests,
+            }),
+        }
+    }
+
+    /// Goes on with the next place where a match may begin, if there is one.
+    fn next_start(&self, state: &mut State) -> bool
+        requires { state.old.pending.items ≡ [] }
+        ensures { (expected : Result Outcome PatFault) → Before self.now.subject.now self.now.pattern.now self.now.anchored self.now.limit state.old [] expected → Resumes self.now.subject.now self.now.pattern.now self.now.anchored self.now.limit state.old state.new expected (Ok result) }
+    {
+        if self.anchored || state.start >= self.subject.len() {
+            return false;
+        }
+        state.start += 1;
+        state.place = state.start;
+        state.at = 0;
+        state.captures.clear();
+        true
+    }
+
+    /// Goes on with one place fewer of a repetition.
+    fn fewer(
+        &self,
+        state: &mut State,
+        after: usize,
+        lowest: usize,
+        place: usize,
+    ) -> Result<(), PatFault>
+        ensures { (expected : Result Outcome PatFault) → Before self.now.subject.now self.now.pattern.now self.now.anchored self.now.limit state.old (fewer (λ p. next_at self.now.subject.now self.now.pattern.now state.old.start after p state.old.captures.items) lowest (place - lowest)) expected → Takes self.now.subject.now self.now.pattern.now self.now.anchored self.now.limit state.old state.new expected result }
+    {
+        state.at = after;
+        if place <= lowest {
+            state.place = lowest;
+            return Ok(());
+        }
+        state.place = place;
+        state.pending.push(Pending::Fewer {
+            after,
+            lowest,
+            place: place - 1,
+        })?;
+        Ok(())
+    }
+
+    /// Goes on with one byte more of a repetition, if the class accepts it.
+    fn more(
+        &self,
+        state: &mut State,
+        class: Class,
+        after: usize,
+        place: usize,
+    ) -> Result<bool, PatFault>
+        ensures { (expected : Result Outcome PatFault) → Before self.now.subject.now self.now.pattern.now self.now.anchored self.now.limit state.old (one_more_byte (accepts self.now.pattern.now class) (λ p. next_at self.now.subject.now self.now.pattern.now state.old.start after p state.old.captures.items) place (drop place self.now.subject.now)) expected → Tries self.now.subject.now self.now.pattern.now self.now.anchored self.now.limit state.old state.new expected result }
+    {
+        self.make_tests(&mut state.tests, 1)?;
+        if !self.accepts_at(class, place) {
+            return Ok(false);
+        }
+        let place = place + 1;
+        state.pending.push(Pending::More {
+            class,
+            after,
+            place,
+        })?;
+        state.place = place;
+        state.at = after;
+        Ok(true)
+    }
+
+    /// Goes back to the last open choice, or on to the next place where a match may begin, if there is one.
+    fn resume(&self, state: &mut State) -> Result<bool, PatFault>
+        ensures { (expected : Result Outcome PatFault) → Before self.now.subject.now self.now.pattern.now self.now.anchored self.now.limit state.old [] expected → Resumes self.now.subject.now self.now.pattern.now self.now.anchored self.now.limit state.old state.new expected result }
+    {
+        while let Some(pending) = state.pending.pop() {
+            match pending {
+                Pending::Fewer {
+                    after,
+                    lowest,
+                    place,
+                } => {
+                    self.fewer(state, after, lowest, place)?;
+                    return Ok(true);
+                }
+                Pending::More {
+                    class,
+                    after,
+                    place,
+                } => {
+                    if self.more(state, class, after, place)? {
+                        return Ok(true);
+                    }
+                }
+                Pending::Forget => forget_last(&mut state.captures),
+                Pending::Reopen(found) => open_again(&mut state.captures, found),
+            }
+        }
+        Ok(self.next_start(state))
+    }
+
+    /// The first match, in order of preference.
+    pub(crate) fn run(&self, alloc: Global, state: &mut State) -> Result<Option<Found>, PatFault>
+        ensures { (expected : Result Outcome PatFault) → Before self.now.subject.now self.now.pattern.now self.now.anchored self.now.limit state.old (ahead self.now.subject.now self.now.pattern.now state.old) expected → Ends state.new expected result }
+    {
+        let mut balance = Balance {
+            scanned: 0,
+            pairs: Vec::new(alloc),
+        };
+        loop {
+            match self.step(alloc, state, &mut balance)? {
+                Step::On => {}
+                Step::Back => {
+                    if !self.resume(state)? {
+                        return Ok(None);
+                    }
+                }
+                Step::Whole(found) => return Ok(Some(found)),
+            }
+        }
+    }
+}
