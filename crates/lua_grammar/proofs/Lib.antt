@@ -1,0 +1,5 @@
+pub mod Grouping
+pub mod Firsts
+pub mod ByHand
+pub mod Before
+pub mod Names

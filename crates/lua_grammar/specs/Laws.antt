@@ -1,0 +1,119 @@
+-- Laws of the grammar, and a chunk by hand.
+use Rattle.std.specs.Prelude.{◌≡◌, ℕ, ◌⊎◌, false, true, List, [], ◌∷◌, ◌++◌, length, Some, pos, codes}
+use Rattle.lua_ast.specs.declared.expressions.BinOp.TheVariants.{Pow, Eq}
+use Rattle.lua_ast.specs.declared.expressions.Expr.{Expr}
+use Rattle.lua_ast.specs.declared.expressions.ExprKind as kind
+use Rattle.lua_ast.specs.declared.expressions.UnOp.TheVariants as unary
+use Rattle.lua_ast.specs.declared.statements.StmtKind as stmt
+use Rattle.lua_ast.specs.declared.programs.Capture.TheVariants.{Slot}
+use Rattle.lua_ast.specs.declared.programs.Function.{Function}
+use Rattle.lua_ast.specs.declared.programs.Program.{Program}
+use Rattle.lua_lexer.specs.declared.signs.Sign.{Sign}
+use Rattle.lua_lexer.specs.declared.signs.Sign.TheVariants.{Assign, OpenParenthesis, CloseParenthesis}
+use Rattle.lua_lexer.specs.declared.tokens.Token.{Token}
+use Rattle.lua_lexer.specs.declared.tokens.TokenKind.TheVariants.{Number}
+use Rattle.lua_lexer.specs.declared.words.Word.TheVariants.{Local, Return, Function as FunctionWord, End}
+use Rattle.lua_grammar.specs.declared.operators.Operator.{Operator}
+use Rattle.lua_grammar.specs.declared.operators.Operator.TheVariants.{Plain}
+use Rattle.lua_grammar.specs.Tree.{Bytes, Exp}
+use Rattle.lua_grammar.specs.Tree as tree
+use Rattle.lua_grammar.specs.Printing.{Lexeme, lexemes, a_kind, a_word, a_sign, a_name}
+use Rattle.lua_grammar.specs.Validity.{IsValid}
+use Rattle.lua_grammar.specs.Scopes.{Frame, look, with_locals}
+use Rattle.lua_grammar.specs.Resolution.{SharedList, node, statement}
+
+-- one of two trees is valid, and the other isn't
+abbrev pub IsOneValid : Exp → Exp → Type 0
+IsOneValid some other = (IsValid false some × (IsValid false other → ⊥)) ⊎ ((IsValid false some → ⊥) × IsValid false other)
+
+abbrev pub IsValidNot : Exp → Exp → Type 0
+IsValidNot some other = IsValid false some × (IsValid false other → ⊥)
+
+-- the two ways to group three operands, here each `nil` on a line of its own
+abbrev pub grouped_left : Operator → Operator → Exp
+grouped_left first second = tree.binary (tree.binary (tree.nil 1) first 2 (tree.nil 3)) second 4 (tree.nil 5)
+
+abbrev pub grouped_right : Operator → Operator → Exp
+grouped_right first second = tree.binary (tree.nil 1) first 2 (tree.binary (tree.nil 3) second 4 (tree.nil 5))
+
+-- `-x^y` and `not x == y`
+abbrev pub minus_of_power : Exp
+minus_of_power = tree.unary unary.Minus 1 (tree.binary (tree.nil 2) (Plain Pow) 3 (tree.nil 4))
+
+abbrev pub power_of_minus : Exp
+power_of_minus = tree.binary (tree.unary unary.Minus 1 (tree.nil 2)) (Plain Pow) 3 (tree.nil 4)
+
+abbrev pub not_before_equal : Exp
+not_before_equal = tree.binary (tree.unary unary.Not 1 (tree.nil 2)) (Plain Eq) 3 (tree.nil 4)
+
+abbrev pub not_of_equal : Exp
+not_of_equal = tree.unary unary.Not 1 (tree.binary (tree.nil 2) (Plain Eq) 3 (tree.nil 4))
+
+-- the first token is that sign
+abbrev pub BeginWith : Sign → List Token → Type 0
+BeginWith sign tokens = (line : ℕ) × (behind : List Lexeme) × (lexemes tokens ≡ a_sign sign line behind)
+
+-- `local a = 1` on line 1, `return function() return a end` on line 2
+abbrev pub tokens_by_hand : List Lexeme
+tokens_by_hand =
+    a_word Local 1 (a_name 1 (codes "a") (a_sign Assign 1 (a_kind (Number (pos 1)) 1
+    (a_word Return 2 (a_word FunctionWord 2 (a_sign OpenParenthesis 2 (a_sign CloseParenthesis 2
+    (a_word Return 2 (a_name 2 (codes "a") (a_word End 2 []))))))))))
+
+-- the chunk: it has one local, which gets 1, and returns a closure of function 1
+pub record IsChunkByHand (f : Function) : Type 0 where
+  pub file : f.file ≡ 0
+  pub params : f.params ≡ 0
+  pub vararg : f.vararg ≡ true
+  pub slots : f.slots ≡ 1
+  pub captures : f.captures.items ≡ []
+  pub begins : f.line ≡ 1
+  pub targets : SharedList ℕ
+  pub values : SharedList Expr
+  pub returned : SharedList Expr
+  pub body : f.body.value.items ≡ statement 1 (stmt.Local targets values) ∷ statement 2 (stmt.Return returned) ∷ []
+  pub the_targets : targets.value.items ≡ 0 ∷ []
+  pub the_values : values.value.items ≡ node 1 (kind.Number (pos 1)) ∷ []
+  pub the_returned : returned.value.items ≡ node 2 (kind.Function 1) ∷ []
+
+-- function 1: it captures slot 0 of the chunk, and returns it
+pub record IsInnerByHand (f : Function) : Type 0 where
+  pub file : f.file ≡ 0
+  pub params : f.params ≡ 0
+  pub vararg : f.vararg ≡ false
+  pub slots : f.slots ≡ 0
+  pub captures : f.captures.items ≡ Slot 0 ∷ []
+  pub begins : f.line ≡ 2
+  pub returned : SharedList Expr
+  pub body : f.body.value.items ≡ statement 2 (stmt.Return returned) ∷ []
+  pub the_returned : returned.value.items ≡ node 2 (kind.Captured 0) ∷ []
+
+pub record IsProgramByHand (program : Program) : Type 0 where
+  pub chunk : Function
+  pub inner : Function
+  pub files : program.files ≡ [] ∷ []
+  pub functions : program.functions.items ≡ chunk ∷ inner ∷ []
+  pub is_chunk : IsChunkByHand chunk
+  pub is_inner : IsInnerByHand inner
+
+-- what is printed stands before the rest, whatever it is
+pub record IsBefore (f : List Lexeme → List Lexeme) : Type 0 where
+  pub splits : (xs ys : List Lexeme) → f (xs ++ ys) ≡ f xs ++ ys
+
+-- a chunk without statements
+pub record IsEmptyProgram (program : Program) : Type 0 where
+  pub chunk : Function
+  pub files : program.files ≡ [] ∷ []
+  pub functions : program.functions.items ≡ chunk ∷ []
+  pub file : chunk.file ≡ 0
+  pub params : chunk.params ≡ 0
+  pub vararg : chunk.vararg ≡ true
+  pub slots : chunk.slots ≡ 0
+  pub captures : chunk.captures.items ≡ []
+  pub body : chunk.body.value.items ≡ []
+  pub begins : chunk.line ≡ 1
+
+-- a name that was declared last is the local in the next slot, whatever it meant before, and nothing is captured for it
+abbrev pub IsSeen : Bytes → Frame → List Frame → Type 0
+IsSeen name f around =
+    let inner = with_locals (name ∷ []) f ∷ around in look name inner ≡ (Some (Slot (length f.locals)), inner)

@@ -1,0 +1,9 @@
+pub mod Operators
+pub mod Tree
+pub mod Printing
+pub mod Levels
+pub mod Validity
+pub mod Scopes
+pub mod Resolution
+pub mod Grammar
+pub mod Laws

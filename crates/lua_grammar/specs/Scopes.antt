@@ -1,0 +1,98 @@
+-- Local variables and the functions that they are seen from (Lua 5.1 Reference Manual, 2.6).
+use Rattle.std.specs.Prelude.{ℕ, ◌+◌, max, List, map, [], ◌∷◌, ◌++◌, take, length, Option, Some, None, option_map, if◌then◌else◌}
+use Rattle.std.specs.Str.{bytes_eq}
+use Rattle.lua_ast.specs.declared.programs.Capture.{Capture}
+use Rattle.lua_ast.specs.declared.programs.Capture.TheVariants.{Slot, Outer}
+use Rattle.lua_ast.specs.declared.programs.Function.{Function}
+use Rattle.lua_grammar.specs.Tree.{Bytes}
+
+-- a variable of the function around, and the name by which it was captured
+pub record Captured : Type 0 where
+  pub name : Bytes
+  pub variable : Capture
+
+-- a function whose text is being read: the names of its locals in scope in the order of their slots, its captures in the
+-- order of their first mention, and how many locals were in scope at most
+pub record Frame : Type 0 where
+  pub locals : List Bytes
+  pub captures : List Captured
+  pub slots : ℕ
+
+-- what a place of the text knows: a place for each function whose word `function` stands before it, and the functions
+-- around it, the innermost first
+pub record Scope : Type 0 where
+  pub functions : List Function
+  pub around : List Frame
+
+-- the last place of a name
+abbrev pub later : Option ℕ → Option ℕ → Option ℕ
+later (Some n) here = Some (n + 1)
+later None here = here
+
+unfoldable pub last_place : Bytes → List Bytes → Option ℕ
+last_place name [] = None
+last_place name (x ∷ xs) = later (last_place name xs) (if bytes_eq x name then Some 0 else None)
+
+-- the variable of that name that a function has without looking further out: its newest local, or else a capture
+abbrev pub local_or : Option ℕ → Option ℕ → Option Capture
+local_or (Some slot) capture = Some (Slot slot)
+local_or None capture = option_map Outer capture
+
+unfoldable pub own : Bytes → Frame → Option Capture
+own name f = local_or (last_place name f.locals) (last_place name (map (λ c. c.name) f.captures))
+
+-- what was found in the functions around `f` is a capture of `f` from now on
+abbrev pub handed : Bytes → Frame → Option Capture → List Frame → Option Capture × List Frame
+handed name f None around = (None, f ∷ around)
+handed name f (Some variable) around =
+    (Some (Outer (length f.captures)), record f { captures = f.captures ++ record { name = name; variable = variable } ∷ [] } ∷ around)
+
+-- a variable of `f` itself comes before what was found further out
+abbrev pub nearest : Bytes → Frame → List Frame → Option Capture → Option Capture × List Frame → Option Capture × List Frame
+nearest name f around (Some variable) further = (Some variable, f ∷ around)
+nearest name f around None further = handed name f further.0 further.1
+
+-- Where a name is read or written, it is the nearest variable of that name, and each function between becomes one more
+-- capture on the way. Where no function around has one, the name is a global.
+unfoldable pub look : Bytes → List Frame → Option Capture × List Frame
+look name [] = (None, [])
+look name (f ∷ around) = nearest name f around (own name f) (look name around)
+
+-- the names become locals of the innermost function, in the next slots
+abbrev pub with_locals : List Bytes → Frame → Frame
+with_locals names f = record f { locals = f.locals ++ names; slots = max f.slots (length f.locals + length names) }
+
+abbrev pub declare_in : List Bytes → List Frame → List Frame
+declare_in names [] = []
+declare_in names (f ∷ around) = with_locals names f ∷ around
+
+abbrev pub declare : List Bytes → Scope → Scope
+declare names s = record s { around = declare_in names s.around }
+
+-- how many locals of the innermost function are in scope
+abbrev pub count_in : List Frame → ℕ
+count_in [] = 0
+count_in (f ∷ around) = length f.locals
+
+abbrev pub in_scope : Scope → ℕ
+in_scope s = count_in s.around
+
+-- the slots of names, of which the first has that one
+unfoldable pub slots_from : ℕ → List Bytes → List ℕ
+slots_from slot [] = []
+slots_from slot (name ∷ names) = slot ∷ slots_from (slot + 1) names
+
+-- behind a block that was entered with so many locals, those that it declared are out of scope
+abbrev pub leave_in : ℕ → List Frame → List Frame
+leave_in count [] = []
+leave_in count (f ∷ around) = record f { locals = take count f.locals } ∷ around
+
+abbrev pub leave : Scope → Scope → Scope
+leave before behind = record behind { around = leave_in (in_scope before) behind.around }
+
+-- a function begins, with its parameters as its first locals: a place is kept for it
+abbrev pub enter : List Bytes → Function → Scope → Scope
+enter names kept s = record {
+  functions = s.functions ++ kept ∷ [];
+  around = record { locals = names; captures = []; slots = length names } ∷ s.around;
+}

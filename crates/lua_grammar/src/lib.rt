@@ -1,0 +1,16 @@
+//! The grammar of Lua 5.1: its concrete syntax tree, the tokens of a tree, which trees are valid, and the program that a
+//! tree stands for. Definitions, laws of them, and the table of operators.
+#![tactic(auto)]
+
+mod laws;
+mod operators;
+
+pub use laws::{
+    a_block_stands_before_the_rest, a_new_local_is_seen, no_program_begins_with_assign,
+    operators_group_one_way, program_by_hand, the_empty_text_is_the_empty_chunk,
+    unary_operators_group,
+};
+pub use operators::{Operator, left_level, level, operator_of, right_level};
+
+#[cfg(test)]
+mod tests;
