@@ -1,0 +1,124 @@
+-- Flags and the flags of their blocks.
+use Rattle.std.proofs.Common.{◌≡◌, ◌≢◌, ℕ, zero, suc, ◌+◌, ◌-◌, ◌*◌, ◌/◌, ◌<◌, ◌≤◌, ◌⊎◌, inl, inr, Bool, true, false, List, [], ◌∷◌, ◌++◌, length, get_or, slice_set, Option, None, Some, is_some, refl, sym, ap, subst, ◌∙◌, true≢false, arith, length-append}
+use Rattle.std.proofs.lemmas.Bool.{cases_Bool, cases_lt, cases_eq}
+use Rattle.std.proofs.lemmas.List.{length-set, get_or-set_same, get_or-set_other, get_or_past}
+use Rattle.lua_values.specs.Flags.{flag_at, IsFirstAt, IsFirstFrom, IsFirstWithin, IsBlank, IsSummary, with_flag}
+
+-- a flag that doesn't stand changes none
+pub flag_at-grown : (xs : List Bool) (k : ℕ) → flag_at (xs ++ false ∷ []) k ≡ flag_at xs k
+flag_at-grown [] zero = refl
+flag_at-grown [] (suc k) = refl
+flag_at-grown (x ∷ xs) zero = refl
+flag_at-grown (x ∷ xs) (suc k) = flag_at-grown xs k
+
+-- where the first flag from a place on is, by the block of the place and by the next block that has one
+pub next-none : (lower upper : List Bool) (from : ℕ) → IsSummary lower upper → IsFirstWithin lower from ((from / 32 + 1) * 32) None
+    → IsFirstFrom upper (from / 32 + 1) None → IsFirstFrom lower from None
+next-none lower upper from s here none k le =
+    elim (cases_Bool (flag_at lower k)) [
+      | inr off ↦ off
+      | inl on ↦ elim (cases_lt k ((from / 32 + 1) * 32)) [
+        | inl near ↦ here k le near
+        | inr far ↦ absurd (true≢false (sym (s.marks k on) ∙ none (k / 32) (omega arith)))
+      ]
+    ]
+
+pub next-blank : (lower upper : List Bool) (next : ℕ) → IsSummary lower upper → flag_at upper next ≡ true
+    → IsFirstWithin lower (next * 32) ((next + 1) * 32) None → ⊥
+next-blank lower upper next s on blank = s.holds next on (λ k e. blank k (omega arith) (omega arith))
+
+pub next-some : (lower upper : List Bool) (from next place : ℕ) → IsSummary lower upper → IsFirstWithin lower from ((from / 32 + 1) * 32) None
+    → IsFirstFrom upper (from / 32 + 1) (Some next) → IsFirstWithin lower (next * 32) ((next + 1) * 32) (Some place) → IsFirstAt lower from place
+next-some lower upper from next place s here first found = record {
+  later = let a = first.later in let b = found.1.later in omega arith;
+  stands = found.1.stands;
+  before = λ k le lt. elim (cases_Bool (flag_at lower k)) [
+    | inr off ↦ off
+    | inl on ↦ elim (cases_lt k ((from / 32 + 1) * 32)) [
+      | inl near ↦ here k le near
+      | inr far ↦ elim (cases_lt (k / 32) next) [
+        | inl early ↦ absurd (true≢false (sym (s.marks k on) ∙ first.before (k / 32) (omega arith) early))
+        | inr late ↦ found.1.before k (omega arith) lt
+      ]
+    ]
+  ];
+}
+
+pub next-any : (lower upper : List Bool) (from next : ℕ) → IsSummary lower upper → IsFirstWithin lower from ((from / 32 + 1) * 32) None
+    → IsFirstFrom upper (from / 32 + 1) (Some next) → (r : Option ℕ) → IsFirstWithin lower (next * 32) ((next + 1) * 32) r → IsFirstFrom lower from r
+next-any lower upper from next s here first None found = absurd (next-blank lower upper next s first.stands found)
+next-any lower upper from next s here first (Some place) found = next-some lower upper from next place s here first found
+
+-- a list with more flags that don't stand
+pub summary-same : (lower lower' upper upper' : List Bool) → IsSummary lower upper → ((k : ℕ) → flag_at lower' k ≡ flag_at lower k)
+    → ((k : ℕ) → flag_at upper' k ≡ flag_at upper k) → ((k : ℕ) → k < length lower' → k / 32 < length upper') → IsSummary lower' upper'
+summary-same lower lower' upper upper' s low up covers = record {
+  covers = covers;
+  marks = λ k on. up (k / 32) ∙ s.marks k (sym (low k) ∙ on);
+  holds = λ block on blank. s.holds block (sym (up block) ∙ on) (λ k e. sym (low k) ∙ blank k e);
+}
+
+-- a flag is set, and the flag of its block tells what the block then has
+pub summary-set : (lower upper : List Bool) (place : ℕ) (flag any : Bool) → IsSummary lower upper → place < length lower
+    → (any ≡ false → IsBlank (slice_set lower place flag) (place / 32)) → (any ≡ true → IsBlank (slice_set lower place flag) (place / 32) → ⊥)
+    → IsSummary (slice_set lower place flag) (slice_set upper (place / 32) any)
+summary-set lower upper place flag any s lt none some = record {
+  covers = λ k in_range.
+      let same : length (slice_set lower place flag) ≡ length lower = length-set lower place flag in
+      let upper_same : length (slice_set upper (place / 32) any) ≡ length upper = length-set upper (place / 32) any in
+      let at : k / 32 < length upper = s.covers k (omega arith) in
+      omega arith;
+  marks = λ k on. elim (cases_eq (k / 32) (place / 32)) [
+    | inl e ↦ elim (cases_Bool any) [
+      | inl set ↦ subst (λ b. flag_at (slice_set upper (place / 32) any) b ≡ true) (sym e) (get_or-set_same upper (place / 32) any false (s.covers place lt) ∙ set)
+      | inr clear ↦ absurd (true≢false (sym on ∙ none clear k e))
+    ]
+    | inr n ↦
+        get_or-set_other upper (place / 32) (k / 32) any false n
+        ∙ s.marks k (sym (get_or-set_other lower place k flag false (λ e. n (ap (λ i. i / 32) e))) ∙ on)
+  ];
+  holds = λ block on blank. elim (cases_eq block (place / 32)) [
+    | inl e ↦
+        some
+        (sym (get_or-set_same upper (place / 32) any false (s.covers place lt)) ∙ subst (λ b. flag_at (slice_set upper (place / 32) any) b ≡ true) e on)
+        (subst (IsBlank (slice_set lower place flag)) e blank)
+    | inr n ↦
+        s.holds block
+        (sym (get_or-set_other upper (place / 32) block any false n) ∙ on)
+        (λ k e. sym (get_or-set_other lower place k flag false (λ at. n (sym e ∙ ap (λ i. i / 32) at))) ∙ blank k e)
+  ];
+}
+
+-- as many blocks as whole ones are there
+front : (lower upper : List Bool) → IsSummary lower upper → length lower / 32 ≤ length upper
+front lower upper s = elim (cases_eq (length lower) 0) [
+  | inl e ↦ omega arith
+  | inr n ↦ let last : (length lower - 1) / 32 < length upper = s.covers (length lower - 1) (omega arith) in omega arith
+]
+
+pub front-blocks : (flags blocks groups : List Bool) → IsSummary flags blocks → IsSummary blocks groups
+    → (length flags / 32 ≤ length blocks) × (length flags / 32 / 32 ≤ length groups)
+front-blocks flags blocks groups s t =
+    let first : length flags / 32 ≤ length blocks = front flags blocks s in
+    let second : length blocks / 32 ≤ length groups = front blocks groups t in
+    (first, omega arith)
+
+-- what a list of flags was before a block was made
+pub record Covered (old new : List Bool) (block : ℕ) : Type 0 where
+  pub same : (k : ℕ) → flag_at new k ≡ flag_at old k
+  pub longer : length old ≤ length new
+  pub few : (k : ℕ) → k < length new → (k < length old) ⊎ (k ≤ block)
+
+pub grown-blocks : (flags flags' blocks blocks' : List Bool) (block : ℕ) → IsSummary flags blocks → Covered blocks blocks' block
+    → ((k : ℕ) → flag_at flags' k ≡ flag_at flags k) → ((k : ℕ) → k < length flags' → (k < length flags) ⊎ (k / 32 < length blocks')) → IsSummary flags' blocks'
+grown-blocks flags flags' blocks blocks' block s c same more = summary-same flags flags' blocks blocks' s same c.same (λ k lt. elim (more k lt) [
+  | inl old ↦ let at : k / 32 < length blocks = s.covers k old in let l = c.longer in omega arith
+  | inr new ↦ new
+])
+
+pub grown-groups : (blocks blocks' groups groups' : List Bool) (block : ℕ) → IsSummary blocks groups → Covered blocks blocks' block → Covered groups groups' (block / 32)
+    → block / 32 < length groups' → IsSummary blocks' groups'
+grown-groups blocks blocks' groups groups' block s c d covered = summary-same blocks blocks' groups groups' s c.same d.same (λ k lt. elim (c.few k lt) [
+  | inl old ↦ let at : k / 32 < length groups = s.covers k old in let l = d.longer in omega arith
+  | inr new ↦ omega arith
+])

@@ -1,0 +1,6 @@
+mod BorderLemmas
+mod FitLemmas
+mod FlagLemmas
+mod PairLemmas
+mod StoreLemmas
+mod TableLemmas

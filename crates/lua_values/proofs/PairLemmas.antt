@@ -1,0 +1,147 @@
+-- A table's pairs by the words of the map in which they are kept.
+use Rattle.std.proofs.Common.{◌≡◌, ℕ, zero, suc, ◌+◌, ◌-◌, ◌<◌, Bool, true, false, not, ◌||◌, List, [], ◌∷◌, ◌++◌, Option, None, Some, drop, slice_get, position, Bor, is_some, IfSome, refl, sym, ap, subst, inl, inr, ◌⊎◌, ◌∙◌, if◌then◌else◌, true≢false, length, arith}
+use Rattle.std.specs.List.{position_or_len, AllZip}
+use Rattle.std.proofs.lemmas.List.{drop_all}
+use Rattle.std.proofs.lemmas.Option.{none-some, same_Some}
+use Rattle.std.specs.Option.{option_copied, option_map}
+use Rattle.std.specs.Map.{keys_of, lookup}
+use Rattle.std.specs.Map.Iter.{deref_pair}
+use Rattle.indexmap.specs.IndexMap.{insert_entry}
+use Rattle.indexmap.proofs.MapLemmas.{Found, Found-position, Missing, Missing-position}
+use Rattle.lua_values.specs.declared.values.Value.{Value}
+use Rattle.lua_values.specs.declared.values.Value.TheVariants.{Nil}
+use Rattle.lua_values.specs.Values.{same, is_nil, number}
+use Rattle.lua_values.specs.Border.{border_from}
+use Rattle.lua_values.specs.Heap.{TableView}
+use Rattle.lua_values.specs.Pairs.{value_at, has_place, with_value, first_live, behind, next_pair}
+
+-- the map has a key exactly where it has a place
+pub lookup-has : (ps : List (Value × Value)) (k : Value) → is_some (lookup (same k) ps) ≡ has_place ps k
+lookup-has [] k = refl
+lookup-has (p ∷ ps) k = by (same k p.0) (lookup-has ps k)
+  where
+    by : (b : Bool) → is_some (lookup (same k) ps) ≡ has_place ps k → is_some (if b then Some p.1 else lookup (same k) ps) ≡ (b || has_place ps k)
+    by true e = refl
+    by false e = e
+
+-- and has the value there
+pub lookup-value : (ps : List (Value × Value)) (k : Value) → IfSome (lookup (same k) ps) (λ v. v ≡ value_at ps k)
+lookup-value [] k = tt
+lookup-value (p ∷ ps) k = by (same k p.0) (lookup-value ps k)
+  where
+    by : (b : Bool) → IfSome (lookup (same k) ps) (λ v. v ≡ value_at ps k) → IfSome (if b then Some p.1 else lookup (same k) ps) (λ v. v ≡ (if b then p.1 else value_at ps k))
+    by true h = refl
+    by false h = h
+
+-- what a look-up lends
+pub lent-place : (r : Option (Bor Value)) (ps : List (Value × Value)) (k : Value) → option_copied r ≡ lookup (same k) ps → is_some r ≡ has_place ps k
+lent-place None ps k e = ap is_some e ∙ lookup-has ps k
+lent-place (Some x) ps k e = ap is_some e ∙ lookup-has ps k
+
+pub lent-value : (r : Option (Bor Value)) (ps : List (Value × Value)) (k : Value) → option_copied r ≡ lookup (same k) ps → IfSome r (λ value. value.now ≡ value_at ps k)
+lent-value None ps k e = tt
+lent-value (Some x) ps k e = subst (λ o. IfSome o (λ v. v ≡ value_at ps k)) (sym e) (lookup-value ps k)
+
+-- inserting sets a value, but for nil at a key without a place
+pub insert-with : (ps : List (Value × Value)) (k v : Value) → (is_nil v ≡ false) ⊎ (has_place ps k ≡ true) → insert_entry same ps k v ≡ with_value ps k v
+insert-with [] k v h = elim h [ inl n ↦ rw n refl | inr e ↦ absurd (true≢false (sym e)) ]
+insert-with (p ∷ ps) k v h =
+    by (same k p.0) (λ e. insert-with ps k v (elim h [ inl n ↦ inl n | inr q ↦ inr (sym (ap (λ b. b || has_place ps k) e) ∙ q) ]))
+  where
+    by : (b : Bool) → (b ≡ false → insert_entry same ps k v ≡ with_value ps k v)
+        → (if b then (p.0, v) ∷ ps else p ∷ insert_entry same ps k v) ≡ (if b then (p.0, v) ∷ ps else p ∷ with_value ps k v)
+    by true rest = refl
+    by false rest = ap (λ l. p ∷ l) (rest refl)
+
+-- nil at a key without a place changes nothing
+pub with_value-absent : (ps : List (Value × Value)) (k v : Value) → is_nil v ≡ true → has_place ps k ≡ false → with_value ps k v ≡ ps
+with_value-absent [] k v n h = rw n refl
+with_value-absent (p ∷ ps) k v n h = by (same k p.0) refl (with_value-absent ps k v n)
+  where
+    by : (b : Bool) → same k p.0 ≡ b → (has_place ps k ≡ false → with_value ps k v ≡ ps) → (if b then (p.0, v) ∷ ps else p ∷ with_value ps k v) ≡ p ∷ ps
+    by true e rest = absurd (true≢false (sym (ap (λ b. b || has_place ps k) e) ∙ h))
+    by false e rest = ap (λ l. p ∷ l) (rest (sym (ap (λ b. b || has_place ps k) e) ∙ h))
+
+-- what stands behind a key by its index
+behind-drop : (ps : List (Value × Value)) (k : Value) → behind ps k ≡ drop (position_or_len (same k) (keys_of ps) + 1) ps
+behind-drop [] k = refl
+behind-drop (p ∷ ps) k = by (same k p.0) (behind-drop ps k)
+  where
+    by : (b : Bool) → behind ps k ≡ drop (position_or_len (same k) (keys_of ps) + 1) ps
+        → (if b then ps else behind ps k) ≡ drop ((if not b then 1 + position_or_len (same k) (keys_of ps) else 0) + 1) (p ∷ ps)
+    by true h = refl
+    by false h =
+        let e : 1 + position_or_len (same k) (keys_of ps) + 1 ≡ suc (position_or_len (same k) (keys_of ps) + 1) = omega arith in
+        rw e h
+
+pub behind-found : (ps : List (Value × Value)) (k : Value) (i : ℕ) → position (same k) (keys_of ps) ≡ Some i → behind ps k ≡ drop (i + 1) ps
+behind-found ps k i e = behind-drop ps k ∙ ap (λ n. drop (n + 1) ps) (Found-position (same k) ps i e).or_len
+
+pub behind-missing : (ps : List (Value × Value)) (k : Value) → position (same k) (keys_of ps) ≡ None → behind ps k ≡ []
+behind-missing ps k e =
+    behind-drop ps k ∙ ap (λ n. drop (n + 1) ps) (Missing-position (same k) ps e).or_len ∙ drop_all (length ps + 1) ps (omega arith)
+
+-- the same of a whole table
+pub table-absent : (t : TableView) (k v : Value) → is_nil v ≡ true → has_place t.pairs k ≡ false → t ≡ record { pairs = with_value t.pairs k v; meta = t.meta }
+table-absent t k v n h = ap (λ ps. record { pairs = ps; meta = t.meta }) (sym (with_value-absent t.pairs k v n h))
+
+-- a key that has a place takes no new one
+pub insert-length : (ps : List (Value × Value)) (k v : Value) → has_place ps k ≡ true → length (insert_entry same ps k v) ≡ length ps
+insert-length [] k v h = absurd (true≢false (sym h))
+insert-length (p ∷ ps) k v h = by (same k p.0) (λ e. insert-length ps k v (sym (ap (λ b. b || has_place ps k) e) ∙ h))
+  where
+    by : (b : Bool) → (b ≡ false → length (insert_entry same ps k v) ≡ length ps)
+        → length (if b then (p.0, v) ∷ ps else p ∷ insert_entry same ps k v) ≡ length (p ∷ ps)
+    by true rest = refl
+    by false rest = ap suc (rest refl)
+
+-- nothing is at a key without a place
+pub nil-absent : (ps : List (Value × Value)) (k : Value) → has_place ps k ≡ false → Nil ≡ value_at ps k
+nil-absent [] k h = refl
+nil-absent (p ∷ ps) k h = by (same k p.0) refl (nil-absent ps k)
+  where
+    by : (b : Bool) → same k p.0 ≡ b → (has_place ps k ≡ false → Nil ≡ value_at ps k) → Nil ≡ (if b then p.1 else value_at ps k)
+    by true e rest = absurd (true≢false (sym (ap (λ b. b || has_place ps k) e) ∙ h))
+    by false e rest = rest (sym (ap (λ b. b || has_place ps k) e) ∙ h)
+
+pub value_at-absent : (ps : List (Value × Value)) (k : Value) → has_place ps k ≡ false → is_nil (value_at ps k) ≡ true
+value_at-absent ps k h = sym (ap is_nil (nil-absent ps k h))
+
+-- the first live pair from a place on, by the pair there
+pub first_live-drop : (ps : List (Value × Value)) (i : ℕ) (p : Value × Value) → slice_get ps i ≡ Some p
+    → first_live (drop i ps) ≡ (if is_nil p.1 then first_live (drop (i + 1) ps) else Some p)
+first_live-drop [] i p e = absurd (none-some p e)
+first_live-drop (q ∷ ps) zero p e = ap (λ r. if is_nil r.1 then first_live ps else Some r) (same_Some q p e)
+first_live-drop (q ∷ ps) (suc i) p e = let more : suc i + 1 ≡ suc (i + 1) = omega arith in rw more (first_live-drop ps i p e)
+
+-- one number more is tried
+pub border_from-hole : (ps : List (Value × Value)) (n : ℕ) → n < length ps → is_nil (value_at ps (number (n + 1))) ≡ true → border_from ps n (length ps - n) ≡ n
+border_from-hole ps n h e = let more : length ps - n ≡ suc (length ps - (n + 1)) = omega arith in rw (more, e) refl
+
+pub border_from-full : (ps : List (Value × Value)) (n : ℕ) → n < length ps → is_nil (value_at ps (number (n + 1))) ≡ false
+    → border_from ps n (length ps - n) ≡ border_from ps (n + 1) (length ps - (n + 1))
+border_from-full ps n h e = let more : length ps - n ≡ suc (length ps - (n + 1)) = omega arith in rw (more, e) refl
+
+-- the same of a pair that a map lends
+pub live-here : (ps : List (Value × Value)) (i : ℕ) (p : Bor Value × Bor Value) → slice_get ps i ≡ Some (deref_pair p) → is_nil p.1.now ≡ false
+    → first_live (drop i ps) ≡ Some (deref_pair p)
+live-here ps i p e n = first_live-drop ps i (deref_pair p) e ∙ rw n refl
+
+pub live-later : (ps : List (Value × Value)) (i : ℕ) (p : Bor Value × Bor Value) → slice_get ps i ≡ Some (deref_pair p) → is_nil p.1.now ≡ true
+    → first_live (drop i ps) ≡ first_live (drop (i + 1) ps)
+live-later ps i p e n = first_live-drop ps i (deref_pair p) e ∙ rw n refl
+
+-- what comes next behind a key, by its index
+pub next-found : (ps : List (Value × Value)) (k : Value) (i : ℕ) → is_nil k ≡ false → position (same k) (keys_of ps) ≡ Some i
+    → first_live (drop (i + 1) ps) ≡ next_pair ps k
+next-found ps k i n e = rw (n, behind-found ps k i e) refl
+
+pub next-missing : (ps : List (Value × Value)) (k : Value) → is_nil k ≡ false → position (same k) (keys_of ps) ≡ None → None ≡ next_pair ps k
+next-missing ps k n e = rw (n, behind-missing ps k e) refl
+
+-- a map's clone is the same list
+pub clone-same : (ps qs : List (Value × Value)) → AllZip (λ p q. (q.0 ≡ p.0) × (q.1 ≡ p.1)) ps qs → qs ≡ ps
+clone-same [] [] h = refl
+clone-same [] (q ∷ qs) h = absurd h
+clone-same (p ∷ ps) [] h = absurd h
+clone-same (p ∷ ps) (q ∷ qs) h = (λ i. (h.0.0 i, h.0.1 i) ∷ clone-same ps qs h.1 i)

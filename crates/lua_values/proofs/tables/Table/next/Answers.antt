@@ -1,0 +1,13 @@
+use Rattle.std.proofs.Common.{◌≡◌, false, Some, None, position, sym, ◌∙◌}
+use Rattle.std.specs.Map.{keys_of}
+use Rattle.lua_values.specs.Values.{same, is_nil}
+use Rattle.lua_values.proofs.PairLemmas.{next-found, next-missing}
+use Rattle.lua_values.proofs.tables.Table.next.Goals as goal
+
+pub returns-in-Some : goal.returns-in-Some
+returns-in-Some c =
+    c.live_from-in-Some.ensures ∙ rw (← c.self.view_is) (next-found c.self.inside.places.entries c.args.key.now c.in-Some.place (sym c.is_nil.ensures ∙ c.if-is_nil.false) (sym c.in-Some.ensures.index))
+
+pub returns-in-None : goal.returns-in-None
+returns-in-None c =
+    rw (← c.self.view_is) (next-missing c.self.inside.places.entries c.args.key.now (sym c.is_nil.ensures ∙ c.if-is_nil.false) (sym c.in-None.ensures.index))

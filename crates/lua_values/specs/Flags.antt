@@ -1,0 +1,37 @@
+-- Lists of flags, and where in them the next one is that stands.
+use Rattle.std.specs.Prelude.{◌≡◌, ℕ, ◌<◌, ◌≤◌, ◌/◌, Bool, true, false, List, length, Option, Some, None, slice_index_or, slice_set}
+
+-- the flag at a place, which doesn't stand behind the last
+abbrev pub flag_at : List Bool → ℕ → Bool
+flag_at flags place = slice_index_or flags place false
+
+-- the flag at the place stands, and none does from a place on and before it
+pub record IsFirstAt (flags : List Bool) (from place : ℕ) : Type 0 where
+  pub later : from ≤ place
+  pub stands : flag_at flags place ≡ true
+  pub before : (k : ℕ) → from ≤ k → k < place → flag_at flags k ≡ false
+
+-- the first place from one on at which a flag stands, if there is any
+abbrev pub IsFirstFrom : List Bool → ℕ → Option ℕ → Type 0
+IsFirstFrom flags from None = (k : ℕ) → from ≤ k → flag_at flags k ≡ false
+IsFirstFrom flags from (Some place) = IsFirstAt flags from place
+
+-- the same of places before an end
+abbrev pub IsFirstWithin : List Bool → ℕ → ℕ → Option ℕ → Type 0
+IsFirstWithin flags from end None = (k : ℕ) → from ≤ k → k < end → flag_at flags k ≡ false
+IsFirstWithin flags from end (Some place) = (place < end) × IsFirstAt flags from place
+
+-- no flag of the block of 32 stands
+abbrev pub IsBlank : List Bool → ℕ → Type 0
+IsBlank flags block = (k : ℕ) → k / 32 ≡ block → flag_at flags k ≡ false
+
+-- the upper list has the flag of each block of the lower one: it stands where a flag of the block does
+pub record IsSummary (lower upper : List Bool) : Type 0 where
+  pub covers : (k : ℕ) → k < length lower → k / 32 < length upper
+  pub marks : (k : ℕ) → flag_at lower k ≡ true → flag_at upper (k / 32) ≡ true
+  pub holds : (block : ℕ) → flag_at upper block ≡ true → IsBlank lower block → ⊥
+
+-- a flag that is set where a place is given
+abbrev pub with_flag : List Bool → Option ℕ → Bool → List Bool
+with_flag flags None flag = flags
+with_flag flags (Some place) flag = slice_set flags place flag

@@ -1,0 +1,55 @@
+-- What holds of the definitions, for all heaps and values.
+use Rattle.std.specs.Prelude.{◌≡◌, ℕ, ◌+◌, ◌<◌, true, ◌↔◌, List, length, Option, Some, IfSome, slice_get}
+use Rattle.lua_values.specs.declared.values.Value.{Value}
+use Rattle.lua_values.specs.declared.kinds.TypeKind.{TypeKind}
+use Rattle.lua_values.specs.Values.{same}
+use Rattle.lua_values.specs.Pairs.{value_at, next_pair}
+use Rattle.lua_values.specs.Border.{IsLeastBorder, border_of}
+use Rattle.lua_values.specs.Heap.{Heap, ClosureView}
+use Rattle.lua_values.specs.Fits.{Fits, FitsPair, FitsMeta, FitCells, FitsItself, IsNoShorter}
+use Rattle.lua_values.specs.NativeCalls.{Meaning, both, IsLawful}
+use Rattle.lua_values.specs.StoreCalls as calls
+
+-- primitive equality is the equality of values
+abbrev pub SameIsEqual : Type 0
+SameIsEqual = (a b : Value) → (same a b ≡ true) ↔ (a ≡ b)
+
+-- the border of a table is the least
+abbrev pub BorderIsLeast : Type 0
+BorderIsLeast = (ps : List (Value × Value)) → IsLeastBorder ps (border_of ps)
+
+-- a heap in which no list is shorter has all that the other has
+abbrev pub StillFits : Type 0
+StillFits = (old new : Heap) → IsNoShorter old new → (value : Value) → Fits old value → Fits new value
+
+-- the new heap fits itself, and no list of it is shorter
+abbrev pub Keeps : Heap → Heap → Type 0
+Keeps old new = FitsItself new × IsNoShorter old new
+
+-- what a store is asked to write fits it still
+pub record WritesKeepFitting : Type 0 where
+  pub set : (heap : Heap) (t : ℕ) (key value : Value) → FitsItself heap → Fits heap key → Fits heap value → Keeps heap (calls.with_pair heap t key value)
+  pub set_metatable : (heap : Heap) (t : ℕ) (meta : Option ℕ) → FitsItself heap → FitsMeta heap meta → Keeps heap (calls.with_metatable heap t meta)
+  pub make_table : (heap : Heap) → FitsItself heap → Keeps heap (calls.with_table heap)
+  pub make_cell : (heap : Heap) (value : Value) → FitsItself heap → Fits heap value → Keeps heap (calls.with_cell heap value)
+  pub set_cell : (heap : Heap) (c : ℕ) (value : Value) → FitsItself heap → Fits heap value → Keeps heap (calls.with_cell_value heap c value)
+  pub make_closure : (heap : Heap) (function : ℕ) (cells : List ℕ) → FitsItself heap → FitCells heap cells → Keeps heap (calls.with_closure heap function cells)
+  pub freeze : (heap : Heap) → FitsItself heap → Keeps heap (calls.frozen heap)
+  pub set_globals : (heap : Heap) (t : ℕ) → FitsItself heap → t < length heap.tables → Keeps heap (record heap { globals = t })
+  pub set_type_metatable : (heap : Heap) (kind : TypeKind) (meta : Option ℕ) → FitsItself heap → FitsMeta heap meta
+      → Keeps heap (record heap { metatables = calls.with_type_metatable heap.metatables kind meta })
+  pub add_units : (heap : Heap) (n : ℕ) → FitsItself heap → Keeps heap (record heap { units = n })
+  pub new : FitsItself calls.new_store.heap
+
+-- what a store gives fits it
+pub record ReadsFit : Type 0 where
+  pub get : (heap : Heap) (t : ℕ) (key : Value) → FitsItself heap → Fits heap (value_at (calls.pairs_of heap t) key)
+  pub next : (heap : Heap) (t : ℕ) (key : Value) → FitsItself heap → IfSome (next_pair (calls.pairs_of heap t) key) (FitsPair heap)
+  pub metatable : (heap : Heap) (t : ℕ) → FitsItself heap → FitsMeta heap (calls.table_of heap t).meta
+  pub cell : (heap : Heap) (c : ℕ) → FitsItself heap → Fits heap (calls.cell_of heap c)
+  pub closure : (heap : Heap) (c : ℕ) → FitsItself heap → IfSome (slice_get heap.closures c) (λ closure. FitCells heap closure.cells)
+  pub type_metatable : (heap : Heap) (kind : TypeKind) → FitsItself heap → FitsMeta heap (calls.type_metatable_of heap.metatables kind)
+
+-- two lawful libraries are one
+abbrev pub BothAreLawful : Type 0
+BothAreLawful = (m n : ℕ) (first second : Meaning) → IsLawful m first → IsLawful n second → IsLawful (m + n) (both m first second)

@@ -1,0 +1,11 @@
+pub mod Border
+pub mod Fits
+pub mod Flags
+pub mod Heap
+pub mod Laws
+pub mod NativeCalls
+pub mod Pairs
+pub mod StoreCalls
+pub mod TableFlags
+pub mod Values
+pub mod Within

@@ -1,0 +1,67 @@
+-- The functions of the host that a program may call: what each number means, as a function of its arguments and of the
+-- heap.
+use Rattle.std.specs.Prelude.{◌≡◌, ℕ, ◌+◌, ◌-◌, ◌<◌, ◌≤◌, nat_lt, min, List, length, take, All, if◌then◌else◌}
+use Rattle.lua_values.specs.declared.values.Value.{Value}
+use Rattle.lua_values.specs.declared.natives.NativeOut.{NativeOut}
+use Rattle.lua_values.specs.declared.natives.NativeOut.TheVariants.{Values, Fault, Outside, Memory}
+use Rattle.lua_values.specs.Heap.{Heap, StoreView, step_limit}
+use Rattle.lua_values.specs.Fits.{Fits, FitsItself, IsNoShorter}
+
+-- what a call means: it gives values or faults with a value, and leaves a heap, or it leaves its answer to the outside;
+-- each with a count of steps
+pub data NativeResult : Type 0 where
+  Gives : (values : List Value) (heap : Heap) (steps : ℕ) → NativeResult
+  Faults : (value : Value) (heap : Heap) (steps : ℕ) → NativeResult
+  Leaves : (steps : ℕ) → NativeResult
+
+-- the meaning of each number
+abbrev pub Meaning : Type 0
+Meaning = ℕ → List Value → Heap → NativeResult
+
+abbrev pub steps_of : NativeResult → ℕ
+steps_of (Gives values heap steps) = steps
+steps_of (Faults value heap steps) = steps
+steps_of (Leaves steps) = steps
+
+-- the answer and the heap are those that are meant
+abbrev pub IsAnswer : NativeResult → Heap → NativeOut → Heap → Type 0
+IsAnswer (Gives values heap steps) old (Values answer) new = (answer ≡ values) × (new ≡ heap)
+IsAnswer (Faults value heap steps) old (Fault answer) new = (answer ≡ value) × (new ≡ heap)
+IsAnswer (Leaves steps) old Outside new = new ≡ old
+IsAnswer result old answer new = ⊥
+
+-- A call counts its steps, to at most the limit. Where they stay below it, its answer and its heap are those that are
+-- meant; at the limit nothing else is said of them, since the program ends there.
+pub record Counts (result : NativeResult) (old : StoreView) (answer : NativeOut) (new : StoreView) : Type 0 where
+  pub steps : new.steps ≡ min step_limit (old.steps + steps_of result)
+  pub meant : new.steps < step_limit → IsAnswer result old.heap answer new.heap
+
+-- a call answers what is meant, or the want of memory, after which nothing is said of the store
+abbrev pub Answers : NativeResult → StoreView → NativeOut → StoreView → Type 0
+Answers result old Memory new = Unit {0}
+Answers result old (Values answer) new = Counts result old (Values answer) new
+Answers result old (Fault answer) new = Counts result old (Fault answer) new
+Answers result old Outside new = Counts result old Outside new
+
+-- two meanings in a row: the numbers below the count of the first are its own
+abbrev pub both : ℕ → Meaning → Meaning → Meaning
+both count first second number args heap = if nat_lt number count then first number args heap else second (number - count) args heap
+
+-- what a heap keeps in a call: its base and all that is frozen, and no list gets shorter
+pub record KeepsFrozen (old new : Heap) : Type 0 where
+  pub base : new.base ≡ old.base
+  pub tables : take old.base.tables new.tables ≡ take old.base.tables old.tables
+  pub cells : take old.base.cells new.cells ≡ take old.base.cells old.cells
+  pub closures : take old.base.closures new.closures ≡ take old.base.closures old.closures
+  pub no_shorter : IsNoShorter old new
+
+-- the heap that a call leaves keeps what is frozen, fits itself, and fits what the call answers
+abbrev pub LeavesFitting : Heap → NativeResult → Type 0
+LeavesFitting old (Gives values heap steps) = KeepsFrozen old heap × FitsItself heap × All (Fits heap) values
+LeavesFitting old (Faults value heap steps) = KeepsFrozen old heap × FitsItself heap × Fits heap value
+LeavesFitting old (Leaves steps) = Unit {0}
+
+-- The law of a library: each of its numbers leaves a heap so.
+abbrev pub IsLawful : ℕ → Meaning → Type 0
+IsLawful count meaning =
+    (number : ℕ) (args : List Value) (heap : Heap) → number < count → FitsItself heap → All (Fits heap) args → LeavesFitting heap (meaning number args heap)

@@ -1,0 +1,26 @@
+-- The flags that a table keeps beside its pairs.
+use Rattle.std.specs.Prelude.{◌≡◌, ℕ, ◌+◌, ◌<◌, ◌≤◌, nat_lt, Bool, false, not, ◌&&◌, List, length, map, Option, Some, None}
+use Rattle.lua_values.specs.declared.values.Value.{Value}
+use Rattle.lua_values.specs.Values.{same, is_nil, number}
+use Rattle.lua_values.specs.Pairs.{value_at}
+use Rattle.lua_values.specs.Flags.{flag_at}
+
+-- which pairs have a value that isn't nil
+abbrev pub lives : List (Value × Value) → List Bool
+lives ps = map (λ p. not (is_nil p.1)) ps
+
+-- k is below n, and nothing is at k + 1
+abbrev pub is_hole : ℕ → List (Value × Value) → ℕ → Bool
+is_hole n ps k = nat_lt k n && is_nil (value_at ps (number (k + 1)))
+
+-- The flags of places stand where a value isn't nil, and those of the numbers up to that of places where nothing is.
+pub record IsIndexed (ps : List (Value × Value)) (live holes : List Bool) : Type 0 where
+  pub marks_live : (k : ℕ) → flag_at live k ≡ flag_at (lives ps) k
+  pub marks_holes : (k : ℕ) → flag_at holes k ≡ is_hole (length ps) ps k
+  pub live_there : length ps ≤ length live
+  pub holes_there : length ps ≤ length holes
+
+-- the place among the first n numbers that a key has, if it is one of them
+abbrev pub IsHoleOf : Value → ℕ → Option ℕ → Type 0
+IsHoleOf key n None = (k : ℕ) → k < n → same (number (k + 1)) key ≡ false
+IsHoleOf key n (Some k) = (k < n) × (key ≡ number (k + 1))

@@ -1,0 +1,52 @@
+ghost use Rattle.std.specs.Prelude.{◌≡◌, IfOk};
+
+use std::alloc::{AllocError, Global};
+use std::marker::Model;
+
+/// A closure: the number of its function, and the numbers of the cells that it captured.
+#[derive(Drop)]
+pub struct Closure {
+    function: u32,
+    cells: Vec<u32>,
+}
+
+impl Model for Closure {
+    ghost use Rattle.lua_values.specs.Heap.{ClosureView};
+
+    ghost Value = { ClosureView };
+
+    ghost view = { λ closure. record { function = closure.function; cells = closure.cells.items } };
+}
+
+impl Closure {
+    /// The closure of a function over these cells.
+    pub fn new(alloc: Global, function: u32, cells: &[u32]) -> Result<Closure, AllocError>
+        ensures { IfOk result (λ closure. closure ≡ record { function = function; cells = cells.now }) }
+    {
+        Ok(Closure {
+            function,
+            cells: cells.to_vec(alloc)?,
+        })
+    }
+
+    /// The function's number.
+    pub fn function(&self) -> u32
+        ensures { result ≡ self.now.function }
+    {
+        self.function
+    }
+
+    /// The cells' numbers.
+    pub fn cells(&self) -> &[u32]
+        ensures { result.now ≡ self.now.cells }
+    {
+        self.cells.as_slice()
+    }
+
+    /// The same closure again.
+    pub fn copy(&self, alloc: Global) -> Result<Closure, AllocError>
+        ensures { IfOk result (λ copy. copy ≡ self.now) }
+    {
+        Closure::new(alloc, self.function, self.cells.as_slice())
+    }
+}

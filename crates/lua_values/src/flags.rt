@@ -1,0 +1,198 @@
+ghost use Rattle.std.specs.Prelude.{◌≡◌, ◌<◌, ◌≤◌, ◌⊎◌, ◌+◌, ◌*◌, ◌/◌, ◌++◌, ℕ, [], ◌∷◌, true, false, length, slice_set, IfOk, OnOk, OnErr};
+ghost use Rattle.std.specs.Option.{ForSome};
+ghost use Rattle.lua_values.specs.Flags.{flag_at, IsFirstFrom, IsFirstWithin, IsBlank, IsSummary, with_flag};
+
+use std::alloc::{AllocError, Global};
+use std::marker::Model;
+
+/// How many flags stand in a block, and how many blocks in a group.
+const WIDTH: usize = 32;
+
+/// How many flags there may be.
+const MOST: usize = 32_768;
+
+/// A list of flags, up to 32,768. Where the next one is that stands is told by the flags of blocks of 32 and of groups
+/// of 32 blocks, so that no more than 160 flags are read.
+#[derive(Drop)]
+pub struct Flags {
+    flags: Vec<bool>,
+    blocks: Vec<bool>,
+    groups: Vec<bool>,
+}
+
+impl Model for Flags {
+    ghost use Rattle.std.specs.Prelude.{List, Bool, ◌≤◌, length};
+    ghost use Rattle.lua_values.specs.Flags.{IsSummary};
+
+    ghost Value = { List Bool };
+
+    ghost view = { λ all. all.flags.items };
+
+    ghost invariant = { λ all. IsSummary all.flags.items all.blocks.items × IsSummary all.blocks.items all.groups.items × (length all.flags.items ≤ 32_768) };
+}
+
+impl Flags {
+    /// No flags; takes no memory.
+    pub fn new(alloc: Global) -> Flags
+        ensures { result ≡ [] }
+    {
+        Flags {
+            flags: Vec::new(alloc),
+            blocks: Vec::new(alloc),
+            groups: Vec::new(alloc),
+        }
+    }
+
+    /// How many flags there are.
+    pub fn len(&self) -> usize
+        ensures len { result ≡ length self.now }
+        ensures few { result ≤ 32_768 }
+    {
+        self.flags.len()
+    }
+
+    /// Adds a flag that doesn't stand. There may be 32,768; one more is a want of memory.
+    pub fn grow(&mut self) -> Result<(), AllocError>
+        ensures done { OnOk result (self.new ≡ self.old ++ false ∷ []) }
+        ensures few { OnOk result (length self.new ≤ 32_768) }
+        ensures kept { OnErr result (self.new ≡ self.old) }
+    {
+        let place = self.flags.len();
+        if place >= MOST {
+            return Err(AllocError);
+        }
+        cover(&mut self.groups, place / WIDTH / WIDTH)?;
+        cover(&mut self.blocks, place / WIDTH)?;
+        self.flags.push(false)?;
+        Ok(())
+    }
+
+    /// Has a flag at a place that may be the next.
+    pub fn reach(&mut self, place: usize) -> Result<(), AllocError>
+        ensures same { (k : ℕ) → flag_at self.new k ≡ flag_at self.old k }
+        ensures longer { length self.old ≤ length self.new }
+        ensures few { OnOk result (length self.new ≤ 32_768) }
+        ensures reached { OnOk result (place ≤ length self.old → place < length self.new) }
+    {
+        if place >= self.len() {
+            self.grow()?;
+        }
+        Ok(())
+    }
+
+    /// The same flags again.
+    pub fn copy(&self, alloc: Global) -> Result<Flags, AllocError>
+        ensures { IfOk result (λ copy. copy ≡ self.now) }
+    {
+        Ok(Flags {
+            flags: self.flags.as_slice().to_vec(alloc)?,
+            blocks: self.blocks.as_slice().to_vec(alloc)?,
+            groups: self.groups.as_slice().to_vec(alloc)?,
+        })
+    }
+
+    /// Sets a flag; takes no memory.
+    pub fn set(&mut self, place: usize, flag: bool)
+        requires { place < length self.old }
+        ensures { self.new ≡ slice_set self.old place flag }
+    {
+        self.flags[place] = flag;
+        let block = place / WIDTH;
+        self.blocks[block] = any_in(self.flags.as_slice(), block);
+        let group = block / WIDTH;
+        self.groups[group] = any_in(self.blocks.as_slice(), group);
+    }
+
+    /// Sets a flag where a place is given; takes no memory.
+    pub fn set_at(&mut self, place: Option<usize>, flag: bool)
+        requires { ForSome place (λ place. place < length self.old) }
+        ensures { self.new ≡ with_flag self.old place flag }
+    {
+        match place {
+            None => {}
+            Some(place) => self.set(place, flag),
+        }
+    }
+
+    /// The first flag from a place on that stands.
+    pub fn first_from(&self, from: usize) -> Option<usize>
+        ensures { IsFirstFrom self.now from result }
+    {
+        flag_from(
+            self.flags.as_slice(),
+            self.blocks.as_slice(),
+            self.groups.as_slice(),
+            from,
+        )
+    }
+}
+
+/// The first flag from a place on that stands.
+fn flag_from(flags: &[bool], blocks: &[bool], groups: &[bool], from: usize) -> Option<usize>
+    requires flags { IsSummary flags.now blocks.now }
+    requires blocks { IsSummary blocks.now groups.now }
+    requires few { length flags.now ≤ 32_768 }
+    ensures from { IsFirstFrom flags.now from result }
+{
+    if from >= flags.len() {
+        return None;
+    }
+    let block = from / WIDTH;
+    match first_within(flags, from, (block + 1) * WIDTH) {
+        Some(place) => Some(place),
+        None => match block_from(blocks, groups, block + 1) {
+            None => None,
+            Some(next) => first_within(flags, next * WIDTH, (next + 1) * WIDTH),
+        },
+    }
+}
+
+/// The first block from a block on that has a flag that stands.
+fn block_from(blocks: &[bool], groups: &[bool], from: usize) -> Option<usize>
+    requires summary { IsSummary blocks.now groups.now }
+    requires few { from ≤ 1024 }
+    ensures from { IsFirstFrom blocks.now from result }
+{
+    let group = from / WIDTH;
+    match first_within(blocks, from, (group + 1) * WIDTH) {
+        Some(block) => Some(block),
+        None => match first_within(groups, group + 1, groups.len()) {
+            None => None,
+            Some(next) => first_within(blocks, next * WIDTH, (next + 1) * WIDTH),
+        },
+    }
+}
+
+/// Whether a flag of the block stands.
+fn any_in(flags: &[bool], block: usize) -> bool
+    requires { block ≤ 1024 }
+    ensures none { result ≡ false → IsBlank flags.now block }
+    ensures some { result ≡ true → IsBlank flags.now block → ⊥ }
+{
+    first_within(flags, block * WIDTH, (block + 1) * WIDTH).is_some()
+}
+
+/// The first flag from a place on and before another that stands.
+fn first_within(flags: &[bool], from: usize, end: usize) -> Option<usize>
+    ensures first { IsFirstWithin flags.now from end result }
+{
+    for place in from..end.min(flags.len()) {
+        if flags[place] {
+            return Some(place);
+        }
+    }
+    None
+}
+
+/// Makes a flag of a block that may be the next.
+fn cover(blocks: &mut Vec<bool>, block: usize) -> Result<(), AllocError>
+    ensures same { (k : ℕ) → flag_at blocks.new.items k ≡ flag_at blocks.old.items k }
+    ensures longer { length blocks.old.items ≤ length blocks.new.items }
+    ensures few { (k : ℕ) → k < length blocks.new.items → (k < length blocks.old.items) ⊎ (k ≤ block) }
+    ensures covered { OnOk result (block ≤ length blocks.old.items → block < length blocks.new.items) }
+{
+    if block >= blocks.len() {
+        blocks.push(false)?;
+    }
+    Ok(())
+}

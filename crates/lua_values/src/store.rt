@@ -1,0 +1,177 @@
+ghost use Rattle.std.specs.Prelude.{◌≡◌, ◌+◌, ◌≤◌, min, OnOk, OnErr, IfOk, IfErr};
+ghost use Rattle.lua_values.specs.Heap.{step_limit, unit_limit};
+ghost use Rattle.lua_values.specs.StoreCalls as calls;
+
+mod captures;
+mod copies;
+mod table_calls;
+
+use crate::closures::Closure;
+use crate::tables::Table;
+use crate::{StoreFault, TypeKind, TypeMetatables, Value};
+use std::alloc::{AllocError, Global};
+use std::marker::Model;
+
+/// The most steps of a run.
+const STEP_LIMIT: u64 = 1_000_000;
+
+/// The most units of a store.
+const UNIT_LIMIT: u64 = 1_048_576;
+
+/// The units of a table.
+const TABLE_UNITS: u64 = 32;
+
+/// The tables, cells and closures of a run, numbered from 0 and never taken away, with its counts of steps and units.
+/// A number that isn't there reads as an empty table, as nil or as nothing, and a write to it changes nothing. The
+/// units of texts and threads are counted by whoever makes them, by `add_units`.
+#[derive(Drop)]
+pub struct Store {
+    alloc: Global,
+    nil: Value,
+    tables: Vec<Table>,
+    cells: Vec<Value>,
+    closures: Vec<Closure>,
+    frozen_tables: usize,
+    frozen_cells: usize,
+    frozen_closures: usize,
+    globals: u32,
+    metatables: TypeMetatables,
+    units: u64,
+    steps: u64,
+}
+
+impl Model for Store {
+    ghost use Rattle.std.specs.Prelude.{◌≡◌, ◌≤◌, ◌*◌, length};
+    ghost use Rattle.lua_values.specs.declared.values.Value.TheVariants.{Nil};
+    ghost use Rattle.lua_values.specs.Heap.{StoreView};
+    ghost use Rattle.lua_values.specs.Within.{IsWithin};
+
+    ghost Value = { StoreView };
+
+    ghost view = { λ s. record {
+      heap = record {
+        tables = s.tables.items;
+        cells = s.cells.items;
+        closures = s.closures.items;
+        base = record { tables = s.frozen_tables; cells = s.frozen_cells; closures = s.frozen_closures };
+        globals = s.globals;
+        metatables = s.metatables;
+        units = s.units;
+      };
+      steps = s.steps;
+    } };
+
+    ghost invariant = { λ s. (s.nil ≡ Nil) × IsWithin (length s.tables.items) (length s.cells.items) (length s.closures.items) s.units s.steps };
+}
+
+impl Store {
+    /// A store with one empty table, which is the global table.
+    pub fn new(alloc: Global) -> Result<Store, AllocError>
+        ensures { IfOk result (λ store. store ≡ calls.new_store) }
+    {
+        let mut tables = Vec::new(alloc);
+        tables.push(Table::new(alloc))?;
+        Ok(Store {
+            alloc,
+            nil: Value::Nil,
+            tables,
+            cells: Vec::new(alloc),
+            closures: Vec::new(alloc),
+            frozen_tables: 0,
+            frozen_cells: 0,
+            frozen_closures: 0,
+            globals: 0,
+            metatables: TypeMetatables::none(),
+            units: TABLE_UNITS,
+            steps: 0,
+        })
+    }
+
+    /// The number of the global table.
+    pub fn globals(&self) -> u32
+        ensures { result ≡ self.now.heap.globals }
+    {
+        self.globals
+    }
+
+    /// Makes a table the global table.
+    pub fn set_globals(&mut self, t: u32)
+        ensures { self.new ≡ record { heap = record self.old.heap { globals = t }; steps = self.old.steps } }
+    {
+        self.globals = t;
+    }
+
+    /// The metatable of a type whose values share one.
+    pub fn type_metatable(&self, kind: TypeKind) -> Option<u32>
+        ensures { result ≡ calls.type_metatable_of self.now.heap.metatables kind }
+    {
+        self.metatables.get(kind)
+    }
+
+    /// Gives a type this metatable, or none.
+    pub fn set_type_metatable(&mut self, kind: TypeKind, meta: Option<u32>)
+        ensures { self.new ≡ record {
+          heap = record self.old.heap { metatables = calls.with_type_metatable self.old.heap.metatables kind meta };
+          steps = self.old.steps;
+        } }
+    {
+        self.metatables.set(kind, meta);
+    }
+
+    /// The steps that were counted.
+    pub fn steps(&self) -> u64
+        ensures steps { result ≡ self.now.steps }
+        ensures within { result ≤ step_limit }
+    {
+        self.steps
+    }
+
+    /// Counts n steps more, to at most 1,000,000.
+    pub fn add_steps(&mut self, n: u64)
+        ensures { self.new ≡ record { heap = self.old.heap; steps = min step_limit (self.old.steps + n) } }
+    {
+        if n < STEP_LIMIT - self.steps {
+            self.steps += n;
+        } else {
+            self.steps = STEP_LIMIT;
+        }
+    }
+
+    /// Sets the steps to 0.
+    pub fn clear_steps(&mut self)
+        ensures { self.new ≡ record { heap = self.old.heap; steps = 0 } }
+    {
+        self.steps = 0;
+    }
+
+    /// The units that were counted.
+    pub fn units(&self) -> u64
+        ensures units { result ≡ self.now.heap.units }
+        ensures within { result ≤ unit_limit }
+    {
+        self.units
+    }
+
+    /// Counts n units more.
+    pub fn add_units(&mut self, n: u64) -> Result<(), StoreFault>
+        ensures done { OnOk result (self.new ≡ record { heap = record self.old.heap { units = self.old.heap.units + n }; steps = self.old.steps }) }
+        ensures allowed { OnOk result (calls.full_cause self.old.heap n ≡ None) }
+        ensures cause { IfErr result (λ fault. calls.full_cause self.old.heap n ≡ Some fault) }
+        ensures kept { OnErr result (self.new ≡ self.old) }
+    {
+        if n > UNIT_LIMIT - self.units {
+            return Err(StoreFault::Full);
+        }
+        self.units += n;
+        Ok(())
+    }
+
+    /// Freezes all tables, cells and closures that are there; takes no memory.
+    pub fn freeze(&mut self)
+        ensures { self.new ≡ record { heap = calls.frozen self.old.heap; steps = self.old.steps } }
+    {
+        self.frozen_tables = self.tables.len();
+        self.frozen_cells = self.cells.len();
+        self.frozen_closures = self.closures.len();
+    }
+}

@@ -1,0 +1,151 @@
+ghost use Rattle.std.specs.Prelude.{◌≡◌, ◌≢◌, ◌<◌, true, false, None, Some, Err, length, OnOk, OnErr, IfOk, IfErr};
+ghost use Rattle.std.specs.Option.{option_map};
+ghost use Rattle.std.specs.Map.Iter.{deref_pair};
+ghost use Rattle.lua_values.specs.Pairs.{value_at, needs_place, next_pair};
+ghost use Rattle.lua_values.specs.Border.{border_of};
+ghost use Rattle.lua_values.specs.StoreCalls as calls;
+
+use super::{Store, TABLE_UNITS, UNIT_LIMIT};
+use crate::tables::Table;
+use crate::{StoreFault, Value};
+
+/// The units of a new place in a table.
+const PLACE_UNITS: u64 = 32;
+
+impl Store {
+    /// Makes an empty table without a metatable, which takes 32 units, and gives its number.
+    pub fn make_table(&mut self) -> Result<u32, StoreFault>
+        ensures number { IfOk result (λ t. t ≡ length self.old.heap.tables) }
+        ensures done { OnOk result (self.new ≡ record { heap = calls.with_table self.old.heap; steps = self.old.steps }) }
+        ensures allowed { OnOk result (calls.full_cause self.old.heap 32 ≡ None) }
+        ensures cause { IfErr result (calls.IsCause (calls.full_cause self.old.heap 32)) }
+        ensures kept { OnErr result (self.new ≡ self.old) }
+    {
+        if self.units + TABLE_UNITS > UNIT_LIMIT {
+            return Err(StoreFault::Full);
+        }
+        let number = self.tables.len() as u32;
+        self.tables.push(Table::new(self.alloc))?;
+        self.units += TABLE_UNITS;
+        Ok(number)
+    }
+
+    /// The value at a key of a table, without its metatable; nil where none is.
+    pub fn get(&self, t: u32, key: &Value) -> &Value
+        ensures { result.now ≡ value_at (calls.pairs_of self.now.heap t) key.now }
+    {
+        let place = t as usize;
+        if place >= self.tables.len() {
+            return &self.nil;
+        }
+        match self.tables[place].get(key) {
+            None => &self.nil,
+            Some(value) => value,
+        }
+    }
+
+    /// Sets a value at a key of a table. A key that has a place keeps it, and that takes no memory; nil at a key
+    /// without one changes nothing; else the key's place is the last, and takes 32 units.
+    pub fn set(&mut self, t: u32, key: Value, value: Value) -> Result<(), StoreFault>
+        ensures done { OnOk result (self.new ≡ record { heap = calls.with_pair self.old.heap t key value; steps = self.old.steps }) }
+        ensures allowed { OnOk result (calls.set_cause self.old.heap t key value ≡ None) }
+        ensures cause { IfErr result (calls.IsCause (calls.set_cause self.old.heap t key value)) }
+        ensures kept { OnErr result (self.new ≡ self.old) }
+        ensures in_place { calls.takes_place self.old.heap t key value ≡ false → result ≢ Err StoreFault.Memory }
+    {
+        if key.is_nil() {
+            return Err(StoreFault::BadKey);
+        }
+        if (t as usize) < self.frozen_tables {
+            return Err(StoreFault::Frozen);
+        }
+        let place = t as usize;
+        if place >= self.tables.len() {
+            return Ok(());
+        }
+        if self.tables[place].needs_place(&key, &value) {
+            self.set_new(place, key, value)
+        } else {
+            self.set_in_place(place, key, value);
+            Ok(())
+        }
+    }
+
+    /// Sets a value at a key that needs no new place in its table.
+    fn set_in_place(&mut self, place: usize, key: Value, value: Value)
+        requires there { place < length self.old.heap.tables }
+        requires in_place { needs_place (calls.pairs_of self.old.heap place) key value ≡ false }
+        ensures { self.new ≡ record { heap = calls.with_pair self.old.heap place key value; steps = self.old.steps } }
+    {
+        match self.tables[place].put(key, value) {
+            Ok(()) => {}
+            Err(_) => unreachable!(),
+        }
+    }
+
+    /// Sets a value at a key that needs a new place in its table.
+    fn set_new(&mut self, place: usize, key: Value, value: Value) -> Result<(), StoreFault>
+        requires there { place < length self.old.heap.tables }
+        requires new_place { needs_place (calls.pairs_of self.old.heap place) key value ≡ true }
+        ensures done { OnOk result (self.new ≡ record { heap = calls.with_pair self.old.heap place key value; steps = self.old.steps }) }
+        ensures allowed { OnOk result (calls.full_cause self.old.heap 32 ≡ None) }
+        ensures cause { IfErr result (calls.IsCause (calls.full_cause self.old.heap 32)) }
+        ensures kept { OnErr result (self.new ≡ self.old) }
+    {
+        if self.units + PLACE_UNITS > UNIT_LIMIT {
+            return Err(StoreFault::Full);
+        }
+        self.tables[place].put(key, value)?;
+        self.units += PLACE_UNITS;
+        Ok(())
+    }
+
+    /// The pair that comes next behind a key of a table (Lua 5.1 Reference Manual, section 5.1, `next`), and the first
+    /// for nil.
+    pub fn next(&self, t: u32, key: &Value) -> Option<(&Value, &Value)>
+        ensures { option_map deref_pair result ≡ next_pair (calls.pairs_of self.now.heap t) key.now }
+    {
+        match self.tables.get(t as usize) {
+            None => None,
+            Some(table) => table.next(key),
+        }
+    }
+
+    /// The least border of a table (section 2.5.5): the least n with nil at n + 1.
+    pub fn border(&self, t: u32) -> u64
+        ensures { result ≡ border_of (calls.pairs_of self.now.heap t) }
+    {
+        match self.tables.get(t as usize) {
+            None => 0,
+            Some(table) => table.border(),
+        }
+    }
+
+    /// The metatable of a table.
+    pub fn metatable(&self, t: u32) -> Option<u32>
+        ensures { result ≡ (calls.table_of self.now.heap t).meta }
+    {
+        match self.tables.get(t as usize) {
+            None => None,
+            Some(table) => table.metatable(),
+        }
+    }
+
+    /// Gives a table this metatable, or none; takes no memory.
+    pub fn set_metatable(&mut self, t: u32, meta: Option<u32>) -> Result<(), StoreFault>
+        ensures done { OnOk result (self.new ≡ record { heap = calls.with_metatable self.old.heap t meta; steps = self.old.steps }) }
+        ensures allowed { OnOk result (calls.frozen_cause self.old.heap.base.tables t ≡ None) }
+        ensures cause { IfErr result (λ fault. calls.frozen_cause self.old.heap.base.tables t ≡ Some fault) }
+        ensures kept { OnErr result (self.new ≡ self.old) }
+    {
+        if (t as usize) < self.frozen_tables {
+            return Err(StoreFault::Frozen);
+        }
+        let place = t as usize;
+        if place >= self.tables.len() {
+            return Ok(());
+        }
+        self.tables[place].set_metatable(meta);
+        Ok(())
+    }
+}
