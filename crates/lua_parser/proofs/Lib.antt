@@ -1,0 +1,3 @@
+pub mod Steps
+pub mod Lookups
+pub mod Chunks

@@ -1,0 +1,51 @@
+-- What is left of the tokens at a place, and what is known there.
+use Rattle.std.specs.Prelude.{◌≡◌, ℕ, ◌<◌, ◌≤◌, List, [], ◌∷◌, map, drop, reverse, length, Option, Some, None}
+use Rattle.lua_lexer.specs.declared.tokens.Token.{Token}
+use Rattle.lua_lexer.specs.declared.tokens.TokenKind.{TokenKind}
+use Rattle.lua_lexer.specs.declared.tokens.TokenKind.TheVariants.{Text}
+use Rattle.lua_parser.specs.declared.cursor.Named.{Named}
+use Rattle.lua_grammar.specs.Printing.{Lexeme, lexemes}
+use Rattle.lua_grammar.specs.Scopes.{Scope}
+use Rattle.lua_parser.specs.declared.cursor.Parser.{Parser}
+use Rattle.lua_parser.specs.Frames.{frame_of, frames_of}
+
+-- the tokens that are left, the line of the token before them, and the scope
+pub record State : Type 0 where
+  pub left : List Lexeme
+  pub last : ℕ
+  pub scope : Scope
+
+abbrev pub scope_of : Parser → Scope
+scope_of p = record { functions = p.functions.items; around = frame_of p.frame ∷ frames_of p.around }
+
+unfoldable pub state : List Token → Parser → State
+state tokens p = record { left = lexemes (drop p.place tokens); last = p.line; scope = scope_of p }
+
+-- a token of that kind and line stands between two states
+pub record Takes (kind : TokenKind) (line : ℕ) (s t : State) : Type 0 where
+  pub printed : s.left ≡ record { kind = kind; line = line } ∷ t.left
+  pub last : t.last ≡ line
+  pub scope : t.scope ≡ s.scope
+
+-- it does where it stands next, and else nothing is read
+abbrev pub Skips : TokenKind → Option ℕ → State → State → Type 0
+Skips kind (Some line) s t = Takes kind line s t
+Skips kind None s t = t ≡ s
+
+abbrev pub SkipsText : Option Named → State → State → Type 0
+SkipsText (Some text) s t = Takes (Text text.name) text.line s t
+SkipsText None s t = t ≡ s
+
+-- at least one token was read
+pub record Advances (tokens : List Token) (p q : Parser) : Type 0 where
+  pub forward : p.place < q.place
+  pub within : q.place ≤ length tokens
+
+abbrev pub IfAdvances : {A : Type 0} → Option A → List Token → Parser → Parser → Type 0
+IfAdvances (Some found) tokens p q = Advances tokens p q
+IfAdvances None tokens p q = q ≡ p
+
+-- the same, or none
+pub record AdvancesOrStays (tokens : List Token) (p q : Parser) : Type 0 where
+  pub forward : p.place ≤ q.place
+  pub within : p.place ≤ length tokens → q.place ≤ length tokens

@@ -1,0 +1,202 @@
+ghost use Rattle.std.specs.Prelude.{◌≡◌, IfOk, IfSome, OnOk, slice_get, Some};
+ghost use Rattle.lua_lexer.specs.declared.tokens.TokenKind.TheVariants.{Name as NameKind, Text as TextKind, Word as WordKind, Sign as SignKind};
+ghost use Rattle.lua_parser.specs.States.{state, Takes, Skips, SkipsText, Advances, IfAdvances};
+ghost use Rattle.lua_parser.specs.Places.{IsWithin, IsPart};
+
+use crate::ParseFault;
+use crate::frames::Frame;
+use crate::places::{DEEPEST, Place};
+use lua_ast::Function;
+use lua_lexer::{Sign, Token, TokenKind, Word};
+use resty_base::Bytes;
+
+/// A name or a text, and its line.
+#[derive(Drop)]
+pub(crate) struct Named {
+    pub name: Bytes,
+    pub line: u32,
+}
+
+/// How far the tokens were read, and what is known there.
+#[derive(Drop)]
+pub(crate) struct Parser {
+    /// How many tokens were read.
+    pub place: usize,
+    /// The line of the last token that was read.
+    pub line: u32,
+    /// A place for each function whose word `function` was read.
+    pub functions: Vec<Function>,
+    /// The innermost function.
+    pub frame: Frame,
+    /// The functions around it, the innermost last.
+    pub around: Vec<Frame>,
+}
+
+impl Parser {
+    /// The fault at a token that fits nothing, or at the text's end.
+    pub(crate) fn unfit(&self, tokens: &[Token]) -> ParseFault {
+        match tokens.get(self.place) {
+            Some(token) => ParseFault::At(token.line),
+            None => ParseFault::At(self.line),
+        }
+    }
+
+    /// Reads the next token, which is that.
+    pub(crate) fn advance(&mut self, tokens: &[Token], token: &Token)
+        requires { slice_get tokens.now self.old.place ≡ Some token.now }
+        ensures takes { Takes token.now.kind token.now.line (state tokens.now self.old) (state tokens.now self.new) }
+        ensures forward { Advances tokens.now self.old self.new }
+    {
+        self.place += 1;
+        self.line = token.line;
+    }
+
+    /// Whether the next token is that keyword.
+    pub(crate) fn at_word(&self, tokens: &[Token], word: Word) -> bool {
+        match tokens.get(self.place) {
+            Some(token) => matches!(&token.kind, TokenKind::Word(next) if *next == word),
+            None => false,
+        }
+    }
+
+    /// Whether the next token is that sign.
+    pub(crate) fn at_sign(&self, tokens: &[Token], sign: Sign) -> bool {
+        match tokens.get(self.place) {
+            Some(token) => matches!(&token.kind, TokenKind::Sign(next) if *next == sign),
+            None => false,
+        }
+    }
+
+    /// Reads that keyword where it is the next token, and answers its line.
+    pub(crate) fn skip_word(&mut self, tokens: &[Token], word: Word) -> Option<u32>
+        ensures skips { Skips (WordKind word) result (state tokens.now self.old) (state tokens.now self.new) }
+        ensures forward { IfAdvances result tokens.now self.old self.new }
+    {
+        let token = tokens.get(self.place)?;
+        match &token.kind {
+            TokenKind::Word(next) if *next == word => {
+                self.advance(tokens, token);
+                Some(token.line)
+            }
+            _ => None,
+        }
+    }
+
+    /// Reads that sign where it is the next token, and answers its line.
+    pub(crate) fn skip_sign(&mut self, tokens: &[Token], sign: Sign) -> Option<u32>
+        ensures skips { Skips (SignKind sign) result (state tokens.now self.old) (state tokens.now self.new) }
+        ensures forward { IfAdvances result tokens.now self.old self.new }
+    {
+        let token = tokens.get(self.place)?;
+        match &token.kind {
+            TokenKind::Sign(next) if *next == sign => {
+                self.advance(tokens, token);
+                Some(token.line)
+            }
+            _ => None,
+        }
+    }
+
+    /// Reads that keyword, and answers its line.
+    pub(crate) fn take_word(&mut self, tokens: &[Token], word: Word) -> Result<u32, ParseFault>
+        ensures takes { IfOk result (λ line. Takes (WordKind word) line (state tokens.now self.old) (state tokens.now self.new)) }
+        ensures forward { OnOk result (Advances tokens.now self.old self.new) }
+    {
+        match self.skip_word(tokens, word) {
+            Some(line) => Ok(line),
+            None => Err(self.unfit(tokens)),
+        }
+    }
+
+    /// Reads that sign, and answers its line.
+    pub(crate) fn take_sign(&mut self, tokens: &[Token], sign: Sign) -> Result<u32, ParseFault>
+        ensures takes { IfOk result (λ line. Takes (SignKind sign) line (state tokens.now self.old) (state tokens.now self.new)) }
+        ensures forward { OnOk result (Advances tokens.now self.old self.new) }
+    {
+        match self.skip_sign(tokens, sign) {
+            Some(line) => Ok(line),
+            None => Err(self.unfit(tokens)),
+        }
+    }
+
+    /// Reads a name.
+    pub(crate) fn take_name(&mut self, tokens: &[Token]) -> Result<Named, ParseFault>
+        ensures takes { IfOk result (λ named. Takes (NameKind named.name) named.line (state tokens.now self.old) (state tokens.now self.new)) }
+        ensures forward { OnOk result (Advances tokens.now self.old self.new) }
+    {
+        let Some(token) = tokens.get(self.place) else {
+            return Err(self.unfit(tokens));
+        };
+        match &token.kind {
+            TokenKind::Name(name) => {
+                let name = name.clone()?;
+                self.advance(tokens, token);
+                Ok(Named {
+                    name,
+                    line: token.line,
+                })
+            }
+            _ => Err(self.unfit(tokens)),
+        }
+    }
+
+    /// Reads a text where it is the next token.
+    pub(crate) fn skip_text(&mut self, tokens: &[Token]) -> Result<Option<Named>, ParseFault>
+        ensures skips { IfOk result (λ found. SkipsText found (state tokens.now self.old) (state tokens.now self.new)) }
+        ensures forward { IfOk result (λ found. IfAdvances found tokens.now self.old self.new) }
+    {
+        let Some(token) = tokens.get(self.place) else {
+            return Ok(None);
+        };
+        match &token.kind {
+            TokenKind::Text(text) => {
+                let name = text.clone()?;
+                self.advance(tokens, token);
+                Ok(Some(Named {
+                    name,
+                    line: token.line,
+                }))
+            }
+            _ => Ok(None),
+        }
+    }
+
+    /// The line of the next token, or at the end that of the last.
+    pub(crate) fn line_ahead(&self, tokens: &[Token]) -> u32 {
+        match tokens.get(self.place) {
+            Some(token) => token.line,
+            None => self.line,
+        }
+    }
+
+    /// The place of a construct within one at `at`, as high as it may be.
+    pub(crate) fn deeper(&self, tokens: &[Token], at: Place) -> Result<Place, ParseFault>
+        ensures { IfOk result (IsWithin at) }
+    {
+        if at.depth < DEEPEST {
+            return Ok(Place {
+                depth: at.depth + 1,
+                room: at.room,
+                rest: at.rest,
+                in_loop: at.in_loop,
+            });
+        }
+        match tokens.get(self.place) {
+            Some(token) => Err(ParseFault::Depth(token.line)),
+            None => Err(ParseFault::At(self.line)),
+        }
+    }
+
+    /// The place of an expression that is a part of one at `at`.
+    pub(crate) fn part(&self, tokens: &[Token], at: Place) -> Result<Place, ParseFault>
+        ensures { IfOk result (IsPart at) }
+    {
+        let inner = self.deeper(tokens, at)?;
+        Ok(Place {
+            depth: inner.depth,
+            room: inner.room.saturating_sub(1),
+            rest: inner.rest,
+            in_loop: inner.in_loop,
+        })
+    }
+}

@@ -1,0 +1,20 @@
+//! The parser of Lua 5.1: tokens to the tree of a program.
+#![tactic(auto)]
+
+mod cursor;
+mod expressions;
+mod faults;
+mod frames;
+mod nodes;
+mod parameters;
+mod parser;
+mod places;
+mod scopes;
+mod statements;
+mod suffixes;
+
+pub use faults::ParseFault;
+pub use parser::parse;
+
+#[cfg(test)]
+mod tests;

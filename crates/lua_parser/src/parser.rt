@@ -1,0 +1,71 @@
+ghost use Rattle.std.specs.Prelude.{◌≡◌, IfOk, Some, slice_get};
+ghost use Rattle.lua_grammar.specs.Grammar.{first_line};
+ghost use Rattle.lua_grammar.specs.Printing.{lexemes};
+ghost use Rattle.lua_parser.specs.Chunks.{HoldsChunk};
+
+use crate::ParseFault;
+use crate::cursor::Parser;
+use crate::frames::Frame;
+use crate::places::{HIGHEST, Place};
+use crate::scopes::{empty_function, whole_function};
+use lua_ast::{Function, Program};
+use lua_lexer::Token;
+use resty_base::{ByteLists, Bytes};
+use std::alloc::Global;
+
+/// The program of a chunk's tokens, with one file without a name; the chunk is function 0.
+pub fn parse(alloc: Global, tokens: &[Token]) -> Result<Program, ParseFault>
+    ensures chunk { IfOk result (HoldsChunk (first_line (lexemes tokens.now))) }
+{
+    let line = first_line(tokens);
+    let mut parser = Parser {
+        place: 0,
+        line,
+        functions: vec![in alloc; empty_function(alloc, line)?]?,
+        frame: Frame::with_parameters(alloc, Vec::new(alloc)),
+        around: Vec::new(alloc),
+    };
+    let at = Place {
+        depth: 1,
+        room: HIGHEST,
+        rest: true,
+        in_loop: false,
+    };
+    let body = parser.block(alloc, tokens, at)?;
+    if parser.place < tokens.len() {
+        return Err(parser.unfit(tokens));
+    }
+    let chunk = whole_function(alloc, &parser.frame, 0, true, body, line)?;
+    let Parser { functions, .. } = parser;
+    let whole = with_chunk(functions, chunk)?;
+    let files = vec![in alloc; Bytes::new()]?;
+    Ok(Program {
+        files: ByteLists::of(files),
+        functions: whole,
+    })
+}
+
+/// The line of the first token, 1 of none.
+#[tactic(auto, using(crate::proofs::Chunks::line_of_first, crate::proofs::Chunks::line_of_none))]
+fn first_line(tokens: &[Token]) -> u32
+    ensures { result ≡ first_line (lexemes tokens.now) }
+{
+    match tokens.get(0) {
+        Some(token) => token.line,
+        None => 1,
+    }
+}
+
+/// The functions, with the chunk in the first place.
+#[tactic(auto, using(crate::proofs::Chunks::first_set, crate::proofs::Chunks::first_pushed))]
+fn with_chunk(functions: Vec<Function>, chunk: Function) -> Result<Vec<Function>, ParseFault>
+    ensures { IfOk result (λ whole. slice_get whole.items 0 ≡ Some chunk) }
+{
+    let mut functions = functions;
+    if functions.is_empty() {
+        functions.push(chunk)?;
+    } else {
+        functions[0] = chunk;
+    }
+    Ok(functions)
+}

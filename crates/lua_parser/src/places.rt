@@ -1,0 +1,83 @@
+ghost use Rattle.std.specs.Prelude.{◌≡◌, ◌-◌, ◌<◌, OnOk, true, false};
+
+use crate::ParseFault;
+
+/// How many constructs may be open at a place, the chunk among them.
+pub(crate) const DEEPEST: u32 = 200;
+
+/// The greatest height of an expression.
+pub(crate) const HIGHEST: u32 = 4_000;
+
+/// Where a construct stands.
+#[derive(Clone, Copy)]
+pub(crate) struct Place {
+    /// The number of the construct among those that are open, from 1.
+    pub depth: u32,
+    /// How high an expression may be here.
+    pub room: u32,
+    /// Whether the function around takes more arguments, as `...`.
+    pub rest: bool,
+    /// Whether a loop of that function is around.
+    pub in_loop: bool,
+}
+
+impl Place {
+    /// The same place, in a loop.
+    pub(crate) fn looped(self) -> Place
+        ensures { result ≡ record self { in_loop = true } }
+    {
+        Place {
+            depth: self.depth,
+            room: self.room,
+            rest: self.rest,
+            in_loop: true,
+        }
+    }
+
+    /// The place of the block of a function.
+    pub(crate) fn of_function(self, rest: bool) -> Place
+        ensures { result ≡ record self { room = 4_000; rest = rest; in_loop = false } }
+    {
+        Place {
+            depth: self.depth,
+            room: HIGHEST,
+            rest,
+            in_loop: false,
+        }
+    }
+
+    /// The place of an expression that stands in no other.
+    pub(crate) fn fresh(self) -> Place
+        ensures { result ≡ record self { room = 4_000 } }
+    {
+        Place {
+            depth: self.depth,
+            room: HIGHEST,
+            rest: self.rest,
+            in_loop: self.in_loop,
+        }
+    }
+
+    /// The same place, for an expression that is a part of one here.
+    pub(crate) fn narrower(self) -> Place
+        ensures { result ≡ record self { room = self.room - 1 } }
+    {
+        Place {
+            depth: self.depth,
+            room: self.room.saturating_sub(1),
+            rest: self.rest,
+            in_loop: self.in_loop,
+        }
+    }
+
+    /// Whether an expression of that height may be a part of one here. The line is that of the token that makes it one.
+    pub(crate) fn above(self, height: u32, line: u32) -> Result<(), ParseFault>
+        ensures { OnOk result (height < self.room) }
+    {
+        if height < self.room {
+            Ok(())
+        } else {
+            Err(ParseFault::Depth(line))
+        }
+    }
+}
