@@ -1,4 +1,5 @@
 pub mod Frames
 pub mod Places
 pub mod States
+pub mod Reads
 pub mod Chunks
