@@ -1,0 +1,13 @@
+pub mod ByTest
+pub mod EntriesFound
+pub mod EntryEnds
+pub mod Finding
+pub mod Gathering
+pub mod Histories
+pub mod HistoryLines
+pub mod LinesFound
+pub mod MoreLines
+pub mod OneWay
+pub mod Reached
+pub mod Spelled
+pub mod Splitting

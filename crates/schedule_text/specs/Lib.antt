@@ -1,0 +1,12 @@
+pub mod Accepted
+pub mod EntryTexts
+pub mod Events
+pub mod Fitting
+pub mod Found
+pub mod FoundEntries
+pub mod FoundLines
+pub mod LineTexts
+pub mod Lines
+pub mod Ranges
+pub mod Reading
+pub mod Words

@@ -1,0 +1,10 @@
+use thiserror::Error;
+
+/// Why a text is no schedule, or no history. Lines are numbered from 1.
+#[derive(Clone, Copy, Debug, PartialEq, Eq, Error)]
+pub enum SchedFault {
+    #[error("not a schedule line")]
+    BadLine(u64),
+    #[error("out of memory")]
+    Memory,
+}

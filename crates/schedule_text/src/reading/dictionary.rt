@@ -1,0 +1,195 @@
+//! The calls of a dictionary and its answers that stand at a place of a text.
+ghost use Rattle.std.specs.Prelude.{◌≡◌, IfOk, length};
+ghost use Rattle.schedule_text.specs.FoundEntries.{after_call, after_incr, after_keyed, after_plain, after_store, after_value, answer_in as answer_of_text, answer_of as answer_by, call_of as call_by, incr_in as incr, keyed_call as keyed, names_in as names, plain_call as plain, plain_value as unquoted_value, store_in as store, value_in as value_of};
+
+use crate::reading::numbers::{integer_in, number_in, small_in};
+use crate::reading::quotes::first_quoted;
+use crate::reading::splits::{begins, first_word, is};
+use resty_base::{ByteLists, Bytes, DictAnswer, DictCall, DictValue, How};
+use std::alloc::{AllocError, Global};
+
+/// A value that isn't quoted.
+fn plain_value(text: &[u8]) -> DictValue
+    ensures { result ≡ unquoted_value text.now }
+{
+    if begins(text, b't') {
+        DictValue::Truth(true)
+    } else if begins(text, b'f') {
+        DictValue::Truth(false)
+    } else {
+        DictValue::Number(integer_in(text))
+    }
+}
+
+/// A value, and what stands behind it and a space.
+fn first_value(alloc: Global, text: &[u8]) -> Result<(DictValue, &[u8]), AllocError>
+    ensures { IfOk result (λ read. (read.0 ≡ value_of text.now) × (read.1.now ≡ after_value text.now)) }
+{
+    if begins(text, b'"') {
+        let (bytes, rest) = first_quoted(alloc, text)?;
+        Ok((DictValue::Text(bytes), rest))
+    } else {
+        let (word, rest) = first_word(text);
+        Ok((plain_value(word), rest))
+    }
+}
+
+/// The storing of a value, of which the text begins behind the key.
+fn store(alloc: Global, how: How, key: Bytes, text: &[u8]) -> Result<(DictCall, &[u8]), AllocError>
+    ensures { IfOk result (λ read. (read.0 ≡ store how key text.now) × (read.1.now ≡ after_store text.now)) }
+{
+    let (value, rest) = first_value(alloc, text)?;
+    let (ttl, rest) = first_word(rest);
+    let (flags, rest) = first_word(rest);
+    let call = DictCall::Store {
+        how,
+        key,
+        value,
+        ttl: number_in(ttl),
+        flags: small_in(flags),
+    };
+    Ok((call, rest))
+}
+
+/// The adding to a number, of which the text begins behind the key.
+fn incr(key: Bytes, text: &[u8]) -> (DictCall, &[u8])
+    ensures call { result.0 ≡ incr key text.now }
+    ensures rest { result.1.now ≡ after_incr text.now }
+{
+    let (by, rest) = first_word(text);
+    let by = integer_in(by);
+    let (first, behind) = first_word(rest);
+    if begins(rest, b'n') {
+        let call = DictCall::Incr {
+            key,
+            by,
+            init: None,
+            ttl: 0,
+        };
+        return (call, behind);
+    }
+    let (ttl, behind) = first_word(behind);
+    let call = DictCall::Incr {
+        key,
+        by,
+        init: Some(integer_in(first)),
+        ttl: number_in(ttl),
+    };
+    (call, behind)
+}
+
+/// A call without a key, by its first word and what stands behind that.
+fn plain_call<'a>(word: &[u8], rest: &'a [u8]) -> (DictCall, &'a [u8])
+    ensures call { result.0 ≡ plain word.now rest.now }
+    ensures rest { result.1.now ≡ after_plain word.now rest.now }
+{
+    if is(word, b"flush_all") {
+        return (DictCall::FlushAll, rest);
+    }
+    let (most, behind) = first_word(rest);
+    if is(word, b"flush_expired") {
+        (DictCall::FlushExpired(small_in(most)), behind)
+    } else if is(word, b"get_keys") {
+        (DictCall::Keys(small_in(most)), behind)
+    } else {
+        (DictCall::FlushAll, behind)
+    }
+}
+
+/// A call with a key, of which the text begins behind that.
+fn keyed_call<'a>(
+    alloc: Global,
+    word: &[u8],
+    key: Bytes,
+    text: &'a [u8],
+) -> Result<(DictCall, &'a [u8]), AllocError>
+    ensures { IfOk result (λ read. (read.0 ≡ keyed word.now key text.now) × (read.1.now ≡ after_keyed word.now text.now)) }
+{
+    if is(word, b"get") {
+        Ok((DictCall::Get(key), text))
+    } else if is(word, b"set") {
+        store(alloc, How::Set, key, text)
+    } else if is(word, b"add") {
+        store(alloc, How::Add, key, text)
+    } else if is(word, b"replace") {
+        store(alloc, How::Replace, key, text)
+    } else if is(word, b"delete") {
+        Ok((DictCall::Delete(key), text))
+    } else {
+        Ok(incr(key, text))
+    }
+}
+
+/// The call whose first word this is, and what stands behind the call and a space.
+pub fn call_in<'a>(
+    alloc: Global,
+    word: &[u8],
+    rest: &'a [u8],
+) -> Result<(DictCall, &'a [u8]), AllocError>
+    ensures { IfOk result (λ read. (read.0 ≡ call_by word.now rest.now) × (read.1.now ≡ after_call word.now rest.now)) }
+{
+    if begins(rest, b'"') {
+        let (key, behind) = first_quoted(alloc, rest)?;
+        keyed_call(alloc, word, key, behind)
+    } else {
+        Ok(plain_call(word, rest))
+    }
+}
+
+/// Quoted texts with one space between them.
+fn names_in(alloc: Global, text: &[u8]) -> Result<ByteLists, AllocError>
+    ensures { IfOk result (λ read. read ≡ names (length text.now) text.now) }
+{
+    let mut names = Vec::new(alloc);
+    let mut rest = text;
+    for _ in 0..text.len() {
+        if rest.is_empty() {
+            break;
+        }
+        let (name, behind) = first_quoted(alloc, rest)?;
+        names.push(name)?;
+        rest = behind;
+    }
+    Ok(ByteLists::of(names))
+}
+
+/// An answer but names, by its first word and what stands behind that.
+fn answer_by_word(alloc: Global, word: &[u8], rest: &[u8]) -> Result<DictAnswer, AllocError>
+    ensures { IfOk result (λ answer. answer ≡ answer_by word.now rest.now) }
+{
+    let (first, behind) = first_word(rest);
+    if is(word, b"found") {
+        let (value, flags) = first_value(alloc, rest)?;
+        Ok(DictAnswer::Found(value, small_in(flags)))
+    } else if is(word, b"done") {
+        Ok(DictAnswer::Done(!rest.is_empty()))
+    } else if is(word, b"exists") {
+        Ok(DictAnswer::Exists)
+    } else if is(word, b"missing") {
+        Ok(DictAnswer::Missing)
+    } else if is(word, b"no") {
+        Ok(DictAnswer::NoMemory(!behind.is_empty()))
+    } else if is(word, b"not") {
+        Ok(DictAnswer::NotNumber)
+    } else if is(word, b"range") {
+        Ok(DictAnswer::OutOfRange)
+    } else if is(word, b"number") {
+        Ok(DictAnswer::Number(integer_in(first), !behind.is_empty()))
+    } else if is(word, b"count") {
+        Ok(DictAnswer::Count(small_in(rest)))
+    } else {
+        Ok(DictAnswer::Nothing)
+    }
+}
+
+/// The answer that the text is, if it is one.
+pub fn answer_in(alloc: Global, text: &[u8]) -> Result<DictAnswer, AllocError>
+    ensures { IfOk result (λ answer. answer ≡ answer_of_text text.now) }
+{
+    let (word, rest) = first_word(text);
+    if is(word, b"keys") {
+        Ok(DictAnswer::Names(names_in(alloc, rest)?))
+    } else {
+        answer_by_word(alloc, word, rest)
+    }
+}

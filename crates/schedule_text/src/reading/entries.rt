@@ -1,0 +1,179 @@
+//! The entry of a history that a text is, if it is one.
+ghost use Rattle.std.specs.Prelude.{◌≡◌, IfOk};
+ghost use Rattle.schedule_text.specs.FoundEntries.{dial_in as dial, dict_in as dict, entry_in as entry_of_text, host_in as host, keep_in as keep, kept_in as kept, log_in as log, plain_entry as plain, strand_entry as of_strand, take_in as take, taken_in as taken, timer_answer_in as timer_answer, timer_in as timer};
+
+use crate::reading::dictionary::{answer_in, call_in};
+use crate::reading::lines::event_in;
+use crate::reading::names::{id_in, socket_in, strand_in};
+use crate::reading::numbers::{number_in, numbered, octet_in, port_in, small_in};
+use crate::reading::quotes::{first_quoted, unquoted};
+use crate::reading::splits::{begins, first_word, is, split};
+use resty_base::{Boxed, Bytes, Ms, StrandId};
+use resty_world::{Entry, TimerAnswer};
+use std::alloc::{AllocError, Global};
+
+/// Four numbers with dots.
+fn host_in(text: &[u8]) -> [u8; 4]
+    ensures { result ≡ host text.now }
+{
+    let (first, rest) = split(text, b'.');
+    let (second, rest) = split(rest, b'.');
+    let (third, fourth) = split(rest, b'.');
+    [
+        octet_in(first),
+        octet_in(second),
+        octet_in(third),
+        octet_in(fourth),
+    ]
+}
+
+fn dial_in(who: StrandId, text: &[u8]) -> Entry
+    ensures { result ≡ dial who text.now }
+{
+    let (host, rest) = first_word(text);
+    let (port, socket) = first_word(rest);
+    Entry::Dial(who, host_in(host), port_in(port), socket_in(socket))
+}
+
+fn log_in(alloc: Global, who: StrandId, text: &[u8]) -> Result<Entry, AllocError>
+    ensures { IfOk result (λ entry. entry ≡ log who text.now) }
+{
+    if begins(text, b'f') {
+        let (_, quoted) = first_word(text);
+        Ok(Entry::Log(who, unquoted(alloc, quoted)?, false))
+    } else {
+        Ok(Entry::Log(who, unquoted(alloc, text)?, true))
+    }
+}
+
+fn dict_in(alloc: Global, who: StrandId, text: &[u8]) -> Result<Entry, AllocError>
+    ensures { IfOk result (λ entry. entry ≡ dict who text.now) }
+{
+    let (zone, rest) = first_word(text);
+    let (word, rest) = first_word(rest);
+    let (call, rest) = call_in(alloc, word, rest)?;
+    let (_, answer) = first_word(rest);
+    let answer = answer_in(alloc, answer)?;
+    Ok(Entry::Dict(
+        who,
+        Bytes::copy_from_slice(alloc, zone)?,
+        Boxed::new(alloc, call)?,
+        Boxed::new(alloc, answer)?,
+    ))
+}
+
+fn taken_in(text: &[u8]) -> Option<(u64, u32)>
+    ensures { result ≡ taken text.now }
+{
+    if begins(text, b's') {
+        let (socket, uses) = first_word(text);
+        Some((numbered(socket), small_in(uses)))
+    } else {
+        None
+    }
+}
+
+fn take_in(alloc: Global, who: StrandId, text: &[u8]) -> Result<Entry, AllocError>
+    ensures { IfOk result (λ entry. entry ≡ take who text.now) }
+{
+    let (key, rest) = first_quoted(alloc, text)?;
+    let (_, got) = first_word(rest);
+    Ok(Entry::Take(who, key, taken_in(got)))
+}
+
+/// The keeping of a socket, of which the text begins behind the key.
+fn kept_in(who: StrandId, socket: u64, key: Bytes, text: &[u8]) -> Entry
+    ensures { result ≡ kept who socket key text.now }
+{
+    let (idle, rest) = first_word(text);
+    let (size, rest) = first_word(rest);
+    let (_, rest) = first_word(rest);
+    let (_, closed) = first_word(rest);
+    let idle = Ms(number_in(idle));
+    Entry::Keep(who, socket, key, idle, small_in(size), socket_in(closed))
+}
+
+fn keep_in(alloc: Global, who: StrandId, text: &[u8]) -> Result<Entry, AllocError>
+    ensures { IfOk result (λ entry. entry ≡ keep who text.now) }
+{
+    let (socket, quoted) = first_word(text);
+    let (key, rest) = first_quoted(alloc, quoted)?;
+    Ok(kept_in(who, numbered(socket), key, rest))
+}
+
+fn timer_answer_in(text: &[u8]) -> TimerAnswer
+    ensures { result ≡ timer_answer text.now }
+{
+    if begins(text, b't') {
+        TimerAnswer::Job(numbered(text))
+    } else if begins(text, b'f') {
+        TimerAnswer::Full
+    } else {
+        TimerAnswer::Exiting
+    }
+}
+
+fn timer_in(who: StrandId, text: &[u8]) -> Entry
+    ensures { result ≡ timer who text.now }
+{
+    let (due, rest) = first_word(text);
+    let (_, answer) = first_word(rest);
+    Entry::Timer(who, Ms(number_in(due)), timer_answer_in(answer))
+}
+
+/// An entry of one word and one name, else a given event.
+fn plain_entry(alloc: Global, word: &[u8], rest: &[u8], text: &[u8]) -> Result<Entry, AllocError>
+    ensures { IfOk result (λ entry. entry ≡ plain word.now rest.now text.now) }
+{
+    if is(word, b"later") {
+        Ok(Entry::Later(id_in(rest)))
+    } else if is(word, b"lost") {
+        Ok(Entry::Lost(id_in(rest)))
+    } else if is(word, b"close") {
+        Ok(Entry::Close(id_in(rest)))
+    } else if is(word, b"start") {
+        Ok(Entry::Start(numbered(rest)))
+    } else if is(word, b"turned") {
+        Ok(Entry::Turned(numbered(rest)))
+    } else if is(word, b"dropped") {
+        Ok(Entry::Dropped(strand_in(rest)))
+    } else {
+        Ok(Entry::Given(event_in(alloc, text)?))
+    }
+}
+
+/// An entry of what a strand did, else another.
+fn strand_entry(alloc: Global, word: &[u8], rest: &[u8], text: &[u8]) -> Result<Entry, AllocError>
+    ensures { IfOk result (λ entry. entry ≡ of_strand word.now rest.now text.now) }
+{
+    let (who, behind) = first_word(rest);
+    let who = strand_in(who);
+    if is(word, b"dial") {
+        Ok(dial_in(who, behind))
+    } else if is(word, b"log") {
+        log_in(alloc, who, behind)
+    } else if is(word, b"dict") {
+        dict_in(alloc, who, behind)
+    } else if is(word, b"take") {
+        take_in(alloc, who, behind)
+    } else if is(word, b"keep") {
+        keep_in(alloc, who, behind)
+    } else if is(word, b"timer") {
+        Ok(timer_in(who, behind))
+    } else {
+        plain_entry(alloc, word, rest, text)
+    }
+}
+
+/// The entry that the text is, if it is one.
+pub fn entry_in(alloc: Global, text: &[u8]) -> Result<Entry, AllocError>
+    ensures { IfOk result (λ entry. entry ≡ entry_of_text text.now) }
+{
+    let (word, rest) = first_word(text);
+    if is(word, b"put") {
+        let (id, quoted) = first_word(rest);
+        Ok(Entry::Put(id_in(id), unquoted(alloc, quoted)?))
+    } else {
+        strand_entry(alloc, word, rest, text)
+    }
+}

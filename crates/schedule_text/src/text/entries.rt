@@ -1,0 +1,161 @@
+//! The entries of a history.
+ghost use Rattle.std.specs.Prelude.{◌≡◌, ◌++◌, OnOk, codes, decimal};
+ghost use Rattle.schedule_text.specs.EntryTexts.{answer_text, call_text, entry_line, entry_text, failed_text, host_text, pool_text, socket_or, taken_text, timer_text};
+ghost use Rattle.schedule_text.specs.Words.{quoted};
+
+use crate::text::dictionary::{put_answer, put_call};
+use crate::text::events::put_event;
+use crate::text::words::{
+    put, put_named, put_number, put_numbered, put_strand, put_who, put_with_quoted,
+};
+use resty_base::{DictAnswer, DictCall, Ms, StrandId};
+use resty_world::{Entry, TimerAnswer};
+use std::alloc::AllocError;
+
+/// Puts an entry with the end of its line.
+pub fn put_entry(out: &mut Vec<u8>, entry: &Entry) -> Result<(), AllocError>
+    ensures { OnOk result (out.new.items ≡ out.old.items ++ entry_line entry.now) }
+{
+    put_entry_body(out, entry)?;
+    put(out, b"\n")
+}
+
+/// Puts an entry without the end of its line.
+pub fn put_entry_body(out: &mut Vec<u8>, entry: &Entry) -> Result<(), AllocError>
+    ensures { OnOk result (out.new.items ≡ out.old.items ++ entry_text entry.now) }
+{
+    match entry {
+        Entry::Given(event) => put_event(out, event),
+        Entry::Put(id, bytes) => {
+            put_named(out, b"put ", *id)?;
+            put_with_quoted(out, b" ", bytes.as_slice())
+        }
+        Entry::Later(id) => put_named(out, b"later ", *id),
+        Entry::Lost(id) => put_named(out, b"lost ", *id),
+        Entry::Close(id) => put_named(out, b"close ", *id),
+        Entry::Dial(who, host, port, number) => {
+            put_who(out, b"dial ", *who)?;
+            put_host(out, *host)?;
+            put_numbered(out, b" ", *port as u64)?;
+            put_dialled(out, *number)
+        }
+        Entry::Log(who, text, written) => {
+            put_who(out, b"log ", *who)?;
+            put_logged(out, text.as_slice(), *written)
+        }
+        Entry::Dict(who, zone, call, answer) => {
+            put_who(out, b"dict ", *who)?;
+            put_dictionary(out, zone.as_slice(), call.get(), answer.get())
+        }
+        Entry::Take(who, key, got) => {
+            put_who(out, b"take ", *who)?;
+            put_with_quoted(out, b" ", key.as_slice())?;
+            put_taken(out, *got)
+        }
+        Entry::Keep(who, number, key, idle, size, closed) => {
+            put_who(out, b"keep ", *who)?;
+            put_kept(out, *number, key.as_slice())?;
+            put_pool(out, *idle, *size, *closed)
+        }
+        Entry::Timer(who, due, answer) => {
+            put_who(out, b"timer ", *who)?;
+            put_numbered(out, b" ", due.0)?;
+            put_timer(out, *answer)
+        }
+        Entry::Start(number) => put_numbered(out, b"start t", *number),
+        Entry::Turned(number) => put_numbered(out, b"turned c", *number),
+        Entry::Dropped(who) => put_who(out, b"dropped ", *who),
+    }
+}
+
+/// Puts a space and a host, as four numbers with dots.
+fn put_host(out: &mut Vec<u8>, host: [u8; 4]) -> Result<(), AllocError>
+    ensures { OnOk result (out.new.items ≡ out.old.items ++ codes " " ++ host_text host) }
+{
+    put_numbered(out, b" ", host[0] as u64)?;
+    put_numbered(out, b".", host[1] as u64)?;
+    put_numbered(out, b".", host[2] as u64)?;
+    put_numbered(out, b".", host[3] as u64)
+}
+
+/// Puts a space and the socket that was dialled.
+fn put_dialled(out: &mut Vec<u8>, number: Option<u64>) -> Result<(), AllocError>
+    ensures { OnOk result (out.new.items ≡ out.old.items ++ codes " " ++ socket_or (codes "failed") number) }
+{
+    match number {
+        None => put(out, b" failed"),
+        Some(number) => put_numbered(out, b" s", number),
+    }
+}
+
+/// Puts a space and a log line.
+fn put_logged(out: &mut Vec<u8>, text: &[u8], written: bool) -> Result<(), AllocError>
+    ensures { OnOk result (out.new.items ≡ out.old.items ++ codes " " ++ failed_text written ++ quoted text.now) }
+{
+    if written {
+        put_with_quoted(out, b" ", text)
+    } else {
+        put_with_quoted(out, b" failed ", text)
+    }
+}
+
+/// Puts a space, and the call of a dictionary with its answer.
+fn put_dictionary(
+    out: &mut Vec<u8>,
+    zone: &[u8],
+    call: &DictCall,
+    answer: &DictAnswer,
+) -> Result<(), AllocError>
+    ensures { OnOk result (out.new.items ≡ out.old.items ++ codes " " ++ zone.now ++ codes " " ++ call_text call.now ++ codes " = " ++ answer_text answer.now) }
+{
+    put(out, b" ")?;
+    put(out, zone)?;
+    put(out, b" ")?;
+    put_call(out, call)?;
+    put(out, b" = ")?;
+    put_answer(out, answer)
+}
+
+/// Puts what a pool gave.
+fn put_taken(out: &mut Vec<u8>, got: Option<(u64, u32)>) -> Result<(), AllocError>
+    ensures { OnOk result (out.new.items ≡ out.old.items ++ codes " = " ++ taken_text got) }
+{
+    match got {
+        None => put(out, b" = none"),
+        Some((number, uses)) => {
+            put_numbered(out, b" = s", number)?;
+            put_numbered(out, b" ", uses as u64)
+        }
+    }
+}
+
+/// Puts a socket that was kept, and its key.
+fn put_kept(out: &mut Vec<u8>, number: u64, key: &[u8]) -> Result<(), AllocError>
+    ensures { OnOk result (out.new.items ≡ out.old.items ++ codes " s" ++ decimal number ++ codes " " ++ quoted key.now) }
+{
+    put_numbered(out, b" s", number)?;
+    put_with_quoted(out, b" ", key)
+}
+
+/// Puts how long a socket may be idle, the size of its pool, and the socket that was closed for it.
+fn put_pool(out: &mut Vec<u8>, idle: Ms, size: u32, closed: Option<u64>) -> Result<(), AllocError>
+    ensures { OnOk result (out.new.items ≡ out.old.items ++ codes " " ++ pool_text idle.0 size closed) }
+{
+    put_numbered(out, b" ", idle.0)?;
+    put_numbered(out, b" ", size as u64)?;
+    match closed {
+        None => put(out, b" = kept"),
+        Some(number) => put_numbered(out, b" = kept s", number),
+    }
+}
+
+/// Puts what the asking for a timer was answered.
+fn put_timer(out: &mut Vec<u8>, answer: TimerAnswer) -> Result<(), AllocError>
+    ensures { OnOk result (out.new.items ≡ out.old.items ++ codes " = " ++ timer_text answer) }
+{
+    match answer {
+        TimerAnswer::Job(number) => put_numbered(out, b" = t", number),
+        TimerAnswer::Full => put(out, b" = full"),
+        TimerAnswer::Exiting => put(out, b" = exiting"),
+    }
+}
