@@ -1,5 +1,5 @@
 -- The connections and sockets that are open, the strands that live, and the ids that were hung up, read off a history.
-use Rattle.std.specs.Prelude.{ℕ, ◌-◌, Bool, true, false, not, ◌==◌, List, [], ◌∷◌, Option, Some, None, slice_index_or, if◌then◌else◌}
+use Rattle.std.specs.Prelude.{ℕ, Bool, true, false, List, [], ◌∷◌, Option, Some, None, if◌then◌else◌}
 use Rattle.resty_base.specs.declared.names.Id.{Id}
 use Rattle.resty_base.specs.declared.names.Id.TheVariants as id
 use Rattle.resty_base.specs.declared.names.StrandId.{StrandId}
@@ -8,6 +8,7 @@ use Rattle.resty_world.specs.declared.event.Event.TheVariants as event
 use Rattle.resty_world.specs.declared.entry.Entry.{Entry}
 use Rattle.resty_world.specs.declared.entry.Entry.TheVariants as entry
 use Rattle.resty_world.specs.declared.answers.TimerAnswer.TheVariants as timer
+use Rattle.resty_world.specs.Given.{ends}
 use Rattle.resty_world.specs.Ids.{same_id, same_strand}
 
 -- the list has an element that is the same
@@ -59,9 +60,12 @@ abbrev pub hung_up : List Entry → Id → Bool
 hung_up [] x = false
 hung_up (e ∷ history) x = if closes e x then true else hung_up history x
 
--- one flag for each connection that arrived says whether it is open
-abbrev pub flagged_open : List Bool → ℕ → Bool
-flagged_open flags c = if c == 0 then false else slice_index_or flags (c - 1) false
+-- no bytes of the id come behind the entry
+abbrev pub ends_by : Entry → Id → Bool
+ends_by (entry.Given e) x = ends e x
+ends_by e x = false
 
-abbrev pub flagged_closed : List Bool → ℕ → Bool
-flagged_closed flags c = if c == 0 then false else not (slice_index_or flags (c - 1) true)
+-- the id ended or broke
+abbrev pub has_ended : List Entry → Id → Bool
+has_ended [] x = false
+has_ended (e ∷ history) x = if ends_by e x then true else has_ended history x

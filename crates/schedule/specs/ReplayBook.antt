@@ -1,63 +1,118 @@
 -- What contracts see of a replay.
-use Rattle.std.specs.Prelude.{◌≡◌, ℕ, ◌<◌, ◌≤◌, false, List, [], ◌∷◌, length, Some, None}
-use Rattle.std.proofs.Common.{◌∙◌, refl, subst}
-use Rattle.std.proofs.Math.Nat.{le_refl, le_trans, lt_of_le_of_lt}
+use Rattle.std.specs.Prelude.{◌≡◌, ℕ, ◌+◌, ◌*◌, ◌^◌, ◌<◌, ◌≤◌, false, ◌&&◌, not, List, [], length, take, reverse, slice_get, Some, None}
+use Rattle.std.proofs.Common.{◌∙◌, refl, sym, ap}
+use Rattle.std.proofs.Math.Nat.{le_refl, le_trans}
 use Rattle.resty_base.specs.declared.names.Id.{Id}
 use Rattle.resty_base.specs.declared.names.StrandId.{StrandId}
-use Rattle.resty_world.specs.declared.entry.Entry.{Entry}
-use Rattle.resty_world.specs.declared.entry.Entry.TheVariants as entry
 use Rattle.resty_world.specs.declared.schedule_line.SchedLine.{SchedLine}
 use Rattle.resty_world.specs.Book.{Book}
 use Rattle.resty_world.specs.Ids.{same_id, same_strand}
 use Rattle.schedule.specs.declared.replay.Replay.{Replay}
-use Rattle.schedule.specs.Places.{has, open_ids, strands_in}
+use Rattle.schedule.specs.declared.ahead.Ahead.TheVariants as ahead
+use Rattle.schedule.specs.Ahead.{ahead_of}
+use Rattle.schedule.specs.Counts.{losses_in, counted}
+use Rattle.schedule.specs.Peers.{peer_at, room_in, put_fails_in}
+use Rattle.schedule.specs.Places.{has, open_ids, strands_in, has_ended}
+use Rattle.schedule.specs.Steps.{Step, AreSteps, Dialling, Logging, Writing, history_of, lines_of, offers_of, room_of, unspent, begins_by_failing, has_listened_in_vain, port_of, within_asking, faults_in}
 use Rattle.schedule.specs.Told.{TellsSchedule}
-
--- each piece that was offered was taken whole
-abbrev pub pieces_of : Entry → List ℕ → List ℕ
-pieces_of (entry.Put i bytes) others = length bytes ∷ others
-pieces_of e others = others
-
-abbrev pub pieces_in : List Entry → List ℕ
-pieces_in [] = []
-pieces_in (e ∷ history) = pieces_of e (pieces_in history)
 
 abbrev pub book_of : Replay → Book
 book_of w = record {
   history = Some w.history.entries;
-  offered = Some (pieces_in w.history.entries);
+  offered = Some (reverse w.offered.items);
   schedule = Some w.course;
   passed = w.passed;
   spare = w.spare;
   is_open = λ x. has same_id x (open_ids w.history.entries);
-  has_ended = λ x. false;
+  has_ended = λ x. has_ended w.history.entries x;
   id_place = λ x. has same_id x (open_ids w.history.entries);
   strand_place = λ s. has same_strand s (strands_in w.history.entries);
-  arrivals = length w.open_connections.items;
-  dials = w.dials;
+  arrivals = length w.peers.connections;
+  dials = length w.peers.sockets;
   faults = w.faults;
-  losses = 0;
+  losses = w.losses;
   port = w.port;
 }
 
--- the second is the first, some calls later: what the schedule and the history had to do with one another, they still
--- have, and there was no fault while lines are left
+-- the steps that brought a replay where it stands, which are of some kind, with the rooms and the unspent `fail` lines that it keeps
+pub record StandsBy (kind : List Step → Type 0) (w : Replay) : Type 0 where
+  pub steps : List Step
+  pub right : AreSteps w.course steps
+  pub passed : lines_of steps ≡ take w.passed w.course
+  pub history : history_of steps ≡ w.history.entries
+  pub offered : offers_of steps ≡ reverse w.offered.items
+  pub faults : w.faults ≡ counted (faults_in steps)
+  pub losses : w.losses ≡ counted (losses_in w.history.entries)
+  pub rooms : (x : Id) → room_in (peer_at w.peers x) ≡ room_of x steps
+  pub put_fails : (x : Id) → put_fails_in (peer_at w.peers x) ≡ unspent (Writing x) steps
+  pub dial_fails : w.dial_fails ≡ unspent Dialling steps
+  pub log_fails : w.log_fails ≡ unspent Logging steps
+  pub listen_fails : w.listen_fails ≡ (begins_by_failing w.course && not (has_listened_in_vain steps))
+  pub port : w.port ≡ port_of steps
+  pub kept : kind steps
+
+-- a replay stands where no asking has begun that isn't answered, or anywhere
+abbrev pub Stands : Replay → Type 0
+Stands w = StandsBy (λ steps. within_asking steps ≡ false) w
+
+abbrev pub StandsAnywhere : Replay → Type 0
+StandsAnywhere w = StandsBy (λ steps. Unit {0}) w
+
+-- a replay that stands at steps tells its schedule
+pub tells : (w : Replay) → Stands w → TellsSchedule (book_of w)
+tells w s = record {
+  lines = w.course;
+  schedule = refl;
+  steps = s.steps;
+  right = s.right;
+  passed = s.passed;
+  history = ap Some (sym s.history);
+  offered = ap Some (sym s.offered);
+  faults = s.faults;
+  losses = s.losses ∙ ap (λ h. counted (losses_in h)) (sym s.history);
+  port = s.port;
+}
+
+-- the second is the first, some calls later: where the first stood at steps, so does the second
 pub record IsLater (before now : Replay) : Type 0 where
   pub schedule : now.course ≡ before.course
   pub passed : before.passed ≤ now.passed
-  pub told : TellsSchedule (book_of before) → TellsSchedule (book_of now)
-  pub quiet : now.passed < length now.course → now.faults ≡ before.faults
+  pub stands : Stands before → Stands now
+
+-- there is room for the entry of any event, and for all that an arrival sets aside
+pub record IsReady (w : Replay) : Type 0 where
+  pub room : w.held + 2 * w.spare + 3 ≤ w.history.room
+  pub counted : w.held + 2 * w.spare + 3 < 2 ^ 64
+  pub connection : 0 < w.peers.free
+
+-- the lines from the next up to this place are passed, and give no event
+abbrev pub IsQuietTo : Replay → ℕ → Type 0
+IsQuietTo w at = (k : ℕ) → w.passed ≤ k → k < at → ahead_of w.history.entries (slice_get w.course k) ≡ ahead.Quiet
+
+-- the second is the first behind some lines more, of which none gave an event
+pub record IsPast (before now : Replay) : Type 0 where
+  pub book : book_of now ≡ record (book_of before) { passed = now.passed }
+  pub passed : before.passed ≤ now.passed
+  pub schedule : now.course ≡ before.course
+  pub entries : now.history.entries ≡ before.history.entries
+  pub reached : StandsAnywhere before → StandsAnywhere now
+  pub ready : IsReady before → IsReady now
+
+-- the second is the first behind the answer of an asking, which may have passed lines before
+pub record HasAnswered (before now : Replay) : Type 0 where
+  pub schedule : now.course ≡ before.course
+  pub passed : before.passed ≤ now.passed
+  pub stands : StandsAnywhere before → Stands now
 
 -- a world is itself, and what comes later than a later world is later
 pub IsLater-same : (world : Replay) → IsLater world world
-IsLater-same world = record { schedule = refl; passed = le_refl world.passed; told = λ told. told; quiet = λ left. refl }
+IsLater-same world = record { schedule = refl; passed = le_refl world.passed; stands = λ stands. stands }
 
 pub IsLater-joins : (first second third : Replay) → IsLater first second → IsLater second third → IsLater first third
 IsLater-joins first second third early late = record {
   schedule = late.schedule ∙ early.schedule;
   passed = le_trans early.passed late.passed;
-  told = λ told. late.told (early.told told);
-  quiet = λ left. late.quiet left ∙ early.quiet (subst (λ lines. second.passed < length lines) late.schedule (lt_of_le_of_lt late.passed left));
+  stands = λ stands. late.stands (early.stands stands);
 }
 
 -- a world of which nothing was asked yet
@@ -76,4 +131,3 @@ pub record IsFresh (lines : List SchedLine) (book : Book) : Type 0 where
   pub faults : book.faults ≡ 0
   pub losses : book.losses ≡ 0
   pub port : book.port ≡ None
-  pub told : TellsSchedule book

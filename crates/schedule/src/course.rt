@@ -1,6 +1,5 @@
-use crate::Schedule;
-use resty_world::{Event, SchedLine};
-use std::alloc::AllocError;
+use resty_world::SchedLine;
+use schedule_text::Schedule;
 use std::marker::Model;
 
 /// The schedule that a world goes by: each line fits what stands before it, and the last is `stop`.
@@ -12,7 +11,7 @@ pub struct Course {
 impl Model for Course {
     ghost use Rattle.std.specs.Prelude.{List};
     ghost use Rattle.resty_world.specs.declared.schedule_line.SchedLine.{SchedLine};
-    ghost use Rattle.schedule.specs.Fitting.{IsSchedule};
+    ghost use Rattle.schedule_text.specs.Fitting.{IsSchedule};
 
     ghost Value = { List SchedLine };
 
@@ -22,8 +21,9 @@ impl Model for Course {
 }
 
 impl Course {
-    ghost use Rattle.std.specs.Prelude.{◌≡◌, ◌<◌, length, Some, IfSome, MatchOption, slice_get, take};
-    ghost use Rattle.schedule.specs.Fitting.{IsSchedule, Fits};
+    ghost use Rattle.std.specs.Prelude.{◌≡◌, ◌<◌, ◌^◌, length, Some, IfSome, MatchOption, slice_get, take};
+    ghost use Rattle.schedule_text.specs.Fitting.{IsSchedule, Fits};
+    ghost use Rattle.schedule.specs.Steps.{begins_by_failing};
 
     /// The course of this schedule.
     pub fn new(schedule: Schedule) -> Course
@@ -49,5 +49,14 @@ impl Course {
     {
         let lines = self.schedule.as_slice();
         &lines[at]
+    }
+
+    /// Whether the first line makes listening fail.
+    pub fn begins_by_failing(&self) -> bool
+        ensures begins { result ≡ begins_by_failing self.now }
+        ensures few { length self.now < 2 ^ 64 }
+    {
+        let lines = self.schedule.as_slice();
+        matches!(lines, [SchedLine::FailListen, ..])
     }
 }

@@ -1,21 +1,16 @@
-//! Schedules and histories as texts, and the world in memory that gives the events of a schedule.
+//! The world in memory that goes by the lines of a schedule.
 #![tactic(auto)]
 
+mod ahead;
 mod course;
-mod fault;
 mod laws;
-mod reading;
+mod peer;
+mod peers;
 mod replay;
-mod schedule;
-mod text;
 
-pub use fault::SchedFault;
 pub use laws::stop_ends_the_schedule;
-pub use reading::schedule_of;
 pub use replay::Replay;
-pub use resty_world::SchedLine;
-pub use schedule::Schedule;
-pub use text::history_text;
-
-#[cfg(test)]
-mod tests;
+pub use schedule_text::{
+    SchedFault, SchedLine, Schedule, a_history_is_known_by_its_text, history_of, history_text,
+    schedule_of, schedule_text,
+};

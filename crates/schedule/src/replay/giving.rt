@@ -1,16 +1,9 @@
 ghost use Rattle.std.specs.Prelude.{◌≡◌, IfOk};
 ghost use Rattle.resty_world.specs.declared.schedule_line.SchedLine.TheVariants.{Given};
-ghost use Rattle.schedule.specs.Lines.{IsGiven, is_arrival_event};
+ghost use Rattle.schedule.specs.Ahead.{IsGiven};
 
 use resty_world::{Event, SchedLine};
 use std::alloc::AllocError;
-
-/// Whether the event is an arrival.
-pub fn is_arrival(event: &Event) -> bool
-    ensures { result ≡ is_arrival_event event.now }
-{
-    matches!(event, Event::Arrive(_))
-}
 
 /// The same event, whose bytes are shared.
 pub fn shared(event: &Event) -> Result<Event, AllocError>

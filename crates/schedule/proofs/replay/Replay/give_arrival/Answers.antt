@@ -1,74 +1,57 @@
-use Rattle.std.proofs.Common.{◌≡◌, ℕ, ◌+◌, true, cond, ◌∷◌, length, take, refl, ◌∙◌, sym, ap, arith}
-use Rattle.std.proofs.lemmas.Option.{slice_get_within}
-use Rattle.resty_world.specs.declared.entry.Entry.TheVariants.{Given}
-use Rattle.resty_world.specs.declared.schedule_line.SchedLine.TheVariants as line
-use Rattle.schedule.specs.Lines.{is_arrival_event}
-use Rattle.schedule.proofs.Giving.{giving, start_below}
-use Rattle.schedule.proofs.Passing.{arrivals-skipped, arrivals-passed, passes}
-use Rattle.std.proofs.Common.{◌++◌, [], eqb, length-append}
+use Rattle.std.proofs.Common.{◌≡◌, ℕ, ◌+◌, ◌-◌, ◌^◌, ◌<◌, ◌≤◌, Bool, true, false, not, List, [], ◌∷◌, length, take, slice_get, Option, Some, None, refl, sym, ap, ◌∙◌, arith, rules}
 use Rattle.std.specs.Bool.{if◌then◌else◌}
-use Rattle.schedule.proofs.Flags.{flagged_open-push, flagged_closed-push}
+use Rattle.resty_base.specs.declared.names.Id.{Id}
+use Rattle.resty_base.specs.declared.names.Id.TheVariants as id
+use Rattle.resty_world.specs.declared.event.Event.TheVariants as event
+use Rattle.resty_world.specs.declared.entry.Entry.TheVariants as entry
+use Rattle.resty_world.specs.declared.schedule_line.SchedLine.TheVariants as line
+use Rattle.resty_world.specs.Ids.{same_id}
+use Rattle.schedule.specs.Peers.{peer_at, opened, closed, room_in, put_fails_in, fresh}
+use Rattle.schedule.specs.Places.{has, open_ids, strands_in, hung_up, has_ended}
+use Rattle.std.proofs.lemmas.Option.{slice_get_within}
+use Rattle.schedule.proofs.KnowingLemmas.{next-connection, next-socket, knows-new, knows-changed, knows-same, changed, unseen, own-value}
+use Rattle.schedule.proofs.NextLine.{quiet_ahead, due_ahead}
+use Rattle.schedule.proofs.Passing.{arrivals-more}
+use Rattle.schedule.proofs.PlacesLemmas.{has-without, length-without, same_id-eq}
+use Rattle.schedule.proofs.Standing.{answers, passes, gives, few-unspent, one-more, one-less, counted_is}
+use Rattle.schedule.specs.Counts.{counted}
+use Rattle.schedule.specs.Steps.{Writing, Dialling, Logging}
 use Rattle.schedule.proofs.replay.Replay.give_arrival.Goals as goal
 
-pub invariant_of-self-2 : goal.invariant_of-self-2
-invariant_of-self-2 c =
+pub invariant_of-self : goal.invariant_of-self
+invariant_of-self c =
     let world = c.args.self.now in
-    let kind : is_arrival_event c.args.given ≡ true = c.requires.arrival in
-    let entries : c.push_reserved-2.new.self.entries ≡ Given c.args.given ∷ world.history.entries = rw (← c.requires.copy, c.push_reserved-2.ensures.entries) refl in
-    let g = giving world (take c.args.at world.course) c.args.given (arrivals-skipped world.history.entries world.course world.passed c.args.at c.requires.skips ∙ sym world.arrived)
-    c.requires.fits.fits c.requires.due in
-    let arrivals = arrivals-passed world.history.entries world.course world.passed c.args.at c.args.given c.requires.skips c.requires.here in
-    let one = ap {B = ℕ} (λ b. cond b 1 0) kind in
-    let flags = world.open_connections.items in
-    let pushed : c.push_reserved.new.self.items ≡ flags ++ true ∷ [] = rw (c.push_reserved.ensures.items, c.reserve.ensures.items) refl in
+    let number = c.args.number in
+    let history = world.history.entries in
+    let roll = world.peers in
+    let arrive = line.Given (event.Arrive number) in
+    let entries : c.push_reserved.new.self.entries ≡ entry.Given (event.Arrive number) ∷ history = rw (← c.requires.copy, c.push_reserved.ensures.entries) refl in
+    let within = slice_get_within world.course world.passed arrive c.requires.here in
+    let more = arrivals-more world.course world.passed arrive c.requires.here in
+    let connections : length c.add_connection.new.self.connections ≡ length roll.connections + 1 = search rules in
+    let sockets : length c.add_connection.new.self.sockets ≡ length roll.sockets = search rules in
     record {
-      passed_lines = let within = slice_get_within world.course c.args.at (line.Given c.args.given) c.requires.here in omega arith;
-      arrived = rw pushed (sym (arrivals ∙ omega (arith, one, world.arrived, length-append flags (true ∷ []))));
-      opened = λ x. rw (entries, pushed, g.next_id kind x) (flagged_open-push flags x ∙ ap (λ b. if eqb x (length flags + 1) then true else b) (world.opened x));
-      closed = λ x. rw (entries, pushed) (flagged_closed-push flags x ∙ world.closed x);
-      dialled = rw entries (omega (arith, world.dialled));
-      places = rw entries (omega (arith, g.more_ids, g.more_strands, one, world.places));
-      room = omega arith;
-      counted = omega arith;
+      passed_lines = omega arith;
+      few = world.few;
+      numbered = sym (more ∙ omega (arith, world.numbered, connections));
+      known = rw entries (knows-new roll c.add_connection.new.self history (entry.Given (event.Arrive number)) (id.Conn (length roll.connections + 1)) world.known (next-connection roll)
+          (search rules) (omega (arith, world.known.arrived, connections)) (omega (arith, world.known.dialled, sockets))
+          (ap (λ n. id.Conn n ∷ open_ids history) c.requires.next) (λ x. refl) (λ x. refl));
+      places = rw entries (omega (arith, world.places));
+      room = omega (arith, c.requires.ready.room);
+      counted = omega (arith, c.requires.ready.counted);
     }
 
-pub returns-clause-gave : goal.returns-clause-gave
-returns-clause-gave c =
+pub returns-clause-answered : goal.returns-clause-answered
+returns-clause-answered c =
     let world = c.args.self.now in
-    let kind : is_arrival_event c.args.given ≡ true = c.requires.arrival in
-    let entries : c.push_reserved-2.new.self.entries ≡ Given c.args.given ∷ world.history.entries = rw (← c.requires.copy, c.push_reserved-2.ensures.entries) refl in
-    let g = giving world (take c.args.at world.course) c.args.given (arrivals-skipped world.history.entries world.course world.passed c.args.at c.requires.skips ∙ sym world.arrived)
-    c.requires.fits.fits c.requires.due in
-    record {
-      history = rw (entries, g.entries) refl;
-      offered = rw entries refl;
-      schedule = refl;
-      passed = start_below world.history.entries world.course world.passed c.args.at (line.Given c.args.given) c.requires.skips c.requires.here world.passed_lines;
-      fit = g.fit;
-      bad = g.not_bad _;
-      is_open = λ x. rw entries (g.ids x);
-      has_ended = λ x. g.ended x;
-      id_place = λ x. rw entries (g.ids x);
-      strand_place = λ s. rw entries (g.strands s);
-      arrivals = rw (g.count, kind) (let pushed : c.push_reserved.new.self.items ≡ world.open_connections.items ++ true ∷ [] = rw (c.push_reserved.ensures.items, c.reserve.ensures.items) refl in
-          rw pushed (length-append world.open_connections.items (true ∷ [])));
-      dials = refl;
-      faults = rw g.no_fault refl;
-      losses = rw g.no_break refl;
-      port = refl;
-    }
-
-pub returns-clause-same : goal.returns-clause-same
-returns-clause-same c =
-    let world = c.args.self.now in
-    let entries : c.push_reserved-2.new.self.entries ≡ Given c.args.given ∷ world.history.entries = rw (← c.requires.copy, c.push_reserved-2.ensures.entries) refl in
+    let roll = world.peers in
+    let at : (x : Id) → peer_at c.add_connection.new.self x ≡ (if same_id x (id.Conn (length roll.connections + 1)) then Some fresh else peer_at roll x) = search rules in
     record {
       schedule = refl;
-      passed = start_below world.history.entries world.course world.passed c.args.at (line.Given c.args.given) c.requires.skips c.requires.here world.passed_lines;
-      told = λ told. rw entries (
-        take world.passed world.course,
-        passes world.history.entries world.course world.passed c.args.at c.args.given c.requires.skips c.requires.here c.requires.due,
-        told,
-      );
-      quiet = λ left. refl;
+      passed = omega arith;
+      stands = λ s. gives world _ (event.Arrive c.args.number) s refl refl c.requires.here refl refl (rw (← c.requires.copy, c.push_reserved.ensures.entries) refl) refl refl (search rules)
+          (unseen room_in roll c.add_connection.new.self (id.Conn (length roll.connections + 1)) (Some fresh) at (ap room_in (next-connection roll)))
+          (unseen put_fails_in roll c.add_connection.new.self (id.Conn (length roll.connections + 1)) (Some fresh) at (ap put_fails_in (next-connection roll)))
+          refl refl refl refl;
     }

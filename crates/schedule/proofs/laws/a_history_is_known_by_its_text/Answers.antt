@@ -1,5 +1,0 @@
-use Rattle.schedule.proofs.OneHistory.{history-alone}
-use Rattle.schedule.proofs.laws.a_history_is_known_by_its_text.Goals as goal
-
-pub returns : goal.returns
-returns c = history-alone

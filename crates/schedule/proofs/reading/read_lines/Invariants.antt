@@ -1,9 +1,0 @@
-use Rattle.std.proofs.Common.{length}
-use Rattle.schedule.proofs.Reached.{Reached}
-use Rattle.schedule.proofs.reading.read_lines.Given as goal
-
-abbrev pub invariant-loop-line : goal.invariant-loop-line
-invariant-loop-line l = Reached l.text l.reader.lines.items l.rest
-
-abbrev pub decreases-loop-line : goal.decreases-loop-line
-decreases-loop-line l = length l.rest

@@ -1,0 +1,40 @@
+use Rattle.std.proofs.Common.{◌≡◌, ℕ, ◌+◌, ◌-◌, ◌<◌, ◌≤◌, Bool, true, false, List, [], ◌∷◌, length, take, slice_get, Some, None, refl, sym, ap, ◌∙◌, arith, rules}
+use Rattle.std.proofs.lemmas.Option.{slice_get_within}
+use Rattle.resty_world.specs.declared.schedule_line.SchedLine.TheVariants as line
+use Rattle.schedule.proofs.NextLine.{fault_ahead}
+use Rattle.schedule.proofs.Passing.{arrivals-more}
+use Rattle.schedule.specs.Steps.{within_asking}
+use Rattle.schedule.proofs.Standing.{passes}
+use Rattle.schedule.proofs.replay.Replay.fail_next.Goals as goal
+
+pub overflow_add-self : goal.overflow_add-self
+overflow_add-self c =
+    let world = c.args.self.now in
+    let here = fault_ahead world.history.entries (slice_get world.course world.passed) c.requires in
+    let within = slice_get_within world.course world.passed line.FailNext here in
+    omega (arith, world.few)
+
+pub invariant_of-self : goal.invariant_of-self
+invariant_of-self c =
+    let world = c.args.self.now in
+    let here = fault_ahead world.history.entries (slice_get world.course world.passed) c.requires in
+    let within = slice_get_within world.course world.passed line.FailNext here in
+    record {
+      passed_lines = omega arith;
+      few = world.few;
+      numbered = world.numbered ∙ sym (arrivals-more world.course world.passed line.FailNext here ∙ omega arith);
+      known = world.known;
+      places = world.places;
+      room = world.room;
+      counted = world.counted;
+    }
+
+pub returns-clause-answered : goal.returns-clause-answered
+returns-clause-answered c =
+    let world = c.args.self.now in
+    let here = fault_ahead world.history.entries (slice_get world.course world.passed) c.requires in
+    record {
+      schedule = refl;
+      passed = omega arith;
+      stands = λ s. passes (λ steps. within_asking steps ≡ false) world _ line.FailNext s refl refl here refl refl refl refl c.one_more-self.ensures.counted refl (λ x. refl) (λ x. omega arith) (omega arith) (omega arith) refl refl refl;
+    }

@@ -1,0 +1,56 @@
+use Rattle.std.proofs.Common.{◌≡◌, ℕ, ◌+◌, ◌-◌, ◌^◌, ◌<◌, ◌≤◌, Bool, true, false, not, List, [], ◌∷◌, length, take, slice_get, Option, Some, None, refl, sym, ap, ◌∙◌, arith, rules}
+use Rattle.std.specs.Bool.{if◌then◌else◌}
+use Rattle.resty_base.specs.declared.names.Id.{Id}
+use Rattle.resty_base.specs.declared.names.Id.TheVariants as id
+use Rattle.resty_world.specs.declared.event.Event.TheVariants as event
+use Rattle.resty_world.specs.declared.entry.Entry.TheVariants as entry
+use Rattle.resty_world.specs.declared.schedule_line.SchedLine.TheVariants as line
+use Rattle.resty_world.specs.Ids.{same_id}
+use Rattle.schedule.specs.Peers.{peer_at, opened, closed, room_in, put_fails_in, fresh}
+use Rattle.schedule.specs.Places.{has, open_ids, strands_in, hung_up, has_ended}
+use Rattle.std.proofs.lemmas.Option.{slice_get_within}
+use Rattle.schedule.proofs.KnowingLemmas.{next-connection, next-socket, knows-new, knows-changed, knows-same, changed, unseen, own-value}
+use Rattle.schedule.proofs.NextLine.{quiet_ahead, due_ahead}
+use Rattle.schedule.proofs.Passing.{arrivals-more}
+use Rattle.schedule.proofs.PlacesLemmas.{has-without, length-without, same_id-eq}
+use Rattle.schedule.proofs.Standing.{answers, passes, gives, few-unspent, one-more, one-less, counted_is}
+use Rattle.schedule.specs.Counts.{counted}
+use Rattle.schedule.specs.Steps.{Writing, Dialling, Logging}
+use Rattle.schedule.proofs.replay.Replay.give_end.Goals as goal
+
+pub invariant_of-self : goal.invariant_of-self
+invariant_of-self c =
+    let world = c.args.self.now in
+    let history = world.history.entries in
+    let roll = world.peers in
+    let here : peer_at roll c.args.id ≡ Some c.in-Some.peer = sym c.get.ensures ∙ c.in-Some.is in
+    let next = line.Given (event.Ended c.args.id) in
+    let entries : c.push_reserved.new.self.entries ≡ entry.Given (event.Ended c.args.id) ∷ history = rw (← c.requires.copy, c.push_reserved.ensures.entries) refl in
+    let within = slice_get_within world.course world.passed next c.requires.here in
+    let more = arrivals-more world.course world.passed next c.requires.here in
+    record {
+      passed_lines = omega arith;
+      few = world.few;
+      numbered = sym (more ∙ omega (arith, world.numbered, c.set.ensures.connections));
+      known = rw entries (knows-changed roll c.set.new.self history (entry.Given (event.Ended c.args.id)) c.args.id _ world.known
+          c.set.ensures.set c.set.ensures.connections c.set.ensures.sockets (omega arith) (omega arith)
+          (λ x. sym (own-value (λ y. has same_id y (open_ids history)) c.args.id _ (sym (world.known.are_open c.args.id) ∙ ap opened here) x))
+          (λ x. sym (own-value (hung_up history) c.args.id _ (sym (world.known.are_closed c.args.id) ∙ ap closed here) x))
+          (λ x. refl));
+      places = rw entries (omega (arith, world.places));
+      room = omega arith;
+      counted = world.counted;
+    }
+
+pub returns-clause-answered : goal.returns-clause-answered
+returns-clause-answered c =
+    let world = c.args.self.now in
+    let here : peer_at world.peers c.args.id ≡ Some c.in-Some.peer = sym c.get.ensures ∙ c.in-Some.is in
+    record {
+      schedule = refl;
+      passed = omega arith;
+      stands = λ s. gives world _ (event.Ended c.args.id) s refl refl c.requires.here c.requires.there (search rules) (rw (← c.requires.copy, c.push_reserved.ensures.entries) refl) refl refl (search rules)
+          (unseen room_in world.peers c.set.new.self c.args.id _ c.set.ensures.set (ap room_in here))
+          (unseen put_fails_in world.peers c.set.new.self c.args.id _ c.set.ensures.set (ap put_fails_in here))
+          refl refl refl refl;
+    }
