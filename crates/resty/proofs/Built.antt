@@ -10,11 +10,10 @@ use Rattle.resty_world.specs.declared.entry.Entry.{Entry}
 use Rattle.resty_world.specs.declared.entry.Entry.TheVariants as entry
 use Rattle.resty_world.specs.declared.schedule_line.SchedLine.{SchedLine}
 use Rattle.resty_world.specs.declared.schedule_line.SchedLine.TheVariants as line
-use Rattle.schedule.specs.Built.{IsNumber, IsBuiltEvent, IsBuilt}
-use Rattle.schedule.specs.Fitting.{IsSchedule, FitsLine, last_connection}
-use Rattle.schedule.specs.Lines.{arrivals_in}
+use Rattle.resty.specs.Built.{IsNumber, IsBuiltEvent, IsBuilt}
+use Rattle.resty.specs.Form.{IsServed}
+use Rattle.resty.proofs.Story.{AreEventLines, IsToldEntry, AreToldEntries, entries-told, served-events}
 use Rattle.schedule.specs.Told.{IsTold}
-use Rattle.schedule.proofs.OneWay.{FitsFrom, first-fits, rest-fits, few-more}
 use Rattle.schedule.proofs.PlacesLemmas.{same_strand-eq}
 use Rattle.strand_contract.specs.declared.turns.Place.{Place}
 use Rattle.strand_contract.specs.declared.turns.Place.TheVariants as place
@@ -28,72 +27,6 @@ use Rattle.strand_contract.specs.ClientOnly.{HasClientOnly, client-only, never, 
 use Rattle.strand.specs.Literal.{literal_behavior}
 use Rattle.strand.specs.Laws.{client-only-acts}
 use Rattle.engine.proofs.Lists.{by_test, strand-true}
-
--- the events of a schedule's lines
-abbrev IsBuiltLine : SchedLine → Type 0
-IsBuiltLine (line.Given e) = IsBuiltEvent e
-IsBuiltLine l = Unit {0}
-
-abbrev AreBuiltLines : List SchedLine → Type 0
-AreBuiltLines [] = Unit {0}
-AreBuiltLines (l ∷ lines) = IsBuiltLine l × AreBuiltLines lines
-
-built-line : (before : List SchedLine) (l : SchedLine) → arrivals_in before ≤ last_connection → FitsLine before l → IsBuiltLine l
-built-line before (line.Given (event.Arrive k)) few fits = let within = fits.within in omega arith
-built-line before (line.Given (event.Bytes (id.Conn c) bytes)) few fits = let arrived = fits.arrived in omega arith
-built-line before (line.Given (event.Moment t)) few fits = let within = fits.within in omega arith
-built-line before (line.Given event.Stop) few fits = tt
-built-line before (line.Given e) few fits = absurd fits
-built-line before l few fits = tt
-
-built-from : (before after : List SchedLine) → arrivals_in before ≤ last_connection → FitsFrom before after → AreBuiltLines after
-built-from before [] few fit = tt
-built-from before (l ∷ after) few fit =
-    let fits = (first-fits before after l fit).fits in
-    (built-line before l few fits, built-from (before ++ l ∷ []) after (few-more before l few fits) (rest-fits before after l fit))
-
-built-lines : (lines : List SchedLine) → IsSchedule lines → AreBuiltLines lines
-built-lines lines whole = built-from [] lines (omega arith) (λ i next here. whole.fit i next here)
-
-front : (xs ys : List SchedLine) → AreBuiltLines (xs ++ ys) → AreBuiltLines xs
-front [] ys all = tt
-front (x ∷ xs) ys all = (all.0, front xs ys all.1)
-
-back : (xs ys : List SchedLine) → AreBuiltLines (xs ++ ys) → AreBuiltLines ys
-back [] ys all = all
-back (x ∷ xs) ys all = back xs ys all.1
-
--- what a schedule makes of the entries that tell it: its events are built, and each write takes something
-abbrev IsToldEntry : Entry → Type 0
-IsToldEntry (entry.Given e) = IsBuiltEvent e
-IsToldEntry (entry.Later i) = ⊥
-IsToldEntry (entry.Lost i) = ⊥
-IsToldEntry e = Unit {0}
-
-abbrev pub AreToldEntries : List Entry → Type 0
-AreToldEntries [] = Unit {0}
-AreToldEntries (e ∷ h) = IsToldEntry e × AreToldEntries h
-
-entries-told : (lines : List SchedLine) (h : List Entry) (offered : List ℕ) → AreBuiltLines lines → IsTold lines h offered → AreToldEntries h
-entries-told lines [] offered all told = tt
-entries-told lines (entry.Given e ∷ h) offered all told =
-    let before : List SchedLine = told.0 ++ told.1.over in
-    let parts : AreBuiltLines (before ++ line.Given e ∷ []) = subst AreBuiltLines told.1.whole all in
-    ((back before (line.Given e ∷ []) parts).0, entries-told told.0 h offered (front told.0 told.1.over (front before (line.Given e ∷ []) parts)) told.2)
-entries-told lines (entry.Put i bytes ∷ h) offered all told = (tt, entries-told lines h told.0 all told.2)
-entries-told lines (entry.Later i ∷ h) offered all told = absurd told
-entries-told lines (entry.Lost i ∷ h) offered all told = absurd told
-entries-told lines (entry.Close i ∷ h) offered all told = (tt, entries-told lines h offered all told)
-entries-told lines (entry.Dial who host port (Some n) ∷ h) offered all told = (tt, entries-told lines h offered all told.1)
-entries-told lines (entry.Dial who host port None ∷ h) offered all told = absurd told
-entries-told lines (entry.Log who text written ∷ h) offered all told = (tt, entries-told lines h offered all told.1)
-entries-told lines (entry.Dict who zone call answer ∷ h) offered all told = (tt, entries-told lines h offered all told)
-entries-told lines (entry.Take who key got ∷ h) offered all told = (tt, entries-told lines h offered all told)
-entries-told lines (entry.Keep who n key idle size closed ∷ h) offered all told = (tt, entries-told lines h offered all told)
-entries-told lines (entry.Timer who due answer ∷ h) offered all told = (tt, entries-told lines h offered all told)
-entries-told lines (entry.Start n ∷ h) offered all told = (tt, entries-told lines h offered all told)
-entries-told lines (entry.Turned c ∷ h) offered all told = (tt, entries-told lines h offered all told)
-entries-told lines (entry.Dropped s ∷ h) offered all told = (tt, entries-told lines h offered all told)
 
 older : (xs ys : List Entry) → AreToldEntries (xs ++ ys) → AreToldEntries ys
 older [] ys all = all
@@ -314,11 +247,11 @@ module _ {J : Type 0} where
       All-append IsBuilt (entries_of (literal_behavior body) m ms) (external (literal_behavior body) ms) (entries-built body m ms f before) (all-built body ms before)
 
   -- the history of an execution of a literal site that tells the lines of a schedule
-  pub history-built : (body : List ℕ) (lines : List SchedLine) (h : List Entry) (offered : List ℕ) (ms : List (GlobalAction J)) → IsSchedule lines → IsTold lines h offered
+  pub history-built : (body : List ℕ) (lines : List SchedLine) (h : List Entry) (offered : List ℕ) (ms : List (GlobalAction J)) → IsServed lines → IsTold lines h offered
       → h ≡ external (literal_behavior body) ms → ((s : StrandId) → IsExecution (literal_behavior body) (projection s ms)) → BeginsRight ms → IsPlain (literal_behavior body) ms → All IsBuilt h
   history-built body lines h offered ms whole told is alone begins plain = subst (All IsBuilt) (sym is) (all-built body ms (record {
     alone = alone;
     begins = begins;
     plain = plain;
-    told = subst AreToldEntries is (entries-told lines h offered (built-lines lines whole) told);
+    told = subst AreToldEntries (told.steps_history ∙ is) (entries-told (lines ++ told.behind) told.steps (subst AreEventLines (sym told.steps_lines) (served-events lines whole)) told.steps_right);
   }))

@@ -12,7 +12,7 @@ use Rattle.resty.specs.declared.endings.Status.TheVariants as status
 use Rattle.resty.specs.Ending.{status_of, line_of, line_in}
 use Rattle.resty.specs.Ends.{IsStatusBy}
 use Rattle.resty.specs.Taking.{TakesAll, TakesPart, Takes}
-use Rattle.resty.specs.Verdict.{Verdict, Usage, Missing, TooLong, NotBuilt, Runs, IsOfFiles, IsVerdict, IsDue, Faults, ending_of}
+use Rattle.resty.specs.Verdict.{Verdict, Usage, Missing, TooLong, NotBuilt, BadLine, Runs, IsOfFiles, IsVerdict, IsDue, Faults, ending_of}
 use Rattle.resty.specs.Words.{Names, IsForm}
 use Rattle.resty.specs.Writing.{IsRunOf, Writes}
 use Rattle.resty.proofs.OneStatus.{one_status}
@@ -24,6 +24,7 @@ verdict_of words conf schedule names held Usage of = absurd of
 verdict_of words conf schedule names held (Missing w) of = (conf, schedule, names, of)
 verdict_of words conf schedule names held (TooLong w) of = (conf, schedule, names, of)
 verdict_of words conf schedule names held (NotBuilt w n) of = (conf, schedule, names, of)
+verdict_of words conf schedule names held (BadLine n) of = (conf, schedule, names, of)
 verdict_of words conf schedule names held (Runs body lines) of = (conf, schedule, names, of)
 
 -- what is due to some verdicts is due to a wider set of them
@@ -42,7 +43,9 @@ due_wider V W (Some held) a (ending.Missing w) wider due = (due.0, wider held du
 due_wider V W None a (ending.TooLong w) wider due = tt
 due_wider V W (Some held) a (ending.TooLong w) wider due = (due.0, wider held due.0 due.1, due.2)
 due_wider V W None a (ending.NotBuilt w n) wider due = tt
+due_wider V W None a (ending.BadLine n) wider due = tt
 due_wider V W (Some held) a (ending.NotBuilt w n) wider due = (due.0, wider held due.0 due.1, due.2)
+due_wider V W (Some held) a (ending.BadLine n) wider due = (due.0, wider held due.0 due.1, due.2)
 
 run_wider : (V W : FileMap → Verdict → Type 0) (told : Option FileMap) (h : List Entry) → ((held : FileMap) (v : Verdict) → V held v → W held v)
     → IsRunOf V told h → IsRunOf W told h
@@ -92,6 +95,7 @@ judged_by words held faults (ending.TooLong w) d v is = inl (own_status words he
 judged_by words held faults (ending.Unreadable w) d v is = inr d
 judged_by words held faults (ending.NotBuilt named.Conf n) d v is = own_status words held v d.0 (ending.NotBuilt named.Conf n) is d.1 d.2
 judged_by words held faults (ending.NotBuilt named.Schedule n) d v is = own_status words held v d.0 (ending.NotBuilt named.Schedule n) is d.1 d.2
+judged_by words held faults (ending.BadLine n) d v is = own_status words held v d.0 (ending.BadLine n) is d.1 d.2
 judged_by words held faults ending.NotWritten d v is = (own_status words held v (Runs d.1.0 d.1.1) ending.Done is d.1.2 refl, d.0)
 judged_by words held faults ending.Memory d v is = tt
 

@@ -2,14 +2,15 @@
 use Rattle.std.proofs.Common.{◌≡◌, ℕ, ◌≤◌, List, [], ◌∷◌, length, codes, length-append, Option, Some, None, IfSome, refl, arith}
 use Rattle.resty_base.specs.FileMap.{FileMap}
 use Rattle.resty_world.specs.declared.schedule_line.SchedLine.{SchedLine}
-use Rattle.schedule.specs.Accepted.{IsRefusedAt}
-use Rattle.schedule.specs.LineTexts.{line_text, whole_line, schedule_text}
+use Rattle.schedule_text.specs.Accepted.{IsRefusedAt}
+use Rattle.schedule_text.specs.LineTexts.{line_text, whole_line, schedule_text}
 use Rattle.strand.specs.Configuration.{IsFaultAt}
 use Rattle.resty.specs.declared.endings.Named.TheVariants as named
 use Rattle.resty.specs.declared.endings.Ending.{Ending}
 use Rattle.resty.specs.declared.endings.Ending.TheVariants as ending
+use Rattle.resty.specs.Form.{IsUnserved}
 use Rattle.resty.specs.Reading.{IsUnread}
-use Rattle.resty.specs.Verdict.{Verdict, Missing, TooLong, NotBuilt, Holds, HasSite, IsOfFiles, IsDue, Faults, ending_of, most_of}
+use Rattle.resty.specs.Verdict.{Verdict, Missing, TooLong, NotBuilt, BadLine, Holds, HasSite, IsOfFiles, IsDue, Faults, ending_of, most_of}
 
 -- the verdicts of a configuration, whatever the schedule is; and those of a schedule, where the configuration is accepted
 abbrev pub OfConf : List ℕ → FileMap → Verdict → Type 0
@@ -29,6 +30,7 @@ conf_unread conf told faults ending.Memory u = tt
 conf_unread conf told faults ending.Done u = absurd u
 conf_unread conf told faults ending.Usage u = absurd u
 conf_unread conf told faults (ending.NotBuilt w n) u = absurd u
+conf_unread conf told faults (ending.BadLine n) u = absurd u
 conf_unread conf told faults ending.NotWritten u = absurd u
 
 pub schedule_unread : (schedule : List ℕ) (told : Option FileMap) (faults : Faults) (e : Ending)
@@ -42,6 +44,7 @@ schedule_unread schedule told faults ending.Memory u = tt
 schedule_unread schedule told faults ending.Done u = absurd u
 schedule_unread schedule told faults ending.Usage u = absurd u
 schedule_unread schedule told faults (ending.NotBuilt w n) u = absurd u
+schedule_unread schedule told faults (ending.BadLine n) u = absurd u
 schedule_unread schedule told faults ending.NotWritten u = absurd u
 
 -- a text that is refused at a line
@@ -52,10 +55,18 @@ conf_refused conf text (Some held) n holds refused = (NotBuilt named.Conf n, (λ
 
 pub schedule_refused : (schedule text : List ℕ) (told : Option FileMap) (n : ℕ)
     → IfSome told (λ held. Holds held schedule (most_of named.Schedule) text)
-    → IsRefusedAt text n → IfSome told (λ held. (v : Verdict) × OfSchedule schedule held v × (ending.NotBuilt named.Schedule n ≡ ending_of v))
+    → IsRefusedAt text n → IfSome told (λ held. (v : Verdict) × OfSchedule schedule held v × (ending.BadLine n ≡ ending_of v))
 schedule_refused schedule text None n holds refused = tt
 schedule_refused schedule text (Some held) n holds refused =
-    (NotBuilt named.Schedule n, (λ conf body site. (body, text, site, holds, refused)), refl)
+    (BadLine n, (λ conf body site. (body, text, site, holds, refused)), refl)
+
+-- a schedule whose line isn't served yet
+pub schedule_unserved : (schedule text : List ℕ) (told : Option FileMap) (n : ℕ)
+    → IfSome told (λ held. Holds held schedule (most_of named.Schedule) text)
+    → IsUnserved text n → IfSome told (λ held. (v : Verdict) × OfSchedule schedule held v × (ending.NotBuilt named.Schedule n ≡ ending_of v))
+schedule_unserved schedule text None n holds unserved = tt
+schedule_unserved schedule text (Some held) n holds unserved =
+    (NotBuilt named.Schedule n, (λ conf body site. (body, text, site, holds, unserved)), refl)
 
 -- a schedule has no more lines than its text has bytes
 pub lines_below : (lines : List SchedLine) → length lines ≤ length (schedule_text lines)

@@ -1,3 +1,4 @@
+pub mod AskingLemmas
 pub mod Five
 pub mod Pieces
 pub mod Story

@@ -2,16 +2,17 @@
 use Rattle.std.proofs.Common.{◌≡◌, ℕ, ◌⊎◌, inl, inr, List, length, Option, Some, None, Err, refl, sym, ◌∙◌, ap, subst, arith}
 use Rattle.resty_base.specs.FileMap.{FileMap}
 use Rattle.resty_world.specs.declared.schedule_line.SchedLine.{SchedLine}
-use Rattle.schedule.specs.declared.fault.SchedFault.TheVariants as fault
-use Rattle.schedule.specs.Accepted.{IsRead, IsRefusedAt}
-use Rattle.schedule.proofs.OneWay.{accepted}
+use Rattle.schedule_text.specs.declared.fault.SchedFault.TheVariants as fault
+use Rattle.schedule_text.specs.Accepted.{IsRead, IsRefusedAt}
+use Rattle.schedule_text.proofs.OneWay.{accepted, schedule-alone}
 use Rattle.strand.specs.Configuration.{IsSite, IsFaultAt}
 use Rattle.strand.proofs.Sites.{no-fault}
 use Rattle.resty.specs.declared.endings.Named.TheVariants as named
 use Rattle.resty.specs.declared.endings.Status.{Status}
 use Rattle.resty.specs.declared.endings.Status.TheVariants as status
 use Rattle.resty.specs.Ending.{status_of}
-use Rattle.resty.specs.Verdict.{Verdict, Usage, Missing, TooLong, NotBuilt, Runs, Holds, HasSite, IsTooLong, IsOfFiles, IsVerdict, ending_of, most_of}
+use Rattle.resty.specs.Form.{IsServed, IsUnserved}
+use Rattle.resty.specs.Verdict.{Verdict, Usage, Missing, TooLong, NotBuilt, BadLine, Runs, Holds, HasSite, IsTooLong, IsOfFiles, IsVerdict, ending_of, most_of}
 use Rattle.resty.specs.Words.{Names, IsForm}
 
 -- what a file is: missing, too long, refused, or accepted
@@ -74,13 +75,20 @@ ConfKind held name k = IsKind IsBadSite IsGoodSite held name (most_of named.Conf
 
 -- schedules
 abbrev IsBadSchedule : List ℕ → Type 0
-IsBadSchedule text = (n : ℕ) × IsRefusedAt text n
+IsBadSchedule text = (n : ℕ) × (IsRefusedAt text n ⊎ IsUnserved text n)
 
 abbrev IsGoodSchedule : List ℕ → Type 0
-IsGoodSchedule text = (lines : List SchedLine) × IsRead text lines
+IsGoodSchedule text = (lines : List SchedLine) × IsRead text lines × IsServed lines
 
 schedules_apart : (text : List ℕ) → IsBadSchedule text → IsGoodSchedule text → ⊥
-schedules_apart text bad good = let no : fault.NotYet bad.0 ≡ fault.Memory = accepted text (Err (fault.NotYet bad.0)) bad.1 good.0 good.1 in cc
+schedules_apart text bad good = elim bad.1 [
+  | inl bad_line ↦ let wrong : fault.BadLine bad.0 ≡ fault.Memory = accepted text (Err (fault.BadLine bad.0)) bad_line good.0 good.1 in cc
+  | inr unserved ↦
+      let same = schedule-alone good.0 unserved.lines good.1.made unserved.read.made (sym good.1.whole ∙ unserved.read.whole) in
+      let served = subst IsServed same good.2 in
+      let first = unserved.first in
+      first.unserved (served.each first.place first.next first.here)
+]
 
 abbrev ScheduleKind : FileMap → List ℕ → Kind → Type 0
 ScheduleKind held name k = IsKind IsBadSchedule IsGoodSchedule held name (most_of named.Schedule) k
@@ -96,6 +104,7 @@ abbrev schedule_kind : Verdict → Kind
 schedule_kind (Missing named.Schedule) = missing
 schedule_kind (TooLong named.Schedule) = too_long
 schedule_kind (NotBuilt named.Schedule n) = refused
+schedule_kind (BadLine n) = refused
 schedule_kind v = accepted_
 
 site_kind : (held : FileMap) (conf body : List ℕ) → HasSite held conf body → ConfKind held conf accepted_
@@ -109,6 +118,7 @@ conf_is conf schedule held (NotBuilt named.Conf n) of = (of.0, of.1, (n, of.2))
 conf_is conf schedule held (Missing named.Schedule) of = site_kind held conf of.0 of.1
 conf_is conf schedule held (TooLong named.Schedule) of = site_kind held conf of.0 of.1
 conf_is conf schedule held (NotBuilt named.Schedule n) of = site_kind held conf of.0 of.2
+conf_is conf schedule held (BadLine n) of = site_kind held conf of.0 of.2
 conf_is conf schedule held (Runs body lines) of = site_kind held conf body of.0
 
 wrong_kind : {C : Type 0} (k : Kind) → k ≡ accepted_ → (k ≡ missing) ⊎ (k ≡ too_long) ⊎ (k ≡ refused) → C
@@ -128,8 +138,9 @@ schedule_is conf schedule held (TooLong named.Conf) of here = wrong_kind too_lon
 schedule_is conf schedule held (NotBuilt named.Conf n) of here = wrong_kind refused here (inr (inr refl))
 schedule_is conf schedule held (Missing named.Schedule) of here = of.2
 schedule_is conf schedule held (TooLong named.Schedule) of here = of.2
-schedule_is conf schedule held (NotBuilt named.Schedule n) of here = (of.1, of.3, (n, of.4))
-schedule_is conf schedule held (Runs body lines) of here = (of.1.text, of.1.holds, (lines, of.1.accepted))
+schedule_is conf schedule held (NotBuilt named.Schedule n) of here = (of.1, of.3, (n, inr of.4))
+schedule_is conf schedule held (BadLine n) of here = (of.1, of.3, (n, inl of.4))
+schedule_is conf schedule held (Runs body lines) of here = (of.1.text, of.1.holds, (lines, of.1.accepted, of.1.served))
 
 -- the status by the two kinds
 abbrev kinds_status : Kind → Kind → Status
@@ -150,6 +161,7 @@ status_by conf schedule held (NotBuilt named.Conf n) of = refl
 status_by conf schedule held (Missing named.Schedule) of = refl
 status_by conf schedule held (TooLong named.Schedule) of = refl
 status_by conf schedule held (NotBuilt named.Schedule n) of = refl
+status_by conf schedule held (BadLine n) of = refl
 status_by conf schedule held (Runs body lines) of = refl
 
 same_status : (k l a b : Kind) → k ≡ l → (k ≡ accepted_ → a ≡ b) → kinds_status k a ≡ kinds_status l b
@@ -192,6 +204,7 @@ after_form words held v Usage p q = absurd (q (has_form words held v p))
 after_form words held v (Missing x) p q = form_status words held v (Missing x) p q
 after_form words held v (TooLong x) p q = form_status words held v (TooLong x) p q
 after_form words held v (NotBuilt x n) p q = form_status words held v (NotBuilt x n) p q
+after_form words held v (BadLine n) p q = form_status words held v (BadLine n) p q
 after_form words held v (Runs body lines) p q = form_status words held v (Runs body lines) p q
 
 pub one_status : (words : List (List ℕ)) (held : FileMap) (v w : Verdict) → IsVerdict words held v → IsVerdict words held w
@@ -200,8 +213,10 @@ one_status words held Usage Usage p q = refl
 one_status words held Usage (Missing x) p q = absurd (p (has_form words held (Missing x) q))
 one_status words held Usage (TooLong x) p q = absurd (p (has_form words held (TooLong x) q))
 one_status words held Usage (NotBuilt x n) p q = absurd (p (has_form words held (NotBuilt x n) q))
+one_status words held Usage (BadLine n) p q = absurd (p (has_form words held (BadLine n) q))
 one_status words held Usage (Runs body lines) p q = absurd (p (has_form words held (Runs body lines) q))
 one_status words held (Missing x) w p q = after_form words held (Missing x) w p q
 one_status words held (TooLong x) w p q = after_form words held (TooLong x) w p q
 one_status words held (NotBuilt x n) w p q = after_form words held (NotBuilt x n) w p q
+one_status words held (BadLine n) w p q = after_form words held (BadLine n) w p q
 one_status words held (Runs body lines) w p q = after_form words held (Runs body lines) w p q

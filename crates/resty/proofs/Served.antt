@@ -1,76 +1,88 @@
 -- How serving a schedule ends.
-use Rattle.std.proofs.Common.{◌≡◌, ℕ, ◌≤◌, inl, inr, List, length, take, ◌∙◌, arith}
-use Rattle.std.proofs.lemmas.Bool.{cases_lt}
-use Rattle.std.proofs.lemmas.List.{length-take-le}
+use Rattle.std.proofs.Common.{◌≡◌, ℕ, ◌≤◌, inl, inr, List, ◌++◌, length, take, drop, sym, ap, subst, ◌∙◌, arith}
+use Rattle.std.proofs.lemmas.List.{length-take-le, take-append-drop}
 use Rattle.resty_base.specs.Counting.{Rose}
 use Rattle.resty_world.specs.declared.schedule_line.SchedLine.{SchedLine}
 use Rattle.resty_world.specs.Given.{IsBadLine}
 use Rattle.schedule.specs.declared.replay.Replay.{Replay}
-use Rattle.schedule.specs.Fitting.{IsSchedule}
-use Rattle.schedule.specs.ReplayBook.{book_of, pieces_in, IsFresh, IsLater}
+use Rattle.schedule.specs.ReplayBook.{book_of, Stands, IsFresh, IsLater}
 use Rattle.schedule.specs.Told.{IsTold}
+use Rattle.schedule.proofs.Stopping.{all-passed}
 use Rattle.strand_contract.specs.Executions.{offered_lengths}
 use Rattle.strand.specs.Literal.{literal_behavior}
-use Rattle.engine.specs.Right.{IsStopped, IsSpent, IsFaulted, IsRight}
+use Rattle.engine.specs.Right.{events_of, IsStopped, IsSpent, IsFaulted, IsRight}
+use Rattle.resty.specs.Form.{IsServed}
 use Rattle.resty.specs.Run.{IsRun}
 use Rattle.resty.proofs.Built.{history-built}
-use Rattle.resty.proofs.Story.{story, no_failed_log, not_at_end, all_passed, never_absent}
+use Rattle.resty.proofs.Story.{AreEventLines, served-events, first-events, entries-told, no-failed-log, no-fault, no-failing-first, few-events, never-absent, stopped-newest}
 
 -- the world still goes by these lines, and tells those that were passed
 pub record Tells (lines : List SchedLine) (world : Replay) : Type 0 where
   pub course : world.course ≡ lines
-  pub told : IsTold (take world.passed lines) world.history.entries (pieces_in world.history.entries)
+  pub stands : Stands world
 
-pub tells : (lines : List SchedLine) (old world : Replay) → IsFresh lines (book_of old) → IsLater old world → Tells lines world
-tells lines old world fresh later =
-    let first : old.course ≡ lines = let same = fresh.schedule in cc in
-    let course = later.schedule ∙ first in
-    record {
-      course = course;
-      told = rw course at (later.told fresh.told);
-    }
+pub tells : (lines : List SchedLine) (old world : Replay) → IsFresh lines (book_of old) → Stands old → IsLater old world → Tells lines world
+tells lines old world fresh stands later = record {
+  course = later.schedule ∙ (let same = fresh.schedule in cc);
+  stands = later.stands stands;
+}
 
 -- fewer events are given than there may be
 pub never_spent : (lines : List SchedLine) (world : Replay) → Tells lines world → length lines ≤ 67_108_864
     → IsSpent 900_000_000_000_000_000 world.history.entries → ⊥
 never_spent lines world tells few spent =
-    let most = (story (take world.passed lines) world.history.entries (pieces_in world.history.entries) tells.told).most in
-    let bound = world.passed_lines in
-    let passed : world.passed ≤ length lines = rw tells.course at bound in
-    absurd (omega (arith, most, spent.count, length-take-le world.passed lines))
+    let s = tells.stands in
+    let most = few-events world.course s.steps s.right in
+    let same = ap (λ h. length (events_of h)) s.history in
+    let passed = ap length s.passed in
+    let bound = ap length tells.course in
+    absurd (omega (arith, most, same, passed, bound, few, spent.count, length-take-le world.passed world.course, world.passed_lines))
+
+-- the events of the lines that were passed
+events-passed : (lines : List SchedLine) (world : Replay) → Tells lines world → IsServed lines → (s : Stands world) → AreEventLines (take world.passed world.course)
+events-passed lines world tells served s =
+    let all : AreEventLines world.course = subst AreEventLines (sym tells.course) (served-events lines served) in
+    first-events (take world.passed world.course) (drop world.passed world.course) (subst AreEventLines (sym (take-append-drop world.passed world.course)) all)
 
 -- the world fails only behind its last line, which is `stop`
-pub never_faulted : (lines : List SchedLine) (old world : Replay) → IsFresh lines (book_of old) → IsLater old world → IsSchedule lines
+pub never_faulted : (lines : List SchedLine) (old world : Replay) → IsFresh lines (book_of old) → Tells lines world → IsServed lines
     → Rose old.faults world.faults → IsFaulted world.history.entries → ⊥
-never_faulted lines old world fresh later whole rose faulted =
-    let told = tells lines old world fresh later in
-    let bound = world.passed_lines in
-    elim (cases_lt world.passed (length world.course)) [
-      | inl left ↦
-          let quiet = later.quiet left in
-          absurd (omega (arith, rose.risen, fresh.faults, quiet))
-      | inr end ↦
-          let passed : world.passed ≡ length world.course = omega (arith, bound, end) in
-          elim faulted [
-            | inl none ↦ not_at_end lines world.passed world.history.entries (pieces_in world.history.entries) whole told.told none (rw told.course at passed)
-            | inr failed ↦ no_failed_log (take world.passed lines) world.history.entries (pieces_in world.history.entries) told.told failed
-          ]
+never_faulted lines old world fresh tells served rose faulted =
+    let s = tells.stands in
+    let events = subst AreEventLines (sym s.passed) (events-passed lines world tells served s) in
+    elim faulted [
+      | inl none ↦
+          let begins = no-failing-first world.course (subst AreEventLines (sym tells.course) (served-events lines served)) in
+          let quiet = no-fault world.course s.steps begins events s.right (rw s.history none) in
+          absurd (omega (arith, rose.risen, fresh.faults, s.faults, quiet))
+      | inr failed ↦ no-failed-log world.history.entries (rw s.history at (entries-told world.course s.steps events s.right)) failed
     ]
 
 -- no line names an id that was never there
-pub never_bad : (lines : List SchedLine) (world : Replay) (n : ℕ) → Tells lines world → IsSchedule lines → IsBadLine (book_of world) n → ⊥
-never_bad lines world n tells whole bad =
+pub never_bad : (lines : List SchedLine) (world : Replay) (n : ℕ) → Tells lines world → IsServed lines → IsBadLine (book_of world) n → ⊥
+never_bad lines world n tells served bad =
     let same : bad.lines ≡ lines = let schedule = bad.schedule in let course = tells.course in cc in
-    let fits = whole.fit world.passed bad.bad (rw same at bad.here) in
-    let arrivals = world.arrived in
-    never_absent (take world.passed lines) (book_of world).arrivals world.dials bad.bad (rw tells.course at arrivals) fits.fits bad.absent
+    let here = rw same at bad.here in
+    let arrivals = world.numbered in
+    never-absent (take world.passed lines) (book_of world).arrivals (book_of world).dials bad.bad (rw tells.course at arrivals) (served.made.fit world.passed bad.bad here)
+    (served.each world.passed bad.bad here) bad.absent
 
 -- where Stop was given, the history is that of a run of all the lines
-pub runs : {J : Type 0} (body : List ℕ) (lines : List SchedLine) (world : Replay) → Tells lines world → IsSchedule lines
+pub runs : {J : Type 0} (body : List ℕ) (lines : List SchedLine) (world : Replay) → Tells lines world → IsServed lines
     → IsStopped world.history.entries → IsRight {J = J} (literal_behavior body) (book_of world) → IsRun {J = J} (literal_behavior body) lines world.history.entries
-runs body lines world tells whole stopped right =
+runs body lines world tells served stopped right =
+    let s = tells.stands in
+    let first : IsTold (take world.passed lines) world.history.entries (offered_lengths (literal_behavior body) right.execution) = record {
+      steps = s.steps;
+      behind = drop world.passed lines;
+      steps_right = rw (take-append-drop world.passed lines, ← tells.course) s.right;
+      steps_lines = rw tells.course at s.passed;
+      steps_history = s.history;
+      steps_offers = s.offered ∙ right.offered;
+    } in
+    let all = all-passed lines world.passed world.history.entries (offered_lengths (literal_behavior body) right.execution) served.made first (stopped-newest world.history.entries stopped) in
     let told : IsTold lines world.history.entries (offered_lengths (literal_behavior body) right.execution) =
-    rw (← right.offered, ← all_passed lines world.passed world.history.entries (pieces_in world.history.entries) whole tells.told stopped) tells.told in
+    subst (λ ls. IsTold ls world.history.entries (offered_lengths (literal_behavior body) right.execution)) all first in
     record {
       execution = right.execution;
       history = right.history;
@@ -80,5 +92,5 @@ runs body lines world tells whole stopped right =
       plain = right.plain;
       ordered = right.ordered;
       stopped = stopped;
-      built = history-built body lines world.history.entries (offered_lengths (literal_behavior body) right.execution) right.execution whole told right.history right.lawful.alone right.lawful.begins right.plain;
+      built = history-built body lines world.history.entries (offered_lengths (literal_behavior body) right.execution) right.execution served told right.history right.lawful.alone right.lawful.begins right.plain;
     }

@@ -34,7 +34,9 @@ due_later V W P (Some held) a b (ending.Missing w) p wider risen reads due = (du
 due_later V W P None a b (ending.TooLong w) p wider risen reads due = tt
 due_later V W P (Some held) a b (ending.TooLong w) p wider risen reads due = (due.0, wider held due.0 p due.1, due.2)
 due_later V W P None a b (ending.NotBuilt w n) p wider risen reads due = tt
+due_later V W P None a b (ending.BadLine n) p wider risen reads due = tt
 due_later V W P (Some held) a b (ending.NotBuilt w n) p wider risen reads due = (due.0, wider held due.0 p due.1, due.2)
+due_later V W P (Some held) a b (ending.BadLine n) p wider risen reads due = (due.0, wider held due.0 p due.1, due.2)
 
 -- where reading ended, nothing is written
 pub reading_writes : (V : FileMap → Verdict → Type 0) (told : Option FileMap) (e : Ending) (t : Option (List ℕ)) (f : ℕ)
@@ -48,6 +50,7 @@ reading_writes V told (ending.Missing w) t f reads = record { told = refl; fault
 reading_writes V told (ending.TooLong w) t f reads = record { told = refl; faults = refl }
 reading_writes V told (ending.NotBuilt named.Conf n) t f reads = record { told = refl; faults = refl }
 reading_writes V told (ending.NotBuilt named.Schedule n) t f reads = record { told = refl; faults = refl }
+reading_writes V told (ending.BadLine n) t f reads = record { told = refl; faults = refl }
 
 -- the files hold the site and the schedule
 pub of_files : (conf schedule body : List ℕ) (lines : List SchedLine) (told : Option FileMap) → IfSome told (λ held. HasSite held conf body)
@@ -97,6 +100,7 @@ history_works V body lines told a (ending.Missing w) t t' h runs run writes = ab
 history_works V body lines told a (ending.TooLong w) t t' h runs run writes = absurd writes
 history_works V body lines told a (ending.Unreadable w) t t' h runs run writes = absurd writes
 history_works V body lines told a (ending.NotBuilt w n) t t' h runs run writes = absurd writes
+history_works V body lines told a (ending.BadLine n) t t' h runs run writes = absurd writes
 
 pub run_works : (V : FileMap → Verdict → Type 0) (body : List ℕ) (lines : List SchedLine) (told : Option FileMap) (a : Faults) (e : Ending) (t t' : Option (List ℕ))
     → IfSome told (λ held. V held (Runs body lines)) → WritesRun body lines e t a.out_before t' a.out_after → Work V told a e t t'

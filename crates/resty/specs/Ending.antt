@@ -28,6 +28,7 @@ status_of (ending.TooLong which) = status.ReadFault
 status_of (ending.Unreadable which) = status.ReadFault
 status_of (ending.NotBuilt named.Conf line) = status.Conf
 status_of (ending.NotBuilt named.Schedule line) = status.Schedule
+status_of (ending.BadLine line) = status.Schedule
 status_of ending.NotWritten = status.WriteFault
 status_of ending.Memory = status.Memory
 
@@ -40,6 +41,7 @@ line_of conf schedule (ending.TooLong which) = codes "resty: " ++ name_of conf s
 line_of conf schedule (ending.Unreadable which) = codes "resty: cannot read " ++ name_of conf schedule which ++ codes "\n"
 line_of conf schedule (ending.NotBuilt which line) =
     codes "resty: " ++ name_of conf schedule which ++ codes ": line " ++ decimal line ++ codes ": not built yet\n"
+line_of conf schedule (ending.BadLine line) = codes "resty: " ++ schedule ++ codes ": line " ++ decimal line ++ codes ": not a schedule line\n"
 line_of conf schedule ending.NotWritten = codes "resty: cannot write\n"
 line_of conf schedule ending.Memory = codes "resty: out of memory\n"
 

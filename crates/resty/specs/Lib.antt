@@ -1,4 +1,7 @@
+pub mod Asking
+pub mod Built
 pub mod Ending
+pub mod Form
 pub mod Reading
 pub mod Run
 pub mod Serving

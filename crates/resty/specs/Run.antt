@@ -4,7 +4,7 @@ use Rattle.std.specs.List.{list_any}
 use Rattle.resty_world.specs.declared.entry.Entry.{Entry}
 use Rattle.resty_world.specs.declared.entry.Entry.TheVariants as entry
 use Rattle.resty_world.specs.declared.schedule_line.SchedLine.{SchedLine}
-use Rattle.schedule.specs.Built.{IsBuilt}
+use Rattle.resty.specs.Built.{IsBuilt}
 use Rattle.schedule.specs.Told.{IsTold}
 use Rattle.strand_contract.specs.Actions.{GlobalAction}
 use Rattle.strand_contract.specs.Behaviors.{Behavior}
@@ -13,7 +13,7 @@ use Rattle.strand_contract.specs.Order.{IsOrdered}
 use Rattle.engine.specs.Right.{IsStopped}
 
 -- The history of a run of these lines: it is that of one execution, which is lawful, kept, plain and ordered, it tells the
--- lines, and Stop was given last. Its entries are all built, so no other history of built entries has its text.
+-- lines, and Stop was given last. Its entries are all built.
 pub record IsRun {J : Type 0} (b : Behavior J) (lines : List SchedLine) (h : List Entry) : Type 0 where
   pub execution : List (GlobalAction J)
   pub history : h ≡ external b execution

@@ -3,12 +3,13 @@ use Rattle.std.specs.Prelude.{◌≡◌, ℕ, ◌<◌, ◌≤◌, List, length, 
 use Rattle.resty_base.specs.Counting.{Rose}
 use Rattle.resty_base.specs.FileMap.{FileMap}
 use Rattle.resty_world.specs.declared.schedule_line.SchedLine.{SchedLine}
-use Rattle.schedule.specs.Accepted.{IsRead, IsRefusedAt}
+use Rattle.schedule_text.specs.Accepted.{IsRead, IsRefusedAt}
 use Rattle.strand.specs.Configuration.{IsSite, IsFaultAt}
 use Rattle.resty.specs.declared.endings.Named.{Named}
 use Rattle.resty.specs.declared.endings.Named.TheVariants as named
 use Rattle.resty.specs.declared.endings.Ending.{Ending}
 use Rattle.resty.specs.declared.endings.Ending.TheVariants as ending
+use Rattle.resty.specs.Form.{IsServed, IsUnserved}
 use Rattle.resty.specs.Words.{Names, IsForm}
 
 -- how many bytes a configuration and a schedule may have
@@ -33,19 +34,21 @@ pub record HasSite (files : FileMap) (name body : List ℕ) : Type 0 where
   pub holds : Holds files name (most_of named.Conf) text
   pub accepted : IsSite text body
 
--- the file is a schedule of these lines
+-- the file is a schedule of these lines, which are of the form that is served
 pub record HasSchedule (files : FileMap) (name : List ℕ) (lines : List SchedLine) : Type 0 where
   pub text : List ℕ
   pub holds : Holds files name (most_of named.Schedule) text
   pub accepted : IsRead text lines
+  pub served : IsServed lines
 
 -- the words aren't a command; or a file is refused: it is missing or too long, or its line of that number is of no form that
--- is built; or a site and a schedule run
+-- is built, or is no line of a schedule; or a site and a schedule run
 pub data Verdict : Type 0 where
   Usage : Verdict
   Missing : Named → Verdict
   TooLong : Named → Verdict
   NotBuilt : Named → ℕ → Verdict
+  BadLine : ℕ → Verdict
   Runs : List ℕ → List SchedLine → Verdict
 
 -- the verdict of two files: the first refusal, where the configuration comes first
@@ -58,6 +61,8 @@ IsOfFiles conf schedule files (Missing named.Schedule) = (body : List ℕ) × Ha
 IsOfFiles conf schedule files (TooLong named.Schedule) =
     (body : List ℕ) × HasSite files conf body × IsTooLong files schedule (most_of named.Schedule)
 IsOfFiles conf schedule files (NotBuilt named.Schedule n) =
+    (body text : List ℕ) × HasSite files conf body × Holds files schedule (most_of named.Schedule) text × IsUnserved text n
+IsOfFiles conf schedule files (BadLine n) =
     (body text : List ℕ) × HasSite files conf body × Holds files schedule (most_of named.Schedule) text × IsRefusedAt text n
 IsOfFiles conf schedule files (Runs body lines) = HasSite files conf body × HasSchedule files schedule lines
 
@@ -72,6 +77,7 @@ ending_of Usage = ending.Usage
 ending_of (Missing which) = ending.Missing which
 ending_of (TooLong which) = ending.TooLong which
 ending_of (NotBuilt which n) = ending.NotBuilt which n
+ending_of (BadLine n) = ending.BadLine n
 ending_of (Runs body lines) = ending.Done
 
 -- how often reading and writing failed, before and after

@@ -3,7 +3,7 @@ use Rattle.std.specs.Prelude.{◌≡◌, ◌⊎◌, ℕ, true, false, List, Opti
 use Rattle.resty_base.specs.FileMap.{FileMap}
 use Rattle.resty_world.specs.declared.entry.Entry.{Entry}
 use Rattle.resty_world.specs.declared.schedule_line.SchedLine.{SchedLine}
-use Rattle.schedule.specs.EntryTexts.{history_text}
+use Rattle.schedule_text.specs.EntryTexts.{history_text}
 use Rattle.strand.specs.declared.strand.NoJob.{NoJob}
 use Rattle.strand.specs.Literal.{literal_behavior}
 use Rattle.resty.specs.declared.endings.Status.{Status}

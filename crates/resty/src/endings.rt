@@ -50,6 +50,8 @@ pub enum Ending {
     Unreadable(Named),
     /// This line of the file is of no form that is built yet; lines are numbered from 1.
     NotBuilt(Named, u64),
+    /// This line of the schedule is no line of a schedule; lines are numbered from 1.
+    BadLine(u64),
     NotWritten,
     /// Want of memory.
     Memory,
@@ -65,7 +67,7 @@ impl Ending {
             Ending::Usage => Status::Usage,
             Ending::Missing(_) | Ending::TooLong(_) | Ending::Unreadable(_) => Status::ReadFault,
             Ending::NotBuilt(Named::Conf, _) => Status::Conf,
-            Ending::NotBuilt(Named::Schedule, _) => Status::Schedule,
+            Ending::NotBuilt(Named::Schedule, _) | Ending::BadLine(_) => Status::Schedule,
             Ending::NotWritten => Status::WriteFault,
             Ending::Memory => Status::Memory,
         }

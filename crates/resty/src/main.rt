@@ -3,6 +3,7 @@
 
 mod command;
 mod endings;
+mod form;
 pub mod laws;
 mod messages;
 mod reading;

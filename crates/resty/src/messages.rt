@@ -48,6 +48,17 @@ pub fn put_line<E: Sink>(
                 b": not built yet\n",
             )
         }
+        Ending::BadLine(line) => {
+            let mut buffer = Buffer::new();
+            put_five(
+                err,
+                b"resty: ",
+                names.schedule.as_bytes(),
+                b": line ",
+                buffer.format(line).as_bytes(),
+                b": not a schedule line\n",
+            )
+        }
         Ending::NotWritten => put_whole(err, b"resty: cannot write\n"),
         Ending::Memory => put_out_of_memory(err),
     }

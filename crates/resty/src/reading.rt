@@ -1,12 +1,13 @@
 ghost use Rattle.std.specs.Prelude.{◌≡◌, ◌≤◌, ℕ, List, IfSome, IfOk, IfErr, OnOk, length};
 ghost use Rattle.resty_base.specs.FileMap.{FileMap};
-ghost use Rattle.schedule.specs.Fitting.{IsSchedule};
+ghost use Rattle.resty.specs.Form.{IsServed};
 ghost use Rattle.resty.specs.Reading.{IsUnread, EndsReading};
 ghost use Rattle.resty.specs.Verdict.{Holds, HasSite, HasSchedule, IsOfFiles, IsDue, most_of};
 ghost use Rattle.resty.specs.Words.{name_of};
 
 use crate::command::FileNames;
 use crate::endings::{Ending, Named};
+use crate::form::first_unserved;
 use resty_base::{Bytes, Fetched, Files};
 use schedule::{SchedFault, Schedule, schedule_of};
 use std::alloc::Global;
@@ -75,7 +76,7 @@ pub fn read_schedule<F: Files>(
     names: &FileNames<'_>,
 ) -> Result<Schedule, Ending>
     ensures schedule { IfOk result (λ lines. IfSome (F.told files.old) (λ held. HasSchedule held names.now.schedule.now lines)) }
-    ensures made { IfOk result IsSchedule }
+    ensures served { IfOk result IsServed }
     ensures few { IfOk result (λ lines. length lines ≤ 67_108_864) }
     ensures due { IfErr result (IsDue (λ held v. (conf body : List ℕ) → HasSite held conf body → IsOfFiles conf names.now.schedule.now held v) (F.told files.old)
         (record { files_before = F.faults files.old; files_after = F.faults files.new; out_before = 0; out_after = 0 })) }
@@ -88,9 +89,12 @@ pub fn read_schedule<F: Files>(
         Err(ending) => return Err(ending),
     };
     match schedule_of(alloc, text.as_slice()) {
-        Ok(schedule) => Ok(schedule),
-        Err(SchedFault::NotYet(line)) => Err(Ending::NotBuilt(Named::Schedule, line)),
-        Err(SchedFault::BadLine(_)) => unreachable!(),
+        Ok(schedule) => match first_unserved(alloc, &schedule) {
+            Ok(None) => Ok(schedule),
+            Ok(Some(line)) => Err(Ending::NotBuilt(Named::Schedule, line)),
+            Err(_) => Err(Ending::Memory),
+        },
+        Err(SchedFault::BadLine(line)) => Err(Ending::BadLine(line)),
         Err(SchedFault::Memory) => Err(Ending::Memory),
     }
 }

@@ -1,5 +1,5 @@
 ghost use Rattle.std.specs.Prelude.{◌≡◌, ◌≤◌, length, IfOk};
-ghost use Rattle.schedule.specs.Fitting.{IsSchedule};
+ghost use Rattle.resty.specs.Form.{IsServed};
 ghost use Rattle.resty.specs.Run.{IsRun};
 ghost use Rattle.strand.specs.declared.strand.NoJob.{NoJob};
 ghost use Rattle.strand.specs.Literal.{literal_behavior};
@@ -15,7 +15,7 @@ const EVENTS: u64 = 900_000_000_000_000_000;
 
 /// The world of this schedule, once the strands of the site have served it up to Stop.
 pub fn replayed(alloc: Global, site: Site, schedule: Schedule) -> Result<Replay, AllocError>
-    requires whole { IsSchedule schedule }
+    requires whole { IsServed schedule }
     requires few { length schedule ≤ 67_108_864 }
     ensures { IfOk result (λ world. IsRun {J = NoJob} (literal_behavior site) schedule world.history.entries) }
 {

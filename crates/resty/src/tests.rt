@@ -120,18 +120,23 @@ fn what_is_not_built_is_refused_at_its_line(rt: HostRuntime) -> Result<(), Fail>
         "",
         conf_line,
     );
-    let schedule_line = "resty: t.sched: line 2: not built yet\n";
-    for schedule in [
-        "arrive c1\nended c1\nstop\n",
-        "arrive c1\narrive c3\nstop\n",
-        "arrive c1\n",
+    let unserved = "resty: t.sched: line 2: not built yet\n";
+    let bad = "resty: t.sched: line 2: not a schedule line\n";
+    for (schedule, line) in [
+        ("arrive c1\nended c1\nstop\n", unserved),
+        ("arrive c1\nbytes c1 \"X\"\nstop\n", unserved),
+        ("arrive c1\nmoment 5\nstop\n", unserved),
+        ("moment 1\nfail log\nstop\n", unserved),
+        ("arrive c1\narrive c3\nstop\n", bad),
+        ("arrive c1\n", bad),
+        ("arrive c1\nfrob\n", bad),
     ] {
         expect(
             &rt,
             &replay(rt.alloc(), CONF, schedule)?,
             Status::Schedule,
             "",
-            schedule_line,
+            line,
         );
     }
     Ok(())

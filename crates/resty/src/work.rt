@@ -1,5 +1,5 @@
 ghost use Rattle.std.specs.Prelude.{◌≡◌, ◌≢◌, ◌≤◌, IfSome, length};
-ghost use Rattle.schedule.specs.Fitting.{IsSchedule};
+ghost use Rattle.resty.specs.Form.{IsServed};
 ghost use Rattle.resty.specs.Ending.{status_of};
 ghost use Rattle.resty.specs.Verdict.{HasSite, IsOfFiles, IsDue};
 ghost use Rattle.resty.specs.Writing.{Writes, WritesRun};
@@ -56,7 +56,7 @@ fn work_on<F: Files, O: Sink>(
 
 /// Serves the schedule and writes the history.
 fn serve_and_write<O: Sink>(alloc: Global, site: Site, schedule: Schedule, out: &mut O) -> Ending
-    requires made { IsSchedule schedule }
+    requires served { IsServed schedule }
     requires few { length schedule ≤ 67_108_864 }
     ensures { WritesRun site schedule result (O.told out.old) (O.faults out.old) (O.told out.new) (O.faults out.new) }
 {

@@ -6,3 +6,4 @@ mod Run
 mod Seen
 mod Spoiled
 mod Texts
+mod Untold

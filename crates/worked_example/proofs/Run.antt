@@ -1,6 +1,9 @@
 -- The exchange is a run.
-use Rattle.std.proofs.Common.{◌≡◌, inl, ℕ, true, false, List, [], ◌∷◌, All, refl, sym, ap, subst, lit<, arith}
+use Rattle.std.proofs.Common.{◌≡◌, inl, ℕ, true, false, List, [], ◌∷◌, length, refl, sym, ap, subst, lit<}
+use Rattle.resty_base.specs.declared.names.Id.TheVariants as id
 use Rattle.resty_base.specs.declared.names.StrandId.{StrandId}
+use Rattle.resty_world.specs.declared.event.Event.TheVariants as event
+use Rattle.resty_world.specs.declared.entry.Entry.TheVariants as entry
 use Rattle.resty_world.specs.declared.schedule_line.SchedLine.TheVariants as line
 use Rattle.resty_world.specs.Ids.{same_strand}
 use Rattle.strand_contract.specs.declared.turns.Place.{Place}
@@ -11,6 +14,7 @@ use Rattle.strand_contract.specs.Actions.{Moment, Began, Came, Ran, Offered, Put
 use Rattle.strand_contract.specs.Alone.{lives, is_open, waiting, to_offer, HasNoWork, IsOfferedAt, IsBetween, IsExecution, IsQuiescent}
 use Rattle.strand_contract.specs.Executions.{projection, AllQuiescent, IsLawful, offered_lengths}
 use Rattle.strand_contract.specs.Order.{all_readied, all_placed, only, IsSubsequence, none, keep, IsOrdered, IsFirstWaiting, HasThreads, HasPlaces, TurnsInOrder, NoneUnderWay}
+use Rattle.schedule.specs.Steps.{Passed, Answered}
 use Rattle.schedule.specs.Told.{IsTold}
 use Rattle.strand.specs.declared.strand.NoJob.{NoJob}
 use Rattle.strand.specs.Dates.{date_of, year_of, month_of}
@@ -149,25 +153,15 @@ ordered = record {
   );
 }
 
-nothing : {A : Type 0} (P : A → Type 0) → All P []
-nothing P = λ k d h. absurd (omega arith)
-
 pub told : IsTold lines history (offered_lengths (literal_behavior hi) exchange)
 unfolding date_of year_of month_of
-told = (
-  line.Given at_second_1_event ∷ line.Given arrives ∷ line.Given asks ∷ [],
-  record { over = []; whole = refl; skipped = nothing _; due = refl },
-  (
-    [],
-    refl,
-    (
-      line.Given at_second_1_event ∷ line.Given arrives ∷ [],
-      record { over = []; whole = refl; skipped = nothing _; due = refl },
-      (
-        line.Given at_second_1_event ∷ [],
-        record { over = []; whole = refl; skipped = nothing _; due = refl },
-        ([], record { over = []; whole = refl; skipped = nothing _; due = refl }, (refl, refl)),
-      ),
-    ),
-  ),
-)
+told = record {
+  steps =
+      Passed (line.Given event.Stop) ∷ Answered (entry.Close (id.Conn 1)) 0 ∷ Answered (entry.Put (id.Conn 1) hi_reply) (length hi_reply)
+      ∷ Passed (line.Given asks) ∷ Passed (line.Given arrives) ∷ Passed (line.Given at_second_1_event) ∷ [];
+  behind = [];
+  steps_right = ((((((tt, refl), refl), refl), (refl, refl, refl)), (tt, tt, refl)), refl);
+  steps_lines = refl;
+  steps_history = refl;
+  steps_offers = refl;
+}

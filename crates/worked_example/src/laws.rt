@@ -1,8 +1,8 @@
 //! Each law is the contract of a function that does nothing.
 
 ghost use Rattle.std.specs.Prelude.{◌≡◌, ℕ, List, codes};
-ghost use Rattle.schedule.specs.EntryTexts.{history_text};
-ghost use Rattle.schedule.specs.Accepted.{IsRead};
+ghost use Rattle.schedule_text.specs.EntryTexts.{history_text};
+ghost use Rattle.schedule_text.specs.Accepted.{IsRead};
 ghost use Rattle.schedule.specs.Told.{IsTold};
 ghost use Rattle.strand_contract.specs.Executions.{external, offered_lengths, IsLawful, IsKept, IsPlain};
 ghost use Rattle.strand_contract.specs.Order.{IsOrdered};

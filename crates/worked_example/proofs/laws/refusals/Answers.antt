@@ -1,6 +1,10 @@
 use Rattle.worked_example.proofs.Ordered.{unordered}
 use Rattle.worked_example.proofs.Plain.{unplain}
+use Rattle.worked_example.proofs.Untold.{untold}
 use Rattle.worked_example.proofs.laws.refusals.Goals as goal
+
+pub returns-clause-not_told : goal.returns-clause-not_told
+returns-clause-not_told c = untold
 
 pub returns-clause-not_plain : goal.returns-clause-not_plain
 returns-clause-not_plain c = unplain
