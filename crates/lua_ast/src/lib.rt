@@ -12,6 +12,3 @@ pub use heights::height;
 pub use programs::{Capture, Function, Program};
 pub use statements::{Arm, Stmt, StmtKind};
 pub use whole_programs::is_whole;
-
-#[cfg(test)]
-mod tests;

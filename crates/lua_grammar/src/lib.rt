@@ -11,6 +11,3 @@ pub use laws::{
     unary_operators_group,
 };
 pub use operators::{Operator, left_level, level, operator_of, right_level};
-
-#[cfg(test)]
-mod tests;

@@ -1,6 +1,6 @@
 pub mod Steps
 pub mod Bodies
-pub mod Capped
+pub mod Numbers
 pub mod Closings
 pub mod Fronts
 pub mod Listing

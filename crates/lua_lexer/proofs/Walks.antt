@@ -1,27 +1,27 @@
 -- The search for a block's end goes over a piece of the text before the end, and knows its braces.
 use Rattle.std.proofs.Common.{◌≡◌, ℕ, suc, ◌+◌, ◌<◌, ◌≤◌, Bool, true, false, cond, List, [], ◌∷◌, ◌++◌, length, get_or, drop, take, Option, Some, None, Result, Ok, Err, ◌⊎◌, inl, inr, ⊎_elim, refl, ap, sym, subst, ◌∙◌, arith, lit<}
 use Rattle.std.proofs.Math.ListN.{get_or-append}
-use Rattle.std.specs.Prelude.{pos}
-use Rattle.std.specs.Str.Parse.{digits_value}
-use Rattle.std.specs.Prelude.{◌==◌, ◌&&◌, ◌||◌, nat_le, option_map, ok_or, unwrap_or}
+use Rattle.std.specs.Prelude.{◌==◌, ◌&&◌, ◌||◌, ℤ, option_map, ok_or, unwrap_or}
 use Rattle.std.specs.List.{prefix_len}
 use Rattle.std.specs.Char.{is_ascii_digit, is_ascii_hexdigit}
 use Rattle.std.proofs.lemmas.Bool.{eqb-true}
 use Rattle.std.proofs.lemmas.Bool.Decides.{nat_tests}
-use Rattle.std.proofs.lemmas.List.{drop-append-le}
+use Rattle.std.proofs.lemmas.List.{drop-append-le, length-take-le}
+use Rattle.std.proofs.lemmas.List.Folds.{length-prefix_len}
 use Rattle.std.proofs.lemmas.List.Sums.{prefix_len-le-length}
+use Rattle.lua_numbers.specs.NumberText.{number_in}
 use Rattle.lua_lexer.specs.declared.words.Word.{Word}
 use Rattle.lua_lexer.specs.declared.tokens.LexFault.{LexFault}
 use Rattle.lua_lexer.specs.declared.tokens.LexFault.TheVariants.{BadByte, Fraction, Range, OpenString}
 use Rattle.lua_lexer.specs.declared.tokens.Piece.{Piece}
 use Rattle.lua_lexer.specs.declared.tokens.TokenKind.{TokenKind}
-use Rattle.lua_lexer.specs.declared.tokens.TokenKind.TheVariants.{Name, Text, Number, Word as WordKind}
+use Rattle.lua_lexer.specs.declared.tokens.TokenKind.TheVariants.{Name, Text, Word as WordKind}
 use Rattle.lua_lexer.specs.Characters.{is_blank, is_word_start, is_word_byte}
 use Rattle.lua_lexer.specs.Readings.{◌>>=◌}
 use Rattle.lua_lexer.specs.Brackets.{opens, is_bracket, inside_len, long_size}
 use Rattle.lua_lexer.specs.Comments.{is_comment}
 use Rattle.lua_lexer.specs.Strings.{is_quote, body_len, decoded, short_string, long_string, long_string_of}
-use Rattle.lua_lexer.specs.Numerals.{number_of, decimal, hexadecimal, numeral, is_fraction_mark}
+use Rattle.lua_lexer.specs.Numerals.{number_piece, number_of, decimal, hexadecimal, numeral, is_fraction_mark}
 use Rattle.lua_lexer.specs.Words.{word_of, kind_of_word, name_or_word}
 use Rattle.lua_lexer.specs.Blocks.{short_string_size, stretch, depth_behind, closing_behind}
 use Rattle.lua_lexer.specs.Balance.{braces_behind}
@@ -187,14 +187,13 @@ pub record IsBare (found : Piece) (size : ℕ) : Type 0 where
   pub sized : found.size ≡ size
   pub plain : (depth : ℕ) → braces_with depth found.kind ≡ Some depth
 
-number_read : (line radix size : ℕ) (digits : List ℕ) (found : Piece) → number_of line radix size digits ≡ Ok found → IsBare found size
+number_read : (line : ℕ) (text : List ℕ) (found : Piece) → number_of line text ≡ Ok found → IsBare found (length text)
 unfolding number_of
-number_read line radix size digits found reads =
-    let number : Piece = record { kind = Some (Number (pos (digits_value radix digits))); size = size } in
-    ⊎_elim
-    (λ fits. subst (λ f. IsBare f size) (ok_same number found fits.1) (record { sized = refl; plain = λ depth. refl }))
-    (λ wide. absurd (err_ok (Range line) found wide.1))
-    (chosen (nat_le (digits_value radix digits) 99_999_999_999_999) (Ok number) (Err (Range line)) found reads)
+number_read line text found reads = by (length text) (number_in text) reads
+  where
+    by : (n : ℕ) (read : Option ℤ) → ok_or (option_map (number_piece n) read) (Range line) ≡ Ok found → IsBare found n
+    by n (Some number) same = subst (λ f. IsBare f n) (ok_same (number_piece n number) found same) (record { sized = refl; plain = λ depth. refl })
+    by n None same = absurd (err_ok (Range line) found same)
 
 pub walks_sized : (depth place size : ℕ) (ys zs : List ℕ) (found : Piece) → IsBare found size → Walks depth place ys zs found.kind size
     → Walks depth place ys zs found.kind found.size
@@ -206,14 +205,14 @@ unfolding decimal
 walks_decimal line depth place ys zs found some is reads =
     let size = prefix_len is_ascii_digit ys in
     let next = get_or ys size 0 in
-    let number = number_of line 10 size (take size ys) in
+    let number = number_of line (take size ys) in
     ⊎_elim
     (λ fraction. absurd (err_ok (Fraction line) found fraction.1))
     (λ whole.
     ⊎_elim
     (λ word. absurd (err_ok (BadByte line) found word.1))
     (λ ends.
-    let bare = number_read line 10 size (take size ys) found ends.1 in
+    let bare = subst (IsBare found) (length-prefix_len is_ascii_digit ys) (number_read line (take size ys) found ends.1) in
     walks_sized depth place size ys zs found bare
     (walks_run is_ascii_digit plain_digit depth place ys zs found.kind some is (bare.plain depth)))
     (chosen (is_word_byte next) (Err (BadByte line)) number found whole.1))
@@ -238,7 +237,7 @@ walks_hexadecimal line depth place (c ∷ d ∷ ds) zs found zero_is x_is reads 
     ⊎_elim
     (λ wrong. absurd (err_ok (BadByte line) found wrong.1))
     (λ right.
-    let bare = number_read line 16 (n + 2) (take n ds) found right.1 in
+    let bare = subst (IsBare found) (length-take-le (n + 2) (c ∷ d ∷ ds) (omega arith)) (number_read line (take (n + 2) (c ∷ d ∷ ds)) found right.1) in
     walks_sized depth place (n + 2) (c ∷ d ∷ ds) zs found bare (record {
       some = omega arith;
       within = omega arith;
@@ -250,7 +249,7 @@ walks_hexadecimal line depth place (c ∷ d ∷ ds) zs found zero_is x_is reads 
           ∙ ap (λ k. closing_behind 0 depth k (drop n ds ++ 125 ∷ zs)) at);
       braces = bare.plain depth;
     }))
-    (chosen (n == 0 || is_word_byte (get_or ds n 0)) (Err (BadByte line)) (number_of line 16 (n + 2) (take n ds)) found reads)
+    (chosen (n == 0 || is_word_byte (get_or (c ∷ d ∷ ds) (n + 2) 0)) (Err (BadByte line)) (number_of line (take (n + 2) (c ∷ d ∷ ds))) found reads)
 
 pub walks_numeral : (line depth place : ℕ) (ys zs : List ℕ) (found : Piece) → 0 < length ys → is_ascii_digit (get_or ys 0 0) ≡ true
     → numeral line ys ≡ Ok found → Walks depth place ys zs found.kind found.size

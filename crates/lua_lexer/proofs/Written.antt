@@ -1,24 +1,28 @@
 -- What is written of a token is the piece that it was.
 use Rattle.std.proofs.Common.{◌≡◌, ℕ, suc, ◌+◌, ◌<◌, ◌≤◌, Bool, true, false, cond, List, [], ◌∷◌, ◌++◌, length, get_or, take, Option, Some, None, Result, Ok, Err, refl, ap, ◌∙◌, arith, lit<, length-append}
-use Rattle.std.specs.Prelude.{◌==◌, ◌&&◌, ◌^◌, pos, nat_le, decimal as in_decimal}
+use Rattle.std.specs.Prelude.{◌==◌, ◌&&◌, ◌^◌, pos, option_map, ok_or, decimal as in_decimal}
 use Rattle.std.specs.Char.{digit_value, is_ascii_digit}
-use Rattle.std.specs.Str.Parse.{digits_value, AllDigits}
+use Rattle.std.specs.Str.Parse.{AllDigits}
 use Rattle.std.proofs.lemmas.Bool.Decides.{nat_tests}
 use Rattle.std.proofs.lemmas.Fmt.{decimal_is_IsNumeral}
 use Rattle.std.proofs.lemmas.Str.Parse.{digit_from_value}
 use Rattle.std.specs.List.{prefix_len}
 use Rattle.std.proofs.Math.Seq.{take-append_seam, drop-append_seam, get_or-append_seam}
+use Rattle.std.proofs.lemmas.Int.{ints}
+use Rattle.lua_numbers.specs.NumberText.{number_in}
+use Rattle.lua_numbers.proofs.ReadBack.{read_back}
 use Rattle.lua_lexer.specs.declared.signs.Sign.{Sign}
 use Rattle.lua_lexer.specs.declared.signs.Sign.TheVariants.{Plus, Minus, Star, Slash, Percent, Caret, Hash, Equal, NotEqual, LessEqual, GreaterEqual, Less, Greater, Assign, OpenParenthesis, CloseParenthesis, OpenBrace, CloseBrace, OpenBracket, CloseBracket, Semicolon, Colon, Comma, Dot, Concat, Ellipsis}
 use Rattle.lua_lexer.specs.declared.words.Word.{Word}
 use Rattle.lua_lexer.specs.declared.words.Word.TheVariants.{And, Break, Do, Else, ElseIf, End, False, For, Function, If, In, Local, Nil, Not, Or, Repeat, Return, Then, True, Until, While}
 use Rattle.lua_lexer.specs.declared.tokens.LexFault.{LexFault}
+use Rattle.lua_lexer.specs.declared.tokens.LexFault.TheVariants.{Range}
 use Rattle.lua_lexer.specs.declared.tokens.Piece.{Piece}
 use Rattle.lua_lexer.specs.declared.tokens.Token.{Token}
 use Rattle.lua_lexer.specs.declared.tokens.TokenKind.{TokenKind}
 use Rattle.lua_lexer.specs.declared.tokens.TokenKind.TheVariants.{Name, Text, Number, Word as WordKind, Sign as SignKind}
 use Rattle.lua_lexer.specs.Characters.{is_blank, is_word_start, is_word_byte, line_ends}
-use Rattle.lua_lexer.specs.Numerals.{number_of, decimal, numeral}
+use Rattle.lua_lexer.specs.Numerals.{number_piece, number_of, decimal, numeral}
 use Rattle.lua_lexer.specs.Brackets.{level_of, is_bracket}
 use Rattle.lua_lexer.specs.Comments.{is_comment}
 use Rattle.lua_lexer.specs.Signs.{sign_of_one, sign_of_two, short_sign, longest_sign}
@@ -148,33 +152,36 @@ numeral_decimal : (line : ℕ) (text : List ℕ) → (get_or text 1 0 == 120) �
 unfolding numeral
 numeral_decimal line text other = rw (other, and_false (get_or text 0 0 == 48)) refl
 
-decimal_read : (line n : ℕ) (ds rest : List ℕ) → prefix_len is_ascii_digit (ds ++ 32 ∷ rest) ≡ length ds → digits_value 10 ds ≡ n
-    → nat_le n 99_999_999_999_999 ≡ true
-    → decimal line (ds ++ 32 ∷ rest) ≡ Ok (record { kind = Some (Number (pos n)); size = length ds })
-unfolding decimal number_of
-decimal_read line n ds rest size value within =
-    rw (size, get_or-append_seam ds 32 rest 0, take-append_seam ds (32 ∷ rest), value, within) refl
+number_read : (line n : ℕ) (ds : List ℕ) → number_in ds ≡ Some (pos n) → number_of line ds ≡ Ok (number_piece (length ds) (pos n))
+unfolding number_of
+number_read line n ds worth = ap (λ read. ok_or (option_map (number_piece (length ds)) read) (Range line)) worth
+
+decimal_read : (line n : ℕ) (ds rest : List ℕ) → prefix_len is_ascii_digit (ds ++ 32 ∷ rest) ≡ length ds → number_in ds ≡ Some (pos n)
+    → decimal line (ds ++ 32 ∷ rest) ≡ Ok (number_piece (length ds) (pos n))
+unfolding decimal
+decimal_read line n ds rest size worth =
+    rw (size, get_or-append_seam ds 32 rest 0, take-append_seam ds (32 ∷ rest)) (number_read line n ds worth)
 
 first_digit : (ds rest : List ℕ) → 0 < length ds → AllDigits 10 ds → is_ascii_digit (get_or (ds ++ rest) 0 0) ≡ true
 first_digit [] rest some all = absurd (omega arith)
 first_digit (c ∷ cs) rest some all = digit_of_value c all.0
 
-number_piece : (n : ℕ) → n ≤ 99_999_999_999_999 → IsPiece (Number (pos n)) (in_decimal n)
-number_piece n within line rest =
+number_piece_of : (n : ℕ) → n ≤ 99_999_999_999_999 → IsPiece (Number (pos n)) (in_decimal n)
+number_piece_of n within line rest =
     let fits : n < 2 ^ 64 = omega arith in
     let numeral_is = decimal_is_IsNumeral n fits in
-    let small : nat_le n 99_999_999_999_999 ≡ true = grind (arith, nat_tests) in
+    let worth = read_back (pos n) (omega (arith, ints)) in
     let ds = in_decimal n in
     piece_digit line (ds ++ 32 ∷ rest) (first_digit ds (32 ∷ rest) numeral_is.0.0 numeral_is.0.1)
     ∙ numeral_decimal line (ds ++ 32 ∷ rest) (second_not_x ds rest numeral_is.0.0 numeral_is.0.1)
-    ∙ decimal_read line n ds rest (run_before is_ascii_digit ds (32 ∷ rest) (digits_run ds numeral_is.0.1) refl) numeral_is.1 small
+    ∙ decimal_read line n ds rest (run_before is_ascii_digit ds (32 ∷ rest) (digits_run ds numeral_is.0.1) refl) worth
 
 -- what is written of a token is the piece that it was
 piece_of : (kind : TokenKind) → IsKind kind → IsPiece kind (written kind)
 unfolding written
 piece_of (Name name) is = name_piece name is
 piece_of (Text bytes) is = text_piece bytes is
-piece_of (Number number) is = rw is.1 (number_piece is.0 is.2)
+piece_of (Number number) is = rw is.1 (number_piece_of is.0 is.2)
 piece_of (WordKind word) is = word_piece word
 piece_of (SignKind sign) is = sign_piece_of sign
 

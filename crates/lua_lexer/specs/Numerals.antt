@@ -1,8 +1,8 @@
 -- Numerals (Lua 5.1 manual, 2.1): decimal digits, or `0x` and hexadecimal digits; whole numbers only.
-use Rattle.std.specs.Prelude.{ℕ, ◌+◌, Bool, ◌&&◌, ◌||◌, ◌==◌, nat_le, List, take, drop, slice_index, pos, Some, Result, Ok, Err, if◌then◌else◌}
+use Rattle.std.specs.Prelude.{ℕ, ◌+◌, Bool, ◌&&◌, ◌||◌, ◌==◌, ℤ, List, take, drop, length, slice_index, Some, Result, Err, option_map, ok_or, if◌then◌else◌}
 use Rattle.std.specs.List.{prefix_len}
 use Rattle.std.specs.Char.{is_ascii_digit, is_ascii_hexdigit}
-use Rattle.std.specs.Str.Parse.{digits_value}
+use Rattle.lua_numbers.specs.NumberText.{number_in}
 use Rattle.lua_lexer.specs.declared.tokens.LexFault.{LexFault}
 use Rattle.lua_lexer.specs.declared.tokens.LexFault.TheVariants.{BadByte, Fraction, Range}
 use Rattle.lua_lexer.specs.declared.tokens.TokenKind.TheVariants.{Number}
@@ -10,12 +10,13 @@ use Rattle.lua_lexer.specs.declared.tokens.Piece.{Piece}
 use Rattle.lua_lexer.specs.Characters.{is_word_byte}
 use Rattle.lua_lexer.specs.Ascii.{dot, digit_zero, upper_e, letter_e, letter_x}
 
--- the number that the digits write, within the range of the Lua profile, as a piece of that size
-unfoldable pub number_of : ℕ → ℕ → ℕ → List ℕ → Result Piece LexFault
-number_of line radix size digits =
-    if nat_le (digits_value radix digits) 99_999_999_999_999
-    then Ok (record { kind = Some (Number (pos (digits_value radix digits))); size = size })
-    else Err (Range line)
+-- a number as a piece of that size
+abbrev pub number_piece : ℕ → ℤ → Piece
+number_piece size number = record { kind = Some (Number number); size = size }
+
+-- the number that a whole numeral writes as a text; none is out of the range of the Lua profile
+unfoldable pub number_of : ℕ → List ℕ → Result Piece LexFault
+number_of line text = ok_or (option_map (number_piece (length text)) (number_in text)) (Range line)
 
 -- a point, or a letter that begins an exponent
 abbrev pub is_fraction_mark : ℕ → Bool
@@ -28,15 +29,15 @@ decimal line text =
     let next = slice_index text size in
     if is_fraction_mark next then Err (Fraction line)
     else if is_word_byte next then Err (BadByte line)
-    else number_of line 10 size (take size text)
+    else number_of line (take size text)
 
 -- the longest run of hexadecimal digits behind `0x`, at least one; no other letter may follow
 unfoldable pub hexadecimal : ℕ → List ℕ → Result Piece LexFault
 hexadecimal line text =
-    let behind = drop 2 text in
-    let size = prefix_len is_ascii_hexdigit behind in
-    if size == 0 || is_word_byte (slice_index behind size) then Err (BadByte line)
-    else number_of line 16 (size + 2) (take size behind)
+    let digits = prefix_len is_ascii_hexdigit (drop 2 text) in
+    let size = digits + 2 in
+    if digits == 0 || is_word_byte (slice_index text size) then Err (BadByte line)
+    else number_of line (take size text)
 
 -- the numeral at the front, which begins with a digit
 unfoldable pub numeral : ℕ → List ℕ → Result Piece LexFault

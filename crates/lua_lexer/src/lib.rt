@@ -19,6 +19,3 @@ pub use lexer::lex;
 pub use signs::Sign;
 pub use tokens::{LexFault, Token, TokenKind};
 pub use words::Word;
-
-#[cfg(test)]
-mod tests;

@@ -1,4 +1,5 @@
 ghost use Rattle.std.specs.Prelude.{◌≡◌, ◌≤◌, ◌<◌, ◌+◌, ◌^◌, ◌==◌, ◌||◌, Ok, IfOk, IfSome, IsTrue, length, slice_index};
+ghost use Rattle.std.specs.Char.{is_ascii_digit};
 ghost use Rattle.lua_lexer.specs.Characters.{is_line_byte, line_ends};
 ghost use Rattle.lua_lexer.specs.Brackets.{level_of};
 ghost use Rattle.lua_lexer.specs.Strings.{is_quote, taken_along, body_len, escaped_byte, digits_escape, escape, first_element, decoded, short_string, long_string};
@@ -10,8 +11,8 @@ use crate::brackets::{inside_len, level_of};
 use crate::characters::{
     behind, byte_at, digits, front, is_line_byte, line_end, line_ends, unified,
 };
-use crate::numerals::digits_value;
 use crate::tokens::{Piece, TokenKind};
+use lua_numbers::number_of;
 use resty_base::Bytes;
 use std::alloc::Global;
 
@@ -84,13 +85,14 @@ fn escaped_byte(byte: u8) -> Option<u8>
 }
 
 /// The byte whose number one to three digits write.
-#[tactic(auto, unfolding(crate::specs::Strings::digits_escape))]
+#[tactic(auto, unfolding(crate::specs::Strings::digits_escape), using(crate::proofs::Numbers::escape_number))]
 fn digits_escape(text: &[u8]) -> Option<Element>
+    requires { IsTrue (is_ascii_digit (slice_index text.now 0)) }
     ensures value { result ≡ digits_escape text.now }
     ensures within { IfSome result (λ escaped. escaped.size ≤ length text.now) }
 {
     let size = digits(front(text, text.len().min(3)));
-    let number = digits_value(10, front(text, size));
+    let number = number_of(front(text, size))?.get();
     if number <= 255 {
         Some(Element {
             byte: number as u8,

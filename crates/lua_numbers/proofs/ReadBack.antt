@@ -13,7 +13,7 @@ use Rattle.std.proofs.lemmas.Str.Parse.{digit_from_value}
 use Rattle.std.proofs.lemmas.Bool.Decides.{nat_tests}
 use Rattle.std.proofs.lemmas.Int.{ints}
 use Rattle.resty_base.specs.WholeNumber.{IsWhole}
-use Rattle.lua_numbers.specs.NumberText.{is_blank, behind_blanks, before_blanks, natural_in, integer_in, number_in}
+use Rattle.lua_numbers.specs.NumberText.{is_blank, behind_blanks, before_blanks, numeral_in, natural_in, integer_in, number_in}
 
 -- ---- no blank stands at an end
 
@@ -95,6 +95,11 @@ digits_natural ds n numeral value h =
 
       within : (n : ℕ) → n ≤ 99_999_999_999_999 → nat_le n 99_999_999_999_999 ≡ true
       within n h = grind (arith, nat_tests)
+
+-- digits alone have no blanks, no minus and no prefix
+pub digits_read : (ds : List ℕ) → IsNumeral 10 ds → number_in ds ≡ numeral_in 10 ds
+digits_read ds numeral =
+    ap integer_in (unblanked ds (digits_seen ds numeral.1)) ∙ rw (not_minus ds numeral.0 numeral.1, not_hex ds numeral.1) refl
 
 decimal_natural : (n : ℕ) → n ≤ 99_999_999_999_999 → natural_in (decimal n) ≡ Some (pos n)
 decimal_natural n h =

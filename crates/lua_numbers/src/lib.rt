@@ -9,9 +9,6 @@ mod texts;
 
 pub use arithmetic::{add, div, modulo, mul, neg, sub};
 pub use faults::NumFault;
-pub use laws::text_is_read_back;
+pub use laws::{digits_are_read, text_is_read_back};
 pub use powers::pow;
 pub use texts::{number_of, text_of};
-
-#[cfg(test)]
-mod tests;
