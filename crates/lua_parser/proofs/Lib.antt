@@ -1,4 +1,13 @@
 pub mod Steps
 pub mod Lookups
+pub mod Heights
 pub mod Productions
+pub mod Calls
+pub mod Tables
+pub mod Scoping
+pub mod Names
+pub mod Blocks
+pub mod Loops
+pub mod Assignments
+pub mod Bodies
 pub mod Chunks

@@ -1,70 +1,220 @@
--- What is read of the parts is read of the whole.
-use Rattle.std.proofs.Common.{◌≡◌, ℕ, ◌+◌, ◌-◌, ◌≤◌, max, List, [], ◌∷◌, ◌++◌, refl, sym, ap, subst, arith, ◌∙◌}
+-- What is read of the parts of an expression is read of the whole.
+use Rattle.std.proofs.Common.{◌≡◌, ℕ, ℤ, ◌+◌, ◌-◌, ◌<◌, ◌≤◌, min, max, List, [], ◌∷◌, ◌++◌, drop, Option, Some, None, Result, Ok, Err, IfOk, true, refl, sym, ap, subst, arith, ◌∙◌, lit≤}
 use Rattle.lua_grammar.specs.declared.operators.Operator.{Operator}
+use Rattle.lua_grammar.specs.declared.operators.Operator.TheVariants.{Or, And, Plain}
+use Rattle.lua_ast.specs.declared.expressions.BinOp.TheVariants.{Add, Sub, Mul, Div, Mod, Pow, Concat, Eq, Ne, Lt, Le, Gt, Ge}
 use Rattle.lua_ast.specs.declared.expressions.UnOp.{UnOp}
 use Rattle.lua_ast.specs.declared.expressions.ExprKind as kind
-use Rattle.lua_lexer.specs.declared.tokens.TokenKind.TheVariants.{Name as NameKind, Sign as SignKind}
-use Rattle.lua_lexer.specs.declared.signs.Sign.TheVariants.{OpenParenthesis, CloseParenthesis, OpenBracket, CloseBracket, Comma, Colon, Dot}
+use Rattle.lua_lexer.specs.declared.tokens.TokenKind.TheVariants.{Name as NameKind, Text as TextKind, Number as NumberKind, Word as WordKind, Sign as SignKind}
+use Rattle.lua_lexer.specs.declared.signs.Sign.TheVariants.{OpenParenthesis, CloseParenthesis, OpenBracket, CloseBracket, Comma, Colon, Dot, Ellipsis}
+use Rattle.lua_lexer.specs.declared.words.Word.TheVariants.{Function as FunctionWord, Nil, True, False}
 use Rattle.lua_grammar.specs.Operators.{kind_of, kind_of_unary, level, left_level, right_level}
-use Rattle.lua_grammar.specs.Tree.{Bytes, Exp}
+use Rattle.lua_grammar.specs.Tree.{Bytes, Exp, PrefixExp}
 use Rattle.lua_grammar.specs.Tree as tree
-use Rattle.lua_grammar.specs.Printing.{Lexeme, a_kind, print_exp, print_prefixexp, print_explist}
+use Rattle.lua_grammar.specs.Printing.{Lexeme, lexemes, a_kind, print_exp, print_prefixexp, print_explist}
 use Rattle.lua_grammar.specs.Levels.{levels, height, prefix_height}
-use Rattle.lua_grammar.specs.Scopes.{Scope}
-use Rattle.lua_grammar.specs.Validity.{IsValid, BeginOn, exp_level}
-use Rattle.lua_grammar.specs.Resolution.{Resolves, ResolvesPrefix, ResolvesName, ResolvesArgs, Shared, SharedList, Index, node, binary_kind}
-use Rattle.lua_grammar.specs.Grammar.{first_line}
-use Rattle.lua_ast.specs.declared.expressions.Expr.{Expr}
+use Rattle.lua_grammar.specs.Validity.{IsValid, exp_level}
+use Rattle.lua_grammar.specs.Resolution.{Resolves, ResolvesPrefix, ResolvesName, ResolvesBody, node}
 use Rattle.lua_parser.specs.declared.places.Place.{Place}
 use Rattle.lua_parser.specs.declared.nodes.Built.{Built}
-use Rattle.lua_parser.specs.States.{State, Takes}
-use Rattle.lua_parser.specs.Places.{IsPart}
 use Rattle.lua_parser.specs.declared.nodes.Prefix.{Prefix}
 use Rattle.lua_parser.specs.declared.nodes.Values.{Values}
-use Rattle.lua_parser.specs.declared.nodes.Form.TheVariants.{Variable, Call, Paren}
-use Rattle.lua_parser.specs.Reads.{ReadsExp, ReadsPrefix, ReadsArgs, ReadsList, ReadsTable}
+use Rattle.lua_parser.specs.declared.nodes.Form.TheVariants.{Variable}
+use Rattle.lua_lexer.specs.declared.tokens.Token.{Token}
+use Rattle.lua_parser.specs.declared.cursor.Parser.{Parser}
+use Rattle.lua_parser.specs.declared.expressions.Infix.{Infix}
+use Rattle.lua_parser.specs.States.{State, state, Takes, Advances, SkipsOperator, scope_of}
+use Rattle.lua_parser.specs.Places.{IsPart}
+use Rattle.lua_parser.specs.Nodes.{leaf, IsUnary, IsBinary, IsParen, IsAlone, AddsValue}
+use Rattle.lua_parser.specs.Reads.{ReadsExp, ReadsPrefix, ReadsList, ReadsTable, ReadsBody}
 
-pub binary_read : (at inner : Place) (s m n t : State) (a b r : Built) (op : Operator) (line : ℕ) (x y : Shared) →
+-- a right operand has never to be of a higher level than a unary operator's
+pub right_low : (op : Operator) → right_level op ≤ 7
+right_low Or = lit≤ tt
+right_low And = lit≤ tt
+right_low (Plain Add) = lit≤ tt
+right_low (Plain Sub) = lit≤ tt
+right_low (Plain Mul) = lit≤ tt
+right_low (Plain Div) = lit≤ tt
+right_low (Plain Mod) = lit≤ tt
+right_low (Plain Pow) = lit≤ tt
+right_low (Plain Concat) = lit≤ tt
+right_low (Plain Eq) = lit≤ tt
+right_low (Plain Ne) = lit≤ tt
+right_low (Plain Lt) = lit≤ tt
+right_low (Plain Le) = lit≤ tt
+right_low (Plain Gt) = lit≤ tt
+right_low (Plain Ge) = lit≤ tt
+
+pub right_fits : (op : Operator) (n : ℕ) → min (right_level op) 7 ≤ n → right_level op ≤ n
+right_fits op n h = let l = right_low op in omega (arith, l, h)
+
+pub advances_on : (tokens : List Token) (p q u : Parser) → Advances tokens p q → Advances tokens q u → Advances tokens p u
+advances_on tokens p q u first then = record {
+  forward = let f = first.forward in let g = then.forward in omega (arith, f, g);
+  within = then.within;
+}
+
+-- where no operator is read, nothing is
+pub operator_none : (found : Option Infix) (left lowest : ℕ) (s t : State) → SkipsOperator left lowest found s t →
+    ((x : Infix) → found ≡ Some x → ⊥) → t ≡ s
+operator_none (Some x) left lowest s t skips none = absurd (none x refl)
+operator_none None left lowest s t skips none = skips
+
+pub binary_read : (at inner : Place) (s m n t : State) (a b r : Built) (op : Operator) (line : ℕ) →
     ReadsExp at s a m → Takes (kind_of op) line m n → IsPart at inner → ReadsExp inner n b t →
-    left_level op ≤ a.level → right_level op ≤ b.level → r.height ≡ max a.height b.height + 1 → r.height ≤ 4_000 → r.level ≡ level op →
-    x.value ≡ a.expr → y.value ≡ b.expr → r.expr ≡ node line (binary_kind op x y) → ReadsExp at s r t
+    left_level op ≤ a.level → right_level op ≤ b.level → a.height < at.room → IsBinary a op line b r → ReadsExp at s r t
 unfolding print_exp levels height IsValid Resolves
-binary_read at inner s m n t a b r op line x y ra taken part rb left right high low own ax by is =
+binary_read at inner s m n t a b r op line ra taken part rb left right below is =
     let whole = tree.binary ra.tree op line rb.tree in
+    let room = part.room in
+    let inside = rb.low in
+    let few : max a.height b.height < 4_000 = let most = at.low in omega (arith, room, inside, most, below) in
+    let high = is.higher few in
     let tall : height whole ≡ r.height = rw (ra.high, rb.high) (sym high) in
+    let low : r.height ≤ at.room = omega (arith, high, room, inside, below) in
+    let limit : r.height ≤ 4_000 = let most = at.low in omega (arith, low, most) in
     let ends : IsValid at.rest rb.tree = subst (λ rest. IsValid rest rb.tree) part.rest rb.valid in
-    let first : Resolves ra.tree s.scope x.value m.scope = subst (λ e. Resolves ra.tree s.scope e m.scope) (sym ax) ra.resolved in
-    let then : Resolves rb.tree n.scope y.value t.scope = subst (λ e. Resolves rb.tree n.scope e t.scope) (sym by) rb.resolved in
-    let second : Resolves rb.tree m.scope y.value t.scope = subst (λ z. Resolves rb.tree z y.value t.scope) taken.scope then in
+    let first : Resolves ra.tree s.scope is.left.value m.scope = subst (λ e. Resolves ra.tree s.scope e m.scope) (sym is.same_left) ra.resolved in
+    let then : Resolves rb.tree n.scope is.right.value t.scope = subst (λ e. Resolves rb.tree n.scope e t.scope) (sym is.same_right) rb.resolved in
+    let second : Resolves rb.tree m.scope is.right.value t.scope = subst (λ z. Resolves rb.tree z is.right.value t.scope) taken.scope then in
     record {
       tree = whole;
       printed = ra.printed ∙ ap (print_exp ra.tree) (taken.printed ∙ ap (a_kind (kind_of op) line) rb.printed);
-      valid = (ra.valid, ends, rw ra.precedes left, rw rb.precedes right, rw tall low);
+      valid = (ra.valid, ends, rw ra.precedes left, rw rb.precedes right, rw tall limit);
       deep = let d = ra.deep in let e = rb.deep in let f = part.depth in omega (arith, d, e, f);
-      resolved = (x, y, m.scope, first, second, is);
+      resolved = (is.left, is.right, m.scope, first, second, is.built);
       high = tall;
-      precedes = sym own;
+      low = low;
+      precedes = sym is.own;
     }
 
-pub unary_read : (at inner : Place) (s m t : State) (b r : Built) (op : UnOp) (line : ℕ) (x : Shared) →
-    Takes (kind_of_unary op) line s m → IsPart at inner → ReadsExp inner m b t → 7 ≤ b.level → r.height ≡ b.height + 1 → r.height ≤ 4_000 →
-    r.level ≡ 7 → x.value ≡ b.expr → r.expr ≡ node line (kind.Unary op x) → ReadsExp at s r t
+pub unary_read : (at inner : Place) (s m t : State) (b r : Built) (op : UnOp) (line : ℕ) →
+    Takes (kind_of_unary op) line s m → IsPart at inner → ReadsExp inner m b t → 7 ≤ b.level → IsUnary op line b r → ReadsExp at s r t
 unfolding print_exp levels height IsValid Resolves
-unary_read at inner s m t b r op line x taken part rb tight high low own bx is =
+unary_read at inner s m t b r op line taken part rb tight is =
     let whole = tree.unary op line rb.tree in
+    let room = part.room in
+    let inside = rb.low in
+    let few : b.height < 4_000 = let most = at.low in omega (arith, room, inside, most) in
+    let high = is.higher few in
     let tall : height whole ≡ r.height = rw rb.high (sym high) in
-    let inside : IsValid at.rest rb.tree = subst (λ rest. IsValid rest rb.tree) part.rest rb.valid in
-    let first : Resolves rb.tree m.scope x.value t.scope = subst (λ e. Resolves rb.tree m.scope e t.scope) (sym bx) rb.resolved in
-    let from : Resolves rb.tree s.scope x.value t.scope = subst (λ z. Resolves rb.tree z x.value t.scope) taken.scope first in
+    let low : r.height ≤ at.room = omega (arith, high, room, inside) in
+    let limit : r.height ≤ 4_000 = let most = at.low in omega (arith, low, most) in
+    let ends : IsValid at.rest rb.tree = subst (λ rest. IsValid rest rb.tree) part.rest rb.valid in
+    let first : Resolves rb.tree m.scope is.operand.value t.scope = subst (λ e. Resolves rb.tree m.scope e t.scope) (sym is.same) rb.resolved in
+    let from : Resolves rb.tree s.scope is.operand.value t.scope = subst (λ z. Resolves rb.tree z is.operand.value t.scope) taken.scope first in
     record {
       tree = whole;
       printed = taken.printed ∙ ap (a_kind (kind_of_unary op) line) rb.printed;
-      valid = (inside, rw rb.precedes tight, rw tall low);
+      valid = (ends, rw rb.precedes tight, rw tall limit);
       deep = let e = rb.deep in let f = part.depth in omega (arith, e, f);
-      resolved = (x, from, is);
+      resolved = (is.operand, from, is.built);
       high = tall;
-      precedes = sym own;
+      low = low;
+      precedes = sym is.own;
     }
+
+pub unary_tight : (op : UnOp) (line : ℕ) (a b : Built) → IsUnary op line a b → 7 ≤ b.level
+unary_tight op line a b is = let own = is.own in omega (arith, own)
+
+pub table_tight : (at : Place) (s t : State) (b : Built) → ReadsTable at s b t → 7 ≤ b.level
+table_tight at s t b read = let own = read.own in omega (arith, own)
+
+pub closure_read : (at : Place) (s m t : State) (line number : ℕ) (before : List Bytes) (r : Built) → Takes (WordKind FunctionWord) line s m →
+    ReadsBody at line before m number t → before ≡ [] → r ≡ leaf line (kind.Function number) → ReadsExp at s r t
+unfolding print_exp levels height IsValid Resolves
+closure_read at s m t line number before r taken rb none is =
+    let from : ResolvesBody before line rb.tree s.scope number t.scope = subst (λ z. ResolvesBody before line rb.tree z number t.scope) taken.scope rb.resolved in
+    let alone : ResolvesBody [] line rb.tree s.scope number t.scope = subst (λ those. ResolvesBody those line rb.tree s.scope number t.scope) none from in
+    rw is (record {
+      tree = tree.function line rb.tree;
+      printed = taken.printed ∙ ap (a_kind (WordKind FunctionWord) line) rb.printed;
+      valid = rb.valid;
+      deep = let d = rb.deep in omega (arith, d);
+      resolved = (number, alone, refl);
+      high = refl;
+      low = at.roomy;
+      precedes = refl;
+    })
+
+pub nil_read : (at : Place) (s t : State) (line : ℕ) (r : Built) → Takes (WordKind Nil) line s t → r ≡ leaf line (kind.Nil) → ReadsExp at s r t
+unfolding print_exp levels height IsValid Resolves
+nil_read at s t line r taken is = rw is (record {
+  tree = tree.nil line;
+  printed = taken.printed;
+  valid = tt;
+  deep = let d = at.deep in omega (arith, d);
+  resolved = (refl, taken.scope);
+  high = refl;
+  low = at.roomy;
+  precedes = refl;
+})
+
+pub true_read : (at : Place) (s t : State) (line : ℕ) (r : Built) → Takes (WordKind True) line s t → r ≡ leaf line (kind.True) → ReadsExp at s r t
+unfolding print_exp levels height IsValid Resolves
+true_read at s t line r taken is = rw is (record {
+  tree = tree.true_ line;
+  printed = taken.printed;
+  valid = tt;
+  deep = let d = at.deep in omega (arith, d);
+  resolved = (refl, taken.scope);
+  high = refl;
+  low = at.roomy;
+  precedes = refl;
+})
+
+pub false_read : (at : Place) (s t : State) (line : ℕ) (r : Built) → Takes (WordKind False) line s t → r ≡ leaf line (kind.False) → ReadsExp at s r t
+unfolding print_exp levels height IsValid Resolves
+false_read at s t line r taken is = rw is (record {
+  tree = tree.false_ line;
+  printed = taken.printed;
+  valid = tt;
+  deep = let d = at.deep in omega (arith, d);
+  resolved = (refl, taken.scope);
+  high = refl;
+  low = at.roomy;
+  precedes = refl;
+})
+
+pub number_read : (at : Place) (s t : State) (line : ℕ) (n : ℤ) (r : Built) → Takes (NumberKind n) line s t → r ≡ leaf line (kind.Number n) → ReadsExp at s r t
+unfolding print_exp levels height IsValid Resolves
+number_read at s t line n r taken is = rw is (record {
+  tree = tree.number line n;
+  printed = taken.printed;
+  valid = tt;
+  deep = let d = at.deep in omega (arith, d);
+  resolved = (refl, taken.scope);
+  high = refl;
+  low = at.roomy;
+  precedes = refl;
+})
+
+pub text_read : (at : Place) (s t : State) (line : ℕ) (bytes : Bytes) (r : Built) → Takes (TextKind bytes) line s t → r ≡ leaf line (kind.Text bytes) → ReadsExp at s r t
+unfolding print_exp levels height IsValid Resolves
+text_read at s t line bytes r taken is = rw is (record {
+  tree = tree.string line bytes;
+  printed = taken.printed;
+  valid = tt;
+  deep = let d = at.deep in omega (arith, d);
+  resolved = (refl, taken.scope);
+  high = refl;
+  low = at.roomy;
+  precedes = refl;
+})
+
+pub dots_read : (at : Place) (s t : State) (line : ℕ) (r : Built) → Takes (SignKind Ellipsis) line s t → at.rest ≡ true → r ≡ leaf line (kind.Vararg) → ReadsExp at s r t
+unfolding print_exp levels height IsValid Resolves
+dots_read at s t line r taken rest is = rw is (record {
+  tree = tree.dots line;
+  printed = taken.printed;
+  valid = rest;
+  deep = let d = at.deep in omega (arith, d);
+  resolved = (refl, taken.scope);
+  high = refl;
+  low = at.roomy;
+  precedes = refl;
+})
 
 pub prefix_exp : (at : Place) (s t : State) (p : Prefix) (r : Built) → ReadsPrefix at s p t → r.expr ≡ p.expr → r.height ≡ p.height → r.level ≡ 9 →
     ReadsExp at s r t
@@ -76,6 +226,7 @@ prefix_exp at s t p r rp is high own = record {
   deep = let d = rp.deep in omega (arith, d);
   resolved = subst (λ e. ResolvesPrefix rp.tree s.scope e t.scope) (sym is) rp.resolved;
   high = rp.high ∙ sym high;
+  low = rw high rp.low;
   precedes = sym own;
 }
 
@@ -88,161 +239,78 @@ table_exp at s t b rt = record {
   deep = let d = rt.deep in omega (arith, d);
   resolved = rt.resolved;
   high = rt.high;
-  precedes = sym rt.precedes;
+  low = rt.low;
+  precedes = sym rt.own;
 }
 
-pub list_one : (at : Place) (s t : State) (b : Built) (v : Values) → ReadsExp at s b t → v.exprs.items ≡ b.expr ∷ [] → v.height ≡ b.height →
-    ReadsList at s v t
+pub list_one : (at : Place) (s t : State) (b : Built) (v : Values) → ReadsExp at s b t → IsAlone b v → ReadsList at s v t
 unfolding print_exp levels height IsValid Resolves
-list_one at s t b v rb is high = record {
+list_one at s t b v rb is = record {
   tree = tree.one rb.tree;
   printed = rb.printed;
   valid = rb.valid;
   deep = rb.deep;
-  resolved = (b.expr, rb.resolved, is);
-  high = rb.high ∙ sym high;
+  resolved = (b.expr, rb.resolved, is.exprs);
+  high = rb.high ∙ sym is.height;
+  low = rw is.height rb.low;
 }
 
 pub list_more : (at : Place) (s m n t : State) (v w : Values) (b : Built) (line : ℕ) → ReadsList at s v m → Takes (SignKind Comma) line m n →
-    ReadsExp at n b t → w.exprs.items ≡ v.exprs.items ++ b.expr ∷ [] → w.height ≡ max v.height b.height → ReadsList at s w t
+    ReadsExp at n b t → AddsValue v b w → ReadsList at s w t
 unfolding print_exp levels height IsValid Resolves
-list_more at s m n t v w b line rv taken rb is high =
+list_more at s m n t v w b line rv taken rb is =
     let next : Resolves rb.tree m.scope b.expr t.scope = subst (λ z. Resolves rb.tree z b.expr t.scope) taken.scope rb.resolved in
     record {
       tree = tree.more rv.tree line rb.tree;
       printed = rv.printed ∙ ap (print_explist rv.tree) (taken.printed ∙ ap (a_kind (SignKind Comma) line) rb.printed);
       valid = (rv.valid, rb.valid);
       deep = let d = rv.deep in let e = rb.deep in omega (arith, d, e);
-      resolved = (v.exprs.items, b.expr, m.scope, rv.resolved, next, is);
-      high = rw (rv.high, rb.high) (sym high);
+      resolved = (v.exprs.items, b.expr, m.scope, rv.resolved, next, is.exprs);
+      high = rw (rv.high, rb.high) (sym is.height);
+      low = let d = rv.low in let e = rb.low in let h = is.height in omega (arith, d, e, h);
     }
 
-pub paren_read : (at inner : Place) (s m n t : State) (b : Built) (r : Prefix) (opens closes : ℕ) (x : Shared) →
+pub paren_read : (at inner : Place) (s m n t : State) (b : Built) (r : Prefix) (opens closes : ℕ) →
     Takes (SignKind OpenParenthesis) opens s m → IsPart at inner → ReadsExp inner m b n → Takes (SignKind CloseParenthesis) closes n t →
-    r.height ≡ b.height + 1 → r.height ≤ 4_000 → r.form ≡ Paren → x.value ≡ b.expr → r.expr ≡ node opens (kind.Paren x) → ReadsPrefix at s r t
+    IsParen b opens r → ReadsPrefix at s r t
 unfolding print_exp levels height IsValid Resolves
-paren_read at inner s m n t b r opens closes x taken part rb close high low form bx is =
+paren_read at inner s m n t b r opens closes taken part rb close is =
     let whole = tree.paren opens rb.tree closes in
+    let room = part.room in
+    let inside = rb.low in
+    let few : b.height < 4_000 = let most = at.low in omega (arith, room, inside, most) in
+    let high = is.higher few in
     let tall : prefix_height whole ≡ r.height = rw rb.high (sym high) in
-    let inside : IsValid at.rest rb.tree = subst (λ rest. IsValid rest rb.tree) part.rest rb.valid in
-    let first : Resolves rb.tree m.scope x.value n.scope = subst (λ e. Resolves rb.tree m.scope e n.scope) (sym bx) rb.resolved in
-    let from : Resolves rb.tree s.scope x.value n.scope = subst (λ z. Resolves rb.tree z x.value n.scope) taken.scope first in
-    let behind : Resolves rb.tree s.scope x.value t.scope = subst (λ z. Resolves rb.tree s.scope x.value z) (sym close.scope) from in
+    let low : r.height ≤ at.room = omega (arith, high, room, inside) in
+    let limit : r.height ≤ 4_000 = let most = at.low in omega (arith, low, most) in
+    let within : IsValid at.rest rb.tree = subst (λ rest. IsValid rest rb.tree) part.rest rb.valid in
+    let first : Resolves rb.tree m.scope is.inner.value n.scope = subst (λ e. Resolves rb.tree m.scope e n.scope) (sym is.same) rb.resolved in
+    let from : Resolves rb.tree s.scope is.inner.value n.scope = subst (λ z. Resolves rb.tree z is.inner.value n.scope) taken.scope first in
+    let behind : Resolves rb.tree s.scope is.inner.value t.scope = subst (λ z. Resolves rb.tree s.scope is.inner.value z) (sym close.scope) from in
     record {
       tree = whole;
       printed = taken.printed ∙ ap (a_kind (SignKind OpenParenthesis) opens) (rb.printed ∙ ap (print_exp rb.tree) close.printed);
-      valid = (inside, rw tall low);
+      valid = (within, rw tall limit);
       deep = let e = rb.deep in let f = part.depth in omega (arith, e, f);
-      resolved = (x, behind, is);
+      resolved = (is.inner, behind, is.built);
       high = tall;
-      form = sym form;
+      low = low;
+      form = sym is.form;
       ends = sym close.last;
-      begins = sym (ap first_line taken.printed);
     }
 
-pub name_read : (at : Place) (s m t : State) (r : Prefix) (line : ℕ) (name : Bytes) → Takes (NameKind name) line s m → t.left ≡ m.left → t.last ≡ m.last →
-    ResolvesName line name m.scope r.expr t.scope → r.height ≡ 1 → r.form ≡ Variable → at.depth ≤ 200 → ReadsPrefix at s r t
-unfolding print_exp levels height IsValid Resolves
-name_read at s m t r line name taken left last named high form deep = record {
+pub name_read : (at : Place) (tokens : List Token) (p q u : Parser) (r : Prefix) (line : ℕ) (name : Bytes) →
+    Takes (NameKind name) line (state tokens p) (state tokens q) → u.place ≡ q.place → u.line ≡ q.line →
+    ResolvesName line name (scope_of q) r.expr (scope_of u) → r.height ≡ 1 → r.form ≡ Variable → ReadsPrefix at (state tokens p) r (state tokens u)
+unfolding state print_exp levels height IsValid Resolves
+name_read at tokens p q u r line name taken place last named high form = record {
   tree = tree.variable line name;
-  printed = taken.printed ∙ ap (a_kind (NameKind name) line) (sym left);
+  printed = taken.printed ∙ ap (λ n. a_kind (NameKind name) line (lexemes (drop n tokens))) (sym place);
   valid = tt;
-  deep = omega (arith, deep);
-  resolved = subst (λ z. ResolvesName line name z r.expr t.scope) taken.scope named;
+  deep = let d = at.deep in omega (arith, d);
+  resolved = subst (λ z. ResolvesName line name z r.expr (scope_of u)) taken.scope named;
   high = sym high;
+  low = rw high at.roomy;
   form = sym form;
   ends = sym (last ∙ taken.last);
-  begins = sym (ap first_line taken.printed);
 }
-
-pub item_read : (at inner : Place) (s m n k t : State) (p r : Prefix) (b : Built) (opens closes : ℕ) (x y : Shared) →
-    ReadsPrefix at s p m → Takes (SignKind OpenBracket) opens m n → IsPart at inner → ReadsExp inner n b k → Takes (SignKind CloseBracket) closes k t →
-    r.height ≡ max p.height b.height + 1 → r.height ≤ 4_000 → r.form ≡ Variable → x.value ≡ p.expr → y.value ≡ b.expr →
-    r.expr ≡ node opens (kind.Index x y) → ReadsPrefix at s r t
-unfolding print_exp levels height IsValid Resolves
-item_read at inner s m n k t p r b opens closes x y rp taken part rb close high low form px bx is =
-    let whole = tree.item rp.tree opens rb.tree closes in
-    let tall : prefix_height whole ≡ r.height = rw (rp.high, rb.high) (sym high) in
-    let inside : IsValid at.rest rb.tree = subst (λ rest. IsValid rest rb.tree) part.rest rb.valid in
-    let object : ResolvesPrefix rp.tree s.scope x.value m.scope = subst (λ e. ResolvesPrefix rp.tree s.scope e m.scope) (sym px) rp.resolved in
-    let first : Resolves rb.tree n.scope y.value k.scope = subst (λ e. Resolves rb.tree n.scope e k.scope) (sym bx) rb.resolved in
-    let from : Resolves rb.tree m.scope y.value k.scope = subst (λ z. Resolves rb.tree z y.value k.scope) taken.scope first in
-    let behind : Resolves rb.tree m.scope y.value t.scope = subst (λ z. Resolves rb.tree m.scope y.value z) (sym close.scope) from in
-    record {
-      tree = whole;
-      printed = rp.printed ∙ ap (print_prefixexp rp.tree) (taken.printed ∙ ap (a_kind (SignKind OpenBracket) opens) (rb.printed ∙ ap (print_exp rb.tree) close.printed));
-      valid = (rp.valid, inside, rw tall low);
-      deep = let d = rp.deep in let e = rb.deep in let f = part.depth in omega (arith, d, e, f);
-      resolved = (x, y, m.scope, object, behind, is);
-      high = tall;
-      form = sym form;
-      ends = sym close.last;
-      begins = rp.begins;
-    }
-
-pub member_read : (at : Place) (s m n t : State) (p r : Prefix) (dot line : ℕ) (name : Bytes) (x : Shared) →
-    ReadsPrefix at s p m → Takes (SignKind Dot) dot m n → Takes (NameKind name) line n t → r.height ≡ p.height + 1 → r.height ≤ 4_000 →
-    r.form ≡ Variable → x.value ≡ p.expr → Index dot x line name r.expr → ReadsPrefix at s r t
-unfolding print_exp levels height IsValid Resolves
-member_read at s m n t p r dot line name x rp taken named high low form px is =
-    let whole = tree.member rp.tree dot line name in
-    let tall : prefix_height whole ≡ r.height = rw rp.high (sym high) in
-    let object : ResolvesPrefix rp.tree s.scope x.value m.scope = subst (λ e. ResolvesPrefix rp.tree s.scope e m.scope) (sym px) rp.resolved in
-    let behind : ResolvesPrefix rp.tree s.scope x.value t.scope =
-    subst (λ z. ResolvesPrefix rp.tree s.scope x.value z) (sym (named.scope ∙ taken.scope)) object in
-    record {
-      tree = whole;
-      printed = rp.printed ∙ ap (print_prefixexp rp.tree) (taken.printed ∙ ap (a_kind (SignKind Dot) dot) named.printed);
-      valid = (rp.valid, rw tall low);
-      deep = rp.deep;
-      resolved = (x, behind, is);
-      high = tall;
-      form = sym form;
-      ends = sym named.last;
-      begins = rp.begins;
-    }
-
-pub call_read : (at : Place) (s m t : State) (p r : Prefix) (v : Values) (line : ℕ) (x : Shared) (values : SharedList Expr) →
-    ReadsPrefix at s p m → ReadsArgs at m v t → first_line m.left ≡ line → r.height ≡ max p.height v.height + 1 → r.height ≤ 4_000 →
-    r.form ≡ Call → x.value ≡ p.expr → values.value.items ≡ v.exprs.items → r.expr ≡ node line (kind.Call x values) → ReadsPrefix at s r t
-unfolding print_exp levels height IsValid Resolves
-call_read at s m t p r v line x values rp ra starts high low form px vs is =
-    let whole = tree.call rp.tree ra.tree in
-    let tall : prefix_height whole ≡ r.height = rw (rp.high, ra.high) (sym high) in
-    let object : ResolvesPrefix rp.tree s.scope x.value m.scope = subst (λ e. ResolvesPrefix rp.tree s.scope e m.scope) (sym px) rp.resolved in
-    let given : ResolvesArgs ra.tree m.scope values.value.items t.scope = subst (λ es. ResolvesArgs ra.tree m.scope es t.scope) (sym vs) ra.resolved in
-    record {
-      tree = whole;
-      printed = rp.printed ∙ ap (print_prefixexp rp.tree) ra.printed;
-      valid = (rp.valid, ra.valid, subst (λ l. BeginOn l ra.tree) (sym rp.ends) ra.on_line, rw tall low);
-      deep = let d = rp.deep in let e = ra.deep in omega (arith, d, e);
-      resolved = (x, values, m.scope, object, given, is ∙ ap (λ l. node l (kind.Call x values)) (sym (ra.begins ∙ starts)));
-      high = tall;
-      form = sym form;
-      ends = ra.ends;
-      begins = rp.begins;
-    }
-
-pub method_read : (at : Place) (s m n k t : State) (p r : Prefix) (v : Values) (colon at_name line : ℕ) (name : Bytes) (x : Shared) (values : SharedList Expr) →
-    ReadsPrefix at s p m → Takes (SignKind Colon) colon m n → Takes (NameKind name) at_name n k → ReadsArgs at k v t → first_line k.left ≡ line →
-    r.height ≡ max p.height v.height + 1 → r.height ≤ 4_000 → r.form ≡ Call → x.value ≡ p.expr → values.value.items ≡ v.exprs.items →
-    r.expr ≡ node line (kind.Method x name values) → ReadsPrefix at s r t
-unfolding print_exp levels height IsValid Resolves
-method_read at s m n k t p r v colon at_name line name x values rp taken named ra starts high low form px vs is =
-    let whole = tree.method rp.tree colon at_name name ra.tree in
-    let tall : prefix_height whole ≡ r.height = rw (rp.high, ra.high) (sym high) in
-    let object : ResolvesPrefix rp.tree s.scope x.value m.scope = subst (λ e. ResolvesPrefix rp.tree s.scope e m.scope) (sym px) rp.resolved in
-    let given : ResolvesArgs ra.tree k.scope values.value.items t.scope = subst (λ es. ResolvesArgs ra.tree k.scope es t.scope) (sym vs) ra.resolved in
-    let from : ResolvesArgs ra.tree m.scope values.value.items t.scope =
-    subst (λ z. ResolvesArgs ra.tree z values.value.items t.scope) (named.scope ∙ taken.scope) given in
-    record {
-      tree = whole;
-      printed = rp.printed ∙ ap (print_prefixexp rp.tree) (taken.printed ∙ ap (a_kind (SignKind Colon) colon) (named.printed ∙ ap (a_kind (NameKind name) at_name) ra.printed));
-      valid = (rp.valid, ra.valid, subst (λ l. BeginOn l ra.tree) named.last ra.on_line, rw tall low);
-      deep = let d = rp.deep in let e = ra.deep in omega (arith, d, e);
-      resolved = (x, values, m.scope, object, from, is ∙ ap (λ l. node l (kind.Method x name values)) (sym (ra.begins ∙ starts)));
-      high = tall;
-      form = sym form;
-      ends = ra.ends;
-      begins = rp.begins;
-    }

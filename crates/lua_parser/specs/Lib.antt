@@ -1,5 +1,9 @@
 pub mod Frames
 pub mod Places
 pub mod States
+pub mod Nodes
 pub mod Reads
-pub mod Chunks
+pub mod ReadsNames
+pub mod ReadsStatements
+pub mod Functions
+pub mod StatementNodes

@@ -1,25 +1,23 @@
 -- What is read between two states: a tree of a production, which prints to the tokens between them, is valid, and resolves
 -- in the scope before to a part of the program and the scope behind.
-use Rattle.std.specs.Prelude.{◌≡◌, ℕ, ◌+◌, ◌≤◌, List, [], ◌∷◌, map}
-use Rattle.lua_ast.specs.declared.expressions.Expr.{Expr}
-use Rattle.lua_ast.specs.declared.statements.Stmt.{Stmt}
-use Rattle.lua_ast.specs.declared.statements.Arm.{Arm}
-use Rattle.lua_grammar.specs.Tree.{Exp, PrefixExp, Args, ExpList, Table, Fields, Field, FuncBody, Block, Stats, Stat, Arms, LastStat, VarList, NameList, Params}
+use Rattle.std.specs.Prelude.{◌≡◌, ℕ, ◌+◌, ◌-◌, ◌<◌, ◌≤◌, max, List}
+use Rattle.lua_grammar.specs.Tree.{Line, Bytes, Exp, PrefixExp, Args, ExpList, Table, Fields, Field, FuncBody}
 use Rattle.lua_grammar.specs.Tree as tree
-use Rattle.lua_grammar.specs.Printing.{Lexeme, print_exp, print_prefixexp, print_args, print_explist, print_table, print_fields, print_field, print_funcbody, print_block, print_stats, print_stat, print_arms, print_laststat, print_varlist, print_names, print_params}
-use Rattle.lua_grammar.specs.Levels.{levels, prefix_levels, args_levels, list_levels, table_levels, fields_levels, field_levels, body_levels, block_levels, stats_levels, stat_levels, arms_levels, last_levels, vars_levels, height, prefix_height, args_height, list_height, table_height, fields_height, field_height}
-use Rattle.lua_grammar.specs.Validity.{IsValid, IsValidPrefix, IsValidArgs, AreValid, IsValidTable, AreValidFields, IsValidField, IsValidBody, IsValidBlock, AreValidStats, IsValidStat, AreValidArms, IsValidLast, AreValidVars, exp_level, prefix_end, table_end, args_end, BeginOn}
-use Rattle.lua_grammar.specs.Resolution.{Resolves, ResolvesPrefix, ResolvesArgs, ResolvesList, ResolvesTable, ResolvesFields, ResolvesField, ResolvesBody, Opens, ResolvesStats, ResolvesStat, ResolvesArms, ResolvesLast, ResolvesVars, args_line, prefix_line, names_of}
-use Rattle.lua_grammar.specs.Grammar.{first_line}
+use Rattle.lua_grammar.specs.Printing.{print_exp, print_prefixexp, print_args, print_explist, print_table, print_fields, print_field, print_funcbody}
+use Rattle.lua_grammar.specs.Levels.{levels, prefix_levels, args_levels, list_levels, table_levels, fields_levels, field_levels, body_levels, height, prefix_height, args_height, list_height, table_height, fields_height, field_height}
+use Rattle.lua_grammar.specs.Validity.{IsValid, IsValidPrefix, IsValidArgs, AreValid, IsValidTable, AreValidFields, IsValidField, IsValidBody, exp_level, prefix_end, table_end, args_end}
+use Rattle.lua_grammar.specs.Resolution.{Resolves, ResolvesPrefix, ResolvesArgs, ResolvesList, ResolvesTable, ResolvesFields, ResolvesField, ResolvesBody}
 use Rattle.lua_parser.specs.declared.places.Place.{Place}
 use Rattle.lua_parser.specs.declared.nodes.Built.{Built}
 use Rattle.lua_parser.specs.declared.nodes.Prefix.{Prefix}
 use Rattle.lua_parser.specs.declared.nodes.Values.{Values}
+use Rattle.lua_parser.specs.declared.nodes.Item.{Item}
 use Rattle.lua_parser.specs.declared.nodes.Items.{Items}
 use Rattle.lua_parser.specs.declared.nodes.Form.{Form}
 use Rattle.lua_parser.specs.declared.nodes.Form.TheVariants.{Variable, Call, Paren}
 use Rattle.lua_parser.specs.States.{State}
 
+-- what a prefix is
 abbrev pub form_of : PrefixExp → Form
 form_of (tree.variable l n) = Variable
 form_of (tree.paren o e c) = Paren
@@ -28,6 +26,7 @@ form_of (tree.member p d l n) = Variable
 form_of (tree.call p a) = Call
 form_of (tree.method p c l n a) = Call
 
+-- an expression
 pub record ReadsExp (at : Place) (s : State) (b : Built) (t : State) : Type 0 where
   pub tree : Exp
   pub printed : s.left ≡ print_exp tree t.left
@@ -35,8 +34,10 @@ pub record ReadsExp (at : Place) (s : State) (b : Built) (t : State) : Type 0 wh
   pub deep : at.depth + levels tree ≤ 201
   pub resolved : Resolves tree s.scope b.expr t.scope
   pub high : height tree ≡ b.height
+  pub low : b.height ≤ at.room
   pub precedes : exp_level tree ≡ b.level
 
+-- a prefix, whose parts are parts of an expression at that place
 pub record ReadsPrefix (at : Place) (s : State) (p : Prefix) (t : State) : Type 0 where
   pub tree : PrefixExp
   pub printed : s.left ≡ print_prefixexp tree t.left
@@ -44,10 +45,15 @@ pub record ReadsPrefix (at : Place) (s : State) (p : Prefix) (t : State) : Type 
   pub deep : at.depth + prefix_levels tree ≤ 200
   pub resolved : ResolvesPrefix tree s.scope p.expr t.scope
   pub high : prefix_height tree ≡ p.height
+  pub low : p.height ≤ at.room
   pub form : form_of tree ≡ p.form
   pub ends : prefix_end tree ≡ t.last
-  pub begins : prefix_line tree ≡ first_line s.left
 
+-- a prefix that was read up to a state is the beginning of a longer one
+abbrev pub Extends : Place → Prefix → State → Prefix → State → Type 0
+Extends at object m p t = (s : State) → ReadsPrefix at s object m → ReadsPrefix at s p t
+
+-- arguments of a call at that place
 pub record ReadsArgs (at : Place) (s : State) (values : Values) (t : State) : Type 0 where
   pub tree : Args
   pub printed : s.left ≡ print_args tree t.left
@@ -55,10 +61,10 @@ pub record ReadsArgs (at : Place) (s : State) (values : Values) (t : State) : Ty
   pub deep : at.depth + args_levels tree ≤ 200
   pub resolved : ResolvesArgs tree s.scope values.exprs.items t.scope
   pub high : args_height tree ≡ values.height
+  pub low : values.height ≤ max (at.room - 1) 1
   pub ends : args_end tree ≡ t.last
-  pub begins : args_line tree ≡ first_line s.left
-  pub on_line : BeginOn s.last tree
 
+-- expressions, each at that place
 pub record ReadsList (at : Place) (s : State) (values : Values) (t : State) : Type 0 where
   pub tree : ExpList
   pub printed : s.left ≡ print_explist tree t.left
@@ -66,7 +72,9 @@ pub record ReadsList (at : Place) (s : State) (values : Values) (t : State) : Ty
   pub deep : at.depth + list_levels tree ≤ 201
   pub resolved : ResolvesList tree s.scope values.exprs.items t.scope
   pub high : list_height tree ≡ values.height
+  pub low : values.height ≤ at.room
 
+-- a table constructor
 pub record ReadsTable (at : Place) (s : State) (b : Built) (t : State) : Type 0 where
   pub tree : Table
   pub printed : s.left ≡ print_table tree t.left
@@ -74,5 +82,35 @@ pub record ReadsTable (at : Place) (s : State) (b : Built) (t : State) : Type 0 
   pub deep : at.depth + table_levels tree ≤ 200
   pub resolved : ResolvesTable tree s.scope b.expr t.scope
   pub high : table_height tree ≡ b.height
+  pub low : b.height ≤ at.room
   pub ends : table_end tree ≡ t.last
-  pub precedes : b.level ≡ 9
+  pub own : b.level ≡ 9
+
+-- the fields of a table constructor at that place, each with a separator
+pub record ReadsFields (at : Place) (s : State) (items : Items) (t : State) : Type 0 where
+  pub tree : Fields
+  pub printed : s.left ≡ print_fields tree t.left
+  pub valid : AreValidFields at.rest tree
+  pub deep : at.depth + fields_levels tree ≤ 200
+  pub resolved : ResolvesFields tree s.scope items.items.items t.scope
+  pub high : fields_height tree ≡ items.height
+  pub low : items.height < at.room
+
+-- a field, with expressions at that place
+pub record ReadsField (at : Place) (s : State) (item : Item) (t : State) : Type 0 where
+  pub tree : Field
+  pub printed : s.left ≡ print_field tree t.left
+  pub valid : IsValidField at.rest tree
+  pub deep : at.depth + field_levels tree ≤ 201
+  pub resolved : ResolvesField tree s.scope item.item t.scope
+  pub high : field_height tree ≡ item.height
+  pub low : item.height ≤ at.room
+
+-- parameters, block and `end` of the function of that number, whose word `function` is on that line; before its named
+-- parameters stand those
+pub record ReadsBody (at : Place) (line : Line) (before : List Bytes) (s : State) (number : ℕ) (t : State) : Type 0 where
+  pub tree : FuncBody
+  pub printed : s.left ≡ print_funcbody tree t.left
+  pub valid : IsValidBody tree
+  pub deep : at.depth + body_levels tree ≤ 200
+  pub resolved : ResolvesBody before line tree s.scope number t.scope

@@ -2,11 +2,13 @@
 use Rattle.std.specs.Prelude.{◌≡◌, ℕ, ◌<◌, ◌≤◌, List, [], ◌∷◌, map, drop, reverse, length, Option, Some, None}
 use Rattle.lua_lexer.specs.declared.tokens.Token.{Token}
 use Rattle.lua_lexer.specs.declared.tokens.TokenKind.{TokenKind}
-use Rattle.lua_lexer.specs.declared.tokens.TokenKind.TheVariants.{Text}
-use Rattle.lua_parser.specs.declared.cursor.Named.{Named}
-use Rattle.lua_grammar.specs.Printing.{Lexeme, lexemes}
+use Rattle.lua_lexer.specs.declared.signs.Sign.TheVariants.{OpenParenthesis}
+use Rattle.lua_grammar.specs.Operators.{kind_of, level, left_level}
+use Rattle.lua_grammar.specs.Tree.{Separator}
+use Rattle.lua_grammar.specs.Printing.{Lexeme, lexemes, a_sign, print_separator}
 use Rattle.lua_grammar.specs.Scopes.{Scope}
 use Rattle.lua_parser.specs.declared.cursor.Parser.{Parser}
+use Rattle.lua_parser.specs.declared.expressions.Infix.{Infix}
 use Rattle.lua_parser.specs.Frames.{frame_of, frames_of}
 
 -- the tokens that are left, the line of the token before them, and the scope
@@ -32,9 +34,25 @@ abbrev pub Skips : TokenKind → Option ℕ → State → State → Type 0
 Skips kind (Some line) s t = Takes kind line s t
 Skips kind None s t = t ≡ s
 
-abbrev pub SkipsText : Option Named → State → State → Type 0
-SkipsText (Some text) s t = Takes (Text text.name) text.line s t
-SkipsText None s t = t ≡ s
+-- a separator of fields stands between two states
+pub record TakesSeparator (s t : State) : Type 0 where
+  pub separator : Separator
+  pub printed : s.left ≡ print_separator separator t.left
+  pub scope : t.scope ≡ s.scope
+
+-- where the next token is `(`, it is on the line of the last one
+abbrev pub OpensOnLine : State → Type 0
+OpensOnLine s = (line : ℕ) (behind : List Lexeme) → s.left ≡ a_sign OpenParenthesis line behind → line ≡ s.last
+
+-- a binary operator that may stand behind an expression of the level `left` in one of at least the level `lowest`
+pub record TakesOperator (left lowest : ℕ) (found : Infix) (s t : State) : Type 0 where
+  pub taken : Takes (kind_of found.op) found.line s t
+  pub left_fits : left_level found.op ≤ left
+  pub high_enough : lowest ≤ level found.op
+
+abbrev pub SkipsOperator : ℕ → ℕ → Option Infix → State → State → Type 0
+SkipsOperator left lowest (Some found) s t = TakesOperator left lowest found s t
+SkipsOperator left lowest None s t = t ≡ s
 
 -- at least one token was read
 pub record Advances (tokens : List Token) (p q : Parser) : Type 0 where

@@ -1,6 +1,7 @@
 ghost use Rattle.std.specs.Prelude.{◌≡◌, IfOk, IfSome, OnOk, slice_get, Some};
 ghost use Rattle.lua_lexer.specs.declared.tokens.TokenKind.TheVariants.{Name as NameKind, Text as TextKind, Word as WordKind, Sign as SignKind};
-ghost use Rattle.lua_parser.specs.States.{state, Takes, Skips, SkipsText, Advances, IfAdvances};
+ghost use Rattle.lua_grammar.specs.Grammar.{first_line};
+ghost use Rattle.lua_parser.specs.States.{state, Takes, Skips, Advances, IfAdvances};
 ghost use Rattle.lua_parser.specs.Places.{IsWithin, IsPart};
 
 use crate::ParseFault;
@@ -140,33 +141,51 @@ impl Parser {
         }
     }
 
-    /// Reads a text where it is the next token.
-    pub(crate) fn skip_text(&mut self, tokens: &[Token]) -> Result<Option<Named>, ParseFault>
-        ensures skips { IfOk result (λ found. SkipsText found (state tokens.now self.old) (state tokens.now self.new)) }
-        ensures forward { IfOk result (λ found. IfAdvances found tokens.now self.old self.new) }
+    /// Whether the next token is a text.
+    pub(crate) fn at_text(&self, tokens: &[Token]) -> bool {
+        match tokens.get(self.place) {
+            Some(token) => matches!(&token.kind, TokenKind::Text(_)),
+            None => false,
+        }
+    }
+
+    /// Reads a text.
+    pub(crate) fn take_text(&mut self, tokens: &[Token]) -> Result<Named, ParseFault>
+        ensures takes { IfOk result (λ text. Takes (TextKind text.name) text.line (state tokens.now self.old) (state tokens.now self.new)) }
+        ensures forward { OnOk result (Advances tokens.now self.old self.new) }
     {
         let Some(token) = tokens.get(self.place) else {
-            return Ok(None);
+            return Err(self.unfit(tokens));
         };
         match &token.kind {
             TokenKind::Text(text) => {
                 let name = text.clone()?;
                 self.advance(tokens, token);
-                Ok(Some(Named {
+                Ok(Named {
                     name,
                     line: token.line,
-                }))
+                })
             }
-            _ => Ok(None),
+            _ => Err(self.unfit(tokens)),
         }
     }
 
-    /// The line of the next token, or at the end that of the last.
-    pub(crate) fn line_ahead(&self, tokens: &[Token]) -> u32 {
+    /// The line of the next token.
+    pub(crate) fn line_ahead(&self, tokens: &[Token]) -> Result<u32, ParseFault>
+        ensures { IfOk result (λ line. line ≡ first_line (state tokens.now self.now).left) }
+    {
         match tokens.get(self.place) {
-            Some(token) => token.line,
-            None => self.line,
+            Some(token) => Ok(self.line_of(tokens, token)),
+            None => Err(self.unfit(tokens)),
         }
+    }
+
+    /// The line of that token, which is the next.
+    fn line_of(&self, tokens: &[Token], token: &Token) -> u32
+        requires { slice_get tokens.now self.now.place ≡ Some token.now }
+        ensures { result ≡ first_line (state tokens.now self.now).left }
+    {
+        token.line
     }
 
     /// The place of a construct within one at `at`, as high as it may be.
@@ -181,10 +200,7 @@ impl Parser {
                 in_loop: at.in_loop,
             });
         }
-        match tokens.get(self.place) {
-            Some(token) => Err(ParseFault::Depth(token.line)),
-            None => Err(ParseFault::At(self.line)),
-        }
+        Err(self.too_deep(tokens))
     }
 
     /// The place of an expression that is a part of one at `at`.
@@ -192,11 +208,17 @@ impl Parser {
         ensures { IfOk result (IsPart at) }
     {
         let inner = self.deeper(tokens, at)?;
-        Ok(Place {
-            depth: inner.depth,
-            room: inner.room.saturating_sub(1),
-            rest: inner.rest,
-            in_loop: inner.in_loop,
-        })
+        if inner.room > 1 {
+            return Ok(inner.narrower());
+        }
+        Err(self.too_deep(tokens))
+    }
+
+    /// The fault where one construct more isn't allowed.
+    fn too_deep(&self, tokens: &[Token]) -> ParseFault {
+        match tokens.get(self.place) {
+            Some(token) => ParseFault::Depth(token.line),
+            None => ParseFault::At(self.line),
+        }
     }
 }

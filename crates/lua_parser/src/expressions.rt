@@ -1,5 +1,7 @@
-ghost use Rattle.std.specs.Prelude.{◌≡◌, ◌≤◌, ◌<◌, ◌+◌, IfOk, OnOk, vec_len};
-ghost use Rattle.lua_parser.specs.States.{Advances, AdvancesOrStays, IfAdvances};
+ghost use Rattle.std.specs.Prelude.{◌≡◌, ◌≤◌, min, IfOk, OnOk, vec_len};
+ghost use Rattle.lua_grammar.specs.Operators.{kind_of_unary};
+ghost use Rattle.lua_parser.specs.States.{state, Takes, Advances, IfAdvances, SkipsOperator};
+ghost use Rattle.lua_parser.specs.Reads.{ReadsExp};
 
 use crate::ParseFault;
 use crate::cursor::Parser;
@@ -10,33 +12,55 @@ use lua_grammar::{Operator, left_level, level, operator_of, right_level};
 use lua_lexer::{Sign, Token, TokenKind, Word};
 use std::alloc::Global;
 
+/// A binary operator, and its line.
+#[derive(Clone, Copy)]
+pub(crate) struct Infix {
+    pub op: Operator,
+    pub line: u32,
+}
+
+/// What an operand is by its first token.
+#[derive(Clone, Copy, PartialEq, Eq)]
+enum Operand {
+    Unary,
+    Closure,
+    Table,
+    Nil,
+    True,
+    False,
+    Number,
+    Text,
+    Rest,
+    Prefix,
+}
+
+/// A unary operator, and its line.
+#[derive(Clone, Copy)]
+pub(crate) struct Prefixed {
+    pub op: UnOp,
+    pub line: u32,
+}
+
 impl Parser {
-    /// The operator that is the next token, where it may stand behind an expression of that level in one of at least the
-    /// other.
-    fn operator_ahead(&self, tokens: &[Token], left: u8, lowest: u8) -> Option<Operator> {
+    /// Reads a binary operator where it is the next token and may stand behind an expression of the level `left` in one of
+    /// at least the level `lowest`.
+    fn skip_operator(&mut self, tokens: &[Token], left: u8, lowest: u8) -> Option<Infix>
+        ensures skips { SkipsOperator left lowest result (state tokens.now self.old) (state tokens.now self.new) }
+        ensures forward { IfAdvances result tokens.now self.old self.new }
+    {
         let token = tokens.get(self.place)?;
         let op = operator_of(&token.kind)?;
         if lowest <= level(op) && left_level(op) <= left {
-            Some(op)
-        } else {
-            None
+            self.advance(tokens, token);
+            return Some(Infix {
+                op,
+                line: token.line,
+            });
         }
+        None
     }
 
-    /// Reads the next token, whatever it is, and answers its line.
-    fn take_any(&mut self, tokens: &[Token]) -> Result<u32, ParseFault>
-        ensures forward { OnOk result (Advances tokens.now self.old self.new) }
-    {
-        match tokens.get(self.place) {
-            Some(token) => {
-                self.advance(tokens, token);
-                Ok(token.line)
-            }
-            None => Err(self.unfit(tokens)),
-        }
-    }
-
-    /// Reads an expression of at least that level of precedence, as long as it goes.
+    /// Reads an expression of at least that level of precedence, as long as it goes. A unary operator may begin it anyway.
     #[cycle(descent)]
     pub(crate) fn expression(
         &mut self,
@@ -45,41 +69,106 @@ impl Parser {
         at: Place,
         lowest: u8,
     ) -> Result<Built, ParseFault>
+        ensures reads { IfOk result (λ b. ReadsExp at (state tokens.now self.old) b (state tokens.now self.new)) }
+        ensures level { IfOk result (λ b. min lowest 7 ≤ b.level) }
         ensures forward { OnOk result (Advances tokens.now self.old self.new) }
     {
         let mut left = self.operand(alloc, tokens, at)?;
-        while let Some(op) = self.operator_ahead(tokens, left.level, lowest) {
-            let line = self.take_any(tokens)?;
-            at.above(left.height, line)?;
+        while let Some(infix) = self.skip_operator(tokens, left.level, lowest) {
+            at.above(left.height, infix.line)?;
             let inner = self.part(tokens, at)?;
-            let right = self.expression(alloc, tokens, inner, right_level(op))?;
-            left = binary(alloc, left, op, line, right)?;
+            let right = self.expression(alloc, tokens, inner, right_level(infix.op))?;
+            left = binary(alloc, left, infix.op, infix.line, right)?;
         }
         Ok(left)
+    }
+
+    /// What the next token begins.
+    fn operand_ahead(&self, tokens: &[Token]) -> Operand {
+        let Some(token) = tokens.get(self.place) else {
+            return Operand::Prefix;
+        };
+        match &token.kind {
+            TokenKind::Word(Word::Not)
+            | TokenKind::Sign(Sign::Hash)
+            | TokenKind::Sign(Sign::Minus) => Operand::Unary,
+            TokenKind::Word(Word::Function) => Operand::Closure,
+            TokenKind::Sign(Sign::OpenBrace) => Operand::Table,
+            TokenKind::Word(Word::Nil) => Operand::Nil,
+            TokenKind::Word(Word::True) => Operand::True,
+            TokenKind::Word(Word::False) => Operand::False,
+            TokenKind::Number(_) => Operand::Number,
+            TokenKind::Text(_) => Operand::Text,
+            TokenKind::Sign(Sign::Ellipsis) => Operand::Rest,
+            _ => Operand::Prefix,
+        }
     }
 
     /// Reads an expression without a binary operator, but for one within a unary operand.
     #[cycle(descent)]
     fn operand(&mut self, alloc: Global, tokens: &[Token], at: Place) -> Result<Built, ParseFault>
+        ensures reads { IfOk result (λ b. ReadsExp at (state tokens.now self.old) b (state tokens.now self.new)) }
+        ensures level { IfOk result (λ b. 7 ≤ b.level) }
         ensures forward { OnOk result (Advances tokens.now self.old self.new) }
     {
-        if let Some(op) = self.unary_ahead(tokens) {
-            let line = self.take_any(tokens)?;
-            let inner = self.part(tokens, at)?;
-            let operand = self.expression(alloc, tokens, inner, 7)?;
-            return unary(alloc, op, line, operand);
+        match self.operand_ahead(tokens) {
+            Operand::Unary => self.unary_operand(alloc, tokens, at),
+            Operand::Closure => self.closure(alloc, tokens, at),
+            Operand::Table => self.table(alloc, tokens, at),
+            Operand::Nil => self.nil(tokens, at),
+            Operand::True => self.truth(tokens, at),
+            Operand::False => self.falsity(tokens, at),
+            Operand::Number => self.number(tokens, at),
+            Operand::Text => self.text(tokens, at),
+            Operand::Rest => self.rest(tokens, at),
+            Operand::Prefix => self.prefix_operand(alloc, tokens, at),
         }
-        if let Some(line) = self.skip_word(tokens, Word::Function) {
-            let number = self.body(alloc, tokens, at, line, Vec::new(alloc))?;
-            return Ok(leaf(line, ExprKind::Function(number)));
-        }
-        if self.at_sign(tokens, Sign::OpenBrace) {
-            return self.table(alloc, tokens, at);
-        }
-        if let Some(constant) = self.constant(tokens, at)? {
-            return Ok(constant);
-        }
-        let Prefix { expr, height, .. } = self.prefix(alloc, tokens, at)?;
+    }
+
+    /// Reads a unary operator with its operand.
+    #[cycle(descent)]
+    fn unary_operand(
+        &mut self,
+        alloc: Global,
+        tokens: &[Token],
+        at: Place,
+    ) -> Result<Built, ParseFault>
+        ensures reads { IfOk result (λ b. ReadsExp at (state tokens.now self.old) b (state tokens.now self.new)) }
+        ensures level { IfOk result (λ b. 7 ≤ b.level) }
+        ensures forward { OnOk result (Advances tokens.now self.old self.new) }
+    {
+        let prefixed = self.take_unary(tokens)?;
+        let inner = self.part(tokens, at)?;
+        let operand = self.expression(alloc, tokens, inner, 7)?;
+        unary(alloc, prefixed.op, prefixed.line, operand)
+    }
+
+    /// Reads a function without a name.
+    #[cycle(descent)]
+    fn closure(&mut self, alloc: Global, tokens: &[Token], at: Place) -> Result<Built, ParseFault>
+        ensures reads { IfOk result (λ b. ReadsExp at (state tokens.now self.old) b (state tokens.now self.new)) }
+        ensures level { IfOk result (λ b. 7 ≤ b.level) }
+        ensures forward { OnOk result (Advances tokens.now self.old self.new) }
+    {
+        let line = self.take_word(tokens, Word::Function)?;
+        let number = self.body(alloc, tokens, at, line, Vec::new(alloc))?;
+        Ok(leaf(line, ExprKind::Function(number)))
+    }
+
+    /// Reads a prefix that is an operand.
+    #[cycle(descent)]
+    fn prefix_operand(
+        &mut self,
+        alloc: Global,
+        tokens: &[Token],
+        at: Place,
+    ) -> Result<Built, ParseFault>
+        ensures reads { IfOk result (λ b. ReadsExp at (state tokens.now self.old) b (state tokens.now self.new)) }
+        ensures level { IfOk result (λ b. 7 ≤ b.level) }
+        ensures forward { OnOk result (Advances tokens.now self.old self.new) }
+    {
+        let prefix = self.prefix(alloc, tokens, at)?;
+        let Prefix { expr, height, .. } = prefix;
         Ok(Built {
             expr,
             height,
@@ -87,39 +176,24 @@ impl Parser {
         })
     }
 
-    /// The unary operator that is the next token.
-    fn unary_ahead(&self, tokens: &[Token]) -> Option<UnOp> {
-        let token = tokens.get(self.place)?;
-        match &token.kind {
-            TokenKind::Word(Word::Not) => Some(UnOp::Not),
-            TokenKind::Sign(Sign::Hash) => Some(UnOp::Length),
-            TokenKind::Sign(Sign::Minus) => Some(UnOp::Minus),
-            _ => None,
-        }
-    }
-
-    /// Reads a constant or `...` where one is the next token.
-    fn constant(&mut self, tokens: &[Token], at: Place) -> Result<Option<Built>, ParseFault>
-        ensures forward { IfOk result (λ found. IfAdvances found tokens.now self.old self.new) }
+    /// Reads a unary operator.
+    fn take_unary(&mut self, tokens: &[Token]) -> Result<Prefixed, ParseFault>
+        ensures takes { IfOk result (λ found. Takes (kind_of_unary found.op) found.line (state tokens.now self.old) (state tokens.now self.new)) }
+        ensures forward { OnOk result (Advances tokens.now self.old self.new) }
     {
         let Some(token) = tokens.get(self.place) else {
-            return Ok(None);
+            return Err(self.unfit(tokens));
         };
-        let kind = match &token.kind {
-            TokenKind::Word(Word::Nil) => ExprKind::Nil,
-            TokenKind::Word(Word::True) => ExprKind::True,
-            TokenKind::Word(Word::False) => ExprKind::False,
-            TokenKind::Number(number) => ExprKind::Number(*number),
-            TokenKind::Text(text) => ExprKind::Text(text.clone()?),
-            TokenKind::Sign(Sign::Ellipsis) => {
-                if !at.rest {
-                    return Err(ParseFault::VarargOutside(token.line));
-                }
-                ExprKind::Vararg
-            }
-            _ => return Ok(None),
+        let op = match &token.kind {
+            TokenKind::Word(Word::Not) => UnOp::Not,
+            TokenKind::Sign(Sign::Hash) => UnOp::Length,
+            TokenKind::Sign(Sign::Minus) => UnOp::Minus,
+            _ => return Err(self.unfit(tokens)),
         };
         self.advance(tokens, token);
-        Ok(Some(leaf(token.line, kind)))
+        Ok(Prefixed {
+            op,
+            line: token.line,
+        })
     }
 }

@@ -1,6 +1,7 @@
 //! The parser of Lua 5.1: tokens to the tree of a program.
 #![tactic(auto)]
 
+mod constants;
 mod cursor;
 mod expressions;
 mod faults;
@@ -10,11 +11,9 @@ mod parameters;
 mod parser;
 mod places;
 mod scopes;
+mod statement_nodes;
 mod statements;
 mod suffixes;
 
 pub use faults::ParseFault;
 pub use parser::parse;
-
-#[cfg(test)]
-mod tests;

@@ -1,3 +1,8 @@
+ghost use Rattle.std.specs.Prelude.{◌≡◌, max, IfOk, OnOk};
+ghost use Rattle.lua_ast.specs.declared.expressions.ExprKind as kind;
+ghost use Rattle.lua_grammar.specs.Resolution.{binary_kind};
+ghost use Rattle.lua_parser.specs.Nodes.{leaf, IsUnary, IsBinary, IsParen, IsIndexed, IsMember, IsCalled, IsMethodCalled, IsTable, IsAlone, IsNone, AddsValue, AddsItem, AreNone};
+
 use crate::ParseFault;
 use crate::cursor::Named;
 use lua_ast::{Expr, ExprKind, TableItem, UnOp};
@@ -37,6 +42,13 @@ pub(crate) struct Values {
     pub height: u32,
 }
 
+/// An item of a table constructor, and the height of its highest expression.
+#[derive(Drop)]
+pub(crate) struct Item {
+    pub item: TableItem,
+    pub height: u32,
+}
+
 /// Items of a table constructor, and the height of the highest of their expressions.
 #[derive(Drop)]
 pub(crate) struct Items {
@@ -45,7 +57,9 @@ pub(crate) struct Items {
 }
 
 /// An expression of no other.
-pub(crate) fn leaf(line: u32, kind: ExprKind) -> Built {
+pub(crate) fn leaf(line: u32, kind: ExprKind) -> Built
+    ensures { result ≡ leaf line kind }
+{
     Built {
         expr: Expr { line, kind },
         height: 1,
@@ -54,7 +68,10 @@ pub(crate) fn leaf(line: u32, kind: ExprKind) -> Built {
 }
 
 impl Built {
-    pub(crate) fn into_expr(self) -> Expr {
+    /// The expression alone.
+    pub(crate) fn into_expr(self) -> Expr
+        ensures { result ≡ self.expr }
+    {
         let Built { expr, .. } = self;
         expr
     }
@@ -62,21 +79,29 @@ impl Built {
 
 impl Named {
     /// The name as a text.
-    pub(crate) fn into_text(self) -> Built {
+    pub(crate) fn into_text(self) -> Built
+        ensures { result ≡ leaf self.line (kind.Text self.name) }
+    {
         let Named { name, line } = self;
         leaf(line, ExprKind::Text(name))
     }
 }
 
 impl Values {
-    pub(crate) fn none(alloc: Global) -> Values {
+    /// No expression.
+    pub(crate) fn none(alloc: Global) -> Values
+        ensures { IsNone result }
+    {
         Values {
             exprs: Vec::new(alloc),
             height: 0,
         }
     }
 
-    pub(crate) fn one(alloc: Global, built: Built) -> Result<Values, ParseFault> {
+    /// One expression.
+    pub(crate) fn one(alloc: Global, built: Built) -> Result<Values, ParseFault>
+        ensures { IfOk result (IsAlone built) }
+    {
         let Built { expr, height, .. } = built;
         Ok(Values {
             exprs: vec![in alloc; expr]?,
@@ -84,16 +109,25 @@ impl Values {
         })
     }
 
-    pub(crate) fn text(alloc: Global, text: Named) -> Result<Values, ParseFault> {
+    /// A text.
+    pub(crate) fn text(alloc: Global, text: Named) -> Result<Values, ParseFault>
+        ensures { IfOk result (IsAlone (leaf text.line (kind.Text text.name))) }
+    {
         Values::one(alloc, text.into_text())
     }
 
-    pub(crate) fn into_exprs(self) -> Vec<Expr> {
+    /// The expressions alone.
+    pub(crate) fn into_exprs(self) -> Vec<Expr>
+        ensures { result ≡ self.exprs }
+    {
         let Values { exprs, .. } = self;
         exprs
     }
 
-    pub(crate) fn push(&mut self, built: Built) -> Result<(), ParseFault> {
+    /// Puts an expression at the end.
+    pub(crate) fn push(&mut self, built: Built) -> Result<(), ParseFault>
+        ensures { OnOk result (AddsValue self.old built self.new) }
+    {
         let Built { expr, height, .. } = built;
         self.exprs.push(expr)?;
         self.height = self.height.max(height);
@@ -101,31 +135,59 @@ impl Values {
     }
 }
 
+impl Item {
+    /// An item without a key.
+    pub(crate) fn value(value: Built) -> Item
+        ensures item { result.item ≡ TableItem.Item value.expr }
+        ensures height { result.height ≡ value.height }
+    {
+        let Built { expr, height, .. } = value;
+        Item {
+            item: TableItem::Item(expr),
+            height,
+        }
+    }
+
+    /// An item with its key.
+    pub(crate) fn pair(key: Built, value: Built) -> Item
+        ensures item { result.item ≡ TableItem.Pair key.expr value.expr }
+        ensures height { result.height ≡ max key.height value.height }
+    {
+        let height = key.height.max(value.height);
+        let Built { expr: key, .. } = key;
+        let Built { expr: value, .. } = value;
+        Item {
+            item: TableItem::Pair(key, value),
+            height,
+        }
+    }
+}
+
 impl Items {
-    pub(crate) fn none(alloc: Global) -> Items {
+    /// No item.
+    pub(crate) fn none(alloc: Global) -> Items
+        ensures { AreNone result }
+    {
         Items {
             items: Vec::new(alloc),
             height: 0,
         }
     }
 
-    pub(crate) fn push_value(&mut self, value: Built) -> Result<(), ParseFault> {
-        let Built { expr, height, .. } = value;
-        self.items.push(TableItem::Item(expr))?;
+    /// Puts an item at the end.
+    pub(crate) fn push(&mut self, item: Item) -> Result<(), ParseFault>
+        ensures { OnOk result (AddsItem self.old item self.new) }
+    {
+        let Item { item, height } = item;
+        self.items.push(item)?;
         self.height = self.height.max(height);
         Ok(())
     }
 
-    pub(crate) fn push_pair(&mut self, key: Built, value: Built) -> Result<(), ParseFault> {
-        let height = key.height.max(value.height);
-        let Built { expr: key, .. } = key;
-        let Built { expr: value, .. } = value;
-        self.items.push(TableItem::Pair(key, value))?;
-        self.height = self.height.max(height);
-        Ok(())
-    }
-
-    pub(crate) fn into_table(self, alloc: Global, line: u32) -> Result<Built, ParseFault> {
+    /// The table constructor that begins on that line.
+    pub(crate) fn into_table(self, alloc: Global, line: u32) -> Result<Built, ParseFault>
+        ensures { IfOk result (IsTable self line) }
+    {
         let Items { items, height } = self;
         Ok(Built {
             expr: Expr {
@@ -139,7 +201,9 @@ impl Items {
 }
 
 /// `(inner)`.
-pub(crate) fn paren(alloc: Global, inner: Built, line: u32) -> Result<Prefix, ParseFault> {
+pub(crate) fn paren(alloc: Global, inner: Built, line: u32) -> Result<Prefix, ParseFault>
+    ensures { IfOk result (IsParen inner line) }
+{
     let Built { expr, height, .. } = inner;
     Ok(Prefix {
         expr: Expr {
@@ -157,7 +221,9 @@ pub(crate) fn indexed(
     object: Prefix,
     line: u32,
     key: Built,
-) -> Result<Prefix, ParseFault> {
+) -> Result<Prefix, ParseFault>
+    ensures { IfOk result (IsIndexed object line key) }
+{
     let height = object.height.max(key.height).saturating_add(1);
     let Prefix { expr: object, .. } = object;
     let Built { expr: key, .. } = key;
@@ -179,7 +245,9 @@ pub(crate) fn called(
     callee: Prefix,
     line: u32,
     values: Values,
-) -> Result<Prefix, ParseFault> {
+) -> Result<Prefix, ParseFault>
+    ensures { IfOk result (IsCalled callee line values) }
+{
     let height = callee.height.max(values.height).saturating_add(1);
     let Prefix { expr, .. } = callee;
     let Values { exprs, .. } = values;
@@ -202,7 +270,9 @@ pub(crate) fn method_called(
     name: Bytes,
     line: u32,
     values: Values,
-) -> Result<Prefix, ParseFault> {
+) -> Result<Prefix, ParseFault>
+    ensures { IfOk result (IsMethodCalled object name line values) }
+{
     let height = object.height.max(values.height).saturating_add(1);
     let Prefix { expr, .. } = object;
     let Values { exprs, .. } = values;
@@ -219,12 +289,9 @@ pub(crate) fn method_called(
 }
 
 /// An operator with its operand.
-pub(crate) fn unary(
-    alloc: Global,
-    op: UnOp,
-    line: u32,
-    operand: Built,
-) -> Result<Built, ParseFault> {
+pub(crate) fn unary(alloc: Global, op: UnOp, line: u32, operand: Built) -> Result<Built, ParseFault>
+    ensures { IfOk result (IsUnary op line operand) }
+{
     let Built { expr, height, .. } = operand;
     Ok(Built {
         expr: Expr {
@@ -243,22 +310,33 @@ pub(crate) fn binary(
     op: Operator,
     line: u32,
     right: Built,
-) -> Result<Built, ParseFault> {
+) -> Result<Built, ParseFault>
+    ensures { IfOk result (IsBinary left op line right) }
+{
     let height = left.height.max(right.height).saturating_add(1);
     let Built { expr: left, .. } = left;
     let Built { expr: right, .. } = right;
     let left = Rc::new(alloc, left)?;
     let right = Rc::new(alloc, right)?;
-    let kind = match op {
-        Operator::Or => ExprKind::Or(left, right),
-        Operator::And => ExprKind::And(left, right),
-        Operator::Plain(plain) => ExprKind::Binary(plain, left, right),
-    };
     Ok(Built {
-        expr: Expr { line, kind },
+        expr: Expr {
+            line,
+            kind: binary_kind(op, left, right),
+        },
         height,
         level: level(op),
     })
+}
+
+/// What an operator between operands is.
+fn binary_kind(op: Operator, left: Rc<Expr>, right: Rc<Expr>) -> ExprKind
+    ensures { result ≡ binary_kind op left right }
+{
+    match op {
+        Operator::Or => ExprKind::Or(left, right),
+        Operator::And => ExprKind::And(left, right),
+        Operator::Plain(plain) => ExprKind::Binary(plain, left, right),
+    }
 }
 
 /// `object.name`, where the point is on the line `dot`.
@@ -267,7 +345,9 @@ pub(crate) fn member(
     object: Expr,
     dot: u32,
     named: Named,
-) -> Result<Expr, ParseFault> {
+) -> Result<Expr, ParseFault>
+    ensures { IfOk result (IsMember object dot named.line named.name) }
+{
     let key = named.into_text().into_expr();
     let object = Rc::new(alloc, object)?;
     Ok(Expr {

@@ -1,13 +1,13 @@
-ghost use Rattle.std.specs.Prelude.{◌≡◌, ◌≤◌, ◌<◌, ◌+◌, IfOk, OnOk, vec_len};
+ghost use Rattle.std.specs.Prelude.{◌≡◌, ◌≤◌, ◌+◌, ◌∷◌, [], slice_set, IfOk, OnOk, vec_len};
 ghost use Rattle.lua_grammar.specs.Resolution.{ResolvesName};
-ghost use Rattle.lua_grammar.specs.Scopes.{declare, in_scope, slots_from};
-ghost use Rattle.lua_parser.specs.States.{Advances, AdvancesOrStays, scope_of};
+ghost use Rattle.lua_grammar.specs.Scopes.{Scope, declare, in_scope, leave, slots_from};
+ghost use Rattle.lua_parser.specs.States.{state, Advances, AdvancesOrStays, scope_of};
 
 use crate::ParseFault;
 use crate::cursor::{Named, Parser};
 use crate::frames::Frame;
-use crate::scopes::{empty_function, look, variable_kind, whole_function};
-use lua_ast::{Expr, Stmt};
+use crate::scopes::{MOST_LOCALS, empty_function, look, variable_kind, whole_function};
+use lua_ast::{Expr, Function, Stmt};
 use lua_lexer::{Sign, Token};
 use resty_base::Bytes;
 use std::alloc::Global;
@@ -31,6 +31,9 @@ pub(crate) struct Begun {
 }
 
 impl Parser {
+    ghost use Rattle.lua_parser.specs.Functions.{Enters, Ends};
+    ghost use Rattle.lua_parser.specs.ReadsNames.{TakesName, ReadsNames, ReadsParameters};
+
     /// The expression that a name is.
     pub(crate) fn variable(&mut self, named: Named) -> Result<Expr, ParseFault>
         ensures resolves { IfOk result (λ e. ResolvesName named.line named.name (scope_of self.old) e (scope_of self.new)) }
@@ -54,48 +57,94 @@ impl Parser {
     ) -> Result<Vec<Bytes>, ParseFault>
         requires { taken ≤ 200 }
         ensures few { IfOk result (λ names. taken + vec_len names ≤ 200) }
+        ensures reads { IfOk result (λ names. ReadsNames [] (state tokens.now self.old) names.items (state tokens.now self.new)) }
         ensures forward { OnOk result (Advances tokens.now self.old self.new) }
     {
         let mut names = Vec::new(alloc);
-        loop {
-            let Named { name, line } = self.take_name(tokens)?;
-            if taken + names.len() >= 200 {
-                return Err(ParseFault::Locals(line));
-            }
-            names.push(name)?;
-            if self.skip_sign(tokens, Sign::Comma).is_none() {
-                return Ok(names);
-            }
+        self.push_name(tokens, taken, &mut names)?;
+        while self.at_sign(tokens, Sign::Comma) {
+            self.take_sign(tokens, Sign::Comma)?;
+            self.push_name(tokens, taken, &mut names)?;
         }
+        Ok(names)
+    }
+
+    /// Reads a name and puts it behind others, of which there may be 200 with `taken` more.
+    fn push_name(
+        &mut self,
+        tokens: &[Token],
+        taken: usize,
+        names: &mut Vec<Bytes>,
+    ) -> Result<(), ParseFault>
+        requires { taken + vec_len names.old ≤ 200 }
+        ensures few { OnOk result (taken + vec_len names.new ≤ 200) }
+        ensures reads { OnOk result (TakesName names.old.items (state tokens.now self.old) names.new.items (state tokens.now self.new)) }
+        ensures forward { OnOk result (Advances tokens.now self.old self.new) }
+    {
+        let Named { name, line } = self.take_name(tokens)?;
+        if taken + names.len() >= MOST_LOCALS {
+            return Err(ParseFault::Locals(line));
+        }
+        names.push(name)?;
+        Ok(())
     }
 
     /// Reads the parameters of a function behind its `(`, after a first one that isn't named there, up to its `)`.
     pub(crate) fn parameters(
         &mut self,
-        alloc: Global,
         tokens: &[Token],
         names: Vec<Bytes>,
     ) -> Result<Parameters, ParseFault>
         requires { vec_len names ≤ 200 }
+        ensures reads { IfOk result (λ p. ReadsParameters names.items (state tokens.now self.old) p (state tokens.now self.new)) }
         ensures forward { OnOk result (AdvancesOrStays tokens.now self.old self.new) }
     {
-        let mut names = names;
         if self.at_sign(tokens, Sign::CloseParenthesis) {
             return Ok(Parameters { names, rest: false });
         }
-        loop {
-            if self.skip_sign(tokens, Sign::Ellipsis).is_some() {
+        if self.at_sign(tokens, Sign::Ellipsis) {
+            self.take_sign(tokens, Sign::Ellipsis)?;
+            return Ok(Parameters { names, rest: true });
+        }
+        let mut names = names;
+        self.push_name(tokens, 0, &mut names)?;
+        while self.at_sign(tokens, Sign::Comma) {
+            self.take_sign(tokens, Sign::Comma)?;
+            if self.at_sign(tokens, Sign::Ellipsis) {
+                self.take_sign(tokens, Sign::Ellipsis)?;
                 return Ok(Parameters { names, rest: true });
             }
-            let Named { name, line } = self.take_name(tokens)?;
-            if names.len() >= 200 {
-                return Err(ParseFault::Locals(line));
-            }
-            names.push(name)?;
-            if self.skip_sign(tokens, Sign::Comma).is_none() {
-                return Ok(Parameters { names, rest: false });
-            }
+            self.push_name(tokens, 0, &mut names)?;
         }
+        Ok(Parameters { names, rest: false })
+    }
+
+    /// How many locals of the innermost function are in scope.
+    pub(crate) fn in_scope(&self) -> usize
+        ensures value { result ≡ in_scope (scope_of self.now) }
+        ensures few { result ≤ 200 }
+    {
+        self.frame.locals.len()
+    }
+
+    /// Leaves the scope of all locals but for the first so many.
+    pub(crate) fn leave(&mut self, count: usize)
+        ensures scope { (before : Scope) → in_scope before ≡ count → scope_of self.new ≡ leave before (scope_of self.old) }
+        ensures place { self.new.place ≡ self.old.place }
+        ensures line { self.new.line ≡ self.old.line }
+    {
+        self.frame.leave(count);
+    }
+
+    /// Declares a local, and answers its slot.
+    pub(crate) fn local(&mut self, named: Named) -> Result<u8, ParseFault>
+        ensures slot { IfOk result (λ slot. slot ≡ in_scope (scope_of self.old)) }
+        ensures scope { OnOk result (scope_of self.new ≡ declare (named.name ∷ []) (scope_of self.old)) }
+        ensures place { self.new.place ≡ self.old.place }
+        ensures line { self.new.line ≡ self.old.line }
+    {
+        let Named { name, line } = named;
+        self.frame.declare(name, line)
     }
 
     /// Declares locals, and answers their slots.
@@ -125,7 +174,9 @@ impl Parser {
         parameters: Parameters,
         line: u32,
     ) -> Result<Begun, ParseFault>
+        ensures enters { IfOk result (λ begun. Enters parameters line begun (scope_of self.old) (scope_of self.new)) }
         ensures place { self.new.place ≡ self.old.place }
+        ensures line { self.new.line ≡ self.old.line }
     {
         let Parameters { names, rest } = parameters;
         let Ok(number) = u32::try_from(self.functions.len()) else {
@@ -150,7 +201,9 @@ impl Parser {
         begun: Begun,
         body: Vec<Stmt>,
     ) -> Result<u32, ParseFault>
+        ensures ends { IfOk result (λ number. Ends begun body.items (scope_of self.old) number (scope_of self.new)) }
         ensures place { self.new.place ≡ self.old.place }
+        ensures line { self.new.line ≡ self.old.line }
     {
         let function = whole_function(
             alloc,
@@ -160,14 +213,24 @@ impl Parser {
             body,
             begun.line,
         )?;
-        let place = begun.number as usize;
-        if let Some(kept) = self.functions.get_mut(place) {
-            *kept = function;
-        }
+        self.keep(begun.number as usize, function);
         let Some(outer) = self.around.pop() else {
             return Err(ParseFault::Memory);
         };
         self.frame = outer;
         Ok(begun.number)
+    }
+
+    /// Puts a function in its place.
+    fn keep(&mut self, place: usize, function: Function)
+        ensures functions { self.new.functions.items ≡ slice_set self.old.functions.items place function }
+        ensures frame { self.new.frame ≡ self.old.frame }
+        ensures around { self.new.around ≡ self.old.around }
+        ensures place { self.new.place ≡ self.old.place }
+        ensures line { self.new.line ≡ self.old.line }
+    {
+        if let Some(kept) = self.functions.get_mut(place) {
+            *kept = function;
+        }
     }
 }

@@ -1,7 +1,6 @@
-ghost use Rattle.std.specs.Prelude.{◌≡◌, IfOk, Some, slice_get};
-ghost use Rattle.lua_grammar.specs.Grammar.{first_line};
+ghost use Rattle.std.specs.Prelude.{◌≡◌, IfOk, slice_set};
+ghost use Rattle.lua_grammar.specs.Grammar.{first_line, IsProgramOf};
 ghost use Rattle.lua_grammar.specs.Printing.{lexemes};
-ghost use Rattle.lua_parser.specs.Chunks.{HoldsChunk};
 
 use crate::ParseFault;
 use crate::cursor::Parser;
@@ -15,7 +14,7 @@ use std::alloc::Global;
 
 /// The program of a chunk's tokens, with one file without a name; the chunk is function 0.
 pub fn parse(alloc: Global, tokens: &[Token]) -> Result<Program, ParseFault>
-    ensures chunk { IfOk result (HoldsChunk (first_line (lexemes tokens.now))) }
+    ensures program { IfOk result (IsProgramOf tokens.now) }
 {
     let line = first_line(tokens);
     let mut parser = Parser {
@@ -57,15 +56,13 @@ fn first_line(tokens: &[Token]) -> u32
 }
 
 /// The functions, with the chunk in the first place.
-#[tactic(auto, using(crate::proofs::Chunks::first_set, crate::proofs::Chunks::first_pushed))]
 fn with_chunk(functions: Vec<Function>, chunk: Function) -> Result<Vec<Function>, ParseFault>
-    ensures { IfOk result (λ whole. slice_get whole.items 0 ≡ Some chunk) }
+    ensures { IfOk result (λ whole. whole.items ≡ slice_set functions.items 0 chunk) }
 {
     let mut functions = functions;
-    if functions.is_empty() {
-        functions.push(chunk)?;
-    } else {
-        functions[0] = chunk;
-    }
+    let Some(first) = functions.first_mut() else {
+        return Err(ParseFault::Memory);
+    };
+    *first = chunk;
     Ok(functions)
 }

@@ -1,4 +1,4 @@
-ghost use Rattle.std.specs.Prelude.{◌≡◌, ◌-◌, ◌<◌, OnOk, true, false};
+ghost use Rattle.std.specs.Prelude.{◌≡◌, ◌≤◌, ◌<◌, OnOk, true, false};
 
 use crate::ParseFault;
 
@@ -19,12 +19,17 @@ pub(crate) struct Place {
     pub rest: bool,
     /// Whether a loop of that function is around.
     pub in_loop: bool,
+    ghost deep: { depth ≤ 200 },
+    ghost roomy: { 1 ≤ room },
+    ghost low: { room ≤ 4_000 },
 }
 
 impl Place {
+    ghost use Rattle.lua_parser.specs.Places.{IsFresh, IsLooped, IsNarrower, IsOfFunction};
+
     /// The same place, in a loop.
     pub(crate) fn looped(self) -> Place
-        ensures { result ≡ record self { in_loop = true } }
+        ensures { IsLooped self result }
     {
         Place {
             depth: self.depth,
@@ -36,7 +41,7 @@ impl Place {
 
     /// The place of the block of a function.
     pub(crate) fn of_function(self, rest: bool) -> Place
-        ensures { result ≡ record self { room = 4_000; rest = rest; in_loop = false } }
+        ensures { IsOfFunction rest self result }
     {
         Place {
             depth: self.depth,
@@ -48,7 +53,7 @@ impl Place {
 
     /// The place of an expression that stands in no other.
     pub(crate) fn fresh(self) -> Place
-        ensures { result ≡ record self { room = 4_000 } }
+        ensures { IsFresh self result }
     {
         Place {
             depth: self.depth,
@@ -60,11 +65,11 @@ impl Place {
 
     /// The same place, for an expression that is a part of one here.
     pub(crate) fn narrower(self) -> Place
-        ensures { result ≡ record self { room = self.room - 1 } }
+        ensures { IsNarrower self result }
     {
         Place {
             depth: self.depth,
-            room: self.room.saturating_sub(1),
+            room: (self.room - 1).max(1),
             rest: self.rest,
             in_loop: self.in_loop,
         }

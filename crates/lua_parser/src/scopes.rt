@@ -1,4 +1,4 @@
-ghost use Rattle.std.specs.Prelude.{◌≡◌, ℕ, List, ◌≤◌, ◌<◌, ◌∷◌, ◌++◌, [], map, reverse, length, IfOk, IfSome, OnOk, vec_len};
+ghost use Rattle.std.specs.Prelude.{◌≡◌, ℕ, List, ◌≤◌, ◌<◌, ◌∷◌, ◌++◌, [], map, reverse, take, length, IfOk, IfSome, OnOk, vec_len};
 ghost use Rattle.lua_grammar.specs.Resolution.{variable_kind, IsFunction};
 ghost use Rattle.lua_grammar.specs.Scopes.{last_place, own, look, with_locals};
 ghost use Rattle.lua_parser.specs.Frames.{captured_of, frame_of, frames_of};
@@ -11,7 +11,7 @@ use std::alloc::Global;
 use std::rc::Rc;
 
 /// How many locals of a function may be in scope.
-const MOST_LOCALS: usize = 200;
+pub(crate) const MOST_LOCALS: usize = 200;
 
 /// How many captures a function may have.
 const MOST_CAPTURES: usize = 60;
@@ -20,6 +20,7 @@ impl Frame {
     /// A function with these parameters.
     pub(crate) fn with_parameters(alloc: Global, names: Vec<Bytes>) -> Frame
         requires { vec_len names ≤ 200 }
+        ensures { frame_of result ≡ record { locals = names.items; captures = []; slots = length names.items } }
     {
         let slots = names.len();
         Frame {
@@ -89,7 +90,9 @@ impl Frame {
     }
 
     /// Leaves the scope of all locals but for the first so many.
-    pub(crate) fn leave(&mut self, count: usize) {
+    pub(crate) fn leave(&mut self, count: usize)
+        ensures { frame_of self.new ≡ record (frame_of self.old) { locals = take count self.old.locals.items } }
+    {
         self.locals.truncate(count);
     }
 

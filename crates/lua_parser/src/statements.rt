@@ -1,15 +1,22 @@
-ghost use Rattle.std.specs.Prelude.{◌≡◌, ◌≤◌, ◌<◌, ◌+◌, IfOk, OnOk, vec_len};
-ghost use Rattle.lua_parser.specs.States.{Advances, AdvancesOrStays, IfAdvances};
+ghost use Rattle.std.specs.Prelude.{◌≡◌, ◌≤◌, ◌∷◌, [], ℕ, IfOk, OnOk, vec_len};
+ghost use Rattle.lua_grammar.specs.Tree.{NameList};
+ghost use Rattle.lua_grammar.specs.Resolution.{names_of};
+ghost use Rattle.lua_parser.specs.States.{State, state, Advances, AdvancesOrStays};
+ghost use Rattle.lua_parser.specs.Reads.{ReadsBody};
+ghost use Rattle.lua_parser.specs.ReadsStatements.{ReadsBlock, ReadsScoped, ReadsStat, ReadsLast, ReadsValue, ReadsValues, ReadsArm, ReadsArms, ReadsLoop, ReadsFuncName, ReadsMember, ReadsVars, ReadsTarget, ReadsStep, ReadsInitial, behind_for, behind_function, behind_local};
 
 use crate::ParseFault;
-use crate::cursor::{Named, Parser};
-use crate::nodes::{Form, Prefix, Values, member};
-use crate::places::Place;
-use lua_ast::{Arm, Expr, ExprKind, Stmt, StmtKind};
+use crate::cursor::Parser;
+use crate::nodes::{Form, Prefix, member};
+use crate::places::{HIGHEST, Place};
+use crate::statement_nodes::{
+    FunctionName, LoopBlock, Range, arm_node, assign_node, define, do_node, generic_for, if_node,
+    local_node, numeric_for, repeat_node, returned, while_node,
+};
+use lua_ast::{Arm, Expr, Stmt, StmtKind};
 use lua_lexer::{Sign, Token, TokenKind, Word};
 use resty_base::Bytes;
 use std::alloc::Global;
-use std::rc::Rc;
 
 /// What the next token begins.
 #[derive(Clone, Copy, PartialEq, Eq)]
@@ -21,8 +28,8 @@ enum Begins {
     Repeat,
     Function,
     Local,
-    Return,
-    Break,
+    /// The last statement of a block.
+    Last,
     /// The block ends.
     Nothing,
     /// An assignment or a call.
@@ -43,8 +50,7 @@ impl Parser {
             TokenKind::Word(Word::Repeat) => Begins::Repeat,
             TokenKind::Word(Word::Function) => Begins::Function,
             TokenKind::Word(Word::Local) => Begins::Local,
-            TokenKind::Word(Word::Return) => Begins::Return,
-            TokenKind::Word(Word::Break) => Begins::Break,
+            TokenKind::Word(Word::Return) | TokenKind::Word(Word::Break) => Begins::Last,
             TokenKind::Word(Word::End)
             | TokenKind::Word(Word::Else)
             | TokenKind::Word(Word::ElseIf)
@@ -65,10 +71,11 @@ impl Parser {
         first: Vec<Bytes>,
     ) -> Result<u32, ParseFault>
         requires { vec_len first ≤ 200 }
+        ensures reads { IfOk result (λ number. ReadsBody at line first.items (state tokens.now self.old) number (state tokens.now self.new)) }
         ensures forward { OnOk result (Advances tokens.now self.old self.new) }
     {
         self.take_sign(tokens, Sign::OpenParenthesis)?;
-        let parameters = self.parameters(alloc, tokens, first)?;
+        let parameters = self.parameters(tokens, first)?;
         self.take_sign(tokens, Sign::CloseParenthesis)?;
         let begun = self.enter(alloc, parameters, line)?;
         let inner = self.deeper(tokens, at)?.of_function(begun.rest);
@@ -85,12 +92,13 @@ impl Parser {
         tokens: &[Token],
         at: Place,
     ) -> Result<Vec<Stmt>, ParseFault>
+        ensures reads { IfOk result (λ block. ReadsScoped at (state tokens.now self.old) block.items (state tokens.now self.new)) }
         ensures forward { OnOk result (AdvancesOrStays tokens.now self.old self.new) }
     {
         let inner = self.deeper(tokens, at)?;
-        let count = self.frame.locals.len();
+        let count = self.in_scope();
         let block = self.block(alloc, tokens, inner)?;
-        self.frame.leave(count);
+        self.leave(count);
         Ok(block)
     }
 
@@ -102,13 +110,14 @@ impl Parser {
         tokens: &[Token],
         at: Place,
     ) -> Result<Vec<Stmt>, ParseFault>
+        ensures reads { IfOk result (λ block. ReadsBlock at (state tokens.now self.old) block.items (state tokens.now self.new)) }
         ensures forward { OnOk result (AdvancesOrStays tokens.now self.old self.new) }
     {
         let mut statements = Vec::new(alloc);
         loop {
             match self.begins(tokens) {
                 Begins::Nothing => return Ok(statements),
-                Begins::Return | Begins::Break => {
+                Begins::Last => {
                     let last = self.last(alloc, tokens, at)?;
                     statements.push(last)?;
                     self.skip_sign(tokens, Sign::Semicolon);
@@ -126,29 +135,31 @@ impl Parser {
     /// Reads the last statement of a block.
     #[cycle(descent)]
     fn last(&mut self, alloc: Global, tokens: &[Token], at: Place) -> Result<Stmt, ParseFault>
+        ensures reads { IfOk result (λ last. ReadsLast at (state tokens.now self.old) last (state tokens.now self.new)) }
         ensures forward { OnOk result (Advances tokens.now self.old self.new) }
     {
-        if let Some(line) = self.skip_word(tokens, Word::Break) {
-            if !at.in_loop {
-                return Err(ParseFault::BreakOutside(line));
-            }
-            return Ok(Stmt {
-                line,
-                kind: StmtKind::Break,
-            });
+        if self.at_word(tokens, Word::Break) {
+            return self.break_statement(tokens, at);
         }
         let line = self.take_word(tokens, Word::Return)?;
-        let values = if self.begins(tokens) == Begins::Nothing
-            || self.at_sign(tokens, Sign::Semicolon)
-        {
-            Values::none(alloc)
-        } else {
-            let inner = self.deeper(tokens, at.fresh())?;
-            self.expressions(alloc, tokens, inner)?
-        };
+        if self.begins(tokens) == Begins::Nothing || self.at_sign(tokens, Sign::Semicolon) {
+            return returned(alloc, line, Vec::new(alloc));
+        }
+        let values = self.values(alloc, tokens, at)?;
+        returned(alloc, line, values)
+    }
+
+    fn break_statement(&mut self, tokens: &[Token], at: Place) -> Result<Stmt, ParseFault>
+        ensures reads { IfOk result (λ last. ReadsLast at (state tokens.now self.old) last (state tokens.now self.new)) }
+        ensures forward { OnOk result (Advances tokens.now self.old self.new) }
+    {
+        let line = self.take_word(tokens, Word::Break)?;
+        if !at.in_loop {
+            return Err(ParseFault::BreakOutside(line));
+        }
         Ok(Stmt {
             line,
-            kind: StmtKind::Return(Rc::new(alloc, values.into_exprs())?),
+            kind: StmtKind::Break,
         })
     }
 
@@ -161,6 +172,7 @@ impl Parser {
         at: Place,
         begins: Begins,
     ) -> Result<Stmt, ParseFault>
+        ensures reads { IfOk result (λ out. ReadsStat at (state tokens.now self.old) out (state tokens.now self.new)) }
         ensures forward { OnOk result (Advances tokens.now self.old self.new) }
     {
         match begins {
@@ -178,6 +190,7 @@ impl Parser {
     /// Reads an expression of a statement in a block at `at`.
     #[cycle(descent)]
     fn value(&mut self, alloc: Global, tokens: &[Token], at: Place) -> Result<Expr, ParseFault>
+        ensures reads { IfOk result (λ e. ReadsValue at (state tokens.now self.old) e (state tokens.now self.new)) }
         ensures forward { OnOk result (Advances tokens.now self.old self.new) }
     {
         let inner = self.deeper(tokens, at.fresh())?;
@@ -185,18 +198,48 @@ impl Parser {
         Ok(built.into_expr())
     }
 
+    /// Reads expressions of a statement in a block at `at`.
+    #[cycle(descent)]
+    fn values(
+        &mut self,
+        alloc: Global,
+        tokens: &[Token],
+        at: Place,
+    ) -> Result<Vec<Expr>, ParseFault>
+        ensures reads { IfOk result (λ es. ReadsValues at (state tokens.now self.old) es.items (state tokens.now self.new)) }
+        ensures forward { OnOk result (Advances tokens.now self.old self.new) }
+    {
+        let inner = self.deeper(tokens, at.fresh())?;
+        let values = self.expressions(alloc, tokens, inner)?;
+        Ok(values.into_exprs())
+    }
+
     /// Reads a test, `then` and a block.
     #[cycle(descent)]
     fn arm(&mut self, alloc: Global, tokens: &[Token], at: Place) -> Result<Arm, ParseFault>
+        ensures reads { IfOk result (λ arm. ReadsArm at (state tokens.now self.old) arm (state tokens.now self.new)) }
         ensures forward { OnOk result (Advances tokens.now self.old self.new) }
     {
         let test = self.value(alloc, tokens, at)?;
         self.take_word(tokens, Word::Then)?;
         let body = self.scoped(alloc, tokens, at)?;
-        Ok(Arm {
-            test,
-            body: Rc::new(alloc, body)?,
-        })
+        arm_node(alloc, test, body)
+    }
+
+    /// Reads the arms of an `if` behind its word.
+    #[cycle(descent)]
+    fn arms(&mut self, alloc: Global, tokens: &[Token], at: Place) -> Result<Vec<Arm>, ParseFault>
+        ensures reads { IfOk result (λ arms. (line : ℕ) → ReadsArms at line (state tokens.now self.old) arms.items (state tokens.now self.new)) }
+        ensures forward { OnOk result (Advances tokens.now self.old self.new) }
+    {
+        let first = self.arm(alloc, tokens, at)?;
+        let mut arms = vec![in alloc; first]?;
+        while self.at_word(tokens, Word::ElseIf) {
+            self.take_word(tokens, Word::ElseIf)?;
+            let next = self.arm(alloc, tokens, at)?;
+            arms.push(next)?;
+        }
+        Ok(arms)
     }
 
     #[cycle(descent)]
@@ -206,30 +249,24 @@ impl Parser {
         tokens: &[Token],
         at: Place,
     ) -> Result<Stmt, ParseFault>
+        ensures reads { IfOk result (λ out. ReadsStat at (state tokens.now self.old) out (state tokens.now self.new)) }
         ensures forward { OnOk result (Advances tokens.now self.old self.new) }
     {
         let line = self.take_word(tokens, Word::If)?;
-        let first = self.arm(alloc, tokens, at)?;
-        let mut arms = vec![in alloc; first]?;
-        while self.skip_word(tokens, Word::ElseIf).is_some() {
-            let next = self.arm(alloc, tokens, at)?;
-            arms.push(next)?;
+        let arms = self.arms(alloc, tokens, at)?;
+        if self.at_word(tokens, Word::Else) {
+            self.take_word(tokens, Word::Else)?;
+            let otherwise = self.scoped(alloc, tokens, at)?;
+            self.take_word(tokens, Word::End)?;
+            return if_node(alloc, line, arms, otherwise);
         }
-        let otherwise = if self.skip_word(tokens, Word::Else).is_some() {
-            self.scoped(alloc, tokens, at)?
-        } else {
-            Vec::new(alloc)
-        };
         self.take_word(tokens, Word::End)?;
-        let arms = Rc::new(alloc, arms)?;
-        Ok(Stmt {
-            line,
-            kind: StmtKind::If(arms, Rc::new(alloc, otherwise)?),
-        })
+        if_node(alloc, line, arms, Vec::new(alloc))
     }
 
     #[cycle(descent)]
     fn while_loop(&mut self, alloc: Global, tokens: &[Token], at: Place) -> Result<Stmt, ParseFault>
+        ensures reads { IfOk result (λ out. ReadsStat at (state tokens.now self.old) out (state tokens.now self.new)) }
         ensures forward { OnOk result (Advances tokens.now self.old self.new) }
     {
         let line = self.take_word(tokens, Word::While)?;
@@ -237,24 +274,18 @@ impl Parser {
         self.take_word(tokens, Word::Do)?;
         let body = self.scoped(alloc, tokens, at.looped())?;
         self.take_word(tokens, Word::End)?;
-        let test = Rc::new(alloc, test)?;
-        Ok(Stmt {
-            line,
-            kind: StmtKind::While(test, Rc::new(alloc, body)?),
-        })
+        while_node(alloc, line, test, body)
     }
 
     #[cycle(descent)]
     fn do_block(&mut self, alloc: Global, tokens: &[Token], at: Place) -> Result<Stmt, ParseFault>
+        ensures reads { IfOk result (λ out. ReadsStat at (state tokens.now self.old) out (state tokens.now self.new)) }
         ensures forward { OnOk result (Advances tokens.now self.old self.new) }
     {
         let line = self.take_word(tokens, Word::Do)?;
         let body = self.scoped(alloc, tokens, at)?;
         self.take_word(tokens, Word::End)?;
-        Ok(Stmt {
-            line,
-            kind: StmtKind::Do(Rc::new(alloc, body)?),
-        })
+        do_node(alloc, line, body)
     }
 
     #[cycle(descent)]
@@ -264,42 +295,35 @@ impl Parser {
         tokens: &[Token],
         at: Place,
     ) -> Result<Stmt, ParseFault>
+        ensures reads { IfOk result (λ out. ReadsStat at (state tokens.now self.old) out (state tokens.now self.new)) }
         ensures forward { OnOk result (Advances tokens.now self.old self.new) }
     {
         let line = self.take_word(tokens, Word::Repeat)?;
-        let count = self.frame.locals.len();
+        let count = self.in_scope();
         let inner = self.deeper(tokens, at.looped())?;
         let body = self.block(alloc, tokens, inner)?;
         self.take_word(tokens, Word::Until)?;
         let test = self.value(alloc, tokens, at)?;
-        self.frame.leave(count);
-        let body = Rc::new(alloc, body)?;
-        Ok(Stmt {
-            line,
-            kind: StmtKind::Repeat(body, Rc::new(alloc, test)?),
-        })
+        self.leave(count);
+        repeat_node(alloc, line, body, test)
     }
 
     /// Reads either loop that begins with `for`.
     #[cycle(descent)]
     fn for_loop(&mut self, alloc: Global, tokens: &[Token], at: Place) -> Result<Stmt, ParseFault>
+        ensures reads { IfOk result (λ out. ReadsStat at (state tokens.now self.old) out (state tokens.now self.new)) }
         ensures forward { OnOk result (Advances tokens.now self.old self.new) }
     {
         let line = self.take_word(tokens, Word::For)?;
-        let count = self.frame.locals.len();
+        let count = self.in_scope();
         let names = self.names(alloc, tokens, count)?;
-        let kind = if names.len() == 1 && self.skip_sign(tokens, Sign::Assign).is_some() {
-            self.range_loop(alloc, tokens, at, names, line)?
-        } else {
-            self.take_word(tokens, Word::In)?;
-            self.list_loop(alloc, tokens, at, names, line)?
-        };
-        self.frame.leave(count);
-        self.take_word(tokens, Word::End)?;
-        Ok(Stmt { line, kind })
+        if self.at_sign(tokens, Sign::Assign) {
+            return self.range_loop(alloc, tokens, at, names, line);
+        }
+        self.list_loop(alloc, tokens, at, names, line)
     }
 
-    /// Reads a loop over numbers behind its `=`, up to its `end`.
+    /// Reads a loop over numbers from its `=` on. Its `for` is on that line.
     #[cycle(descent)]
     fn range_loop(
         &mut self,
@@ -308,33 +332,43 @@ impl Parser {
         at: Place,
         names: Vec<Bytes>,
         line: u32,
-    ) -> Result<StmtKind, ParseFault>
+    ) -> Result<Stmt, ParseFault>
+        ensures reads { IfOk result (λ out. (list : NameList) → names.items ≡ names_of list
+            → ReadsStat at (behind_for line list (state tokens.now self.old)) out (state tokens.now self.new)) }
         ensures forward { OnOk result (Advances tokens.now self.old self.new) }
     {
+        if names.len() != 1 {
+            return Err(self.unfit(tokens));
+        }
+        self.take_sign(tokens, Sign::Assign)?;
         let from = self.value(alloc, tokens, at)?;
         self.take_sign(tokens, Sign::Comma)?;
         let to = self.value(alloc, tokens, at)?;
-        let step = if self.skip_sign(tokens, Sign::Comma).is_some() {
-            let step = self.value(alloc, tokens, at)?;
-            Some(Rc::new(alloc, step)?)
-        } else {
-            None
-        };
-        self.take_word(tokens, Word::Do)?;
-        let slots = self.declare(alloc, names, line)?;
-        let slot = slots.first().copied().unwrap_or(0);
-        let inner = self.deeper(tokens, at.looped())?;
-        let body = self.block(alloc, tokens, inner)?;
-        Ok(StmtKind::NumericFor {
-            slot,
-            from: Rc::new(alloc, from)?,
-            to: Rc::new(alloc, to)?,
-            step,
-            body: Rc::new(alloc, body)?,
-        })
+        let step = self.step(alloc, tokens, at)?;
+        let block = self.loop_block(alloc, tokens, at, names, line)?;
+        numeric_for(alloc, line, Range { from, to, step }, block)
     }
 
-    /// Reads a loop over the values of a function behind its `in`, up to its `end`.
+    /// Reads a comma and a value where they stand next.
+    #[cycle(descent)]
+    fn step(
+        &mut self,
+        alloc: Global,
+        tokens: &[Token],
+        at: Place,
+    ) -> Result<Option<Expr>, ParseFault>
+        ensures reads { IfOk result (λ step. ReadsStep at (state tokens.now self.old) step (state tokens.now self.new)) }
+        ensures forward { OnOk result (AdvancesOrStays tokens.now self.old self.new) }
+    {
+        if !self.at_sign(tokens, Sign::Comma) {
+            return Ok(None);
+        }
+        self.take_sign(tokens, Sign::Comma)?;
+        let step = self.value(alloc, tokens, at)?;
+        Ok(Some(step))
+    }
+
+    /// Reads a loop over the values of a function from its `in` on. Its `for` is on that line.
     #[cycle(descent)]
     fn list_loop(
         &mut self,
@@ -343,20 +377,38 @@ impl Parser {
         at: Place,
         names: Vec<Bytes>,
         line: u32,
-    ) -> Result<StmtKind, ParseFault>
+    ) -> Result<Stmt, ParseFault>
+        ensures reads { IfOk result (λ out. (list : NameList) → names.items ≡ names_of list
+            → ReadsStat at (behind_for line list (state tokens.now self.old)) out (state tokens.now self.new)) }
         ensures forward { OnOk result (Advances tokens.now self.old self.new) }
     {
-        let inner = self.deeper(tokens, at.fresh())?;
-        let values = self.expressions(alloc, tokens, inner)?.into_exprs();
+        self.take_word(tokens, Word::In)?;
+        let values = self.values(alloc, tokens, at)?;
+        let block = self.loop_block(alloc, tokens, at, names, line)?;
+        generic_for(alloc, line, values, block)
+    }
+
+    /// Reads `do`, the block of a loop, which sees the loop's variables, and `end`.
+    #[cycle(descent)]
+    fn loop_block(
+        &mut self,
+        alloc: Global,
+        tokens: &[Token],
+        at: Place,
+        names: Vec<Bytes>,
+        line: u32,
+    ) -> Result<LoopBlock, ParseFault>
+        ensures reads { IfOk result (λ block. ReadsLoop at names.items (state tokens.now self.old) block (state tokens.now self.new)) }
+        ensures forward { OnOk result (Advances tokens.now self.old self.new) }
+    {
         self.take_word(tokens, Word::Do)?;
+        let count = self.in_scope();
         let slots = self.declare(alloc, names, line)?;
         let inner = self.deeper(tokens, at.looped())?;
         let body = self.block(alloc, tokens, inner)?;
-        Ok(StmtKind::GenericFor {
-            slots: Rc::new(alloc, slots)?,
-            values: Rc::new(alloc, values)?,
-            body: Rc::new(alloc, body)?,
-        })
+        self.leave(count);
+        self.take_word(tokens, Word::End)?;
+        Ok(LoopBlock { slots, body })
     }
 
     /// Reads `function name.name:name body end`, which is an assignment.
@@ -367,27 +419,75 @@ impl Parser {
         tokens: &[Token],
         at: Place,
     ) -> Result<Stmt, ParseFault>
+        ensures reads { IfOk result (λ out. ReadsStat at (state tokens.now self.old) out (state tokens.now self.new)) }
         ensures forward { OnOk result (Advances tokens.now self.old self.new) }
     {
         let line = self.take_word(tokens, Word::Function)?;
-        let named = self.take_name(tokens)?;
-        let mut target = self.variable(named)?;
-        let mut height = 1;
-        while let Some(dot) = self.skip_sign(tokens, Sign::Dot) {
-            at.fresh().above(height, dot)?;
-            let named = self.take_name(tokens)?;
-            target = member(alloc, target, dot, named)?;
-            height += 1;
+        let name = self.function_name(alloc, tokens)?;
+        if self.at_sign(tokens, Sign::Colon) {
+            return self.method_statement(alloc, tokens, at, line, name);
         }
-        let mut first = Vec::new(alloc);
-        if let Some(colon) = self.skip_sign(tokens, Sign::Colon) {
-            at.fresh().above(height, colon)?;
-            let named = self.take_name(tokens)?;
-            target = member(alloc, target, colon, named)?;
-            first.push(Bytes::from_static(b"self"))?;
-        }
+        let number = self.body(alloc, tokens, at, line, Vec::new(alloc))?;
+        define(alloc, line, name.target, number)
+    }
+
+    /// Reads the rest of the statement of a method from its `:` on. Its `function` is on that line.
+    #[cycle(descent)]
+    fn method_statement(
+        &mut self,
+        alloc: Global,
+        tokens: &[Token],
+        at: Place,
+        line: u32,
+        object: FunctionName,
+    ) -> Result<Stmt, ParseFault>
+        ensures reads { IfOk result (λ out. (s : State) → ReadsFuncName s object (state tokens.now self.old)
+            → ReadsStat at (behind_function line s) out (state tokens.now self.new)) }
+        ensures forward { OnOk result (Advances tokens.now self.old self.new) }
+    {
+        let name = self.name_member(alloc, tokens, Sign::Colon, object)?;
+        let first = vec![in alloc; Bytes::from_static(b"self")]?;
         let number = self.body(alloc, tokens, at, line, first)?;
-        assignment(alloc, line, target, number)
+        define(alloc, line, name.target, number)
+    }
+
+    /// Reads the name of a function in a statement, but for that of a method.
+    fn function_name(&mut self, alloc: Global, tokens: &[Token]) -> Result<FunctionName, ParseFault>
+        ensures reads { IfOk result (λ name. ReadsFuncName (state tokens.now self.old) name (state tokens.now self.new)) }
+        ensures forward { OnOk result (Advances tokens.now self.old self.new) }
+    {
+        let named = self.take_name(tokens)?;
+        let mut name = FunctionName {
+            target: self.variable(named)?,
+            height: 1,
+        };
+        while self.at_sign(tokens, Sign::Dot) {
+            name = self.name_member(alloc, tokens, Sign::Dot, name)?;
+        }
+        Ok(name)
+    }
+
+    /// Reads that sign and a name behind the name of a function in a statement.
+    fn name_member(
+        &mut self,
+        alloc: Global,
+        tokens: &[Token],
+        sign: Sign,
+        object: FunctionName,
+    ) -> Result<FunctionName, ParseFault>
+        ensures reads { IfOk result (λ whole. ReadsMember sign object (state tokens.now self.old) whole (state tokens.now self.new)) }
+        ensures forward { OnOk result (Advances tokens.now self.old self.new) }
+    {
+        let line = self.take_sign(tokens, sign)?;
+        let FunctionName { target, height } = object;
+        if height >= HIGHEST {
+            return Err(ParseFault::Depth(line));
+        }
+        let named = self.take_name(tokens)?;
+        Ok(FunctionName {
+            target: member(alloc, target, line, named)?,
+            height: height + 1,
+        })
     }
 
     /// Reads `local function name body end` or `local names = values`.
@@ -398,32 +498,74 @@ impl Parser {
         tokens: &[Token],
         at: Place,
     ) -> Result<Stmt, ParseFault>
+        ensures reads { IfOk result (λ out. ReadsStat at (state tokens.now self.old) out (state tokens.now self.new)) }
         ensures forward { OnOk result (Advances tokens.now self.old self.new) }
     {
         let line = self.take_word(tokens, Word::Local)?;
-        if let Some(begins) = self.skip_word(tokens, Word::Function) {
-            let Named { name, line: named } = self.take_name(tokens)?;
-            let slot = self.frame.declare(name, named)?;
-            let number = self.body(alloc, tokens, at, begins, Vec::new(alloc))?;
-            return Ok(Stmt {
-                line,
-                kind: StmtKind::LocalFunction(slot, number),
-            });
+        if self.at_word(tokens, Word::Function) {
+            return self.local_function(alloc, tokens, at, line);
         }
-        let count = self.frame.locals.len();
-        let names = self.names(alloc, tokens, count)?;
-        let values = if self.skip_sign(tokens, Sign::Assign).is_some() {
-            let inner = self.deeper(tokens, at.fresh())?;
-            self.expressions(alloc, tokens, inner)?.into_exprs()
-        } else {
-            Vec::new(alloc)
-        };
-        let slots = self.declare(alloc, names, line)?;
-        let slots = Rc::new(alloc, slots)?;
+        self.local_names(alloc, tokens, at, line)
+    }
+
+    /// Reads `function name body end` behind a `local` on that line. The body sees the name.
+    #[cycle(descent)]
+    fn local_function(
+        &mut self,
+        alloc: Global,
+        tokens: &[Token],
+        at: Place,
+        line: u32,
+    ) -> Result<Stmt, ParseFault>
+        ensures reads { IfOk result (λ out. ReadsStat at (behind_local line (state tokens.now self.old)) out (state tokens.now self.new)) }
+        ensures forward { OnOk result (Advances tokens.now self.old self.new) }
+    {
+        let begins = self.take_word(tokens, Word::Function)?;
+        let named = self.take_name(tokens)?;
+        let slot = self.local(named)?;
+        let number = self.body(alloc, tokens, at, begins, Vec::new(alloc))?;
         Ok(Stmt {
             line,
-            kind: StmtKind::Local(slots, Rc::new(alloc, values)?),
+            kind: StmtKind::LocalFunction(slot, number),
         })
+    }
+
+    /// Reads names and the values that they get behind a `local` on that line.
+    #[cycle(descent)]
+    fn local_names(
+        &mut self,
+        alloc: Global,
+        tokens: &[Token],
+        at: Place,
+        line: u32,
+    ) -> Result<Stmt, ParseFault>
+        ensures reads { IfOk result (λ out. ReadsStat at (behind_local line (state tokens.now self.old)) out (state tokens.now self.new)) }
+        ensures forward { OnOk result (Advances tokens.now self.old self.new) }
+    {
+        let count = self.in_scope();
+        let names = self.names(alloc, tokens, count)?;
+        let values = self.initial(alloc, tokens, at)?;
+        let slots = self.declare(alloc, names, line)?;
+        local_node(alloc, line, slots, values)
+    }
+
+    /// Reads `=` and values where they stand next.
+    #[cycle(descent)]
+    fn initial(
+        &mut self,
+        alloc: Global,
+        tokens: &[Token],
+        at: Place,
+    ) -> Result<Option<Vec<Expr>>, ParseFault>
+        ensures reads { IfOk result (λ values. ReadsInitial at (state tokens.now self.old) values (state tokens.now self.new)) }
+        ensures forward { OnOk result (AdvancesOrStays tokens.now self.old self.new) }
+    {
+        if !self.at_sign(tokens, Sign::Assign) {
+            return Ok(None);
+        }
+        self.take_sign(tokens, Sign::Assign)?;
+        let values = self.values(alloc, tokens, at)?;
+        Ok(Some(values))
     }
 
     /// Reads an assignment or a call.
@@ -434,48 +576,73 @@ impl Parser {
         tokens: &[Token],
         at: Place,
     ) -> Result<Stmt, ParseFault>
+        ensures reads { IfOk result (λ out. ReadsStat at (state tokens.now self.old) out (state tokens.now self.new)) }
         ensures forward { OnOk result (Advances tokens.now self.old self.new) }
     {
-        let line = self.line_ahead(tokens);
+        let line = self.line_ahead(tokens)?;
         let Prefix { expr, form, .. } = self.prefix(alloc, tokens, at.fresh())?;
-        if form == Form::Call {
-            return Ok(Stmt {
+        match form {
+            Form::Call => Ok(Stmt {
                 line,
                 kind: StmtKind::Call(expr),
-            });
+            }),
+            Form::Variable => self.assignment(alloc, tokens, at, line, expr),
+            Form::Paren => Err(self.unfit(tokens)),
         }
-        if form == Form::Paren {
-            return Err(self.unfit(tokens));
-        }
-        let mut targets = vec![in alloc; expr]?;
-        while self.skip_sign(tokens, Sign::Comma).is_some() {
-            let Prefix { expr, form, .. } = self.prefix(alloc, tokens, at.fresh())?;
-            if form != Form::Variable {
-                return Err(self.unfit(tokens));
-            }
-            targets.push(expr)?;
-        }
-        self.take_sign(tokens, Sign::Assign)?;
-        let inner = self.deeper(tokens, at.fresh())?;
-        let values = self.expressions(alloc, tokens, inner)?.into_exprs();
-        let targets = Rc::new(alloc, targets)?;
-        Ok(Stmt {
-            line,
-            kind: StmtKind::Assign(targets, Rc::new(alloc, values)?),
-        })
     }
-}
 
-/// The assignment of a function.
-fn assignment(alloc: Global, line: u32, target: Expr, number: u32) -> Result<Stmt, ParseFault> {
-    let function = Expr {
-        line,
-        kind: ExprKind::Function(number),
-    };
-    let targets = Rc::new(alloc, vec![in alloc; target]?)?;
-    let values = Rc::new(alloc, vec![in alloc; function]?)?;
-    Ok(Stmt {
-        line,
-        kind: StmtKind::Assign(targets, values),
-    })
+    /// Reads the rest of an assignment behind its first target. It begins on that line.
+    #[cycle(descent)]
+    fn assignment(
+        &mut self,
+        alloc: Global,
+        tokens: &[Token],
+        at: Place,
+        line: u32,
+        first: Expr,
+    ) -> Result<Stmt, ParseFault>
+        ensures reads { IfOk result (λ out. (s : State) → ReadsVars at line s (first ∷ []) (state tokens.now self.old)
+            → ReadsStat at s out (state tokens.now self.new)) }
+        ensures forward { OnOk result (Advances tokens.now self.old self.new) }
+    {
+        let targets = self.targets(alloc, tokens, at, first)?;
+        self.take_sign(tokens, Sign::Assign)?;
+        let values = self.values(alloc, tokens, at)?;
+        assign_node(alloc, line, targets, values)
+    }
+
+    /// Reads the targets of an assignment behind the first.
+    #[cycle(descent)]
+    fn targets(
+        &mut self,
+        alloc: Global,
+        tokens: &[Token],
+        at: Place,
+        first: Expr,
+    ) -> Result<Vec<Expr>, ParseFault>
+        ensures reads { IfOk result (λ targets. (line : ℕ) (s : State) → ReadsVars at line s (first ∷ []) (state tokens.now self.old)
+            → ReadsVars at line s targets.items (state tokens.now self.new)) }
+        ensures forward { OnOk result (AdvancesOrStays tokens.now self.old self.new) }
+    {
+        let mut targets = vec![in alloc; first]?;
+        while self.at_sign(tokens, Sign::Comma) {
+            self.take_sign(tokens, Sign::Comma)?;
+            let next = self.target(alloc, tokens, at)?;
+            targets.push(next)?;
+        }
+        Ok(targets)
+    }
+
+    /// Reads a variable that is assigned to.
+    #[cycle(descent)]
+    fn target(&mut self, alloc: Global, tokens: &[Token], at: Place) -> Result<Expr, ParseFault>
+        ensures reads { IfOk result (λ e. ReadsTarget at (state tokens.now self.old) e (state tokens.now self.new)) }
+        ensures forward { OnOk result (Advances tokens.now self.old self.new) }
+    {
+        let Prefix { expr, form, .. } = self.prefix(alloc, tokens, at.fresh())?;
+        match form {
+            Form::Variable => Ok(expr),
+            Form::Call | Form::Paren => Err(self.unfit(tokens)),
+        }
+    }
 }

@@ -1,10 +1,14 @@
-ghost use Rattle.std.specs.Prelude.{◌≡◌, ◌≤◌, ◌<◌, ◌+◌, IfOk, OnOk, vec_len};
-ghost use Rattle.lua_parser.specs.States.{Advances, AdvancesOrStays, IfAdvances};
+ghost use Rattle.std.specs.Prelude.{◌≡◌, Some, slice_get, IfOk, OnOk, true};
+ghost use Rattle.lua_lexer.specs.declared.tokens.TokenKind.TheVariants.{Sign as SignKind};
+ghost use Rattle.lua_lexer.specs.declared.signs.Sign.TheVariants.{OpenParenthesis};
+ghost use Rattle.lua_grammar.specs.Grammar.{first_line};
+ghost use Rattle.lua_parser.specs.States.{state, Advances, TakesSeparator, OpensOnLine};
+ghost use Rattle.lua_parser.specs.Reads.{ReadsPrefix, Extends, ReadsArgs, ReadsList, ReadsTable, ReadsField};
 
 use crate::ParseFault;
 use crate::cursor::Parser;
 use crate::nodes::{
-    Built, Form, Items, Prefix, Values, called, indexed, member, method_called, paren,
+    Built, Form, Item, Items, Prefix, Values, called, indexed, member, method_called, paren,
 };
 use crate::places::Place;
 use lua_lexer::{Sign, Token, TokenKind};
@@ -43,6 +47,7 @@ impl Parser {
         tokens: &[Token],
         at: Place,
     ) -> Result<Prefix, ParseFault>
+        ensures reads { IfOk result (λ p. ReadsPrefix at (state tokens.now self.old) p (state tokens.now self.new)) }
         ensures forward { OnOk result (Advances tokens.now self.old self.new) }
     {
         let mut prefix = self.primary(alloc, tokens, at)?;
@@ -60,19 +65,22 @@ impl Parser {
     /// Reads a name or an expression in parentheses.
     #[cycle(descent)]
     fn primary(&mut self, alloc: Global, tokens: &[Token], at: Place) -> Result<Prefix, ParseFault>
+        ensures reads { IfOk result (λ p. ReadsPrefix at (state tokens.now self.old) p (state tokens.now self.new)) }
         ensures forward { OnOk result (Advances tokens.now self.old self.new) }
     {
-        let Some(open) = self.skip_sign(tokens, Sign::OpenParenthesis) else {
-            return self.name(tokens);
-        };
+        if !self.at_sign(tokens, Sign::OpenParenthesis) {
+            return self.name(tokens, at);
+        }
+        let open = self.take_sign(tokens, Sign::OpenParenthesis)?;
         let inner = self.part(tokens, at)?;
         let built = self.expression(alloc, tokens, inner, 1)?;
         self.take_sign(tokens, Sign::CloseParenthesis)?;
         paren(alloc, built, open)
     }
 
-    /// Reads a name.
-    fn name(&mut self, tokens: &[Token]) -> Result<Prefix, ParseFault>
+    /// Reads a name. It has place wherever an expression has.
+    fn name(&mut self, tokens: &[Token], at: Place) -> Result<Prefix, ParseFault>
+        ensures reads { IfOk result (λ p. ReadsPrefix at (state tokens.now self.old) p (state tokens.now self.new)) }
         ensures forward { OnOk result (Advances tokens.now self.old self.new) }
     {
         let named = self.take_name(tokens)?;
@@ -91,6 +99,7 @@ impl Parser {
         at: Place,
         object: Prefix,
     ) -> Result<Prefix, ParseFault>
+        ensures reads { IfOk result (λ p. Extends at object (state tokens.now self.old) p (state tokens.now self.new)) }
         ensures forward { OnOk result (Advances tokens.now self.old self.new) }
     {
         let dot = self.take_sign(tokens, Sign::Dot)?;
@@ -114,6 +123,7 @@ impl Parser {
         at: Place,
         object: Prefix,
     ) -> Result<Prefix, ParseFault>
+        ensures reads { IfOk result (λ p. Extends at object (state tokens.now self.old) p (state tokens.now self.new)) }
         ensures forward { OnOk result (Advances tokens.now self.old self.new) }
     {
         let open = self.take_sign(tokens, Sign::OpenBracket)?;
@@ -133,6 +143,7 @@ impl Parser {
         at: Place,
         callee: Prefix,
     ) -> Result<Prefix, ParseFault>
+        ensures reads { IfOk result (λ p. Extends at callee (state tokens.now self.old) p (state tokens.now self.new)) }
         ensures forward { OnOk result (Advances tokens.now self.old self.new) }
     {
         let line = self.arguments_line(tokens)?;
@@ -150,6 +161,7 @@ impl Parser {
         at: Place,
         object: Prefix,
     ) -> Result<Prefix, ParseFault>
+        ensures reads { IfOk result (λ p. Extends at object (state tokens.now self.old) p (state tokens.now self.new)) }
         ensures forward { OnOk result (Advances tokens.now self.old self.new) }
     {
         let colon = self.take_sign(tokens, Sign::Colon)?;
@@ -160,22 +172,30 @@ impl Parser {
         method_called(alloc, object, named.name, line, values)
     }
 
-    /// The line on which arguments begin.
-    fn arguments_line(&self, tokens: &[Token]) -> Result<u32, ParseFault> {
+    /// The line of the next token, with which arguments may begin.
+    fn arguments_line(&self, tokens: &[Token]) -> Result<u32, ParseFault>
+        ensures line { IfOk result (λ line. line ≡ first_line (state tokens.now self.now).left) }
+        ensures same { OnOk result (OpensOnLine (state tokens.now self.now)) }
+    {
         let Some(token) = tokens.get(self.place) else {
             return Err(self.unfit(tokens));
         };
-        match &token.kind {
-            TokenKind::Sign(Sign::OpenParenthesis) => {
-                if token.line == self.line {
-                    Ok(token.line)
-                } else {
-                    Err(ParseFault::Ambiguous(token.line))
-                }
+        self.opening_line(tokens, token)
+    }
+
+    /// The line of that token, which is the next one; a `(` has to be on the line of the token before it.
+    fn opening_line(&self, tokens: &[Token], token: &Token) -> Result<u32, ParseFault>
+        requires { slice_get tokens.now self.now.place ≡ Some token.now }
+        ensures line { IfOk result (λ line. line ≡ first_line (state tokens.now self.now).left) }
+        ensures same { OnOk result (OpensOnLine (state tokens.now self.now)) }
+    {
+        if is_open_parenthesis(&token.kind) {
+            if token.line == self.line {
+                return Ok(token.line);
             }
-            TokenKind::Sign(Sign::OpenBrace) | TokenKind::Text(_) => Ok(token.line),
-            _ => Err(self.unfit(tokens)),
+            return Err(ParseFault::Ambiguous(token.line));
         }
+        Ok(token.line)
     }
 
     /// Reads arguments. Expressions among them are parts of one at `at`.
@@ -186,6 +206,7 @@ impl Parser {
         tokens: &[Token],
         at: Place,
     ) -> Result<Values, ParseFault>
+        ensures reads { IfOk result (λ values. ReadsArgs at (state tokens.now self.old) values (state tokens.now self.new)) }
         ensures forward { OnOk result (Advances tokens.now self.old self.new) }
     {
         if self.at_sign(tokens, Sign::OpenBrace) {
@@ -193,11 +214,13 @@ impl Parser {
             let table = self.table(alloc, tokens, inner)?;
             return Values::one(alloc, table);
         }
-        if let Some(text) = self.skip_text(tokens)? {
+        if self.at_text(tokens) {
+            let text = self.take_text(tokens)?;
             return Values::text(alloc, text);
         }
         self.take_sign(tokens, Sign::OpenParenthesis)?;
-        if self.skip_sign(tokens, Sign::CloseParenthesis).is_some() {
+        if self.at_sign(tokens, Sign::CloseParenthesis) {
+            self.take_sign(tokens, Sign::CloseParenthesis)?;
             return Ok(Values::none(alloc));
         }
         let inner = self.part(tokens, at)?;
@@ -214,11 +237,13 @@ impl Parser {
         tokens: &[Token],
         at: Place,
     ) -> Result<Values, ParseFault>
+        ensures reads { IfOk result (λ values. ReadsList at (state tokens.now self.old) values (state tokens.now self.new)) }
         ensures forward { OnOk result (Advances tokens.now self.old self.new) }
     {
         let first = self.expression(alloc, tokens, at, 1)?;
         let mut values = Values::one(alloc, first)?;
-        while self.skip_sign(tokens, Sign::Comma).is_some() {
+        while self.at_sign(tokens, Sign::Comma) {
+            self.take_sign(tokens, Sign::Comma)?;
             let next = self.expression(alloc, tokens, at, 1)?;
             values.push(next)?;
         }
@@ -233,27 +258,37 @@ impl Parser {
         tokens: &[Token],
         at: Place,
     ) -> Result<Built, ParseFault>
+        ensures reads { IfOk result (λ b. ReadsTable at (state tokens.now self.old) b (state tokens.now self.new)) }
         ensures forward { OnOk result (Advances tokens.now self.old self.new) }
     {
         let open = self.take_sign(tokens, Sign::OpenBrace)?;
         let mut items = Items::none(alloc);
-        while self.skip_sign(tokens, Sign::CloseBrace).is_none() {
+        while !self.at_sign(tokens, Sign::CloseBrace) {
             let inner = self.part(tokens, at)?;
-            self.field(alloc, tokens, inner, &mut items)?;
-            if !self.skip_separator(tokens) {
+            let item = self.field(alloc, tokens, inner)?;
+            items.push(item)?;
+            if self.at_sign(tokens, Sign::CloseBrace) {
                 self.take_sign(tokens, Sign::CloseBrace)?;
-                break;
+                return items.into_table(alloc, open);
             }
+            self.take_separator(tokens)?;
         }
+        self.take_sign(tokens, Sign::CloseBrace)?;
         items.into_table(alloc, open)
     }
 
-    /// Reads `,` or `;` where it is the next token.
-    fn skip_separator(&mut self, tokens: &[Token]) -> bool
-        ensures forward { AdvancesOrStays tokens.now self.old self.new }
+    /// Reads `,` or `;`.
+    #[tactic(auto, using(crate::proofs::Tables::comma_taken, crate::proofs::Tables::semicolon_taken))]
+    fn take_separator(&mut self, tokens: &[Token]) -> Result<(), ParseFault>
+        ensures takes { OnOk result (TakesSeparator (state tokens.now self.old) (state tokens.now self.new)) }
+        ensures forward { OnOk result (Advances tokens.now self.old self.new) }
     {
-        self.skip_sign(tokens, Sign::Comma).is_some()
-            || self.skip_sign(tokens, Sign::Semicolon).is_some()
+        if self.at_sign(tokens, Sign::Comma) {
+            self.take_sign(tokens, Sign::Comma)?;
+            return Ok(());
+        }
+        self.take_sign(tokens, Sign::Semicolon)?;
+        Ok(())
     }
 
     /// Whether a name and `=` follow.
@@ -268,31 +303,62 @@ impl Parser {
             && matches!(&next.kind, TokenKind::Sign(Sign::Assign))
     }
 
-    /// Reads an item of a table constructor, with expressions at `at`, and puts it at the end.
+    /// Reads an item of a table constructor, with expressions at `at`.
     #[cycle(descent)]
-    fn field(
+    fn field(&mut self, alloc: Global, tokens: &[Token], at: Place) -> Result<Item, ParseFault>
+        ensures reads { IfOk result (λ item. ReadsField at (state tokens.now self.old) item (state tokens.now self.new)) }
+        ensures forward { OnOk result (Advances tokens.now self.old self.new) }
+    {
+        if self.at_sign(tokens, Sign::OpenBracket) {
+            return self.keyed_field(alloc, tokens, at);
+        }
+        if self.at_named_field(tokens) {
+            return self.named_field(alloc, tokens, at);
+        }
+        let value = self.expression(alloc, tokens, at, 1)?;
+        Ok(Item::value(value))
+    }
+
+    /// Reads `[key] = value`.
+    #[cycle(descent)]
+    fn keyed_field(
         &mut self,
         alloc: Global,
         tokens: &[Token],
         at: Place,
-        items: &mut Items,
-    ) -> Result<(), ParseFault>
+    ) -> Result<Item, ParseFault>
+        ensures reads { IfOk result (λ item. ReadsField at (state tokens.now self.old) item (state tokens.now self.new)) }
         ensures forward { OnOk result (Advances tokens.now self.old self.new) }
     {
-        if self.skip_sign(tokens, Sign::OpenBracket).is_some() {
-            let key = self.expression(alloc, tokens, at, 1)?;
-            self.take_sign(tokens, Sign::CloseBracket)?;
-            self.take_sign(tokens, Sign::Assign)?;
-            let value = self.expression(alloc, tokens, at, 1)?;
-            return items.push_pair(key, value);
-        }
-        if self.at_named_field(tokens) {
-            let key = self.take_name(tokens)?.into_text();
-            self.take_sign(tokens, Sign::Assign)?;
-            let value = self.expression(alloc, tokens, at, 1)?;
-            return items.push_pair(key, value);
-        }
+        self.take_sign(tokens, Sign::OpenBracket)?;
+        let key = self.expression(alloc, tokens, at, 1)?;
+        self.take_sign(tokens, Sign::CloseBracket)?;
+        self.take_sign(tokens, Sign::Assign)?;
         let value = self.expression(alloc, tokens, at, 1)?;
-        items.push_value(value)
+        Ok(Item::pair(key, value))
     }
+
+    /// Reads `name = value`.
+    #[cycle(descent)]
+    fn named_field(
+        &mut self,
+        alloc: Global,
+        tokens: &[Token],
+        at: Place,
+    ) -> Result<Item, ParseFault>
+        ensures reads { IfOk result (λ item. ReadsField at (state tokens.now self.old) item (state tokens.now self.new)) }
+        ensures forward { OnOk result (Advances tokens.now self.old self.new) }
+    {
+        let named = self.take_name(tokens)?;
+        self.take_sign(tokens, Sign::Assign)?;
+        let value = self.expression(alloc, tokens, at, 1)?;
+        Ok(Item::pair(named.into_text(), value))
+    }
+}
+
+/// Whether a token is `(`.
+fn is_open_parenthesis(kind: &TokenKind) -> bool
+    ensures { kind.now ≡ SignKind OpenParenthesis → result ≡ true }
+{
+    matches!(kind, TokenKind::Sign(Sign::OpenParenthesis))
 }

@@ -1,15 +1,12 @@
-use Rattle.std.proofs.Common.{◌≡◌, [], ◌∷◌, refl, rules}
-use Rattle.lua_parser.specs.Frames.{frame_of}
+use Rattle.std.proofs.Common.{◌≡◌, ◌∷◌, [], refl, rules}
+use Rattle.lua_parser.proofs.Bodies.{chunk_begins, chunk_read}
 use Rattle.lua_parser.proofs.parser.parse.Goals as goal
 
 pub returns : goal.returns
 returns c = record {
-  chunk = record {
-    chunk = c.in_ok-chunk.chunk;
-    frame = frame_of c.block.new.self.frame;
-    statements = c.in_ok-body.body.items;
-    begins = rw c.first_line-line.ensures at (c.in_ok-chunk.ensures [] refl);
-    first = c.in_ok-whole.ensures;
-    files = search rules;
-  };
+  program =
+      let begun = chunk_begins _ _ c.with_parameters.result _ _ c.in_ok-vec.ensures.items c.with_parameters.ensures c.new.ensures.items c.new-2.ensures.items in
+      let files : c.of.result ≡ [] ∷ [] = search rules in
+      chunk_read _ _ _ _ _ _ _ _ _ c.in_ok-body.ensures.reads refl begun refl refl refl c.if-parser-tokens.false c.first_line-line.ensures
+      (c.in_ok-chunk.ensures [] refl) c.in_ok-whole.ensures files;
 }

@@ -1,9 +1,14 @@
 use Rattle.std.proofs.Common.{◌≡◌, ◌+◌, ◌-◌, ◌≤◌, length, vec_len}
-use Rattle.lua_parser.specs.States.{AdvancesOrStays}
+use Rattle.lua_parser.specs.States.{state, Advances}
+use Rattle.lua_parser.specs.ReadsNames.{ReadsNames}
 use Rattle.lua_parser.proofs.cursor.Parser.parameters.Given as goal
 
-abbrev pub invariant-loop-names : goal.invariant-loop-names
-invariant-loop-names l = AdvancesOrStays l.tokens l.fn.self l.self × (vec_len l.names ≤ 200)
+abbrev pub invariant-loop-self : goal.invariant-loop-self
+invariant-loop-self l = record {
+  forward : Advances l.tokens l.fn.self l.self;
+  few : vec_len l.names ≤ 200;
+  reads : ReadsNames l.fn.names.items (state l.tokens l.fn.self) l.names.items (state l.tokens l.self);
+}
 
-abbrev pub decreases-loop-names : goal.decreases-loop-names
-decreases-loop-names l = length l.tokens - l.self.place
+abbrev pub decreases-loop-self : goal.decreases-loop-self
+decreases-loop-self l = length l.tokens - l.self.place

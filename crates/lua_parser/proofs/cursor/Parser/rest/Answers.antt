@@ -1,0 +1,5 @@
+use Rattle.lua_parser.proofs.Productions.{dots_read}
+use Rattle.lua_parser.proofs.cursor.Parser.rest.Goals as goal
+
+pub returns-then-at-clause-reads : goal.returns-then-at-clause-reads
+returns-then-at-clause-reads c = dots_read _ _ _ _ _ c.in_ok-line.ensures.takes c.if-at.true c.leaf.ensures

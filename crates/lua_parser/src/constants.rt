@@ -1,0 +1,105 @@
+ghost use Rattle.std.specs.Prelude.{◌≡◌, ◌≤◌, IfOk, OnOk};
+ghost use Rattle.lua_lexer.specs.declared.tokens.TokenKind.TheVariants.{Number as NumberKind};
+ghost use Rattle.lua_parser.specs.States.{state, Takes, Advances};
+ghost use Rattle.lua_parser.specs.Reads.{ReadsExp};
+
+use crate::ParseFault;
+use crate::cursor::Parser;
+use crate::nodes::{Built, leaf};
+use crate::places::Place;
+use lua_ast::ExprKind;
+use lua_lexer::{Sign, Token, TokenKind, Word};
+use resty_base::Whole;
+
+/// A number, and its line.
+#[derive(Clone, Copy)]
+pub(crate) struct Numeral {
+    pub number: Whole,
+    pub line: u32,
+}
+
+impl Parser {
+    /// Reads `nil`.
+    pub(crate) fn nil(&mut self, tokens: &[Token], at: Place) -> Result<Built, ParseFault>
+        ensures reads { IfOk result (λ b. ReadsExp at (state tokens.now self.old) b (state tokens.now self.new)) }
+        ensures level { IfOk result (λ b. 7 ≤ b.level) }
+        ensures forward { OnOk result (Advances tokens.now self.old self.new) }
+    {
+        let line = self.take_word(tokens, Word::Nil)?;
+        Ok(leaf(line, ExprKind::Nil))
+    }
+
+    /// Reads `true`.
+    pub(crate) fn truth(&mut self, tokens: &[Token], at: Place) -> Result<Built, ParseFault>
+        ensures reads { IfOk result (λ b. ReadsExp at (state tokens.now self.old) b (state tokens.now self.new)) }
+        ensures level { IfOk result (λ b. 7 ≤ b.level) }
+        ensures forward { OnOk result (Advances tokens.now self.old self.new) }
+    {
+        let line = self.take_word(tokens, Word::True)?;
+        Ok(leaf(line, ExprKind::True))
+    }
+
+    /// Reads `false`.
+    pub(crate) fn falsity(&mut self, tokens: &[Token], at: Place) -> Result<Built, ParseFault>
+        ensures reads { IfOk result (λ b. ReadsExp at (state tokens.now self.old) b (state tokens.now self.new)) }
+        ensures level { IfOk result (λ b. 7 ≤ b.level) }
+        ensures forward { OnOk result (Advances tokens.now self.old self.new) }
+    {
+        let line = self.take_word(tokens, Word::False)?;
+        Ok(leaf(line, ExprKind::False))
+    }
+
+    /// Reads a number.
+    pub(crate) fn number(&mut self, tokens: &[Token], at: Place) -> Result<Built, ParseFault>
+        ensures reads { IfOk result (λ b. ReadsExp at (state tokens.now self.old) b (state tokens.now self.new)) }
+        ensures level { IfOk result (λ b. 7 ≤ b.level) }
+        ensures forward { OnOk result (Advances tokens.now self.old self.new) }
+    {
+        let numeral = self.take_number(tokens)?;
+        Ok(leaf(numeral.line, ExprKind::Number(numeral.number)))
+    }
+
+    /// Reads a text.
+    pub(crate) fn text(&mut self, tokens: &[Token], at: Place) -> Result<Built, ParseFault>
+        ensures reads { IfOk result (λ b. ReadsExp at (state tokens.now self.old) b (state tokens.now self.new)) }
+        ensures level { IfOk result (λ b. 7 ≤ b.level) }
+        ensures forward { OnOk result (Advances tokens.now self.old self.new) }
+    {
+        let text = self.take_text(tokens)?;
+        Ok(text.into_text())
+    }
+
+    /// Reads `...`.
+    pub(crate) fn rest(&mut self, tokens: &[Token], at: Place) -> Result<Built, ParseFault>
+        ensures reads { IfOk result (λ b. ReadsExp at (state tokens.now self.old) b (state tokens.now self.new)) }
+        ensures level { IfOk result (λ b. 7 ≤ b.level) }
+        ensures forward { OnOk result (Advances tokens.now self.old self.new) }
+    {
+        let line = self.take_sign(tokens, Sign::Ellipsis)?;
+        if at.rest {
+            return Ok(leaf(line, ExprKind::Vararg));
+        }
+        Err(ParseFault::VarargOutside(line))
+    }
+
+    /// Reads a number alone.
+    fn take_number(&mut self, tokens: &[Token]) -> Result<Numeral, ParseFault>
+        ensures takes { IfOk result (λ found. Takes (NumberKind found.number) found.line (state tokens.now self.old) (state tokens.now self.new)) }
+        ensures forward { OnOk result (Advances tokens.now self.old self.new) }
+    {
+        let Some(token) = tokens.get(self.place) else {
+            return Err(self.unfit(tokens));
+        };
+        match &token.kind {
+            TokenKind::Number(number) => {
+                let number = *number;
+                self.advance(tokens, token);
+                Ok(Numeral {
+                    number,
+                    line: token.line,
+                })
+            }
+            _ => Err(self.unfit(tokens)),
+        }
+    }
+}

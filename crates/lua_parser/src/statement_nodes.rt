@@ -1,0 +1,240 @@
+ghost use Rattle.std.specs.Prelude.{◌≡◌, IfOk, option_map};
+ghost use Rattle.lua_parser.specs.StatementNodes.{IsArm, IsIf, IsWhile, IsDo, IsRepeat, IsNumericFor, IsGenericFor, IsLocal, IsAssign, Defines, IsReturn, Begins, given_of};
+
+use crate::ParseFault;
+use lua_ast::{Arm, Expr, ExprKind, Stmt, StmtKind};
+use std::alloc::Global;
+use std::rc::Rc;
+
+/// The block of a loop, and the slots of the loop's variables.
+#[derive(Drop)]
+pub(crate) struct LoopBlock {
+    pub slots: Vec<u8>,
+    pub body: Vec<Stmt>,
+}
+
+/// The numbers of a loop: the first, the last, and the step where one is given.
+#[derive(Drop)]
+pub(crate) struct Range {
+    pub from: Expr,
+    pub to: Expr,
+    pub step: Option<Expr>,
+}
+
+/// The variable or the field that a function is assigned to, and its height.
+#[derive(Drop)]
+pub(crate) struct FunctionName {
+    pub target: Expr,
+    pub height: u32,
+}
+
+/// A test and its block.
+pub(crate) fn arm_node(alloc: Global, test: Expr, body: Vec<Stmt>) -> Result<Arm, ParseFault>
+    ensures { IfOk result (IsArm test body.items) }
+{
+    Ok(Arm {
+        test,
+        body: Rc::new(alloc, body)?,
+    })
+}
+
+/// `if`, without statements of `else` where there is none.
+pub(crate) fn if_node(
+    alloc: Global,
+    line: u32,
+    arms: Vec<Arm>,
+    otherwise: Vec<Stmt>,
+) -> Result<Stmt, ParseFault>
+    ensures { IfOk result (IsIf line arms.items otherwise.items) }
+{
+    let arms = Rc::new(alloc, arms)?;
+    Ok(Stmt {
+        line,
+        kind: StmtKind::If(arms, Rc::new(alloc, otherwise)?),
+    })
+}
+
+/// `while`.
+pub(crate) fn while_node(
+    alloc: Global,
+    line: u32,
+    test: Expr,
+    body: Vec<Stmt>,
+) -> Result<Stmt, ParseFault>
+    ensures { IfOk result (IsWhile line test body.items) }
+{
+    let test = Rc::new(alloc, test)?;
+    Ok(Stmt {
+        line,
+        kind: StmtKind::While(test, Rc::new(alloc, body)?),
+    })
+}
+
+/// `do`.
+pub(crate) fn do_node(alloc: Global, line: u32, body: Vec<Stmt>) -> Result<Stmt, ParseFault>
+    ensures { IfOk result (IsDo line body.items) }
+{
+    Ok(Stmt {
+        line,
+        kind: StmtKind::Do(Rc::new(alloc, body)?),
+    })
+}
+
+/// `repeat`.
+pub(crate) fn repeat_node(
+    alloc: Global,
+    line: u32,
+    body: Vec<Stmt>,
+    test: Expr,
+) -> Result<Stmt, ParseFault>
+    ensures { IfOk result (IsRepeat line body.items test) }
+{
+    let body = Rc::new(alloc, body)?;
+    Ok(Stmt {
+        line,
+        kind: StmtKind::Repeat(body, Rc::new(alloc, test)?),
+    })
+}
+
+/// A loop over numbers, whose variable has the first of the slots.
+pub(crate) fn numeric_for(
+    alloc: Global,
+    line: u32,
+    range: Range,
+    block: LoopBlock,
+) -> Result<Stmt, ParseFault>
+    ensures { IfOk result (IsNumericFor line range block) }
+{
+    let Range { from, to, step } = range;
+    let LoopBlock { slots, body } = block;
+    let slot = first_slot(&slots);
+    let from = Rc::new(alloc, from)?;
+    let to = Rc::new(alloc, to)?;
+    let step = shared(alloc, step)?;
+    let body = Rc::new(alloc, body)?;
+    Ok(Stmt {
+        line,
+        kind: StmtKind::NumericFor {
+            slot,
+            from,
+            to,
+            step,
+            body,
+        },
+    })
+}
+
+/// The first of the slots, 0 of none.
+#[tactic(auto, using(crate::proofs::Loops::begins_first, crate::proofs::Loops::begins_none))]
+fn first_slot(slots: &[u8]) -> u8
+    ensures { Begins result slots.now }
+{
+    match slots.get(0) {
+        Some(slot) => *slot,
+        None => 0,
+    }
+}
+
+/// The same expression, shared.
+fn shared(alloc: Global, expr: Option<Expr>) -> Result<Option<Rc<Expr>>, ParseFault>
+    ensures { IfOk result (λ found. option_map (λ rc. rc.value) found ≡ expr) }
+{
+    match expr {
+        Some(expr) => Ok(Some(Rc::new(alloc, expr)?)),
+        None => Ok(None),
+    }
+}
+
+/// A loop over the values of a function.
+pub(crate) fn generic_for(
+    alloc: Global,
+    line: u32,
+    values: Vec<Expr>,
+    block: LoopBlock,
+) -> Result<Stmt, ParseFault>
+    ensures { IfOk result (IsGenericFor line values.items block) }
+{
+    let LoopBlock { slots, body } = block;
+    let slots = Rc::new(alloc, slots)?;
+    let values = Rc::new(alloc, values)?;
+    let body = Rc::new(alloc, body)?;
+    Ok(Stmt {
+        line,
+        kind: StmtKind::GenericFor {
+            slots,
+            values,
+            body,
+        },
+    })
+}
+
+/// `local`, without values where none are given.
+pub(crate) fn local_node(
+    alloc: Global,
+    line: u32,
+    slots: Vec<u8>,
+    values: Option<Vec<Expr>>,
+) -> Result<Stmt, ParseFault>
+    ensures { IfOk result (IsLocal line slots.items values) }
+{
+    let values = given(alloc, values);
+    let slots = Rc::new(alloc, slots)?;
+    Ok(Stmt {
+        line,
+        kind: StmtKind::Local(slots, Rc::new(alloc, values)?),
+    })
+}
+
+/// The values, none where none are given.
+fn given(alloc: Global, values: Option<Vec<Expr>>) -> Vec<Expr>
+    ensures { result.items ≡ given_of values }
+{
+    match values {
+        Some(values) => values,
+        None => Vec::new(alloc),
+    }
+}
+
+/// An assignment.
+pub(crate) fn assign_node(
+    alloc: Global,
+    line: u32,
+    targets: Vec<Expr>,
+    values: Vec<Expr>,
+) -> Result<Stmt, ParseFault>
+    ensures { IfOk result (IsAssign line targets.items values.items) }
+{
+    let targets = Rc::new(alloc, targets)?;
+    Ok(Stmt {
+        line,
+        kind: StmtKind::Assign(targets, Rc::new(alloc, values)?),
+    })
+}
+
+/// The assignment of a function.
+pub(crate) fn define(
+    alloc: Global,
+    line: u32,
+    target: Expr,
+    number: u32,
+) -> Result<Stmt, ParseFault>
+    ensures { IfOk result (Defines line target number) }
+{
+    let function = Expr {
+        line,
+        kind: ExprKind::Function(number),
+    };
+    let targets = vec![in alloc; target]?;
+    let values = vec![in alloc; function]?;
+    assign_node(alloc, line, targets, values)
+}
+
+/// `return`.
+pub(crate) fn returned(alloc: Global, line: u32, values: Vec<Expr>) -> Result<Stmt, ParseFault>
+    ensures { IfOk result (IsReturn line values.items) }
+{
+    Ok(Stmt {
+        line,
+        kind: StmtKind::Return(Rc::new(alloc, values)?),
+    })
+}
