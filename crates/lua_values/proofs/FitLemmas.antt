@@ -1,5 +1,5 @@
 -- What fits a heap.
-use Rattle.std.proofs.Common.{◌≡◌, ℕ, zero, suc, ◌+◌, ◌<◌, ◌≤◌, Bool, true, false, ◌||◌, List, [], ◌∷◌, ◌++◌, length, Option, None, Some, IfSome, slice_get, slice_set, unwrap_or, All, refl, sym, ap, subst, ◌∙◌, if◌then◌else◌, arith, length-append}
+use Rattle.std.proofs.Common.{◌≡◌, ℕ, zero, suc, ◌+◌, ◌<◌, ◌≤◌, Bool, true, false, List, [], ◌∷◌, ◌++◌, length, Option, None, Some, IfSome, slice_get, slice_set, unwrap_or, All, refl, ap, ◌∙◌, if◌then◌else◌, arith, length-append}
 use Rattle.std.proofs.lemmas.List.{length-set}
 use Rattle.std.proofs.lemmas.List.Elements.{All-nil, All-cons, All-head, All-tail, All-set, All-push, All-weaker}
 use Rattle.lua_values.specs.declared.values.Value.{Value}
@@ -10,9 +10,9 @@ use Rattle.lua_values.specs.declared.kinds.TypeKind.TheVariants.{Text as OfTexts
 use Rattle.lua_values.specs.declared.kinds.TypeMetatables.{TypeMetatables}
 use Rattle.lua_values.specs.Values.{same, is_nil}
 use Rattle.lua_values.specs.Pairs.{value_at, with_value, first_live, behind, next_pair}
-use Rattle.lua_values.specs.Heap.{Heap, TableView, ClosureView, Base}
-use Rattle.lua_values.specs.Fits.{Fits, FitsMeta, FitsPair, FitsTable, FitCells, FitTypes, FitsItself, IsNoShorter}
-use Rattle.lua_values.specs.Laws.{Keeps, WritesKeepFitting, ReadsFit}
+use Rattle.lua_values.specs.Heap.{Heap, TableView, ClosureView}
+use Rattle.lua_values.specs.Fits.{Fits, FitsMeta, FitsPair, FitsTable, FitCells, FitTypes, FitsHeap, FitsItself, IsNoShorter}
+use Rattle.lua_values.specs.Laws.{Keeps, StillFits, WritesKeepFitting, ReadsFit}
 use Rattle.lua_values.specs.StoreCalls as calls
 
 -- what fits a heap fits a longer one
@@ -49,6 +49,21 @@ later-types h g l metas f = record {
   semaphore = later-meta h g l metas.semaphore f.semaphore;
   zone = later-meta h g l metas.zone f.zone;
 }
+
+later-heap : (h g other : Heap) → IsNoShorter h g → FitsHeap h other → FitsHeap g other
+later-heap h g other l f = record {
+  tables = All-weaker (FitsTable h) (FitsTable g) (later-table h g l) other.tables f.tables;
+  cells = All-weaker (Fits h) (Fits g) (later-value h g l) other.cells f.cells;
+  closures = All-weaker (λ closure. FitCells h closure.cells) (λ closure. FitCells g closure.cells) (λ closure. later-cells h g l closure.cells) other.closures f.closures;
+  globals = omega (arith, f.globals, l.tables);
+  metatables = later-types h g l other.metatables f.metatables;
+  frozen_tables = omega (arith, f.frozen_tables, l.tables);
+  frozen_cells = omega (arith, f.frozen_cells, l.cells);
+  frozen_closures = omega (arith, f.frozen_closures, l.closures);
+}
+
+pub still_fits : StillFits
+still_fits = record { value = λ h g v l f. later-value h g l v f; heap = later-heap }
 
 -- the parts of a heap that fit an earlier one
 pub record FitsEarlier (h g : Heap) : Type 0 where

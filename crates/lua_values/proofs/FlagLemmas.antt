@@ -1,8 +1,8 @@
 -- Flags and the flags of their blocks.
-use Rattle.std.proofs.Common.{◌≡◌, ◌≢◌, ℕ, zero, suc, ◌+◌, ◌-◌, ◌*◌, ◌/◌, ◌<◌, ◌≤◌, ◌⊎◌, inl, inr, Bool, true, false, List, [], ◌∷◌, ◌++◌, length, get_or, slice_set, Option, None, Some, is_some, refl, sym, ap, subst, ◌∙◌, true≢false, arith, length-append}
+use Rattle.std.proofs.Common.{◌≡◌, ℕ, zero, suc, ◌+◌, ◌-◌, ◌*◌, ◌/◌, ◌<◌, ◌≤◌, ◌⊎◌, inl, inr, Bool, true, false, List, [], ◌∷◌, ◌++◌, length, slice_set, Option, None, Some, refl, sym, ap, subst, ◌∙◌, true≢false, arith}
 use Rattle.std.proofs.lemmas.Bool.{cases_Bool, cases_lt, cases_eq}
-use Rattle.std.proofs.lemmas.List.{length-set, get_or-set_same, get_or-set_other, get_or_past}
-use Rattle.lua_values.specs.Flags.{flag_at, IsFirstAt, IsFirstFrom, IsFirstWithin, IsBlank, IsSummary, with_flag}
+use Rattle.std.proofs.lemmas.List.{length-set, get_or-set_same, get_or-set_other}
+use Rattle.lua_values.specs.Flags.{flag_at, IsFirstAt, IsFirstFrom, IsFirstWithin, IsBlank, IsSummary}
 
 -- a flag that doesn't stand changes none
 pub flag_at-grown : (xs : List Bool) (k : ℕ) → flag_at (xs ++ false ∷ []) k ≡ flag_at xs k

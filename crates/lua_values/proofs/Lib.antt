@@ -1,6 +1,6 @@
 mod BorderLemmas
 mod FitLemmas
 mod FlagLemmas
+mod FreezableLemmas
 mod PairLemmas
-mod StoreLemmas
 mod TableLemmas

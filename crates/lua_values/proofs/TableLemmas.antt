@@ -1,8 +1,8 @@
 -- A table's pairs and the flags beside them.
-use Rattle.std.proofs.Common.{◌≡◌, ◌≢◌, ℕ, zero, suc, ◌+◌, ◌-◌, ◌<◌, ◌≤◌, nat_lt, Bool, true, false, not, ◌&&◌, ◌||◌, List, [], ◌∷◌, ◌++◌, length, drop, slice_get, slice_set, position, is_some, map, Option, None, Some, refl, sym, ap, subst, ◌∙◌, ◌⊎◌, inl, inr, if◌then◌else◌, true≢false, arith, rules}
+use Rattle.std.proofs.Common.{◌≡◌, ◌≢◌, ℕ, zero, suc, ◌+◌, ◌<◌, ◌≤◌, nat_lt, Bool, true, false, not, ◌&&◌, ◌||◌, List, [], ◌∷◌, ◌++◌, length, drop, slice_get, slice_set, position, is_some, Option, None, Some, refl, sym, ap, subst, ◌∙◌, inl, inr, if◌then◌else◌, true≢false, arith, rules}
 use Rattle.std.specs.Map.{keys_of}
 use Rattle.std.specs.List.{position_or_len}
-use Rattle.std.proofs.lemmas.Bool.{cases_Bool, cases_lt, cases_eq, lt-ltb, le-ltb, ltb-true, ltb-false, not-true, not-false, and_parts}
+use Rattle.std.proofs.lemmas.Bool.{cases_lt, cases_eq, lt-ltb, le-ltb, ltb-true, not-true, not-false, and_parts}
 use Rattle.std.proofs.lemmas.List.{length-set, get_or-set_same, get_or-set_other}
 use Rattle.indexmap.specs.IndexMap.{insert_entry}
 use Rattle.lua_values.specs.declared.values.Value.{Value}
@@ -13,7 +13,7 @@ use Rattle.lua_values.specs.Flags.{flag_at, IsFirstAt, IsFirstFrom, with_flag}
 use Rattle.lua_values.specs.TableFlags.{lives, is_hole, IsIndexed, IsHoleOf}
 use Rattle.lua_values.proofs.BorderLemmas.{same-true, other-number}
 use Rattle.lua_values.proofs.PairLemmas.{lookup-has, insert-length}
-use Rattle.indexmap.proofs.MapLemmas.{Found, Found-position, Missing, Missing-position}
+use Rattle.indexmap.proofs.MapLemmas.{Found-position, Missing-position}
 
 pub same-refl : (a : Value) → same a a ≡ true
 same-refl a = search rules

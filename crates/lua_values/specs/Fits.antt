@@ -4,7 +4,7 @@ use Rattle.std.specs.Prelude.{ℕ, ◌<◌, ◌≤◌, List, length, Option, Som
 use Rattle.lua_values.specs.declared.values.Value.{Value}
 use Rattle.lua_values.specs.declared.values.Value.TheVariants.{Table, Closure}
 use Rattle.lua_values.specs.declared.kinds.TypeMetatables.{TypeMetatables}
-use Rattle.lua_values.specs.Heap.{Heap, TableView, ClosureView}
+use Rattle.lua_values.specs.Heap.{Heap, TableView}
 
 -- the table or the closure that the value names is there
 abbrev pub Fits : Heap → Value → Type 0
@@ -35,16 +35,20 @@ pub record FitTypes (heap : Heap) (metas : TypeMetatables) : Type 0 where
   pub semaphore : FitsMeta heap metas.semaphore
   pub zone : FitsMeta heap metas.zone
 
--- all that the heap names is in it, and no more is frozen than is there
-pub record FitsItself (heap : Heap) : Type 0 where
-  pub tables : All (FitsTable heap) heap.tables
-  pub cells : All (Fits heap) heap.cells
-  pub closures : All (λ closure. FitCells heap closure.cells) heap.closures
-  pub globals : heap.globals < length heap.tables
-  pub metatables : FitTypes heap heap.metatables
-  pub frozen_tables : heap.base.tables ≤ length heap.tables
-  pub frozen_cells : heap.base.cells ≤ length heap.cells
-  pub frozen_closures : heap.base.closures ≤ length heap.closures
+-- all that the other heap names is in this one, and no more is frozen there than this one has
+pub record FitsHeap (heap other : Heap) : Type 0 where
+  pub tables : All (FitsTable heap) other.tables
+  pub cells : All (Fits heap) other.cells
+  pub closures : All (λ closure. FitCells heap closure.cells) other.closures
+  pub globals : other.globals < length heap.tables
+  pub metatables : FitTypes heap other.metatables
+  pub frozen_tables : other.base.tables ≤ length heap.tables
+  pub frozen_cells : other.base.cells ≤ length heap.cells
+  pub frozen_closures : other.base.closures ≤ length heap.closures
+
+-- all that the heap names is in it
+abbrev pub FitsItself : Heap → Type 0
+FitsItself heap = FitsHeap heap heap
 
 -- no list of the new heap is shorter
 pub record IsNoShorter (old new : Heap) : Type 0 where

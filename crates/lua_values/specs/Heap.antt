@@ -1,5 +1,5 @@
 -- What a store holds: lists of tables, of cells (the variables that closures share) and of closures.
-use Rattle.std.specs.Prelude.{ℕ, List, [], ◌∷◌, Option, Some, None}
+use Rattle.std.specs.Prelude.{ℕ, List, Option}
 use Rattle.lua_values.specs.declared.values.Value.{Value}
 use Rattle.lua_values.specs.declared.kinds.TypeMetatables.{TypeMetatables}
 

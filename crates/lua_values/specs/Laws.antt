@@ -1,12 +1,12 @@
 -- What holds of the definitions, for all heaps and values.
-use Rattle.std.specs.Prelude.{◌≡◌, ℕ, ◌+◌, ◌<◌, true, ◌↔◌, List, length, Option, Some, IfSome, slice_get}
+use Rattle.std.specs.Prelude.{◌≡◌, ℕ, ◌+◌, ◌<◌, true, ◌↔◌, List, length, Option, IfSome, slice_get}
 use Rattle.lua_values.specs.declared.values.Value.{Value}
 use Rattle.lua_values.specs.declared.kinds.TypeKind.{TypeKind}
 use Rattle.lua_values.specs.Values.{same}
 use Rattle.lua_values.specs.Pairs.{value_at, next_pair}
 use Rattle.lua_values.specs.Border.{IsLeastBorder, border_of}
-use Rattle.lua_values.specs.Heap.{Heap, ClosureView}
-use Rattle.lua_values.specs.Fits.{Fits, FitsPair, FitsMeta, FitCells, FitsItself, IsNoShorter}
+use Rattle.lua_values.specs.Heap.{Heap}
+use Rattle.lua_values.specs.Fits.{Fits, FitsPair, FitsMeta, FitCells, FitsHeap, FitsItself, IsNoShorter}
 use Rattle.lua_values.specs.NativeCalls.{Meaning, both, IsLawful}
 use Rattle.lua_values.specs.StoreCalls as calls
 
@@ -18,9 +18,11 @@ SameIsEqual = (a b : Value) → (same a b ≡ true) ↔ (a ≡ b)
 abbrev pub BorderIsLeast : Type 0
 BorderIsLeast = (ps : List (Value × Value)) → IsLeastBorder ps (border_of ps)
 
--- a heap in which no list is shorter has all that the other has
-abbrev pub StillFits : Type 0
-StillFits = (old new : Heap) → IsNoShorter old new → (value : Value) → Fits old value → Fits new value
+-- A heap in which no list is shorter has all that the other has. So a store and its copy, which are equal, still fit each
+-- other whatever is written to either.
+pub record StillFits : Type 0 where
+  pub value : (old new : Heap) (value : Value) → IsNoShorter old new → Fits old value → Fits new value
+  pub heap : (old new other : Heap) → IsNoShorter old new → FitsHeap old other → FitsHeap new other
 
 -- the new heap fits itself, and no list of it is shorter
 abbrev pub Keeps : Heap → Heap → Type 0

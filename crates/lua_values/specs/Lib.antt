@@ -1,6 +1,8 @@
 pub mod Border
 pub mod Fits
 pub mod Flags
+pub mod Freezable
+pub mod FreezableLends
 pub mod Heap
 pub mod Laws
 pub mod NativeCalls

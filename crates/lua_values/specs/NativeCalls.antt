@@ -1,6 +1,6 @@
 -- The functions of the host that a program may call: what each number means, as a function of its arguments and of the
 -- heap.
-use Rattle.std.specs.Prelude.{◌≡◌, ℕ, ◌+◌, ◌-◌, ◌<◌, ◌≤◌, nat_lt, min, List, length, take, All, if◌then◌else◌}
+use Rattle.std.specs.Prelude.{◌≡◌, ℕ, ◌+◌, ◌-◌, ◌<◌, nat_lt, min, List, take, All, if◌then◌else◌}
 use Rattle.lua_values.specs.declared.values.Value.{Value}
 use Rattle.lua_values.specs.declared.natives.NativeOut.{NativeOut}
 use Rattle.lua_values.specs.declared.natives.NativeOut.TheVariants.{Values, Fault, Outside, Memory}

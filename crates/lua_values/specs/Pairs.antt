@@ -1,6 +1,6 @@
 -- A table's pairs of key and value, in the order in which the keys were set first (Lua 5.1 Reference Manual, section 2.2,
 -- and `next` of section 5.1). A key that was set to nil keeps its place, with nil.
-use Rattle.std.specs.Prelude.{◌≡◌, ℕ, Bool, true, false, not, ◌||◌, List, [], ◌∷◌, Option, Some, None, if◌then◌else◌}
+use Rattle.std.specs.Prelude.{Bool, false, not, ◌||◌, List, [], ◌∷◌, Option, Some, None, if◌then◌else◌}
 use Rattle.lua_values.specs.declared.values.Value.{Value}
 use Rattle.lua_values.specs.declared.values.Value.TheVariants.{Nil}
 use Rattle.lua_values.specs.Values.{same, is_nil}

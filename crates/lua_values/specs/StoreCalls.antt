@@ -1,6 +1,6 @@
 -- What each call of a store gives and leaves. A number that isn't there reads as an empty table, nil or nothing, and a
 -- write to it changes nothing.
-use Rattle.std.specs.Prelude.{◌≡◌, ◌≢◌, ℕ, ◌+◌, ◌*◌, nat_lt, Bool, true, false, ◌&&◌, List, [], ◌∷◌, ◌++◌, length, Option, Some, None, slice_get, slice_set, unwrap_or, if◌then◌else◌}
+use Rattle.std.specs.Prelude.{◌≡◌, ℕ, ◌+◌, ◌*◌, nat_lt, Bool, ◌&&◌, List, [], ◌∷◌, ◌++◌, length, Option, Some, None, slice_get, slice_set, unwrap_or, if◌then◌else◌}
 use Rattle.lua_values.specs.declared.values.Value.{Value}
 use Rattle.lua_values.specs.declared.values.Value.TheVariants.{Nil}
 use Rattle.lua_values.specs.declared.values.ObjectKind.TheVariants.{Socket, Reader, Semaphore, Zone}
@@ -11,7 +11,7 @@ use Rattle.lua_values.specs.declared.faults.StoreFault.{StoreFault}
 use Rattle.lua_values.specs.declared.faults.StoreFault.TheVariants.{Full, Frozen, BadKey, Memory}
 use Rattle.lua_values.specs.Values.{is_nil}
 use Rattle.lua_values.specs.Pairs.{with_value, needs_place}
-use Rattle.lua_values.specs.Heap.{Heap, TableView, ClosureView, StoreView, unit_limit}
+use Rattle.lua_values.specs.Heap.{Heap, TableView, StoreView, unit_limit}
 
 -- the pairs and the metatable of a table
 abbrev pub table_of : Heap → ℕ → TableView

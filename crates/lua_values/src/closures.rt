@@ -42,11 +42,16 @@ impl Closure {
     {
         self.cells.as_slice()
     }
+}
 
-    /// The same closure again.
-    pub fn copy(&self, alloc: Global) -> Result<Closure, AllocError>
-        ensures { IfOk result (λ copy. copy ≡ self.now) }
-    {
-        Closure::new(alloc, self.function, self.cells.as_slice())
+/// A clone is the same closure.
+impl Clone for Closure {
+    ghost is_clone = { λ closure copy. copy ≡ closure };
+
+    fn clone(&self) -> Result<Closure, AllocError> {
+        Ok(Closure {
+            function: self.function,
+            cells: self.cells.clone()?,
+        })
     }
 }

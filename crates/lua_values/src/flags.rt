@@ -80,17 +80,6 @@ impl Flags {
         Ok(())
     }
 
-    /// The same flags again.
-    pub fn copy(&self, alloc: Global) -> Result<Flags, AllocError>
-        ensures { IfOk result (λ copy. copy ≡ self.now) }
-    {
-        Ok(Flags {
-            flags: self.flags.as_slice().to_vec(alloc)?,
-            blocks: self.blocks.as_slice().to_vec(alloc)?,
-            groups: self.groups.as_slice().to_vec(alloc)?,
-        })
-    }
-
     /// Sets a flag; takes no memory.
     pub fn set(&mut self, place: usize, flag: bool)
         requires { place < length self.old }
@@ -124,6 +113,19 @@ impl Flags {
             self.groups.as_slice(),
             from,
         )
+    }
+}
+
+/// A clone is the same flags.
+impl Clone for Flags {
+    ghost is_clone = { λ flags copy. copy ≡ flags };
+
+    fn clone(&self) -> Result<Flags, AllocError> {
+        Ok(Flags {
+            flags: self.flags.clone()?,
+            blocks: self.blocks.clone()?,
+            groups: self.groups.clone()?,
+        })
     }
 }
 

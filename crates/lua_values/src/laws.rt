@@ -10,7 +10,7 @@ pub fn border_is_least()
     ensures { BorderIsLeast }
 {}
 
-/// What fits a heap fits each in which no list is shorter.
+/// What fits a heap fits each in which no list is shorter; so a store and its copy still fit each other.
 pub fn still_fits()
     ensures { StillFits }
 {}

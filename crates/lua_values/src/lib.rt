@@ -6,6 +6,7 @@
 mod closures;
 mod faults;
 mod flags;
+mod freezable;
 mod kinds;
 mod laws;
 mod natives;
@@ -21,6 +22,3 @@ pub use laws::{
 pub use natives::{Both, NativeOut, Natives};
 pub use store::Store;
 pub use values::{ObjectKind, Value, Values};
-
-#[cfg(test)]
-mod tests;

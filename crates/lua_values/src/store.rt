@@ -7,6 +7,7 @@ mod copies;
 mod table_calls;
 
 use crate::closures::Closure;
+use crate::freezable::FreezableList;
 use crate::tables::Table;
 use crate::{StoreFault, TypeKind, TypeMetatables, Value};
 use std::alloc::{AllocError, Global};
@@ -23,17 +24,15 @@ const TABLE_UNITS: u64 = 32;
 
 /// The tables, cells and closures of a run, numbered from 0 and never taken away, with its counts of steps and units.
 /// A number that isn't there reads as an empty table, as nil or as nothing, and a write to it changes nothing. The
-/// units of texts and threads are counted by whoever makes them, by `add_units`.
+/// units of texts and threads are counted by whoever makes them, by `add_units`. What was frozen first is shared with the
+/// store's copies.
 #[derive(Drop)]
 pub struct Store {
     alloc: Global,
     nil: Value,
-    tables: Vec<Table>,
-    cells: Vec<Value>,
-    closures: Vec<Closure>,
-    frozen_tables: usize,
-    frozen_cells: usize,
-    frozen_closures: usize,
+    tables: FreezableList<Table>,
+    cells: FreezableList<Value>,
+    closures: FreezableList<Closure>,
     globals: u32,
     metatables: TypeMetatables,
     units: u64,
@@ -53,7 +52,7 @@ impl Model for Store {
         tables = s.tables.items;
         cells = s.cells.items;
         closures = s.closures.items;
-        base = record { tables = s.frozen_tables; cells = s.frozen_cells; closures = s.frozen_closures };
+        base = record { tables = s.tables.frozen; cells = s.cells.frozen; closures = s.closures.frozen };
         globals = s.globals;
         metatables = s.metatables;
         units = s.units;
@@ -69,17 +68,14 @@ impl Store {
     pub fn new(alloc: Global) -> Result<Store, AllocError>
         ensures { IfOk result (λ store. store ≡ calls.new_store) }
     {
-        let mut tables = Vec::new(alloc);
+        let mut tables = FreezableList::new(alloc)?;
         tables.push(Table::new(alloc))?;
         Ok(Store {
             alloc,
             nil: Value::Nil,
             tables,
-            cells: Vec::new(alloc),
-            closures: Vec::new(alloc),
-            frozen_tables: 0,
-            frozen_cells: 0,
-            frozen_closures: 0,
+            cells: FreezableList::new(alloc)?,
+            closures: FreezableList::new(alloc)?,
             globals: 0,
             metatables: TypeMetatables::none(),
             units: TABLE_UNITS,
@@ -170,8 +166,8 @@ impl Store {
     pub fn freeze(&mut self)
         ensures { self.new ≡ record { heap = calls.frozen self.old.heap; steps = self.old.steps } }
     {
-        self.frozen_tables = self.tables.len();
-        self.frozen_cells = self.cells.len();
-        self.frozen_closures = self.closures.len();
+        self.tables.freeze();
+        self.cells.freeze();
+        self.closures.freeze();
     }
 }

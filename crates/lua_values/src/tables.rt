@@ -176,15 +176,17 @@ impl Table {
     {
         self.meta = meta;
     }
+}
 
-    /// The same table again.
-    pub fn copy(&self, alloc: Global) -> Result<Table, AllocError>
-        ensures { IfOk result (λ copy. copy ≡ self.now) }
-    {
+/// A clone is the same table.
+impl Clone for Table {
+    ghost is_clone = { λ table copy. copy ≡ table };
+
+    fn clone(&self) -> Result<Table, AllocError> {
         Ok(Table {
             places: self.places.clone()?,
-            live: self.live.copy(alloc)?,
-            holes: self.holes.copy(alloc)?,
+            live: self.live.clone()?,
+            holes: self.holes.clone()?,
             meta: self.meta,
         })
     }

@@ -49,11 +49,11 @@ impl Store {
         ensures cause { IfErr result (λ fault. calls.frozen_cause self.old.heap.base.cells c ≡ Some fault) }
         ensures kept { OnErr result (self.new ≡ self.old) }
     {
-        if (c as usize) < self.frozen_cells {
+        if (c as usize) < self.cells.frozen() {
             return Err(StoreFault::Frozen);
         }
         if (c as usize) < self.cells.len() {
-            self.cells[c as usize] = value;
+            *self.cells.item_mut(c as usize) = value;
         }
         Ok(())
     }

@@ -1,4 +1,4 @@
-ghost use Rattle.std.specs.Prelude.{◌≡◌, ◌≢◌, ◌<◌, true, false, None, Some, Err, length, OnOk, OnErr, IfOk, IfErr};
+ghost use Rattle.std.specs.Prelude.{◌≡◌, ◌≢◌, ◌<◌, ◌≤◌, true, false, None, Some, Err, length, OnOk, OnErr, IfOk, IfErr};
 ghost use Rattle.std.specs.Option.{option_map};
 ghost use Rattle.std.specs.Map.Iter.{deref_pair};
 ghost use Rattle.lua_values.specs.Pairs.{value_at, needs_place, next_pair};
@@ -34,13 +34,12 @@ impl Store {
     pub fn get(&self, t: u32, key: &Value) -> &Value
         ensures { result.now ≡ value_at (calls.pairs_of self.now.heap t) key.now }
     {
-        let place = t as usize;
-        if place >= self.tables.len() {
-            return &self.nil;
-        }
-        match self.tables[place].get(key) {
+        match self.tables.get(t as usize) {
             None => &self.nil,
-            Some(value) => value,
+            Some(table) => match table.get(key) {
+                None => &self.nil,
+                Some(value) => value,
+            },
         }
     }
 
@@ -56,14 +55,11 @@ impl Store {
         if key.is_nil() {
             return Err(StoreFault::BadKey);
         }
-        if (t as usize) < self.frozen_tables {
+        if (t as usize) < self.tables.frozen() {
             return Err(StoreFault::Frozen);
         }
         let place = t as usize;
-        if place >= self.tables.len() {
-            return Ok(());
-        }
-        if self.tables[place].needs_place(&key, &value) {
+        if self.takes_place(t, &key, &value) {
             self.set_new(place, key, value)
         } else {
             self.set_in_place(place, key, value);
@@ -71,22 +67,35 @@ impl Store {
         }
     }
 
-    /// Sets a value at a key that needs no new place in its table.
+    /// Whether a table is there in which a value at the key needs a new place.
+    fn takes_place(&self, t: u32, key: &Value, value: &Value) -> bool
+        ensures { result ≡ calls.takes_place self.now.heap t key.now value.now }
+    {
+        match self.tables.get(t as usize) {
+            None => false,
+            Some(table) => table.needs_place(key, value),
+        }
+    }
+
+    /// Sets a value at a key that needs no new place, if its table is there.
     fn set_in_place(&mut self, place: usize, key: Value, value: Value)
-        requires there { place < length self.old.heap.tables }
-        requires in_place { needs_place (calls.pairs_of self.old.heap place) key value ≡ false }
+        requires in_place { calls.takes_place self.old.heap place key value ≡ false }
+        requires unfrozen { self.old.heap.base.tables ≤ place }
         ensures { self.new ≡ record { heap = calls.with_pair self.old.heap place key value; steps = self.old.steps } }
     {
-        match self.tables[place].put(key, value) {
-            Ok(()) => {}
-            Err(_) => unreachable!(),
+        if place < self.tables.len() {
+            match self.tables.item_mut(place).put(key, value) {
+                Ok(()) => {}
+                Err(_) => unreachable!(),
+            }
         }
     }
 
     /// Sets a value at a key that needs a new place in its table.
+    #[tactic(auto, using(crate::proofs::FreezableLemmas::set_same_item))]
     fn set_new(&mut self, place: usize, key: Value, value: Value) -> Result<(), StoreFault>
-        requires there { place < length self.old.heap.tables }
-        requires new_place { needs_place (calls.pairs_of self.old.heap place) key value ≡ true }
+        requires new_place { calls.takes_place self.old.heap place key value ≡ true }
+        requires unfrozen { self.old.heap.base.tables ≤ place }
         ensures done { OnOk result (self.new ≡ record { heap = calls.with_pair self.old.heap place key value; steps = self.old.steps }) }
         ensures allowed { OnOk result (calls.full_cause self.old.heap 32 ≡ None) }
         ensures cause { IfErr result (calls.IsCause (calls.full_cause self.old.heap 32)) }
@@ -95,7 +104,7 @@ impl Store {
         if self.units + PLACE_UNITS > UNIT_LIMIT {
             return Err(StoreFault::Full);
         }
-        self.tables[place].put(key, value)?;
+        self.tables.item_mut(place).put(key, value)?;
         self.units += PLACE_UNITS;
         Ok(())
     }
@@ -138,14 +147,14 @@ impl Store {
         ensures cause { IfErr result (λ fault. calls.frozen_cause self.old.heap.base.tables t ≡ Some fault) }
         ensures kept { OnErr result (self.new ≡ self.old) }
     {
-        if (t as usize) < self.frozen_tables {
+        if (t as usize) < self.tables.frozen() {
             return Err(StoreFault::Frozen);
         }
         let place = t as usize;
         if place >= self.tables.len() {
             return Ok(());
         }
-        self.tables[place].set_metatable(meta);
+        self.tables.item_mut(place).set_metatable(meta);
         Ok(())
     }
 }

@@ -1,5 +1,5 @@
 use Rattle.std.proofs.Common.{◌≡◌, false, Some, is_some, sym, ap, ◌∙◌}
-use Rattle.lua_values.specs.Values.{is_nil, number}
+use Rattle.lua_values.specs.Values.{is_nil}
 use Rattle.lua_values.specs.Pairs.{value_at, has_place}
 use Rattle.lua_values.proofs.PairLemmas.{lent-place, lent-value, value_at-absent}
 use Rattle.lua_values.proofs.tables.is_hole.Goals as goal

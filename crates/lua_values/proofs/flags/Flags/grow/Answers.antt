@@ -1,7 +1,6 @@
-use Rattle.std.proofs.Common.{◌≡◌, ◌+◌, ◌/◌, ◌<◌, ◌≤◌, false, [], ◌∷◌, ◌++◌, length, refl, sym, ap, ◌∙◌, inl, inr, arith, length-append}
+use Rattle.std.proofs.Common.{◌≡◌, ◌+◌, ◌/◌, ◌<◌, false, [], ◌∷◌, ◌++◌, length, refl, inl, inr, arith}
 use Rattle.std.proofs.lemmas.List.{length_push}
 use Rattle.std.proofs.lemmas.Bool.{cases_lt}
-use Rattle.lua_values.specs.Flags.{flag_at}
 use Rattle.lua_values.proofs.FlagLemmas.{flag_at-grown, front-blocks, Covered, grown-blocks, grown-groups}
 use Rattle.lua_values.proofs.flags.Flags.grow.Goals as goal
 

@@ -1,16 +1,12 @@
-use Rattle.std.proofs.Common.{◌≡◌, false, sym, ◌∙◌, ap, arith}
-use Rattle.lua_values.specs.Pairs.{value_at, has_place}
+use Rattle.std.proofs.Common.{◌≡◌, [], Option, None, sym, ◌∙◌, ap, unwrap_or}
+use Rattle.lua_values.specs.Heap.{TableView}
+use Rattle.lua_values.specs.Pairs.{value_at}
 use Rattle.lua_values.specs.StoreCalls.{pairs_of}
 use Rattle.lua_values.proofs.PairLemmas.{nil-absent}
-use Rattle.lua_values.proofs.StoreLemmas.{table-there}
 use Rattle.lua_values.proofs.store.Store.get.Goals as goal
 
-pub returns-in-None : goal.returns-in-None
-returns-in-None c =
-    let there = table-there c.self.inside.tables.items c.args.t c.index.result.now (omega arith) c.index.ensures in
-    c.self.invariant.0 ∙ nil-absent c.index.result.now.pairs c.args.key.now (sym c.in-None.ensures.place) ∙ rw (← c.self.view_is) (ap (λ table. value_at table.pairs c.args.key.now) there)
-
-pub returns-in-Some : goal.returns-in-Some
-returns-in-Some c =
-    let there = table-there c.self.inside.tables.items c.args.t c.index.result.now (omega arith) c.index.ensures in
-    c.in-Some.ensures.value ∙ rw (← c.self.view_is) (ap (λ table. value_at table.pairs c.args.key.now) there)
+pub returns-in-None-get : goal.returns-in-None-get
+returns-in-None-get c =
+    let there : c.in-Some.table.now.pairs ≡ pairs_of c.args.self.now.heap c.args.t =
+    rw (← c.self.view_is) (ap (λ (found : Option TableView). (unwrap_or found (record { pairs = []; meta = None })).pairs) c.in-Some.ensures) in
+    c.self.invariant.0 ∙ nil-absent c.in-Some.table.now.pairs c.args.key.now (sym c.in-None-get.ensures.place) ∙ ap (λ pairs. value_at pairs c.args.key.now) there

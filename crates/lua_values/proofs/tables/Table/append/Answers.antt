@@ -1,7 +1,6 @@
-use Rattle.std.proofs.Common.{◌≡◌, ◌<◌, false, length, ap, sym, ◌∙◌, inl, subst, arith}
+use Rattle.std.proofs.Common.{◌≡◌, ◌<◌, false, length, ap, ◌∙◌, inl, subst, arith}
 use Rattle.lua_values.proofs.PairLemmas.{insert-with}
 use Rattle.lua_values.proofs.TableLemmas.{indexed-append}
-use Rattle.lua_values.specs.Heap.{TableView}
 use Rattle.lua_values.specs.Pairs.{has_place}
 use Rattle.lua_values.specs.TableFlags.{IsHoleOf}
 use Rattle.lua_values.proofs.tables.Table.append.Goals as goal

@@ -1,6 +1,4 @@
-use Rattle.std.proofs.Common.{◌≡◌, false, Some, None, position, sym, ◌∙◌}
-use Rattle.std.specs.Map.{keys_of}
-use Rattle.lua_values.specs.Values.{same, is_nil}
+use Rattle.std.proofs.Common.{sym, ◌∙◌}
 use Rattle.lua_values.proofs.PairLemmas.{next-found, next-missing}
 use Rattle.lua_values.proofs.tables.Table.next.Goals as goal
 

@@ -1,7 +1,6 @@
 use Rattle.std.proofs.Common.{◌≡◌, true, ap, sym, ◌∙◌, inr, is_some, subst, true≢false}
 use Rattle.lua_values.proofs.PairLemmas.{insert-with, lookup-has}
 use Rattle.lua_values.proofs.TableLemmas.{indexed-write}
-use Rattle.lua_values.specs.Heap.{TableView}
 use Rattle.lua_values.specs.Pairs.{has_place}
 use Rattle.lua_values.specs.TableFlags.{IsHoleOf}
 use Rattle.lua_values.proofs.tables.Table.write.Goals as goal

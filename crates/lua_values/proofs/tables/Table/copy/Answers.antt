@@ -1,8 +1,0 @@
-use Rattle.std.proofs.Common.{◌∙◌, ap}
-use Rattle.lua_values.proofs.PairLemmas.{clone-same}
-use Rattle.lua_values.specs.Heap.{TableView}
-use Rattle.lua_values.proofs.tables.Table.copy.Goals as goal
-
-pub returns : goal.returns
-returns c =
-    ap (λ ps. record { pairs = ps; meta = c.self.inside.meta }) (clone-same c.self.inside.places.entries c.in_ok-clone.field-0.entries c.in_ok-clone.ensures.cases) ∙ c.self.view_is
