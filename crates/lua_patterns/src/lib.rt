@@ -12,6 +12,3 @@ mod search;
 pub use answers::{Found, PatFault, Searched};
 pub use captures::Cap;
 pub use search::find_in;
-
-#[cfg(test)]
-mod tests;

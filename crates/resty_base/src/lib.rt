@@ -20,6 +20,3 @@ pub use names::{Id, Ms, Pair2, StrandId};
 pub use range::whole;
 pub use sinks::{MemSink, Put, Sink, SinkFault, StdSink, put_all};
 pub use whole_numbers::Whole;
-
-#[cfg(test)]
-mod tests;

@@ -14,6 +14,3 @@ pub use event::Event;
 pub use history::History;
 pub use schedule_line::SchedLine;
 pub use world::World;
-
-#[cfg(test)]
-mod tests;

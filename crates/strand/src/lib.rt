@@ -13,6 +13,3 @@ mod strand;
 pub use configuration::literal_site;
 pub use site::{Site, SiteFault};
 pub use strand::{LiteralStrand, NoJob};
-
-#[cfg(test)]
-mod tests;

@@ -1,2 +1,1 @@
-pub mod MuteExchange
 pub mod Results

@@ -9,6 +9,3 @@ mod turns;
 pub use contract::StrandContract;
 pub use mute::{Mute, MuteSite};
 pub use turns::{Act, Acts, Answer, Place, Seen, Start};
-
-#[cfg(test)]
-mod tests;

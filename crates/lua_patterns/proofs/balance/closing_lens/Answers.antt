@@ -1,5 +1,4 @@
-use Rattle.std.proofs.Common.{◌≡◌, sym, ◌∙◌, ap, is_ok, arith, drop}
-use Rattle.std.proofs.ResultArms.{chosen}
+use Rattle.std.proofs.Common.{arith}
 use Rattle.lua_patterns.proofs.Balancing.{lens_start, lens_step}
 use Rattle.lua_patterns.proofs.balance.closing_lens.Goals as goal
 

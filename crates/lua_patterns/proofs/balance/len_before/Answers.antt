@@ -1,4 +1,4 @@
-use Rattle.std.proofs.Common.{◌≡◌, sym, ◌∙◌}
+use Rattle.std.proofs.Common.{sym, ◌∙◌}
 use Rattle.lua_patterns.proofs.Balancing.{front_closes, before_none, before_other, outer_none, outer_some}
 use Rattle.lua_patterns.proofs.balance.len_before.Goals as goal
 

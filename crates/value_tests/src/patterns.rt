@@ -1,4 +1,4 @@
-use crate::*;
+use lua_patterns::*;
 use std::alloc::{AllocError, Global};
 use std::test::Fail;
 
@@ -44,8 +44,10 @@ fn written(alloc: Global, found: &Found, tests: u64) -> Result<String, AllocErro
 /// A subject, a pattern, the place from which it is sought, the tests that this makes, and the outcome.
 type Row = (&'static str, &'static str, usize, u64, &'static str);
 
-/// Searches, by the kind of item.
-static SEARCHES: [Row; 204] = [
+/// Searches for classes, sets and repeated ones, and at both ends. The matches, their captures and whether there is a fault are what Lua 5.1.5's own
+/// matcher answers, but for `%f`, which is an item there, and a place behind the end, which is the end there. The tests,
+/// and where a wrong item begins, were worked out from the rules, apart from this crate.
+static CLASSES: [Row; 137] = [
     ("hello world", "o", 0, 6, "4-5 (6)"),
     ("hello world", "o", 5, 4, "7-8 (4)"),
     ("hello world", "o", 8, 4, "none (4)"),
@@ -119,6 +121,16 @@ static SEARCHES: [Row; 204] = [
     ("a", "a+a", 0, 4, "none (4)"),
     ("ab", "x*", 0, 2, "0-0 (2)"),
     ("ab", "x*b", 0, 5, "1-2 (5)"),
+    ("a*aa", "(a)*", 0, 5, "0-2 0-1 (5)"),
+    ("x**", "**", 0, 2, "0-0 (2)"),
+    ("a--", "--", 0, 1, "0-0 (1)"),
+    ("aa++", "a++", 0, 5, "0-3 (5)"),
+    ("*a", "*a", 0, 3, "0-2 (3)"),
+    ("aab", "a+-b", 0, 10, "none (10)"),
+    ("a\tb", "%s?%s?b", 0, 7, "1-3 (7)"),
+    ("ababb", "[ab]-bb", 0, 10, "0-5 (10)"),
+    ("aabb", "a-b-$", 0, 11, "0-4 (11)"),
+    ("abc", "(.-)$", 0, 12, "0-3 0-3 (12)"),
     ("hello", "^h", 0, 2, "0-1 (2)"),
     ("hello", "^e", 0, 1, "none (1)"),
     ("hello", "^l", 2, 2, "2-3 (2)"),
@@ -175,6 +187,14 @@ static SEARCHES: [Row; 204] = [
     ("a", "[.]", 0, 2, "none (2)"),
     ("12a", "[^%d]", 0, 4, "2-3 (4)"),
     ("A b", "[%S%a]+", 0, 3, "0-1 (3)"),
+    ("e-", "[a-c-e]+", 0, 4, "0-2 (4)"),
+    ("d", "[a-c-e]", 0, 2, "none (2)"),
+    ("^]", "[]^]+", 0, 4, "0-2 (4)"),
+    ("\\", "[%a\\]", 0, 2, "0-1 (2)"),
+];
+
+/// Searches with captures, back references and `%b`, and for wrong items; what is said of the others holds here.
+static CAPTURES: [Row; 99] = [
     ("hello", "(h)(e)", 0, 7, "0-2 0-1 1-2 (7)"),
     ("hello", "()ll()", 0, 9, "2-4 @2 @4 (9)"),
     ("hello", "((h)(e))", 0, 9, "0-2 0-2 0-1 1-2 (9)"),
@@ -200,6 +220,16 @@ static SEARCHES: [Row; 204] = [
     ("aaaa", "^(a+)%1$", 0, 13, "0-4 0-2 (13)"),
     ("aaaaa", "^(a+)%1$", 0, 19, "none (19)"),
     ("ab", "(a?)(b?)%2%1", 0, 17, "0-0 0-0 0-0 (17)"),
+    ("aa*", "(a)%1*", 0, 6, "0-3 0-1 (6)"),
+    ("^a", "(^a)", 0, 5, "0-2 0-2 (5)"),
+    ("a$b", "(a$)b", 0, 6, "0-3 0-2 (6)"),
+    ("aab", "(a*)%1b", 0, 10, "0-3 0-1 (10)"),
+    ("ab", "()a()b()", 0, 6, "0-2 @0 @1 @2 (6)"),
+    ("aaab", "(a*)(a-)(a?)b", 0, 13, "0-4 0-3 3-3 3-3 (13)"),
+    ("abab", "(a)(b)%1%2", 0, 9, "0-4 0-1 1-2 (9)"),
+    ("ba", "((b?)a)%2", 0, 17, "1-2 1-2 1-1 (17)"),
+    ("aXbXc", "(.-)X(.*)", 0, 13, "0-5 0-1 2-5 (13)"),
+    ("abc", "(a(b(c)))%3", 0, 16, "none (16)"),
     ("a(b(c)d)e", "%b()", 0, 3, "1-8 (3)"),
     ("((a)", "%b()", 0, 3, "1-4 (3)"),
     ("(((", "%b()", 0, 4, "none (4)"),
@@ -222,6 +252,10 @@ static SEARCHES: [Row; 204] = [
     ("'''a'b'", "%b''%a%b''$", 0, 6, "1-7 (6)"),
     ("<<<<>>", "%b<>", 0, 4, "2-6 (4)"),
     ("xxxxyxy", "%bxy$", 0, 8, "5-7 (8)"),
+    ("(a)*b", "%b()*b", 0, 4, "0-5 (4)"),
+    ("(a)-", "(%b())-", 0, 5, "0-4 0-3 (5)"),
+    ("(a)(b", "(%b()).%b()", 0, 15, "none (15)"),
+    ("(()a)", "%b()$", 1, 6, "none (6)"),
     ("a", "%", 0, 0, "malformed 0 (0)"),
     ("a", "a%", 0, 1, "malformed 1 (1)"),
     ("b", "a%", 0, 2, "none (2)"),
@@ -256,29 +290,47 @@ static SEARCHES: [Row; 204] = [
     ("aaa", "a*(", 0, 5, "malformed 2 (5)"),
     ("", "[a", 0, 0, "malformed 0 (0)"),
     ("", "a-[", 0, 0, "malformed 2 (0)"),
+    ("ab", "(a)b)", 0, 4, "malformed 4 (4)"),
+    ("ab", "a(%1)", 0, 2, "malformed 2 (2)"),
+    ("a", "(()", 0, 2, "malformed 0 (2)"),
+    ("a", "[a-%", 0, 0, "malformed 0 (0)"),
 ];
 
-/// Each search tells its outcome with exactly as many tests as it makes, and none with one fewer.
+/// The search tells its outcome with exactly as many tests as it makes, and none with one fewer.
+fn is_told(alloc: Global, row: Row) -> Result<bool, AllocError> {
+    let (subject, pattern, from, tests, expected) = row;
+    let subject = subject.as_bytes();
+    let pattern = pattern.as_bytes();
+    let told = outcome(alloc, subject, pattern, from, tests)?;
+    if told.as_str() != expected || tests == 0 {
+        return Ok(told.as_str() == expected);
+    }
+    let fewer = outcome(alloc, subject, pattern, from, tests - 1)?;
+    Ok(fewer.as_str() == "pattern too complex")
+}
+
 #[test]
 fn searches_tell_their_first_match_and_their_tests(rt: HostRuntime) -> Result<(), Fail> {
-    let alloc = rt.alloc();
-    for (subject, pattern, from, tests, expected) in SEARCHES.iter().copied() {
-        let subject = subject.as_bytes();
-        let pattern = pattern.as_bytes();
-        let told = outcome(alloc, subject, pattern, from, tests)?;
-        assert_eq!(rt; told.as_str(), expected, "{subject:?} {pattern:?}");
-        if tests > 0 {
-            let fewer = outcome(alloc, subject, pattern, from, tests - 1)?;
-            assert_eq!(rt;
-                fewer.as_str(),
-                "pattern too complex",
-                "{subject:?} {pattern:?}"
-            );
-        }
+    for row in CLASSES.iter().copied() {
+        let told = is_told(rt.alloc(), row)?;
+        let (subject, pattern, ..) = row;
+        assert!(rt; told, "{subject:?} {pattern:?}");
     }
     Ok(())
 }
 
+#[test]
+fn searches_tell_their_captures(rt: HostRuntime) -> Result<(), Fail> {
+    for row in CAPTURES.iter().copied() {
+        let told = is_told(rt.alloc(), row)?;
+        let (subject, pattern, ..) = row;
+        assert!(rt; told, "{subject:?} {pattern:?}");
+    }
+    Ok(())
+}
+
+/// Bytes that are no text. The rows whose pattern has no zero byte are what Lua 5.1.5's own matcher answers; in its
+/// patterns a zero byte is the end.
 #[test]
 fn bytes_that_are_no_text_are_sought_as_well(rt: HostRuntime) -> Result<(), Fail> {
     let alloc = rt.alloc();

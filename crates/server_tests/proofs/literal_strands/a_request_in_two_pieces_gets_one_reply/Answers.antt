@@ -2,7 +2,7 @@ use Rattle.std.proofs.Common.{refl, ◌≡◌}
 use Rattle.strand.specs.Turns.{held_after}
 use Rattle.strand.specs.Views.{held}
 use Rattle.strand.proofs.Exchange.{begun, line_came, head_came, reply_offered, line-comes, head-comes, thread-runs, reply-taken}
-use Rattle.strand.proofs.tests.a_request_in_two_pieces_gets_one_reply.Goals as goal
+use Rattle.server_tests.proofs.literal_strands.a_request_in_two_pieces_gets_one_reply.Goals as goal
 
 pub given-requires : goal.given-requires
 given-requires g c = (begun, c.in_ok-strand.ensures.0, refl, rw c.from_static-line.ensures (line-comes c.in_ok-site.site))

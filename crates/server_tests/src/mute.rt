@@ -1,6 +1,6 @@
-use crate::*;
 use resty_base::{Bytes, Ms};
 use std::test::Fail;
+use strand_contract::*;
 
 #[test]
 fn a_mute_strand_begins_with_nothing_to_do(rt: HostRuntime) -> Result<(), Fail> {

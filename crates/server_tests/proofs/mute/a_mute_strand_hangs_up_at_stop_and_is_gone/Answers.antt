@@ -1,6 +1,6 @@
 use Rattle.std.proofs.Common.{refl}
-use Rattle.strand_contract.proofs.MuteExchange.{begun, told_stop, byte-comes, stop-ends}
-use Rattle.strand_contract.proofs.tests.a_mute_strand_hangs_up_at_stop_and_is_gone.Goals as goal
+use Rattle.server_tests.proofs.MuteExchange.{begun, told_stop, byte-comes, stop-ends}
+use Rattle.server_tests.proofs.mute.a_mute_strand_hangs_up_at_stop_and_is_gone.Goals as goal
 
 pub given-requires : goal.given-requires
 given-requires g c = (begun, c.in_ok-strand.ensures.0, refl, rw c.from_static.ensures byte-comes)

@@ -1,4 +1,4 @@
-use crate::*;
+use resty_base::*;
 use std::test::Fail;
 
 #[test]

@@ -1,6 +1,6 @@
-use crate::{LiteralStrand, SiteFault, literal_site};
 use resty_base::{Bytes, Ms};
 use std::test::Fail;
+use strand::{LiteralStrand, SiteFault, literal_site};
 use strand_contract::{Place, Seen, Start, StrandContract};
 
 const CONF: &[u8] =

@@ -1,5 +1,5 @@
-use crate::*;
 use resty_base::Ms;
+use resty_world::*;
 use std::test::Fail;
 
 #[test]

@@ -1,0 +1,15 @@
+//! Tests of the crates that the program stands on, by their public calls.
+#![tactic(auto)]
+
+#[cfg(test)]
+mod base;
+#[cfg(test)]
+mod literal_strands;
+#[cfg(test)]
+mod mute;
+#[cfg(test)]
+mod replays;
+#[cfg(test)]
+mod schedule_texts;
+#[cfg(test)]
+mod world;

@@ -1,0 +1,167 @@
+use resty_base::{Bytes, Id, StrandId};
+use resty_world::{Dial, Event, Listened, Logged, World, Wrote};
+use schedule::*;
+use std::alloc::{AllocError, Global};
+use std::test::Fail;
+
+/// A call of the world.
+#[derive(Clone, Copy)]
+enum Call {
+    Listen,
+    Next,
+    /// A write of two bytes.
+    Put(Id),
+    Dial,
+    Log,
+    Close(Id),
+}
+
+const CLIENT: Id = Id::Conn(1);
+
+const NEXT: Call = Call::Next;
+
+const PUT_2: Call = Call::Put(CLIENT);
+
+/// Calls the world, and says in one letter what it answered: `g` given, `f` fault, `b` bad line, `t` taken or done, `w` would wait,
+/// `l` lost or failed, `-` where the id isn't open.
+fn answer(world: &mut Replay, alloc: Global, call: Call) -> u8 {
+    let who = StrandId::Conn(1);
+    match call {
+        Call::Listen => match world.listen(alloc, 8080) {
+            Listened::Up => b't',
+            _ => b'l',
+        },
+        Call::Next => match world.next_event(alloc, None) {
+            Event::Fault => b'f',
+            Event::BadLine(_) => b'b',
+            _ => b'g',
+        },
+        Call::Put(id) => {
+            if !world.is_open(id) {
+                return b'-';
+            }
+            match world.put_bytes(alloc, id, b"ab") {
+                Wrote::Took(_) => b't',
+                Wrote::Later => b'w',
+                _ => b'l',
+            }
+        }
+        Call::Dial => match world.dial(alloc, who, [127, 0, 0, 1], 9000) {
+            Dial::Started(_) => b't',
+            _ => b'l',
+        },
+        Call::Log => match world.write_log(alloc, who, b"x") {
+            Logged::Done => b't',
+            _ => b'l',
+        },
+        Call::Close(id) => {
+            if !world.is_open(id) {
+                return b'-';
+            }
+            world.hang_up(id);
+            b't'
+        }
+    }
+}
+
+/// What the calls answer over a schedule, a letter each, and the history's text behind them.
+fn played(alloc: Global, schedule: &[u8], calls: &[Call]) -> Result<Bytes, AllocError> {
+    let Ok(schedule) = schedule_of(alloc, schedule) else {
+        return Ok(Bytes::from_static(b"refused"));
+    };
+    let mut world = Replay::new(alloc, schedule);
+    let mut told = Vec::new(alloc);
+    for call in calls {
+        told.push(answer(&mut world, alloc, *call))?;
+    }
+    told.push(b'\n')?;
+    let text = history_text(alloc, world.history())?;
+    told.extend_from_slice(text.as_slice())?;
+    Ok(Bytes::from_vec(told)?)
+}
+
+#[test]
+fn a_schedule_says_what_its_world_answers(rt: HostRuntime) -> Result<(), Fail> {
+    let cases: [(&[u8], &[Call], &[u8]); 12] = [
+        // A place takes all, then so many bytes as a line lets it, and then it waits.
+        (
+            b"arrive c1\nroom c1 3\nready c1\nroom c1 all\nstop\n",
+            &[NEXT, PUT_2, NEXT, PUT_2, PUT_2, PUT_2, NEXT, PUT_2, NEXT],
+            b"gtgttwgtf\narrive c1\nput c1 \"ab\"\nready c1\nput c1 \"ab\"\nput c1 \"a\"\nlater c1\nstop\nput c1 \"ab\"\n",
+        ),
+        // A line makes one call fail, once it was passed.
+        (
+            b"arrive c1\nfail put c1\nfail put c1\nready c1\nstop\n",
+            &[NEXT, PUT_2, NEXT, PUT_2, PUT_2, PUT_2],
+            b"gtgllt\narrive c1\nput c1 \"ab\"\nready c1\nlost c1\nlost c1\nput c1 \"ab\"\n",
+        ),
+        (
+            b"fail dial\nfail log\nmoment 1\nstop\n",
+            &[
+                Call::Dial,
+                NEXT,
+                Call::Dial,
+                Call::Dial,
+                Call::Log,
+                Call::Log,
+            ],
+            b"tgltlt\ndial c1 127.0.0.1 9000 s1\nmoment 1\ndial c1 127.0.0.1 9000 failed\ndial c1 127.0.0.1 9000 s2\nlog c1 failed \"x\"\nlog c1 \"x\"\n",
+        ),
+        // Listening fails by the first line alone, and once.
+        (
+            b"fail listen\nstop\n",
+            &[Call::Listen, Call::Listen, NEXT],
+            b"ltg\nstop\n",
+        ),
+        (
+            b"moment 1\nfail listen\nstop\n",
+            &[NEXT, NEXT, Call::Listen],
+            b"ggt\nmoment 1\nstop\n",
+        ),
+        (
+            b"moment 5\nfail next\nstop\n",
+            &[NEXT, NEXT, NEXT, NEXT],
+            b"gfgf\nmoment 5\nstop\n",
+        ),
+        // A line with an id that was never there is bad, until it is there.
+        (b"bytes s9 \"x\"\nstop\n", &[NEXT, NEXT], b"bb\n"),
+        (
+            b"arrive c1\nroom c2 1\nstop\n",
+            &[NEXT, NEXT],
+            b"gb\narrive c1\n",
+        ),
+        (
+            b"dialled s1\nstop\n",
+            &[NEXT, Call::Dial, NEXT],
+            b"btg\ndial c1 127.0.0.1 9000 s1\ndialled s1\n",
+        ),
+        // Bytes behind an end or a break are skipped, and so are lines with an id that was hung up.
+        (
+            b"dialled s1\nbytes s1 \"x\"\nended s1\nbytes s1 \"y\"\nready s1\nrefused s1\nstop\n",
+            &[
+                Call::Dial,
+                NEXT,
+                NEXT,
+                NEXT,
+                NEXT,
+                Call::Close(Id::Sock(1)),
+                NEXT,
+            ],
+            b"tggggtg\ndial c1 127.0.0.1 9000 s1\ndialled s1\nbytes s1 \"x\"\nended s1\nready s1\nclose s1\nstop\n",
+        ),
+        (
+            b"arrive c1\nbroken c1\nbytes c1 \"x\"\nstop\n",
+            &[NEXT, NEXT, NEXT],
+            b"ggg\narrive c1\nbroken c1\nstop\n",
+        ),
+        (
+            b"arrive c1\nbytes c1 \"a\"\nready c1\nroom c1 1\nfail put c1\nmoment 1\nstop\n",
+            &[NEXT, Call::Close(CLIENT), PUT_2, NEXT, NEXT],
+            b"gt-gg\narrive c1\nclose c1\nmoment 1\nstop\n",
+        ),
+    ];
+    for (schedule, calls, told) in cases {
+        assert_eq!(rt; played(rt.alloc(), schedule, calls)?.as_slice(), told);
+    }
+    Ok(())
+}

@@ -1,0 +1,13 @@
+//! Tests of the crates that read Lua, by their public calls: numbers, trees, tokens, operators, programs.
+#![tactic(auto)]
+
+#[cfg(test)]
+mod numbers;
+#[cfg(test)]
+mod operators;
+#[cfg(test)]
+mod parsing;
+#[cfg(test)]
+mod tokens;
+#[cfg(test)]
+mod trees;
