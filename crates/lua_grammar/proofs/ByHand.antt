@@ -128,7 +128,7 @@ by_hand tokens program e is = (
   chunk,
   record {
     printed = e;
-    valid = ((tt, tt), (tt, tt));
+    valid = ((tt, tt, tt), (tt, tt));
     shallow = lit≤ tt;
     resolved = rw e (chunk_resolves program is);
   },

@@ -1,5 +1,6 @@
 -- Which trees are valid: precedence, what may be assigned and called, where `...` and `break` may stand, on which line the
--- arguments of a call begin, and how high an expression may be (Lua 5.1 Reference Manual, 2.4 and 2.5).
+-- arguments of a call begin, which statements need a `;` between them, and how high an expression may be (Lua 5.1 Reference
+-- Manual, 2.4 and 2.5).
 use Rattle.std.specs.Prelude.{◌≡◌, ℕ, ◌+◌, ◌≤◌, Bool, true, false}
 use Rattle.lua_grammar.specs.Operators.{level, left_level, right_level, unary_level, highest_level}
 use Rattle.lua_grammar.specs.Levels.{height, prefix_height, table_height, funcname_height}
@@ -48,6 +49,47 @@ abbrev pub BeginOn : Line → Args → Type 0
 BeginOn line (tree.no_args o c) = o ≡ line
 BeginOn line (tree.args o es c) = o ≡ line
 BeginOn line other = Unit {0}
+
+-- an expression or a statement whose last tokens are a prefix: a `(` behind it would be that of a call
+abbrev pub EndsWithPrefix : Exp → Type 0
+EndsWithPrefix (tree.prefix p) = Unit {0}
+EndsWithPrefix (tree.binary a op l b) = EndsWithPrefix b
+EndsWithPrefix (tree.unary op l e) = EndsWithPrefix e
+EndsWithPrefix other = ⊥
+
+abbrev pub ListEndsWithPrefix : ExpList → Type 0
+ListEndsWithPrefix (tree.one e) = EndsWithPrefix e
+ListEndsWithPrefix (tree.more es c e) = EndsWithPrefix e
+
+abbrev pub StatEndsWithPrefix : Stat → Type 0
+StatEndsWithPrefix (tree.assign vs q es) = ListEndsWithPrefix es
+StatEndsWithPrefix (tree.call_statement p) = Unit {0}
+StatEndsWithPrefix (tree.repeat_loop r b u t) = EndsWithPrefix t
+StatEndsWithPrefix (tree.local_values l ns q es) = ListEndsWithPrefix es
+StatEndsWithPrefix other = ⊥
+
+-- the first token is `(`
+abbrev pub BeginsWithParen : PrefixExp → Type 0
+BeginsWithParen (tree.variable l n) = ⊥
+BeginsWithParen (tree.paren o e c) = Unit {0}
+BeginsWithParen (tree.item p o e c) = BeginsWithParen p
+BeginsWithParen (tree.member p d l n) = BeginsWithParen p
+BeginsWithParen (tree.call p a) = BeginsWithParen p
+BeginsWithParen (tree.method p c l n a) = BeginsWithParen p
+
+abbrev pub VarsBeginWithParen : VarList → Type 0
+VarsBeginWithParen (tree.one_var p) = BeginsWithParen p
+VarsBeginWithParen (tree.more_vars vs c p) = VarsBeginWithParen vs
+
+abbrev pub StatBeginsWithParen : Stat → Type 0
+StatBeginsWithParen (tree.assign vs q es) = VarsBeginWithParen vs
+StatBeginsWithParen (tree.call_statement p) = BeginsWithParen p
+StatBeginsWithParen other = ⊥
+
+-- a statement behind others: a `(` that could be that of a call is that of a call, unless a `;` stands before it
+abbrev pub MayFollow : Stats → Stat → Type 0
+MayFollow (tree.more_stats ss before tree.bare) s = StatEndsWithPrefix before → StatBeginsWithParen s → ⊥
+MayFollow other s = Unit {0}
 
 -- no expression is higher
 abbrev pub IsLow : ℕ → Type 0
@@ -114,7 +156,7 @@ unfoldable mutual
 
   pub AreValidStats : Bool → Bool → Stats → Type 0
   AreValidStats rest loop tree.no_stats = Unit {0}
-  AreValidStats rest loop (tree.more_stats ss s e) = AreValidStats rest loop ss × IsValidStat rest loop s
+  AreValidStats rest loop (tree.more_stats ss s e) = AreValidStats rest loop ss × IsValidStat rest loop s × MayFollow ss s
 
   pub IsValidStat : Bool → Bool → Stat → Type 0
   IsValidStat rest loop (tree.assign vs q es) = AreValidVars rest vs × AreValid rest es
