@@ -1,5 +1,5 @@
 -- How operators group.
-use Rattle.std.proofs.Common.{◌≡◌, ℕ, ◌+◌, ◌≤◌, ◌⊎◌, inl, inr, refl, arith, lit≤}
+use Rattle.std.proofs.Common.{◌≡◌, ℕ, ◌+◌, ◌≤◌, ◌<◌, ◌⊎◌, inl, inr, refl, arith, lit≤}
 use Rattle.std.proofs.Math.Decide.{dec_le}
 use Rattle.lua_ast.specs.declared.expressions.BinOp.TheVariants.{Add, Sub, Mul, Div, Mod, Pow, Concat, Eq, Ne, Lt, Le, Gt, Ge}
 use Rattle.lua_grammar.specs.declared.operators.Operator.{Operator}
@@ -10,29 +10,29 @@ use Rattle.lua_grammar.specs.Levels.{height}
 use Rattle.lua_grammar.specs.Laws.{IsOneValid, IsValidNot, grouped_left, grouped_right, minus_of_power, power_of_minus, not_before_equal, not_of_equal}
 
 -- levels of an operator and of its operands: to the left, `..`, and `^`
-AreLevels : ℕ → ℕ → ℕ → Type 0
+pub AreLevels : ℕ → ℕ → ℕ → Type 0
 AreLevels l left right =
-    ((left ≡ l) × (right ≡ l + 1) × (l ≤ 3)) ⊎ (((left ≡ l) × (right ≡ l + 1) × (5 ≤ l) × (l ≤ 6)) ⊎
+    ((left ≡ l) × (right ≡ l + 1) × (1 ≤ l) × (l ≤ 3)) ⊎ (((left ≡ l) × (right ≡ l + 1) × (5 ≤ l) × (l ≤ 6)) ⊎
     (((l ≡ 4) × (left ≡ 5) × (right ≡ 4)) ⊎ ((l ≡ 8) × (left ≡ 9) × (right ≡ 7))))
 
-low : (l : ℕ) → l ≤ 3 → AreLevels l l (l + 1)
+low : (l : ℕ) → 1 ≤ l → l ≤ 3 → AreLevels l l (l + 1)
 unfolding AreLevels
-low l h = inl (refl, refl, h)
+low l h k = inl (refl, refl, h, k)
 
 high : (l : ℕ) → 5 ≤ l → l ≤ 6 → AreLevels l l (l + 1)
 unfolding AreLevels
 high l h k = inr (inl (refl, refl, h, k))
 
-levels_of : (op : Operator) → AreLevels (level op) (left_level op) (right_level op)
+pub levels_of : (op : Operator) → AreLevels (level op) (left_level op) (right_level op)
 unfolding AreLevels
-levels_of Or = low 1 (lit≤ tt)
-levels_of And = low 2 (lit≤ tt)
-levels_of (Plain Eq) = low 3 (lit≤ tt)
-levels_of (Plain Ne) = low 3 (lit≤ tt)
-levels_of (Plain Lt) = low 3 (lit≤ tt)
-levels_of (Plain Le) = low 3 (lit≤ tt)
-levels_of (Plain Gt) = low 3 (lit≤ tt)
-levels_of (Plain Ge) = low 3 (lit≤ tt)
+levels_of Or = low 1 (lit≤ tt) (lit≤ tt)
+levels_of And = low 2 (lit≤ tt) (lit≤ tt)
+levels_of (Plain Eq) = low 3 (lit≤ tt) (lit≤ tt)
+levels_of (Plain Ne) = low 3 (lit≤ tt) (lit≤ tt)
+levels_of (Plain Lt) = low 3 (lit≤ tt) (lit≤ tt)
+levels_of (Plain Le) = low 3 (lit≤ tt) (lit≤ tt)
+levels_of (Plain Gt) = low 3 (lit≤ tt) (lit≤ tt)
+levels_of (Plain Ge) = low 3 (lit≤ tt) (lit≤ tt)
 levels_of (Plain Concat) = inr (inr (inl (refl, refl, refl)))
 levels_of (Plain Add) = high 5 (lit≤ tt) (lit≤ tt)
 levels_of (Plain Sub) = high 5 (lit≤ tt) (lit≤ tt)
@@ -73,3 +73,24 @@ minus_groups = (((tt, tt, lit≤ tt, lit≤ tt, lit≤ tt), lit≤ tt, lit≤ tt
 pub not_groups : IsValidNot not_before_equal not_of_equal
 unfolding IsValid height
 not_groups = (((tt, lit≤ tt, lit≤ tt), tt, lit≤ tt, lit≤ tt, lit≤ tt), λ v. let h : 7 ≤ 3 = v.1 in omega (arith, h))
+
+-- an operator of which an expression may be the left operand stops what is at the right end of that
+pub below_right : (l left right m left' right' : ℕ) → AreLevels l left right → AreLevels m left' right' → left' ≤ l → m < right
+unfolding AreLevels
+below_right l left right m left' right' p q h = grind arith
+
+pub within_right : (l left right m left' right' : ℕ) → AreLevels l left right → AreLevels m left' right' → left' ≤ l → left' ≤ right
+unfolding AreLevels
+within_right l left right m left' right' p q h = grind arith
+
+pub below_unary : (m left right : ℕ) → AreLevels m left right → left ≤ 7 → m < 7
+unfolding AreLevels
+below_unary m left right p h = grind arith
+
+pub some_level : (l left right : ℕ) → AreLevels l left right → 1 ≤ l
+unfolding AreLevels
+some_level l left right p = grind arith
+
+pub within_left : (l left right : ℕ) → AreLevels l left right → l ≤ left
+unfolding AreLevels
+within_left l left right p = grind arith

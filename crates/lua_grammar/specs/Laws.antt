@@ -15,7 +15,7 @@ use Rattle.lua_lexer.specs.declared.tokens.TokenKind.TheVariants.{Number}
 use Rattle.lua_lexer.specs.declared.words.Word.TheVariants.{Local, Return, Function as FunctionWord, End}
 use Rattle.lua_grammar.specs.declared.operators.Operator.{Operator}
 use Rattle.lua_grammar.specs.declared.operators.Operator.TheVariants.{Plain}
-use Rattle.lua_grammar.specs.Tree.{Bytes, Exp}
+use Rattle.lua_grammar.specs.Tree.{Line, Bytes, Exp, Block}
 use Rattle.lua_grammar.specs.Tree as tree
 use Rattle.lua_grammar.specs.Printing.{Lexeme, lexemes, a_kind, a_word, a_sign, a_name}
 use Rattle.lua_grammar.specs.Validity.{IsValid}
@@ -117,3 +117,18 @@ pub record IsEmptyProgram (program : Program) : Type 0 where
 abbrev pub IsSeen : Bytes → Frame → List Frame → Type 0
 IsSeen name f around =
     let inner = with_locals (name ∷ []) f ∷ around in look name inner ≡ (Some (Slot (length f.locals)), inner)
+
+-- `a = f` and `(g)()`, the `(` on that line, as one statement: it is that of a call
+abbrev pub one_call : Line → Block
+one_call line =
+    let called = tree.call (tree.variable 1 (codes "f")) (tree.args line (tree.one (tree.prefix (tree.variable line (codes "g")))) line) in
+    let assigned = tree.one (tree.prefix (tree.call called (tree.no_args line line))) in
+    tree.statements (tree.more_stats tree.no_stats (tree.assign (tree.one_var (tree.variable 1 (codes "a"))) 1 assigned) tree.bare)
+
+-- the same as two statements, with a `;` between them or without
+abbrev pub two_statements : Line → tree.End → Block
+two_statements line between =
+    let assigned = tree.one (tree.prefix (tree.variable 1 (codes "f"))) in
+    let called = tree.paren line (tree.prefix (tree.variable line (codes "g"))) line in
+    tree.statements (tree.more_stats (tree.more_stats tree.no_stats (tree.assign (tree.one_var (tree.variable 1 (codes "a"))) 1 assigned) between)
+    (tree.call_statement (tree.call called (tree.no_args line line))) tree.bare)

@@ -1,12 +1,13 @@
-ghost use Rattle.std.specs.Prelude.{◌≡◌, ℕ, List, []};
+ghost use Rattle.std.specs.Prelude.{◌≡◌, ℕ, true, false, List, []};
 ghost use Rattle.lua_ast.specs.declared.programs.Program.{Program};
 ghost use Rattle.lua_lexer.specs.declared.signs.Sign.TheVariants.{Assign};
 ghost use Rattle.lua_lexer.specs.declared.tokens.Token.{Token};
 ghost use Rattle.lua_grammar.specs.Grammar.{IsProgramOf};
-ghost use Rattle.lua_grammar.specs.Laws.{BeginWith, IsBefore, IsEmptyProgram, IsSeen, IsOneValid, IsProgramByHand, IsValidNot, grouped_left, grouped_right, minus_of_power, power_of_minus, not_before_equal, not_of_equal, tokens_by_hand};
+ghost use Rattle.lua_grammar.specs.Laws.{BeginWith, IsBefore, IsEmptyProgram, IsSeen, IsOneValid, IsProgramByHand, IsValidNot, grouped_left, grouped_right, minus_of_power, power_of_minus, not_before_equal, not_of_equal, one_call, tokens_by_hand, two_statements};
 ghost use Rattle.lua_grammar.specs.Printing.{lexemes, print_block};
 ghost use Rattle.lua_grammar.specs.Scopes.{Frame};
-ghost use Rattle.lua_grammar.specs.Tree.{Block};
+ghost use Rattle.lua_grammar.specs.Tree.{Block, bare, closed};
+ghost use Rattle.lua_grammar.specs.Validity.{IsValidBlock};
 ghost use Rattle.lua_grammar.specs.declared.operators.Operator.{Operator};
 
 /// Three operands with two operators between them group in one way.
@@ -43,4 +44,19 @@ pub fn the_empty_text_is_the_empty_chunk()
 /// A local is seen from its declaration on, before all other variables of its name.
 pub fn a_new_local_is_seen()
     ensures { (name : List ℕ) (f : Frame) (around : List Frame) → IsSeen name f around }
+{}
+
+/// Tokens have at most one tree: two valid chunks of the same kinds of tokens on the same lines are the same.
+pub fn tokens_have_one_tree()
+    ensures { (chunk other : Block) → IsValidBlock true false chunk → IsValidBlock true false other → print_block chunk [] ≡ print_block other [] → chunk ≡ other }
+{}
+
+/// In `a = f (g)()` the `(` behind `f` is that of a call, and no other tree has these tokens. With `f` and the `(` on
+/// two lines no tree has them, and with a `;` between they are two statements (Lua 5.1 Reference Manual, 2.5.8).
+pub fn a_parenthesis_behind_a_prefix_calls()
+    ensures same { print_block (one_call 1) [] ≡ print_block (two_statements 1 bare) [] }
+    ensures valid { IsValidBlock true false (one_call 1) }
+    ensures only { (chunk : Block) → IsValidBlock true false chunk → print_block chunk [] ≡ print_block (two_statements 1 bare) [] → chunk ≡ one_call 1 }
+    ensures lines { (chunk : Block) → IsValidBlock true false chunk → print_block chunk [] ≡ print_block (two_statements 2 bare) [] → ⊥ }
+    ensures apart { IsValidBlock true false (two_statements 2 (closed 1)) }
 {}

@@ -1,0 +1,270 @@
+-- The reader reads each tree from its tokens.
+use Rattle.std.proofs.Common.{◌≡◌, ℕ, ◌≤◌, Bool, true, false, List, refl, ap, sym, ◌∙◌, true≢false, arith}
+use Rattle.lua_ast.specs.declared.expressions.UnOp.{UnOp}
+use Rattle.lua_ast.specs.declared.expressions.UnOp.TheVariants as unary
+use Rattle.lua_lexer.specs.declared.tokens.TokenKind.{TokenKind}
+use Rattle.lua_lexer.specs.declared.tokens.TokenKind.TheVariants.{Name, Text, Sign}
+use Rattle.lua_lexer.specs.declared.signs.Sign.TheVariants as sign
+use Rattle.lua_lexer.specs.declared.words.Word.TheVariants as word
+use Rattle.lua_grammar.specs.Operators.{kind_of, kind_of_unary, right_level}
+use Rattle.lua_grammar.specs.Tree.{Line, Bytes, NameList, Params, FuncName, End, Exp, PrefixExp, Args, ExpList, Table, Fields, Field, FuncBody, Block, Stats, Stat, Arms, LastStat, VarList}
+use Rattle.lua_grammar.specs.Tree as tree
+use Rattle.lua_grammar.specs.Printing.{Lexeme, a_kind, a_word, a_sign, print_names, print_params, print_funcname, print_end, print_exp, print_prefixexp, print_args, print_explist, print_table, print_fields, print_field, print_funcbody, print_block, print_stats, print_stat, print_arms, print_laststat, print_varlist}
+use Rattle.lua_grammar.specs.Validity.{takes_rest, IsValid, IsValidPrefix, IsValidArgs, AreValid, IsValidTable, AreValidFields, IsValidField, IsValidBody, IsValidBlock, AreValidStats, IsValidStat, AreValidArms, IsValidLast, AreValidVars, exp_level, ListEndsWithPrefix, StatEndsWithPrefix}
+use Rattle.lua_grammar.proofs.Grouping.{levels_of, within_left}
+use Rattle.lua_grammar.proofs.Waiting.{Reader, token, exp, more_exp, more_prefix, more_list, more_fields, more_names, more_funcname, more_vars, more_arms, more_stats, after_return, close_parenthesis}
+use Rattle.lua_grammar.proofs.Reading.{block, list, params, body_behind, args, begin_args, after_field, field_of, no_rest, next_statement, last_statement, assigns_or_calls, feed, run}
+use Rattle.lua_grammar.proofs.Stopping.{Behind, IsNoOperator, IsApart, IsBlockEnd, IsStart, IsNext, Stops, ends_in, stops, stops_at, at_least_one, weaker, exp_goes_on, exp_ends, prefix_ends, list_ends, local_ends, call_ends, block_ends, statement_ends, return_ends}
+use Rattle.lua_grammar.proofs.Starts.{Alike, Follows, IsBehind, no_operator, block_end_starts, exp_alike, list_alike, stat_follows, last_follows, end_follows, behind_stat, starts_behind, behind_last, none_behind_last}
+
+-- ---- names
+
+names_read : (ns : NameList) (r : Reader) (k : NameList → Reader) (rest : NameList → Line → Line → Reader) (behind : List Lexeme)
+    → ((n : Bytes) (l : Line) → feed r (Name n) l ≡ more_names (tree.first_name l n) k rest) → run r (print_names ns behind) ≡ run (more_names ns k rest) behind
+names_read (tree.first_name l n) r k rest behind h = ap (λ r. run r behind) (h n l)
+names_read (tree.next_name ns c l n) r k rest behind h = names_read ns r k rest _ h
+
+params_read : (ps : Params) (o : Line) (k : FuncBody → Reader) (c : Line) (behind : List Lexeme)
+    → run (token (params o k)) (print_params ps (a_sign sign.CloseParenthesis c behind)) ≡ run (body_behind o k ps c) behind
+params_read tree.no_params o k c behind = refl
+params_read (tree.names ns) o k c behind = names_read ns _ _ _ _ (λ n l. refl)
+params_read (tree.names_and_rest ns d l) o k c behind = names_read ns _ _ _ _ (λ n l. refl)
+params_read (tree.only_rest d) o k c behind = refl
+
+funcname_read : (f : FuncName) (r : Reader) (k : FuncName → Reader) (behind : List Lexeme)
+    → ((n : Bytes) (l : Line) → feed r (Name n) l ≡ more_funcname (tree.root_name l n) k) → run r (print_funcname f behind) ≡ run (more_funcname f k) behind
+funcname_read (tree.root_name l n) r k behind h = ap (λ r. run r behind) (h n l)
+funcname_read (tree.name_member f d l n) r k behind h = funcname_read f r k _ h
+
+-- ---- what begins as a production does
+
+record BeginsPrefix (r : Reader) (k : PrefixExp → Reader) : Type 0 where
+  name : (n : Bytes) (l : Line) → feed r (Name n) l ≡ more_prefix (tree.variable l n) k
+  paren : (o : Line) → feed r (Sign sign.OpenParenthesis) o ≡ exp 1 (λ e. token (close_parenthesis (λ c. more_prefix (tree.paren o e c) k)))
+
+record BeginsArgs (r : Reader) (k : Args → Reader) : Type 0 where
+  open_ : (o : Line) → feed r (Sign sign.OpenParenthesis) o ≡ token (args o k)
+  brace : (o : Line) → feed r (Sign sign.OpenBrace) o ≡ more_fields o tree.no_fields (λ t. k (tree.table_arg t))
+  text : (bytes : Bytes) (l : Line) → feed r (Text bytes) l ≡ k (tree.string_arg l bytes)
+
+unary_begins : (op : UnOp) (m : ℕ) (l : Line) (k : Exp → Reader) → feed (exp m k) (kind_of_unary op) l ≡ exp 7 (λ e. more_exp m (tree.unary op l e) k)
+unary_begins unary.Not m l k = refl
+unary_begins unary.Length m l k = refl
+unary_begins unary.Minus m l k = refl
+
+args_alike : (o : Line) (k : Args → Reader) → Alike (token (args o k)) (list (λ es. token (close_parenthesis (λ c. k (tree.args o es c)))))
+args_alike o k (Sign sign.CloseParenthesis) l h = absurd (true≢false (sym h))
+args_alike o k kind l h = refl
+
+return_alike : (r : Line) (k : LastStat → Reader) → Alike (after_return r k) (list (λ es. k (tree.return_values r es)))
+return_alike r k kind l h = rw (h, feed) refl
+
+fields_alike : (o : Line) (fs : Fields) (k : Table → Reader) → Alike (more_fields o fs k) (exp 1 (λ e. token (field_of (after_field o fs k) e)))
+fields_alike o fs k (Sign sign.CloseBrace) l h = absurd (true≢false (sym h))
+fields_alike o fs k (Sign sign.OpenBracket) l h = absurd (true≢false (sym h))
+fields_alike o fs k kind l h = refl
+
+-- a token behind a field
+record IsFieldEnd (kind : TokenKind) : Type 0 where
+  no : IsNoOperator kind
+  apart : IsApart kind
+  plain : (k : Field → TokenKind → Line → Reader) (e : Exp) (l : Line) → field_of k e kind l ≡ k (tree.plain e) kind l
+
+none : (behind : List Lexeme) → Behind IsNext behind → Behind IsNoOperator behind
+none behind h = weaker IsNext IsNoOperator behind no_operator h
+
+-- ---- all productions
+
+mutual
+  unfolding print_exp IsValid
+
+  exp_read : (e : Exp) (rest : Bool) (m : ℕ) (k : Exp → Reader) (behind : List Lexeme) → IsValid rest e → m ≤ exp_level e → Stops e behind
+      → run (exp m k) (print_exp e behind) ≡ run (more_exp m e k) behind
+  exp_read (tree.nil l) rest m k behind v h s = refl
+  exp_read (tree.false_ l) rest m k behind v h s = refl
+  exp_read (tree.true_ l) rest m k behind v h s = refl
+  exp_read (tree.number l n) rest m k behind v h s = refl
+  exp_read (tree.string l bytes) rest m k behind v h s = refl
+  exp_read (tree.dots l) rest m k behind v h s = refl
+  exp_read (tree.function l b) rest m k behind v h s = body_read b _ (λ b. more_exp m (tree.function l b) k) behind (λ o. refl) v
+  exp_read (tree.prefix p) rest m k behind v h s =
+      prefix_read p rest (exp m k) (λ p. more_exp m (tree.prefix p) k) behind (record { name = λ n l. refl; paren = λ o. refl }) v ∙ prefix_ends p _ behind s
+  exp_read (tree.table t) rest m k behind v h s = table_read t rest (exp m k) (λ t. more_exp m (tree.table t) k) behind (λ o. refl) v
+  exp_read (tree.binary a op l b) rest m k behind v h s =
+      let left = within_left _ _ _ (levels_of op) in
+      let operand = v.2 in
+      exp_read a rest m k (a_kind (kind_of op) l (print_exp b behind)) v.0 (omega (arith, h, left, operand)) (stops_at rest a op l (print_exp b behind) v.0 v.2)
+      ∙ ap (λ r. run r (print_exp b behind)) (exp_goes_on m a op l k h)
+      ∙ exp_read b rest (right_level op) (λ b. more_exp m (tree.binary a op l b) k) behind v.1 v.3 s.1
+      ∙ exp_ends (right_level op) b _ behind s.0
+  exp_read (tree.unary op l e) rest m k behind v h s =
+      ap (λ r. run r (print_exp e behind)) (unary_begins op m l k)
+      ∙ exp_read e rest 7 (λ e. more_exp m (tree.unary op l e) k) behind v.0 v.1 s.1
+      ∙ exp_ends 7 e _ behind s.0
+
+  prefix_read : (p : PrefixExp) (rest : Bool) (r : Reader) (k : PrefixExp → Reader) (behind : List Lexeme) → BeginsPrefix r k → IsValidPrefix rest p
+      → run r (print_prefixexp p behind) ≡ run (more_prefix p k) behind
+  prefix_read (tree.variable l n) rest r k behind b v = ap (λ r. run r behind) (b.name n l)
+  prefix_read (tree.paren o e c) rest r k behind b v =
+      ap (λ r. run r (print_exp e (a_sign sign.CloseParenthesis c behind))) (b.paren o)
+      ∙ exp_read e rest 1 _ _ v.0 (at_least_one e) (stops e _ (λ m. refl) (λ h. tt))
+  prefix_read (tree.item p o e c) rest r k behind b v =
+      prefix_read p rest r k _ b v.0 ∙ exp_read e rest 1 _ _ v.1 (at_least_one e) (stops e _ (λ m. refl) (λ h. tt))
+  prefix_read (tree.member p d l n) rest r k behind b v = prefix_read p rest r k _ b v.0
+  prefix_read (tree.call p a) rest r k behind b v =
+      prefix_read p rest r k (print_args a behind) b v.0
+      ∙ args_read a rest (more_prefix p k) (λ a. more_prefix (tree.call p a) k) behind (record { open_ = λ o. refl; brace = λ o. refl; text = λ bytes l. refl }) v.1
+  prefix_read (tree.method p c l n a) rest r k behind b v =
+      prefix_read p rest r k _ b v.0
+      ∙ args_read a rest (token (begin_args (λ a. more_prefix (tree.method p c l n a) k))) (λ a. more_prefix (tree.method p c l n a) k) behind (record { open_ = λ o. refl; brace = λ o. refl; text = λ bytes l. refl }) v.1
+
+  args_read : (a : Args) (rest : Bool) (r : Reader) (k : Args → Reader) (behind : List Lexeme) → BeginsArgs r k → IsValidArgs rest a
+      → run r (print_args a behind) ≡ run (k a) behind
+  args_read (tree.no_args o c) rest r k behind b v = ap (λ r. run r (a_sign sign.CloseParenthesis c behind)) (b.open_ o)
+  args_read (tree.args o es c) rest r k behind b v =
+      ap (λ r. run r (print_explist es (a_sign sign.CloseParenthesis c behind))) (b.open_ o)
+      ∙ list_alike es _ _ _ (args_alike o k)
+      ∙ list_read es rest _ _ v (λ m. refl) (λ h. tt)
+  args_read (tree.table_arg t) rest r k behind b v = table_read t rest r (λ t. k (tree.table_arg t)) behind b.brace v
+  args_read (tree.string_arg l bytes) rest r k behind b v = ap (λ r. run r behind) (b.text bytes l)
+
+  list_read : (es : ExpList) (rest : Bool) (k : ExpList → Reader) (behind : List Lexeme) → AreValid rest es → Behind IsNoOperator behind
+      → (ListEndsWithPrefix es → Behind IsApart behind) → run (list k) (print_explist es behind) ≡ run (more_list es k) behind
+  list_read (tree.one e) rest k behind v h a =
+      exp_read e rest 1 _ behind v (at_least_one e) (stops e behind h a) ∙ exp_ends 1 e _ behind (ends_in 1 behind h)
+  list_read (tree.more es c e) rest k behind v h a =
+      list_read es rest k _ v.0 (λ m. refl) (λ h. tt)
+      ∙ exp_read e rest 1 (λ e. more_list (tree.more es c e) k) behind v.1 (at_least_one e) (stops e behind h a)
+      ∙ exp_ends 1 e _ behind (ends_in 1 behind h)
+
+  table_read : (t : Table) (rest : Bool) (r : Reader) (k : Table → Reader) (behind : List Lexeme)
+      → ((o : Line) → feed r (Sign sign.OpenBrace) o ≡ more_fields o tree.no_fields k) → IsValidTable rest t → run r (print_table t behind) ≡ run (k t) behind
+  table_read (tree.separated o fs c) rest r k behind b v =
+      ap (λ r. run r (print_fields fs (a_sign sign.CloseBrace c behind))) (b o) ∙ fields_read fs rest o k _ v.0
+  table_read (tree.ending o fs f c) rest r k behind b v =
+      ap (λ r. run r (print_fields fs (print_field f (a_sign sign.CloseBrace c behind)))) (b o)
+      ∙ fields_read fs rest o k _ v.0
+      ∙ field_read f rest o fs k (Sign sign.CloseBrace) c behind (record { no = λ m. refl; apart = tt; plain = λ k e l. refl }) v.1
+
+  fields_read : (fs : Fields) (rest : Bool) (o : Line) (k : Table → Reader) (behind : List Lexeme) → AreValidFields rest fs
+      → run (more_fields o tree.no_fields k) (print_fields fs behind) ≡ run (more_fields o fs k) behind
+  fields_read tree.no_fields rest o k behind v = refl
+  fields_read (tree.more_fields fs f (tree.comma l)) rest o k behind v =
+      fields_read fs rest o k _ v.0
+      ∙ field_read f rest o fs k (Sign sign.Comma) l behind (record { no = λ m. refl; apart = tt; plain = λ k e l. refl }) v.1
+  fields_read (tree.more_fields fs f (tree.semicolon l)) rest o k behind v =
+      fields_read fs rest o k _ v.0
+      ∙ field_read f rest o fs k (Sign sign.Semicolon) l behind (record { no = λ m. refl; apart = tt; plain = λ k e l. refl }) v.1
+
+  field_read : (f : Field) (rest : Bool) (o : Line) (fs : Fields) (k : Table → Reader) (kind : TokenKind) (l : Line) (behind : List Lexeme) → IsFieldEnd kind
+      → IsValidField rest f → run (more_fields o fs k) (print_field f (a_kind kind l behind)) ≡ run (after_field o fs k f kind l) behind
+  field_read (tree.keyed b key c q e) rest o fs k kind l behind x v =
+      let next : Exp → Reader = λ e. token (after_field o fs k (tree.keyed b key c q e)) in
+      exp_read key rest 1 _ _ v.0 (at_least_one key) (stops key _ (λ m. refl) (λ h. tt))
+      ∙ exp_read e rest 1 next (a_kind kind l behind) v.1 (at_least_one e) (stops e (a_kind kind l behind) x.no (λ h. x.apart))
+      ∙ exp_ends 1 e next (a_kind kind l behind) (x.no 1)
+  field_read (tree.named at n q e) rest o fs k kind l behind x v =
+      let next : Exp → Reader = λ e. token (after_field o fs k (tree.named at n q e)) in
+      exp_read e rest 1 next (a_kind kind l behind) v (at_least_one e) (stops e (a_kind kind l behind) x.no (λ h. x.apart))
+      ∙ exp_ends 1 e next (a_kind kind l behind) (x.no 1)
+  field_read (tree.plain e) rest o fs k kind l behind x v =
+      let next : Exp → Reader = λ e. token (field_of (after_field o fs k) e) in
+      exp_alike e (more_fields o fs k) _ (a_kind kind l behind) (fields_alike o fs k)
+      ∙ exp_read e rest 1 next (a_kind kind l behind) v (at_least_one e) (stops e (a_kind kind l behind) x.no (λ h. x.apart))
+      ∙ exp_ends 1 e next (a_kind kind l behind) (x.no 1)
+      ∙ ap (λ r. run r behind) (x.plain (after_field o fs k) e l)
+
+  body_read : (b : FuncBody) (r : Reader) (k : FuncBody → Reader) (behind : List Lexeme)
+      → ((o : Line) → feed r (Sign sign.OpenParenthesis) o ≡ token (params o k)) → IsValidBody b → run r (print_funcbody b behind) ≡ run (k b) behind
+  body_read (tree.function_body o ps c b x) r k behind h v =
+      ap (λ r. run r (print_params ps (a_sign sign.CloseParenthesis c (print_block b (a_word word.End x behind))))) (h o)
+      ∙ params_read ps o k c _
+      ∙ block_read b (takes_rest ps) false _ (a_word word.End x behind) v tt
+
+  pub block_read : (b : Block) (rest : Bool) (loop : Bool) (k : Block → Reader) (behind : List Lexeme) → IsValidBlock rest loop b → Behind IsBlockEnd behind
+      → run (block k) (print_block b behind) ≡ run (k b) behind
+  block_read (tree.statements ss) rest loop k behind v h = stats_read ss rest loop k behind v (end_follows ss behind h) ∙ block_ends ss k behind h
+  block_read (tree.with_last ss s x) rest loop k behind v h =
+      stats_read ss rest loop k _ v.0 (last_follows ss s (print_end x behind)) ∙ last_read s rest loop ss k x behind v.1 h
+
+  stats_read : (ss : Stats) (rest : Bool) (loop : Bool) (k : Block → Reader) (behind : List Lexeme) → AreValidStats rest loop ss → Follows ss behind
+      → run (block k) (print_stats ss behind) ≡ run (more_stats ss k) behind
+  stats_read tree.no_stats rest loop k behind v f = refl
+  stats_read (tree.more_stats ss s x) rest loop k behind v f =
+      stats_read ss rest loop k _ v.0 (stat_follows ss s (print_end x behind) v.2)
+      ∙ stat_read s rest loop ss k (print_end x behind) v.1 (behind_stat ss s x behind f)
+      ∙ statement_ends x _ behind (starts_behind ss s x behind f)
+
+  last_read : (s : LastStat) (rest : Bool) (loop : Bool) (ss : Stats) (k : Block → Reader) (x : End) (behind : List Lexeme) → IsValidLast rest loop s
+      → Behind IsBlockEnd behind → run (more_stats ss k) (print_laststat s (print_end x behind)) ≡ run (k (tree.with_last ss s x)) behind
+  last_read (tree.return_none r) rest loop ss k x behind v h =
+      return_ends r (last_statement ss k) (print_end x behind) (none_behind_last x behind h)
+      ∙ statement_ends x _ behind (weaker IsBlockEnd IsStart behind block_end_starts h)
+  last_read (tree.return_values r es) rest loop ss k x behind v h =
+      let b = behind_last x behind h in
+      list_alike es (after_return r (last_statement ss k)) _ (print_end x behind) (return_alike r (last_statement ss k))
+      ∙ list_read es rest _ (print_end x behind) v (none _ b.next) (λ ends. b.apart tt)
+      ∙ list_ends es _ (print_end x behind) b.next
+      ∙ statement_ends x _ behind (weaker IsBlockEnd IsStart behind block_end_starts h)
+  last_read (tree.break_ b) rest loop ss k x behind v h = statement_ends x _ behind (weaker IsBlockEnd IsStart behind block_end_starts h)
+
+  stat_read : (s : Stat) (rest : Bool) (loop : Bool) (ss : Stats) (k : Block → Reader) (behind : List Lexeme) → IsValidStat rest loop s
+      → IsBehind (StatEndsWithPrefix s) behind → run (more_stats ss k) (print_stat s behind) ≡ run (next_statement ss k s) behind
+  stat_read (tree.assign vs q es) rest loop ss k behind v b =
+      vars_read vs rest (more_stats ss k) (next_statement ss k) _ (record { name = λ n l. refl; paren = λ o. refl }) v.0 tt
+      ∙ list_read es rest _ behind v.1 (none _ b.next) b.apart
+      ∙ list_ends es _ behind b.next
+  stat_read (tree.call_statement p) rest loop ss k behind v b =
+      prefix_read p rest (more_stats ss k) (assigns_or_calls (next_statement ss k)) behind (record { name = λ n l. refl; paren = λ o. refl }) v.0
+      ∙ prefix_ends p _ behind (b.apart tt)
+      ∙ call_ends p _ behind b.next
+  stat_read (tree.do_block d c x) rest loop ss k behind v b = block_read c rest loop _ _ v tt
+  stat_read (tree.while_loop w t d c x) rest loop ss k behind v b =
+      exp_read t rest 1 _ _ v.0 (at_least_one t) (stops t _ (λ m. refl) (λ h. tt)) ∙ block_read c rest true _ _ v.1 tt
+  stat_read (tree.repeat_loop r c u t) rest loop ss k behind v b =
+      block_read c rest true _ _ v.0 tt
+      ∙ exp_read t rest 1 _ behind v.1 (at_least_one t) (stops t behind (none _ b.next) b.apart)
+      ∙ exp_ends 1 t _ behind (ends_in 1 behind (none _ b.next))
+  stat_read (tree.if_then arms x) rest loop ss k behind v b = arms_read arms rest loop ss k _ v tt
+  stat_read (tree.if_else arms l c x) rest loop ss k behind v b = arms_read arms rest loop ss k _ v.0 tt ∙ block_read c rest loop _ _ v.1 tt
+  stat_read (tree.for_range f l n q from c to d inner x) rest loop ss k behind v b =
+      exp_read from rest 1 _ _ v.0 (at_least_one from) (stops from _ (λ m. refl) (λ h. tt))
+      ∙ exp_read to rest 1 _ _ v.1 (at_least_one to) (stops to _ (λ m. refl) (λ h. tt))
+      ∙ block_read inner rest true _ _ v.2 tt
+  stat_read (tree.for_steps f l n q from c to m step d inner x) rest loop ss k behind v b =
+      exp_read from rest 1 _ _ v.0 (at_least_one from) (stops from _ (λ m. refl) (λ h. tt))
+      ∙ exp_read to rest 1 _ _ v.1 (at_least_one to) (stops to _ (λ m. refl) (λ h. tt))
+      ∙ exp_read step rest 1 _ _ v.2 (at_least_one step) (stops step _ (λ m. refl) (λ h. tt))
+      ∙ block_read inner rest true _ _ v.3 tt
+  stat_read (tree.for_in f ns i es d inner x) rest loop ss k behind v b =
+      names_read ns _ _ no_rest _ (λ n l. refl)
+      ∙ list_read es rest _ _ v.0 (λ m. refl) (λ h. tt)
+      ∙ block_read inner rest true _ _ v.1 tt
+  stat_read (tree.function_statement f n inner) rest loop ss k behind v b =
+      funcname_read n _ _ _ (λ n l. refl) ∙ body_read inner _ (λ b. next_statement ss k (tree.function_statement f n b)) behind (λ o. refl) v.0
+  stat_read (tree.method_statement f n c l m inner) rest loop ss k behind v b =
+      funcname_read n _ _ _ (λ n l. refl) ∙ body_read inner _ (λ b. next_statement ss k (tree.method_statement f n c l m b)) behind (λ o. refl) v.0
+  stat_read (tree.local_function l f m n inner) rest loop ss k behind v b = body_read inner _ (λ b. next_statement ss k (tree.local_function l f m n b)) behind (λ o. refl) v
+  stat_read (tree.local l ns) rest loop ss k behind v b =
+      names_read ns _ _ no_rest behind (λ n l. refl) ∙ local_ends l ns (next_statement ss k) no_rest behind b.next
+  stat_read (tree.local_values l ns q es) rest loop ss k behind v b =
+      names_read ns _ _ no_rest _ (λ n l. refl)
+      ∙ list_read es rest _ behind v (none _ b.next) b.apart
+      ∙ list_ends es _ behind b.next
+
+  arms_read : (arms : Arms) (rest : Bool) (loop : Bool) (ss : Stats) (k : Block → Reader) (behind : List Lexeme) → AreValidArms rest loop arms
+      → Behind IsBlockEnd behind → run (more_stats ss k) (print_arms arms behind) ≡ run (more_arms arms (next_statement ss k)) behind
+  arms_read (tree.if_arm i t h b) rest loop ss k behind v x =
+      exp_read t rest 1 _ _ v.0 (at_least_one t) (stops t _ (λ m. refl) (λ h. tt)) ∙ block_read b rest loop _ behind v.1 x
+  arms_read (tree.elseif_arm arms i t h b) rest loop ss k behind v x =
+      arms_read arms rest loop ss k _ v.0 tt
+      ∙ exp_read t rest 1 _ _ v.1 (at_least_one t) (stops t _ (λ m. refl) (λ h. tt))
+      ∙ block_read b rest loop _ behind v.2 x
+
+  vars_read : (vs : VarList) (rest : Bool) (r : Reader) (k : Stat → Reader) (behind : List Lexeme) → BeginsPrefix r (λ p. more_vars (tree.one_var p) k)
+      → AreValidVars rest vs → Behind IsApart behind → run r (print_varlist vs behind) ≡ run (more_vars vs k) behind
+  vars_read (tree.one_var p) rest r k behind b v a = prefix_read p rest r _ behind b v.0 ∙ prefix_ends p _ behind a
+  vars_read (tree.more_vars vs c p) rest r k behind b v a =
+      vars_read vs rest r k _ b v.0 tt
+      ∙ prefix_read p rest _ (λ p. more_vars (tree.more_vars vs c p) k) behind (record { name = λ n l. refl; paren = λ o. refl }) v.1
+      ∙ prefix_ends p _ behind a

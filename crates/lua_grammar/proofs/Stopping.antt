@@ -1,0 +1,226 @@
+-- Where the reader hands on what it has read: at a token that doesn't continue it.
+use Rattle.std.proofs.Common.{◌≡◌, ℕ, ◌≤◌, ◌<◌, Bool, false, List, [], ◌∷◌, Some, None, refl, ap, arith, lit≤}
+use Rattle.std.proofs.lemmas.Bool.{le-leb, lt-leb}
+use Rattle.lua_ast.specs.declared.expressions.BinOp.TheVariants.{Add, Sub, Mul, Div, Mod, Pow, Concat, Eq, Ne, Lt, Le, Gt, Ge}
+use Rattle.lua_lexer.specs.declared.tokens.TokenKind.{TokenKind}
+use Rattle.lua_lexer.specs.declared.tokens.TokenKind.TheVariants.{Name, Text, Word, Sign}
+use Rattle.lua_lexer.specs.declared.signs.Sign.TheVariants as sign
+use Rattle.lua_lexer.specs.declared.words.Word.TheVariants as word
+use Rattle.lua_grammar.specs.declared.operators.Operator.{Operator}
+use Rattle.lua_grammar.specs.declared.operators.Operator.TheVariants.{Or, And, Plain}
+use Rattle.lua_grammar.specs.Operators.{kind_of, level, left_level, right_level}
+use Rattle.lua_grammar.specs.Tree.{Line, NameList, End, Exp, PrefixExp, ExpList, Block, Stats, Stat, LastStat}
+use Rattle.lua_grammar.specs.Tree as tree
+use Rattle.lua_grammar.specs.Printing.{Lexeme, a_kind, print_end}
+use Rattle.lua_grammar.specs.Validity.{IsValid, EndsWithPrefix, exp_level}
+use Rattle.lua_grammar.proofs.Grouping.{levels_of, below_right, within_right, below_unary, some_level}
+use Rattle.lua_grammar.proofs.Waiting.{Reader, exp, more_exp, more_prefix, more_list, more_names, more_vars, more_stats, after_statement, after_local, after_return, operator_of, above, begins}
+use Rattle.lua_grammar.proofs.Reading.{feed, run}
+
+-- ---- the first token behind
+
+abbrev pub Behind : (TokenKind → Type 0) → List Lexeme → Type 0
+Behind P [] = ⊥
+Behind P (first ∷ behind) = P first.kind
+
+-- no operator of that level or a higher one
+abbrev pub EndsAt : ℕ → TokenKind → Type 0
+EndsAt m kind = above m (operator_of kind) ≡ None
+
+abbrev pub IsNoOperator : TokenKind → Type 0
+IsNoOperator kind = (m : ℕ) → EndsAt m kind
+
+-- it doesn't continue a prefix
+abbrev pub IsApart : TokenKind → Type 0
+IsApart (Text bytes) = ⊥
+IsApart (Sign sign.Dot) = ⊥
+IsApart (Sign sign.Colon) = ⊥
+IsApart (Sign sign.OpenBracket) = ⊥
+IsApart (Sign sign.OpenBrace) = ⊥
+IsApart (Sign sign.OpenParenthesis) = ⊥
+IsApart other = Unit {0}
+
+-- it ends a block
+abbrev pub IsBlockEnd : TokenKind → Type 0
+IsBlockEnd (Word word.End) = Unit {0}
+IsBlockEnd (Word word.Else) = Unit {0}
+IsBlockEnd (Word word.ElseIf) = Unit {0}
+IsBlockEnd (Word word.Until) = Unit {0}
+IsBlockEnd other = ⊥
+
+-- it begins a statement or ends a block
+abbrev pub IsStart : TokenKind → Type 0
+IsStart (Name n) = Unit {0}
+IsStart (Sign sign.OpenParenthesis) = Unit {0}
+IsStart (Word word.And) = ⊥
+IsStart (Word word.Or) = ⊥
+IsStart (Word w) = Unit {0}
+IsStart other = ⊥
+
+-- it may stand behind a statement
+abbrev pub IsNext : TokenKind → Type 0
+IsNext (Sign sign.Semicolon) = Unit {0}
+IsNext kind = IsStart kind
+
+abbrev pub IsNoParen : TokenKind → Type 0
+IsNoParen (Sign sign.OpenParenthesis) = ⊥
+IsNoParen other = Unit {0}
+
+-- ---- what is behind an expression
+
+abbrev pub Stops : Exp → List Lexeme → Type 0
+Stops (tree.prefix p) behind = Behind IsApart behind
+Stops (tree.binary a op l b) behind = Behind (EndsAt (right_level op)) behind × Stops b behind
+Stops (tree.unary op l e) behind = Behind (EndsAt 7) behind × Stops e behind
+Stops other behind = Unit {0}
+
+pub is_operator : (op : Operator) → operator_of (kind_of op) ≡ Some op
+is_operator Or = refl
+is_operator And = refl
+is_operator (Plain Add) = refl
+is_operator (Plain Sub) = refl
+is_operator (Plain Mul) = refl
+is_operator (Plain Div) = refl
+is_operator (Plain Mod) = refl
+is_operator (Plain Pow) = refl
+is_operator (Plain Concat) = refl
+is_operator (Plain Eq) = refl
+is_operator (Plain Ne) = refl
+is_operator (Plain Lt) = refl
+is_operator (Plain Le) = refl
+is_operator (Plain Gt) = refl
+is_operator (Plain Ge) = refl
+
+operator_apart : (op : Operator) → IsApart (kind_of op)
+operator_apart Or = tt
+operator_apart And = tt
+operator_apart (Plain Add) = tt
+operator_apart (Plain Sub) = tt
+operator_apart (Plain Mul) = tt
+operator_apart (Plain Div) = tt
+operator_apart (Plain Mod) = tt
+operator_apart (Plain Pow) = tt
+operator_apart (Plain Concat) = tt
+operator_apart (Plain Eq) = tt
+operator_apart (Plain Ne) = tt
+operator_apart (Plain Lt) = tt
+operator_apart (Plain Le) = tt
+operator_apart (Plain Gt) = tt
+operator_apart (Plain Ge) = tt
+
+pub goes_on : (m : ℕ) (op : Operator) → m ≤ level op → above m (operator_of (kind_of op)) ≡ Some op
+goes_on m op h = rw (is_operator op, le-leb m (level op) h) refl
+
+ends_at : (m : ℕ) (op : Operator) → level op < m → EndsAt m (kind_of op)
+ends_at m op h = rw (is_operator op, lt-leb m (level op) h) refl
+
+-- an operator of which an expression may be the left operand
+pub stops_at : (rest : Bool) (e : Exp) (op : Operator) (l : Line) (behind : List Lexeme) → IsValid rest e → left_level op ≤ exp_level e → Stops e (a_kind (kind_of op) l behind)
+unfolding IsValid
+stops_at rest (tree.prefix p) op l behind v h = operator_apart op
+stops_at rest (tree.binary a op' l' b) op l behind v h =
+    let mine = levels_of op' in
+    let its = levels_of op in
+    let within = within_right _ _ _ _ _ _ mine its h in (
+      ends_at _ op (below_right _ _ _ _ _ _ mine its h),
+      stops_at rest b op l behind v.1 (let right = v.3 in omega (arith, within, right)),
+    )
+stops_at rest (tree.unary op' l' e) op l behind v h = (
+  ends_at 7 op (below_unary _ _ _ (levels_of op) h),
+  stops_at rest e op l behind v.0 (let operand = v.1 in omega (arith, h, operand)),
+)
+stops_at rest other op l behind v h = tt
+
+pub ends_in : (m : ℕ) (behind : List Lexeme) → Behind IsNoOperator behind → Behind (EndsAt m) behind
+ends_in m [] h = h
+ends_in m (first ∷ behind) h = h m
+
+-- no operator is behind, and nothing that continues a prefix, if that is at the end
+pub stops : (e : Exp) (behind : List Lexeme) → Behind IsNoOperator behind → (EndsWithPrefix e → Behind IsApart behind) → Stops e behind
+stops (tree.prefix p) behind h k = k tt
+stops (tree.binary a op l b) behind h k = (ends_in (right_level op) behind h, stops b behind h k)
+stops (tree.unary op l e) behind h k = (ends_in 7 behind h, stops e behind h k)
+stops other behind h k = tt
+
+pub at_least_one : (e : Exp) → 1 ≤ exp_level e
+at_least_one (tree.binary a op l b) = some_level _ _ _ (levels_of op)
+at_least_one (tree.unary op l e) = lit≤ tt
+at_least_one other = lit≤ tt
+
+-- ---- what the reader does there
+
+-- two readers do the same with the first token
+pub by_first : (P : TokenKind → Type 0) (r other : Reader) (behind : List Lexeme) → ((kind : TokenKind) (l : Line) → P kind → feed r kind l ≡ feed other kind l)
+    → Behind P behind → run r behind ≡ run other behind
+by_first P r other [] same h = absurd h
+by_first P r other (first ∷ behind) same h = ap (λ r. run r behind) (same first.kind first.line h)
+
+pub weaker : (P Q : TokenKind → Type 0) (behind : List Lexeme) → ((kind : TokenKind) → P kind → Q kind) → Behind P behind → Behind Q behind
+weaker P Q [] f h = h
+weaker P Q (first ∷ behind) f h = f first.kind h
+
+pub exp_goes_on : (m : ℕ) (a : Exp) (op : Operator) (l : Line) (k : Exp → Reader) → m ≤ level op
+    → feed (more_exp m a k) (kind_of op) l ≡ exp (right_level op) (λ b. more_exp m (tree.binary a op l b) k)
+exp_goes_on m a op l k h = rw (goes_on m op h, feed) refl
+
+pub exp_ends : (m : ℕ) (e : Exp) (k : Exp → Reader) (behind : List Lexeme) → Behind (EndsAt m) behind → run (more_exp m e k) behind ≡ run (k e) behind
+exp_ends m e k behind h = by_first (EndsAt m) _ _ behind (λ kind l ends. rw (ends, feed) refl) h
+
+pub prefix_ends : (p : PrefixExp) (k : PrefixExp → Reader) (behind : List Lexeme) → Behind IsApart behind → run (more_prefix p k) behind ≡ run (k p) behind
+prefix_ends p k behind h = by_first IsApart _ _ behind at h
+  where
+    at : (kind : TokenKind) (l : Line) → IsApart kind → feed (more_prefix p k) kind l ≡ feed (k p) kind l
+    at (Text bytes) l h = absurd h
+    at (Sign sign.Dot) l h = absurd h
+    at (Sign sign.Colon) l h = absurd h
+    at (Sign sign.OpenBracket) l h = absurd h
+    at (Sign sign.OpenBrace) l h = absurd h
+    at (Sign sign.OpenParenthesis) l h = absurd h
+    at kind l h = refl
+
+pub list_ends : (es : ExpList) (k : ExpList → Reader) (behind : List Lexeme) → Behind IsNext behind → run (more_list es k) behind ≡ run (k es) behind
+list_ends es k behind h = by_first IsNext _ _ behind at h
+  where
+    at : (kind : TokenKind) (l : Line) → IsNext kind → feed (more_list es k) kind l ≡ feed (k es) kind l
+    at (Sign sign.Comma) l h = absurd h
+    at kind l h = refl
+
+pub local_ends : (at_line : Line) (ns : NameList) (k : Stat → Reader) (rest : NameList → Line → Line → Reader) (behind : List Lexeme) → Behind IsNext behind
+    → run (more_names ns (λ ns. after_local at_line ns k) rest) behind ≡ run (k (tree.local at_line ns)) behind
+local_ends at_line ns k rest behind h = by_first IsNext _ _ behind at h
+  where
+    at : (kind : TokenKind) (l : Line) → IsNext kind → feed (more_names ns (λ ns. after_local at_line ns k) rest) kind l ≡ feed (k (tree.local at_line ns)) kind l
+    at (Sign sign.Comma) l h = absurd h
+    at (Sign sign.Assign) l h = absurd h
+    at kind l h = refl
+
+pub call_ends : (p : PrefixExp) (k : Stat → Reader) (behind : List Lexeme) → Behind IsNext behind
+    → run (more_vars (tree.one_var p) k) behind ≡ run (k (tree.call_statement p)) behind
+call_ends p k behind h = by_first IsNext _ _ behind at h
+  where
+    at : (kind : TokenKind) (l : Line) → IsNext kind → feed (more_vars (tree.one_var p) k) kind l ≡ feed (k (tree.call_statement p)) kind l
+    at (Sign sign.Comma) l h = absurd h
+    at (Sign sign.Assign) l h = absurd h
+    at kind l h = refl
+
+pub block_ends : (ss : Stats) (k : Block → Reader) (behind : List Lexeme) → Behind IsBlockEnd behind → run (more_stats ss k) behind ≡ run (k (tree.statements ss)) behind
+block_ends ss k behind h = by_first IsBlockEnd _ _ behind at h
+  where
+    at : (kind : TokenKind) (l : Line) → IsBlockEnd kind → feed (more_stats ss k) kind l ≡ feed (k (tree.statements ss)) kind l
+    at (Word word.End) l h = refl
+    at (Word word.Else) l h = refl
+    at (Word word.ElseIf) l h = refl
+    at (Word word.Until) l h = refl
+    at kind l h = absurd h
+
+pub statement_ends : (x : End) (k : End → Reader) (behind : List Lexeme) → Behind IsStart behind → run (after_statement k) (print_end x behind) ≡ run (k x) behind
+statement_ends (tree.closed l) k behind h = refl
+statement_ends tree.bare k behind h = by_first IsStart _ _ behind at h
+  where
+    at : (kind : TokenKind) (l : Line) → IsStart kind → feed (after_statement k) kind l ≡ feed (k tree.bare) kind l
+    at (Sign sign.Semicolon) l h = absurd h
+    at kind l h = refl
+
+pub return_ends : (r : Line) (k : LastStat → Reader) (behind : List Lexeme) → Behind (λ kind. begins kind ≡ false) behind
+    → run (after_return r k) behind ≡ run (k (tree.return_none r)) behind
+return_ends r k behind h = by_first (λ kind. begins kind ≡ false) _ _ behind (λ kind l none. rw (none, feed) refl) h
