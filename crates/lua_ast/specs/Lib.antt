@@ -1,2 +1,3 @@
 pub mod Height
 pub mod WholeProgram
+pub mod SameProgram

@@ -1,8 +1,10 @@
 ghost use Rattle.std.specs.Prelude.{◌≡◌, ℕ, true, false, List, []};
+ghost use Rattle.lua_ast.specs.SameProgram.{SameProgram};
+ghost use Rattle.lua_ast.specs.WholeProgram.{IsWholeProgram};
 ghost use Rattle.lua_ast.specs.declared.programs.Program.{Program};
 ghost use Rattle.lua_lexer.specs.declared.signs.Sign.TheVariants.{Assign};
 ghost use Rattle.lua_lexer.specs.declared.tokens.Token.{Token};
-ghost use Rattle.lua_grammar.specs.Grammar.{IsProgramOf};
+ghost use Rattle.lua_grammar.specs.Grammar.{IsProgramOf, ResolvesChunk};
 ghost use Rattle.lua_grammar.specs.Laws.{BeginWith, IsBefore, IsEmptyProgram, IsSeen, IsOneValid, IsProgramByHand, IsValidNot, grouped_left, grouped_right, minus_of_power, power_of_minus, not_before_equal, not_of_equal, one_call, tokens_by_hand, two_statements};
 ghost use Rattle.lua_grammar.specs.Printing.{lexemes, print_block};
 ghost use Rattle.lua_grammar.specs.Scopes.{Frame};
@@ -59,4 +61,19 @@ pub fn a_parenthesis_behind_a_prefix_calls()
     ensures only { (chunk : Block) → IsValidBlock true false chunk → print_block chunk [] ≡ print_block (two_statements 1 bare) [] → chunk ≡ one_call 1 }
     ensures lines { (chunk : Block) → IsValidBlock true false chunk → print_block chunk [] ≡ print_block (two_statements 2 bare) [] → ⊥ }
     ensures apart { IsValidBlock true false (two_statements 2 (closed 1)) }
+{}
+
+/// A chunk resolves to one program, up to where its parts stand in memory.
+pub fn a_chunk_resolves_to_one_program()
+    ensures { (line : ℕ) (chunk : Block) (p q : Program) → ResolvesChunk line chunk p → ResolvesChunk line chunk q → SameProgram p q }
+{}
+
+/// Each number in the program of tokens names something that is there.
+pub fn a_program_is_whole()
+    ensures { (tokens : List Token) (program : Program) → IsProgramOf tokens program → IsWholeProgram program }
+{}
+
+/// Tokens have at most one program, up to where its parts stand in memory.
+pub fn tokens_have_one_program()
+    ensures { (tokens : List Token) (p q : Program) → IsProgramOf tokens p → IsProgramOf tokens q → SameProgram p q }
 {}
