@@ -18,3 +18,5 @@ pub mod WholeNodes
 pub mod Fitting
 pub mod Wholes
 pub mod Wholeness
+pub mod SameFrames
+pub mod Few

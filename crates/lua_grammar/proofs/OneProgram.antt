@@ -1,5 +1,5 @@
 -- Two ways to resolve one tree agree.
-use Rattle.std.proofs.Common.{◌≡◌, ℕ, List, [], ◌∷◌, ◌++◌, None, Some, true, false, refl, sym, subst, ◌∙◌}
+use Rattle.std.proofs.Common.{◌≡◌, ℕ, List, [], ◌∷◌, ◌++◌, None, Some, refl, sym, subst, ◌∙◌}
 use Rattle.std.specs.List.{AllZip}
 use Rattle.lua_ast.specs.declared.expressions.Expr.{Expr}
 use Rattle.lua_ast.specs.declared.expressions.TableItem.{TableItem}
