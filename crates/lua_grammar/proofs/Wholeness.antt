@@ -1,5 +1,5 @@
 -- What a tree resolves to is whole.
-use Rattle.std.proofs.Common.{◌≡◌, ℕ, ◌<◌, List, [], ◌∷◌, ◌++◌, length, All, None, Some, refl, sym, ap, arith, append-nil, ◌∙◌}
+use Rattle.std.proofs.Common.{◌≡◌, ℕ, ◌<◌, List, [], ◌∷◌, ◌++◌, length, All, None, Some, refl, sym, ap, arith, append-nil, ◌∙◌, map, slice_set, subst}
 use Rattle.std.proofs.lemmas.List.Elements.{All-nil, All-cons, All-push, All-head, All-weaker}
 use Rattle.lua_lexer.specs.declared.tokens.Token.{Token}
 use Rattle.lua_ast.specs.declared.expressions.Expr.{Expr}
@@ -12,10 +12,13 @@ use Rattle.lua_ast.specs.WholeProgram.{HasInner, IsWholeExpr, IsWholeItem, IsWho
 use Rattle.lua_grammar.specs.Tree.{Line, Bytes, FuncName, Exp, PrefixExp, Args, ExpList, Table, Fields, Field, FuncBody, Block, Stats, Stat, Arms, LastStat, VarList}
 use Rattle.lua_grammar.specs.Tree as tree
 use Rattle.lua_grammar.specs.Validity.{takes_rest}
-use Rattle.lua_grammar.specs.Scopes.{Scope, declare, enter, in_scope, slots_from}
+use Rattle.lua_grammar.specs.Scopes.{Captured, Frame, Scope, declare, enter, in_scope, slots_from}
 use Rattle.lua_grammar.specs.Resolution.{Index, ResolvesFuncName, Resolves, ResolvesPrefix, ResolvesArgs, ResolvesList, ResolvesTable, ResolvesFields, ResolvesField, ResolvesBody, Opens, ResolvesStats, ResolvesStat, ResolvesArms, ResolvesLast, ResolvesVars, Shared, args_line, arms_line, names_of, names_of_params, self_name}
 use Rattle.lua_grammar.specs.Grammar.{IsProgramOf, ResolvesChunk, outside}
-use Rattle.lua_grammar.proofs.Fitting.{Fits, entered_fits}
+use Rattle.lua_grammar.specs.Laws.{BeginsWithChunk}
+use Rattle.lua_grammar.proofs.Frames.{Went}
+use Rattle.lua_grammar.proofs.Agreeing.{placed}
+use Rattle.lua_grammar.proofs.Fitting.{HasIn, Fits, entered_fits}
 use Rattle.lua_grammar.proofs.WholeNodes.{binary_whole, call_whole, method_whole, table_whole, do_whole, while_whole, repeat_whole, if_whole, numeric_whole, generic_whole, arm_whole}
 use Rattle.lua_grammar.proofs.Wholes.{Stands, IsWholeBody, Whole, seen, also, becomes, still, leaves, declares, name_whole, ended_whole}
 
@@ -211,3 +214,37 @@ chunk_whole line chunk program (kept, out, m, t, opens, ends, functions, files) 
 -- a program is whole
 pub program_whole : (tokens : List Token) (program : Program) → IsProgramOf tokens program → IsWholeProgram program
 program_whole tokens program (chunk, is) = chunk_whole _ chunk program is.resolved
+
+-- ---- the chunk
+
+none_further : (f g : Frame) (fs all : List Frame) → all ≡ g ∷ fs → Went (f ∷ []) all → fs ≡ []
+unfolding Went
+none_further f g [] all e h = refl
+none_further f g (x ∷ fs) all e h = let k = subst (Went (f ∷ [])) e h in absurd k.1
+
+nothing_in : (captures : List Captured) → All (λ c. HasIn [] c.variable) captures → captures ≡ []
+unfolding HasIn
+nothing_in [] all = refl
+nothing_in (c ∷ cs) all = absurd (All-head (λ c. HasIn [] c.variable) c cs all)
+
+none_captured : (fs all : List Frame) (frame : Frame) → all ≡ frame ∷ fs → fs ≡ [] → Fits all → frame.captures ≡ []
+unfolding Fits HasIn
+none_captured fs all frame e none fit =
+    let h = subst Fits (e ∙ ap (λ gs. frame ∷ gs) none) fit in
+    nothing_in frame.captures h.1
+
+begins : (line : Line) (chunk : Block) (program : Program) → ResolvesChunk line chunk program → BeginsWithChunk program
+begins line chunk program (kept, out, m, t, opens, (f, frame, around, top, is, ended), functions, files) =
+    let a = block_whole chunk (enter [] kept outside) out m opens (entered_fits [] [] nothing_fits) in
+    let none = none_further _ frame around m.around top a.moves.frames in
+    record {
+      chunk = f;
+      others = a.new;
+      functions = functions ∙ (ap (λ z. z.functions) ended ∙ (ap (λ fs. slice_set fs 0 f) a.grows ∙ placed [] a.new kept f));
+      params = is.params;
+      vararg = is.vararg;
+      captures = is.captures ∙ ap (map (λ c. c.variable)) (none_captured around m.around frame top none a.fits);
+    }
+
+pub begins_with_chunk : (tokens : List Token) (program : Program) → IsProgramOf tokens program → BeginsWithChunk program
+begins_with_chunk tokens program (chunk, is) = begins _ chunk program is.resolved

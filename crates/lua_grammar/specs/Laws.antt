@@ -132,3 +132,12 @@ two_statements line between =
     let called = tree.paren line (tree.prefix (tree.variable line (codes "g"))) line in
     tree.statements (tree.more_stats (tree.more_stats tree.no_stats (tree.assign (tree.one_var (tree.variable 1 (codes "a"))) 1 assigned) between)
     (tree.call_statement (tree.call called (tree.no_args line line))) tree.bare)
+
+-- the first function is the chunk, which takes its arguments as `...` and captures nothing
+pub record BeginsWithChunk (program : Program) : Type 0 where
+  pub chunk : Function
+  pub others : List Function
+  pub functions : program.functions.items ≡ chunk ∷ others
+  pub params : chunk.params ≡ 0
+  pub vararg : chunk.vararg ≡ true
+  pub captures : chunk.captures.items ≡ []

@@ -5,7 +5,7 @@ ghost use Rattle.lua_ast.specs.declared.programs.Program.{Program};
 ghost use Rattle.lua_lexer.specs.declared.signs.Sign.TheVariants.{Assign};
 ghost use Rattle.lua_lexer.specs.declared.tokens.Token.{Token};
 ghost use Rattle.lua_grammar.specs.Grammar.{IsProgramOf, ResolvesChunk};
-ghost use Rattle.lua_grammar.specs.Laws.{BeginWith, IsBefore, IsEmptyProgram, IsSeen, IsOneValid, IsProgramByHand, IsValidNot, grouped_left, grouped_right, minus_of_power, power_of_minus, not_before_equal, not_of_equal, one_call, tokens_by_hand, two_statements};
+ghost use Rattle.lua_grammar.specs.Laws.{BeginWith, BeginsWithChunk, IsBefore, IsEmptyProgram, IsSeen, IsOneValid, IsProgramByHand, IsValidNot, grouped_left, grouped_right, minus_of_power, power_of_minus, not_before_equal, not_of_equal, one_call, tokens_by_hand, two_statements};
 ghost use Rattle.lua_grammar.specs.Printing.{lexemes, print_block};
 ghost use Rattle.lua_grammar.specs.Scopes.{Frame};
 ghost use Rattle.lua_grammar.specs.Tree.{Block, bare, closed};
@@ -76,4 +76,9 @@ pub fn a_program_is_whole()
 /// Tokens have at most one program, up to where its parts stand in memory.
 pub fn tokens_have_one_program()
     ensures { (tokens : List Token) (p q : Program) → IsProgramOf tokens p → IsProgramOf tokens q → SameProgram p q }
+{}
+
+/// The first function of the program of tokens is its chunk, which captures nothing.
+pub fn a_program_begins_with_its_chunk()
+    ensures { (tokens : List Token) (program : Program) → IsProgramOf tokens program → BeginsWithChunk program }
 {}
