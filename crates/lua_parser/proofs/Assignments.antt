@@ -1,5 +1,5 @@
 -- What is read of the parts is read of an assignment, a call, a local or a named function.
-use Rattle.std.proofs.Common.{◌≡◌, ℕ, ◌+◌, ◌≤◌, max, List, [], ◌∷◌, ◌++◌, Option, Some, None, Vec, refl, sym, ap, subst, arith, ◌∙◌}
+use Rattle.std.proofs.Common.{◌≡◌, ℕ, List, [], ◌∷◌, ◌++◌, Option, Some, None, Vec, refl, sym, ap, subst, arith, ◌∙◌}
 use Rattle.std.specs.Global.{Global}
 use Rattle.lua_ast.specs.declared.expressions.Expr.{Expr}
 use Rattle.lua_ast.specs.declared.statements.Stmt.{Stmt}
@@ -12,21 +12,21 @@ use Rattle.lua_grammar.specs.Tree as tree
 use Rattle.lua_grammar.specs.Printing.{Lexeme, a_word, a_sign, a_name, print_exp, print_prefixexp, print_explist, print_varlist, print_names, print_funcname}
 use Rattle.lua_grammar.specs.Levels.{levels}
 use Rattle.lua_grammar.specs.Validity.{IsValid, IsValidPrefix, IsVariable, IsCall}
-use Rattle.lua_grammar.specs.Scopes.{Scope, declare, in_scope, slots_from}
-use Rattle.lua_grammar.specs.Resolution.{Resolves, ResolvesPrefix, ResolvesName, ResolvesFuncName, ResolvesList, ResolvesVars, ResolvesBody, Index, statement, prefix_line, names_of, self_name}
+use Rattle.lua_grammar.specs.Scopes.{declare, in_scope, slots_from}
+use Rattle.lua_grammar.specs.Resolution.{Resolves, ResolvesPrefix, ResolvesName, ResolvesFuncName, ResolvesList, ResolvesVars, ResolvesBody, statement, prefix_line, names_of, self_name}
 use Rattle.lua_grammar.specs.Grammar.{first_line}
 use Rattle.lua_parser.specs.declared.places.Place.{Place}
 use Rattle.lua_parser.specs.declared.nodes.Prefix.{Prefix}
 use Rattle.lua_parser.specs.declared.nodes.Form.TheVariants.{Variable, Call}
 use Rattle.lua_parser.specs.declared.statement_nodes.FunctionName.{FunctionName}
-use Rattle.lua_parser.specs.States.{State, Takes}
+use Rattle.lua_parser.specs.States.{State, Takes, Stops}
 use Rattle.lua_parser.specs.Places.{IsFresh}
 use Rattle.lua_parser.specs.Reads.{ReadsPrefix, ReadsBody, form_of}
 use Rattle.lua_parser.specs.ReadsNames.{ReadsNames}
 use Rattle.lua_parser.specs.ReadsStatements.{ReadsStat, ReadsValues, ReadsTarget, ReadsVars, ReadsFuncName, ReadsMember, ReadsInitial, behind_function, behind_local}
 use Rattle.lua_parser.specs.StatementNodes.{IsAssign, IsLocal, Defines}
-use Rattle.lua_parser.proofs.Scoping.{Turns}
-use Rattle.lua_parser.proofs.Loops.{stat_from}
+use Rattle.lua_parser.proofs.Scoping.{Turns, stops_still}
+use Rattle.lua_parser.proofs.ForLoops.{stat_from}
 
 -- a prefix begins with its first token
 first_of : (p : PrefixExp) (behind : List Lexeme) → first_line (print_prefixexp p behind) ≡ prefix_line p
@@ -54,10 +54,10 @@ is_variable (tree.member p d l n) is = tt
 is_variable (tree.call p a) is = cc
 is_variable (tree.method p c l n a) is = cc
 
-pub call_read : (at free : Place) (s t : State) (p : Prefix) (line : ℕ) (out : Stmt) → IsFresh at free → ReadsPrefix free s p t → p.form ≡ Call →
+pub call_read : (at free : Place) (s t : State) (p : Prefix) (line : ℕ) (out : Stmt) → IsFresh at free → ReadsPrefix free s p t → Stops t → p.form ≡ Call →
     line ≡ first_line s.left → out ≡ statement line (stmt.Call p.expr) → ReadsStat at s out t
 unfolding print_exp levels IsValid Resolves
-call_read at free s t p line out fresh r form first is =
+call_read at free s t p line out fresh r stops form first is =
     let begins : line ≡ prefix_line r.tree = first ∙ (ap first_line r.printed ∙ first_of r.tree t.left) in
     record {
       tree = tree.call_statement r.tree;
@@ -65,6 +65,7 @@ call_read at free s t p line out fresh r form first is =
       valid = (subst (λ rest. IsValidPrefix rest r.tree) fresh.rest r.valid, is_call r.tree (r.form ∙ form));
       deep = let d = r.deep in let e = fresh.depth in omega (arith, d, e);
       resolved = (p.expr, r.resolved, is ∙ ap (λ l. statement l (stmt.Call p.expr)) begins);
+      stops = λ _. stops;
     }
 
 pub target_read : (at free : Place) (s t : State) (p : Prefix) (e : Expr) → IsFresh at free → ReadsPrefix free s p t → p.form ≡ Variable → e ≡ p.expr →
@@ -113,6 +114,7 @@ assign_read at line s m n t targets es equals out rs taken r is =
       valid = (rs.valid, r.valid);
       deep = let d = rs.deep in let e = r.deep in omega (arith, d, e);
       resolved = (is.list, is.given, m.scope, subst (λ l. ResolvesVars rs.tree s.scope l m.scope) (sym is.same_list) rs.resolved, subst (λ z. ResolvesList r.tree z is.given.value.items t.scope) taken.scope values, is.built ∙ ap (λ l. statement l (stmt.Assign is.list is.given)) (sym rs.begins));
+      stops = r.stops;
     }
 
 -- the rest of an assignment behind its first target
@@ -156,6 +158,7 @@ function_read at s a b t line number name out taken r body is = record {
   valid = (body.valid, let h = r.high in let l = r.low in omega (arith, h, l));
   deep = body.deep;
   resolved = (is.list, is.given, name.target, number, b.scope, subst (λ z. ResolvesFuncName r.tree z name.target b.scope) taken.scope r.resolved, body.resolved, is.same_list, is.same_given, is.built);
+  stops = λ ends. absurd ends;
 }
 
 pub method_read : (at : Place) (a b t : State) (line number : ℕ) (first : List Bytes) (object whole : FunctionName) → ReadsMember Colon object a whole b →
@@ -183,6 +186,7 @@ method_read at a b t line number first object whole step own body out is s r =
         is.same_given,
         is.built,
       );
+      stops = λ ends. absurd ends;
     }
 
 pub function_from : (at : Place) (s m t : State) (line : ℕ) (out : Stmt) → Takes (WordKind Function) line s m → ReadsStat at (behind_function line m) out t → ReadsStat at s out t
@@ -207,6 +211,7 @@ local_function_read at s a b c t line word name_at slot number name out taken na
         subst (λ z. ResolvesBody [] word body.tree z number t.scope) (turn.scope ∙ ap (declare (name ∷ [])) same) body.resolved,
         is ∙ ap (λ k. statement line (stmt.LocalFunction k number)) (place ∙ ap in_scope same),
       );
+      stops = λ ends. absurd ends;
     }
 
 pub local_read : (at : Place) (s a b t : State) (line : ℕ) (names : List Bytes) (values : Option (Vec Expr Global)) (slots : List ℕ) (out : Stmt) → ReadsNames [] s names a →
@@ -222,6 +227,7 @@ local_read at s a b t line names (Some es) slots out r (equals, m, taken, rv) tu
       valid = rv.valid;
       deep = rv.deep;
       resolved = (is.places, is.given, b.scope, from, is.same_places ∙ (places ∙ ap (slots_from (in_scope b.scope)) r.listed), turn.scope ∙ ap (λ ns. declare ns b.scope) r.listed, is.built);
+      stops = λ ends. stops_still b t turn.left (rv.stops ends);
     }
 local_read at s a b t line names None slots out r same turn places is =
     let before : b.scope ≡ s.scope = ap (λ z. z.scope) same ∙ r.scope in
@@ -231,4 +237,5 @@ local_read at s a b t line names None slots out r same turn places is =
       valid = tt;
       deep = let d = at.deep in omega (arith, d);
       resolved = (is.places, is.given, is.same_places ∙ (places ∙ (ap (slots_from (in_scope b.scope)) r.listed ∙ ap (λ z. slots_from (in_scope z) (names_of r.tree)) before)), is.same_given, turn.scope ∙ (ap (λ ns. declare ns b.scope) r.listed ∙ ap (declare (names_of r.tree)) before), is.built);
+      stops = λ ends. absurd ends;
     }

@@ -1,27 +1,28 @@
 -- What is read of the parts is read of a block or a statement.
-use Rattle.std.proofs.Common.{◌≡◌, ℕ, ◌+◌, ◌≤◌, max, true, false, List, [], ◌∷◌, ◌++◌, Option, Some, None, refl, sym, ap, subst, arith, ◌∙◌}
+use Rattle.std.proofs.Common.{◌≡◌, ℕ, true, List, [], ◌∷◌, ◌++◌, Option, Some, None, refl, sym, ap, subst, arith, ◌∙◌}
 use Rattle.lua_ast.specs.declared.expressions.Expr.{Expr}
 use Rattle.lua_ast.specs.declared.statements.Stmt.{Stmt}
 use Rattle.lua_ast.specs.declared.statements.StmtKind as stmt
 use Rattle.lua_ast.specs.declared.statements.Arm.{Arm, out-Arm}
 use Rattle.lua_lexer.specs.declared.tokens.TokenKind.TheVariants.{Word as WordKind, Sign as SignKind}
-use Rattle.lua_lexer.specs.declared.signs.Sign.TheVariants.{Semicolon}
+use Rattle.lua_lexer.specs.declared.signs.Sign.TheVariants.{OpenParenthesis, Semicolon}
 use Rattle.lua_lexer.specs.declared.words.Word.TheVariants.{Break, Do, Else, ElseIf, End as EndWord, If, Repeat, Return, Then, Until, While}
+use Rattle.lua_grammar.specs.Tree.{PrefixExp, Stats, Stat, VarList}
 use Rattle.lua_grammar.specs.Tree as tree
-use Rattle.lua_grammar.specs.Printing.{Lexeme, a_word, a_sign, print_exp, print_explist, print_block, print_stats, print_stat, print_laststat, print_arms}
+use Rattle.lua_grammar.specs.Printing.{Lexeme, a_word, a_sign, print_exp, print_prefixexp, print_block, print_stats, print_stat, print_laststat, print_arms, print_varlist}
 use Rattle.lua_grammar.specs.Levels.{levels}
-use Rattle.lua_grammar.specs.Validity.{IsValid, AreValid, IsValidBlock}
-use Rattle.lua_grammar.specs.Scopes.{Scope, leave}
-use Rattle.lua_grammar.specs.Resolution.{Resolves, ResolvesList, Opens, ResolvesStats, ResolvesStat, ResolvesLast, ResolvesArms, SharedList, statement}
+use Rattle.lua_grammar.specs.Validity.{IsValid, AreValid, IsValidBlock, BeginsWithParen, VarsBeginWithParen, StatBeginsWithParen, MayFollow}
+use Rattle.lua_grammar.specs.Scopes.{leave}
+use Rattle.lua_grammar.specs.Resolution.{Resolves, ResolvesList, Opens, ResolvesStat, ResolvesLast, ResolvesArms, statement}
 use Rattle.lua_parser.specs.declared.places.Place.{Place}
 use Rattle.lua_parser.specs.declared.nodes.Built.{Built}
 use Rattle.lua_parser.specs.declared.nodes.Values.{Values}
-use Rattle.lua_parser.specs.States.{State, Takes, Skips}
+use Rattle.lua_parser.specs.States.{State, Takes, Skips, Stops}
 use Rattle.lua_parser.specs.Places.{IsFresh, IsWithin, IsLooped}
 use Rattle.lua_parser.specs.Reads.{ReadsExp, ReadsList}
-use Rattle.lua_parser.specs.ReadsStatements.{ReadsBlock, ReadsScoped, ReadsStats, ReadsStat, ReadsLast, ReadsValue, ReadsValues, ReadsArm, ReadsArms}
+use Rattle.lua_parser.specs.ReadsStatements.{ReadsBlock, ReadsScoped, ReadsStats, ReadsStat, ReadsLast, ReadsValue, ReadsValues, ReadsArm, ReadsArms, EndOpenly}
 use Rattle.lua_parser.specs.StatementNodes.{IsArm, IsIf, IsWhile, IsDo, IsRepeat, IsReturn}
-use Rattle.lua_parser.proofs.Scoping.{Turns}
+use Rattle.lua_parser.proofs.Scoping.{Turns, stops_still}
 
 pub value_read : (at free inner : Place) (s t : State) (b : Built) (e : Expr) → IsFresh at free → IsWithin free inner → ReadsExp inner s b t → e ≡ b.expr →
     ReadsValue at s e t
@@ -31,6 +32,7 @@ value_read at free inner s t b e fresh part r is = record {
   valid = subst (λ rest. IsValid rest r.tree) (part.rest ∙ fresh.rest) r.valid;
   deep = let d = r.deep in let x = part.depth in let y = fresh.depth in omega (arith, d, x, y);
   resolved = subst (λ x. Resolves r.tree s.scope x t.scope) (sym is) r.resolved;
+  stops = r.stops;
 }
 
 pub values_read : (at free inner : Place) (s t : State) (v : Values) (es : List Expr) → IsFresh at free → IsWithin free inner → ReadsList inner s v t →
@@ -41,6 +43,7 @@ values_read at free inner s t v es fresh part r is = record {
   valid = subst (λ rest. AreValid rest r.tree) (part.rest ∙ fresh.rest) r.valid;
   deep = let d = r.deep in let x = part.depth in let y = fresh.depth in omega (arith, d, x, y);
   resolved = subst (λ x. ResolvesList r.tree s.scope x t.scope) (sym is) r.resolved;
+  stops = r.stops;
 }
 
 pub stats_none : (at : Place) (s : State) (out : List Stmt) → out ≡ [] → ReadsStats at s out s
@@ -51,7 +54,40 @@ stats_none at s out is = record {
   valid = tt;
   deep = let d = at.deep in omega (arith, d);
   resolved = (is, refl);
+  stops = λ ends. absurd ends;
 }
+
+-- a prefix that begins with `(`, and a statement that does
+paren_first : (p : PrefixExp) (behind : List Lexeme) → BeginsWithParen p →
+    (line : ℕ) × (more : List Lexeme) × (print_prefixexp p behind ≡ a_sign OpenParenthesis line more)
+unfolding print_exp
+paren_first (tree.variable l n) behind begins = absurd begins
+paren_first (tree.paren o e c) behind begins = (o, _, refl)
+paren_first (tree.item p o e c) behind begins = paren_first p _ begins
+paren_first (tree.member p d l n) behind begins = paren_first p _ begins
+paren_first (tree.call p a) behind begins = paren_first p _ begins
+paren_first (tree.method p c l n a) behind begins = paren_first p _ begins
+
+vars_first : (vs : VarList) (behind : List Lexeme) → VarsBeginWithParen vs →
+    (line : ℕ) × (more : List Lexeme) × (print_varlist vs behind ≡ a_sign OpenParenthesis line more)
+unfolding print_exp
+vars_first (tree.one_var p) behind begins = paren_first p _ begins
+vars_first (tree.more_vars vs c p) behind begins = vars_first vs _ begins
+
+stat_first : (x : Stat) (behind : List Lexeme) → StatBeginsWithParen x →
+    (line : ℕ) × (more : List Lexeme) × (print_stat x behind ≡ a_sign OpenParenthesis line more)
+unfolding print_exp
+stat_first (tree.assign vs q es) behind begins = vars_first vs _ begins
+stat_first (tree.call_statement p) behind begins = paren_first p _ begins
+stat_first other behind begins = absurd begins
+
+-- behind a prefix that was read as far as it goes no statement begins with `(`
+may_follow : (ss : Stats) (x : Stat) (m : State) (behind : List Lexeme) → m.left ≡ print_stat x behind → (EndOpenly ss → Stops m) → MayFollow ss x
+may_follow tree.no_stats x m behind printed stops = tt
+may_follow (tree.more_stats ss before (tree.closed l)) x m behind printed stops = tt
+may_follow (tree.more_stats ss before tree.bare) x m behind printed stops = λ ends begins.
+    let first = stat_first x behind begins in
+    stops ends _ first.1 (printed ∙ first.2) tt
 
 pub stats_more : (at : Place) (s m n t : State) (before after : List Stmt) (x : Stmt) (found : Option ℕ) → ReadsStats at s before m → ReadsStat at m x n →
     Skips (SignKind Semicolon) found n t → after ≡ before ++ x ∷ [] → ReadsStats at s after t
@@ -59,16 +95,18 @@ unfolding print_exp levels IsValid Resolves
 stats_more at s m n t before after x (Some line) rs rx semi is = record {
   tree = tree.more_stats rs.tree rx.tree (tree.closed line);
   printed = rs.printed ∙ ap (print_stats rs.tree) (rx.printed ∙ ap (print_stat rx.tree) semi.printed);
-  valid = (rs.valid, rx.valid);
+  valid = (rs.valid, rx.valid, may_follow rs.tree rx.tree m _ rx.printed rs.stops);
   deep = let d = rs.deep in let e = rx.deep in omega (arith, d, e);
   resolved = (before, x, m.scope, rs.resolved, subst (λ z. ResolvesStat rx.tree m.scope x z) (sym semi.scope) rx.resolved, is);
+  stops = λ ends. absurd ends;
 }
 stats_more at s m n t before after x None rs rx same is = record {
   tree = tree.more_stats rs.tree rx.tree tree.bare;
   printed = rs.printed ∙ ap (print_stats rs.tree) (rx.printed ∙ ap (λ z. print_stat rx.tree z.left) (sym same));
-  valid = (rs.valid, rx.valid);
+  valid = (rs.valid, rx.valid, may_follow rs.tree rx.tree m _ rx.printed rs.stops);
   deep = let d = rs.deep in let e = rx.deep in omega (arith, d, e);
   resolved = (before, x, m.scope, rs.resolved, subst (λ z. ResolvesStat rx.tree m.scope x z.scope) (sym same) rx.resolved, is);
+  stops = λ ends. subst Stops (sym same) (rx.stops ends);
 }
 
 pub block_open : (at : Place) (s t : State) (out : List Stmt) → ReadsStats at s out t → ReadsBlock at s out t
@@ -204,6 +242,7 @@ if_read at s a b t line ends arms otherwise out taken reads close none is =
       valid = r.valid;
       deep = r.deep;
       resolved = (is.list, is.rest, subst (λ z. ResolvesArms r.tree s.scope is.list.value.items z) (sym close.scope) from, is.same_rest ∙ none, is.built ∙ ap (λ l. statement l (stmt.If is.list is.rest)) (sym r.begins));
+      stops = λ ends. absurd ends;
     }
 
 pub if_else_read : (at : Place) (s a b c d t : State) (line word ends : ℕ) (arms : List Arm) (otherwise : List Stmt) (out : Stmt) →
@@ -221,6 +260,7 @@ if_else_read at s a b c d t line word ends arms otherwise out taken reads betwee
       valid = (r.valid, rb.valid);
       deep = let d = r.deep in let e = rb.deep in omega (arith, d, e);
       resolved = (is.list, is.rest, c.scope, rb.behind, to, subst (λ l. Opens rb.tree c.scope l rb.behind) (sym is.same_rest) rb.opened, close.scope ∙ rb.scope, is.built ∙ ap (λ l. statement l (stmt.If is.list is.rest)) (sym r.begins));
+      stops = λ ends. absurd ends;
     }
 
 pub do_read : (at : Place) (s a b t : State) (line ends : ℕ) (body : List Stmt) (out : Stmt) → Takes (WordKind Do) line s a → ReadsScoped at a body b →
@@ -234,6 +274,7 @@ do_read at s a b t line ends body out taken rb close is =
       valid = rb.valid;
       deep = rb.deep;
       resolved = (is.run, rb.behind, subst (λ z. Opens rb.tree z is.run.value.items rb.behind) taken.scope given, close.scope ∙ (rb.scope ∙ ap (λ z. leave z rb.behind) taken.scope), is.built);
+      stops = λ ends. absurd ends;
     }
 
 pub while_read : (at inner : Place) (s a b c d t : State) (line word ends : ℕ) (e : Expr) (body : List Stmt) (out : Stmt) → Takes (WordKind While) line s a →
@@ -250,6 +291,7 @@ while_read at inner s a b c d t line word ends e body out taken rv between loop 
       valid = (rv.valid, inside);
       deep = let d = rv.deep in let e = rb.deep in let f = loop.depth in omega (arith, d, e, f);
       resolved = (is.test_node, is.run, c.scope, rb.behind, subst (λ z. Resolves rv.tree s.scope is.test_node.value z) (sym between.scope) from, subst (λ l. Opens rb.tree c.scope l rb.behind) (sym is.same_run) rb.opened, close.scope ∙ rb.scope, is.built);
+      stops = λ ends. absurd ends;
     }
 
 pub repeat_read : (at loop inner : Place) (s a b c d t : State) (line word : ℕ) (body : List Stmt) (e : Expr) (out : Stmt) → Takes (WordKind Repeat) line s a →
@@ -268,4 +310,5 @@ repeat_read at loop inner s a b c d t line word body e out taken looped part rb 
       valid = (inside, rv.valid);
       deep = let d = rv.deep in let e = rb.deep in let f = part.depth in let g = looped.depth in omega (arith, d, e, f, g);
       resolved = (is.test_node, is.run, b.scope, d.scope, opened, from, turn.scope ∙ ap (λ z. leave z d.scope) taken.scope, is.built);
+      stops = λ ends. stops_still d t turn.left (rv.stops ends);
     }

@@ -1,5 +1,5 @@
 -- A function's body and the chunk.
-use Rattle.std.proofs.Common.{◌≡◌, ℕ, ◌+◌, ◌<◌, ◌≤◌, true, false, List, [], ◌∷◌, ◌++◌, length, drop, slice_get, slice_set, Some, map, reverse, refl, sym, ap, subst, arith, ◌∙◌, zero, suc}
+use Rattle.std.proofs.Common.{◌≡◌, ℕ, ◌≤◌, true, false, List, [], ◌∷◌, ◌++◌, length, drop, slice_get, slice_set, Some, map, reverse, refl, sym, ap, subst, arith, ◌∙◌, zero, suc}
 use Rattle.lua_ast.specs.declared.statements.Stmt.{Stmt}
 use Rattle.lua_ast.specs.declared.programs.Function.{Function}
 use Rattle.lua_ast.specs.declared.programs.Program.{Program}
@@ -9,10 +9,10 @@ use Rattle.lua_lexer.specs.declared.signs.Sign.TheVariants.{OpenParenthesis, Clo
 use Rattle.lua_lexer.specs.declared.words.Word.TheVariants.{End as EndWord}
 use Rattle.lua_grammar.specs.Tree.{Bytes}
 use Rattle.lua_grammar.specs.Tree as tree
-use Rattle.lua_grammar.specs.Printing.{Lexeme, lexemes, a_sign, a_word, print_exp, print_block, print_params}
+use Rattle.lua_grammar.specs.Printing.{lexemes, a_sign, a_word, print_exp, print_block, print_params}
 use Rattle.lua_grammar.specs.Levels.{levels}
 use Rattle.lua_grammar.specs.Validity.{IsValid, IsValidBlock, takes_rest}
-use Rattle.lua_grammar.specs.Scopes.{Scope, Frame, enter}
+use Rattle.lua_grammar.specs.Scopes.{Scope, enter}
 use Rattle.lua_grammar.specs.Resolution.{Resolves, Opens, EndsFunction, IsFunction, names_of_params}
 use Rattle.lua_grammar.specs.Grammar.{first_line, outside, IsProgramOf}
 use Rattle.lua_parser.specs.declared.places.Place.{Place}
@@ -28,7 +28,6 @@ use Rattle.lua_parser.specs.ReadsNames.{ReadsParameters}
 use Rattle.lua_parser.specs.ReadsStatements.{ReadsBlock}
 use Rattle.lua_parser.specs.Functions.{Enters, Ends}
 use Rattle.lua_parser.proofs.Lookups.{frames_pushed}
-use Rattle.lua_parser.proofs.Scoping.{Turns}
 
 abbrev pub scope_with : List Function → KeptFrame → List KeptFrame → Scope
 scope_with fs frame around = record { functions = fs; around = frame_of frame ∷ map frame_of (reverse around) }

@@ -1,8 +1,7 @@
 -- What is read behind a prefix, and the arguments of calls.
 use Rattle.std.proofs.lemmas.Bool.{false≢true}
-use Rattle.std.proofs.Common.{◌≡◌, ℕ, Bool, true, false, Result, Ok, Err, IfOk, ◌+◌, ◌-◌, ◌<◌, ◌≤◌, max, List, [], ◌∷◌, ◌++◌, Some, drop, slice_get, zero, suc, refl, sym, ap, subst, arith, ◌∙◌, lit≤}
+use Rattle.std.proofs.Common.{◌≡◌, ℕ, Bool, true, false, Result, Ok, Err, IfOk, ◌+◌, ◌<◌, ◌≤◌, max, List, [], ◌∷◌, Option, Some, None, IfNone, length, drop, slice_get, zero, suc, refl, sym, ap, subst, arith, ◌∙◌}
 use Rattle.lua_ast.specs.declared.expressions.ExprKind as kind
-use Rattle.lua_ast.specs.declared.expressions.Expr.{Expr}
 use Rattle.lua_lexer.specs.declared.tokens.TokenKind.TheVariants.{Name as NameKind, Text as TextKind, Sign as SignKind}
 use Rattle.lua_lexer.specs.declared.signs.Sign.TheVariants.{OpenParenthesis, CloseParenthesis, OpenBracket, CloseBracket, Colon, Dot}
 use Rattle.lua_grammar.specs.Tree.{Line, Bytes, Exp, PrefixExp, Args}
@@ -11,7 +10,7 @@ use Rattle.lua_lexer.specs.declared.tokens.Token.{Token}
 use Rattle.lua_grammar.specs.Printing.{Lexeme, lexeme, lexemes, a_kind, a_sign, print_exp, print_prefixexp, print_explist, print_args, print_table}
 use Rattle.lua_grammar.specs.Levels.{levels, height, prefix_height}
 use Rattle.lua_grammar.specs.Validity.{IsValid, BeginOn, AreValid, IsValidTable}
-use Rattle.lua_grammar.specs.Resolution.{Resolves, ResolvesPrefix, ResolvesArgs, ResolvesList, ResolvesTable, args_line, prefix_line, table_line, node}
+use Rattle.lua_grammar.specs.Resolution.{Resolves, ResolvesPrefix, ResolvesArgs, ResolvesList, args_line, table_line, node}
 use Rattle.lua_grammar.specs.Grammar.{first_line}
 use Rattle.lua_parser.specs.declared.places.Place.{Place}
 use Rattle.lua_parser.specs.declared.nodes.Built.{Built}
@@ -21,7 +20,8 @@ use Rattle.lua_parser.specs.declared.nodes.Form.TheVariants.{Variable}
 use Rattle.lua_parser.proofs.Heights.{prefix_tall}
 use Rattle.lua_parser.specs.declared.faults.ParseFault.{ParseFault}
 use Rattle.lua_parser.specs.declared.cursor.Parser.{Parser}
-use Rattle.lua_parser.specs.States.{State, state, Takes, OpensOnLine}
+use Rattle.lua_parser.specs.declared.suffixes.Suffix.{Suffix}
+use Rattle.lua_parser.specs.States.{State, state, Takes, OpensOnLine, GoesOn, Stops}
 use Rattle.lua_parser.specs.Places.{IsPart, IsNarrower}
 use Rattle.lua_parser.specs.Nodes.{leaf, IsIndexed, IsMember, IsCalled, IsMethodCalled, IsAlone, IsNone}
 use Rattle.lua_parser.specs.Reads.{ReadsExp, ReadsPrefix, Extends, ReadsArgs, ReadsList, ReadsTable}
@@ -52,6 +52,13 @@ ahead [] place token is = absurd (grind arith)
 ahead (x ∷ xs) zero token is = (xs, grind arith)
 ahead (x ∷ xs) (suc n) token is = ahead xs n token (grind arith)
 
+nothing_ahead : (tokens : List Token) (place : ℕ) (next : Lexeme) (behind : List Lexeme) → length tokens ≤ place →
+    lexemes (drop place tokens) ≡ next ∷ behind → ⊥
+nothing_ahead [] zero next behind all left = cc
+nothing_ahead [] (suc n) next behind all left = cc
+nothing_ahead (x ∷ xs) zero next behind all left = absurd (grind arith)
+nothing_ahead (x ∷ xs) (suc n) next behind all left = nothing_ahead xs n next behind (grind arith) left
+
 opens_next : (tokens : List Token) (p : Parser) (token : Token) (line : ℕ) (behind : List Lexeme) → slice_get tokens p.place ≡ Some token →
     (state tokens p).left ≡ a_sign OpenParenthesis line behind → (token.kind ≡ SignKind OpenParenthesis) × (token.line ≡ line)
 unfolding state
@@ -65,6 +72,25 @@ pub opens_same : (tokens : List Token) (p : Parser) (token : Token) → slice_ge
     OpensOnLine (state tokens p)
 unfolding state
 opens_same tokens p token is same = λ line behind left. sym (opens_next tokens p token line behind is left).1 ∙ same
+
+-- a prefix stops at the end of the tokens, and at a token with which none goes on
+pub stops_at_end : (tokens : List Token) (p : Parser) → length tokens ≤ p.place → Stops (state tokens p)
+unfolding state
+stops_at_end tokens p all = λ next behind left goes. nothing_ahead tokens p.place next behind all left
+
+stops_at : (tokens : List Token) (p : Parser) (token : Token) → slice_get tokens p.place ≡ Some token → (GoesOn token.kind → ⊥) →
+    Stops (state tokens p)
+unfolding state
+stops_at tokens p token is not = λ next behind left goes.
+    let a = ahead tokens p.place token is in
+    let same : lexeme token ∷ lexemes a.0 ≡ next ∷ behind = rw a.1 at left in
+    let first : lexeme token ≡ next = cc in
+    not (subst (λ l. GoesOn l.kind) (sym first) goes)
+
+pub stops_behind : (tokens : List Token) (p : Parser) (token : Token) (found : Option Suffix) → slice_get tokens p.place ≡ Some token →
+    IfNone found (GoesOn token.kind → ⊥) → IfNone found (Stops (state tokens p))
+stops_behind tokens p token None is not = stops_at tokens p token is not
+stops_behind tokens p token (Some suffix) is not = tt
 
 pub not_both : (b : Bool) → b ≡ false → b ≡ true → ⊥
 not_both b first then = false≢true (sym first ∙ then)

@@ -1,5 +1,5 @@
 -- An expression is at least as high as a leaf.
-use Rattle.std.proofs.Common.{ℕ, ◌≤◌, arith, lit≤}
+use Rattle.std.proofs.Common.{◌≤◌, arith, lit≤}
 use Rattle.lua_grammar.specs.Tree.{Exp, PrefixExp, Table}
 use Rattle.lua_grammar.specs.Tree as tree
 use Rattle.lua_grammar.specs.Levels.{height, prefix_height, table_height}

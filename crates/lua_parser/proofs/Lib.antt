@@ -7,7 +7,7 @@ pub mod Tables
 pub mod Scoping
 pub mod Names
 pub mod Blocks
-pub mod Loops
+pub mod ForLoops
 pub mod Assignments
 pub mod Bodies
 pub mod Chunks

@@ -1,11 +1,11 @@
 -- Looking a name up.
-use Rattle.std.proofs.Common.{◌≡◌, ℕ, ◌+◌, ◌<◌, ◌≤◌, Bool, true, false, List, [], ◌∷◌, ◌++◌, length, map, reverse, Option, Some, None, option_map, refl, ap, sym, subst, zero, suc, max, add-one, add-zero, append_assoc, append-nil, length-append, if◌then◌else◌, IfSome, arith, take, get_or, length-take}
+use Rattle.std.proofs.Common.{◌≡◌, ℕ, ◌+◌, ◌<◌, ◌≤◌, Bool, true, false, List, [], ◌∷◌, ◌++◌, length, map, reverse, Option, Some, None, refl, ap, sym, subst, zero, suc, max, add-one, add-zero, append_assoc, append-nil, length-append, if◌then◌else◌, IfSome, arith, take, get_or, length-take}
 use Rattle.std.proofs.Math.Seq.{take-suc}
 use Rattle.std.proofs.lemmas.List.{reverse-append}
 use Rattle.std.specs.Str.{bytes_eq}
 use Rattle.lua_grammar.specs.Tree.{Bytes}
 use Rattle.lua_ast.specs.declared.programs.Capture.{Capture}
-use Rattle.lua_ast.specs.declared.programs.Capture.TheVariants.{Slot, Outer}
+use Rattle.lua_ast.specs.declared.programs.Capture.TheVariants.{Outer}
 use Rattle.lua_grammar.specs.Scopes.{Frame, last_place, later, local_or, own, look, slots_from, with_locals}
 use Rattle.lua_parser.specs.declared.frames.Frame.{Frame as KeptFrame}
 use Rattle.lua_parser.specs.declared.frames.Captured.{Captured as KeptCapture}

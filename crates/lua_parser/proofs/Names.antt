@@ -1,10 +1,10 @@
 -- Names and parameters that are read one by one.
 use Rattle.std.proofs.Common.{◌≡◌, ℕ, true, false, List, [], ◌∷◌, ◌++◌, refl, sym, ap, append_assoc, append-nil, ◌∙◌}
-use Rattle.lua_lexer.specs.declared.tokens.TokenKind.TheVariants.{Name as NameKind, Sign as SignKind}
+use Rattle.lua_lexer.specs.declared.tokens.TokenKind.TheVariants.{Sign as SignKind}
 use Rattle.lua_lexer.specs.declared.signs.Sign.TheVariants.{Comma, Ellipsis}
 use Rattle.lua_grammar.specs.Tree.{Bytes}
 use Rattle.lua_grammar.specs.Tree as tree
-use Rattle.lua_grammar.specs.Printing.{Lexeme, a_kind, a_sign, a_name, print_names}
+use Rattle.lua_grammar.specs.Printing.{a_sign, print_names}
 use Rattle.lua_grammar.specs.Resolution.{names_of}
 use Rattle.lua_parser.specs.declared.parameters.Parameters.{Parameters}
 use Rattle.lua_parser.specs.States.{State, Takes}

@@ -1,20 +1,20 @@
 -- What is read of the parts of an expression is read of the whole.
-use Rattle.std.proofs.Common.{◌≡◌, ℕ, ℤ, ◌+◌, ◌-◌, ◌<◌, ◌≤◌, min, max, List, [], ◌∷◌, ◌++◌, drop, Option, Some, None, Result, Ok, Err, IfOk, true, refl, sym, ap, subst, arith, ◌∙◌, lit≤}
+use Rattle.std.proofs.Common.{◌≡◌, ℕ, ℤ, ◌<◌, ◌≤◌, min, max, List, [], drop, Option, Some, None, true, refl, sym, ap, subst, arith, ◌∙◌, lit≤}
 use Rattle.lua_grammar.specs.declared.operators.Operator.{Operator}
 use Rattle.lua_grammar.specs.declared.operators.Operator.TheVariants.{Or, And, Plain}
 use Rattle.lua_ast.specs.declared.expressions.BinOp.TheVariants.{Add, Sub, Mul, Div, Mod, Pow, Concat, Eq, Ne, Lt, Le, Gt, Ge}
 use Rattle.lua_ast.specs.declared.expressions.UnOp.{UnOp}
 use Rattle.lua_ast.specs.declared.expressions.ExprKind as kind
 use Rattle.lua_lexer.specs.declared.tokens.TokenKind.TheVariants.{Name as NameKind, Text as TextKind, Number as NumberKind, Word as WordKind, Sign as SignKind}
-use Rattle.lua_lexer.specs.declared.signs.Sign.TheVariants.{OpenParenthesis, CloseParenthesis, OpenBracket, CloseBracket, Comma, Colon, Dot, Ellipsis}
+use Rattle.lua_lexer.specs.declared.signs.Sign.TheVariants.{OpenParenthesis, CloseParenthesis, Comma, Ellipsis}
 use Rattle.lua_lexer.specs.declared.words.Word.TheVariants.{Function as FunctionWord, Nil, True, False}
-use Rattle.lua_grammar.specs.Operators.{kind_of, kind_of_unary, level, left_level, right_level}
+use Rattle.lua_grammar.specs.Operators.{kind_of, kind_of_unary, left_level, right_level}
 use Rattle.lua_grammar.specs.Tree.{Bytes, Exp, PrefixExp}
 use Rattle.lua_grammar.specs.Tree as tree
-use Rattle.lua_grammar.specs.Printing.{Lexeme, lexemes, a_kind, print_exp, print_prefixexp, print_explist}
+use Rattle.lua_grammar.specs.Printing.{lexemes, a_kind, print_exp, print_explist}
 use Rattle.lua_grammar.specs.Levels.{levels, height, prefix_height}
-use Rattle.lua_grammar.specs.Validity.{IsValid, exp_level}
-use Rattle.lua_grammar.specs.Resolution.{Resolves, ResolvesPrefix, ResolvesName, ResolvesBody, node}
+use Rattle.lua_grammar.specs.Validity.{IsValid}
+use Rattle.lua_grammar.specs.Resolution.{Resolves, ResolvesPrefix, ResolvesName, ResolvesBody}
 use Rattle.lua_parser.specs.declared.places.Place.{Place}
 use Rattle.lua_parser.specs.declared.nodes.Built.{Built}
 use Rattle.lua_parser.specs.declared.nodes.Prefix.{Prefix}
@@ -23,7 +23,7 @@ use Rattle.lua_parser.specs.declared.nodes.Form.TheVariants.{Variable}
 use Rattle.lua_lexer.specs.declared.tokens.Token.{Token}
 use Rattle.lua_parser.specs.declared.cursor.Parser.{Parser}
 use Rattle.lua_parser.specs.declared.expressions.Infix.{Infix}
-use Rattle.lua_parser.specs.States.{State, state, Takes, Advances, SkipsOperator, scope_of}
+use Rattle.lua_parser.specs.States.{State, state, Takes, Advances, SkipsOperator, Stops, scope_of}
 use Rattle.lua_parser.specs.Places.{IsPart}
 use Rattle.lua_parser.specs.Nodes.{leaf, IsUnary, IsBinary, IsParen, IsAlone, AddsValue}
 use Rattle.lua_parser.specs.Reads.{ReadsExp, ReadsPrefix, ReadsList, ReadsTable, ReadsBody}
@@ -87,6 +87,7 @@ binary_read at inner s m n t a b r op line ra taken part rb left right below is 
       high = tall;
       low = low;
       precedes = sym is.own;
+      stops = rb.stops;
     }
 
 pub unary_read : (at inner : Place) (s m t : State) (b r : Built) (op : UnOp) (line : ℕ) →
@@ -113,6 +114,7 @@ unary_read at inner s m t b r op line taken part rb tight is =
       high = tall;
       low = low;
       precedes = sym is.own;
+      stops = rb.stops;
     }
 
 pub unary_tight : (op : UnOp) (line : ℕ) (a b : Built) → IsUnary op line a b → 7 ≤ b.level
@@ -136,6 +138,7 @@ closure_read at s m t line number before r taken rb none is =
       high = refl;
       low = at.roomy;
       precedes = refl;
+      stops = λ ends. absurd ends;
     })
 
 pub nil_read : (at : Place) (s t : State) (line : ℕ) (r : Built) → Takes (WordKind Nil) line s t → r ≡ leaf line (kind.Nil) → ReadsExp at s r t
@@ -149,6 +152,7 @@ nil_read at s t line r taken is = rw is (record {
   high = refl;
   low = at.roomy;
   precedes = refl;
+  stops = λ ends. absurd ends;
 })
 
 pub true_read : (at : Place) (s t : State) (line : ℕ) (r : Built) → Takes (WordKind True) line s t → r ≡ leaf line (kind.True) → ReadsExp at s r t
@@ -162,6 +166,7 @@ true_read at s t line r taken is = rw is (record {
   high = refl;
   low = at.roomy;
   precedes = refl;
+  stops = λ ends. absurd ends;
 })
 
 pub false_read : (at : Place) (s t : State) (line : ℕ) (r : Built) → Takes (WordKind False) line s t → r ≡ leaf line (kind.False) → ReadsExp at s r t
@@ -175,6 +180,7 @@ false_read at s t line r taken is = rw is (record {
   high = refl;
   low = at.roomy;
   precedes = refl;
+  stops = λ ends. absurd ends;
 })
 
 pub number_read : (at : Place) (s t : State) (line : ℕ) (n : ℤ) (r : Built) → Takes (NumberKind n) line s t → r ≡ leaf line (kind.Number n) → ReadsExp at s r t
@@ -188,6 +194,7 @@ number_read at s t line n r taken is = rw is (record {
   high = refl;
   low = at.roomy;
   precedes = refl;
+  stops = λ ends. absurd ends;
 })
 
 pub text_read : (at : Place) (s t : State) (line : ℕ) (bytes : Bytes) (r : Built) → Takes (TextKind bytes) line s t → r ≡ leaf line (kind.Text bytes) → ReadsExp at s r t
@@ -201,6 +208,7 @@ text_read at s t line bytes r taken is = rw is (record {
   high = refl;
   low = at.roomy;
   precedes = refl;
+  stops = λ ends. absurd ends;
 })
 
 pub dots_read : (at : Place) (s t : State) (line : ℕ) (r : Built) → Takes (SignKind Ellipsis) line s t → at.rest ≡ true → r ≡ leaf line (kind.Vararg) → ReadsExp at s r t
@@ -214,12 +222,13 @@ dots_read at s t line r taken rest is = rw is (record {
   high = refl;
   low = at.roomy;
   precedes = refl;
+  stops = λ ends. absurd ends;
 })
 
-pub prefix_exp : (at : Place) (s t : State) (p : Prefix) (r : Built) → ReadsPrefix at s p t → r.expr ≡ p.expr → r.height ≡ p.height → r.level ≡ 9 →
+pub prefix_exp : (at : Place) (s t : State) (p : Prefix) (r : Built) → ReadsPrefix at s p t → Stops t → r.expr ≡ p.expr → r.height ≡ p.height → r.level ≡ 9 →
     ReadsExp at s r t
 unfolding print_exp levels height IsValid Resolves
-prefix_exp at s t p r rp is high own = record {
+prefix_exp at s t p r rp stops is high own = record {
   tree = tree.prefix rp.tree;
   printed = rp.printed;
   valid = rp.valid;
@@ -228,6 +237,7 @@ prefix_exp at s t p r rp is high own = record {
   high = rp.high ∙ sym high;
   low = rw high rp.low;
   precedes = sym own;
+  stops = λ _. stops;
 }
 
 pub table_exp : (at : Place) (s t : State) (b : Built) → ReadsTable at s b t → ReadsExp at s b t
@@ -241,6 +251,7 @@ table_exp at s t b rt = record {
   high = rt.high;
   low = rt.low;
   precedes = sym rt.own;
+  stops = λ ends. absurd ends;
 }
 
 pub list_one : (at : Place) (s t : State) (b : Built) (v : Values) → ReadsExp at s b t → IsAlone b v → ReadsList at s v t
@@ -253,6 +264,7 @@ list_one at s t b v rb is = record {
   resolved = (b.expr, rb.resolved, is.exprs);
   high = rb.high ∙ sym is.height;
   low = rw is.height rb.low;
+  stops = rb.stops;
 }
 
 pub list_more : (at : Place) (s m n t : State) (v w : Values) (b : Built) (line : ℕ) → ReadsList at s v m → Takes (SignKind Comma) line m n →
@@ -268,6 +280,7 @@ list_more at s m n t v w b line rv taken rb is =
       resolved = (v.exprs.items, b.expr, m.scope, rv.resolved, next, is.exprs);
       high = rw (rv.high, rb.high) (sym is.height);
       low = let d = rv.low in let e = rb.low in let h = is.height in omega (arith, d, e, h);
+      stops = rb.stops;
     }
 
 pub paren_read : (at inner : Place) (s m n t : State) (b : Built) (r : Prefix) (opens closes : ℕ) →

@@ -1,19 +1,23 @@
 -- Steps that read no token and change the scope.
-use Rattle.std.proofs.Common.{◌≡◌, ℕ, List, [], ◌∷◌, drop, Result, Ok, Err, IfOk, refl, sym, ap}
+use Rattle.std.proofs.Common.{◌≡◌, ℕ, List, drop, Option, Some, None, IfNone, Result, Ok, Err, IfOk, refl, sym, ap, ◌∙◌}
 use Rattle.lua_lexer.specs.declared.tokens.Token.{Token}
 use Rattle.lua_grammar.specs.Tree.{Bytes}
-use Rattle.lua_grammar.specs.Printing.{Lexeme, lexemes}
+use Rattle.lua_grammar.specs.Printing.{lexemes}
 use Rattle.lua_grammar.specs.Scopes.{Scope, declare, in_scope, leave, slots_from}
 use Rattle.lua_ast.specs.declared.expressions.Expr.{Expr}
 use Rattle.lua_grammar.specs.Resolution.{ResolvesName}
 use Rattle.lua_parser.specs.declared.cursor.Parser.{Parser}
-use Rattle.lua_parser.specs.States.{State, state, scope_of}
+use Rattle.lua_parser.specs.States.{State, Stops, state, scope_of}
 
 -- nothing is read, and the scope is that
 pub record Turns (z : Scope) (s t : State) : Type 0 where
   pub left : t.left ≡ s.left
   pub last : t.last ≡ s.last
   pub scope : t.scope ≡ z
+
+-- a prefix doesn't go on where the same tokens are left
+pub stops_still : (s t : State) → t.left ≡ s.left → Stops s → Stops t
+stops_still s t left stops = λ next behind is. stops next behind (sym left ∙ is)
 
 pub turned : (tokens : List Token) (p q : Parser) (z : Scope) → q.place ≡ p.place → q.line ≡ p.line → scope_of q ≡ z →
     Turns z (state tokens p) (state tokens q)
@@ -58,3 +62,8 @@ name_state tokens p q line name e is = is
 pub on_ok : {A E : Type 0} {P Q : A → Type 0} (r : Result A E) → IfOk r P → ((x : A) → P x → Q x) → IfOk r Q
 on_ok (Ok x) h f = f x h
 on_ok (Err e) h f = tt
+
+-- what is said of nothing, where nothing was found
+pub none_found : {A : Type 0} {P : Type 0} (o : Option A) → IfNone o P → ((x : A) → o ≡ Some x → ⊥) → P
+none_found None h none = h
+none_found (Some x) h none = absurd (none x refl)

@@ -1,9 +1,9 @@
 -- One token.
-use Rattle.std.proofs.Common.{◌≡◌, ℕ, ◌+◌, ◌<◌, List, [], ◌∷◌, length, drop, map, Option, Some, None, refl, slice_get, arith, ap, suc, zero, add-one}
+use Rattle.std.proofs.Common.{◌≡◌, ℕ, ◌+◌, List, [], ◌∷◌, drop, Some, refl, slice_get, arith, ap, suc, zero, add-one}
 use Rattle.lua_lexer.specs.declared.tokens.Token.{Token}
-use Rattle.lua_grammar.specs.Printing.{Lexeme, lexeme, lexemes}
+use Rattle.lua_grammar.specs.Printing.{lexemes}
 use Rattle.lua_parser.specs.declared.cursor.Parser.{Parser}
-use Rattle.lua_parser.specs.States.{State, state, Takes, scope_of}
+use Rattle.lua_parser.specs.States.{state, Takes}
 
 first_left : (tokens : List Token) (place : ℕ) (token : Token) → slice_get tokens place ≡ Some token →
     drop place tokens ≡ token ∷ drop (suc place) tokens

@@ -1,5 +1,5 @@
 -- What is read of the fields of a table constructor is read of the whole.
-use Rattle.std.proofs.Common.{◌≡◌, ℕ, ◌+◌, ◌-◌, ◌<◌, ◌≤◌, max, List, [], ◌∷◌, ◌++◌, refl, sym, ap, subst, arith, ◌∙◌}
+use Rattle.std.proofs.Common.{◌≡◌, ℕ, ◌<◌, ◌≤◌, max, refl, sym, ap, subst, arith, ◌∙◌}
 use Rattle.lua_ast.specs.declared.expressions.ExprKind as kind
 use Rattle.lua_ast.specs.declared.expressions.TableItem.{TableItem}
 use Rattle.lua_ast.specs.declared.expressions.TableItem as tableitem
@@ -10,7 +10,7 @@ use Rattle.lua_grammar.specs.Tree as tree
 use Rattle.lua_grammar.specs.Printing.{a_kind, print_exp, print_fields, print_field}
 use Rattle.lua_grammar.specs.Levels.{levels, height, table_height}
 use Rattle.lua_grammar.specs.Validity.{IsValid, IsValidField}
-use Rattle.lua_grammar.specs.Resolution.{Resolves, ResolvesFields, ResolvesField, node}
+use Rattle.lua_grammar.specs.Resolution.{Resolves, ResolvesFields, ResolvesField}
 use Rattle.lua_parser.specs.declared.places.Place.{Place}
 use Rattle.lua_parser.specs.declared.nodes.Built.{Built}
 use Rattle.lua_parser.specs.declared.nodes.Item.{Item}

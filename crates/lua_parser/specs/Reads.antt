@@ -5,7 +5,7 @@ use Rattle.lua_grammar.specs.Tree.{Line, Bytes, Exp, PrefixExp, Args, ExpList, T
 use Rattle.lua_grammar.specs.Tree as tree
 use Rattle.lua_grammar.specs.Printing.{print_exp, print_prefixexp, print_args, print_explist, print_table, print_fields, print_field, print_funcbody}
 use Rattle.lua_grammar.specs.Levels.{levels, prefix_levels, args_levels, list_levels, table_levels, fields_levels, field_levels, body_levels, height, prefix_height, args_height, list_height, table_height, fields_height, field_height}
-use Rattle.lua_grammar.specs.Validity.{IsValid, IsValidPrefix, IsValidArgs, AreValid, IsValidTable, AreValidFields, IsValidField, IsValidBody, exp_level, prefix_end, table_end, args_end}
+use Rattle.lua_grammar.specs.Validity.{IsValid, IsValidPrefix, IsValidArgs, AreValid, IsValidTable, AreValidFields, IsValidField, IsValidBody, exp_level, prefix_end, table_end, args_end, EndsWithPrefix, ListEndsWithPrefix}
 use Rattle.lua_grammar.specs.Resolution.{Resolves, ResolvesPrefix, ResolvesArgs, ResolvesList, ResolvesTable, ResolvesFields, ResolvesField, ResolvesBody}
 use Rattle.lua_parser.specs.declared.places.Place.{Place}
 use Rattle.lua_parser.specs.declared.nodes.Built.{Built}
@@ -15,7 +15,7 @@ use Rattle.lua_parser.specs.declared.nodes.Item.{Item}
 use Rattle.lua_parser.specs.declared.nodes.Items.{Items}
 use Rattle.lua_parser.specs.declared.nodes.Form.{Form}
 use Rattle.lua_parser.specs.declared.nodes.Form.TheVariants.{Variable, Call, Paren}
-use Rattle.lua_parser.specs.States.{State}
+use Rattle.lua_parser.specs.States.{State, Stops}
 
 -- what a prefix is
 abbrev pub form_of : PrefixExp → Form
@@ -26,7 +26,7 @@ form_of (tree.member p d l n) = Variable
 form_of (tree.call p a) = Call
 form_of (tree.method p c l n a) = Call
 
--- an expression
+-- an expression; where it ends with a prefix, that is read as far as it goes
 pub record ReadsExp (at : Place) (s : State) (b : Built) (t : State) : Type 0 where
   pub tree : Exp
   pub printed : s.left ≡ print_exp tree t.left
@@ -36,6 +36,7 @@ pub record ReadsExp (at : Place) (s : State) (b : Built) (t : State) : Type 0 wh
   pub high : height tree ≡ b.height
   pub low : b.height ≤ at.room
   pub precedes : exp_level tree ≡ b.level
+  pub stops : EndsWithPrefix tree → Stops t
 
 -- a prefix, whose parts are parts of an expression at that place
 pub record ReadsPrefix (at : Place) (s : State) (p : Prefix) (t : State) : Type 0 where
@@ -73,6 +74,7 @@ pub record ReadsList (at : Place) (s : State) (values : Values) (t : State) : Ty
   pub resolved : ResolvesList tree s.scope values.exprs.items t.scope
   pub high : list_height tree ≡ values.height
   pub low : values.height ≤ at.room
+  pub stops : ListEndsWithPrefix tree → Stops t
 
 -- a table constructor
 pub record ReadsTable (at : Place) (s : State) (b : Built) (t : State) : Type 0 where

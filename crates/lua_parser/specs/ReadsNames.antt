@@ -1,5 +1,5 @@
 -- Lists of names and parameters that are read between two states. No scope sees them yet.
-use Rattle.std.specs.Prelude.{◌≡◌, ℕ, List, [], ◌∷◌, ◌++◌}
+use Rattle.std.specs.Prelude.{◌≡◌, List, [], ◌∷◌, ◌++◌}
 use Rattle.lua_lexer.specs.declared.tokens.TokenKind.TheVariants.{Name as NameKind}
 use Rattle.lua_grammar.specs.Tree.{Line, Bytes, NameList, Params}
 use Rattle.lua_grammar.specs.Printing.{print_names, print_params}

@@ -1,6 +1,6 @@
 -- What is read of statements between two states: a tree of a production, which prints to the tokens between them, is valid,
 -- and resolves in the scope before to a part of the program and the scope behind.
-use Rattle.std.specs.Prelude.{◌≡◌, ℕ, ◌+◌, ◌≤◌, true, List, [], ◌∷◌, ◌++◌, length, Option, Some, None, Vec}
+use Rattle.std.specs.Prelude.{◌≡◌, ℕ, ◌+◌, ◌≤◌, true, List, Option, Some, None, Vec}
 use Rattle.std.specs.Global.{Global}
 use Rattle.lua_ast.specs.declared.expressions.Expr.{Expr}
 use Rattle.lua_ast.specs.declared.statements.Stmt.{Stmt}
@@ -10,16 +10,17 @@ use Rattle.lua_lexer.specs.declared.signs.Sign.{Sign}
 use Rattle.lua_lexer.specs.declared.signs.Sign.TheVariants.{Assign, Comma}
 use Rattle.lua_lexer.specs.declared.words.Word.TheVariants.{Do, End as EndWord, For as ForWord, Function as FunctionWord, If as IfWord, Local as LocalWord, Then}
 use Rattle.lua_grammar.specs.Tree.{Line, Bytes, Exp, PrefixExp, ExpList, FuncName, Block, Stats, Stat, Arms, LastStat, VarList, NameList}
-use Rattle.lua_grammar.specs.Printing.{a_word, a_name, print_exp, print_prefixexp, print_explist, print_block, print_stats, print_stat, print_arms, print_laststat, print_varlist, print_names, print_funcname}
+use Rattle.lua_grammar.specs.Tree as tree
+use Rattle.lua_grammar.specs.Printing.{a_word, print_exp, print_prefixexp, print_explist, print_block, print_stats, print_stat, print_arms, print_laststat, print_varlist, print_names, print_funcname}
 use Rattle.lua_grammar.specs.Levels.{levels, prefix_levels, list_levels, block_levels, stats_levels, stat_levels, arms_levels, last_levels, vars_levels, funcname_height}
-use Rattle.lua_grammar.specs.Validity.{IsValid, IsValidPrefix, IsVariable, AreValid, IsValidBlock, AreValidStats, IsValidStat, AreValidArms, IsValidLast, AreValidVars}
+use Rattle.lua_grammar.specs.Validity.{IsValid, IsValidPrefix, IsVariable, AreValid, IsValidBlock, AreValidStats, IsValidStat, AreValidArms, IsValidLast, AreValidVars, EndsWithPrefix, ListEndsWithPrefix, StatEndsWithPrefix}
 use Rattle.lua_grammar.specs.Resolution.{Resolves, ResolvesPrefix, ResolvesList, ResolvesFuncName, Opens, ResolvesStats, ResolvesStat, ResolvesArms, ResolvesLast, ResolvesVars, vars_line, arms_line}
 use Rattle.lua_grammar.specs.Scopes.{Scope, declare, leave, in_scope, slots_from}
 use Rattle.lua_parser.specs.declared.places.Place.{Place}
 use Rattle.lua_parser.specs.declared.statement_nodes.LoopBlock.{LoopBlock}
 use Rattle.lua_parser.specs.declared.statement_nodes.FunctionName.{FunctionName}
 use Rattle.lua_parser.specs.Nodes.{IsMember}
-use Rattle.lua_parser.specs.States.{State, Takes}
+use Rattle.lua_parser.specs.States.{State, Takes, Stops}
 
 -- a block at a place, with its locals in the scope behind
 pub record ReadsBlock (at : Place) (s : State) (out : List Stmt) (t : State) : Type 0 where
@@ -39,6 +40,11 @@ pub record ReadsScoped (at : Place) (s : State) (out : List Stmt) (t : State) : 
   pub opened : Opens tree s.scope out behind
   pub scope : t.scope ≡ leave s.scope behind
 
+-- the last of the statements ends with a prefix, and no `;` is behind it
+abbrev pub EndOpenly : Stats → Type 0
+EndOpenly (tree.more_stats ss s tree.bare) = StatEndsWithPrefix s
+EndOpenly other = ⊥
+
 -- statements of a block at a place
 pub record ReadsStats (at : Place) (s : State) (out : List Stmt) (t : State) : Type 0 where
   pub tree : Stats
@@ -46,6 +52,7 @@ pub record ReadsStats (at : Place) (s : State) (out : List Stmt) (t : State) : T
   pub valid : AreValidStats at.rest at.in_loop tree
   pub deep : at.depth + stats_levels tree ≤ 200
   pub resolved : ResolvesStats tree s.scope out t.scope
+  pub stops : EndOpenly tree → Stops t
 
 pub record ReadsStat (at : Place) (s : State) (out : Stmt) (t : State) : Type 0 where
   pub tree : Stat
@@ -53,6 +60,7 @@ pub record ReadsStat (at : Place) (s : State) (out : Stmt) (t : State) : Type 0 
   pub valid : IsValidStat at.rest at.in_loop tree
   pub deep : at.depth + stat_levels tree ≤ 200
   pub resolved : ResolvesStat tree s.scope out t.scope
+  pub stops : StatEndsWithPrefix tree → Stops t
 
 pub record ReadsLast (at : Place) (s : State) (out : Stmt) (t : State) : Type 0 where
   pub tree : LastStat
@@ -68,6 +76,7 @@ pub record ReadsValue (at : Place) (s : State) (e : Expr) (t : State) : Type 0 w
   pub valid : IsValid at.rest tree
   pub deep : at.depth + levels tree ≤ 200
   pub resolved : Resolves tree s.scope e t.scope
+  pub stops : EndsWithPrefix tree → Stops t
 
 -- expressions of a statement in a block at a place
 pub record ReadsValues (at : Place) (s : State) (out : List Expr) (t : State) : Type 0 where
@@ -76,6 +85,7 @@ pub record ReadsValues (at : Place) (s : State) (out : List Expr) (t : State) : 
   pub valid : AreValid at.rest tree
   pub deep : at.depth + list_levels tree ≤ 200
   pub resolved : ResolvesList tree s.scope out t.scope
+  pub stops : ListEndsWithPrefix tree → Stops t
 
 -- a test, `then` and a block
 pub record ReadsArm (at : Place) (s : State) (arm : Arm) (t : State) : Type 0 where

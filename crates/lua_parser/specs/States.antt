@@ -1,8 +1,9 @@
 -- What is left of the tokens at a place, and what is known there.
-use Rattle.std.specs.Prelude.{◌≡◌, ℕ, ◌<◌, ◌≤◌, List, [], ◌∷◌, map, drop, reverse, length, Option, Some, None}
+use Rattle.std.specs.Prelude.{◌≡◌, ℕ, ◌<◌, ◌≤◌, List, ◌∷◌, drop, length, Option, Some, None}
 use Rattle.lua_lexer.specs.declared.tokens.Token.{Token}
 use Rattle.lua_lexer.specs.declared.tokens.TokenKind.{TokenKind}
-use Rattle.lua_lexer.specs.declared.signs.Sign.TheVariants.{OpenParenthesis}
+use Rattle.lua_lexer.specs.declared.tokens.TokenKind.TheVariants.{Text as TextKind, Sign as SignKind}
+use Rattle.lua_lexer.specs.declared.signs.Sign.TheVariants.{OpenParenthesis, OpenBrace, OpenBracket, Colon, Dot}
 use Rattle.lua_grammar.specs.Operators.{kind_of, level, left_level}
 use Rattle.lua_grammar.specs.Tree.{Separator}
 use Rattle.lua_grammar.specs.Printing.{Lexeme, lexemes, a_sign, print_separator}
@@ -43,6 +44,20 @@ pub record TakesSeparator (s t : State) : Type 0 where
 -- where the next token is `(`, it is on the line of the last one
 abbrev pub OpensOnLine : State → Type 0
 OpensOnLine s = (line : ℕ) (behind : List Lexeme) → s.left ≡ a_sign OpenParenthesis line behind → line ≡ s.last
+
+-- the first token of what a prefix may go on with: an index, a method's name or arguments
+abbrev pub GoesOn : TokenKind → Type 0
+GoesOn (SignKind Dot) = Unit {0}
+GoesOn (SignKind OpenBracket) = Unit {0}
+GoesOn (SignKind Colon) = Unit {0}
+GoesOn (SignKind OpenParenthesis) = Unit {0}
+GoesOn (SignKind OpenBrace) = Unit {0}
+GoesOn (TextKind bytes) = Unit {0}
+GoesOn other = ⊥
+
+-- no prefix goes on with the next token
+abbrev pub Stops : State → Type 0
+Stops s = (next : Lexeme) (behind : List Lexeme) → s.left ≡ next ∷ behind → GoesOn next.kind → ⊥
 
 -- a binary operator that may stand behind an expression of the level `left` in one of at least the level `lowest`
 pub record TakesOperator (left lowest : ℕ) (found : Infix) (s t : State) : Type 0 where

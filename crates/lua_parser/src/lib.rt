@@ -6,6 +6,7 @@ mod cursor;
 mod expressions;
 mod faults;
 mod frames;
+mod loops;
 mod nodes;
 mod parameters;
 mod parser;

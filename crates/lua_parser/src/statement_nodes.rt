@@ -125,7 +125,7 @@ pub(crate) fn numeric_for(
 }
 
 /// The first of the slots, 0 of none.
-#[tactic(auto, using(crate::proofs::Loops::begins_first, crate::proofs::Loops::begins_none))]
+#[tactic(auto, using(crate::proofs::ForLoops::begins_first, crate::proofs::ForLoops::begins_none))]
 fn first_slot(slots: &[u8]) -> u8
     ensures { Begins result slots.now }
 {

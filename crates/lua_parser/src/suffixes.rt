@@ -1,8 +1,8 @@
-ghost use Rattle.std.specs.Prelude.{◌≡◌, Some, slice_get, IfOk, OnOk, true};
+ghost use Rattle.std.specs.Prelude.{◌≡◌, Some, slice_get, IfOk, IfNone, OnOk, true};
 ghost use Rattle.lua_lexer.specs.declared.tokens.TokenKind.TheVariants.{Sign as SignKind};
 ghost use Rattle.lua_lexer.specs.declared.signs.Sign.TheVariants.{OpenParenthesis};
 ghost use Rattle.lua_grammar.specs.Grammar.{first_line};
-ghost use Rattle.lua_parser.specs.States.{state, Advances, TakesSeparator, OpensOnLine};
+ghost use Rattle.lua_parser.specs.States.{state, Advances, TakesSeparator, OpensOnLine, GoesOn, Stops};
 ghost use Rattle.lua_parser.specs.Reads.{ReadsPrefix, Extends, ReadsArgs, ReadsList, ReadsTable, ReadsField};
 
 use crate::ParseFault;
@@ -25,18 +25,13 @@ enum Suffix {
 
 impl Parser {
     /// What stands behind a prefix, if it goes on.
-    fn suffix_ahead(&self, tokens: &[Token]) -> Option<Suffix> {
-        let token = tokens.get(self.place)?;
-        match &token.kind {
-            TokenKind::Sign(Sign::Dot) => Some(Suffix::Member),
-            TokenKind::Sign(Sign::OpenBracket) => Some(Suffix::Item),
-            TokenKind::Sign(Sign::Colon) => Some(Suffix::Method),
-            TokenKind::Sign(Sign::OpenParenthesis) | TokenKind::Sign(Sign::OpenBrace) => {
-                Some(Suffix::Arguments)
-            }
-            TokenKind::Text(_) => Some(Suffix::Arguments),
-            _ => None,
-        }
+    fn suffix_ahead(&self, tokens: &[Token]) -> Option<Suffix>
+        ensures { IfNone result (Stops (state tokens.now self.now)) }
+    {
+        let Some(token) = tokens.get(self.place) else {
+            return None;
+        };
+        suffix_of(&token.kind)
     }
 
     /// Reads a prefix with all that belongs to it. Expressions in it are parts of one at `at`.
@@ -48,6 +43,7 @@ impl Parser {
         at: Place,
     ) -> Result<Prefix, ParseFault>
         ensures reads { IfOk result (λ p. ReadsPrefix at (state tokens.now self.old) p (state tokens.now self.new)) }
+        ensures stops { OnOk result (Stops (state tokens.now self.new)) }
         ensures forward { OnOk result (Advances tokens.now self.old self.new) }
     {
         let mut prefix = self.primary(alloc, tokens, at)?;
@@ -353,6 +349,22 @@ impl Parser {
         self.take_sign(tokens, Sign::Assign)?;
         let value = self.expression(alloc, tokens, at, 1)?;
         Ok(Item::pair(named.into_text(), value))
+    }
+}
+
+/// What stands behind a prefix where a token goes on with it.
+fn suffix_of(kind: &TokenKind) -> Option<Suffix>
+    ensures { IfNone result (GoesOn kind.now → ⊥) }
+{
+    match kind {
+        TokenKind::Sign(Sign::Dot) => Some(Suffix::Member),
+        TokenKind::Sign(Sign::OpenBracket) => Some(Suffix::Item),
+        TokenKind::Sign(Sign::Colon) => Some(Suffix::Method),
+        TokenKind::Sign(Sign::OpenParenthesis) | TokenKind::Sign(Sign::OpenBrace) => {
+            Some(Suffix::Arguments)
+        }
+        TokenKind::Text(_) => Some(Suffix::Arguments),
+        _ => None,
     }
 }
 

@@ -1,4 +1,4 @@
-use Rattle.std.proofs.Common.{◌≡◌, ◌∷◌, [], length, Option, Some, None, refl, sym, rules, arith, ◌∙◌}
+use Rattle.std.proofs.Common.{◌≡◌, ◌∷◌, [], Some, None, refl, sym, arith}
 use Rattle.lua_grammar.specs.Scopes.{own, look}
 use Rattle.lua_parser.specs.Frames.{frame_of, frames_of}
 use Rattle.lua_parser.proofs.Lookups.{look_own, look_none, look_some, nowhere, frames_pushed, captured_length, none_of, empty_of}

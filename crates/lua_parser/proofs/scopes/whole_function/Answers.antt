@@ -1,5 +1,4 @@
 use Rattle.std.proofs.Common.{◌≡◌, ◌≤◌, refl, sym, rules, arith, ◌∙◌, map, length}
-use Rattle.lua_parser.specs.Frames.{captured_of}
 use Rattle.lua_parser.proofs.Lookups.{variables_same, captured_length}
 use Rattle.lua_parser.proofs.scopes.whole_function.Goals as goal
 

@@ -5,14 +5,13 @@ use Rattle.lua_parser.specs.Reads.{ReadsExp}
 use Rattle.lua_parser.proofs.Productions.{advances_on, right_fits, operator_none, binary_read, unary_read, closure_read, prefix_exp, table_exp, unary_tight, table_tight, list_one, list_more, paren_read}
 use Rattle.lua_parser.proofs.Calls.{ok_extends, item_read, called_read, method_called_read, no_args_read, args_read, table_arg_read, text_arg_read}
 use Rattle.lua_parser.proofs.Tables.{no_fields_read, more_fields_read, separated_read, ending_read, keyed_read, named_read, plain_read}
-use Rattle.lua_ast.specs.declared.statements.StmtKind as stmt
-use Rattle.lua_grammar.specs.Resolution.{self_name, statement}
+use Rattle.lua_grammar.specs.Resolution.{self_name}
 use Rattle.lua_parser.specs.declared.nodes.Form.TheVariants.{Variable, Call}
 use Rattle.lua_parser.proofs.Assignments.{assign_behind, call_read, first_assigned, function_from, function_read, local_from, local_function_read, local_read, method_read, target_read, vars_more, vars_one}
 use Rattle.lua_parser.proofs.Blocks.{arm_read, arms_more, arms_one, block_last, block_open, do_read, if_else_read, if_read, repeat_read, return_none_read, return_read, scoped_read, stats_more, stats_none, value_read, values_read, while_read}
 use Rattle.lua_parser.proofs.Bodies.{body_read, ends_state, enters_state}
-use Rattle.lua_parser.proofs.Loops.{for_read, list_read, loop_read, range_read}
-use Rattle.lua_parser.proofs.Scoping.{declared, left_since, on_ok, slot_state, slots_state, turned}
+use Rattle.lua_parser.proofs.ForLoops.{for_read, list_read, loop_read, range_read}
+use Rattle.lua_parser.proofs.Scoping.{declared, left_since, none_found, on_ok, slot_state, slots_state, turned}
 use Rattle.lua_parser.proofs.cursor.Parser.+descent.Goals as goal
 
 pub expression-loop-infix-init : goal.expression-loop-infix-init
@@ -64,7 +63,7 @@ closure-returns-clause-reads t c =
     closure_read _ _ _ _ _ _ _ _ c.in_ok-line.ensures.takes c.in_ok-number.ensures.reads (search rules) c.leaf.ensures
 
 pub prefix_operand-returns-clause-reads : goal.prefix_operand-returns-clause-reads
-prefix_operand-returns-clause-reads t c = prefix_exp _ _ _ _ _ c.in_ok-prefix.ensures.reads refl refl refl
+prefix_operand-returns-clause-reads t c = prefix_exp _ _ _ _ _ c.in_ok-prefix.ensures.reads c.in_ok-prefix.ensures.stops refl refl refl
 
 pub prefix-loop-suffix-init : goal.prefix-loop-suffix-init
 prefix-loop-suffix-init t c = record { forward = c.in_ok-prefix.ensures.forward; reads = c.in_ok-prefix.ensures.reads }
@@ -95,6 +94,9 @@ prefix-loop-suffix-preserved t c = record {
 
 pub prefix-returns-clause-reads : goal.prefix-returns-clause-reads
 prefix-returns-clause-reads t c = c.loop-suffix.invariant.reads
+
+pub prefix-returns-clause-stops : goal.prefix-returns-clause-stops
+prefix-returns-clause-stops t c = none_found c.suffix_ahead.result c.suffix_ahead.ensures c.in_default.not-Some
 
 pub primary-returns-clause-reads : goal.primary-returns-clause-reads
 primary-returns-clause-reads t c =
@@ -315,7 +317,7 @@ while_loop-returns-clause-reads t c =
 pub prefix_statement-returns-in-Call-clause-reads : goal.prefix_statement-returns-in-Call-clause-reads
 prefix_statement-returns-in-Call-clause-reads t c =
     let form : c.in_ok-expr.field-0.form ≡ Call = cc in
-    call_read _ _ _ _ _ _ _ c.fresh.ensures c.in_ok-expr.ensures.reads form c.in_ok-line.ensures refl
+    call_read _ _ _ _ _ _ _ c.fresh.ensures c.in_ok-expr.ensures.reads c.in_ok-expr.ensures.stops form c.in_ok-line.ensures refl
 
 pub prefix_statement-returns-in-Variable-clause-reads : goal.prefix_statement-returns-in-Variable-clause-reads
 prefix_statement-returns-in-Variable-clause-reads t c =

@@ -1,4 +1,4 @@
-use Rattle.std.proofs.Common.{◌≡◌, ℕ, ◌+◌, ◌-◌, ◌*◌, ◌≤◌, ◌<◌, [], ◌∷◌, min, length}
+use Rattle.std.proofs.Common.{ℕ, ◌+◌, ◌-◌, ◌*◌, ◌≤◌, [], ◌∷◌, min, length}
 use Rattle.lua_lexer.specs.declared.tokens.TokenKind.TheVariants.{Sign as SignKind}
 use Rattle.lua_lexer.specs.declared.signs.Sign.TheVariants.{OpenBrace}
 use Rattle.lua_parser.specs.States.{State, state, Takes, Advances, AdvancesOrStays}

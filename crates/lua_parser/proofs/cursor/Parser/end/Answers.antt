@@ -1,4 +1,4 @@
-use Rattle.std.proofs.Common.{length, refl, sym}
+use Rattle.std.proofs.Common.{refl, sym}
 use Rattle.lua_parser.specs.Frames.{frame_of, frames_of}
 use Rattle.lua_parser.proofs.Bodies.{ended}
 use Rattle.lua_parser.proofs.cursor.Parser.end.Goals as goal

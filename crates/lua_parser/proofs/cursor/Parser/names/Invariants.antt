@@ -1,4 +1,4 @@
-use Rattle.std.proofs.Common.{◌≡◌, ◌+◌, ◌-◌, ◌≤◌, [], length, vec_len}
+use Rattle.std.proofs.Common.{◌+◌, ◌-◌, ◌≤◌, [], length, vec_len}
 use Rattle.lua_parser.specs.States.{state, Advances}
 use Rattle.lua_parser.specs.ReadsNames.{ReadsNames}
 use Rattle.lua_parser.proofs.cursor.Parser.names.Given as goal

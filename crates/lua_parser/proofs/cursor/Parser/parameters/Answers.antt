@@ -1,5 +1,5 @@
 use Rattle.std.proofs.Common.{refl, rules, arith}
-use Rattle.lua_parser.proofs.Names.{no_parameters, only_rest, only_names, names_then_rest, names_one, names_more}
+use Rattle.lua_parser.proofs.Names.{only_rest, only_names, names_then_rest, names_one, names_more}
 use Rattle.lua_parser.proofs.cursor.Parser.parameters.Goals as goal
 
 pub returns-then-at_sign-2-clause-reads : goal.returns-then-at_sign-2-clause-reads

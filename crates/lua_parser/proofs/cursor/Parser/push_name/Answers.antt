@@ -1,5 +1,4 @@
 use Rattle.std.proofs.Common.{rules}
-use Rattle.lua_parser.specs.ReadsNames.{TakesName}
 use Rattle.lua_parser.proofs.cursor.Parser.push_name.Goals as goal
 
 pub returns-clause-reads : goal.returns-clause-reads

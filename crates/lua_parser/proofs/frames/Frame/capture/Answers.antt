@@ -1,4 +1,4 @@
-use Rattle.std.proofs.Common.{refl, rules, arith, sym, ap, length, take, take_all, map, get_or, ◌≡◌, ◌≤◌, ◌<◌, ◌∙◌, ◌+◌, ℕ, List}
+use Rattle.std.proofs.Common.{refl, rules, arith, sym, ap, length, take_all, map, get_or, ◌≡◌, ◌<◌, ◌∙◌, ◌+◌, ℕ, List}
 use Rattle.lua_grammar.specs.Scopes.{last_place}
 use Rattle.lua_parser.specs.declared.frames.Captured.{Captured}
 use Rattle.lua_parser.proofs.Lookups.{searched, within, below, names_length, names_taken, name_at}

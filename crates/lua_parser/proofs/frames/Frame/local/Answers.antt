@@ -1,4 +1,4 @@
-use Rattle.std.proofs.Common.{refl, rules, arith, length, take, take_all, ◌≡◌, ◌≤◌, ◌<◌}
+use Rattle.std.proofs.Common.{refl, rules, arith, length, take_all, ◌≡◌, ◌<◌}
 use Rattle.lua_grammar.specs.Scopes.{last_place}
 use Rattle.lua_parser.proofs.Lookups.{searched, within, below}
 use Rattle.lua_parser.proofs.frames.Frame.local.Goals.{then-eq, else-eq}

@@ -1,4 +1,4 @@
-use Rattle.std.proofs.Common.{◌≡◌, take, map}
+use Rattle.std.proofs.Common.{◌≡◌, take}
 use Rattle.lua_grammar.specs.Scopes.{last_place}
 use Rattle.lua_parser.proofs.frames.Frame.local.Given as goal
 

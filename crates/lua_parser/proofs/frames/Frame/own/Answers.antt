@@ -1,6 +1,4 @@
-use Rattle.std.proofs.Common.{◌≡◌, Option, Some, None, refl, rules, arith}
-use Rattle.lua_grammar.specs.Scopes.{last_place, own}
-use Rattle.lua_parser.specs.Frames.{frame_of}
+use Rattle.std.proofs.Common.{◌≡◌, Some, None, rules}
 use Rattle.lua_parser.proofs.Lookups.{own_is, none_of}
 use Rattle.lua_parser.proofs.frames.Frame.own.Goals as goal
 

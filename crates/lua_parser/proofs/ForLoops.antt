@@ -1,5 +1,5 @@
 -- What is read of the parts is read of a loop with variables.
-use Rattle.std.proofs.Common.{◌≡◌, ℕ, ◌+◌, ◌≤◌, max, true, List, [], ◌∷◌, ◌++◌, length, slice_get, Option, Some, None, option_map, refl, sym, ap, subst, arith, ◌∙◌, length-append}
+use Rattle.std.proofs.Common.{◌≡◌, ℕ, ◌+◌, List, [], ◌∷◌, ◌++◌, length, slice_get, Option, Some, None, option_map, refl, sym, ap, subst, arith, ◌∙◌, length-append}
 use Rattle.lua_ast.specs.declared.expressions.Expr.{Expr}
 use Rattle.lua_ast.specs.declared.statements.Stmt.{Stmt}
 use Rattle.lua_ast.specs.declared.statements.StmtKind as stmt
@@ -8,11 +8,11 @@ use Rattle.lua_lexer.specs.declared.signs.Sign.TheVariants.{Assign, Comma}
 use Rattle.lua_lexer.specs.declared.words.Word.TheVariants.{Do, End as EndWord, For, In}
 use Rattle.lua_grammar.specs.Tree.{Bytes, NameList}
 use Rattle.lua_grammar.specs.Tree as tree
-use Rattle.lua_grammar.specs.Printing.{Lexeme, a_word, a_sign, a_name, print_exp, print_explist, print_block, print_names}
+use Rattle.lua_grammar.specs.Printing.{a_word, a_sign, a_name, print_exp, print_explist, print_block, print_names}
 use Rattle.lua_grammar.specs.Levels.{levels}
 use Rattle.lua_grammar.specs.Validity.{IsValid, IsValidBlock}
-use Rattle.lua_grammar.specs.Scopes.{Scope, declare, in_scope, leave, slots_from}
-use Rattle.lua_grammar.specs.Resolution.{Resolves, ResolvesList, Opens, ResolvesStat, Shared, SharedList, statement, names_of}
+use Rattle.lua_grammar.specs.Scopes.{declare, in_scope, leave, slots_from}
+use Rattle.lua_grammar.specs.Resolution.{Resolves, ResolvesList, Opens, ResolvesStat, Shared, statement, names_of}
 use Rattle.lua_parser.specs.declared.places.Place.{Place}
 use Rattle.lua_parser.specs.declared.statement_nodes.LoopBlock.{LoopBlock}
 use Rattle.lua_parser.specs.States.{State, Takes}
@@ -30,6 +30,7 @@ stat_from at s m t out left scope r = record {
   valid = r.valid;
   deep = r.deep;
   resolved = subst (λ z. ResolvesStat r.tree z out t.scope) scope r.resolved;
+  stops = r.stops;
 }
 
 pub loop_read : (at loop inner : Place) (s a b c d t : State) (line ends : ℕ) (names : List Bytes) (block : LoopBlock) → Takes (WordKind Do) line s a →
@@ -111,6 +112,7 @@ range_one at s a b c d f t line name_at equals comma name from to (Some e) block
         rl.scope,
         is.built ∙ (ap (λ k. statement line (stmt.NumericFor k is.from is.to is.step is.run)) slot ∙ ap (λ o. statement line (stmt.NumericFor (in_scope f.scope) is.from is.to o is.run)) step.1),
       );
+      stops = λ ends. absurd ends;
     }
 range_one at s a b c d f t line name_at equals comma name from to None block out assign rf between rt same rl is =
     let slot : is.slot ≡ in_scope f.scope = subst (Begins is.slot) rl.slots is.first in
@@ -140,6 +142,7 @@ range_one at s a b c d f t line name_at equals comma name from to None block out
         rl.scope,
         is.built ∙ (ap (λ k. statement line (stmt.NumericFor k is.from is.to is.step is.run)) slot ∙ ap (λ o. statement line (stmt.NumericFor (in_scope f.scope) is.from is.to o is.run)) step),
       );
+      stops = λ ends. absurd ends;
     }
 
 pub range_read : (at : Place) (s a b c d f t : State) (line equals comma : ℕ) (names : List Bytes) (from to : Expr) (step : Option Expr) (block : LoopBlock) →
@@ -176,6 +179,7 @@ list_read at s a b t line word names es block taken rv rl out is list are =
         rl.scope,
         is.built,
       );
+      stops = λ ends. absurd ends;
     }
 
 pub for_read : (at : Place) (s a b t : State) (line : ℕ) (names : List Bytes) (out : Stmt) → Takes (WordKind For) line s a → ReadsNames [] a names b →
