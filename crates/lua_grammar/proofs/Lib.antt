@@ -3,8 +3,6 @@ pub mod Firsts
 pub mod ByHand
 pub mod Before
 pub mod Names
-mod Waiting
-mod Reading
 mod Stopping
 mod Starts
 mod ReadingTrees

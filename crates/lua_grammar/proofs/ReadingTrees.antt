@@ -3,7 +3,7 @@ use Rattle.std.proofs.Common.{◌≡◌, ℕ, ◌≤◌, Bool, true, false, List
 use Rattle.lua_ast.specs.declared.expressions.UnOp.{UnOp}
 use Rattle.lua_ast.specs.declared.expressions.UnOp.TheVariants as unary
 use Rattle.lua_lexer.specs.declared.tokens.TokenKind.{TokenKind}
-use Rattle.lua_lexer.specs.declared.tokens.TokenKind.TheVariants.{Name, Text, Sign}
+use Rattle.lua_lexer.specs.declared.tokens.TokenKind.TheVariants.{Name, Text, Word, Sign}
 use Rattle.lua_lexer.specs.declared.signs.Sign.TheVariants as sign
 use Rattle.lua_lexer.specs.declared.words.Word.TheVariants as word
 use Rattle.lua_grammar.specs.Operators.{kind_of, kind_of_unary, right_level}
@@ -12,10 +12,10 @@ use Rattle.lua_grammar.specs.Tree as tree
 use Rattle.lua_grammar.specs.Printing.{Lexeme, a_kind, a_word, a_sign, print_names, print_params, print_funcname, print_end, print_exp, print_prefixexp, print_args, print_explist, print_table, print_fields, print_field, print_funcbody, print_block, print_stats, print_stat, print_arms, print_laststat, print_varlist}
 use Rattle.lua_grammar.specs.Validity.{takes_rest, IsValid, IsValidPrefix, IsValidArgs, AreValid, IsValidTable, AreValidFields, IsValidField, IsValidBody, IsValidBlock, AreValidStats, IsValidStat, AreValidArms, IsValidLast, AreValidVars, exp_level, ListEndsWithPrefix, StatEndsWithPrefix}
 use Rattle.lua_grammar.proofs.Grouping.{levels_of, within_left}
-use Rattle.lua_grammar.proofs.Waiting.{Reader, token, exp, more_exp, more_prefix, more_list, more_fields, more_names, more_funcname, more_vars, more_arms, more_stats, after_return, close_parenthesis}
-use Rattle.lua_grammar.proofs.Reading.{block, list, params, body_behind, args, begin_args, after_field, field_of, no_rest, next_statement, last_statement, assigns_or_calls, feed, run}
-use Rattle.lua_grammar.proofs.Stopping.{Behind, IsNoOperator, IsApart, IsBlockEnd, IsStart, IsNext, Stops, ends_in, stops, stops_at, at_least_one, weaker, exp_goes_on, exp_ends, prefix_ends, list_ends, local_ends, call_ends, block_ends, statement_ends, return_ends}
-use Rattle.lua_grammar.proofs.Starts.{Alike, Follows, IsBehind, no_operator, block_end_starts, exp_alike, list_alike, stat_follows, last_follows, end_follows, behind_stat, starts_behind, behind_last, none_behind_last}
+use Rattle.lua_grammar.specs.Waiting.{Reader, token, exp, more_exp, more_prefix, more_list, more_fields, more_names, more_funcname, more_vars, more_arms, more_stats, after_return, close_parenthesis}
+use Rattle.lua_grammar.specs.Reading.{block, list, params, body_behind, args, begin_args, after_field, field_of, no_rest, next_statement, last_statement, assigns_or_calls, next_target, feed, run}
+use Rattle.lua_grammar.proofs.Stopping.{Behind, IsNoOperator, IsApart, IsBlockEnd, IsStart, IsNext, Stops, ends_in, stops, stops_at, at_least_one, weaker, exp_goes_on, exp_ends, prefix_ends, list_ends, local_ends, calls, assigns, assigns_next, block_ends, statement_ends, return_ends}
+use Rattle.lua_grammar.proofs.Starts.{Alike, Follows, IsBehind, no_operator, block_end_starts, exp_alike, list_alike, stat_follows, last_follows, end_follows, behind_stat, starts_behind, behind_last, return_ends_there}
 
 -- ---- names
 
@@ -57,7 +57,12 @@ args_alike o k (Sign sign.CloseParenthesis) l h = absurd (true≢false (sym h))
 args_alike o k kind l h = refl
 
 return_alike : (r : Line) (k : LastStat → Reader) → Alike (after_return r k) (list (λ es. k (tree.return_values r es)))
-return_alike r k kind l h = rw (h, feed) refl
+return_alike r k (Sign sign.Semicolon) l h = absurd (true≢false (sym h))
+return_alike r k (Word word.End) l h = absurd (true≢false (sym h))
+return_alike r k (Word word.Else) l h = absurd (true≢false (sym h))
+return_alike r k (Word word.ElseIf) l h = absurd (true≢false (sym h))
+return_alike r k (Word word.Until) l h = absurd (true≢false (sym h))
+return_alike r k kind l h = refl
 
 fields_alike : (o : Line) (fs : Fields) (k : Table → Reader) → Alike (more_fields o fs k) (exp 1 (λ e. token (field_of (after_field o fs k) e)))
 fields_alike o fs k (Sign sign.CloseBrace) l h = absurd (true≢false (sym h))
@@ -198,7 +203,7 @@ mutual
   last_read : (s : LastStat) (rest : Bool) (loop : Bool) (ss : Stats) (k : Block → Reader) (x : End) (behind : List Lexeme) → IsValidLast rest loop s
       → Behind IsBlockEnd behind → run (more_stats ss k) (print_laststat s (print_end x behind)) ≡ run (k (tree.with_last ss s x)) behind
   last_read (tree.return_none r) rest loop ss k x behind v h =
-      return_ends r (last_statement ss k) (print_end x behind) (none_behind_last x behind h)
+      return_ends r (last_statement ss k) (print_end x behind) (return_ends_there x behind h)
       ∙ statement_ends x _ behind (weaker IsBlockEnd IsStart behind block_end_starts h)
   last_read (tree.return_values r es) rest loop ss k x behind v h =
       let b = behind_last x behind h in
@@ -217,7 +222,7 @@ mutual
   stat_read (tree.call_statement p) rest loop ss k behind v b =
       prefix_read p rest (more_stats ss k) (assigns_or_calls (next_statement ss k)) behind (record { name = λ n l. refl; paren = λ o. refl }) v.0
       ∙ prefix_ends p _ behind (b.apart tt)
-      ∙ call_ends p _ behind b.next
+      ∙ ap (λ r. run r behind) (calls p (next_statement ss k) v.1)
   stat_read (tree.do_block d c x) rest loop ss k behind v b = block_read c rest loop _ _ v tt
   stat_read (tree.while_loop w t d c x) rest loop ss k behind v b =
       exp_read t rest 1 _ _ v.0 (at_least_one t) (stops t _ (λ m. refl) (λ h. tt)) ∙ block_read c rest true _ _ v.1 tt
@@ -261,10 +266,12 @@ mutual
       ∙ exp_read t rest 1 _ _ v.1 (at_least_one t) (stops t _ (λ m. refl) (λ h. tt))
       ∙ block_read b rest loop _ behind v.2 x
 
-  vars_read : (vs : VarList) (rest : Bool) (r : Reader) (k : Stat → Reader) (behind : List Lexeme) → BeginsPrefix r (λ p. more_vars (tree.one_var p) k)
+  vars_read : (vs : VarList) (rest : Bool) (r : Reader) (k : Stat → Reader) (behind : List Lexeme) → BeginsPrefix r (assigns_or_calls k)
       → AreValidVars rest vs → Behind IsApart behind → run r (print_varlist vs behind) ≡ run (more_vars vs k) behind
-  vars_read (tree.one_var p) rest r k behind b v a = prefix_read p rest r _ behind b v.0 ∙ prefix_ends p _ behind a
+  vars_read (tree.one_var p) rest r k behind b v a =
+      prefix_read p rest r _ behind b v.0 ∙ prefix_ends p _ behind a ∙ ap (λ r. run r behind) (assigns p k v.1)
   vars_read (tree.more_vars vs c p) rest r k behind b v a =
       vars_read vs rest r k _ b v.0 tt
-      ∙ prefix_read p rest _ (λ p. more_vars (tree.more_vars vs c p) k) behind (record { name = λ n l. refl; paren = λ o. refl }) v.1
+      ∙ prefix_read p rest _ (next_target vs c k) behind (record { name = λ n l. refl; paren = λ o. refl }) v.1
       ∙ prefix_ends p _ behind a
+      ∙ ap (λ r. run r behind) (assigns_next p vs c k v.2)

@@ -1,5 +1,5 @@
 -- The first tokens of trees, and what may stand behind statements.
-use Rattle.std.proofs.Common.{◌≡◌, true, false, List, [], ◌∷◌, refl, ap}
+use Rattle.std.proofs.Common.{◌≡◌, Bool, true, false, List, [], ◌∷◌, refl, ap}
 use Rattle.lua_ast.specs.declared.expressions.UnOp.TheVariants as unary
 use Rattle.lua_lexer.specs.declared.tokens.TokenKind.{TokenKind}
 use Rattle.lua_lexer.specs.declared.tokens.TokenKind.TheVariants.{Name, Text, Number, Word, Sign}
@@ -9,11 +9,28 @@ use Rattle.lua_grammar.specs.Tree.{Line, End, Exp, PrefixExp, ExpList, Stats, St
 use Rattle.lua_grammar.specs.Tree as tree
 use Rattle.lua_grammar.specs.Printing.{Lexeme, a_sign, print_exp, print_prefixexp, print_explist, print_varlist, print_arms, print_stat, print_laststat, print_funcbody, print_fields, print_field, print_end}
 use Rattle.lua_grammar.specs.Validity.{MayFollow, StatEndsWithPrefix, BeginsWithParen, VarsBeginWithParen, StatBeginsWithParen}
-use Rattle.lua_grammar.proofs.Waiting.{Reader, begins}
-use Rattle.lua_grammar.proofs.Reading.{feed, run}
-use Rattle.lua_grammar.proofs.Stopping.{Behind, IsNoOperator, IsApart, IsBlockEnd, IsStart, IsNext, IsNoParen, weaker}
+use Rattle.lua_grammar.specs.Waiting.{Reader}
+use Rattle.lua_grammar.specs.Reading.{feed, run}
+use Rattle.lua_grammar.proofs.Stopping.{Behind, IsNoOperator, IsApart, IsBlockEnd, IsStart, IsNext, IsReturnEnd, IsNoParen, weaker}
 
 -- ---- kinds of tokens
+
+-- whether a token begins an expression
+abbrev pub begins : TokenKind → Bool
+begins (Name n) = true
+begins (Text bytes) = true
+begins (Number n) = true
+begins (Word word.Nil) = true
+begins (Word word.False) = true
+begins (Word word.True) = true
+begins (Word word.Function) = true
+begins (Word word.Not) = true
+begins (Sign sign.Ellipsis) = true
+begins (Sign sign.OpenParenthesis) = true
+begins (Sign sign.OpenBrace) = true
+begins (Sign sign.Hash) = true
+begins (Sign sign.Minus) = true
+begins other = false
 
 pub no_operator : (kind : TokenKind) → IsNext kind → IsNoOperator kind
 no_operator (Name n) h m = refl
@@ -39,12 +56,9 @@ block_end_is_no_paren : (kind : TokenKind) → IsBlockEnd kind → IsNoParen kin
 block_end_is_no_paren (Sign sign.OpenParenthesis) h = absurd h
 block_end_is_no_paren kind h = tt
 
-block_end_begins_none : (kind : TokenKind) → IsBlockEnd kind → begins kind ≡ false
-block_end_begins_none (Word word.End) h = refl
-block_end_begins_none (Word word.Else) h = refl
-block_end_begins_none (Word word.ElseIf) h = refl
-block_end_begins_none (Word word.Until) h = refl
-block_end_begins_none kind h = absurd h
+block_end_ends_return : (kind : TokenKind) → IsBlockEnd kind → IsReturnEnd kind
+block_end_ends_return (Sign sign.Semicolon) h = tt
+block_end_ends_return kind h = h
 
 start_is_apart : (behind : List Lexeme) → Behind IsStart behind → Behind IsNoParen behind → Behind IsApart behind
 start_is_apart [] h k = h
@@ -182,6 +196,6 @@ behind_last tree.bare behind h =
     }
 behind_last (tree.closed l) behind h = record { next = tt; apart = λ ends. tt }
 
-pub none_behind_last : (x : End) (behind : List Lexeme) → Behind IsBlockEnd behind → Behind (λ kind. begins kind ≡ false) (print_end x behind)
-none_behind_last tree.bare behind h = weaker IsBlockEnd (λ kind. begins kind ≡ false) behind block_end_begins_none h
-none_behind_last (tree.closed l) behind h = refl
+pub return_ends_there : (x : End) (behind : List Lexeme) → Behind IsBlockEnd behind → Behind IsReturnEnd (print_end x behind)
+return_ends_there tree.bare behind h = weaker IsBlockEnd IsReturnEnd behind block_end_ends_return h
+return_ends_there (tree.closed l) behind h = tt

@@ -1,5 +1,5 @@
 -- Where the reader hands on what it has read: at a token that doesn't continue it.
-use Rattle.std.proofs.Common.{◌≡◌, ℕ, ◌≤◌, ◌<◌, Bool, false, List, [], ◌∷◌, Some, None, refl, ap, arith, lit≤}
+use Rattle.std.proofs.Common.{◌≡◌, ℕ, ◌≤◌, ◌<◌, Bool, List, [], ◌∷◌, Some, None, refl, ap, arith, lit≤}
 use Rattle.std.proofs.lemmas.Bool.{le-leb, lt-leb}
 use Rattle.lua_ast.specs.declared.expressions.BinOp.TheVariants.{Add, Sub, Mul, Div, Mod, Pow, Concat, Eq, Ne, Lt, Le, Gt, Ge}
 use Rattle.lua_lexer.specs.declared.tokens.TokenKind.{TokenKind}
@@ -9,13 +9,13 @@ use Rattle.lua_lexer.specs.declared.words.Word.TheVariants as word
 use Rattle.lua_grammar.specs.declared.operators.Operator.{Operator}
 use Rattle.lua_grammar.specs.declared.operators.Operator.TheVariants.{Or, And, Plain}
 use Rattle.lua_grammar.specs.Operators.{kind_of, level, left_level, right_level}
-use Rattle.lua_grammar.specs.Tree.{Line, NameList, End, Exp, PrefixExp, ExpList, Block, Stats, Stat, LastStat}
+use Rattle.lua_grammar.specs.Tree.{Line, NameList, End, Exp, PrefixExp, ExpList, Block, Stats, Stat, LastStat, VarList}
 use Rattle.lua_grammar.specs.Tree as tree
 use Rattle.lua_grammar.specs.Printing.{Lexeme, a_kind, print_end}
-use Rattle.lua_grammar.specs.Validity.{IsValid, EndsWithPrefix, exp_level}
+use Rattle.lua_grammar.specs.Validity.{IsValid, IsCall, IsVariable, EndsWithPrefix, exp_level}
 use Rattle.lua_grammar.proofs.Grouping.{levels_of, below_right, within_right, below_unary, some_level}
-use Rattle.lua_grammar.proofs.Waiting.{Reader, exp, more_exp, more_prefix, more_list, more_names, more_vars, more_stats, after_statement, after_local, after_return, operator_of, above, begins}
-use Rattle.lua_grammar.proofs.Reading.{feed, run}
+use Rattle.lua_grammar.specs.Waiting.{Reader, exp, more_exp, more_prefix, more_list, more_names, more_vars, more_stats, after_statement, after_local, after_return, operator_of, above}
+use Rattle.lua_grammar.specs.Reading.{assigns_or_calls, next_target, feed, run}
 
 -- ---- the first token behind
 
@@ -61,6 +61,11 @@ IsStart other = ⊥
 abbrev pub IsNext : TokenKind → Type 0
 IsNext (Sign sign.Semicolon) = Unit {0}
 IsNext kind = IsStart kind
+
+-- it may stand behind `return`
+abbrev pub IsReturnEnd : TokenKind → Type 0
+IsReturnEnd (Sign sign.Semicolon) = Unit {0}
+IsReturnEnd kind = IsBlockEnd kind
 
 abbrev pub IsNoParen : TokenKind → Type 0
 IsNoParen (Sign sign.OpenParenthesis) = ⊥
@@ -194,14 +199,22 @@ local_ends at_line ns k rest behind h = by_first IsNext _ _ behind at h
     at (Sign sign.Assign) l h = absurd h
     at kind l h = refl
 
-pub call_ends : (p : PrefixExp) (k : Stat → Reader) (behind : List Lexeme) → Behind IsNext behind
-    → run (more_vars (tree.one_var p) k) behind ≡ run (k (tree.call_statement p)) behind
-call_ends p k behind h = by_first IsNext _ _ behind at h
-  where
-    at : (kind : TokenKind) (l : Line) → IsNext kind → feed (more_vars (tree.one_var p) k) kind l ≡ feed (k (tree.call_statement p)) kind l
-    at (Sign sign.Comma) l h = absurd h
-    at (Sign sign.Assign) l h = absurd h
-    at kind l h = refl
+pub calls : (p : PrefixExp) (k : Stat → Reader) → IsCall p → assigns_or_calls k p ≡ k (tree.call_statement p)
+calls (tree.call p a) k h = refl
+calls (tree.method p c l n a) k h = refl
+calls p k h = absurd h
+
+pub assigns : (p : PrefixExp) (k : Stat → Reader) → IsVariable p → assigns_or_calls k p ≡ more_vars (tree.one_var p) k
+assigns (tree.variable l n) k h = refl
+assigns (tree.item p o e c) k h = refl
+assigns (tree.member p d l n) k h = refl
+assigns p k h = absurd h
+
+pub assigns_next : (p : PrefixExp) (vs : VarList) (c : Line) (k : Stat → Reader) → IsVariable p → next_target vs c k p ≡ more_vars (tree.more_vars vs c p) k
+assigns_next (tree.variable l n) vs c k h = refl
+assigns_next (tree.item p o e q) vs c k h = refl
+assigns_next (tree.member p d l n) vs c k h = refl
+assigns_next p vs c k h = absurd h
 
 pub block_ends : (ss : Stats) (k : Block → Reader) (behind : List Lexeme) → Behind IsBlockEnd behind → run (more_stats ss k) behind ≡ run (k (tree.statements ss)) behind
 block_ends ss k behind h = by_first IsBlockEnd _ _ behind at h
@@ -221,6 +234,14 @@ statement_ends tree.bare k behind h = by_first IsStart _ _ behind at h
     at (Sign sign.Semicolon) l h = absurd h
     at kind l h = refl
 
-pub return_ends : (r : Line) (k : LastStat → Reader) (behind : List Lexeme) → Behind (λ kind. begins kind ≡ false) behind
+pub return_ends : (r : Line) (k : LastStat → Reader) (behind : List Lexeme) → Behind IsReturnEnd behind
     → run (after_return r k) behind ≡ run (k (tree.return_none r)) behind
-return_ends r k behind h = by_first (λ kind. begins kind ≡ false) _ _ behind (λ kind l none. rw (none, feed) refl) h
+return_ends r k behind h = by_first IsReturnEnd _ _ behind at h
+  where
+    at : (kind : TokenKind) (l : Line) → IsReturnEnd kind → feed (after_return r k) kind l ≡ feed (k (tree.return_none r)) kind l
+    at (Sign sign.Semicolon) l h = refl
+    at (Word word.End) l h = refl
+    at (Word word.Else) l h = refl
+    at (Word word.ElseIf) l h = refl
+    at (Word word.Until) l h = refl
+    at kind l h = absurd h

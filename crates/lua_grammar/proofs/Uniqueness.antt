@@ -1,5 +1,5 @@
 -- Tokens have at most one tree.
-use Rattle.std.proofs.Common.{◌≡◌, true, false, List, [], ◌++◌, refl, ap, sym, subst, ◌∙◌, arith, lit≤}
+use Rattle.std.proofs.Common.{◌≡◌, true, false, List, [], ◌∷◌, refl, ap, sym, subst, ◌∙◌, arith, lit≤}
 use Rattle.lua_lexer.specs.declared.words.Word.TheVariants.{End as EndWord}
 use Rattle.lua_grammar.specs.Tree.{Block}
 use Rattle.lua_grammar.specs.Tree as tree
@@ -8,18 +8,17 @@ use Rattle.lua_grammar.specs.Levels.{height}
 use Rattle.lua_grammar.specs.Validity.{IsValid, IsValidBlock}
 use Rattle.lua_grammar.specs.Laws.{one_call, two_statements}
 use Rattle.lua_grammar.proofs.Before.{block_before}
-use Rattle.lua_grammar.proofs.Waiting.{Reader, chunk, token, end_}
-use Rattle.lua_grammar.proofs.Reading.{block, run}
+use Rattle.lua_grammar.specs.Waiting.{failed, chunk}
+use Rattle.lua_grammar.specs.Reading.{run, read, read_chunk}
 use Rattle.lua_grammar.proofs.ReadingTrees.{block_read}
 
--- a chunk is read up to an `end` that is put behind it
-read : List Lexeme → Reader
-read tokens = run (block (λ b. token (end_ (λ l. chunk b)))) (tokens ++ a_word EndWord 1 [])
-
-is_read : (b : Block) → IsValidBlock true false b → read (print_block b []) ≡ chunk b
-unfolding read
+pub is_read : (b : Block) → IsValidBlock true false b → read (print_block b []) ≡ chunk b
 is_read b v = let e = (block_before b).splits [] (a_word EndWord 1 []) in
-    ap (λ tokens. run (block (λ b. token (end_ (λ l. chunk b)))) tokens) (sym e) ∙ block_read b true false _ (a_word EndWord 1 []) v tt
+    ap (run read_chunk) (sym e) ∙ block_read b true false _ (a_word EndWord 1 []) v tt
+
+pub stays_failed : (xs : List Lexeme) → run failed xs ≡ failed
+stays_failed [] = refl
+stays_failed (first ∷ behind) = stays_failed behind
 
 pub one_tree : (b other : Block) → IsValidBlock true false b → IsValidBlock true false other → print_block b [] ≡ print_block other [] → b ≡ other
 one_tree b other v w e =
@@ -28,7 +27,7 @@ one_tree b other v w e =
 -- ---- a `(` behind a prefix
 
 pub reads_call : (b : Block) (line : tree.Line) → IsValidBlock true false b → print_block b [] ≡ print_block (two_statements line tree.bare) [] → b ≡ one_call line
-unfolding read print_block
+unfolding print_block
 reads_call b line v e =
     let p : chunk b ≡ chunk (one_call line) = sym (is_read b v) ∙ ap read e ∙ refl in cc
 

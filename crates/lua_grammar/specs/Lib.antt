@@ -7,3 +7,5 @@ pub mod Scopes
 pub mod Resolution
 pub mod Grammar
 pub mod Laws
+pub mod Waiting
+pub mod Reading

@@ -6,10 +6,12 @@ ghost use Rattle.lua_lexer.specs.declared.signs.Sign.TheVariants.{Assign};
 ghost use Rattle.lua_lexer.specs.declared.tokens.Token.{Token};
 ghost use Rattle.lua_grammar.specs.Grammar.{IsProgramOf, ResolvesChunk};
 ghost use Rattle.lua_grammar.specs.Laws.{BeginWith, BeginsWithChunk, IsBefore, IsEmptyProgram, IsSeen, IsOneValid, IsProgramByHand, IsValidNot, grouped_left, grouped_right, minus_of_power, power_of_minus, not_before_equal, not_of_equal, one_call, tokens_by_hand, two_statements};
-ghost use Rattle.lua_grammar.specs.Printing.{lexemes, print_block};
+ghost use Rattle.lua_grammar.specs.Printing.{Lexeme, lexemes, print_block};
+ghost use Rattle.lua_grammar.specs.Reading.{read, run};
 ghost use Rattle.lua_grammar.specs.Scopes.{Frame};
 ghost use Rattle.lua_grammar.specs.Tree.{Block, bare, closed};
 ghost use Rattle.lua_grammar.specs.Validity.{IsValidBlock};
+ghost use Rattle.lua_grammar.specs.Waiting.{chunk, failed};
 ghost use Rattle.lua_grammar.specs.declared.operators.Operator.{Operator};
 
 /// Three operands with two operators between them group in one way.
@@ -51,6 +53,16 @@ pub fn a_new_local_is_seen()
 /// Tokens have at most one tree: two valid chunks of the same kinds of tokens on the same lines are the same.
 pub fn tokens_have_one_tree()
     ensures { (chunk other : Block) → IsValidBlock true false chunk → IsValidBlock true false other → print_block chunk [] ≡ print_block other [] → chunk ≡ other }
+{}
+
+/// Each valid chunk is read from its tokens.
+pub fn a_chunk_is_read_from_its_tokens()
+    ensures { (block : Block) → IsValidBlock true false block → read (print_block block []) ≡ chunk block }
+{}
+
+/// A reader that failed at a token fails at all that stands behind it.
+pub fn a_failed_reader_stays_failed()
+    ensures { (behind : List Lexeme) → run failed behind ≡ failed }
 {}
 
 /// In `a = f (g)()` the `(` behind `f` is that of a call, and no other tree has these tokens. With `f` and the `(` on

@@ -1,5 +1,5 @@
--- What a reader of tokens does with a token.
-use Rattle.std.proofs.Common.{ℕ, true, false, List, [], ◌∷◌, Some, None}
+-- What a reader of tokens does with a token. It takes one after the other, and looks at no later one.
+use Rattle.std.specs.Prelude.{ℕ, Bool, true, false, if◌then◌else◌, List, [], ◌∷◌, ◌++◌, Some, None}
 use Rattle.lua_ast.specs.declared.expressions.UnOp.TheVariants as unary
 use Rattle.lua_lexer.specs.declared.tokens.TokenKind.{TokenKind}
 use Rattle.lua_lexer.specs.declared.tokens.TokenKind.TheVariants.{Name, Text, Number, Word, Sign}
@@ -8,8 +8,8 @@ use Rattle.lua_lexer.specs.declared.words.Word.TheVariants as word
 use Rattle.lua_grammar.specs.Operators.{right_level}
 use Rattle.lua_grammar.specs.Tree.{Line, Bytes, NameList, Params, FuncName, End, Exp, PrefixExp, Args, ExpList, Table, Fields, Field, FuncBody, Block, Stats, Stat, Arms, LastStat, VarList}
 use Rattle.lua_grammar.specs.Tree as tree
-use Rattle.lua_grammar.specs.Printing.{Lexeme}
-use Rattle.lua_grammar.proofs.Waiting.{Reader, failed, chunk, token, exp, more_exp, more_prefix, more_list, more_fields, more_names, more_funcname, more_vars, more_arms, more_stats, after_statement, after_local, after_return, operator_of, above, begins, name, close_parenthesis, close_bracket, equals, comma, do_, then_, end_, until_}
+use Rattle.lua_grammar.specs.Printing.{Lexeme, a_word}
+use Rattle.lua_grammar.specs.Waiting.{Reader, failed, chunk, token, exp, more_exp, more_prefix, more_list, more_fields, more_names, more_funcname, more_vars, more_arms, more_stats, after_statement, after_local, after_return, operator_of, above, name, close_parenthesis, close_bracket, equals, comma, do_, then_, end_, until_}
 
 -- ---- productions from their first token on
 
@@ -134,19 +134,47 @@ local_ l k other m = failed
 abbrev pub arm : (Exp → Line → Block → Reader) → Reader
 arm k = exp 1 (λ t. token (then_ (λ h. block (λ b. k t h b))))
 
--- a prefix without a comma before it
-abbrev pub call_of : VarList → Stat
-call_of (tree.one_var p) = tree.call_statement p
-call_of (tree.more_vars vs c p) = call_of vs
-
 abbrev pub next_statement : Stats → (Block → Reader) → Stat → Reader
 next_statement ss k s = after_statement (λ e. more_stats (tree.more_stats ss s e) k)
 
 abbrev pub last_statement : Stats → (Block → Reader) → LastStat → Reader
 last_statement ss k s = after_statement (λ e. k (tree.with_last ss s e))
 
+-- `var` and `functioncall` among the prefixes
+abbrev pub is_variable : PrefixExp → Bool
+is_variable (tree.variable l n) = true
+is_variable (tree.item p o e c) = true
+is_variable (tree.member p d l n) = true
+is_variable other = false
+
+abbrev pub is_call : PrefixExp → Bool
+is_call (tree.call p a) = true
+is_call (tree.method p c l n a) = true
+is_call other = false
+
+-- a call is a statement, and a variable is what is assigned to
 abbrev pub assigns_or_calls : (Stat → Reader) → PrefixExp → Reader
-assigns_or_calls k p = more_vars (tree.one_var p) k
+assigns_or_calls k p =
+    if is_call p then k (tree.call_statement p)
+    else (if is_variable p then more_vars (tree.one_var p) k else failed)
+
+abbrev pub next_target : VarList → Line → (Stat → Reader) → PrefixExp → Reader
+next_target vs c k p = if is_variable p then more_vars (tree.more_vars vs c p) k else failed
+
+abbrev pub statement : (Stat → Reader) → TokenKind → Line → Reader
+statement k (Word word.Do) d = block (λ b. token (end_ (λ e. k (tree.do_block d b e))))
+statement k (Word word.While) w = exp 1 (λ t. token (loop_body (λ d b e. k (tree.while_loop w t d b e))))
+statement k (Word word.Repeat) r = block (λ b. token (until_ (λ u. exp 1 (λ t. k (tree.repeat_loop r b u t)))))
+statement k (Word word.If) i = arm (λ t h b. more_arms (tree.if_arm i t h b) k)
+statement k (Word word.For) f = token (for_ f k)
+statement k (Word word.Function) f = token (function_ f k)
+statement k (Word word.Local) l = token (local_ l k)
+statement k kind l = begin_prefix (assigns_or_calls k) kind l
+
+abbrev pub last : (LastStat → Reader) → TokenKind → Line → Reader
+last k (Word word.Return) r = after_return r k
+last k (Word word.Break) b = k (tree.break_ b)
+last k other l = failed
 
 -- ---- one token
 
@@ -173,34 +201,38 @@ feed (more_names ns k rest) (Sign sign.Comma) c = token (next_name ns c k rest)
 feed (more_names ns k rest) kind l = feed (k ns) kind l
 feed (more_funcname f k) (Sign sign.Dot) d = token (name (λ l n. more_funcname (tree.name_member f d l n) k))
 feed (more_funcname f k) kind l = feed (k f) kind l
-feed (more_vars vs k) (Sign sign.Comma) c = token (begin_prefix (λ p. more_vars (tree.more_vars vs c p) k))
+feed (more_vars vs k) (Sign sign.Comma) c = token (begin_prefix (next_target vs c k))
 feed (more_vars vs k) (Sign sign.Assign) q = list (λ es. k (tree.assign vs q es))
-feed (more_vars vs k) kind l = feed (k (call_of vs)) kind l
+feed (more_vars vs k) kind l = failed
 feed (more_arms arms k) (Word word.ElseIf) i = arm (λ t h b. more_arms (tree.elseif_arm arms i t h b) k)
 feed (more_arms arms k) (Word word.Else) l = block (λ b. token (end_ (λ e. k (tree.if_else arms l b e))))
 feed (more_arms arms k) (Word word.End) e = k (tree.if_then arms e)
 feed (more_arms arms k) kind l = failed
-feed (more_stats ss k) (Name n) l = begin_prefix (assigns_or_calls (next_statement ss k)) (Name n) l
-feed (more_stats ss k) (Sign sign.OpenParenthesis) l = begin_prefix (assigns_or_calls (next_statement ss k)) (Sign sign.OpenParenthesis) l
-feed (more_stats ss k) (Word word.Do) d = block (λ b. token (end_ (λ e. next_statement ss k (tree.do_block d b e))))
-feed (more_stats ss k) (Word word.While) w = exp 1 (λ t. token (loop_body (λ d b e. next_statement ss k (tree.while_loop w t d b e))))
-feed (more_stats ss k) (Word word.Repeat) r = block (λ b. token (until_ (λ u. exp 1 (λ t. next_statement ss k (tree.repeat_loop r b u t)))))
-feed (more_stats ss k) (Word word.If) i = arm (λ t h b. more_arms (tree.if_arm i t h b) (next_statement ss k))
-feed (more_stats ss k) (Word word.For) f = token (for_ f (next_statement ss k))
-feed (more_stats ss k) (Word word.Function) f = token (function_ f (next_statement ss k))
-feed (more_stats ss k) (Word word.Local) l = token (local_ l (next_statement ss k))
-feed (more_stats ss k) (Word word.Return) r = after_return r (last_statement ss k)
-feed (more_stats ss k) (Word word.Break) b = last_statement ss k (tree.break_ b)
-feed (more_stats ss k) kind l = feed (k (tree.statements ss)) kind l
+feed (more_stats ss k) (Word word.End) l = feed (k (tree.statements ss)) (Word word.End) l
+feed (more_stats ss k) (Word word.Else) l = feed (k (tree.statements ss)) (Word word.Else) l
+feed (more_stats ss k) (Word word.ElseIf) l = feed (k (tree.statements ss)) (Word word.ElseIf) l
+feed (more_stats ss k) (Word word.Until) l = feed (k (tree.statements ss)) (Word word.Until) l
+feed (more_stats ss k) (Word word.Return) l = last (last_statement ss k) (Word word.Return) l
+feed (more_stats ss k) (Word word.Break) l = last (last_statement ss k) (Word word.Break) l
+feed (more_stats ss k) kind l = statement (next_statement ss k) kind l
 feed (after_statement k) (Sign sign.Semicolon) l = k (tree.closed l)
 feed (after_statement k) kind l = feed (k tree.bare) kind l
 feed (after_local l ns k) (Sign sign.Assign) q = list (λ es. k (tree.local_values l ns q es))
 feed (after_local l ns k) kind m = feed (k (tree.local l ns)) kind m
-feed (after_return r k) kind l = elim (begins kind) [
-  | true ↦ begin_list (λ es. k (tree.return_values r es)) kind l
-  | false ↦ feed (k (tree.return_none r)) kind l
-]
+feed (after_return r k) (Sign sign.Semicolon) l = feed (k (tree.return_none r)) (Sign sign.Semicolon) l
+feed (after_return r k) (Word word.End) l = feed (k (tree.return_none r)) (Word word.End) l
+feed (after_return r k) (Word word.Else) l = feed (k (tree.return_none r)) (Word word.Else) l
+feed (after_return r k) (Word word.ElseIf) l = feed (k (tree.return_none r)) (Word word.ElseIf) l
+feed (after_return r k) (Word word.Until) l = feed (k (tree.return_none r)) (Word word.Until) l
+feed (after_return r k) kind l = begin_list (λ es. k (tree.return_values r es)) kind l
 
 abbrev pub run : Reader → List Lexeme → Reader
 run r [] = r
 run r (first ∷ behind) = run (feed r first.kind first.line) behind
+
+-- a chunk is read up to an `end` that is put behind it
+abbrev pub read_chunk : Reader
+read_chunk = block (λ b. token (end_ (λ l. chunk b)))
+
+abbrev pub read : List Lexeme → Reader
+read tokens = run read_chunk (tokens ++ a_word word.End 1 [])

@@ -1,8 +1,8 @@
 -- A reader of tokens: what it waits for, and which tokens it tells from one another.
-use Rattle.std.proofs.Common.{ℕ, Bool, true, false, Option, Some, None, nat_le, if◌then◌else◌}
+use Rattle.std.specs.Prelude.{ℕ, Option, Some, None, nat_le, if◌then◌else◌}
 use Rattle.lua_ast.specs.declared.expressions.BinOp.TheVariants.{Add, Sub, Mul, Div, Mod, Pow, Concat, Eq, Ne, Lt, Le, Gt, Ge}
 use Rattle.lua_lexer.specs.declared.tokens.TokenKind.{TokenKind}
-use Rattle.lua_lexer.specs.declared.tokens.TokenKind.TheVariants.{Name, Text, Number, Word, Sign}
+use Rattle.lua_lexer.specs.declared.tokens.TokenKind.TheVariants.{Name, Word, Sign}
 use Rattle.lua_lexer.specs.declared.signs.Sign.TheVariants as sign
 use Rattle.lua_lexer.specs.declared.words.Word.TheVariants as word
 use Rattle.lua_grammar.specs.declared.operators.Operator.{Operator}
@@ -53,23 +53,6 @@ operator_of other = None
 abbrev pub above : ℕ → Option Operator → Option Operator
 above lowest None = None
 above lowest (Some op) = if nat_le lowest (level op) then Some op else None
-
--- whether a token begins an expression
-abbrev pub begins : TokenKind → Bool
-begins (Name n) = true
-begins (Text bytes) = true
-begins (Number n) = true
-begins (Word word.Nil) = true
-begins (Word word.False) = true
-begins (Word word.True) = true
-begins (Word word.Function) = true
-begins (Word word.Not) = true
-begins (Sign sign.Ellipsis) = true
-begins (Sign sign.OpenParenthesis) = true
-begins (Sign sign.OpenBrace) = true
-begins (Sign sign.Hash) = true
-begins (Sign sign.Minus) = true
-begins other = false
 
 -- one token, and no other
 abbrev pub name : (Line → Bytes → Reader) → TokenKind → Line → Reader
