@@ -1,4 +1,5 @@
 ghost use Rattle.std.specs.Prelude.{◌≡◌, IfOk, slice_set};
+ghost use Rattle.lua_ast.specs.WholeProgram.{IsWholeProgram};
 ghost use Rattle.lua_grammar.specs.Grammar.{first_line, IsProgramOf};
 ghost use Rattle.lua_grammar.specs.Printing.{lexemes};
 
@@ -8,6 +9,7 @@ use crate::frames::Frame;
 use crate::places::{HIGHEST, Place};
 use crate::scopes::{empty_function, whole_function};
 use lua_ast::{Function, Program};
+use lua_grammar::a_program_is_whole;
 use lua_lexer::Token;
 use resty_base::{ByteLists, Bytes};
 use std::alloc::Global;
@@ -15,6 +17,7 @@ use std::alloc::Global;
 /// The program of a chunk's tokens, with one file without a name; the chunk is function 0.
 pub fn parse(alloc: Global, tokens: &[Token]) -> Result<Program, ParseFault>
     ensures program { IfOk result (IsProgramOf tokens.now) }
+    ensures whole { IfOk result IsWholeProgram }
 {
     let line = first_line(tokens);
     let mut parser = Parser {
@@ -38,6 +41,7 @@ pub fn parse(alloc: Global, tokens: &[Token]) -> Result<Program, ParseFault>
     let Parser { functions, .. } = parser;
     let whole = with_chunk(functions, chunk)?;
     let files = vec![in alloc; Bytes::new()]?;
+    a_program_is_whole();
     Ok(Program {
         files: ByteLists::of(files),
         functions: whole,
