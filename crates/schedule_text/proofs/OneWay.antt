@@ -5,7 +5,7 @@ use Rattle.std.proofs.lemmas.List.Sums.{sum_by-append}
 use Rattle.resty_world.specs.declared.event.Event.TheVariants as event
 use Rattle.resty_world.specs.declared.schedule_line.SchedLine.{SchedLine}
 use Rattle.resty_world.specs.declared.schedule_line.SchedLine.TheVariants as line
-use Rattle.schedule_text.specs.Accepted.{IsRead, IsFaultOf}
+use Rattle.schedule_text.specs.Accepted.{IsRead, IsRefusedAt, IsFaultOf}
 use Rattle.schedule_text.specs.declared.fault.SchedFault.{SchedFault}
 use Rattle.schedule_text.specs.declared.fault.SchedFault.TheVariants as fault
 use Rattle.schedule_text.specs.Fitting.{Fits, IsSchedule}
@@ -82,12 +82,16 @@ has-stop lines made =
     let split = ap stops_in made.ends ∙ sum_by-append (λ l. cond (is_stop l) 1 0) made.before (line.Given event.Stop ∷ []) in
     omega (arith, split)
 
+-- a text that is read isn't refused
+pub never-refused : (text : List ℕ) (lines : List SchedLine) (n : ℕ) → IsRead text lines → ¬ (IsRefusedAt text n)
+never-refused text lines n known refused =
+    unrefused [] refused.lines lines refused.rest refused.fit known.made.fit (sym refused.whole ∙ known.whole) refused.unread refused.unended (has-stop lines known.made)
+
 -- where a text is that of a schedule, that schedule is the answer, unless memory is wanting
 pub accepted : (text : List ℕ) (r : Result (List SchedLine) SchedFault) → MatchResult r (IsRead text) (IsFaultOf text) → (lines : List SchedLine) → IsRead text lines
     → MatchResult r (λ s. s ≡ lines) (λ f. f ≡ fault.Memory)
 accepted text (Ok s) read lines known = lines-alone [] s lines read.made.fit known.made.fit (sym read.whole ∙ known.whole)
-accepted text (Err (fault.BadLine n)) refused lines known =
-    absurd (unrefused [] refused.lines lines refused.rest refused.fit known.made.fit (sym refused.whole ∙ known.whole) refused.unread refused.unended (has-stop lines known.made))
+accepted text (Err (fault.BadLine n)) refused lines known = absurd (never-refused text lines n known refused)
 accepted text (Err fault.Memory) refused lines known = refl
 
 pub schedule-alone : (lines others : List SchedLine) → IsSchedule lines → IsSchedule others → schedule_text lines ≡ schedule_text others → lines ≡ others

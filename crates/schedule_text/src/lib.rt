@@ -13,7 +13,7 @@ pub use events::events_of;
 pub use fault::SchedFault;
 pub use laws::{
     a_history_is_known_by_its_text, a_line_is_known_by_its_text, a_schedule_is_known_by_its_text,
-    an_entry_is_known_by_its_text,
+    an_entry_is_known_by_its_text, no_schedule_is_refused,
 };
 pub use reading::{history_of, schedule_of};
 pub use resty_world::SchedLine;
