@@ -11,7 +11,7 @@ use Rattle.resty_world.specs.Ids.{same_id}
 use Rattle.schedule.specs.declared.peer.Peer.{Peer}
 use Rattle.schedule.specs.Counts.{arrived_in, dials_in}
 use Rattle.schedule.specs.Knowing.{Knows}
-use Rattle.schedule.specs.Peers.{Roll, numbered, peer_at, fresh, opened, closed, ended, room_in, put_fails_in}
+use Rattle.schedule.specs.Peers.{Roll, numbered, peer_at, fresh, opened, closed, ended}
 use Rattle.schedule.specs.Places.{has, open_ids, hung_up, has_ended}
 use Rattle.schedule.proofs.PlacesLemmas.{by_test, same_id-eq}
 

@@ -1,7 +1,6 @@
 -- What a noted entry changes in a history.
-use Rattle.std.proofs.Common.{◌≡◌, ℕ, ◌+◌, ◌-◌, ◌≤◌, true, false, List, [], ◌∷◌, length, reverse, refl, sym, ap, ◌∙◌, arith}
+use Rattle.std.proofs.Common.{◌≡◌, ℕ, ◌+◌, ◌≤◌, true, false, List, ◌∷◌, length, reverse, refl, ap, ◌∙◌, arith}
 use Rattle.std.specs.Bool.{if◌then◌else◌}
-use Rattle.resty_base.specs.declared.names.Id.{Id}
 use Rattle.resty_base.specs.declared.names.StrandId.{StrandId}
 use Rattle.resty_base.specs.declared.names.StrandId.TheVariants as strand
 use Rattle.resty_world.specs.declared.entry.Entry.{Entry}
@@ -11,7 +10,6 @@ use Rattle.resty_world.specs.Book.{Book}
 use Rattle.resty_world.specs.Calls.{is_noted, uses_place, sets_place, room_of, is_strand, HasPlace}
 use Rattle.resty_world.specs.Ids.{same_strand}
 use Rattle.schedule.specs.declared.replay.Replay.{Replay}
-use Rattle.schedule.specs.Counts.{counted}
 use Rattle.schedule.specs.Knowing.{Knows}
 use Rattle.schedule.specs.Peers.{Roll, peer_at, room_in, put_fails_in}
 use Rattle.schedule.specs.Places.{has, open_ids, strands_in, count_of}

@@ -1,26 +1,22 @@
 -- An event that is given and changes nothing but the history.
-use Rattle.std.proofs.Common.{◌≡◌, ℕ, ◌+◌, Bool, true, false, List, [], ◌∷◌, length, Option, Some, refl, sym, ap, ◌∙◌, arith}
-use Rattle.std.specs.Bool.{if◌then◌else◌}
+use Rattle.std.proofs.Common.{◌≡◌, ℕ, Bool, true, false, List, [], ◌∷◌, refl, ◌∙◌, arith}
 use Rattle.std.specs.Prelude.{◌||◌}
 use Rattle.resty_base.specs.declared.names.Id.{Id}
 use Rattle.resty_base.specs.declared.names.Id.TheVariants as id
 use Rattle.resty_base.specs.declared.names.StrandId.{StrandId}
 use Rattle.resty_world.specs.declared.event.Event.{Event}
 use Rattle.resty_world.specs.declared.event.Event.TheVariants as event
-use Rattle.resty_world.specs.declared.entry.Entry.{Entry}
 use Rattle.resty_world.specs.declared.entry.Entry.TheVariants as entry
 use Rattle.resty_world.specs.declared.schedule_line.SchedLine.{SchedLine}
 use Rattle.resty_world.specs.declared.schedule_line.SchedLine.TheVariants as line
 use Rattle.resty_world.specs.Book.{Book}
 use Rattle.resty_world.specs.Given.{IsFit, IsBad, given_entry, arrives, arrives_strand, arrivals_of, ends, is_fault, is_break, named_id, names_absent}
-use Rattle.resty_world.specs.Ids.{same_id, same_strand}
 use Rattle.schedule_text.specs.Fitting.{Fits}
 use Rattle.schedule_text.specs.Lines.{is_arrival}
 use Rattle.schedule.specs.declared.replay.Replay.{Replay}
 use Rattle.schedule.specs.Counts.{arrived_in, dials_in, loses_by}
 use Rattle.schedule.specs.Knowing.{Knows}
-use Rattle.schedule.specs.Peers.{Roll}
-use Rattle.schedule.specs.Places.{has, open_ids, strands_in, hung_up, has_ended}
+use Rattle.schedule.specs.Places.{open_ids, strands_in}
 use Rattle.schedule.specs.ReplayBook.{book_of}
 use Rattle.schedule.specs.Steps.{is_skipped}
 use Rattle.schedule.proofs.KnowingLemmas.{open_where_due}

@@ -1,7 +1,7 @@
 -- Where a replay stands behind one step more.
-use Rattle.std.proofs.Common.{◌≡◌, ℕ, ◌+◌, ◌-◌, ◌<◌, ◌≤◌, Bool, true, false, cond, min, not, List, [], ◌∷◌, ◌++◌, length, take, reverse, Option, Some, slice_get, refl, sym, ap, subst, ◌∙◌, arith, length-append, length-take-le}
+use Rattle.std.proofs.Common.{◌≡◌, ℕ, ◌+◌, ◌-◌, ◌<◌, ◌≤◌, Bool, true, false, cond, not, List, [], ◌∷◌, ◌++◌, length, reverse, get_or, Some, slice_get, refl, sym, ap, subst, ◌∙◌, arith, length-append, length-take-le}
 use Rattle.std.proofs.lemmas.Bool.{lt-ltb}
-use Rattle.std.proofs.lemmas.List.{take_all, same_from_push, reverse-append}
+use Rattle.std.proofs.lemmas.List.{take_all, same_from_push, reverse-append, get_or_default}
 use Rattle.std.specs.Prelude.{◌&&◌, ◌||◌, nat_lt, if◌then◌else◌}
 use Rattle.resty_base.specs.declared.names.Id.{Id}
 use Rattle.resty_world.specs.declared.event.Event.{Event}
@@ -13,11 +13,12 @@ use Rattle.resty_world.specs.declared.schedule_line.SchedLine.TheVariants as lin
 use Rattle.resty_world.specs.Given.{named_id, names_absent}
 use Rattle.resty_world.specs.Ids.{same_id}
 use Rattle.schedule_text.specs.Fitting.{IsSchedule}
+use Rattle.schedule_text.specs.Ranges.{IsBytes}
 use Rattle.schedule.specs.declared.replay.Replay.{Replay}
 use Rattle.schedule.specs.Counts.{arrived_in, dials_in, losses_in, loses_by, counted}
 use Rattle.schedule.specs.Peers.{peer_at, room_in, put_fails_in}
 use Rattle.schedule.specs.ReplayBook.{StandsBy, Stands, StandsAnywhere}
-use Rattle.schedule.specs.Steps.{Step, Call, Passed, Answered, Listened, AskedAtBadLine, AskedAtEnd, Dialling, Logging, Writing, AreSteps, FailsRightly, IsAnswer, is_skipped, given_by, history_of, lines_of, offers_by, is_call, failing_by, answered_by, tells_failure, one_if, unspent, room_by, room_behind, room_of, is_fail_next, is_failed_log, begins_by_failing, has_listened_in_vain, newest_given, is_faulty, faults_in}
+use Rattle.schedule.specs.Steps.{Step, Call, Passed, Answered, Listened, AskedAtBadLine, AskedAtEnd, Dialling, Logging, Writing, AreSteps, FailsRightly, IsAnswer, is_skipped, given_by, history_of, lines_of, offers_by, is_call, failing_by, answered_by, tells_failure, one_if, unspent, room_by, room_behind, is_fail_next, is_failed_log, begins_by_failing, has_listened_in_vain, newest_given, faults_in}
 use Rattle.schedule.proofs.Passing.{take-more}
 use Rattle.schedule.proofs.PlacesLemmas.{by_test, same_id-eq}
 
@@ -254,6 +255,10 @@ must_work c steps n is none = sym (ap (nat_lt 0) (sym is ∙ none))
 -- a change of a value at a place
 pub changed_by : {A : Type 0} (f : Id → A) (g : A → A) (i : Id) (v : A) → v ≡ g (f i) → (x : Id) → (if same_id x i then v else f x) ≡ (if same_id x i then g (f x) else f x)
 changed_by f g i v is x = by_test (same_id x i) (λ on. rw on (is ∙ ap (λ y. g (f y)) (sym (same_id-eq x i on)))) (λ off. rw off refl)
+
+-- the elements of a slice of bytes are bytes
+pub are_bytes : (xs : List ℕ) → ((i : ℕ) → get_or xs i 0 < 256) → IsBytes xs
+are_bytes xs each k d within = omega (arith, each k, get_or_default xs k d 0 within)
 
 -- the lengths of the pieces with one more, the newest first
 pub offered-more : (offered longer : List ℕ) (n : ℕ) → longer ≡ offered ++ n ∷ [] → reverse longer ≡ n ∷ reverse offered

@@ -1,9 +1,8 @@
 -- Behind `stop` there is no line.
-use Rattle.std.proofs.Common.{◌≡◌, ℕ, zero, suc, ◌+◌, ◌<◌, ◌≤◌, Bool, true, false, cond, inl, inr, List, [], ◌∷◌, ◌++◌, length, take, Option, Some, None, slice_get, refl, sym, ap, subst, ◌∙◌, arith}
+use Rattle.std.proofs.Common.{◌≡◌, ℕ, zero, suc, ◌+◌, ◌<◌, Bool, true, false, cond, inl, inr, List, [], ◌∷◌, ◌++◌, length, take, Some, None, slice_get, refl, sym, ap, subst, ◌∙◌, arith}
 use Rattle.std.proofs.lemmas.Bool.{cases_lt}
 use Rattle.std.proofs.lemmas.List.{take_all}
 use Rattle.std.proofs.lemmas.List.Sums.{sum_by-append}
-use Rattle.resty_world.specs.declared.event.Event.{Event}
 use Rattle.resty_world.specs.declared.event.Event.TheVariants as event
 use Rattle.resty_world.specs.declared.entry.Entry.{Entry}
 use Rattle.resty_world.specs.declared.entry.Entry.TheVariants as entry

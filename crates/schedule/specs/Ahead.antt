@@ -1,5 +1,5 @@
 -- What the next line of a schedule is to a world that is asked for an event.
-use Rattle.std.specs.Prelude.{Bool, Option, Some, None, List, if◌then◌else◌}
+use Rattle.std.specs.Prelude.{Option, Some, None, List, if◌then◌else◌}
 use Rattle.resty_world.specs.declared.entry.Entry.{Entry}
 use Rattle.resty_world.specs.declared.schedule_line.SchedLine.{SchedLine}
 use Rattle.resty_world.specs.declared.schedule_line.SchedLine.TheVariants as line

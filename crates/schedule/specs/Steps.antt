@@ -9,6 +9,7 @@ use Rattle.resty_world.specs.declared.schedule_line.SchedLine.{SchedLine}
 use Rattle.resty_world.specs.declared.schedule_line.SchedLine.TheVariants as line
 use Rattle.resty_world.specs.Given.{named_id, names_absent}
 use Rattle.resty_world.specs.Ids.{same_id}
+use Rattle.schedule_text.specs.Ranges.{IsBytes}
 use Rattle.schedule.specs.Counts.{arrived_in, dials_in}
 use Rattle.schedule.specs.Places.{hung_up, has_ended}
 
@@ -152,13 +153,14 @@ abbrev pub FailsRightly : Option Call → Bool → List Step → Type 0
 FailsRightly None failed steps = Unit {0}
 FailsRightly (Some c) failed steps = failed ≡ nat_lt 0 (unspent c steps)
 
--- What a call answers where it doesn't fail: a write takes the least of what it was offered and the room, and is put off where there is
--- none; sockets are numbered in order. Events come of their lines alone.
+-- What a call answers: a write takes bytes, the least of what it was offered and the room, and is put off where there is none; sockets are
+-- numbered in order; a log line is of bytes. Events come of their lines alone.
 abbrev pub IsAnswer : List Step → Entry → ℕ → Type 0
 IsAnswer steps (entry.Given e) n = ⊥
-IsAnswer steps (entry.Put i bytes) n = TakesLeast n (room_of i steps) (length bytes)
+IsAnswer steps (entry.Put i bytes) n = TakesLeast n (room_of i steps) (length bytes) × IsBytes bytes
 IsAnswer steps (entry.Later i) n = room_of i steps ≡ Some 0
 IsAnswer steps (entry.Dial who host port (Some k)) n = k ≡ dials_in (history_of steps) + 1
+IsAnswer steps (entry.Log who text written) n = IsBytes text
 IsAnswer steps e n = Unit {0}
 
 -- listening failed before

@@ -1,5 +1,7 @@
 -- The exchange is a run.
-use Rattle.std.proofs.Common.{◌≡◌, inl, ℕ, true, false, List, [], ◌∷◌, length, refl, sym, ap, subst, lit<}
+use Rattle.std.proofs.Common.{◌≡◌, inl, ℕ, true, false, nat_lt, List, [], ◌∷◌, length, get_or, refl, sym, ap, subst, lit<}
+use Rattle.std.proofs.lemmas.Bool.{ltb-true}
+use Rattle.std.proofs.lemmas.List.Sums.{AllPass-from_list_all}
 use Rattle.resty_base.specs.declared.names.Id.TheVariants as id
 use Rattle.resty_base.specs.declared.names.StrandId.{StrandId}
 use Rattle.resty_world.specs.declared.event.Event.TheVariants as event
@@ -14,6 +16,7 @@ use Rattle.strand_contract.specs.Actions.{Moment, Began, Came, Ran, Offered, Put
 use Rattle.strand_contract.specs.Alone.{lives, is_open, waiting, to_offer, HasNoWork, IsOfferedAt, IsBetween, IsExecution, IsQuiescent}
 use Rattle.strand_contract.specs.Executions.{projection, AllQuiescent, IsLawful, offered_lengths}
 use Rattle.strand_contract.specs.Order.{all_readied, all_placed, only, IsSubsequence, none, keep, IsOrdered, IsFirstWaiting, HasThreads, HasPlaces, TurnsInOrder, NoneUnderWay}
+use Rattle.schedule_text.specs.Ranges.{IsBytes}
 use Rattle.schedule.specs.Steps.{Passed, Answered}
 use Rattle.schedule.specs.Told.{IsTold}
 use Rattle.strand.specs.declared.strand.NoJob.{NoJob}
@@ -153,6 +156,10 @@ ordered = record {
   );
 }
 
+-- the reply is of bytes
+reply-bytes : IsBytes hi_reply
+reply-bytes k d within = ltb-true (get_or hi_reply k d) 256 (AllPass-from_list_all (λ b. nat_lt b 256) hi_reply refl k d within)
+
 pub told : IsTold lines history (offered_lengths (literal_behavior hi) exchange)
 unfolding date_of year_of month_of
 told = record {
@@ -160,7 +167,7 @@ told = record {
       Passed (line.Given event.Stop) ∷ Answered (entry.Close (id.Conn 1)) 0 ∷ Answered (entry.Put (id.Conn 1) hi_reply) (length hi_reply)
       ∷ Passed (line.Given asks) ∷ Passed (line.Given arrives) ∷ Passed (line.Given at_second_1_event) ∷ [];
   behind = [];
-  steps_right = ((((((tt, refl), refl), refl), (refl, refl, refl)), (tt, tt, refl)), refl);
+  steps_right = ((((((tt, refl), refl), refl), (refl, (refl, reply-bytes), refl)), (tt, tt, refl)), refl);
   steps_lines = refl;
   steps_history = refl;
   steps_offers = refl;

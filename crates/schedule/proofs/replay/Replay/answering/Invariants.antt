@@ -1,4 +1,4 @@
-use Rattle.std.proofs.Common.{◌≡◌, ◌-◌, ◌≤◌, length}
+use Rattle.std.proofs.Common.{◌-◌, ◌≤◌, length}
 use Rattle.schedule.specs.ReplayBook.{IsQuietTo}
 use Rattle.schedule.proofs.replay.Replay.answering.Given as goal
 

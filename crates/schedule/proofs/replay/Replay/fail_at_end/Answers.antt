@@ -1,4 +1,4 @@
-use Rattle.std.proofs.Common.{◌≡◌, ℕ, ◌+◌, ◌-◌, ◌<◌, ◌≤◌, Bool, true, false, List, [], ◌∷◌, length, take, slice_get, Some, None, refl, sym, ap, ◌∙◌, arith, rules}
+use Rattle.std.proofs.Common.{refl, arith}
 use Rattle.schedule.proofs.Standing.{fails_at_end}
 use Rattle.schedule.proofs.replay.Replay.fail_at_end.Goals as goal
 

@@ -1,4 +1,4 @@
-use Rattle.std.proofs.Common.{◌≡◌, ◌+◌, length, refl, sym, ap, ◌∙◌, arith}
+use Rattle.std.proofs.Common.{length, refl, ap, ◌∙◌, arith}
 use Rattle.schedule.proofs.Running.{same-peers, knows-still, later-still}
 use Rattle.schedule.proofs.replay.Replay.make_ready.Goals as goal
 

@@ -1,21 +1,12 @@
-use Rattle.std.proofs.Common.{◌≡◌, ℕ, ◌+◌, ◌-◌, ◌^◌, ◌<◌, ◌≤◌, Bool, true, false, not, List, [], ◌∷◌, length, take, slice_get, Option, Some, None, refl, sym, ap, ◌∙◌, arith, rules}
-use Rattle.std.specs.Bool.{if◌then◌else◌}
-use Rattle.resty_base.specs.declared.names.Id.{Id}
-use Rattle.resty_base.specs.declared.names.Id.TheVariants as id
-use Rattle.resty_world.specs.declared.event.Event.TheVariants as event
-use Rattle.resty_world.specs.declared.entry.Entry.TheVariants as entry
+use Rattle.std.proofs.Common.{◌≡◌, ◌+◌, Some, refl, sym, ap, ◌∙◌, arith, rules}
 use Rattle.resty_world.specs.declared.schedule_line.SchedLine.TheVariants as line
-use Rattle.resty_world.specs.Ids.{same_id}
-use Rattle.schedule.specs.Peers.{peer_at, opened, closed, room_in, put_fails_in, fresh}
-use Rattle.schedule.specs.Places.{has, open_ids, strands_in, hung_up, has_ended}
+use Rattle.schedule.specs.Peers.{peer_at, room_in, put_fails_in}
 use Rattle.std.proofs.lemmas.Option.{slice_get_within}
-use Rattle.schedule.proofs.KnowingLemmas.{next-connection, next-socket, knows-new, knows-changed, knows-same, changed, unseen, own-value}
-use Rattle.schedule.proofs.NextLine.{quiet_ahead, due_ahead}
+use Rattle.schedule.proofs.KnowingLemmas.{knows-same, changed, unseen}
 use Rattle.schedule.proofs.Passing.{arrivals-more}
-use Rattle.schedule.proofs.PlacesLemmas.{has-without, length-without, same_id-eq}
-use Rattle.schedule.proofs.Standing.{answers, passes, gives, few-unspent, one-more, one-less, counted_is}
+use Rattle.schedule.proofs.Standing.{passes, few-unspent, one-more}
 use Rattle.schedule.specs.Counts.{counted}
-use Rattle.schedule.specs.Steps.{Writing, Dialling, Logging}
+use Rattle.schedule.specs.Steps.{Writing}
 use Rattle.schedule.proofs.replay.Replay.pass_fail_put.Goals as goal
 
 pub invariant_of-self : goal.invariant_of-self

@@ -1,4 +1,4 @@
-use Rattle.std.proofs.Common.{◌≡◌, ◌-◌, ◌≤◌}
+use Rattle.std.proofs.Common.{◌-◌, ◌≤◌}
 use Rattle.schedule.specs.ReplayBook.{IsPast}
 use Rattle.schedule.proofs.replay.Replay.pass_to.Given as goal
 

@@ -1,19 +1,8 @@
-use Rattle.std.proofs.Common.{◌≡◌, ℕ, ◌+◌, ◌-◌, ◌^◌, ◌<◌, ◌≤◌, Bool, true, false, not, List, [], ◌∷◌, length, take, slice_get, Option, Some, None, refl, sym, ap, ◌∙◌, arith, rules}
-use Rattle.std.specs.Bool.{if◌then◌else◌}
-use Rattle.resty_base.specs.declared.names.Id.{Id}
-use Rattle.resty_base.specs.declared.names.Id.TheVariants as id
-use Rattle.resty_world.specs.declared.event.Event.TheVariants as event
+use Rattle.std.proofs.Common.{length, refl, sym, ap, ◌∙◌, arith}
 use Rattle.resty_world.specs.declared.entry.Entry.TheVariants as entry
-use Rattle.resty_world.specs.declared.schedule_line.SchedLine.TheVariants as line
-use Rattle.resty_world.specs.Ids.{same_id}
-use Rattle.schedule.specs.Peers.{peer_at, opened, closed, room_in, put_fails_in, fresh}
-use Rattle.schedule.specs.Places.{has, open_ids, strands_in, hung_up, has_ended}
-use Rattle.std.proofs.lemmas.Option.{slice_get_within}
-use Rattle.schedule.proofs.KnowingLemmas.{next-connection, next-socket, knows-new, knows-changed, knows-same, changed, unseen, own-value}
-use Rattle.schedule.proofs.PlacesLemmas.{has-without, length-without, same_id-eq}
-use Rattle.schedule.proofs.Standing.{answers, passes, gives, same_faults, same_losses, must_fail, must_work, changed_by, one-less, offered-more}
-use Rattle.schedule.specs.Counts.{counted}
-use Rattle.schedule.specs.Steps.{Writing, Dialling, Logging, TakesLeast, less}
+use Rattle.schedule.specs.Peers.{room_in, put_fails_in}
+use Rattle.schedule.proofs.Standing.{answers, same_faults, same_losses, must_work, offered-more}
+use Rattle.schedule.specs.Steps.{Writing}
 use Rattle.schedule.proofs.replay.Replay.put_off.Goals as goal
 
 pub returns-clause-later : goal.returns-clause-later

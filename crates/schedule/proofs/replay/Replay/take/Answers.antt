@@ -1,19 +1,10 @@
-use Rattle.std.proofs.Common.{◌≡◌, ℕ, ◌+◌, ◌-◌, ◌^◌, ◌<◌, ◌≤◌, Bool, true, false, not, List, [], ◌∷◌, length, take, slice_get, Option, Some, None, refl, sym, ap, ◌∙◌, arith, rules}
-use Rattle.std.specs.Bool.{if◌then◌else◌}
-use Rattle.resty_base.specs.declared.names.Id.{Id}
-use Rattle.resty_base.specs.declared.names.Id.TheVariants as id
-use Rattle.resty_world.specs.declared.event.Event.TheVariants as event
+use Rattle.std.proofs.Common.{◌≡◌, ◌<◌, length, take, refl, sym, ap, ◌∙◌, arith, rules}
 use Rattle.resty_world.specs.declared.entry.Entry.TheVariants as entry
-use Rattle.resty_world.specs.declared.schedule_line.SchedLine.TheVariants as line
-use Rattle.resty_world.specs.Ids.{same_id}
-use Rattle.schedule.specs.Peers.{peer_at, opened, closed, room_in, put_fails_in, fresh}
-use Rattle.schedule.specs.Places.{has, open_ids, strands_in, hung_up, has_ended}
-use Rattle.std.proofs.lemmas.Option.{slice_get_within}
-use Rattle.schedule.proofs.KnowingLemmas.{next-connection, next-socket, knows-new, knows-changed, knows-same, changed, unseen, own-value}
-use Rattle.schedule.proofs.PlacesLemmas.{has-without, length-without, same_id-eq}
-use Rattle.schedule.proofs.Standing.{answers, passes, gives, same_faults, same_losses, must_fail, must_work, changed_by, one-less, offered-more}
-use Rattle.schedule.specs.Counts.{counted}
-use Rattle.schedule.specs.Steps.{Writing, Dialling, Logging, TakesLeast, less}
+use Rattle.schedule.specs.Peers.{peer_at, room_in, put_fails_in}
+use Rattle.std.proofs.lemmas.List.Elements.{All-take}
+use Rattle.schedule.proofs.KnowingLemmas.{changed, unseen}
+use Rattle.schedule.proofs.Standing.{answers, same_faults, same_losses, must_work, changed_by, offered-more, are_bytes}
+use Rattle.schedule.specs.Steps.{Writing, less}
 use Rattle.schedule.proofs.replay.Replay.take.Goals as goal
 
 pub returns-clause-later : goal.returns-clause-later
@@ -24,12 +15,13 @@ returns-clause-later c =
     let count = c.takes-count.result in
     let long : length c.in-Ok.copy ≡ count = search rules in
     let took = c.having_taken.ensures in
+    let is : c.in-Ok.copy ≡ take count c.args.bytes.now = search rules in
     record {
       schedule = refl;
       passed = omega arith;
       stands = λ s. answers world _ (entry.Put c.args.id c.in-Ok.copy) (length c.args.bytes.now) s refl refl (rw (c.push_reserved-2.ensures.entries) refl) (offered-more world.offered.items _ _ c.push_reserved.ensures.items)
           (must_work (Writing c.args.id) s.steps peer.put_fails (sym (ap put_fails_in here) ∙ s.put_fails c.args.id) c.requires.works)
-          (rw (← s.rooms c.args.id, here, long) c.takes-count.ensures.least)
+          (rw (← s.rooms c.args.id, here, long) c.takes-count.ensures.least, rw is (All-take (λ b. b < 256) count c.args.bytes.now (are_bytes c.args.bytes.now (λ i. omega (arith, c.type_inv.bytes i)))))
           (same_faults world s) (same_losses world s)
           (λ x. changed room_in world.peers c.set.new.self c.args.id _ c.set.ensures.set x
           ∙ changed_by (λ y. room_in (peer_at world.peers y)) (less (length c.in-Ok.copy)) c.args.id _ (rw (here, long, took) refl) x)

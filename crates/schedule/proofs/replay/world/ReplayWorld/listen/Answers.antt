@@ -1,4 +1,4 @@
-use Rattle.std.proofs.Common.{refl, sym, arith}
+use Rattle.std.proofs.Common.{refl, arith}
 use Rattle.schedule.proofs.Standing.{listens, same_faults}
 use Rattle.schedule.proofs.replay.world.ReplayWorld.listen.Goals as goal
 

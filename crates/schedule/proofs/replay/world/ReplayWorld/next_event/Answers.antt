@@ -1,4 +1,4 @@
-use Rattle.std.proofs.Common.{◌≡◌, ◌+◌, length, slice_get, Some, refl, sym, ap, ◌∙◌, arith}
+use Rattle.std.proofs.Common.{length, slice_get, refl, sym, ap, ◌∙◌, arith}
 use Rattle.schedule.specs.ReplayBook.{book_of}
 use Rattle.schedule.proofs.NextLine.{nothing_ahead, absent_ahead, behind_last}
 use Rattle.schedule.proofs.Running.{bad-on, gave-bad}
