@@ -1,5 +1,5 @@
 -- How much of the request each connection sent, behind one line more.
-use Rattle.std.proofs.Common.{◌≡◌, ◌≢◌, ℕ, zero, suc, ◌+◌, ◌-◌, ◌<◌, ◌≤◌, Bool, true, false, cond, eqb, List, [], ◌∷◌, ◌++◌, length, take, drop, get_or, set, Some, slice_get, refl, sym, ap, subst, ◌∙◌, append-nil, append_assoc, length-append, length-take-le, nat_eq, inl, inr, arith, get_or-set_other}
+use Rattle.std.proofs.Common.{◌≡◌, ◌≢◌, ℕ, zero, suc, ◌+◌, ◌-◌, ◌<◌, ◌≤◌, true, false, cond, eqb, List, [], ◌∷◌, ◌++◌, length, take, drop, get_or, set, Some, slice_get, refl, sym, ap, subst, ◌∙◌, append-nil, append_assoc, length-append, length-take-le, nat_eq, inl, inr, arith, get_or-set_other}
 use Rattle.std.specs.Bool.{if◌then◌else◌}
 use Rattle.std.specs.Cmp.Lexicographic.{same_text, other_text}
 use Rattle.std.specs.List.{starts_with}
@@ -7,16 +7,28 @@ use Rattle.std.proofs.Math.ListN.{length-set}
 use Rattle.std.proofs.Math.Seq.{take-append_seam}
 use Rattle.std.proofs.lemmas.Bool.{eqb-true, eqb-false, cases_lt}
 use Rattle.std.proofs.lemmas.Grind.{flat_map-append, get_or-set_at}
-use Rattle.std.proofs.lemmas.List.{take-append-drop, get_or_default}
+use Rattle.std.proofs.lemmas.List.{take-append-drop, take_more, get_or_default}
+use Rattle.std.proofs.lemmas.List.Sums.{sum_by-append}
+use Rattle.std.proofs.lemmas.Option.{slice_get_within, get_or_from_slice_get}
 use Rattle.resty_base.specs.declared.names.Id.TheVariants as id
 use Rattle.resty_world.specs.declared.event.Event.TheVariants as event
 use Rattle.resty_world.specs.declared.schedule_line.SchedLine.{SchedLine}
 use Rattle.resty_world.specs.declared.schedule_line.SchedLine.TheVariants as line
 use Rattle.schedule_text.specs.Lines.{arrivals_in, is_arrival}
-use Rattle.schedule.proofs.Passing.{take-more, arrivals-more}
-use Rattle.engine.proofs.Lists.{by_test}
+use Rattle.resty.proofs.Names.{by_test}
 use Rattle.resty.specs.Asking.{sent_by, Tracks}
 use Rattle.resty.specs.Form.{the_request, IsFirstPart, bytes_in, bytes_for, IsServedLine}
+
+-- the lines up to a place, with the line there
+pub take-more : {A : Type 0} (xs : List A) (i : ℕ) (x : A) → slice_get xs i ≡ Some x → take (i + 1) xs ≡ take i xs ++ x ∷ []
+take-more xs i x here = take_more xs i x (slice_get_within xs i x here) ∙ ap (λ y. take i xs ++ y ∷ []) (get_or_from_slice_get xs i x x here)
+
+-- how many connections arrive in the lines with one more
+pub arrivals-more : (lines : List SchedLine) (at : ℕ) (l : SchedLine) → slice_get lines at ≡ Some l
+    → arrivals_in (take (at + 1) lines) ≡ arrivals_in (take at lines) + cond (is_arrival l) 1 0
+arrivals-more lines at l here =
+    let split = sum_by-append (λ x. cond (is_arrival x) 1 0) (take at lines) (l ∷ []) in
+    ap arrivals_in (take-more lines at l here) ∙ split ∙ omega arith
 
 pub bytes-push : (c : ℕ) (lines : List SchedLine) (l : SchedLine) → bytes_in c (lines ++ l ∷ []) ≡ bytes_in c lines ++ bytes_for c l
 bytes-push c lines l = flat_map-append (bytes_for c) lines (l ∷ []) ∙ ap (λ xs. bytes_in c lines ++ xs) (append-nil (bytes_for c l))

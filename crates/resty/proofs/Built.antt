@@ -1,5 +1,5 @@
--- A run of a literal site has a history of built entries alone.
-use Rattle.std.proofs.Common.{◌≡◌, ◌⊎◌, ℕ, ◌≤◌, Bool, true, false, inl, inr, List, [], ◌∷◌, ◌++◌, All, Option, Some, None, if◌then◌else◌, refl, sym, ap, subst, ◌∙◌, arith}
+-- A run of a literal site has a history of built entries alone, which are within their ranges.
+use Rattle.std.proofs.Common.{◌≡◌, ◌⊎◌, ℕ, Bool, true, false, inl, inr, List, [], ◌∷◌, ◌++◌, All, Option, Some, None, if◌then◌else◌, refl, sym, ap, subst, ◌∙◌}
 use Rattle.std.proofs.lemmas.List.Elements.{All-append, All-cons, All-nil}
 use Rattle.resty_base.specs.declared.names.Id.TheVariants as id
 use Rattle.resty_base.specs.declared.names.StrandId.{StrandId}
@@ -9,12 +9,12 @@ use Rattle.resty_world.specs.declared.event.Event.TheVariants as event
 use Rattle.resty_world.specs.declared.entry.Entry.{Entry}
 use Rattle.resty_world.specs.declared.entry.Entry.TheVariants as entry
 use Rattle.resty_world.specs.declared.schedule_line.SchedLine.{SchedLine}
-use Rattle.resty_world.specs.declared.schedule_line.SchedLine.TheVariants as line
-use Rattle.resty.specs.Built.{IsNumber, IsBuiltEvent, IsBuilt}
+use Rattle.resty.specs.Built.{IsBuilt}
 use Rattle.resty.specs.Form.{IsServed}
-use Rattle.resty.proofs.Story.{AreEventLines, IsToldEntry, AreToldEntries, entries-told, served-events}
+use Rattle.resty.proofs.Story.{AreEventLines, AreToldEntries, entries-told, served-events}
+use Rattle.schedule_text.specs.Accepted.{IsHistory}
+use Rattle.schedule_text.specs.Ranges.{IsBytes, IsEntry, IsPlace}
 use Rattle.schedule.specs.Told.{IsTold}
-use Rattle.schedule.proofs.PlacesLemmas.{same_strand-eq}
 use Rattle.strand_contract.specs.declared.turns.Place.{Place}
 use Rattle.strand_contract.specs.declared.turns.Place.TheVariants as place
 use Rattle.strand_contract.specs.declared.turns.Start.TheVariants as start
@@ -26,7 +26,7 @@ use Rattle.strand_contract.specs.Executions.{projection, id_at, entry_of, entrie
 use Rattle.strand_contract.specs.ClientOnly.{HasClientOnly, client-only, never, clash}
 use Rattle.strand.specs.Literal.{literal_behavior}
 use Rattle.strand.specs.Laws.{client-only-acts}
-use Rattle.engine.proofs.Lists.{by_test, strand-true}
+use Rattle.resty.proofs.Names.{by_test, same_strand-eq, strand-true}
 
 older : (xs ys : List Entry) → AreToldEntries (xs ++ ys) → AreToldEntries ys
 older [] ys all = all
@@ -34,7 +34,7 @@ older (x ∷ xs) ys all = older xs ys all.1
 
 -- the strand is a connection whose number a line can name
 abbrev IsNumbered : StrandId → Type 0
-IsNumbered (strand.Conn c) = IsNumber c
+IsNumbered (strand.Conn c) = IsPlace c
 IsNumbered (strand.Job n) = ⊥
 
 -- what is used of an execution, which holds of each earlier part of it too
@@ -50,20 +50,27 @@ unlike e = absurd (let no : false ≡ true = e in cc)
 no-act : {J : Type 0} {C : Type 0} (a : Act J) (rest : List (Act J)) → [] ≡ a ∷ rest → C
 no-act a rest e = absurd (let no : [] ≡ a ∷ rest = e in cc)
 
-one : (e : Entry) → IsBuilt e → All IsBuilt (e ∷ [])
-one e built = All-cons IsBuilt e [] built (All-nil IsBuilt)
+-- the entry is built, and within its ranges
+abbrev IsFit : Entry → Type 0
+IsFit e = IsBuilt e × IsEntry e
 
-begun-numbered : (J : Type 0) (s : StrandId) (c : ℕ) → IsStartOf {J = J} s (start.Client c) → IsNumber c → IsNumbered s
-begun-numbered J (strand.Conn k) c same small = subst IsNumber same small
+split : (h : List Entry) → All IsFit h → All IsBuilt h × IsHistory h
+split h all = (λ k e within. (all k e within).0, λ k e within. (all k e within).1)
+
+one : (e : Entry) → IsFit e → All IsFit (e ∷ [])
+one e fit = All-cons IsFit e [] fit (All-nil IsFit)
+
+begun-numbered : (J : Type 0) (s : StrandId) (c : ℕ) → IsStartOf {J = J} s (start.Client c) → IsPlace c → IsNumbered s
+begun-numbered J (strand.Conn k) c same small = subst IsPlace same small
 begun-numbered J (strand.Job k) c same small = absurd same
 
 opened-queue : (c : Bool) (bytes : List ℕ) → is_some_left (if c then bytes else []) ≡ true → c ≡ true
 opened-queue true bytes some = refl
 opened-queue false bytes some = unlike some
 
-drop-built : (s : StrandId) → IsNumbered s → IsBuilt (entry.Dropped s)
-drop-built (strand.Conn c) known = known
-drop-built (strand.Job n) known = absurd known
+drop-fit : (s : StrandId) → IsNumbered s → IsFit (entry.Dropped s)
+drop-fit (strand.Conn c) known = (tt, known)
+drop-fit (strand.Job n) known = absurd known
 
 module _ {J : Type 0} where
   tail-execution : (b : Behavior J) (c : Bool) (a : LocalAction J) (es : List (LocalAction J)) → IsExecution b (if c then a ∷ es else es) → IsExecution b es
@@ -109,7 +116,7 @@ module _ {J : Type 0} where
 
   -- the first action of a strand is its beginning, which is an arrival
   first-numbered : (body : List ℕ) (s : StrandId) (x : Action J) (n : Option ℕ) (ms : List (GlobalAction J)) → Fine body (Of s x n ∷ ms) → Enabled (literal_behavior body) [] (Did x) → IsNumbered s
-  first-numbered body s (Began now (start.Client c)) n ms f e = begun-numbered J s c f.begins.1 f.told.0
+  first-numbered body s (Began now (start.Client c)) n ms f e = begun-numbered J s c f.begins.1 f.told.0.1
   first-numbered body s (Began now (start.Job k job)) n ms f e = no-job s k job f.begins.1
   first-numbered body s (Came q bytes) n ms f e = unlike e.0.living
   first-numbered body s (Ended q) n ms f e = unlike e.living
@@ -188,70 +195,70 @@ module _ {J : Type 0} where
   offered-client : (body : List ℕ) (es : List (LocalAction J)) (q : Place) → IsExecution (literal_behavior body) es → offering (literal_behavior body) es ≡ Some q → q ≡ place.Client
   offered-client body es q f e = open-client body es q f (opened-queue (is_open q es) _ (some-queued (literal_behavior body) es (begun_offer es) q e))
 
-  put-built : (s : StrandId) (q : Place) (bytes : List ℕ) (ms : List (GlobalAction J)) → IsNumbered s → q ≡ place.Client → IsBuilt (entry.Put (id_at s q ms) bytes)
-  put-built (strand.Conn c) place.Client bytes ms known same = known
-  put-built (strand.Conn c) (place.Sock k) bytes ms known same = absurd (let no : place.Sock k ≡ place.Client = same in cc)
-  put-built (strand.Job n) q bytes ms known same = absurd known
+  put-fit : (s : StrandId) (q : Place) (bytes : List ℕ) (ms : List (GlobalAction J)) → IsNumbered s → q ≡ place.Client → IsBytes bytes → IsFit (entry.Put (id_at s q ms) bytes)
+  put-fit (strand.Conn c) place.Client bytes ms known same are_bytes = (tt, (known, are_bytes))
+  put-fit (strand.Conn c) (place.Sock k) bytes ms known same are_bytes = absurd (let no : place.Sock k ≡ place.Client = same in cc)
+  put-fit (strand.Job n) q bytes ms known same are_bytes = absurd known
 
-  close-built : (s : StrandId) (q : Place) (ms : List (GlobalAction J)) → IsNumbered s → q ≡ place.Client → IsBuilt (entry.Close (id_at s q ms))
-  close-built (strand.Conn c) place.Client ms known same = known
-  close-built (strand.Conn c) (place.Sock k) ms known same = absurd (let no : place.Sock k ≡ place.Client = same in cc)
-  close-built (strand.Job n) q ms known same = absurd known
+  close-fit : (s : StrandId) (q : Place) (ms : List (GlobalAction J)) → IsNumbered s → q ≡ place.Client → IsFit (entry.Close (id_at s q ms))
+  close-fit (strand.Conn c) place.Client ms known same = (tt, known)
+  close-fit (strand.Conn c) (place.Sock k) ms known same = absurd (let no : place.Sock k ≡ place.Client = same in cc)
+  close-fit (strand.Job n) q ms known same = absurd known
 
   -- the entry of an action that could come
-  entry-built : (body : List ℕ) (s : StrandId) (x : Action J) (n : Option ℕ) (ms : List (GlobalAction J)) → Fine body (Of s x n ∷ ms) → Fine body ms → Enabled (literal_behavior body) (projection s ms) (Did x)
-      → All IsBuilt (entry_of (literal_behavior body) s x n ms)
-  entry-built body s (Began now (start.Client c)) n ms f g e = one (entry.Given (event.Arrive c)) f.told.0
-  entry-built body s (Began now (start.Job k job)) n ms f g e = no-job s k job f.begins.1
-  entry-built body s (Came q bytes) n ms f g e = one (entry.Given (event.Bytes (id_at s q ms) bytes)) f.told.0
-  entry-built body s (Ended q) n ms f g e = one (entry.Given (event.Ended (id_at s q ms))) f.told.0
-  entry-built body s (Broke q) n ms f g e = one (entry.Given (event.Broken (id_at s q ms))) f.told.0
-  entry-built body s (TakesAgain q) n ms f g e = one (entry.Given (event.Ready (id_at s q ms))) f.told.0
-  entry-built body s (Connected k) n ms f g e = absurd f.told.0
-  entry-built body s (Refused k) n ms f g e = absurd f.told.0
-  entry-built body s (Put q bytes) n ms f g e =
-      one (entry.Put (id_at s q ms) bytes) (put-built s q bytes ms (living-numbered body s ms g e.0.living) (offered-client body (projection s ms) q (g.alone s) e.0.offered))
-  entry-built body s (Later q) n ms f g e = absurd f.told.0
-  entry-built body s (Lost q) n ms f g e = absurd f.told.0
-  entry-built body s (Closed q) n ms f g e =
+  entry-fit : (body : List ℕ) (s : StrandId) (x : Action J) (n : Option ℕ) (ms : List (GlobalAction J)) → Fine body (Of s x n ∷ ms) → Fine body ms → Enabled (literal_behavior body) (projection s ms) (Did x)
+      → All IsFit (entry_of (literal_behavior body) s x n ms)
+  entry-fit body s (Began now (start.Client c)) n ms f g e = one (entry.Given (event.Arrive c)) f.told.0
+  entry-fit body s (Began now (start.Job k job)) n ms f g e = no-job s k job f.begins.1
+  entry-fit body s (Came q bytes) n ms f g e = one (entry.Given (event.Bytes (id_at s q ms) bytes)) f.told.0
+  entry-fit body s (Ended q) n ms f g e = one (entry.Given (event.Ended (id_at s q ms))) f.told.0
+  entry-fit body s (Broke q) n ms f g e = one (entry.Given (event.Broken (id_at s q ms))) f.told.0
+  entry-fit body s (TakesAgain q) n ms f g e = one (entry.Given (event.Ready (id_at s q ms))) f.told.0
+  entry-fit body s (Connected k) n ms f g e = absurd f.told.0.0
+  entry-fit body s (Refused k) n ms f g e = absurd f.told.0.0
+  entry-fit body s (Put q bytes) n ms f g e =
+      one (entry.Put (id_at s q ms) bytes) (put-fit s q bytes ms (living-numbered body s ms g e.0.living) (offered-client body (projection s ms) q (g.alone s) e.0.offered) f.told.0)
+  entry-fit body s (Later q) n ms f g e = absurd f.told.0
+  entry-fit body s (Lost q) n ms f g e = absurd f.told.0
+  entry-fit body s (Closed q) n ms f g e =
       let opened : is_open q (projection s ms) ≡ true = elim e [ inl next ↦ next.1 | inr first ↦ first.opened ] in
-      one (entry.Close (id_at s q ms)) (close-built s q ms (open-numbered body s q ms g opened) (open-client body (projection s ms) q (g.alone s) opened))
-  entry-built body s (Logged text done) n ms f g e = never (todo (literal_behavior body) (projection s ms)) _ (own body (projection s ms) (g.alone s)).to_do e.1 (λ none. absurd none)
-  entry-built body s (Asked zone call answer) n ms f g e = absurd f.plain
-  entry-built body s (Took key uses) n ms f g e = absurd f.plain
-  entry-built body s (Dialled host port done) n ms f g e = absurd f.plain
-  entry-built body s (Kept k key idle size) n ms f g e = absurd f.plain
-  entry-built body s (Timed at answer) n ms f g e = absurd f.plain
-  entry-built body s Dropped n ms f g e = one (entry.Dropped s) (drop-built s (living-numbered body s ms g e))
-  entry-built body s (Ran k) n ms f g e = All-nil IsBuilt
-  entry-built body s (Offered q) n ms f g e = All-nil IsBuilt
-  entry-built body s (Due k) n ms f g e = All-nil IsBuilt
-  entry-built body s Halted n ms f g e = All-nil IsBuilt
-  entry-built body s Gone n ms f g e = All-nil IsBuilt
+      one (entry.Close (id_at s q ms)) (close-fit s q ms (open-numbered body s q ms g opened) (open-client body (projection s ms) q (g.alone s) opened))
+  entry-fit body s (Logged text done) n ms f g e = never (todo (literal_behavior body) (projection s ms)) _ (own body (projection s ms) (g.alone s)).to_do e.1 (λ none. absurd none)
+  entry-fit body s (Asked zone call answer) n ms f g e = absurd f.plain
+  entry-fit body s (Took key uses) n ms f g e = absurd f.plain
+  entry-fit body s (Dialled host port done) n ms f g e = absurd f.plain
+  entry-fit body s (Kept k key idle size) n ms f g e = absurd f.plain
+  entry-fit body s (Timed at answer) n ms f g e = absurd f.plain
+  entry-fit body s Dropped n ms f g e = one (entry.Dropped s) (drop-fit s (living-numbered body s ms g e))
+  entry-fit body s (Ran k) n ms f g e = All-nil IsFit
+  entry-fit body s (Offered q) n ms f g e = All-nil IsFit
+  entry-fit body s (Due k) n ms f g e = All-nil IsFit
+  entry-fit body s Halted n ms f g e = All-nil IsFit
+  entry-fit body s Gone n ms f g e = All-nil IsFit
 
-  entries-built : (body : List ℕ) (m : GlobalAction J) (ms : List (GlobalAction J)) → Fine body (m ∷ ms) → Fine body ms → All IsBuilt (entries_of (literal_behavior body) m ms)
-  entries-built body (Of s x n) ms f g = entry-built body s x n ms f g (head-enabled (literal_behavior body) (same_strand s s) (Did x) (projection s ms) (strand-true s) (f.alone s))
-  entries-built body (Everyone (Moment t)) ms f g = one (entry.Given (event.Moment (record { 0 = t }))) f.told.0
-  entries-built body (Everyone Stop) ms f g = one (entry.Given event.Stop) tt
-  entries-built body (TurnedAway c) ms f g =
-      let number : IsNumber c = f.told.1.1.0 in
-      All-cons IsBuilt (entry.Close (id.Conn c)) (entry.Turned c ∷ entry.Given (event.Arrive c) ∷ []) number
-      (All-cons IsBuilt (entry.Turned c) (entry.Given (event.Arrive c) ∷ []) number (one (entry.Given (event.Arrive c)) number))
-  entries-built body (IdleGave e) ms f g = absurd f.plain
-  entries-built body (IdleClosed n) ms f g = absurd f.plain
+  entries-fit : (body : List ℕ) (m : GlobalAction J) (ms : List (GlobalAction J)) → Fine body (m ∷ ms) → Fine body ms → All IsFit (entries_of (literal_behavior body) m ms)
+  entries-fit body (Of s x n) ms f g = entry-fit body s x n ms f g (head-enabled (literal_behavior body) (same_strand s s) (Did x) (projection s ms) (strand-true s) (f.alone s))
+  entries-fit body (Everyone (Moment t)) ms f g = one (entry.Given (event.Moment (record { 0 = t }))) f.told.0
+  entries-fit body (Everyone Stop) ms f g = one (entry.Given event.Stop) (tt, tt)
+  entries-fit body (TurnedAway c) ms f g =
+      let number : IsPlace c = f.told.1.1.0.1 in
+      All-cons IsFit (entry.Close (id.Conn c)) (entry.Turned c ∷ entry.Given (event.Arrive c) ∷ []) (tt, number)
+      (All-cons IsFit (entry.Turned c) (entry.Given (event.Arrive c) ∷ []) (tt, number) (one (entry.Given (event.Arrive c)) (tt, number)))
+  entries-fit body (IdleGave e) ms f g = absurd f.plain
+  entries-fit body (IdleClosed n) ms f g = absurd f.plain
 
-  all-built : (body : List ℕ) (ms : List (GlobalAction J)) → Fine body ms → All IsBuilt (external (literal_behavior body) ms)
-  all-built body [] f = All-nil IsBuilt
-  all-built body (m ∷ ms) f =
+  all-fit : (body : List ℕ) (ms : List (GlobalAction J)) → Fine body ms → All IsFit (external (literal_behavior body) ms)
+  all-fit body [] f = All-nil IsFit
+  all-fit body (m ∷ ms) f =
       let before = fine-tail body m ms f in
-      All-append IsBuilt (entries_of (literal_behavior body) m ms) (external (literal_behavior body) ms) (entries-built body m ms f before) (all-built body ms before)
+      All-append IsFit (entries_of (literal_behavior body) m ms) (external (literal_behavior body) ms) (entries-fit body m ms f before) (all-fit body ms before)
 
   -- the history of an execution of a literal site that tells the lines of a schedule
-  pub history-built : (body : List ℕ) (lines : List SchedLine) (h : List Entry) (offered : List ℕ) (ms : List (GlobalAction J)) → IsServed lines → IsTold lines h offered
-      → h ≡ external (literal_behavior body) ms → ((s : StrandId) → IsExecution (literal_behavior body) (projection s ms)) → BeginsRight ms → IsPlain (literal_behavior body) ms → All IsBuilt h
-  history-built body lines h offered ms whole told is alone begins plain = subst (All IsBuilt) (sym is) (all-built body ms (record {
+  pub history-fit : (body : List ℕ) (lines : List SchedLine) (h : List Entry) (offered : List ℕ) (ms : List (GlobalAction J)) → IsServed lines → IsTold lines h offered
+      → h ≡ external (literal_behavior body) ms → ((s : StrandId) → IsExecution (literal_behavior body) (projection s ms)) → BeginsRight ms → IsPlain (literal_behavior body) ms → All IsBuilt h × IsHistory h
+  history-fit body lines h offered ms whole told is alone begins plain = split h (subst (All IsFit) (sym is) (all-fit body ms (record {
     alone = alone;
     begins = begins;
     plain = plain;
     told = subst AreToldEntries (told.steps_history ∙ is) (entries-told (lines ++ told.behind) told.steps (subst AreEventLines (sym told.steps_lines) (served-events lines whole)) told.steps_right);
-  }))
+  })))

@@ -10,12 +10,11 @@ use Rattle.resty.specs.declared.endings.Ending.TheVariants as ending
 use Rattle.resty.specs.declared.endings.Status.{Status}
 use Rattle.resty.specs.declared.endings.Status.TheVariants as status
 use Rattle.resty.specs.Ending.{status_of, line_of, line_in}
-use Rattle.resty.specs.Ends.{IsStatusBy}
+use Rattle.resty.specs.Ends.{AreOfOneStatus, IsStatusBy}
 use Rattle.resty.specs.Taking.{TakesAll, TakesPart, Takes}
 use Rattle.resty.specs.Verdict.{Verdict, Usage, Missing, TooLong, NotBuilt, BadLine, Runs, IsOfFiles, IsVerdict, IsDue, Faults, ending_of}
 use Rattle.resty.specs.Words.{Names, IsForm}
 use Rattle.resty.specs.Writing.{IsRunOf, Writes}
-use Rattle.resty.proofs.OneStatus.{one_status}
 
 -- a verdict of the files that the words name is one of the words
 pub verdict_of : (words : List (List ℕ)) (conf schedule : List ℕ) → Names words conf schedule → (held : FileMap) (v : Verdict)
@@ -82,27 +81,27 @@ usage_due words None none = tt
 usage_due words (Some held) none = (Usage, none, refl)
 
 -- the status is that of each verdict
-own_status : (words : List (List ℕ)) (held : FileMap) (v w : Verdict) (e : Ending) → IsVerdict words held v → IsVerdict words held w → e ≡ ending_of w
+own_status : AreOfOneStatus → (words : List (List ℕ)) (held : FileMap) (v w : Verdict) (e : Ending) → IsVerdict words held v → IsVerdict words held w → e ≡ ending_of w
     → status_of (ending_of v) ≡ status_of e
-own_status words held v w e is it at = one_status words held v w is it ∙ ap status_of (sym at)
+own_status one words held v w e is it at = one words held v w is it ∙ ap status_of (sym at)
 
-judged_by : (words : List (List ℕ)) (held : FileMap) (faults : Faults) (e : Ending) → IsDue (IsVerdict words) (Some held) faults e
+judged_by : AreOfOneStatus → (words : List (List ℕ)) (held : FileMap) (faults : Faults) (e : Ending) → IsDue (IsVerdict words) (Some held) faults e
     → (v : Verdict) → IsVerdict words held v → IsStatusBy faults v (status_of e)
-judged_by words held faults ending.Done d v is = own_status words held v d.0 ending.Done is d.1 d.2
-judged_by words held faults ending.Usage d v is = own_status words held v d.0 ending.Usage is d.1 d.2
-judged_by words held faults (ending.Missing w) d v is = inl (own_status words held v d.0 (ending.Missing w) is d.1 d.2)
-judged_by words held faults (ending.TooLong w) d v is = inl (own_status words held v d.0 (ending.TooLong w) is d.1 d.2)
-judged_by words held faults (ending.Unreadable w) d v is = inr d
-judged_by words held faults (ending.NotBuilt named.Conf n) d v is = own_status words held v d.0 (ending.NotBuilt named.Conf n) is d.1 d.2
-judged_by words held faults (ending.NotBuilt named.Schedule n) d v is = own_status words held v d.0 (ending.NotBuilt named.Schedule n) is d.1 d.2
-judged_by words held faults (ending.BadLine n) d v is = own_status words held v d.0 (ending.BadLine n) is d.1 d.2
-judged_by words held faults ending.NotWritten d v is = (own_status words held v (Runs d.1.0 d.1.1) ending.Done is d.1.2 refl, d.0)
-judged_by words held faults ending.Memory d v is = tt
+judged_by one words held faults ending.Done d v is = own_status one words held v d.0 ending.Done is d.1 d.2
+judged_by one words held faults ending.Usage d v is = own_status one words held v d.0 ending.Usage is d.1 d.2
+judged_by one words held faults (ending.Missing w) d v is = inl (own_status one words held v d.0 (ending.Missing w) is d.1 d.2)
+judged_by one words held faults (ending.TooLong w) d v is = inl (own_status one words held v d.0 (ending.TooLong w) is d.1 d.2)
+judged_by one words held faults (ending.Unreadable w) d v is = inr d
+judged_by one words held faults (ending.NotBuilt named.Conf n) d v is = own_status one words held v d.0 (ending.NotBuilt named.Conf n) is d.1 d.2
+judged_by one words held faults (ending.NotBuilt named.Schedule n) d v is = own_status one words held v d.0 (ending.NotBuilt named.Schedule n) is d.1 d.2
+judged_by one words held faults (ending.BadLine n) d v is = own_status one words held v d.0 (ending.BadLine n) is d.1 d.2
+judged_by one words held faults ending.NotWritten d v is = (own_status one words held v (Runs d.1.0 d.1.1) ending.Done is d.1.2 refl, d.0)
+judged_by one words held faults ending.Memory d v is = tt
 
-pub judged : (words : List (List ℕ)) (told : Option FileMap) (faults : Faults) (e : Ending) (s : Status) → s ≡ status_of e → IsDue (IsVerdict words) told faults e
+pub judged : AreOfOneStatus → (words : List (List ℕ)) (told : Option FileMap) (faults : Faults) (e : Ending) (s : Status) → s ≡ status_of e → IsDue (IsVerdict words) told faults e
     → IfSome told (λ held. (v : Verdict) → IsVerdict words held v → IsStatusBy faults v s)
-judged words None faults e s same due = tt
-judged words (Some held) faults e s same due = λ v is. rw same (judged_by words held faults e due v is)
+judged one words None faults e s same due = tt
+judged one words (Some held) faults e s same due = λ v is. rw same (judged_by one words held faults e due v is)
 
 -- a run ends well, or for want of memory, where nothing fails
 runs_well : (body : List ℕ) (lines : List SchedLine) (faults : Faults) (s : Status) → IsStatusBy faults (Runs body lines) s

@@ -1,5 +1,6 @@
 pub mod AskingLemmas
 pub mod Five
+pub mod Names
 pub mod Pieces
 pub mod Story
 pub mod Built

@@ -1,16 +1,16 @@
 -- The words and the files have verdicts of one status.
-use Rattle.std.proofs.Common.{◌≡◌, ℕ, ◌⊎◌, inl, inr, List, length, Option, Some, None, Err, refl, sym, ◌∙◌, ap, subst, arith}
+use Rattle.std.proofs.Common.{◌≡◌, ℕ, ◌⊎◌, inl, inr, List, length, Option, Some, None, refl, sym, ◌∙◌, ap, subst, arith}
 use Rattle.resty_base.specs.FileMap.{FileMap}
 use Rattle.resty_world.specs.declared.schedule_line.SchedLine.{SchedLine}
-use Rattle.schedule_text.specs.declared.fault.SchedFault.TheVariants as fault
 use Rattle.schedule_text.specs.Accepted.{IsRead, IsRefusedAt}
-use Rattle.schedule_text.proofs.OneWay.{accepted, schedule-alone}
+use Rattle.schedule_text.specs.Fitting.{IsSchedule}
+use Rattle.schedule_text.specs.LineTexts.{schedule_text}
 use Rattle.strand.specs.Configuration.{IsSite, IsFaultAt}
-use Rattle.strand.proofs.Sites.{no-fault}
 use Rattle.resty.specs.declared.endings.Named.TheVariants as named
 use Rattle.resty.specs.declared.endings.Status.{Status}
 use Rattle.resty.specs.declared.endings.Status.TheVariants as status
 use Rattle.resty.specs.Ending.{status_of}
+use Rattle.resty.specs.Ends.{AreOfOneStatus}
 use Rattle.resty.specs.Form.{IsServed, IsUnserved}
 use Rattle.resty.specs.Verdict.{Verdict, Usage, Missing, TooLong, NotBuilt, BadLine, Runs, Holds, HasSite, IsTooLong, IsOfFiles, IsVerdict, ending_of, most_of}
 use Rattle.resty.specs.Words.{Names, IsForm}
@@ -67,8 +67,12 @@ IsBadSite text = (n : ℕ) × IsFaultAt text n
 abbrev IsGoodSite : List ℕ → Type 0
 IsGoodSite text = (body : List ℕ) × IsSite text body
 
-sites_apart : (text : List ℕ) → IsBadSite text → IsGoodSite text → ⊥
-sites_apart text bad good = no-fault text good.0 bad.0 good.1 bad.1
+-- no text of a site has a fault
+abbrev SitesHaveNoFault : Type 0
+SitesHaveNoFault = (text body : List ℕ) (n : ℕ) → IsSite text body → ¬ (IsFaultAt text n)
+
+sites_apart : SitesHaveNoFault → (text : List ℕ) → IsBadSite text → IsGoodSite text → ⊥
+sites_apart no-fault text bad good = no-fault text good.0 bad.0 good.1 bad.1
 
 abbrev ConfKind : FileMap → List ℕ → Kind → Type 0
 ConfKind held name k = IsKind IsBadSite IsGoodSite held name (most_of named.Conf) k
@@ -80,9 +84,16 @@ IsBadSchedule text = (n : ℕ) × (IsRefusedAt text n ⊎ IsUnserved text n)
 abbrev IsGoodSchedule : List ℕ → Type 0
 IsGoodSchedule text = (lines : List SchedLine) × IsRead text lines × IsServed lines
 
-schedules_apart : (text : List ℕ) → IsBadSchedule text → IsGoodSchedule text → ⊥
-schedules_apart text bad good = elim bad.1 [
-  | inl bad_line ↦ let wrong : fault.BadLine bad.0 ≡ fault.Memory = accepted text (Err (fault.BadLine bad.0)) bad_line good.0 good.1 in cc
+-- no text of a schedule is refused, and it is that of one schedule
+abbrev SchedulesAreRead : Type 0
+SchedulesAreRead = (text : List ℕ) (lines : List SchedLine) (n : ℕ) → IsRead text lines → ¬ (IsRefusedAt text n)
+
+abbrev SchedulesAreKnown : Type 0
+SchedulesAreKnown = (lines others : List SchedLine) → IsSchedule lines → IsSchedule others → schedule_text lines ≡ schedule_text others → lines ≡ others
+
+schedules_apart : SchedulesAreRead → SchedulesAreKnown → (text : List ℕ) → IsBadSchedule text → IsGoodSchedule text → ⊥
+schedules_apart never-refused schedule-alone text bad good = elim bad.1 [
+  | inl bad_line ↦ never-refused text good.0 bad.0 good.1 bad_line
   | inr unserved ↦
       let same = schedule-alone good.0 unserved.lines good.1.made unserved.read.made (sym good.1.whole ∙ unserved.read.whole) in
       let served = subst IsServed same good.2 in
@@ -170,53 +181,53 @@ same_status too_long l a b same second = rw (← same) refl
 same_status refused l a b same second = rw (← same) refl
 same_status accepted_ l a b same second = rw (← same, second refl) refl
 
-files_status : (conf schedule : List ℕ) (held : FileMap) (v w : Verdict) → IsOfFiles conf schedule held v → IsOfFiles conf schedule held w
-    → status_of (ending_of v) ≡ status_of (ending_of w)
-files_status conf schedule held v w p q =
-    let confs = one_kind IsBadSite IsGoodSite sites_apart held conf (most_of named.Conf) (conf_kind v) (conf_kind w)
-    (conf_is conf schedule held v p) (conf_is conf schedule held w q) in
-    status_by conf schedule held v p
-    ∙ same_status (conf_kind v) (conf_kind w) (schedule_kind v) (schedule_kind w) confs
-    (λ here. one_kind IsBadSchedule IsGoodSchedule schedules_apart held schedule (most_of named.Schedule) (schedule_kind v) (schedule_kind w)
-    (schedule_is conf schedule held v p here) (schedule_is conf schedule held w q (sym confs ∙ here)))
-    ∙ sym (status_by conf schedule held w q)
+module _ (no-fault : SitesHaveNoFault) (never-refused : SchedulesAreRead) (schedule-alone : SchedulesAreKnown) where
+  files_status : (conf schedule : List ℕ) (held : FileMap) (v w : Verdict) → IsOfFiles conf schedule held v → IsOfFiles conf schedule held w
+      → status_of (ending_of v) ≡ status_of (ending_of w)
+  files_status conf schedule held v w p q =
+      let confs = one_kind IsBadSite IsGoodSite (sites_apart no-fault) held conf (most_of named.Conf) (conf_kind v) (conf_kind w)
+      (conf_is conf schedule held v p) (conf_is conf schedule held w q) in
+      status_by conf schedule held v p
+      ∙ same_status (conf_kind v) (conf_kind w) (schedule_kind v) (schedule_kind w) confs
+      (λ here. one_kind IsBadSchedule IsGoodSchedule (schedules_apart never-refused schedule-alone) held schedule (most_of named.Schedule) (schedule_kind v) (schedule_kind w)
+      (schedule_is conf schedule held v p here) (schedule_is conf schedule held w q (sym confs ∙ here)))
+      ∙ sym (status_by conf schedule held w q)
 
--- words are of one form
-same_names : (words : List (List ℕ)) (a b c d : List ℕ) → Names words a b → Names words c d → (a ≡ c) × (b ≡ d)
-same_names words a b c d p q = let both = sym p.form ∙ q.form in (cc, cc)
+  -- words are of one form
+  same_names : (words : List (List ℕ)) (a b c d : List ℕ) → Names words a b → Names words c d → (a ≡ c) × (b ≡ d)
+  same_names words a b c d p q = let both = sym p.form ∙ q.form in (cc, cc)
 
-form_status : (words : List (List ℕ)) (held : FileMap) (v w : Verdict)
-    → (conf schedule : List ℕ) × Names words conf schedule × IsOfFiles conf schedule held v
-    → (conf schedule : List ℕ) × Names words conf schedule × IsOfFiles conf schedule held w
-    → status_of (ending_of v) ≡ status_of (ending_of w)
-form_status words held v w p q =
-    let same = same_names words p.0 p.1 q.0 q.1 p.2 q.2 in
-    files_status q.0 q.1 held v w
-    (subst (λ (x : List ℕ). IsOfFiles x q.1 held v) same.0 (subst (λ (y : List ℕ). IsOfFiles p.0 y held v) same.1 p.3)) q.3
+  form_status : (words : List (List ℕ)) (held : FileMap) (v w : Verdict)
+      → (conf schedule : List ℕ) × Names words conf schedule × IsOfFiles conf schedule held v
+      → (conf schedule : List ℕ) × Names words conf schedule × IsOfFiles conf schedule held w
+      → status_of (ending_of v) ≡ status_of (ending_of w)
+  form_status words held v w p q =
+      let same = same_names words p.0 p.1 q.0 q.1 p.2 q.2 in
+      files_status q.0 q.1 held v w
+      (subst (λ (x : List ℕ). IsOfFiles x q.1 held v) same.0 (subst (λ (y : List ℕ). IsOfFiles p.0 y held v) same.1 p.3)) q.3
 
--- a verdict of words that are a form
-has_form : (words : List (List ℕ)) (held : FileMap) (v : Verdict) → (conf schedule : List ℕ) × Names words conf schedule × IsOfFiles conf schedule held v → IsForm words
-has_form words held v p = (p.0, p.1, p.2)
+  -- a verdict of words that are a form
+  has_form : (words : List (List ℕ)) (held : FileMap) (v : Verdict) → (conf schedule : List ℕ) × Names words conf schedule × IsOfFiles conf schedule held v → IsForm words
+  has_form words held v p = (p.0, p.1, p.2)
 
-after_form : (words : List (List ℕ)) (held : FileMap) (v w : Verdict) → (conf schedule : List ℕ) × Names words conf schedule × IsOfFiles conf schedule held v
-    → IsVerdict words held w → status_of (ending_of v) ≡ status_of (ending_of w)
-after_form words held v Usage p q = absurd (q (has_form words held v p))
-after_form words held v (Missing x) p q = form_status words held v (Missing x) p q
-after_form words held v (TooLong x) p q = form_status words held v (TooLong x) p q
-after_form words held v (NotBuilt x n) p q = form_status words held v (NotBuilt x n) p q
-after_form words held v (BadLine n) p q = form_status words held v (BadLine n) p q
-after_form words held v (Runs body lines) p q = form_status words held v (Runs body lines) p q
+  after_form : (words : List (List ℕ)) (held : FileMap) (v w : Verdict) → (conf schedule : List ℕ) × Names words conf schedule × IsOfFiles conf schedule held v
+      → IsVerdict words held w → status_of (ending_of v) ≡ status_of (ending_of w)
+  after_form words held v Usage p q = absurd (q (has_form words held v p))
+  after_form words held v (Missing x) p q = form_status words held v (Missing x) p q
+  after_form words held v (TooLong x) p q = form_status words held v (TooLong x) p q
+  after_form words held v (NotBuilt x n) p q = form_status words held v (NotBuilt x n) p q
+  after_form words held v (BadLine n) p q = form_status words held v (BadLine n) p q
+  after_form words held v (Runs body lines) p q = form_status words held v (Runs body lines) p q
 
-pub one_status : (words : List (List ℕ)) (held : FileMap) (v w : Verdict) → IsVerdict words held v → IsVerdict words held w
-    → status_of (ending_of v) ≡ status_of (ending_of w)
-one_status words held Usage Usage p q = refl
-one_status words held Usage (Missing x) p q = absurd (p (has_form words held (Missing x) q))
-one_status words held Usage (TooLong x) p q = absurd (p (has_form words held (TooLong x) q))
-one_status words held Usage (NotBuilt x n) p q = absurd (p (has_form words held (NotBuilt x n) q))
-one_status words held Usage (BadLine n) p q = absurd (p (has_form words held (BadLine n) q))
-one_status words held Usage (Runs body lines) p q = absurd (p (has_form words held (Runs body lines) q))
-one_status words held (Missing x) w p q = after_form words held (Missing x) w p q
-one_status words held (TooLong x) w p q = after_form words held (TooLong x) w p q
-one_status words held (NotBuilt x n) w p q = after_form words held (NotBuilt x n) w p q
-one_status words held (BadLine n) w p q = after_form words held (BadLine n) w p q
-one_status words held (Runs body lines) w p q = after_form words held (Runs body lines) w p q
+  pub one_status : AreOfOneStatus
+  one_status words held Usage Usage p q = refl
+  one_status words held Usage (Missing x) p q = absurd (p (has_form words held (Missing x) q))
+  one_status words held Usage (TooLong x) p q = absurd (p (has_form words held (TooLong x) q))
+  one_status words held Usage (NotBuilt x n) p q = absurd (p (has_form words held (NotBuilt x n) q))
+  one_status words held Usage (BadLine n) p q = absurd (p (has_form words held (BadLine n) q))
+  one_status words held Usage (Runs body lines) p q = absurd (p (has_form words held (Runs body lines) q))
+  one_status words held (Missing x) w p q = after_form words held (Missing x) w p q
+  one_status words held (TooLong x) w p q = after_form words held (TooLong x) w p q
+  one_status words held (NotBuilt x n) w p q = after_form words held (NotBuilt x n) w p q
+  one_status words held (BadLine n) w p q = after_form words held (BadLine n) w p q
+  one_status words held (Runs body lines) w p q = after_form words held (Runs body lines) w p q

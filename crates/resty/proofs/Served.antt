@@ -1,19 +1,22 @@
 -- How serving a schedule ends.
-use Rattle.std.proofs.Common.{◌≡◌, ℕ, ◌≤◌, inl, inr, List, ◌++◌, length, take, drop, sym, ap, subst, ◌∙◌, arith}
+use Rattle.std.proofs.Common.{◌≡◌, ℕ, ◌≤◌, inl, inr, List, length, take, drop, Some, sym, ap, subst, ◌∙◌, arith}
 use Rattle.std.proofs.lemmas.List.{length-take-le, take-append-drop}
 use Rattle.resty_base.specs.Counting.{Rose}
+use Rattle.resty_world.specs.declared.entry.Entry.{Entry}
+use Rattle.resty_world.specs.declared.event.Event.TheVariants as event
 use Rattle.resty_world.specs.declared.schedule_line.SchedLine.{SchedLine}
 use Rattle.resty_world.specs.Given.{IsBadLine}
+use Rattle.schedule_text.specs.Fitting.{IsSchedule}
 use Rattle.schedule.specs.declared.replay.Replay.{Replay}
 use Rattle.schedule.specs.ReplayBook.{book_of, Stands, IsFresh, IsLater}
+use Rattle.schedule.specs.Steps.{newest_given}
 use Rattle.schedule.specs.Told.{IsTold}
-use Rattle.schedule.proofs.Stopping.{all-passed}
 use Rattle.strand_contract.specs.Executions.{offered_lengths}
 use Rattle.strand.specs.Literal.{literal_behavior}
 use Rattle.engine.specs.Right.{events_of, IsStopped, IsSpent, IsFaulted, IsRight}
 use Rattle.resty.specs.Form.{IsServed}
 use Rattle.resty.specs.Run.{IsRun}
-use Rattle.resty.proofs.Built.{history-built}
+use Rattle.resty.proofs.Built.{history-fit}
 use Rattle.resty.proofs.Story.{AreEventLines, served-events, first-events, entries-told, no-failed-log, no-fault, no-failing-first, few-events, never-absent, stopped-newest}
 
 -- the world still goes by these lines, and tells those that were passed
@@ -67,10 +70,15 @@ never_bad lines world n tells served bad =
     never-absent (take world.passed lines) (book_of world).arrivals (book_of world).dials bad.bad (rw tells.course at arrivals) (served.made.fit world.passed bad.bad here)
     (served.each world.passed bad.bad here) bad.absent
 
+-- where Stop was given, all lines were passed
+abbrev AllPassed : Type 0
+AllPassed = (lines : List SchedLine) (passed : ℕ) (history : List Entry) (offered : List ℕ) → IsSchedule lines → IsTold (take passed lines) history offered
+    → newest_given history ≡ Some event.Stop → take passed lines ≡ lines
+
 -- where Stop was given, the history is that of a run of all the lines
-pub runs : {J : Type 0} (body : List ℕ) (lines : List SchedLine) (world : Replay) → Tells lines world → IsServed lines
+pub runs : {J : Type 0} → AllPassed → (body : List ℕ) (lines : List SchedLine) (world : Replay) → Tells lines world → IsServed lines
     → IsStopped world.history.entries → IsRight {J = J} (literal_behavior body) (book_of world) → IsRun {J = J} (literal_behavior body) lines world.history.entries
-runs body lines world tells served stopped right =
+runs all-passed body lines world tells served stopped right =
     let s = tells.stands in
     let first : IsTold (take world.passed lines) world.history.entries (offered_lengths (literal_behavior body) right.execution) = record {
       steps = s.steps;
@@ -83,6 +91,7 @@ runs body lines world tells served stopped right =
     let all = all-passed lines world.passed world.history.entries (offered_lengths (literal_behavior body) right.execution) served.made first (stopped-newest world.history.entries stopped) in
     let told : IsTold lines world.history.entries (offered_lengths (literal_behavior body) right.execution) =
     subst (λ ls. IsTold ls world.history.entries (offered_lengths (literal_behavior body) right.execution)) all first in
+    let fit = history-fit body lines world.history.entries (offered_lengths (literal_behavior body) right.execution) right.execution served told right.history right.lawful.alone right.lawful.begins right.plain in
     record {
       execution = right.execution;
       history = right.history;
@@ -92,5 +101,6 @@ runs body lines world tells served stopped right =
       plain = right.plain;
       ordered = right.ordered;
       stopped = stopped;
-      built = history-built body lines world.history.entries (offered_lengths (literal_behavior body) right.execution) right.execution served told right.history right.lawful.alone right.lawful.begins right.plain;
+      built = fit.0;
+      ranged = fit.1;
     }

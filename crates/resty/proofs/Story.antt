@@ -1,5 +1,5 @@
 -- What the steps of a replay make of lines that are events alone.
-use Rattle.std.proofs.Common.{◌≡◌, ℕ, zero, suc, ◌+◌, ◌-◌, ◌≤◌, ◌<◌, Bool, true, false, not, cond, nat_lt, nat_le, List, [], ◌∷◌, ◌++◌, length, take, refl, Option, Some, None, slice_get, sym, ap, subst, ◌∙◌, arith, length-append}
+use Rattle.std.proofs.Common.{◌≡◌, ℕ, zero, suc, ◌+◌, ◌≤◌, Bool, true, false, not, cond, nat_lt, nat_le, List, [], ◌∷◌, ◌++◌, length, take, refl, Option, Some, None, slice_get, sym, ap, subst, ◌∙◌, arith, length-append}
 use Rattle.std.specs.Bool.{if◌then◌else◌}
 use Rattle.std.specs.Prelude.{◌&&◌}
 use Rattle.std.proofs.lemmas.Bool.{lt-ltb, le-leb}
@@ -13,17 +13,17 @@ use Rattle.resty_world.specs.declared.schedule_line.SchedLine.{SchedLine}
 use Rattle.resty_world.specs.declared.schedule_line.SchedLine.TheVariants as line
 use Rattle.resty_world.specs.Given.{named_id, names_absent}
 use Rattle.resty_world.specs.Ids.{same_id}
-use Rattle.schedule_text.specs.Fitting.{IsSchedule, Fits}
+use Rattle.schedule_text.specs.Fitting.{Fits}
 use Rattle.schedule_text.specs.Lines.{arrivals_in}
-use Rattle.schedule_text.specs.Ranges.{IsPlace}
-use Rattle.schedule.specs.Steps.{Step, Call, Passed, Answered, Listened, AskedAtBadLine, AskedAtEnd, Writing, AreSteps, history_of, lines_of, given_by, is_skipped, unspent, is_call, failing_by, answered_by, tells_failure, one_if, less, room_of, room_behind, begins_by_failing, has_listened_in_vain, newest_given, is_failed_log, IsAnswer, faults_in}
+use Rattle.schedule_text.specs.Ranges.{IsBytes, IsEvent}
+use Rattle.schedule.specs.Steps.{Step, Call, Passed, Answered, Listened, AskedAtBadLine, AskedAtEnd, Writing, AreSteps, history_of, lines_of, is_skipped, unspent, one_if, room_of, room_behind, begins_by_failing, has_listened_in_vain, newest_given, is_failed_log, IsAnswer, faults_in}
 use Rattle.engine.specs.Right.{events_of, HasNoStop, HasFailedLog, IsStopped}
 use Rattle.resty.specs.Built.{IsBuiltEvent}
 use Rattle.resty.specs.Form.{IsServed, IsServedLine}
 
--- the line is an event that is built
+-- the line is an event that is built, within its ranges
 abbrev pub IsEventLine : SchedLine → Type 0
-IsEventLine (line.Given e) = IsBuiltEvent e
+IsEventLine (line.Given e) = IsBuiltEvent e × IsEvent e
 IsEventLine l = ⊥
 
 abbrev pub AreEventLines : List SchedLine → Type 0
@@ -100,9 +100,11 @@ never-fails c steps all is = absurd (let wrong : true ≡ false = is ∙ ap (nat
 never-waits : {C : Type 0} (x : Id) (steps : List Step) → AreEventLines (lines_of steps) → room_of x steps ≡ Some 0 → C
 never-waits x steps all is = absurd (let wrong : None ≡ Some 0 = sym (no-room x steps all) ∙ is in cc)
 
--- what a schedule makes of the entries that tell it: its events are built, writes are taken, and log lines written
+-- what a schedule makes of the entries that tell it: its events are built and within their ranges, writes are taken, which are bytes, and log
+-- lines are written
 abbrev pub IsToldEntry : Entry → Type 0
-IsToldEntry (entry.Given e) = IsBuiltEvent e
+IsToldEntry (entry.Given e) = IsBuiltEvent e × IsEvent e
+IsToldEntry (entry.Put i bytes) = IsBytes bytes
 IsToldEntry (entry.Later i) = ⊥
 IsToldEntry (entry.Lost i) = ⊥
 IsToldEntry (entry.Log who text written) = written ≡ true
@@ -112,7 +114,7 @@ abbrev pub AreToldEntries : List Entry → Type 0
 AreToldEntries [] = Unit {0}
 AreToldEntries (e ∷ h) = IsToldEntry e × AreToldEntries h
 
-told-line : (b : Bool) (e : Event) (h : List Entry) → IsBuiltEvent e → AreToldEntries h → AreToldEntries ((cond b [] (entry.Given e ∷ [])) ++ h)
+told-line : (b : Bool) (e : Event) (h : List Entry) → IsBuiltEvent e × IsEvent e → AreToldEntries h → AreToldEntries ((cond b [] (entry.Given e ∷ [])) ++ h)
 told-line true e h built told = told
 told-line false e h built told = (built, told)
 
@@ -128,7 +130,7 @@ entries-told schedule (Passed line.FailLog ∷ steps) all right = absurd (last-e
 entries-told schedule (Passed line.FailListen ∷ steps) all right = absurd (last-event (lines_of steps) line.FailListen all).1
 entries-told schedule (Passed (line.FailPut i) ∷ steps) all right = absurd (last-event (lines_of steps) (line.FailPut i) all).1
 entries-told schedule (Answered (entry.Given e) n ∷ steps) all right = absurd right.1.1
-entries-told schedule (Answered (entry.Put i bytes) n ∷ steps) all right = (tt, entries-told schedule steps all right.0)
+entries-told schedule (Answered (entry.Put i bytes) n ∷ steps) all right = (right.1.1.1, entries-told schedule steps all right.0)
 entries-told schedule (Answered (entry.Later i) n ∷ steps) all right = never-waits i steps all right.1.1
 entries-told schedule (Answered (entry.Lost i) n ∷ steps) all right = never-fails (Writing i) steps all right.1.0
 entries-told schedule (Answered (entry.Close i) n ∷ steps) all right = (tt, entries-told schedule steps all right.0)
@@ -298,16 +300,16 @@ few-events schedule (AskedAtEnd ∷ steps) right = few-events schedule steps rig
 
 -- a line that is served is an event that is built
 served-line : (before : List SchedLine) (l : SchedLine) → Fits before l → IsServedLine before l → IsEventLine l
-served-line before (line.Given (event.Arrive k)) fits served = let within = fits.ranged.1 in omega arith
-served-line before (line.Given (event.Bytes (id.Conn c) bytes)) fits served = let within = fits.ranged.0.1 in omega arith
+served-line before (line.Given (event.Arrive k)) fits served = (tt, fits.ranged)
+served-line before (line.Given (event.Bytes (id.Conn c) bytes)) fits served = (tt, fits.ranged)
 served-line before (line.Given (event.Bytes (id.Sock n) bytes)) fits served = absurd served
 served-line before (line.Given (event.Ended i)) fits served = absurd served
 served-line before (line.Given (event.Broken i)) fits served = absurd served
 served-line before (line.Given (event.Ready i)) fits served = absurd served
 served-line before (line.Given (event.Dialled n)) fits served = absurd served
 served-line before (line.Given (event.Refused n)) fits served = absurd served
-served-line before (line.Given (event.Moment t)) fits served = let within = fits.ranged in omega arith
-served-line before (line.Given event.Stop) fits served = tt
+served-line before (line.Given (event.Moment t)) fits served = (tt, fits.ranged)
+served-line before (line.Given event.Stop) fits served = (tt, tt)
 served-line before (line.Given event.Fault) fits served = absurd served
 served-line before (line.Given (event.BadLine n)) fits served = absurd served
 served-line before (line.Given event.Memory) fits served = absurd served

@@ -17,6 +17,11 @@ pub record Ends (words : List (List ℕ)) (files : Option FileMap) (faults : Fau
   pub due : IsDue (IsVerdict words) files faults ending
   pub line : Takes (line_in words ending) told failed told' failed'
 
+-- all verdicts of the same words and files are of one status
+abbrev pub AreOfOneStatus : Type 0
+AreOfOneStatus = (words : List (List ℕ)) (files : FileMap) (v w : Verdict) → IsVerdict words files v → IsVerdict words files w
+    → status_of (ending_of v) ≡ status_of (ending_of w)
+
 -- The status that a verdict brings: its own; but memory may be wanting, reading may fail, and so may the writing of a run.
 abbrev pub IsStatusBy : Faults → Verdict → Status → Type 0
 IsStatusBy faults v status.Memory = Unit {0}

@@ -5,6 +5,8 @@ use Rattle.resty_world.specs.declared.entry.Entry.{Entry}
 use Rattle.resty_world.specs.declared.entry.Entry.TheVariants as entry
 use Rattle.resty_world.specs.declared.schedule_line.SchedLine.{SchedLine}
 use Rattle.resty.specs.Built.{IsBuilt}
+use Rattle.schedule_text.specs.Accepted.{IsHistory, IsHistoryOf}
+use Rattle.schedule_text.specs.EntryTexts.{history_text}
 use Rattle.schedule.specs.Told.{IsTold}
 use Rattle.strand_contract.specs.Actions.{GlobalAction}
 use Rattle.strand_contract.specs.Behaviors.{Behavior}
@@ -13,7 +15,7 @@ use Rattle.strand_contract.specs.Order.{IsOrdered}
 use Rattle.engine.specs.Right.{IsStopped}
 
 -- The history of a run of these lines: it is that of one execution, which is lawful, kept, plain and ordered, it tells the
--- lines, and Stop was given last. Its entries are all built.
+-- lines, and Stop was given last. Its entries are all built, and within the ranges of the text.
 pub record IsRun {J : Type 0} (b : Behavior J) (lines : List SchedLine) (h : List Entry) : Type 0 where
   pub execution : List (GlobalAction J)
   pub history : h ≡ external b execution
@@ -24,6 +26,11 @@ pub record IsRun {J : Type 0} (b : Behavior J) (lines : List SchedLine) (h : Lis
   pub ordered : IsOrdered b execution
   pub stopped : IsStopped h
   pub built : All IsBuilt h
+  pub ranged : IsHistory h
+
+-- no other history has the text of this one
+abbrev pub IsKnownByItsText : List Entry → Type 0
+IsKnownByItsText h = (other : List Entry) → IsHistoryOf (history_text h) other → other ≡ h
 
 -- a strand was given up
 abbrev pub is_dropped : Entry → Bool

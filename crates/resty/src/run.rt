@@ -6,7 +6,7 @@ ghost use Rattle.strand.specs.Literal.{literal_behavior};
 
 use crate::server::serve;
 use engine::Ended;
-use schedule::{Replay, Schedule};
+use schedule::{Replay, Schedule, stop_ends_the_schedule};
 use std::alloc::{AllocError, Global};
 use strand::Site;
 
@@ -21,7 +21,10 @@ pub fn replayed(alloc: Global, site: Site, schedule: Schedule) -> Result<Replay,
 {
     let mut world = Replay::new(alloc, schedule);
     match serve(alloc, site, &mut world, EVENTS) {
-        Ended::Stopped => Ok(world),
+        Ended::Stopped => {
+            stop_ends_the_schedule();
+            Ok(world)
+        }
         Ended::Memory => Err(AllocError),
         Ended::Spent(_) => unreachable!(),
         Ended::WorldFault => unreachable!(),

@@ -8,6 +8,7 @@ ghost use Rattle.resty.specs.Writing.{Writes};
 
 use crate::command::names_of;
 use crate::endings::Status;
+use crate::laws::one_status;
 use crate::messages::{put_line, put_usage};
 use crate::work::work;
 use resty_base::{Files, Sink};
@@ -44,6 +45,7 @@ pub fn resty<F: Files, W: World, O: Sink, E: Sink>(
     ensures live { live.new ≡ live.old }
 {
     let _ = live;
+    one_status();
     let Some(names) = names_of(words) else {
         let _ = put_usage(err);
         return Status::Usage;

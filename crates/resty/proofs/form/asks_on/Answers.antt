@@ -1,7 +1,6 @@
-use Rattle.std.proofs.Common.{◌≡◌, ℕ, ◌-◌, ◌≤◌, ◌++◌, true, false, take, drop, nat_eq, length, length-drop, sym, ap, subst, ◌∙◌, arith}
+use Rattle.std.proofs.Common.{◌≡◌, ◌-◌, ◌++◌, true, false, take, drop, nat_eq, length, length-drop, sym, ap, subst, ◌∙◌, arith}
 use Rattle.std.specs.List.{starts_with}
 use Rattle.std.proofs.lemmas.List.{take_all}
-use Rattle.resty.specs.Asking.{sent_by}
 use Rattle.resty.specs.Form.{the_request, IsFirstPart}
 use Rattle.resty.proofs.AskingLemmas.{goes_with, goes_against, sent_by-at}
 use Rattle.resty.proofs.form.asks_on.Goals as goal

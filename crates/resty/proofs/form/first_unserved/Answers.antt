@@ -1,9 +1,5 @@
-use Rattle.std.proofs.Common.{◌≡◌, ℕ, ◌+◌, ◌<◌, ◌≤◌, inl, inr, List, length, take, Some, slice_get, refl, sym, ap, subst, ◌∙◌, arith}
-use Rattle.std.proofs.lemmas.Bool.{cases_lt}
-use Rattle.std.proofs.lemmas.List.{take_all}
+use Rattle.std.proofs.Common.{◌<◌, length, refl, ap, arith}
 use Rattle.std.proofs.lemmas.Option.{slice_get_read, slice_get_within}
-use Rattle.resty_world.specs.declared.schedule_line.SchedLine.{SchedLine}
-use Rattle.resty.specs.Form.{IsServedLine}
 use Rattle.resty.proofs.AskingLemmas.{served-more}
 use Rattle.resty.proofs.form.first_unserved.Goals as goal
 

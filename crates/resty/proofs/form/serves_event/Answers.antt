@@ -1,4 +1,4 @@
-use Rattle.std.proofs.Common.{◌≡◌, Some, slice_get, length, refl, ap, sym, ◌∙◌, arith, rules}
+use Rattle.std.proofs.Common.{◌≡◌, Some, slice_get, refl, ◌∙◌, rules}
 use Rattle.resty_base.specs.declared.names.Id.TheVariants as id
 use Rattle.resty_world.specs.declared.event.Event.TheVariants as event
 use Rattle.resty_world.specs.declared.schedule_line.SchedLine.TheVariants as line

@@ -23,4 +23,4 @@ pub returns-in-Stopped : goal.returns-in-Stopped
 returns-in-Stopped c =
     let told = tells c.args.schedule c.new-world.result c.serve.new.world c.new-world.ensures.fresh c.new-world.ensures.stands c.in-Stopped.ensures.same in
     let ended = c.in-Stopped.ensures.ended in
-    runs c.args.site c.args.schedule c.serve.new.world told c.requires.whole ended.0 c.in-Stopped.ensures.right
+    runs c.stop_ends_the_schedule.ensures c.args.site c.args.schedule c.serve.new.world told c.requires.whole ended.0 c.in-Stopped.ensures.right

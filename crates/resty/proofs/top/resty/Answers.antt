@@ -43,7 +43,7 @@ returns-in_default-clause-judged g c =
       out_before = g.O.Sink.faults c.args.out.now;
       out_after = g.O.Sink.faults c.args.out.now;
     } in
-    judged (texts c.args.words.now) (g.F.Files.told c.args.files.now) faults ending.Usage status.Usage refl
+    judged c.one_status.ensures (texts c.args.words.now) (g.F.Files.told c.args.files.now) faults ending.Usage status.Usage refl
     (usage_due (texts c.args.words.now) (g.F.Files.told c.args.files.now) c.in_default.ensures.none)
 
 pub returns-in_default-clause-complete : goal.returns-in_default-clause-complete
@@ -67,7 +67,7 @@ returns-clause-judged g c =
       out_before = g.O.Sink.faults c.args.out.now;
       out_after = g.O.Sink.faults c.work-ending.new.out;
     } in
-    judged words (g.F.Files.told c.args.files.now) faults c.work-ending.result c.status.result c.status.ensures
+    judged c.one_status.ensures words (g.F.Files.told c.args.files.now) faults c.work-ending.result c.status.result c.status.ensures
     (due_wider (IsOfFiles conf schedule) (IsVerdict words) (g.F.Files.told c.args.files.now) faults c.work-ending.result (verdict_of words conf schedule c.in-Some.ensures.some) c.work-ending.ensures.due)
 
 pub returns-clause-complete : goal.returns-clause-complete
