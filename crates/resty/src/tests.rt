@@ -126,6 +126,22 @@ fn what_is_not_built_is_refused_at_its_line(rt: HostRuntime) -> Result<(), Fail>
         ("arrive c1\nended c1\nstop\n", unserved),
         ("arrive c1\nbytes c1 \"X\"\nstop\n", unserved),
         ("arrive c1\nmoment 5\nstop\n", unserved),
+        (
+            "arrive c1\nbytes c1 \"GET / HTTP/1.0\\r\\n\\r\\n\\n\"\nstop\n",
+            unserved,
+        ),
+        (
+            "bytes c1 \"G\"\nstop\n",
+            "resty: t.sched: line 1: not built yet\n",
+        ),
+        (
+            "arrive c1\nbytes c1 \"G\"\nbytes c1 \"X\"\nstop\n",
+            "resty: t.sched: line 3: not built yet\n",
+        ),
+        (
+            "arrive c1\narrive c2\nbytes c1 \"G\"\nbytes c2 \"E\"\nstop\n",
+            "resty: t.sched: line 4: not built yet\n",
+        ),
         ("moment 1\nfail log\nstop\n", unserved),
         ("arrive c1\narrive c3\nstop\n", bad),
         ("arrive c1\n", bad),

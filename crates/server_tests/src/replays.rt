@@ -1,7 +1,13 @@
-use resty_base::{Bytes, Id, StrandId};
-use resty_world::{Dial, Event, Listened, Logged, World, Wrote};
+ghost use Rattle.std.specs.Prelude.{◌≡◌, true};
+ghost use Rattle.resty_base.specs.declared.names.Id.{Id};
+ghost use Rattle.resty_base.specs.declared.names.Id.TheVariants.{Conn};
+ghost use Rattle.schedule.specs.ReplayBook.{book_of};
+
+use resty_base::{Bytes, Id, Ms, StrandId};
+use resty_world::{Dial, Entry, Event, Listened, Logged, Noted, TimerAnswer, World, Wrote};
 use schedule::*;
 use std::alloc::{AllocError, Global};
+use std::process::Abort;
 use std::test::Fail;
 
 /// A call of the world.
@@ -163,5 +169,84 @@ fn a_schedule_says_what_its_world_answers(rt: HostRuntime) -> Result<(), Fail> {
     for (schedule, calls, told) in cases {
         assert_eq!(rt; played(rt.alloc(), schedule, calls)?.as_slice(), told);
     }
+    Ok(())
+}
+
+/// Each call of the world once, for a connection that is open.
+fn exchange(rt: &impl Abort, world: &mut Replay, alloc: Global, number: u64)
+    requires is_open { (book_of world.old).is_open (Conn number) ≡ true }
+{
+    let connection = Id::Conn(number);
+    let who = StrandId::Conn(number);
+    let host = [127, 0, 0, 1];
+    assert_eq!(rt; world.put_bytes(alloc, connection, b"HTTP"), Wrote::Took(4));
+    assert_eq!(rt; world.write_log(alloc, who, b"seen"), Logged::Done);
+    assert_eq!(rt; world.dial(alloc, who, host, 9000), Dial::Started(1));
+    note_jobs(rt, world, alloc, who);
+    world.hang_up(connection);
+    if let Dial::Started(socket) = world.dial(alloc, who, host, 9001) {
+        assert_eq!(rt; socket, 2);
+        world.hang_up(Id::Sock(socket));
+    }
+}
+
+/// Notes a start, and a job that is accepted and given up.
+fn note_jobs(rt: &impl Abort, world: &mut Replay, alloc: Global, who: StrandId)
+    ensures { (x : Id) → (book_of world.new).is_open x ≡ (book_of world.old).is_open x }
+{
+    if let Noted::Done = world.make_room(alloc) {
+        assert!(rt; world.note(Entry::Start(1)).is_none());
+    }
+    if let Noted::Done = world.make_room(alloc) {
+        assert!(rt;
+            world
+                .note(Entry::Timer(who, Ms(7), TimerAnswer::Job(2)))
+                .is_none()
+        );
+        assert!(rt; world.note(Entry::Dropped(StrandId::Job(2))).is_none());
+    }
+}
+
+#[test]
+fn a_world_gives_its_lines_and_tells_what_was_done(rt: HostRuntime) -> Result<(), Fail> {
+    let alloc = rt.alloc();
+    let schedule =
+        b"moment 1000\narrive c1\nbytes c1 \"GET /\"\nbytes c1 \" HTTP/1.0\\r\\n\\r\\n\"\nstop\n";
+    let mut world = Replay::new(alloc, schedule_of(alloc, schedule)?);
+    assert_eq!(rt; world.listen(alloc, 8080), Listened::Up);
+    assert_eq!(rt; world.next_event(alloc, None), Event::Moment(Ms(1000)));
+    match world.next_event(alloc, None) {
+        Event::Arrive(number) => {
+            assert_eq!(rt; number, 1);
+            exchange(&rt, &mut world, alloc, number);
+        }
+        _ => assert!(rt; false),
+    }
+    assert_eq!(rt; world.next_event(alloc, None), Event::Stop);
+    assert_eq!(rt; world.next_event(alloc, None), Event::Fault);
+    let expected =
+        b"moment 1000\narrive c1\nput c1 \"HTTP\"\nlog c1 \"seen\"\ndial c1 127.0.0.1 9000 s1\nstart t1\ntimer c1 7 = t2\ndropped t2\nclose c1\ndial c1 127.0.0.1 9001 s2\nclose s2\nstop\n";
+    assert_eq!(rt;
+        history_text(alloc, world.history())?.as_slice(),
+        expected.as_slice()
+    );
+    Ok(())
+}
+
+#[test]
+fn bytes_come_while_the_connection_is_open(rt: HostRuntime) -> Result<(), Fail> {
+    let alloc = rt.alloc();
+    let text = b"arrive c1\nbytes c1 \"GET\"\nstop\n";
+    let mut world = Replay::new(alloc, schedule_of(alloc, text)?);
+    assert_eq!(rt; world.next_event(alloc, None), Event::Arrive(1));
+    assert_eq!(rt;
+        world.next_event(alloc, None),
+        Event::Bytes(Id::Conn(1), Bytes::from_static(b"GET"))
+    );
+    assert_eq!(rt; world.next_event(alloc, None), Event::Stop);
+    assert_eq!(rt;
+        history_text(alloc, world.history())?.as_slice(),
+        text.as_slice()
+    );
     Ok(())
 }

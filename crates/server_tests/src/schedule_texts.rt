@@ -6,6 +6,7 @@ use std::process::Abort;
 use std::test::Fail;
 
 mod texts;
+mod values;
 
 use texts::{HISTORY, OTHER_ENTRIES, OTHER_LINES, SCHEDULE, WHOLE_HISTORY, WHOLE_SCHEDULE};
 
@@ -112,7 +113,9 @@ fn other_lines_are_refused(rt: HostRuntime) -> Result<(), Fail> {
 #[test]
 fn texts_are_refused_at_their_line(rt: HostRuntime) {
     let a = rt.alloc();
-    let schedules: [(u64, &[u8]); 16] = [
+    let schedules: [(u64, &[u8]); 18] = [
+        (0, b"arrive c1\nbytes c1 \"G\"\nbytes c1 \"ET \"\nstop\n"),
+        (2, b"moment 2\nmoment 1\nstop\n"),
         (1, b""),
         (1, b"stop"),
         (1, b"\nstop\n"),
@@ -133,7 +136,8 @@ fn texts_are_refused_at_their_line(rt: HostRuntime) {
     for (number, text) in schedules {
         assert_eq!(rt; no_schedule_at(a, text), number);
     }
-    let histories: [(u64, &[u8]); 9] = [
+    let histories: [(u64, &[u8]); 10] = [
+        (1, b"put c1 \"\r\"\n"),
         (0, b"stop\nmoment 2\nmoment 1\narrive c7\n"),
         (1, b"\n"),
         (1, b"stop\r\n"),
@@ -159,9 +163,15 @@ fn is_put(history: &History, bytes: &[u8]) -> bool {
 
 #[test]
 fn escapes_are_bytes(rt: HostRuntime) -> Result<(), Fail> {
-    match history_of(rt.alloc(), b"put c1 \"a\\x00\\n\\r\\\"\\\\\\x7f\\xff~ \"\n") {
-        Ok(history) => assert!(rt; is_put(&history, b"a\x00\n\r\"\\\x7f\xff~ ")),
-        Err(_) => assert!(rt; false),
+    let cases: [(&[u8], &[u8]); 2] = [
+        (b"put c1 \"a\\x00\"\n", b"a\x00"),
+        (
+            b"put c1 \"a\\x00\\n\\r\\\"\\\\\\x7f\\xff~ \"\n",
+            b"a\x00\n\r\"\\\x7f\xff~ ",
+        ),
+    ];
+    for (text, bytes) in cases {
+        assert!(rt; is_put(&history_of(rt.alloc(), text)?, bytes));
     }
     Ok(())
 }

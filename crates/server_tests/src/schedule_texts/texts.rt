@@ -20,6 +20,7 @@ later s7
 lost c1
 close s999999999999999999
 dial c1 0.0.0.0 0 s1
+dial c1 0.0.0.0 0 s999999999999999999
 dial t2 255.255.255.255 65535 failed
 log c1 "failed "
 log t1 failed "x"
@@ -35,6 +36,9 @@ dict c1 d incr "k" 1 0 0 = number 1
 dict c1 d incr "k" -3 -4 5 = number -7 forcible
 dict c1 d incr "k" 0 none = not a number
 dict c1 d incr "k" 999999999999999999 none = range
+dict c1 d incr "k" -999999999999999999 none = range
+dict c1 d incr "k" 0 999999999999999999 999999999999999999 = number 999999999999999999
+dict c1 d incr "k" 0 -999999999999999999 0 = number -999999999999999999
 dict c1 d flush_all = done
 dict c1 d flush_expired 0 = count 0
 dict c1 d flush_expired 4294967295 = count 4294967295
@@ -44,16 +48,23 @@ dict c1 d get_keys 2 = keys "a b" "" "\""
 dict c1 d get "k" = found "v" 0
 dict c1 d get "k" = found 0 4294967295
 dict c1 d get "k" = found true 1
+dict c1 d get "k" = found false 4294967295
 take c2 "127.0.0.1:9000" = none
+take c999999999999999999 "" = s999999999999999999 0
 take t2 "A" = s2 4294967295
 keep c2 s2 "A" 60000 30 = kept
+keep c2 s999999999999999999 "A" 0 0 = kept s999999999999999999
 keep t2 s3 "A = kept" 999999999999999999 4294967295 = kept s2
 timer c2 5 = t1
+timer t999999999999999999 5 = t999999999999999999
 timer t2 999999999999999999 = full
 timer c2 0 = exiting
 start t1
+start t999999999999999999
 turned c2
+turned c999999999999999999
 dropped t3
+dropped t999999999999999999
 dropped c999999999999999999
 "##;
 
@@ -143,6 +154,7 @@ bytes c1 "a"
 bytes c1  "a"
 bytes  c1 "a"
 bytes t1 "a"
+bytes c1000000000000000000 "a"
 bytes c1 "a"b"
 bytes c1 "\x41"
 bytes c1 "\x0A"
@@ -175,6 +187,7 @@ put c1 a
 later
 later t1
 lost c0
+lost s
 close s1000000000000000000
 dial c1 0.0.0 0 s1
 dial c1 0.0.0.0.0 0 s1
@@ -185,6 +198,7 @@ dial c1 0.0.0.256 0 s1
 dial c1 00.0.0.0 0 s1
 dial c1 0.0.0.0 65536 s1
 dial c1 0.0.0.0 0 s0
+dial c1 0.0.0.0 0 s1000000000000000000
 dial c1 0.0.0.0 0 c1
 dial c1 0.0.0.0 0 none
 dial s1 0.0.0.0 0 s1
@@ -196,6 +210,8 @@ log c1  "x"
 log c0 "x"
 log s1 "x"
 log c1 failed  "x"
+log c1000000000000000000 "x"
+log t1000000000000000000 "x"
 dict c1 d/e get "k" = none
 dict c1  get "k" = none
 dict c1 d get "k"
@@ -215,11 +231,18 @@ dict c1 d set "k" +1 0 0 = done
 dict c1 d set "k" 01 0 0 = done
 dict c1 d set "k" nil 0 0 = done
 dict c1 d set "k" True 0 0 = done
+dict c1 d add "k" "v" 0 = exists
+dict c1 d replace "k" 0 0 = missing
 dict c1 d delete "k" 0 = done
 dict c1 d incr "k" 1 = number 1
 dict c1 d incr "k" 1 none 0 = number 1
 dict c1 d incr "k" 1 0 = number 1
 dict c1 d incr "k" 1.5 none = number 1
+dict c1 d incr "k" 1000000000000000000 none = range
+dict c1 d incr "k" -1000000000000000000 none = range
+dict c1 d incr "k" 0 1000000000000000000 0 = range
+dict c1 d incr "k" 0 -1000000000000000000 0 = range
+dict c1 d incr "k" 0 0 1000000000000000000 = range
 dict c1 d flush_all 1 = done
 dict c1 d flush_expired = count 0
 dict c1 d flush_expired 4294967296 = count 0
@@ -237,23 +260,32 @@ dict c1 d get "k" = no memories
 dict c1 d get "k" = not a  number
 dict c1 d get "k" = number
 dict c1 d get "k" = number 1000000000000000000
+dict c1 d get "k" = number -1000000000000000000
+dict c1 d get "k" = exists 1
+dict c1 d get "k" = missing forcible
+dict c1 d get "k" = ranges
+dict c1 d get "k" = count
 dict c1 d get "k" = none 
 dict c1 d push "k" = none
 dict c1 d = none
 take c1 "A" = none 0
 take c1 "A" = s1
 take c1 "A" = s0 1
+take c1 "A" = s1000000000000000000 1
 take c1 "A" = s1 4294967296
 take c1 A = none
 take s1 "A" = none
 keep c1 c1 "A" 0 0 = kept
 keep c1 s0 "A" 0 0 = kept
+keep c1 s1000000000000000000 "A" 0 0 = kept
 keep c1 s1 "A" 1000000000000000000 0 = kept
 keep c1 s1 "A" 0 4294967296 = kept
 keep c1 s1 "A" 0 0 = kept s0
+keep c1 s1 "A" 0 0 = kept s1000000000000000000
 keep c1 s1 "A" 0 0 = kept 
 keep c1 s1 "A" 0 0
 timer c1 0 = t0
+timer c1 0 = t1000000000000000000
 timer c1 0 = 1
 timer c1 1000000000000000000 = full
 timer c1 0 = never
@@ -261,10 +293,15 @@ timer c1 0
 start 1
 start t0
 start c1
+start t01
+start t1000000000000000000
 turned t1
 turned c0
+turned c1000000000000000000
 dropped s1
 dropped c0
+dropped c1000000000000000000
+dropped t1000000000000000000
 dropped"##;
 
 /// Lines with which no schedule begins.
@@ -274,13 +311,22 @@ arrive c01
 arrive c2
 bytes c1 ""
 bytes c1 "\x41"
+bytes c1 "\x0A"
+bytes  c1 "a"
+bytes c1000000000000000000 "a"
 ended c0
+ended c1000000000000000000
 broken x1
 ready c1 
 dialled c1
 refused s0
+dialled s1000000000000000000
+refused s1000000000000000000
 moment 100000000000000
 moment 01
+moment +1
+moment 1 
+moment  1
 room c1
 room c0 1
 room c1 01
@@ -291,13 +337,22 @@ room c1  all
 room c1 any
 room c1 all 
 room t1 all
+room c1000000000000000000 all
+ stop
+stop 
+Stop
 fail
 fail 
 fail nexts
 fail Next
+fail dials
+fail log c1
+fail Listen
+fail listen 
 fail put
 fail put c0
 fail put t1
+fail put s1000000000000000000
 fail  put c1
 put c1 "a"
 later c1
