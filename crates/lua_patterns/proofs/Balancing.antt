@@ -1,77 +1,18 @@
--- How far '%b' reaches, from the suffixes of a text.
-use Rattle.std.proofs.Common.{◌≡◌, ℕ, zero, suc, ◌+◌, ◌-◌, ◌<◌, ◌≤◌, min, true, false, List, [], ◌∷◌, ◌++◌, length, get_or, drop, Option, Some, None, option_map, refl, sym, ◌∙◌, ap, arith, add-one, drop-cons, eq-eqb}
+-- Where '%b' matches, from the suffixes of a text.
+use Rattle.std.proofs.Common.{◌≡◌, ℕ, zero, suc, ◌+◌, ◌-◌, ◌<◌, ◌≤◌, min, true, false, List, [], ◌∷◌, ◌++◌, length, get_or, drop, Option, Some, None, refl, sym, ◌∙◌, ap, arith, subst, Ok, Err, nat_cmp, drop-cons, eq-eqb, ◌⊎◌, inl, inr, ◌^◌, length-drop}
 use Rattle.std.specs.Prelude.{◌==◌, if◌then◌else◌}
 use Rattle.std.proofs.lemmas.Bool.{ne_eqb, cases_lt}
+use Rattle.std.proofs.lemmas.List.{drop_all, length-append}
+use Rattle.std.proofs.lemmas.Option.{slice_get-get_or, slice_get_within, get_or_from_slice_get}
+use Rattle.std.proofs.lemmas.List.Sorted.{searched}
+use Rattle.std.specs.List.{slice_get}
+use Rattle.std.specs.List.Sorted.{IsBinarySearchResult}
+use Rattle.std.specs.Option.{MatchOption}
 use Rattle.std.proofs.Math.ListN.{get_or-append}
 use Rattle.std.proofs.Math.Seq.{get_or-append_seam}
-use Rattle.std.proofs.Common.{◌⊎◌, inl, inr, ◌^◌}
-use Rattle.std.proofs.lemmas.List.{drop_all, length-append}
-use Rattle.std.proofs.Common.{length-drop}
 use Rattle.lua_patterns.specs.Trails.{closing_len, balanced_len, one_more}
 use Rattle.lua_patterns.specs.declared.balance.Pair.{Pair}
-use Rattle.lua_patterns.specs.Balance.{AreLens, AreRight}
-
--- what lies behind so many bytes
-abbrev pub and_then : Option ℕ → (ℕ → Option ℕ) → Option ℕ
-and_then None f = None
-and_then (Some n) f = f n
-
-abbrev pub more_by : ℕ → Option ℕ → Option ℕ
-more_by n o = option_map (λ m. m + n) o
-
-more_by-one : (n : ℕ) (o : Option ℕ) → one_more (more_by n o) ≡ more_by (n + 1) o
-more_by-one n None = refl
-more_by-one n (Some m) = ap Some (omega arith)
-
--- what lies behind, one byte later
-shift : (o c b x : ℕ) (xs : List ℕ) (found : Option ℕ)
-    → one_more (and_then found (λ n. more_by n (closing_len o c b (drop n xs))))
-    ≡ and_then (one_more found) (λ n. more_by n (closing_len o c b (drop n (x ∷ xs))))
-shift o c b x xs None = refl
-shift o c b x xs (Some n) = more_by-one n (closing_len o c b (drop n xs)) ∙ ap (λ k. more_by (n + 1) (closing_len o c b (drop k (x ∷ xs)))) (sym (add-one n))
-
--- where a pair closes, what is open around it goes on
-pub nested : (o c a b : ℕ) (text : List ℕ)
-    → closing_len o c (a + suc b) text ≡ and_then (closing_len o c a text) (λ n. more_by n (closing_len o c b (drop n text)))
-unfolding closing_len
-nested o c a b [] = refl
-nested o c zero b (x ∷ xs) =
-    let depth : zero + suc b ≡ suc b = omega arith in
-    let deeper : 1 + suc b ≡ suc (suc b) = omega arith in
-    rw depth (elim (x == c) as (λ t. one_more (closing_len o c (if t then b else if x == o then suc (suc b) else suc b) xs) ≡ and_then (if t then Some 1 else one_more (closing_len o c (if x == o then 1 else 0) xs)) (λ n. more_by n (closing_len o c b (drop n (x ∷ xs))))) [
-      | true ↦ refl
-      | false ↦ elim (x == o) as (λ u. one_more (closing_len o c (if u then suc (suc b) else suc b) xs) ≡ and_then (one_more (closing_len o c (if u then 1 else 0) xs)) (λ n. more_by n (closing_len o c b (drop n (x ∷ xs))))) [
-        | true ↦ ap (λ d. one_more (closing_len o c d xs)) (sym deeper) ∙ ap one_more (nested o c 1 b xs) ∙ shift o c b x xs (closing_len o c 1 xs)
-        | false ↦ ap (λ d. one_more (closing_len o c d xs)) (sym depth) ∙ ap one_more (nested o c 0 b xs) ∙ shift o c b x xs (closing_len o c 0 xs)
-      ]
-    ])
-nested o c (suc a) b (x ∷ xs) =
-    let depth : suc a + suc b ≡ suc (a + suc b) = omega arith in
-    let same : suc a + suc b ≡ suc (a + suc b) = omega arith in
-    let deeper : suc (suc a) + suc b ≡ suc (suc (a + suc b)) = omega arith in
-    rw depth (elim (x == c) as (λ t. one_more (closing_len o c (if t then a + suc b else if x == o then suc (suc (a + suc b)) else suc (a + suc b)) xs) ≡ and_then (one_more (closing_len o c (if t then a else if x == o then suc (suc a) else suc a) xs)) (λ n. more_by n (closing_len o c b (drop n (x ∷ xs))))) [
-      | true ↦ ap one_more (nested o c a b xs) ∙ shift o c b x xs (closing_len o c a xs)
-      | false ↦ elim (x == o) as (λ u. one_more (closing_len o c (if u then suc (suc (a + suc b)) else suc (a + suc b)) xs) ≡ and_then (one_more (closing_len o c (if u then suc (suc a) else suc a) xs)) (λ n. more_by n (closing_len o c b (drop n (x ∷ xs))))) [
-        | true ↦ ap (λ d. one_more (closing_len o c d xs)) (sym deeper) ∙ ap one_more (nested o c (suc (suc a)) b xs) ∙ shift o c b x xs (closing_len o c (suc (suc a)) xs)
-        | false ↦ ap (λ d. one_more (closing_len o c d xs)) (sym same) ∙ ap one_more (nested o c (suc a) b xs) ∙ shift o c b x xs (closing_len o c (suc a) xs)
-      ]
-    ])
-
--- a byte in front of a text
-pub front_closes : (o c x : ℕ) (text : List ℕ) → x ≡ c → closing_len o c 0 (x ∷ text) ≡ Some 1
-unfolding closing_len
-front_closes o c x text is = rw (eq-eqb x c is) refl
-
-pub front_other : (o c x : ℕ) (text : List ℕ) → (x ≡ c → ⊥) → (x ≡ o → ⊥) → closing_len o c 0 (x ∷ text) ≡ one_more (closing_len o c 0 text)
-unfolding closing_len
-front_other o c x text other another = rw (ne_eqb x c other, ne_eqb x o another) refl
-
-pub front_opens : (o c x : ℕ) (text : List ℕ) → (x ≡ c → ⊥) → x ≡ o
-    → closing_len o c 0 (x ∷ text) ≡ one_more (and_then (closing_len o c 0 text) (λ n. more_by n (closing_len o c 0 (drop n text))))
-unfolding closing_len
-front_opens o c x text other is =
-    let one : 0 + suc 0 ≡ 1 = omega arith in
-    rw (ne_eqb x c other, eq-eqb x o is) (ap (λ d. one_more (closing_len o c d text)) (sym one) ∙ ap one_more (nested o c 0 0 text))
+use Rattle.lua_patterns.specs.Balance.{AreWaiting, AreMatches, IsRightOf, AreRight}
 
 within_more : (found : Option ℕ) (n l : ℕ) → one_more found ≡ Some n → ((m : ℕ) → found ≡ Some m → m ≤ l) → n ≤ suc l
 within_more None n l is known = cc
@@ -91,132 +32,286 @@ closing_within o c (suc d) (x ∷ xs) n is =
     within_more (closing_len o c (if x == c then d else if x == o then suc (suc d) else suc d) xs) n (length xs) is
     (closing_within o c (if x == c then d else if x == o then suc (suc d) else suc d) xs)
 
--- nothing closes behind a byte that closes nothing
-pub front_none : (o c x : ℕ) (text : List ℕ) → (x ≡ c → ⊥) → closing_len o c 0 text ≡ None → closing_len o c 0 (x ∷ text) ≡ None
+-- a byte in front of a text
+closes_first : (o c x : ℕ) (text : List ℕ) → x ≡ c → closing_len o c 0 (x ∷ text) ≡ Some 1
 unfolding closing_len
-front_none o c x text other none =
-    rw (ne_eqb x c other) (elim (x == o) as (λ u. one_more (closing_len o c (if u then 1 else 0) text) ≡ None) [
-      | true ↦ (let one : 0 + suc 0 ≡ 1 = omega arith in ap (λ d. one_more (closing_len o c d text)) (sym one) ∙ ap one_more (nested o c 0 0 text) ∙ ap (λ found. one_more (and_then found (λ n. more_by n (closing_len o c 0 (drop n text))))) none)
-      | false ↦ ap one_more none
-    ])
+closes_first o c x text is = rw (eq-eqb x c is) refl
 
--- what the last of the lengths says
-last_known : (o c : ℕ) (text : List ℕ) (lens : List (Option ℕ)) → AreLens o c text lens → get_or lens (length lens - 1) None ≡ closing_len o c 0 text
-last_known o c text lens are =
-    let last : length lens - 1 ≡ length text = omega (arith, are.all) in
-    let none : length text - length text ≡ 0 = omega arith in
-    rw last (are.each (length text) (omega arith) ∙ ap (λ k. closing_len o c 0 (drop k text)) none)
-
-pub before_none : (o c x : ℕ) (text : List ℕ) (lens : List (Option ℕ)) → AreLens o c text lens → (x ≡ c → ⊥) → get_or lens (length lens - 1) None ≡ None
-    → None ≡ closing_len o c 0 (x ∷ text)
-before_none o c x text lens are other none = sym (front_none o c x text other (sym (last_known o c text lens are) ∙ none))
-
-pub before_other : (o c x : ℕ) (text : List ℕ) (lens : List (Option ℕ)) (n r : ℕ) → AreLens o c text lens → length lens < 2 ^ 63 → (x ≡ c → ⊥) → (x ≡ o → ⊥)
-    → get_or lens (length lens - 1) None ≡ Some n → r ≡ min (n + 1) 18446744073709551615 → Some r ≡ closing_len o c 0 (x ∷ text)
-before_other o c x text lens n r are small other another last is =
-    let found = sym (last_known o c text lens are) ∙ last in
-    let within = closing_within o c 0 text n found in
-    let same : r ≡ n + 1 = omega (arith, is, within, are.all, small) in
-    rw same (sym (front_other o c x text other another ∙ ap one_more found))
-
--- the inner pair, and what stands behind it
-behind_known : (o c : ℕ) (text : List ℕ) (lens : List (Option ℕ)) (n m : ℕ) → AreLens o c text lens → n ≤ length text → m ≡ min n (length lens - 1)
-    → get_or lens (length lens - 1 - m) None ≡ closing_len o c 0 (drop n text)
-behind_known o c text lens n m are within is =
-    let place : length lens - 1 - m ≡ length text - n = omega (arith, are.all, is) in
-    let back : length text - (length text - n) ≡ n = omega (arith, within) in
-    rw place (are.each (length text - n) (omega arith) ∙ ap (λ k. closing_len o c 0 (drop k text)) back)
-
-pub outer_none : (o c x : ℕ) (text : List ℕ) (lens : List (Option ℕ)) (n m : ℕ) → AreLens o c text lens → (x ≡ c → ⊥) → x ≡ o
-    → get_or lens (length lens - 1) None ≡ Some n → m ≡ min n (length lens - 1) → get_or lens (length lens - 1 - m) None ≡ None
-    → None ≡ closing_len o c 0 (x ∷ text)
-outer_none o c x text lens n m are other is last size none =
-    let found = sym (last_known o c text lens are) ∙ last in
-    let within = closing_within o c 0 text n found in
-    let behind = sym (behind_known o c text lens n m are within size) ∙ none in
-    sym (front_opens o c x text other is ∙ ap (λ f. one_more (and_then f (λ k. more_by k (closing_len o c 0 (drop k text))))) found ∙ ap (λ f. one_more (more_by n f)) behind)
-
-pub outer_some : (o c x : ℕ) (text : List ℕ) (lens : List (Option ℕ)) (n m k r q : ℕ) → AreLens o c text lens → length lens < 2 ^ 63 → (x ≡ c → ⊥) → x ≡ o
-    → get_or lens (length lens - 1) None ≡ Some n → m ≡ min n (length lens - 1) → get_or lens (length lens - 1 - m) None ≡ Some k
-    → q ≡ min (n + k) 18446744073709551615 → r ≡ min (q + 1) 18446744073709551615
-    → Some r ≡ closing_len o c 0 (x ∷ text)
-outer_some o c x text lens n m k r q are small other is last size some sum all =
-    let found = sym (last_known o c text lens are) ∙ last in
-    let within = closing_within o c 0 text n found in
-    let behind = sym (behind_known o c text lens n m are within size) ∙ some in
-    let further = closing_within o c 0 (drop n text) k behind in
-    let same : r ≡ k + n + 1 = omega (arith, sum, all, within, further, length-drop n text, are.all, small) in
-    rw same (sym (front_opens o c x text other is ∙ ap (λ f. one_more (and_then f (λ j. more_by j (closing_len o c 0 (drop j text))))) found ∙ ap (λ f. one_more (more_by n f)) behind))
-
--- the lengths of an empty text, and of a text with one byte more
-pub lens_none : (o c : ℕ) (text : List ℕ) → length text ≡ 0 → AreLens o c text (None ∷ [])
+closes_later : (o c x n : ℕ) (text : List ℕ) → x ≡ c → closing_len o c (suc n) (x ∷ text) ≡ one_more (closing_len o c n text)
 unfolding closing_len
-lens_none o c [] none = record { all = omega arith; each = λ k within. (let zero_only : k ≡ 0 = omega arith in rw zero_only refl) }
-lens_none o c (x ∷ xs) none = absurd (omega arith)
+closes_later o c x n text is = rw (eq-eqb x c is) refl
 
-lens_each : (o c x : ℕ) (text : List ℕ) (lens : List (Option ℕ)) (new : Option ℕ) → AreLens o c text lens → new ≡ closing_len o c 0 (x ∷ text)
-    → (k : ℕ) → k ≤ length (x ∷ text) → (k < length lens) ⊎ (length lens ≤ k) → get_or (lens ++ new ∷ []) k None ≡ closing_len o c 0 (drop (length (x ∷ text) - k) (x ∷ text))
-lens_each o c x text lens new are is k within (inl less) =
-    let place : length (x ∷ text) - k ≡ suc (length text - k) = omega (arith, are.all, less) in
-    rw (get_or-append lens (new ∷ []) None k less, place) (are.each k (omega (arith, are.all, less)))
-lens_each o c x text lens new are is k within (inr most) =
-    let last : k ≡ length lens = omega (arith, are.all, within, most) in
-    let none : length (x ∷ text) - length lens ≡ 0 = omega (arith, are.all) in
-    rw (last, none, get_or-append_seam lens new [] None) is
+opens : (o c x n : ℕ) (text : List ℕ) → (x ≡ c → ⊥) → x ≡ o → closing_len o c n (x ∷ text) ≡ one_more (closing_len o c (suc n) text)
+unfolding closing_len
+opens o c x zero text other is = rw (ne_eqb x c other, eq-eqb x o is) refl
+opens o c x (suc n) text other is = rw (ne_eqb x c other, eq-eqb x o is) refl
 
-pub lens_more : (o c x : ℕ) (text : List ℕ) (lens : List (Option ℕ)) (new : Option ℕ) → AreLens o c text lens → new ≡ closing_len o c 0 (x ∷ text)
-    → AreLens o c (x ∷ text) (lens ++ new ∷ [])
-lens_more o c x text lens new are is = record {
-  all = omega (arith, are.all, length-append lens (new ∷ []));
-  each = λ k within. lens_each o c x text lens new are is k within (cases_lt k (length lens));
+passes : (o c x n : ℕ) (text : List ℕ) → (x ≡ c → ⊥) → (x ≡ o → ⊥) → closing_len o c n (x ∷ text) ≡ one_more (closing_len o c n text)
+unfolding closing_len
+passes o c x zero text other another = rw (ne_eqb x c other, ne_eqb x o another) refl
+passes o c x (suc n) text other another = rw (ne_eqb x c other, ne_eqb x o another) refl
+
+-- what stands last, and what stood before it
+at_seam : (xs : List ℕ) (y i : ℕ) → i ≡ length xs → get_or (xs ++ y ∷ []) i 0 ≡ y
+at_seam xs y i is = ap (λ k. get_or (xs ++ y ∷ []) k 0) is ∙ get_or-append_seam xs y [] 0
+
+before_seam : (xs : List ℕ) (y i j : ℕ) → i ≡ j → j < length xs → get_or (xs ++ y ∷ []) i 0 ≡ get_or xs j 0
+before_seam xs y i j is within = ap (λ k. get_or (xs ++ y ∷ []) k 0) is ∙ get_or-append xs (y ∷ []) 0 j within
+
+-- a closing byte waits
+pushed_within : (s l : ℕ) (ends : List ℕ) → s ≤ suc l → ((i : ℕ) → i < length ends → get_or ends i 0 ≤ l)
+    → (i : ℕ) → i < length (ends ++ s ∷ []) → (i < length ends) ⊎ (length ends ≤ i) → get_or (ends ++ s ∷ []) i 0 ≤ suc l
+pushed_within s l ends most within i less (inl inner) = omega (arith, before_seam ends s i i refl inner, within i inner)
+pushed_within s l ends most within i less (inr last) =
+    let at : i ≡ length ends = omega (arith, less, last, length-append ends (s ∷ [])) in omega (arith, at_seam ends s i at, most)
+
+closes_answered : (o c x s : ℕ) (text ends : List ℕ) → s ≡ length text + 1 → x ≡ c → AreWaiting o c text ends
+    → (n : ℕ) → n < length (ends ++ s ∷ []) → closing_len o c n (x ∷ text) ≡ Some (length (x ∷ text) - get_or (ends ++ s ∷ []) (length (ends ++ s ∷ []) - n - 1) 0 + 1)
+closes_answered o c x s text ends size is are zero less =
+    let last : length (ends ++ s ∷ []) - zero - 1 ≡ length ends = omega (arith, length-append ends (s ∷ [])) in
+    closes_first o c x text is ∙ ap Some (omega (arith, size, at_seam ends s (length (ends ++ s ∷ []) - zero - 1) last))
+closes_answered o c x s text ends size is are (suc n) less =
+    let place : length (ends ++ s ∷ []) - suc n - 1 ≡ length ends - n - 1 = omega (arith, length-append ends (s ∷ [])) in
+    let inner : n < length ends = omega (arith, length-append ends (s ∷ []), less) in
+    let first : length ends - n - 1 < length ends = omega (arith, inner) in
+    closes_later o c x n text is ∙ ap one_more (are.answered n inner)
+    ∙ ap Some (omega (arith, are.within (length ends - n - 1) first, before_seam ends s (length (ends ++ s ∷ []) - suc n - 1) (length ends - n - 1) place first))
+
+closes_unanswered : (o c x s : ℕ) (text ends : List ℕ) → x ≡ c → AreWaiting o c text ends
+    → (n : ℕ) → length (ends ++ s ∷ []) ≤ n → closing_len o c n (x ∷ text) ≡ None
+closes_unanswered o c x s text ends is are zero most = absurd (omega (arith, length-append ends (s ∷ []), most))
+closes_unanswered o c x s text ends is are (suc n) most =
+    closes_later o c x n text is ∙ ap one_more (are.unanswered n (omega (arith, length-append ends (s ∷ []), most)))
+
+pub wait_closes : (o c x s : ℕ) (text ends new : List ℕ) → s ≡ length text + 1 → x ≡ c → new ≡ ends ++ s ∷ [] → AreWaiting o c text ends → AreWaiting o c (x ∷ text) new
+wait_closes o c x s text ends new size is put are = rw put (record {
+  within = λ i less. pushed_within s (length text) ends (omega (arith, size)) are.within i less (cases_lt i (length ends));
+  answered = closes_answered o c x s text ends size is are;
+  unanswered = closes_unanswered o c x s text ends is are;
+})
+
+pub popped_len : (taken : Option ℕ) (before after : ℕ) → MatchOption taken ((before ≡ 0) × (after ≡ 0)) (λ _. after + 1 ≡ before) → after ≡ before - 1
+popped_len None before after both = omega (arith, both.0, both.1)
+popped_len (Some e) before after fewer = omega (arith, fewer)
+
+-- an opening byte takes the one that waits nearest
+pub wait_opens : (o c x : ℕ) (text ends new rest : List ℕ) → (x ≡ c → ⊥) → x ≡ o → ends ≡ new ++ rest → length new ≡ length ends - 1
+    → AreWaiting o c text ends → AreWaiting o c (x ∷ text) new
+wait_opens o c x text ends new rest other is parts shorter are =
+    let same : (i : ℕ) → i < length new → get_or new i 0 ≡ get_or ends i 0 = λ i less. sym (ap (λ l. get_or l i 0) parts ∙ get_or-append new rest 0 i less) in
+    record {
+      within = λ i less. omega (arith, same i less, are.within i (omega (arith, less, shorter)));
+      answered = λ n less.
+          let inner : suc n < length ends = omega (arith, less, shorter) in
+          let place : length ends - suc n - 1 ≡ length new - n - 1 = omega (arith, shorter) in
+          let first : length new - n - 1 < length new = omega (arith, less) in
+          let found : get_or ends (length ends - suc n - 1) 0 ≡ get_or new (length new - n - 1) 0 = ap (λ k. get_or ends k 0) place ∙ sym (same (length new - n - 1) first) in
+          let below : get_or ends (length ends - suc n - 1) 0 ≤ length text = are.within (length ends - suc n - 1) (omega (arith, inner)) in
+          opens o c x n text other is ∙ ap one_more (are.answered (suc n) inner) ∙ ap Some (omega (arith, found, below));
+      unanswered = λ n most. opens o c x n text other is ∙ ap one_more (are.unanswered (suc n) (omega (arith, shorter, most)));
+    }
+
+-- any other byte leaves them as they are
+pub wait_passes : (o c x : ℕ) (text ends : List ℕ) → (x ≡ c → ⊥) → (x ≡ o → ⊥) → AreWaiting o c text ends → AreWaiting o c (x ∷ text) ends
+wait_passes o c x text ends other another are = record {
+  within = λ i less. omega (arith, are.within i less);
+  answered = λ n less.
+      let below : get_or ends (length ends - n - 1) 0 ≤ length text = are.within (length ends - n - 1) (omega (arith, less)) in
+      passes o c x n text other another ∙ ap one_more (are.answered n less) ∙ ap Some (omega (arith, below));
+  unanswered = λ n most. passes o c x n text other another ∙ ap one_more (are.unanswered n most);
 }
 
--- the first byte of what stands at a place, and what stands behind it
-pub known_none : (o c : ℕ) (subject : List ℕ) (place : ℕ) → length subject ≤ place → None ≡ balanced_len o c (drop place subject)
-known_none o c subject place behind = rw (drop_all place subject behind) refl
+-- nothing waits in an empty text
+pub wait_none : (o c : ℕ) (text ends : List ℕ) → length text ≡ 0 → ends ≡ [] → AreWaiting o c text ends
+unfolding closing_len
+wait_none o c [] ends empty none = rw none (record { within = λ i less. absurd (omega (arith, less)); answered = λ n less. absurd (omega (arith, less)); unanswered = λ n most. refl })
+wait_none o c (x ∷ xs) ends empty none = absurd (omega (arith, empty))
 
-pub known_other : (o c : ℕ) (subject : List ℕ) (place : ℕ) → place < length subject → (get_or subject place 0 ≡ o → ⊥) → None ≡ balanced_len o c (drop place subject)
-known_other o c subject place within other = rw (drop-cons subject place 0, ne_eqb (get_or subject place 0) o other) refl
+-- what stands behind a byte more
+drop_front : (x k : ℕ) (text : List ℕ) → k ≤ length text → drop (length (x ∷ text) - k) (x ∷ text) ≡ drop (length text - k) text
+drop_front x k text within =
+    let place : length (x ∷ text) - k ≡ suc (length text - k) = omega (arith, within) in rw place refl
 
-known_behind : (o c : ℕ) (subject : List ℕ) (lens : List (Option ℕ)) (place : ℕ) → AreLens o c subject lens → place < length subject
-    → get_or lens (length subject - place - 1) None ≡ closing_len o c 0 (drop (suc place) subject)
-known_behind o c subject lens place are within =
-    let back : length subject - (length subject - place - 1) ≡ suc place = omega (arith, within) in
-    are.each (length subject - place - 1) (omega arith) ∙ ap (λ k. closing_len o c 0 (drop k subject)) back
+whole_front : (x k : ℕ) (text : List ℕ) → k ≡ suc (length text) → drop (length (x ∷ text) - k) (x ∷ text) ≡ x ∷ text
+whole_front x k text is =
+    let place : length (x ∷ text) - k ≡ 0 = omega (arith, is) in rw place refl
 
-pub known_open : (o c : ℕ) (subject : List ℕ) (lens : List (Option ℕ)) (place : ℕ) → AreLens o c subject lens → place < length subject → get_or subject place 0 ≡ o
-    → get_or lens (length subject - place - 1) None ≡ None → None ≡ balanced_len o c (drop place subject)
-known_open o c subject lens place are within is none =
-    rw (drop-cons subject place 0, eq-eqb (get_or subject place 0) o is) (sym (ap one_more (sym (known_behind o c subject lens place are within) ∙ none)))
+-- where nothing matches at the front
+front_elsewhere : (o c x : ℕ) (text suffixes lens : List ℕ) → balanced_len o c (x ∷ text) ≡ None → AreMatches o c text suffixes lens
+    → (k : ℕ) → k ≤ length (x ∷ text) → ((i : ℕ) → i < length suffixes → get_or suffixes i 0 ≡ k → ⊥) → (k < suc (length text)) ⊎ (suc (length text) ≤ k)
+    → balanced_len o c (drop (length (x ∷ text) - k) (x ∷ text)) ≡ None
+front_elsewhere o c x text suffixes lens none are k within other (inl inner) =
+    ap (balanced_len o c) (drop_front x k text (omega (arith, inner))) ∙ are.elsewhere k (omega (arith, inner)) other
+front_elsewhere o c x text suffixes lens none are k within other (inr most) =
+    ap (balanced_len o c) (whole_front x k text (omega (arith, within, most))) ∙ none
 
-pub known_some : (o c : ℕ) (subject : List ℕ) (lens : List (Option ℕ)) (place n r : ℕ) → AreLens o c subject lens → place < length subject → get_or subject place 0 ≡ o
-    → length subject < 2 ^ 64 → get_or lens (length subject - place - 1) None ≡ Some n → r ≡ min (n + 1) 18446744073709551615 → Some r ≡ balanced_len o c (drop place subject)
-known_some o c subject lens place n r are within is small some sum =
-    let found = sym (known_behind o c subject lens place are within) ∙ some in
-    let least = closing_within o c 0 (drop (suc place) subject) n found in
-    let same : r ≡ n + 1 = omega (arith, sum, least, length-drop (suc place) subject, within, small) in
-    rw (same, drop-cons subject place 0, eq-eqb (get_or subject place 0) o is) (sym (ap one_more found))
+pub reach_none : (o c x : ℕ) (text suffixes lens : List ℕ) → balanced_len o c (x ∷ text) ≡ None → AreMatches o c text suffixes lens → AreMatches o c (x ∷ text) suffixes lens
+reach_none o c x text suffixes lens none are = record {
+  both = are.both;
+  rising = are.rising;
+  within = λ i less. omega (arith, are.within i less);
+  taken = λ i less. ap (balanced_len o c) (drop_front x (get_or suffixes i 0) text (are.within i less)) ∙ are.taken i less;
+  elsewhere = λ k within other. front_elsewhere o c x text suffixes lens none are k within other (cases_lt k (suc (length text)));
+}
 
-pub lens_start : (o c : ℕ) (subject : List ℕ) (before pushed : List (Option ℕ)) → before ≡ [] → pushed ≡ before ++ None ∷ []
-    → AreLens o c (drop (length subject) subject) pushed
-lens_start o c subject before pushed empty put =
-    rw (put, empty) (lens_none o c (drop (length subject) subject) (omega (arith, length-drop (length subject) subject)))
+-- the one that waits nearest
+pub last_none : (ends : List ℕ) → slice_get ends (length ends - 1) ≡ None → length ends ≡ 0
+last_none [] none = refl
+last_none (x ∷ xs) none =
+    let some = slice_get-get_or (x ∷ xs) (length (x ∷ xs) - 1) 0 (omega arith) in cc
 
-pub lens_step : (o c : ℕ) (subject : List ℕ) (left : ℕ) (lens pushed : List (Option ℕ)) (new : Option ℕ) → 0 < left → left ≤ length subject
-    → AreLens o c (drop left subject) lens → new ≡ closing_len o c 0 (get_or subject (left - 1) 0 ∷ drop left subject) → pushed ≡ lens ++ new ∷ []
-    → AreLens o c (drop (left - 1) subject) pushed
-lens_step o c subject left lens pushed new some within are is put =
-    let next : suc (left - 1) ≡ left = omega arith in
-    let first : left - 1 < length subject = omega arith in
-    rw (put, drop-cons subject (left - 1) 0, next) (lens_more o c (get_or subject (left - 1) 0) (drop left subject) lens new are is)
+pub last_some : (ends : List ℕ) (e : ℕ) → slice_get ends (length ends - 1) ≡ Some e → (0 < length ends) × (get_or ends (length ends - 1) 0 ≡ e)
+last_some ends e found = (omega (arith, slice_get_within ends (length ends - 1) e found), get_or_from_slice_get ends (length ends - 1) e 0 found)
+
+-- one match more, at the front
+module _ (o c x r s : ℕ) (text suffixes lens : List ℕ) (size : s ≡ length text + 1) (takes : balanced_len o c (x ∷ text) ≡ Some r) (are : AreMatches o c text suffixes lens) where
+  more_within : (i : ℕ) → i < length (suffixes ++ s ∷ []) → (i < length suffixes) ⊎ (length suffixes ≤ i) → get_or (suffixes ++ s ∷ []) i 0 ≤ length (x ∷ text)
+  more_within i less (inl inner) = omega (arith, before_seam suffixes s i i refl inner, are.within i inner)
+  more_within i less (inr most) =
+      let last : i ≡ length suffixes = omega (arith, less, most, length-append suffixes (s ∷ [])) in omega (arith, at_seam suffixes s i last, size)
+
+  more_rising : (i j : ℕ) → i ≤ j → j < length (suffixes ++ s ∷ []) → (i < length suffixes) ⊎ (length suffixes ≤ i) → (j < length suffixes) ⊎ (length suffixes ≤ j)
+      → get_or (suffixes ++ s ∷ []) i 0 ≤ get_or (suffixes ++ s ∷ []) j 0
+  more_rising i j up less (inl one) (inl other) =
+      omega (arith, before_seam suffixes s i i refl one, before_seam suffixes s j j refl other, are.rising i j up other)
+  more_rising i j up less (inl one) (inr most) =
+      let last : j ≡ length suffixes = omega (arith, less, most, length-append suffixes (s ∷ [])) in
+      omega (arith, before_seam suffixes s i i refl one, at_seam suffixes s j last, are.within i one, size)
+  more_rising i j up less (inr first) (inl other) = absurd (omega (arith, up, first, other))
+  more_rising i j up less (inr first) (inr most) =
+      let same : i ≡ length suffixes = omega (arith, up, less, first, length-append suffixes (s ∷ [])) in
+      let last : j ≡ length suffixes = omega (arith, less, most, length-append suffixes (s ∷ [])) in
+      omega (arith, at_seam suffixes s i same, at_seam suffixes s j last)
+
+  more_taken : (i : ℕ) → i < length (suffixes ++ s ∷ []) → (i < length suffixes) ⊎ (length suffixes ≤ i)
+      → balanced_len o c (drop (length (x ∷ text) - get_or (suffixes ++ s ∷ []) i 0) (x ∷ text)) ≡ Some (get_or (lens ++ r ∷ []) i 0)
+  more_taken i less (inl inner) =
+      let place = before_seam suffixes s i i refl inner in
+      let len = before_seam lens r i i refl (omega (arith, are.both, inner)) in
+      ap (λ k. balanced_len o c (drop (length (x ∷ text) - k) (x ∷ text))) place ∙ ap (balanced_len o c) (drop_front x (get_or suffixes i 0) text (are.within i inner))
+      ∙ are.taken i inner ∙ ap Some (sym len)
+  more_taken i less (inr most) =
+      let last : i ≡ length suffixes = omega (arith, less, most, length-append suffixes (s ∷ [])) in
+      let beside : i ≡ length lens = omega (arith, last, are.both) in
+      let whole : s ≡ suc (length text) = omega (arith, size) in
+      ap (λ k. balanced_len o c (drop (length (x ∷ text) - k) (x ∷ text))) (at_seam suffixes s i last) ∙ ap (balanced_len o c) (whole_front x s text whole)
+      ∙ takes ∙ ap Some (sym (at_seam lens r i beside))
+
+  more_elsewhere : (k : ℕ) → k ≤ length (x ∷ text) → ((i : ℕ) → i < length (suffixes ++ s ∷ []) → get_or (suffixes ++ s ∷ []) i 0 ≡ k → ⊥) → (k < suc (length text)) ⊎ (suc (length text) ≤ k)
+      → balanced_len o c (drop (length (x ∷ text) - k) (x ∷ text)) ≡ None
+  more_elsewhere k within other (inl inner) =
+      ap (balanced_len o c) (drop_front x k text (omega (arith, inner)))
+      ∙ are.elsewhere k (omega (arith, inner)) (λ i less is. other i (omega (arith, less, length-append suffixes (s ∷ []))) (before_seam suffixes s i i refl less ∙ is))
+  more_elsewhere k within other (inr most) =
+      let whole : s ≡ k = omega (arith, size, within, most) in
+      absurd (other (length suffixes) (omega (arith, length-append suffixes (s ∷ []))) (at_seam suffixes s (length suffixes) refl ∙ whole))
+
+  more : AreMatches o c (x ∷ text) (suffixes ++ s ∷ []) (lens ++ r ∷ [])
+  more = record {
+    both = omega (arith, are.both, length-append suffixes (s ∷ []), length-append lens (r ∷ []));
+    rising = λ i j up less. more_rising i j up less (cases_lt i (length suffixes)) (cases_lt j (length suffixes));
+    within = λ i less. more_within i less (cases_lt i (length suffixes));
+    taken = λ i less. more_taken i less (cases_lt i (length suffixes));
+    elsewhere = λ k within other. more_elsewhere k within other (cases_lt k (suc (length text)));
+  }
+
+-- what '%b' takes at a byte in front
+takes_first : (o c x : ℕ) (text : List ℕ) → x ≡ o → balanced_len o c (x ∷ text) ≡ one_more (closing_len o c 0 text)
+takes_first o c x text is = rw (eq-eqb x o is) refl
+
+pub takes_none : (o c x : ℕ) (text ends : List ℕ) → x ≡ o → length ends ≡ 0 → AreWaiting o c text ends → balanced_len o c (x ∷ text) ≡ None
+takes_none o c x text ends is none are = takes_first o c x text is ∙ ap one_more (are.unanswered 0 (omega (arith, none)))
+
+pub takes_other : (o c x : ℕ) (text : List ℕ) → (x ≡ o → ⊥) → balanced_len o c (x ∷ text) ≡ None
+takes_other o c x text other = rw (ne_eqb x o other) refl
+
+pub reach_more : (o c x s e q r : ℕ) (text ends suffixes lens new beside : List ℕ) → s ≡ length text + 1 → length text < 2 ^ 63 → x ≡ o → 0 < length ends → get_or ends (length ends - 1) 0 ≡ e
+    → q ≡ s - e → r ≡ min (q + 1) 18446744073709551615 → new ≡ suffixes ++ s ∷ [] → beside ≡ lens ++ r ∷ []
+    → AreWaiting o c text ends → AreMatches o c text suffixes lens → AreMatches o c (x ∷ text) new beside
+reach_more o c x s e q r text ends suffixes lens new beside size small is some last less sum put put_beside waiting are =
+    let place : length ends - 0 - 1 ≡ length ends - 1 = omega arith in
+    let end : get_or ends (length ends - 0 - 1) 0 ≡ e = ap (λ k. get_or ends k 0) place ∙ last in
+    let below : get_or ends (length ends - 0 - 1) 0 ≤ length text = waiting.within (length ends - 0 - 1) (omega (arith, some)) in
+    let takes : balanced_len o c (x ∷ text) ≡ Some r = takes_first o c x text is ∙ ap one_more (waiting.answered 0 some) ∙ ap Some (omega (arith, size, small, end, below, less, sum)) in
+    rw (put, put_beside) (more o c x r s text suffixes lens size takes are)
+
+-- nothing matches in an empty text
+pub reach_empty : (o c : ℕ) (text suffixes lens : List ℕ) → length text ≡ 0 → suffixes ≡ [] → lens ≡ [] → AreMatches o c text suffixes lens
+reach_empty o c [] suffixes lens empty none none_beside = rw (none, none_beside) (record {
+  both = refl;
+  rising = λ i j up less. absurd (omega (arith, less));
+  within = λ i less. absurd (omega (arith, less));
+  taken = λ i less. absurd (omega (arith, less));
+  elsewhere = λ k within other. (let zero_only : k ≡ 0 = omega (arith, within) in rw zero_only refl);
+})
+reach_empty o c (x ∷ xs) suffixes lens empty none none_beside = absurd (omega (arith, empty))
+
+-- one step towards the front of a subject
+pub front_of : (subject : List ℕ) (left : ℕ) → 0 < left → left ≤ length subject → drop (left - 1) subject ≡ get_or subject (left - 1) 0 ∷ drop left subject
+front_of subject left some within =
+    let next : suc (left - 1) ≡ left = omega (arith, some) in
+    let first : left - 1 < length subject = omega (arith, some, within) in
+    drop-cons subject (left - 1) 0 first ∙ ap (λ k. get_or subject (left - 1) 0 ∷ drop k subject) next
+
+-- no length passes the text's
+balanced_within : (o c : ℕ) (text : List ℕ) (n : ℕ) → balanced_len o c text ≡ Some n → n ≤ length text
+balanced_within o c [] n is = cc
+balanced_within o c (x ∷ xs) n is =
+    (elim (x == o) as (λ t. (if t then one_more (closing_len o c 0 xs) else None) ≡ Some n → n ≤ length (x ∷ xs)) [
+      | true ↦ (λ more. within_more (closing_len o c 0 xs) n (length xs) more (closing_within o c 0 xs))
+      | false ↦ (λ none. cc)
+    ]) is
+
+-- what a search among the suffixes says
+pub search_found : (looked suffixes : List ℕ) (s at : ℕ) → looked ≡ suffixes → IsBinarySearchResult (λ y. nat_cmp y s) looked (Ok at)
+    → ((i j : ℕ) → i ≤ j → j < length suffixes → get_or suffixes i 0 ≤ get_or suffixes j 0) → (at < length suffixes) × (get_or suffixes at 0 ≡ s)
+search_found looked suffixes s at same answer up = searched suffixes s (Ok at) (subst (λ l. IsBinarySearchResult (λ y. nat_cmp y s) l (Ok at)) same answer) up
+
+pub search_missed : (looked suffixes : List ℕ) (s at : ℕ) → looked ≡ suffixes → IsBinarySearchResult (λ y. nat_cmp y s) looked (Err at)
+    → ((i j : ℕ) → i ≤ j → j < length suffixes → get_or suffixes i 0 ≤ get_or suffixes j 0)
+    → ((k : ℕ) → k < at → get_or suffixes k 0 < s) × ((k : ℕ) → at ≤ k → k < length suffixes → s < get_or suffixes k 0)
+search_missed looked suffixes s at same answer up =
+    let all = searched suffixes s (Err at) (subst (λ l. IsBinarySearchResult (λ y. nat_cmp y s) l (Err at)) same answer) up in (all.1, all.2)
+
+-- what is known of a place
+place_of : (subject : List ℕ) (place s : ℕ) → s ≡ length subject - place → place ≤ length subject → length subject - s ≡ place
+place_of subject place s is within = omega (arith, is, within)
+
+pub known_some : (o c place s at : ℕ) (subject suffixes lens : List ℕ) → AreMatches o c subject suffixes lens → s ≡ length subject - place → place ≤ length subject
+    → at < length suffixes → get_or suffixes at 0 ≡ s → Some (get_or lens at 0) ≡ balanced_len o c (drop place subject)
+known_some o c place s at subject suffixes lens are is within inside same =
+    sym (ap (λ k. balanced_len o c (drop k subject)) (sym (ap (λ k. length subject - k) same ∙ place_of subject place s is within)) ∙ are.taken at inside)
+
+pub known_within : (o c place s at : ℕ) (subject suffixes lens : List ℕ) → AreMatches o c subject suffixes lens → s ≡ length subject - place → place ≤ length subject
+    → length subject < 2 ^ 64 → at < length suffixes → get_or suffixes at 0 ≡ s → place + get_or lens at 0 < 2 ^ 64
+known_within o c place s at subject suffixes lens are is within small inside same =
+    let least = balanced_within o c (drop place subject) (get_or lens at 0) (sym (known_some o c place s at subject suffixes lens are is within inside same)) in
+    omega (arith, least, length-drop place subject, within, small)
+
+pub known_none : (o c place s at : ℕ) (subject suffixes lens : List ℕ) → AreMatches o c subject suffixes lens → s ≡ length subject - place → place ≤ length subject
+    → ((k : ℕ) → k < at → get_or suffixes k 0 < s) → ((k : ℕ) → at ≤ k → k < length suffixes → s < get_or suffixes k 0) → None ≡ balanced_len o c (drop place subject)
+known_none o c place s at subject suffixes lens are is within before behind =
+    sym (ap (λ k. balanced_len o c (drop k subject)) (sym (place_of subject place s is within))
+    ∙ are.elsewhere s (omega (arith, is)) (λ i less same. apart i less same (cases_lt i at)))
+  where
+    apart : (i : ℕ) → i < length suffixes → get_or suffixes i 0 ≡ s → (i < at) ⊎ (at ≤ i) → ⊥
+    apart i less same (inl first) = omega (arith, same, before i first)
+    apart i less same (inr last) = omega (arith, same, behind i last less)
+
+pub known_beyond : (o c : ℕ) (subject : List ℕ) (place : ℕ) → length subject < place → None ≡ balanced_len o c (drop place subject)
+known_beyond o c subject place behind = rw (drop_all place subject (omega (arith, behind))) refl
 
 -- nothing is kept yet
 pub no_pairs : (subject : List ℕ) (pairs : List Pair) → pairs ≡ [] → AreRight subject pairs
 no_pairs subject pairs none = λ i d within. absurd (omega (arith, ap length none, within))
 
-pub known_within : (o c : ℕ) (subject : List ℕ) (lens : List (Option ℕ)) (place n r : ℕ) → AreLens o c subject lens → place < length subject
-    → length subject < 2 ^ 64 → get_or lens (length subject - place - 1) None ≡ Some n → r ≡ min (n + 1) 18446744073709551615 → place + r < 2 ^ 64
-known_within o c subject lens place n r are within small some sum =
-    let found = sym (known_behind o c subject lens place are within) ∙ some in
-    let least = closing_within o c 0 (drop (suc place) subject) n found in
-    omega (arith, sum, least, length-drop (suc place) subject, within, small)
+-- one pair more
+more_right_at : (subject : List ℕ) (pairs : List Pair) (pair : Pair) → AreRight subject pairs → IsRightOf subject pair
+    → (i : ℕ) (d : Pair) → i < length (pairs ++ pair ∷ []) → (i < length pairs) ⊎ (length pairs ≤ i) → IsRightOf subject (get_or (pairs ++ pair ∷ []) i d)
+more_right_at subject pairs pair are is i d less (inl inner) = subst (IsRightOf subject) (sym (get_or-append pairs (pair ∷ []) d i inner)) (are i d inner)
+more_right_at subject pairs pair are is i d less (inr most) =
+    let last : i ≡ length pairs = omega (arith, less, most, length-append pairs (pair ∷ [])) in
+    subst (IsRightOf subject) (sym (ap (λ k. get_or (pairs ++ pair ∷ []) k d) last ∙ get_or-append_seam pairs pair [] d)) is
+
+pub more_right : (subject : List ℕ) (pairs new : List Pair) (pair : Pair) → new ≡ pairs ++ pair ∷ [] → AreRight subject pairs → IsRightOf subject pair → AreRight subject new
+more_right subject pairs new pair put are is = rw put (λ i d less. more_right_at subject pairs pair are is i d less (cases_lt i (length pairs)))

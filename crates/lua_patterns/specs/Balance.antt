@@ -1,15 +1,32 @@
--- How far '%b' reaches from each place of a subject, kept for one opening and one closing byte.
-use Rattle.std.specs.Prelude.{◌≡◌, ℕ, ◌+◌, ◌-◌, ◌<◌, ◌≤◌, List, drop, length, slice_index_or, Option, None}
+-- Where '%b' matches in a subject, kept for one opening and one closing byte.
+use Rattle.std.specs.Prelude.{◌≡◌, ◌≢◌, ℕ, ◌+◌, ◌-◌, ◌<◌, ◌≤◌, List, drop, length, slice_index_or, Some, None}
 use Rattle.lua_patterns.specs.declared.balance.Pair.{Pair}
-use Rattle.lua_patterns.specs.Trails.{closing_len}
+use Rattle.lua_patterns.specs.Trails.{closing_len, balanced_len}
 
--- for each suffix, by its length, how many bytes stand up to the closing byte that answers an opening one before it
-pub record AreLens (opening closing : ℕ) (text : List ℕ) (lens : List (Option ℕ)) : Type 0 where
-  pub all : length lens ≡ length text + 1
-  pub each : (k : ℕ) → k ≤ length text → slice_index_or lens k None ≡ closing_len opening closing 0 (drop (length text - k) text)
+-- the closing bytes of a text that no opening byte before them has taken, the first one last: the n-th from the end answers
+-- an opening byte before the text when n others are open. Each stands for the length of the suffix that it begins
+pub record AreWaiting (opening closing : ℕ) (text ends : List ℕ) : Type 0 where
+  pub within : (i : ℕ) → i < length ends → slice_index_or ends i 0 ≤ length text
+  pub answered : (n : ℕ) → n < length ends → closing_len opening closing n text ≡ Some (length text - slice_index_or ends (length ends - n - 1) 0 + 1)
+  pub unanswered : (n : ℕ) → length ends ≤ n → closing_len opening closing n text ≡ None
+
+-- the suffixes of a text at which '%b' takes bytes, by their lengths, from the shortest on, and how many it takes; at no other
+-- it takes any
+pub record AreMatches (opening closing : ℕ) (text suffixes lens : List ℕ) : Type 0 where
+  pub both : length lens ≡ length suffixes
+  pub rising : (i j : ℕ) → i ≤ j → j < length suffixes → slice_index_or suffixes i 0 ≤ slice_index_or suffixes j 0
+  pub within : (i : ℕ) → i < length suffixes → slice_index_or suffixes i 0 ≤ length text
+  pub taken : (i : ℕ) → i < length suffixes → balanced_len opening closing (drop (length text - slice_index_or suffixes i 0) text) ≡ Some (slice_index_or lens i 0)
+  pub elsewhere : (k : ℕ) → k ≤ length text → ((i : ℕ) → i < length suffixes → slice_index_or suffixes i 0 ≢ k) → balanced_len opening closing (drop (length text - k) text) ≡ None
+
+-- a pair is right about a text
+abbrev pub IsRightOf : List ℕ → Pair → Type 0
+IsRightOf text pair = AreMatches pair.opening pair.closing text pair.suffixes.items pair.lens.items
+
+-- it is that of these bytes, and right
+abbrev pub IsRight : ℕ → ℕ → List ℕ → Pair → Type 0
+IsRight opening closing text pair = (pair.opening ≡ opening) × (pair.closing ≡ closing) × IsRightOf text pair
 
 -- each pair is right about the subject
 abbrev pub AreRight : List ℕ → List Pair → Type 0
-AreRight subject pairs =
-    (i : ℕ) (d : Pair) → i < length pairs
-    → let pair = slice_index_or pairs i d in AreLens pair.opening pair.closing subject pair.lens.items
+AreRight subject pairs = (i : ℕ) (d : Pair) → i < length pairs → IsRightOf subject (slice_index_or pairs i d)

@@ -1,19 +1,20 @@
-ghost use Rattle.std.specs.Prelude.{◌≡◌, ◌≤◌, ◌<◌, ◌+◌, ◌-◌, ◌^◌, ◌∷◌, ℕ, List, None, Some, OnOk, IfSome, IfOk, IfErr, drop, length, slice_index_or};
-ghost use Rattle.lua_patterns.specs.Trails.{closing_len, balanced_len};
-ghost use Rattle.lua_patterns.specs.Balance.{AreLens, AreRight};
+ghost use Rattle.std.specs.Prelude.{◌≡◌, ◌≤◌, ◌<◌, ◌+◌, ◌-◌, ◌^◌, ◌∷◌, ℕ, List, OnOk, IfSome, IfOk, IfErr, drop, length};
+ghost use Rattle.lua_patterns.specs.Trails.{balanced_len};
+ghost use Rattle.lua_patterns.specs.Balance.{AreWaiting, IsRight, IsRightOf, AreRight};
 
 use crate::PatFault;
 use crate::classes::from_place;
 use crate::matcher::balanced_len;
 use std::alloc::Global;
 
-/// How far `%b` reaches with an opening and a closing byte: for each suffix of the subject, by its length, how many
-/// bytes stand up to the closing byte that answers an opening one before it.
+/// Where `%b` matches with an opening and a closing byte: the suffixes of the subject at which it takes bytes, by their
+/// lengths, from the shortest on, and how many bytes it takes at each.
 #[derive(Drop)]
 pub(crate) struct Pair {
     pub opening: u8,
     pub closing: u8,
-    pub lens: Vec<Option<usize>>,
+    pub suffixes: Vec<usize>,
+    pub lens: Vec<usize>,
 }
 
 /// What is kept of the reach of `%b` during a search: how many bytes were gone through, and the pairs that were worth
@@ -24,62 +25,78 @@ pub(crate) struct Balance {
     pub pairs: Vec<Pair>,
 }
 
-/// How many bytes stand up to the closing byte, with one byte more in front of a text of which each suffix is known.
-fn len_before(lens: &[Option<usize>], byte: u8, opening: u8, closing: u8) -> Option<usize>
-    requires some { 0 < length lens.now }
-    requires small { length lens.now < 2 ^ 63 }
-    ensures { (text : List ℕ) → AreLens opening closing text lens.now → result ≡ closing_len opening closing 0 (byte ∷ text) }
-{
-    if byte == closing {
-        return Some(1);
-    }
-    let last = lens.len() - 1;
-    let inner = lens[last]?;
-    if byte != opening {
-        return Some(inner.saturating_add(1));
-    }
-    let outer = lens[last - inner.min(last)]?;
-    Some(inner.saturating_add(outer).saturating_add(1))
-}
-
-/// How far a pair reaches from each place.
-fn closing_lens(
-    alloc: Global,
-    subject: &[u8],
+/// Puts one byte more in front of a text that has these closing bytes that wait for an opening one. With it the text has
+/// `suffix` bytes.
+fn wait(
+    ends: &mut Vec<usize>,
+    byte: u8,
+    suffix: usize,
     opening: u8,
     closing: u8,
-) -> Result<Vec<Option<usize>>, PatFault>
-    ensures ok { IfOk result (λ lens. AreLens opening closing subject.now lens.items) }
+) -> Result<(), PatFault>
+    ensures ok { (text : List ℕ) → suffix ≡ length text + 1 → AreWaiting opening closing text ends.old.items → OnOk result (AreWaiting opening closing (byte ∷ text) ends.new.items) }
     ensures memory { IfErr result (λ fault. fault ≡ PatFault.Memory) }
 {
-    let mut lens = Vec::new(alloc);
-    lens.push(None)?;
-    let mut left = subject.len();
-    while left > 0 {
-        left -= 1;
-        let len = len_before(lens.as_slice(), subject[left], opening, closing);
-        lens.push(len)?;
+    if byte == closing {
+        ends.push(suffix)?;
+    } else if byte == opening {
+        let _ = ends.pop();
     }
-    Ok(lens)
+    Ok(())
 }
 
-/// How many bytes `%b` takes at a place, of a subject whose suffixes are known.
-fn known_len(
-    lens: &[Option<usize>],
-    subject: &[u8],
-    place: usize,
-    opening: u8,
-    closing: u8,
-) -> Option<usize>
-    requires { AreLens opening closing subject.now lens.now }
-    ensures value { result ≡ balanced_len opening closing (drop place subject.now) }
-    ensures within { IfSome result (λ n. place + n < 2 ^ 64) }
-{
-    if place >= subject.len() || subject[place] != opening {
-        return None;
+impl Pair {
+    /// Puts one byte more in front of a text that has these closing bytes that wait for an opening one. With it the text
+    /// has `suffix` bytes.
+    fn reach(&mut self, byte: u8, suffix: usize, ends: &[usize]) -> Result<(), PatFault>
+        ensures ok { (text : List ℕ) → suffix ≡ length text + 1 → length text < 2 ^ 63 → AreWaiting self.old.opening self.old.closing text ends.now → IsRightOf text self.old → OnOk result (IsRightOf (byte ∷ text) self.new) }
+        ensures same { OnOk result ((self.new.opening ≡ self.old.opening) × (self.new.closing ≡ self.old.closing)) }
+        ensures memory { IfErr result (λ fault. fault ≡ PatFault.Memory) }
+    {
+        if byte == self.opening {
+            if let Some(end) = ends.last() {
+                self.suffixes.push(suffix)?;
+                self.lens
+                    .push(suffix.saturating_sub(*end).saturating_add(1))?;
+            }
+        }
+        Ok(())
     }
-    let len = lens[subject.len() - place - 1]?;
-    Some(len.saturating_add(1))
+
+    /// Where the pair matches in a subject.
+    fn of(alloc: Global, subject: &[u8], opening: u8, closing: u8) -> Result<Pair, PatFault>
+        ensures right { IfOk result (IsRight opening closing subject.now) }
+        ensures memory { IfErr result (λ fault. fault ≡ PatFault.Memory) }
+    {
+        let mut pair = Pair {
+            opening,
+            closing,
+            suffixes: Vec::new(alloc),
+            lens: Vec::new(alloc),
+        };
+        let mut ends = Vec::new(alloc);
+        let mut left = subject.len();
+        while left > 0 {
+            left -= 1;
+            let suffix = subject.len() - left;
+            pair.reach(subject[left], suffix, ends.as_slice())?;
+            wait(&mut ends, subject[left], suffix, opening, closing)?;
+        }
+        Ok(pair)
+    }
+
+    /// How many bytes `%b` takes at a place of the subject.
+    fn len_at(&self, subject: &[u8], place: usize) -> Option<usize>
+        requires { IsRightOf subject.now self.now }
+        ensures value { result ≡ balanced_len self.now.opening self.now.closing (drop place subject.now) }
+        ensures within { IfSome result (λ n. place + n < 2 ^ 64) }
+    {
+        let suffix = subject.len().checked_sub(place)?;
+        match self.suffixes.binary_search(&suffix) {
+            Ok(at) => Some(self.lens[at]),
+            Err(_) => None,
+        }
+    }
 }
 
 /// The same, where the pair is among those that are kept.
@@ -96,7 +113,7 @@ fn kept_len(
 {
     for pair in pairs {
         if pair.opening == opening && pair.closing == closing {
-            return Some(known_len(&pair.lens, subject, place, pair.opening, pair.closing));
+            return Some(pair.len_at(subject, place));
         }
     }
     None
@@ -128,13 +145,9 @@ impl Balance {
         if let Some(len) = kept_len(&self.pairs, subject, place, opening, closing) {
             return Ok(len);
         }
-        let lens = closing_lens(alloc, subject, opening, closing)?;
-        let len = known_len(&lens, subject, place, opening, closing);
-        self.pairs.push(Pair {
-            opening,
-            closing,
-            lens,
-        })?;
+        let pair = Pair::of(alloc, subject, opening, closing)?;
+        let len = pair.len_at(subject, place);
+        self.pairs.push(pair)?;
         Ok(len)
     }
 }
