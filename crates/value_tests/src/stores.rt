@@ -1,305 +1,324 @@
+//! Tests of the store: scripts of calls with their answers.
+mod calls;
+mod values;
+
+use calls::first_wrong;
 use lua_values::*;
-use resty_base::{Bytes, whole};
 use std::alloc::Global;
 use std::test::Fail;
 
-fn number(n: i64) -> Result<Value, Fail> {
-    Ok(Value::Number(whole(n).ok_or("range")?))
-}
-
-fn text(alloc: Global, bytes: &[u8]) -> Result<Value, Fail> {
-    Ok(Value::Text(Bytes::copy_from_slice(alloc, bytes)?))
-}
-
 /// Keys of each kind, no two of which are equal.
-fn keys(alloc: Global) -> Result<Vec<Value>, Fail> {
-    let mut keys = Vec::new(alloc);
-    for key in [
-        Value::Truth(false),
-        Value::Truth(true),
-        number(1)?,
-        number(-1)?,
-        text(alloc, b"1")?,
-        text(alloc, b"")?,
-        Value::Table(1),
-        Value::Closure(1),
-        Value::Native(1),
-        Value::Thread(1),
-        Value::Null,
-        Value::Object(ObjectKind::Socket, 1),
-        Value::Object(ObjectKind::Reader, 1),
-        Value::Object(ObjectKind::Semaphore, 1),
-        Value::Object(ObjectKind::Zone, 1),
-        Value::Object(ObjectKind::Zone, 2),
-    ] {
-        keys.push(key)?;
-    }
-    Ok(keys)
-}
+const KEYS: &str = "\
+get 0 false = nil
+set 0 false 0 = ok
+get 0 true = nil
+set 0 true 1 = ok
+get 0 1 = nil
+set 0 1 2 = ok
+get 0 -1 = nil
+set 0 -1 3 = ok
+get 0 '1 = nil
+set 0 '1 4 = ok
+get 0 ' = nil
+set 0 ' 5 = ok
+get 0 table:1 = nil
+set 0 table:1 6 = ok
+get 0 closure:1 = nil
+set 0 closure:1 7 = ok
+get 0 native:1 = nil
+set 0 native:1 8 = ok
+get 0 thread:1 = nil
+set 0 thread:1 9 = ok
+get 0 null = nil
+set 0 null 10 = ok
+get 0 socket:1 = nil
+set 0 socket:1 11 = ok
+get 0 reader:1 = nil
+set 0 reader:1 12 = ok
+get 0 semaphore:1 = nil
+set 0 semaphore:1 13 = ok
+get 0 zone:1 = nil
+set 0 zone:1 14 = ok
+get 0 zone:2 = nil
+set 0 zone:2 15 = ok
+get 0 false = 0
+get 0 true = 1
+get 0 1 = 2
+get 0 -1 = 3
+get 0 '1 = 4
+get 0 ' = 5
+get 0 table:1 = 6
+get 0 closure:1 = 7
+get 0 native:1 = 8
+get 0 thread:1 = 9
+get 0 null = 10
+get 0 socket:1 = 11
+get 0 reader:1 = 12
+get 0 semaphore:1 = 13
+get 0 zone:1 = 14
+get 0 zone:2 = 15
+units = 544
+walk 0 = 0 1 2 3 4 5 6 7 8 9 10 11 12 13 14 15";
 
-/// The numbers that stand in a table, in the order of `next`.
-fn walk(alloc: Global, store: &Store, t: u32) -> Result<Vec<i64>, Fail> {
-    let mut numbers = Vec::new(alloc);
-    let mut key = Value::Nil;
-    for _ in 0..100 {
-        match store.next(t, &key) {
-            None => return Ok(numbers),
-            Some((next, Value::Number(value))) => {
-                numbers.push(value.get())?;
-                key = next.clone()?;
-            }
-            Some(_) => Err("a number was set")?,
-        }
-    }
-    Err("the walk goes on")?
-}
+/// Keys that are set to nil and again.
+const NIL_IN_PLACE: &str = "\
+set 0 'a 1 = ok
+walk 0 = 1
+set 0 'b 2 = ok
+walk 0 = 1 2
+set 0 'c 3 = ok
+walk 0 = 1 2 3
+set 0 'a nil = ok
+walk 0 = 2 3
+set 0 'd nil = ok
+walk 0 = 2 3
+set 0 'd 4 = ok
+walk 0 = 2 3 4
+set 0 'a 5 = ok
+walk 0 = 5 2 3 4
+set 0 'c nil = ok
+walk 0 = 5 2 4
+set 0 'd nil = ok
+walk 0 = 5 2
+units = 160
+next 0 'e = none
+next 0 'b = none
+next 7 nil = none";
+
+/// A walk in which each key that is met is set to nil.
+const EMPTIED: &str = "\
+set 0 1 1 = ok
+set 0 2 2 = ok
+set 0 3 3 = ok
+set 0 4 4 = ok
+set 0 5 5 = ok
+set 0 6 6 = ok
+set 0 7 7 = ok
+set 0 8 8 = ok
+set 0 9 9 = ok
+next 0 nil = 1 1
+set 0 1 nil = ok
+next 0 1 = 2 2
+set 0 2 nil = ok
+next 0 2 = 3 3
+set 0 3 nil = ok
+next 0 3 = 4 4
+set 0 4 nil = ok
+next 0 4 = 5 5
+set 0 5 nil = ok
+next 0 5 = 6 6
+set 0 6 nil = ok
+next 0 6 = 7 7
+set 0 7 nil = ok
+next 0 7 = 8 8
+set 0 8 nil = ok
+next 0 8 = 9 9
+set 0 9 nil = ok
+next 0 9 = none
+next 0 nil = none";
+
+/// What the border is as numbers are set and unset.
+const BORDERS: &str = "\
+set 0 2 1 = ok
+border 0 = 0
+set 0 3 1 = ok
+border 0 = 0
+set 0 1 1 = ok
+border 0 = 3
+set 0 5 1 = ok
+border 0 = 3
+set 0 4 1 = ok
+border 0 = 5
+set 0 2 nil = ok
+border 0 = 1
+set 0 0 1 = ok
+border 0 = 1
+set 0 -1 1 = ok
+border 0 = 1
+set 0 1 nil = ok
+border 0 = 0
+set 0 2 1 = ok
+border 0 = 0
+set 0 1 1 = ok
+border 0 = 5
+border 1 = 0";
+
+/// Each fault alone and two at once, of a table and a cell that are frozen, of others, and of what isn't there.
+const FAULTS: &str = "\
+set 0 1 1 = ok
+make_cell 1 = 0
+freeze
+make_table = 1
+make_cell nil = 1
+units = 128
+add_units 1048449 = full
+add_units 18446744073709551615 = full
+add_units 1048417 = ok
+set 0 nil 1 = bad key
+set 0 1 2 = frozen
+set 0 2 2 = frozen
+set 0 2 nil = frozen
+set 1 nil 2 = bad key
+set 1 nil nil = bad key
+set 1 1 2 = full
+set 1 1 nil = ok
+set 2 1 2 = ok
+set 2 nil nil = bad key
+make_table = full
+make_closure 0 = full
+make_cell nil = 2
+make_cell nil = full
+set_cell 0 null = frozen
+set_cell 1 null = ok
+set_cell 9 null = ok
+set_metatable 0 none = frozen
+set_metatable 1 0 = ok
+set_metatable 9 0 = ok
+metatable 0 = none
+metatable 1 = 0
+metatable 9 = none
+cell 0 = 1
+cell 1 = null
+cell 9 = nil";
+
+/// Units and steps up to their limits.
+const COUNTS: &str = "\
+units = 32
+steps = 0
+globals = 0
+make_cell nil = 0
+units = 48
+make_closure 7 0 0 = 0
+units = 96
+closure 0 = 7 0 0
+closure 1 = none
+add_units 1048440 = ok
+make_closure 8 0 0 = full
+make_closure 8 0 = 1
+units = 1048576
+add_steps 1
+steps = 1
+add_steps 999998
+steps = 999999
+add_steps 2
+steps = 1000000
+add_steps 18446744073709551615
+steps = 1000000
+clear_steps
+steps = 0
+set_globals 3
+globals = 3";
 
 #[test]
-fn each_key_has_its_own_place(rt: HostRuntime) -> Result<(), Fail> {
+fn scripts_give_their_answers(rt: HostRuntime) -> Result<(), Fail> {
     let alloc = rt.alloc();
-    let mut store = Store::new(alloc)?;
-    let keys = keys(alloc)?;
-    for (n, key) in keys.iter().enumerate() {
-        assert_eq!(rt; *store.get(0, key), Value::Nil);
-        assert_eq!(rt; store.set(0, key.clone()?, number(n as i64)?), Ok(()));
+    for script in [KEYS, NIL_IN_PLACE, EMPTIED, BORDERS, FAULTS, COUNTS] {
+        let mut store = Store::new(alloc)?;
+        assert_eq!(rt; first_wrong(alloc, &mut store, script)?, None);
     }
-    for (n, key) in keys.iter().enumerate() {
-        assert_eq!(rt; *store.get(0, key), number(n as i64)?);
-    }
-    assert_eq!(rt; store.units(), 32 + 16 * 32);
-    assert_eq!(rt; walk(alloc, &store, 0)?.len(), 16);
-    Ok(())
-}
-
-#[test]
-fn a_key_that_was_set_to_nil_keeps_its_place(rt: HostRuntime) -> Result<(), Fail> {
-    let alloc = rt.alloc();
-    let mut store = Store::new(alloc)?;
-    for (key, value, expected) in [
-        (b"a", Some(1), [1].as_slice()),
-        (b"b", Some(2), [1, 2].as_slice()),
-        (b"c", Some(3), [1, 2, 3].as_slice()),
-        (b"a", None, [2, 3].as_slice()),
-        (b"d", None, [2, 3].as_slice()),
-        (b"d", Some(4), [2, 3, 4].as_slice()),
-        (b"a", Some(5), [5, 2, 3, 4].as_slice()),
-        (b"c", None, [5, 2, 4].as_slice()),
-        (b"d", None, [5, 2].as_slice()),
-    ] {
-        let value = match value {
-            None => Value::Nil,
-            Some(n) => number(n)?,
-        };
-        assert_eq!(rt; store.set(0, text(alloc, key)?, value), Ok(()));
-        assert_eq!(rt; walk(alloc, &store, 0)?.as_slice(), expected);
-    }
-    assert_eq!(rt; store.units(), 32 + 4 * 32);
-    assert!(rt; store.next(0, &text(alloc, b"e")?).is_none());
-    assert!(rt; store.next(0, &text(alloc, b"b")?).is_none());
-    assert!(rt; store.next(7, &Value::Nil).is_none());
-    Ok(())
-}
-
-#[test]
-fn a_table_may_be_emptied_in_a_walk(rt: HostRuntime) -> Result<(), Fail> {
-    let alloc = rt.alloc();
-    let mut store = Store::new(alloc)?;
-    for n in 1..10 {
-        assert_eq!(rt; store.set(0, number(n)?, number(n)?), Ok(()));
-    }
-    let mut key = Value::Nil;
-    for n in 1..10 {
-        key = match store.next(0, &key) {
-            None => Err("the walk ends")?,
-            Some((next, value)) => {
-                assert_eq!(rt; *value, number(n)?);
-                next.clone()?
-            }
-        };
-        assert_eq!(rt; store.set(0, key.clone()?, Value::Nil), Ok(()));
-    }
-    assert!(rt; store.next(0, &key).is_none());
-    assert!(rt; store.next(0, &Value::Nil).is_none());
-    Ok(())
-}
-
-#[test]
-fn the_border_is_the_least(rt: HostRuntime) -> Result<(), Fail> {
-    let mut store = Store::new(rt.alloc())?;
-    for (key, value, expected) in [
-        (2, Some(1), 0),
-        (3, Some(1), 0),
-        (1, Some(1), 3),
-        (5, Some(1), 3),
-        (4, Some(1), 5),
-        (2, None, 1),
-        (0, Some(1), 1),
-        (-1, Some(1), 1),
-        (1, None, 0),
-        (2, Some(1), 0),
-        (1, Some(1), 5),
-    ] {
-        let value = match value {
-            None => Value::Nil,
-            Some(n) => number(n)?,
-        };
-        assert_eq!(rt; store.set(0, number(key)?, value), Ok(()));
-        assert_eq!(rt; store.border(0), expected, "{key}");
-    }
-    assert_eq!(rt; store.border(1), 0);
-    Ok(())
-}
-
-#[test]
-fn faults_come_in_their_order(rt: HostRuntime) -> Result<(), Fail> {
-    let mut store = Store::new(rt.alloc())?;
-    assert_eq!(rt; store.set(0, number(1)?, number(1)?), Ok(()));
-    assert_eq!(rt; store.make_cell(number(1)?), Ok(0));
-    store.freeze();
-    assert_eq!(rt; store.make_table(), Ok(1));
-    assert_eq!(rt; store.make_cell(Value::Nil), Ok(1));
-    let room = 1_048_576 - store.units();
-    assert_eq!(rt; store.add_units(room + 1), Err(StoreFault::Full));
-    assert_eq!(rt; store.add_units(u64::MAX), Err(StoreFault::Full));
-    assert_eq!(rt; store.add_units(room - 31), Ok(()));
-    for (t, key, value, expected) in [
-        (0, Value::Nil, number(1)?, Err(StoreFault::BadKey)),
-        (0, number(1)?, number(2)?, Err(StoreFault::Frozen)),
-        (0, number(2)?, number(2)?, Err(StoreFault::Frozen)),
-        (0, number(2)?, Value::Nil, Err(StoreFault::Frozen)),
-        (1, Value::Nil, number(2)?, Err(StoreFault::BadKey)),
-        (1, Value::Nil, Value::Nil, Err(StoreFault::BadKey)),
-        (1, number(1)?, number(2)?, Err(StoreFault::Full)),
-        (1, number(1)?, Value::Nil, Ok(())),
-        (2, number(1)?, number(2)?, Ok(())),
-        (2, Value::Nil, Value::Nil, Err(StoreFault::BadKey)),
-    ] {
-        assert_eq!(rt; store.set(t, key, value), expected);
-    }
-    assert_eq!(rt; store.make_table(), Err(StoreFault::Full));
-    assert_eq!(rt; store.make_closure(0, &[]), Err(StoreFault::Full));
-    assert_eq!(rt; store.make_cell(Value::Nil), Ok(2));
-    assert_eq!(rt; store.make_cell(Value::Nil), Err(StoreFault::Full));
-    assert_eq!(rt; store.set_cell(0, Value::Null), Err(StoreFault::Frozen));
-    assert_eq!(rt; store.set_cell(1, Value::Null), Ok(()));
-    assert_eq!(rt; store.set_cell(9, Value::Null), Ok(()));
-    assert_eq!(rt; store.set_metatable(0, None), Err(StoreFault::Frozen));
-    assert_eq!(rt; store.set_metatable(1, Some(0)), Ok(()));
-    assert_eq!(rt; store.set_metatable(9, Some(0)), Ok(()));
-    assert_eq!(rt;
-        (store.metatable(0), store.metatable(1), store.metatable(9)),
-        (None, Some(0), None)
-    );
-    assert_eq!(rt;
-        (store.cell(0), store.cell(1), store.cell(9)),
-        (&number(1)?, &Value::Null, &Value::Nil)
-    );
-    Ok(())
-}
-
-#[test]
-fn units_and_steps_are_counted_to_their_limits(rt: HostRuntime) -> Result<(), Fail> {
-    let mut store = Store::new(rt.alloc())?;
-    assert_eq!(rt; (store.units(), store.steps(), store.globals()), (32, 0, 0));
-    assert_eq!(rt; store.make_cell(Value::Nil), Ok(0));
-    assert_eq!(rt; store.units(), 48);
-    assert_eq!(rt; store.make_closure(7, &[0, 0]), Ok(0));
-    assert_eq!(rt; store.units(), 96);
-    assert_eq!(rt; store.closure(0), Some((7, [0, 0].as_slice())));
-    assert_eq!(rt; store.closure(1), None);
-    assert_eq!(rt; store.add_units(1_048_576 - 96 - 40), Ok(()));
-    assert_eq!(rt; store.make_closure(8, &[0, 0]), Err(StoreFault::Full));
-    assert_eq!(rt; store.make_closure(8, &[0]), Ok(1));
-    assert_eq!(rt; store.units(), 1_048_576);
-    for (n, expected) in [
-        (1, 1),
-        (999_998, 999_999),
-        (2, 1_000_000),
-        (u64::MAX, 1_000_000),
-    ] {
-        store.add_steps(n);
-        assert_eq!(rt; store.steps(), expected);
-    }
-    store.clear_steps();
-    assert_eq!(rt; store.steps(), 0);
-    store.set_globals(3);
-    assert_eq!(rt; store.globals(), 3);
     Ok(())
 }
 
 /// Two tables, the first of which has the other, and a closure, frozen; then a table that has itself, also as its
 /// metatable, and a cell.
-fn cycles(alloc: Global) -> Result<Store, Fail> {
-    let mut store = Store::new(alloc)?;
-    store.make_table()?;
-    store.set(0, Value::Null, Value::Table(1))?;
-    store.make_closure(3, &[0])?;
-    store.freeze();
-    store.make_table()?;
-    store.set(2, Value::Null, Value::Table(2))?;
-    store.set_metatable(2, Some(2))?;
-    store.make_cell(Value::Table(2))?;
-    store.set_type_metatable(TypeKind::Text, Some(1));
-    store.set_type_metatable(TypeKind::Object(ObjectKind::Zone), Some(2));
-    Ok(store)
-}
+const CYCLES: &str = "\
+make_table = 1
+set 0 null table:1 = ok
+make_closure 3 0 = 0
+freeze
+make_table = 2
+set 2 null table:2 = ok
+set_metatable 2 2 = ok
+make_cell table:2 = 0
+set_type_metatable text 1
+set_type_metatable zone 2";
+
+/// What a copy of them tells.
+const CYCLES_COPIED: &str = "\
+get 0 null = table:1
+get 2 null = table:2
+metatable 1 = none
+metatable 2 = 2
+closure 0 = 3 0
+cell 0 = table:2
+type_metatable text = 1
+type_metatable zone = 2
+type_metatable socket = none";
 
 #[test]
 fn a_copy_of_a_cycle_has_it(rt: HostRuntime) -> Result<(), Fail> {
-    let copy = cycles(rt.alloc())?.copy_store()?;
-    assert_eq!(rt; *copy.get(0, &Value::Null), Value::Table(1));
-    assert_eq!(rt; *copy.get(2, &Value::Null), Value::Table(2));
-    assert_eq!(rt; (copy.metatable(1), copy.metatable(2)), (None, Some(2)));
-    assert_eq!(rt; copy.closure(0), Some((3, [0].as_slice())));
-    assert_eq!(rt; *copy.cell(0), Value::Table(2));
-    for (kind, expected) in [
-        (TypeKind::Text, Some(1)),
-        (TypeKind::Object(ObjectKind::Zone), Some(2)),
-        (TypeKind::Object(ObjectKind::Socket), None),
-    ] {
-        assert_eq!(rt; copy.type_metatable(kind), expected);
-    }
+    let alloc = rt.alloc();
+    let mut store = Store::new(alloc)?;
+    assert_eq!(rt; first_wrong(alloc, &mut store, CYCLES)?, None);
+    let mut copy = store.copy_store()?;
+    assert_eq!(rt; first_wrong(alloc, &mut copy, CYCLES_COPIED)?, None);
     Ok(())
 }
+
+/// Writes to a copy.
+const COPY_WRITTEN: &str = "\
+set_metatable 1 0 = frozen
+set 0 null null = frozen
+set 2 null null = ok
+set_cell 0 nil = ok
+freeze";
+
+/// What was copied tells nothing of them.
+const STORE_AS_BEFORE: &str = "\
+get 2 null = table:2
+cell 0 = table:2
+set 2 null nil = ok";
+
+/// The copy tells nothing of what was written to the store behind it.
+const COPY_AS_BEFORE: &str = "\
+get 2 null = null
+set 2 null nil = frozen";
 
 #[test]
 fn a_copy_is_apart(rt: HostRuntime) -> Result<(), Fail> {
-    let mut store = cycles(rt.alloc())?;
+    let alloc = rt.alloc();
+    let mut store = Store::new(alloc)?;
+    assert_eq!(rt; first_wrong(alloc, &mut store, CYCLES)?, None);
     let mut copy = store.copy_store()?;
-    assert_eq!(rt; copy.set_metatable(1, Some(0)), Err(StoreFault::Frozen));
-    assert_eq!(rt;
-        copy.set(0, Value::Null, Value::Null),
-        Err(StoreFault::Frozen)
-    );
-    assert_eq!(rt; copy.set(2, Value::Null, Value::Null), Ok(()));
-    assert_eq!(rt; copy.set_cell(0, Value::Nil), Ok(()));
-    copy.freeze();
-    assert_eq!(rt; *store.get(2, &Value::Null), Value::Table(2));
-    assert_eq!(rt; *store.cell(0), Value::Table(2));
-    assert_eq!(rt; store.set(2, Value::Null, Value::Nil), Ok(()));
-    assert_eq!(rt; *copy.get(2, &Value::Null), Value::Null);
-    assert_eq!(rt;
-        copy.set(2, Value::Null, Value::Nil),
-        Err(StoreFault::Frozen)
-    );
+    assert_eq!(rt; first_wrong(alloc, &mut copy, COPY_WRITTEN)?, None);
+    assert_eq!(rt; first_wrong(alloc, &mut store, STORE_AS_BEFORE)?, None);
+    assert_eq!(rt; first_wrong(alloc, &mut copy, COPY_AS_BEFORE)?, None);
     Ok(())
 }
 
+/// A table more is set and frozen; what a copy then tells; and that the store is frozen, before it makes the next table.
+static ROUNDS: [(&str, &str, &str); 4] = [
+    (
+        "set 0 null table:0 = ok\nfreeze",
+        "get 0 null = table:0",
+        "set 0 null nil = frozen\nmake_table = 1",
+    ),
+    (
+        "set 1 null table:1 = ok\nfreeze",
+        "get 0 null = table:0\nget 1 null = table:1",
+        "set 0 null nil = frozen\nset 1 null nil = frozen\nmake_table = 2",
+    ),
+    (
+        "set 2 null table:2 = ok\nfreeze",
+        "get 0 null = table:0\nget 1 null = table:1\nget 2 null = table:2",
+        "set 0 null nil = frozen\nset 1 null nil = frozen\nset 2 null nil = frozen\nmake_table = 3",
+    ),
+    (
+        "set 3 null table:3 = ok\nfreeze",
+        "get 0 null = table:0\nget 1 null = table:1\nget 2 null = table:2\nget 3 null = table:3",
+        "set 0 null nil = frozen\nset 1 null nil = frozen\nset 2 null nil = frozen\nset 3 null nil = frozen\nmake_table = 4",
+    ),
+];
+
 #[test]
 fn a_store_may_be_frozen_and_copied_again(rt: HostRuntime) -> Result<(), Fail> {
-    let mut store = Store::new(rt.alloc())?;
-    for n in 0..4u32 {
-        assert_eq!(rt; store.set(n, Value::Null, Value::Table(n)), Ok(()));
-        store.freeze();
-        let copy = store.copy_store()?;
-        for t in 0..n + 1 {
-            assert_eq!(rt; *copy.get(t, &Value::Null), Value::Table(t));
-            assert_eq!(rt;
-                store.set(t, Value::Null, Value::Nil),
-                Err(StoreFault::Frozen)
-            );
-        }
-        assert_eq!(rt; store.make_table(), Ok(n + 1));
+    let alloc = rt.alloc();
+    let mut store = Store::new(alloc)?;
+    for (before, copied, behind) in ROUNDS.iter().copied() {
+        assert_eq!(rt; first_wrong(alloc, &mut store, before)?, None);
+        let mut copy = store.copy_store()?;
+        assert_eq!(rt; first_wrong(alloc, &mut copy, copied)?, None);
+        assert_eq!(rt; first_wrong(alloc, &mut store, behind)?, None);
     }
     Ok(())
 }
