@@ -209,18 +209,8 @@ steps = 0
 set_globals 3
 globals = 3";
 
-#[test]
-fn scripts_give_their_answers(rt: HostRuntime) -> Result<(), Fail> {
-    let alloc = rt.alloc();
-    for script in [KEYS, NIL_IN_PLACE, EMPTIED, BORDERS, FAULTS, COUNTS] {
-        let mut store = Store::new(alloc)?;
-        assert_eq!(rt; first_wrong(alloc, &mut store, script)?, None);
-    }
-    Ok(())
-}
-
 /// Two tables, the first of which has the other, and a closure, frozen; then a table that has itself, also as its
-/// metatable, and a cell.
+/// metatable, and a cell; and what a copy of them tells once they are gone.
 const CYCLES: &str = "\
 make_table = 1
 set 0 null table:1 = ok
@@ -231,10 +221,8 @@ set 2 null table:2 = ok
 set_metatable 2 2 = ok
 make_cell table:2 = 0
 set_type_metatable text 1
-set_type_metatable zone 2";
-
-/// What a copy of them tells.
-const CYCLES_COPIED: &str = "\
+set_type_metatable zone 2
+replace
 get 0 null = table:1
 get 2 null = table:2
 metatable 1 = none
@@ -245,80 +233,94 @@ type_metatable text = 1
 type_metatable zone = 2
 type_metatable socket = none";
 
-#[test]
-fn a_copy_of_a_cycle_has_it(rt: HostRuntime) -> Result<(), Fail> {
-    let alloc = rt.alloc();
-    let mut store = Store::new(alloc)?;
-    assert_eq!(rt; first_wrong(alloc, &mut store, CYCLES)?, None);
-    let mut copy = store.copy_store()?;
-    assert_eq!(rt; first_wrong(alloc, &mut copy, CYCLES_COPIED)?, None);
-    Ok(())
-}
-
-/// Writes to a copy.
-const COPY_WRITTEN: &str = "\
+/// The same again. Writes to the copy don't show in what was copied, nor do writes to that in the copy.
+const COPY: &str = "\
+make_table = 1
+set 0 null table:1 = ok
+make_closure 3 0 = 0
+freeze
+make_table = 2
+set 2 null table:2 = ok
+set_metatable 2 2 = ok
+make_cell table:2 = 0
+set_type_metatable text 1
+set_type_metatable zone 2
+copy
+store 1
 set_metatable 1 0 = frozen
 set 0 null null = frozen
 set 2 null null = ok
 set_cell 0 nil = ok
-freeze";
-
-/// What was copied tells nothing of them.
-const STORE_AS_BEFORE: &str = "\
+freeze
+store 0
 get 2 null = table:2
 cell 0 = table:2
-set 2 null nil = ok";
-
-/// The copy tells nothing of what was written to the store behind it.
-const COPY_AS_BEFORE: &str = "\
+set 2 null nil = ok
+store 1
 get 2 null = null
 set 2 null nil = frozen";
 
-#[test]
-fn a_copy_is_apart(rt: HostRuntime) -> Result<(), Fail> {
-    let alloc = rt.alloc();
-    let mut store = Store::new(alloc)?;
-    assert_eq!(rt; first_wrong(alloc, &mut store, CYCLES)?, None);
-    let mut copy = store.copy_store()?;
-    assert_eq!(rt; first_wrong(alloc, &mut copy, COPY_WRITTEN)?, None);
-    assert_eq!(rt; first_wrong(alloc, &mut store, STORE_AS_BEFORE)?, None);
-    assert_eq!(rt; first_wrong(alloc, &mut copy, COPY_AS_BEFORE)?, None);
-    Ok(())
-}
+/// A store that is frozen and copied again and again, with a table more each time.
+const COPIES: &str = "\
+set 0 null table:0 = ok
+freeze
+copy
+store 1
+get 0 null = table:0
+store 0
+set 0 null nil = frozen
+make_table = 1
+set 1 null table:1 = ok
+freeze
+copy
+store 2
+get 0 null = table:0
+get 1 null = table:1
+store 0
+set 0 null nil = frozen
+set 1 null nil = frozen
+make_table = 2
+set 2 null table:2 = ok
+freeze
+copy
+store 3
+get 0 null = table:0
+get 1 null = table:1
+get 2 null = table:2
+store 0
+set 0 null nil = frozen
+set 1 null nil = frozen
+set 2 null nil = frozen
+make_table = 3
+set 3 null table:3 = ok
+freeze
+copy
+store 4
+get 0 null = table:0
+get 1 null = table:1
+get 2 null = table:2
+get 3 null = table:3
+store 0
+set 0 null nil = frozen
+set 1 null nil = frozen
+set 2 null nil = frozen
+set 3 null nil = frozen
+make_table = 4";
 
-/// A table more is set and frozen; what a copy then tells; and that the store is frozen, before it makes the next table.
-static ROUNDS: [(&str, &str, &str); 4] = [
-    (
-        "set 0 null table:0 = ok\nfreeze",
-        "get 0 null = table:0",
-        "set 0 null nil = frozen\nmake_table = 1",
-    ),
-    (
-        "set 1 null table:1 = ok\nfreeze",
-        "get 0 null = table:0\nget 1 null = table:1",
-        "set 0 null nil = frozen\nset 1 null nil = frozen\nmake_table = 2",
-    ),
-    (
-        "set 2 null table:2 = ok\nfreeze",
-        "get 0 null = table:0\nget 1 null = table:1\nget 2 null = table:2",
-        "set 0 null nil = frozen\nset 1 null nil = frozen\nset 2 null nil = frozen\nmake_table = 3",
-    ),
-    (
-        "set 3 null table:3 = ok\nfreeze",
-        "get 0 null = table:0\nget 1 null = table:1\nget 2 null = table:2\nget 3 null = table:3",
-        "set 0 null nil = frozen\nset 1 null nil = frozen\nset 2 null nil = frozen\nset 3 null nil = frozen\nmake_table = 4",
-    ),
-];
-
 #[test]
-fn a_store_may_be_frozen_and_copied_again(rt: HostRuntime) -> Result<(), Fail> {
-    let alloc = rt.alloc();
-    let mut store = Store::new(alloc)?;
-    for (before, copied, behind) in ROUNDS.iter().copied() {
-        assert_eq!(rt; first_wrong(alloc, &mut store, before)?, None);
-        let mut copy = store.copy_store()?;
-        assert_eq!(rt; first_wrong(alloc, &mut copy, copied)?, None);
-        assert_eq!(rt; first_wrong(alloc, &mut store, behind)?, None);
+fn scripts_give_their_answers(rt: HostRuntime) -> Result<(), Fail> {
+    for script in [
+        KEYS,
+        NIL_IN_PLACE,
+        EMPTIED,
+        BORDERS,
+        FAULTS,
+        COUNTS,
+        CYCLES,
+        COPY,
+        COPIES,
+    ] {
+        assert_eq!(rt; first_wrong(rt.alloc(), script)?, None);
     }
     Ok(())
 }

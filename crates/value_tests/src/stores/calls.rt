@@ -5,19 +5,56 @@ use std::alloc::Global;
 use std::str::SplitWhitespace;
 use std::test::Fail;
 
-/// The first line of a script whose call doesn't give the answer that it tells.
-pub(super) fn first_wrong<'a>(
+/// A store and its copies, and which of them the calls are of.
+#[derive(Drop)]
+struct Stores {
+    all: Vec<Store>,
+    current: usize,
+}
+
+/// The first line of a script whose call doesn't give the answer that it tells. The calls are of a new store; `copy`
+/// makes a copy beside it, `replace` puts one in its place, and `store N` goes over to the N-th, from 0.
+pub(super) fn first_wrong<'a>(alloc: Global, script: &'a str) -> Result<Option<&'a str>, Fail> {
+    let mut stores = Stores {
+        all: Vec::new(alloc),
+        current: 0,
+    };
+    first_wrong_of(alloc, &mut stores, script)
+}
+
+/// The same, of stores none of which is there yet.
+fn first_wrong_of<'a>(
     alloc: Global,
-    store: &mut Store,
+    stores: &mut Stores,
     script: &'a str,
 ) -> Result<Option<&'a str>, Fail> {
+    stores.all.push(Store::new(alloc)?)?;
     for line in script.lines() {
         let (call, answer) = line.split_once(" = ").unwrap_or((line, ""));
-        if !gives(alloc, store, &mut call.split_whitespace(), answer)? {
+        if !goes_on(alloc, stores, call, answer)? {
             return Ok(Some(line));
         }
     }
     Ok(None)
+}
+
+/// Whether a line gives its answer.
+fn goes_on(alloc: Global, stores: &mut Stores, call: &str, answer: &str) -> Result<bool, Fail> {
+    if let Some(number) = call.strip_prefix("store ") {
+        stores.current = id(number)? as usize;
+        return Ok(true);
+    }
+    let store = stores.all.get_mut(stores.current).ok_or("no store")?;
+    if call == "copy" {
+        let copy = store.copy_store()?;
+        stores.all.push(copy)?;
+        return Ok(true);
+    }
+    if call == "replace" {
+        *store = store.copy_store()?;
+        return Ok(true);
+    }
+    gives(alloc, store, &mut call.split_whitespace(), answer)
 }
 
 /// The next word of a call.
