@@ -3,4 +3,5 @@ mod FitLemmas
 mod FlagLemmas
 mod FreezableLemmas
 mod PairLemmas
+mod PlaceLemmas
 mod TableLemmas

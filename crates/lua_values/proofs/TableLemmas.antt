@@ -12,11 +12,9 @@ use Rattle.lua_values.specs.Border.{border_from, border_of}
 use Rattle.lua_values.specs.Flags.{flag_at, IsFirstAt, IsFirstFrom, with_flag}
 use Rattle.lua_values.specs.TableFlags.{lives, is_hole, IsIndexed, IsHoleOf}
 use Rattle.lua_values.proofs.BorderLemmas.{same-true, other-number}
-use Rattle.lua_values.proofs.PairLemmas.{lookup-has, insert-length}
-use Rattle.indexmap.proofs.MapLemmas.{Found-position, Missing-position}
-
-pub same-refl : (a : Value) → same a a ≡ true
-same-refl a = search rules
+use Rattle.lua_values.proofs.PairLemmas.{insert-length}
+use Rattle.lua_values.proofs.PlaceLemmas.{same-refl, place-has}
+use Rattle.indexmap.proofs.MapLemmas.{Found-position}
 
 -- what stands at keys once one is set
 pub value_at-set : (ps : List (Value × Value)) (k v : Value) → value_at (insert_entry same ps k v) k ≡ v
@@ -185,13 +183,12 @@ lives-length [] = refl
 lives-length (p ∷ ps) = ap suc (lives-length ps)
 
 -- the flags once the value at a key is written
-pub indexed-write : (ps : List (Value × Value)) (k v : Value) (live holes : List Bool) (place hole : Option ℕ) → IsIndexed ps live holes → has_place ps k ≡ true
-    → place ≡ position (same k) (keys_of ps) → IsHoleOf k (length ps) hole
-    → IsIndexed (insert_entry same ps k v) (with_flag live place (not (is_nil v))) (with_flag holes hole (is_nil v))
-indexed-write ps k v live holes None hole x there e at =
-    absurd (true≢false (sym there ∙ sym (lookup-has ps k) ∙ ap is_some (Missing-position (same k) ps (sym e)).value))
-indexed-write ps k v live holes (Some i) hole x there e at =
-    let found = Found-position (same k) ps i (sym e) in
+pub indexed-write : (ps : List (Value × Value)) (k v : Value) (live holes : List Bool) (i : ℕ) (hole : Option ℕ) → IsIndexed ps live holes
+    → position (same k) (keys_of ps) ≡ Some i → IsHoleOf k (length ps) hole
+    → IsIndexed (insert_entry same ps k v) (slice_set live i (not (is_nil v))) (with_flag holes hole (is_nil v))
+indexed-write ps k v live holes i hole x e at =
+    let found = Found-position (same k) ps i e in
+    let there = place-has ps k i e in
     let same_length : length (insert_entry same ps k v) ≡ length ps = insert-length ps k v there in
     let set : lives (insert_entry same ps k v) ≡ slice_set (lives ps) i (not (is_nil v)) = lives-set ps k v there ∙ ap (λ n. slice_set (lives ps) n (not (is_nil v))) found.or_len in
     let live_length : length (slice_set live i (not (is_nil v))) ≡ length live = length-set live i (not (is_nil v)) in
@@ -207,12 +204,12 @@ indexed-write ps k v live holes (Some i) hole x there e at =
     }
 
 -- and once a new key is put last
-pub indexed-append : (ps : List (Value × Value)) (k v : Value) (live live' holes holes' : List Bool) (hole : Option ℕ) → IsIndexed ps live holes
+indexed-last : (ps : List (Value × Value)) (k v : Value) (live live' holes holes' : List Bool) (hole : Option ℕ) → IsIndexed ps live holes
     → has_place ps k ≡ false → ((j : ℕ) → flag_at live' j ≡ flag_at live j) → ((j : ℕ) → flag_at holes' j ≡ flag_at holes j)
     → length ps < length live' → length ps < length holes' → IsHoleOf k (length ps) hole
     → IsIndexed (insert_entry same ps k v) (slice_set live' (length ps) (not (is_nil v)))
     (slice_set (with_flag holes' hole (is_nil v)) (length ps) (is_nil (value_at (insert_entry same ps k v) (number (length ps + 1)))))
-indexed-append ps k v live live' holes holes' hole x absent l h live_there holes_there at =
+indexed-last ps k v live live' holes holes' hole x absent l h live_there holes_there at =
     let more : length (insert_entry same ps k v) ≡ length ps + 1 = length-new ps k v absent in
     let holes_length : length (with_flag holes' hole (is_nil v)) ≡ length holes' = with_flag-length holes' hole (is_nil v) in
     let set_live : length (slice_set live' (length ps) (not (is_nil v))) ≡ length live' = length-set live' (length ps) (not (is_nil v)) in
@@ -229,3 +226,14 @@ indexed-append ps k v live live' holes holes' hole x absent l h live_there holes
       live_there = omega arith;
       holes_there = omega arith;
     }
+
+-- whose value isn't nil
+pub indexed-append : (ps : List (Value × Value)) (k v : Value) (live live' holes holes' : List Bool) (hole : Option ℕ) → IsIndexed ps live holes
+    → has_place ps k ≡ false → is_nil v ≡ false → ((j : ℕ) → flag_at live' j ≡ flag_at live j) → ((j : ℕ) → flag_at holes' j ≡ flag_at holes j)
+    → length ps < length live' → length ps < length holes' → IsHoleOf k (length ps) hole
+    → IsIndexed (insert_entry same ps k v) (slice_set live' (length ps) true)
+    (slice_set (with_flag holes' hole false) (length ps) (is_nil (value_at (insert_entry same ps k v) (number (length ps + 1)))))
+indexed-append ps k v live live' holes holes' hole x absent lives l h live_there holes_there at =
+    subst (λ nil. IsIndexed (insert_entry same ps k v) (slice_set live' (length ps) (not nil))
+    (slice_set (with_flag holes' hole nil) (length ps) (is_nil (value_at (insert_entry same ps k v) (number (length ps + 1)))))) lives
+    (indexed-last ps k v live live' holes holes' hole x absent l h live_there holes_there at)

@@ -1,8 +1,9 @@
-ghost use Rattle.std.specs.Prelude.{◌≡◌, ◌≤◌, ◌<◌, [], None, Some, true, false, length, drop, is_some, IfSome, IfOk, OnOk, OnErr, IsOk};
+ghost use Rattle.std.specs.Prelude.{◌≡◌, ◌≤◌, ◌<◌, [], None, Some, true, false, length, drop, position, is_some, IfSome, IfOk, OnOk, OnErr, IsOk};
 ghost use Rattle.std.specs.Option.{option_map};
+ghost use Rattle.std.specs.Map.{keys_of};
 ghost use Rattle.std.specs.Map.Iter.{deref_pair};
 ghost use Rattle.lua_values.specs.Pairs.{value_at, has_place, needs_place, with_value, first_live, next_pair};
-ghost use Rattle.lua_values.specs.Values.{is_nil, number};
+ghost use Rattle.lua_values.specs.Values.{same, is_nil, number};
 ghost use Rattle.lua_values.specs.TableFlags.{IsHoleOf};
 ghost use Rattle.lua_values.specs.Border.{border_of};
 
@@ -54,7 +55,10 @@ impl Table {
         ensures place { is_some result ≡ has_place self.now.pairs key.now }
         ensures value { IfSome result (λ value. value.now ≡ value_at self.now.pairs key.now) }
     {
-        self.places.get(key)
+        match place_of(&self.places, key) {
+            Some(place) => Some(&self.places[place]),
+            None => None,
+        }
     }
 
     /// Whether a value at the key needs a new place.
@@ -77,29 +81,30 @@ impl Table {
         ensures kept { OnErr result (self.new ≡ self.old) }
         ensures in_place { needs_place self.old.pairs key value ≡ false → IsOk result }
     {
-        if self.has_place(&key) {
-            self.write(key, value);
-            Ok(())
-        } else if value.is_nil() {
-            Ok(())
-        } else {
-            self.append(key, value)
+        match place_of(&self.places, &key) {
+            Some(place) => {
+                self.write(place, &key, value);
+                Ok(())
+            }
+            None => {
+                if value.is_nil() {
+                    Ok(())
+                } else {
+                    self.append(key, value)
+                }
+            }
         }
     }
 
-    /// Sets the value at a key that has a place; takes no memory.
-    fn write(&mut self, key: Value, value: Value)
-        requires { has_place self.old.pairs key ≡ true }
-        ensures { self.new ≡ record { pairs = with_value self.old.pairs key value; meta = self.old.meta } }
+    /// Sets the value at a key whose place is given; takes no memory.
+    fn write(&mut self, place: usize, key: &Value, value: Value)
+        requires { position (same key.now) (keys_of self.old.pairs) ≡ Some place }
+        ensures { self.new ≡ record { pairs = with_value self.old.pairs key.now value; meta = self.old.meta } }
     {
-        let hole = hole_of(&key, self.places.len());
+        let hole = hole_of(key, self.places.len());
         let nil = value.is_nil();
-        let place = self.places.get_index_of(&key);
-        match self.places.insert(key, value) {
-            Ok(_) => {}
-            Err(_) => unreachable!(),
-        }
-        self.live.set_at(place, !nil);
+        self.places[place] = value;
+        self.live.set(place, !nil);
         self.holes.set_at(hole, nil);
     }
 
@@ -114,13 +119,12 @@ impl Table {
         self.live.reach(place)?;
         self.holes.reach(place)?;
         let hole = hole_of(&key, place);
-        let nil = value.is_nil();
         match self.places.insert(key, value) {
             Ok(_) => {}
             Err(_) => return Err(AllocError),
         }
-        self.live.set(place, !nil);
-        self.holes.set_at(hole, nil);
+        self.live.set(place, true);
+        self.holes.set_at(hole, false);
         self.holes
             .set(place, is_hole(&self.places, place as u32 + 1));
         Ok(())
@@ -133,7 +137,7 @@ impl Table {
         if key.is_nil() {
             return self.live_from(0);
         }
-        match self.places.get_index_of(key) {
+        match place_of(&self.places, key) {
             Some(place) => {
                 let within = place < self.places.len();
                 prove!(within);
@@ -192,6 +196,25 @@ impl Clone for Table {
     }
 }
 
+/// The place of a key, which for the number n is mostly the n-th; only where it isn't is the key hashed.
+fn place_of(places: &IndexMap<Value, Value>, key: &Value) -> Option<usize>
+    ensures { result ≡ position (same key.now) (keys_of places.now.entries) }
+{
+    match place_by_number(places, key) {
+        Some(place) => Some(place),
+        None => places.get_index_of(key),
+    }
+}
+
+/// The place of a number n where that is the n-th.
+fn place_by_number(places: &IndexMap<Value, Value>, key: &Value) -> Option<usize>
+    ensures { IfSome result (λ place. position (same key.now) (keys_of places.now.entries) ≡ Some place) }
+{
+    let place = hole_of(key, places.len())?;
+    let (there, _) = places.get_index(place)?;
+    if there == key { Some(place) } else { None }
+}
+
 /// The place of a key among the first `places` numbers, if it is one of them.
 fn hole_of(key: &Value, places: usize) -> Option<usize>
     ensures { IsHoleOf key.now places result }
@@ -216,9 +239,9 @@ fn is_hole(places: &IndexMap<Value, Value>, n: u32) -> bool
     requires { n ≤ 1_000_000_000 }
     ensures { result ≡ is_nil (value_at places.now.entries (number n)) }
 {
-    match places.get(&numbered(n)) {
+    match place_of(places, &numbered(n)) {
         None => true,
-        Some(value) => value.is_nil(),
+        Some(place) => places[place].is_nil(),
     }
 }
 

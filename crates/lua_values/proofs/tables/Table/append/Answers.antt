@@ -12,8 +12,8 @@ invariant_of-self-2 c =
     let b = c.self.invariant.holes_there in
     let live_there : length c.self.inside.places.entries < length c.reach.new.self = let r = c.in_ok-reach.ensures.reached (omega arith) in omega arith in
     let holes_there : length c.self.inside.places.entries < length c.reach-2.new.self = let r = c.in_ok-reach-2.ensures.reached (omega arith) in omega arith in
-    rw (c.set-2.ensures, c.set_at.ensures, c.set.ensures, c.is_hole.ensures, c.is_nil-nil.ensures, c.in-Ok.ensures.entries, c.len-place.ensures.len)
-    (indexed-append c.self.inside.places.entries c.args.key c.args.value c.self.inside.live c.reach.new.self c.self.inside.holes c.reach-2.new.self c.hole_of-hole.result c.self.invariant absent c.reach.ensures.same c.reach-2.ensures.same live_there holes_there (subst (λ n. IsHoleOf c.args.key n c.hole_of-hole.result) c.len-place.ensures.len c.hole_of-hole.ensures))
+    rw (c.set-2.ensures, c.set_at.ensures, c.set.ensures, c.is_hole.ensures, c.in-Ok.ensures.entries, c.len-place.ensures.len)
+    (indexed-append c.self.inside.places.entries c.args.key c.args.value c.self.inside.live c.reach.new.self c.self.inside.holes c.reach-2.new.self c.hole_of-hole.result c.self.invariant absent c.requires.live c.reach.ensures.same c.reach-2.ensures.same live_there holes_there (subst (λ n. IsHoleOf c.args.key n c.hole_of-hole.result) c.len-place.ensures.len c.hole_of-hole.ensures))
 
 pub returns-clause-done : goal.returns-clause-done
 returns-clause-done c =
