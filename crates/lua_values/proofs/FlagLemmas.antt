@@ -1,8 +1,10 @@
 -- Flags and the flags of their blocks.
 use Rattle.std.proofs.Common.{◌≡◌, ℕ, zero, suc, ◌+◌, ◌-◌, ◌*◌, ◌/◌, ◌<◌, ◌≤◌, ◌⊎◌, inl, inr, Bool, true, false, List, [], ◌∷◌, ◌++◌, length, slice_set, Option, None, Some, refl, sym, ap, subst, ◌∙◌, true≢false, arith}
+use Rattle.std.proofs.Math.Bool.{beq}
+use Rattle.std.specs.Cmp.{bool_eq_equiv}
 use Rattle.std.proofs.lemmas.Bool.{cases_Bool, cases_lt, cases_eq}
 use Rattle.std.proofs.lemmas.List.{length-set, get_or-set_same, get_or-set_other}
-use Rattle.lua_values.specs.Flags.{flag_at, IsFirstAt, IsFirstFrom, IsFirstWithin, IsBlank, IsSummary}
+use Rattle.lua_values.specs.Flags.{flag_at, IsFirstAt, IsFirstFrom, IsFirstWithin, IsBlank, IsSummary, count_standing}
 
 -- a flag that doesn't stand changes none
 pub flag_at-grown : (xs : List Bool) (k : ℕ) → flag_at (xs ++ false ∷ []) k ≡ flag_at xs k
@@ -122,3 +124,62 @@ grown-groups blocks blocks' groups groups' block s c d covered = summary-same bl
   | inl old ↦ let at : k / 32 < length groups = s.covers k old in let l = d.longer in omega arith
   | inr new ↦ omega arith
 ])
+
+-- how many flags stand once one is set, where it didn't stand and where it did
+pub standing-on : (xs : List Bool) (i : ℕ) → i < length xs → flag_at xs i ≡ false → count_standing (slice_set xs i true) ≡ count_standing xs + 1
+standing-on [] i lt off = absurd (omega arith)
+standing-on (true ∷ xs) zero lt off = absurd (true≢false off)
+standing-on (false ∷ xs) zero lt off = omega arith
+standing-on (true ∷ xs) (suc i) lt off = let rest = standing-on xs i (omega arith) off in omega arith
+standing-on (false ∷ xs) (suc i) lt off = standing-on xs i (omega arith) off
+
+pub standing-off : (xs : List Bool) (i : ℕ) → i < length xs → flag_at xs i ≡ true → count_standing (slice_set xs i false) + 1 ≡ count_standing xs
+standing-off [] i lt on = absurd (omega arith)
+standing-off (true ∷ xs) zero lt on = omega arith
+standing-off (false ∷ xs) zero lt on = absurd (true≢false (sym on))
+standing-off (true ∷ xs) (suc i) lt on = let rest = standing-off xs i (omega arith) on in omega arith
+standing-off (false ∷ xs) (suc i) lt on = standing-off xs i (omega arith) on
+
+-- and once one is added that doesn't
+pub standing-grown : (xs : List Bool) → count_standing (xs ++ false ∷ []) ≡ count_standing xs
+standing-grown [] = refl
+standing-grown (true ∷ xs) = ap suc (standing-grown xs)
+standing-grown (false ∷ xs) = standing-grown xs
+
+-- they are no more than there are flags
+pub standing-most : (xs : List Bool) → count_standing xs ≤ length xs
+standing-most [] = omega arith
+standing-most (true ∷ xs) = let rest = standing-most xs in omega arith
+standing-most (false ∷ xs) = let rest = standing-most xs in omega arith
+
+-- where there is none, no flag stands
+pub standing-none : (xs : List Bool) → count_standing xs ≡ 0 → (k : ℕ) → flag_at xs k ≡ false
+standing-none [] none zero = refl
+standing-none [] none (suc k) = refl
+standing-none (true ∷ xs) none k = absurd (omega (arith, none))
+standing-none (false ∷ xs) none zero = refl
+standing-none (false ∷ xs) none (suc k) = standing-none xs none k
+
+-- where one does, there is one
+pub standing-some : (xs : List Bool) (i : ℕ) → (flag_at xs i ≡ false → ⊥) → 0 < count_standing xs
+standing-some [] zero on = absurd (on refl)
+standing-some [] (suc i) on = absurd (on refl)
+standing-some (true ∷ xs) i on = omega arith
+standing-some (false ∷ xs) zero on = absurd (on refl)
+standing-some (false ∷ xs) (suc i) on = standing-some xs i on
+
+-- flags that compare as different are
+pub unlike : (a b : Bool) → beq a b ≡ false → a ≡ b → ⊥
+unlike a b differ e = true≢false (sym (bool_eq_equiv.refl b) ∙ ap (λ x. beq x b) (sym e) ∙ differ)
+
+-- how many stand once a flag is turned
+pub standing-set : (xs : List Bool) (i : ℕ) (flag : Bool) (n : ℕ) → i < length xs → (flag_at xs i ≡ flag → ⊥)
+    → (flag ≡ true → n ≡ count_standing xs + 1) → (flag ≡ false → n + 1 ≡ count_standing xs) → n ≡ count_standing (slice_set xs i flag)
+standing-set xs i true n lt turned more less =
+    let off : flag_at xs i ≡ false = elim (cases_Bool (flag_at xs i)) [ inl e ↦ absurd (turned e) | inr e ↦ e ] in
+    more refl ∙ sym (standing-on xs i lt off)
+standing-set xs i false n lt turned more less =
+    let on : flag_at xs i ≡ true = elim (cases_Bool (flag_at xs i)) [ inl e ↦ e | inr e ↦ absurd (turned e) ] in
+    let old : n + 1 ≡ count_standing xs = less refl in
+    let new : count_standing (slice_set xs i false) + 1 ≡ count_standing xs = standing-off xs i lt on in
+    omega arith

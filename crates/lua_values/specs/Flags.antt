@@ -1,5 +1,5 @@
 -- Lists of flags, and where in them the next one is that stands.
-use Rattle.std.specs.Prelude.{◌≡◌, ℕ, ◌<◌, ◌≤◌, ◌/◌, Bool, true, false, List, length, Option, Some, None, slice_index_or, slice_set}
+use Rattle.std.specs.Prelude.{◌≡◌, ℕ, suc, ◌<◌, ◌≤◌, ◌/◌, Bool, true, false, List, [], ◌∷◌, length, Option, Some, None, if◌then◌else◌, slice_index_or, slice_set}
 
 -- the flag at a place, which doesn't stand behind the last
 abbrev pub flag_at : List Bool → ℕ → Bool
@@ -35,3 +35,8 @@ pub record IsSummary (lower upper : List Bool) : Type 0 where
 abbrev pub with_flag : List Bool → Option ℕ → Bool → List Bool
 with_flag flags None flag = flags
 with_flag flags (Some place) flag = slice_set flags place flag
+
+-- how many flags stand
+abbrev pub count_standing : List Bool → ℕ
+count_standing [] = 0
+count_standing (flag ∷ flags) = if flag then suc (count_standing flags) else count_standing flags

@@ -1,5 +1,6 @@
 -- The flags that a table keeps beside its pairs.
-use Rattle.std.specs.Prelude.{◌≡◌, ℕ, ◌+◌, ◌<◌, ◌≤◌, nat_lt, Bool, false, not, ◌&&◌, List, length, map, Option, Some, None}
+use Rattle.std.specs.Prelude.{◌≡◌, ℕ, ◌+◌, ◌<◌, ◌≤◌, nat_lt, Bool, false, not, ◌&&◌, List, length, map, Option, Some, None, slice_get}
+use Rattle.std.specs.Map.{keys_of}
 use Rattle.lua_values.specs.declared.values.Value.{Value}
 use Rattle.lua_values.specs.Values.{same, is_nil, number}
 use Rattle.lua_values.specs.Pairs.{value_at}
@@ -24,3 +25,7 @@ pub record IsIndexed (ps : List (Value × Value)) (live holes : List Bool) : Typ
 abbrev pub IsHoleOf : Value → ℕ → Option ℕ → Type 0
 IsHoleOf key n None = (k : ℕ) → k < n → same (number (k + 1)) key ≡ false
 IsHoleOf key n (Some k) = (k < n) × (key ≡ number (k + 1))
+
+-- the first n keys are the numbers 1 to n in this order
+abbrev pub IsInOrder : List (Value × Value) → ℕ → Type 0
+IsInOrder ps n = (k : ℕ) → k < n → slice_get (keys_of ps) k ≡ Some (number (k + 1))

@@ -12,23 +12,25 @@ const WIDTH: usize = 32;
 const MOST: usize = 32_768;
 
 /// A list of flags, up to 32,768. Where the next one is that stands is told by the flags of blocks of 32 and of groups
-/// of 32 blocks, so that no more than 160 flags are read.
+/// of 32 blocks, so that no more than 160 flags are read, and none where no flag stands.
 #[derive(Drop)]
 pub struct Flags {
     flags: Vec<bool>,
     blocks: Vec<bool>,
     groups: Vec<bool>,
+    /// How many flags stand.
+    standing: usize,
 }
 
 impl Model for Flags {
-    ghost use Rattle.std.specs.Prelude.{List, Bool, ◌≤◌, length};
-    ghost use Rattle.lua_values.specs.Flags.{IsSummary};
+    ghost use Rattle.std.specs.Prelude.{List, Bool, ◌≡◌, ◌≤◌, length};
+    ghost use Rattle.lua_values.specs.Flags.{IsSummary, count_standing};
 
     ghost Value = { List Bool };
 
     ghost view = { λ all. all.flags.items };
 
-    ghost invariant = { λ all. IsSummary all.flags.items all.blocks.items × IsSummary all.blocks.items all.groups.items × (length all.flags.items ≤ 32_768) };
+    ghost invariant = { λ all. IsSummary all.flags.items all.blocks.items × IsSummary all.blocks.items all.groups.items × (length all.flags.items ≤ 32_768) × (all.standing ≡ count_standing all.flags.items) };
 }
 
 impl Flags {
@@ -40,6 +42,7 @@ impl Flags {
             flags: Vec::new(alloc),
             blocks: Vec::new(alloc),
             groups: Vec::new(alloc),
+            standing: 0,
         }
     }
 
@@ -85,7 +88,11 @@ impl Flags {
         requires { place < length self.old }
         ensures { self.new ≡ slice_set self.old place flag }
     {
+        if self.flags[place] == flag {
+            return;
+        }
         self.flags[place] = flag;
+        self.standing = count_with(self.standing, flag);
         let block = place / WIDTH;
         self.blocks[block] = any_in(self.flags.as_slice(), block);
         let group = block / WIDTH;
@@ -107,6 +114,9 @@ impl Flags {
     pub fn first_from(&self, from: usize) -> Option<usize>
         ensures { IsFirstFrom self.now from result }
     {
+        if self.standing == 0 {
+            return None;
+        }
         flag_from(
             self.flags.as_slice(),
             self.blocks.as_slice(),
@@ -125,8 +135,19 @@ impl Clone for Flags {
             flags: self.flags.clone()?,
             blocks: self.blocks.clone()?,
             groups: self.groups.clone()?,
+            standing: self.standing,
         })
     }
+}
+
+/// How many flags stand once one more does, or one less.
+fn count_with(standing: usize, flag: bool) -> usize
+    requires few { standing ≤ 32_768 }
+    requires some { flag ≡ false → 0 < standing }
+    ensures more { flag ≡ true → result ≡ standing + 1 }
+    ensures less { flag ≡ false → result + 1 ≡ standing }
+{
+    if flag { standing + 1 } else { standing - 1 }
 }
 
 /// The first flag from a place on that stands.

@@ -1,10 +1,11 @@
-ghost use Rattle.std.specs.Prelude.{◌≡◌, ◌≤◌, ◌<◌, [], None, Some, true, false, length, drop, position, is_some, IfSome, IfOk, OnOk, OnErr, IsOk};
+ghost use Rattle.std.specs.Prelude.{◌≡◌, ◌+◌, ◌≤◌, ◌<◌, [], None, Some, true, false, length, drop, position, is_some, IfSome, IfOk, OnOk, OnErr, IsOk};
 ghost use Rattle.std.specs.Option.{option_map};
 ghost use Rattle.std.specs.Map.{keys_of};
 ghost use Rattle.std.specs.Map.Iter.{deref_pair};
+ghost use Rattle.lua_values.specs.declared.values.Value.{Value as LuaValue};
 ghost use Rattle.lua_values.specs.Pairs.{value_at, has_place, needs_place, with_value, first_live, next_pair};
 ghost use Rattle.lua_values.specs.Values.{same, is_nil, number};
-ghost use Rattle.lua_values.specs.TableFlags.{IsHoleOf};
+ghost use Rattle.lua_values.specs.TableFlags.{IsHoleOf, IsInOrder};
 ghost use Rattle.lua_values.specs.Border.{border_of};
 
 use crate::Value;
@@ -16,25 +17,28 @@ use std::marker::Model;
 
 /// A table: its pairs in the order in which the keys were set first, those of value nil included, and its metatable.
 /// Beside the pairs stand the flags of those whose value isn't nil, and of the numbers, up to that of pairs, at which
-/// nothing is; so what comes next and the border are found without a walk. There are at most 32,768 places, more than
-/// the units of a store allow; one more is a want of memory.
+/// nothing is; so what comes next and the border are found without a walk. Where the first keys are 1, 2, .. in this
+/// order, the place of such a number is known without a look at the keys. There are at most 32,768 places, more than the
+/// units of a store allow; one more is a want of memory.
 #[derive(Drop)]
 pub struct Table {
     places: IndexMap<Value, Value>,
     live: Flags,
     holes: Flags,
+    /// How many places from the first on have the numbers 1, 2, .. as their keys.
+    in_order: usize,
     meta: Option<u32>,
 }
 
 impl Model for Table {
     ghost use Rattle.lua_values.specs.Heap.{TableView};
-    ghost use Rattle.lua_values.specs.TableFlags.{IsIndexed};
+    ghost use Rattle.lua_values.specs.TableFlags.{IsIndexed, IsInOrder};
 
     ghost Value = { TableView };
 
     ghost view = { λ table. record { pairs = table.places.entries; meta = table.meta } };
 
-    ghost invariant = { λ table. IsIndexed table.places.entries table.live table.holes };
+    ghost invariant = { λ table. IsIndexed table.places.entries table.live table.holes × IsInOrder table.places.entries table.in_order };
 }
 
 impl Table {
@@ -46,6 +50,7 @@ impl Table {
             places: IndexMap::new(alloc),
             live: Flags::new(alloc),
             holes: Flags::new(alloc),
+            in_order: 0,
             meta: None,
         }
     }
@@ -55,7 +60,7 @@ impl Table {
         ensures place { is_some result ≡ has_place self.now.pairs key.now }
         ensures value { IfSome result (λ value. value.now ≡ value_at self.now.pairs key.now) }
     {
-        match place_of(&self.places, key) {
+        match place_of(&self.places, self.in_order, key) {
             Some(place) => Some(&self.places[place]),
             None => None,
         }
@@ -81,7 +86,7 @@ impl Table {
         ensures kept { OnErr result (self.new ≡ self.old) }
         ensures in_place { needs_place self.old.pairs key value ≡ false → IsOk result }
     {
-        match place_of(&self.places, &key) {
+        match place_of(&self.places, self.in_order, &key) {
             Some(place) => {
                 self.write(place, &key, value);
                 Ok(())
@@ -119,14 +124,17 @@ impl Table {
         self.live.reach(place)?;
         self.holes.reach(place)?;
         let hole = hole_of(&key, place);
+        let number = place as u32 + 1;
+        let in_order = order_with(&self.places, self.in_order, &key, number);
         match self.places.insert(key, value) {
             Ok(_) => {}
             Err(_) => return Err(AllocError),
         }
+        self.in_order = in_order;
         self.live.set(place, true);
         self.holes.set_at(hole, false);
         self.holes
-            .set(place, is_hole(&self.places, place as u32 + 1));
+            .set(place, is_hole(&self.places, in_order, number));
         Ok(())
     }
 
@@ -137,7 +145,7 @@ impl Table {
         if key.is_nil() {
             return self.live_from(0);
         }
-        match place_of(&self.places, key) {
+        match place_of(&self.places, self.in_order, key) {
             Some(place) => {
                 let within = place < self.places.len();
                 prove!(within);
@@ -191,28 +199,36 @@ impl Clone for Table {
             places: self.places.clone()?,
             live: self.live.clone()?,
             holes: self.holes.clone()?,
+            in_order: self.in_order,
             meta: self.meta,
         })
     }
 }
 
-/// The place of a key, which for the number n is mostly the n-th; only where it isn't is the key hashed.
-fn place_of(places: &IndexMap<Value, Value>, key: &Value) -> Option<usize>
+/// The place of a key, where the first keys are the numbers 1, 2, .. `in_order`.
+fn place_of(places: &IndexMap<Value, Value>, in_order: usize, key: &Value) -> Option<usize>
+    requires { IsInOrder places.now.entries in_order }
     ensures { result ≡ position (same key.now) (keys_of places.now.entries) }
 {
-    match place_by_number(places, key) {
-        Some(place) => Some(place),
-        None => places.get_index_of(key),
+    match hole_of(key, places.len()) {
+        Some(place) if place < in_order => Some(place),
+        _ => places.get_index_of(key),
     }
 }
 
-/// The place of a number n where that is the n-th.
-fn place_by_number(places: &IndexMap<Value, Value>, key: &Value) -> Option<usize>
-    ensures { IfSome result (λ place. position (same key.now) (keys_of places.now.entries) ≡ Some place) }
+/// How many of the first keys are the numbers 1, 2, .. once this new key is put last, which is the `number`-th.
+fn order_with(places: &IndexMap<Value, Value>, in_order: usize, key: &Value, number: u32) -> usize
+    requires order { IsInOrder places.now.entries in_order }
+    requires absent { has_place places.now.entries key.now ≡ false }
+    requires number { number ≡ length places.now.entries + 1 }
+    requires small { number ≤ 1_000_000_000 }
+    ensures { (value : LuaValue) → is_nil value ≡ false → IsInOrder (with_value places.now.entries key.now value) result }
 {
-    let place = hole_of(key, places.len())?;
-    let (there, _) = places.get_index(place)?;
-    if there == key { Some(place) } else { None }
+    if in_order == places.len() && *key == numbered(number) {
+        number as usize
+    } else {
+        in_order
+    }
 }
 
 /// The place of a key among the first `places` numbers, if it is one of them.
@@ -235,11 +251,12 @@ fn hole_of(key: &Value, places: usize) -> Option<usize>
 }
 
 /// Whether nothing is at the number n.
-fn is_hole(places: &IndexMap<Value, Value>, n: u32) -> bool
-    requires { n ≤ 1_000_000_000 }
+fn is_hole(places: &IndexMap<Value, Value>, in_order: usize, n: u32) -> bool
+    requires order { IsInOrder places.now.entries in_order }
+    requires small { n ≤ 1_000_000_000 }
     ensures { result ≡ is_nil (value_at places.now.entries (number n)) }
 {
-    match place_of(places, &numbered(n)) {
+    match place_of(places, in_order, &numbered(n)) {
         None => true,
         Some(place) => places[place].is_nil(),
     }

@@ -1,7 +1,7 @@
-use Rattle.std.proofs.Common.{◌≡◌, ◌+◌, ◌/◌, ◌<◌, false, [], ◌∷◌, ◌++◌, length, refl, inl, inr, arith}
+use Rattle.std.proofs.Common.{◌≡◌, ◌+◌, ◌/◌, ◌<◌, false, [], ◌∷◌, ◌++◌, length, refl, sym, inl, inr, ◌∙◌, arith}
 use Rattle.std.proofs.lemmas.List.{length_push}
 use Rattle.std.proofs.lemmas.Bool.{cases_lt}
-use Rattle.lua_values.proofs.FlagLemmas.{flag_at-grown, front-blocks, Covered, grown-blocks, grown-groups}
+use Rattle.lua_values.proofs.FlagLemmas.{flag_at-grown, front-blocks, Covered, grown-blocks, grown-groups, standing-grown}
 use Rattle.lua_values.proofs.flags.Flags.grow.Goals as goal
 
 pub invariant_of-self-in_err-cover-2 : goal.invariant_of-self-in_err-cover-2
@@ -15,6 +15,7 @@ invariant_of-self-in_err-cover-2 c =
       grown-blocks s.flags.items s.flags.items s.blocks.items c.cover-2.new.blocks.items (place / 32) c.self.invariant.0 blocks (λ k. refl) (λ k lt. inl lt),
       grown-groups s.blocks.items c.cover-2.new.blocks.items s.groups.items c.cover.new.blocks.items (place / 32) c.self.invariant.1 blocks groups group_there,
       c.self.invariant.2,
+      c.self.invariant.3,
     )
 
 pub invariant_of-self-in_err-push : goal.invariant_of-self-in_err-push
@@ -29,6 +30,7 @@ invariant_of-self-in_err-push c =
       grown-blocks s.flags.items s.flags.items s.blocks.items c.cover-2.new.blocks.items (place / 32) c.self.invariant.0 blocks (λ k. refl) (λ k lt. inl lt),
       grown-groups s.blocks.items c.cover-2.new.blocks.items s.groups.items c.cover.new.blocks.items (place / 32) c.self.invariant.1 blocks groups group_there,
       c.self.invariant.2,
+      c.self.invariant.3,
     )
 
 pub invariant_of-self-2 : goal.invariant_of-self-2
@@ -46,4 +48,5 @@ invariant_of-self-2 c =
           (λ k lt. elim (cases_lt k (length s.flags.items)) [ inl old ↦ inl old | inr new ↦ let at : k ≡ place = omega arith in inr (omega arith) ]),
       grown-groups s.blocks.items c.cover-2.new.blocks.items s.groups.items c.cover.new.blocks.items (place / 32) c.self.invariant.1 blocks groups group_there,
       omega arith,
+      c.self.invariant.3 ∙ sym (standing-grown s.flags.items),
     )

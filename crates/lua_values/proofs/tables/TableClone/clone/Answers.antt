@@ -1,6 +1,12 @@
-use Rattle.std.proofs.Common.{◌∙◌, ap}
+use Rattle.std.proofs.Common.{◌≡◌, length, slice_get, ◌∙◌, ap, sym, subst}
 use Rattle.lua_values.proofs.PairLemmas.{clone-same}
+use Rattle.lua_values.specs.TableFlags.{IsIndexed, IsInOrder}
 use Rattle.lua_values.proofs.tables.TableClone.clone.Goals as goal
+
+pub invariant_of-result : goal.invariant_of-result
+invariant_of-result c =
+    let pairs = clone-same c.self.inside.places.entries c.in_ok-clone.field-0.entries c.in_ok-clone.ensures.cases in
+    rw (pairs, c.in_ok-clone-2.ensures.cases, c.in_ok-clone-3.ensures.cases) c.self.invariant
 
 pub returns : goal.returns
 returns c = record {
