@@ -1,5 +1,5 @@
 -- The place of a key in the map that keeps a table's pairs.
-use Rattle.std.proofs.Common.{◌≡◌, ℕ, zero, suc, ◌+◌, ◌<◌, Bool, true, false, ◌||◌, List, [], ◌∷◌, ◌++◌, length, Option, Some, slice_get, position, is_some, IfSome, refl, sym, ap, subst, inl, inr, ◌∙◌, if◌then◌else◌, true≢false, arith, rules}
+use Rattle.std.proofs.Common.{◌≡◌, ℕ, zero, suc, ◌+◌, Bool, true, false, ◌||◌, List, [], ◌∷◌, ◌++◌, length, Some, slice_get, position, is_some, IfSome, refl, sym, ap, subst, inl, inr, ◌∙◌, if◌then◌else◌, true≢false, arith, rules}
 use Rattle.std.specs.Cmp.{IsEquivalence}
 use Rattle.std.specs.List.{IsDistinct}
 use Rattle.std.specs.Map.{keys_of, values_of}

@@ -1,4 +1,4 @@
-use Rattle.std.proofs.Common.{◌≡◌, false, ap, sym, ◌∙◌}
+use Rattle.std.proofs.Common.{ap, sym, ◌∙◌}
 use Rattle.lua_values.specs.Flags.{flag_at}
 use Rattle.lua_values.proofs.FlagLemmas.{standing-none}
 use Rattle.lua_values.proofs.flags.Flags.first_from.Goals as goal

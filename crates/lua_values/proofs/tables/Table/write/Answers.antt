@@ -1,4 +1,4 @@
-use Rattle.std.proofs.Common.{◌≡◌, Some, length, position, ap, ◌∙◌, inr, subst}
+use Rattle.std.proofs.Common.{◌≡◌, Some, position, ap, ◌∙◌, inr, subst}
 use Rattle.std.specs.Map.{keys_of}
 use Rattle.lua_values.proofs.PairLemmas.{insert-with}
 use Rattle.lua_values.proofs.PlaceLemmas.{order-write, place-has, place-write}

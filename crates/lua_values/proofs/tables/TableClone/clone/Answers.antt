@@ -1,6 +1,5 @@
-use Rattle.std.proofs.Common.{◌≡◌, length, slice_get, ◌∙◌, ap, sym, subst}
+use Rattle.std.proofs.Common.{◌∙◌, ap}
 use Rattle.lua_values.proofs.PairLemmas.{clone-same}
-use Rattle.lua_values.specs.TableFlags.{IsIndexed, IsInOrder}
 use Rattle.lua_values.proofs.tables.TableClone.clone.Goals as goal
 
 pub invariant_of-result : goal.invariant_of-result
