@@ -3,6 +3,3 @@ use Rattle.resty.proofs.writing.write_history.Goals as goal
 
 pub returns-then-is_err : goal.returns-then-is_err
 returns-then-is_err g c = search rules
-
-pub returns-then-drops_strand : goal.returns-then-drops_strand
-returns-then-drops_strand g c = search rules
