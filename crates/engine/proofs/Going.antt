@@ -67,3 +67,9 @@ log-work s line logged.Memory = nothing-work
 
 pub turned-work : (c : ℕ) → IsWork (entry.Turned c ∷ [])
 turned-work c = record { events = λ h. refl; failed = λ h l. l }
+
+-- what went well, and a put after it
+pub goes-put : {V : Type 0} (same : V → V → Type 0) (book : V → Book) (u v w : V) (f g : Bool) → (same u v → same v w → same u w) → Goes same book u v f g
+    → (i : Id) (bytes : List ℕ) (r : Wrote) → same v w → (book w).history ≡ told (wrote_entry i bytes r) (book v).history → (book w).faults ≡ (book v).faults → Goes same book u w f g
+goes-put same book u v w f g joins before i bytes r later history faults =
+    goes-joins same book u v w f g g joins before (goes-work same book v w g (wrote_entry i bytes r) later (wrote-work i bytes r) history faults)

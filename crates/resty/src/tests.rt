@@ -1,5 +1,6 @@
 use super::*;
 use resty_base::{MemFiles, MemSink};
+use std::alloc::AllocError;
 use std::process::Abort;
 use std::test::Fail;
 
@@ -60,45 +61,64 @@ fn expect(rt: &impl Abort, ran: &Ran, status: Status, out: &str, err: &str) {
     assert!(rt; ran.err.taken() == err.as_bytes());
 }
 
+/// The replay of these files is served, and has this history.
+fn expect_history(
+    rt: &impl Abort,
+    alloc: Global,
+    conf: &str,
+    schedule: &str,
+    history: &str,
+) -> Result<(), Fail> {
+    let ran = replay(alloc, conf, schedule)?;
+    expect(rt, &ran, Status::Done, history, "");
+    Ok(())
+}
+
+/// The replay of these files is refused with this status and this line.
+fn expect_refused(
+    rt: &impl Abort,
+    alloc: Global,
+    conf: &str,
+    schedule: &str,
+    status: Status,
+    line: &str,
+) -> Result<(), Fail> {
+    let ran = replay(alloc, conf, schedule)?;
+    expect(rt, &ran, status, "", line);
+    Ok(())
+}
+
+/// A replay over these files ends as a read fault, of which this line tells.
+fn expect_read_fault(
+    rt: &impl Abort,
+    alloc: Global,
+    files: &mut MemFiles,
+    line: &str,
+) -> Result<(), Fail> {
+    let (out, err) = (MemSink::new(alloc), MemSink::new(alloc));
+    let ran = call(alloc, &REPLAY, files, out, err)?;
+    expect(rt, &ran, Status::ReadFault, "", line);
+    Ok(())
+}
+
 #[test]
 fn one_request_gets_its_reply(rt: HostRuntime) -> Result<(), Fail> {
     let schedule = "moment 1000\narrive c1\nbytes c1 \"GET / HTTP/1.0\\r\\n\\r\\n\"\nstop\n";
     let history =
         "moment 1000\narrive c1\nbytes c1 \"GET / HTTP/1.0\\r\\n\\r\\n\"\nput c1 \"HTTP/1.1 200 OK\\r\\nServer: resty\\r\\nDate: Thu, 01 Jan 1970 00:00:01 GMT\\r\\nContent-Type: text/plain\\r\\nConnection: close\\r\\n\\r\\nhi\\n\"\nclose c1\nstop\n";
-    expect(
-        &rt,
-        &replay(rt.alloc(), CONF, schedule)?,
-        Status::Done,
-        history,
-        "",
-    );
-    Ok(())
+    expect_history(&rt, rt.alloc(), CONF, schedule, history)
 }
 
 #[test]
 fn a_schedule_of_stop_is_its_history(rt: HostRuntime) -> Result<(), Fail> {
-    expect(
-        &rt,
-        &replay(rt.alloc(), CONF, "stop\n")?,
-        Status::Done,
-        "stop\n",
-        "",
-    );
-    Ok(())
+    expect_history(&rt, rt.alloc(), CONF, "stop\n", "stop\n")
 }
 
 #[test]
 fn stop_closes_what_is_open(rt: HostRuntime) -> Result<(), Fail> {
     let schedule = "arrive c1\nbytes c1 \"GET\"\nstop\n";
     let history = "arrive c1\nbytes c1 \"GET\"\nstop\nclose c1\n";
-    expect(
-        &rt,
-        &replay(rt.alloc(), CONF, schedule)?,
-        Status::Done,
-        history,
-        "",
-    );
-    Ok(())
+    expect_history(&rt, rt.alloc(), CONF, schedule, history)
 }
 
 #[test]
@@ -106,20 +126,9 @@ fn what_is_not_built_is_refused_at_its_line(rt: HostRuntime) -> Result<(), Fail>
     let print =
         "http { server { listen 8080;\nlocation / { content_by_lua_block { ngx.print(\"x\") } }\n} }\n";
     let conf_line = "resty: t.conf: line 2: not built yet\n";
-    expect(
-        &rt,
-        &replay(rt.alloc(), print, "stop\n")?,
-        Status::Conf,
-        "",
-        conf_line,
-    );
-    expect(
-        &rt,
-        &replay(rt.alloc(), print, "frob\n")?,
-        Status::Conf,
-        "",
-        conf_line,
-    );
+    for schedule in ["stop\n", "frob\n"] {
+        expect_refused(&rt, rt.alloc(), print, schedule, Status::Conf, conf_line)?;
+    }
     let unserved = "resty: t.sched: line 2: not built yet\n";
     let bad = "resty: t.sched: line 2: not a schedule line\n";
     for (schedule, line) in [
@@ -147,70 +156,33 @@ fn what_is_not_built_is_refused_at_its_line(rt: HostRuntime) -> Result<(), Fail>
         ("arrive c1\n", bad),
         ("arrive c1\nfrob\n", bad),
     ] {
-        expect(
-            &rt,
-            &replay(rt.alloc(), CONF, schedule)?,
-            Status::Schedule,
-            "",
-            line,
-        );
+        expect_refused(&rt, rt.alloc(), CONF, schedule, Status::Schedule, line)?;
     }
     Ok(())
 }
 
+/// Adds a file of so many bytes.
+fn add_long(
+    alloc: Global,
+    files: &mut MemFiles,
+    name: &str,
+    length: usize,
+) -> Result<(), AllocError> {
+    let long = vec![in alloc; b'x'; length]?;
+    files.add(alloc, name, long.as_slice())
+}
+
 #[test]
 fn files_that_are_missing_or_too_long_are_read_faults(rt: HostRuntime) -> Result<(), Fail> {
-    let mut none = MemFiles::new(rt.alloc());
-    let ran = call(
-        rt.alloc(),
-        &REPLAY,
-        &mut none,
-        MemSink::new(rt.alloc()),
-        MemSink::new(rt.alloc()),
-    )?;
-    expect(&rt, &ran, Status::ReadFault, "", "resty: no file t.conf\n");
-    none.add(rt.alloc(), "t.conf", CONF.as_bytes())?;
-    let ran = call(
-        rt.alloc(),
-        &REPLAY,
-        &mut none,
-        MemSink::new(rt.alloc()),
-        MemSink::new(rt.alloc()),
-    )?;
-    expect(&rt, &ran, Status::ReadFault, "", "resty: no file t.sched\n");
-    let long = vec![in rt.alloc(); b'x'; 67_108_865]?;
-    none.add(rt.alloc(), "t.sched", long.as_slice())?;
-    let ran = call(
-        rt.alloc(),
-        &REPLAY,
-        &mut none,
-        MemSink::new(rt.alloc()),
-        MemSink::new(rt.alloc()),
-    )?;
-    expect(
-        &rt,
-        &ran,
-        Status::ReadFault,
-        "",
-        "resty: t.sched is too long\n",
-    );
-    let long = vec![in rt.alloc(); b'x'; 1_048_577]?;
-    none.add(rt.alloc(), "t.conf", long.as_slice())?;
-    let ran = call(
-        rt.alloc(),
-        &REPLAY,
-        &mut none,
-        MemSink::new(rt.alloc()),
-        MemSink::new(rt.alloc()),
-    )?;
-    expect(
-        &rt,
-        &ran,
-        Status::ReadFault,
-        "",
-        "resty: t.conf is too long\n",
-    );
-    Ok(())
+    let a = rt.alloc();
+    let mut files = MemFiles::new(a);
+    expect_read_fault(&rt, a, &mut files, "resty: no file t.conf\n")?;
+    files.add(a, "t.conf", CONF.as_bytes())?;
+    expect_read_fault(&rt, a, &mut files, "resty: no file t.sched\n")?;
+    add_long(a, &mut files, "t.sched", 67_108_865)?;
+    expect_read_fault(&rt, a, &mut files, "resty: t.sched is too long\n")?;
+    add_long(a, &mut files, "t.conf", 1_048_577)?;
+    expect_read_fault(&rt, a, &mut files, "resty: t.conf is too long\n")
 }
 
 #[test]
@@ -221,14 +193,7 @@ fn files_that_fail_are_read_faults(rt: HostRuntime) -> Result<(), Fail> {
     ] {
         let mut files = files_of(rt.alloc(), CONF, "stop\n")?;
         files.fail_at(call_number)?;
-        let ran = call(
-            rt.alloc(),
-            &REPLAY,
-            &mut files,
-            MemSink::new(rt.alloc()),
-            MemSink::new(rt.alloc()),
-        )?;
-        expect(&rt, &ran, Status::ReadFault, "", line);
+        expect_read_fault(&rt, rt.alloc(), &mut files, line)?;
     }
     Ok(())
 }

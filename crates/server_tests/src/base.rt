@@ -1,4 +1,6 @@
 use resty_base::*;
+use std::alloc::Global;
+use std::process::Abort;
 use std::test::Fail;
 
 #[test]
@@ -18,6 +20,19 @@ fn whole_numbers_end_at_the_limit(rt: HostRuntime) -> Result<(), Fail> {
     Ok(())
 }
 
+/// A fetch of the file, as long as this at most, is answered so.
+fn expect_fetched<F: Files>(
+    rt: &impl Abort,
+    alloc: Global,
+    files: &mut F,
+    name: &str,
+    max: usize,
+    expected: &Fetched,
+) {
+    let fetched = files.fetch(alloc, name, max);
+    assert!(rt; fetched == *expected, "{name} {max}");
+}
+
 #[test]
 fn files_in_memory_answer_by_name_and_length(rt: HostRuntime) -> Result<(), Fail> {
     let alloc = rt.alloc();
@@ -25,24 +40,13 @@ fn files_in_memory_answer_by_name_and_length(rt: HostRuntime) -> Result<(), Fail
     files.add(alloc, "a", b"one")?;
     files.add(alloc, "a", b"three")?;
     files.fail_at(5)?;
-    for (name, max, expected) in [
-        (
-            "a",
-            5,
-            Fetched::Text(Bytes::copy_from_slice(alloc, b"three")?),
-        ),
-        ("a", 4, Fetched::TooLong),
-        ("b", 5, Fetched::Missing),
-        ("A", 5, Fetched::Missing),
-        ("a", 5, Fetched::Failed),
-        (
-            "a",
-            6,
-            Fetched::Text(Bytes::copy_from_slice(alloc, b"three")?),
-        ),
-    ] {
-        assert_eq!(rt; files.fetch(alloc, name, max), expected, "{name} {max}");
-    }
+    let three = Fetched::Text(Bytes::from_static(b"three"));
+    expect_fetched(&rt, alloc, &mut files, "a", 5, &three);
+    expect_fetched(&rt, alloc, &mut files, "a", 4, &Fetched::TooLong);
+    expect_fetched(&rt, alloc, &mut files, "b", 5, &Fetched::Missing);
+    expect_fetched(&rt, alloc, &mut files, "A", 5, &Fetched::Missing);
+    expect_fetched(&rt, alloc, &mut files, "a", 5, &Fetched::Failed);
+    expect_fetched(&rt, alloc, &mut files, "a", 6, &three);
     Ok(())
 }
 
@@ -50,11 +54,15 @@ fn files_in_memory_answer_by_name_and_length(rt: HostRuntime) -> Result<(), Fail
 fn a_failed_put_ends_the_bytes_that_are_taken(rt: HostRuntime) -> Result<(), Fail> {
     let mut sink = MemSink::new(rt.alloc());
     sink.fail_at(3)?;
-    assert_eq!(rt; put_all(&mut sink, b"one"), Ok(()));
-    assert_eq!(rt; put_all(&mut sink, b""), Ok(()));
-    assert_eq!(rt; put_all(&mut sink, b"two"), Ok(()));
-    assert_eq!(rt; put_all(&mut sink, b"three"), Err(SinkFault));
-    assert_eq!(rt; put_all(&mut sink, b"four"), Ok(()));
+    for (text, answer) in [
+        ("one", Ok(())),
+        ("", Ok(())),
+        ("two", Ok(())),
+        ("three", Err(SinkFault)),
+        ("four", Ok(())),
+    ] {
+        assert_eq!(rt; put_all(&mut sink, text.as_bytes()), answer);
+    }
     assert_eq!(rt; sink.taken(), b"onetwofour".as_slice());
     Ok(())
 }
@@ -72,19 +80,16 @@ fn byte_strings_are_listed_in_order(rt: HostRuntime) -> Result<(), Fail> {
 }
 
 #[test]
-fn files_of_the_system_answer_by_name_and_length(rt: HostRuntime) -> Result<(), Fail> {
+fn files_of_the_system_answer_by_name_and_length(rt: HostRuntime) {
     let alloc = rt.alloc();
     let mut files = DiskFiles::new(&rt);
     let name = "/proc/sys/kernel/ostype";
-    let text = Bytes::copy_from_slice(alloc, b"Linux\n")?;
-    assert_eq!(rt; files.fetch(alloc, name, 6), Fetched::Text(text));
-    assert_eq!(rt; files.fetch(alloc, name, 5), Fetched::TooLong);
-    assert_eq!(rt;
-        files.fetch(alloc, "/proc/sys/kernel/none", 6),
-        Fetched::Missing
-    );
-    assert_eq!(rt; files.fetch(alloc, "/proc", 6), Fetched::Failed);
-    Ok(())
+    let text = Fetched::Text(Bytes::from_static(b"Linux\n"));
+    let none = "/proc/sys/kernel/none";
+    expect_fetched(&rt, alloc, &mut files, name, 6, &text);
+    expect_fetched(&rt, alloc, &mut files, name, 5, &Fetched::TooLong);
+    expect_fetched(&rt, alloc, &mut files, none, 6, &Fetched::Missing);
+    expect_fetched(&rt, alloc, &mut files, "/proc", 6, &Fetched::Failed);
 }
 
 #[test]

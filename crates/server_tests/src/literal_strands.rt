@@ -1,7 +1,8 @@
 use resty_base::{Bytes, Ms};
+use std::alloc::{AllocError, Global};
 use std::test::Fail;
-use strand::{LiteralStrand, SiteFault, literal_site};
-use strand_contract::{Place, Seen, Start, StrandContract};
+use strand::{LiteralStrand, NoJob, SiteFault, literal_site};
+use strand_contract::{Acts, Place, Seen, Start, StrandContract};
 
 const CONF: &[u8] =
     b"http { server { listen 8080;\nlocation / { content_by_lua_block { ngx.say(\"hi\") } }\n} }\n";
@@ -68,6 +69,12 @@ fn texts_are_taken_or_refused_at_a_line(rt: HostRuntime) {
     }
 }
 
+/// Whether the acts are printed so.
+fn are_printed(alloc: Global, acts: &Acts<NoJob>, text: &str) -> Result<bool, AllocError> {
+    let printed = format!(in alloc; "{acts:?}")?;
+    Ok(printed.as_str() == text)
+}
+
 #[test]
 fn a_request_in_two_pieces_gets_one_reply(rt: HostRuntime) -> Result<(), Fail> {
     let alloc = rt.alloc();
@@ -80,14 +87,11 @@ fn a_request_in_two_pieces_gets_one_reply(rt: HostRuntime) -> Result<(), Fail> {
     assert!(rt; acts.is_empty());
     let empty = Bytes::from_static(b"\r\n");
     let acts = strand.given(alloc, &site, now, Seen::Bytes(Place::Client, empty))?;
-    assert_eq!(rt; format!(in alloc; "{acts:?}")?.as_str(), "[Ready(0)]");
+    assert!(rt; are_printed(alloc, &acts, "[Ready(0)]")?);
     let acts = strand.given(alloc, &site, now, Seen::Run(0))?;
-    assert_eq!(rt; format!(in alloc; "{acts:?}")?.as_str(), "[Offer(Client)]");
+    assert!(rt; are_printed(alloc, &acts, "[Offer(Client)]")?);
     assert_eq!(rt; strand.queued(&site, Place::Client), REPLY);
     let acts = strand.given(alloc, &site, now, Seen::Took(Place::Client, 119))?;
-    assert_eq!(rt;
-        format!(in alloc; "{acts:?}")?.as_str(),
-        "[HangUp(Client), Gone]"
-    );
+    assert!(rt; are_printed(alloc, &acts, "[HangUp(Client), Gone]")?);
     Ok(())
 }

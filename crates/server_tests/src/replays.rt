@@ -70,17 +70,23 @@ fn answer(world: &mut Replay, alloc: Global, call: Call) -> u8 {
     }
 }
 
+/// What the calls answer, a letter each, and the end of a line.
+fn answers(world: &mut Replay, alloc: Global, calls: &[Call]) -> Result<Vec<u8>, AllocError> {
+    let mut told = Vec::new(alloc);
+    for call in calls {
+        told.push(answer(world, alloc, *call))?;
+    }
+    told.push(b'\n')?;
+    Ok(told)
+}
+
 /// What the calls answer over a schedule, a letter each, and the history's text behind them.
 fn played(alloc: Global, schedule: &[u8], calls: &[Call]) -> Result<Bytes, AllocError> {
     let Ok(schedule) = schedule_of(alloc, schedule) else {
         return Ok(Bytes::from_static(b"refused"));
     };
     let mut world = Replay::new(alloc, schedule);
-    let mut told = Vec::new(alloc);
-    for call in calls {
-        told.push(answer(&mut world, alloc, *call))?;
-    }
-    told.push(b'\n')?;
+    let mut told = answers(&mut world, alloc, calls)?;
     let text = history_text(alloc, world.history())?;
     told.extend_from_slice(text.as_slice())?;
     Ok(Bytes::from_vec(told)?)
@@ -182,7 +188,8 @@ fn exchange(rt: &impl Abort, world: &mut Replay, alloc: Global, number: u64)
     assert_eq!(rt; world.put_bytes(alloc, connection, b"HTTP"), Wrote::Took(4));
     assert_eq!(rt; world.write_log(alloc, who, b"seen"), Logged::Done);
     assert_eq!(rt; world.dial(alloc, who, host, 9000), Dial::Started(1));
-    note_jobs(rt, world, alloc, who);
+    note_start(rt, world, alloc);
+    note_job(rt, world, alloc, who);
     world.hang_up(connection);
     if let Dial::Started(socket) = world.dial(alloc, who, host, 9001) {
         assert_eq!(rt; socket, 2);
@@ -190,13 +197,19 @@ fn exchange(rt: &impl Abort, world: &mut Replay, alloc: Global, number: u64)
     }
 }
 
-/// Notes a start, and a job that is accepted and given up.
-fn note_jobs(rt: &impl Abort, world: &mut Replay, alloc: Global, who: StrandId)
+/// Notes a start.
+fn note_start(rt: &impl Abort, world: &mut Replay, alloc: Global)
     ensures { (x : Id) → (book_of world.new).is_open x ≡ (book_of world.old).is_open x }
 {
     if let Noted::Done = world.make_room(alloc) {
         assert!(rt; world.note(Entry::Start(1)).is_none());
     }
+}
+
+/// Notes a job that is accepted and given up.
+fn note_job(rt: &impl Abort, world: &mut Replay, alloc: Global, who: StrandId)
+    ensures { (x : Id) → (book_of world.new).is_open x ≡ (book_of world.old).is_open x }
+{
     if let Noted::Done = world.make_room(alloc) {
         assert!(rt;
             world
@@ -207,6 +220,18 @@ fn note_jobs(rt: &impl Abort, world: &mut Replay, alloc: Global, who: StrandId)
     }
 }
 
+/// The world gives this event next.
+fn expect_event(rt: &impl Abort, world: &mut Replay, alloc: Global, event: &Event) {
+    let given = world.next_event(alloc, None);
+    assert!(rt; given == *event);
+}
+
+/// Whether the history of the world has this text.
+fn has_history(alloc: Global, world: &Replay, expected: &[u8]) -> Result<bool, AllocError> {
+    let text = history_text(alloc, world.history())?;
+    Ok(text.as_slice() == expected)
+}
+
 #[test]
 fn a_world_gives_its_lines_and_tells_what_was_done(rt: HostRuntime) -> Result<(), Fail> {
     let alloc = rt.alloc();
@@ -214,7 +239,7 @@ fn a_world_gives_its_lines_and_tells_what_was_done(rt: HostRuntime) -> Result<()
         b"moment 1000\narrive c1\nbytes c1 \"GET /\"\nbytes c1 \" HTTP/1.0\\r\\n\\r\\n\"\nstop\n";
     let mut world = Replay::new(alloc, schedule_of(alloc, schedule)?);
     assert_eq!(rt; world.listen(alloc, 8080), Listened::Up);
-    assert_eq!(rt; world.next_event(alloc, None), Event::Moment(Ms(1000)));
+    expect_event(&rt, &mut world, alloc, &Event::Moment(Ms(1000)));
     match world.next_event(alloc, None) {
         Event::Arrive(number) => {
             assert_eq!(rt; number, 1);
@@ -222,14 +247,11 @@ fn a_world_gives_its_lines_and_tells_what_was_done(rt: HostRuntime) -> Result<()
         }
         _ => assert!(rt; false),
     }
-    assert_eq!(rt; world.next_event(alloc, None), Event::Stop);
-    assert_eq!(rt; world.next_event(alloc, None), Event::Fault);
+    expect_event(&rt, &mut world, alloc, &Event::Stop);
+    expect_event(&rt, &mut world, alloc, &Event::Fault);
     let expected =
         b"moment 1000\narrive c1\nput c1 \"HTTP\"\nlog c1 \"seen\"\ndial c1 127.0.0.1 9000 s1\nstart t1\ntimer c1 7 = t2\ndropped t2\nclose c1\ndial c1 127.0.0.1 9001 s2\nclose s2\nstop\n";
-    assert_eq!(rt;
-        history_text(alloc, world.history())?.as_slice(),
-        expected.as_slice()
-    );
+    assert!(rt; has_history(alloc, &world, expected)?);
     Ok(())
 }
 
@@ -238,15 +260,10 @@ fn bytes_come_while_the_connection_is_open(rt: HostRuntime) -> Result<(), Fail> 
     let alloc = rt.alloc();
     let text = b"arrive c1\nbytes c1 \"GET\"\nstop\n";
     let mut world = Replay::new(alloc, schedule_of(alloc, text)?);
-    assert_eq!(rt; world.next_event(alloc, None), Event::Arrive(1));
-    assert_eq!(rt;
-        world.next_event(alloc, None),
-        Event::Bytes(Id::Conn(1), Bytes::from_static(b"GET"))
-    );
-    assert_eq!(rt; world.next_event(alloc, None), Event::Stop);
-    assert_eq!(rt;
-        history_text(alloc, world.history())?.as_slice(),
-        text.as_slice()
-    );
+    let bytes = Bytes::from_static(b"GET");
+    expect_event(&rt, &mut world, alloc, &Event::Arrive(1));
+    expect_event(&rt, &mut world, alloc, &Event::Bytes(Id::Conn(1), bytes));
+    expect_event(&rt, &mut world, alloc, &Event::Stop);
+    assert!(rt; has_history(alloc, &world, text)?);
     Ok(())
 }

@@ -1,7 +1,8 @@
 //! Several connections: what each is sent is what it would be sent alone.
 
-use super::{CONF, expect, replay};
+use super::{CONF, Ran, expect_history, replay};
 use crate::Status;
+use resty_base::MemSink;
 use std::alloc::Global;
 use std::process::Abort;
 use std::test::Fail;
@@ -60,6 +61,21 @@ impl Script {
         self.close(connection)
     }
 
+    /// The connection sends a byte of the request, and is sent its reply after the last.
+    fn send_byte(&mut self, connection: u64, byte: &str, is_last: bool) -> Result<(), Fail> {
+        self.send(connection, byte)?;
+        if is_last {
+            self.reply(connection)?;
+        }
+        Ok(())
+    }
+
+    /// The connection sends the request at once, and is sent its reply.
+    fn ask(&mut self, connection: u64) -> Result<(), Fail> {
+        self.send(connection, "GET / HTTP/1.0\\r\\n\\r\\n")?;
+        self.reply(connection)
+    }
+
     fn close(&mut self, connection: u64) -> Result<(), Fail> {
         let line = format!(in self.alloc; "close c{connection}\n")?;
         self.history.push_str(line.as_str())?;
@@ -74,9 +90,13 @@ impl Script {
 
     /// The replay of the schedule has the history.
     fn check(&self, rt: &impl Abort) -> Result<(), Fail> {
-        let ran = replay(self.alloc, CONF, self.schedule.as_str())?;
-        expect(rt, &ran, Status::Done, self.history.as_str(), "");
-        Ok(())
+        expect_history(
+            rt,
+            self.alloc,
+            CONF,
+            self.schedule.as_str(),
+            self.history.as_str(),
+        )
     }
 }
 
@@ -87,10 +107,7 @@ fn two_connections_send_byte_by_byte_in_turn(rt: HostRuntime) -> Result<(), Fail
     script.arrive(2)?;
     for (at, byte) in BYTES.iter().enumerate() {
         for connection in [1, 2] {
-            script.send(connection, *byte)?;
-            if at == 17 {
-                script.reply(connection)?;
-            }
+            script.send_byte(connection, *byte, at == 17)?;
         }
     }
     script.give("stop\n")?;
@@ -104,11 +121,9 @@ fn the_connection_beyond_the_limit_is_turned_away(rt: HostRuntime) -> Result<(),
         script.arrive(connection)?;
     }
     script.turn_away(513)?;
-    script.send(7, "GET / HTTP/1.0\\r\\n\\r\\n")?;
-    script.reply(7)?;
+    script.ask(7)?;
     script.arrive(514)?;
-    script.send(514, "GET / HTTP/1.0\\r\\n\\r\\n")?;
-    script.reply(514)?;
+    script.ask(514)?;
     script.give("stop\n")?;
     for connection in 1..=512 {
         if connection != 7 {
@@ -118,38 +133,49 @@ fn the_connection_beyond_the_limit_is_turned_away(rt: HostRuntime) -> Result<(),
     script.check(&rt)
 }
 
+/// Whether the line of a history tells of this connection; then its other words are put.
+fn put_own(part: &mut String, line: &str, name: &str) -> Result<bool, Fail> {
+    let mut words = line.split(' ');
+    let kind = words.next().unwrap_or("");
+    if words.next() != Some(name) {
+        return Ok(false);
+    }
+    part.push_str(kind)?;
+    for word in words {
+        part.push_str(" ")?;
+        part.push_str(word)?;
+    }
+    Ok(true)
+}
+
 /// What a history tells of one connection, without its number.
 fn part_of(alloc: Global, history: &str, connection: u64) -> Result<String, Fail> {
     let name = format!(in alloc; "c{connection}")?;
     let mut part = String::new(alloc);
     for line in history.lines() {
-        let mut words = line.split(' ');
-        let kind = words.next().unwrap_or("");
-        if words.next() == Some(name.as_str()) {
-            part.push_str(kind)?;
-            for word in words {
-                part.push_str(" ")?;
-                part.push_str(word)?;
-            }
+        if put_own(&mut part, line, name.as_str())? {
             part.push_str("\n")?;
         }
     }
     Ok(part)
 }
 
-/// The schedule of these steps: a connection's first step is its arrival, each later one sends its next piece.
+/// The line of a connection's step: the first is its arrival, each later one sends its next piece.
+fn line_of_step(alloc: Global, connection: u64, step: usize) -> Result<String, Fail> {
+    if step == 0 {
+        return Ok(format!(in alloc; "arrive c{connection}\n")?);
+    }
+    let piece = PIECES[(step - 1) % 3];
+    Ok(format!(in alloc; "bytes c{connection} \"{piece}\"\n")?)
+}
+
+/// The schedule of these steps, each of the connection of this number.
 fn schedule_of_steps(alloc: Global, steps: &[u64]) -> Result<String, Fail> {
     let mut schedule = String::new(alloc);
     let mut taken: [usize; 4] = [0; 4];
     for connection in steps {
         let at = (*connection % 4) as usize;
-        let line = match taken[at] {
-            0 => format!(in alloc; "arrive c{connection}\n")?,
-            step => {
-                let piece = PIECES[(step - 1) % 3];
-                format!(in alloc; "bytes c{connection} \"{piece}\"\n")?
-            }
-        };
+        let line = line_of_step(alloc, *connection, taken[at])?;
         schedule.push_str(line.as_str())?;
         taken[at] = taken[at].saturating_add(1);
     }
@@ -162,9 +188,40 @@ fn steps_of(steps: &[u64], connection: u64) -> usize {
     steps.iter().filter(|step| **step == connection).count()
 }
 
+/// What the replay of the schedule of these steps wrote.
+fn written(rt: &impl Abort, alloc: Global, steps: &[u64]) -> Result<MemSink, Fail> {
+    let schedule = schedule_of_steps(alloc, steps)?;
+    let Ran { status, out, .. } = replay(alloc, CONF, schedule.as_str())?;
+    assert!(rt; status == Status::Done);
+    Ok(out)
+}
+
+/// What it wrote tells of the connection what is told of a lone connection that sends as many pieces.
+fn is_as_alone(
+    rt: &impl Abort,
+    alloc: Global,
+    together: &str,
+    connection: u64,
+    count: usize,
+) -> Result<bool, Fail> {
+    let alone: [u64; 4] = [1; 4];
+    let lone = written(rt, alloc, &alone[..count.min(4)])?;
+    let own = part_of(alloc, together, connection)?;
+    Ok(own == part_of(alloc, str::from_utf8(lone.taken())?, 1)?)
+}
+
+/// Each connection of the steps is sent what it is sent alone.
+fn check_steps(rt: &impl Abort, alloc: Global, steps: &[u64]) -> Result<(), Fail> {
+    let together = written(rt, alloc, steps)?;
+    let history = str::from_utf8(together.taken())?;
+    for connection in 1..=3 {
+        assert!(rt; is_as_alone(rt, alloc, history, connection, steps_of(steps, connection))?);
+    }
+    Ok(())
+}
+
 #[test]
 fn each_connection_is_sent_what_it_is_sent_alone(rt: HostRuntime) -> Result<(), Fail> {
-    let alone: [u64; 4] = [1; 4];
     let interleavings: [&[u64]; 8] = [
         &[1, 1, 1, 1, 2, 2, 2, 2, 3, 3, 3, 3],
         &[1, 2, 3, 1, 2, 3, 1, 2, 3, 1, 2, 3],
@@ -176,20 +233,7 @@ fn each_connection_is_sent_what_it_is_sent_alone(rt: HostRuntime) -> Result<(), 
         &[1, 2, 3],
     ];
     for steps in interleavings {
-        let schedule = schedule_of_steps(rt.alloc(), steps)?;
-        let together = replay(rt.alloc(), CONF, schedule.as_str())?;
-        assert!(rt; together.status == Status::Done);
-        let history = str::from_utf8(together.out.taken())?;
-        for connection in 1..=3 {
-            let own = &alone[..steps_of(steps, connection).min(4)];
-            let ran = replay(
-                rt.alloc(),
-                CONF,
-                schedule_of_steps(rt.alloc(), own)?.as_str(),
-            )?;
-            let lone = str::from_utf8(ran.out.taken())?;
-            assert!(rt; part_of(rt.alloc(), history, connection)? == part_of(rt.alloc(), lone, 1)?);
-        }
+        check_steps(&rt, rt.alloc(), steps)?;
     }
     Ok(())
 }

@@ -1,8 +1,8 @@
 //! Long replies, and the bytes that a literal may have.
 
-use super::{expect, replay};
-use crate::Status;
-use std::alloc::Global;
+use super::expect_history;
+use std::alloc::{AllocError, Global};
+use std::process::Abort;
 use std::test::Fail;
 
 const SCHEDULE: &str = "arrive c1\nbytes c1 \"GET / HTTP/1.0\\r\\n\\r\\n\"\nstop\n";
@@ -53,6 +53,18 @@ fn reply_of(alloc: Global, literals: &[String]) -> Result<String, Fail> {
     Ok(reply)
 }
 
+/// Puts a text as it stands within quotes.
+fn push_quoted(history: &mut String, piece: &str) -> Result<(), AllocError> {
+    for letter in piece.chars() {
+        match letter {
+            '\r' => history.push_str("\\r")?,
+            '\n' => history.push_str("\\n")?,
+            other => history.push(other)?,
+        }
+    }
+    Ok(())
+}
+
 /// The history in which the reply is taken piece by piece.
 fn history_of(alloc: Global, reply: &str) -> Result<String, Fail> {
     let mut history = String::from_str(
@@ -61,17 +73,25 @@ fn history_of(alloc: Global, reply: &str) -> Result<String, Fail> {
     )?;
     for piece in reply.as_bytes().chunks(PIECE) {
         history.push_str("put c1 \"")?;
-        for byte in str::from_utf8(piece)?.chars() {
-            match byte {
-                '\r' => history.push_str("\\r")?,
-                '\n' => history.push_str("\\n")?,
-                other => history.push(other)?,
-            }
-        }
+        push_quoted(&mut history, str::from_utf8(piece)?)?;
         history.push_str("\"\n")?;
     }
     history.push_str("close c1\nstop\n")?;
     Ok(history)
+}
+
+/// The literals are said by a reply of so many bytes.
+fn expect_reply(
+    rt: &impl Abort,
+    alloc: Global,
+    literals: &[String],
+    bytes: usize,
+) -> Result<(), Fail> {
+    let conf = conf_of(alloc, literals)?;
+    let reply = reply_of(alloc, literals)?;
+    assert_eq!(rt; reply.len(), bytes);
+    let history = history_of(alloc, reply.as_str())?;
+    expect_history(rt, alloc, conf.as_str(), SCHEDULE, history.as_str())
 }
 
 #[test]
@@ -84,29 +104,24 @@ fn long_replies_are_taken_up_to_each_multiple(rt: HostRuntime) -> Result<(), Fai
         (31, 653, 32_769),
     ] {
         let said = literals(rt.alloc(), length, longer)?;
-        let conf = conf_of(rt.alloc(), said.as_slice())?;
-        let reply = reply_of(rt.alloc(), said.as_slice())?;
-        assert_eq!(rt; reply.len(), bytes);
-        let ran = replay(rt.alloc(), conf.as_str(), SCHEDULE)?;
-        let history = history_of(rt.alloc(), reply.as_str())?;
-        expect(&rt, &ran, Status::Done, history.as_str(), "");
+        expect_reply(&rt, rt.alloc(), said.as_slice(), bytes)?;
     }
     Ok(())
 }
 
-#[test]
-fn a_literal_has_any_printable_byte_but_two(rt: HostRuntime) -> Result<(), Fail> {
-    let mut literal = String::new(rt.alloc());
+/// The printable bytes that a literal may have.
+fn printable(alloc: Global) -> Result<String, AllocError> {
+    let mut literal = String::new(alloc);
     for byte in ' '..='~' {
         if byte != '"' && byte != '\\' {
             literal.push(byte)?;
         }
     }
-    let mut said = Vec::new(rt.alloc());
-    said.push(literal)?;
-    let conf = conf_of(rt.alloc(), said.as_slice())?;
-    let ran = replay(rt.alloc(), conf.as_str(), SCHEDULE)?;
-    let history = history_of(rt.alloc(), reply_of(rt.alloc(), said.as_slice())?.as_str())?;
-    expect(&rt, &ran, Status::Done, history.as_str(), "");
-    Ok(())
+    Ok(literal)
+}
+
+#[test]
+fn a_literal_has_any_printable_byte_but_two(rt: HostRuntime) -> Result<(), Fail> {
+    let said = [printable(rt.alloc())?];
+    expect_reply(&rt, rt.alloc(), said.as_slice(), 210)
 }

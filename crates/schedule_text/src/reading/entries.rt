@@ -1,6 +1,6 @@
 //! The entry of a history that a text is, if it is one.
 ghost use Rattle.std.specs.Prelude.{◌≡◌, IfOk};
-ghost use Rattle.schedule_text.specs.FoundEntries.{dial_in as dial, dict_in as dict, entry_in as entry_of_text, host_in as host, keep_in as keep, kept_in as kept, log_in as log, plain_entry as plain, strand_entry as of_strand, take_in as take, taken_in as taken, timer_answer_in as timer_answer, timer_in as timer};
+ghost use Rattle.schedule_text.specs.FoundEntries.{after_call, answer_in as answer_of_text, call_of as call_by, dial_in as dial, dict_in as dict, entry_in as entry_of_text, host_in as host, keep_in as keep, kept_in as kept, log_in as log, plain_entry as plain, strand_entry as of_strand, take_in as take, taken_in as taken, timer_answer_in as timer_answer, timer_in as timer};
 
 use crate::reading::dictionary::{answer_in, call_in};
 use crate::reading::lines::event_in;
@@ -8,7 +8,7 @@ use crate::reading::names::{id_in, socket_in, strand_in};
 use crate::reading::numbers::{number_in, numbered, octet_in, port_in, small_in};
 use crate::reading::quotes::{first_quoted, unquoted};
 use crate::reading::splits::{begins, first_word, is, split};
-use resty_base::{Boxed, Bytes, Ms, StrandId};
+use resty_base::{Boxed, Bytes, DictAnswer, DictCall, Ms, StrandId};
 use resty_world::{Entry, TimerAnswer};
 use std::alloc::{AllocError, Global};
 
@@ -51,15 +51,30 @@ fn dict_in(alloc: Global, who: StrandId, text: &[u8]) -> Result<Entry, AllocErro
 {
     let (zone, rest) = first_word(text);
     let (word, rest) = first_word(rest);
-    let (call, rest) = call_in(alloc, word, rest)?;
+    let (call, rest) = boxed_call_in(alloc, word, rest)?;
     let (_, answer) = first_word(rest);
-    let answer = answer_in(alloc, answer)?;
-    Ok(Entry::Dict(
-        who,
-        Bytes::copy_from_slice(alloc, zone)?,
-        Boxed::new(alloc, call)?,
-        Boxed::new(alloc, answer)?,
-    ))
+    let answer = boxed_answer_in(alloc, answer)?;
+    let zone = Bytes::copy_from_slice(alloc, zone)?;
+    Ok(Entry::Dict(who, zone, call, answer))
+}
+
+/// The call whose first word this is, on the heap, and what stands behind the call and a space.
+fn boxed_call_in<'a>(
+    alloc: Global,
+    word: &[u8],
+    rest: &'a [u8],
+) -> Result<(Boxed<DictCall>, &'a [u8]), AllocError>
+    ensures { IfOk result (λ read. (read.0 ≡ call_by word.now rest.now) × (read.1.now ≡ after_call word.now rest.now)) }
+{
+    let (call, behind) = call_in(alloc, word, rest)?;
+    Ok((Boxed::new(alloc, call)?, behind))
+}
+
+/// The answer that the text is, on the heap.
+fn boxed_answer_in(alloc: Global, text: &[u8]) -> Result<Boxed<DictAnswer>, AllocError>
+    ensures { IfOk result (λ answer. answer ≡ answer_of_text text.now) }
+{
+    Boxed::new(alloc, answer_in(alloc, text)?)
 }
 
 fn taken_in(text: &[u8]) -> Option<(u64, u32)>

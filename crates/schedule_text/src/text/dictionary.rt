@@ -1,6 +1,8 @@
 //! The calls of a dictionary, and its answers.
-ghost use Rattle.std.specs.Prelude.{◌≡◌, ◌++◌, OnOk};
+ghost use Rattle.std.specs.Prelude.{◌≡◌, ◌++◌, OnOk, codes};
+ghost use Rattle.std.specs.Fmt.{signed_decimal};
 ghost use Rattle.schedule_text.specs.EntryTexts.{answer_text, call_text, forcible_text, how_text, init_text, name_text, value_text};
+ghost use Rattle.schedule_text.specs.Words.{quoted};
 ghost use Rattle.std.specs.List.{flat_map};
 
 use crate::text::words::{put, put_integer, put_number, put_numbered, put_quoted, put_with_quoted};
@@ -41,6 +43,25 @@ fn put_init(out: &mut Vec<u8>, init: Option<i64>, ttl: u64) -> Result<(), AllocE
     }
 }
 
+/// Puts how a value is stored, under which key, and the value.
+fn put_stored(out: &mut Vec<u8>, how: How, key: &[u8], value: &DictValue) -> Result<(), AllocError>
+    ensures { OnOk result (out.new.items ≡ out.old.items ++ how_text how ++ quoted key.now ++ codes " " ++ value_text value.now) }
+{
+    put_how(out, how)?;
+    put_quoted(out, key)?;
+    put(out, b" ")?;
+    put_value(out, value)
+}
+
+/// Puts to which key how much is added.
+fn put_added(out: &mut Vec<u8>, key: &[u8], by: i64) -> Result<(), AllocError>
+    ensures { OnOk result (out.new.items ≡ out.old.items ++ codes "incr " ++ quoted key.now ++ codes " " ++ signed_decimal by) }
+{
+    put_with_quoted(out, b"incr ", key)?;
+    put(out, b" ")?;
+    put_integer(out, by)
+}
+
 /// Puts a call of a dictionary.
 pub fn put_call(out: &mut Vec<u8>, call: &DictCall) -> Result<(), AllocError>
     ensures { OnOk result (out.new.items ≡ out.old.items ++ call_text call.now) }
@@ -54,18 +75,13 @@ pub fn put_call(out: &mut Vec<u8>, call: &DictCall) -> Result<(), AllocError>
             ttl,
             flags,
         } => {
-            put_how(out, *how)?;
-            put_quoted(out, key.as_slice())?;
-            put(out, b" ")?;
-            put_value(out, value)?;
+            put_stored(out, *how, key.as_slice(), value)?;
             put_numbered(out, b" ", *ttl)?;
             put_numbered(out, b" ", *flags as u64)
         }
         DictCall::Delete(key) => put_with_quoted(out, b"delete ", key.as_slice()),
         DictCall::Incr { key, by, init, ttl } => {
-            put_with_quoted(out, b"incr ", key.as_slice())?;
-            put(out, b" ")?;
-            put_integer(out, *by)?;
+            put_added(out, key.as_slice(), *by)?;
             put_init(out, *init, *ttl)
         }
         DictCall::FlushAll => put(out, b"flush_all"),

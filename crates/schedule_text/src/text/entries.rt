@@ -1,13 +1,11 @@
 //! The entries of a history.
 ghost use Rattle.std.specs.Prelude.{◌≡◌, ◌++◌, OnOk, codes, decimal};
 ghost use Rattle.schedule_text.specs.EntryTexts.{answer_text, call_text, entry_line, entry_text, failed_text, host_text, pool_text, socket_or, taken_text, timer_text};
-ghost use Rattle.schedule_text.specs.Words.{quoted};
+ghost use Rattle.schedule_text.specs.Words.{quoted, strand_text};
 
 use crate::text::dictionary::{put_answer, put_call};
 use crate::text::events::put_event;
-use crate::text::words::{
-    put, put_named, put_number, put_numbered, put_strand, put_who, put_with_quoted,
-};
+use crate::text::words::{put, put_named, put_named_bytes, put_numbered, put_who, put_with_quoted};
 use resty_base::{DictAnswer, DictCall, Ms, StrandId};
 use resty_world::{Entry, TimerAnswer};
 use std::alloc::AllocError;
@@ -26,42 +24,25 @@ pub fn put_entry_body(out: &mut Vec<u8>, entry: &Entry) -> Result<(), AllocError
 {
     match entry {
         Entry::Given(event) => put_event(out, event),
-        Entry::Put(id, bytes) => {
-            put_named(out, b"put ", *id)?;
-            put_with_quoted(out, b" ", bytes.as_slice())
-        }
+        Entry::Put(id, bytes) => put_named_bytes(out, b"put ", *id, bytes.as_slice()),
         Entry::Later(id) => put_named(out, b"later ", *id),
         Entry::Lost(id) => put_named(out, b"lost ", *id),
         Entry::Close(id) => put_named(out, b"close ", *id),
-        Entry::Dial(who, host, port, number) => {
-            put_who(out, b"dial ", *who)?;
-            put_host(out, *host)?;
-            put_numbered(out, b" ", *port as u64)?;
-            put_dialled(out, *number)
-        }
-        Entry::Log(who, text, written) => {
-            put_who(out, b"log ", *who)?;
-            put_logged(out, text.as_slice(), *written)
-        }
-        Entry::Dict(who, zone, call, answer) => {
-            put_who(out, b"dict ", *who)?;
-            put_dictionary(out, zone.as_slice(), call.get(), answer.get())
-        }
-        Entry::Take(who, key, got) => {
-            put_who(out, b"take ", *who)?;
-            put_with_quoted(out, b" ", key.as_slice())?;
-            put_taken(out, *got)
-        }
+        Entry::Dial(who, host, port, number) => put_dial(out, *who, *host, *port, *number),
+        Entry::Log(who, text, written) => put_log(out, *who, text.as_slice(), *written),
+        Entry::Dict(who, zone, call, answer) => put_dict(
+            out,
+            *who,
+            zone.as_slice(),
+            call.get(),
+            answer.get(),
+        ),
+        Entry::Take(who, key, got) => put_take(out, *who, key.as_slice(), *got),
         Entry::Keep(who, number, key, idle, size, closed) => {
-            put_who(out, b"keep ", *who)?;
-            put_kept(out, *number, key.as_slice())?;
+            put_kept(out, *who, *number, key.as_slice())?;
             put_pool(out, *idle, *size, *closed)
         }
-        Entry::Timer(who, due, answer) => {
-            put_who(out, b"timer ", *who)?;
-            put_numbered(out, b" ", due.0)?;
-            put_timer(out, *answer)
-        }
+        Entry::Timer(who, due, answer) => put_timer(out, *who, *due, *answer),
         Entry::Start(number) => put_numbered(out, b"start t", *number),
         Entry::Turned(number) => put_numbered(out, b"turned c", *number),
         Entry::Dropped(who) => put_who(out, b"dropped ", *who),
@@ -78,6 +59,22 @@ fn put_host(out: &mut Vec<u8>, host: [u8; 4]) -> Result<(), AllocError>
     put_numbered(out, b".", host[3] as u64)
 }
 
+/// Puts a dial, and the socket that was dialled.
+fn put_dial(
+    out: &mut Vec<u8>,
+    who: StrandId,
+    host: [u8; 4],
+    port: u16,
+    number: Option<u64>,
+) -> Result<(), AllocError>
+    ensures { OnOk result (out.new.items ≡ out.old.items ++ codes "dial " ++ strand_text who ++ codes " " ++ host_text host ++ codes " " ++ decimal port ++ codes " " ++ socket_or (codes "failed") number) }
+{
+    put_who(out, b"dial ", who)?;
+    put_host(out, host)?;
+    put_numbered(out, b" ", port as u64)?;
+    put_dialled(out, number)
+}
+
 /// Puts a space and the socket that was dialled.
 fn put_dialled(out: &mut Vec<u8>, number: Option<u64>) -> Result<(), AllocError>
     ensures { OnOk result (out.new.items ≡ out.old.items ++ codes " " ++ socket_or (codes "failed") number) }
@@ -88,10 +85,11 @@ fn put_dialled(out: &mut Vec<u8>, number: Option<u64>) -> Result<(), AllocError>
     }
 }
 
-/// Puts a space and a log line.
-fn put_logged(out: &mut Vec<u8>, text: &[u8], written: bool) -> Result<(), AllocError>
-    ensures { OnOk result (out.new.items ≡ out.old.items ++ codes " " ++ failed_text written ++ quoted text.now) }
+/// Puts a log line.
+fn put_log(out: &mut Vec<u8>, who: StrandId, text: &[u8], written: bool) -> Result<(), AllocError>
+    ensures { OnOk result (out.new.items ≡ out.old.items ++ codes "log " ++ strand_text who ++ codes " " ++ failed_text written ++ quoted text.now) }
 {
+    put_who(out, b"log ", who)?;
     if written {
         put_with_quoted(out, b" ", text)
     } else {
@@ -99,21 +97,44 @@ fn put_logged(out: &mut Vec<u8>, text: &[u8], written: bool) -> Result<(), Alloc
     }
 }
 
-/// Puts a space, and the call of a dictionary with its answer.
-fn put_dictionary(
+/// Puts the call of a dictionary with its answer.
+fn put_dict(
     out: &mut Vec<u8>,
+    who: StrandId,
     zone: &[u8],
     call: &DictCall,
     answer: &DictAnswer,
 ) -> Result<(), AllocError>
-    ensures { OnOk result (out.new.items ≡ out.old.items ++ codes " " ++ zone.now ++ codes " " ++ call_text call.now ++ codes " = " ++ answer_text answer.now) }
+    ensures { OnOk result (out.new.items ≡ out.old.items ++ codes "dict " ++ strand_text who ++ codes " " ++ zone.now ++ codes " " ++ call_text call.now ++ codes " = " ++ answer_text answer.now) }
 {
-    put(out, b" ")?;
-    put(out, zone)?;
-    put(out, b" ")?;
+    put_who(out, b"dict ", who)?;
+    put_spaced(out, zone)?;
     put_call(out, call)?;
     put(out, b" = ")?;
     put_answer(out, answer)
+}
+
+/// Puts a text with a space before and behind it.
+fn put_spaced(out: &mut Vec<u8>, text: &[u8]) -> Result<(), AllocError>
+    ensures { OnOk result (out.new.items ≡ out.old.items ++ codes " " ++ text.now ++ codes " ") }
+{
+    put(out, b" ")?;
+    put(out, text)?;
+    put(out, b" ")
+}
+
+/// Puts the taking of a socket from a pool.
+fn put_take(
+    out: &mut Vec<u8>,
+    who: StrandId,
+    key: &[u8],
+    got: Option<(u64, u32)>,
+) -> Result<(), AllocError>
+    ensures { OnOk result (out.new.items ≡ out.old.items ++ codes "take " ++ strand_text who ++ codes " " ++ quoted key.now ++ codes " = " ++ taken_text got) }
+{
+    put_who(out, b"take ", who)?;
+    put_with_quoted(out, b" ", key)?;
+    put_taken(out, got)
 }
 
 /// Puts what a pool gave.
@@ -130,9 +151,10 @@ fn put_taken(out: &mut Vec<u8>, got: Option<(u64, u32)>) -> Result<(), AllocErro
 }
 
 /// Puts a socket that was kept, and its key.
-fn put_kept(out: &mut Vec<u8>, number: u64, key: &[u8]) -> Result<(), AllocError>
-    ensures { OnOk result (out.new.items ≡ out.old.items ++ codes " s" ++ decimal number ++ codes " " ++ quoted key.now) }
+fn put_kept(out: &mut Vec<u8>, who: StrandId, number: u64, key: &[u8]) -> Result<(), AllocError>
+    ensures { OnOk result (out.new.items ≡ out.old.items ++ codes "keep " ++ strand_text who ++ codes " s" ++ decimal number ++ codes " " ++ quoted key.now) }
 {
+    put_who(out, b"keep ", who)?;
     put_numbered(out, b" s", number)?;
     put_with_quoted(out, b" ", key)
 }
@@ -149,8 +171,22 @@ fn put_pool(out: &mut Vec<u8>, idle: Ms, size: u32, closed: Option<u64>) -> Resu
     }
 }
 
+/// Puts the asking for a timer.
+fn put_timer(
+    out: &mut Vec<u8>,
+    who: StrandId,
+    due: Ms,
+    answer: TimerAnswer,
+) -> Result<(), AllocError>
+    ensures { OnOk result (out.new.items ≡ out.old.items ++ codes "timer " ++ strand_text who ++ codes " " ++ decimal due.0 ++ codes " = " ++ timer_text answer) }
+{
+    put_who(out, b"timer ", who)?;
+    put_numbered(out, b" ", due.0)?;
+    put_timer_answer(out, answer)
+}
+
 /// Puts what the asking for a timer was answered.
-fn put_timer(out: &mut Vec<u8>, answer: TimerAnswer) -> Result<(), AllocError>
+fn put_timer_answer(out: &mut Vec<u8>, answer: TimerAnswer) -> Result<(), AllocError>
     ensures { OnOk result (out.new.items ≡ out.old.items ++ codes " = " ++ timer_text answer) }
 {
     match answer {

@@ -1,7 +1,7 @@
 ghost use Rattle.std.specs.Prelude.{◌≡◌, ◌++◌, OnOk};
 ghost use Rattle.schedule_text.specs.LineTexts.{event_text};
 
-use crate::text::words::{put, put_named, put_numbered, put_with_quoted};
+use crate::text::words::{put, put_named, put_named_bytes, put_numbered};
 use resty_world::Event;
 use std::alloc::AllocError;
 
@@ -11,10 +11,7 @@ pub fn put_event(out: &mut Vec<u8>, event: &Event) -> Result<(), AllocError>
 {
     match event {
         Event::Arrive(number) => put_numbered(out, b"arrive c", *number),
-        Event::Bytes(id, bytes) => {
-            put_named(out, b"bytes ", *id)?;
-            put_with_quoted(out, b" ", bytes.as_slice())
-        }
+        Event::Bytes(id, bytes) => put_named_bytes(out, b"bytes ", *id, bytes.as_slice()),
         Event::Ended(id) => put_named(out, b"ended ", *id),
         Event::Broken(id) => put_named(out, b"broken ", *id),
         Event::Ready(id) => put_named(out, b"ready ", *id),

@@ -1,5 +1,5 @@
 //! The words of the texts: numbers, names, quoted bytes. Each is put behind what `out` holds.
-ghost use Rattle.std.specs.Prelude.{◌≡◌, ◌++◌, ◌<◌, OnOk, decimal};
+ghost use Rattle.std.specs.Prelude.{◌≡◌, ◌++◌, ◌<◌, OnOk, codes, decimal};
 ghost use Rattle.std.specs.Fmt.{signed_decimal};
 ghost use Rattle.schedule_text.specs.Words.{hex_digit, id_text, quoted, quoted_byte, strand_text};
 
@@ -125,4 +125,17 @@ pub fn put_with_quoted(out: &mut Vec<u8>, text: &[u8], bytes: &[u8]) -> Result<(
 {
     put(out, text)?;
     put_quoted(out, bytes)
+}
+
+/// Puts a text, a connection or a socket, a space and quoted bytes.
+pub fn put_named_bytes(
+    out: &mut Vec<u8>,
+    text: &[u8],
+    id: Id,
+    bytes: &[u8],
+) -> Result<(), AllocError>
+    ensures { OnOk result (out.new.items ≡ out.old.items ++ text.now ++ id_text id ++ codes " " ++ quoted bytes.now) }
+{
+    put_named(out, text, id)?;
+    put_with_quoted(out, b" ", bytes)
 }

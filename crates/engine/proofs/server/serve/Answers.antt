@@ -1,4 +1,4 @@
-use Rattle.std.proofs.Common.{◌≡◌, ◌+◌, ◌≤◌, true, false, None, [], ◌∷◌, if◌then◌else◌, refl, sym, ap, subst, ◌∙◌, arith}
+use Rattle.std.proofs.Common.{◌≡◌, ◌+◌, ◌≤◌, true, false, None, [], ◌∷◌, if◌then◌else◌, refl, sym, ap, subst, ◌∙◌, arith, rules}
 use Rattle.std.proofs.lemmas.Grind.{common_steps}
 use Rattle.resty_world.specs.declared.entry.Entry.TheVariants as entry
 use Rattle.resty_world.specs.declared.event.Event.{Event}
@@ -81,3 +81,9 @@ loop-given-preserved g c =
 
 pub returns-clause-right : goal.returns-clause-right
 returns-clause-right g c = engine-right _ _ c.loop-given.engine (g.W.World.book c.loop-given.world) (g.met.S.StrandContract.keeps c.args.site) c.loop-given.invariant.rests
+
+pub overflow_add-given : goal.overflow_add-given
+overflow_add-given g c = search rules
+
+pub loop-given-smaller : goal.loop-given-smaller
+loop-given-smaller g c = search rules

@@ -1,4 +1,4 @@
-use Rattle.std.proofs.Common.{◌≡◌, ◌==◌, ℕ, true, false, Bool, Some, None, List, [], ◌∷◌, ◌++◌, refl, ap, sym, ◌∙◌, if◌then◌else◌}
+use Rattle.std.proofs.Common.{◌≡◌, ◌==◌, ℕ, true, false, Bool, Some, None, List, [], ◌∷◌, ◌++◌, refl, ap, sym, ◌∙◌, if◌then◌else◌, rules}
 use Rattle.std.proofs.lemmas.Grind.{common_steps}
 use Rattle.std.proofs.Common.{arith}
 use Rattle.resty_base.specs.declared.names.Id.TheVariants as id
@@ -81,3 +81,6 @@ pub returns-clause-wanting : goal.returns-clause-wanting
 returns-clause-wanting g c = λ w.
     let y = c.requires in
     (y.3, near-falls _ _ c.args.connection (c.args.act ∷ y.1) y.2 _ _ _ y.3 y.4.near)
+
+pub returns-in-Failed-clause-goes : goal.returns-in-Failed-clause-goes
+returns-in-Failed-clause-goes g c = search rules

@@ -1,4 +1,4 @@
-use Rattle.std.proofs.Common.{◌≡◌, ◌==◌, ℕ, true, false, None, ◌∷◌, refl, ap, sym, ◌∙◌, if◌then◌else◌}
+use Rattle.std.proofs.Common.{◌≡◌, ◌==◌, ℕ, true, false, None, ◌∷◌, refl, ap, sym, ◌∙◌, if◌then◌else◌, rules}
 use Rattle.resty_base.specs.declared.names.Id.TheVariants as id
 use Rattle.resty_base.specs.declared.names.StrandId.TheVariants as strand
 use Rattle.strand_contract.specs.declared.turns.Place.TheVariants as place
@@ -41,3 +41,6 @@ returns-else-is_open-clause-standing g c =
 pub returns-else-is_open-clause-goes : goal.returns-else-is_open-clause-goes
 returns-else-is_open-clause-goes g c =
     goes-work g.W.World.same g.W.World.book _ _ _ _ c.note.ensures.same (dropped-work (strand.Conn c.args.connection)) c.note.ensures.history c.note.ensures.faults
+
+pub hang_up-requires-clause-is_open : goal.hang_up-requires-clause-is_open
+hang_up-requires-clause-is_open g c = search rules

@@ -1,4 +1,4 @@
-use Rattle.std.proofs.Common.{◌≡◌, ◌∷◌, length, Some, None, if◌then◌else◌, refl, sym, ap, subst, ◌∙◌, arith}
+use Rattle.std.proofs.Common.{◌≡◌, ◌∷◌, length, Some, None, if◌then◌else◌, refl, sym, ap, subst, ◌∙◌, arith, rules}
 use Rattle.resty_base.specs.declared.names.StrandId.{StrandId}
 use Rattle.resty_base.specs.declared.names.StrandId.TheVariants as strand
 use Rattle.resty_world.specs.Ids.{same_strand}
@@ -31,3 +31,6 @@ loop-who-preserved g c =
       places = c.loop-who.invariant.places;
       less = omega (arith, ap length now, c.in_default-take_out.ensures.total (seat_left g.S.StrandContract.left), c.loop-who.invariant.less);
     }
+
+pub loop-who-init : goal.loop-who-init
+loop-who-init g c = search rules

@@ -1,4 +1,4 @@
-use Rattle.std.proofs.Common.{refl}
+use Rattle.std.proofs.Common.{refl, rules}
 use Rattle.engine.proofs.Seats.{to-runs, to-offers}
 use Rattle.engine.proofs.engine.Engine.turn.Goals as goal
 
@@ -11,3 +11,6 @@ pub offer_next-requires-else-self-clause-standing : goal.offer_next-requires-els
 offer_next-requires-else-self-clause-standing g c =
     let s = c.run_next-else-self.ensures.standing in
     (s.0, to-offers _ _ _ _ _ s.0 s.1 (c.if-run_next.ensures.none refl) refl)
+
+pub offer_next-requires-clause-in_offers : goal.offer_next-requires-clause-in_offers
+offer_next-requires-clause-in_offers g c = search rules

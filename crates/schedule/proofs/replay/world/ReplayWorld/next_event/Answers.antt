@@ -1,4 +1,4 @@
-use Rattle.std.proofs.Common.{length, slice_get, refl, sym, ap, ◌∙◌, arith}
+use Rattle.std.proofs.Common.{length, slice_get, refl, sym, ap, ◌∙◌, arith, rules}
 use Rattle.schedule.specs.ReplayBook.{book_of}
 use Rattle.schedule.proofs.NextLine.{nothing_ahead, absent_ahead, behind_last}
 use Rattle.schedule.proofs.Running.{bad-on, gave-bad}
@@ -33,3 +33,6 @@ returns-in-Absent-clause-same c =
     let past = c.pass_to.ensures.past in
     let next = absent_ahead world.history.entries (slice_get world.course c.answering-at.result) (sym c.ahead.ensures.next ∙ c.in-Absent.is) in
     bad-on world c.pass_to.new.self next.bad past (rw (past.schedule, c.pass_to.ensures.there) next.here) (rw past.entries next.absent)
+
+pub returns-in-Fault-clause-gave : goal.returns-in-Fault-clause-gave
+returns-in-Fault-clause-gave c = search rules
