@@ -19,17 +19,17 @@ token kind line = record { splits = λ xs ys. refl }
 nothing : IsBefore (λ behind. behind)
 nothing = record { splits = λ xs ys. refl }
 
-names_before : (t : NameList) → IsBefore (print_names t)
+pub names_before : (t : NameList) → IsBefore (print_names t)
 names_before (tree.first_name l n) = token (Name n) l
 names_before (tree.next_name ns c l n) = follows (print_names ns) (λ behind. a_kind (SignKind Comma) c (a_kind (Name n) l behind)) (names_before ns) (follows (a_kind (SignKind Comma) c) (a_kind (Name n) l) (token (SignKind Comma) c) (token (Name n) l))
 
-params_before : (t : Params) → IsBefore (print_params t)
+pub params_before : (t : Params) → IsBefore (print_params t)
 params_before tree.no_params = nothing
 params_before (tree.names ns) = names_before ns
 params_before (tree.names_and_rest ns c l) = follows (print_names ns) (λ behind. a_kind (SignKind Comma) c (a_kind (SignKind Ellipsis) l behind)) (names_before ns) (follows (a_kind (SignKind Comma) c) (a_kind (SignKind Ellipsis) l) (token (SignKind Comma) c) (token (SignKind Ellipsis) l))
 params_before (tree.only_rest l) = token (SignKind Ellipsis) l
 
-funcname_before : (t : FuncName) → IsBefore (print_funcname t)
+pub funcname_before : (t : FuncName) → IsBefore (print_funcname t)
 funcname_before (tree.root_name l n) = token (Name n) l
 funcname_before (tree.name_member f d l n) = follows (print_funcname f) (λ behind. a_kind (SignKind Dot) d (a_kind (Name n) l behind)) (funcname_before f) (follows (a_kind (SignKind Dot) d) (a_kind (Name n) l) (token (SignKind Dot) d) (token (Name n) l))
 
@@ -44,7 +44,7 @@ end_before (tree.closed l) = token (SignKind Semicolon) l
 mutual
   unfolding print_exp
 
-  exp_before : (t : Exp) → IsBefore (print_exp t)
+  pub exp_before : (t : Exp) → IsBefore (print_exp t)
   exp_before (tree.nil l) = token (WordKind Nil) l
   exp_before (tree.false_ l) = token (WordKind False) l
   exp_before (tree.true_ l) = token (WordKind True) l
@@ -57,7 +57,7 @@ mutual
   exp_before (tree.binary a op l b) = follows (print_exp a) (λ behind. a_kind (kind_of op) l (print_exp b behind)) (exp_before a) (follows (a_kind (kind_of op) l) (print_exp b) (token (kind_of op) l) (exp_before b))
   exp_before (tree.unary op l e) = follows (a_kind (kind_of_unary op) l) (print_exp e) (token (kind_of_unary op) l) (exp_before e)
 
-  prefix_before : (t : PrefixExp) → IsBefore (print_prefixexp t)
+  pub prefix_before : (t : PrefixExp) → IsBefore (print_prefixexp t)
   prefix_before (tree.variable l n) = token (Name n) l
   prefix_before (tree.paren o e c) = follows (a_kind (SignKind OpenParenthesis) o) (λ behind. print_exp e (a_kind (SignKind CloseParenthesis) c behind)) (token (SignKind OpenParenthesis) o) (follows (print_exp e) (a_kind (SignKind CloseParenthesis) c) (exp_before e) (token (SignKind CloseParenthesis) c))
   prefix_before (tree.item p o e c) = follows (print_prefixexp p) (λ behind. a_kind (SignKind OpenBracket) o (print_exp e (a_kind (SignKind CloseBracket) c behind))) (prefix_before p) (follows (a_kind (SignKind OpenBracket) o) (λ behind. print_exp e (a_kind (SignKind CloseBracket) c behind)) (token (SignKind OpenBracket) o) (follows (print_exp e) (a_kind (SignKind CloseBracket) c) (exp_before e) (token (SignKind CloseBracket) c)))
@@ -65,41 +65,41 @@ mutual
   prefix_before (tree.call p a) = follows (print_prefixexp p) (print_args a) (prefix_before p) (args_before a)
   prefix_before (tree.method p c l n a) = follows (print_prefixexp p) (λ behind. a_kind (SignKind Colon) c (a_kind (Name n) l (print_args a behind))) (prefix_before p) (follows (a_kind (SignKind Colon) c) (λ behind. a_kind (Name n) l (print_args a behind)) (token (SignKind Colon) c) (follows (a_kind (Name n) l) (print_args a) (token (Name n) l) (args_before a)))
 
-  args_before : (t : Args) → IsBefore (print_args t)
+  pub args_before : (t : Args) → IsBefore (print_args t)
   args_before (tree.no_args o c) = follows (a_kind (SignKind OpenParenthesis) o) (a_kind (SignKind CloseParenthesis) c) (token (SignKind OpenParenthesis) o) (token (SignKind CloseParenthesis) c)
   args_before (tree.args o es c) = follows (a_kind (SignKind OpenParenthesis) o) (λ behind. print_explist es (a_kind (SignKind CloseParenthesis) c behind)) (token (SignKind OpenParenthesis) o) (follows (print_explist es) (a_kind (SignKind CloseParenthesis) c) (list_before es) (token (SignKind CloseParenthesis) c))
   args_before (tree.table_arg x) = table_before x
   args_before (tree.string_arg l bytes) = token (Text bytes) l
 
-  list_before : (t : ExpList) → IsBefore (print_explist t)
+  pub list_before : (t : ExpList) → IsBefore (print_explist t)
   list_before (tree.one e) = exp_before e
   list_before (tree.more es c e) = follows (print_explist es) (λ behind. a_kind (SignKind Comma) c (print_exp e behind)) (list_before es) (follows (a_kind (SignKind Comma) c) (print_exp e) (token (SignKind Comma) c) (exp_before e))
 
-  table_before : (t : Table) → IsBefore (print_table t)
+  pub table_before : (t : Table) → IsBefore (print_table t)
   table_before (tree.separated o fs c) = follows (a_kind (SignKind OpenBrace) o) (λ behind. print_fields fs (a_kind (SignKind CloseBrace) c behind)) (token (SignKind OpenBrace) o) (follows (print_fields fs) (a_kind (SignKind CloseBrace) c) (fields_before fs) (token (SignKind CloseBrace) c))
   table_before (tree.ending o fs f c) = follows (a_kind (SignKind OpenBrace) o) (λ behind. print_fields fs (print_field f (a_kind (SignKind CloseBrace) c behind))) (token (SignKind OpenBrace) o) (follows (print_fields fs) (λ behind. print_field f (a_kind (SignKind CloseBrace) c behind)) (fields_before fs) (follows (print_field f) (a_kind (SignKind CloseBrace) c) (field_before f) (token (SignKind CloseBrace) c)))
 
-  fields_before : (t : Fields) → IsBefore (print_fields t)
+  pub fields_before : (t : Fields) → IsBefore (print_fields t)
   fields_before tree.no_fields = nothing
   fields_before (tree.more_fields fs f s) = follows (print_fields fs) (λ behind. print_field f (print_separator s behind)) (fields_before fs) (follows (print_field f) (print_separator s) (field_before f) (separator_before s))
 
-  field_before : (t : Field) → IsBefore (print_field t)
+  pub field_before : (t : Field) → IsBefore (print_field t)
   field_before (tree.keyed o k c q e) = follows (a_kind (SignKind OpenBracket) o) (λ behind. print_exp k (a_kind (SignKind CloseBracket) c (a_kind (SignKind Assign) q (print_exp e behind)))) (token (SignKind OpenBracket) o) (follows (print_exp k) (λ behind. a_kind (SignKind CloseBracket) c (a_kind (SignKind Assign) q (print_exp e behind))) (exp_before k) (follows (a_kind (SignKind CloseBracket) c) (λ behind. a_kind (SignKind Assign) q (print_exp e behind)) (token (SignKind CloseBracket) c) (follows (a_kind (SignKind Assign) q) (print_exp e) (token (SignKind Assign) q) (exp_before e))))
   field_before (tree.named l n q e) = follows (a_kind (Name n) l) (λ behind. a_kind (SignKind Assign) q (print_exp e behind)) (token (Name n) l) (follows (a_kind (SignKind Assign) q) (print_exp e) (token (SignKind Assign) q) (exp_before e))
   field_before (tree.plain e) = exp_before e
 
-  body_before : (t : FuncBody) → IsBefore (print_funcbody t)
+  pub body_before : (t : FuncBody) → IsBefore (print_funcbody t)
   body_before (tree.function_body o ps c b e) = follows (a_kind (SignKind OpenParenthesis) o) (λ behind. print_params ps (a_kind (SignKind CloseParenthesis) c (print_block b (a_kind (WordKind EndWord) e behind)))) (token (SignKind OpenParenthesis) o) (follows (print_params ps) (λ behind. a_kind (SignKind CloseParenthesis) c (print_block b (a_kind (WordKind EndWord) e behind))) (params_before ps) (follows (a_kind (SignKind CloseParenthesis) c) (λ behind. print_block b (a_kind (WordKind EndWord) e behind)) (token (SignKind CloseParenthesis) c) (follows (print_block b) (a_kind (WordKind EndWord) e) (block_before b) (token (WordKind EndWord) e))))
 
   pub block_before : (t : Block) → IsBefore (print_block t)
   block_before (tree.statements ss) = stats_before ss
   block_before (tree.with_last ss s x) = follows (print_stats ss) (λ behind. print_laststat s (print_end x behind)) (stats_before ss) (follows (print_laststat s) (print_end x) (last_before s) (end_before x))
 
-  stats_before : (t : Stats) → IsBefore (print_stats t)
+  pub stats_before : (t : Stats) → IsBefore (print_stats t)
   stats_before tree.no_stats = nothing
   stats_before (tree.more_stats ss s x) = follows (print_stats ss) (λ behind. print_stat s (print_end x behind)) (stats_before ss) (follows (print_stat s) (print_end x) (stat_before s) (end_before x))
 
-  stat_before : (t : Stat) → IsBefore (print_stat t)
+  pub stat_before : (t : Stat) → IsBefore (print_stat t)
   stat_before (tree.assign vs q es) = follows (print_varlist vs) (λ behind. a_kind (SignKind Assign) q (print_explist es behind)) (vars_before vs) (follows (a_kind (SignKind Assign) q) (print_explist es) (token (SignKind Assign) q) (list_before es))
   stat_before (tree.call_statement p) = prefix_before p
   stat_before (tree.do_block d b x) = follows (a_kind (WordKind Do) d) (λ behind. print_block b (a_kind (WordKind EndWord) x behind)) (token (WordKind Do) d) (follows (print_block b) (a_kind (WordKind EndWord) x) (block_before b) (token (WordKind EndWord) x))
@@ -116,15 +116,15 @@ mutual
   stat_before (tree.local l ns) = follows (a_kind (WordKind Local) l) (print_names ns) (token (WordKind Local) l) (names_before ns)
   stat_before (tree.local_values l ns q es) = follows (a_kind (WordKind Local) l) (λ behind. print_names ns (a_kind (SignKind Assign) q (print_explist es behind))) (token (WordKind Local) l) (follows (print_names ns) (λ behind. a_kind (SignKind Assign) q (print_explist es behind)) (names_before ns) (follows (a_kind (SignKind Assign) q) (print_explist es) (token (SignKind Assign) q) (list_before es)))
 
-  arms_before : (t : Arms) → IsBefore (print_arms t)
+  pub arms_before : (t : Arms) → IsBefore (print_arms t)
   arms_before (tree.if_arm i t h b) = follows (a_kind (WordKind If) i) (λ behind. print_exp t (a_kind (WordKind Then) h (print_block b behind))) (token (WordKind If) i) (follows (print_exp t) (λ behind. a_kind (WordKind Then) h (print_block b behind)) (exp_before t) (follows (a_kind (WordKind Then) h) (print_block b) (token (WordKind Then) h) (block_before b)))
   arms_before (tree.elseif_arm list i t h b) = follows (print_arms list) (λ behind. a_kind (WordKind ElseIf) i (print_exp t (a_kind (WordKind Then) h (print_block b behind)))) (arms_before list) (follows (a_kind (WordKind ElseIf) i) (λ behind. print_exp t (a_kind (WordKind Then) h (print_block b behind))) (token (WordKind ElseIf) i) (follows (print_exp t) (λ behind. a_kind (WordKind Then) h (print_block b behind)) (exp_before t) (follows (a_kind (WordKind Then) h) (print_block b) (token (WordKind Then) h) (block_before b))))
 
-  last_before : (t : LastStat) → IsBefore (print_laststat t)
+  pub last_before : (t : LastStat) → IsBefore (print_laststat t)
   last_before (tree.return_none r) = token (WordKind Return) r
   last_before (tree.return_values r es) = follows (a_kind (WordKind Return) r) (print_explist es) (token (WordKind Return) r) (list_before es)
   last_before (tree.break_ b) = token (WordKind Break) b
 
-  vars_before : (t : VarList) → IsBefore (print_varlist t)
+  pub vars_before : (t : VarList) → IsBefore (print_varlist t)
   vars_before (tree.one_var p) = prefix_before p
   vars_before (tree.more_vars vs c p) = follows (print_varlist vs) (λ behind. a_kind (SignKind Comma) c (print_prefixexp p behind)) (vars_before vs) (follows (a_kind (SignKind Comma) c) (print_prefixexp p) (token (SignKind Comma) c) (prefix_before p))

@@ -1,20 +1,12 @@
 -- The limits of a function only come nearer: what is within them at the end was within them before.
-use Rattle.std.proofs.Common.{◌≡◌, ◌≤◌, List, [], ◌∷◌, length, subst, sym, arith}
+use Rattle.std.proofs.Common.{◌≡◌, List, [], ◌∷◌, subst, sym, arith}
 use Rattle.std.specs.List.{AllZip}
 use Rattle.lua_ast.specs.declared.statements.Stmt.{Stmt}
 use Rattle.lua_grammar.specs.Tree.{Line, Bytes}
 use Rattle.lua_grammar.specs.Scopes.{Frame, Scope}
+use Rattle.lua_grammar.specs.Limits.{IsFew, Few}
 use Rattle.lua_grammar.specs.Resolution.{EndsFunction}
 use Rattle.lua_grammar.proofs.Frames.{Steady, Wider, Went, Keeps, Goes, goes}
-
-pub record IsFew (f : Frame) : Type 0 where
-  pub locals : f.slots ≤ 200
-  pub captures : length f.captures ≤ 60
-
--- each function that is open is within the limits
-unfoldable pub Few : List Frame → Type 0
-Few [] = Unit {0}
-Few (f ∷ fs) = IsFew f × Few fs
 
 few_frame : (f g : Frame) → Wider f g → IsFew g → IsFew f
 few_frame f g w h = record { locals = omega arith; captures = omega arith }

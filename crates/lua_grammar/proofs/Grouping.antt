@@ -50,7 +50,7 @@ one : (l left right m left' right' : ℕ) → AreLevels l left right → AreLeve
 unfolding AreLevels
 one l left right m left' right' p q h = grind arith
 
-bounds : (l left right : ℕ) → AreLevels l left right → (left ≤ 9) × (right ≤ 9)
+pub bounds : (l left right : ℕ) → AreLevels l left right → (left ≤ 9) × (right ≤ 9)
 unfolding AreLevels
 bounds l left right p = (grind arith, grind arith)
 
@@ -94,3 +94,16 @@ some_level l left right p = grind arith
 pub within_left : (l left right : ℕ) → AreLevels l left right → l ≤ left
 unfolding AreLevels
 within_left l left right p = grind arith
+
+-- and the other way round
+pub fits_right : (l left right m left' right' : ℕ) → AreLevels l left right → AreLevels m left' right' → m < right → left' ≤ l
+unfolding AreLevels
+fits_right l left right m left' right' p q h = grind arith
+
+pub fits_unary : (m left right : ℕ) → AreLevels m left right → m < 7 → left ≤ 7
+unfolding AreLevels
+fits_unary m left right p h = grind arith
+
+pub highest_right : (l left right : ℕ) → AreLevels l left right → right ≤ 7
+unfolding AreLevels
+highest_right l left right p = grind arith

@@ -3,9 +3,10 @@ pub mod Firsts
 pub mod ByHand
 pub mod Before
 pub mod Names
-mod Stopping
-mod Starts
-mod ReadingTrees
+pub mod Stopping
+pub mod Starts
+pub mod FieldNames
+pub mod ReadingTrees
 pub mod Uniqueness
 pub mod SameNodes
 pub mod Agreeing
@@ -18,3 +19,14 @@ pub mod Wholes
 pub mod Wholeness
 pub mod SameFrames
 pub mod Few
+pub mod DeadParts
+pub mod DeadStatements
+pub mod Dead
+pub mod LiveStates
+pub mod LiveParts
+pub mod LiveStatements
+pub mod Live
+pub mod PrintedStates
+pub mod PrintedParts
+pub mod PrintedStatements
+pub mod Printed

@@ -10,44 +10,46 @@ use Rattle.lua_grammar.specs.Operators.{kind_of, kind_of_unary, right_level}
 use Rattle.lua_grammar.specs.Tree.{Line, Bytes, NameList, Params, FuncName, End, Exp, PrefixExp, Args, ExpList, Table, Fields, Field, FuncBody, Block, Stats, Stat, Arms, LastStat, VarList}
 use Rattle.lua_grammar.specs.Tree as tree
 use Rattle.lua_grammar.specs.Printing.{Lexeme, a_kind, a_word, a_sign, print_names, print_params, print_funcname, print_end, print_exp, print_prefixexp, print_args, print_explist, print_table, print_fields, print_field, print_funcbody, print_block, print_stats, print_stat, print_arms, print_laststat, print_varlist}
-use Rattle.lua_grammar.specs.Validity.{takes_rest, IsValid, IsValidPrefix, IsValidArgs, AreValid, IsValidTable, AreValidFields, IsValidField, IsValidBody, IsValidBlock, AreValidStats, IsValidStat, AreValidArms, IsValidLast, AreValidVars, exp_level, ListEndsWithPrefix, StatEndsWithPrefix}
+use Rattle.lua_grammar.specs.Validity.{takes_rest, IsValid, IsValidPrefix, IsValidArgs, AreValid, IsValidTable, AreValidFields, IsValidField, IsValidBody, IsValidBlock, AreValidStats, IsValidStat, AreValidArms, IsValidLast, AreValidVars, exp_level}
 use Rattle.lua_grammar.proofs.Grouping.{levels_of, within_left}
 use Rattle.lua_grammar.specs.Waiting.{Reader, token, exp, more_exp, more_prefix, more_list, more_fields, more_names, more_funcname, more_vars, more_arms, more_stats, after_return, close_parenthesis}
-use Rattle.lua_grammar.specs.Reading.{block, list, params, body_behind, args, begin_args, after_field, field_of, no_rest, next_statement, last_statement, assigns_or_calls, next_target, feed, run}
-use Rattle.lua_grammar.proofs.Stopping.{Behind, IsNoOperator, IsApart, IsBlockEnd, IsStart, IsNext, Stops, ends_in, stops, stops_at, at_least_one, weaker, exp_goes_on, exp_ends, prefix_ends, list_ends, local_ends, calls, assigns, assigns_next, block_ends, statement_ends, return_ends}
-use Rattle.lua_grammar.proofs.Starts.{Alike, Follows, IsBehind, no_operator, block_end_starts, exp_alike, list_alike, stat_follows, last_follows, end_follows, behind_stat, starts_behind, behind_last, return_ends_there}
+use Rattle.lua_grammar.specs.Reading.{block, list, params, body_behind, args, begin_args, after_field, no_rest, next_statement, last_statement, assigns_or_calls, next_target, feed, run}
+use Rattle.lua_grammar.specs.Stopping.{Behind, IsNoAssign, FieldStops, IsApart, Stops, LastStops, EndStops, StatStops, StatsStop, LastStatStops, BlockStops, ArmsStop}
+use Rattle.lua_grammar.proofs.Stopping.{stops, last_stops, names_end, stops_at, at_least_one, exp_goes_on, exp_ends, prefix_ends, list_ends, local_ends, calls, assigns, assigns_next, block_ends, statement_ends, return_ends}
+use Rattle.lua_grammar.proofs.Starts.{Alike, begins, list_alike, stat_follows, last_follows, stats_stop, block_stops, arms_stop}
+use Rattle.lua_grammar.proofs.FieldNames.{AlikeButNamed, exp_alike_but_named, field_stops}
 
 -- ---- names
 
-names_read : (ns : NameList) (r : Reader) (k : NameList → Reader) (rest : NameList → Line → Line → Reader) (behind : List Lexeme)
+pub names_read : (ns : NameList) (r : Reader) (k : NameList → Reader) (rest : NameList → Line → Line → Reader) (behind : List Lexeme)
     → ((n : Bytes) (l : Line) → feed r (Name n) l ≡ more_names (tree.first_name l n) k rest) → run r (print_names ns behind) ≡ run (more_names ns k rest) behind
 names_read (tree.first_name l n) r k rest behind h = ap (λ r. run r behind) (h n l)
 names_read (tree.next_name ns c l n) r k rest behind h = names_read ns r k rest _ h
 
-params_read : (ps : Params) (o : Line) (k : FuncBody → Reader) (c : Line) (behind : List Lexeme)
+pub params_read : (ps : Params) (o : Line) (k : FuncBody → Reader) (c : Line) (behind : List Lexeme)
     → run (token (params o k)) (print_params ps (a_sign sign.CloseParenthesis c behind)) ≡ run (body_behind o k ps c) behind
 params_read tree.no_params o k c behind = refl
 params_read (tree.names ns) o k c behind = names_read ns _ _ _ _ (λ n l. refl)
 params_read (tree.names_and_rest ns d l) o k c behind = names_read ns _ _ _ _ (λ n l. refl)
 params_read (tree.only_rest d) o k c behind = refl
 
-funcname_read : (f : FuncName) (r : Reader) (k : FuncName → Reader) (behind : List Lexeme)
+pub funcname_read : (f : FuncName) (r : Reader) (k : FuncName → Reader) (behind : List Lexeme)
     → ((n : Bytes) (l : Line) → feed r (Name n) l ≡ more_funcname (tree.root_name l n) k) → run r (print_funcname f behind) ≡ run (more_funcname f k) behind
 funcname_read (tree.root_name l n) r k behind h = ap (λ r. run r behind) (h n l)
 funcname_read (tree.name_member f d l n) r k behind h = funcname_read f r k _ h
 
 -- ---- what begins as a production does
 
-record BeginsPrefix (r : Reader) (k : PrefixExp → Reader) : Type 0 where
-  name : (n : Bytes) (l : Line) → feed r (Name n) l ≡ more_prefix (tree.variable l n) k
-  paren : (o : Line) → feed r (Sign sign.OpenParenthesis) o ≡ exp 1 (λ e. token (close_parenthesis (λ c. more_prefix (tree.paren o e c) k)))
+pub record BeginsPrefix (r : Reader) (k : PrefixExp → Reader) : Type 0 where
+  pub name : (n : Bytes) (l : Line) → feed r (Name n) l ≡ more_prefix (tree.variable l n) k
+  pub paren : (o : Line) → feed r (Sign sign.OpenParenthesis) o ≡ exp 1 (λ e. token (close_parenthesis (λ c. more_prefix (tree.paren o e c) k)))
 
-record BeginsArgs (r : Reader) (k : Args → Reader) : Type 0 where
-  open_ : (o : Line) → feed r (Sign sign.OpenParenthesis) o ≡ token (args o k)
-  brace : (o : Line) → feed r (Sign sign.OpenBrace) o ≡ more_fields o tree.no_fields (λ t. k (tree.table_arg t))
-  text : (bytes : Bytes) (l : Line) → feed r (Text bytes) l ≡ k (tree.string_arg l bytes)
+pub record BeginsArgs (r : Reader) (k : Args → Reader) : Type 0 where
+  pub open_ : (o : Line) → feed r (Sign sign.OpenParenthesis) o ≡ token (args o k)
+  pub brace : (o : Line) → feed r (Sign sign.OpenBrace) o ≡ more_fields o tree.no_fields (λ t. k (tree.table_arg t))
+  pub text : (bytes : Bytes) (l : Line) → feed r (Text bytes) l ≡ k (tree.string_arg l bytes)
 
-unary_begins : (op : UnOp) (m : ℕ) (l : Line) (k : Exp → Reader) → feed (exp m k) (kind_of_unary op) l ≡ exp 7 (λ e. more_exp m (tree.unary op l e) k)
+pub unary_begins : (op : UnOp) (m : ℕ) (l : Line) (k : Exp → Reader) → feed (exp m k) (kind_of_unary op) l ≡ exp 7 (λ e. more_exp m (tree.unary op l e) k)
 unary_begins unary.Not m l k = refl
 unary_begins unary.Length m l k = refl
 unary_begins unary.Minus m l k = refl
@@ -64,26 +66,27 @@ return_alike r k (Word word.ElseIf) l h = absurd (true≢false (sym h))
 return_alike r k (Word word.Until) l h = absurd (true≢false (sym h))
 return_alike r k kind l h = refl
 
-fields_alike : (o : Line) (fs : Fields) (k : Table → Reader) → Alike (more_fields o fs k) (exp 1 (λ e. token (field_of (after_field o fs k) e)))
-fields_alike o fs k (Sign sign.CloseBrace) l h = absurd (true≢false (sym h))
-fields_alike o fs k (Sign sign.OpenBracket) l h = absurd (true≢false (sym h))
-fields_alike o fs k kind l h = refl
+fields_alike : (o : Line) (fs : Fields) (k : Table → Reader) → AlikeButNamed (more_fields o fs k) (exp 1 (λ e. token (after_field o fs k (tree.plain e))))
+fields_alike o fs k = record { others = others; name = name }
+  where
+    others : (kind : TokenKind) (l : Line) → begins kind ≡ true → ((n : Bytes) → kind ≡ Name n → ⊥) →
+        feed (more_fields o fs k) kind l ≡ feed (exp 1 (λ e. token (after_field o fs k (tree.plain e)))) kind l
+    others (Sign sign.CloseBrace) l h not = absurd (true≢false (sym h))
+    others (Sign sign.OpenBracket) l h not = absurd (true≢false (sym h))
+    others (Name n) l h not = absurd (not n refl)
+    others kind l h not = refl
 
--- a token behind a field
-record IsFieldEnd (kind : TokenKind) : Type 0 where
-  no : IsNoOperator kind
-  apart : IsApart kind
-  plain : (k : Field → TokenKind → Line → Reader) (e : Exp) (l : Line) → field_of k e kind l ≡ k (tree.plain e) kind l
-
-none : (behind : List Lexeme) → Behind IsNext behind → Behind IsNoOperator behind
-none behind h = weaker IsNext IsNoOperator behind no_operator h
+    name : (n : Bytes) (l : Line) (next : TokenKind) (m : Line) → IsNoAssign next →
+        feed (feed (more_fields o fs k) (Name n) l) next m ≡ feed (feed (exp 1 (λ e. token (after_field o fs k (tree.plain e)))) (Name n) l) next m
+    name n l (Sign sign.Assign) m h = absurd h
+    name n l next m h = refl
 
 -- ---- all productions
 
 mutual
   unfolding print_exp IsValid
 
-  exp_read : (e : Exp) (rest : Bool) (m : ℕ) (k : Exp → Reader) (behind : List Lexeme) → IsValid rest e → m ≤ exp_level e → Stops e behind
+  pub exp_read : (e : Exp) (rest : Bool) (m : ℕ) (k : Exp → Reader) (behind : List Lexeme) → IsValid rest e → m ≤ exp_level e → Stops e behind
       → run (exp m k) (print_exp e behind) ≡ run (more_exp m e k) behind
   exp_read (tree.nil l) rest m k behind v h s = refl
   exp_read (tree.false_ l) rest m k behind v h s = refl
@@ -107,7 +110,7 @@ mutual
       ∙ exp_read e rest 7 (λ e. more_exp m (tree.unary op l e) k) behind v.0 v.1 s.1
       ∙ exp_ends 7 e _ behind s.0
 
-  prefix_read : (p : PrefixExp) (rest : Bool) (r : Reader) (k : PrefixExp → Reader) (behind : List Lexeme) → BeginsPrefix r k → IsValidPrefix rest p
+  pub prefix_read : (p : PrefixExp) (rest : Bool) (r : Reader) (k : PrefixExp → Reader) (behind : List Lexeme) → BeginsPrefix r k → IsValidPrefix rest p
       → run r (print_prefixexp p behind) ≡ run (more_prefix p k) behind
   prefix_read (tree.variable l n) rest r k behind b v = ap (λ r. run r behind) (b.name n l)
   prefix_read (tree.paren o e c) rest r k behind b v =
@@ -123,150 +126,145 @@ mutual
       prefix_read p rest r k _ b v.0
       ∙ args_read a rest (token (begin_args (λ a. more_prefix (tree.method p c l n a) k))) (λ a. more_prefix (tree.method p c l n a) k) behind (record { open_ = λ o. refl; brace = λ o. refl; text = λ bytes l. refl }) v.1
 
-  args_read : (a : Args) (rest : Bool) (r : Reader) (k : Args → Reader) (behind : List Lexeme) → BeginsArgs r k → IsValidArgs rest a
+  pub args_read : (a : Args) (rest : Bool) (r : Reader) (k : Args → Reader) (behind : List Lexeme) → BeginsArgs r k → IsValidArgs rest a
       → run r (print_args a behind) ≡ run (k a) behind
   args_read (tree.no_args o c) rest r k behind b v = ap (λ r. run r (a_sign sign.CloseParenthesis c behind)) (b.open_ o)
   args_read (tree.args o es c) rest r k behind b v =
       ap (λ r. run r (print_explist es (a_sign sign.CloseParenthesis c behind))) (b.open_ o)
       ∙ list_alike es _ _ _ (args_alike o k)
-      ∙ list_read es rest _ _ v (λ m. refl) (λ h. tt)
+      ∙ list_read es rest _ _ v (last_stops es _ (λ m. refl) (λ h. tt))
   args_read (tree.table_arg t) rest r k behind b v = table_read t rest r (λ t. k (tree.table_arg t)) behind b.brace v
   args_read (tree.string_arg l bytes) rest r k behind b v = ap (λ r. run r behind) (b.text bytes l)
 
-  list_read : (es : ExpList) (rest : Bool) (k : ExpList → Reader) (behind : List Lexeme) → AreValid rest es → Behind IsNoOperator behind
-      → (ListEndsWithPrefix es → Behind IsApart behind) → run (list k) (print_explist es behind) ≡ run (more_list es k) behind
-  list_read (tree.one e) rest k behind v h a =
-      exp_read e rest 1 _ behind v (at_least_one e) (stops e behind h a) ∙ exp_ends 1 e _ behind (ends_in 1 behind h)
-  list_read (tree.more es c e) rest k behind v h a =
-      list_read es rest k _ v.0 (λ m. refl) (λ h. tt)
-      ∙ exp_read e rest 1 (λ e. more_list (tree.more es c e) k) behind v.1 (at_least_one e) (stops e behind h a)
-      ∙ exp_ends 1 e _ behind (ends_in 1 behind h)
+  pub list_read : (es : ExpList) (rest : Bool) (k : ExpList → Reader) (behind : List Lexeme) → AreValid rest es → LastStops es behind
+      → run (list k) (print_explist es behind) ≡ run (more_list es k) behind
+  list_read (tree.one e) rest k behind v h =
+      exp_read e rest 1 _ behind v (at_least_one e) h.0 ∙ exp_ends 1 e _ behind h.1
+  list_read (tree.more es c e) rest k behind v h =
+      list_read es rest k _ v.0 (last_stops es _ (λ m. refl) (λ h. tt))
+      ∙ exp_read e rest 1 (λ e. more_list (tree.more es c e) k) behind v.1 (at_least_one e) h.0
+      ∙ exp_ends 1 e _ behind h.1
 
-  table_read : (t : Table) (rest : Bool) (r : Reader) (k : Table → Reader) (behind : List Lexeme)
+  pub table_read : (t : Table) (rest : Bool) (r : Reader) (k : Table → Reader) (behind : List Lexeme)
       → ((o : Line) → feed r (Sign sign.OpenBrace) o ≡ more_fields o tree.no_fields k) → IsValidTable rest t → run r (print_table t behind) ≡ run (k t) behind
   table_read (tree.separated o fs c) rest r k behind b v =
       ap (λ r. run r (print_fields fs (a_sign sign.CloseBrace c behind))) (b o) ∙ fields_read fs rest o k _ v.0
   table_read (tree.ending o fs f c) rest r k behind b v =
       ap (λ r. run r (print_fields fs (print_field f (a_sign sign.CloseBrace c behind)))) (b o)
       ∙ fields_read fs rest o k _ v.0
-      ∙ field_read f rest o fs k (Sign sign.CloseBrace) c behind (record { no = λ m. refl; apart = tt; plain = λ k e l. refl }) v.1
+      ∙ field_read f rest o fs k (a_sign sign.CloseBrace c behind) (field_stops f (a_sign sign.CloseBrace c behind) (λ m. refl) tt tt) v.1
 
-  fields_read : (fs : Fields) (rest : Bool) (o : Line) (k : Table → Reader) (behind : List Lexeme) → AreValidFields rest fs
+  pub fields_read : (fs : Fields) (rest : Bool) (o : Line) (k : Table → Reader) (behind : List Lexeme) → AreValidFields rest fs
       → run (more_fields o tree.no_fields k) (print_fields fs behind) ≡ run (more_fields o fs k) behind
   fields_read tree.no_fields rest o k behind v = refl
   fields_read (tree.more_fields fs f (tree.comma l)) rest o k behind v =
       fields_read fs rest o k _ v.0
-      ∙ field_read f rest o fs k (Sign sign.Comma) l behind (record { no = λ m. refl; apart = tt; plain = λ k e l. refl }) v.1
+      ∙ field_read f rest o fs k (a_sign sign.Comma l behind) (field_stops f (a_sign sign.Comma l behind) (λ m. refl) tt tt) v.1
   fields_read (tree.more_fields fs f (tree.semicolon l)) rest o k behind v =
       fields_read fs rest o k _ v.0
-      ∙ field_read f rest o fs k (Sign sign.Semicolon) l behind (record { no = λ m. refl; apart = tt; plain = λ k e l. refl }) v.1
+      ∙ field_read f rest o fs k (a_sign sign.Semicolon l behind) (field_stops f (a_sign sign.Semicolon l behind) (λ m. refl) tt tt) v.1
 
-  field_read : (f : Field) (rest : Bool) (o : Line) (fs : Fields) (k : Table → Reader) (kind : TokenKind) (l : Line) (behind : List Lexeme) → IsFieldEnd kind
-      → IsValidField rest f → run (more_fields o fs k) (print_field f (a_kind kind l behind)) ≡ run (after_field o fs k f kind l) behind
-  field_read (tree.keyed b key c q e) rest o fs k kind l behind x v =
+  pub field_read : (f : Field) (rest : Bool) (o : Line) (fs : Fields) (k : Table → Reader) (behind : List Lexeme) → FieldStops f behind
+      → IsValidField rest f → run (more_fields o fs k) (print_field f behind) ≡ run (token (after_field o fs k f)) behind
+  field_read (tree.keyed b key c q e) rest o fs k behind x v =
       let next : Exp → Reader = λ e. token (after_field o fs k (tree.keyed b key c q e)) in
       exp_read key rest 1 _ _ v.0 (at_least_one key) (stops key _ (λ m. refl) (λ h. tt))
-      ∙ exp_read e rest 1 next (a_kind kind l behind) v.1 (at_least_one e) (stops e (a_kind kind l behind) x.no (λ h. x.apart))
-      ∙ exp_ends 1 e next (a_kind kind l behind) (x.no 1)
-  field_read (tree.named at n q e) rest o fs k kind l behind x v =
+      ∙ exp_read e rest 1 next behind v.1 (at_least_one e) x.0
+      ∙ exp_ends 1 e next behind x.1
+  field_read (tree.named at n q e) rest o fs k behind x v =
       let next : Exp → Reader = λ e. token (after_field o fs k (tree.named at n q e)) in
-      exp_read e rest 1 next (a_kind kind l behind) v (at_least_one e) (stops e (a_kind kind l behind) x.no (λ h. x.apart))
-      ∙ exp_ends 1 e next (a_kind kind l behind) (x.no 1)
-  field_read (tree.plain e) rest o fs k kind l behind x v =
-      let next : Exp → Reader = λ e. token (field_of (after_field o fs k) e) in
-      exp_alike e (more_fields o fs k) _ (a_kind kind l behind) (fields_alike o fs k)
-      ∙ exp_read e rest 1 next (a_kind kind l behind) v (at_least_one e) (stops e (a_kind kind l behind) x.no (λ h. x.apart))
-      ∙ exp_ends 1 e next (a_kind kind l behind) (x.no 1)
-      ∙ ap (λ r. run r behind) (x.plain (after_field o fs k) e l)
+      exp_read e rest 1 next behind v (at_least_one e) x.0 ∙ exp_ends 1 e next behind x.1
+  field_read (tree.plain e) rest o fs k behind x v =
+      let next : Exp → Reader = λ e. token (after_field o fs k (tree.plain e)) in
+      exp_alike_but_named e (more_fields o fs k) (exp 1 next) behind (fields_alike o fs k) x.2
+      ∙ exp_read e rest 1 next behind v (at_least_one e) x.0
+      ∙ exp_ends 1 e next behind x.1
 
-  body_read : (b : FuncBody) (r : Reader) (k : FuncBody → Reader) (behind : List Lexeme)
+  pub body_read : (b : FuncBody) (r : Reader) (k : FuncBody → Reader) (behind : List Lexeme)
       → ((o : Line) → feed r (Sign sign.OpenParenthesis) o ≡ token (params o k)) → IsValidBody b → run r (print_funcbody b behind) ≡ run (k b) behind
   body_read (tree.function_body o ps c b x) r k behind h v =
       ap (λ r. run r (print_params ps (a_sign sign.CloseParenthesis c (print_block b (a_word word.End x behind))))) (h o)
       ∙ params_read ps o k c _
-      ∙ block_read b (takes_rest ps) false _ (a_word word.End x behind) v tt
+      ∙ block_read b (takes_rest ps) false _ (a_word word.End x behind) v (block_stops b _ tt)
 
-  pub block_read : (b : Block) (rest : Bool) (loop : Bool) (k : Block → Reader) (behind : List Lexeme) → IsValidBlock rest loop b → Behind IsBlockEnd behind
+  pub block_read : (b : Block) (rest : Bool) (loop : Bool) (k : Block → Reader) (behind : List Lexeme) → IsValidBlock rest loop b → BlockStops b behind
       → run (block k) (print_block b behind) ≡ run (k b) behind
-  block_read (tree.statements ss) rest loop k behind v h = stats_read ss rest loop k behind v (end_follows ss behind h) ∙ block_ends ss k behind h
+  block_read (tree.statements ss) rest loop k behind v h = stats_read ss rest loop k behind v h.0 ∙ block_ends ss k behind h.1
   block_read (tree.with_last ss s x) rest loop k behind v h =
-      stats_read ss rest loop k _ v.0 (last_follows ss s (print_end x behind)) ∙ last_read s rest loop ss k x behind v.1 h
+      stats_read ss rest loop k _ v.0 (stats_stop ss _ (last_follows ss s (print_end x behind))) ∙ last_read s rest loop ss k x behind v.1 h.0 h.1
 
-  stats_read : (ss : Stats) (rest : Bool) (loop : Bool) (k : Block → Reader) (behind : List Lexeme) → AreValidStats rest loop ss → Follows ss behind
+  pub stats_read : (ss : Stats) (rest : Bool) (loop : Bool) (k : Block → Reader) (behind : List Lexeme) → AreValidStats rest loop ss → StatsStop ss behind
       → run (block k) (print_stats ss behind) ≡ run (more_stats ss k) behind
   stats_read tree.no_stats rest loop k behind v f = refl
   stats_read (tree.more_stats ss s x) rest loop k behind v f =
-      stats_read ss rest loop k _ v.0 (stat_follows ss s (print_end x behind) v.2)
-      ∙ stat_read s rest loop ss k (print_end x behind) v.1 (behind_stat ss s x behind f)
-      ∙ statement_ends x _ behind (starts_behind ss s x behind f)
+      stats_read ss rest loop k _ v.0 (stats_stop ss _ (stat_follows ss s (print_end x behind) v.2))
+      ∙ stat_read s rest loop ss k (print_end x behind) v.1 f.0
+      ∙ statement_ends x _ behind f.1
 
   last_read : (s : LastStat) (rest : Bool) (loop : Bool) (ss : Stats) (k : Block → Reader) (x : End) (behind : List Lexeme) → IsValidLast rest loop s
-      → Behind IsBlockEnd behind → run (more_stats ss k) (print_laststat s (print_end x behind)) ≡ run (k (tree.with_last ss s x)) behind
-  last_read (tree.return_none r) rest loop ss k x behind v h =
-      return_ends r (last_statement ss k) (print_end x behind) (return_ends_there x behind h)
-      ∙ statement_ends x _ behind (weaker IsBlockEnd IsStart behind block_end_starts h)
-  last_read (tree.return_values r es) rest loop ss k x behind v h =
-      let b = behind_last x behind h in
+      → LastStatStops s (print_end x behind) → EndStops x behind → run (more_stats ss k) (print_laststat s (print_end x behind)) ≡ run (k (tree.with_last ss s x)) behind
+  last_read (tree.return_none r) rest loop ss k x behind v h end = return_ends r (last_statement ss k) (print_end x behind) h ∙ statement_ends x _ behind end
+  last_read (tree.return_values r es) rest loop ss k x behind v h end =
       list_alike es (after_return r (last_statement ss k)) _ (print_end x behind) (return_alike r (last_statement ss k))
-      ∙ list_read es rest _ (print_end x behind) v (none _ b.next) (λ ends. b.apart tt)
-      ∙ list_ends es _ (print_end x behind) b.next
-      ∙ statement_ends x _ behind (weaker IsBlockEnd IsStart behind block_end_starts h)
-  last_read (tree.break_ b) rest loop ss k x behind v h = statement_ends x _ behind (weaker IsBlockEnd IsStart behind block_end_starts h)
+      ∙ list_read es rest _ (print_end x behind) v h.0
+      ∙ list_ends es _ (print_end x behind) h.1
+      ∙ statement_ends x _ behind end
+  last_read (tree.break_ b) rest loop ss k x behind v h end = statement_ends x _ behind end
 
-  stat_read : (s : Stat) (rest : Bool) (loop : Bool) (ss : Stats) (k : Block → Reader) (behind : List Lexeme) → IsValidStat rest loop s
-      → IsBehind (StatEndsWithPrefix s) behind → run (more_stats ss k) (print_stat s behind) ≡ run (next_statement ss k s) behind
+  pub stat_read : (s : Stat) (rest : Bool) (loop : Bool) (ss : Stats) (k : Block → Reader) (behind : List Lexeme) → IsValidStat rest loop s
+      → StatStops s behind → run (more_stats ss k) (print_stat s behind) ≡ run (next_statement ss k s) behind
   stat_read (tree.assign vs q es) rest loop ss k behind v b =
       vars_read vs rest (more_stats ss k) (next_statement ss k) _ (record { name = λ n l. refl; paren = λ o. refl }) v.0 tt
-      ∙ list_read es rest _ behind v.1 (none _ b.next) b.apart
-      ∙ list_ends es _ behind b.next
+      ∙ list_read es rest _ behind v.1 b.0
+      ∙ list_ends es _ behind b.1
   stat_read (tree.call_statement p) rest loop ss k behind v b =
       prefix_read p rest (more_stats ss k) (assigns_or_calls (next_statement ss k)) behind (record { name = λ n l. refl; paren = λ o. refl }) v.0
-      ∙ prefix_ends p _ behind (b.apart tt)
+      ∙ prefix_ends p _ behind b
       ∙ ap (λ r. run r behind) (calls p (next_statement ss k) v.1)
-  stat_read (tree.do_block d c x) rest loop ss k behind v b = block_read c rest loop _ _ v tt
+  stat_read (tree.do_block d c x) rest loop ss k behind v b = block_read c rest loop _ _ v (block_stops c _ tt)
   stat_read (tree.while_loop w t d c x) rest loop ss k behind v b =
-      exp_read t rest 1 _ _ v.0 (at_least_one t) (stops t _ (λ m. refl) (λ h. tt)) ∙ block_read c rest true _ _ v.1 tt
+      exp_read t rest 1 _ _ v.0 (at_least_one t) (stops t _ (λ m. refl) (λ h. tt)) ∙ block_read c rest true _ _ v.1 (block_stops c _ tt)
   stat_read (tree.repeat_loop r c u t) rest loop ss k behind v b =
-      block_read c rest true _ _ v.0 tt
-      ∙ exp_read t rest 1 _ behind v.1 (at_least_one t) (stops t behind (none _ b.next) b.apart)
-      ∙ exp_ends 1 t _ behind (ends_in 1 behind (none _ b.next))
-  stat_read (tree.if_then arms x) rest loop ss k behind v b = arms_read arms rest loop ss k _ v tt
-  stat_read (tree.if_else arms l c x) rest loop ss k behind v b = arms_read arms rest loop ss k _ v.0 tt ∙ block_read c rest loop _ _ v.1 tt
+      block_read c rest true _ _ v.0 (block_stops c _ tt)
+      ∙ exp_read t rest 1 _ behind v.1 (at_least_one t) b.0
+      ∙ exp_ends 1 t _ behind b.1
+  stat_read (tree.if_then arms x) rest loop ss k behind v b = arms_read arms rest loop ss k _ v (arms_stop arms _ tt)
+  stat_read (tree.if_else arms l c x) rest loop ss k behind v b = arms_read arms rest loop ss k _ v.0 (arms_stop arms _ tt) ∙ block_read c rest loop _ _ v.1 (block_stops c _ tt)
   stat_read (tree.for_range f l n q from c to d inner x) rest loop ss k behind v b =
       exp_read from rest 1 _ _ v.0 (at_least_one from) (stops from _ (λ m. refl) (λ h. tt))
       ∙ exp_read to rest 1 _ _ v.1 (at_least_one to) (stops to _ (λ m. refl) (λ h. tt))
-      ∙ block_read inner rest true _ _ v.2 tt
+      ∙ block_read inner rest true _ _ v.2 (block_stops inner _ tt)
   stat_read (tree.for_steps f l n q from c to m step d inner x) rest loop ss k behind v b =
       exp_read from rest 1 _ _ v.0 (at_least_one from) (stops from _ (λ m. refl) (λ h. tt))
       ∙ exp_read to rest 1 _ _ v.1 (at_least_one to) (stops to _ (λ m. refl) (λ h. tt))
       ∙ exp_read step rest 1 _ _ v.2 (at_least_one step) (stops step _ (λ m. refl) (λ h. tt))
-      ∙ block_read inner rest true _ _ v.3 tt
+      ∙ block_read inner rest true _ _ v.3 (block_stops inner _ tt)
   stat_read (tree.for_in f ns i es d inner x) rest loop ss k behind v b =
       names_read ns _ _ no_rest _ (λ n l. refl)
-      ∙ list_read es rest _ _ v.0 (λ m. refl) (λ h. tt)
-      ∙ block_read inner rest true _ _ v.1 tt
+      ∙ list_read es rest _ _ v.0 (last_stops es _ (λ m. refl) (λ h. tt))
+      ∙ block_read inner rest true _ _ v.1 (block_stops inner _ tt)
   stat_read (tree.function_statement f n inner) rest loop ss k behind v b =
       funcname_read n _ _ _ (λ n l. refl) ∙ body_read inner _ (λ b. next_statement ss k (tree.function_statement f n b)) behind (λ o. refl) v.0
   stat_read (tree.method_statement f n c l m inner) rest loop ss k behind v b =
       funcname_read n _ _ _ (λ n l. refl) ∙ body_read inner _ (λ b. next_statement ss k (tree.method_statement f n c l m b)) behind (λ o. refl) v.0
   stat_read (tree.local_function l f m n inner) rest loop ss k behind v b = body_read inner _ (λ b. next_statement ss k (tree.local_function l f m n b)) behind (λ o. refl) v
   stat_read (tree.local l ns) rest loop ss k behind v b =
-      names_read ns _ _ no_rest behind (λ n l. refl) ∙ local_ends l ns (next_statement ss k) no_rest behind b.next
+      names_read ns _ _ no_rest behind (λ n l. refl) ∙ names_end ns _ no_rest behind b.0 ∙ local_ends l ns (next_statement ss k) behind b.1
   stat_read (tree.local_values l ns q es) rest loop ss k behind v b =
       names_read ns _ _ no_rest _ (λ n l. refl)
-      ∙ list_read es rest _ behind v (none _ b.next) b.apart
-      ∙ list_ends es _ behind b.next
+      ∙ list_read es rest _ behind v b.0
+      ∙ list_ends es _ behind b.1
 
-  arms_read : (arms : Arms) (rest : Bool) (loop : Bool) (ss : Stats) (k : Block → Reader) (behind : List Lexeme) → AreValidArms rest loop arms
-      → Behind IsBlockEnd behind → run (more_stats ss k) (print_arms arms behind) ≡ run (more_arms arms (next_statement ss k)) behind
+  pub arms_read : (arms : Arms) (rest : Bool) (loop : Bool) (ss : Stats) (k : Block → Reader) (behind : List Lexeme) → AreValidArms rest loop arms
+      → ArmsStop arms behind → run (more_stats ss k) (print_arms arms behind) ≡ run (more_arms arms (next_statement ss k)) behind
   arms_read (tree.if_arm i t h b) rest loop ss k behind v x =
       exp_read t rest 1 _ _ v.0 (at_least_one t) (stops t _ (λ m. refl) (λ h. tt)) ∙ block_read b rest loop _ behind v.1 x
   arms_read (tree.elseif_arm arms i t h b) rest loop ss k behind v x =
-      arms_read arms rest loop ss k _ v.0 tt
+      arms_read arms rest loop ss k _ v.0 (arms_stop arms _ tt)
       ∙ exp_read t rest 1 _ _ v.1 (at_least_one t) (stops t _ (λ m. refl) (λ h. tt))
       ∙ block_read b rest loop _ behind v.2 x
 
-  vars_read : (vs : VarList) (rest : Bool) (r : Reader) (k : Stat → Reader) (behind : List Lexeme) → BeginsPrefix r (assigns_or_calls k)
+  pub vars_read : (vs : VarList) (rest : Bool) (r : Reader) (k : Stat → Reader) (behind : List Lexeme) → BeginsPrefix r (assigns_or_calls k)
       → AreValidVars rest vs → Behind IsApart behind → run r (print_varlist vs behind) ≡ run (more_vars vs k) behind
   vars_read (tree.one_var p) rest r k behind b v a =
       prefix_read p rest r _ behind b v.0 ∙ prefix_ends p _ behind a ∙ ap (λ r. run r behind) (assigns p k v.1)

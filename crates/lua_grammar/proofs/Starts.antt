@@ -5,13 +5,14 @@ use Rattle.lua_lexer.specs.declared.tokens.TokenKind.{TokenKind}
 use Rattle.lua_lexer.specs.declared.tokens.TokenKind.TheVariants.{Name, Text, Number, Word, Sign}
 use Rattle.lua_lexer.specs.declared.signs.Sign.TheVariants as sign
 use Rattle.lua_lexer.specs.declared.words.Word.TheVariants as word
-use Rattle.lua_grammar.specs.Tree.{Line, End, Exp, PrefixExp, ExpList, Stats, Stat, Arms, LastStat, VarList}
+use Rattle.lua_grammar.specs.Tree.{Line, End, Exp, PrefixExp, ExpList, Stats, Stat, Arms, LastStat, VarList, Block}
 use Rattle.lua_grammar.specs.Tree as tree
 use Rattle.lua_grammar.specs.Printing.{Lexeme, a_sign, print_exp, print_prefixexp, print_explist, print_varlist, print_arms, print_stat, print_laststat, print_funcbody, print_fields, print_field, print_end}
 use Rattle.lua_grammar.specs.Validity.{MayFollow, StatEndsWithPrefix, BeginsWithParen, VarsBeginWithParen, StatBeginsWithParen}
 use Rattle.lua_grammar.specs.Waiting.{Reader}
 use Rattle.lua_grammar.specs.Reading.{feed, run}
-use Rattle.lua_grammar.proofs.Stopping.{Behind, IsNoOperator, IsApart, IsBlockEnd, IsStart, IsNext, IsReturnEnd, IsNoParen, weaker}
+use Rattle.lua_grammar.specs.Stopping.{IsBlockEnd, IsReturnEnd, LastStatStops, BlockStops, ArmsStop, Behind, IsNoOperator, IsApart, IsNoComma, IsNoAssign, IsNoSemicolon, LastStops, StatStops, EndStops, StatsStop}
+use Rattle.lua_grammar.proofs.Stopping.{last_stops, ends_in, stops, IsStart, IsNext, IsNoParen, weaker}
 
 -- ---- kinds of tokens
 
@@ -199,3 +200,59 @@ behind_last (tree.closed l) behind h = record { next = tt; apart = λ ends. tt }
 pub return_ends_there : (x : End) (behind : List Lexeme) → Behind IsBlockEnd behind → Behind IsReturnEnd (print_end x behind)
 return_ends_there tree.bare behind h = weaker IsBlockEnd IsReturnEnd behind block_end_ends_return h
 return_ends_there (tree.closed l) behind h = tt
+
+-- ---- behind statements that may stand there each of them is handed on
+
+next_no_comma : (kind : TokenKind) → IsNext kind → IsNoComma kind
+next_no_comma (Sign sign.Comma) h = absurd h
+next_no_comma kind h = tt
+
+next_no_assign : (kind : TokenKind) → IsNext kind → IsNoAssign kind
+next_no_assign (Sign sign.Assign) h = absurd h
+next_no_assign kind h = tt
+
+start_no_semicolon : (kind : TokenKind) → IsStart kind → IsNoSemicolon kind
+start_no_semicolon (Sign sign.Semicolon) h = absurd h
+start_no_semicolon kind h = tt
+
+none : (behind : List Lexeme) → Behind IsNext behind → Behind IsNoOperator behind
+none behind h = weaker IsNext IsNoOperator behind no_operator h
+
+stat_stops : (s : Stat) (behind : List Lexeme) → IsBehind (StatEndsWithPrefix s) behind → StatStops s behind
+stat_stops (tree.assign vs q es) behind b = (last_stops es behind (none behind b.next) b.apart, weaker IsNext IsNoComma behind next_no_comma b.next)
+stat_stops (tree.call_statement p) behind b = b.apart tt
+stat_stops (tree.repeat_loop r c u t) behind b = (stops t behind (none behind b.next) b.apart, ends_in 1 behind (none behind b.next))
+stat_stops (tree.local l ns) behind b = (weaker IsNext IsNoComma behind next_no_comma b.next, weaker IsNext IsNoAssign behind next_no_assign b.next)
+stat_stops (tree.local_values l ns q es) behind b = (last_stops es behind (none behind b.next) b.apart, weaker IsNext IsNoComma behind next_no_comma b.next)
+stat_stops other behind b = tt
+
+end_stops : (x : End) (behind : List Lexeme) → Behind IsStart behind → EndStops x behind
+end_stops tree.bare behind h = weaker IsStart IsNoSemicolon behind start_no_semicolon h
+end_stops (tree.closed l) behind h = tt
+
+pub stats_stop : (ss : Stats) (behind : List Lexeme) → Follows ss behind → StatsStop ss behind
+stats_stop tree.no_stats behind f = tt
+stats_stop (tree.more_stats ss s x) behind f = (stat_stops s (print_end x behind) (behind_stat ss s x behind f), end_stops x behind (starts_behind ss s x behind f))
+
+-- behind the last statement of a block
+pub last_ends : (x : End) (behind : List Lexeme) → Behind IsBlockEnd behind → EndStops x behind
+last_ends x behind h = end_stops x behind (weaker IsBlockEnd IsStart behind block_end_starts h)
+
+pub last_list : (es : ExpList) (x : End) (behind : List Lexeme) → Behind IsBlockEnd behind → LastStops es (print_end x behind) × Behind IsNoComma (print_end x behind)
+last_list es x behind h =
+    let b = behind_last x behind h in
+    (last_stops es _ (none _ b.next) (λ ends. b.apart tt), weaker IsNext IsNoComma (print_end x behind) next_no_comma b.next)
+
+last_stat_stops : (s : LastStat) (x : End) (behind : List Lexeme) → Behind IsBlockEnd behind → LastStatStops s (print_end x behind)
+last_stat_stops (tree.return_none r) x behind h = return_ends_there x behind h
+last_stat_stops (tree.return_values r es) x behind h = last_list es x behind h
+last_stat_stops (tree.break_ b) x behind h = tt
+
+-- where a block ends
+pub block_stops : (b : Block) (behind : List Lexeme) → Behind IsBlockEnd behind → BlockStops b behind
+block_stops (tree.statements ss) behind h = (stats_stop ss behind (end_follows ss behind h), h)
+block_stops (tree.with_last ss s x) behind h = (last_stat_stops s x behind h, last_ends x behind h)
+
+pub arms_stop : (arms : Arms) (behind : List Lexeme) → Behind IsBlockEnd behind → ArmsStop arms behind
+arms_stop (tree.if_arm i t h b) behind e = block_stops b behind e
+arms_stop (tree.elseif_arm those i t h b) behind e = block_stops b behind e

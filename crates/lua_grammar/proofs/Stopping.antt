@@ -1,6 +1,7 @@
 -- Where the reader hands on what it has read: at a token that doesn't continue it.
-use Rattle.std.proofs.Common.{◌≡◌, ℕ, ◌≤◌, ◌<◌, Bool, List, [], ◌∷◌, Some, None, refl, ap, arith, lit≤}
+use Rattle.std.proofs.Common.{◌≡◌, ℕ, ◌≤◌, ◌<◌, Bool, List, [], ◌∷◌, Option, Some, None, ◌∙◌, sym, refl, ap, arith, lit≤}
 use Rattle.std.proofs.lemmas.Bool.{le-leb, lt-leb}
+use Rattle.std.proofs.Math.Decide.{dec_le}
 use Rattle.lua_ast.specs.declared.expressions.BinOp.TheVariants.{Add, Sub, Mul, Div, Mod, Pow, Concat, Eq, Ne, Lt, Le, Gt, Ge}
 use Rattle.lua_lexer.specs.declared.tokens.TokenKind.{TokenKind}
 use Rattle.lua_lexer.specs.declared.tokens.TokenKind.TheVariants.{Name, Text, Word, Sign}
@@ -12,41 +13,13 @@ use Rattle.lua_grammar.specs.Operators.{kind_of, level, left_level, right_level}
 use Rattle.lua_grammar.specs.Tree.{Line, NameList, End, Exp, PrefixExp, ExpList, Block, Stats, Stat, LastStat, VarList}
 use Rattle.lua_grammar.specs.Tree as tree
 use Rattle.lua_grammar.specs.Printing.{Lexeme, a_kind, print_end}
-use Rattle.lua_grammar.specs.Validity.{IsValid, IsCall, IsVariable, EndsWithPrefix, exp_level}
-use Rattle.lua_grammar.proofs.Grouping.{levels_of, below_right, within_right, below_unary, some_level}
+use Rattle.lua_grammar.specs.Validity.{IsValid, IsCall, IsVariable, EndsWithPrefix, ListEndsWithPrefix, exp_level}
+use Rattle.lua_grammar.specs.Stopping.{Behind, EndsAt, IsBlockEnd, IsReturnEnd, IsNoOperator, IsApart, IsNoComma, IsNoAssign, IsNoSemicolon, Stops, LastStops, EndStops}
+use Rattle.lua_grammar.proofs.Grouping.{levels_of, below_right, within_right, below_unary, some_level, fits_right, fits_unary, bounds}
 use Rattle.lua_grammar.specs.Waiting.{Reader, exp, more_exp, more_prefix, more_list, more_names, more_vars, more_stats, after_statement, after_local, after_return, operator_of, above}
 use Rattle.lua_grammar.specs.Reading.{assigns_or_calls, next_target, feed, run}
 
--- ---- the first token behind
-
-abbrev pub Behind : (TokenKind → Type 0) → List Lexeme → Type 0
-Behind P [] = ⊥
-Behind P (first ∷ behind) = P first.kind
-
--- no operator of that level or a higher one
-abbrev pub EndsAt : ℕ → TokenKind → Type 0
-EndsAt m kind = above m (operator_of kind) ≡ None
-
-abbrev pub IsNoOperator : TokenKind → Type 0
-IsNoOperator kind = (m : ℕ) → EndsAt m kind
-
--- it doesn't continue a prefix
-abbrev pub IsApart : TokenKind → Type 0
-IsApart (Text bytes) = ⊥
-IsApart (Sign sign.Dot) = ⊥
-IsApart (Sign sign.Colon) = ⊥
-IsApart (Sign sign.OpenBracket) = ⊥
-IsApart (Sign sign.OpenBrace) = ⊥
-IsApart (Sign sign.OpenParenthesis) = ⊥
-IsApart other = Unit {0}
-
--- it ends a block
-abbrev pub IsBlockEnd : TokenKind → Type 0
-IsBlockEnd (Word word.End) = Unit {0}
-IsBlockEnd (Word word.Else) = Unit {0}
-IsBlockEnd (Word word.ElseIf) = Unit {0}
-IsBlockEnd (Word word.Until) = Unit {0}
-IsBlockEnd other = ⊥
+-- ---- kinds of tokens
 
 -- it begins a statement or ends a block
 abbrev pub IsStart : TokenKind → Type 0
@@ -62,22 +35,11 @@ abbrev pub IsNext : TokenKind → Type 0
 IsNext (Sign sign.Semicolon) = Unit {0}
 IsNext kind = IsStart kind
 
--- it may stand behind `return`
-abbrev pub IsReturnEnd : TokenKind → Type 0
-IsReturnEnd (Sign sign.Semicolon) = Unit {0}
-IsReturnEnd kind = IsBlockEnd kind
-
 abbrev pub IsNoParen : TokenKind → Type 0
 IsNoParen (Sign sign.OpenParenthesis) = ⊥
 IsNoParen other = Unit {0}
 
 -- ---- what is behind an expression
-
-abbrev pub Stops : Exp → List Lexeme → Type 0
-Stops (tree.prefix p) behind = Behind IsApart behind
-Stops (tree.binary a op l b) behind = Behind (EndsAt (right_level op)) behind × Stops b behind
-Stops (tree.unary op l e) behind = Behind (EndsAt 7) behind × Stops e behind
-Stops other behind = Unit {0}
 
 pub is_operator : (op : Operator) → operator_of (kind_of op) ≡ Some op
 is_operator Or = refl
@@ -183,19 +145,30 @@ prefix_ends p k behind h = by_first IsApart _ _ behind at h
     at (Sign sign.OpenParenthesis) l h = absurd h
     at kind l h = refl
 
-pub list_ends : (es : ExpList) (k : ExpList → Reader) (behind : List Lexeme) → Behind IsNext behind → run (more_list es k) behind ≡ run (k es) behind
-list_ends es k behind h = by_first IsNext _ _ behind at h
+pub last_stops : (es : ExpList) (behind : List Lexeme) → Behind IsNoOperator behind → (ListEndsWithPrefix es → Behind IsApart behind) → LastStops es behind
+last_stops (tree.one e) behind h k = (stops e behind h k, ends_in 1 behind h)
+last_stops (tree.more es c e) behind h k = (stops e behind h k, ends_in 1 behind h)
+
+pub list_ends : (es : ExpList) (k : ExpList → Reader) (behind : List Lexeme) → Behind IsNoComma behind → run (more_list es k) behind ≡ run (k es) behind
+list_ends es k behind h = by_first IsNoComma _ _ behind at h
   where
-    at : (kind : TokenKind) (l : Line) → IsNext kind → feed (more_list es k) kind l ≡ feed (k es) kind l
+    at : (kind : TokenKind) (l : Line) → IsNoComma kind → feed (more_list es k) kind l ≡ feed (k es) kind l
     at (Sign sign.Comma) l h = absurd h
     at kind l h = refl
 
-pub local_ends : (at_line : Line) (ns : NameList) (k : Stat → Reader) (rest : NameList → Line → Line → Reader) (behind : List Lexeme) → Behind IsNext behind
-    → run (more_names ns (λ ns. after_local at_line ns k) rest) behind ≡ run (k (tree.local at_line ns)) behind
-local_ends at_line ns k rest behind h = by_first IsNext _ _ behind at h
+pub names_end : (ns : NameList) (k : NameList → Reader) (rest : NameList → Line → Line → Reader) (behind : List Lexeme) → Behind IsNoComma behind
+    → run (more_names ns k rest) behind ≡ run (k ns) behind
+names_end ns k rest behind h = by_first IsNoComma _ _ behind at h
   where
-    at : (kind : TokenKind) (l : Line) → IsNext kind → feed (more_names ns (λ ns. after_local at_line ns k) rest) kind l ≡ feed (k (tree.local at_line ns)) kind l
+    at : (kind : TokenKind) (l : Line) → IsNoComma kind → feed (more_names ns k rest) kind l ≡ feed (k ns) kind l
     at (Sign sign.Comma) l h = absurd h
+    at kind l h = refl
+
+pub local_ends : (at_line : Line) (ns : NameList) (k : Stat → Reader) (behind : List Lexeme) → Behind IsNoAssign behind
+    → run (after_local at_line ns k) behind ≡ run (k (tree.local at_line ns)) behind
+local_ends at_line ns k behind h = by_first IsNoAssign _ _ behind at h
+  where
+    at : (kind : TokenKind) (l : Line) → IsNoAssign kind → feed (after_local at_line ns k) kind l ≡ feed (k (tree.local at_line ns)) kind l
     at (Sign sign.Assign) l h = absurd h
     at kind l h = refl
 
@@ -226,11 +199,11 @@ block_ends ss k behind h = by_first IsBlockEnd _ _ behind at h
     at (Word word.Until) l h = refl
     at kind l h = absurd h
 
-pub statement_ends : (x : End) (k : End → Reader) (behind : List Lexeme) → Behind IsStart behind → run (after_statement k) (print_end x behind) ≡ run (k x) behind
+pub statement_ends : (x : End) (k : End → Reader) (behind : List Lexeme) → EndStops x behind → run (after_statement k) (print_end x behind) ≡ run (k x) behind
 statement_ends (tree.closed l) k behind h = refl
-statement_ends tree.bare k behind h = by_first IsStart _ _ behind at h
+statement_ends tree.bare k behind h = by_first IsNoSemicolon _ _ behind at h
   where
-    at : (kind : TokenKind) (l : Line) → IsStart kind → feed (after_statement k) kind l ≡ feed (k tree.bare) kind l
+    at : (kind : TokenKind) (l : Line) → IsNoSemicolon kind → feed (after_statement k) kind l ≡ feed (k tree.bare) kind l
     at (Sign sign.Semicolon) l h = absurd h
     at kind l h = refl
 
@@ -245,3 +218,45 @@ return_ends r k behind h = by_first IsReturnEnd _ _ behind at h
     at (Word word.ElseIf) l h = refl
     at (Word word.Until) l h = refl
     at kind l h = absurd h
+
+-- ---- the operator behind an expression that was read as far as it goes
+
+pub operator_kind : (kind : TokenKind) (op : Operator) → operator_of kind ≡ Some op → kind ≡ kind_of op
+operator_kind (Word word.Or) op is = let same : Or ≡ op = cc in ap kind_of same
+operator_kind (Word word.And) op is = let same : And ≡ op = cc in ap kind_of same
+operator_kind (Sign sign.Plus) op is = let same : Plain Add ≡ op = cc in ap kind_of same
+operator_kind (Sign sign.Minus) op is = let same : Plain Sub ≡ op = cc in ap kind_of same
+operator_kind (Sign sign.Star) op is = let same : Plain Mul ≡ op = cc in ap kind_of same
+operator_kind (Sign sign.Slash) op is = let same : Plain Div ≡ op = cc in ap kind_of same
+operator_kind (Sign sign.Percent) op is = let same : Plain Mod ≡ op = cc in ap kind_of same
+operator_kind (Sign sign.Caret) op is = let same : Plain Pow ≡ op = cc in ap kind_of same
+operator_kind (Sign sign.Concat) op is = let same : Plain Concat ≡ op = cc in ap kind_of same
+operator_kind (Sign sign.Equal) op is = let same : Plain Eq ≡ op = cc in ap kind_of same
+operator_kind (Sign sign.NotEqual) op is = let same : Plain Ne ≡ op = cc in ap kind_of same
+operator_kind (Sign sign.Less) op is = let same : Plain Lt ≡ op = cc in ap kind_of same
+operator_kind (Sign sign.LessEqual) op is = let same : Plain Le ≡ op = cc in ap kind_of same
+operator_kind (Sign sign.Greater) op is = let same : Plain Gt ≡ op = cc in ap kind_of same
+operator_kind (Sign sign.GreaterEqual) op is = let same : Plain Ge ≡ op = cc in ap kind_of same
+operator_kind kind op is = cc
+
+below : (m : ℕ) (op : Operator) → EndsAt m (kind_of op) → level op < m
+below m op ends = elim (dec_le m (level op)) [
+  | yes h ↦ let e : Some op ≡ None = sym (goes_on m op h) ∙ ends in cc
+  | no h ↦ omega (arith, h)
+]
+
+pub fits : (e : Exp) (op : Operator) → Stops e (a_kind (kind_of op) 1 []) → left_level op ≤ exp_level e
+fits (tree.binary a op' l b) op h = fits_right _ _ _ _ _ _ (levels_of op') (levels_of op) (below _ op h.0)
+fits (tree.unary op' l e) op h = fits_unary _ _ _ (levels_of op) (below 7 op h.0)
+fits other op h = (bounds _ _ _ (levels_of op)).0
+
+pub ends_there : (e : Exp) (m : ℕ) (kind : TokenKind) → Stops e (a_kind kind 1 [])
+    → ((op : Operator) → kind ≡ kind_of op → m ≤ level op → left_level op ≤ exp_level e → ⊥) → EndsAt m kind
+ends_there e m kind stopped unfit = at (operator_of kind) refl
+  where
+    at : (found : Option Operator) → operator_of kind ≡ found → above m found ≡ None
+    at None is = refl
+    at (Some op) is = elim (dec_le m (level op)) [
+      | yes h ↦ let same = operator_kind kind op is in absurd (unfit op same h (fits e op (rw same at stopped)))
+      | no h ↦ rw (lt-leb m (level op) (omega (arith, h))) refl
+    ]

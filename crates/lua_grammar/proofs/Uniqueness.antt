@@ -11,10 +11,11 @@ use Rattle.lua_grammar.proofs.Before.{block_before}
 use Rattle.lua_grammar.specs.Waiting.{failed, chunk}
 use Rattle.lua_grammar.specs.Reading.{run, read, read_chunk}
 use Rattle.lua_grammar.proofs.ReadingTrees.{block_read}
+use Rattle.lua_grammar.proofs.Starts.{block_stops}
 
 pub is_read : (b : Block) → IsValidBlock true false b → read (print_block b []) ≡ chunk b
 is_read b v = let e = (block_before b).splits [] (a_word EndWord 1 []) in
-    ap (run read_chunk) (sym e) ∙ block_read b true false _ (a_word EndWord 1 []) v tt
+    ap (run read_chunk) (sym e) ∙ block_read b true false _ (a_word EndWord 1 []) v (block_stops b _ tt)
 
 pub stays_failed : (xs : List Lexeme) → run failed xs ≡ failed
 stays_failed [] = refl

@@ -25,6 +25,14 @@ ResolvesChunk line chunk program =
     (kept : Function) × (out : List Stmt) × (m : Scope) × (t : Scope) × Opens chunk (enter [] kept outside) out m
     × EndsFunction line [] true out outside m t × (program.functions.items ≡ t.functions) × (program.files ≡ [] ∷ [])
 
+-- a valid chunk within the limits, which stands for a program
+pub record IsChunk (tree : Block) : Type 0 where
+  pub valid : IsValidBlock true false tree
+  pub shallow : block_levels tree ≤ 200
+  pub line : Line
+  pub program : Program
+  pub resolved : ResolvesChunk line tree program
+
 -- the tokens are those of a valid chunk, and the program is what it stands for
 pub record IsChunkOf (tokens : List Token) (program : Program) (chunk : Block) : Type 0 where
   pub printed : lexemes tokens ≡ print_block chunk []

@@ -5,7 +5,10 @@ pub mod Levels
 pub mod Validity
 pub mod Scopes
 pub mod Resolution
+pub mod Limits
 pub mod Grammar
 pub mod Laws
 pub mod Waiting
 pub mod Reading
+pub mod Stopping
+pub mod Dead

@@ -9,7 +9,7 @@ use Rattle.lua_grammar.specs.Operators.{right_level}
 use Rattle.lua_grammar.specs.Tree.{Line, Bytes, NameList, Params, FuncName, End, Exp, PrefixExp, Args, ExpList, Table, Fields, Field, FuncBody, Block, Stats, Stat, Arms, LastStat, VarList}
 use Rattle.lua_grammar.specs.Tree as tree
 use Rattle.lua_grammar.specs.Printing.{Lexeme, a_word}
-use Rattle.lua_grammar.specs.Waiting.{Reader, failed, chunk, token, exp, more_exp, more_prefix, more_list, more_fields, more_names, more_funcname, more_vars, more_arms, more_stats, after_statement, after_local, after_return, operator_of, above, name, close_parenthesis, close_bracket, equals, comma, do_, then_, end_, until_}
+use Rattle.lua_grammar.specs.Waiting.{Reader, failed, chunk, token, exp, more_exp, more_prefix, more_list, more_fields, more_names, more_funcname, more_vars, more_arms, more_stats, unless_assign, after_statement, after_local, after_return, operator_of, above, name, close_parenthesis, close_bracket, equals, comma, do_, then_, end_, until_}
 
 -- ---- productions from their first token on
 
@@ -74,19 +74,12 @@ after_field o fs k f (Sign sign.Semicolon) l = more_fields o (tree.more_fields f
 after_field o fs k f (Sign sign.CloseBrace) l = k (tree.ending o fs f l)
 after_field o fs k f other l = failed
 
--- behind an expression: where that is a name, `=` may follow
-abbrev pub named_of : (Field → TokenKind → Line → Reader) → Exp → Line → Reader
-named_of k (tree.prefix (tree.variable l n)) q = exp 1 (λ e. token (k (tree.named l n q e)))
-named_of k other q = failed
-
-abbrev pub field_of : (Field → TokenKind → Line → Reader) → Exp → TokenKind → Line → Reader
-field_of k e (Sign sign.Assign) q = named_of k e q
-field_of k e kind l = k (tree.plain e) kind l
-
+-- behind a name that begins a field `=` may follow, and then the name is that of the field
 abbrev pub field : (Field → TokenKind → Line → Reader) → TokenKind → Line → Reader
 field k (Sign sign.OpenBracket) o =
     exp 1 (λ key. token (close_bracket (λ c. token (equals (λ q. exp 1 (λ e. token (k (tree.keyed o key c q e))))))))
-field k kind l = begin_exp 1 (λ e. token (field_of k e)) kind l
+field k (Name n) l = unless_assign (begin_exp 1 (λ e. token (k (tree.plain e))) (Name n) l) (λ q. exp 1 (λ e. token (k (tree.named l n q e))))
+field k kind l = begin_exp 1 (λ e. token (k (tree.plain e))) kind l
 
 abbrev pub fields : Line → Fields → (Table → Reader) → TokenKind → Line → Reader
 fields o fs k (Sign sign.CloseBrace) c = k (tree.separated o fs c)
@@ -215,6 +208,8 @@ feed (more_stats ss k) (Word word.Until) l = feed (k (tree.statements ss)) (Word
 feed (more_stats ss k) (Word word.Return) l = last (last_statement ss k) (Word word.Return) l
 feed (more_stats ss k) (Word word.Break) l = last (last_statement ss k) (Word word.Break) l
 feed (more_stats ss k) kind l = statement (next_statement ss k) kind l
+feed (unless_assign r k) (Sign sign.Assign) q = k q
+feed (unless_assign r k) kind l = feed r kind l
 feed (after_statement k) (Sign sign.Semicolon) l = k (tree.closed l)
 feed (after_statement k) kind l = feed (k tree.bare) kind l
 feed (after_local l ns k) (Sign sign.Assign) q = list (λ es. k (tree.local_values l ns q es))

@@ -11,7 +11,7 @@ use Rattle.lua_grammar.specs.Operators.{level}
 use Rattle.lua_grammar.specs.Tree.{Line, Bytes, NameList, FuncName, End, Exp, PrefixExp, ExpList, Table, Fields, Block, Stats, Stat, Arms, LastStat, VarList}
 
 -- What a reader waits for, and how it goes on with what it has read then. With `more` or `after` it has read a part already,
--- and goes on with that at a token that doesn't continue it.
+-- and goes on with that at a token that doesn't continue it. With `unless_assign` it goes on in one way at `=`, else in another.
 pub data Reader : Type 0 where
   failed : Reader
   chunk : Block → Reader
@@ -26,6 +26,7 @@ pub data Reader : Type 0 where
   more_vars : VarList → (Stat → Reader) → Reader
   more_arms : Arms → (Stat → Reader) → Reader
   more_stats : Stats → (Block → Reader) → Reader
+  unless_assign : Reader → (Line → Reader) → Reader
   after_statement : (End → Reader) → Reader
   after_local : Line → NameList → (Stat → Reader) → Reader
   after_return : Line → (LastStat → Reader) → Reader

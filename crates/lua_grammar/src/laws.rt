@@ -1,17 +1,18 @@
-ghost use Rattle.std.specs.Prelude.{◌≡◌, ℕ, true, false, List, []};
+ghost use Rattle.std.specs.Prelude.{◌≡◌, ℕ, true, false, List, [], ◌++◌};
 ghost use Rattle.lua_ast.specs.SameProgram.{SameProgram};
 ghost use Rattle.lua_ast.specs.WholeProgram.{IsWholeProgram};
 ghost use Rattle.lua_ast.specs.declared.programs.Program.{Program};
 ghost use Rattle.lua_lexer.specs.declared.signs.Sign.TheVariants.{Assign};
 ghost use Rattle.lua_lexer.specs.declared.tokens.Token.{Token};
-ghost use Rattle.lua_grammar.specs.Grammar.{IsProgramOf, ResolvesChunk};
+ghost use Rattle.lua_grammar.specs.Grammar.{IsChunk, IsProgramOf, ResolvesChunk};
 ghost use Rattle.lua_grammar.specs.Laws.{BeginWith, BeginsWithChunk, IsBefore, IsEmptyProgram, IsSeen, IsOneValid, IsProgramByHand, IsValidNot, grouped_left, grouped_right, minus_of_power, power_of_minus, not_before_equal, not_of_equal, one_call, tokens_by_hand, two_statements};
 ghost use Rattle.lua_grammar.specs.Printing.{Lexeme, lexemes, print_block};
-ghost use Rattle.lua_grammar.specs.Reading.{read, run};
+ghost use Rattle.lua_grammar.specs.Reading.{read, read_chunk, run};
 ghost use Rattle.lua_grammar.specs.Scopes.{Frame};
 ghost use Rattle.lua_grammar.specs.Tree.{Block, bare, closed};
 ghost use Rattle.lua_grammar.specs.Validity.{IsValidBlock};
-ghost use Rattle.lua_grammar.specs.Waiting.{chunk, failed};
+ghost use Rattle.lua_grammar.specs.Waiting.{Reader, chunk, failed};
+ghost use Rattle.lua_grammar.specs.Dead.{IsDead};
 ghost use Rattle.lua_grammar.specs.declared.operators.Operator.{Operator};
 
 /// Three operands with two operators between them group in one way.
@@ -60,9 +61,24 @@ pub fn a_chunk_is_read_from_its_tokens()
     ensures { (block : Block) → IsValidBlock true false block → read (print_block block []) ≡ chunk block }
 {}
 
+/// What is read from tokens prints to them: a chunk is read from its tokens alone.
+pub fn what_is_read_prints_to_its_tokens()
+    ensures { (tokens : List Lexeme) (block : Block) → read tokens ≡ chunk block → print_block block [] ≡ tokens }
+{}
+
 /// A reader that failed at a token fails at all that stands behind it.
 pub fn a_failed_reader_stays_failed()
     ensures { (behind : List Lexeme) → run failed behind ≡ failed }
+{}
+
+/// No tokens lead from a dead state of a reader to a chunk that stands for a program.
+pub fn a_dead_reader_reads_no_chunk()
+    ensures { (r : Reader) (behind : List Lexeme) (block : Block) → IsDead r → run r behind ≡ chunk block → IsChunk block → ⊥ }
+{}
+
+/// A reader of a chunk that hasn't failed at some tokens can go on: further tokens lead it to a chunk.
+pub fn a_reader_that_has_not_failed_can_go_on()
+    ensures { (tokens : List Lexeme) → (run read_chunk tokens ≡ failed → ⊥) → (rest : List Lexeme) × (block : Block) × (run read_chunk (tokens ++ rest) ≡ chunk block) }
 {}
 
 /// In `a = f (g)()` the `(` behind `f` is that of a call, and no other tree has these tokens. With `f` and the `(` on
