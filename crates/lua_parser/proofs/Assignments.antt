@@ -1,15 +1,16 @@
 -- What is read of the parts is read of an assignment, a call, a local or a named function.
-use Rattle.std.proofs.Common.{◌≡◌, ℕ, List, [], ◌∷◌, ◌++◌, Option, Some, None, Vec, refl, sym, ap, subst, arith, ◌∙◌}
+use Rattle.std.proofs.Common.{◌≡◌, ℕ, List, [], ◌∷◌, Option, Some, None, IfNone, Vec, refl, sym, ap, subst, arith, ◌∙◌}
 use Rattle.std.specs.Global.{Global}
 use Rattle.lua_ast.specs.declared.expressions.Expr.{Expr}
 use Rattle.lua_ast.specs.declared.statements.Stmt.{Stmt}
 use Rattle.lua_ast.specs.declared.statements.StmtKind as stmt
+use Rattle.lua_lexer.specs.declared.tokens.TokenKind.{TokenKind}
 use Rattle.lua_lexer.specs.declared.tokens.TokenKind.TheVariants.{Name as NameKind, Word as WordKind, Sign as SignKind}
 use Rattle.lua_lexer.specs.declared.signs.Sign.TheVariants.{Assign, Colon, Comma, Dot}
 use Rattle.lua_lexer.specs.declared.words.Word.TheVariants.{Function, Local}
 use Rattle.lua_grammar.specs.Tree.{Bytes, PrefixExp}
 use Rattle.lua_grammar.specs.Tree as tree
-use Rattle.lua_grammar.specs.Printing.{Lexeme, a_word, a_sign, a_name, print_exp, print_prefixexp, print_explist, print_varlist, print_names, print_funcname}
+use Rattle.lua_grammar.specs.Printing.{Lexeme, a_kind, a_word, a_sign, a_name, print_exp, print_prefixexp, print_explist, print_varlist, print_names, print_funcname}
 use Rattle.lua_grammar.specs.Levels.{levels}
 use Rattle.lua_grammar.specs.Validity.{IsValid, IsValidPrefix, IsVariable, IsCall}
 use Rattle.lua_grammar.specs.Scopes.{declare, in_scope, slots_from}
@@ -19,14 +20,19 @@ use Rattle.lua_parser.specs.declared.places.Place.{Place}
 use Rattle.lua_parser.specs.declared.nodes.Prefix.{Prefix}
 use Rattle.lua_parser.specs.declared.nodes.Form.TheVariants.{Variable, Call}
 use Rattle.lua_parser.specs.declared.statement_nodes.FunctionName.{FunctionName}
+use Rattle.lua_grammar.specs.Stopping.{IsNoAssign, IsNoComma, LastStops}
 use Rattle.lua_parser.specs.States.{State, Takes, Stops}
+use Rattle.lua_parser.specs.Next.{IsKind, IsNext, ahead, first_kind}
 use Rattle.lua_parser.specs.Places.{IsFresh}
 use Rattle.lua_parser.specs.Reads.{ReadsPrefix, ReadsBody, form_of}
 use Rattle.lua_parser.specs.ReadsNames.{ReadsNames}
-use Rattle.lua_parser.specs.ReadsStatements.{ReadsStat, ReadsValues, ReadsTarget, ReadsVars, ReadsFuncName, ReadsMember, ReadsInitial, behind_function, behind_local}
+use Rattle.lua_parser.specs.ReadsStatements.{ReadsStat, ReadsValues, ReadsTarget, ReadsVars, ReadsMoreVars, ReadsFuncName, ReadsMember, ReadsInitial, behind_function, behind_local}
 use Rattle.lua_parser.specs.StatementNodes.{IsAssign, IsLocal, Defines}
+use Rattle.lua_parser.proofs.Productions.{apart_there}
 use Rattle.lua_parser.proofs.Scoping.{Turns, stops_still}
 use Rattle.lua_parser.proofs.ForLoops.{stat_from}
+use Rattle.lua_parser.proofs.Moving.{not_first}
+use Rattle.lua_parser.proofs.Names.{no_comma_ahead}
 
 -- a prefix begins with its first token
 first_of : (p : PrefixExp) (behind : List Lexeme) → first_line (print_prefixexp p behind) ≡ prefix_line p
@@ -66,17 +72,19 @@ call_read at free s t p line out fresh r stops form first is =
       deep = let d = r.deep in let e = fresh.depth in omega (arith, d, e);
       resolved = (p.expr, r.resolved, is ∙ ap (λ l. statement l (stmt.Call p.expr)) begins);
       stops = λ _. stops;
+      ends = apart_there t stops;
     }
 
-pub target_read : (at free : Place) (s t : State) (p : Prefix) (e : Expr) → IsFresh at free → ReadsPrefix free s p t → p.form ≡ Variable → e ≡ p.expr →
+pub target_read : (at free : Place) (s t : State) (p : Prefix) (e : Expr) → IsFresh at free → ReadsPrefix free s p t → Stops t → p.form ≡ Variable → e ≡ p.expr →
     ReadsTarget at s e t
-target_read at free s t p e fresh r form is = record {
+target_read at free s t p e fresh r stops form is = record {
   tree = r.tree;
   printed = r.printed;
   valid = subst (λ rest. IsValidPrefix rest r.tree) fresh.rest r.valid;
   variable = is_variable r.tree (r.form ∙ form);
   deep = let d = r.deep in let e = fresh.depth in omega (arith, d, e);
   resolved = subst (λ x. ResolvesPrefix r.tree s.scope x t.scope) (sym is) r.resolved;
+  ends = apart_there t stops;
 }
 
 pub vars_one : (at : Place) (line : ℕ) (s t : State) (e : Expr) (out : List Expr) → ReadsTarget at s e t → line ≡ first_line s.left → out ≡ e ∷ [] →
@@ -89,18 +97,7 @@ vars_one at line s t e out r first is = record {
   deep = r.deep;
   resolved = (e, r.resolved, is);
   begins = sym (first ∙ (ap first_line r.printed ∙ first_of r.tree t.left));
-}
-
-pub vars_more : (at : Place) (line : ℕ) (s m n t : State) (before after : List Expr) (e : Expr) (comma : ℕ) → ReadsVars at line s before m →
-    Takes (SignKind Comma) comma m n → ReadsTarget at n e t → after ≡ before ++ e ∷ [] → ReadsVars at line s after t
-unfolding print_exp levels IsValid Resolves
-vars_more at line s m n t before after e comma rs taken r is = record {
-  tree = tree.more_vars rs.tree comma r.tree;
-  printed = rs.printed ∙ ap (print_varlist rs.tree) (taken.printed ∙ ap (a_sign Comma comma) r.printed);
-  valid = (rs.valid, r.valid, r.variable);
-  deep = let d = rs.deep in let e = r.deep in omega (arith, d, e);
-  resolved = (before, e, m.scope, rs.resolved, subst (λ z. ResolvesPrefix r.tree z e t.scope) taken.scope r.resolved, is);
-  begins = rs.begins;
+  ends = r.ends;
 }
 
 pub assign_read : (at : Place) (line : ℕ) (s m n t : State) (targets es : List Expr) (equals : ℕ) (out : Stmt) → ReadsVars at line s targets m →
@@ -115,18 +112,27 @@ assign_read at line s m n t targets es equals out rs taken r is =
       deep = let d = rs.deep in let e = r.deep in omega (arith, d, e);
       resolved = (is.list, is.given, m.scope, subst (λ l. ResolvesVars rs.tree s.scope l m.scope) (sym is.same_list) rs.resolved, subst (λ z. ResolvesList r.tree z is.given.value.items t.scope) taken.scope values, is.built ∙ ap (λ l. statement l (stmt.Assign is.list is.given)) (sym rs.begins));
       stops = r.stops;
+      ends = (r.ends, r.last);
     }
 
 -- the rest of an assignment behind its first target
 pub assign_behind : (at : Place) (line : ℕ) (a m n t : State) (first targets es : List Expr) (equals : ℕ) →
-    ((l : ℕ) (s : State) → ReadsVars at l s first a → ReadsVars at l s targets m) → Takes (SignKind Assign) equals m n → ReadsValues at n es t →
+    ((l : ℕ) (s : State) (r : ReadsVars at l s first a) → ReadsMoreVars at l s r.tree targets a m) → Takes (SignKind Assign) equals m n → ReadsValues at n es t →
     (out : Stmt) → IsAssign line targets es out → (s : State) → ReadsVars at line s first a → ReadsStat at s out t
 assign_behind at line a m n t first targets es equals more taken r out is s rs =
-    assign_read at line s m n t targets es equals out (more line s rs) taken r is
+    assign_read at line s m n t targets es equals out (more line s rs).whole taken r is
 
 pub first_assigned : (at : Place) (line : ℕ) (s m t : State) (first : List Expr) → ReadsVars at line s first m → (out : Stmt) →
     ((z : State) → ReadsVars at line z first m → ReadsStat at z out t) → ReadsStat at s out t
 first_assigned at line s m t first r out reads = reads s r
+
+no_assign : (kind : TokenKind) → (IsKind (SignKind Assign) kind → ⊥) → IsNoAssign kind
+no_assign (SignKind Assign) not = not refl
+no_assign other not = tt
+
+-- where no `=` is next
+no_assign_ahead : (s : State) → (IsNext (SignKind Assign) s → ⊥) → IsNoAssign (ahead s)
+no_assign_ahead s not = no_assign (ahead s) (not_first (SignKind Assign) s.left (λ is. cc) not)
 
 pub name_root : (s m t : State) (line : ℕ) (bytes : Bytes) (name : FunctionName) → Takes (NameKind bytes) line s m → t.left ≡ m.left →
     ResolvesName line bytes m.scope name.target t.scope → name.height ≡ 1 → ReadsFuncName s name t
@@ -159,6 +165,7 @@ function_read at s a b t line number name out taken r body is = record {
   deep = body.deep;
   resolved = (is.list, is.given, name.target, number, b.scope, subst (λ z. ResolvesFuncName r.tree z name.target b.scope) taken.scope r.resolved, body.resolved, is.same_list, is.same_given, is.built);
   stops = λ ends. absurd ends;
+  ends = tt;
 }
 
 pub method_read : (at : Place) (a b t : State) (line number : ℕ) (first : List Bytes) (object whole : FunctionName) → ReadsMember Colon object a whole b →
@@ -187,6 +194,7 @@ method_read at a b t line number first object whole step own body out is s r =
         is.built,
       );
       stops = λ ends. absurd ends;
+      ends = tt;
     }
 
 pub function_from : (at : Place) (s m t : State) (line : ℕ) (out : Stmt) → Takes (WordKind Function) line s m → ReadsStat at (behind_function line m) out t → ReadsStat at s out t
@@ -212,13 +220,14 @@ local_function_read at s a b c t line word name_at slot number name out taken na
         is ∙ ap (λ k. statement line (stmt.LocalFunction k number)) (place ∙ ap in_scope same),
       );
       stops = λ ends. absurd ends;
+      ends = tt;
     }
 
 pub local_read : (at : Place) (s a b t : State) (line : ℕ) (names : List Bytes) (values : Option (Vec Expr Global)) (slots : List ℕ) (out : Stmt) → ReadsNames [] s names a →
     ReadsInitial at a values b → Turns (declare names b.scope) b t → slots ≡ slots_from (in_scope b.scope) names → IsLocal line slots values out →
-    ReadsStat at (behind_local line s) out t
+    (IsNext (SignKind Comma) a → ⊥) → IfNone values (IsNext (SignKind Assign) a → ⊥) → ReadsStat at (behind_local line s) out t
 unfolding print_exp levels IsValid Resolves
-local_read at s a b t line names (Some es) slots out r (equals, m, taken, rv) turn places is =
+local_read at s a b t line names (Some es) slots out r (equals, m, taken, rv) turn places is last none =
     let first : ResolvesList rv.tree m.scope is.given.value.items b.scope = subst (λ x. ResolvesList rv.tree m.scope x b.scope) (sym is.same_given) rv.resolved in
     let from : ResolvesList rv.tree s.scope is.given.value.items b.scope = subst (λ z. ResolvesList rv.tree z is.given.value.items b.scope) (taken.scope ∙ r.scope) first in
     record {
@@ -228,8 +237,9 @@ local_read at s a b t line names (Some es) slots out r (equals, m, taken, rv) tu
       deep = rv.deep;
       resolved = (is.places, is.given, b.scope, from, is.same_places ∙ (places ∙ ap (slots_from (in_scope b.scope)) r.listed), turn.scope ∙ ap (λ ns. declare ns b.scope) r.listed, is.built);
       stops = λ ends. stops_still b t turn.left (rv.stops ends);
+      ends = subst (λ left. LastStops rv.tree (a_kind (first_kind left) 1 []) × IsNoComma (first_kind left)) (sym turn.left) (rv.ends, rv.last);
     }
-local_read at s a b t line names None slots out r same turn places is =
+local_read at s a b t line names None slots out r same turn places is last none =
     let before : b.scope ≡ s.scope = ap (λ z. z.scope) same ∙ r.scope in
     record {
       tree = tree.local line r.tree;
@@ -238,4 +248,5 @@ local_read at s a b t line names None slots out r same turn places is =
       deep = let d = at.deep in omega (arith, d);
       resolved = (is.places, is.given, is.same_places ∙ (places ∙ (ap (slots_from (in_scope b.scope)) r.listed ∙ ap (λ z. slots_from (in_scope z) (names_of r.tree)) before)), is.same_given, turn.scope ∙ (ap (λ ns. declare ns b.scope) r.listed ∙ ap (declare (names_of r.tree)) before), is.built);
       stops = λ ends. absurd ends;
+      ends = subst (λ left. IsNoComma (first_kind left) × IsNoAssign (first_kind left)) (sym (turn.left ∙ ap (λ z. z.left) same)) (no_comma_ahead a last, no_assign_ahead a none);
     }

@@ -1,5 +1,5 @@
 -- What is read of the parts is read of a block or a statement.
-use Rattle.std.proofs.Common.{◌≡◌, ℕ, true, List, [], ◌∷◌, ◌++◌, Option, Some, None, refl, sym, ap, subst, arith, ◌∙◌}
+use Rattle.std.proofs.Common.{◌≡◌, ℕ, true, List, [], ◌∷◌, ◌++◌, Option, Some, None, IfNone, refl, sym, ap, subst, arith, ◌∙◌}
 use Rattle.lua_ast.specs.declared.expressions.Expr.{Expr}
 use Rattle.lua_ast.specs.declared.statements.Stmt.{Stmt}
 use Rattle.lua_ast.specs.declared.statements.StmtKind as stmt
@@ -9,7 +9,7 @@ use Rattle.lua_lexer.specs.declared.signs.Sign.TheVariants.{OpenParenthesis, Sem
 use Rattle.lua_lexer.specs.declared.words.Word.TheVariants.{Break, Do, Else, ElseIf, End as EndWord, If, Repeat, Return, Then, Until, While}
 use Rattle.lua_grammar.specs.Tree.{PrefixExp, Stats, Stat, VarList}
 use Rattle.lua_grammar.specs.Tree as tree
-use Rattle.lua_grammar.specs.Printing.{Lexeme, a_word, a_sign, print_exp, print_prefixexp, print_block, print_stats, print_stat, print_laststat, print_arms, print_varlist}
+use Rattle.lua_grammar.specs.Printing.{Lexeme, a_kind, a_word, a_sign, print_exp, print_prefixexp, print_block, print_stats, print_stat, print_laststat, print_arms, print_varlist}
 use Rattle.lua_grammar.specs.Levels.{levels}
 use Rattle.lua_grammar.specs.Validity.{IsValid, AreValid, IsValidBlock, BeginsWithParen, VarsBeginWithParen, StatBeginsWithParen, MayFollow}
 use Rattle.lua_grammar.specs.Scopes.{leave}
@@ -17,33 +17,40 @@ use Rattle.lua_grammar.specs.Resolution.{Resolves, ResolvesList, Opens, Resolves
 use Rattle.lua_parser.specs.declared.places.Place.{Place}
 use Rattle.lua_parser.specs.declared.nodes.Built.{Built}
 use Rattle.lua_parser.specs.declared.nodes.Values.{Values}
+use Rattle.lua_grammar.specs.Stopping.{EndsAt, IsBlockEnd, IsReturnEnd, IsNoComma, IsNoSemicolon, Stops as EndsBefore, StatStops, LastStatStops, BlockStops}
 use Rattle.lua_parser.specs.States.{State, Takes, Skips, Stops}
+use Rattle.lua_parser.specs.Next.{IsNext, ahead, first_kind}
 use Rattle.lua_parser.specs.Places.{IsFresh, IsWithin, IsLooped}
 use Rattle.lua_parser.specs.Reads.{ReadsExp, ReadsList}
 use Rattle.lua_parser.specs.ReadsStatements.{ReadsBlock, ReadsScoped, ReadsStats, ReadsStat, ReadsLast, ReadsValue, ReadsValues, ReadsArm, ReadsArms, EndOpenly}
 use Rattle.lua_parser.specs.StatementNodes.{IsArm, IsIf, IsWhile, IsDo, IsRepeat, IsReturn}
 use Rattle.lua_parser.proofs.Scoping.{Turns, stops_still}
+use Rattle.lua_parser.proofs.BlockEnds.{stat_on, last_stat_on, no_semicolon}
 
-pub value_read : (at free inner : Place) (s t : State) (b : Built) (e : Expr) → IsFresh at free → IsWithin free inner → ReadsExp inner s b t → e ≡ b.expr →
+pub value_read : (at free inner : Place) (s t : State) (b : Built) (e : Expr) → IsFresh at free → IsWithin free inner → ReadsExp inner s b t → EndsAt 1 (ahead t) → e ≡ b.expr →
     ReadsValue at s e t
-value_read at free inner s t b e fresh part r is = record {
+value_read at free inner s t b e fresh part r last is = record {
   tree = r.tree;
   printed = r.printed;
   valid = subst (λ rest. IsValid rest r.tree) (part.rest ∙ fresh.rest) r.valid;
   deep = let d = r.deep in let x = part.depth in let y = fresh.depth in omega (arith, d, x, y);
   resolved = subst (λ x. Resolves r.tree s.scope x t.scope) (sym is) r.resolved;
   stops = r.stops;
+  ends = r.ends;
+  last = last;
 }
 
 pub values_read : (at free inner : Place) (s t : State) (v : Values) (es : List Expr) → IsFresh at free → IsWithin free inner → ReadsList inner s v t →
-    es ≡ v.exprs.items → ReadsValues at s es t
-values_read at free inner s t v es fresh part r is = record {
+    IsNoComma (ahead t) → es ≡ v.exprs.items → ReadsValues at s es t
+values_read at free inner s t v es fresh part r last is = record {
   tree = r.tree;
   printed = r.printed;
   valid = subst (λ rest. AreValid rest r.tree) (part.rest ∙ fresh.rest) r.valid;
   deep = let d = r.deep in let x = part.depth in let y = fresh.depth in omega (arith, d, x, y);
   resolved = subst (λ x. ResolvesList r.tree s.scope x t.scope) (sym is) r.resolved;
   stops = r.stops;
+  ends = r.ends;
+  last = last;
 }
 
 pub stats_none : (at : Place) (s : State) (out : List Stmt) → out ≡ [] → ReadsStats at s out s
@@ -55,6 +62,7 @@ stats_none at s out is = record {
   deep = let d = at.deep in omega (arith, d);
   resolved = (is, refl);
   stops = λ ends. absurd ends;
+  ends = tt;
 }
 
 -- a prefix that begins with `(`, and a statement that does
@@ -90,51 +98,56 @@ may_follow (tree.more_stats ss before tree.bare) x m behind printed stops = λ e
     stops ends _ first.1 (printed ∙ first.2) tt
 
 pub stats_more : (at : Place) (s m n t : State) (before after : List Stmt) (x : Stmt) (found : Option ℕ) → ReadsStats at s before m → ReadsStat at m x n →
-    Skips (SignKind Semicolon) found n t → after ≡ before ++ x ∷ [] → ReadsStats at s after t
+    Skips (SignKind Semicolon) found n t → IfNone found (IsNext (SignKind Semicolon) n → ⊥) → after ≡ before ++ x ∷ [] → ReadsStats at s after t
 unfolding print_exp levels IsValid Resolves
-stats_more at s m n t before after x (Some line) rs rx semi is = record {
+stats_more at s m n t before after x (Some line) rs rx semi missing is = record {
   tree = tree.more_stats rs.tree rx.tree (tree.closed line);
   printed = rs.printed ∙ ap (print_stats rs.tree) (rx.printed ∙ ap (print_stat rx.tree) semi.printed);
   valid = (rs.valid, rx.valid, may_follow rs.tree rx.tree m _ rx.printed rs.stops);
   deep = let d = rs.deep in let e = rx.deep in omega (arith, d, e);
   resolved = (before, x, m.scope, rs.resolved, subst (λ z. ResolvesStat rx.tree m.scope x z) (sym semi.scope) rx.resolved, is);
   stops = λ ends. absurd ends;
+  ends = (stat_on rx.tree (a_sign Semicolon line (a_kind (ahead t) 1 [])) (a_sign Semicolon line (a_kind (ahead t) 1 [])) (a_kind (ahead t) 1 [], refl) (subst (λ left. StatStops rx.tree (a_kind (first_kind left) 1 [])) semi.printed rx.ends), tt);
 }
-stats_more at s m n t before after x None rs rx same is = record {
+stats_more at s m n t before after x None rs rx same missing is = record {
   tree = tree.more_stats rs.tree rx.tree tree.bare;
   printed = rs.printed ∙ ap (print_stats rs.tree) (rx.printed ∙ ap (λ z. print_stat rx.tree z.left) (sym same));
   valid = (rs.valid, rx.valid, may_follow rs.tree rx.tree m _ rx.printed rs.stops);
   deep = let d = rs.deep in let e = rx.deep in omega (arith, d, e);
   resolved = (before, x, m.scope, rs.resolved, subst (λ z. ResolvesStat rx.tree m.scope x z.scope) (sym same) rx.resolved, is);
   stops = λ ends. subst Stops (sym same) (rx.stops ends);
+  ends = subst (λ z. StatStops rx.tree (a_kind (ahead z) 1 []) × IsNoSemicolon (ahead z)) (sym same) (rx.ends, no_semicolon n.left missing);
 }
 
-pub block_open : (at : Place) (s t : State) (out : List Stmt) → ReadsStats at s out t → ReadsBlock at s out t
+pub block_open : (at : Place) (s t : State) (out : List Stmt) → ReadsStats at s out t → IsBlockEnd (ahead t) → ReadsBlock at s out t
 unfolding print_exp levels IsValid Resolves
-block_open at s t out r = record {
+block_open at s t out r end = record {
   tree = tree.statements r.tree;
   printed = r.printed;
   valid = r.valid;
   deep = let d = r.deep in omega (arith, d);
   resolved = r.resolved;
+  ends = (r.ends, end);
 }
 
 pub block_last : (at : Place) (s m n t : State) (before after : List Stmt) (x : Stmt) (found : Option ℕ) → ReadsStats at s before m → ReadsLast at m x n →
-    Skips (SignKind Semicolon) found n t → after ≡ before ++ x ∷ [] → ReadsBlock at s after t
+    Skips (SignKind Semicolon) found n t → IfNone found (IsNext (SignKind Semicolon) n → ⊥) → after ≡ before ++ x ∷ [] → ReadsBlock at s after t
 unfolding print_exp levels IsValid Resolves
-block_last at s m n t before after x (Some line) rs rx semi is = record {
+block_last at s m n t before after x (Some line) rs rx semi missing is = record {
   tree = tree.with_last rs.tree rx.tree (tree.closed line);
   printed = rs.printed ∙ ap (print_stats rs.tree) (rx.printed ∙ ap (print_laststat rx.tree) semi.printed);
   valid = (rs.valid, rx.valid);
   deep = let d = rs.deep in let e = rx.deep in omega (arith, d, e);
   resolved = (before, x, m.scope, rs.resolved, subst (λ z. ResolvesLast rx.tree m.scope x z) (sym semi.scope) rx.resolved, is);
+  ends = (last_stat_on rx.tree (a_sign Semicolon line (a_kind (ahead t) 1 [])) (a_sign Semicolon line (a_kind (ahead t) 1 [])) (a_kind (ahead t) 1 [], refl) (subst (λ left. LastStatStops rx.tree (a_kind (first_kind left) 1 [])) semi.printed rx.ends), tt);
 }
-block_last at s m n t before after x None rs rx same is = record {
+block_last at s m n t before after x None rs rx same missing is = record {
   tree = tree.with_last rs.tree rx.tree tree.bare;
   printed = rs.printed ∙ ap (print_stats rs.tree) (rx.printed ∙ ap (λ z. print_laststat rx.tree z.left) (sym same));
   valid = (rs.valid, rx.valid);
   deep = let d = rs.deep in let e = rx.deep in omega (arith, d, e);
   resolved = (before, x, m.scope, rs.resolved, subst (λ z. ResolvesLast rx.tree m.scope x z.scope) (sym same) rx.resolved, is);
+  ends = subst (λ z. LastStatStops rx.tree (a_kind (ahead z) 1 []) × IsNoSemicolon (ahead z)) (sym same) (rx.ends, no_semicolon n.left missing);
 }
 
 pub scoped_read : (at inner : Place) (s m t : State) (out : List Stmt) → IsWithin at inner → ReadsBlock inner s out m →
@@ -147,6 +160,7 @@ scoped_read at inner s m t out part r turn = record {
   deep = let d = r.deep in let x = part.depth in omega (arith, d, x);
   opened = r.resolved;
   scope = turn.scope;
+  ends = subst (λ left. BlockStops r.tree (a_kind (first_kind left) 1 [])) (sym turn.left) r.ends;
 }
 
 pub break_read : (at : Place) (s t : State) (line : ℕ) (out : Stmt) → Takes (WordKind Break) line s t → at.in_loop ≡ true → out ≡ statement line stmt.Break →
@@ -158,17 +172,19 @@ break_read at s t line out taken inside is = record {
   valid = inside;
   deep = let d = at.deep in omega (arith, d);
   resolved = (is, taken.scope);
+  ends = tt;
 }
 
-pub return_none_read : (at : Place) (s t : State) (line : ℕ) (es : List Expr) (out : Stmt) → Takes (WordKind Return) line s t → es ≡ [] → IsReturn line es out →
-    ReadsLast at s out t
+pub return_none_read : (at : Place) (s t : State) (line : ℕ) (es : List Expr) (out : Stmt) → Takes (WordKind Return) line s t → es ≡ [] →
+    IsReturnEnd (ahead t) → IsReturn line es out → ReadsLast at s out t
 unfolding print_exp levels IsValid Resolves
-return_none_read at s t line es out taken none is = record {
+return_none_read at s t line es out taken none end is = record {
   tree = tree.return_none line;
   printed = taken.printed;
   valid = tt;
   deep = let d = at.deep in omega (arith, d);
   resolved = (is.given, is.same_given ∙ none, is.built, taken.scope);
+  ends = end;
 }
 
 pub return_read : (at : Place) (s m t : State) (line : ℕ) (es : List Expr) (out : Stmt) → Takes (WordKind Return) line s m → ReadsValues at m es t →
@@ -182,6 +198,7 @@ return_read at s m t line es out taken r is =
       valid = r.valid;
       deep = r.deep;
       resolved = (is.given, subst (λ l. ResolvesList r.tree s.scope l t.scope) (sym is.same_given) from, is.built);
+      ends = (r.ends, r.last);
     }
 
 pub arm_read : (at : Place) (s m n t : State) (e : Expr) (line : ℕ) (out : List Stmt) (arm : Arm) → ReadsValue at s e m → Takes (WordKind Then) line m n →
@@ -202,6 +219,7 @@ arm_read at s m n t e line out arm rv taken rb is =
       tested = subst (λ z. Resolves rv.tree s.scope (out-Arm arm).test z) (sym taken.scope) test;
       opened = subst (λ l. Opens rb.tree n.scope l rb.behind) (sym is.body) rb.opened;
       scope = rb.scope;
+      ends = rb.ends;
     }
 
 pub arms_one : (at : Place) (line : ℕ) (s t : State) (arm : Arm) (out : List Arm) → ReadsArm at s arm t → out ≡ arm ∷ [] → ReadsArms at line s out t
@@ -213,6 +231,7 @@ arms_one at line s t arm out r is = record {
   deep = let d = r.deep_test in let e = r.deep in omega (arith, d, e);
   resolved = (arm, r.middle, r.behind, r.tested, r.opened, r.scope, is);
   begins = refl;
+  ends = r.ends;
 }
 
 pub arms_more : (at : Place) (line : ℕ) (s m n t : State) (before after : List Arm) (arm : Arm) (word : ℕ) → ReadsArms at line s before m →
@@ -227,6 +246,7 @@ arms_more at line s m n t before after arm word rs taken r is =
       deep = let d = rs.deep in let e = r.deep_test in let f = r.deep in omega (arith, d, e, f);
       resolved = (before, arm, m.scope, r.middle, r.behind, rs.resolved, test, r.opened, r.scope, is);
       begins = rs.begins;
+      ends = r.ends;
     }
 
 pub if_read : (at : Place) (s a b t : State) (line ends : ℕ) (arms : List Arm) (otherwise : List Stmt) (out : Stmt) → Takes (WordKind If) line s a →
@@ -243,6 +263,7 @@ if_read at s a b t line ends arms otherwise out taken reads close none is =
       deep = r.deep;
       resolved = (is.list, is.rest, subst (λ z. ResolvesArms r.tree s.scope is.list.value.items z) (sym close.scope) from, is.same_rest ∙ none, is.built ∙ ap (λ l. statement l (stmt.If is.list is.rest)) (sym r.begins));
       stops = λ ends. absurd ends;
+      ends = tt;
     }
 
 pub if_else_read : (at : Place) (s a b c d t : State) (line word ends : ℕ) (arms : List Arm) (otherwise : List Stmt) (out : Stmt) →
@@ -261,6 +282,7 @@ if_else_read at s a b c d t line word ends arms otherwise out taken reads betwee
       deep = let d = r.deep in let e = rb.deep in omega (arith, d, e);
       resolved = (is.list, is.rest, c.scope, rb.behind, to, subst (λ l. Opens rb.tree c.scope l rb.behind) (sym is.same_rest) rb.opened, close.scope ∙ rb.scope, is.built ∙ ap (λ l. statement l (stmt.If is.list is.rest)) (sym r.begins));
       stops = λ ends. absurd ends;
+      ends = tt;
     }
 
 pub do_read : (at : Place) (s a b t : State) (line ends : ℕ) (body : List Stmt) (out : Stmt) → Takes (WordKind Do) line s a → ReadsScoped at a body b →
@@ -275,6 +297,7 @@ do_read at s a b t line ends body out taken rb close is =
       deep = rb.deep;
       resolved = (is.run, rb.behind, subst (λ z. Opens rb.tree z is.run.value.items rb.behind) taken.scope given, close.scope ∙ (rb.scope ∙ ap (λ z. leave z rb.behind) taken.scope), is.built);
       stops = λ ends. absurd ends;
+      ends = tt;
     }
 
 pub while_read : (at inner : Place) (s a b c d t : State) (line word ends : ℕ) (e : Expr) (body : List Stmt) (out : Stmt) → Takes (WordKind While) line s a →
@@ -292,6 +315,7 @@ while_read at inner s a b c d t line word ends e body out taken rv between loop 
       deep = let d = rv.deep in let e = rb.deep in let f = loop.depth in omega (arith, d, e, f);
       resolved = (is.test_node, is.run, c.scope, rb.behind, subst (λ z. Resolves rv.tree s.scope is.test_node.value z) (sym between.scope) from, subst (λ l. Opens rb.tree c.scope l rb.behind) (sym is.same_run) rb.opened, close.scope ∙ rb.scope, is.built);
       stops = λ ends. absurd ends;
+      ends = tt;
     }
 
 pub repeat_read : (at loop inner : Place) (s a b c d t : State) (line word : ℕ) (body : List Stmt) (e : Expr) (out : Stmt) → Takes (WordKind Repeat) line s a →
@@ -311,4 +335,5 @@ repeat_read at loop inner s a b c d t line word body e out taken looped part rb 
       deep = let d = rv.deep in let e = rb.deep in let f = part.depth in let g = looped.depth in omega (arith, d, e, f, g);
       resolved = (is.test_node, is.run, b.scope, d.scope, opened, from, turn.scope ∙ ap (λ z. leave z d.scope) taken.scope, is.built);
       stops = λ ends. stops_still d t turn.left (rv.stops ends);
+      ends = subst (λ left. EndsBefore rv.tree (a_kind (first_kind left) 1 []) × EndsAt 1 (first_kind left)) (sym turn.left) (rv.ends, rv.last);
     }

@@ -1,6 +1,6 @@
 -- What is read behind a prefix, and the arguments of calls.
 use Rattle.std.proofs.lemmas.Bool.{false≢true}
-use Rattle.std.proofs.Common.{◌≡◌, ℕ, Bool, true, false, Result, Ok, Err, IfOk, ◌+◌, ◌<◌, ◌≤◌, max, List, [], ◌∷◌, Option, Some, None, IfNone, length, drop, slice_get, zero, suc, refl, sym, ap, subst, arith, ◌∙◌}
+use Rattle.std.proofs.Common.{◌≡◌, ℕ, Bool, true, false, Result, Ok, Err, IfOk, ◌+◌, ◌<◌, ◌≤◌, max, List, [], ◌∷◌, Option, Some, None, MatchOption, MatchResult, length, drop, slice_get, zero, suc, refl, sym, ap, subst, arith, ◌∙◌}
 use Rattle.lua_ast.specs.declared.expressions.ExprKind as kind
 use Rattle.lua_lexer.specs.declared.tokens.TokenKind.TheVariants.{Name as NameKind, Text as TextKind, Sign as SignKind}
 use Rattle.lua_lexer.specs.declared.signs.Sign.TheVariants.{OpenParenthesis, CloseParenthesis, OpenBracket, CloseBracket, Colon, Dot}
@@ -23,6 +23,9 @@ use Rattle.lua_parser.specs.declared.cursor.Parser.{Parser}
 use Rattle.lua_parser.specs.declared.suffixes.Suffix.{Suffix}
 use Rattle.lua_parser.specs.States.{State, state, Takes, OpensOnLine, GoesOn, Stops}
 use Rattle.lua_parser.specs.Places.{IsPart, IsNarrower}
+use Rattle.lua_parser.specs.Next.{Begin, IsMemory}
+use Rattle.lua_parser.specs.Kinds.{IsSuffix}
+use Rattle.lua_parser.proofs.Next.{next_left}
 use Rattle.lua_parser.specs.Nodes.{leaf, IsIndexed, IsMember, IsCalled, IsMethodCalled, IsAlone, IsNone}
 use Rattle.lua_parser.specs.Reads.{ReadsExp, ReadsPrefix, Extends, ReadsArgs, ReadsList, ReadsTable}
 
@@ -88,9 +91,10 @@ stops_at tokens p token is not = λ next behind left goes.
     not (subst (λ l. GoesOn l.kind) (sym first) goes)
 
 pub stops_behind : (tokens : List Token) (p : Parser) (token : Token) (found : Option Suffix) → slice_get tokens p.place ≡ Some token →
-    IfNone found (GoesOn token.kind → ⊥) → IfNone found (Stops (state tokens p))
+    MatchOption found (GoesOn token.kind → ⊥) (λ suffix. IsSuffix suffix token.kind) →
+    MatchOption found (Stops (state tokens p)) (λ suffix. Begin (IsSuffix suffix) (state tokens p).left)
 stops_behind tokens p token None is not = stops_at tokens p token is not
-stops_behind tokens p token (Some suffix) is not = tt
+stops_behind tokens p token (Some suffix) is goes = rw (next_left tokens p token is) goes
 
 pub not_both : (b : Bool) → b ≡ false → b ≡ true → ⊥
 not_both b first then = false≢true (sym first ∙ then)
@@ -100,7 +104,7 @@ pub opens_not : (tokens : List Token) (p : Parser) (token : Token) → slice_get
 opens_not tokens p token is not = λ line behind left. absurd (not (opens_next tokens p token line behind is left).0)
 
 -- what is built of a prefix is a longer one
-pub ok_extends : (at : Place) (object : Prefix) (m t : State) (r : Result Prefix ParseFault) (P : Prefix → Type 0) → IfOk r P →
+pub ok_extends : (at : Place) (object : Prefix) (m t : State) (r : Result Prefix ParseFault) (P : Prefix → Type 0) → MatchResult r P IsMemory →
     ((p : Prefix) (s : State) → P p → ReadsPrefix at s object m → ReadsPrefix at s p t) → IfOk r (λ p. Extends at object m p t)
 ok_extends at object m t (Ok p) P holds longer = λ s read. longer p s holds read
 ok_extends at object m t (Err e) P holds longer = tt

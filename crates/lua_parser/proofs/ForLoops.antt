@@ -31,6 +31,7 @@ stat_from at s m t out left scope r = record {
   deep = r.deep;
   resolved = subst (λ z. ResolvesStat r.tree z out t.scope) scope r.resolved;
   stops = r.stops;
+  ends = r.ends;
 }
 
 pub loop_read : (at loop inner : Place) (s a b c d t : State) (line ends : ℕ) (names : List Bytes) (block : LoopBlock) → Takes (WordKind Do) line s a →
@@ -67,7 +68,7 @@ no_shared : (o : Option Shared) → option_map (λ r. r.value) o ≡ None → o 
 no_shared (Some r) is = cc
 no_shared None is = refl
 
-two_names : (names : NameList) (n : Bytes) → length (names_of names ++ n ∷ []) ≡ 1 → ⊥
+pub two_names : (names : NameList) (n : Bytes) → length (names_of names ++ n ∷ []) ≡ 1 → ⊥
 two_names (tree.first_name l x) n is = cc
 two_names (tree.next_name names c l x) n is =
     let one : length ((names_of names ++ x ∷ []) ++ n ∷ []) ≡ length (names_of names ++ x ∷ []) + 1 = length-append (names_of names ++ x ∷ []) (n ∷ []) in
@@ -113,6 +114,7 @@ range_one at s a b c d f t line name_at equals comma name from to (Some e) block
         is.built ∙ (ap (λ k. statement line (stmt.NumericFor k is.from is.to is.step is.run)) slot ∙ ap (λ o. statement line (stmt.NumericFor (in_scope f.scope) is.from is.to o is.run)) step.1),
       );
       stops = λ ends. absurd ends;
+      ends = tt;
     }
 range_one at s a b c d f t line name_at equals comma name from to None block out assign rf between rt same rl is =
     let slot : is.slot ≡ in_scope f.scope = subst (Begins is.slot) rl.slots is.first in
@@ -143,6 +145,7 @@ range_one at s a b c d f t line name_at equals comma name from to None block out
         is.built ∙ (ap (λ k. statement line (stmt.NumericFor k is.from is.to is.step is.run)) slot ∙ ap (λ o. statement line (stmt.NumericFor (in_scope f.scope) is.from is.to o is.run)) step),
       );
       stops = λ ends. absurd ends;
+      ends = tt;
     }
 
 pub range_read : (at : Place) (s a b c d f t : State) (line equals comma : ℕ) (names : List Bytes) (from to : Expr) (step : Option Expr) (block : LoopBlock) →
@@ -180,6 +183,7 @@ list_read at s a b t line word names es block taken rv rl out is list are =
         is.built,
       );
       stops = λ ends. absurd ends;
+      ends = tt;
     }
 
 pub for_read : (at : Place) (s a b t : State) (line : ℕ) (names : List Bytes) (out : Stmt) → Takes (WordKind For) line s a → ReadsNames [] a names b →

@@ -1,8 +1,8 @@
--- An expression is at least as high as a leaf.
+-- An expression is at least as high as a leaf, and opens at least one level.
 use Rattle.std.proofs.Common.{◌≤◌, arith, lit≤}
 use Rattle.lua_grammar.specs.Tree.{Exp, PrefixExp, Table}
 use Rattle.lua_grammar.specs.Tree as tree
-use Rattle.lua_grammar.specs.Levels.{height, prefix_height, table_height}
+use Rattle.lua_grammar.specs.Levels.{levels, height, prefix_height, table_height}
 
 pub prefix_tall : (p : PrefixExp) → 1 ≤ prefix_height p
 unfolding height
@@ -31,3 +31,12 @@ exp_tall (tree.prefix p) = prefix_tall p
 exp_tall (tree.table t) = table_tall t
 exp_tall (tree.binary a op l b) = omega arith
 exp_tall (tree.unary op l e) = omega arith
+
+pub exp_deep : (e : Exp) → 1 ≤ levels e
+unfolding levels
+exp_deep (tree.function l body) = omega arith
+exp_deep (tree.prefix p) = omega arith
+exp_deep (tree.table t) = omega arith
+exp_deep (tree.binary a op l b) = omega arith
+exp_deep (tree.unary op l e) = omega arith
+exp_deep leaf = lit≤ tt

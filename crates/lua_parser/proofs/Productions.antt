@@ -1,17 +1,18 @@
 -- What is read of the parts of an expression is read of the whole.
-use Rattle.std.proofs.Common.{◌≡◌, ℕ, ℤ, ◌<◌, ◌≤◌, min, max, List, [], drop, Option, Some, None, true, refl, sym, ap, subst, arith, ◌∙◌, lit≤}
+use Rattle.std.proofs.Common.{◌≡◌, ℕ, ℤ, ◌<◌, ◌≤◌, min, max, List, [], ◌∷◌, drop, Option, Some, None, true, refl, sym, ap, subst, arith, ◌∙◌, lit≤}
 use Rattle.lua_grammar.specs.declared.operators.Operator.{Operator}
 use Rattle.lua_grammar.specs.declared.operators.Operator.TheVariants.{Or, And, Plain}
 use Rattle.lua_ast.specs.declared.expressions.BinOp.TheVariants.{Add, Sub, Mul, Div, Mod, Pow, Concat, Eq, Ne, Lt, Le, Gt, Ge}
 use Rattle.lua_ast.specs.declared.expressions.UnOp.{UnOp}
 use Rattle.lua_ast.specs.declared.expressions.ExprKind as kind
+use Rattle.lua_lexer.specs.declared.tokens.TokenKind.{TokenKind}
 use Rattle.lua_lexer.specs.declared.tokens.TokenKind.TheVariants.{Name as NameKind, Text as TextKind, Number as NumberKind, Word as WordKind, Sign as SignKind}
-use Rattle.lua_lexer.specs.declared.signs.Sign.TheVariants.{OpenParenthesis, CloseParenthesis, Comma, Ellipsis}
+use Rattle.lua_lexer.specs.declared.signs.Sign.TheVariants.{OpenParenthesis, CloseParenthesis, OpenBrace, OpenBracket, Colon, Dot, Comma, Ellipsis}
 use Rattle.lua_lexer.specs.declared.words.Word.TheVariants.{Function as FunctionWord, Nil, True, False}
 use Rattle.lua_grammar.specs.Operators.{kind_of, kind_of_unary, left_level, right_level}
 use Rattle.lua_grammar.specs.Tree.{Bytes, Exp, PrefixExp}
 use Rattle.lua_grammar.specs.Tree as tree
-use Rattle.lua_grammar.specs.Printing.{lexemes, a_kind, print_exp, print_explist}
+use Rattle.lua_grammar.specs.Printing.{Lexeme, lexemes, a_kind, print_exp, print_explist}
 use Rattle.lua_grammar.specs.Levels.{levels, height, prefix_height}
 use Rattle.lua_grammar.specs.Validity.{IsValid}
 use Rattle.lua_grammar.specs.Resolution.{Resolves, ResolvesPrefix, ResolvesName, ResolvesBody}
@@ -23,7 +24,9 @@ use Rattle.lua_parser.specs.declared.nodes.Form.TheVariants.{Variable}
 use Rattle.lua_lexer.specs.declared.tokens.Token.{Token}
 use Rattle.lua_parser.specs.declared.cursor.Parser.{Parser}
 use Rattle.lua_parser.specs.declared.expressions.Infix.{Infix}
-use Rattle.lua_parser.specs.States.{State, state, Takes, Advances, SkipsOperator, Stops, scope_of}
+use Rattle.lua_parser.specs.States.{State, state, Takes, Advances, SkipsOperator, GoesOn, Stops, scope_of}
+use Rattle.lua_grammar.specs.Stopping.{EndsAt, IsApart}
+use Rattle.lua_parser.specs.Next.{ahead, first_kind}
 use Rattle.lua_parser.specs.Places.{IsPart}
 use Rattle.lua_parser.specs.Nodes.{leaf, IsUnary, IsBinary, IsParen, IsAlone, AddsValue}
 use Rattle.lua_parser.specs.Reads.{ReadsExp, ReadsPrefix, ReadsList, ReadsTable, ReadsBody}
@@ -62,10 +65,10 @@ operator_none (Some x) left lowest s t skips none = absurd (none x refl)
 operator_none None left lowest s t skips none = skips
 
 pub binary_read : (at inner : Place) (s m n t : State) (a b r : Built) (op : Operator) (line : ℕ) →
-    ReadsExp at s a m → Takes (kind_of op) line m n → IsPart at inner → ReadsExp inner n b t →
+    ReadsExp at s a m → Takes (kind_of op) line m n → IsPart at inner → ReadsExp inner n b t → EndsAt (right_level op) (ahead t) →
     left_level op ≤ a.level → right_level op ≤ b.level → a.height < at.room → IsBinary a op line b r → ReadsExp at s r t
 unfolding print_exp levels height IsValid Resolves
-binary_read at inner s m n t a b r op line ra taken part rb left right below is =
+binary_read at inner s m n t a b r op line ra taken part rb tight left right below is =
     let whole = tree.binary ra.tree op line rb.tree in
     let room = part.room in
     let inside = rb.low in
@@ -88,12 +91,13 @@ binary_read at inner s m n t a b r op line ra taken part rb left right below is 
       low = low;
       precedes = sym is.own;
       stops = rb.stops;
+      ends = (tight, rb.ends);
     }
 
 pub unary_read : (at inner : Place) (s m t : State) (b r : Built) (op : UnOp) (line : ℕ) →
-    Takes (kind_of_unary op) line s m → IsPart at inner → ReadsExp inner m b t → 7 ≤ b.level → IsUnary op line b r → ReadsExp at s r t
+    Takes (kind_of_unary op) line s m → IsPart at inner → ReadsExp inner m b t → EndsAt 7 (ahead t) → 7 ≤ b.level → IsUnary op line b r → ReadsExp at s r t
 unfolding print_exp levels height IsValid Resolves
-unary_read at inner s m t b r op line taken part rb tight is =
+unary_read at inner s m t b r op line taken part rb apart tight is =
     let whole = tree.unary op line rb.tree in
     let room = part.room in
     let inside = rb.low in
@@ -115,6 +119,7 @@ unary_read at inner s m t b r op line taken part rb tight is =
       low = low;
       precedes = sym is.own;
       stops = rb.stops;
+      ends = (apart, rb.ends);
     }
 
 pub unary_tight : (op : UnOp) (line : ℕ) (a b : Built) → IsUnary op line a b → 7 ≤ b.level
@@ -139,6 +144,7 @@ closure_read at s m t line number before r taken rb none is =
       low = at.roomy;
       precedes = refl;
       stops = λ ends. absurd ends;
+      ends = tt;
     })
 
 pub nil_read : (at : Place) (s t : State) (line : ℕ) (r : Built) → Takes (WordKind Nil) line s t → r ≡ leaf line (kind.Nil) → ReadsExp at s r t
@@ -153,6 +159,7 @@ nil_read at s t line r taken is = rw is (record {
   low = at.roomy;
   precedes = refl;
   stops = λ ends. absurd ends;
+  ends = tt;
 })
 
 pub true_read : (at : Place) (s t : State) (line : ℕ) (r : Built) → Takes (WordKind True) line s t → r ≡ leaf line (kind.True) → ReadsExp at s r t
@@ -167,6 +174,7 @@ true_read at s t line r taken is = rw is (record {
   low = at.roomy;
   precedes = refl;
   stops = λ ends. absurd ends;
+  ends = tt;
 })
 
 pub false_read : (at : Place) (s t : State) (line : ℕ) (r : Built) → Takes (WordKind False) line s t → r ≡ leaf line (kind.False) → ReadsExp at s r t
@@ -181,6 +189,7 @@ false_read at s t line r taken is = rw is (record {
   low = at.roomy;
   precedes = refl;
   stops = λ ends. absurd ends;
+  ends = tt;
 })
 
 pub number_read : (at : Place) (s t : State) (line : ℕ) (n : ℤ) (r : Built) → Takes (NumberKind n) line s t → r ≡ leaf line (kind.Number n) → ReadsExp at s r t
@@ -195,6 +204,7 @@ number_read at s t line n r taken is = rw is (record {
   low = at.roomy;
   precedes = refl;
   stops = λ ends. absurd ends;
+  ends = tt;
 })
 
 pub text_read : (at : Place) (s t : State) (line : ℕ) (bytes : Bytes) (r : Built) → Takes (TextKind bytes) line s t → r ≡ leaf line (kind.Text bytes) → ReadsExp at s r t
@@ -209,6 +219,7 @@ text_read at s t line bytes r taken is = rw is (record {
   low = at.roomy;
   precedes = refl;
   stops = λ ends. absurd ends;
+  ends = tt;
 })
 
 pub dots_read : (at : Place) (s t : State) (line : ℕ) (r : Built) → Takes (SignKind Ellipsis) line s t → at.rest ≡ true → r ≡ leaf line (kind.Vararg) → ReadsExp at s r t
@@ -223,7 +234,24 @@ dots_read at s t line r taken rest is = rw is (record {
   low = at.roomy;
   precedes = refl;
   stops = λ ends. absurd ends;
+  ends = tt;
 })
+
+apart_kind : (kind : TokenKind) → (GoesOn kind → ⊥) → IsApart kind
+apart_kind (TextKind bytes) h = absurd (h tt)
+apart_kind (SignKind Dot) h = absurd (h tt)
+apart_kind (SignKind Colon) h = absurd (h tt)
+apart_kind (SignKind OpenBracket) h = absurd (h tt)
+apart_kind (SignKind OpenBrace) h = absurd (h tt)
+apart_kind (SignKind OpenParenthesis) h = absurd (h tt)
+apart_kind kind h = tt
+
+apart_first : (left : List Lexeme) → ((next : Lexeme) (behind : List Lexeme) → left ≡ next ∷ behind → GoesOn next.kind → ⊥) → IsApart (first_kind left)
+apart_first [] h = tt
+apart_first (first ∷ behind) h = apart_kind first.kind (h first behind refl)
+
+pub apart_there : (t : State) → Stops t → IsApart (ahead t)
+apart_there t stops = apart_first t.left stops
 
 pub prefix_exp : (at : Place) (s t : State) (p : Prefix) (r : Built) → ReadsPrefix at s p t → Stops t → r.expr ≡ p.expr → r.height ≡ p.height → r.level ≡ 9 →
     ReadsExp at s r t
@@ -238,6 +266,7 @@ prefix_exp at s t p r rp stops is high own = record {
   low = rw high rp.low;
   precedes = sym own;
   stops = λ _. stops;
+  ends = apart_there t stops;
 }
 
 pub table_exp : (at : Place) (s t : State) (b : Built) → ReadsTable at s b t → ReadsExp at s b t
@@ -252,11 +281,12 @@ table_exp at s t b rt = record {
   low = rt.low;
   precedes = sym rt.own;
   stops = λ ends. absurd ends;
+  ends = tt;
 }
 
-pub list_one : (at : Place) (s t : State) (b : Built) (v : Values) → ReadsExp at s b t → IsAlone b v → ReadsList at s v t
+pub list_one : (at : Place) (s t : State) (b : Built) (v : Values) → ReadsExp at s b t → EndsAt 1 (ahead t) → IsAlone b v → ReadsList at s v t
 unfolding print_exp levels height IsValid Resolves
-list_one at s t b v rb is = record {
+list_one at s t b v rb apart is = record {
   tree = tree.one rb.tree;
   printed = rb.printed;
   valid = rb.valid;
@@ -265,12 +295,13 @@ list_one at s t b v rb is = record {
   high = rb.high ∙ sym is.height;
   low = rw is.height rb.low;
   stops = rb.stops;
+  ends = (rb.ends, apart);
 }
 
 pub list_more : (at : Place) (s m n t : State) (v w : Values) (b : Built) (line : ℕ) → ReadsList at s v m → Takes (SignKind Comma) line m n →
-    ReadsExp at n b t → AddsValue v b w → ReadsList at s w t
+    ReadsExp at n b t → EndsAt 1 (ahead t) → AddsValue v b w → ReadsList at s w t
 unfolding print_exp levels height IsValid Resolves
-list_more at s m n t v w b line rv taken rb is =
+list_more at s m n t v w b line rv taken rb apart is =
     let next : Resolves rb.tree m.scope b.expr t.scope = subst (λ z. Resolves rb.tree z b.expr t.scope) taken.scope rb.resolved in
     record {
       tree = tree.more rv.tree line rb.tree;
@@ -281,6 +312,7 @@ list_more at s m n t v w b line rv taken rb is =
       high = rw (rv.high, rb.high) (sym is.height);
       low = let d = rv.low in let e = rb.low in let h = is.height in omega (arith, d, e, h);
       stops = rb.stops;
+      ends = (rb.ends, apart);
     }
 
 pub paren_read : (at inner : Place) (s m n t : State) (b : Built) (r : Prefix) (opens closes : ℕ) →

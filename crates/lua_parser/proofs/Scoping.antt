@@ -1,5 +1,5 @@
 -- Steps that read no token and change the scope.
-use Rattle.std.proofs.Common.{◌≡◌, ℕ, List, drop, Option, Some, None, IfNone, Result, Ok, Err, IfOk, refl, sym, ap, ◌∙◌}
+use Rattle.std.proofs.Common.{◌≡◌, ℕ, List, drop, Option, Some, None, MatchOption, MatchResult, Result, Ok, Err, IfOk, refl, sym, ap, ◌∙◌}
 use Rattle.lua_lexer.specs.declared.tokens.Token.{Token}
 use Rattle.lua_grammar.specs.Tree.{Bytes}
 use Rattle.lua_grammar.specs.Printing.{lexemes}
@@ -8,6 +8,8 @@ use Rattle.lua_ast.specs.declared.expressions.Expr.{Expr}
 use Rattle.lua_grammar.specs.Resolution.{ResolvesName}
 use Rattle.lua_parser.specs.declared.cursor.Parser.{Parser}
 use Rattle.lua_parser.specs.States.{State, Stops, state, scope_of}
+use Rattle.lua_parser.specs.declared.faults.ParseFault.{ParseFault}
+use Rattle.lua_parser.specs.Next.{IsMemory}
 
 -- nothing is read, and the scope is that
 pub record Turns (z : Scope) (s t : State) : Type 0 where
@@ -63,7 +65,12 @@ pub on_ok : {A E : Type 0} {P Q : A → Type 0} (r : Result A E) → IfOk r P �
 on_ok (Ok x) h f = f x h
 on_ok (Err e) h f = tt
 
+-- the same of what fails for want of memory alone
+pub on_node : {A : Type 0} {P Q : A → Type 0} (r : Result A ParseFault) → MatchResult r P IsMemory → ((x : A) → P x → Q x) → IfOk r Q
+on_node (Ok x) h f = f x h
+on_node (Err fault) h f = tt
+
 -- what is said of nothing, where nothing was found
-pub none_found : {A : Type 0} {P : Type 0} (o : Option A) → IfNone o P → ((x : A) → o ≡ Some x → ⊥) → P
-none_found None h none = h
-none_found (Some x) h none = absurd (none x refl)
+pub none_found : {A : Type 0} {P : Type 0} (S : A → Type 0) (o : Option A) → MatchOption o P S → ((x : A) → o ≡ Some x → ⊥) → P
+none_found S None h none = h
+none_found S (Some x) h none = absurd (none x refl)

@@ -5,7 +5,7 @@ use Rattle.lua_grammar.specs.Printing.{lexemes}
 use Rattle.lua_parser.specs.declared.cursor.Parser.{Parser}
 use Rattle.lua_parser.specs.States.{state, Takes}
 
-first_left : (tokens : List Token) (place : ℕ) (token : Token) → slice_get tokens place ≡ Some token →
+pub first_left : (tokens : List Token) (place : ℕ) (token : Token) → slice_get tokens place ≡ Some token →
     drop place tokens ≡ token ∷ drop (suc place) tokens
 first_left [] place token is = absurd (grind arith)
 first_left (x ∷ xs) zero token is = grind arith

@@ -16,7 +16,11 @@ use Rattle.lua_parser.specs.declared.nodes.Built.{Built}
 use Rattle.lua_parser.specs.declared.nodes.Item.{Item}
 use Rattle.lua_parser.specs.declared.nodes.Items.{Items}
 use Rattle.lua_parser.proofs.Heights.{exp_tall}
+use Rattle.lua_parser.proofs.LoneNames.{lone_ends}
 use Rattle.lua_parser.specs.States.{State, Takes, TakesSeparator}
+use Rattle.lua_grammar.specs.Stopping.{EndsAt}
+use Rattle.lua_parser.specs.Kinds.{BeginNamed}
+use Rattle.lua_parser.specs.Next.{ahead}
 use Rattle.lua_parser.specs.Places.{IsPart}
 use Rattle.lua_parser.specs.Nodes.{leaf, IsTable, AddsItem, AreNone}
 use Rattle.lua_parser.specs.Reads.{ReadsExp, ReadsTable, ReadsFields, ReadsField}
@@ -115,9 +119,9 @@ ending_read at inner s m n k t v w i r opens closes taken rv part ri more close 
 
 pub keyed_read : (at : Place) (s m n k l t : State) (a b : Built) (i : Item) (opens closes equals : ℕ) → Takes (SignKind OpenBracket) opens s m →
     ReadsExp at m a n → Takes (SignKind CloseBracket) closes n k → Takes (SignKind Assign) equals k l → ReadsExp at l b t →
-    i.item ≡ tableitem.Pair a.expr b.expr → i.height ≡ max a.height b.height → ReadsField at s i t
+    EndsAt 1 (ahead t) → i.item ≡ tableitem.Pair a.expr b.expr → i.height ≡ max a.height b.height → ReadsField at s i t
 unfolding print_exp levels height IsValid Resolves
-keyed_read at s m n k l t a b i opens closes equals taken ra close assign rb is high =
+keyed_read at s m n k l t a b i opens closes equals taken ra close assign rb apart is high =
     let first : Resolves ra.tree s.scope a.expr n.scope = subst (λ z. Resolves ra.tree z a.expr n.scope) taken.scope ra.resolved in
     let second : Resolves rb.tree n.scope b.expr t.scope = subst (λ z. Resolves rb.tree z b.expr t.scope) (assign.scope ∙ close.scope) rb.resolved in
     record {
@@ -129,13 +133,14 @@ keyed_read at s m n k l t a b i opens closes equals taken ra close assign rb is 
       resolved = (a.expr, b.expr, n.scope, first, second, is);
       high = rw (ra.high, rb.high) (sym high);
       low = let d = ra.low in let e = rb.low in omega (arith, d, e, high);
+      ends = (rb.ends, apart);
     }
 
 pub named_read : (at : Place) (s m n t : State) (a b : Built) (i : Item) (line equals : ℕ) (name : Bytes) → Takes (NameKind name) line s m →
-    a ≡ leaf line (kind.Text name) → Takes (SignKind Assign) equals m n → ReadsExp at n b t → i.item ≡ tableitem.Pair a.expr b.expr →
+    a ≡ leaf line (kind.Text name) → Takes (SignKind Assign) equals m n → ReadsExp at n b t → EndsAt 1 (ahead t) → i.item ≡ tableitem.Pair a.expr b.expr →
     i.height ≡ max a.height b.height → ReadsField at s i t
 unfolding print_exp levels height IsValid Resolves
-named_read at s m n t a b i line equals name taken key assign rb is high =
+named_read at s m n t a b i line equals name taken key assign rb apart is high =
     let value : Resolves rb.tree s.scope b.expr t.scope = subst (λ z. Resolves rb.tree z b.expr t.scope) (assign.scope ∙ taken.scope) rb.resolved in
     let least : 1 ≤ b.height = rw rb.high at (exp_tall rb.tree) in
     let one : a.height ≡ 1 = ap (λ b. b.height) key in
@@ -148,12 +153,13 @@ named_read at s m n t a b i line equals name taken key assign rb is high =
       resolved = (b.expr, value, is ∙ ap (λ k. tableitem.Pair k.expr b.expr) key);
       high = rb.high ∙ sym same;
       low = rw same rb.low;
+      ends = (rb.ends, apart);
     }
 
-pub plain_read : (at : Place) (s t : State) (b : Built) (i : Item) → ReadsExp at s b t → i.item ≡ tableitem.Item b.expr → i.height ≡ b.height →
+pub plain_read : (at : Place) (s t : State) (b : Built) (i : Item) → ReadsExp at s b t → EndsAt 1 (ahead t) → (BeginNamed s.left → ⊥) → i.item ≡ tableitem.Item b.expr → i.height ≡ b.height →
     ReadsField at s i t
 unfolding print_exp levels height IsValid Resolves
-plain_read at s t b i rb is high = record {
+plain_read at s t b i rb apart unnamed is high = record {
   tree = tree.plain rb.tree;
   printed = rb.printed;
   valid = rb.valid;
@@ -161,4 +167,5 @@ plain_read at s t b i rb is high = record {
   resolved = (b.expr, rb.resolved, is);
   high = rb.high ∙ sym high;
   low = rw high rb.low;
+  ends = (rb.ends, apart, lone_ends rb.tree s.left t.left rb.printed unnamed);
 }

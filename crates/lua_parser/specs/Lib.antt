@@ -7,3 +7,10 @@ pub mod ReadsNames
 pub mod ReadsStatements
 pub mod Functions
 pub mod StatementNodes
+pub mod Next
+pub mod Fits
+pub mod Readers
+pub mod Refusals
+pub mod StatementRefusals
+pub mod Kinds
+pub mod Unfit

@@ -1,9 +1,9 @@
 -- What is read between two states: a tree of a production, which prints to the tokens between them, is valid, and resolves
 -- in the scope before to a part of the program and the scope behind.
-use Rattle.std.specs.Prelude.{◌≡◌, ℕ, ◌+◌, ◌-◌, ◌<◌, ◌≤◌, max, List}
+use Rattle.std.specs.Prelude.{◌≡◌, ℕ, ◌+◌, ◌-◌, ◌<◌, ◌≤◌, max, List, []}
 use Rattle.lua_grammar.specs.Tree.{Line, Bytes, Exp, PrefixExp, Args, ExpList, Table, Fields, Field, FuncBody}
 use Rattle.lua_grammar.specs.Tree as tree
-use Rattle.lua_grammar.specs.Printing.{print_exp, print_prefixexp, print_args, print_explist, print_table, print_fields, print_field, print_funcbody}
+use Rattle.lua_grammar.specs.Printing.{a_kind, print_exp, print_prefixexp, print_args, print_explist, print_table, print_fields, print_field, print_funcbody}
 use Rattle.lua_grammar.specs.Levels.{levels, prefix_levels, args_levels, list_levels, table_levels, fields_levels, field_levels, body_levels, height, prefix_height, args_height, list_height, table_height, fields_height, field_height}
 use Rattle.lua_grammar.specs.Validity.{IsValid, IsValidPrefix, IsValidArgs, AreValid, IsValidTable, AreValidFields, IsValidField, IsValidBody, exp_level, prefix_end, table_end, args_end, EndsWithPrefix, ListEndsWithPrefix}
 use Rattle.lua_grammar.specs.Resolution.{Resolves, ResolvesPrefix, ResolvesArgs, ResolvesList, ResolvesTable, ResolvesFields, ResolvesField, ResolvesBody}
@@ -15,7 +15,9 @@ use Rattle.lua_parser.specs.declared.nodes.Item.{Item}
 use Rattle.lua_parser.specs.declared.nodes.Items.{Items}
 use Rattle.lua_parser.specs.declared.nodes.Form.{Form}
 use Rattle.lua_parser.specs.declared.nodes.Form.TheVariants.{Variable, Call, Paren}
+use Rattle.lua_grammar.specs.Stopping.{FieldStops, LastStops, Stops as EndsBefore}
 use Rattle.lua_parser.specs.States.{State, Stops}
+use Rattle.lua_parser.specs.Next.{ahead}
 
 -- what a prefix is
 abbrev pub form_of : PrefixExp → Form
@@ -26,7 +28,7 @@ form_of (tree.member p d l n) = Variable
 form_of (tree.call p a) = Call
 form_of (tree.method p c l n a) = Call
 
--- an expression; where it ends with a prefix, that is read as far as it goes
+-- an expression; each part at its end is read as far as it goes
 pub record ReadsExp (at : Place) (s : State) (b : Built) (t : State) : Type 0 where
   pub tree : Exp
   pub printed : s.left ≡ print_exp tree t.left
@@ -37,6 +39,7 @@ pub record ReadsExp (at : Place) (s : State) (b : Built) (t : State) : Type 0 wh
   pub low : b.height ≤ at.room
   pub precedes : exp_level tree ≡ b.level
   pub stops : EndsWithPrefix tree → Stops t
+  pub ends : EndsBefore tree (a_kind (ahead t) 1 [])
 
 -- a prefix, whose parts are parts of an expression at that place
 pub record ReadsPrefix (at : Place) (s : State) (p : Prefix) (t : State) : Type 0 where
@@ -75,6 +78,7 @@ pub record ReadsList (at : Place) (s : State) (values : Values) (t : State) : Ty
   pub high : list_height tree ≡ values.height
   pub low : values.height ≤ at.room
   pub stops : ListEndsWithPrefix tree → Stops t
+  pub ends : LastStops tree (a_kind (ahead t) 1 [])
 
 -- a table constructor
 pub record ReadsTable (at : Place) (s : State) (b : Built) (t : State) : Type 0 where
@@ -107,6 +111,7 @@ pub record ReadsField (at : Place) (s : State) (item : Item) (t : State) : Type 
   pub resolved : ResolvesField tree s.scope item.item t.scope
   pub high : field_height tree ≡ item.height
   pub low : item.height ≤ at.room
+  pub ends : FieldStops tree (a_kind (ahead t) 1 [])
 
 -- parameters, block and `end` of the function of that number, whose word `function` is on that line; before its named
 -- parameters stand those

@@ -1,6 +1,6 @@
 -- What is read of statements between two states: a tree of a production, which prints to the tokens between them, is valid,
 -- and resolves in the scope before to a part of the program and the scope behind.
-use Rattle.std.specs.Prelude.{◌≡◌, ℕ, ◌+◌, ◌≤◌, true, List, Option, Some, None, Vec}
+use Rattle.std.specs.Prelude.{◌≡◌, ℕ, ◌+◌, ◌≤◌, true, List, [], Option, Some, None, Vec}
 use Rattle.std.specs.Global.{Global}
 use Rattle.lua_ast.specs.declared.expressions.Expr.{Expr}
 use Rattle.lua_ast.specs.declared.statements.Stmt.{Stmt}
@@ -11,7 +11,7 @@ use Rattle.lua_lexer.specs.declared.signs.Sign.TheVariants.{Assign, Comma}
 use Rattle.lua_lexer.specs.declared.words.Word.TheVariants.{Do, End as EndWord, For as ForWord, Function as FunctionWord, If as IfWord, Local as LocalWord, Then}
 use Rattle.lua_grammar.specs.Tree.{Line, Bytes, Exp, PrefixExp, ExpList, FuncName, Block, Stats, Stat, Arms, LastStat, VarList, NameList}
 use Rattle.lua_grammar.specs.Tree as tree
-use Rattle.lua_grammar.specs.Printing.{a_word, print_exp, print_prefixexp, print_explist, print_block, print_stats, print_stat, print_arms, print_laststat, print_varlist, print_names, print_funcname}
+use Rattle.lua_grammar.specs.Printing.{a_kind, a_word, print_exp, print_prefixexp, print_explist, print_block, print_stats, print_stat, print_arms, print_laststat, print_varlist, print_names, print_funcname}
 use Rattle.lua_grammar.specs.Levels.{levels, prefix_levels, list_levels, block_levels, stats_levels, stat_levels, arms_levels, last_levels, vars_levels, funcname_height}
 use Rattle.lua_grammar.specs.Validity.{IsValid, IsValidPrefix, IsVariable, AreValid, IsValidBlock, AreValidStats, IsValidStat, AreValidArms, IsValidLast, AreValidVars, EndsWithPrefix, ListEndsWithPrefix, StatEndsWithPrefix}
 use Rattle.lua_grammar.specs.Resolution.{Resolves, ResolvesPrefix, ResolvesList, ResolvesFuncName, Opens, ResolvesStats, ResolvesStat, ResolvesArms, ResolvesLast, ResolvesVars, vars_line, arms_line}
@@ -20,7 +20,11 @@ use Rattle.lua_parser.specs.declared.places.Place.{Place}
 use Rattle.lua_parser.specs.declared.statement_nodes.LoopBlock.{LoopBlock}
 use Rattle.lua_parser.specs.declared.statement_nodes.FunctionName.{FunctionName}
 use Rattle.lua_parser.specs.Nodes.{IsMember}
+use Rattle.lua_grammar.specs.Stopping.{EndsAt, IsApart, IsNoComma, Stops as EndsBefore, LastStops, StatStops, StatsStop, LastStatStops, BlockStops, ArmsStop}
+use Rattle.lua_grammar.specs.Waiting.{Reader, more_vars}
 use Rattle.lua_parser.specs.States.{State, Takes, Stops}
+use Rattle.lua_parser.specs.Readers.{Moves}
+use Rattle.lua_parser.specs.Next.{ahead}
 
 -- a block at a place, with its locals in the scope behind
 pub record ReadsBlock (at : Place) (s : State) (out : List Stmt) (t : State) : Type 0 where
@@ -29,6 +33,7 @@ pub record ReadsBlock (at : Place) (s : State) (out : List Stmt) (t : State) : T
   pub valid : IsValidBlock at.rest at.in_loop tree
   pub deep : at.depth + block_levels tree ≤ 201
   pub resolved : Opens tree s.scope out t.scope
+  pub ends : BlockStops tree (a_kind (ahead t) 1 [])
 
 -- a block within one at a place, whose locals are out of scope behind it
 pub record ReadsScoped (at : Place) (s : State) (out : List Stmt) (t : State) : Type 0 where
@@ -39,6 +44,7 @@ pub record ReadsScoped (at : Place) (s : State) (out : List Stmt) (t : State) : 
   pub deep : at.depth + block_levels tree ≤ 200
   pub opened : Opens tree s.scope out behind
   pub scope : t.scope ≡ leave s.scope behind
+  pub ends : BlockStops tree (a_kind (ahead t) 1 [])
 
 -- the last of the statements ends with a prefix, and no `;` is behind it
 abbrev pub EndOpenly : Stats → Type 0
@@ -53,6 +59,7 @@ pub record ReadsStats (at : Place) (s : State) (out : List Stmt) (t : State) : T
   pub deep : at.depth + stats_levels tree ≤ 200
   pub resolved : ResolvesStats tree s.scope out t.scope
   pub stops : EndOpenly tree → Stops t
+  pub ends : StatsStop tree (a_kind (ahead t) 1 [])
 
 pub record ReadsStat (at : Place) (s : State) (out : Stmt) (t : State) : Type 0 where
   pub tree : Stat
@@ -61,6 +68,7 @@ pub record ReadsStat (at : Place) (s : State) (out : Stmt) (t : State) : Type 0 
   pub deep : at.depth + stat_levels tree ≤ 200
   pub resolved : ResolvesStat tree s.scope out t.scope
   pub stops : StatEndsWithPrefix tree → Stops t
+  pub ends : StatStops tree (a_kind (ahead t) 1 [])
 
 pub record ReadsLast (at : Place) (s : State) (out : Stmt) (t : State) : Type 0 where
   pub tree : LastStat
@@ -68,6 +76,7 @@ pub record ReadsLast (at : Place) (s : State) (out : Stmt) (t : State) : Type 0 
   pub valid : IsValidLast at.rest at.in_loop tree
   pub deep : at.depth + last_levels tree ≤ 200
   pub resolved : ResolvesLast tree s.scope out t.scope
+  pub ends : LastStatStops tree (a_kind (ahead t) 1 [])
 
 -- an expression of a statement in a block at a place
 pub record ReadsValue (at : Place) (s : State) (e : Expr) (t : State) : Type 0 where
@@ -77,6 +86,8 @@ pub record ReadsValue (at : Place) (s : State) (e : Expr) (t : State) : Type 0 w
   pub deep : at.depth + levels tree ≤ 200
   pub resolved : Resolves tree s.scope e t.scope
   pub stops : EndsWithPrefix tree → Stops t
+  pub ends : EndsBefore tree (a_kind (ahead t) 1 [])
+  pub last : EndsAt 1 (ahead t)
 
 -- expressions of a statement in a block at a place
 pub record ReadsValues (at : Place) (s : State) (out : List Expr) (t : State) : Type 0 where
@@ -86,6 +97,8 @@ pub record ReadsValues (at : Place) (s : State) (out : List Expr) (t : State) : 
   pub deep : at.depth + list_levels tree ≤ 200
   pub resolved : ResolvesList tree s.scope out t.scope
   pub stops : ListEndsWithPrefix tree → Stops t
+  pub ends : LastStops tree (a_kind (ahead t) 1 [])
+  pub last : IsNoComma (ahead t)
 
 -- a test, `then` and a block
 pub record ReadsArm (at : Place) (s : State) (arm : Arm) (t : State) : Type 0 where
@@ -102,6 +115,7 @@ pub record ReadsArm (at : Place) (s : State) (arm : Arm) (t : State) : Type 0 wh
   pub tested : Resolves test s.scope (out-Arm arm).test middle
   pub opened : Opens block middle (out-Arm arm).body.value.items behind
   pub scope : t.scope ≡ leave middle behind
+  pub ends : BlockStops block (a_kind (ahead t) 1 [])
 
 -- the arms of an `if` behind its word, which stands on that line
 pub record ReadsArms (at : Place) (line : ℕ) (s : State) (out : List Arm) (t : State) : Type 0 where
@@ -111,6 +125,7 @@ pub record ReadsArms (at : Place) (line : ℕ) (s : State) (out : List Arm) (t :
   pub deep : at.depth + arms_levels tree ≤ 200
   pub resolved : ResolvesArms tree s.scope out t.scope
   pub begins : arms_line tree ≡ line
+  pub ends : ArmsStop tree (a_kind (ahead t) 1 [])
 
 -- `do`, the block of a loop that declares those names in those slots, and `end`
 pub record ReadsLoop (at : Place) (names : List Bytes) (s : State) (block : LoopBlock) (t : State) : Type 0 where
@@ -163,6 +178,7 @@ pub record ReadsTarget (at : Place) (s : State) (e : Expr) (t : State) : Type 0 
   pub variable : IsVariable tree
   pub deep : at.depth + prefix_levels tree ≤ 200
   pub resolved : ResolvesPrefix tree s.scope e t.scope
+  pub ends : IsApart (ahead t)
 
 -- the variables that are assigned to, of which the first begins on that line
 pub record ReadsVars (at : Place) (line : ℕ) (s : State) (out : List Expr) (t : State) : Type 0 where
@@ -172,6 +188,12 @@ pub record ReadsVars (at : Place) (line : ℕ) (s : State) (out : List Expr) (t 
   pub deep : at.depth + vars_levels tree ≤ 200
   pub resolved : ResolvesVars tree s.scope out t.scope
   pub begins : vars_line tree ≡ line
+  pub ends : IsApart (ahead t)
+
+-- the same, where the first of them were read up to a state, and a reader that has read those moves over the others
+pub record ReadsMoreVars (at : Place) (line : ℕ) (s : State) (first : VarList) (out : List Expr) (m t : State) : Type 0 where
+  pub whole : ReadsVars at line s out t
+  pub moves : (k : Stat → Reader) → Moves (more_vars first k) m (more_vars whole.tree k) t
 
 -- before words that were read, the state was that
 abbrev pub behind_for : Line → NameList → State → State

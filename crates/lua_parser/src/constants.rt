@@ -1,7 +1,11 @@
-ghost use Rattle.std.specs.Prelude.{◌≡◌, ◌≤◌, IfOk, OnOk};
-ghost use Rattle.lua_lexer.specs.declared.tokens.TokenKind.TheVariants.{Number as NumberKind};
+ghost use Rattle.std.specs.Prelude.{◌≡◌, ◌≤◌, IfOk, IfErr, OnOk};
+ghost use Rattle.lua_lexer.specs.declared.tokens.TokenKind.TheVariants.{Number as NumberKind, Sign as SignKind, Word as WordKind};
 ghost use Rattle.lua_parser.specs.States.{state, Takes, Advances};
 ghost use Rattle.lua_parser.specs.Reads.{ReadsExp};
+ghost use Rattle.lua_parser.specs.Next.{Begin, IsMemory, IsNext, IsNumber, IsText, Misses, OnAt};
+ghost use Rattle.lua_parser.specs.Refusals.{RefusesExp};
+ghost use Rattle.lua_lexer.specs.declared.signs.Sign.TheVariants.{Ellipsis};
+ghost use Rattle.lua_lexer.specs.declared.words.Word.TheVariants.{False, Nil, True};
 
 use crate::ParseFault;
 use crate::cursor::Parser;
@@ -23,6 +27,7 @@ impl Parser {
     pub(crate) fn nil(&mut self, tokens: &[Token], at: Place) -> Result<Built, ParseFault>
         ensures reads { IfOk result (λ b. ReadsExp at (state tokens.now self.old) b (state tokens.now self.new)) }
         ensures level { IfOk result (λ b. 7 ≤ b.level) }
+        ensures surely { IsNext (WordKind Nil) (state tokens.now self.old) → IfErr result IsMemory }
         ensures forward { OnOk result (Advances tokens.now self.old self.new) }
     {
         let line = self.take_word(tokens, Word::Nil)?;
@@ -33,6 +38,7 @@ impl Parser {
     pub(crate) fn truth(&mut self, tokens: &[Token], at: Place) -> Result<Built, ParseFault>
         ensures reads { IfOk result (λ b. ReadsExp at (state tokens.now self.old) b (state tokens.now self.new)) }
         ensures level { IfOk result (λ b. 7 ≤ b.level) }
+        ensures surely { IsNext (WordKind True) (state tokens.now self.old) → IfErr result IsMemory }
         ensures forward { OnOk result (Advances tokens.now self.old self.new) }
     {
         let line = self.take_word(tokens, Word::True)?;
@@ -43,6 +49,7 @@ impl Parser {
     pub(crate) fn falsity(&mut self, tokens: &[Token], at: Place) -> Result<Built, ParseFault>
         ensures reads { IfOk result (λ b. ReadsExp at (state tokens.now self.old) b (state tokens.now self.new)) }
         ensures level { IfOk result (λ b. 7 ≤ b.level) }
+        ensures surely { IsNext (WordKind False) (state tokens.now self.old) → IfErr result IsMemory }
         ensures forward { OnOk result (Advances tokens.now self.old self.new) }
     {
         let line = self.take_word(tokens, Word::False)?;
@@ -53,6 +60,7 @@ impl Parser {
     pub(crate) fn number(&mut self, tokens: &[Token], at: Place) -> Result<Built, ParseFault>
         ensures reads { IfOk result (λ b. ReadsExp at (state tokens.now self.old) b (state tokens.now self.new)) }
         ensures level { IfOk result (λ b. 7 ≤ b.level) }
+        ensures surely { Begin IsNumber (state tokens.now self.old).left → IfErr result IsMemory }
         ensures forward { OnOk result (Advances tokens.now self.old self.new) }
     {
         let numeral = self.take_number(tokens)?;
@@ -63,6 +71,7 @@ impl Parser {
     pub(crate) fn text(&mut self, tokens: &[Token], at: Place) -> Result<Built, ParseFault>
         ensures reads { IfOk result (λ b. ReadsExp at (state tokens.now self.old) b (state tokens.now self.new)) }
         ensures level { IfOk result (λ b. 7 ≤ b.level) }
+        ensures surely { Begin IsText (state tokens.now self.old).left → IfErr result IsMemory }
         ensures forward { OnOk result (Advances tokens.now self.old self.new) }
     {
         let text = self.take_text(tokens)?;
@@ -73,6 +82,7 @@ impl Parser {
     pub(crate) fn rest(&mut self, tokens: &[Token], at: Place) -> Result<Built, ParseFault>
         ensures reads { IfOk result (λ b. ReadsExp at (state tokens.now self.old) b (state tokens.now self.new)) }
         ensures level { IfOk result (λ b. 7 ≤ b.level) }
+        ensures refuses { IsNext (SignKind Ellipsis) (state tokens.now self.old) → IfErr result (RefusesExp at (state tokens.now self.old) (state tokens.now self.new)) }
         ensures forward { OnOk result (Advances tokens.now self.old self.new) }
     {
         let line = self.take_sign(tokens, Sign::Ellipsis)?;
@@ -85,6 +95,7 @@ impl Parser {
     /// Reads a number alone.
     fn take_number(&mut self, tokens: &[Token]) -> Result<Numeral, ParseFault>
         ensures takes { IfOk result (λ found. Takes (NumberKind found.number) found.line (state tokens.now self.old) (state tokens.now self.new)) }
+        ensures misses { IfErr result (OnAt (Misses IsNumber (state tokens.now self.old) (state tokens.now self.new))) }
         ensures forward { OnOk result (Advances tokens.now self.old self.new) }
     {
         let Some(token) = tokens.get(self.place) else {

@@ -1,8 +1,9 @@
-ghost use Rattle.std.specs.Prelude.{◌≡◌, IfOk, IfSome, OnOk, slice_get, Some};
+ghost use Rattle.std.specs.Prelude.{◌≡◌, ◌↔◌, IfOk, IfErr, IfNone, IfSome, IsTrue, MatchResult, OnOk, slice_get, Some};
 ghost use Rattle.lua_lexer.specs.declared.tokens.TokenKind.TheVariants.{Name as NameKind, Text as TextKind, Word as WordKind, Sign as SignKind};
 ghost use Rattle.lua_grammar.specs.Grammar.{first_line};
 ghost use Rattle.lua_parser.specs.States.{state, Takes, Skips, Advances, IfAdvances};
 ghost use Rattle.lua_parser.specs.Places.{IsWithin, IsPart};
+ghost use Rattle.lua_parser.specs.Next.{Begin, Ends, HasNoPart, IsDepth, IsText, IsKind, IsName, IsNext, IsTooDeep, Misses, OnAt, line_or};
 
 use crate::ParseFault;
 use crate::frames::Frame;
@@ -35,7 +36,9 @@ pub(crate) struct Parser {
 
 impl Parser {
     /// The fault at a token that fits nothing, or at the text's end.
-    pub(crate) fn unfit(&self, tokens: &[Token]) -> ParseFault {
+    pub(crate) fn unfit(&self, tokens: &[Token]) -> ParseFault
+        ensures { result ≡ ParseFault.At (line_or self.now.line (state tokens.now self.now).left) }
+    {
         match tokens.get(self.place) {
             Some(token) => ParseFault::At(token.line),
             None => ParseFault::At(self.line),
@@ -53,17 +56,21 @@ impl Parser {
     }
 
     /// Whether the next token is that keyword.
-    pub(crate) fn at_word(&self, tokens: &[Token], word: Word) -> bool {
+    pub(crate) fn at_word(&self, tokens: &[Token], word: Word) -> bool
+        ensures { IsTrue result ↔ IsNext (WordKind word) (state tokens.now self.now) }
+    {
         match tokens.get(self.place) {
-            Some(token) => matches!(&token.kind, TokenKind::Word(next) if *next == word),
+            Some(token) => is_word(&token.kind, word),
             None => false,
         }
     }
 
     /// Whether the next token is that sign.
-    pub(crate) fn at_sign(&self, tokens: &[Token], sign: Sign) -> bool {
+    pub(crate) fn at_sign(&self, tokens: &[Token], sign: Sign) -> bool
+        ensures { IsTrue result ↔ IsNext (SignKind sign) (state tokens.now self.now) }
+    {
         match tokens.get(self.place) {
-            Some(token) => matches!(&token.kind, TokenKind::Sign(next) if *next == sign),
+            Some(token) => is_sign(&token.kind, sign),
             None => false,
         }
     }
@@ -71,36 +78,35 @@ impl Parser {
     /// Reads that keyword where it is the next token, and answers its line.
     pub(crate) fn skip_word(&mut self, tokens: &[Token], word: Word) -> Option<u32>
         ensures skips { Skips (WordKind word) result (state tokens.now self.old) (state tokens.now self.new) }
+        ensures missing { IfNone result (IsNext (WordKind word) (state tokens.now self.old) → ⊥) }
         ensures forward { IfAdvances result tokens.now self.old self.new }
     {
         let token = tokens.get(self.place)?;
-        match &token.kind {
-            TokenKind::Word(next) if *next == word => {
-                self.advance(tokens, token);
-                Some(token.line)
-            }
-            _ => None,
+        if is_word(&token.kind, word) {
+            self.advance(tokens, token);
+            return Some(token.line);
         }
+        None
     }
 
     /// Reads that sign where it is the next token, and answers its line.
     pub(crate) fn skip_sign(&mut self, tokens: &[Token], sign: Sign) -> Option<u32>
         ensures skips { Skips (SignKind sign) result (state tokens.now self.old) (state tokens.now self.new) }
+        ensures missing { IfNone result (IsNext (SignKind sign) (state tokens.now self.old) → ⊥) }
         ensures forward { IfAdvances result tokens.now self.old self.new }
     {
         let token = tokens.get(self.place)?;
-        match &token.kind {
-            TokenKind::Sign(next) if *next == sign => {
-                self.advance(tokens, token);
-                Some(token.line)
-            }
-            _ => None,
+        if is_sign(&token.kind, sign) {
+            self.advance(tokens, token);
+            return Some(token.line);
         }
+        None
     }
 
     /// Reads that keyword, and answers its line.
     pub(crate) fn take_word(&mut self, tokens: &[Token], word: Word) -> Result<u32, ParseFault>
         ensures takes { IfOk result (λ line. Takes (WordKind word) line (state tokens.now self.old) (state tokens.now self.new)) }
+        ensures misses { IfErr result (OnAt (Misses (IsKind (WordKind word)) (state tokens.now self.old) (state tokens.now self.new))) }
         ensures forward { OnOk result (Advances tokens.now self.old self.new) }
     {
         match self.skip_word(tokens, word) {
@@ -112,6 +118,7 @@ impl Parser {
     /// Reads that sign, and answers its line.
     pub(crate) fn take_sign(&mut self, tokens: &[Token], sign: Sign) -> Result<u32, ParseFault>
         ensures takes { IfOk result (λ line. Takes (SignKind sign) line (state tokens.now self.old) (state tokens.now self.new)) }
+        ensures misses { IfErr result (OnAt (Misses (IsKind (SignKind sign)) (state tokens.now self.old) (state tokens.now self.new))) }
         ensures forward { OnOk result (Advances tokens.now self.old self.new) }
     {
         match self.skip_sign(tokens, sign) {
@@ -123,6 +130,7 @@ impl Parser {
     /// Reads a name.
     pub(crate) fn take_name(&mut self, tokens: &[Token]) -> Result<Named, ParseFault>
         ensures takes { IfOk result (λ named. Takes (NameKind named.name) named.line (state tokens.now self.old) (state tokens.now self.new)) }
+        ensures misses { IfErr result (OnAt (Misses IsName (state tokens.now self.old) (state tokens.now self.new))) }
         ensures forward { OnOk result (Advances tokens.now self.old self.new) }
     {
         let Some(token) = tokens.get(self.place) else {
@@ -142,9 +150,11 @@ impl Parser {
     }
 
     /// Whether the next token is a text.
-    pub(crate) fn at_text(&self, tokens: &[Token]) -> bool {
+    pub(crate) fn at_text(&self, tokens: &[Token]) -> bool
+        ensures { IsTrue result ↔ Begin IsText (state tokens.now self.now).left }
+    {
         match tokens.get(self.place) {
-            Some(token) => matches!(&token.kind, TokenKind::Text(_)),
+            Some(token) => is_text(&token.kind),
             None => false,
         }
     }
@@ -152,6 +162,7 @@ impl Parser {
     /// Reads a text.
     pub(crate) fn take_text(&mut self, tokens: &[Token]) -> Result<Named, ParseFault>
         ensures takes { IfOk result (λ text. Takes (TextKind text.name) text.line (state tokens.now self.old) (state tokens.now self.new)) }
+        ensures misses { IfErr result (OnAt (Misses IsText (state tokens.now self.old) (state tokens.now self.new))) }
         ensures forward { OnOk result (Advances tokens.now self.old self.new) }
     {
         let Some(token) = tokens.get(self.place) else {
@@ -172,7 +183,8 @@ impl Parser {
 
     /// The line of the next token.
     pub(crate) fn line_ahead(&self, tokens: &[Token]) -> Result<u32, ParseFault>
-        ensures { IfOk result (λ line. line ≡ first_line (state tokens.now self.now).left) }
+        ensures line { IfOk result (λ line. line ≡ first_line (state tokens.now self.now).left) }
+        ensures ended { IfErr result (OnAt (Ends (state tokens.now self.now))) }
     {
         match tokens.get(self.place) {
             Some(token) => Ok(self.line_of(tokens, token)),
@@ -190,7 +202,7 @@ impl Parser {
 
     /// The place of a construct within one at `at`, as high as it may be.
     pub(crate) fn deeper(&self, tokens: &[Token], at: Place) -> Result<Place, ParseFault>
-        ensures { IfOk result (IsWithin at) }
+        ensures { MatchResult result (IsWithin at) (IsTooDeep at (state tokens.now self.now)) }
     {
         if at.depth < DEEPEST {
             return Ok(Place {
@@ -205,7 +217,7 @@ impl Parser {
 
     /// The place of an expression that is a part of one at `at`.
     pub(crate) fn part(&self, tokens: &[Token], at: Place) -> Result<Place, ParseFault>
-        ensures { IfOk result (IsPart at) }
+        ensures { MatchResult result (IsPart at) (HasNoPart at (state tokens.now self.now)) }
     {
         let inner = self.deeper(tokens, at)?;
         if inner.room > 1 {
@@ -215,10 +227,40 @@ impl Parser {
     }
 
     /// The fault where one construct more isn't allowed.
-    fn too_deep(&self, tokens: &[Token]) -> ParseFault {
+    fn too_deep(&self, tokens: &[Token]) -> ParseFault
+        ensures { IsDepth (state tokens.now self.now) result }
+    {
         match tokens.get(self.place) {
             Some(token) => ParseFault::Depth(token.line),
             None => ParseFault::At(self.line),
         }
     }
+}
+
+/// Whether a token is that keyword.
+fn is_word(kind: &TokenKind, word: Word) -> bool
+    ensures { IsTrue result ↔ IsKind (WordKind word) kind.now }
+{
+    matches!(kind, TokenKind::Word(next) if *next == word)
+}
+
+/// Whether a token is that sign.
+pub(crate) fn is_sign(kind: &TokenKind, sign: Sign) -> bool
+    ensures { IsTrue result ↔ IsKind (SignKind sign) kind.now }
+{
+    matches!(kind, TokenKind::Sign(next) if *next == sign)
+}
+
+/// Whether a token is a name.
+pub(crate) fn is_name(kind: &TokenKind) -> bool
+    ensures { IsTrue result ↔ IsName kind.now }
+{
+    matches!(kind, TokenKind::Name(_))
+}
+
+/// Whether a token is a text.
+fn is_text(kind: &TokenKind) -> bool
+    ensures { IsTrue result ↔ IsText kind.now }
+{
+    matches!(kind, TokenKind::Text(_))
 }

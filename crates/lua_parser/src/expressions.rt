@@ -1,7 +1,14 @@
-ghost use Rattle.std.specs.Prelude.{◌≡◌, ◌≤◌, min, IfOk, OnOk, vec_len};
-ghost use Rattle.lua_grammar.specs.Operators.{kind_of_unary};
+ghost use Rattle.std.specs.Prelude.{◌≡◌, ◌≤◌, min, IfOk, IfErr, IfNone, MatchOption, OnOk, vec_len};
+ghost use Rattle.lua_grammar.specs.Operators.{kind_of, kind_of_unary, left_level, level};
+ghost use Rattle.lua_grammar.specs.declared.operators.Operator.{Operator};
 ghost use Rattle.lua_parser.specs.States.{state, Takes, Advances, IfAdvances, SkipsOperator};
 ghost use Rattle.lua_parser.specs.Reads.{ReadsExp};
+ghost use Rattle.lua_parser.specs.Next.{IsNext, Misses, OnAt, ahead};
+ghost use Rattle.lua_parser.specs.Kinds.{IsUnary, operand_of};
+ghost use Rattle.lua_lexer.specs.declared.tokens.TokenKind.TheVariants.{Word as WordKind};
+ghost use Rattle.lua_lexer.specs.declared.words.Word.TheVariants.{Function};
+ghost use Rattle.lua_grammar.specs.Stopping.{EndsAt};
+ghost use Rattle.lua_parser.specs.Refusals.{RefusesExp, RefusesFrom};
 
 use crate::ParseFault;
 use crate::cursor::Parser;
@@ -46,6 +53,7 @@ impl Parser {
     /// at least the level `lowest`.
     fn skip_operator(&mut self, tokens: &[Token], left: u8, lowest: u8) -> Option<Infix>
         ensures skips { SkipsOperator left lowest result (state tokens.now self.old) (state tokens.now self.new) }
+        ensures missing { IfNone result ((op : Operator) → IsNext (kind_of op) (state tokens.now self.old) → lowest ≤ level op → left_level op ≤ left → ⊥) }
         ensures forward { IfAdvances result tokens.now self.old self.new }
     {
         let token = tokens.get(self.place)?;
@@ -71,6 +79,8 @@ impl Parser {
     ) -> Result<Built, ParseFault>
         ensures reads { IfOk result (λ b. ReadsExp at (state tokens.now self.old) b (state tokens.now self.new)) }
         ensures level { IfOk result (λ b. min lowest 7 ≤ b.level) }
+        ensures ends { OnOk result (EndsAt lowest (ahead (state tokens.now self.new))) }
+        ensures refuses { lowest ≤ 7 → IfErr result (RefusesFrom lowest at (state tokens.now self.old) (state tokens.now self.new)) }
         ensures forward { OnOk result (Advances tokens.now self.old self.new) }
     {
         let mut left = self.operand(alloc, tokens, at)?;
@@ -84,23 +94,12 @@ impl Parser {
     }
 
     /// What the next token begins.
-    fn operand_ahead(&self, tokens: &[Token]) -> Operand {
-        let Some(token) = tokens.get(self.place) else {
-            return Operand::Prefix;
-        };
-        match &token.kind {
-            TokenKind::Word(Word::Not)
-            | TokenKind::Sign(Sign::Hash)
-            | TokenKind::Sign(Sign::Minus) => Operand::Unary,
-            TokenKind::Word(Word::Function) => Operand::Closure,
-            TokenKind::Sign(Sign::OpenBrace) => Operand::Table,
-            TokenKind::Word(Word::Nil) => Operand::Nil,
-            TokenKind::Word(Word::True) => Operand::True,
-            TokenKind::Word(Word::False) => Operand::False,
-            TokenKind::Number(_) => Operand::Number,
-            TokenKind::Text(_) => Operand::Text,
-            TokenKind::Sign(Sign::Ellipsis) => Operand::Rest,
-            _ => Operand::Prefix,
+    fn operand_ahead(&self, tokens: &[Token]) -> Operand
+        ensures { result ≡ operand_of (ahead (state tokens.now self.now)) }
+    {
+        match tokens.get(self.place) {
+            Some(token) => operand_of(&token.kind),
+            None => Operand::Prefix,
         }
     }
 
@@ -109,6 +108,7 @@ impl Parser {
     fn operand(&mut self, alloc: Global, tokens: &[Token], at: Place) -> Result<Built, ParseFault>
         ensures reads { IfOk result (λ b. ReadsExp at (state tokens.now self.old) b (state tokens.now self.new)) }
         ensures level { IfOk result (λ b. 7 ≤ b.level) }
+        ensures refuses { IfErr result (RefusesExp at (state tokens.now self.old) (state tokens.now self.new)) }
         ensures forward { OnOk result (Advances tokens.now self.old self.new) }
     {
         match self.operand_ahead(tokens) {
@@ -135,6 +135,7 @@ impl Parser {
     ) -> Result<Built, ParseFault>
         ensures reads { IfOk result (λ b. ReadsExp at (state tokens.now self.old) b (state tokens.now self.new)) }
         ensures level { IfOk result (λ b. 7 ≤ b.level) }
+        ensures refuses { IsUnary (ahead (state tokens.now self.old)) → IfErr result (RefusesExp at (state tokens.now self.old) (state tokens.now self.new)) }
         ensures forward { OnOk result (Advances tokens.now self.old self.new) }
     {
         let prefixed = self.take_unary(tokens)?;
@@ -148,6 +149,7 @@ impl Parser {
     fn closure(&mut self, alloc: Global, tokens: &[Token], at: Place) -> Result<Built, ParseFault>
         ensures reads { IfOk result (λ b. ReadsExp at (state tokens.now self.old) b (state tokens.now self.new)) }
         ensures level { IfOk result (λ b. 7 ≤ b.level) }
+        ensures refuses { ahead (state tokens.now self.old) ≡ WordKind Function → IfErr result (RefusesExp at (state tokens.now self.old) (state tokens.now self.new)) }
         ensures forward { OnOk result (Advances tokens.now self.old self.new) }
     {
         let line = self.take_word(tokens, Word::Function)?;
@@ -165,6 +167,7 @@ impl Parser {
     ) -> Result<Built, ParseFault>
         ensures reads { IfOk result (λ b. ReadsExp at (state tokens.now self.old) b (state tokens.now self.new)) }
         ensures level { IfOk result (λ b. 7 ≤ b.level) }
+        ensures refuses { operand_of (ahead (state tokens.now self.old)) ≡ Operand.Prefix → IfErr result (RefusesExp at (state tokens.now self.old) (state tokens.now self.new)) }
         ensures forward { OnOk result (Advances tokens.now self.old self.new) }
     {
         let prefix = self.prefix(alloc, tokens, at)?;
@@ -179,21 +182,50 @@ impl Parser {
     /// Reads a unary operator.
     fn take_unary(&mut self, tokens: &[Token]) -> Result<Prefixed, ParseFault>
         ensures takes { IfOk result (λ found. Takes (kind_of_unary found.op) found.line (state tokens.now self.old) (state tokens.now self.new)) }
+        ensures misses { IfErr result (OnAt (Misses IsUnary (state tokens.now self.old) (state tokens.now self.new))) }
         ensures forward { OnOk result (Advances tokens.now self.old self.new) }
     {
         let Some(token) = tokens.get(self.place) else {
             return Err(self.unfit(tokens));
         };
-        let op = match &token.kind {
-            TokenKind::Word(Word::Not) => UnOp::Not,
-            TokenKind::Sign(Sign::Hash) => UnOp::Length,
-            TokenKind::Sign(Sign::Minus) => UnOp::Minus,
-            _ => return Err(self.unfit(tokens)),
+        let Some(op) = unary_of(&token.kind) else {
+            return Err(self.unfit(tokens));
         };
         self.advance(tokens, token);
         Ok(Prefixed {
             op,
             line: token.line,
         })
+    }
+}
+
+/// What a token begins.
+fn operand_of(kind: &TokenKind) -> Operand
+    ensures { result ≡ operand_of kind.now }
+{
+    match kind {
+        TokenKind::Word(Word::Not) | TokenKind::Sign(Sign::Hash) | TokenKind::Sign(Sign::Minus) =>
+            Operand::Unary,
+        TokenKind::Word(Word::Function) => Operand::Closure,
+        TokenKind::Sign(Sign::OpenBrace) => Operand::Table,
+        TokenKind::Word(Word::Nil) => Operand::Nil,
+        TokenKind::Word(Word::True) => Operand::True,
+        TokenKind::Word(Word::False) => Operand::False,
+        TokenKind::Number(_) => Operand::Number,
+        TokenKind::Text(_) => Operand::Text,
+        TokenKind::Sign(Sign::Ellipsis) => Operand::Rest,
+        _ => Operand::Prefix,
+    }
+}
+
+/// The unary operator that a token is, if it is one.
+fn unary_of(kind: &TokenKind) -> Option<UnOp>
+    ensures { MatchOption result (IsUnary kind.now → ⊥) (λ op. kind.now ≡ kind_of_unary op) }
+{
+    match kind {
+        TokenKind::Word(Word::Not) => Some(UnOp::Not),
+        TokenKind::Sign(Sign::Hash) => Some(UnOp::Length),
+        TokenKind::Sign(Sign::Minus) => Some(UnOp::Minus),
+        _ => None,
     }
 }

@@ -1,7 +1,8 @@
-ghost use Rattle.std.specs.Prelude.{◌≡◌, max, IfOk, OnOk};
+ghost use Rattle.std.specs.Prelude.{◌≡◌, max, MatchResult};
 ghost use Rattle.lua_ast.specs.declared.expressions.ExprKind as kind;
 ghost use Rattle.lua_grammar.specs.Resolution.{binary_kind};
 ghost use Rattle.lua_parser.specs.Nodes.{leaf, IsUnary, IsBinary, IsParen, IsIndexed, IsMember, IsCalled, IsMethodCalled, IsTable, IsAlone, IsNone, AddsValue, AddsItem, AreNone};
+ghost use Rattle.lua_parser.specs.Next.{IsMemory};
 
 use crate::ParseFault;
 use crate::cursor::Named;
@@ -100,7 +101,7 @@ impl Values {
 
     /// One expression.
     pub(crate) fn one(alloc: Global, built: Built) -> Result<Values, ParseFault>
-        ensures { IfOk result (IsAlone built) }
+        ensures { MatchResult result (IsAlone built) IsMemory }
     {
         let Built { expr, height, .. } = built;
         Ok(Values {
@@ -111,7 +112,7 @@ impl Values {
 
     /// A text.
     pub(crate) fn text(alloc: Global, text: Named) -> Result<Values, ParseFault>
-        ensures { IfOk result (IsAlone (leaf text.line (kind.Text text.name))) }
+        ensures { MatchResult result (IsAlone (leaf text.line (kind.Text text.name))) IsMemory }
     {
         Values::one(alloc, text.into_text())
     }
@@ -126,7 +127,7 @@ impl Values {
 
     /// Puts an expression at the end.
     pub(crate) fn push(&mut self, built: Built) -> Result<(), ParseFault>
-        ensures { OnOk result (AddsValue self.old built self.new) }
+        ensures { MatchResult result (λ _. AddsValue self.old built self.new) IsMemory }
     {
         let Built { expr, height, .. } = built;
         self.exprs.push(expr)?;
@@ -176,7 +177,7 @@ impl Items {
 
     /// Puts an item at the end.
     pub(crate) fn push(&mut self, item: Item) -> Result<(), ParseFault>
-        ensures { OnOk result (AddsItem self.old item self.new) }
+        ensures { MatchResult result (λ _. AddsItem self.old item self.new) IsMemory }
     {
         let Item { item, height } = item;
         self.items.push(item)?;
@@ -186,7 +187,7 @@ impl Items {
 
     /// The table constructor that begins on that line.
     pub(crate) fn into_table(self, alloc: Global, line: u32) -> Result<Built, ParseFault>
-        ensures { IfOk result (IsTable self line) }
+        ensures { MatchResult result (IsTable self line) IsMemory }
     {
         let Items { items, height } = self;
         Ok(Built {
@@ -202,7 +203,7 @@ impl Items {
 
 /// `(inner)`.
 pub(crate) fn paren(alloc: Global, inner: Built, line: u32) -> Result<Prefix, ParseFault>
-    ensures { IfOk result (IsParen inner line) }
+    ensures { MatchResult result (IsParen inner line) IsMemory }
 {
     let Built { expr, height, .. } = inner;
     Ok(Prefix {
@@ -222,7 +223,7 @@ pub(crate) fn indexed(
     line: u32,
     key: Built,
 ) -> Result<Prefix, ParseFault>
-    ensures { IfOk result (IsIndexed object line key) }
+    ensures { MatchResult result (IsIndexed object line key) IsMemory }
 {
     let height = object.height.max(key.height).saturating_add(1);
     let Prefix { expr: object, .. } = object;
@@ -246,7 +247,7 @@ pub(crate) fn called(
     line: u32,
     values: Values,
 ) -> Result<Prefix, ParseFault>
-    ensures { IfOk result (IsCalled callee line values) }
+    ensures { MatchResult result (IsCalled callee line values) IsMemory }
 {
     let height = callee.height.max(values.height).saturating_add(1);
     let Prefix { expr, .. } = callee;
@@ -271,7 +272,7 @@ pub(crate) fn method_called(
     line: u32,
     values: Values,
 ) -> Result<Prefix, ParseFault>
-    ensures { IfOk result (IsMethodCalled object name line values) }
+    ensures { MatchResult result (IsMethodCalled object name line values) IsMemory }
 {
     let height = object.height.max(values.height).saturating_add(1);
     let Prefix { expr, .. } = object;
@@ -290,7 +291,7 @@ pub(crate) fn method_called(
 
 /// An operator with its operand.
 pub(crate) fn unary(alloc: Global, op: UnOp, line: u32, operand: Built) -> Result<Built, ParseFault>
-    ensures { IfOk result (IsUnary op line operand) }
+    ensures { MatchResult result (IsUnary op line operand) IsMemory }
 {
     let Built { expr, height, .. } = operand;
     Ok(Built {
@@ -311,7 +312,7 @@ pub(crate) fn binary(
     line: u32,
     right: Built,
 ) -> Result<Built, ParseFault>
-    ensures { IfOk result (IsBinary left op line right) }
+    ensures { MatchResult result (IsBinary left op line right) IsMemory }
 {
     let height = left.height.max(right.height).saturating_add(1);
     let Built { expr: left, .. } = left;
@@ -346,7 +347,7 @@ pub(crate) fn member(
     dot: u32,
     named: Named,
 ) -> Result<Expr, ParseFault>
-    ensures { IfOk result (IsMember object dot named.line named.name) }
+    ensures { MatchResult result (IsMember object dot named.line named.name) IsMemory }
 {
     let key = named.into_text().into_expr();
     let object = Rc::new(alloc, object)?;

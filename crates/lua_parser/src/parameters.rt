@@ -1,7 +1,12 @@
-ghost use Rattle.std.specs.Prelude.{◌≡◌, ◌≤◌, ◌+◌, ◌∷◌, [], slice_set, IfOk, OnOk, vec_len};
+ghost use Rattle.std.specs.Prelude.{◌≡◌, ◌≤◌, ◌<◌, ◌+◌, ◌∷◌, [], length, slice_set, IfErr, IfOk, OnOk, vec_len};
+ghost use Rattle.lua_grammar.specs.Limits.{Few};
 ghost use Rattle.lua_grammar.specs.Resolution.{ResolvesName};
-ghost use Rattle.lua_grammar.specs.Scopes.{Scope, declare, in_scope, leave, slots_from};
+ghost use Rattle.lua_grammar.specs.Scopes.{Scope, declare, in_scope, leave, look, slots_from};
 ghost use Rattle.lua_parser.specs.States.{state, Advances, AdvancesOrStays, scope_of};
+ghost use Rattle.lua_lexer.specs.declared.tokens.TokenKind.TheVariants.{Sign as SignKind};
+ghost use Rattle.lua_lexer.specs.declared.signs.Sign.TheVariants.{Comma};
+ghost use Rattle.lua_parser.specs.Next.{IsMemory, IsNext, MissesName, OnLocals, OnUpvalues};
+ghost use Rattle.lua_parser.specs.StatementRefusals.{RefusesNames, RefusesParameters};
 
 use crate::ParseFault;
 use crate::cursor::{Named, Parser};
@@ -37,6 +42,7 @@ impl Parser {
     /// The expression that a name is.
     pub(crate) fn variable(&mut self, named: Named) -> Result<Expr, ParseFault>
         ensures resolves { IfOk result (λ e. ResolvesName named.line named.name (scope_of self.old) e (scope_of self.new)) }
+        ensures crowded { IfErr result (OnUpvalues (Few (look named.name (scope_of self.old).around).1 → ⊥)) }
         ensures place { self.new.place ≡ self.old.place }
         ensures line { self.new.line ≡ self.old.line }
     {
@@ -58,6 +64,8 @@ impl Parser {
         requires { taken ≤ 200 }
         ensures few { IfOk result (λ names. taken + vec_len names ≤ 200) }
         ensures reads { IfOk result (λ names. ReadsNames [] (state tokens.now self.old) names.items (state tokens.now self.new)) }
+        ensures stops { OnOk result (IsNext (SignKind Comma) (state tokens.now self.new) → ⊥) }
+        ensures refuses { IfErr result (RefusesNames taken (state tokens.now self.old) (state tokens.now self.new)) }
         ensures forward { OnOk result (Advances tokens.now self.old self.new) }
     {
         let mut names = Vec::new(alloc);
@@ -79,6 +87,7 @@ impl Parser {
         requires { taken + vec_len names.old ≤ 200 }
         ensures few { OnOk result (taken + vec_len names.new ≤ 200) }
         ensures reads { OnOk result (TakesName names.old.items (state tokens.now self.old) names.new.items (state tokens.now self.new)) }
+        ensures misses { IfErr result (MissesName (taken + vec_len names.old) (state tokens.now self.old) (state tokens.now self.new)) }
         ensures forward { OnOk result (Advances tokens.now self.old self.new) }
     {
         let Named { name, line } = self.take_name(tokens)?;
@@ -97,6 +106,7 @@ impl Parser {
     ) -> Result<Parameters, ParseFault>
         requires { vec_len names ≤ 200 }
         ensures reads { IfOk result (λ p. ReadsParameters names.items (state tokens.now self.old) p (state tokens.now self.new)) }
+        ensures refuses { IfErr result (RefusesParameters names.items (state tokens.now self.old) (state tokens.now self.new)) }
         ensures forward { OnOk result (AdvancesOrStays tokens.now self.old self.new) }
     {
         if self.at_sign(tokens, Sign::CloseParenthesis) {
@@ -139,6 +149,7 @@ impl Parser {
     /// Declares a local, and answers its slot.
     pub(crate) fn local(&mut self, named: Named) -> Result<u8, ParseFault>
         ensures slot { IfOk result (λ slot. slot ≡ in_scope (scope_of self.old)) }
+        ensures crowded { IfErr result (OnLocals (200 ≤ in_scope (scope_of self.old))) }
         ensures scope { OnOk result (scope_of self.new ≡ declare (named.name ∷ []) (scope_of self.old)) }
         ensures place { self.new.place ≡ self.old.place }
         ensures line { self.new.line ≡ self.old.line }
@@ -155,6 +166,7 @@ impl Parser {
         line: u32,
     ) -> Result<Vec<u8>, ParseFault>
         ensures slots { IfOk result (λ slots. slots.items ≡ slots_from (in_scope (scope_of self.old)) names.items) }
+        ensures crowded { IfErr result (OnLocals (200 < in_scope (scope_of self.old) + length names.items)) }
         ensures scope { OnOk result (scope_of self.new ≡ declare names.items (scope_of self.old)) }
         ensures place { self.new.place ≡ self.old.place }
         ensures line { self.new.line ≡ self.old.line }
@@ -175,6 +187,7 @@ impl Parser {
         line: u32,
     ) -> Result<Begun, ParseFault>
         ensures enters { IfOk result (λ begun. Enters parameters line begun (scope_of self.old) (scope_of self.new)) }
+        ensures memory { IfErr result IsMemory }
         ensures place { self.new.place ≡ self.old.place }
         ensures line { self.new.line ≡ self.old.line }
     {
@@ -202,6 +215,7 @@ impl Parser {
         body: Vec<Stmt>,
     ) -> Result<u32, ParseFault>
         ensures ends { IfOk result (λ number. Ends begun body.items (scope_of self.old) number (scope_of self.new)) }
+        ensures memory { IfErr result IsMemory }
         ensures place { self.new.place ≡ self.old.place }
         ensures line { self.new.line ≡ self.old.line }
     {

@@ -1,7 +1,10 @@
-ghost use Rattle.std.specs.Prelude.{◌≡◌, IfOk, slice_set};
+ghost use Rattle.std.specs.Prelude.{◌≡◌, IfErr, IfOk, MatchResult, slice_set};
+ghost use Rattle.lua_ast.specs.declared.programs.Program.{Program};
 ghost use Rattle.lua_ast.specs.WholeProgram.{IsWholeProgram};
 ghost use Rattle.lua_grammar.specs.Grammar.{first_line, IsProgramOf};
 ghost use Rattle.lua_grammar.specs.Printing.{lexemes};
+ghost use Rattle.lua_parser.specs.Next.{IsMemory};
+ghost use Rattle.lua_parser.specs.Unfit.{IsUnfit, OfAt};
 
 use crate::ParseFault;
 use crate::cursor::Parser;
@@ -14,10 +17,13 @@ use lua_lexer::Token;
 use resty_base::{ByteLists, Bytes};
 use std::alloc::Global;
 
-/// The program of a chunk's tokens, with one file without a name; the chunk is function 0.
+/// The program of a chunk's tokens, with one file without a name; the chunk is function 0. Tokens that have no program are
+/// refused with a fault that says why, and the line of a token.
 pub fn parse(alloc: Global, tokens: &[Token]) -> Result<Program, ParseFault>
     ensures program { IfOk result (IsProgramOf tokens.now) }
     ensures whole { IfOk result IsWholeProgram }
+    ensures unfit { IfErr result (OfAt (IsUnfit tokens.now)) }
+    ensures complete { IfErr result (λ fault. (fault ≡ ParseFault.Memory → ⊥) → (program : Program) → IsProgramOf tokens.now program → ⊥) }
 {
     let line = first_line(tokens);
     let mut parser = Parser {
@@ -61,7 +67,7 @@ fn first_line(tokens: &[Token]) -> u32
 
 /// The functions, with the chunk in the first place.
 fn with_chunk(functions: Vec<Function>, chunk: Function) -> Result<Vec<Function>, ParseFault>
-    ensures { IfOk result (λ whole. whole.items ≡ slice_set functions.items 0 chunk) }
+    ensures { MatchResult result (λ whole. whole.items ≡ slice_set functions.items 0 chunk) IsMemory }
 {
     let mut functions = functions;
     let Some(first) = functions.first_mut() else {

@@ -1,4 +1,4 @@
-ghost use Rattle.std.specs.Prelude.{◌≡◌, ◌≤◌, ◌<◌, OnOk, true, false};
+ghost use Rattle.std.specs.Prelude.{◌≡◌, ◌≤◌, ◌<◌, MatchResult, true, false};
 
 use crate::ParseFault;
 
@@ -25,6 +25,7 @@ pub(crate) struct Place {
 }
 
 impl Place {
+    ghost use Rattle.lua_parser.specs.Next.{IsTooHigh};
     ghost use Rattle.lua_parser.specs.Places.{IsFresh, IsLooped, IsNarrower, IsOfFunction};
 
     /// The same place, in a loop.
@@ -77,7 +78,7 @@ impl Place {
 
     /// Whether an expression of that height may be a part of one here. The line is that of the token that makes it one.
     pub(crate) fn above(self, height: u32, line: u32) -> Result<(), ParseFault>
-        ensures { OnOk result (height < self.room) }
+        ensures { MatchResult result (λ _. height < self.room) (IsTooHigh self height) }
     {
         if height < self.room {
             Ok(())

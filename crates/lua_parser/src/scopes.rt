@@ -1,7 +1,9 @@
-ghost use Rattle.std.specs.Prelude.{◌≡◌, ℕ, List, ◌≤◌, ◌<◌, ◌∷◌, ◌++◌, [], map, reverse, take, length, IfOk, IfSome, OnOk, vec_len};
+ghost use Rattle.std.specs.Prelude.{◌≡◌, ℕ, List, ◌≤◌, ◌<◌, ◌∷◌, ◌++◌, [], map, reverse, take, length, IfOk, IfErr, IfSome, MatchResult, OnOk, vec_len};
+ghost use Rattle.lua_grammar.specs.Limits.{Few};
 ghost use Rattle.lua_grammar.specs.Resolution.{variable_kind, IsFunction};
 ghost use Rattle.lua_grammar.specs.Scopes.{last_place, own, look, with_locals};
 ghost use Rattle.lua_parser.specs.Frames.{captured_of, frame_of, frames_of};
+ghost use Rattle.lua_parser.specs.Next.{IsMemory, OnLocals, OnUpvalues};
 
 use crate::ParseFault;
 use crate::frames::{Captured, Frame};
@@ -73,6 +75,7 @@ impl Frame {
     /// Captures a variable of the function around.
     fn hand_in(&mut self, name: &Bytes, variable: Capture, line: u32) -> Result<Capture, ParseFault>
         ensures place { IfOk result (λ found. found ≡ Capture.Outer (length self.old.captures.items)) }
+        ensures crowded { IfErr result (OnUpvalues (60 ≤ length self.old.captures.items)) }
         ensures captures { OnOk result (map captured_of self.new.captures.items
             ≡ map captured_of self.old.captures.items ++ record { name = name.now; variable = variable } ∷ []) }
         ensures locals { OnOk result (self.new.locals ≡ self.old.locals) }
@@ -100,6 +103,7 @@ impl Frame {
     pub(crate) fn declare(&mut self, name: Bytes, line: u32) -> Result<u8, ParseFault>
         ensures slot { IfOk result (λ slot. slot ≡ length self.old.locals.items) }
         ensures frame { OnOk result (frame_of self.new ≡ with_locals (name ∷ []) (frame_of self.old)) }
+        ensures crowded { IfErr result (OnLocals (200 ≤ length self.old.locals.items)) }
     {
         let slot = self.locals.len();
         if slot >= MOST_LOCALS {
@@ -119,8 +123,8 @@ pub(crate) fn look(
     name: &Bytes,
     line: u32,
 ) -> Result<Option<Capture>, ParseFault>
-    ensures { IfOk result (λ found. look name.now (frame_of frame.old ∷ frames_of around.old)
-        ≡ (found, frame_of frame.new ∷ frames_of around.new)) }
+    ensures { MatchResult result (λ found. look name.now (frame_of frame.old ∷ frames_of around.old) ≡ (found, frame_of frame.new ∷ frames_of around.new))
+        (OnUpvalues (Few (look name.now (frame_of frame.old ∷ frames_of around.old)).1 → ⊥)) }
 {
     if let Some(variable) = frame.own(name.as_slice()) {
         return Ok(Some(variable));
@@ -148,7 +152,9 @@ pub(crate) fn variable_kind(name: Bytes, found: Option<Capture>) -> ExprKind
 }
 
 /// A function without captures and statements.
-pub(crate) fn empty_function(alloc: Global, line: u32) -> Result<Function, ParseFault> {
+pub(crate) fn empty_function(alloc: Global, line: u32) -> Result<Function, ParseFault>
+    ensures { IfErr result IsMemory }
+{
     let none: Vec<Stmt> = Vec::new(alloc);
     Ok(Function {
         file: 0,
@@ -163,7 +169,7 @@ pub(crate) fn empty_function(alloc: Global, line: u32) -> Result<Function, Parse
 
 /// The captured variables in order.
 fn variables(alloc: Global, captures: &[Captured]) -> Result<Vec<Capture>, ParseFault>
-    ensures { IfOk result (λ variables. variables.items ≡ map (λ c. c.variable) captures.now) }
+    ensures { MatchResult result (λ variables. variables.items ≡ map (λ c. c.variable) captures.now) IsMemory }
 {
     let mut variables = Vec::new(alloc);
     for captured in captures {
@@ -181,8 +187,8 @@ pub(crate) fn whole_function(
     body: Vec<Stmt>,
     line: u32,
 ) -> Result<Function, ParseFault>
-    ensures { IfOk result (λ f. (names : List (List ℕ)) → length names ≡ params
-        → IsFunction line names vararg (frame_of frame.now) body.items f) }
+    ensures { MatchResult result (λ f. (names : List (List ℕ)) → length names ≡ params
+        → IsFunction line names vararg (frame_of frame.now) body.items f) IsMemory }
 {
     Ok(Function {
         file: 0,

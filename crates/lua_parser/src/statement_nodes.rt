@@ -1,5 +1,6 @@
-ghost use Rattle.std.specs.Prelude.{◌≡◌, IfOk, option_map};
+ghost use Rattle.std.specs.Prelude.{◌≡◌, MatchResult, option_map};
 ghost use Rattle.lua_parser.specs.StatementNodes.{IsArm, IsIf, IsWhile, IsDo, IsRepeat, IsNumericFor, IsGenericFor, IsLocal, IsAssign, Defines, IsReturn, Begins, given_of};
+ghost use Rattle.lua_parser.specs.Next.{IsMemory};
 
 use crate::ParseFault;
 use lua_ast::{Arm, Expr, ExprKind, Stmt, StmtKind};
@@ -30,7 +31,7 @@ pub(crate) struct FunctionName {
 
 /// A test and its block.
 pub(crate) fn arm_node(alloc: Global, test: Expr, body: Vec<Stmt>) -> Result<Arm, ParseFault>
-    ensures { IfOk result (IsArm test body.items) }
+    ensures { MatchResult result (IsArm test body.items) IsMemory }
 {
     Ok(Arm {
         test,
@@ -45,7 +46,7 @@ pub(crate) fn if_node(
     arms: Vec<Arm>,
     otherwise: Vec<Stmt>,
 ) -> Result<Stmt, ParseFault>
-    ensures { IfOk result (IsIf line arms.items otherwise.items) }
+    ensures { MatchResult result (IsIf line arms.items otherwise.items) IsMemory }
 {
     let arms = Rc::new(alloc, arms)?;
     Ok(Stmt {
@@ -61,7 +62,7 @@ pub(crate) fn while_node(
     test: Expr,
     body: Vec<Stmt>,
 ) -> Result<Stmt, ParseFault>
-    ensures { IfOk result (IsWhile line test body.items) }
+    ensures { MatchResult result (IsWhile line test body.items) IsMemory }
 {
     let test = Rc::new(alloc, test)?;
     Ok(Stmt {
@@ -72,7 +73,7 @@ pub(crate) fn while_node(
 
 /// `do`.
 pub(crate) fn do_node(alloc: Global, line: u32, body: Vec<Stmt>) -> Result<Stmt, ParseFault>
-    ensures { IfOk result (IsDo line body.items) }
+    ensures { MatchResult result (IsDo line body.items) IsMemory }
 {
     Ok(Stmt {
         line,
@@ -87,7 +88,7 @@ pub(crate) fn repeat_node(
     body: Vec<Stmt>,
     test: Expr,
 ) -> Result<Stmt, ParseFault>
-    ensures { IfOk result (IsRepeat line body.items test) }
+    ensures { MatchResult result (IsRepeat line body.items test) IsMemory }
 {
     let body = Rc::new(alloc, body)?;
     Ok(Stmt {
@@ -103,7 +104,7 @@ pub(crate) fn numeric_for(
     range: Range,
     block: LoopBlock,
 ) -> Result<Stmt, ParseFault>
-    ensures { IfOk result (IsNumericFor line range block) }
+    ensures { MatchResult result (IsNumericFor line range block) IsMemory }
 {
     let Range { from, to, step } = range;
     let LoopBlock { slots, body } = block;
@@ -137,7 +138,7 @@ fn first_slot(slots: &[u8]) -> u8
 
 /// The same expression, shared.
 fn shared(alloc: Global, expr: Option<Expr>) -> Result<Option<Rc<Expr>>, ParseFault>
-    ensures { IfOk result (λ found. option_map (λ rc. rc.value) found ≡ expr) }
+    ensures { MatchResult result (λ found. option_map (λ rc. rc.value) found ≡ expr) IsMemory }
 {
     match expr {
         Some(expr) => Ok(Some(Rc::new(alloc, expr)?)),
@@ -152,7 +153,7 @@ pub(crate) fn generic_for(
     values: Vec<Expr>,
     block: LoopBlock,
 ) -> Result<Stmt, ParseFault>
-    ensures { IfOk result (IsGenericFor line values.items block) }
+    ensures { MatchResult result (IsGenericFor line values.items block) IsMemory }
 {
     let LoopBlock { slots, body } = block;
     let slots = Rc::new(alloc, slots)?;
@@ -175,7 +176,7 @@ pub(crate) fn local_node(
     slots: Vec<u8>,
     values: Option<Vec<Expr>>,
 ) -> Result<Stmt, ParseFault>
-    ensures { IfOk result (IsLocal line slots.items values) }
+    ensures { MatchResult result (IsLocal line slots.items values) IsMemory }
 {
     let values = given(alloc, values);
     let slots = Rc::new(alloc, slots)?;
@@ -202,7 +203,7 @@ pub(crate) fn assign_node(
     targets: Vec<Expr>,
     values: Vec<Expr>,
 ) -> Result<Stmt, ParseFault>
-    ensures { IfOk result (IsAssign line targets.items values.items) }
+    ensures { MatchResult result (IsAssign line targets.items values.items) IsMemory }
 {
     let targets = Rc::new(alloc, targets)?;
     Ok(Stmt {
@@ -218,7 +219,7 @@ pub(crate) fn define(
     target: Expr,
     number: u32,
 ) -> Result<Stmt, ParseFault>
-    ensures { IfOk result (Defines line target number) }
+    ensures { MatchResult result (Defines line target number) IsMemory }
 {
     let function = Expr {
         line,
@@ -231,7 +232,7 @@ pub(crate) fn define(
 
 /// `return`.
 pub(crate) fn returned(alloc: Global, line: u32, values: Vec<Expr>) -> Result<Stmt, ParseFault>
-    ensures { IfOk result (IsReturn line values.items) }
+    ensures { MatchResult result (IsReturn line values.items) IsMemory }
 {
     Ok(Stmt {
         line,

@@ -1,7 +1,16 @@
-ghost use Rattle.std.specs.Prelude.{◌≤◌, ◌∷◌, [], ℕ, IfOk, OnOk, vec_len};
+ghost use Rattle.std.specs.Prelude.{◌≡◌, ◌≤◌, ◌∷◌, [], ℕ, IfErr, IfNone, IfOk, OnOk, vec_len};
 ghost use Rattle.lua_parser.specs.States.{State, state, Advances, AdvancesOrStays};
 ghost use Rattle.lua_parser.specs.Reads.{ReadsBody};
-ghost use Rattle.lua_parser.specs.ReadsStatements.{ReadsBlock, ReadsScoped, ReadsStat, ReadsLast, ReadsValue, ReadsValues, ReadsArm, ReadsArms, ReadsFuncName, ReadsMember, ReadsVars, ReadsTarget, ReadsInitial, behind_function, behind_local};
+ghost use Rattle.lua_parser.specs.ReadsStatements.{ReadsBlock, ReadsScoped, ReadsStat, ReadsLast, ReadsValue, ReadsValues, ReadsArm, ReadsArms, ReadsFuncName, ReadsMember, ReadsVars, ReadsMoreVars, ReadsTarget, ReadsInitial, behind_function, behind_local};
+ghost use Rattle.lua_lexer.specs.declared.tokens.TokenKind.TheVariants.{Sign as SignKind};
+ghost use Rattle.lua_lexer.specs.declared.tokens.TokenKind.TheVariants.{Word as WordKind};
+ghost use Rattle.lua_lexer.specs.declared.signs.Sign.TheVariants.{Assign, Colon, Comma, Dot};
+ghost use Rattle.lua_lexer.specs.declared.words.Word.TheVariants.{Break, Do, ElseIf, Function, If, Local};
+ghost use Rattle.lua_parser.specs.Next.{IsNext, MissesMember, ahead};
+ghost use Rattle.lua_parser.specs.Kinds.{IsStatement, begins_of};
+ghost use Rattle.lua_parser.specs.declared.places.Place.{Place};
+ghost use Rattle.lua_parser.specs.Refusals.{RefusesBody};
+ghost use Rattle.lua_parser.specs.StatementRefusals.{RefusesArm, RefusesArms, RefusesAssignment, RefusesBlock, RefusesFuncName, RefusesInitial, RefusesLast, RefusesLocal, RefusesMethod, RefusesScoped, RefusesStat, RefusesTarget, RefusesValue, RefusesValues};
 
 use crate::ParseFault;
 use crate::cursor::Parser;
@@ -35,24 +44,12 @@ enum Begins {
 
 impl Parser {
     /// What the next token begins in a block.
-    fn begins(&self, tokens: &[Token]) -> Begins {
-        let Some(token) = tokens.get(self.place) else {
-            return Begins::Nothing;
-        };
-        match &token.kind {
-            TokenKind::Word(Word::If) => Begins::If,
-            TokenKind::Word(Word::While) => Begins::While,
-            TokenKind::Word(Word::Do) => Begins::Do,
-            TokenKind::Word(Word::For) => Begins::For,
-            TokenKind::Word(Word::Repeat) => Begins::Repeat,
-            TokenKind::Word(Word::Function) => Begins::Function,
-            TokenKind::Word(Word::Local) => Begins::Local,
-            TokenKind::Word(Word::Return) | TokenKind::Word(Word::Break) => Begins::Last,
-            TokenKind::Word(Word::End)
-            | TokenKind::Word(Word::Else)
-            | TokenKind::Word(Word::ElseIf)
-            | TokenKind::Word(Word::Until) => Begins::Nothing,
-            _ => Begins::Prefix,
+    fn begins(&self, tokens: &[Token]) -> Begins
+        ensures { result ≡ begins_of (ahead (state tokens.now self.now)) }
+    {
+        match tokens.get(self.place) {
+            Some(token) => begins_of(&token.kind),
+            None => Begins::Nothing,
         }
     }
 
@@ -69,6 +66,7 @@ impl Parser {
     ) -> Result<u32, ParseFault>
         requires { vec_len first ≤ 200 }
         ensures reads { IfOk result (λ number. ReadsBody at line first.items (state tokens.now self.old) number (state tokens.now self.new)) }
+        ensures refuses { IfErr result (RefusesBody at line first.items (state tokens.now self.old) (state tokens.now self.new)) }
         ensures forward { OnOk result (Advances tokens.now self.old self.new) }
     {
         self.take_sign(tokens, Sign::OpenParenthesis)?;
@@ -90,6 +88,7 @@ impl Parser {
         at: Place,
     ) -> Result<Vec<Stmt>, ParseFault>
         ensures reads { IfOk result (λ block. ReadsScoped at (state tokens.now self.old) block.items (state tokens.now self.new)) }
+        ensures refuses { IfErr result (RefusesScoped at (state tokens.now self.old) (state tokens.now self.new)) }
         ensures forward { OnOk result (AdvancesOrStays tokens.now self.old self.new) }
     {
         let inner = self.deeper(tokens, at)?;
@@ -108,6 +107,7 @@ impl Parser {
         at: Place,
     ) -> Result<Vec<Stmt>, ParseFault>
         ensures reads { IfOk result (λ block. ReadsBlock at (state tokens.now self.old) block.items (state tokens.now self.new)) }
+        ensures refuses { IfErr result (RefusesBlock at (state tokens.now self.old) (state tokens.now self.new)) }
         ensures forward { OnOk result (AdvancesOrStays tokens.now self.old self.new) }
     {
         let mut statements = Vec::new(alloc);
@@ -133,6 +133,7 @@ impl Parser {
     #[cycle(descent)]
     fn last(&mut self, alloc: Global, tokens: &[Token], at: Place) -> Result<Stmt, ParseFault>
         ensures reads { IfOk result (λ last. ReadsLast at (state tokens.now self.old) last (state tokens.now self.new)) }
+        ensures refuses { begins_of (ahead (state tokens.now self.old)) ≡ Begins.Last → IfErr result (RefusesLast at (state tokens.now self.old) (state tokens.now self.new)) }
         ensures forward { OnOk result (Advances tokens.now self.old self.new) }
     {
         if self.at_word(tokens, Word::Break) {
@@ -148,6 +149,7 @@ impl Parser {
 
     fn break_statement(&mut self, tokens: &[Token], at: Place) -> Result<Stmt, ParseFault>
         ensures reads { IfOk result (λ last. ReadsLast at (state tokens.now self.old) last (state tokens.now self.new)) }
+        ensures refuses { IsNext (WordKind Break) (state tokens.now self.old) → IfErr result (RefusesLast at (state tokens.now self.old) (state tokens.now self.new)) }
         ensures forward { OnOk result (Advances tokens.now self.old self.new) }
     {
         let line = self.take_word(tokens, Word::Break)?;
@@ -170,6 +172,7 @@ impl Parser {
         begins: Begins,
     ) -> Result<Stmt, ParseFault>
         ensures reads { IfOk result (λ out. ReadsStat at (state tokens.now self.old) out (state tokens.now self.new)) }
+        ensures refuses { begins ≡ begins_of (ahead (state tokens.now self.old)) → IsStatement begins → IfErr result (RefusesStat at (state tokens.now self.old) (state tokens.now self.new)) }
         ensures forward { OnOk result (Advances tokens.now self.old self.new) }
     {
         match begins {
@@ -193,6 +196,7 @@ impl Parser {
         at: Place,
     ) -> Result<Expr, ParseFault>
         ensures reads { IfOk result (λ e. ReadsValue at (state tokens.now self.old) e (state tokens.now self.new)) }
+        ensures refuses { IfErr result (RefusesValue at (state tokens.now self.old) (state tokens.now self.new)) }
         ensures forward { OnOk result (Advances tokens.now self.old self.new) }
     {
         let inner = self.deeper(tokens, at.fresh())?;
@@ -209,6 +213,7 @@ impl Parser {
         at: Place,
     ) -> Result<Vec<Expr>, ParseFault>
         ensures reads { IfOk result (λ es. ReadsValues at (state tokens.now self.old) es.items (state tokens.now self.new)) }
+        ensures refuses { IfErr result (RefusesValues at (state tokens.now self.old) (state tokens.now self.new)) }
         ensures forward { OnOk result (Advances tokens.now self.old self.new) }
     {
         let inner = self.deeper(tokens, at.fresh())?;
@@ -220,6 +225,7 @@ impl Parser {
     #[cycle(descent)]
     fn arm(&mut self, alloc: Global, tokens: &[Token], at: Place) -> Result<Arm, ParseFault>
         ensures reads { IfOk result (λ arm. ReadsArm at (state tokens.now self.old) arm (state tokens.now self.new)) }
+        ensures refuses { IfErr result (RefusesArm at (state tokens.now self.old) (state tokens.now self.new)) }
         ensures forward { OnOk result (Advances tokens.now self.old self.new) }
     {
         let test = self.value(alloc, tokens, at)?;
@@ -232,6 +238,8 @@ impl Parser {
     #[cycle(descent)]
     fn arms(&mut self, alloc: Global, tokens: &[Token], at: Place) -> Result<Vec<Arm>, ParseFault>
         ensures reads { IfOk result (λ arms. (line : ℕ) → ReadsArms at line (state tokens.now self.old) arms.items (state tokens.now self.new)) }
+        ensures stops { OnOk result (IsNext (WordKind ElseIf) (state tokens.now self.new) → ⊥) }
+        ensures refuses { IfErr result (RefusesArms at (state tokens.now self.old) (state tokens.now self.new)) }
         ensures forward { OnOk result (Advances tokens.now self.old self.new) }
     {
         let first = self.arm(alloc, tokens, at)?;
@@ -252,6 +260,7 @@ impl Parser {
         at: Place,
     ) -> Result<Stmt, ParseFault>
         ensures reads { IfOk result (λ out. ReadsStat at (state tokens.now self.old) out (state tokens.now self.new)) }
+        ensures refuses { ahead (state tokens.now self.old) ≡ WordKind If → IfErr result (RefusesStat at (state tokens.now self.old) (state tokens.now self.new)) }
         ensures forward { OnOk result (Advances tokens.now self.old self.new) }
     {
         let line = self.take_word(tokens, Word::If)?;
@@ -269,6 +278,7 @@ impl Parser {
     #[cycle(descent)]
     fn do_block(&mut self, alloc: Global, tokens: &[Token], at: Place) -> Result<Stmt, ParseFault>
         ensures reads { IfOk result (λ out. ReadsStat at (state tokens.now self.old) out (state tokens.now self.new)) }
+        ensures refuses { ahead (state tokens.now self.old) ≡ WordKind Do → IfErr result (RefusesStat at (state tokens.now self.old) (state tokens.now self.new)) }
         ensures forward { OnOk result (Advances tokens.now self.old self.new) }
     {
         let line = self.take_word(tokens, Word::Do)?;
@@ -286,6 +296,7 @@ impl Parser {
         at: Place,
     ) -> Result<Stmt, ParseFault>
         ensures reads { IfOk result (λ out. ReadsStat at (state tokens.now self.old) out (state tokens.now self.new)) }
+        ensures refuses { ahead (state tokens.now self.old) ≡ WordKind Function → IfErr result (RefusesStat at (state tokens.now self.old) (state tokens.now self.new)) }
         ensures forward { OnOk result (Advances tokens.now self.old self.new) }
     {
         let line = self.take_word(tokens, Word::Function)?;
@@ -309,6 +320,7 @@ impl Parser {
     ) -> Result<Stmt, ParseFault>
         ensures reads { IfOk result (λ out. (s : State) → ReadsFuncName s object (state tokens.now self.old)
             → ReadsStat at (behind_function line s) out (state tokens.now self.new)) }
+        ensures refuses { IsNext (SignKind Colon) (state tokens.now self.old) → IfErr result (RefusesMethod at line object (state tokens.now self.old) (state tokens.now self.new)) }
         ensures forward { OnOk result (Advances tokens.now self.old self.new) }
     {
         let name = self.name_member(alloc, tokens, Sign::Colon, object)?;
@@ -320,6 +332,8 @@ impl Parser {
     /// Reads the name of a function in a statement, but for that of a method.
     fn function_name(&mut self, alloc: Global, tokens: &[Token]) -> Result<FunctionName, ParseFault>
         ensures reads { IfOk result (λ name. ReadsFuncName (state tokens.now self.old) name (state tokens.now self.new)) }
+        ensures stops { OnOk result (IsNext (SignKind Dot) (state tokens.now self.new) → ⊥) }
+        ensures refuses { (at : Place) → IfErr result (RefusesFuncName at (state tokens.now self.old) (state tokens.now self.new)) }
         ensures forward { OnOk result (Advances tokens.now self.old self.new) }
     {
         let named = self.take_name(tokens)?;
@@ -342,6 +356,7 @@ impl Parser {
         object: FunctionName,
     ) -> Result<FunctionName, ParseFault>
         ensures reads { IfOk result (λ whole. ReadsMember sign object (state tokens.now self.old) whole (state tokens.now self.new)) }
+        ensures misses { IfErr result (MissesMember sign object.height (state tokens.now self.old) (state tokens.now self.new)) }
         ensures forward { OnOk result (Advances tokens.now self.old self.new) }
     {
         let line = self.take_sign(tokens, sign)?;
@@ -365,6 +380,7 @@ impl Parser {
         at: Place,
     ) -> Result<Stmt, ParseFault>
         ensures reads { IfOk result (λ out. ReadsStat at (state tokens.now self.old) out (state tokens.now self.new)) }
+        ensures refuses { ahead (state tokens.now self.old) ≡ WordKind Local → IfErr result (RefusesStat at (state tokens.now self.old) (state tokens.now self.new)) }
         ensures forward { OnOk result (Advances tokens.now self.old self.new) }
     {
         let line = self.take_word(tokens, Word::Local)?;
@@ -384,6 +400,7 @@ impl Parser {
         line: u32,
     ) -> Result<Stmt, ParseFault>
         ensures reads { IfOk result (λ out. ReadsStat at (behind_local line (state tokens.now self.old)) out (state tokens.now self.new)) }
+        ensures refuses { IsNext (WordKind Function) (state tokens.now self.old) → IfErr result (RefusesLocal at (state tokens.now self.old) (state tokens.now self.new)) }
         ensures forward { OnOk result (Advances tokens.now self.old self.new) }
     {
         let begins = self.take_word(tokens, Word::Function)?;
@@ -406,6 +423,7 @@ impl Parser {
         line: u32,
     ) -> Result<Stmt, ParseFault>
         ensures reads { IfOk result (λ out. ReadsStat at (behind_local line (state tokens.now self.old)) out (state tokens.now self.new)) }
+        ensures refuses { (IsNext (WordKind Function) (state tokens.now self.old) → ⊥) → IfErr result (RefusesLocal at (state tokens.now self.old) (state tokens.now self.new)) }
         ensures forward { OnOk result (Advances tokens.now self.old self.new) }
     {
         let count = self.in_scope();
@@ -424,6 +442,8 @@ impl Parser {
         at: Place,
     ) -> Result<Option<Vec<Expr>>, ParseFault>
         ensures reads { IfOk result (λ values. ReadsInitial at (state tokens.now self.old) values (state tokens.now self.new)) }
+        ensures missing { IfOk result (λ values. IfNone values (IsNext (SignKind Assign) (state tokens.now self.old) → ⊥)) }
+        ensures refuses { IfErr result (RefusesInitial at (state tokens.now self.old) (state tokens.now self.new)) }
         ensures forward { OnOk result (AdvancesOrStays tokens.now self.old self.new) }
     {
         if !self.at_sign(tokens, Sign::Assign) {
@@ -443,6 +463,7 @@ impl Parser {
         at: Place,
     ) -> Result<Stmt, ParseFault>
         ensures reads { IfOk result (λ out. ReadsStat at (state tokens.now self.old) out (state tokens.now self.new)) }
+        ensures refuses { begins_of (ahead (state tokens.now self.old)) ≡ Begins.Prefix → IfErr result (RefusesStat at (state tokens.now self.old) (state tokens.now self.new)) }
         ensures forward { OnOk result (Advances tokens.now self.old self.new) }
     {
         let line = self.line_ahead(tokens)?;
@@ -469,6 +490,7 @@ impl Parser {
     ) -> Result<Stmt, ParseFault>
         ensures reads { IfOk result (λ out. (s : State) → ReadsVars at line s (first ∷ []) (state tokens.now self.old)
             → ReadsStat at s out (state tokens.now self.new)) }
+        ensures refuses { IfErr result (RefusesAssignment at first (state tokens.now self.old) (state tokens.now self.new)) }
         ensures forward { OnOk result (Advances tokens.now self.old self.new) }
     {
         let targets = self.targets(alloc, tokens, at, first)?;
@@ -486,8 +508,10 @@ impl Parser {
         at: Place,
         first: Expr,
     ) -> Result<Vec<Expr>, ParseFault>
-        ensures reads { IfOk result (λ targets. (line : ℕ) (s : State) → ReadsVars at line s (first ∷ []) (state tokens.now self.old)
-            → ReadsVars at line s targets.items (state tokens.now self.new)) }
+        ensures reads { IfOk result (λ targets. (line : ℕ) (s : State) (read : ReadsVars at line s (first ∷ []) (state tokens.now self.old))
+            → ReadsMoreVars at line s read.tree targets.items (state tokens.now self.old) (state tokens.now self.new)) }
+        ensures stops { OnOk result (IsNext (SignKind Comma) (state tokens.now self.new) → ⊥) }
+        ensures refuses { IfErr result (RefusesAssignment at first (state tokens.now self.old) (state tokens.now self.new)) }
         ensures forward { OnOk result (AdvancesOrStays tokens.now self.old self.new) }
     {
         let mut targets = vec![in alloc; first]?;
@@ -503,6 +527,7 @@ impl Parser {
     #[cycle(descent)]
     fn target(&mut self, alloc: Global, tokens: &[Token], at: Place) -> Result<Expr, ParseFault>
         ensures reads { IfOk result (λ e. ReadsTarget at (state tokens.now self.old) e (state tokens.now self.new)) }
+        ensures refuses { IfErr result (RefusesTarget at (state tokens.now self.old) (state tokens.now self.new)) }
         ensures forward { OnOk result (Advances tokens.now self.old self.new) }
     {
         let Prefix { expr, form, .. } = self.prefix(alloc, tokens, at.fresh())?;
@@ -510,5 +535,26 @@ impl Parser {
             Form::Variable => Ok(expr),
             Form::Call | Form::Paren => Err(self.unfit(tokens)),
         }
+    }
+}
+
+/// What a token begins in a block.
+fn begins_of(kind: &TokenKind) -> Begins
+    ensures { result ≡ begins_of kind.now }
+{
+    match kind {
+        TokenKind::Word(Word::If) => Begins::If,
+        TokenKind::Word(Word::While) => Begins::While,
+        TokenKind::Word(Word::Do) => Begins::Do,
+        TokenKind::Word(Word::For) => Begins::For,
+        TokenKind::Word(Word::Repeat) => Begins::Repeat,
+        TokenKind::Word(Word::Function) => Begins::Function,
+        TokenKind::Word(Word::Local) => Begins::Local,
+        TokenKind::Word(Word::Return) | TokenKind::Word(Word::Break) => Begins::Last,
+        TokenKind::Word(Word::End)
+        | TokenKind::Word(Word::Else)
+        | TokenKind::Word(Word::ElseIf)
+        | TokenKind::Word(Word::Until) => Begins::Nothing,
+        _ => Begins::Prefix,
     }
 }

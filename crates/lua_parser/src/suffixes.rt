@@ -1,12 +1,16 @@
-ghost use Rattle.std.specs.Prelude.{◌≡◌, Some, slice_get, IfOk, IfNone, OnOk, true};
+ghost use Rattle.std.specs.Prelude.{◌≡◌, ◌↔◌, Some, slice_get, IfOk, IfErr, IsTrue, MatchOption, OnOk};
 ghost use Rattle.lua_lexer.specs.declared.tokens.TokenKind.TheVariants.{Sign as SignKind};
-ghost use Rattle.lua_lexer.specs.declared.signs.Sign.TheVariants.{OpenParenthesis};
+ghost use Rattle.lua_lexer.specs.declared.signs.Sign.TheVariants.{Colon, Dot, OpenBrace, OpenBracket, OpenParenthesis};
 ghost use Rattle.lua_grammar.specs.Grammar.{first_line};
 ghost use Rattle.lua_parser.specs.States.{state, Advances, TakesSeparator, OpensOnLine, GoesOn, Stops};
 ghost use Rattle.lua_parser.specs.Reads.{ReadsPrefix, Extends, ReadsArgs, ReadsList, ReadsTable, ReadsField};
+ghost use Rattle.lua_parser.specs.Next.{Begin, CannotOpen, IsKind, IsNext, Misses, OnAt, ahead};
+ghost use Rattle.lua_parser.specs.Kinds.{BeginNamed, IsSeparator, IsSuffix};
+ghost use Rattle.lua_grammar.specs.Stopping.{IsNoComma};
+ghost use Rattle.lua_parser.specs.Refusals.{RefusesArgs, RefusesField, RefusesList, RefusesPrefix, RefusesSuffix, RefusesTable};
 
 use crate::ParseFault;
-use crate::cursor::Parser;
+use crate::cursor::{Parser, is_name, is_sign};
 use crate::nodes::{
     Built, Form, Item, Items, Prefix, Values, called, indexed, member, method_called, paren,
 };
@@ -26,7 +30,7 @@ enum Suffix {
 impl Parser {
     /// What stands behind a prefix, if it goes on.
     fn suffix_ahead(&self, tokens: &[Token]) -> Option<Suffix>
-        ensures { IfNone result (Stops (state tokens.now self.now)) }
+        ensures { MatchOption result (Stops (state tokens.now self.now)) (λ suffix. Begin (IsSuffix suffix) (state tokens.now self.now).left) }
     {
         let Some(token) = tokens.get(self.place) else {
             return None;
@@ -44,6 +48,7 @@ impl Parser {
     ) -> Result<Prefix, ParseFault>
         ensures reads { IfOk result (λ p. ReadsPrefix at (state tokens.now self.old) p (state tokens.now self.new)) }
         ensures stops { OnOk result (Stops (state tokens.now self.new)) }
+        ensures refuses { IfErr result (RefusesPrefix at (state tokens.now self.old) (state tokens.now self.new)) }
         ensures forward { OnOk result (Advances tokens.now self.old self.new) }
     {
         let mut prefix = self.primary(alloc, tokens, at)?;
@@ -62,6 +67,7 @@ impl Parser {
     #[cycle(descent)]
     fn primary(&mut self, alloc: Global, tokens: &[Token], at: Place) -> Result<Prefix, ParseFault>
         ensures reads { IfOk result (λ p. ReadsPrefix at (state tokens.now self.old) p (state tokens.now self.new)) }
+        ensures refuses { IfErr result (RefusesPrefix at (state tokens.now self.old) (state tokens.now self.new)) }
         ensures forward { OnOk result (Advances tokens.now self.old self.new) }
     {
         if !self.at_sign(tokens, Sign::OpenParenthesis) {
@@ -77,6 +83,7 @@ impl Parser {
     /// Reads a name. It has place wherever an expression has.
     fn name(&mut self, tokens: &[Token], at: Place) -> Result<Prefix, ParseFault>
         ensures reads { IfOk result (λ p. ReadsPrefix at (state tokens.now self.old) p (state tokens.now self.new)) }
+        ensures refuses { (IsNext (SignKind OpenParenthesis) (state tokens.now self.old) → ⊥) → IfErr result (RefusesPrefix at (state tokens.now self.old) (state tokens.now self.new)) }
         ensures forward { OnOk result (Advances tokens.now self.old self.new) }
     {
         let named = self.take_name(tokens)?;
@@ -96,6 +103,7 @@ impl Parser {
         object: Prefix,
     ) -> Result<Prefix, ParseFault>
         ensures reads { IfOk result (λ p. Extends at object (state tokens.now self.old) p (state tokens.now self.new)) }
+        ensures refuses { IsNext (SignKind Dot) (state tokens.now self.old) → IfErr result (RefusesSuffix at object (state tokens.now self.old) (state tokens.now self.new)) }
         ensures forward { OnOk result (Advances tokens.now self.old self.new) }
     {
         let dot = self.take_sign(tokens, Sign::Dot)?;
@@ -120,6 +128,7 @@ impl Parser {
         object: Prefix,
     ) -> Result<Prefix, ParseFault>
         ensures reads { IfOk result (λ p. Extends at object (state tokens.now self.old) p (state tokens.now self.new)) }
+        ensures refuses { IsNext (SignKind OpenBracket) (state tokens.now self.old) → IfErr result (RefusesSuffix at object (state tokens.now self.old) (state tokens.now self.new)) }
         ensures forward { OnOk result (Advances tokens.now self.old self.new) }
     {
         let open = self.take_sign(tokens, Sign::OpenBracket)?;
@@ -140,6 +149,7 @@ impl Parser {
         callee: Prefix,
     ) -> Result<Prefix, ParseFault>
         ensures reads { IfOk result (λ p. Extends at callee (state tokens.now self.old) p (state tokens.now self.new)) }
+        ensures refuses { Begin (IsSuffix Suffix.Arguments) (state tokens.now self.old).left → IfErr result (RefusesSuffix at callee (state tokens.now self.old) (state tokens.now self.new)) }
         ensures forward { OnOk result (Advances tokens.now self.old self.new) }
     {
         let line = self.arguments_line(tokens)?;
@@ -158,6 +168,7 @@ impl Parser {
         object: Prefix,
     ) -> Result<Prefix, ParseFault>
         ensures reads { IfOk result (λ p. Extends at object (state tokens.now self.old) p (state tokens.now self.new)) }
+        ensures refuses { IsNext (SignKind Colon) (state tokens.now self.old) → IfErr result (RefusesSuffix at object (state tokens.now self.old) (state tokens.now self.new)) }
         ensures forward { OnOk result (Advances tokens.now self.old self.new) }
     {
         let colon = self.take_sign(tokens, Sign::Colon)?;
@@ -172,6 +183,7 @@ impl Parser {
     fn arguments_line(&self, tokens: &[Token]) -> Result<u32, ParseFault>
         ensures line { IfOk result (λ line. line ≡ first_line (state tokens.now self.now).left) }
         ensures same { OnOk result (OpensOnLine (state tokens.now self.now)) }
+        ensures closed { IfErr result (CannotOpen (state tokens.now self.now)) }
     {
         let Some(token) = tokens.get(self.place) else {
             return Err(self.unfit(tokens));
@@ -184,6 +196,7 @@ impl Parser {
         requires { slice_get tokens.now self.now.place ≡ Some token.now }
         ensures line { IfOk result (λ line. line ≡ first_line (state tokens.now self.now).left) }
         ensures same { OnOk result (OpensOnLine (state tokens.now self.now)) }
+        ensures closed { IfErr result (CannotOpen (state tokens.now self.now)) }
     {
         if is_open_parenthesis(&token.kind) {
             if token.line == self.line {
@@ -203,6 +216,7 @@ impl Parser {
         at: Place,
     ) -> Result<Values, ParseFault>
         ensures reads { IfOk result (λ values. ReadsArgs at (state tokens.now self.old) values (state tokens.now self.new)) }
+        ensures refuses { IfErr result (RefusesArgs at (state tokens.now self.old) (state tokens.now self.new)) }
         ensures forward { OnOk result (Advances tokens.now self.old self.new) }
     {
         if self.at_sign(tokens, Sign::OpenBrace) {
@@ -234,6 +248,8 @@ impl Parser {
         at: Place,
     ) -> Result<Values, ParseFault>
         ensures reads { IfOk result (λ values. ReadsList at (state tokens.now self.old) values (state tokens.now self.new)) }
+        ensures ends { OnOk result (IsNoComma (ahead (state tokens.now self.new))) }
+        ensures refuses { IfErr result (RefusesList at (state tokens.now self.old) (state tokens.now self.new)) }
         ensures forward { OnOk result (Advances tokens.now self.old self.new) }
     {
         let first = self.expression(alloc, tokens, at, 1)?;
@@ -255,6 +271,7 @@ impl Parser {
         at: Place,
     ) -> Result<Built, ParseFault>
         ensures reads { IfOk result (λ b. ReadsTable at (state tokens.now self.old) b (state tokens.now self.new)) }
+        ensures refuses { IsNext (SignKind OpenBrace) (state tokens.now self.old) → IfErr result (RefusesTable at (state tokens.now self.old) (state tokens.now self.new)) }
         ensures forward { OnOk result (Advances tokens.now self.old self.new) }
     {
         let open = self.take_sign(tokens, Sign::OpenBrace)?;
@@ -277,6 +294,7 @@ impl Parser {
     #[tactic(auto, using(crate::proofs::Tables::comma_taken, crate::proofs::Tables::semicolon_taken))]
     fn take_separator(&mut self, tokens: &[Token]) -> Result<(), ParseFault>
         ensures takes { OnOk result (TakesSeparator (state tokens.now self.old) (state tokens.now self.new)) }
+        ensures misses { IfErr result (OnAt (Misses IsSeparator (state tokens.now self.old) (state tokens.now self.new))) }
         ensures forward { OnOk result (Advances tokens.now self.old self.new) }
     {
         if self.at_sign(tokens, Sign::Comma) {
@@ -288,21 +306,23 @@ impl Parser {
     }
 
     /// Whether a name and `=` follow.
-    fn at_named_field(&self, tokens: &[Token]) -> bool {
+    fn at_named_field(&self, tokens: &[Token]) -> bool
+        ensures { IsTrue result ↔ BeginNamed (state tokens.now self.now).left }
+    {
         let Some(token) = tokens.get(self.place) else {
             return false;
         };
         let Some(next) = tokens.get(self.place + 1) else {
             return false;
         };
-        matches!(&token.kind, TokenKind::Name(_))
-            && matches!(&next.kind, TokenKind::Sign(Sign::Assign))
+        is_name(&token.kind) && is_sign(&next.kind, Sign::Assign)
     }
 
     /// Reads an item of a table constructor, with expressions at `at`.
     #[cycle(descent)]
     fn field(&mut self, alloc: Global, tokens: &[Token], at: Place) -> Result<Item, ParseFault>
         ensures reads { IfOk result (λ item. ReadsField at (state tokens.now self.old) item (state tokens.now self.new)) }
+        ensures refuses { IfErr result (RefusesField at (state tokens.now self.old) (state tokens.now self.new)) }
         ensures forward { OnOk result (Advances tokens.now self.old self.new) }
     {
         if self.at_sign(tokens, Sign::OpenBracket) {
@@ -324,6 +344,7 @@ impl Parser {
         at: Place,
     ) -> Result<Item, ParseFault>
         ensures reads { IfOk result (λ item. ReadsField at (state tokens.now self.old) item (state tokens.now self.new)) }
+        ensures refuses { IsNext (SignKind OpenBracket) (state tokens.now self.old) → IfErr result (RefusesField at (state tokens.now self.old) (state tokens.now self.new)) }
         ensures forward { OnOk result (Advances tokens.now self.old self.new) }
     {
         self.take_sign(tokens, Sign::OpenBracket)?;
@@ -343,6 +364,7 @@ impl Parser {
         at: Place,
     ) -> Result<Item, ParseFault>
         ensures reads { IfOk result (λ item. ReadsField at (state tokens.now self.old) item (state tokens.now self.new)) }
+        ensures refuses { BeginNamed (state tokens.now self.old).left → IfErr result (RefusesField at (state tokens.now self.old) (state tokens.now self.new)) }
         ensures forward { OnOk result (Advances tokens.now self.old self.new) }
     {
         let named = self.take_name(tokens)?;
@@ -354,7 +376,7 @@ impl Parser {
 
 /// What stands behind a prefix where a token goes on with it.
 fn suffix_of(kind: &TokenKind) -> Option<Suffix>
-    ensures { IfNone result (GoesOn kind.now → ⊥) }
+    ensures { MatchOption result (GoesOn kind.now → ⊥) (λ suffix. IsSuffix suffix kind.now) }
 {
     match kind {
         TokenKind::Sign(Sign::Dot) => Some(Suffix::Member),
@@ -370,7 +392,7 @@ fn suffix_of(kind: &TokenKind) -> Option<Suffix>
 
 /// Whether a token is `(`.
 fn is_open_parenthesis(kind: &TokenKind) -> bool
-    ensures { kind.now ≡ SignKind OpenParenthesis → result ≡ true }
+    ensures { IsTrue result ↔ IsKind (SignKind OpenParenthesis) kind.now }
 {
     matches!(kind, TokenKind::Sign(Sign::OpenParenthesis))
 }

@@ -1,18 +1,54 @@
-use Rattle.std.proofs.Common.{◌≡◌, ◌≤◌, min, refl, sym, subst, rules, arith, [], length, ◌∷◌}
 use Rattle.lua_grammar.specs.Operators.{right_level}
-use Rattle.lua_parser.specs.States.{state}
-use Rattle.lua_parser.specs.Reads.{ReadsExp}
-use Rattle.lua_parser.proofs.Productions.{advances_on, right_fits, operator_none, binary_read, unary_read, closure_read, prefix_exp, table_exp, unary_tight, table_tight, list_one, list_more, paren_read}
-use Rattle.lua_parser.proofs.Calls.{ok_extends, item_read, called_read, method_called_read, no_args_read, args_read, table_arg_read, text_arg_read}
-use Rattle.lua_parser.proofs.Tables.{no_fields_read, more_fields_read, separated_read, ending_read, keyed_read, named_read, plain_read}
+use Rattle.lua_grammar.specs.Reading.{statement, last, after_field, field}
 use Rattle.lua_grammar.specs.Resolution.{self_name}
-use Rattle.lua_parser.specs.declared.nodes.Form.TheVariants.{Variable, Call}
-use Rattle.lua_parser.proofs.Assignments.{assign_behind, call_read, first_assigned, function_from, function_read, local_from, local_function_read, local_read, method_read, target_read, vars_more, vars_one}
+use Rattle.lua_grammar.specs.Scopes.{in_scope}
+use Rattle.lua_grammar.specs.Stopping.{EndsAt}
+use Rattle.lua_grammar.specs.Waiting.{token, exp}
+use Rattle.lua_lexer.specs.declared.signs.Sign.TheVariants.{Colon, CloseParenthesis, OpenParenthesis, CloseBracket, OpenBracket}
+use Rattle.lua_lexer.specs.declared.tokens.TokenKind.TheVariants.{Word, Sign, Sign as SignKind}
+use Rattle.lua_parser.proofs.Arguments.{call_cannot_open, call_refused, call_too_high, method_cannot_open, method_no_name, method_refused, method_too_high, args_no_part, args_open, args_refused, no_args, table_arg_refused}
+use Rattle.lua_parser.proofs.ArmRefusals.{arm_block_refused, test_refused, then_refused, first_arm_refused, next_arm_refused, arms_refused, else_end_refused, else_refused, end_refused}
+use Rattle.lua_parser.proofs.Assignments.{function_from, function_read, method_read, local_from, local_function_read, local_read, call_read, first_assigned, target_read, vars_one, assign_behind}
+use Rattle.lua_parser.proofs.BlockKinds.{block_end, is_statement, nothing_returned, return_next, semicolon_next, values_next, do_kind, for_kind, function_kind, if_kind, local_kind, prefix_begins, repeat_kind, while_kind}
+use Rattle.lua_parser.proofs.BlockRefusals.{scoped_refused, scoped_too_deep, last_refused, stat_refused, returned_refused}
 use Rattle.lua_parser.proofs.Blocks.{arm_read, arms_more, arms_one, block_last, block_open, do_read, if_else_read, if_read, repeat_read, return_none_read, return_read, scoped_read, stats_more, stats_none, value_read, values_read, while_read}
 use Rattle.lua_parser.proofs.Bodies.{body_read, ends_state, enters_state}
-use Rattle.lua_parser.proofs.ForLoops.{for_read, list_read, loop_read, range_read}
-use Rattle.lua_parser.proofs.Scoping.{declared, left_since, none_found, on_ok, slot_state, slots_state, turned}
+use Rattle.lua_parser.proofs.Calls.{ok_extends, item_read, called_read, method_called_read, no_args_read, args_read, table_arg_read, text_arg_read}
+use Rattle.lua_parser.proofs.Closures.{closure_refused}
+use Rattle.lua_parser.proofs.Constructors.{part_refused, field_refused, separator_refused}
+use Rattle.lua_parser.proofs.Fields.{plain_refused, key_refused, bracket_refused, equals_refused, keyed_value_refused, name_never_missed, equals_never_missed, named_value_refused}
+use Rattle.lua_parser.proofs.ForLoops.{for_read, range_read, list_read, loop_read}
+use Rattle.lua_parser.proofs.FunctionBodies.{begins_body, body_block_refused, body_too_deep, body_unended, body_unopened, parameters_refused, parameters_unclosed}
+use Rattle.lua_parser.proofs.FunctionStatements.{function_word, function_name_refused, function_body_refused, method_statement_refused, method_unnamed, method_body_refused}
+use Rattle.lua_parser.proofs.Handing.{handed_on}
+use Rattle.lua_parser.proofs.Lists.{first_refused, next_refused}
+use Rattle.lua_parser.proofs.LocalStatements.{local_refused, local_word, local_function_word, local_function_unnamed, local_function_crowded, local_body_refused, locals_state, inside, local_names_refused, local_values_refused, locals_declared, declared_state, initial_refused}
+use Rattle.lua_parser.proofs.LoopRefusals.{while_block_refused, while_do_refused, while_end_refused, while_test_refused, repeat_block_refused, repeat_test_refused, repeat_too_deep, until_refused, do_end_refused, do_refused}
+use Rattle.lua_parser.proofs.Next.{on_err, on_memory, on_want, untested}
+use Rattle.lua_parser.proofs.OperandKinds.{unary_kind, closure_kind, table_kind, nil_kind, true_kind, false_kind, rest_kind, number_next, text_next, next_of}
+use Rattle.lua_parser.proofs.Operands.{exp_ends_there, right_refused, right_no_part, right_too_high, right_low, operand_refused, operand_no_part, prefix_refused, table_refused}
+use Rattle.lua_parser.proofs.Prefixes.{suffix_refused, paren_no_part, paren_open, paren_refused, item_no_part, item_open, item_refused, item_too_high}
+use Rattle.lua_parser.proofs.Productions.{advances_on, right_fits, operator_none, binary_read, unary_read, closure_read, prefix_exp, table_exp, unary_tight, table_tight, list_one, list_more, paren_read}
+use Rattle.lua_parser.proofs.RefusedLoops.{for_names_refused, for_tail_refused, innermost, many_names, one_name, range_block_refused, range_from_refused, range_step_refused, range_to_refused, range_without_comma, step_refused, list_block_refused, list_refused, list_without_in, crowded_there, loop_crowded, loop_refused, loop_too_deep, loop_without_do, loop_without_end, unread}
+use Rattle.lua_parser.proofs.Refusing.{never_missed, never_missed_ahead}
+use Rattle.lua_parser.proofs.Scoping.{left_since, on_node, on_ok, slot_state, declared, slots_state, turned, none_found}
+use Rattle.lua_parser.proofs.Tables.{no_fields_read, more_fields_read, separated_read, ending_read, keyed_read, named_read, plain_read}
+use Rattle.lua_parser.proofs.Targets.{assignment_refused, first_target_refused, statement_is_none, assigned_refused, assignment_without_assign, more_vars_on, next_target_refused, no_more_vars, target_is_none, target_refused}
+use Rattle.lua_parser.proofs.ValueRefusals.{value_refused, value_too_deep, values_refused, values_too_deep}
+use Rattle.lua_parser.proofs.cursor.Parser.+descent.Goals.{last-then-eq-via-then-eq, last-then-eq-via-else-eq+then-at_sign}
+use Rattle.lua_parser.specs.Kinds.{IsStatement, IsUnary, IsSuffix, IsSeparator}
+use Rattle.lua_parser.specs.Next.{IsKind, IsMemory, IsTooDeep, Misses, OnAt, ahead, IsNext, OnLocals, MissesMember, IsName, HasNoPart, IsTooHigh, Begin}
+use Rattle.lua_parser.specs.Reads.{ReadsExp}
+use Rattle.lua_parser.specs.Refusals.{RefusesFrom, RefusesList, RefusesBody, RefusesPrefix, RefusesExp, RefusesSuffix, RefusesArgs, RefusesField}
+use Rattle.lua_parser.specs.StatementRefusals.{RefusesArm, RefusesArms, RefusesBlock, RefusesLast, RefusesScoped, RefusesStat, RefusesValue, RefusesValues, RefusesNames, RefusesFor, RefusesLoop, RefusesStep, RefusesParameters, RefusesFuncName, RefusesInitial, RefusesTarget}
+use Rattle.lua_parser.specs.States.{state, scope_of}
+use Rattle.lua_parser.specs.declared.nodes.Form.TheVariants.{Variable, Call, Paren}
+use Rattle.std.proofs.Common.{◌≡◌, ◌≤◌, refl, sym, subst, rules, arith, [], length, ◌∷◌, IfErr, ◌∙◌, ◌<◌, ◌+◌, true, false, lit≤, min, IsTrue}
+use Rattle.std.proofs.lemmas.Result.{err_from_is_err_and}
+use Rattle.lua_parser.specs.declared.statements.Begins.TheVariants as begins
 use Rattle.lua_parser.proofs.cursor.Parser.+descent.Goals as goal
+use Rattle.lua_lexer.specs.declared.signs.Sign.TheVariants as sign
+use Rattle.lua_lexer.specs.declared.words.Word.TheVariants as word
 
 pub expression-loop-infix-init : goal.expression-loop-infix-init
 expression-loop-infix-init t c = record {
@@ -32,7 +68,7 @@ expression-loop-infix-preserved t c =
     in
     record {
       forward = advances_on _ _ _ _ before.forward (advances_on _ _ _ _ c.in-Some.ensures.forward right.forward);
-      reads = binary_read _ _ _ _ _ _ _ _ _ _ _ before.reads found.taken c.in_ok-inner.ensures right.reads found.left_fits (right_fits _ _ level) c.in_ok-above.ensures whole;
+      reads = binary_read _ _ _ _ _ _ _ _ _ _ _ before.reads found.taken c.in_ok-inner.ensures right.reads (subst (λ n. EndsAt n (ahead (state c.args.tokens.now c.expression.new.self))) c.right_level.ensures right.ends) found.left_fits (right_fits _ _ level) c.in_ok-above.ensures whole;
       level = let own = whole.own in let high = found.high_enough in omega (arith, own, high);
     }
 
@@ -44,26 +80,137 @@ expression-returns-clause-reads t c =
 pub expression-returns-clause-level : goal.expression-returns-clause-level
 expression-returns-clause-level t c = c.loop-infix.invariant.level
 
+pub expression-returns-clause-ends : goal.expression-returns-clause-ends
+expression-returns-clause-ends t c =
+    let same = operator_none c.skip_operator.result c.loop-infix.left.level c.args.lowest _ _ c.skip_operator.ensures.skips c.in_default.not-Some in
+    subst (λ z. EndsAt c.args.lowest (ahead z)) (sym same) (exp_ends_there c.args.at c.args.lowest _ _ c.loop-infix.left c.loop-infix.invariant.reads c.in_default.ensures.missing)
+
+pub expression-returns-in_err-left-clause-refuses : goal.expression-returns-in_err-left-clause-refuses
+expression-returns-in_err-left-clause-refuses t c = λ low.
+    let h : IfErr c.from_residual.result (RefusesExp c.args.at (state c.args.tokens.now c.args.self.now) (state c.args.tokens.now c.operand.new.self)) = search rules in
+    on_err c.from_residual.result h (λ fault refuses. refuses c.args.lowest)
+
+pub expression-returns-in_err-above-clause-refuses : goal.expression-returns-in_err-above-clause-refuses
+expression-returns-in_err-above-clause-refuses t c = λ low.
+    let h : IfErr c.from_residual-in_err-above.result (IsTooHigh c.args.at c.loop-infix.left.height) = search rules in
+    let before = c.loop-infix.invariant in
+    let found = c.in-Some.ensures.skips in
+    let level = before.level in
+    on_err c.from_residual-in_err-above.result h (λ fault high k suppose.
+    right_too_high c.args.at c.args.lowest k _ _ fault _ _ _ c.loop-infix.left before.reads (omega (arith, level, low)) found.taken found.high_enough suppose high)
+
+pub expression-returns-in_err-inner-clause-refuses : goal.expression-returns-in_err-inner-clause-refuses
+expression-returns-in_err-inner-clause-refuses t c = λ low.
+    let h : IfErr c.from_residual-in_err-inner.result (HasNoPart c.args.at (state c.args.tokens.now c.skip_operator.new.self)) = search rules in
+    let before = c.loop-infix.invariant in
+    let found = c.in-Some.ensures.skips in
+    let level = before.level in
+    on_err c.from_residual-in_err-inner.result h (λ fault none k suppose.
+    right_no_part c.args.at c.args.lowest k _ _ fault _ _ _ c.loop-infix.left before.reads (omega (arith, level, low)) found.taken found.high_enough suppose none)
+
+pub expression-returns-in_err-right-clause-refuses : goal.expression-returns-in_err-right-clause-refuses
+expression-returns-in_err-right-clause-refuses t c = λ low.
+    let right = c.right_level.ensures in
+    let few = right_low c.in-Some.infix.op in
+    let small : c.right_level.result ≤ 7 = omega (arith, right, few) in
+    let h : IfErr c.from_residual-in_err-right.result (RefusesFrom c.right_level.result c.in_ok-inner.inner (state c.args.tokens.now c.skip_operator.new.self) (state c.args.tokens.now c.expression.new.self)) = search rules in
+    let before = c.loop-infix.invariant in
+    let found = c.in-Some.ensures.skips in
+    let level = before.level in
+    on_err c.from_residual-in_err-right.result h (λ fault refuses k suppose.
+    right_refused c.args.at c.in_ok-inner.inner c.args.lowest k _ _ fault _ _ _ _ c.loop-infix.left before.reads (omega (arith, level, low)) found.taken found.high_enough c.in_ok-inner.ensures suppose
+    (subst (λ n. RefusesFrom n c.in_ok-inner.inner (state c.args.tokens.now c.skip_operator.new.self) (state c.args.tokens.now c.expression.new.self) fault) right refuses))
+
+pub expression-returns-in_err-left-2-clause-refuses : goal.expression-returns-in_err-left-2-clause-refuses
+expression-returns-in_err-left-2-clause-refuses t c = λ low.
+    let h : IfErr c.from_residual-in_err-left-2.result IsMemory = search rules in
+    on_want _ c.from_residual-in_err-left-2.result (λ k none. absurd none) h
+
 pub operand-returns-in-Table-clause-reads : goal.operand-returns-in-Table-clause-reads
 operand-returns-in-Table-clause-reads t c = on_ok _ c.table.ensures.reads (λ b read. table_exp _ _ _ _ read)
 
 pub operand-returns-in-Table-clause-level : goal.operand-returns-in-Table-clause-level
 operand-returns-in-Table-clause-level t c = on_ok _ c.table.ensures.reads (λ b read. table_tight _ _ _ _ read)
 
+pub operand-returns-in-Unary-clause-refuses : goal.operand-returns-in-Unary-clause-refuses
+operand-returns-in-Unary-clause-refuses t c = c.unary_operand.ensures.refuses (unary_kind _ (sym c.operand_ahead.ensures ∙ c.in-Unary.is))
+
+pub operand-returns-in-Closure-clause-refuses : goal.operand-returns-in-Closure-clause-refuses
+operand-returns-in-Closure-clause-refuses t c = c.closure.ensures.refuses (closure_kind _ (sym c.operand_ahead.ensures ∙ c.in-Closure.is))
+
+pub operand-returns-in-Table-clause-refuses : goal.operand-returns-in-Table-clause-refuses
+operand-returns-in-Table-clause-refuses t c =
+    on_err c.table.result (c.table.ensures.refuses (next_of (Sign sign.OpenBrace) _ (λ is. cc) (table_kind _ (sym c.operand_ahead.ensures ∙ c.in-Table.is)))) (λ fault refuses. table_refused c.args.at _ _ fault refuses)
+
+pub operand-returns-in-Nil-clause-refuses : goal.operand-returns-in-Nil-clause-refuses
+operand-returns-in-Nil-clause-refuses t c = on_want _ c.nil.result (λ m k none. absurd none) (c.nil.ensures.surely (next_of (Word word.Nil) _ (λ is. cc) (nil_kind _ (sym c.operand_ahead.ensures ∙ c.in-Nil.is))))
+
+pub operand-returns-in-True-clause-refuses : goal.operand-returns-in-True-clause-refuses
+operand-returns-in-True-clause-refuses t c = on_want _ c.truth.result (λ m k none. absurd none) (c.truth.ensures.surely (next_of (Word word.True) _ (λ is. cc) (true_kind _ (sym c.operand_ahead.ensures ∙ c.in-True.is))))
+
+pub operand-returns-in-False-clause-refuses : goal.operand-returns-in-False-clause-refuses
+operand-returns-in-False-clause-refuses t c = on_want _ c.falsity.result (λ m k none. absurd none) (c.falsity.ensures.surely (next_of (Word word.False) _ (λ is. cc) (false_kind _ (sym c.operand_ahead.ensures ∙ c.in-False.is))))
+
+pub operand-returns-in-Number-clause-refuses : goal.operand-returns-in-Number-clause-refuses
+operand-returns-in-Number-clause-refuses t c = on_want _ c.number.result (λ m k none. absurd none) (c.number.ensures.surely (number_next _ (sym c.operand_ahead.ensures ∙ c.in-Number.is)))
+
+pub operand-returns-in-Text-clause-refuses : goal.operand-returns-in-Text-clause-refuses
+operand-returns-in-Text-clause-refuses t c = on_want _ c.text.result (λ m k none. absurd none) (c.text.ensures.surely (text_next _ (sym c.operand_ahead.ensures ∙ c.in-Text.is)))
+
+pub operand-returns-in-Rest-clause-refuses : goal.operand-returns-in-Rest-clause-refuses
+operand-returns-in-Rest-clause-refuses t c = c.rest.ensures.refuses (next_of (Sign sign.Ellipsis) _ (λ is. cc) (rest_kind _ (sym c.operand_ahead.ensures ∙ c.in-Rest.is)))
+
+pub operand-returns-in-Prefix-clause-refuses : goal.operand-returns-in-Prefix-clause-refuses
+operand-returns-in-Prefix-clause-refuses t c = c.prefix_operand.ensures.refuses (sym c.operand_ahead.ensures ∙ c.in-Prefix.is)
+
 pub unary_operand-returns-clause-reads : goal.unary_operand-returns-clause-reads
 unary_operand-returns-clause-reads t c =
-    on_ok _ c.unary.ensures (λ b is.
-    unary_read _ _ _ _ _ _ _ _ _ c.in_ok-prefixed.ensures.takes c.in_ok-inner.ensures c.in_ok-operand.ensures.reads c.in_ok-operand.ensures.level is)
+    on_node _ c.unary.ensures (λ b is.
+    unary_read _ _ _ _ _ _ _ _ _ c.in_ok-prefixed.ensures.takes c.in_ok-inner.ensures c.in_ok-operand.ensures.reads c.in_ok-operand.ensures.ends c.in_ok-operand.ensures.level is)
 
 pub unary_operand-returns-clause-level : goal.unary_operand-returns-clause-level
-unary_operand-returns-clause-level t c = on_ok _ c.unary.ensures (λ b is. unary_tight _ _ _ _ is)
+unary_operand-returns-clause-level t c = on_node _ c.unary.ensures (λ b is. unary_tight _ _ _ _ is)
+
+pub unary_operand-returns-in_err-prefixed-clause-refuses : goal.unary_operand-returns-in_err-prefixed-clause-refuses
+unary_operand-returns-in_err-prefixed-clause-refuses t c = λ next.
+    let h : IfErr c.from_residual.result (OnAt (Misses IsUnary (state c.args.tokens.now c.args.self.now) (state c.args.tokens.now c.take_unary.new.self))) = search rules in
+    on_err c.from_residual.result h (λ fault missed m k suppose. never_missed_ahead fault _ (exp m k) IsUnary _ _ missed suppose (λ is. is) next)
+
+pub unary_operand-returns-in_err-inner-clause-refuses : goal.unary_operand-returns-in_err-inner-clause-refuses
+unary_operand-returns-in_err-inner-clause-refuses t c = λ next.
+    let h : IfErr c.from_residual-in_err-inner.result (HasNoPart c.args.at (state c.args.tokens.now c.take_unary.new.self)) = search rules in
+    on_err c.from_residual-in_err-inner.result h (λ fault none m k suppose. operand_no_part c.args.at m k _ _ fault _ _ c.in_ok-prefixed.ensures.takes suppose none)
+
+pub unary_operand-returns-in_err-operand-clause-refuses : goal.unary_operand-returns-in_err-operand-clause-refuses
+unary_operand-returns-in_err-operand-clause-refuses t c = λ next.
+    let small : 7 ≤ 7 = lit≤ tt in
+    let h : IfErr c.from_residual-in_err-operand.result (RefusesFrom 7 c.in_ok-inner.inner (state c.args.tokens.now c.take_unary.new.self) (state c.args.tokens.now c.expression.new.self)) = search rules in
+    on_err c.from_residual-in_err-operand.result h (λ fault refuses m k suppose. operand_refused c.args.at c.in_ok-inner.inner m k _ _ fault _ _ _ c.in_ok-prefixed.ensures.takes c.in_ok-inner.ensures suppose (λ low. refuses))
+
+pub unary_operand-returns-clause-refuses : goal.unary_operand-returns-clause-refuses
+unary_operand-returns-clause-refuses t c = λ next. on_memory _ _ c.unary.result (λ m k none. absurd none) c.unary.ensures
 
 pub closure-returns-clause-reads : goal.closure-returns-clause-reads
 closure-returns-clause-reads t c =
     closure_read _ _ _ _ _ _ _ _ c.in_ok-line.ensures.takes c.in_ok-number.ensures.reads (search rules) c.leaf.ensures
 
+pub closure-returns-in_err-line-clause-refuses : goal.closure-returns-in_err-line-clause-refuses
+closure-returns-in_err-line-clause-refuses t c = λ next.
+    let h : IfErr c.from_residual.result (OnAt (Misses (IsKind (Word word.Function)) (state c.args.tokens.now c.args.self.now) (state c.args.tokens.now c.take_word.new.self))) = search rules in
+    on_err c.from_residual.result h (λ fault missed m k suppose. never_missed_ahead fault _ (exp m k) (IsKind (Word word.Function)) _ _ missed suppose (λ is. cc) next)
+
+pub closure-returns-in_err-number-clause-refuses : goal.closure-returns-in_err-number-clause-refuses
+closure-returns-in_err-number-clause-refuses t c = λ next.
+    let h : IfErr c.from_residual-in_err-number.result (RefusesBody c.args.at c.in_ok-line.line c.new.result.items (state c.args.tokens.now c.take_word.new.self) (state c.args.tokens.now c.body.new.self)) = search rules in
+    on_err c.from_residual-in_err-number.result h (λ fault refuses. closure_refused c.args.at c.in_ok-line.line c.new.result.items fault _ _ _ c.in_ok-line.ensures.takes (search rules) refuses)
+
 pub prefix_operand-returns-clause-reads : goal.prefix_operand-returns-clause-reads
 prefix_operand-returns-clause-reads t c = prefix_exp _ _ _ _ _ c.in_ok-prefix.ensures.reads c.in_ok-prefix.ensures.stops refl refl refl
+
+pub prefix_operand-returns-in_err-prefix-clause-refuses : goal.prefix_operand-returns-in_err-prefix-clause-refuses
+prefix_operand-returns-in_err-prefix-clause-refuses t c = λ next.
+    let h : IfErr c.from_residual.result (RefusesPrefix c.args.at (state c.args.tokens.now c.args.self.now) (state c.args.tokens.now c.prefix.new.self)) = search rules in
+    on_err c.from_residual.result h (λ fault refuses. prefix_refused c.args.at _ _ fault next refuses)
 
 pub prefix-loop-suffix-init : goal.prefix-loop-suffix-init
 prefix-loop-suffix-init t c = record { forward = c.in_ok-prefix.ensures.forward; reads = c.in_ok-prefix.ensures.reads }
@@ -96,35 +243,164 @@ pub prefix-returns-clause-reads : goal.prefix-returns-clause-reads
 prefix-returns-clause-reads t c = c.loop-suffix.invariant.reads
 
 pub prefix-returns-clause-stops : goal.prefix-returns-clause-stops
-prefix-returns-clause-stops t c = none_found c.suffix_ahead.result c.suffix_ahead.ensures c.in_default.not-Some
+prefix-returns-clause-stops t c = none_found _ c.suffix_ahead.result c.suffix_ahead.ensures c.in_default.not-Some
+
+pub prefix-returns-in_err-prefix-in-Member-clause-refuses : goal.prefix-returns-in_err-prefix-in-Member-clause-refuses
+prefix-returns-in_err-prefix-in-Member-clause-refuses t c =
+    let next = subst (λ suffix. Begin (IsSuffix suffix) (state c.args.tokens.now c.loop-suffix.self).left) c.in-Member.is c.in-Some.ensures in
+    handed_on (RefusesPrefix c.args.at (state c.args.tokens.now c.args.self.now) (state c.args.tokens.now c.member.new.self)) c.from_residual-in_err-prefix-in-Member.result _
+    c.from_residual-in_err-prefix-in-Member.ensures.1 (suffix_refused c.args.at _ _ _ c.loop-suffix.prefix _ c.loop-suffix.invariant.reads (c.in_err-prefix-in-Member.ensures.refuses next))
+
+pub prefix-returns-in_err-prefix-in-Item-clause-refuses : goal.prefix-returns-in_err-prefix-in-Item-clause-refuses
+prefix-returns-in_err-prefix-in-Item-clause-refuses t c =
+    let next = subst (λ suffix. Begin (IsSuffix suffix) (state c.args.tokens.now c.loop-suffix.self).left) c.in-Item.is c.in-Some.ensures in
+    handed_on (RefusesPrefix c.args.at (state c.args.tokens.now c.args.self.now) (state c.args.tokens.now c.item.new.self)) c.from_residual-in_err-prefix-in-Item.result _
+    c.from_residual-in_err-prefix-in-Item.ensures.1 (suffix_refused c.args.at _ _ _ c.loop-suffix.prefix _ c.loop-suffix.invariant.reads (c.in_err-prefix-in-Item.ensures.refuses next))
+
+pub prefix-returns-in_err-prefix-in-Method-clause-refuses : goal.prefix-returns-in_err-prefix-in-Method-clause-refuses
+prefix-returns-in_err-prefix-in-Method-clause-refuses t c =
+    let next = subst (λ suffix. Begin (IsSuffix suffix) (state c.args.tokens.now c.loop-suffix.self).left) c.in-Method.is c.in-Some.ensures in
+    handed_on (RefusesPrefix c.args.at (state c.args.tokens.now c.args.self.now) (state c.args.tokens.now c.method.new.self)) c.from_residual-in_err-prefix-in-Method.result _
+    c.from_residual-in_err-prefix-in-Method.ensures.1 (suffix_refused c.args.at _ _ _ c.loop-suffix.prefix _ c.loop-suffix.invariant.reads (c.in_err-prefix-in-Method.ensures.refuses next))
+
+pub prefix-returns-in_err-prefix-in-Arguments-clause-refuses : goal.prefix-returns-in_err-prefix-in-Arguments-clause-refuses
+prefix-returns-in_err-prefix-in-Arguments-clause-refuses t c =
+    let next = subst (λ suffix. Begin (IsSuffix suffix) (state c.args.tokens.now c.loop-suffix.self).left) c.in-Arguments.is c.in-Some.ensures in
+    handed_on (RefusesPrefix c.args.at (state c.args.tokens.now c.args.self.now) (state c.args.tokens.now c.call.new.self)) c.from_residual-in_err-prefix-in-Arguments.result _
+    c.from_residual-in_err-prefix-in-Arguments.ensures.1 (suffix_refused c.args.at _ _ _ c.loop-suffix.prefix _ c.loop-suffix.invariant.reads (c.in_err-prefix-in-Arguments.ensures.refuses next))
 
 pub primary-returns-clause-reads : goal.primary-returns-clause-reads
 primary-returns-clause-reads t c =
-    on_ok _ c.paren.ensures (λ p is.
+    on_node _ c.paren.ensures (λ p is.
     paren_read _ _ _ _ _ _ _ _ _ _ c.in_ok-open.ensures.takes c.in_ok-inner.ensures c.in_ok-built.ensures.reads c.in_ok-take_sign.ensures.takes is)
+
+pub primary-returns-in_err-open-clause-refuses : goal.primary-returns-in_err-open-clause-refuses
+primary-returns-in_err-open-clause-refuses t c =
+    let h : IfErr c.from_residual.result (OnAt (Misses (IsKind (SignKind OpenParenthesis)) (state c.args.tokens.now c.args.self.now) (state c.args.tokens.now c.take_sign.new.self))) = search rules in
+    let is : IsTrue c.at_sign.result = search rules in
+    on_err c.from_residual.result h (λ fault missing k suppose. never_missed fault _ _ (IsKind (SignKind OpenParenthesis)) _ _ missing suppose (c.at_sign.ensures.0 is))
+
+pub primary-returns-in_err-inner-clause-refuses : goal.primary-returns-in_err-inner-clause-refuses
+primary-returns-in_err-inner-clause-refuses t c =
+    let h : IfErr c.from_residual-in_err-inner.result (HasNoPart c.args.at (state c.args.tokens.now c.take_sign.new.self)) = search rules in
+    on_err c.from_residual-in_err-inner.result h (λ fault none. paren_no_part c.args.at _ _ _ fault c.in_ok-open.ensures.takes none)
+
+pub primary-returns-in_err-built-clause-refuses : goal.primary-returns-in_err-built-clause-refuses
+primary-returns-in_err-built-clause-refuses t c =
+    let h : IfErr c.from_residual-in_err-built.result (RefusesFrom 1 c.in_ok-inner.inner (state c.args.tokens.now c.take_sign.new.self) (state c.args.tokens.now c.expression.new.self)) = search rules in
+    on_err c.from_residual-in_err-built.result h (λ fault refuses. paren_refused c.args.at c.in_ok-inner.inner _ _ _ _ fault c.in_ok-open.ensures.takes c.in_ok-inner.ensures refuses)
+
+pub primary-returns-in_err-take_sign-clause-refuses : goal.primary-returns-in_err-take_sign-clause-refuses
+primary-returns-in_err-take_sign-clause-refuses t c =
+    let h : IfErr c.from_residual-in_err-take_sign.result (OnAt (Misses (IsKind (SignKind CloseParenthesis)) (state c.args.tokens.now c.expression.new.self) (state c.args.tokens.now c.take_sign-2.new.self))) = search rules in
+    let built = c.in_ok-built.ensures in
+    let level = built.level in
+    on_err c.from_residual-in_err-take_sign.result h (λ fault missing.
+    paren_open c.args.at c.in_ok-inner.inner _ _ _ _ _ c.in_ok-built.built fault c.in_ok-open.ensures.takes built.reads (omega (arith, level)) built.ends missing)
+
+pub primary-returns-clause-refuses : goal.primary-returns-clause-refuses
+primary-returns-clause-refuses t c = on_memory _ _ c.paren.result (λ k none. absurd none) c.paren.ensures
 
 pub item-returns-clause-reads : goal.item-returns-clause-reads
 item-returns-clause-reads t c =
     ok_extends c.args.at c.args.object (state c.args.tokens.now c.args.self.now) _ _ _ c.indexed.ensures (λ p s is read.
     item_read _ _ _ _ _ _ _ _ _ _ _ _ read c.in_ok-open.ensures.takes c.in_ok-inner.ensures c.in_ok-key.ensures.reads c.in_ok-take_sign.ensures.takes c.in_ok-above.ensures is)
 
+pub item-returns-in_err-open-clause-refuses : goal.item-returns-in_err-open-clause-refuses
+item-returns-in_err-open-clause-refuses t c = λ next.
+    let h : IfErr c.from_residual.result (OnAt (Misses (IsKind (SignKind OpenBracket)) (state c.args.tokens.now c.args.self.now) (state c.args.tokens.now c.take_sign.new.self))) = search rules in
+    on_err c.from_residual.result h (λ fault missing s read k suppose. never_missed fault _ _ (IsKind (SignKind OpenBracket)) _ _ missing suppose next)
+
+pub item-returns-in_err-above-clause-refuses : goal.item-returns-in_err-above-clause-refuses
+item-returns-in_err-above-clause-refuses t c = λ next.
+    let h : IfErr c.from_residual-in_err-above.result (IsTooHigh c.args.at c.args.object.height) = search rules in
+    on_err c.from_residual-in_err-above.result h (λ fault high. item_too_high c.args.at _ _ c.args.object _ fault c.in_ok-open.ensures.takes high)
+
+pub item-returns-in_err-inner-clause-refuses : goal.item-returns-in_err-inner-clause-refuses
+item-returns-in_err-inner-clause-refuses t c = λ next.
+    let h : IfErr c.from_residual-in_err-inner.result (HasNoPart c.args.at (state c.args.tokens.now c.take_sign.new.self)) = search rules in
+    on_err c.from_residual-in_err-inner.result h (λ fault none. item_no_part c.args.at _ _ c.args.object _ fault c.in_ok-open.ensures.takes none)
+
+pub item-returns-in_err-key-clause-refuses : goal.item-returns-in_err-key-clause-refuses
+item-returns-in_err-key-clause-refuses t c = λ next.
+    let h : IfErr c.from_residual-in_err-key.result (RefusesFrom 1 c.in_ok-inner.inner (state c.args.tokens.now c.take_sign.new.self) (state c.args.tokens.now c.expression.new.self)) = search rules in
+    on_err c.from_residual-in_err-key.result h (λ fault refuses. item_refused c.args.at c.in_ok-inner.inner _ _ _ c.args.object _ fault c.in_ok-open.ensures.takes c.in_ok-inner.ensures refuses)
+
+pub item-returns-in_err-take_sign-clause-refuses : goal.item-returns-in_err-take_sign-clause-refuses
+item-returns-in_err-take_sign-clause-refuses t c = λ next.
+    let Missing = OnAt (Misses (IsKind (SignKind CloseBracket)) (state c.args.tokens.now c.expression.new.self) (state c.args.tokens.now c.take_sign-2.new.self)) in
+    let h : IfErr c.from_residual-in_err-take_sign.result Missing = handed_on Missing c.from_residual-in_err-take_sign.result _ c.from_residual-in_err-take_sign.ensures.1 c.in_err-take_sign.ensures.misses in
+    let key = c.in_ok-key.ensures in
+    let level = key.level in
+    on_err c.from_residual-in_err-take_sign.result h (λ fault missing.
+    item_open c.args.at c.in_ok-inner.inner _ _ _ _ c.args.object _ c.in_ok-key.key fault c.in_ok-open.ensures.takes key.reads (omega (arith, level)) key.ends missing)
+
+pub item-returns-clause-refuses : goal.item-returns-clause-refuses
+item-returns-clause-refuses t c = λ next. on_memory _ _ c.indexed.result (λ s read k none. absurd none) c.indexed.ensures
+
 pub call-returns-clause-reads : goal.call-returns-clause-reads
 call-returns-clause-reads t c =
     ok_extends c.args.at c.args.callee (state c.args.tokens.now c.args.self.now) _ _ _ c.called.ensures (λ p s is read.
     called_read _ _ _ _ _ _ _ _ read c.in_ok-values.ensures.reads c.in_ok-line.ensures.same c.in_ok-line.ensures.line c.in_ok-above.ensures is)
+
+pub call-returns-in_err-line-clause-refuses : goal.call-returns-in_err-line-clause-refuses
+call-returns-in_err-line-clause-refuses t c = λ next.
+    handed_on (RefusesSuffix c.args.at c.args.callee (state c.args.tokens.now c.args.self.now) (state c.args.tokens.now c.args.self.now)) c.from_residual.result _ c.from_residual.ensures.1
+    (call_cannot_open c.args.at _ c.args.callee _ next c.in_err-line.ensures.closed)
+
+pub call-returns-in_err-above-clause-refuses : goal.call-returns-in_err-above-clause-refuses
+call-returns-in_err-above-clause-refuses t c = λ next.
+    handed_on (RefusesSuffix c.args.at c.args.callee (state c.args.tokens.now c.args.self.now) (state c.args.tokens.now c.args.self.now)) c.from_residual-in_err-above.result _
+    c.from_residual-in_err-above.ensures.1 (call_too_high c.args.at _ c.args.callee _ next c.in_err-above.ensures)
+
+pub call-returns-in_err-values-clause-refuses : goal.call-returns-in_err-values-clause-refuses
+call-returns-in_err-values-clause-refuses t c = λ next.
+    handed_on (RefusesSuffix c.args.at c.args.callee (state c.args.tokens.now c.args.self.now) (state c.args.tokens.now c.arguments.new.self)) c.from_residual-in_err-values.result _
+    c.from_residual-in_err-values.ensures.1 (call_refused c.args.at _ _ c.args.callee _ next c.in_err-values.ensures.refuses)
+
+pub call-returns-clause-refuses : goal.call-returns-clause-refuses
+call-returns-clause-refuses t c = λ next. on_memory _ _ c.called.result (λ s read k none. absurd none) c.called.ensures
 
 pub method-returns-clause-reads : goal.method-returns-clause-reads
 method-returns-clause-reads t c =
     ok_extends c.args.at c.args.object (state c.args.tokens.now c.args.self.now) _ _ _ c.method_called.ensures (λ p s is read.
     method_called_read _ _ _ _ _ _ _ _ _ _ _ _ _ read c.in_ok-colon.ensures.takes c.in_ok-named.ensures.takes c.in_ok-values.ensures.reads c.in_ok-line.ensures.same c.in_ok-line.ensures.line c.in_ok-above.ensures is)
 
+pub method-returns-in_err-colon-clause-refuses : goal.method-returns-in_err-colon-clause-refuses
+method-returns-in_err-colon-clause-refuses t c = λ next.
+    handed_on (RefusesSuffix c.args.at c.args.object (state c.args.tokens.now c.args.self.now) (state c.args.tokens.now c.take_sign.new.self)) c.from_residual.result _ c.from_residual.ensures.1
+    (λ s read k suppose. never_missed _ _ _ (IsKind (SignKind Colon)) _ _ c.in_err-colon.ensures.misses suppose next)
+
+pub method-returns-in_err-above-clause-refuses : goal.method-returns-in_err-above-clause-refuses
+method-returns-in_err-above-clause-refuses t c = λ next.
+    handed_on (RefusesSuffix c.args.at c.args.object (state c.args.tokens.now c.args.self.now) (state c.args.tokens.now c.take_sign.new.self)) c.from_residual-in_err-above.result _
+    c.from_residual-in_err-above.ensures.1 (method_too_high c.args.at _ _ c.args.object _ _ c.in_ok-colon.ensures.takes c.in_err-above.ensures)
+
+pub method-returns-in_err-named-clause-refuses : goal.method-returns-in_err-named-clause-refuses
+method-returns-in_err-named-clause-refuses t c = λ next.
+    handed_on (RefusesSuffix c.args.at c.args.object (state c.args.tokens.now c.args.self.now) (state c.args.tokens.now c.take_name.new.self)) c.from_residual-in_err-named.result _
+    c.from_residual-in_err-named.ensures.1 (method_no_name c.args.at _ _ _ c.args.object _ _ c.in_ok-colon.ensures.takes c.in_err-named.ensures.misses)
+
+pub method-returns-in_err-line-clause-refuses : goal.method-returns-in_err-line-clause-refuses
+method-returns-in_err-line-clause-refuses t c = λ next.
+    handed_on (RefusesSuffix c.args.at c.args.object (state c.args.tokens.now c.args.self.now) (state c.args.tokens.now c.take_name.new.self)) c.from_residual-in_err-line.result _
+    c.from_residual-in_err-line.ensures.1 (method_cannot_open c.args.at _ _ _ c.args.object _ _ _ _ c.in_ok-colon.ensures.takes c.in_ok-named.ensures.takes c.in_err-line.ensures.closed)
+
+pub method-returns-in_err-values-clause-refuses : goal.method-returns-in_err-values-clause-refuses
+method-returns-in_err-values-clause-refuses t c = λ next.
+    handed_on (RefusesSuffix c.args.at c.args.object (state c.args.tokens.now c.args.self.now) (state c.args.tokens.now c.arguments.new.self)) c.from_residual-in_err-values.result _
+    c.from_residual-in_err-values.ensures.1 (method_refused c.args.at _ _ _ _ c.args.object _ _ _ _ c.in_ok-colon.ensures.takes c.in_ok-named.ensures.takes c.in_err-values.ensures.refuses)
+
+pub method-returns-clause-refuses : goal.method-returns-clause-refuses
+method-returns-clause-refuses t c = λ next. on_memory _ _ c.method_called.result (λ s read k none. absurd none) c.method_called.ensures
+
 pub arguments-returns-then-at_sign-clause-reads : goal.arguments-returns-then-at_sign-clause-reads
 arguments-returns-then-at_sign-clause-reads t c =
-    on_ok _ c.one.ensures (λ v is. table_arg_read _ _ _ _ _ _ c.narrower-inner.ensures c.in_ok-table.ensures.reads is)
+    on_node _ c.one.ensures (λ v is. table_arg_read _ _ _ _ _ _ c.narrower-inner.ensures c.in_ok-table.ensures.reads is)
 
 pub arguments-returns-then-at_text-clause-reads : goal.arguments-returns-then-at_text-clause-reads
 arguments-returns-then-at_text-clause-reads t c =
-    on_ok _ c.text.ensures (λ v is. text_arg_read _ _ _ _ _ _ c.in_ok-text.ensures.takes is)
+    on_node _ c.text.ensures (λ v is. text_arg_read _ _ _ _ _ _ c.in_ok-text.ensures.takes is)
 
 pub arguments-returns-then-at_sign-2-clause-reads : goal.arguments-returns-then-at_sign-2-clause-reads
 arguments-returns-then-at_sign-2-clause-reads t c =
@@ -134,10 +410,43 @@ pub arguments-returns-clause-reads : goal.arguments-returns-clause-reads
 arguments-returns-clause-reads t c =
     args_read _ _ _ _ _ _ _ _ _ c.in_ok-take_sign.ensures.takes c.in_ok-inner.ensures c.in_ok-values.ensures.reads c.in_ok-take_sign-3.ensures.takes
 
+pub arguments-returns-in_err-table-clause-refuses : goal.arguments-returns-in_err-table-clause-refuses
+arguments-returns-in_err-table-clause-refuses t c =
+    let is : IsTrue c.at_sign.result = search rules in
+    handed_on (RefusesArgs c.args.at (state c.args.tokens.now c.args.self.now) (state c.args.tokens.now c.table.new.self)) c.from_residual.result _ c.from_residual.ensures.1
+    (table_arg_refused c.args.at c.narrower-inner.result _ _ _ c.narrower-inner.ensures (c.in_err-table.ensures.refuses (c.at_sign.ensures.0 is)))
+
+pub arguments-returns-in_err-take_sign-clause-refuses : goal.arguments-returns-in_err-take_sign-clause-refuses
+arguments-returns-in_err-take_sign-clause-refuses t c =
+    let no_table = untested c.at_sign.result _ c.if-at_sign.false c.at_sign.ensures in
+    let no_text = untested c.at_text.result _ c.if-at_text.false c.at_text.ensures in
+    handed_on (RefusesArgs c.args.at (state c.args.tokens.now c.args.self.now) (state c.args.tokens.now c.take_sign.new.self)) c.from_residual-in_err-take_sign.result _
+    c.from_residual-in_err-take_sign.ensures.1 (no_args c.args.at _ _ _ no_table no_text c.in_err-take_sign.ensures.misses)
+
+pub arguments-returns-in_err-inner-clause-refuses : goal.arguments-returns-in_err-inner-clause-refuses
+arguments-returns-in_err-inner-clause-refuses t c =
+    let open_ = untested c.at_sign-2.result _ c.if-at_sign-2.false c.at_sign-2.ensures in
+    handed_on (RefusesArgs c.args.at (state c.args.tokens.now c.args.self.now) (state c.args.tokens.now c.take_sign.new.self)) c.from_residual-in_err-inner.result _
+    c.from_residual-in_err-inner.ensures.1 (args_no_part c.args.at _ _ _ _ c.in_ok-take_sign.ensures.takes open_ c.in_err-inner.ensures)
+
+pub arguments-returns-in_err-values-clause-refuses : goal.arguments-returns-in_err-values-clause-refuses
+arguments-returns-in_err-values-clause-refuses t c =
+    let open_ = untested c.at_sign-2.result _ c.if-at_sign-2.false c.at_sign-2.ensures in
+    handed_on (RefusesArgs c.args.at (state c.args.tokens.now c.args.self.now) (state c.args.tokens.now c.expressions.new.self)) c.from_residual-in_err-values.result _
+    c.from_residual-in_err-values.ensures.1 (args_refused c.args.at c.in_ok-inner.inner _ _ _ _ _ c.in_ok-take_sign.ensures.takes open_ c.in_ok-inner.ensures c.in_err-values.ensures.refuses)
+
+pub arguments-returns-in_err-take_sign-3-clause-refuses : goal.arguments-returns-in_err-take_sign-3-clause-refuses
+arguments-returns-in_err-take_sign-3-clause-refuses t c =
+    let open_ = untested c.at_sign-2.result _ c.if-at_sign-2.false c.at_sign-2.ensures in
+    let values = c.in_ok-values.ensures in
+    handed_on (RefusesArgs c.args.at (state c.args.tokens.now c.args.self.now) (state c.args.tokens.now c.take_sign-2.new.self)) c.from_residual-in_err-take_sign-3.result _
+    c.from_residual-in_err-take_sign-3.ensures.1
+    (args_open c.args.at c.in_ok-inner.inner _ _ _ _ _ c.in_ok-values.values _ c.in_ok-take_sign.ensures.takes open_ values.reads values.ends c.in_err-take_sign-3.ensures.misses)
+
 pub expressions-loop-alloc-init : goal.expressions-loop-alloc-init
 expressions-loop-alloc-init t c = record {
   forward = c.in_ok-first.ensures.forward;
-  reads = list_one _ _ _ _ _ c.in_ok-first.ensures.reads c.in_ok-values.ensures;
+  reads = list_one _ _ _ _ _ c.in_ok-first.ensures.reads c.in_ok-first.ensures.ends c.in_ok-values.ensures;
 }
 
 pub expressions-loop-alloc-preserved : goal.expressions-loop-alloc-preserved
@@ -145,11 +454,23 @@ expressions-loop-alloc-preserved t c =
     let before = c.loop-alloc.invariant in
     record {
       forward = advances_on _ _ _ _ before.forward (advances_on _ _ _ _ c.in_ok-take_sign.ensures.forward c.in_ok-next.ensures.forward);
-      reads = list_more _ _ _ _ _ _ _ _ _ before.reads c.in_ok-take_sign.ensures.takes c.in_ok-next.ensures.reads c.in_ok-push.ensures;
+      reads = list_more _ _ _ _ _ _ _ _ _ before.reads c.in_ok-take_sign.ensures.takes c.in_ok-next.ensures.reads c.in_ok-next.ensures.ends c.in_ok-push.ensures;
     }
 
 pub expressions-returns-clause-reads : goal.expressions-returns-clause-reads
 expressions-returns-clause-reads t c = c.loop-alloc.invariant.reads
+
+pub expressions-returns-in_err-first-clause-refuses : goal.expressions-returns-in_err-first-clause-refuses
+expressions-returns-in_err-first-clause-refuses t c =
+    let small : 1 ≤ 7 = lit≤ tt in
+    let h : IfErr c.from_residual.result (RefusesFrom 1 c.args.at (state c.args.tokens.now c.args.self.now) (state c.args.tokens.now c.expression.new.self)) = search rules in
+    on_err c.from_residual.result h (λ fault refuses. first_refused c.args.at _ _ fault refuses)
+
+pub expressions-returns-in_err-next-clause-refuses : goal.expressions-returns-in_err-next-clause-refuses
+expressions-returns-in_err-next-clause-refuses t c =
+    let small : 1 ≤ 7 = lit≤ tt in
+    let h : IfErr c.from_residual-in_err-next.result (RefusesFrom 1 c.args.at (state c.args.tokens.now c.take_sign.new.self) (state c.args.tokens.now c.expression-in-loop-alloc.new.self)) = search rules in
+    on_err c.from_residual-in_err-next.result h (λ fault refuses. next_refused c.args.at _ fault _ _ _ _ _ c.loop-alloc.invariant.reads c.in_ok-take_sign.ensures.takes refuses)
 
 pub table-loop-at-init : goal.table-loop-at-init
 table-loop-at-init t c = record {
@@ -172,165 +493,119 @@ table-loop-at-preserved t c =
 pub table-returns-then-at_sign-clause-reads : goal.table-returns-then-at_sign-clause-reads
 table-returns-then-at_sign-clause-reads t c =
     let before = c.loop-at.invariant.reads in
-    on_ok _ c.into_table.ensures (λ b is.
+    on_node _ c.into_table.ensures (λ b is.
     ending_read _ _ _ _ _ _ _ _ _ _ _ _ _ before.1 before.2 c.in_ok-inner.ensures c.in_ok-item.ensures.reads c.in_ok-push.ensures c.in_ok-take_sign.ensures.takes is)
 
 pub table-returns-clause-reads : goal.table-returns-clause-reads
 table-returns-clause-reads t c =
     let before = c.loop-at.invariant.reads in
-    on_ok _ c.into_table-2.ensures (λ b is. separated_read _ _ _ _ _ _ _ _ _ before.1 before.2 c.in_ok-take_sign-2.ensures.takes is)
+    on_node _ c.into_table-2.ensures (λ b is. separated_read _ _ _ _ _ _ _ _ _ before.1 before.2 c.in_ok-take_sign-2.ensures.takes is)
+
+pub table-returns-in_err-inner-clause-refuses : goal.table-returns-in_err-inner-clause-refuses
+table-returns-in_err-inner-clause-refuses t c = λ next.
+    let before = c.loop-at.invariant.reads in
+    let h : IfErr c.from_residual-in_err-inner.result (HasNoPart c.args.at (state c.args.tokens.now c.loop-at.self)) = search rules in
+    on_err c.from_residual-in_err-inner.result h (λ fault none. part_refused c.args.at _ fault _ _ _ _ before.2 before.1 (untested c.at_sign.result _ c.loop-at-test.true c.at_sign.ensures) none)
+
+pub table-returns-in_err-item-clause-refuses : goal.table-returns-in_err-item-clause-refuses
+table-returns-in_err-item-clause-refuses t c = λ next.
+    let before = c.loop-at.invariant.reads in
+    let h : IfErr c.from_residual-in_err-item.result (RefusesField c.in_ok-inner.inner (state c.args.tokens.now c.loop-at.self) (state c.args.tokens.now c.field.new.self)) = search rules in
+    on_err c.from_residual-in_err-item.result h (λ fault refuses.
+    field_refused c.args.at c.in_ok-inner.inner _ fault _ _ _ _ _ before.2 before.1 c.in_ok-inner.ensures (untested c.at_sign.result _ c.loop-at-test.true c.at_sign.ensures) refuses)
+
+pub table-returns-in_err-take_separator-clause-refuses : goal.table-returns-in_err-take_separator-clause-refuses
+table-returns-in_err-take_separator-clause-refuses t c = λ next.
+    let before = c.loop-at.invariant.reads in
+    let h : IfErr c.from_residual-in_err-take_separator.result (OnAt (Misses IsSeparator (state c.args.tokens.now c.field.new.self) (state c.args.tokens.now c.take_separator.new.self))) = search rules in
+    on_err c.from_residual-in_err-take_separator.result h (λ fault misses.
+    separator_refused c.args.at c.in_ok-inner.inner _ fault _ _ _ _ _ _ _ before.2 before.1 c.in_ok-item.ensures.reads (untested c.at_sign-in-loop-at.result _ c.if-at_sign.false c.at_sign-in-loop-at.ensures) misses)
+
+pub field-returns-clause-reads : goal.field-returns-clause-reads
+field-returns-clause-reads t c =
+    plain_read _ _ _ _ _ c.in_ok-value.ensures.reads c.in_ok-value.ensures.ends (untested c.at_named_field.result _ c.if-at_named_field.false c.at_named_field.ensures) c.value.ensures.item c.value.ensures.height
+
+pub field-returns-in_err-value-clause-refuses : goal.field-returns-in_err-value-clause-refuses
+field-returns-in_err-value-clause-refuses t c =
+    let small : 1 ≤ 7 = lit≤ tt in
+    let h : IfErr c.from_residual.result (RefusesFrom 1 c.args.at (state c.args.tokens.now c.args.self.now) (state c.args.tokens.now c.expression.new.self)) = search rules in
+    on_err c.from_residual.result h (λ fault refuses. plain_refused c.args.at fault _ _ (untested c.at_sign.result _ c.if-at_sign.false c.at_sign.ensures)
+    (untested c.at_named_field.result _ c.if-at_named_field.false c.at_named_field.ensures) refuses)
 
 pub keyed_field-returns-clause-reads : goal.keyed_field-returns-clause-reads
 keyed_field-returns-clause-reads t c =
     keyed_read _ _ _ _ _ _ _ _ _ _ _ _ _ c.in_ok-take_sign.ensures.takes c.in_ok-key.ensures.reads c.in_ok-take_sign-2.ensures.takes c.in_ok-take_sign-3.ensures.takes
-    c.in_ok-value.ensures.reads c.pair.ensures.item c.pair.ensures.height
+    c.in_ok-value.ensures.reads c.in_ok-value.ensures.ends c.pair.ensures.item c.pair.ensures.height
+
+pub keyed_field-returns-in_err-take_sign-clause-refuses : goal.keyed_field-returns-in_err-take_sign-clause-refuses
+keyed_field-returns-in_err-take_sign-clause-refuses t c = λ next.
+    let h : IfErr c.from_residual.result (OnAt (Misses (IsKind (Sign sign.OpenBracket)) (state c.args.tokens.now c.args.self.now) (state c.args.tokens.now c.take_sign.new.self))) = search rules in
+    on_err c.from_residual.result h (λ fault missed o fs k suppose. never_missed fault _ (token (field (after_field o fs k))) (IsKind (Sign sign.OpenBracket)) _ _ missed suppose next)
+
+pub keyed_field-returns-in_err-key-clause-refuses : goal.keyed_field-returns-in_err-key-clause-refuses
+keyed_field-returns-in_err-key-clause-refuses t c = λ next.
+    let small : 1 ≤ 7 = lit≤ tt in
+    let h : IfErr c.from_residual-in_err-key.result (RefusesFrom 1 c.args.at (state c.args.tokens.now c.take_sign.new.self) (state c.args.tokens.now c.expression.new.self)) = search rules in
+    on_err c.from_residual-in_err-key.result h (λ fault refuses. key_refused c.args.at _ fault _ _ _ c.in_ok-take_sign.ensures.takes refuses)
+
+pub keyed_field-returns-in_err-take_sign-2-clause-refuses : goal.keyed_field-returns-in_err-take_sign-2-clause-refuses
+keyed_field-returns-in_err-take_sign-2-clause-refuses t c = λ next.
+    let h : IfErr c.from_residual-in_err-take_sign-2.result (OnAt (Misses (IsKind (Sign sign.CloseBracket)) (state c.args.tokens.now c.expression.new.self) (state c.args.tokens.now c.take_sign-2.new.self))) = search rules in
+    on_err c.from_residual-in_err-take_sign-2.result h (λ fault missed. bracket_refused c.args.at _ fault _ _ _ _ _ c.in_ok-take_sign.ensures.takes c.in_ok-key.ensures.reads c.in_ok-key.ensures.ends missed)
+
+pub keyed_field-returns-in_err-take_sign-3-clause-refuses : goal.keyed_field-returns-in_err-take_sign-3-clause-refuses
+keyed_field-returns-in_err-take_sign-3-clause-refuses t c = λ next.
+    let h : IfErr c.from_residual-in_err-take_sign-3.result (OnAt (Misses (IsKind (Sign sign.Assign)) (state c.args.tokens.now c.take_sign-2.new.self) (state c.args.tokens.now c.take_sign-3.new.self))) = search rules in
+    on_err c.from_residual-in_err-take_sign-3.result h (λ fault missed. equals_refused c.args.at _ _ fault _ _ _ _ _ _ c.in_ok-take_sign.ensures.takes c.in_ok-key.ensures.reads c.in_ok-key.ensures.ends c.in_ok-take_sign-2.ensures.takes missed)
+
+pub keyed_field-returns-in_err-value-clause-refuses : goal.keyed_field-returns-in_err-value-clause-refuses
+keyed_field-returns-in_err-value-clause-refuses t c = λ next.
+    let small : 1 ≤ 7 = lit≤ tt in
+    let h : IfErr c.from_residual-in_err-value.result (RefusesFrom 1 c.args.at (state c.args.tokens.now c.take_sign-3.new.self) (state c.args.tokens.now c.expression-2.new.self)) = search rules in
+    on_err c.from_residual-in_err-value.result h (λ fault refuses. keyed_value_refused c.args.at _ _ _ fault _ _ _ _ _ _ _ c.in_ok-take_sign.ensures.takes c.in_ok-key.ensures.reads c.in_ok-key.ensures.ends
+    c.in_ok-take_sign-2.ensures.takes c.in_ok-take_sign-3.ensures.takes refuses)
 
 pub named_field-returns-clause-reads : goal.named_field-returns-clause-reads
 named_field-returns-clause-reads t c =
-    named_read _ _ _ _ _ _ _ _ _ _ _ c.in_ok-named.ensures.takes c.into_text.ensures c.in_ok-take_sign.ensures.takes c.in_ok-value.ensures.reads c.pair.ensures.item c.pair.ensures.height
+    named_read _ _ _ _ _ _ _ _ _ _ _ c.in_ok-named.ensures.takes c.into_text.ensures c.in_ok-take_sign.ensures.takes c.in_ok-value.ensures.reads c.in_ok-value.ensures.ends c.pair.ensures.item c.pair.ensures.height
 
-pub field-returns-clause-reads : goal.field-returns-clause-reads
-field-returns-clause-reads t c = plain_read _ _ _ _ _ c.in_ok-value.ensures.reads c.value.ensures.item c.value.ensures.height
+pub named_field-returns-in_err-named-clause-refuses : goal.named_field-returns-in_err-named-clause-refuses
+named_field-returns-in_err-named-clause-refuses t c = λ next.
+    let h : IfErr c.from_residual.result (OnAt (Misses IsName (state c.args.tokens.now c.args.self.now) (state c.args.tokens.now c.take_name.new.self))) = search rules in
+    on_err c.from_residual.result h (λ fault missed. name_never_missed c.args.at fault _ _ next missed)
 
--- statements
+pub named_field-returns-in_err-take_sign-clause-refuses : goal.named_field-returns-in_err-take_sign-clause-refuses
+named_field-returns-in_err-take_sign-clause-refuses t c = λ next.
+    let h : IfErr c.from_residual-in_err-take_sign.result (OnAt (Misses (IsKind (Sign sign.Assign)) (state c.args.tokens.now c.take_name.new.self) (state c.args.tokens.now c.take_sign.new.self))) = search rules in
+    on_err c.from_residual-in_err-take_sign.result h (λ fault missed. equals_never_missed c.args.at _ _ fault _ _ _ next c.in_ok-named.ensures.takes missed)
+
+pub named_field-returns-in_err-value-clause-refuses : goal.named_field-returns-in_err-value-clause-refuses
+named_field-returns-in_err-value-clause-refuses t c = λ next.
+    let small : 1 ≤ 7 = lit≤ tt in
+    let h : IfErr c.from_residual-in_err-value.result (RefusesFrom 1 c.args.at (state c.args.tokens.now c.take_sign.new.self) (state c.args.tokens.now c.expression.new.self)) = search rules in
+    on_err c.from_residual-in_err-value.result h (λ fault refuses. named_value_refused c.args.at _ _ _ fault _ _ _ _ c.in_ok-named.ensures.takes c.in_ok-take_sign.ensures.takes refuses)
 
 pub arm-returns-clause-reads : goal.arm-returns-clause-reads
 arm-returns-clause-reads t c =
-    on_ok _ c.arm_node.ensures (λ arm is. arm_read _ _ _ _ _ _ _ _ _ c.in_ok-test.ensures.reads c.in_ok-take_word.ensures.takes c.in_ok-body.ensures.reads is)
+    on_node _ c.arm_node.ensures (λ arm is. arm_read _ _ _ _ _ _ _ _ _ c.in_ok-test.ensures.reads c.in_ok-take_word.ensures.takes c.in_ok-body.ensures.reads is)
 
-pub assignment-returns-clause-reads : goal.assignment-returns-clause-reads
-assignment-returns-clause-reads t c =
-    on_ok _ c.assign_node.ensures (assign_behind _ _ _ _ _ _ _ _ _ _ c.in_ok-targets.ensures.reads c.in_ok-take_sign.ensures.takes c.in_ok-values.ensures.reads)
+pub arm-returns-in_err-test-clause-refuses : goal.arm-returns-in_err-test-clause-refuses
+arm-returns-in_err-test-clause-refuses t c =
+    let h : IfErr c.from_residual.result (RefusesValue c.args.at (state c.args.tokens.now c.args.self.now) (state c.args.tokens.now c.value.new.self)) = search rules in
+    on_err c.from_residual.result h (λ fault refuses. test_refused c.args.at _ _ fault refuses)
 
-pub body-returns-clause-reads : goal.body-returns-clause-reads
-body-returns-clause-reads t c =
-    let opens = enters_state c.args.tokens.now c.take_sign-2.new.self c.enter.new.self _ _ _ c.in_ok-begun.ensures.enters in
-    let same = turned c.args.tokens.now c.take_sign-2.new.self c.enter.new.self _ c.in_ok-begun.ensures.place c.in_ok-begun.ensures.line refl in
-    let done = turned c.args.tokens.now c.take_word.new.self c.end.new.self _ c.end.ensures.place c.end.ensures.line refl in
-    on_ok _ c.end.ensures.ends (λ number ends. body_read _ _ _ _ _ _ _ _ _ _ _ _ _ _ _ _ _ _ _ _ c.in_ok-take_sign.ensures.takes c.in_ok-parameters.ensures.reads c.in_ok-take_sign-2.ensures.takes opens same.left
-    c.in_ok-deeper.ensures c.of_function-inner.ensures c.in_ok-block.ensures.reads c.in_ok-take_word.ensures.takes (ends_state c.args.tokens.now c.take_word.new.self c.end.new.self _ _ _ ends) done.left)
+pub arm-returns-in_err-take_word-clause-refuses : goal.arm-returns-in_err-take_word-clause-refuses
+arm-returns-in_err-take_word-clause-refuses t c =
+    let h : IfErr c.from_residual-in_err-take_word.result (OnAt (Misses (IsKind (Word word.Then)) (state c.args.tokens.now c.value.new.self) (state c.args.tokens.now c.take_word.new.self))) = search rules in
+    on_err c.from_residual-in_err-take_word.result h (λ fault missed. then_refused c.args.at _ _ _ _ fault c.in_ok-test.ensures.reads missed)
 
-pub do_block-returns-clause-reads : goal.do_block-returns-clause-reads
-do_block-returns-clause-reads t c =
-    on_ok _ c.do_node.ensures (λ out is. do_read _ _ _ _ _ _ _ _ _ c.in_ok-line.ensures.takes c.in_ok-body.ensures.reads c.in_ok-take_word.ensures.takes is)
+pub arm-returns-in_err-body-clause-refuses : goal.arm-returns-in_err-body-clause-refuses
+arm-returns-in_err-body-clause-refuses t c =
+    let h : IfErr c.from_residual-in_err-body.result (RefusesScoped c.args.at (state c.args.tokens.now c.take_word.new.self) (state c.args.tokens.now c.scoped.new.self)) = search rules in
+    on_err c.from_residual-in_err-body.result h (λ fault refuses. arm_block_refused c.args.at _ _ _ _ _ _ fault c.in_ok-test.ensures.reads c.in_ok-take_word.ensures.takes refuses)
 
-pub for_loop-returns-clause-reads : goal.for_loop-returns-clause-reads
-for_loop-returns-clause-reads t c =
-    on_ok _ c.list_loop.ensures.reads (λ out reads. for_read _ _ _ _ _ _ _ _ c.in_ok-line.ensures.takes c.in_ok-names.ensures.reads reads)
-
-pub for_loop-returns-then-at_sign-clause-reads : goal.for_loop-returns-then-at_sign-clause-reads
-for_loop-returns-then-at_sign-clause-reads t c =
-    on_ok _ c.range_loop.ensures.reads (λ out reads. for_read _ _ _ _ _ _ _ _ c.in_ok-line.ensures.takes c.in_ok-names.ensures.reads reads)
-
-pub function_statement-returns-clause-reads : goal.function_statement-returns-clause-reads
-function_statement-returns-clause-reads t c =
-    on_ok _ c.define.ensures (λ out is. function_read _ _ _ _ _ _ _ _ _ c.in_ok-line.ensures.takes c.in_ok-name.ensures.reads (rw c.new.ensures.items at c.in_ok-number.ensures.reads) is)
-
-pub function_statement-returns-then-at_sign-clause-reads : goal.function_statement-returns-then-at_sign-clause-reads
-function_statement-returns-then-at_sign-clause-reads t c =
-    on_ok _ c.method_statement.ensures.reads (λ out reads. function_from _ _ _ _ _ _ c.in_ok-line.ensures.takes (reads _ c.in_ok-name.ensures.reads))
-
-pub if_statement-returns-clause-reads : goal.if_statement-returns-clause-reads
-if_statement-returns-clause-reads t c =
-    on_ok _ c.if_node-2.ensures (λ out is. if_read _ _ _ _ _ _ _ _ _ _ c.in_ok-line.ensures.takes c.in_ok-arms.ensures.reads c.in_ok-take_word-3.ensures.takes c.new.ensures.items is)
-
-pub if_statement-returns-then-at_word-clause-reads : goal.if_statement-returns-then-at_word-clause-reads
-if_statement-returns-then-at_word-clause-reads t c =
-    on_ok _ c.if_node.ensures (λ out is. if_else_read _ _ _ _ _ _ _ _ _ _ _ _ _ c.in_ok-line.ensures.takes c.in_ok-arms.ensures.reads c.in_ok-take_word.ensures.takes c.in_ok-otherwise.ensures.reads c.in_ok-take_word-2.ensures.takes is)
-
-pub initial-returns-clause-reads : goal.initial-returns-clause-reads
-initial-returns-clause-reads t c =
-    (c.in_ok-take_sign.field-0, state c.args.tokens.now c.take_sign.new.self, c.in_ok-take_sign.ensures.takes, c.in_ok-values.ensures.reads)
-
-pub step-returns-clause-reads : goal.step-returns-clause-reads
-step-returns-clause-reads t c =
-    (c.in_ok-take_sign.field-0, state c.args.tokens.now c.take_sign.new.self, c.in_ok-take_sign.ensures.takes, c.in_ok-step.ensures.reads)
-
-pub last-returns-clause-reads : goal.last-returns-clause-reads
-last-returns-clause-reads t c =
-    on_ok _ c.returned-2.ensures (λ out is. return_read _ _ _ _ _ _ _ c.in_ok-line.ensures.takes c.in_ok-values.ensures.reads is)
-
-pub last-returns-then-eq-clause-reads : goal.last-returns-then-eq-clause-reads
-last-returns-then-eq-clause-reads t c =
-    on_ok _ c.returned.ensures (λ out is. return_none_read _ _ _ _ _ _ c.in_ok-line.ensures.takes c.new.ensures.items is)
-
-pub list_loop-returns-clause-reads : goal.list_loop-returns-clause-reads
-list_loop-returns-clause-reads t c =
-    on_ok _ c.generic_for.ensures (list_read _ _ _ _ _ _ _ _ _ _ c.in_ok-take_word.ensures.takes c.in_ok-values.ensures.reads c.in_ok-block.ensures.reads)
-
-pub local_function-returns-clause-reads : goal.local_function-returns-clause-reads
-local_function-returns-clause-reads t c =
-    local_function_read _ _ _ _ _ _ _ _ _ _ _ _ _ c.in_ok-begins.ensures.takes c.in_ok-named.ensures.takes (declared c.args.tokens.now c.take_name.new.self c.local.new.self _ c.in_ok-slot.ensures.scope c.in_ok-slot.ensures.place c.in_ok-slot.ensures.line)
-    (rw c.new.ensures.items at c.in_ok-number.ensures.reads) (slot_state c.args.tokens.now c.take_name.new.self _ c.in_ok-slot.ensures.slot) refl
-
-pub local_names-returns-clause-reads : goal.local_names-returns-clause-reads
-local_names-returns-clause-reads t c =
-    on_ok _ c.local_node.ensures (λ out is. local_read _ _ _ _ _ _ _ _ _ _ c.in_ok-names.ensures.reads c.in_ok-values.ensures.reads
-    (declared c.args.tokens.now c.initial.new.self c.declare.new.self _ c.in_ok-slots.ensures.scope c.in_ok-slots.ensures.place c.in_ok-slots.ensures.line) (slots_state c.args.tokens.now c.initial.new.self _ _ c.in_ok-slots.ensures.slots) is)
-
-pub local_statement-returns-clause-reads : goal.local_statement-returns-clause-reads
-local_statement-returns-clause-reads t c =
-    on_ok _ c.local_names.ensures.reads (λ out reads. local_from _ _ _ _ _ _ c.in_ok-line.ensures.takes reads)
-
-pub local_statement-returns-then-at_word-clause-reads : goal.local_statement-returns-then-at_word-clause-reads
-local_statement-returns-then-at_word-clause-reads t c =
-    on_ok _ c.local_function.ensures.reads (λ out reads. local_from _ _ _ _ _ _ c.in_ok-line.ensures.takes reads)
-
-pub loop_block-returns-clause-reads : goal.loop_block-returns-clause-reads
-loop_block-returns-clause-reads t c =
-    loop_read _ _ _ _ _ _ _ _ _ _ _ _ _ c.in_ok-take_word.ensures.takes (declared c.args.tokens.now c.take_word.new.self c.declare.new.self _ c.in_ok-slots.ensures.scope c.in_ok-slots.ensures.place c.in_ok-slots.ensures.line)
-    (slots_state c.args.tokens.now c.take_word.new.self _ _ c.in_ok-slots.ensures.slots) c.looped.ensures c.in_ok-inner.ensures c.in_ok-body.ensures.reads
-    (left_since c.args.tokens.now c.take_word.new.self c.block.new.self c.leave.new.self c.in_scope-count.result c.in_scope-count.ensures.value c.leave.ensures.scope c.leave.ensures.place c.leave.ensures.line) c.in_ok-take_word-2.ensures.takes
-
-pub method_statement-returns-clause-reads : goal.method_statement-returns-clause-reads
-method_statement-returns-clause-reads t c =
-    let first : c.in_ok-first.first.items ≡ self_name ∷ [] = search rules in
-    on_ok _ c.define.ensures (method_read _ _ _ _ _ _ _ _ _ c.in_ok-name.ensures.reads first c.in_ok-number.ensures.reads)
-
-pub range_loop-returns-clause-reads : goal.range_loop-returns-clause-reads
-range_loop-returns-clause-reads t c =
-    let one : length c.args.names.items ≡ 1 = search rules in
-    on_ok _ c.numeric_for.ensures (range_read _ _ _ _ _ _ _ _ _ _ _ _ _ _ _ _ one c.in_ok-take_sign.ensures.takes c.in_ok-from.ensures.reads c.in_ok-take_sign-2.ensures.takes c.in_ok-to.ensures.reads c.in_ok-step.ensures.reads c.in_ok-block.ensures.reads)
-
-pub repeat_loop-returns-clause-reads : goal.repeat_loop-returns-clause-reads
-repeat_loop-returns-clause-reads t c =
-    on_ok _ c.repeat_node.ensures (λ out is. repeat_read _ _ _ _ _ _ _ _ _ _ _ _ _ _ c.in_ok-line.ensures.takes c.looped.ensures c.in_ok-inner.ensures c.in_ok-body.ensures.reads c.in_ok-take_word.ensures.takes c.in_ok-test.ensures.reads
-    (left_since c.args.tokens.now c.take_word.new.self c.value.new.self c.leave.new.self c.in_scope-count.result c.in_scope-count.ensures.value c.leave.ensures.scope c.leave.ensures.place c.leave.ensures.line) is)
-
-pub scoped-returns-clause-reads : goal.scoped-returns-clause-reads
-scoped-returns-clause-reads t c =
-    scoped_read _ _ _ _ _ _ c.in_ok-inner.ensures c.in_ok-block.ensures.reads
-    (left_since c.args.tokens.now c.args.self.now c.block.new.self c.leave.new.self c.in_scope-count.result c.in_scope-count.ensures.value c.leave.ensures.scope c.leave.ensures.place c.leave.ensures.line)
-
-pub value-returns-clause-reads : goal.value-returns-clause-reads
-value-returns-clause-reads t c =
-    value_read _ _ _ _ _ _ _ c.fresh.ensures c.in_ok-inner.ensures c.in_ok-built.ensures.reads c.into_expr.ensures
-
-pub values-returns-clause-reads : goal.values-returns-clause-reads
-values-returns-clause-reads t c =
-    values_read _ _ _ _ _ _ _ c.fresh.ensures c.in_ok-inner.ensures c.in_ok-values.ensures.reads (rw c.into_exprs.ensures refl)
-
-pub while_loop-returns-clause-reads : goal.while_loop-returns-clause-reads
-while_loop-returns-clause-reads t c =
-    on_ok _ c.while_node.ensures (λ out is. while_read _ _ _ _ _ _ _ _ _ _ _ _ _ _ c.in_ok-line.ensures.takes c.in_ok-test.ensures.reads c.in_ok-take_word.ensures.takes c.looped.ensures c.in_ok-body.ensures.reads c.in_ok-take_word-2.ensures.takes is)
-
-pub prefix_statement-returns-in-Call-clause-reads : goal.prefix_statement-returns-in-Call-clause-reads
-prefix_statement-returns-in-Call-clause-reads t c =
-    let form : c.in_ok-expr.field-0.form ≡ Call = cc in
-    call_read _ _ _ _ _ _ _ c.fresh.ensures c.in_ok-expr.ensures.reads c.in_ok-expr.ensures.stops form c.in_ok-line.ensures refl
-
-pub prefix_statement-returns-in-Variable-clause-reads : goal.prefix_statement-returns-in-Variable-clause-reads
-prefix_statement-returns-in-Variable-clause-reads t c =
-    let form : c.in_ok-expr.field-0.form ≡ Variable = cc in
-    let target = target_read c.args.at _ _ _ _ _ c.fresh.ensures c.in_ok-expr.ensures.reads form refl in
-    on_ok _ c.assignment.ensures.reads (first_assigned _ _ _ _ _ _ (vars_one _ _ _ _ _ _ target c.in_ok-line.ensures refl))
-
-pub targets-loop-alloc-preserved : goal.targets-loop-alloc-preserved
-targets-loop-alloc-preserved t c =
-    record {
-      forward = search rules;
-      reads = λ line s vars. vars_more _ _ _ _ _ _ _ _ _ _ (c.loop-alloc.invariant.reads line s vars) c.in_ok-take_sign.ensures.takes c.in_ok-next.ensures.reads c.in_ok-push.ensures.items;
-    }
+pub arm-returns-clause-refuses : goal.arm-returns-clause-refuses
+arm-returns-clause-refuses t c = on_memory _ _ c.arm_node.result (λ k not none. absurd none) c.arm_node.ensures
 
 pub arms-loop-alloc-init : goal.arms-loop-alloc-init
 arms-loop-alloc-init t c =
@@ -346,6 +621,37 @@ arms-loop-alloc-preserved t c =
       reads = λ line. arms_more _ _ _ _ _ _ _ _ _ _ (c.loop-alloc.invariant.reads line) c.in_ok-take_word.ensures.takes c.in_ok-next.ensures.reads c.in_ok-push.ensures.items;
     }
 
+pub arms-returns-in_err-first-clause-refuses : goal.arms-returns-in_err-first-clause-refuses
+arms-returns-in_err-first-clause-refuses t c =
+    let h : IfErr c.from_residual.result (RefusesArm c.args.at (state c.args.tokens.now c.args.self.now) (state c.args.tokens.now c.arm.new.self)) = search rules in
+    on_err c.from_residual.result h (λ fault refuses. first_arm_refused c.args.at _ _ fault refuses)
+
+pub arms-returns-in_err-arms-clause-refuses : goal.arms-returns-in_err-arms-clause-refuses
+arms-returns-in_err-arms-clause-refuses t c =
+    let h : IfErr c.from_residual-in_err-arms.result IsMemory = search rules in
+    on_want _ c.from_residual-in_err-arms.result (λ i k never none. absurd none) h
+
+pub arms-returns-in_err-next-clause-refuses : goal.arms-returns-in_err-next-clause-refuses
+arms-returns-in_err-next-clause-refuses t c =
+    let h : IfErr c.from_residual-in_err-next.result (RefusesArm c.args.at (state c.args.tokens.now c.take_word.new.self) (state c.args.tokens.now c.arm-in-loop-alloc.new.self)) = search rules in
+    on_err c.from_residual-in_err-next.result h (λ fault refuses. next_arm_refused c.args.at _ _ _ _ _ _ fault c.loop-alloc.invariant.reads c.in_ok-take_word.ensures.takes refuses)
+
+pub assignment-returns-clause-reads : goal.assignment-returns-clause-reads
+assignment-returns-clause-reads t c =
+    on_node _ c.assign_node.ensures (assign_behind _ _ _ _ _ _ _ _ _ _ c.in_ok-targets.ensures.reads c.in_ok-take_sign.ensures.takes c.in_ok-values.ensures.reads)
+
+pub assignment-returns-in_err-take_sign-clause-refuses : goal.assignment-returns-in_err-take_sign-clause-refuses
+assignment-returns-in_err-take_sign-clause-refuses t c =
+    let h : IfErr c.from_residual-in_err-take_sign.result (OnAt (Misses (IsKind (Sign sign.Assign)) (state c.args.tokens.now c.targets.new.self) (state c.args.tokens.now c.take_sign.new.self))) = search rules in
+    on_err c.from_residual-in_err-take_sign.result h (λ fault missing.
+    assignment_without_assign c.args.at _ _ fault _ _ _ c.in_ok-targets.ensures.reads c.in_ok-targets.ensures.stops missing)
+
+pub assignment-returns-in_err-values-clause-refuses : goal.assignment-returns-in_err-values-clause-refuses
+assignment-returns-in_err-values-clause-refuses t c =
+    let h : IfErr c.from_residual-in_err-values.result (RefusesValues c.args.at (state c.args.tokens.now c.take_sign.new.self) (state c.args.tokens.now c.values.new.self)) = search rules in
+    on_err c.from_residual-in_err-values.result h (λ fault refuses.
+    assigned_refused c.args.at _ _ _ fault _ _ _ _ c.in_ok-targets.ensures.reads c.in_ok-take_sign.ensures.takes refuses)
+
 pub block-loop-statements-init : goal.block-loop-statements-init
 block-loop-statements-init t c =
     record {
@@ -355,15 +661,660 @@ block-loop-statements-init t c =
 
 pub block-returns-in-Nothing-clause-reads : goal.block-returns-in-Nothing-clause-reads
 block-returns-in-Nothing-clause-reads t c =
-    block_open _ _ _ _ c.loop-statements.invariant.reads
+    block_open _ _ _ _ c.loop-statements.invariant.reads (block_end _ (sym c.begins.ensures ∙ c.in-Nothing.is))
 
 pub block-returns-in-Last-clause-reads : goal.block-returns-in-Last-clause-reads
 block-returns-in-Last-clause-reads t c =
-    block_last _ _ _ _ _ _ _ _ _ c.loop-statements.invariant.reads c.in_ok-last-in-Last.ensures.reads c.skip_sign.ensures.skips c.in_ok-push-in-Last.ensures.items
+    block_last _ _ _ _ _ _ _ _ _ c.loop-statements.invariant.reads c.in_ok-last-in-Last.ensures.reads c.skip_sign.ensures.skips c.skip_sign.ensures.missing c.in_ok-push-in-Last.ensures.items
 
 pub block-loop-statements-preserved : goal.block-loop-statements-preserved
 block-loop-statements-preserved t c =
     record {
       forward = search rules;
-      reads = stats_more _ _ _ _ _ _ _ _ _ c.loop-statements.invariant.reads c.in_ok-statement-in_default.ensures.reads c.skip_sign-in_default.ensures.skips c.in_ok-push-in_default.ensures.items;
+      reads = stats_more _ _ _ _ _ _ _ _ _ c.loop-statements.invariant.reads c.in_ok-statement-in_default.ensures.reads c.skip_sign-in_default.ensures.skips c.skip_sign-in_default.ensures.missing c.in_ok-push-in_default.ensures.items;
     }
+
+pub block-returns-in_err-last-in-Last-clause-refuses : goal.block-returns-in_err-last-in-Last-clause-refuses
+block-returns-in_err-last-in-Last-clause-refuses t c =
+    let next = sym c.begins.ensures ∙ c.in-Last.is in
+    let last : IfErr c.last.result (RefusesLast c.args.at (state c.args.tokens.now c.loop-statements.self) (state c.args.tokens.now c.last.new.self)) = c.last.ensures.refuses next in
+    let h : IfErr c.from_residual.result (RefusesLast c.args.at (state c.args.tokens.now c.loop-statements.self) (state c.args.tokens.now c.last.new.self)) = search rules in
+    on_err c.from_residual.result h (λ fault refuses. last_refused c.args.at _ _ _ _ fault c.loop-statements.invariant.reads next refuses)
+
+pub block-returns-in_err-statement-in_default-clause-refuses : goal.block-returns-in_err-statement-in_default-clause-refuses
+block-returns-in_err-statement-in_default-clause-refuses t c =
+    let some : IsStatement c.begins.result = is_statement _ c.in_default.not-Last c.in_default.not-Nothing in
+    let stat : IfErr c.statement.result (RefusesStat c.args.at (state c.args.tokens.now c.loop-statements.self) (state c.args.tokens.now c.statement.new.self)) = c.statement.ensures.refuses c.begins.ensures some in
+    let h : IfErr c.from_residual-in_err-statement-in_default.result (RefusesStat c.args.at (state c.args.tokens.now c.loop-statements.self) (state c.args.tokens.now c.statement.new.self)) = search rules in
+    on_err c.from_residual-in_err-statement-in_default.result h (λ fault refuses. stat_refused c.args.at _ _ _ _ fault c.loop-statements.invariant.reads (subst IsStatement c.begins.ensures some) refuses)
+
+pub body-returns-clause-reads : goal.body-returns-clause-reads
+body-returns-clause-reads t c =
+    let opens = enters_state c.args.tokens.now c.take_sign-2.new.self c.enter.new.self _ _ _ c.in_ok-begun.ensures.enters in
+    let same = turned c.args.tokens.now c.take_sign-2.new.self c.enter.new.self _ c.in_ok-begun.ensures.place c.in_ok-begun.ensures.line refl in
+    let done = turned c.args.tokens.now c.take_word.new.self c.end.new.self _ c.end.ensures.place c.end.ensures.line refl in
+    on_ok _ c.end.ensures.ends (λ number ends. body_read _ _ _ _ _ _ _ _ _ _ _ _ _ _ _ _ _ _ _ _ c.in_ok-take_sign.ensures.takes c.in_ok-parameters.ensures.reads c.in_ok-take_sign-2.ensures.takes opens same.left
+    c.in_ok-deeper.ensures c.of_function-inner.ensures c.in_ok-block.ensures.reads c.in_ok-take_word.ensures.takes (ends_state c.args.tokens.now c.take_word.new.self c.end.new.self _ _ _ ends) done.left)
+
+pub body-returns-in_err-take_sign-clause-refuses : goal.body-returns-in_err-take_sign-clause-refuses
+body-returns-in_err-take_sign-clause-refuses t c =
+    let h : IfErr c.from_residual.result (OnAt (Misses (IsKind (Sign sign.OpenParenthesis)) (state c.args.tokens.now c.args.self.now) (state c.args.tokens.now c.take_sign.new.self))) = search rules in
+    on_err c.from_residual.result h (λ fault missed. body_unopened c.args.at c.args.line c.args.first.items fault _ _ missed)
+
+pub body-returns-in_err-parameters-clause-refuses : goal.body-returns-in_err-parameters-clause-refuses
+body-returns-in_err-parameters-clause-refuses t c =
+    let h : IfErr c.from_residual-in_err-parameters.result (RefusesParameters c.args.first.items (state c.args.tokens.now c.take_sign.new.self) (state c.args.tokens.now c.parameters.new.self)) = search rules in
+    on_err c.from_residual-in_err-parameters.result h (λ fault refuses. parameters_refused c.args.at c.args.line c.args.first.items fault _ _ _ _ c.in_ok-take_sign.ensures.takes refuses)
+
+pub body-returns-in_err-take_sign-2-clause-refuses : goal.body-returns-in_err-take_sign-2-clause-refuses
+body-returns-in_err-take_sign-2-clause-refuses t c =
+    let h : IfErr c.from_residual-in_err-take_sign-2.result (OnAt (Misses (IsKind (Sign sign.CloseParenthesis)) (state c.args.tokens.now c.parameters.new.self) (state c.args.tokens.now c.take_sign-2.new.self))) = search rules in
+    on_err c.from_residual-in_err-take_sign-2.result h (λ fault missed.
+    parameters_unclosed c.args.at c.args.line c.args.first.items fault _ _ _ _ _ _ c.in_ok-take_sign.ensures.takes c.in_ok-parameters.ensures.reads missed)
+
+pub body-returns-in_err-deeper-clause-refuses : goal.body-returns-in_err-deeper-clause-refuses
+body-returns-in_err-deeper-clause-refuses t c =
+    let h : IfErr c.from_residual-in_err-deeper.result (IsTooDeep c.args.at (state c.args.tokens.now c.enter.new.self)) = search rules in
+    let opens = enters_state c.args.tokens.now c.take_sign-2.new.self c.enter.new.self _ _ _ c.in_ok-begun.ensures.enters in
+    let same = turned c.args.tokens.now c.take_sign-2.new.self c.enter.new.self _ c.in_ok-begun.ensures.place c.in_ok-begun.ensures.line refl in
+    let begins = begins_body _ _ _ _ _ _ _ _ _ _ _ c.in_ok-take_sign.ensures.takes c.in_ok-parameters.ensures.reads c.in_ok-take_sign-2.ensures.takes opens same.left in
+    on_err c.from_residual-in_err-deeper.result h (λ fault deep. body_too_deep c.args.at c.args.line c.args.first.items _ fault _ _ begins deep)
+
+pub body-returns-in_err-block-clause-refuses : goal.body-returns-in_err-block-clause-refuses
+body-returns-in_err-block-clause-refuses t c =
+    let h : IfErr c.from_residual-in_err-block.result (RefusesBlock c.of_function-inner.result (state c.args.tokens.now c.enter.new.self) (state c.args.tokens.now c.block.new.self)) = search rules in
+    let opens = enters_state c.args.tokens.now c.take_sign-2.new.self c.enter.new.self _ _ _ c.in_ok-begun.ensures.enters in
+    let same = turned c.args.tokens.now c.take_sign-2.new.self c.enter.new.self _ c.in_ok-begun.ensures.place c.in_ok-begun.ensures.line refl in
+    let begins = begins_body _ _ _ _ _ _ _ _ _ _ _ c.in_ok-take_sign.ensures.takes c.in_ok-parameters.ensures.reads c.in_ok-take_sign-2.ensures.takes opens same.left in
+    on_err c.from_residual-in_err-block.result h (λ fault refuses.
+    body_block_refused c.args.at c.in_ok-deeper.field-0 c.of_function-inner.result c.args.line c.args.first.items _ fault _ _ _ begins c.in_ok-deeper.ensures c.of_function-inner.ensures refuses)
+
+pub body-returns-in_err-take_word-clause-refuses : goal.body-returns-in_err-take_word-clause-refuses
+body-returns-in_err-take_word-clause-refuses t c =
+    let h : IfErr c.from_residual-in_err-take_word.result (OnAt (Misses (IsKind (Word word.End)) (state c.args.tokens.now c.block.new.self) (state c.args.tokens.now c.take_word.new.self))) = search rules in
+    let opens = enters_state c.args.tokens.now c.take_sign-2.new.self c.enter.new.self _ _ _ c.in_ok-begun.ensures.enters in
+    let same = turned c.args.tokens.now c.take_sign-2.new.self c.enter.new.self _ c.in_ok-begun.ensures.place c.in_ok-begun.ensures.line refl in
+    let begins = begins_body _ _ _ _ _ _ _ _ _ _ _ c.in_ok-take_sign.ensures.takes c.in_ok-parameters.ensures.reads c.in_ok-take_sign-2.ensures.takes opens same.left in
+    on_err c.from_residual-in_err-take_word.result h (λ fault missed.
+    body_unended c.args.at c.of_function-inner.result c.args.line c.args.first.items _ fault _ _ _ _ _ begins c.in_ok-block.ensures.reads missed)
+
+pub body-returns-clause-refuses : goal.body-returns-clause-refuses
+body-returns-clause-refuses t c = on_want _ c.end.result (λ k never none. absurd none) (search rules)
+
+pub do_block-returns-clause-reads : goal.do_block-returns-clause-reads
+do_block-returns-clause-reads t c =
+    on_node _ c.do_node.ensures (λ out is. do_read _ _ _ _ _ _ _ _ _ c.in_ok-line.ensures.takes c.in_ok-body.ensures.reads c.in_ok-take_word.ensures.takes is)
+
+pub do_block-returns-in_err-line-clause-refuses : goal.do_block-returns-in_err-line-clause-refuses
+do_block-returns-in_err-line-clause-refuses t c = λ next.
+    let h : IfErr c.from_residual.result (OnAt (Misses (IsKind (Word word.Do)) (state c.args.tokens.now c.args.self.now) (state c.args.tokens.now c.take_word.new.self))) = search rules in
+    on_err c.from_residual.result h (λ fault missed k never suppose. never_missed_ahead fault _ (token (statement k)) (IsKind (Word word.Do)) _ _ missed suppose (λ is. cc) next)
+
+pub do_block-returns-in_err-body-clause-refuses : goal.do_block-returns-in_err-body-clause-refuses
+do_block-returns-in_err-body-clause-refuses t c = λ next.
+    let h : IfErr c.from_residual-in_err-body.result (RefusesScoped c.args.at (state c.args.tokens.now c.take_word.new.self) (state c.args.tokens.now c.scoped.new.self)) = search rules in
+    on_err c.from_residual-in_err-body.result h (λ fault refuses. do_refused c.args.at _ _ _ _ fault c.in_ok-line.ensures.takes refuses)
+
+pub do_block-returns-in_err-take_word-clause-refuses : goal.do_block-returns-in_err-take_word-clause-refuses
+do_block-returns-in_err-take_word-clause-refuses t c = λ next.
+    let h : IfErr c.from_residual-in_err-take_word.result (OnAt (Misses (IsKind (Word word.End)) (state c.args.tokens.now c.scoped.new.self) (state c.args.tokens.now c.take_word-2.new.self))) = search rules in
+    on_err c.from_residual-in_err-take_word.result h (λ fault missed. do_end_refused c.args.at _ _ _ _ _ _ fault c.in_ok-line.ensures.takes c.in_ok-body.ensures.reads missed)
+
+pub do_block-returns-clause-refuses : goal.do_block-returns-clause-refuses
+do_block-returns-clause-refuses t c = λ next. on_memory _ _ c.do_node.result (λ k never none. absurd none) c.do_node.ensures
+
+pub for_loop-returns-clause-reads : goal.for_loop-returns-clause-reads
+for_loop-returns-clause-reads t c =
+    on_ok _ c.list_loop.ensures.reads (λ out reads. for_read _ _ _ _ _ _ _ _ c.in_ok-line.ensures.takes c.in_ok-names.ensures.reads reads)
+
+pub for_loop-returns-then-at_sign-clause-reads : goal.for_loop-returns-then-at_sign-clause-reads
+for_loop-returns-then-at_sign-clause-reads t c =
+    on_ok _ c.range_loop.ensures.reads (λ out reads. for_read _ _ _ _ _ _ _ _ c.in_ok-line.ensures.takes c.in_ok-names.ensures.reads reads)
+
+pub for_loop-returns-in_err-names-clause-refuses : goal.for_loop-returns-in_err-names-clause-refuses
+for_loop-returns-in_err-names-clause-refuses t c = λ next.
+    let h : IfErr c.from_residual-in_err-names.result (RefusesNames c.in_scope-count.result (state c.args.tokens.now c.take_word.new.self) (state c.args.tokens.now c.names.new.self)) = search rules in
+    on_err c.from_residual-in_err-names.result h (λ fault refuses.
+    for_names_refused c.args.at _ c.in_scope-count.result fault _ _ _ _ _ (innermost c.args.tokens.now c.args.self.now) c.in_ok-line.ensures.takes
+    (slot_state c.args.tokens.now c.take_word.new.self _ c.in_scope-count.ensures.value) refuses)
+
+pub for_loop-returns-then-at_sign-clause-refuses : goal.for_loop-returns-then-at_sign-clause-refuses
+for_loop-returns-then-at_sign-clause-refuses t c = λ next.
+    let assign : IsNext (Sign sign.Assign) (state c.args.tokens.now c.names.new.self) = search rules in
+    on_err c.range_loop.result (c.range_loop.ensures.refuses assign) (λ fault refuses.
+    for_tail_refused c.args.at _ _ fault _ _ _ _ c.in_ok-line.ensures.takes c.in_ok-names.ensures.reads c.in_ok-names.ensures.stops refuses)
+
+pub for_loop-returns-clause-refuses : goal.for_loop-returns-clause-refuses
+for_loop-returns-clause-refuses t c = λ next.
+    let other : IsNext (Sign sign.Assign) (state c.args.tokens.now c.names.new.self) → ⊥ = search rules in
+    on_err c.list_loop.result (c.list_loop.ensures.refuses other) (λ fault refuses.
+    for_tail_refused c.args.at _ _ fault _ _ _ _ c.in_ok-line.ensures.takes c.in_ok-names.ensures.reads c.in_ok-names.ensures.stops refuses)
+
+pub function_statement-returns-clause-reads : goal.function_statement-returns-clause-reads
+function_statement-returns-clause-reads t c =
+    on_node _ c.define.ensures (λ out is. function_read _ _ _ _ _ _ _ _ _ c.in_ok-line.ensures.takes c.in_ok-name.ensures.reads (rw c.new.ensures.items at c.in_ok-number.ensures.reads) is)
+
+pub function_statement-returns-then-at_sign-clause-reads : goal.function_statement-returns-then-at_sign-clause-reads
+function_statement-returns-then-at_sign-clause-reads t c =
+    on_ok _ c.method_statement.ensures.reads (λ out reads. function_from _ _ _ _ _ _ c.in_ok-line.ensures.takes (reads _ c.in_ok-name.ensures.reads))
+
+pub function_statement-returns-in_err-line-clause-refuses : goal.function_statement-returns-in_err-line-clause-refuses
+function_statement-returns-in_err-line-clause-refuses t c = λ next.
+    let h : IfErr c.from_residual.result (OnAt (Misses (IsKind (Word word.Function)) (state c.args.tokens.now c.args.self.now) (state c.args.tokens.now c.take_word.new.self))) = search rules in
+    on_err c.from_residual.result h (λ fault missed. function_word c.args.at fault _ _ next missed)
+
+pub function_statement-returns-in_err-name-clause-refuses : goal.function_statement-returns-in_err-name-clause-refuses
+function_statement-returns-in_err-name-clause-refuses t c = λ next.
+    let h : IfErr c.from_residual-in_err-name.result (RefusesFuncName c.args.at (state c.args.tokens.now c.take_word.new.self) (state c.args.tokens.now c.function_name.new.self)) = search rules in
+    on_err c.from_residual-in_err-name.result h (λ fault refuses. function_name_refused c.args.at fault _ _ _ _ c.in_ok-line.ensures.takes refuses)
+
+pub function_statement-returns-then-at_sign-clause-refuses : goal.function_statement-returns-then-at_sign-clause-refuses
+function_statement-returns-then-at_sign-clause-refuses t c = λ next.
+    on_err c.method_statement.result (c.method_statement.ensures.refuses (c.at_sign.ensures.0 c.if-at_sign.true)) (λ fault refuses.
+    method_statement_refused c.args.at fault _ _ _ _ _ c.in_ok-name.name c.in_ok-line.ensures.takes c.in_ok-name.ensures.reads c.in_ok-name.ensures.stops refuses)
+
+pub function_statement-returns-in_err-number-clause-refuses : goal.function_statement-returns-in_err-number-clause-refuses
+function_statement-returns-in_err-number-clause-refuses t c = λ next.
+    let h : IfErr c.from_residual-in_err-number.result (RefusesBody c.args.at c.in_ok-line.line c.new.result.items (state c.args.tokens.now c.function_name.new.self) (state c.args.tokens.now c.body.new.self)) = search rules in
+    on_err c.from_residual-in_err-number.result h (λ fault refuses.
+    function_body_refused c.args.at c.new.result.items fault _ _ _ _ _ c.in_ok-name.name c.in_ok-line.ensures.takes c.in_ok-name.ensures.reads c.in_ok-name.ensures.stops (untested _ _ c.if-at_sign.false c.at_sign.ensures) c.new.ensures.items refuses)
+
+pub function_statement-returns-clause-refuses : goal.function_statement-returns-clause-refuses
+function_statement-returns-clause-refuses t c = λ next. on_memory _ _ c.define.result (λ k never none. absurd none) c.define.ensures
+
+pub if_statement-returns-clause-reads : goal.if_statement-returns-clause-reads
+if_statement-returns-clause-reads t c =
+    on_node _ c.if_node-2.ensures (λ out is. if_read _ _ _ _ _ _ _ _ _ _ c.in_ok-line.ensures.takes c.in_ok-arms.ensures.reads c.in_ok-take_word-3.ensures.takes c.new.ensures.items is)
+
+pub if_statement-returns-then-at_word-clause-reads : goal.if_statement-returns-then-at_word-clause-reads
+if_statement-returns-then-at_word-clause-reads t c =
+    on_node _ c.if_node.ensures (λ out is. if_else_read _ _ _ _ _ _ _ _ _ _ _ _ _ c.in_ok-line.ensures.takes c.in_ok-arms.ensures.reads c.in_ok-take_word.ensures.takes c.in_ok-otherwise.ensures.reads c.in_ok-take_word-2.ensures.takes is)
+
+pub if_statement-returns-in_err-line-clause-refuses : goal.if_statement-returns-in_err-line-clause-refuses
+if_statement-returns-in_err-line-clause-refuses t c = λ next.
+    let h : IfErr c.from_residual.result (OnAt (Misses (IsKind (Word word.If)) (state c.args.tokens.now c.args.self.now) (state c.args.tokens.now c.take_word.new.self))) = search rules in
+    on_err c.from_residual.result h (λ fault missed k never suppose. never_missed_ahead fault _ (token (statement k)) (IsKind (Word word.If)) _ _ missed suppose (λ is. cc) next)
+
+pub if_statement-returns-in_err-arms-clause-refuses : goal.if_statement-returns-in_err-arms-clause-refuses
+if_statement-returns-in_err-arms-clause-refuses t c = λ next.
+    let h : IfErr c.from_residual-in_err-arms.result (RefusesArms c.args.at (state c.args.tokens.now c.take_word.new.self) (state c.args.tokens.now c.arms.new.self)) = search rules in
+    on_err c.from_residual-in_err-arms.result h (λ fault refuses. arms_refused c.args.at _ _ _ _ fault c.in_ok-line.ensures.takes refuses)
+
+pub if_statement-returns-in_err-take_word-3-clause-refuses : goal.if_statement-returns-in_err-take_word-3-clause-refuses
+if_statement-returns-in_err-take_word-3-clause-refuses t c = λ next.
+    let h : IfErr c.from_residual-in_err-take_word-3.result (OnAt (Misses (IsKind (Word word.End)) (state c.args.tokens.now c.arms.new.self) (state c.args.tokens.now c.take_word-2.new.self))) = search rules in
+    on_err c.from_residual-in_err-take_word-3.result h (λ fault missed. end_refused c.args.at _ _ _ _ _ _ fault c.in_ok-line.ensures.takes c.in_ok-arms.ensures.reads c.in_ok-arms.ensures.stops (untested _ _ c.if-at_word.false c.at_word.ensures) missed)
+
+pub if_statement-returns-clause-refuses : goal.if_statement-returns-clause-refuses
+if_statement-returns-clause-refuses t c = λ next. on_memory _ _ c.if_node-2.result (λ k never none. absurd none) c.if_node-2.ensures
+
+pub if_statement-returns-then-at_word-clause-refuses : goal.if_statement-returns-then-at_word-clause-refuses
+if_statement-returns-then-at_word-clause-refuses t c = λ next. on_memory _ _ c.if_node.result (λ k never none. absurd none) c.if_node.ensures
+
+pub if_statement-returns-in_err-otherwise-clause-refuses : goal.if_statement-returns-in_err-otherwise-clause-refuses
+if_statement-returns-in_err-otherwise-clause-refuses t c = λ next.
+    let h : IfErr c.from_residual-in_err-otherwise.result (RefusesScoped c.args.at (state c.args.tokens.now c.take_word-then-at_word.new.self) (state c.args.tokens.now c.scoped.new.self)) = search rules in
+    on_err c.from_residual-in_err-otherwise.result h (λ fault refuses. else_refused c.args.at _ _ _ _ _ _ _ _ fault c.in_ok-line.ensures.takes c.in_ok-arms.ensures.reads c.in_ok-take_word.ensures.takes refuses)
+
+pub if_statement-returns-in_err-take_word-2-clause-refuses : goal.if_statement-returns-in_err-take_word-2-clause-refuses
+if_statement-returns-in_err-take_word-2-clause-refuses t c = λ next.
+    let h : IfErr c.from_residual-in_err-take_word-2.result (OnAt (Misses (IsKind (Word word.End)) (state c.args.tokens.now c.scoped.new.self) (state c.args.tokens.now c.take_word-then-at_word-2.new.self))) = search rules in
+    on_err c.from_residual-in_err-take_word-2.result h (λ fault missed. else_end_refused c.args.at _ _ _ _ _ _ _ _ _ _ fault c.in_ok-line.ensures.takes c.in_ok-arms.ensures.reads c.in_ok-take_word.ensures.takes c.in_ok-otherwise.ensures.reads missed)
+
+pub initial-returns-clause-reads : goal.initial-returns-clause-reads
+initial-returns-clause-reads t c =
+    (c.in_ok-take_sign.field-0, state c.args.tokens.now c.take_sign.new.self, c.in_ok-take_sign.ensures.takes, c.in_ok-values.ensures.reads)
+
+pub initial-returns-in_err-values-clause-refuses : goal.initial-returns-in_err-values-clause-refuses
+initial-returns-in_err-values-clause-refuses t c =
+    let h : IfErr c.from_residual-in_err-values.result (RefusesValues c.args.at (state c.args.tokens.now c.take_sign.new.self) (state c.args.tokens.now c.values.new.self)) = search rules in
+    on_err c.from_residual-in_err-values.result h (λ fault refuses. initial_refused c.args.at fault _ _ _ _ c.in_ok-take_sign.ensures.takes refuses)
+
+pub last-returns-clause-reads : goal.last-returns-clause-reads
+last-returns-clause-reads t c =
+    on_node _ c.returned-2.ensures (λ out is. return_read _ _ _ _ _ _ _ c.in_ok-line.ensures.takes c.in_ok-values.ensures.reads is)
+
+pub last-returns-then-eq-clause-reads : goal.last-returns-then-eq-clause-reads
+last-returns-then-eq-clause-reads t c =
+    on_node _ c.returned.ensures (λ out is. return_none_read _ _ _ _ _ _ c.in_ok-line.ensures.takes c.new.ensures.items (elim c.then-eq.branch [
+      | last-then-eq-via-then-eq w ↦ nothing_returned _ (sym c.begins.ensures ∙ search (rules, w.if-eq.true))
+      | last-then-eq-via-else-eq+then-at_sign w ↦ semicolon_next _ (w.at_sign.ensures.0 w.if-at_sign.true)
+    ]) is)
+
+pub last-returns-in_err-values-clause-refuses : goal.last-returns-in_err-values-clause-refuses
+last-returns-in_err-values-clause-refuses t c = λ is.
+    let next = values_next (state c.args.tokens.now c.take_word.new.self).left (λ none. let same : c.begins.result ≡ begins.Nothing = c.begins.ensures ∙ none in let e : false ≡ true = sym c.if-eq.false ∙ c.eq.ensures ∙ (rw same refl) in cc) (untested _ _ c.if-at_sign.false c.at_sign.ensures) in
+    let h : IfErr c.from_residual-in_err-values.result (RefusesValues c.args.at (state c.args.tokens.now c.take_word.new.self) (state c.args.tokens.now c.values.new.self)) = search rules in
+    on_err c.from_residual-in_err-values.result h (λ fault refuses. returned_refused c.args.at _ _ _ _ fault c.in_ok-line.ensures.takes next refuses)
+
+pub last-returns-in_err-line-clause-refuses : goal.last-returns-in_err-line-clause-refuses
+last-returns-in_err-line-clause-refuses t c = λ is.
+    let next = return_next (state c.args.tokens.now c.args.self.now).left is (untested _ _ c.if-at_word.false c.at_word.ensures) in
+    let h : IfErr c.from_residual.result (OnAt (Misses (IsKind (Word word.Return)) (state c.args.tokens.now c.args.self.now) (state c.args.tokens.now c.take_word.new.self))) = search rules in
+    on_err c.from_residual.result h (λ fault missed k suppose. never_missed fault _ (token (last k)) (IsKind (Word word.Return)) _ _ missed suppose next)
+
+pub last-returns-then-at_word-clause-refuses : goal.last-returns-then-at_word-clause-refuses
+last-returns-then-at_word-clause-refuses t c = λ is. c.break_statement.ensures.refuses (c.at_word.ensures.0 c.if-at_word.true)
+
+pub last-returns-then-eq-clause-refuses : goal.last-returns-then-eq-clause-refuses
+last-returns-then-eq-clause-refuses t c = λ is. on_memory _ _ c.returned.result (λ k none. absurd none) c.returned.ensures
+
+pub last-returns-clause-refuses : goal.last-returns-clause-refuses
+last-returns-clause-refuses t c = λ is. on_memory _ _ c.returned-2.result (λ k none. absurd none) c.returned-2.ensures
+
+pub list_loop-returns-clause-reads : goal.list_loop-returns-clause-reads
+list_loop-returns-clause-reads t c =
+    on_node _ c.generic_for.ensures (list_read _ _ _ _ _ _ _ _ _ _ c.in_ok-take_word.ensures.takes c.in_ok-values.ensures.reads c.in_ok-block.ensures.reads)
+
+pub list_loop-returns-in_err-take_word-clause-refuses : goal.list_loop-returns-in_err-take_word-clause-refuses
+list_loop-returns-in_err-take_word-clause-refuses t c = λ other.
+    let h : IfErr c.from_residual.result (OnAt (Misses (IsKind (Word word.In)) (state c.args.tokens.now c.args.self.now) (state c.args.tokens.now c.take_word.new.self))) = search rules in
+    on_err c.from_residual.result h (λ fault refuses. list_without_in c.args.at c.args.names.items fault _ _ other refuses)
+
+pub list_loop-returns-in_err-values-clause-refuses : goal.list_loop-returns-in_err-values-clause-refuses
+list_loop-returns-in_err-values-clause-refuses t c = λ other.
+    let h : IfErr c.from_residual-in_err-values.result (RefusesValues c.args.at (state c.args.tokens.now c.take_word.new.self) (state c.args.tokens.now c.values.new.self)) = search rules in
+    on_err c.from_residual-in_err-values.result h (λ fault refuses. list_refused c.args.at c.args.names.items _ fault _ _ _ c.in_ok-take_word.ensures.takes refuses)
+
+pub list_loop-returns-in_err-block-clause-refuses : goal.list_loop-returns-in_err-block-clause-refuses
+list_loop-returns-in_err-block-clause-refuses t c = λ other.
+    let h : IfErr c.from_residual-in_err-block.result (RefusesLoop c.args.at c.args.names.items (state c.args.tokens.now c.values.new.self) (state c.args.tokens.now c.loop_block.new.self)) = search rules in
+    on_err c.from_residual-in_err-block.result h (λ fault refuses. list_block_refused c.args.at c.args.names.items _ fault _ _ _ _ _ c.in_ok-take_word.ensures.takes c.in_ok-values.ensures.reads refuses)
+
+pub local_function-returns-clause-reads : goal.local_function-returns-clause-reads
+local_function-returns-clause-reads t c =
+    local_function_read _ _ _ _ _ _ _ _ _ _ _ _ _ c.in_ok-begins.ensures.takes c.in_ok-named.ensures.takes (declared c.args.tokens.now c.take_name.new.self c.local.new.self _ c.in_ok-slot.ensures.scope c.in_ok-slot.ensures.place c.in_ok-slot.ensures.line)
+    (rw c.new.ensures.items at c.in_ok-number.ensures.reads) (slot_state c.args.tokens.now c.take_name.new.self _ c.in_ok-slot.ensures.slot) refl
+
+pub local_function-returns-in_err-begins-clause-refuses : goal.local_function-returns-in_err-begins-clause-refuses
+local_function-returns-in_err-begins-clause-refuses t c = λ next.
+    let h : IfErr c.from_residual.result (OnAt (Misses (IsKind (Word word.Function)) (state c.args.tokens.now c.args.self.now) (state c.args.tokens.now c.take_word.new.self))) = search rules in
+    on_err c.from_residual.result h (λ fault missed. local_function_word c.args.at fault _ _ next missed)
+
+pub local_function-returns-in_err-named-clause-refuses : goal.local_function-returns-in_err-named-clause-refuses
+local_function-returns-in_err-named-clause-refuses t c = λ next.
+    let h : IfErr c.from_residual-in_err-named.result (OnAt (Misses IsName (state c.args.tokens.now c.take_word.new.self) (state c.args.tokens.now c.take_name.new.self))) = search rules in
+    on_err c.from_residual-in_err-named.result h (λ fault missed. local_function_unnamed c.args.at fault _ _ _ _ c.in_ok-begins.ensures.takes missed)
+
+pub local_function-returns-in_err-slot-clause-refuses : goal.local_function-returns-in_err-slot-clause-refuses
+local_function-returns-in_err-slot-clause-refuses t c = λ next.
+    let h : IfErr c.from_residual-in_err-slot.result (OnLocals (200 ≤ in_scope (scope_of c.take_name.new.self))) = search rules in
+    let same = turned c.args.tokens.now c.take_name.new.self c.local.new.self _ c.local.ensures.place c.local.ensures.line refl in
+    on_err c.from_residual-in_err-slot.result h (λ fault many.
+    local_function_crowded c.args.at fault _ _ (state c.args.tokens.now c.take_name.new.self) _ _ _ c.in_ok-named.named.name c.in_ok-begins.ensures.takes c.in_ok-named.ensures.takes same.left (locals_state c.args.tokens.now c.take_name.new.self fault many))
+
+pub local_function-returns-in_err-number-clause-refuses : goal.local_function-returns-in_err-number-clause-refuses
+local_function-returns-in_err-number-clause-refuses t c = λ next.
+    let h : IfErr c.from_residual-in_err-number.result (RefusesBody c.args.at c.in_ok-begins.begins c.new.result.items (state c.args.tokens.now c.local.new.self) (state c.args.tokens.now c.body.new.self)) = search rules in
+    let turn = declared c.args.tokens.now c.take_name.new.self c.local.new.self _ c.in_ok-slot.ensures.scope c.in_ok-slot.ensures.place c.in_ok-slot.ensures.line in
+    on_err c.from_residual-in_err-number.result h (λ fault refuses.
+    local_body_refused c.args.at c.new.result.items fault _ _ _ _ _ _ _ c.in_ok-named.named.name c.in_ok-begins.ensures.takes c.in_ok-named.ensures.takes turn c.new.ensures.items refuses)
+
+pub local_names-returns-clause-reads : goal.local_names-returns-clause-reads
+local_names-returns-clause-reads t c =
+    on_node _ c.local_node.ensures (λ out is. local_read _ _ _ _ _ _ _ _ _ _ c.in_ok-names.ensures.reads c.in_ok-values.ensures.reads
+    (declared c.args.tokens.now c.initial.new.self c.declare.new.self _ c.in_ok-slots.ensures.scope c.in_ok-slots.ensures.place c.in_ok-slots.ensures.line) (slots_state c.args.tokens.now c.initial.new.self _ _ c.in_ok-slots.ensures.slots) is
+    c.in_ok-names.ensures.stops c.in_ok-values.ensures.missing)
+
+pub local_names-returns-in_err-names-clause-refuses : goal.local_names-returns-in_err-names-clause-refuses
+local_names-returns-in_err-names-clause-refuses t c = λ plain.
+    let h : IfErr c.from_residual.result (RefusesNames c.in_scope-count.result (state c.args.tokens.now c.args.self.now) (state c.args.tokens.now c.names.new.self)) = search rules in
+    on_err c.from_residual.result h (λ fault refuses.
+    local_names_refused c.args.at c.in_scope-count.result fault _ _ (inside c.args.tokens.now c.args.self.now) (slot_state c.args.tokens.now c.args.self.now _ c.in_scope-count.ensures.value) plain refuses)
+
+pub local_names-returns-in_err-values-clause-refuses : goal.local_names-returns-in_err-values-clause-refuses
+local_names-returns-in_err-values-clause-refuses t c = λ plain.
+    let h : IfErr c.from_residual-in_err-values.result (RefusesInitial c.args.at (state c.args.tokens.now c.names.new.self) (state c.args.tokens.now c.initial.new.self)) = search rules in
+    on_err c.from_residual-in_err-values.result h (λ fault refuses.
+    local_values_refused c.args.at fault _ _ _ _ c.in_ok-names.ensures.reads c.in_ok-names.ensures.stops refuses)
+
+pub local_names-returns-in_err-slots-clause-refuses : goal.local_names-returns-in_err-slots-clause-refuses
+local_names-returns-in_err-slots-clause-refuses t c = λ plain.
+    let h : IfErr c.from_residual-in_err-slots.result (OnLocals (200 < in_scope (scope_of c.initial.new.self) + length c.in_ok-names.names.items)) = search rules in
+    let few : c.in_scope-count.result + length c.in_ok-names.names.items ≤ 200 = search (rules, arith) in
+    on_err c.from_residual-in_err-slots.result h (λ fault many.
+    locals_declared c.args.at c.in_scope-count.result fault _ _ _ _ c.in_ok-names.names.items _ (slot_state c.args.tokens.now c.args.self.now _ c.in_scope-count.ensures.value) c.in_ok-names.ensures.reads c.in_ok-values.ensures.reads few
+    (declared_state c.args.tokens.now c.initial.new.self c.in_ok-names.names.items fault many))
+
+pub local_names-returns-clause-refuses : goal.local_names-returns-clause-refuses
+local_names-returns-clause-refuses t c = λ plain. on_memory _ _ c.local_node.result (λ l k never none. absurd none) c.local_node.ensures
+
+pub local_statement-returns-clause-reads : goal.local_statement-returns-clause-reads
+local_statement-returns-clause-reads t c =
+    on_ok _ c.local_names.ensures.reads (λ out reads. local_from _ _ _ _ _ _ c.in_ok-line.ensures.takes reads)
+
+pub local_statement-returns-then-at_word-clause-reads : goal.local_statement-returns-then-at_word-clause-reads
+local_statement-returns-then-at_word-clause-reads t c =
+    on_ok _ c.local_function.ensures.reads (λ out reads. local_from _ _ _ _ _ _ c.in_ok-line.ensures.takes reads)
+
+pub local_statement-returns-in_err-line-clause-refuses : goal.local_statement-returns-in_err-line-clause-refuses
+local_statement-returns-in_err-line-clause-refuses t c = λ next.
+    let h : IfErr c.from_residual.result (OnAt (Misses (IsKind (Word word.Local)) (state c.args.tokens.now c.args.self.now) (state c.args.tokens.now c.take_word.new.self))) = search rules in
+    on_err c.from_residual.result h (λ fault missed. local_word c.args.at fault _ _ next missed)
+
+pub local_statement-returns-then-at_word-clause-refuses : goal.local_statement-returns-then-at_word-clause-refuses
+local_statement-returns-then-at_word-clause-refuses t c = λ next.
+    on_err c.local_function.result (c.local_function.ensures.refuses (c.at_word.ensures.0 c.if-at_word.true)) (λ fault refuses.
+    local_refused c.args.at fault _ _ _ _ c.in_ok-line.ensures.takes refuses)
+
+pub local_statement-returns-clause-refuses : goal.local_statement-returns-clause-refuses
+local_statement-returns-clause-refuses t c = λ next.
+    on_err c.local_names.result (c.local_names.ensures.refuses (untested _ _ c.if-at_word.false c.at_word.ensures)) (λ fault refuses.
+    local_refused c.args.at fault _ _ _ _ c.in_ok-line.ensures.takes refuses)
+
+pub loop_block-returns-clause-reads : goal.loop_block-returns-clause-reads
+loop_block-returns-clause-reads t c =
+    loop_read _ _ _ _ _ _ _ _ _ _ _ _ _ c.in_ok-take_word.ensures.takes (declared c.args.tokens.now c.take_word.new.self c.declare.new.self _ c.in_ok-slots.ensures.scope c.in_ok-slots.ensures.place c.in_ok-slots.ensures.line)
+    (slots_state c.args.tokens.now c.take_word.new.self _ _ c.in_ok-slots.ensures.slots) c.looped.ensures c.in_ok-inner.ensures c.in_ok-body.ensures.reads
+    (left_since c.args.tokens.now c.take_word.new.self c.block.new.self c.leave.new.self c.in_scope-count.result c.in_scope-count.ensures.value c.leave.ensures.scope c.leave.ensures.place c.leave.ensures.line) c.in_ok-take_word-2.ensures.takes
+
+pub loop_block-returns-in_err-take_word-clause-refuses : goal.loop_block-returns-in_err-take_word-clause-refuses
+loop_block-returns-in_err-take_word-clause-refuses t c =
+    let h : IfErr c.from_residual.result (OnAt (Misses (IsKind (Word word.Do)) (state c.args.tokens.now c.args.self.now) (state c.args.tokens.now c.take_word.new.self))) = search rules in
+    on_err c.from_residual.result h (λ fault missing. loop_without_do c.args.at c.args.names.items fault _ _ missing)
+
+pub loop_block-returns-in_err-slots-clause-refuses : goal.loop_block-returns-in_err-slots-clause-refuses
+loop_block-returns-in_err-slots-clause-refuses t c =
+    let h : IfErr c.from_residual-in_err-slots.result (OnLocals (200 < in_scope (scope_of c.take_word.new.self) + length c.args.names.items)) = search rules in
+    on_err c.from_residual-in_err-slots.result h (λ fault crowded.
+    loop_crowded c.args.at c.args.names.items _ fault _ _ _ _ _ (innermost c.args.tokens.now c.args.self.now) c.in_ok-take_word.ensures.takes
+    (unread c.args.tokens.now c.take_word.new.self c.declare.new.self c.in_err-slots.ensures.place) (crowded_there c.args.tokens.now c.take_word.new.self _ fault crowded))
+
+pub loop_block-returns-in_err-inner-clause-refuses : goal.loop_block-returns-in_err-inner-clause-refuses
+loop_block-returns-in_err-inner-clause-refuses t c =
+    let h : IfErr c.from_residual-in_err-inner.result (IsTooDeep c.looped.result (state c.args.tokens.now c.declare.new.self)) = search rules in
+    on_err c.from_residual-in_err-inner.result h (λ fault deep.
+    loop_too_deep c.args.at c.looped.result c.args.names.items _ fault _ _ _ c.in_ok-take_word.ensures.takes
+    (unread c.args.tokens.now c.take_word.new.self c.declare.new.self c.in_ok-slots.ensures.place) c.looped.ensures deep)
+
+pub loop_block-returns-in_err-body-clause-refuses : goal.loop_block-returns-in_err-body-clause-refuses
+loop_block-returns-in_err-body-clause-refuses t c =
+    let h : IfErr c.from_residual-in_err-body.result (RefusesBlock c.in_ok-inner.inner (state c.args.tokens.now c.declare.new.self) (state c.args.tokens.now c.block.new.self)) = search rules in
+    on_err c.from_residual-in_err-body.result h (λ fault refuses.
+    loop_refused c.args.at c.looped.result c.in_ok-inner.inner c.args.names.items _ fault _ _ _ _ c.in_ok-take_word.ensures.takes
+    (declared c.args.tokens.now c.take_word.new.self c.declare.new.self _ c.in_ok-slots.ensures.scope c.in_ok-slots.ensures.place c.in_ok-slots.ensures.line) c.looped.ensures c.in_ok-inner.ensures refuses)
+
+pub loop_block-returns-in_err-take_word-2-clause-refuses : goal.loop_block-returns-in_err-take_word-2-clause-refuses
+loop_block-returns-in_err-take_word-2-clause-refuses t c =
+    let h : IfErr c.from_residual-in_err-take_word-2.result (OnAt (Misses (IsKind (Word word.End)) (state c.args.tokens.now c.leave.new.self) (state c.args.tokens.now c.take_word-2.new.self))) = search rules in
+    on_err c.from_residual-in_err-take_word-2.result h (λ fault missing.
+    loop_without_end c.args.at c.in_ok-inner.inner c.args.names.items _ fault _ _ _ _ _ _ _ c.in_ok-take_word.ensures.takes
+    (unread c.args.tokens.now c.take_word.new.self c.declare.new.self c.in_ok-slots.ensures.place) c.in_ok-body.ensures.reads
+    (unread c.args.tokens.now c.block.new.self c.leave.new.self c.leave.ensures.place) missing)
+
+pub method_statement-returns-clause-reads : goal.method_statement-returns-clause-reads
+method_statement-returns-clause-reads t c =
+    let first : c.in_ok-first.first.items ≡ self_name ∷ [] = search rules in
+    on_node _ c.define.ensures (method_read _ _ _ _ _ _ _ _ _ c.in_ok-name.ensures.reads first c.in_ok-number.ensures.reads)
+
+pub method_statement-returns-in_err-name-clause-refuses : goal.method_statement-returns-in_err-name-clause-refuses
+method_statement-returns-in_err-name-clause-refuses t c = λ next.
+    let h : IfErr c.from_residual.result (MissesMember Colon c.args.object.height (state c.args.tokens.now c.args.self.now) (state c.args.tokens.now c.name_member.new.self)) = search rules in
+    on_err c.from_residual.result h (λ fault missed. method_unnamed c.args.at c.args.line fault _ _ c.args.object next missed)
+
+pub method_statement-returns-in_err-first-clause-refuses : goal.method_statement-returns-in_err-first-clause-refuses
+method_statement-returns-in_err-first-clause-refuses t c = λ next.
+    let h : IfErr c.from_residual-in_err-first.result IsMemory = search rules in
+    on_want _ c.from_residual-in_err-first.result (λ s read k never none. absurd none) h
+
+pub method_statement-returns-in_err-number-clause-refuses : goal.method_statement-returns-in_err-number-clause-refuses
+method_statement-returns-in_err-number-clause-refuses t c = λ next.
+    let first : c.in_ok-first.first.items ≡ self_name ∷ [] = search rules in
+    let h : IfErr c.from_residual-in_err-number.result (RefusesBody c.args.at c.args.line c.in_ok-first.first.items (state c.args.tokens.now c.name_member.new.self) (state c.args.tokens.now c.body.new.self)) = search rules in
+    on_err c.from_residual-in_err-number.result h (λ fault refuses.
+    method_body_refused c.args.at c.args.line c.in_ok-first.first.items fault _ _ _ c.args.object c.in_ok-name.name c.in_ok-name.ensures.reads first refuses)
+
+pub method_statement-returns-clause-refuses : goal.method_statement-returns-clause-refuses
+method_statement-returns-clause-refuses t c = λ next. on_memory _ _ c.define.result (λ s read k never none. absurd none) c.define.ensures
+
+pub prefix_statement-returns-in-Call-clause-reads : goal.prefix_statement-returns-in-Call-clause-reads
+prefix_statement-returns-in-Call-clause-reads t c =
+    let form : c.in_ok-expr.field-0.form ≡ Call = cc in
+    call_read _ _ _ _ _ _ _ c.fresh.ensures c.in_ok-expr.ensures.reads c.in_ok-expr.ensures.stops form c.in_ok-line.ensures.line refl
+
+pub prefix_statement-returns-in-Variable-clause-reads : goal.prefix_statement-returns-in-Variable-clause-reads
+prefix_statement-returns-in-Variable-clause-reads t c =
+    let form : c.in_ok-expr.field-0.form ≡ Variable = cc in
+    let target = target_read c.args.at _ _ _ _ _ c.fresh.ensures c.in_ok-expr.ensures.reads c.in_ok-expr.ensures.stops form refl in
+    on_ok _ c.assignment.ensures.reads (first_assigned _ _ _ _ _ _ (vars_one _ _ _ _ _ _ target c.in_ok-line.ensures.line refl))
+
+pub prefix_statement-returns-in_err-expr-clause-refuses : goal.prefix_statement-returns-in_err-expr-clause-refuses
+prefix_statement-returns-in_err-expr-clause-refuses t c = λ begins.
+    let h : IfErr c.from_residual-in_err-expr.result (RefusesPrefix c.fresh.result (state c.args.tokens.now c.args.self.now) (state c.args.tokens.now c.prefix.new.self)) = search rules in
+    on_err c.from_residual-in_err-expr.result h (λ fault refuses. first_target_refused c.args.at c.fresh.result fault _ _ begins c.fresh.ensures refuses)
+
+pub prefix_statement-returns-in-Variable-clause-refuses : goal.prefix_statement-returns-in-Variable-clause-refuses
+prefix_statement-returns-in-Variable-clause-refuses t c = λ begins.
+    let form : c.in_ok-expr.field-0.form ≡ Variable = cc in
+    on_err c.assignment.result c.assignment.ensures.refuses (λ fault refuses.
+    assignment_refused c.args.at c.fresh.result fault _ _ _ c.in_ok-expr.field-0 begins c.fresh.ensures c.in_ok-expr.ensures.reads c.in_ok-expr.ensures.stops form refuses)
+
+pub prefix_statement-returns-in-Paren-clause-refuses : goal.prefix_statement-returns-in-Paren-clause-refuses
+prefix_statement-returns-in-Paren-clause-refuses t c = λ begins.
+    let form : c.in_ok-expr.field-0.form ≡ Paren = cc in
+    subst (RefusesStat c.args.at (state c.args.tokens.now c.args.self.now) (state c.args.tokens.now c.prefix.new.self)) (sym c.unfit.ensures)
+    (statement_is_none c.args.at c.fresh.result c.args.tokens.now _ c.prefix.new.self _ begins c.in_ok-expr.ensures.reads c.in_ok-expr.ensures.stops form)
+
+pub range_loop-returns-clause-reads : goal.range_loop-returns-clause-reads
+range_loop-returns-clause-reads t c =
+    let one : length c.args.names.items ≡ 1 = search rules in
+    on_node _ c.numeric_for.ensures (range_read _ _ _ _ _ _ _ _ _ _ _ _ _ _ _ _ one c.in_ok-take_sign.ensures.takes c.in_ok-from.ensures.reads c.in_ok-take_sign-2.ensures.takes c.in_ok-to.ensures.reads c.in_ok-step.ensures.reads c.in_ok-block.ensures.reads)
+
+pub range_loop-returns-then-len-ne1-clause-refuses : goal.range_loop-returns-then-len-ne1-clause-refuses
+range_loop-returns-then-len-ne1-clause-refuses t c = λ next.
+    let many : length c.args.names.items ≡ 1 → ⊥ = search rules in
+    subst (RefusesFor c.args.at c.args.names.items (state c.args.tokens.now c.args.self.now) (state c.args.tokens.now c.args.self.now)) (sym c.unfit.ensures)
+    (many_names c.args.at c.args.names.items c.args.tokens.now c.args.self.now many next)
+
+pub range_loop-returns-in_err-from-clause-refuses : goal.range_loop-returns-in_err-from-clause-refuses
+range_loop-returns-in_err-from-clause-refuses t c = λ next.
+    let one : length c.args.names.items ≡ 1 = search rules in
+    let h : IfErr c.from_residual-in_err-from.result (RefusesValue c.args.at (state c.args.tokens.now c.take_sign.new.self) (state c.args.tokens.now c.value.new.self)) = search rules in
+    on_err c.from_residual-in_err-from.result h (λ fault refuses. one_name c.args.at c.args.names.items _ _ fault one (λ f l n is.
+    range_from_refused c.args.at f l n _ fault _ _ _ c.in_ok-take_sign.ensures.takes refuses))
+
+pub range_loop-returns-in_err-take_sign-2-clause-refuses : goal.range_loop-returns-in_err-take_sign-2-clause-refuses
+range_loop-returns-in_err-take_sign-2-clause-refuses t c = λ next.
+    let one : length c.args.names.items ≡ 1 = search rules in
+    let h : IfErr c.from_residual-in_err-take_sign-2.result (OnAt (Misses (IsKind (Sign sign.Comma)) (state c.args.tokens.now c.value.new.self) (state c.args.tokens.now c.take_sign-2.new.self))) = search rules in
+    on_err c.from_residual-in_err-take_sign-2.result h (λ fault refuses. one_name c.args.at c.args.names.items _ _ fault one (λ f l n is.
+    range_without_comma c.args.at f l n _ fault _ _ _ _ _ c.in_ok-take_sign.ensures.takes c.in_ok-from.ensures.reads refuses))
+
+pub range_loop-returns-in_err-to-clause-refuses : goal.range_loop-returns-in_err-to-clause-refuses
+range_loop-returns-in_err-to-clause-refuses t c = λ next.
+    let one : length c.args.names.items ≡ 1 = search rules in
+    let h : IfErr c.from_residual-in_err-to.result (RefusesValue c.args.at (state c.args.tokens.now c.take_sign-2.new.self) (state c.args.tokens.now c.value-2.new.self)) = search rules in
+    on_err c.from_residual-in_err-to.result h (λ fault refuses. one_name c.args.at c.args.names.items _ _ fault one (λ f l n is.
+    range_to_refused c.args.at f l n _ _ fault _ _ _ _ _ _ c.in_ok-take_sign.ensures.takes c.in_ok-from.ensures.reads c.in_ok-take_sign-2.ensures.takes refuses))
+
+pub range_loop-returns-in_err-step-clause-refuses : goal.range_loop-returns-in_err-step-clause-refuses
+range_loop-returns-in_err-step-clause-refuses t c = λ next.
+    let one : length c.args.names.items ≡ 1 = search rules in
+    let p = err_from_is_err_and c.from_residual-in_err-step.result c.from_residual-in_err-step.ensures.1 in
+    let h : IfErr c.from_residual-in_err-step.result (RefusesStep c.args.at (state c.args.tokens.now c.value-2.new.self) (state c.args.tokens.now c.step.new.self)) = rw (p.1, p.2) (c.in_err-step.ensures.refuses) in
+    on_err c.from_residual-in_err-step.result h (λ fault refuses. one_name c.args.at c.args.names.items _ _ fault one (λ f l n is.
+    range_step_refused c.args.at f l n _ _ fault _ _ _ _ _ _ _ _ c.in_ok-take_sign.ensures.takes c.in_ok-from.ensures.reads c.in_ok-take_sign-2.ensures.takes c.in_ok-to.ensures.reads refuses))
+
+pub range_loop-returns-in_err-block-clause-refuses : goal.range_loop-returns-in_err-block-clause-refuses
+range_loop-returns-in_err-block-clause-refuses t c = λ next.
+    let one : length c.args.names.items ≡ 1 = search rules in
+    let p = err_from_is_err_and c.from_residual-in_err-block.result c.from_residual-in_err-block.ensures.1 in
+    let h : IfErr c.from_residual-in_err-block.result (RefusesLoop c.args.at c.args.names.items (state c.args.tokens.now c.step.new.self) (state c.args.tokens.now c.loop_block.new.self)) = rw (p.1, p.2) (c.in_err-block.ensures.refuses) in
+    on_err c.from_residual-in_err-block.result h (λ fault refuses. one_name c.args.at c.args.names.items _ _ fault one (λ f l n is.
+    range_block_refused c.args.at f l n _ _ fault _ _ c.in_ok-step.step _ _ _ _ _ _ _ c.in_ok-take_sign.ensures.takes c.in_ok-from.ensures.reads c.in_ok-take_sign-2.ensures.takes c.in_ok-to.ensures.reads c.in_ok-step.ensures.reads c.in_ok-step.ensures.stops
+    (subst (λ names. RefusesLoop c.args.at names (state c.args.tokens.now c.step.new.self) (state c.args.tokens.now c.loop_block.new.self) fault) is refuses)))
+
+pub repeat_loop-returns-clause-reads : goal.repeat_loop-returns-clause-reads
+repeat_loop-returns-clause-reads t c =
+    on_node _ c.repeat_node.ensures (λ out is. repeat_read _ _ _ _ _ _ _ _ _ _ _ _ _ _ c.in_ok-line.ensures.takes c.looped.ensures c.in_ok-inner.ensures c.in_ok-body.ensures.reads c.in_ok-take_word.ensures.takes c.in_ok-test.ensures.reads
+    (left_since c.args.tokens.now c.take_word.new.self c.value.new.self c.leave.new.self c.in_scope-count.result c.in_scope-count.ensures.value c.leave.ensures.scope c.leave.ensures.place c.leave.ensures.line) is)
+
+pub repeat_loop-returns-in_err-line-clause-refuses : goal.repeat_loop-returns-in_err-line-clause-refuses
+repeat_loop-returns-in_err-line-clause-refuses t c = λ next.
+    let h : IfErr c.from_residual.result (OnAt (Misses (IsKind (Word word.Repeat)) (state c.args.tokens.now c.args.self.now) (state c.args.tokens.now c.take_word.new.self))) = search rules in
+    on_err c.from_residual.result h (λ fault missed k never suppose. never_missed_ahead fault _ (token (statement k)) (IsKind (Word word.Repeat)) _ _ missed suppose (λ is. cc) next)
+
+pub repeat_loop-returns-in_err-inner-clause-refuses : goal.repeat_loop-returns-in_err-inner-clause-refuses
+repeat_loop-returns-in_err-inner-clause-refuses t c = λ next.
+    let h : IfErr c.from_residual-in_err-inner.result (IsTooDeep c.looped.result (state c.args.tokens.now c.take_word.new.self)) = search rules in
+    on_err c.from_residual-in_err-inner.result h (λ fault none. repeat_too_deep c.args.at c.looped.result _ _ _ fault c.in_ok-line.ensures.takes c.looped.ensures none)
+
+pub repeat_loop-returns-in_err-body-clause-refuses : goal.repeat_loop-returns-in_err-body-clause-refuses
+repeat_loop-returns-in_err-body-clause-refuses t c = λ next.
+    let h : IfErr c.from_residual-in_err-body.result (RefusesBlock c.in_ok-inner.inner (state c.args.tokens.now c.take_word.new.self) (state c.args.tokens.now c.block.new.self)) = search rules in
+    on_err c.from_residual-in_err-body.result h (λ fault refuses. repeat_block_refused c.args.at c.looped.result c.in_ok-inner.inner _ _ _ _ fault c.in_ok-line.ensures.takes c.looped.ensures c.in_ok-inner.ensures refuses)
+
+pub repeat_loop-returns-in_err-take_word-clause-refuses : goal.repeat_loop-returns-in_err-take_word-clause-refuses
+repeat_loop-returns-in_err-take_word-clause-refuses t c = λ next.
+    let h : IfErr c.from_residual-in_err-take_word.result (OnAt (Misses (IsKind (Word word.Until)) (state c.args.tokens.now c.block.new.self) (state c.args.tokens.now c.take_word-2.new.self))) = search rules in
+    on_err c.from_residual-in_err-take_word.result h (λ fault missed. until_refused c.args.at c.in_ok-inner.inner _ _ _ _ _ _ fault c.in_ok-line.ensures.takes c.in_ok-body.ensures.reads missed)
+
+pub repeat_loop-returns-in_err-test-clause-refuses : goal.repeat_loop-returns-in_err-test-clause-refuses
+repeat_loop-returns-in_err-test-clause-refuses t c = λ next.
+    let h : IfErr c.from_residual-in_err-test.result (RefusesValue c.args.at (state c.args.tokens.now c.take_word-2.new.self) (state c.args.tokens.now c.value.new.self)) = search rules in
+    on_err c.from_residual-in_err-test.result h (λ fault refuses. repeat_test_refused c.args.at c.in_ok-inner.inner _ _ _ _ _ _ _ _ fault c.in_ok-line.ensures.takes c.in_ok-body.ensures.reads c.in_ok-take_word.ensures.takes refuses)
+
+pub repeat_loop-returns-clause-refuses : goal.repeat_loop-returns-clause-refuses
+repeat_loop-returns-clause-refuses t c = λ next. on_memory _ _ c.repeat_node.result (λ k never none. absurd none) c.repeat_node.ensures
+
+pub scoped-returns-clause-reads : goal.scoped-returns-clause-reads
+scoped-returns-clause-reads t c =
+    scoped_read _ _ _ _ _ _ c.in_ok-inner.ensures c.in_ok-block.ensures.reads
+    (left_since c.args.tokens.now c.args.self.now c.block.new.self c.leave.new.self c.in_scope-count.result c.in_scope-count.ensures.value c.leave.ensures.scope c.leave.ensures.place c.leave.ensures.line)
+
+pub scoped-returns-in_err-inner-clause-refuses : goal.scoped-returns-in_err-inner-clause-refuses
+scoped-returns-in_err-inner-clause-refuses t c =
+    let h : IfErr c.from_residual.result (IsTooDeep c.args.at (state c.args.tokens.now c.args.self.now)) = search rules in
+    on_err c.from_residual.result h (λ fault none. scoped_too_deep c.args.at _ fault none)
+
+pub scoped-returns-in_err-block-clause-refuses : goal.scoped-returns-in_err-block-clause-refuses
+scoped-returns-in_err-block-clause-refuses t c =
+    let h : IfErr c.from_residual-in_err-block.result (RefusesBlock c.in_ok-inner.inner (state c.args.tokens.now c.args.self.now) (state c.args.tokens.now c.block.new.self)) = search rules in
+    on_err c.from_residual-in_err-block.result h (λ fault refuses. scoped_refused c.args.at c.in_ok-inner.inner _ _ fault c.in_ok-inner.ensures refuses)
+
+pub statement-returns-in-If-clause-refuses : goal.statement-returns-in-If-clause-refuses
+statement-returns-in-If-clause-refuses t c = λ same is. c.if_statement.ensures.refuses (if_kind _ (sym same ∙ c.in-If.is))
+
+pub statement-returns-in-While-clause-refuses : goal.statement-returns-in-While-clause-refuses
+statement-returns-in-While-clause-refuses t c = λ same is. c.while_loop.ensures.refuses (while_kind _ (sym same ∙ c.in-While.is))
+
+pub statement-returns-in-Do-clause-refuses : goal.statement-returns-in-Do-clause-refuses
+statement-returns-in-Do-clause-refuses t c = λ same is. c.do_block.ensures.refuses (do_kind _ (sym same ∙ c.in-Do.is))
+
+pub statement-returns-in-For-clause-refuses : goal.statement-returns-in-For-clause-refuses
+statement-returns-in-For-clause-refuses t c = λ same is. c.for_loop.ensures.refuses (for_kind _ (sym same ∙ c.in-For.is))
+
+pub statement-returns-in-Repeat-clause-refuses : goal.statement-returns-in-Repeat-clause-refuses
+statement-returns-in-Repeat-clause-refuses t c = λ same is. c.repeat_loop.ensures.refuses (repeat_kind _ (sym same ∙ c.in-Repeat.is))
+
+pub statement-returns-in-Function-clause-refuses : goal.statement-returns-in-Function-clause-refuses
+statement-returns-in-Function-clause-refuses t c = λ same is. c.function_statement.ensures.refuses (function_kind _ (sym same ∙ c.in-Function.is))
+
+pub statement-returns-in-Local-clause-refuses : goal.statement-returns-in-Local-clause-refuses
+statement-returns-in-Local-clause-refuses t c = λ same is. c.local_statement.ensures.refuses (local_kind _ (sym same ∙ c.in-Local.is))
+
+pub statement-returns-in_default-clause-refuses : goal.statement-returns-in_default-clause-refuses
+statement-returns-in_default-clause-refuses t c = λ same is.
+    c.prefix_statement.ensures.refuses (sym same ∙ prefix_begins c.args.begins is c.in_default.not-If c.in_default.not-While c.in_default.not-Do c.in_default.not-For c.in_default.not-Repeat c.in_default.not-Function c.in_default.not-Local)
+
+pub step-returns-in_err-step-clause-refuses : goal.step-returns-in_err-step-clause-refuses
+step-returns-in_err-step-clause-refuses t c =
+    let h : IfErr c.from_residual-in_err-step.result (RefusesValue c.args.at (state c.args.tokens.now c.take_sign.new.self) (state c.args.tokens.now c.value.new.self)) = search rules in
+    on_err c.from_residual-in_err-step.result h (λ fault refuses. step_refused c.args.at _ fault _ _ _ c.in_ok-take_sign.ensures.takes refuses)
+
+pub target-returns-in_err-expr-clause-refuses : goal.target-returns-in_err-expr-clause-refuses
+target-returns-in_err-expr-clause-refuses t c =
+    let h : IfErr c.from_residual.result (RefusesPrefix c.fresh.result (state c.args.tokens.now c.args.self.now) (state c.args.tokens.now c.prefix.new.self)) = search rules in
+    on_err c.from_residual.result h (λ fault refuses. target_refused c.args.at c.fresh.result fault _ _ c.fresh.ensures refuses)
+
+pub target-returns-in-Call : goal.target-returns-in-Call
+target-returns-in-Call t c =
+    let other : c.in_ok-expr.field-0.form ≡ Variable → ⊥ = search rules in
+    record {
+      reads = tt;
+      refuses = subst (RefusesTarget c.args.at (state c.args.tokens.now c.args.self.now) (state c.args.tokens.now c.prefix.new.self)) (sym c.unfit.ensures)
+          (target_is_none c.args.at c.fresh.result c.args.tokens.now _ c.prefix.new.self _ c.in_ok-expr.ensures.reads c.in_ok-expr.ensures.stops other);
+      forward = tt;
+    }
+
+pub targets-loop-alloc-init : goal.targets-loop-alloc-init
+targets-loop-alloc-init t c =
+    record {
+      forward = search rules;
+      reads = no_more_vars c.args.at (state c.args.tokens.now c.args.self.now) _ _ c.in_ok-targets.ensures.items;
+    }
+
+pub targets-loop-alloc-preserved : goal.targets-loop-alloc-preserved
+targets-loop-alloc-preserved t c =
+    record {
+      forward = search rules;
+      reads = λ line s vars. more_vars_on _ _ _ _ _ _ _ _ _ _ _ _ (c.loop-alloc.invariant.reads line s vars) c.in_ok-take_sign.ensures.takes c.in_ok-next.ensures.reads c.in_ok-push.ensures.items;
+    }
+
+pub targets-returns-in_err-next-clause-refuses : goal.targets-returns-in_err-next-clause-refuses
+targets-returns-in_err-next-clause-refuses t c =
+    let p = err_from_is_err_and c.from_residual-in_err-next.result c.from_residual-in_err-next.ensures.1 in
+    let h : IfErr c.from_residual-in_err-next.result (RefusesTarget c.args.at (state c.args.tokens.now c.take_sign.new.self) (state c.args.tokens.now c.target.new.self)) = rw (p.1, p.2) (c.in_err-next.ensures.refuses) in
+    on_err c.from_residual-in_err-next.result h (λ fault refuses.
+    next_target_refused c.args.at c.args.first _ _ fault _ _ _ _ c.loop-alloc.invariant.reads c.in_ok-take_sign.ensures.takes refuses)
+
+pub value-returns-clause-reads : goal.value-returns-clause-reads
+value-returns-clause-reads t c =
+    value_read _ _ _ _ _ _ _ c.fresh.ensures c.in_ok-inner.ensures c.in_ok-built.ensures.reads c.in_ok-built.ensures.ends c.into_expr.ensures
+
+pub value-returns-in_err-inner-clause-refuses : goal.value-returns-in_err-inner-clause-refuses
+value-returns-in_err-inner-clause-refuses t c =
+    let h : IfErr c.from_residual.result (IsTooDeep c.fresh.result (state c.args.tokens.now c.args.self.now)) = search rules in
+    on_err c.from_residual.result h (λ fault none. value_too_deep c.args.at c.fresh.result _ fault c.fresh.ensures none)
+
+pub value-returns-in_err-built-clause-refuses : goal.value-returns-in_err-built-clause-refuses
+value-returns-in_err-built-clause-refuses t c =
+    let small : 1 ≤ 7 = lit≤ tt in
+    let h : IfErr c.from_residual-in_err-built.result (RefusesFrom 1 c.in_ok-inner.inner (state c.args.tokens.now c.args.self.now) (state c.args.tokens.now c.expression.new.self)) = search rules in
+    on_err c.from_residual-in_err-built.result h (λ fault refuses. value_refused c.args.at c.fresh.result c.in_ok-inner.inner _ _ fault c.fresh.ensures c.in_ok-inner.ensures refuses)
+
+pub values-returns-clause-reads : goal.values-returns-clause-reads
+values-returns-clause-reads t c =
+    values_read _ _ _ _ _ _ _ c.fresh.ensures c.in_ok-inner.ensures c.in_ok-values.ensures.reads c.in_ok-values.ensures.ends (rw c.into_exprs.ensures refl)
+
+pub values-returns-in_err-inner-clause-refuses : goal.values-returns-in_err-inner-clause-refuses
+values-returns-in_err-inner-clause-refuses t c =
+    let h : IfErr c.from_residual.result (IsTooDeep c.fresh.result (state c.args.tokens.now c.args.self.now)) = search rules in
+    on_err c.from_residual.result h (λ fault none. values_too_deep c.args.at c.fresh.result _ fault c.fresh.ensures none)
+
+pub values-returns-in_err-values-clause-refuses : goal.values-returns-in_err-values-clause-refuses
+values-returns-in_err-values-clause-refuses t c =
+    let h : IfErr c.from_residual-in_err-values.result (RefusesList c.in_ok-inner.inner (state c.args.tokens.now c.args.self.now) (state c.args.tokens.now c.expressions.new.self)) = search rules in
+    on_err c.from_residual-in_err-values.result h (λ fault refuses. values_refused c.args.at c.fresh.result c.in_ok-inner.inner _ _ fault c.fresh.ensures c.in_ok-inner.ensures refuses)
+
+pub while_loop-returns-clause-reads : goal.while_loop-returns-clause-reads
+while_loop-returns-clause-reads t c =
+    on_node _ c.while_node.ensures (λ out is. while_read _ _ _ _ _ _ _ _ _ _ _ _ _ _ c.in_ok-line.ensures.takes c.in_ok-test.ensures.reads c.in_ok-take_word.ensures.takes c.looped.ensures c.in_ok-body.ensures.reads c.in_ok-take_word-2.ensures.takes is)
+
+pub while_loop-returns-in_err-line-clause-refuses : goal.while_loop-returns-in_err-line-clause-refuses
+while_loop-returns-in_err-line-clause-refuses t c = λ next.
+    let h : IfErr c.from_residual.result (OnAt (Misses (IsKind (Word word.While)) (state c.args.tokens.now c.args.self.now) (state c.args.tokens.now c.take_word.new.self))) = search rules in
+    on_err c.from_residual.result h (λ fault missed k never suppose. never_missed_ahead fault _ (token (statement k)) (IsKind (Word word.While)) _ _ missed suppose (λ is. cc) next)
+
+pub while_loop-returns-in_err-test-clause-refuses : goal.while_loop-returns-in_err-test-clause-refuses
+while_loop-returns-in_err-test-clause-refuses t c = λ next.
+    let h : IfErr c.from_residual-in_err-test.result (RefusesValue c.args.at (state c.args.tokens.now c.take_word.new.self) (state c.args.tokens.now c.value.new.self)) = search rules in
+    on_err c.from_residual-in_err-test.result h (λ fault refuses. while_test_refused c.args.at _ _ _ _ fault c.in_ok-line.ensures.takes refuses)
+
+pub while_loop-returns-in_err-take_word-clause-refuses : goal.while_loop-returns-in_err-take_word-clause-refuses
+while_loop-returns-in_err-take_word-clause-refuses t c = λ next.
+    let h : IfErr c.from_residual-in_err-take_word.result (OnAt (Misses (IsKind (Word word.Do)) (state c.args.tokens.now c.value.new.self) (state c.args.tokens.now c.take_word-2.new.self))) = search rules in
+    on_err c.from_residual-in_err-take_word.result h (λ fault missed. while_do_refused c.args.at _ _ _ _ _ _ fault c.in_ok-line.ensures.takes c.in_ok-test.ensures.reads missed)
+
+pub while_loop-returns-in_err-body-clause-refuses : goal.while_loop-returns-in_err-body-clause-refuses
+while_loop-returns-in_err-body-clause-refuses t c = λ next.
+    let h : IfErr c.from_residual-in_err-body.result (RefusesScoped c.looped.result (state c.args.tokens.now c.take_word-2.new.self) (state c.args.tokens.now c.scoped.new.self)) = search rules in
+    on_err c.from_residual-in_err-body.result h (λ fault refuses. while_block_refused c.args.at c.looped.result _ _ _ _ _ _ _ _ fault c.in_ok-line.ensures.takes c.in_ok-test.ensures.reads c.in_ok-take_word.ensures.takes c.looped.ensures refuses)
+
+pub while_loop-returns-in_err-take_word-2-clause-refuses : goal.while_loop-returns-in_err-take_word-2-clause-refuses
+while_loop-returns-in_err-take_word-2-clause-refuses t c = λ next.
+    let h : IfErr c.from_residual-in_err-take_word-2.result (OnAt (Misses (IsKind (Word word.End)) (state c.args.tokens.now c.scoped.new.self) (state c.args.tokens.now c.take_word-3.new.self))) = search rules in
+    on_err c.from_residual-in_err-take_word-2.result h (λ fault missed. while_end_refused c.args.at c.looped.result _ _ _ _ _ _ _ _ _ _ fault c.in_ok-line.ensures.takes c.in_ok-test.ensures.reads c.in_ok-take_word.ensures.takes c.in_ok-body.ensures.reads missed)
+
+pub while_loop-returns-clause-refuses : goal.while_loop-returns-clause-refuses
+while_loop-returns-clause-refuses t c = λ next. on_memory _ _ c.while_node.result (λ k never none. absurd none) c.while_node.ensures

@@ -1,4 +1,11 @@
-use Rattle.std.proofs.Common.{refl, rules}
+use Rattle.std.proofs.Common.{refl, rules, IfErr}
+use Rattle.lua_lexer.specs.declared.signs.Sign.TheVariants.{Dot}
+use Rattle.lua_grammar.specs.Limits.{Few}
+use Rattle.lua_grammar.specs.Scopes.{look}
+use Rattle.lua_parser.specs.States.{state, scope_of}
+use Rattle.lua_parser.specs.Next.{IsName, Misses, MissesMember, OnAt, OnUpvalues}
+use Rattle.lua_parser.proofs.FunctionStatements.{function_unnamed, function_name_crowded, function_member_missed, crowded_state}
+use Rattle.lua_parser.proofs.Next.{on_err}
 use Rattle.lua_parser.proofs.Scoping.{turned, name_state}
 use Rattle.lua_parser.proofs.Assignments.{name_root, name_member}
 use Rattle.lua_parser.proofs.cursor.Parser.function_name.Goals as goal
@@ -16,3 +23,21 @@ loop-alloc-preserved c = record {
   forward = search rules;
   reads = name_member _ _ _ _ _ c.loop-alloc.invariant.reads c.in_ok-name.ensures.reads;
 }
+
+pub returns-in_err-named-clause-refuses : goal.returns-in_err-named-clause-refuses
+returns-in_err-named-clause-refuses c = λ at.
+    let h : IfErr c.from_residual.result (OnAt (Misses IsName (state c.args.tokens.now c.args.self.now) (state c.args.tokens.now c.take_name.new.self))) = search rules in
+    on_err c.from_residual.result h (λ fault missed. function_unnamed at fault _ _ missed)
+
+pub returns-in_err-variable-clause-refuses : goal.returns-in_err-variable-clause-refuses
+returns-in_err-variable-clause-refuses c = λ at.
+    let h : IfErr c.from_residual-in_err-variable.result (OnUpvalues (Few (look c.in_ok-named.named.name (scope_of c.take_name.new.self).around).1 → ⊥)) = search rules in
+    let same = turned c.args.tokens.now c.take_name.new.self c.variable.new.self _ c.variable.ensures.place c.variable.ensures.line refl in
+    on_err c.from_residual-in_err-variable.result h (λ fault not.
+    function_name_crowded at fault _ (state c.args.tokens.now c.take_name.new.self) _ _ c.in_ok-named.named.name c.in_ok-named.ensures.takes same.left (crowded_state c.args.tokens.now c.take_name.new.self c.in_ok-named.named.name fault not))
+
+pub returns-in_err-name-clause-refuses : goal.returns-in_err-name-clause-refuses
+returns-in_err-name-clause-refuses c = λ at.
+    let h : IfErr c.from_residual-in_err-name.result (MissesMember Dot c.loop-alloc.name.height (state c.args.tokens.now c.loop-alloc.self) (state c.args.tokens.now c.name_member.new.self)) = search rules in
+    on_err c.from_residual-in_err-name.result h (λ fault missed.
+    function_member_missed at fault _ _ _ c.loop-alloc.name c.loop-alloc.invariant.reads (c.at_sign.ensures.0 c.loop-alloc-test.true) missed)

@@ -1,3 +1,5 @@
+use Rattle.std.proofs.Common.{IsTrue, rules}
+use Rattle.lua_parser.proofs.Arguments.{opens_elsewhere}
 use Rattle.lua_parser.proofs.Bodies.{line_at}
 use Rattle.lua_parser.proofs.Calls.{opens_same, opens_not, not_both}
 use Rattle.lua_parser.proofs.cursor.Parser.opening_line.Goals as goal
@@ -13,4 +15,9 @@ returns-clause-line c = line_at c.args.tokens.now c.args.self.now c.args.token.n
 
 pub returns-clause-same : goal.returns-clause-same
 returns-clause-same c =
-    opens_not c.args.tokens.now c.args.self.now c.args.token.now c.requires (λ opens. not_both _ c.if-is_open_parenthesis.false (c.is_open_parenthesis.ensures opens))
+    opens_not c.args.tokens.now c.args.self.now c.args.token.now c.requires (λ opens. not_both _ c.if-is_open_parenthesis.false (c.is_open_parenthesis.ensures.1 opens))
+
+pub returns-then-is_open_parenthesis-clause-closed : goal.returns-then-is_open_parenthesis-clause-closed
+returns-then-is_open_parenthesis-clause-closed c =
+    let opens : IsTrue c.is_open_parenthesis.result = search rules in
+    opens_elsewhere c.args.tokens.now c.args.self.now c.args.token.now c.requires (c.is_open_parenthesis.ensures.0 opens) c.if-token-self.false

@@ -1,9 +1,16 @@
-use Rattle.std.proofs.Common.{refl, rules, arith}
-use Rattle.lua_parser.proofs.Names.{only_rest, only_names, names_then_rest, names_one, names_more}
+use Rattle.std.proofs.Common.{refl, rules, arith, ◌≡◌, ◌+◌, length, IfErr, vec_len}
+use Rattle.lua_parser.specs.States.{state}
+use Rattle.lua_parser.specs.Next.{MissesName}
+use Rattle.lua_parser.proofs.NameLists.{first_parameter_refused, next_parameter_refused}
+use Rattle.lua_parser.proofs.Next.{on_err, untested}
+use Rattle.lua_parser.proofs.Names.{no_parameters, only_rest, only_names, names_then_rest, names_one, names_more}
 use Rattle.lua_parser.proofs.cursor.Parser.parameters.Goals as goal
 
 pub returns-then-at_sign-2-clause-reads : goal.returns-then-at_sign-2-clause-reads
 returns-then-at_sign-2-clause-reads c = only_rest _ _ _ _ _ c.in_ok-take_sign.ensures.takes refl refl
+
+pub returns-then-at_sign-clause-reads : goal.returns-then-at_sign-clause-reads
+returns-then-at_sign-clause-reads c = no_parameters _ _ _ refl refl (c.at_sign.ensures.0 c.if-at_sign.true)
 
 pub loop-self-init : goal.loop-self-init
 loop-self-init c = record {
@@ -24,4 +31,18 @@ loop-self-preserved c = record {
 }
 
 pub returns-clause-reads : goal.returns-clause-reads
-returns-clause-reads c = only_names _ _ _ _ c.loop-self.invariant.reads refl
+returns-clause-reads c = only_names _ _ _ _ c.loop-self.invariant.reads refl (untested _ _ c.loop-self-test.false c.at_sign-in-loop-self.ensures)
+
+pub returns-in_err-push_name-clause-refuses : goal.returns-in_err-push_name-clause-refuses
+returns-in_err-push_name-clause-refuses c =
+    let h : IfErr c.from_residual-in_err-push_name.result (MissesName (0 + vec_len c.args.names) (state c.args.tokens.now c.args.self.now) (state c.args.tokens.now c.push_name.new.self)) = search rules in
+    let many : 0 + vec_len c.args.names ≡ length c.args.names.items = search (rules, arith) in
+    on_err c.from_residual-in_err-push_name.result h (λ fault missed.
+    first_parameter_refused c.args.names.items (0 + vec_len c.args.names) fault _ _ (untested _ _ c.if-at_sign.false c.at_sign.ensures) (untested _ _ c.if-at_sign-2.false c.at_sign-2.ensures) many missed)
+
+pub returns-in_err-push_name-2-clause-refuses : goal.returns-in_err-push_name-2-clause-refuses
+returns-in_err-push_name-2-clause-refuses c =
+    let h : IfErr c.from_residual-in_err-push_name-2.result (MissesName (0 + vec_len c.loop-self.names) (state c.args.tokens.now c.take_sign-in-loop-self.new.self) (state c.args.tokens.now c.push_name-in-loop-self.new.self)) = search rules in
+    let many : 0 + vec_len c.loop-self.names ≡ length c.loop-self.names.items = search (rules, arith) in
+    on_err c.from_residual-in_err-push_name-2.result h (λ fault missed.
+    next_parameter_refused c.args.names.items (0 + vec_len c.loop-self.names) fault _ _ _ _ c.loop-self.names.items _ c.loop-self.invariant.reads c.in_ok-take_sign-2.ensures.takes (untested _ _ c.if-at_sign-3.false c.at_sign-in-loop-self-2.ensures) many missed)

@@ -1,0 +1,24 @@
+-- A reader that reads the values of a statement or a block moves over its tokens.
+use Rattle.std.proofs.Common.{List}
+use Rattle.lua_ast.specs.declared.expressions.Expr.{Expr}
+use Rattle.lua_ast.specs.declared.statements.Stmt.{Stmt}
+use Rattle.lua_grammar.specs.Tree.{Exp, ExpList, Block}
+use Rattle.lua_grammar.specs.Waiting.{Reader, exp}
+use Rattle.lua_grammar.specs.Reading.{block, list}
+use Rattle.lua_grammar.proofs.Stopping.{at_least_one}
+use Rattle.lua_parser.specs.declared.places.Place.{Place}
+use Rattle.lua_parser.specs.States.{State}
+use Rattle.lua_parser.specs.Readers.{Moves}
+use Rattle.lua_parser.specs.ReadsStatements.{ReadsBlock, ReadsValue, ReadsValues}
+use Rattle.lua_parser.proofs.Printed.{exp_ended, list_ended}
+use Rattle.lua_parser.proofs.PrintedBlocks.{block_ended as tree_ended}
+
+-- over a block, a value and values
+pub block_ended : (at : Place) (s t : State) (out : List Stmt) (r : ReadsBlock at s out t) (k : Block → Reader) → Moves (block k) s (k r.tree) t
+block_ended at s t out r k = tree_ended r.tree at.rest at.in_loop k s t r.printed r.valid r.ends
+
+pub value_ended : (at : Place) (s t : State) (e : Expr) (r : ReadsValue at s e t) (k : Exp → Reader) → Moves (exp 1 k) s (k r.tree) t
+value_ended at s t e r k = exp_ended r.tree at.rest 1 k s t r.printed r.valid (at_least_one r.tree) r.ends r.last
+
+pub values_ended : (at : Place) (s t : State) (es : List Expr) (r : ReadsValues at s es t) (k : ExpList → Reader) → Moves (list k) s (k r.tree) t
+values_ended at s t es r k = list_ended r.tree at.rest k s t r.printed r.valid r.ends r.last

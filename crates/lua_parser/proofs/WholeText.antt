@@ -1,0 +1,189 @@
+-- Where a fault other than want of memory was found, the tokens are no program.
+use Rattle.std.proofs.Common.{◌≡◌, ◌<◌, ℕ, true, false, List, [], ◌∷◌, ◌++◌, drop, length, refl, sym, ap, subst, arith, ◌∙◌, append_assoc, zero, suc}
+use Rattle.std.specs.List.{AllZip}
+use Rattle.lua_ast.specs.declared.programs.Function.{Function}
+use Rattle.lua_ast.specs.declared.programs.Program.{Program}
+use Rattle.lua_ast.specs.declared.statements.Stmt.{Stmt}
+use Rattle.lua_lexer.specs.declared.tokens.Token.{Token}
+use Rattle.lua_lexer.specs.declared.tokens.TokenKind.{TokenKind}
+use Rattle.lua_lexer.specs.declared.tokens.TokenKind.TheVariants.{Word}
+use Rattle.lua_lexer.specs.declared.words.Word.TheVariants.{End}
+use Rattle.lua_grammar.specs.Tree.{Line, Block}
+use Rattle.lua_grammar.specs.Grammar.{IsChunk, IsProgramOf, first_line, outside}
+use Rattle.lua_grammar.specs.Limits.{Few}
+use Rattle.lua_grammar.specs.Printing.{Lexeme, a_word, lexemes}
+use Rattle.lua_grammar.specs.Scopes.{Frame, enter}
+use Rattle.lua_grammar.specs.Validity.{IsValidBlock}
+use Rattle.lua_grammar.specs.Waiting.{failed, chunk, token, end_}
+use Rattle.lua_grammar.specs.Reading.{read, read_chunk, run}
+use Rattle.lua_grammar.proofs.DeadParts.{dead_end}
+use Rattle.lua_grammar.proofs.Few.{few_inside}
+use Rattle.lua_grammar.proofs.Frames.{Steady, ended_keeps}
+use Rattle.lua_grammar.proofs.Growing.{block_goes}
+use Rattle.lua_grammar.proofs.Uniqueness.{is_read, stays_failed}
+use Rattle.lua_parser.specs.declared.cursor.Parser.{Parser}
+use Rattle.lua_parser.specs.declared.faults.ParseFault.{ParseFault}
+use Rattle.lua_parser.specs.declared.faults.ParseFault.TheVariants.{At, Memory}
+use Rattle.lua_parser.specs.declared.places.Place.{Place}
+use Rattle.lua_parser.specs.Fits.{FitsBlock}
+use Rattle.lua_parser.specs.Next.{line_or}
+use Rattle.lua_parser.specs.Readers.{Counts, GoOn, GoOnWith, Supposes}
+use Rattle.lua_parser.specs.Unfit.{BeginAs, HasLine, IsUnfit, OfAt}
+use Rattle.lua_parser.specs.ReadsStatements.{ReadsBlock}
+use Rattle.lua_parser.specs.States.{State, scope_of, state}
+use Rattle.lua_parser.specs.StatementRefusals.{RefusesBlock}
+use Rattle.lua_parser.proofs.PrintedStatements.{block_ended}
+
+-- the place of the chunk
+pub record IsOutermost (at : Place) : Type 0 where
+  pub depth : at.depth ≡ 1
+  pub rest : at.rest ≡ true
+  pub in_loop : at.in_loop ≡ false
+
+-- the tokens and the `end` that is put behind them
+go_on_to_end : (left : List Lexeme) → GoOn left (left ++ a_word End 1 [])
+go_on_to_end [] = refl
+go_on_to_end (first ∷ behind) = (behind ++ a_word End 1 [], refl)
+
+none_around : (fs : List Frame) → AllZip Steady [] fs → Few fs
+unfolding Few
+none_around [] kept = tt
+none_around (f ∷ fs) kept = absurd kept
+
+go_on_all : (fault : ParseFault) (left : List Lexeme) → GoOnWith fault left (left ++ a_word End 1 [])
+go_on_all (At line) left = go_on_to_end left
+go_on_all other left = refl
+
+-- tokens that begin as those that are left, with the `end` behind them
+begin_on : (left xs : List Lexeme) → BeginAs left xs → GoOn left (xs ++ a_word End 1 [])
+begin_on [] xs h = rw h refl
+begin_on (first ∷ behind) xs h = (h.0 ++ a_word End 1 [], ap (λ ys. ys ++ a_word End 1 []) h.1)
+
+has_line : (line last : ℕ) (left : List Lexeme) → line ≡ line_or last left → HasLine line left
+has_line line last [] told = tt
+has_line line last (first ∷ behind) told = told
+
+-- a chunk fits
+chunk_fits : (at : Place) (kept : Function) (s : State) (b : Block) → IsOutermost at → s.scope ≡ enter [] kept outside → IsChunk b → FitsBlock at s.scope.around b
+chunk_fits at kept s b outer begun is =
+    let (first, out, m, t, opens, ends, functions, files) = is.resolved in
+    let few = none_around t.around (ended_keeps is.line [] true first out outside m t (block_goes b (enter [] first outside) out m opens) ends).frames in
+    record {
+      valid = subst (λ l. IsValidBlock at.rest l b) (sym outer.in_loop) (subst (λ rest. IsValidBlock rest false b) (sym outer.rest) is.valid);
+      deep = let d = is.shallow in let n = outer.depth in omega (arith, d, n);
+      resolvable = record {
+        before = enter [] first outside;
+        out = out;
+        behind = m;
+        same = ap (λ z. z.around) (sym begun);
+        resolved = opens;
+        few = few_inside is.line [] true out outside m t ends few;
+      };
+    }
+
+supposed : (fault : ParseFault) (P : Type 0) → (fault ≡ Memory → ⊥) → P → Supposes fault P
+supposed (At line) P other h = tt
+supposed Memory P other h = other refl
+supposed fault P other h = h
+
+counted : (fault : ParseFault) (b : Block) → IsChunk b → Counts fault b
+counted (At line) b is = tt
+counted fault b is = is
+
+-- a program's tokens are read to its chunk
+program_read : (tokens : List Token) (program : Program) → IsProgramOf tokens program → (b : Block) × (run read_chunk (lexemes tokens ++ a_word End 1 []) ≡ chunk b) × IsChunk b
+program_read tokens program (b, is) = (
+  b,
+  ap read is.printed ∙ is_read b is.valid,
+  record { valid = is.valid; shallow = is.shallow; line = first_line (lexemes tokens); program = program; resolved = is.resolved },
+)
+
+whole_left : (tokens : List Token) (p : Parser) → p.place ≡ 0 → (state tokens p).left ≡ lexemes tokens
+unfolding state
+whole_left tokens p start = ap (λ n. lexemes (drop n tokens)) start
+
+scope_there : (tokens : List Token) (p : Parser) (kept : Function) → scope_of p ≡ enter [] kept outside → (state tokens p).scope ≡ enter [] kept outside
+unfolding state
+scope_there tokens p kept begun = begun
+
+-- where the block of the chunk is refused
+pub block_refused : (at : Place) (tokens : List Token) (p : Parser) (t : State) (kept : Function) (fault : ParseFault) → IsOutermost at → p.place ≡ 0 → scope_of p ≡ enter [] kept outside →
+    RefusesBlock at (state tokens p) t fault → (fault ≡ Memory → ⊥) → (program : Program) → IsProgramOf tokens program → ⊥
+block_refused at tokens p t kept fault outer start begun refuses other program is =
+    let sticks = (refuses (λ b. token (end_ (λ l. chunk b))) (supposed fault _ other (λ x not.
+    dead_end (λ l. chunk x) (λ l h. not (chunk_fits at kept (state tokens p) x outer (scope_there tokens p kept begun) h))))).sticks in
+    let (b, reads, stands) = program_read tokens program is in
+    let all : sticks.read ++ (t.left ++ a_word End 1 []) ≡ lexemes tokens ++ a_word End 1 [] =
+    sym (append_assoc sticks.read t.left (a_word End 1 [])) ∙ ap (λ xs. xs ++ a_word End 1 []) (sym sticks.printed ∙ whole_left tokens p start) in
+    sticks.stuck (t.left ++ a_word End 1 []) (go_on_all fault t.left) b (ap (run read_chunk) all ∙ reads) (counted fault b stands)
+
+-- where nothing fits, no chunk goes on
+pub block_unfit : (at : Place) (tokens : List Token) (p : Parser) (t : State) (fault : ParseFault) → p.place ≡ 0 → RefusesBlock at (state tokens p) t fault → OfAt (IsUnfit tokens) fault
+block_unfit at tokens p t (At line) start refuses =
+    let r = refuses (λ b. token (end_ (λ l. chunk b))) tt in
+    record {
+      before = r.sticks.read;
+      left = t.left;
+      all = sym (whole_left tokens p start) ∙ r.sticks.printed;
+      told = has_line line t.last t.left r.tells;
+      stuck = λ xs h b is.
+          r.sticks.stuck (xs ++ a_word End 1 []) (begin_on t.left xs h) b
+          (ap (run read_chunk) (sym (append_assoc r.sticks.read xs (a_word End 1 []))) ∙ is)
+          tt;
+    }
+block_unfit at tokens p t other start refuses = tt
+
+-- behind the chunk there are more tokens
+never_chunk : (xs : List Lexeme) (b : Block) → run failed xs ≡ chunk b → ⊥
+never_chunk xs b is = let e : failed ≡ chunk b = sym (stays_failed xs) ∙ is in cc
+
+more_than_chunk : (x : Block) (xs : List Lexeme) (b : Block) → run (chunk x) (xs ++ a_word End 1 []) ≡ chunk b → ⊥
+more_than_chunk x [] b is = never_chunk [] b is
+more_than_chunk x (first ∷ behind) b is = never_chunk (behind ++ a_word End 1 []) b is
+
+one_more : (x : Block) (kind : TokenKind) (l : Line) (xs : List Lexeme) (b : Block) → run (end_ (λ l. chunk x) kind l) (xs ++ a_word End 1 []) ≡ chunk b → ⊥
+one_more x (Word End) l xs b is = more_than_chunk x xs b is
+one_more x kind l xs b is = never_chunk (xs ++ a_word End 1 []) b is
+
+too_many : (x : Block) (left : List Lexeme) (b : Block) → (left ≡ [] → ⊥) → run (token (end_ (λ l. chunk x))) (left ++ a_word End 1 []) ≡ chunk b → ⊥
+too_many x [] b some is = some refl
+too_many x (first ∷ behind) b some is = one_more x first.kind first.line behind b is
+
+some_dropped : (tokens : List Token) (n : ℕ) → n < length tokens → lexemes (drop n tokens) ≡ [] → ⊥
+some_dropped [] n more is = absurd (grind arith)
+some_dropped (x ∷ xs) zero more is = cc
+some_dropped (x ∷ xs) (suc n) more is = some_dropped xs n (grind arith) is
+
+some_left : (tokens : List Token) (q : Parser) → q.place < length tokens → (state tokens q).left ≡ [] → ⊥
+unfolding state
+some_left tokens q more is = some_dropped tokens q.place more is
+
+too_many_from : (x : Block) (left xs : List Lexeme) (b : Block) → (left ≡ [] → ⊥) → BeginAs left xs → run (token (end_ (λ l. chunk x))) (xs ++ a_word End 1 []) ≡ chunk b → ⊥
+too_many_from x [] xs b some h is = some refl
+too_many_from x (first ∷ behind) xs b some h is = one_more x first.kind first.line h.0 b (rw h.1 at is)
+
+-- the token behind the chunk is one too many
+pub token_unfit : (at : Place) (tokens : List Token) (p q : Parser) (out : List Stmt) (fault : ParseFault) → p.place ≡ 0 → ReadsBlock at (state tokens p) out (state tokens q) → q.place < length tokens →
+    fault ≡ At (line_or q.line (state tokens q).left) → OfAt (IsUnfit tokens) fault
+token_unfit at tokens p q out fault start r more is =
+    let t = state tokens q in
+    let moves = block_ended at (state tokens p) t out r (λ b. token (end_ (λ l. chunk b))) in
+    rw is (record {
+      before = moves.read;
+      left = t.left;
+      all = sym (whole_left tokens p start) ∙ moves.printed;
+      told = has_line (line_or q.line t.left) q.line t.left refl;
+      stuck = λ xs h b reads.
+          too_many_from r.tree t.left xs b (some_left tokens q more) h
+          (sym (moves.runs (xs ++ a_word End 1 []) (begin_on t.left xs h)) ∙ ap (run read_chunk) (sym (append_assoc moves.read xs (a_word End 1 []))) ∙ reads);
+    })
+
+pub too_many_tokens : (at : Place) (tokens : List Token) (p q : Parser) (out : List Stmt) → p.place ≡ 0 → ReadsBlock at (state tokens p) out (state tokens q) → q.place < length tokens →
+    (program : Program) → IsProgramOf tokens program → ⊥
+too_many_tokens at tokens p q out start r more program is =
+    let t = state tokens q in
+    let moves = block_ended at (state tokens p) t out r (λ b. token (end_ (λ l. chunk b))) in
+    let (b, reads, stands) = program_read tokens program is in
+    let all : moves.read ++ (t.left ++ a_word End 1 []) ≡ lexemes tokens ++ a_word End 1 [] =
+    sym (append_assoc moves.read t.left (a_word End 1 [])) ∙ ap (λ xs. xs ++ a_word End 1 []) (sym moves.printed ∙ whole_left tokens p start) in
+    too_many r.tree t.left b (some_left tokens q more) (sym (moves.runs (t.left ++ a_word End 1 []) (go_on_to_end t.left)) ∙ ap (run read_chunk) all ∙ reads)
