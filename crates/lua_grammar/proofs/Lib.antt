@@ -30,3 +30,5 @@ pub mod PrintedStates
 pub mod PrintedParts
 pub mod PrintedStatements
 pub mod Printed
+pub mod Beginnings
+pub mod StillWaiting

@@ -10,7 +10,7 @@ use Rattle.lua_grammar.specs.Printing.{Lexeme}
 use Rattle.lua_grammar.specs.Operators.{right_level}
 use Rattle.lua_grammar.specs.Waiting.{Reader, failed, chunk, token, exp, more_exp, more_prefix, more_list, more_fields, more_names, more_funcname, more_vars, more_arms, more_stats, unless_assign, after_statement, after_local, after_return, operator_of, above}
 use Rattle.lua_grammar.specs.Reading.{begin_args, next_statement, last_statement, feed, run, read_chunk}
-use Rattle.lua_grammar.proofs.LiveStates.{CanGoOn, IsOpen, IsLivePrefix, by_token, at_some, at_semicolon, live_more_exp, live_more_list, live_more_names, live_more_stats, live_more_prefix, live_exp}
+use Rattle.lua_grammar.proofs.LiveStates.{CanGoOn, IsOpen, IsLivePrefix, on_line_one, by_token, at_some, at_semicolon, live_more_exp, live_more_list, live_more_names, live_more_stats, live_more_prefix, live_exp}
 use Rattle.lua_grammar.proofs.LiveParts.{live_name, live_close_bracket, live_end, live_list, live_to_end, open_begin_exp, open_begin_list, open_begin_args, live_begin_args, open_fields}
 use Rattle.lua_grammar.proofs.LiveStatements.{behind_statement, live_next_name, live_arm, live_more_arms, live_next_statement, live_last_statement, live_values, open_more_targets, open_statement, open_last}
 
@@ -49,7 +49,7 @@ open_feed (more_names ns k rest) live (Sign sign.Comma) c = (live_next_name ns c
 open_feed (more_names ns k rest) live kind l = open_feed (k ns) (live ns).0 kind l
 open_feed (more_funcname f k) live (Sign sign.Dot) d =
     (live_name (λ l n. more_funcname (tree.name_member f d l n) k)
-    (λ l n. (live, by_token (more_funcname (tree.name_member f d l n) k) (Sign sign.OpenParenthesis) 1 (live (tree.name_member f d l n)).1))).0
+    (λ l n. (live, by_token (more_funcname (tree.name_member f d l n) k) (Sign sign.OpenParenthesis) (live (tree.name_member f d l n)).1))).0
 open_feed (more_funcname f k) live kind l = open_feed (k f) (live f).0 kind l
 open_feed (more_vars vs k) live (Sign sign.Comma) c = open_more_targets vs c k live
 open_feed (more_vars vs k) live (Sign sign.Assign) q = (live_values vs k live q).0
@@ -96,16 +96,16 @@ fails_or_goes_on (exp m k) live = inr (live_exp m k live).1
 fails_or_goes_on (more_exp m e k) live = inr (at_some (more_exp m e k) (live_more_exp m e k live).1)
 fails_or_goes_on (more_prefix p k) live = inr (live_more_prefix p k live).1
 fails_or_goes_on (more_list es k) live = inr (at_some (more_list es k) (live_more_list es k live).1)
-fails_or_goes_on (more_fields o fs k) live = inr (by_token (more_fields o fs k) (Sign sign.CloseBrace) 1 (live (tree.separated o fs 1)).1)
+fails_or_goes_on (more_fields o fs k) live = inr (by_token (more_fields o fs k) (Sign sign.CloseBrace) (live (tree.separated o fs 1)).1)
 fails_or_goes_on (more_names ns k rest) live = inr (live_more_names ns k rest live).1
-fails_or_goes_on (more_funcname f k) live = inr (by_token (more_funcname f k) (Sign sign.OpenParenthesis) 1 (live f).1)
-fails_or_goes_on (more_vars vs k) live = inr (by_token (more_vars vs k) (Sign sign.Assign) 1 (live_values vs k live 1).1)
-fails_or_goes_on (more_arms arms k) live = inr (by_token (more_arms arms k) (Word word.End) 1 (behind_statement k live (tree.if_then arms 1)).1)
+fails_or_goes_on (more_funcname f k) live = inr (by_token (more_funcname f k) (Sign sign.OpenParenthesis) (live f).1)
+fails_or_goes_on (more_vars vs k) live = inr (by_token (more_vars vs k) (Sign sign.Assign) (live_values vs k live 1).1)
+fails_or_goes_on (more_arms arms k) live = inr (by_token (more_arms arms k) (Word word.End) (behind_statement k live (tree.if_then arms 1)).1)
 fails_or_goes_on (more_stats ss k) live = inr (live_more_stats ss k live).1
-fails_or_goes_on (unless_assign r k) live = inr (by_token (unless_assign r k) (Sign sign.Assign) 1 live.2)
-fails_or_goes_on (after_statement k) live = inr (by_token (after_statement k) (Sign sign.Semicolon) 1 (live (tree.closed 1)).1)
-fails_or_goes_on (after_local l ns k) live = inr (by_token (after_local l ns k) (Sign sign.Semicolon) 1 (live (tree.local l ns)).1)
-fails_or_goes_on (after_return r k) live = inr (by_token (after_return r k) (Sign sign.Semicolon) 1 (live (tree.return_none r)).1)
+fails_or_goes_on (unless_assign r k) live = inr (by_token (unless_assign r k) (Sign sign.Assign) live.2)
+fails_or_goes_on (after_statement k) live = inr (by_token (after_statement k) (Sign sign.Semicolon) (live (tree.closed 1)).1)
+fails_or_goes_on (after_local l ns k) live = inr (by_token (after_local l ns k) (Sign sign.Semicolon) (live (tree.local l ns)).1)
+fails_or_goes_on (after_return r k) live = inr (by_token (after_return r k) (Sign sign.Semicolon) (live (tree.return_none r)).1)
 
 -- ---- a chunk
 
@@ -113,7 +113,7 @@ pub open_chunk : IsOpen read_chunk
 open_chunk = λ b. live_end (λ l. chunk b) (λ l. (tt, ([], b, refl)))
 
 -- what stands behind is read by what was made of what stands before
-run_behind : (r : Reader) (xs ys : List Lexeme) → run r (xs ++ ys) ≡ run (run r xs) ys
+pub run_behind : (r : Reader) (xs ys : List Lexeme) → run r (xs ++ ys) ≡ run (run r xs) ys
 run_behind r [] ys = refl
 run_behind r (first ∷ behind) ys = run_behind (feed r first.kind first.line) behind ys
 
@@ -121,5 +121,5 @@ pub goes_on_to_chunk : (tokens : List Lexeme) → (run read_chunk tokens ≡ fai
     → (rest : List Lexeme) × (block : Block) × run read_chunk (tokens ++ rest) ≡ chunk block
 goes_on_to_chunk tokens reads = elim (fails_or_goes_on (run read_chunk tokens) (open_run read_chunk open_chunk tokens)) [
   | inl fails ↦ absurd (reads fails)
-  | inr on ↦ (on.0, on.1, run_behind read_chunk tokens on.0 ∙ on.2)
+  | inr on ↦ (on_line_one on.0, on.1, run_behind read_chunk tokens (on_line_one on.0) ∙ on.2)
 ]

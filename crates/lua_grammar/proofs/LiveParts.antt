@@ -17,7 +17,7 @@ open_name k live (Name n) l = (live l n).0
 open_name k live other l = tt
 
 pub live_name : (k : Line → Bytes → Reader) → ((l : Line) (n : Bytes) → IsLive (k l n)) → IsLive (token (name k))
-live_name k live = let on = by_token (token (name k)) (Name []) 1 (live 1 []).1 in ((open_name k live, on), on)
+live_name k live = let on = by_token (token (name k)) (Name []) (live 1 []).1 in ((open_name k live, on), on)
 
 open_close_parenthesis : (k : Line → Reader) → ((l : Line) → IsLive (k l)) → (kind : TokenKind) (l : Line) → IsOpen (close_parenthesis k kind l)
 open_close_parenthesis k live (Sign sign.CloseParenthesis) l = (live l).0
@@ -25,7 +25,7 @@ open_close_parenthesis k live other l = tt
 
 live_close_parenthesis : (k : Line → Reader) → ((l : Line) → IsLive (k l)) → IsLiveAt EndsList (token (close_parenthesis k))
 live_close_parenthesis k live = (
-  (open_close_parenthesis k live, by_token _ (Sign sign.CloseParenthesis) 1 (live 1).1),
+  (open_close_parenthesis k live, by_token _ (Sign sign.CloseParenthesis) (live 1).1),
   (Sign sign.CloseParenthesis, parenthesis_ends, (live 1).1),
 )
 
@@ -35,7 +35,7 @@ open_close_bracket k live other l = tt
 
 pub live_close_bracket : (k : Line → Reader) → ((l : Line) → IsLive (k l)) → IsLiveAt EndsExp (token (close_bracket k))
 live_close_bracket k live = (
-  (open_close_bracket k live, by_token _ (Sign sign.CloseBracket) 1 (live 1).1),
+  (open_close_bracket k live, by_token _ (Sign sign.CloseBracket) (live 1).1),
   (Sign sign.CloseBracket, bracket_ends, (live 1).1),
 )
 
@@ -44,14 +44,14 @@ open_equals k live (Sign sign.Assign) l = (live l).0
 open_equals k live other l = tt
 
 live_equals : (k : Line → Reader) → ((l : Line) → IsLive (k l)) → IsLive (token (equals k))
-live_equals k live = let on = by_token (token (equals k)) (Sign sign.Assign) 1 (live 1).1 in ((open_equals k live, on), on)
+live_equals k live = let on = by_token (token (equals k)) (Sign sign.Assign) (live 1).1 in ((open_equals k live, on), on)
 
 open_comma : (k : Line → Reader) → ((l : Line) → IsLive (k l)) → (kind : TokenKind) (l : Line) → IsOpen (comma k kind l)
 open_comma k live (Sign sign.Comma) l = (live l).0
 open_comma k live other l = tt
 
 pub live_comma : (k : Line → Reader) → ((l : Line) → IsLive (k l)) → IsLiveAt EndsExp (token (comma k))
-live_comma k live = ((open_comma k live, by_token _ (Sign sign.Comma) 1 (live 1).1), (Sign sign.Comma, comma_ends, (live 1).1))
+live_comma k live = ((open_comma k live, by_token _ (Sign sign.Comma) (live 1).1), (Sign sign.Comma, comma_ends, (live 1).1))
 
 pub open_do : (k : Line → Reader) → ((l : Line) → IsLive (k l)) → (kind : TokenKind) (l : Line) → IsOpen (do_ k kind l)
 open_do k live (Word word.Do) l = (live l).0
@@ -62,21 +62,21 @@ open_then k live (Word word.Then) l = (live l).0
 open_then k live other l = tt
 
 pub live_then : (k : Line → Reader) → ((l : Line) → IsLive (k l)) → IsLiveAt EndsExp (token (then_ k))
-live_then k live = ((open_then k live, by_token _ (Word word.Then) 1 (live 1).1), (Word word.Then, then_ends, (live 1).1))
+live_then k live = ((open_then k live, by_token _ (Word word.Then) (live 1).1), (Word word.Then, then_ends, (live 1).1))
 
 open_end : (k : Line → Reader) → ((l : Line) → IsLive (k l)) → (kind : TokenKind) (l : Line) → IsOpen (end_ k kind l)
 open_end k live (Word word.End) l = (live l).0
 open_end k live other l = tt
 
 pub live_end : (k : Line → Reader) → ((l : Line) → IsLive (k l)) → IsLiveAt EndsBlock (token (end_ k))
-live_end k live = ((open_end k live, by_token _ (Word word.End) 1 (live 1).1), (Word word.End, end_ends, (live 1).1))
+live_end k live = ((open_end k live, by_token _ (Word word.End) (live 1).1), (Word word.End, end_ends, (live 1).1))
 
 open_until : (k : Line → Reader) → ((l : Line) → IsLive (k l)) → (kind : TokenKind) (l : Line) → IsOpen (until_ k kind l)
 open_until k live (Word word.Until) l = (live l).0
 open_until k live other l = tt
 
 pub live_until : (k : Line → Reader) → ((l : Line) → IsLive (k l)) → IsLiveAt EndsBlock (token (until_ k))
-live_until k live = ((open_until k live, by_token _ (Word word.Until) 1 (live 1).1), (Word word.Until, until_ends, (live 1).1))
+live_until k live = ((open_until k live, by_token _ (Word word.Until) (live 1).1), (Word word.Until, until_ends, (live 1).1))
 
 -- ---- blocks, lists and bodies of functions
 
@@ -110,7 +110,7 @@ open_params o k live other l = tt
 
 live_params : (o : Line) (k : FuncBody → Reader) → ((b : FuncBody) → IsLive (k b)) → IsLive (token (params o k))
 live_params o k live =
-    let on = by_token (token (params o k)) (Sign sign.CloseParenthesis) 1 (live_body_behind o k live tree.no_params 1).1 in
+    let on = by_token (token (params o k)) (Sign sign.CloseParenthesis) (live_body_behind o k live tree.no_params 1).1 in
     ((open_params o k live, on), on)
 
 pub open_body : (k : FuncBody → Reader) → ((b : FuncBody) → IsLive (k b)) → (kind : TokenKind) (l : Line) → IsOpen (body k kind l)
@@ -122,7 +122,7 @@ pub body_goes_on : (k : FuncBody → Reader) → ((b : FuncBody) → IsLive (k b
 body_goes_on k live = (live_params 1 k live).1
 
 pub live_body : (k : FuncBody → Reader) → ((b : FuncBody) → IsLive (k b)) → IsLive (token (body k))
-live_body k live = let on = by_token (token (body k)) (Sign sign.OpenParenthesis) 1 (body_goes_on k live) in ((open_body k live, on), on)
+live_body k live = let on = by_token (token (body k)) (Sign sign.OpenParenthesis) (body_goes_on k live) in ((open_body k live, on), on)
 
 -- ---- expressions
 
@@ -168,7 +168,7 @@ open_args o k live kind l = open_begin_list (λ es. token (close_parenthesis (λ
 
 pub open_begin_args : (k : Args → Reader) → ((a : Args) → IsLive (k a)) → (kind : TokenKind) (l : Line) → IsOpen (begin_args k kind l)
 open_begin_args k live (Sign sign.OpenParenthesis) l =
-    (open_args l k live, by_token (token (args l k)) (Sign sign.CloseParenthesis) 1 (live (tree.no_args l 1)).1)
+    (open_args l k live, by_token (token (args l k)) (Sign sign.CloseParenthesis) (live (tree.no_args l 1)).1)
 open_begin_args k live (Sign sign.OpenBrace) l = λ t. live (tree.table_arg t)
 open_begin_args k live (Text bytes) l = (live (tree.string_arg l bytes)).0
 open_begin_args k live other l = tt
@@ -176,7 +176,7 @@ open_begin_args k live other l = tt
 -- by a string
 pub live_begin_args : (k : Args → Reader) → ((a : Args) → IsLive (k a)) → IsLive (token (begin_args k))
 live_begin_args k live =
-    let on = by_token (token (begin_args k)) (Text []) 1 (live (tree.string_arg 1 [])).1 in ((open_begin_args k live, on), on)
+    let on = by_token (token (begin_args k)) (Text []) (live (tree.string_arg 1 [])).1 in ((open_begin_args k live, on), on)
 
 -- ---- fields of a table
 
@@ -195,7 +195,7 @@ live_after_field : (o : Line) (fs : Fields) (k : Table → Reader) → ((t : Tab
 live_after_field o fs k live f = (open_after_field o fs k live f, (live (tree.ending o fs f 1)).1)
 
 live_field : (k : Field → TokenKind → Line → Reader) → IsLiveField k → (f : Field) → IsLiveAt EndsExp (token (k f))
-live_field k live f = (((live f).0, by_token (token (k f)) (Sign sign.CloseBrace) 1 (live f).1), (Sign sign.CloseBrace, brace_ends, (live f).1))
+live_field k live f = (((live f).0, by_token (token (k f)) (Sign sign.CloseBrace) (live f).1), (Sign sign.CloseBrace, brace_ends, (live f).1))
 
 open_field : (k : Field → TokenKind → Line → Reader) → IsLiveField k → (kind : TokenKind) (l : Line) → IsOpen (field k kind l)
 open_field k live (Sign sign.OpenBracket) o =

@@ -17,7 +17,7 @@ IsLiveStatement k = (s : Stat) → IsLiveAtSemicolon (k s)
 
 -- behind a statement that is known
 pub behind_statement : (k : Stat → Reader) → IsLiveStatement k → (s : Stat) → IsLive (k s)
-behind_statement k live s = ((live s).0, by_token (k s) (Sign sign.Semicolon) 1 (live s).1)
+behind_statement k live s = ((live s).0, by_token (k s) (Sign sign.Semicolon) (live s).1)
 
 -- ---- names
 
@@ -30,7 +30,7 @@ open_next_name ns c k rest live other l = tt
 pub live_next_name : (ns : NameList) (c : Line) (k : NameList → Reader) (rest : NameList → Line → Line → Reader) → IsOpen (more_names ns k rest)
     → IsLive (token (next_name ns c k rest))
 live_next_name ns c k rest live =
-    let on = by_token (token (next_name ns c k rest)) (Name []) 1 (live_more_names (tree.next_name ns c 1 []) k rest live).1 in
+    let on = by_token (token (next_name ns c k rest)) (Name []) (live_more_names (tree.next_name ns c 1 []) k rest live).1 in
     ((open_next_name ns c k rest live, on), on)
 
 -- ---- loops
@@ -45,7 +45,7 @@ loop_body_goes_on k live = (live_to_end (k 1) (live 1)).1
 live_loop_body : (k : Line → Block → Line → Reader) → ((d : Line) (b : Block) (e : Line) → IsLive (k d b e)) → IsLiveAt EndsList (token (loop_body k))
 live_loop_body k live =
     let on = loop_body_goes_on k live in
-    ((open_loop_body k live, by_token (token (loop_body k)) (Word word.Do) 1 on), (Word word.Do, do_ends, on))
+    ((open_loop_body k live, by_token (token (loop_body k)) (Word word.Do) on), (Word word.Do, do_ends, on))
 
 open_for_limit : (f l : Line) (n : Bytes) (q : Line) (from : Exp) (c : Line) (to : Exp) (k : Stat → Reader) → IsLiveStatement k
     → (kind : TokenKind) (m : Line) → IsOpen (for_limit f l n q from c to k kind m)
@@ -59,7 +59,7 @@ live_for_limit : (f l : Line) (n : Bytes) (q : Line) (from : Exp) (c : Line) (to
     → IsLiveAt EndsExp (token (for_limit f l n q from c to k))
 live_for_limit f l n q from c to k live =
     let on = loop_body_goes_on (λ d b e. k (tree.for_range f l n q from c to d b e)) (λ d b e. behind_statement k live (tree.for_range f l n q from c to d b e)) in
-    ((open_for_limit f l n q from c to k live, by_token (token (for_limit f l n q from c to k)) (Word word.Do) 1 on), (Word word.Do, do_ends.last, on))
+    ((open_for_limit f l n q from c to k live, by_token (token (for_limit f l n q from c to k)) (Word word.Do) on), (Word word.Do, do_ends.last, on))
 
 live_for_in : (f : Line) (k : Stat → Reader) → IsLiveStatement k → (ns : NameList) (i : Line) → IsLive (for_tail f k ns (Word word.In) i)
 live_for_in f k live ns i =
@@ -76,13 +76,13 @@ open_for_tail f k live ns other i = tt
 open_for : (f : Line) (k : Stat → Reader) → IsLiveStatement k → (kind : TokenKind) (l : Line) → IsOpen (for_ f k kind l)
 open_for f k live (Name n) l = λ those.
     let on = (live_for_in f k live those 1).1 in
-    ((open_for_tail f k live those, by_token (token (for_tail f k those)) (Word word.In) 1 on), (Word word.In, in_ends, on), λ c d. tt)
+    ((open_for_tail f k live those, by_token (token (for_tail f k those)) (Word word.In) on), (Word word.In, in_ends, on), λ c d. tt)
 open_for f k live other l = tt
 
 live_for : (f : Line) (k : Stat → Reader) → IsLiveStatement k → IsLive (token (for_ f k))
 live_for f k live =
     let names = live_more_names (tree.first_name 1 []) (λ ns. token (for_tail f k ns)) no_rest (open_for f k live (Name []) 1) in
-    let on = by_token (token (for_ f k)) (Name []) 1 names.1 in
+    let on = by_token (token (for_ f k)) (Name []) names.1 in
     ((open_for f k live, on), on)
 
 -- ---- functions and locals
@@ -96,14 +96,14 @@ open_function_tail f k live n kind l = open_body (λ b. k (tree.function_stateme
 open_function : (f : Line) (k : Stat → Reader) → IsLiveStatement k → (kind : TokenKind) (l : Line) → IsOpen (function_ f k kind l)
 open_function f k live (Name n) l = λ whole.
     let on = body_goes_on (λ b. k (tree.function_statement f whole b)) (λ b. behind_statement k live (tree.function_statement f whole b)) in
-    ((open_function_tail f k live whole, by_token (token (function_tail f k whole)) (Sign sign.OpenParenthesis) 1 on), on)
+    ((open_function_tail f k live whole, by_token (token (function_tail f k whole)) (Sign sign.OpenParenthesis) on), on)
 open_function f k live other l = tt
 
 live_function : (f : Line) (k : Stat → Reader) → IsLiveStatement k → IsLive (token (function_ f k))
 live_function f k live =
     let root = tree.root_name 1 [] in
     let on = body_goes_on (λ b. k (tree.function_statement f root b)) (λ b. behind_statement k live (tree.function_statement f root b)) in
-    let named = by_token (token (function_ f k)) (Name []) 1 (by_token _ (Sign sign.OpenParenthesis) 1 on) in
+    let named = by_token (token (function_ f k)) (Name []) (by_token _ (Sign sign.OpenParenthesis) on) in
     ((open_function f k live, named), named)
 
 open_local : (l : Line) (k : Stat → Reader) → IsLiveStatement k → (kind : TokenKind) (m : Line) → IsOpen (local_ l k kind m)
@@ -116,7 +116,7 @@ open_local l k live other m = tt
 live_local : (l : Line) (k : Stat → Reader) → IsLiveStatement k → IsLive (token (local_ l k))
 live_local l k live =
     let names = live_more_names (tree.first_name 1 []) (λ ns. after_local l ns k) no_rest (open_local l k live (Name []) 1) in
-    let on = by_token (token (local_ l k)) (Name []) 1 names.1 in
+    let on = by_token (token (local_ l k)) (Name []) names.1 in
     ((open_local l k live, on), on)
 
 -- ---- statements
@@ -165,7 +165,7 @@ live_next_target vs c k live =
 pub open_more_targets : (vs : VarList) (c : Line) (k : Stat → Reader) → IsLiveStatement k → IsOpen (token (begin_prefix (next_target vs c k)))
 open_more_targets vs c k live =
     let target = live_next_target vs c k live in
-    (open_begin_prefix (next_target vs c k) target, by_token _ (Name []) 1 (prefix_goes_on (next_target vs c k) target))
+    (open_begin_prefix (next_target vs c k) target, by_token _ (Name []) (prefix_goes_on (next_target vs c k) target))
 
 pub open_statement : (k : Stat → Reader) → IsLiveStatement k → (kind : TokenKind) (l : Line) → IsOpen (statement k kind l)
 open_statement k live (Word word.Do) d = (live_to_end (λ b e. k (tree.do_block d b e)) (λ b e. behind_statement k live (tree.do_block d b e))).0

@@ -6,13 +6,18 @@ use Rattle.lua_lexer.specs.declared.signs.Sign.TheVariants as sign
 use Rattle.lua_lexer.specs.declared.words.Word.TheVariants as word
 use Rattle.lua_grammar.specs.Tree.{Line, Bytes, NameList, FuncName, End, Exp, PrefixExp, ExpList, Table, Block, Stats, Stat, LastStat}
 use Rattle.lua_grammar.specs.Tree as tree
-use Rattle.lua_grammar.specs.Printing.{Lexeme}
+use Rattle.lua_grammar.specs.Printing.{Lexeme, a_kind}
 use Rattle.lua_grammar.specs.Waiting.{Reader, failed, chunk, token, exp, more_exp, more_prefix, more_list, more_fields, more_names, more_funcname, more_vars, more_arms, more_stats, unless_assign, after_statement, after_local, after_return}
 use Rattle.lua_grammar.specs.Reading.{feed, run}
 
--- some tokens lead to a chunk
+-- tokens of those kinds, each on line 1
+abbrev pub on_line_one : List TokenKind → List Lexeme
+on_line_one [] = []
+on_line_one (kind ∷ kinds) = a_kind kind 1 (on_line_one kinds)
+
+-- some such tokens lead to a chunk
 abbrev pub CanGoOn : Reader → Type 0
-CanGoOn r = (rest : List Lexeme) × (b : Block) × run r rest ≡ chunk b
+CanGoOn r = (rest : List TokenKind) × (b : Block) × run r (on_line_one rest) ≡ chunk b
 
 -- ---- tokens that end what is read: the reader hands it on, with the token
 
@@ -115,15 +120,15 @@ until_ends = record { block = λ ss k l. refl }
 -- ---- how a reader goes on
 
 -- by a token
-pub by_token : (r : Reader) (kind : TokenKind) (l : Line) → CanGoOn (feed r kind l) → CanGoOn r
-by_token r kind l on = (record { kind = kind; line = l } ∷ on.0, on.1, on.2)
+pub by_token : (r : Reader) (kind : TokenKind) → CanGoOn (feed r kind 1) → CanGoOn r
+by_token r kind on = (kind ∷ on.0, on.1, on.2)
 
 -- by what it hands a token on to
 by_same : (r s : Reader) → r ≡ s → CanGoOn s → CanGoOn r
 by_same r s same on = rw same on
 
 pub at_some : {Ends : TokenKind → Type 0} (r : Reader) → CanGoOnAt Ends r → CanGoOn r
-at_some r on = by_token r on.0 1 on.2
+at_some r on = by_token r on.0 on.2
 
 of_list : (r : Reader) → CanGoOnAt EndsList r → CanGoOnAt EndsExp r
 of_list r on = (on.0, on.1.last, on.2)
@@ -151,25 +156,25 @@ live_more_list es k live =
 pub live_more_names : (ns : NameList) (k : NameList → Reader) (rest : NameList → Line → Line → Reader) → IsOpen (more_names ns k rest) → IsLive (more_names ns k rest)
 live_more_names ns k rest open_ =
     let on = (open_ ns).1 in
-    (open_, by_token _ on.0 1 (by_same (feed (more_names ns k rest) on.0 1) (feed (k ns) on.0 1) (on.1.names ns k rest 1) on.2))
+    (open_, by_token _ on.0 (by_same (feed (more_names ns k rest) on.0 1) (feed (k ns) on.0 1) (on.1.names ns k rest 1) on.2))
 
 pub live_more_stats : (ss : Stats) (k : Block → Reader) → ((b : Block) → IsLiveAt EndsBlock (k b)) → IsLive (more_stats ss k)
 live_more_stats ss k live =
     let on = (live (tree.statements ss)).1 in
-    (live, by_token _ on.0 1 (by_same (feed (more_stats ss k) on.0 1) (feed (k (tree.statements ss)) on.0 1) (on.1.block ss k 1) on.2))
+    (live, by_token _ on.0 (by_same (feed (more_stats ss k) on.0 1) (feed (k (tree.statements ss)) on.0 1) (on.1.block ss k 1) on.2))
 
 -- behind a prefix, by a member of it
 pub live_more_prefix : (p : PrefixExp) (k : PrefixExp → Reader) → IsLivePrefix k → IsLive (more_prefix p k)
 live_more_prefix p k live =
     let whole = tree.member p 1 1 [] in let on = live.1 p 1 1 [] in (
       live,
-      by_token _ (Sign sign.Dot) 1 (by_token _ (Name []) 1
-          (by_token _ on.0 1 (by_same (feed (more_prefix whole k) on.0 1) (feed (k whole) on.0 1) (on.1.prefix whole k 1) on.2))),
+      by_token _ (Sign sign.Dot) (by_token _ (Name [])
+          (by_token _ on.0 (by_same (feed (more_prefix whole k) on.0 1) (feed (k whole) on.0 1) (on.1.prefix whole k 1) on.2))),
     )
 
 -- an expression is `nil`
 pub live_exp : (m : ℕ) (k : Exp → Reader) → ((e : Exp) → IsLiveAt EndsExp (k e)) → IsLive (exp m k)
-live_exp m k live = (live, by_token _ (Word word.Nil) 1 (at_some _ (live_more_exp m (tree.nil 1) k live).1))
+live_exp m k live = (live, by_token _ (Word word.Nil) (at_some _ (live_more_exp m (tree.nil 1) k live).1))
 
 -- what goes on with an expression goes on with a prefix
 pub live_prefix : (m : ℕ) (k : Exp → Reader) → ((e : Exp) → IsLiveAt EndsExp (k e)) → IsLivePrefix (λ p. more_exp m (tree.prefix p) k)

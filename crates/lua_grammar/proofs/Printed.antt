@@ -181,9 +181,12 @@ initial_behind (y ∷ z ∷ xs) x = ap (λ those. y ∷ those) (initial_behind (
 same_but_last : (xs ys : List Lexeme) (x y : Lexeme) → xs ++ x ∷ [] ≡ ys ++ y ∷ [] → xs ≡ ys
 same_but_last xs ys x y same = sym (initial_behind xs x) ∙ ap initial same ∙ initial_behind ys y
 
+-- the tokens that lead to a chunk are those of the chunk, and an `end`
+pub ends_in_end : (tokens : List Lexeme) (block : Block) → run read_chunk tokens ≡ chunk block → (l : Line) × tokens ≡ print_block block [] ++ a_word word.End l []
+ends_in_end tokens block is =
+    let ends = printed_is (run read_chunk tokens) (◌++◌ tokens) block (printed_run read_chunk (λ behind. behind) printed_chunk tokens) is in
+    (ends.0, sym (append-nil tokens) ∙ ap (λ (f : Tokens). f []) ends.1 ∙ (block_before block).splits [] (a_word word.End ends.0 []))
+
 pub read_prints : (tokens : List Lexeme) (block : Block) → read tokens ≡ chunk block → print_block block [] ≡ tokens
 read_prints tokens block is =
-    let all = tokens ++ a_word word.End 1 [] in
-    let ends = printed_is (read tokens) (◌++◌ all) block (printed_run read_chunk (λ behind. behind) printed_chunk all) is in
-    same_but_last (print_block block []) tokens _ _
-    (sym ((block_before block).splits [] (a_word word.End ends.0 [])) ∙ sym (ap (λ (f : Tokens). f []) ends.1) ∙ append-nil all)
+    let ends = ends_in_end (tokens ++ a_word word.End 1 []) block is in same_but_last (print_block block []) tokens _ _ (sym ends.1)

@@ -58,7 +58,7 @@ args_alike : (o : Line) (k : Args → Reader) → Alike (token (args o k)) (list
 args_alike o k (Sign sign.CloseParenthesis) l h = absurd (true≢false (sym h))
 args_alike o k kind l h = refl
 
-return_alike : (r : Line) (k : LastStat → Reader) → Alike (after_return r k) (list (λ es. k (tree.return_values r es)))
+pub return_alike : (r : Line) (k : LastStat → Reader) → Alike (after_return r k) (list (λ es. k (tree.return_values r es)))
 return_alike r k (Sign sign.Semicolon) l h = absurd (true≢false (sym h))
 return_alike r k (Word word.End) l h = absurd (true≢false (sym h))
 return_alike r k (Word word.Else) l h = absurd (true≢false (sym h))
@@ -66,7 +66,7 @@ return_alike r k (Word word.ElseIf) l h = absurd (true≢false (sym h))
 return_alike r k (Word word.Until) l h = absurd (true≢false (sym h))
 return_alike r k kind l h = refl
 
-fields_alike : (o : Line) (fs : Fields) (k : Table → Reader) → AlikeButNamed (more_fields o fs k) (exp 1 (λ e. token (after_field o fs k (tree.plain e))))
+pub fields_alike : (o : Line) (fs : Fields) (k : Table → Reader) → AlikeButNamed (more_fields o fs k) (exp 1 (λ e. token (after_field o fs k (tree.plain e))))
 fields_alike o fs k = record { others = others; name = name }
   where
     others : (kind : TokenKind) (l : Line) → begins kind ≡ true → ((n : Bytes) → kind ≡ Name n → ⊥) →
@@ -201,7 +201,7 @@ mutual
       ∙ stat_read s rest loop ss k (print_end x behind) v.1 f.0
       ∙ statement_ends x _ behind f.1
 
-  last_read : (s : LastStat) (rest : Bool) (loop : Bool) (ss : Stats) (k : Block → Reader) (x : End) (behind : List Lexeme) → IsValidLast rest loop s
+  pub last_read : (s : LastStat) (rest : Bool) (loop : Bool) (ss : Stats) (k : Block → Reader) (x : End) (behind : List Lexeme) → IsValidLast rest loop s
       → LastStatStops s (print_end x behind) → EndStops x behind → run (more_stats ss k) (print_laststat s (print_end x behind)) ≡ run (k (tree.with_last ss s x)) behind
   last_read (tree.return_none r) rest loop ss k x behind v h end = return_ends r (last_statement ss k) (print_end x behind) h ∙ statement_ends x _ behind end
   last_read (tree.return_values r es) rest loop ss k x behind v h end =

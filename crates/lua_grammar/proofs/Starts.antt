@@ -218,7 +218,7 @@ start_no_semicolon kind h = tt
 none : (behind : List Lexeme) → Behind IsNext behind → Behind IsNoOperator behind
 none behind h = weaker IsNext IsNoOperator behind no_operator h
 
-stat_stops : (s : Stat) (behind : List Lexeme) → IsBehind (StatEndsWithPrefix s) behind → StatStops s behind
+pub stat_stops : (s : Stat) (behind : List Lexeme) → IsBehind (StatEndsWithPrefix s) behind → StatStops s behind
 stat_stops (tree.assign vs q es) behind b = (last_stops es behind (none behind b.next) b.apart, weaker IsNext IsNoComma behind next_no_comma b.next)
 stat_stops (tree.call_statement p) behind b = b.apart tt
 stat_stops (tree.repeat_loop r c u t) behind b = (stops t behind (none behind b.next) b.apart, ends_in 1 behind (none behind b.next))

@@ -31,6 +31,12 @@ pub data Reader : Type 0 where
   after_local : Line → NameList → (Stat → Reader) → Reader
   after_return : Line → (LastStat → Reader) → Reader
 
+-- It waits for a token: it hasn't failed, and hasn't read a chunk.
+abbrev pub IsWaiting : Reader → Type 0
+IsWaiting failed = ⊥
+IsWaiting (chunk b) = ⊥
+IsWaiting other = Unit {0}
+
 -- ---- tokens
 
 abbrev pub operator_of : TokenKind → Option Operator

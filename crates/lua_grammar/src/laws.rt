@@ -11,7 +11,7 @@ ghost use Rattle.lua_grammar.specs.Reading.{read, read_chunk, run};
 ghost use Rattle.lua_grammar.specs.Scopes.{Frame};
 ghost use Rattle.lua_grammar.specs.Tree.{Block, bare, closed};
 ghost use Rattle.lua_grammar.specs.Validity.{IsValidBlock};
-ghost use Rattle.lua_grammar.specs.Waiting.{Reader, chunk, failed};
+ghost use Rattle.lua_grammar.specs.Waiting.{IsWaiting, Reader, chunk, failed};
 ghost use Rattle.lua_grammar.specs.Dead.{IsDead};
 ghost use Rattle.lua_grammar.specs.declared.operators.Operator.{Operator};
 
@@ -79,6 +79,11 @@ pub fn a_dead_reader_reads_no_chunk()
 /// A reader of a chunk that hasn't failed at some tokens can go on: further tokens lead it to a chunk.
 pub fn a_reader_that_has_not_failed_can_go_on()
     ensures { (tokens : List Lexeme) → (run read_chunk tokens ≡ failed → ⊥) → (rest : List Lexeme) × (block : Block) × (run read_chunk (tokens ++ rest) ≡ chunk block) }
+{}
+
+/// Tokens behind which a reader of a chunk waits begin a chunk.
+pub fn tokens_of_a_waiting_reader_begin_a_chunk()
+    ensures { (tokens : List Lexeme) → IsWaiting (run read_chunk tokens) → (rest : List Lexeme) × (block : Block) × (read (tokens ++ rest) ≡ chunk block) }
 {}
 
 /// In `a = f (g)()` the `(` behind `f` is that of a call, and no other tree has these tokens. With `f` and the `(` on
