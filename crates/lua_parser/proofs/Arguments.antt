@@ -10,7 +10,7 @@ use Rattle.lua_grammar.specs.Tree as tree
 use Rattle.lua_grammar.specs.Printing.{Lexeme, lexemes, a_kind}
 use Rattle.lua_grammar.specs.Dead.{IsDead}
 use Rattle.lua_grammar.specs.Stopping.{IsNoComma}
-use Rattle.lua_grammar.specs.Waiting.{Reader, failed, token, more_prefix, name, close_parenthesis}
+use Rattle.lua_grammar.specs.Waiting.{Reader, failed, token, more_prefix, name, close_parenthesis, IsWaiting}
 use Rattle.lua_grammar.specs.Reading.{args, begin_args, feed, list, run}
 use Rattle.lua_grammar.proofs.Dead.{dead_reads_no_chunk}
 use Rattle.lua_grammar.proofs.DeadParts.{dead_begin_args, dead_begin_list, dead_close_parenthesis, dead_list, dead_name}
@@ -72,7 +72,7 @@ pub no_args : (at : Place) (s t : State) (fault : ParseFault) → (IsNext (Sign 
 no_args at s t fault no_table no_text m = λ k h.
     missed fault _ (token (begin_args k)) BeginsArgs s t
     (misses_both fault (IsKind (Sign sign.OpenParenthesis)) (λ kind. IsKind (Sign sign.OpenBrace) kind ⊎ IsText kind) s t (neither_next s.left no_table no_text) m)
-    h end_begins_none (args_fail k)
+    h end_begins_none (args_fail k) tt
 
 -- ---- expressions
 
@@ -88,14 +88,14 @@ over_open : (k : Args → Reader) (s m : State) (line : ℕ) → Takes (Sign sig
     Moves (token (begin_args k)) s (list (behind_list k line)) m
 over_open k s m line taken not =
     on (by_token (token (begin_args k)) (Sign sign.OpenParenthesis) line s m taken)
-    (stays (token (args line k)) (list (behind_list k line)) m (λ l. args_go k line (ahead m) l (not_first (Sign sign.CloseParenthesis) m.left (λ is. cc) not)))
+    (stays (token (args line k)) (list (behind_list k line)) m (λ l. args_go k line (ahead m) l (not_first (Sign sign.CloseParenthesis) m.left (λ is. cc) not)) tt)
 
 pub args_no_part : (at : Place) (s m : State) (line : ℕ) (fault : ParseFault) → Takes (Sign sign.OpenParenthesis) line s m → (IsNext (Sign sign.CloseParenthesis) m → ⊥) →
     HasNoPart at m fault → RefusesArgs at s m fault
 args_no_part at s m line fault taken not none = λ k h.
     refused_on (over_open k s m line taken not)
     (no_part fault _ at (list (behind_list k line)) m none h (ends_failed (list (behind_list k line)) (λ l. refl)) (λ full suppose.
-    dead_list (behind_list k line) (λ es. dead_close_parenthesis _ (λ c. suppose (tree.args line es c) (λ f. deep_args at s.scope.around line es c full f)))))
+    dead_list (behind_list k line) (λ es. dead_close_parenthesis _ (λ c. suppose (tree.args line es c) (λ f. deep_args at s.scope.around line es c full f)))) tt)
 
 list_supposes : (at inner : Place) (s m : State) (line : ℕ) (k : Args → Reader) → m.scope ≡ s.scope → IsPart at inner → Unless (FitsArgs at s.scope.around) k →
     Unless (FitsList inner m.scope.around) (behind_list k line)
@@ -125,6 +125,7 @@ ambiguous_at line r s kind l behind left dead = record {
     stuck = λ xs go b is counts.
         let (rest, same) = subst (λ z. GoOn z xs) left (go_on_with (Ambiguous line) s.left xs go) in
         dead_reads_no_chunk (feed r kind l) rest b dead (sym (ap (run r) same) ∙ is) counts;
+    waits = tt;
   };
   tells = tt;
 }
@@ -138,13 +139,13 @@ dead_open o k none some kind l = dead_begin_list (behind_list k o) (λ es. dead_
 -- behind arguments stands what is dead unless they begin on that line
 pub cannot_open : (fault : ParseFault) (P : Type 0) (r : Reader) (k : Args → Reader) (s : State) → ((l : ℕ) → feed r (Word word.End) l ≡ failed) →
     ((l : ℕ) → feed r (Sign sign.OpenParenthesis) l ≡ token (args l k)) → CannotOpen s fault → Supposes fault P →
-    (P → (o : Line) → (o ≡ s.last → ⊥) → ((c : Line) → IsDead (k (tree.no_args o c))) × ((es : ExpList) (c : Line) → IsDead (k (tree.args o es c)))) → Refuses fault r s s
-cannot_open (At line) P r k s ends opens closed h dead = at_end r s line closed (ends_failed r ends)
-cannot_open (Ambiguous line) P r k s ends opens closed h dead =
+    (P → (o : Line) → (o ≡ s.last → ⊥) → ((c : Line) → IsDead (k (tree.no_args o c))) × ((es : ExpList) (c : Line) → IsDead (k (tree.args o es c)))) → IsWaiting r → Refuses fault r s s
+cannot_open (At line) P r k s ends opens closed h dead waits = at_end r s line closed (ends_failed r ends) waits
+cannot_open (Ambiguous line) P r k s ends opens closed h dead waits =
     let (behind, left, other) = closed in
     let (none, some) = dead h line other in
     ambiguous_at line r s (Sign sign.OpenParenthesis) line behind left (subst IsDead (sym (opens line)) (λ kind l. dead_open line k none some kind l))
-cannot_open other P r k s ends opens closed h dead = absurd closed
+cannot_open other P r k s ends opens closed h dead waits = absurd closed
 
 -- ---- a call
 
@@ -162,7 +163,7 @@ kind_ahead P [] next = absurd next
 kind_ahead P (first ∷ behind) next = next
 
 over_callee : (p : PrefixExp) (k : PrefixExp → Reader) (m : State) → Begin (IsSuffix Arguments) m.left → Moves (more_prefix p k) m (token (begin_args (λ a. more_prefix (tree.call p a) k))) m
-over_callee p k m next = stays (more_prefix p k) (token (begin_args (λ a. more_prefix (tree.call p a) k))) m (λ l. args_next p k (ahead m) l (kind_ahead (IsSuffix Arguments) m.left next))
+over_callee p k m next = stays (more_prefix p k) (token (begin_args (λ a. more_prefix (tree.call p a) k))) m (λ l. args_next p k (ahead m) l (kind_ahead (IsSuffix Arguments) m.left next)) tt
 
 pub call_cannot_open : (at : Place) (m : State) (p : Prefix) (fault : ParseFault) → Begin (IsSuffix Arguments) m.left → CannotOpen m fault → RefusesSuffix at p m m fault
 call_cannot_open at m p fault next closed = λ s read k h.
@@ -170,7 +171,7 @@ call_cannot_open at m p fault next closed = λ s read k h.
     (cannot_open fault _ (token (begin_args (λ a. more_prefix (tree.call read.tree a) k))) (λ a. more_prefix (tree.call read.tree a) k) m (λ l. refl) (λ l. refl) closed h (λ suppose o other. (
       λ c whole from. suppose whole (λ f. ambiguous_call at s.scope.around read.tree (tree.no_args o c) (λ same. other (same ∙ read.ends)) (first_prefix_fits at s.scope.around _ whole from f)),
       λ es c whole from. suppose whole (λ f. ambiguous_call at s.scope.around read.tree (tree.args o es c) (λ same. other (same ∙ read.ends)) (first_prefix_fits at s.scope.around _ whole from f)),
-    )))
+    )) tt)
 
 pub call_too_high : (at : Place) (m : State) (p : Prefix) (fault : ParseFault) → Begin (IsSuffix Arguments) m.left → IsTooHigh at p.height fault → RefusesSuffix at p m m fault
 call_too_high at m p fault next high = λ s read k h.
@@ -217,7 +218,7 @@ method_cannot_open at m n o p line there x fault taken named closed = λ s read 
     (cannot_open fault _ (token (begin_args (λ a. more_prefix (tree.method read.tree line there x a) k))) (λ a. more_prefix (tree.method read.tree line there x a) k) o (λ l. refl) (λ l. refl) closed h (λ suppose q other. (
       λ c whole from. suppose whole (λ f. ambiguous_method at s.scope.around read.tree line there x (tree.no_args q c) (λ same. other (same ∙ sym named.last)) (first_prefix_fits at s.scope.around _ whole from f)),
       λ es c whole from. suppose whole (λ f. ambiguous_method at s.scope.around read.tree line there x (tree.args q es c) (λ same. other (same ∙ sym named.last)) (first_prefix_fits at s.scope.around _ whole from f)),
-    )))
+    )) tt)
 
 method_supposes : (at : Place) (s m o : State) (p : Prefix) (line there : ℕ) (x : List ℕ) (read : ReadsPrefix at s p m) (k : PrefixExp → Reader) → o.scope ≡ m.scope →
     Unless (FitsPrefix at s.scope.around) k → Unless (FitsArgs at o.scope.around) (λ a. more_prefix (tree.method read.tree line there x a) k)

@@ -34,7 +34,7 @@ use Rattle.lua_parser.proofs.Refusing.{too_deep}
 pub scoped_too_deep : (at : Place) (s : State) (fault : ParseFault) → IsTooDeep at s fault → RefusesScoped at s s fault
 scoped_too_deep at s fault none = λ k not suppose.
     too_deep fault _ at (block k) s none suppose (λ l b is. not (tree.statements tree.no_stats) l b is) (λ full those.
-    dead_block k (λ b. those b (λ f. let d = f.deep in let n = block_deep b in omega (arith, d, n, full))))
+    dead_block k (λ b. those b (λ f. let d = f.deep in let n = block_deep b in omega (arith, d, n, full)))) tt
 
 pub scoped_refused : (at inner : Place) (s t : State) (fault : ParseFault) → IsWithin at inner → RefusesBlock inner s t fault → RefusesScoped at s t fault
 scoped_refused at inner s t fault part refuses = λ k not suppose.
@@ -62,7 +62,7 @@ pub last_refused : (at : Place) (s m t : State) (out : List Stmt) (fault : Parse
     RefusesBlock at s t fault
 last_refused at s m t out fault r next refuses = λ k suppose.
     refused_on (over_stats at k s m out r)
-    (refused_on (stays (more_stats r.tree k) (token (last (last_statement r.tree k))) m (λ l. begins_last r.tree k (ahead m) l next))
+    (refused_on (stays (more_stats r.tree k) (token (last (last_statement r.tree k))) m (λ l. begins_last r.tree k (ahead m) l next) tt)
     (refuses (last_statement r.tree k) (supposes_on fault (last_supposes at k s m out r) suppose)))
 
 begins_stat : (ss : Stats) (k : Block → Reader) (kind : TokenKind) (l : Line) → IsStatement (begins_of kind) →
@@ -91,7 +91,7 @@ pub stat_refused : (at : Place) (s m t : State) (out : List Stmt) (fault : Parse
     RefusesBlock at s t fault
 stat_refused at s m t out fault r next refuses = λ k suppose.
     refused_on (over_stats at k s m out r)
-    (refused_on (stays (more_stats r.tree k) (token (statement (next_statement r.tree k))) m (λ l. begins_stat r.tree k (ahead m) l next))
+    (refused_on (stays (more_stats r.tree k) (token (statement (next_statement r.tree k))) m (λ l. begins_stat r.tree k (ahead m) l next) tt)
     (refuses (next_statement r.tree k) (waits r.tree k) (supposes_on fault (stat_supposes at k s m out r) suppose)))
 
 -- ---- the last statement
@@ -114,13 +114,13 @@ pub returned_refused : (at : Place) (line : Line) (s m t : State) (fault : Parse
     RefusesLast at s t fault
 returned_refused at line s m t fault taken next refuses = λ k suppose.
     refused_on (by_token (token (last k)) (Word word.Return) line s m taken)
-    (refused_on (stays (after_return line k) (list (λ es. k (tree.return_values line es))) m (λ l. begins_values line k (ahead m) l next))
+    (refused_on (stays (after_return line k) (list (λ es. k (tree.return_values line es))) m (λ l. begins_values line k (ahead m) l next) tt)
     (refuses (λ es. k (tree.return_values line es)) (supposes_on fault (returned_supposes at k line s m taken) suppose)))
 
 -- a `break` outside any loop
 pub break_refused : (at : Place) (line told : Line) (s m : State) → Takes (Word word.Break) line s m → (at.in_loop ≡ true → ⊥) → RefusesLast at s m (BreakOutside told)
 break_refused at line told s m taken outside = λ k suppose.
     refused_on (by_token (token (last k)) (Word word.Break) line s m taken) (record {
-      sticks = dead_stuck (BreakOutside told) (k (tree.break_ line)) m (λ b c. c) (suppose (tree.break_ line) (λ f. outside (break_inside at s.scope.around line f)));
+      sticks = dead_stuck (BreakOutside told) (k (tree.break_ line)) m (λ b c. c) (suppose (tree.break_ line) (λ f. outside (break_inside at s.scope.around line f))) tt;
       tells = tt;
     })

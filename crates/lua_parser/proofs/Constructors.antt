@@ -22,6 +22,7 @@ use Rattle.lua_grammar.proofs.Few.{few_before_it}
 use Rattle.lua_grammar.proofs.Growing.{field_keeps}
 use Rattle.lua_grammar.proofs.ReadingTrees.{field_read}
 use Rattle.lua_grammar.proofs.SameFrames.{fields_alike}
+use Rattle.lua_grammar.proofs.StillWaiting.{field_waits}
 use Rattle.lua_parser.specs.declared.faults.ParseFault.{ParseFault}
 use Rattle.lua_parser.specs.declared.faults.ParseFault.TheVariants.{At, Memory}
 use Rattle.lua_parser.specs.declared.places.Place.{Place}
@@ -160,13 +161,14 @@ begins_field o fs k kind l not = refl
 
 to_field : (o : Line) (fs : Fields) (k : Table → Reader) (b : State) → (IsNext (Sign sign.CloseBrace) b → ⊥) → Moves (more_fields o fs k) b (token (field (after_field o fs k))) b
 to_field o fs k b missing =
-    stays (more_fields o fs k) (token (field (after_field o fs k))) b (λ l. begins_field o fs k (ahead b) l (not_first (Sign sign.CloseBrace) b.left (λ is. cc) missing))
+    stays (more_fields o fs k) (token (field (after_field o fs k))) b (λ l. begins_field o fs k (ahead b) l (not_first (Sign sign.CloseBrace) b.left (λ is. cc) missing)) tt
 
 over_field : (inner : Place) (o : Line) (fs : Fields) (k : Table → Reader) (b d : State) (i : Item) (read : ReadsField inner b i d) →
     Moves (more_fields o fs k) b (token (after_field o fs k read.tree)) d
 over_field inner o fs k b d i read =
     over (print_field read.tree) (more_fields o fs k) (token (after_field o fs k read.tree)) b d (field_before read.tree) read.printed (λ xs h.
     field_read read.tree inner.rest o fs k xs (fields_on read.tree d.left xs h read.ends) read.valid)
+    (λ w. field_waits read.tree inner.rest o fs k read.valid)
 
 -- ---- where it is refused
 
@@ -176,7 +178,7 @@ part_refused at o fault s a b v read taken unclosed none = λ r k begins h.
     let next = after_field o read.tree k in
     refused_on (on (over_fields at r k o s a b v read begins taken) (to_field o read.tree k b unclosed))
     (no_part fault _ at (token (field next)) b none h (ends_failed (token (field next)) (λ l. refl)) (λ full suppose.
-    dead_field next (λ f. behind_dead at s.scope.around o read.tree f k suppose (λ x. no_room at s.scope.around read.tree f x full))))
+    dead_field next (λ f. behind_dead at s.scope.around o read.tree f k suppose (λ x. no_room at s.scope.around read.tree f x full))) tt)
 
 field_supposes : (at inner : Place) (o : ℕ) (k : Table → Reader) (s a b : State) (v : Items) (read : ReadsFields at a v b) → a.scope ≡ s.scope → IsPart at inner →
     Unless (FitsTable at s.scope.around) k → Unless (FitsField inner b.scope.around) (λ f. token (after_field o read.tree k f))
@@ -219,4 +221,4 @@ pub separator_refused : (at inner : Place) (o : ℕ) (fault : ParseFault) (s a b
     ReadsField inner b i d → (IsNext (Sign sign.CloseBrace) d → ⊥) → OnAt (Misses IsSeparator d t) fault → RefusesTable at s t fault
 separator_refused at inner o fault s a b d t v i read taken one unclosed misses = λ r k begins h.
     refused_on (on (over_fields at r k o s a b v read begins taken) (over_field inner o read.tree k b d i one))
-    (missed fault _ (token (after_field o read.tree k one.tree)) IsBehind d t (none_behind fault d t unclosed misses) h end_is_none (behind_fails o read.tree k one.tree))
+    (missed fault _ (token (after_field o read.tree k one.tree)) IsBehind d t (none_behind fault d t unclosed misses) h end_is_none (behind_fails o read.tree k one.tree) tt)

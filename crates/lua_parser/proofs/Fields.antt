@@ -14,7 +14,7 @@ use Rattle.lua_grammar.specs.Validity.{IsValid}
 use Rattle.lua_grammar.specs.Scopes.{Frame, Scope}
 use Rattle.lua_grammar.specs.Resolution.{Resolves}
 use Rattle.lua_grammar.specs.Stopping.{EndsAt}
-use Rattle.lua_grammar.specs.Waiting.{Reader, chunk, token, exp, unless_assign, close_bracket, equals}
+use Rattle.lua_grammar.specs.Waiting.{Reader, chunk, token, exp, unless_assign, close_bracket, equals, IsWaiting}
 use Rattle.lua_grammar.specs.Reading.{after_field, begin_exp, feed, field, run}
 use Rattle.lua_grammar.proofs.DeadParts.{dead_close_bracket, dead_equals}
 use Rattle.lua_grammar.proofs.Few.{few_before_it}
@@ -30,7 +30,7 @@ use Rattle.lua_parser.specs.Fits.{FitsExp, FitsField}
 use Rattle.lua_parser.specs.Kinds.{BeginNamed}
 use Rattle.lua_parser.specs.Next.{Begin, IsKind, IsName, IsNext, Misses, OnAt, ahead}
 use Rattle.lua_parser.specs.Reads.{ReadsExp}
-use Rattle.lua_parser.specs.Readers.{GoOn, GoOnWith, Moves, Refuses}
+use Rattle.lua_parser.specs.Readers.{GoOn, GoOnWith, Moves, Refuses, WaitsWith}
 use Rattle.lua_parser.specs.Refusals.{RefusesField, RefusesFrom, Unless}
 use Rattle.lua_parser.proofs.Moving.{by_token, go_on_with, goes_on, on, refused_on, supposes_on}
 use Rattle.lua_parser.proofs.Printed.{exp_ended}
@@ -215,6 +215,40 @@ reads_plain : (next : Next) (xs : List Lexeme) (b : Block) → (Begin (IsKind (S
 reads_plain next [] b bracket named is = absurd (let e : token (field next) ≡ chunk b = is in cc)
 reads_plain next (first ∷ xs) b bracket named is = plain_first next first.kind first.line xs b bracket (λ name equals. named (named_first first xs name equals)) is
 
+-- where the reader of the expression waits, that of the field does
+name_waits : (r : Reader) (k : Line → Reader) (xs : List Lexeme) → (Begin (IsKind (Sign sign.Assign)) xs → ⊥) → IsWaiting (run r xs) → IsWaiting (run (unless_assign r k) xs)
+name_waits r k [] not is = tt
+name_waits r k (first ∷ xs) not is = subst IsWaiting (sym (ap (λ q. run q xs) (behind_name r k first.kind first.line not))) is
+
+first_waits : (next : Next) (kind : TokenKind) (l : Line) (xs : List Lexeme) → (IsKind (Sign sign.OpenBracket) kind → ⊥) → (IsName kind → Begin (IsKind (Sign sign.Assign)) xs → ⊥) →
+    IsWaiting (run (begin_exp 1 (plainly next) kind l) xs) → IsWaiting (run (field next kind l) xs)
+first_waits next (Sign sign.OpenBracket) l xs bracket named is = absurd (bracket refl)
+first_waits next (Name n) l xs bracket named is =
+    name_waits (begin_exp 1 (plainly next) (Name n) l) (λ q. exp 1 (λ e. token (next (tree.named l n q e)))) xs (named tt) is
+first_waits next kind l xs bracket named is = is
+
+field_waits : (next : Next) (xs : List Lexeme) → (Begin (IsKind (Sign sign.OpenBracket)) xs → ⊥) → (BeginNamed xs → ⊥) →
+    IsWaiting (run (exp 1 (plainly next)) xs) → IsWaiting (run (token (field next)) xs)
+field_waits next [] bracket named is = tt
+field_waits next (first ∷ xs) bracket named is = first_waits next first.kind first.line xs bracket (λ name equals. named (named_first first xs name equals)) is
+
+begin_behind : (P : TokenKind → Type 0) (read left : List Lexeme) → Begin P read → Begin P (read ++ left)
+begin_behind P [] left begins = absurd begins
+begin_behind P (first ∷ read) left begins = begins
+
+named_behind : (read left : List Lexeme) → BeginNamed read → BeginNamed (read ++ left)
+named_behind [] left named = absurd named
+named_behind (first ∷ []) left named = absurd named
+named_behind (first ∷ second ∷ read) left named = named
+
+field_waits_with : (fault : ParseFault) (next : Next) (s t : State) (read : List Lexeme) → s.left ≡ read ++ t.left → (IsNext (Sign sign.OpenBracket) s → ⊥) → (BeginNamed s.left → ⊥) →
+    WaitsWith fault (run (exp 1 (plainly next)) read) → WaitsWith fault (run (token (field next)) read)
+field_waits_with (At line) next s t read printed bracket named is =
+    field_waits next read (λ begins. bracket (subst (Begin (IsKind (Sign sign.OpenBracket))) (sym printed) (begin_behind (IsKind (Sign sign.OpenBracket)) read t.left begins)))
+    (λ begins. named (subst BeginNamed (sym printed) (named_behind read t.left begins)))
+    is
+field_waits_with other next s t read printed bracket named is = tt
+
 -- no bracket is next
 no_bracket : (left xs : List Lexeme) → GoOn left xs → (Begin (IsKind (Sign sign.OpenBracket)) left → ⊥) → Begin (IsKind (Sign sign.OpenBracket)) xs → ⊥
 no_bracket [] xs h none is = let e : Begin (IsKind (Sign sign.OpenBracket)) (a_word word.End 1 []) = subst (Begin (IsKind (Sign sign.OpenBracket))) h is in cc
@@ -293,6 +327,7 @@ plain_refused at fault s t bracket named refuses = λ o fs k h.
             let goes : GoOn s.left (read ++ xs) = subst (λ l. GoOn l (read ++ xs)) (sym printed) (goes_on read t.left xs (go_on_with fault t.left xs go)) in
             plain.sticks.stuck xs go b
             (reads_plain next (read ++ xs) b (no_bracket s.left (read ++ xs) goes bracket) (unnamed at fault s t read xs refuses printed go named) is);
+        waits = field_waits_with fault next s t read printed bracket named plain.sticks.waits;
       };
       tells = plain.tells;
     }

@@ -92,7 +92,7 @@ body_fails k kind l h = refl
 
 pub body_unopened : (at : Place) (line : Line) (first : List Bytes) (fault : ParseFault) (s t : State) → OnAt (Misses (IsKind (SignKind OpenParenthesis)) s t) fault →
     RefusesBody at line first s t fault
-body_unopened at line first fault s t m = λ k never suppose. missed fault _ (token (body k)) (IsKind (SignKind OpenParenthesis)) s t m suppose (λ is. cc) (body_fails k)
+body_unopened at line first fault s t m = λ k never suppose. missed fault _ (token (body k)) (IsKind (SignKind OpenParenthesis)) s t m suppose (λ is. cc) (body_fails k) tt
 
 pub parameters_refused : (at : Place) (line : Line) (first : List Bytes) (fault : ParseFault) (s a t : State) (o : ℕ) → Takes (SignKind OpenParenthesis) o s a →
     RefusesParameters first a t fault → RefusesBody at line first s t fault
@@ -141,7 +141,7 @@ body_too_deep at line first rest fault s d begins deep = λ k never suppose.
     refused_on (begins.moves k)
     (too_deep fault _ at (body_behind begins.opens k begins.tree begins.close) d deep suppose (λ l b is. never _ b is) (λ full suppose.
     dead_to_end (λ b e. k (tree.function_body begins.opens begins.tree begins.close b e)) (λ b e.
-    suppose (tree.function_body begins.opens begins.tree begins.close b e) (deep_body at line first s.scope.around begins.opens begins.tree begins.close b e full))))
+    suppose (tree.function_body begins.opens begins.tree begins.close b e) (deep_body at line first s.scope.around begins.opens begins.tree begins.close b e full))) tt)
 
 pub body_block_refused : (at within inner : Place) (line : Line) (first : List Bytes) (rest : Bool) (fault : ParseFault) (s d t : State) → BeginsBody first rest s d →
     IsWithin at within → IsOfFunction rest within inner → RefusesBlock inner d t fault → RefusesBody at line first s t fault

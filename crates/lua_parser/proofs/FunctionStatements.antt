@@ -129,14 +129,14 @@ abbrev behind_name : Line → (Stat → Reader) → FuncName → Reader
 behind_name f k g = token (function_tail f k g)
 
 too_many_captures : (line : ℕ) (r : Reader) (s : State) → IsDead r → Refuses (Upvalues line) r s s
-too_many_captures line r s dead = record { sticks = dead_stuck (Upvalues line) r s (λ b c. c) dead; tells = tt }
+too_many_captures line r s dead = record { sticks = dead_stuck (Upvalues line) r s (λ b c. c) dead tt; tells = tt }
 
 function_fails : (f : Line) (k : Stat → Reader) (kind : TokenKind) (l : Line) → (IsName kind → ⊥) → function_ f k kind l ≡ failed
 function_fails f k (NameKind n) l h = absurd (h tt)
 function_fails f k kind l h = refl
 
 pub function_unnamed : (at : Place) (fault : ParseFault) (s t : State) → OnAt (Misses IsName s t) fault → RefusesFuncName at s t fault
-function_unnamed at fault s t m = λ f k suppose. missed fault _ (token (function_ f k)) IsName s t m suppose (λ is. is) (function_fails f k)
+function_unnamed at fault s t m = λ f k suppose. missed fault _ (token (function_ f k)) IsName s t m suppose (λ is. is) (function_fails f k) tt
 
 pub function_name_crowded : (at : Place) (fault : ParseFault) (s m t : State) (l : ℕ) (n : Bytes) → Takes (NameKind n) l s m → t.left ≡ m.left →
     OnUpvalues (Few (look n m.scope.around).1 → ⊥) fault → RefusesFuncName at s t fault
@@ -219,7 +219,7 @@ over_name : (s a b : State) (line : ℕ) (object : FunctionName) (k : Stat → R
 over_name s a b line object k taken read last =
     on (by_token (token (statement k)) (WordKind Function) line s a taken)
     (on (funcname_moves read.tree (token (function_ line k)) (behind_name line k) a b read.printed (λ n l. refl))
-    (stays (more_funcname read.tree (behind_name line k)) (behind_name line k read.tree) b (λ l. ends_name read.tree (behind_name line k) (ahead b) l (not_first (SignKind Dot) b.left (λ is. cc) last))))
+    (stays (more_funcname read.tree (behind_name line k)) (behind_name line k read.tree) b (λ l. ends_name read.tree (behind_name line k) (ahead b) l (not_first (SignKind Dot) b.left (λ is. cc) last)) tt))
 
 pub method_statement_refused : (at : Place) (fault : ParseFault) (s a b t : State) (line : ℕ) (object : FunctionName) → Takes (WordKind Function) line s a → ReadsFuncName a object b →
     (IsNext (SignKind Dot) b → ⊥) → RefusesMethod at line object b t fault → RefusesStat at s t fault
@@ -235,7 +235,7 @@ pub function_body_refused : (at : Place) (first : List Bytes) (fault : ParseFaul
     ReadsFuncName a object b → (IsNext (SignKind Dot) b → ⊥) → (IsNext (SignKind Colon) b → ⊥) → first ≡ [] → RefusesBody at line first b t fault → RefusesStat at s t fault
 function_body_refused at first fault s a b t line object taken read last plain own refuses = λ k never suppose.
     refused_on (on (over_name s a b line object k taken read last)
-    (stays (behind_name line k read.tree) (token (body (λ x. k (tree.function_statement line read.tree x)))) b (λ l. no_method line k read.tree (ahead b) l (not_first (SignKind Colon) b.left (λ is. cc) plain))))
+    (stays (behind_name line k read.tree) (token (body (λ x. k (tree.function_statement line read.tree x)))) b (λ l. no_method line k read.tree (ahead b) l (not_first (SignKind Colon) b.left (λ is. cc) plain)) tt))
     (refuses (λ x. k (tree.function_statement line read.tree x)) (λ x z is. never _ z is) (supposes_on fault (λ suppose x not.
     suppose (tree.function_statement line read.tree x) (λ fits.
     not (subst (λ names. FitsBody at line names b.scope.around x) (sym own)

@@ -122,7 +122,7 @@ repeat_too_deep at loop line s a fault taken looped none = λ k never suppose.
     (too_deep fault _ loop r a none suppose (ends_failed r (λ l. refl)) (λ full those.
     dead_block (λ x. token (until_ (λ u. exp 1 (λ t. k (tree.repeat_loop line x u t))))) (λ x.
     dead_until (λ u. exp 1 (λ t. k (tree.repeat_loop line x u t))) (λ u t. those (tree.repeat_loop line x u t) (λ f.
-    deep_repeat at s.scope.around line x u t (let y = looped.depth in omega (arith, full, y)) f)))))
+    deep_repeat at s.scope.around line x u t (let y = looped.depth in omega (arith, full, y)) f)))) tt)
 
 repeat_block_supposes : (at loop inner : Place) (k : Stat → Reader) (line : Line) (s a : State) → Takes (WordKind Repeat) line s a → IsLooped at loop → IsWithin loop inner →
     Unless (FitsStat at s.scope.around) k → Unless (FitsBlock inner a.scope.around) (λ x. token (until_ (λ u. exp 1 (λ t. k (tree.repeat_loop line x u t)))))

@@ -6,7 +6,7 @@ use Rattle.lua_lexer.specs.declared.signs.Sign.TheVariants.{Comma, CloseParenthe
 use Rattle.lua_grammar.specs.Tree.{Line, Bytes, NameList, Params, FuncBody, Block}
 use Rattle.lua_grammar.specs.Tree as tree
 use Rattle.lua_grammar.specs.Printing.{Lexeme, a_sign, print_names, print_params}
-use Rattle.lua_grammar.specs.Waiting.{Reader, failed, token, more_names, close_parenthesis}
+use Rattle.lua_grammar.specs.Waiting.{Reader, IsWaiting, failed, token, more_names, close_parenthesis}
 use Rattle.lua_grammar.specs.Reading.{params, body_behind, next_name, no_rest, feed, run}
 use Rattle.lua_grammar.specs.Resolution.{names_of, names_of_params}
 use Rattle.lua_grammar.specs.Dead.{IsDead, NamesFrom}
@@ -15,6 +15,7 @@ use Rattle.lua_grammar.proofs.Before.{names_before, params_before}
 use Rattle.lua_grammar.proofs.Stopping.{names_end}
 use Rattle.lua_grammar.proofs.DeadParts.{dead_close_parenthesis, dead_to_end}
 use Rattle.lua_grammar.proofs.ReadingTrees.{names_read, params_read}
+use Rattle.lua_grammar.proofs.StillWaiting.{waits_as}
 use Rattle.lua_parser.specs.declared.faults.ParseFault.{ParseFault}
 use Rattle.lua_parser.specs.declared.faults.ParseFault.TheVariants.{At, Locals, Memory}
 use Rattle.lua_parser.specs.States.{State, Takes}
@@ -22,18 +23,18 @@ use Rattle.lua_parser.specs.Next.{Begin, IsKind, IsName, IsNext, Misses, MissesN
 use Rattle.lua_parser.specs.ReadsNames.{ReadsNames, ParametersEnd}
 use Rattle.lua_parser.specs.Readers.{Moves, Refuses}
 use Rattle.lua_parser.specs.StatementRefusals.{RefusesNames, RefusesParameters}
-use Rattle.lua_parser.proofs.Moving.{by_token, dead_stuck, fails, on, refused_on}
+use Rattle.lua_parser.proofs.Moving.{by_token, dead_stuck, fails, on, refused_on, waits_before}
 use Rattle.lua_parser.proofs.Printed.{behind_on, names_moves, over}
 
 -- ---- what a fault says
 
 -- no such token is next, and the reader fails at the one that is
-pub missed_by : (line : ℕ) (P : TokenKind → Type 0) (r : Reader) (s t : State) → Misses P s t line → ((l : ℕ) → feed r (ahead s) l ≡ failed) → Refuses (At line) r s t
-missed_by line P r s t m none = subst (λ z. Refuses (At line) r s z) (sym m.same) (record { sticks = fails (At line) r s none; tells = m.told })
+pub missed_by : (line : ℕ) (P : TokenKind → Type 0) (r : Reader) (s t : State) → Misses P s t line → ((l : ℕ) → feed r (ahead s) l ≡ failed) → IsWaiting r → Refuses (At line) r s t
+missed_by line P r s t m none waits = subst (λ z. Refuses (At line) r s z) (sym m.same) (record { sticks = fails (At line) r s none waits; tells = m.told })
 
 -- too many locals
 pub too_many : (line : ℕ) (r : Reader) (s : State) → IsDead r → Refuses (Locals line) r s s
-too_many line r s dead = record { sticks = dead_stuck (Locals line) r s (λ b c. c) dead; tells = tt }
+too_many line r s dead = record { sticks = dead_stuck (Locals line) r s (λ b c. c) dead tt; tells = tt }
 
 no_name_ahead : (left : List Lexeme) → (Begin IsName left → ⊥) → IsName (first_kind left) → ⊥
 no_name_ahead [] missing = λ is. is
@@ -62,7 +63,8 @@ over_comma ns r k rest s m n line printed begins comma =
     on (names_moves ns r k rest s m printed begins) (by_token (more_names ns k rest) (SignKind Comma) line m n comma)
 
 pub first_name_refused : (taken : ℕ) (fault : ParseFault) (s t : State) → MissesName taken s t fault → RefusesNames taken s t fault
-first_name_refused taken (At line) s t m = λ r k begins none suppose. missed_by line IsName r s t m (λ l. none l (no_name_ahead s.left m.missing))
+first_name_refused taken (At line) s t m = λ r k begins none suppose.
+    missed_by line IsName r s t m (λ l. none l (no_name_ahead s.left m.missing)) (waits_before r (NameKind []) 1 (waits_as _ (more_names (tree.first_name 1 []) k no_rest) (begins [] 1) tt))
 first_name_refused taken (Locals line) s t (name, next, many) = λ r k begins none suppose.
     refused_on (by_token r (NameKind name) line s t next)
     (too_many line (feed r (NameKind name) line) t (subst IsDead (sym (begins name line)) (λ those from.
@@ -75,7 +77,7 @@ pub next_name_refused : (taken count : ℕ) (fault : ParseFault) (s m n t : Stat
     count ≡ taken + length names → MissesName count n t fault → RefusesNames taken s t fault
 next_name_refused taken count (At line) s m n t names c read comma same missing = λ r k begins none suppose.
     refused_on (over_comma read.tree r k no_rest s m n c read.printed begins comma)
-    (missed_by line IsName _ n t missing (λ l. next_name_fails read.tree c k (ahead n) l (no_name_ahead n.left missing.missing)))
+    (missed_by line IsName _ n t missing (λ l. next_name_fails read.tree c k (ahead n) l (no_name_ahead n.left missing.missing)) tt)
 next_name_refused taken count (Locals line) s m n t names c read comma same (name, next, many) = λ r k begins none suppose.
     refused_on (on (over_comma read.tree r k no_rest s m n c read.printed begins comma) (by_token (token (next_name read.tree c k no_rest)) (NameKind name) line n t next))
     (too_many line (more_names (tree.next_name read.tree c line name) k no_rest) t (λ those from.
@@ -139,7 +141,7 @@ dead_names first o k ns crowded many those from =
 pub first_parameter_refused : (first : List Bytes) (count : ℕ) (fault : ParseFault) (s t : State) → (IsNext (SignKind CloseParenthesis) s → ⊥) → (IsNext (SignKind Ellipsis) s → ⊥) →
     count ≡ length first → MissesName count s t fault → RefusesParameters first s t fault
 first_parameter_refused first count (At line) s t close dots same m = λ o k suppose.
-    missed_by line IsName _ s t m (λ l. params_fail_there o k s.left l m.missing close dots)
+    missed_by line IsName _ s t m (λ l. params_fail_there o k s.left l m.missing close dots) tt
 first_parameter_refused first count (Locals line) s t close dots same (name, next, many) = λ o k suppose.
     refused_on (by_token (token (params o k)) (NameKind name) line s t next)
     (too_many line (more_names (tree.first_name line name) (close_names o k) (close_rest o k)) t
@@ -156,7 +158,7 @@ pub next_parameter_refused : (first : List Bytes) (count : ℕ) (fault : ParseFa
     Takes (SignKind Comma) line m n → (IsNext (SignKind Ellipsis) n → ⊥) → count ≡ length names → MissesName count n t fault → RefusesParameters first s t fault
 next_parameter_refused first count (At line) s m n t names c read comma dots same missing = λ o k suppose.
     refused_on (over_parameters read.tree o k s m n c read.printed comma)
-    (missed_by line IsName _ n t missing (λ l. next_param_fails_there read.tree c o k n.left l missing.missing dots))
+    (missed_by line IsName _ n t missing (λ l. next_param_fails_there read.tree c o k n.left l missing.missing dots) tt)
 next_parameter_refused first count (Locals line) s m n t names c read comma dots same (name, next, many) = λ o k suppose.
     refused_on (on (over_parameters read.tree o k s m n c read.printed comma) (by_token (token (next_name read.tree c (close_names o k) (close_rest o k))) (NameKind name) line n t next))
     (too_many line (more_names (tree.next_name read.tree c line name) (close_names o k) (close_rest o k)) t
@@ -178,15 +180,17 @@ pub parameters_moved : (ps : Params) (o : Line) (k : FuncBody → Reader) (s t :
 parameters_moved tree.no_params o k s t printed ends not = absurd (not ends)
 parameters_moved (tree.names ns) o k s t printed ends not =
     over (print_names ns) _ _ s t (names_before ns) printed (λ xs h. close_names_run ns o k xs (behind_on IsNoComma t.left xs h ends))
+    (λ w. waits_as _ (more_names ns (close_names o k) (close_rest o k)) (names_read ns _ (close_names o k) (close_rest o k) [] (λ b l. refl)) tt)
 parameters_moved (tree.names_and_rest ns c d) o k s t printed ends not =
     over (print_params (tree.names_and_rest ns c d)) _ _ s t (params_before (tree.names_and_rest ns c d)) printed (λ xs h.
     names_read ns _ (close_names o k) (close_rest o k) _ (λ b l. refl))
+    (λ w. waits_as _ (close_rest o k ns c d) (names_read ns _ (close_names o k) (close_rest o k) (a_sign Comma c (a_sign Ellipsis d [])) (λ b l. refl)) tt)
 parameters_moved (tree.only_rest d) o k s t printed ends not =
-    over (print_params (tree.only_rest d)) _ _ s t (params_before (tree.only_rest d)) printed (λ xs h. refl)
+    over (print_params (tree.only_rest d)) _ _ s t (params_before (tree.only_rest d)) printed (λ xs h. refl) (λ w. tt)
 
 -- over parameters and their `)`
 pub over_parameters_and_close : (ps : Params) (o : Line) (k : FuncBody → Reader) (s m t : State) (c : ℕ) → s.left ≡ print_params ps m.left →
     Takes (SignKind CloseParenthesis) c m t → Moves (token (params o k)) s (body_behind o k ps c) t
 over_parameters_and_close ps o k s m t c printed close =
     over (λ xs. print_params ps (a_sign CloseParenthesis c xs)) _ _ s t (record { splits = λ xs ys. (params_before ps).splits (a_sign CloseParenthesis c xs) ys })
-    (printed ∙ ap (print_params ps) close.printed) (λ xs h. params_read ps o k c xs)
+    (printed ∙ ap (print_params ps) close.printed) (λ xs h. params_read ps o k c xs) (λ w. waits_as _ (body_behind o k ps c) (params_read ps o k c []) tt)

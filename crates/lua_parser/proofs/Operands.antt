@@ -65,7 +65,7 @@ right_no_part at m k op line fault s a b left r high taken low h none =
     refused_on (over_operator at m k op line s a b left r high taken low)
     (no_part fault _ at (exp (right_level op) (λ e. more_exp m (tree.binary r.tree op line e) k)) b none h
     (ends_failed (exp (right_level op) (λ e. more_exp m (tree.binary r.tree op line e) k)) (λ l. refl)) (λ full suppose e whole from.
-    suppose whole (λ f. deep_operand at s.scope.around r.tree e op line full (first_exp_fits at s.scope.around _ whole from f))))
+    suppose whole (λ f. deep_operand at s.scope.around r.tree e op line full (first_exp_fits at s.scope.around _ whole from f))) tt)
 
 pub right_too_high : (at : Place) (m : ℕ) (k : Exp → Reader) (op : Operator) (line : ℕ) (fault : ParseFault) (s a b : State) (left : Built) → ReadsExp at s left a → m ≤ left.level →
     Takes (kind_of op) line a b → m ≤ level op → Supposes fault (Unless (FitsExp at s.scope.around) k) → IsTooHigh at left.height fault → Refuses fault (exp m k) s b
@@ -113,7 +113,7 @@ pub operand_no_part : (at : Place) (m : ℕ) (k : Exp → Reader) (op : UnOp) (l
 operand_no_part at m k op line fault s a taken h none =
     refused_on (over_unary m k op line s a taken)
     (no_part fault _ at (exp 7 (λ e. more_exp m (tree.unary op line e) k)) a none h (ends_failed (exp 7 (λ e. more_exp m (tree.unary op line e) k)) (λ l. refl)) (λ full suppose e whole from.
-    suppose whole (λ f. deep_unary at s.scope.around op line e full (first_exp_fits at s.scope.around _ whole from f))))
+    suppose whole (λ f. deep_unary at s.scope.around op line e full (first_exp_fits at s.scope.around _ whole from f))) tt)
 
 -- what begins no other operand begins a prefix, or nothing
 prefix_begins : (m : ℕ) (k : Exp → Reader) (kind : TokenKind) (l : ℕ) → operand_of kind ≡ operand.Prefix →
@@ -138,7 +138,7 @@ prefix_supposes at around m k suppose = λ p not whole from. suppose whole (λ f
 
 pub prefix_refused : (at : Place) (s t : State) (fault : ParseFault) → operand_of (ahead s) ≡ operand.Prefix → RefusesPrefix at s t fault → RefusesExp at s t fault
 prefix_refused at s t fault next refuses = λ m k h.
-    refused_on (stays (exp m k) (token (begin_prefix (λ p. more_exp m (tree.prefix p) k))) s (λ l. prefix_begins m k (ahead s) l next))
+    refused_on (stays (exp m k) (token (begin_prefix (λ p. more_exp m (tree.prefix p) k))) s (λ l. prefix_begins m k (ahead s) l next) tt)
     (refuses (λ p. more_exp m (tree.prefix p) k) (supposes_on fault (prefix_supposes at s.scope.around m k) h))
 
 -- a table constructor alone

@@ -62,7 +62,7 @@ misses_both other P Q s t not m = absurd m
 
 pub no_prefix : (at : Place) (s t : State) (fault : ParseFault) → (IsNext (Sign sign.OpenParenthesis) s → ⊥) → OnAt (Misses IsName s t) fault → RefusesPrefix at s t fault
 no_prefix at s t fault not m = λ k h.
-    missed fault _ (token (begin_prefix k)) BeginsPrefix s t (misses_both fault IsName (IsKind (Sign sign.OpenParenthesis)) s t not m) h end_begins_no_prefix (prefix_fails k)
+    missed fault _ (token (begin_prefix k)) BeginsPrefix s t (misses_both fault IsName (IsKind (Sign sign.OpenParenthesis)) s t not m) h end_begins_no_prefix (prefix_fails k) tt
 
 -- a name that makes a function have too many captures
 crowded : (fault : ParseFault) (C X : Type 0) (r : Reader) (s t : State) → t.left ≡ s.left → OnUpvalues C fault → Supposes fault X → (C → X → IsDead r) → Refuses fault r s t
@@ -71,6 +71,7 @@ crowded (Upvalues line) C X r s t same c h dead = record {
     read = [];
     printed = sym same;
     stuck = λ xs go b is counts. dead_reads_no_chunk r xs b (dead c h) is counts;
+    waits = tt;
   };
   tells = tt;
 }
@@ -96,7 +97,7 @@ paren_no_part at s m line fault taken none = λ k h.
     refused_on (by_token (token (begin_prefix k)) (Sign sign.OpenParenthesis) line s m taken)
     (no_part fault _ at (exp 1 (λ e. token (close_parenthesis (λ c. more_prefix (tree.paren line e c) k)))) m none h
     (ends_failed (exp 1 (λ e. token (close_parenthesis (λ c. more_prefix (tree.paren line e c) k)))) (λ l. refl)) (λ full suppose e.
-    dead_close_parenthesis _ (λ c whole from. suppose whole (λ f. deep_paren at s.scope.around line e c full (first_prefix_fits at s.scope.around _ whole from f)))))
+    dead_close_parenthesis _ (λ c whole from. suppose whole (λ f. deep_paren at s.scope.around line e c full (first_prefix_fits at s.scope.around _ whole from f)))) tt)
 
 paren_supposes : (at inner : Place) (s m : State) (line : ℕ) (k : PrefixExp → Reader) → m.scope ≡ s.scope → IsPart at inner → Unless (FitsPrefix at s.scope.around) k →
     Unless (FitsExp inner m.scope.around) (λ e. token (close_parenthesis (λ c. more_prefix (tree.paren line e c) k)))
@@ -153,7 +154,7 @@ item_no_part at m n p line fault taken none = λ s read k h.
     (no_part fault _ at (exp 1 (λ e. token (close_bracket (λ c. more_prefix (tree.item read.tree line e c) k)))) n none h
     (ends_failed (exp 1 (λ e. token (close_bracket (λ c. more_prefix (tree.item read.tree line e c) k)))) (λ l. refl)) (λ full suppose e.
     dead_close_bracket _ (λ c whole from. suppose whole (λ f.
-    deep_item at s.scope.around read.tree line e c full (first_prefix_fits at s.scope.around _ whole from f)))))
+    deep_item at s.scope.around read.tree line e c full (first_prefix_fits at s.scope.around _ whole from f)))) tt)
 
 key_supposes : (at inner : Place) (s m n : State) (p : Prefix) (line : ℕ) (read : ReadsPrefix at s p m) (k : PrefixExp → Reader) → n.scope ≡ m.scope → IsPart at inner →
     Unless (FitsPrefix at s.scope.around) k → Unless (FitsExp inner n.scope.around) (λ e. token (close_bracket (λ c. more_prefix (tree.item read.tree line e c) k)))

@@ -1,5 +1,6 @@
 -- A reader that reads a block, statements or the arms of an `if` moves over their tokens.
-use Rattle.std.proofs.Common.{◌≡◌, Bool, List, [], ◌∷◌, ◌++◌, refl, sym, ap, ◌∙◌}
+use Rattle.std.proofs.Common.{◌≡◌, Bool, List, [], ◌∷◌, ◌++◌, refl, sym, ap, subst, ◌∙◌}
+use Rattle.std.proofs.lemmas.List.{append-nil}
 use Rattle.lua_lexer.specs.declared.tokens.TokenKind.TheVariants.{Word as WordKind}
 use Rattle.lua_lexer.specs.declared.words.Word.TheVariants.{If}
 use Rattle.lua_grammar.specs.Tree.{Line, Exp, Block, Stats, Stat, Arms}
@@ -7,13 +8,14 @@ use Rattle.lua_grammar.specs.Tree as tree
 use Rattle.lua_grammar.specs.Printing.{Lexeme, a_kind, a_word, print_exp, print_block, print_stats, print_arms}
 use Rattle.lua_grammar.specs.Validity.{IsValid, IsValidBlock, AreValidStats, AreValidArms}
 use Rattle.lua_grammar.specs.Resolution.{arms_line}
-use Rattle.lua_grammar.specs.Waiting.{Reader, token, more_stats, more_arms}
+use Rattle.lua_grammar.specs.Waiting.{Reader, IsWaiting, token, more_stats, more_arms}
 use Rattle.lua_grammar.specs.Reading.{arm, block, run, statement}
 use Rattle.lua_grammar.specs.Stopping.{BlockStops, StatsStop, ArmsStop}
 use Rattle.lua_grammar.proofs.Before.{block_before, stats_before, arms_before}
 use Rattle.lua_grammar.proofs.Stopping.{at_least_one, stops}
 use Rattle.lua_grammar.proofs.ReadingTrees.{exp_read, block_read, stats_read}
 use Rattle.lua_grammar.proofs.Starts.{arms_stop}
+use Rattle.lua_grammar.proofs.StillWaiting.{waits_as, block_waits, stats_wait}
 use Rattle.lua_parser.specs.States.{State}
 use Rattle.lua_parser.specs.Next.{ahead}
 use Rattle.lua_parser.specs.Readers.{Moves}
@@ -23,12 +25,12 @@ use Rattle.lua_parser.proofs.BlockEnds.{arms_on, block_on, stats_on}
 pub block_ended : (b : Block) (rest loop : Bool) (k : Block → Reader) (s t : State) → s.left ≡ print_block b t.left → IsValidBlock rest loop b →
     BlockStops b (a_kind (ahead t) 1 []) → Moves (block k) s (k b) t
 block_ended b rest loop k s t printed v stops =
-    over (print_block b) _ _ s t (block_before b) printed (λ xs h. block_read b rest loop k xs v (block_on b t.left xs h stops))
+    over (print_block b) _ _ s t (block_before b) printed (λ xs h. block_read b rest loop k xs v (block_on b t.left xs h stops)) (block_waits b rest loop k v)
 
 pub stats_moves : (ss : Stats) (rest loop : Bool) (k : Block → Reader) (s t : State) → s.left ≡ print_stats ss t.left → AreValidStats rest loop ss →
     StatsStop ss (a_kind (ahead t) 1 []) → Moves (block k) s (more_stats ss k) t
 stats_moves ss rest loop k s t printed v stops =
-    over (print_stats ss) _ _ s t (stats_before ss) printed (λ xs h. stats_read ss rest loop k xs v (stats_on ss t.left xs h stops))
+    over (print_stats ss) _ _ s t (stats_before ss) printed (λ xs h. stats_read ss rest loop k xs v (stats_on ss t.left xs h stops)) (λ w. stats_wait ss rest loop k v)
 
 -- ---- arms
 
@@ -41,6 +43,17 @@ arms_read (tree.elseif_arm arms i t h b) rest loop k behind v x =
     arms_read arms rest loop k _ v.0 (arms_stop arms _ tt)
     ∙ exp_read t rest 1 _ _ v.1 (at_least_one t) (stops t _ (λ m. refl) (λ h. tt))
     ∙ block_read b rest loop _ behind v.2 x
+
+arms_wait : (arms : Arms) (rest loop : Bool) (k : Stat → Reader) → AreValidArms rest loop arms → IsWaiting (run (token (statement k)) (print_arms arms []))
+unfolding print_exp IsValid
+arms_wait (tree.if_arm i t h b) rest loop k v =
+    waits_as _ (run (block (λ b. more_arms (tree.if_arm i t h b) k)) (print_block b []))
+    (exp_read t rest 1 _ _ v.0 (at_least_one t) (stops t _ (λ m. refl) (λ h. tt)))
+    (block_waits b rest loop (λ b. more_arms (tree.if_arm i t h b) k) v.1 tt)
+arms_wait (tree.elseif_arm arms i t h b) rest loop k v =
+    waits_as _ (run (block (λ b. more_arms (tree.elseif_arm arms i t h b) k)) (print_block b []))
+    (arms_read arms rest loop k _ v.0 (arms_stop arms _ tt) ∙ exp_read t rest 1 _ _ v.1 (at_least_one t) (stops t _ (λ m. refl) (λ h. tt)))
+    (block_waits b rest loop (λ b. more_arms (tree.elseif_arm arms i t h b) k) v.2 tt)
 
 -- the first token of arms is `if`
 arms_first : (arms : Arms) (behind : List Lexeme) → (more : List Lexeme) × (print_arms arms behind ≡ a_word If (arms_line arms) more)
@@ -62,4 +75,5 @@ arms_moves arms rest loop line k s t printed begins v stops =
       read = first.0;
       printed = same_behind (record { kind = WordKind If; line = line }) s.left (first.0 ++ t.left) (printed ∙ split t.left);
       runs = λ xs h. ap (run (token (statement k))) (sym (split xs)) ∙ arms_read arms rest loop k xs v (arms_on arms t.left xs h stops);
+      waits = λ w. subst (λ xs. IsWaiting (run (token (statement k)) xs)) (split [] ∙ ap (λ xs. a_word If line xs) (append-nil first.0)) (arms_wait arms rest loop k v);
     }

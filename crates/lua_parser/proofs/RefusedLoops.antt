@@ -9,7 +9,7 @@ use Rattle.lua_lexer.specs.declared.signs.Sign.TheVariants as sign
 use Rattle.lua_lexer.specs.declared.words.Word.TheVariants as word
 use Rattle.lua_grammar.specs.Tree.{Line, Bytes, NameList, Exp, ExpList, Block, Stat}
 use Rattle.lua_grammar.specs.Tree as tree
-use Rattle.lua_grammar.specs.Waiting.{Reader, failed, token, exp, comma, end_}
+use Rattle.lua_grammar.specs.Waiting.{Reader, failed, token, exp, comma, end_, IsWaiting}
 use Rattle.lua_grammar.specs.Reading.{block, list, loop_body, for_, for_limit, for_tail, no_rest, statement, feed}
 use Rattle.lua_grammar.specs.Dead.{IsDead}
 use Rattle.lua_grammar.specs.Printing.{Lexeme, lexemes}
@@ -52,7 +52,7 @@ step_refused at line fault s a t taken refuses = λ f l n q from c to k suppose.
 
 -- there are too many locals
 pub too_many_locals : (fault : ParseFault) (P X : Type 0) (r : Reader) (s : State) → OnLocals P fault → Supposes fault X → (P → X → IsDead r) → Refuses fault r s s
-too_many_locals (Locals line) P X r s full h dead = record { sticks = dead_stuck (Locals line) r s (λ b c. c) (dead full h); tells = tt }
+too_many_locals (Locals line) P X r s full h dead = record { sticks = dead_stuck (Locals line) r s (λ b c. c) (dead full h) tt; tells = tt }
 too_many_locals Memory P X r s full h dead = absurd h
 too_many_locals other P X r s full h dead = absurd full
 
@@ -83,7 +83,7 @@ loop_too_deep at loop names line fault s a b taken left looped deep = λ k never
     refused_on (over_do k line s a b taken left)
     (too_deep fault (UnlessLoop at names s.scope.around k) loop (block (λ x. token (end_ (λ e. k line x e)))) b deep suppose
     (λ l x is. never line l (tree.statements tree.no_stats) x is) (λ full dead.
-    dead_to_end (k line) (λ x e. dead line e x (λ fits. deep_loop at loop names s.scope.around x looped full fits))))
+    dead_to_end (k line) (λ x e. dead line e x (λ fits. deep_loop at loop names s.scope.around x looped full fits))) tt)
 
 pub loop_refused : (at loop inner : Place) (names : List Bytes) (line : ℕ) (fault : ParseFault) (s a b t : State) → Takes (Word word.Do) line s a → Turns (declare names a.scope) a b →
     IsLooped at loop → IsWithin loop inner → RefusesBlock inner b t fault → RefusesLoop at names s t fault
@@ -116,10 +116,10 @@ unfolding state
 crowded_there tokens p n fault h = h
 
 -- where the next token fits nothing
-pub unfit_refused : (tokens : List Token) (p : Parser) (r : Reader) → ((line : ℕ) → feed r (ahead (state tokens p)) line ≡ failed) →
+pub unfit_refused : (tokens : List Token) (p : Parser) (r : Reader) → ((line : ℕ) → feed r (ahead (state tokens p)) line ≡ failed) → IsWaiting r →
     Refuses (At (line_or p.line (state tokens p).left)) r (state tokens p) (state tokens p)
 unfolding state
-unfit_refused tokens p r none = record { sticks = fails (At (line_or p.line (state tokens p).left)) r (state tokens p) none; tells = refl }
+unfit_refused tokens p r none waits = record { sticks = fails (At (line_or p.line (state tokens p).left)) r (state tokens p) none waits; tells = refl }
 
 -- the kind of the next token, where it is known
 kind_next : (kind : TokenKind) (left : List Lexeme) → Begin (IsKind kind) left → first_kind left ≡ kind
@@ -172,7 +172,7 @@ pub many_names : (at : Place) (names : List Bytes) (tokens : List Token) (p : Pa
     RefusesFor at names (state tokens p) (state tokens p) (At (line_or p.line (state tokens p).left))
 many_names at names tokens p many next = λ f ns are k never suppose.
     unfit_refused tokens p (token (for_tail f k ns)) (λ line.
-    rw (kind_next (Sign sign.Assign) (state tokens p).left next) (many_fail f k ns line (λ one. many (ap length are ∙ one))))
+    rw (kind_next (Sign sign.Assign) (state tokens p).left next) (many_fail f k ns line (λ one. many (ap length are ∙ one)))) tt
 
 -- in a value
 pub range_from_refused : (at : Place) (f l : Line) (n : Bytes) (q : ℕ) (fault : ParseFault) (s a t : State) → Takes (Sign sign.Assign) q s a → RefusesValue at a t fault → RefusesRange at f l n s t fault
@@ -236,7 +236,7 @@ range_block_refused at f l n q c fault from to None s a b d g h t taken r betwee
     let second : Resolves v.tree b.scope to g.scope = subst (λ z. Resolves v.tree z to g.scope) between.scope v.resolved in
     refused_on (on (over_to at f l n k q c from to s a b d g taken r between v)
     (stays (token (for_limit f l n q r.tree c v.tree k)) (token (loop_body (λ x y z. k (tree.for_range f l n q r.tree c v.tree x y z)))) g (λ line.
-    limit_ends f l n q r.tree c v.tree k (ahead g) line (not_first (Sign sign.Comma) g.left (λ is. cc) ends))))
+    limit_ends f l n q r.tree c v.tree k (ahead g) line (not_first (Sign sign.Comma) g.left (λ is. cc) ends)) tt))
     (subst (λ z. RefusesLoop at (n ∷ []) z t fault) same refuses (λ x y z. k (tree.for_range f l n q r.tree c v.tree x y z)) (λ x z y o is. never (tree.for_range f l n q r.tree c v.tree x y z) o is)
     (supposes_on fault (λ dead x z y not.
     dead (tree.for_range f l n q r.tree c v.tree x y z) (λ fits.
@@ -255,7 +255,7 @@ list_without_in at names (At line) s t other m f ns are k never suppose =
     subst (λ z. Refuses (At line) (token (for_tail f k ns)) s z) (sym m.same)
     (record {
       sticks = fails (At line) (token (for_tail f k ns)) s (λ l.
-          tail_fails f k ns (ahead s) l (not_first (Sign sign.Assign) s.left (λ is. cc) other) (not_first (Word word.In) s.left (λ is. cc) m.missing));
+          tail_fails f k ns (ahead s) l (not_first (Sign sign.Assign) s.left (λ is. cc) other) (not_first (Word word.In) s.left (λ is. cc) m.missing)) tt;
       tells = m.told;
     })
 list_without_in at names Memory s t other m f ns are k never suppose = absurd suppose

@@ -6,7 +6,7 @@ use Rattle.lua_lexer.specs.declared.signs.Sign.TheVariants as sign
 use Rattle.lua_lexer.specs.declared.words.Word.TheVariants as word
 use Rattle.lua_grammar.specs.Tree.{Line, Bytes, Block}
 use Rattle.lua_grammar.specs.Printing.{Lexeme}
-use Rattle.lua_grammar.specs.Waiting.{Reader, failed, chunk, token, name, close_parenthesis, close_bracket, equals, comma, do_, then_, end_, until_}
+use Rattle.lua_grammar.specs.Waiting.{Reader, IsWaiting, failed, chunk, token, name, close_parenthesis, close_bracket, equals, comma, do_, then_, end_, until_}
 use Rattle.lua_grammar.specs.Reading.{feed}
 use Rattle.lua_grammar.specs.Dead.{IsDead}
 use Rattle.lua_parser.specs.declared.faults.ParseFault.{ParseFault}
@@ -22,8 +22,8 @@ told_at_end s line e = rw e.nothing e.told
 
 -- ---- at the end of the text
 
-pub at_end : (r : Reader) (s : State) (line : ℕ) → Ends s line → ((l : ℕ) (b : Block) → feed r (Word word.End) l ≡ chunk b → ⊥) → Refuses (At line) r s s
-at_end r s line e not = record { sticks = ends_stuck (At line) r s e.nothing not; tells = told_at_end s line e }
+pub at_end : (r : Reader) (s : State) (line : ℕ) → Ends s line → ((l : ℕ) (b : Block) → feed r (Word word.End) l ≡ chunk b → ⊥) → IsWaiting r → Refuses (At line) r s s
+at_end r s line e not waits = record { sticks = ends_stuck (At line) r s e.nothing not waits; tells = told_at_end s line e }
 
 no_chunk_fails : (q : Reader) (b : Block) → q ≡ failed → q ≡ chunk b → ⊥
 no_chunk_fails q b is other = let e : failed ≡ chunk b = sym is ∙ other in cc
@@ -33,28 +33,29 @@ pub ends_failed : (r : Reader) → ((l : ℕ) → feed r (Word word.End) l ≡ f
 ends_failed r none l b is = no_chunk_fails (feed r (Word word.End) l) b (none l) is
 
 -- where it ends
-pub ended : (fault : ParseFault) (P : Type 0) (r : Reader) (s : State) → OnAt (Ends s) fault → Supposes fault P → ((l : ℕ) (b : Block) → feed r (Word word.End) l ≡ chunk b → ⊥) → Refuses fault r s s
-ended (At line) X r s e h not = at_end r s line e not
-ended Memory X r s e h not = absurd h
-ended other X r s e h not = absurd e
+pub ended : (fault : ParseFault) (P : Type 0) (r : Reader) (s : State) → OnAt (Ends s) fault → Supposes fault P → ((l : ℕ) (b : Block) → feed r (Word word.End) l ≡ chunk b → ⊥) → IsWaiting r →
+    Refuses fault r s s
+ended (At line) X r s e h not waits = at_end r s line e not waits
+ended Memory X r s e h not waits = absurd h
+ended other X r s e h not waits = absurd e
 
 -- ---- of a limit
 
 -- in a dead state
 pub limited : (line : ℕ) (r : Reader) (s : State) → IsDead r → Refuses (Depth line) r s s
-limited line r s dead = record { sticks = dead_stuck (Depth line) r s (λ b c. c) dead; tells = tt }
+limited line r s dead = record { sticks = dead_stuck (Depth line) r s (λ b c. c) dead tt; tells = tt }
 
 pub too_deep : (fault : ParseFault) (P : Type 0) (at : Place) (r : Reader) (s : State) → IsTooDeep at s fault → Supposes fault P →
-    ((l : ℕ) (b : Block) → feed r (Word word.End) l ≡ chunk b → ⊥) → (200 ≤ at.depth → P → IsDead r) → Refuses fault r s s
-too_deep (At line) X at r s e h not dead = at_end r s line e not
-too_deep (Depth line) X at r s e h not dead = limited line r s (dead e h)
-too_deep other X at r s e h not dead = absurd e
+    ((l : ℕ) (b : Block) → feed r (Word word.End) l ≡ chunk b → ⊥) → (200 ≤ at.depth → P → IsDead r) → IsWaiting r → Refuses fault r s s
+too_deep (At line) X at r s e h not dead waits = at_end r s line e not waits
+too_deep (Depth line) X at r s e h not dead waits = limited line r s (dead e h)
+too_deep other X at r s e h not dead waits = absurd e
 
 pub no_part : (fault : ParseFault) (P : Type 0) (at : Place) (r : Reader) (s : State) → HasNoPart at s fault → Supposes fault P →
-    ((l : ℕ) (b : Block) → feed r (Word word.End) l ≡ chunk b → ⊥) → ((200 ≤ at.depth) ⊎ (at.room ≤ 1) → P → IsDead r) → Refuses fault r s s
-no_part (At line) X at r s e h not dead = at_end r s line e not
-no_part (Depth line) X at r s e h not dead = limited line r s (dead e h)
-no_part other X at r s e h not dead = absurd e
+    ((l : ℕ) (b : Block) → feed r (Word word.End) l ≡ chunk b → ⊥) → ((200 ≤ at.depth) ⊎ (at.room ≤ 1) → P → IsDead r) → IsWaiting r → Refuses fault r s s
+no_part (At line) X at r s e h not dead waits = at_end r s line e not waits
+no_part (Depth line) X at r s e h not dead waits = limited line r s (dead e h)
+no_part other X at r s e h not dead waits = absurd e
 
 pub too_high : (fault : ParseFault) (P : Type 0) (at : Place) (height : ℕ) (r : Reader) (s : State) → IsTooHigh at height fault → Supposes fault P →
     (at.room ≤ height → P → IsDead r) → Refuses fault r s s
@@ -69,15 +70,15 @@ missing_fails r P [] missing end none l = none (Word word.End) l end
 missing_fails r P (first ∷ left) missing end none l = none first.kind l missing
 
 pub missed_at : (r : Reader) (P : TokenKind → Type 0) (s t : State) (line : ℕ) → Misses P s t line → (P (Word word.End) → ⊥) →
-    ((kind : TokenKind) (l : Line) → (P kind → ⊥) → feed r kind l ≡ failed) → Refuses (At line) r s t
-missed_at r P s t line m end none =
-    subst (λ z. Refuses (At line) r s z) (sym m.same) (record { sticks = fails (At line) r s (missing_fails r P s.left m.missing end none); tells = m.told })
+    ((kind : TokenKind) (l : Line) → (P kind → ⊥) → feed r kind l ≡ failed) → IsWaiting r → Refuses (At line) r s t
+missed_at r P s t line m end none waits =
+    subst (λ z. Refuses (At line) r s z) (sym m.same) (record { sticks = fails (At line) r s (missing_fails r P s.left m.missing end none) waits; tells = m.told })
 
 pub missed : (fault : ParseFault) (X : Type 0) (r : Reader) (P : TokenKind → Type 0) (s t : State) → OnAt (Misses P s t) fault → Supposes fault X → (P (Word word.End) → ⊥) →
-    ((kind : TokenKind) (l : Line) → (P kind → ⊥) → feed r kind l ≡ failed) → Refuses fault r s t
-missed (At line) X r P s t m h end none = missed_at r P s t line m end none
-missed Memory X r P s t m h end none = absurd h
-missed other X r P s t m h end none = absurd m
+    ((kind : TokenKind) (l : Line) → (P kind → ⊥) → feed r kind l ≡ failed) → IsWaiting r → Refuses fault r s t
+missed (At line) X r P s t m h end none waits = missed_at r P s t line m end none waits
+missed Memory X r P s t m h end none waits = absurd h
+missed other X r P s t m h end none waits = absurd m
 
 -- the same where it can't be missing
 kind_missed : (P : TokenKind → Type 0) (left : List Lexeme) → (P (Word word.End) → ⊥) → P (first_kind left) → (Begin P left → ⊥) → ⊥
@@ -130,28 +131,28 @@ name_fails k (Name n) l h = absurd (h tt)
 name_fails k kind l h = refl
 
 pub no_close_parenthesis : (fault : ParseFault) (X : Type 0) (k : Line → Reader) (s t : State) → OnAt (Misses (IsKind (Sign sign.CloseParenthesis)) s t) fault → Supposes fault X → Refuses fault (token (close_parenthesis k)) s t
-no_close_parenthesis fault X k s t m h = missed fault X _ _ s t m h (λ is. cc) (close_parenthesis_fails k)
+no_close_parenthesis fault X k s t m h = missed fault X _ _ s t m h (λ is. cc) (close_parenthesis_fails k) tt
 
 pub no_close_bracket : (fault : ParseFault) (X : Type 0) (k : Line → Reader) (s t : State) → OnAt (Misses (IsKind (Sign sign.CloseBracket)) s t) fault → Supposes fault X → Refuses fault (token (close_bracket k)) s t
-no_close_bracket fault X k s t m h = missed fault X _ _ s t m h (λ is. cc) (close_bracket_fails k)
+no_close_bracket fault X k s t m h = missed fault X _ _ s t m h (λ is. cc) (close_bracket_fails k) tt
 
 pub no_equals : (fault : ParseFault) (X : Type 0) (k : Line → Reader) (s t : State) → OnAt (Misses (IsKind (Sign sign.Assign)) s t) fault → Supposes fault X → Refuses fault (token (equals k)) s t
-no_equals fault X k s t m h = missed fault X _ _ s t m h (λ is. cc) (equals_fails k)
+no_equals fault X k s t m h = missed fault X _ _ s t m h (λ is. cc) (equals_fails k) tt
 
 pub no_comma : (fault : ParseFault) (X : Type 0) (k : Line → Reader) (s t : State) → OnAt (Misses (IsKind (Sign sign.Comma)) s t) fault → Supposes fault X → Refuses fault (token (comma k)) s t
-no_comma fault X k s t m h = missed fault X _ _ s t m h (λ is. cc) (comma_fails k)
+no_comma fault X k s t m h = missed fault X _ _ s t m h (λ is. cc) (comma_fails k) tt
 
 pub no_do : (fault : ParseFault) (X : Type 0) (k : Line → Reader) (s t : State) → OnAt (Misses (IsKind (Word word.Do)) s t) fault → Supposes fault X → Refuses fault (token (do_ k)) s t
-no_do fault X k s t m h = missed fault X _ _ s t m h (λ is. cc) (do_fails k)
+no_do fault X k s t m h = missed fault X _ _ s t m h (λ is. cc) (do_fails k) tt
 
 pub no_then : (fault : ParseFault) (X : Type 0) (k : Line → Reader) (s t : State) → OnAt (Misses (IsKind (Word word.Then)) s t) fault → Supposes fault X → Refuses fault (token (then_ k)) s t
-no_then fault X k s t m h = missed fault X _ _ s t m h (λ is. cc) (then_fails k)
+no_then fault X k s t m h = missed fault X _ _ s t m h (λ is. cc) (then_fails k) tt
 
 pub no_until : (fault : ParseFault) (X : Type 0) (k : Line → Reader) (s t : State) → OnAt (Misses (IsKind (Word word.Until)) s t) fault → Supposes fault X → Refuses fault (token (until_ k)) s t
-no_until fault X k s t m h = missed fault X _ _ s t m h (λ is. cc) (until_fails k)
+no_until fault X k s t m h = missed fault X _ _ s t m h (λ is. cc) (until_fails k) tt
 
 pub no_name : (fault : ParseFault) (X : Type 0) (k : Line → Bytes → Reader) (s t : State) → OnAt (Misses IsName s t) fault → Supposes fault X → Refuses fault (token (name k)) s t
-no_name fault X k s t m h = missed fault X _ _ s t m h (λ is. is) (name_fails k)
+no_name fault X k s t m h = missed fault X _ _ s t m h (λ is. is) (name_fails k) tt
 
 -- an `end` that is missing: at the end of the text the reader sees one, which gets it to no chunk
 end_fails : (k : Line → Reader) (kind : TokenKind) (l : Line) → (IsKind (Word word.End) kind → ⊥) → end_ k kind l ≡ failed
@@ -160,9 +161,9 @@ end_fails k kind l h = refl
 
 end_missing : (k : Line → Reader) (s : State) (left : List Lexeme) (line : ℕ) → s.left ≡ left → (Begin (IsKind (Word word.End)) left → ⊥) → line ≡ line_or s.last s.left →
     ((l : Line) (b : Block) → k l ≡ chunk b → ⊥) → Refuses (At line) (token (end_ k)) s s
-end_missing k s [] line is missing told not = record { sticks = ends_stuck (At line) (token (end_ k)) s is not; tells = told }
+end_missing k s [] line is missing told not = record { sticks = ends_stuck (At line) (token (end_ k)) s is not tt; tells = told }
 end_missing k s (first ∷ left) line is missing told not = record {
-  sticks = fails (At line) (token (end_ k)) s (λ l. rw is (end_fails k first.kind l missing));
+  sticks = fails (At line) (token (end_ k)) s (λ l. rw is (end_fails k first.kind l missing)) tt;
   tells = told;
 }
 

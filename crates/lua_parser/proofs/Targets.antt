@@ -9,16 +9,18 @@ use Rattle.lua_lexer.specs.declared.words.Word.TheVariants as word
 use Rattle.lua_grammar.specs.Tree.{Line, PrefixExp, ExpList, Stat, VarList}
 use Rattle.lua_grammar.specs.Tree as tree
 use Rattle.lua_grammar.specs.Dead.{IsDead, VarsFrom}
-use Rattle.lua_grammar.specs.Printing.{a_sign, print_exp, print_varlist}
+use Rattle.lua_grammar.specs.Printing.{a_sign, print_exp, print_varlist, a_kind}
 use Rattle.lua_grammar.specs.Levels.{levels, height, prefix_height}
 use Rattle.lua_grammar.specs.Validity.{IsCall, IsValid, IsValidPrefix, IsVariable}
 use Rattle.lua_grammar.specs.Scopes.{Frame, Scope}
 use Rattle.lua_grammar.specs.Resolution.{Resolves, ResolvesPrefix, ResolvesVars, prefix_line}
-use Rattle.lua_grammar.specs.Waiting.{Reader, failed, token, more_vars}
+use Rattle.lua_grammar.specs.Waiting.{Reader, failed, token, more_vars, more_prefix}
 use Rattle.lua_grammar.specs.Reading.{assigns_or_calls, begin_prefix, next_target, statement, feed}
 use Rattle.lua_grammar.proofs.SameFrames.{vars_alike}
 use Rattle.lua_grammar.proofs.Few.{few_before_it}
 use Rattle.lua_grammar.proofs.Growing.{list_keeps, prefix_keeps}
+use Rattle.lua_grammar.proofs.Stopping.{prefix_ends}
+use Rattle.lua_grammar.specs.Stopping.{IsApart}
 use Rattle.lua_parser.specs.declared.cursor.Parser.{Parser}
 use Rattle.lua_parser.specs.declared.faults.ParseFault.{ParseFault}
 use Rattle.lua_parser.specs.declared.faults.ParseFault.TheVariants.{At, Memory}
@@ -37,7 +39,7 @@ use Rattle.lua_parser.specs.Refusals.{RefusesPrefix}
 use Rattle.lua_parser.specs.States.{State, Stops, Takes, state}
 use Rattle.lua_parser.specs.StatementRefusals.{RefusesAssignment, RefusesStat, RefusesTarget, RefusesValues}
 use Rattle.lua_parser.proofs.Moving.{by_token, fails, here, not_first, on, refused_on, stays, supposes_on}
-use Rattle.lua_parser.proofs.Printed.{prefix_ended}
+use Rattle.lua_parser.proofs.Printed.{prefix_ended, prefix_moves}
 use Rattle.lua_parser.proofs.Productions.{apart_there}
 use Rattle.lua_parser.proofs.RefusedLoops.{unfit_refused}
 
@@ -145,6 +147,10 @@ target_refused at free fault s t fresh refuses = λ vs c k suppose.
     refuses (next_target vs c k) (supposes_on fault (λ dead p not.
     dead_target vs c k p (λ variable. dead p (λ f. not (fresh_prefix at free s.scope.around p fresh f)))) suppose)
 
+-- a prefix alone, behind which the reader fails
+prefix_fails_there : (p : PrefixExp) (k : PrefixExp → Reader) (kind : TokenKind) (l : Line) → IsApart kind → k p ≡ failed → feed (more_prefix p k) kind l ≡ failed
+prefix_fails_there p k kind l apart fails = prefix_ends p k (a_kind kind l []) apart ∙ ap (λ r. feed r kind l) fails
+
 no_target : (vs : VarList) (c : Line) (k : Stat → Reader) (p : PrefixExp) → (form_of p ≡ Variable → ⊥) → next_target vs c k p ≡ failed
 no_target vs c k (tree.variable l n) other = absurd (other refl)
 no_target vs c k (tree.item p o e x) other = absurd (other refl)
@@ -154,8 +160,10 @@ no_target vs c k p other = refl
 pub target_is_none : (at free : Place) (tokens : List Token) (s : State) (q : Parser) (p : Prefix) → ReadsPrefix free s p (state tokens q) → Stops (state tokens q) → (p.form ≡ Variable → ⊥) →
     RefusesTarget at s (state tokens q) (At (line_or q.line (state tokens q).left))
 target_is_none at free tokens s q p r stops other = λ vs c k suppose.
-    refused_on (prefix_ended r.tree free.rest (next_target vs c k) s (state tokens q) r.printed r.valid (apart_there (state tokens q) stops))
-    (unfit_refused tokens q (next_target vs c k r.tree) (λ line. ap (λ z. feed z (ahead (state tokens q)) line) (no_target vs c k r.tree (λ is. other (sym r.form ∙ is)))))
+    refused_on (prefix_moves r.tree free.rest (next_target vs c k) s (state tokens q) r.printed r.valid)
+    (unfit_refused tokens q (more_prefix r.tree (next_target vs c k)) (λ line.
+    prefix_fails_there r.tree (next_target vs c k) (ahead (state tokens q)) line (apart_there (state tokens q) stops) (no_target vs c k r.tree (λ is. other (sym r.form ∙ is))))
+    tt)
 
 -- ---- targets
 
@@ -220,7 +228,7 @@ assignment_without_assign at first targets (At told_at) z m t reads stops missin
     let more = reads line s read in
     refused_on (more.moves k) (subst (λ x. Refuses (At told_at) (more_vars more.whole.tree k) m x) (sym missing.same) (record {
       sticks = fails (At told_at) (more_vars more.whole.tree k) m (λ l.
-          vars_fail more.whole.tree k (ahead m) l (not_first (Sign sign.Comma) m.left (λ is. cc) stops) (not_first (Sign sign.Assign) m.left (λ is. cc) missing.missing));
+          vars_fail more.whole.tree k (ahead m) l (not_first (Sign sign.Comma) m.left (λ is. cc) stops) (not_first (Sign sign.Assign) m.left (λ is. cc) missing.missing)) tt;
       tells = missing.told;
     }))
 assignment_without_assign at first targets Memory z m t reads stops missing = λ line s read k suppose. absurd suppose
@@ -249,7 +257,7 @@ statement_begins k (Word word.Local) l is = cc
 statement_begins k kind l is = refl
 
 begins_there : (k : Stat → Reader) (s : State) → begins_of (ahead s) ≡ begins.Prefix → Moves (token (statement k)) s (token (begin_prefix (assigns_or_calls k))) s
-begins_there k s is = stays (token (statement k)) (token (begin_prefix (assigns_or_calls k))) s (λ l. statement_begins k (ahead s) l is)
+begins_there k s is = stays (token (statement k)) (token (begin_prefix (assigns_or_calls k))) s (λ l. statement_begins k (ahead s) l is) tt
 
 over_first : (free : Place) (k : Stat → Reader) (s m : State) (p : Prefix) → begins_of (ahead s) ≡ begins.Prefix → (r : ReadsPrefix free s p m) → Stops m →
     Moves (token (statement k)) s (assigns_or_calls k r.tree) m
@@ -315,5 +323,7 @@ no_statement k (tree.method p x l n a) is = cc
 pub statement_is_none : (at free : Place) (tokens : List Token) (s : State) (q : Parser) (p : Prefix) → begins_of (ahead s) ≡ begins.Prefix → ReadsPrefix free s p (state tokens q) →
     Stops (state tokens q) → p.form ≡ Paren → RefusesStat at s (state tokens q) (At (line_or q.line (state tokens q).left))
 statement_is_none at free tokens s q p is r stops form = λ k never suppose.
-    refused_on (over_first free k s (state tokens q) p is r stops)
-    (unfit_refused tokens q (assigns_or_calls k r.tree) (λ line. ap (λ z. feed z (ahead (state tokens q)) line) (no_statement k r.tree (r.form ∙ form))))
+    refused_on (on (begins_there k s is) (prefix_moves r.tree free.rest (assigns_or_calls k) s (state tokens q) r.printed r.valid))
+    (unfit_refused tokens q (more_prefix r.tree (assigns_or_calls k)) (λ line.
+    prefix_fails_there r.tree (assigns_or_calls k) (ahead (state tokens q)) line (apart_there (state tokens q) stops) (no_statement k r.tree (r.form ∙ form)))
+    tt)

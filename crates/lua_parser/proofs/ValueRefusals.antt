@@ -22,7 +22,7 @@ use Rattle.lua_parser.proofs.Refusing.{ends_failed, too_deep}
 pub value_too_deep : (at free : Place) (s : State) (fault : ParseFault) → IsFresh at free → IsTooDeep free s fault → RefusesValue at s s fault
 value_too_deep at free s fault fresh none = λ k suppose.
     too_deep fault _ free (exp 1 k) s none suppose (ends_failed (exp 1 k) (λ l. refl)) (λ full those e.
-    those e (λ f. let d = f.deep in let n = exp_deep e in let x = fresh.depth in omega (arith, d, n, x, full)))
+    those e (λ f. let d = f.deep in let n = exp_deep e in let x = fresh.depth in omega (arith, d, n, x, full))) tt
 
 pub value_refused : (at free inner : Place) (s t : State) (fault : ParseFault) → IsFresh at free → IsWithin free inner → RefusesFrom 1 inner s t fault → RefusesValue at s t fault
 value_refused at free inner s t fault fresh part refuses = λ k suppose.
@@ -37,7 +37,7 @@ list_deep (tree.more es c e) = let h = list_deep es in omega (arith, h)
 pub values_too_deep : (at free : Place) (s : State) (fault : ParseFault) → IsFresh at free → IsTooDeep free s fault → RefusesValues at s s fault
 values_too_deep at free s fault fresh none = λ k suppose.
     too_deep fault _ free (list k) s none suppose (ends_failed (list k) (λ l. refl)) (λ full those. dead_list k (λ es.
-    those es (λ f. let d = f.deep in let n = list_deep es in let x = fresh.depth in omega (arith, d, n, x, full))))
+    those es (λ f. let d = f.deep in let n = list_deep es in let x = fresh.depth in omega (arith, d, n, x, full)))) tt
 
 pub values_refused : (at free inner : Place) (s t : State) (fault : ParseFault) → IsFresh at free → IsWithin free inner → RefusesList inner s t fault → RefusesValues at s t fault
 values_refused at free inner s t fault fresh part refuses = λ k suppose.

@@ -16,6 +16,7 @@ use Rattle.lua_grammar.specs.Scopes.{Frame, enter}
 use Rattle.lua_grammar.specs.Validity.{IsValidBlock}
 use Rattle.lua_grammar.specs.Waiting.{failed, chunk, token, end_}
 use Rattle.lua_grammar.specs.Reading.{read, read_chunk, run}
+use Rattle.lua_grammar.proofs.Beginnings.{begins_a_chunk}
 use Rattle.lua_grammar.proofs.DeadParts.{dead_end}
 use Rattle.lua_grammar.proofs.Few.{few_inside}
 use Rattle.lua_grammar.proofs.Frames.{Steady, ended_keeps}
@@ -117,7 +118,7 @@ block_refused at tokens p t kept fault outer start begun refuses other program i
     sym (append_assoc sticks.read t.left (a_word End 1 [])) ∙ ap (λ xs. xs ++ a_word End 1 []) (sym sticks.printed ∙ whole_left tokens p start) in
     sticks.stuck (t.left ++ a_word End 1 []) (go_on_all fault t.left) b (ap (run read_chunk) all ∙ reads) (counted fault b stands)
 
--- where nothing fits, no chunk goes on
+-- where nothing fits, no chunk goes on, and one does so before
 pub block_unfit : (at : Place) (tokens : List Token) (p : Parser) (t : State) (fault : ParseFault) → p.place ≡ 0 → RefusesBlock at (state tokens p) t fault → OfAt (IsUnfit tokens) fault
 block_unfit at tokens p t (At line) start refuses =
     let r = refuses (λ b. token (end_ (λ l. chunk b))) tt in
@@ -130,6 +131,7 @@ block_unfit at tokens p t (At line) start refuses =
           r.sticks.stuck (xs ++ a_word End 1 []) (begin_on t.left xs h) b
           (ap (run read_chunk) (sym (append_assoc r.sticks.read xs (a_word End 1 []))) ∙ is)
           tt;
+      goes_on = begins_a_chunk r.sticks.read r.sticks.waits;
     }
 block_unfit at tokens p t other start refuses = tt
 
@@ -176,6 +178,7 @@ token_unfit at tokens p q out fault start r more is =
       stuck = λ xs h b reads.
           too_many_from r.tree t.left xs b (some_left tokens q more) h
           (sym (moves.runs (xs ++ a_word End 1 []) (begin_on t.left xs h)) ∙ ap (run read_chunk) (sym (append_assoc moves.read xs (a_word End 1 []))) ∙ reads);
+      goes_on = begins_a_chunk moves.read (moves.waits tt);
     })
 
 pub too_many_tokens : (at : Place) (tokens : List Token) (p q : Parser) (out : List Stmt) → p.place ≡ 0 → ReadsBlock at (state tokens p) out (state tokens q) → q.place < length tokens →

@@ -19,13 +19,14 @@ BeginAs [] xs = xs ≡ []
 BeginAs (first ∷ behind) xs = (rest : List Lexeme) × (xs ≡ first ∷ rest)
 
 -- No chunk, whatever its limits, is read from tokens that begin with those up to one on that line; or, where the text ends
--- too soon, from all of them.
+-- too soon, from all of them. Some chunk is read from tokens that begin with those before it.
 pub record IsUnfit (tokens : List Token) (line : ℕ) : Type 0 where
   pub before : List Lexeme
   pub left : List Lexeme
   pub all : lexemes tokens ≡ before ++ left
   pub told : HasLine line left
   pub stuck : (xs : List Lexeme) → BeginAs left xs → (b : Block) → read (before ++ xs) ≡ chunk b → ⊥
+  pub goes_on : (rest : List Lexeme) × (b : Block) × (read (before ++ rest) ≡ chunk b)
 
 -- of the fault `At` that is said
 abbrev pub OfAt : (ℕ → Type 0) → ParseFault → Type 0
