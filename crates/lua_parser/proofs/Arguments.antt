@@ -173,10 +173,10 @@ call_cannot_open at m p fault next closed = λ s read k h.
       λ es c whole from. suppose whole (λ f. ambiguous_call at s.scope.around read.tree (tree.args o es c) (λ same. other (same ∙ read.ends)) (first_prefix_fits at s.scope.around _ whole from f)),
     )) tt)
 
-pub call_too_high : (at : Place) (m : State) (p : Prefix) (fault : ParseFault) → Begin (IsSuffix Arguments) m.left → IsTooHigh at p.height fault → RefusesSuffix at p m m fault
-call_too_high at m p fault next high = λ s read k h.
+pub call_too_high : (line : ℕ) (at : Place) (m : State) (p : Prefix) (fault : ParseFault) → Begin (IsSuffix Arguments) m.left → IsTooHigh at p.height line fault → RefusesSuffix at p m m fault
+call_too_high line at m p fault next high = λ s read k h.
     refused_on (over_callee read.tree k m next)
-    (too_high fault _ at p.height (token (begin_args (λ a. more_prefix (tree.call read.tree a) k))) m high h (λ full suppose.
+    (too_high _ fault _ at p.height (token (begin_args (λ a. more_prefix (tree.call read.tree a) k))) m high h (λ full suppose.
     dead_begin_args (λ a. more_prefix (tree.call read.tree a) k) (λ a whole from. suppose whole (λ f.
     high_call at s.scope.around read.tree a p.height read.high full (first_prefix_fits at s.scope.around _ whole from f)))))
 
@@ -193,10 +193,10 @@ call_refused at m t p fault next refuses = λ s read k h.
 
 -- ---- a call of a method
 
-pub method_too_high : (at : Place) (m n : State) (p : Prefix) (line : ℕ) (fault : ParseFault) → Takes (Sign sign.Colon) line m n → IsTooHigh at p.height fault → RefusesSuffix at p m n fault
+pub method_too_high : (at : Place) (m n : State) (p : Prefix) (line : ℕ) (fault : ParseFault) → Takes (Sign sign.Colon) line m n → IsTooHigh at p.height line fault → RefusesSuffix at p m n fault
 method_too_high at m n p line fault taken high = λ s read k h.
     refused_on (by_token (more_prefix read.tree k) (Sign sign.Colon) line m n taken)
-    (too_high fault _ at p.height (token (name (λ l x. token (begin_args (λ a. more_prefix (tree.method read.tree line l x a) k))))) n high h (λ full suppose.
+    (too_high _ fault _ at p.height (token (name (λ l x. token (begin_args (λ a. more_prefix (tree.method read.tree line l x a) k))))) n high h (λ full suppose.
     dead_name _ (λ l x. dead_begin_args (λ a. more_prefix (tree.method read.tree line l x a) k) (λ a whole from. suppose whole (λ f.
     high_method at s.scope.around read.tree line l x a p.height read.high full (first_prefix_fits at s.scope.around _ whole from f))))))
 

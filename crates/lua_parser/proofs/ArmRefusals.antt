@@ -149,7 +149,7 @@ arms_fail arms k (WordKind End) l x y z = absurd (z refl)
 arms_fail arms k kind l x y z = refl
 
 arms_missing : (arms : Arms) (k : Stat → Reader) (s : State) (left : List Lexeme) (line : ℕ) → s.left ≡ left → NeverChunk k → (Begin (IsKind (WordKind ElseIf)) left → ⊥) →
-    (Begin (IsKind (WordKind Else)) left → ⊥) → (Begin (IsKind (WordKind End)) left → ⊥) → line ≡ line_or s.last s.left → Refuses (At line) (more_arms arms k) s s
+    (Begin (IsKind (WordKind Else)) left → ⊥) → (Begin (IsKind (WordKind End)) left → ⊥) → line ≡ line_or s.final s.left → Refuses (At line) (more_arms arms k) s s
 arms_missing arms k s [] line is never x y z told = record {
   sticks = ends_stuck (At line) (more_arms arms k) s is (λ l b same. never (tree.if_then arms l) b same) tt;
   tells = told;

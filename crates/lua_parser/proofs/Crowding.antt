@@ -1,5 +1,5 @@
 -- Where a name makes a function have too many captures.
-use Rattle.std.proofs.Common.{◌≡◌, ◌≤◌, List, ◌∷◌, [], length, Option, Some, None, Result, Ok, Err, IsErrAnd, MatchResult, arith, length-append, subst, sym}
+use Rattle.std.proofs.Common.{ℕ, ◌≡◌, ◌≤◌, List, ◌∷◌, [], length, Option, Some, None, Result, Ok, Err, IsErrAnd, MatchResult, arith, length-append, subst, sym}
 use Rattle.lua_ast.specs.declared.programs.Capture.{Capture}
 use Rattle.lua_grammar.specs.Tree.{Bytes}
 use Rattle.lua_grammar.specs.Scopes.{Frame, handed, look, own}
@@ -28,10 +28,10 @@ crowded_frame name f around behind variable none further full few =
     let more = length-append f.captures (record { name = name; variable = variable } ∷ []) in
     omega (arith, most, more, full)
 
-pub upvalues_on : {P Q : Type 0} (fault : ParseFault) → (P → Q) → OnUpvalues P fault → OnUpvalues Q fault
-upvalues_on (Upvalues line) f h = f h
-upvalues_on Memory f h = tt
-upvalues_on other f h = absurd h
+pub upvalues_on : (line : ℕ) {P Q : Type 0} (fault : ParseFault) → (P → Q) → OnUpvalues line P fault → OnUpvalues line Q fault
+upvalues_on line (Upvalues told) f h = (f h.0, h.1)
+upvalues_on line Memory f h = tt
+upvalues_on line other f h = absurd h
 
 pub handed_match : {A : Type 0} (P : A → Type 0) (Q : ParseFault → Type 0) (r : Result A ParseFault) (fault : ParseFault) → IsErrAnd r (λ same. same ≡ fault) → Q fault → MatchResult r P Q
 handed_match P Q (Ok x) fault is h = absurd is

@@ -139,11 +139,11 @@ pub function_unnamed : (at : Place) (fault : ParseFault) (s t : State) → OnAt 
 function_unnamed at fault s t m = λ f k suppose. missed fault _ (token (function_ f k)) IsName s t m suppose (λ is. is) (function_fails f k) tt
 
 pub function_name_crowded : (at : Place) (fault : ParseFault) (s m t : State) (l : ℕ) (n : Bytes) → Takes (NameKind n) l s m → t.left ≡ m.left →
-    OnUpvalues (Few (look n m.scope.around).1 → ⊥) fault → RefusesFuncName at s t fault
+    OnUpvalues l (Few (look n m.scope.around).1 → ⊥) fault → RefusesFuncName at s t fault
 function_name_crowded at (Upvalues line) s m t l n taken same not = λ f k suppose.
     refused_on (moved same (by_token (token (function_ f k)) (NameKind n) l s m taken))
     (too_many_captures line (more_funcname (tree.root_name l n) (behind_name f k)) t (λ whole from.
-    let crowded = crowded_name l n whole s.scope.around from (subst (λ z. Few (look n z.around).1 → ⊥) taken.scope not) in
+    let crowded = crowded_name l n whole s.scope.around from (subst (λ z. Few (look n z.around).1 → ⊥) taken.scope not.0) in
     dead_tail f k whole
     (λ b. suppose (tree.function_statement f whole b) (λ fits. crowded (function_name_fits at s.scope.around f whole b fits)))
     (λ c d e b. suppose (tree.method_statement f whole c d e b) (λ fits. crowded (method_name_fits at s.scope.around f whole c d e b fits)))))
@@ -153,7 +153,7 @@ function_name_crowded at other s m t l n taken same not = absurd not
 pub function_member_missed : (at : Place) (fault : ParseFault) (s m t : State) (object : FunctionName) → ReadsFuncName s object m → IsNext (SignKind Dot) m →
     MissesMember Dot object.height m t fault → RefusesFuncName at s t fault
 function_member_missed at (At l) s m t object read next (inl miss) = absurd (miss.missing next)
-function_member_missed at (At l) s m t object read next (inr (mid, d, taken, miss)) = λ f k suppose.
+function_member_missed at (At l) s m t object read next (inr (mid, d, taken, miss, low)) = λ f k suppose.
     refused_on (on (funcname_moves read.tree (token (function_ f k)) (behind_name f k) s m read.printed (λ n l. refl)) (by_token (more_funcname read.tree (behind_name f k)) (SignKind Dot) d m mid taken))
     (no_name (At l) (Unit {0}) (λ l n. more_funcname (tree.name_member read.tree d l n) (behind_name f k)) mid t miss suppose)
 function_member_missed at (Depth d) s m t object read next (taken, high) = λ f k suppose.
@@ -172,7 +172,7 @@ function_member_missed at other s m t object read next miss = absurd miss
 pub method_unnamed : (at : Place) (line : Line) (fault : ParseFault) (m t : State) (object : FunctionName) → IsNext (SignKind Colon) m →
     MissesMember Colon object.height m t fault → RefusesMethod at line object m t fault
 method_unnamed at line (At l) m t object next (inl miss) = absurd (miss.missing next)
-method_unnamed at line (At l) m t object next (inr (mid, c, taken, miss)) = λ s read k never suppose.
+method_unnamed at line (At l) m t object next (inr (mid, c, taken, miss, low)) = λ s read k never suppose.
     refused_on (by_token (behind_name line k read.tree) (SignKind Colon) c m mid taken)
     (no_name (At l) (Unit {0}) (λ l n. token (body (λ b. k (tree.method_statement line read.tree c l n b)))) mid t miss suppose)
 method_unnamed at line (Depth c) m t object next (taken, high) = λ s read k never suppose.
@@ -241,7 +241,7 @@ function_body_refused at first fault s a b t line object taken read last plain o
     not (subst (λ names. FitsBody at line names b.scope.around x) (sym own)
     (function_body_fits at s.scope.around line read.tree x a.scope b.scope object.target fits (ap (λ z. z.around) taken.scope) read.resolved)))) suppose))
 
-pub crowded_state : (tokens : List Token) (p : Parser) (n : Bytes) (fault : ParseFault) → OnUpvalues (Few (look n (scope_of p).around).1 → ⊥) fault →
-    OnUpvalues (Few (look n (state tokens p).scope.around).1 → ⊥) fault
+pub crowded_state : (line : ℕ) (tokens : List Token) (p : Parser) (n : Bytes) (fault : ParseFault) → OnUpvalues line (Few (look n (scope_of p).around).1 → ⊥) fault →
+    OnUpvalues line (Few (look n (state tokens p).scope.around).1 → ⊥) fault
 unfolding state
-crowded_state tokens p n fault h = h
+crowded_state line tokens p n fault h = h

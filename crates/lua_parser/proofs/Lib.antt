@@ -46,3 +46,6 @@ pub mod Crowding
 pub mod PrefixFitting
 pub mod Prefixes
 pub mod Arguments
+pub mod Breaking
+pub mod Declaring
+pub mod OpenFunctions

@@ -56,7 +56,7 @@ count_kept (f ∷ fs) (g ∷ gs) h = ap length h.0.locals
 count_kept [] (g ∷ gs) h = absurd h
 count_kept (f ∷ fs) [] h = absurd h
 
-in_scope_kept : (s t : Scope) → Keeps s t → in_scope t ≡ in_scope s
+pub in_scope_kept : (s t : Scope) → Keeps s t → in_scope t ≡ in_scope s
 in_scope_kept s t k = count_kept s.around t.around k.frames
 
 -- in a function
@@ -196,7 +196,7 @@ local_values_refused at fault s m t names read last refuses = λ l k never suppo
     not (subst (λ z. FitsValues at z.around es) (sym read.scope) (initial_fits at s.scope.around l read.tree q es fits)))) suppose))
 
 -- values declare no locals
-initial_keeps : (at : Place) (m b : State) (values : Option (Vec Expr Global)) → ReadsInitial at m values b → in_scope b.scope ≡ in_scope m.scope
+pub initial_keeps : (at : Place) (m b : State) (values : Option (Vec Expr Global)) → ReadsInitial at m values b → in_scope b.scope ≡ in_scope m.scope
 initial_keeps at m b (Some es) (q, a, taken, read) = in_scope_kept a.scope b.scope (list_keeps read.tree a.scope es.items b.scope read.resolved) ∙ ap in_scope taken.scope
 initial_keeps at m b None same = ap (λ z. in_scope z.scope) same
 

@@ -8,8 +8,8 @@ use Rattle.lua_parser.specs.declared.cursor.Parser.{Parser}
 use Rattle.lua_parser.specs.declared.faults.ParseFault.{ParseFault}
 use Rattle.lua_parser.specs.declared.faults.ParseFault.TheVariants.{At, Depth, Memory}
 use Rattle.lua_parser.specs.declared.places.Place.{Place}
-use Rattle.lua_parser.specs.States.{State, state}
-use Rattle.lua_parser.specs.Next.{Begin, IsMemory, IsKind, IsName, IsText, IsNumber, Ends, IsDepth, IsTooDeep, HasNoPart, CannotOpen, ahead, Misses, OnAt, line_or}
+use Rattle.lua_parser.specs.States.{State, last_line, state}
+use Rattle.lua_parser.specs.Next.{Begin, IsMemory, IsKind, IsName, IsText, IsNumber, Ends, IsDepth, IsTooDeep, HasNoPart, IsOnLine, CannotOpen, ahead, Misses, OnAt, line_or}
 use Rattle.lua_lexer.specs.declared.tokens.TokenKind.TheVariants.{Name, Text, Number, Word as WordKind, Sign as SignKind}
 use Rattle.lua_lexer.specs.declared.words.Word.TheVariants.{End}
 use Rattle.lua_lexer.specs.declared.signs.Sign.TheVariants.{Assign}
@@ -47,10 +47,10 @@ pub none_next : (tokens : List Token) (p : Parser) (P : TokenKind → Type 0) �
 none_next tokens p P all next = rw (none_left tokens p all) at next
 
 pub line_of_next : (tokens : List Token) (p : Parser) (token : Token) → slice_get tokens p.place ≡ Some token →
-    At token.line ≡ At (line_or p.line (state tokens p).left)
+    At token.line ≡ At (line_or (last_line (lexemes tokens)) (state tokens p).left)
 line_of_next tokens p token is = rw (next_left tokens p token is) refl
 
-pub line_of_last : (tokens : List Token) (p : Parser) → length tokens ≤ p.place → At p.line ≡ At (line_or p.line (state tokens p).left)
+pub line_of_last : (tokens : List Token) (p : Parser) → length tokens ≤ p.place → At (last_line (lexemes tokens)) ≡ At (line_or (last_line (lexemes tokens)) (state tokens p).left)
 line_of_last tokens p all = rw (none_left tokens p all) refl
 
 pub sees_next : (tokens : List Token) (p : Parser) (token : Token) → slice_get tokens p.place ≡ Some token → token.kind ≡ ahead (state tokens p)
@@ -83,51 +83,54 @@ pub named_none : (tokens : List Token) (p : Parser) → length tokens ≤ p.plac
 named_none tokens p all = rw (none_left tokens p all) (search rules)
 
 -- the fault At where no such token is next
-last_of : (tokens : List Token) (p : Parser) → (state tokens p).last ≡ p.line
+pub final_of : (tokens : List Token) (p : Parser) → (state tokens p).final ≡ last_line (lexemes tokens)
 unfolding state
-last_of tokens p = refl
+final_of tokens p = refl
 
 pub missed : (tokens : List Token) (p q : Parser) (P : TokenKind → Type 0) (fault : ParseFault) → state tokens q ≡ state tokens p → (Begin P (state tokens p).left → ⊥) →
-    fault ≡ At (line_or q.line (state tokens q).left) → OnAt (Misses P (state tokens p) (state tokens q)) fault
+    fault ≡ At (line_or (last_line (lexemes tokens)) (state tokens q).left) → OnAt (Misses P (state tokens p) (state tokens q)) fault
 missed tokens p q P fault same missing is =
     rw is (record {
       same = same;
       missing = missing;
-      told = ap (λ last. line_or last (state tokens q).left) (sym (last_of tokens q)) ∙ ap (λ s. line_or s.last s.left) same;
+      told = ap (λ final. line_or final (state tokens q).left) (sym (final_of tokens q)) ∙ ap (λ s. line_or s.final s.left) same;
     })
 
 pub if_none : {A P : Type 0} (o : Option A) → P → IfNone o P
 if_none None h = h
 if_none (Some x) h = tt
 
-ended_at : (tokens : List Token) (p : Parser) → length tokens ≤ p.place → Ends (state tokens p) (line_or p.line (state tokens p).left)
+ended_at : (tokens : List Token) (p : Parser) → length tokens ≤ p.place → Ends (state tokens p) (line_or (last_line (lexemes tokens)) (state tokens p).left)
 ended_at tokens p all =
     let none = none_left tokens p all in
-    record { nothing = none; told = ap (line_or p.line) none ∙ sym (last_of tokens p) }
+    record { nothing = none; told = ap (line_or (last_line (lexemes tokens))) none ∙ sym (final_of tokens p) }
 
-pub ended : (tokens : List Token) (p : Parser) (fault : ParseFault) → length tokens ≤ p.place → fault ≡ At (line_or p.line (state tokens p).left) → OnAt (Ends (state tokens p)) fault
+pub ended : (tokens : List Token) (p : Parser) (fault : ParseFault) → length tokens ≤ p.place → fault ≡ At (line_or (last_line (lexemes tokens)) (state tokens p).left) → OnAt (Ends (state tokens p)) fault
 ended tokens p fault all is = rw is (ended_at tokens p all)
 
-pub depth_ended : (tokens : List Token) (p : Parser) (fault : ParseFault) → length tokens ≤ p.place → fault ≡ At (line_or p.line (state tokens p).left) → IsDepth (state tokens p) fault
+pub depth_ended : (tokens : List Token) (p : Parser) (fault : ParseFault) → length tokens ≤ p.place → fault ≡ At (line_or (last_line (lexemes tokens)) (state tokens p).left) → IsDepth (state tokens p) fault
 depth_ended tokens p fault all is = rw is (ended_at tokens p all)
 
-pub open_ended : (tokens : List Token) (p : Parser) (fault : ParseFault) → length tokens ≤ p.place → fault ≡ At (line_or p.line (state tokens p).left) → CannotOpen (state tokens p) fault
+pub open_ended : (tokens : List Token) (p : Parser) (fault : ParseFault) → length tokens ≤ p.place → fault ≡ At (line_or (last_line (lexemes tokens)) (state tokens p).left) → CannotOpen (state tokens p) fault
 open_ended tokens p fault all is = rw is (ended_at tokens p all)
+
+pub on_next_line : (tokens : List Token) (p : Parser) (token : Token) → slice_get tokens p.place ≡ Some token → IsOnLine token.line (state tokens p).left
+on_next_line tokens p token is = rw (next_left tokens p token is) refl
 
 -- where it is too deep
 pub is_too_deep : (at : Place) (s : State) (fault : ParseFault) → 200 ≤ at.depth → IsDepth s fault → IsTooDeep at s fault
 is_too_deep at s (At line) deep h = h
-is_too_deep at s (Depth line) deep h = deep
+is_too_deep at s (Depth line) deep h = (deep, h)
 is_too_deep at s other deep h = h
 
 pub part_too_deep : (at : Place) (s : State) (fault : ParseFault) → IsTooDeep at s fault → HasNoPart at s fault
 part_too_deep at s (At line) h = h
-part_too_deep at s (Depth line) h = inl h
+part_too_deep at s (Depth line) h = (inl h.0, h.1)
 part_too_deep at s other h = h
 
 pub no_room : (at : Place) (s : State) (fault : ParseFault) → at.room ≤ 1 → IsDepth s fault → HasNoPart at s fault
 no_room at s (At line) room h = h
-no_room at s (Depth line) room h = inr room
+no_room at s (Depth line) room h = (inr room, h)
 no_room at s other room h = h
 
 pub no_name : (kind : TokenKind) → ((name : List ℕ) → kind ≡ Name name → ⊥) → IsName kind → ⊥

@@ -68,10 +68,10 @@ right_no_part at m k op line fault s a b left r high taken low h none =
     suppose whole (λ f. deep_operand at s.scope.around r.tree e op line full (first_exp_fits at s.scope.around _ whole from f))) tt)
 
 pub right_too_high : (at : Place) (m : ℕ) (k : Exp → Reader) (op : Operator) (line : ℕ) (fault : ParseFault) (s a b : State) (left : Built) → ReadsExp at s left a → m ≤ left.level →
-    Takes (kind_of op) line a b → m ≤ level op → Supposes fault (Unless (FitsExp at s.scope.around) k) → IsTooHigh at left.height fault → Refuses fault (exp m k) s b
+    Takes (kind_of op) line a b → m ≤ level op → Supposes fault (Unless (FitsExp at s.scope.around) k) → IsTooHigh at left.height line fault → Refuses fault (exp m k) s b
 right_too_high at m k op line fault s a b left r high taken low h none =
     refused_on (over_operator at m k op line s a b left r high taken low)
-    (too_high fault _ at left.height (exp (right_level op) (λ e. more_exp m (tree.binary r.tree op line e) k)) b none h (λ full suppose e whole from.
+    (too_high _ fault _ at left.height (exp (right_level op) (λ e. more_exp m (tree.binary r.tree op line e) k)) b none h (λ full suppose e whole from.
     suppose whole (λ f. high_operand at s.scope.around r.tree e op line left.height r.high full (first_exp_fits at s.scope.around _ whole from f))))
 
 pub right_low : (op : Operator) → right_level op ≤ 7

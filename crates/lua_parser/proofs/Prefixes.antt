@@ -65,28 +65,28 @@ no_prefix at s t fault not m = λ k h.
     missed fault _ (token (begin_prefix k)) BeginsPrefix s t (misses_both fault IsName (IsKind (Sign sign.OpenParenthesis)) s t not m) h end_begins_no_prefix (prefix_fails k) tt
 
 -- a name that makes a function have too many captures
-crowded : (fault : ParseFault) (C X : Type 0) (r : Reader) (s t : State) → t.left ≡ s.left → OnUpvalues C fault → Supposes fault X → (C → X → IsDead r) → Refuses fault r s t
-crowded (Upvalues line) C X r s t same c h dead = record {
+crowded : (fault : ParseFault) (there : ℕ) (C X : Type 0) (r : Reader) (s t : State) → t.left ≡ s.left → OnUpvalues there C fault → Supposes fault X → (C → X → IsDead r) → Refuses fault r s t
+crowded (Upvalues line) there C X r s t same c h dead = record {
   sticks = record {
     read = [];
     printed = sym same;
-    stuck = λ xs go b is counts. dead_reads_no_chunk r xs b (dead c h) is counts;
+    stuck = λ xs go b is counts. dead_reads_no_chunk r xs b (dead c.0 h) is counts;
     waits = tt;
   };
   tells = tt;
 }
-crowded Memory C X r s t same c h dead = absurd h
-crowded other C X r s t same c h dead = absurd c
+crowded Memory there C X r s t same c h dead = absurd h
+crowded other there C X r s t same c h dead = absurd c
 
 name_crowded : (at : Place) (s m t : State) (line : ℕ) (n : List ℕ) (fault : ParseFault) → Takes (Name n) line s m → t.left ≡ m.left →
-    OnUpvalues (Few (look n m.scope.around).1 → ⊥) fault → RefusesPrefix at s t fault
+    OnUpvalues line (Few (look n m.scope.around).1 → ⊥) fault → RefusesPrefix at s t fault
 name_crowded at s m t line n fault taken same c = λ k h.
     refused_on (by_token (token (begin_prefix k)) (Name n) line s m taken)
-    (crowded fault _ _ (more_prefix (tree.variable line n) k) m t same c h (λ many suppose whole from.
+    (crowded fault line _ _ (more_prefix (tree.variable line n) k) m t same c h (λ many suppose whole from.
     suppose whole (λ f. many (subst (λ z. Few (look n z.around).1) (sym taken.scope) (variable_few at s.scope.around line n (first_prefix_fits at s.scope.around _ whole from f))))))
 
 pub variable_crowded : (at : Place) (s : State) (tokens : List Token) (p q : Parser) (line : ℕ) (n : List ℕ) (fault : ParseFault) → Takes (Name n) line s (state tokens p) →
-    q.place ≡ p.place → OnUpvalues (Few (look n (scope_of p).around).1 → ⊥) fault → RefusesPrefix at s (state tokens q) fault
+    q.place ≡ p.place → OnUpvalues line (Few (look n (scope_of p).around).1 → ⊥) fault → RefusesPrefix at s (state tokens q) fault
 unfolding state
 variable_crowded at s tokens p q line n fault taken same c = name_crowded at s (state tokens p) (state tokens q) line n fault taken (ap (λ place. lexemes (drop place tokens)) same) c
 
@@ -127,10 +127,10 @@ suffix_refused at s m t p fault read refuses = λ k h.
 
 -- ---- `.name`
 
-pub member_too_high : (at : Place) (m n : State) (p : Prefix) (line : ℕ) (fault : ParseFault) → Takes (Sign sign.Dot) line m n → IsTooHigh at p.height fault → RefusesSuffix at p m n fault
+pub member_too_high : (at : Place) (m n : State) (p : Prefix) (line : ℕ) (fault : ParseFault) → Takes (Sign sign.Dot) line m n → IsTooHigh at p.height line fault → RefusesSuffix at p m n fault
 member_too_high at m n p line fault taken high = λ s read k h.
     refused_on (by_token (more_prefix read.tree k) (Sign sign.Dot) line m n taken)
-    (too_high fault _ at p.height (token (name (λ l x. more_prefix (tree.member read.tree line l x) k))) n high h (λ full suppose.
+    (too_high _ fault _ at p.height (token (name (λ l x. more_prefix (tree.member read.tree line l x) k))) n high h (λ full suppose.
     dead_name _ (λ l x whole from. suppose whole (λ f.
     high_member at s.scope.around read.tree line l x p.height read.high full (first_prefix_fits at s.scope.around _ whole from f)))))
 
@@ -141,10 +141,10 @@ member_no_name at m n t p line fault taken missing = λ s read k h.
 
 -- ---- `[key]`
 
-pub item_too_high : (at : Place) (m n : State) (p : Prefix) (line : ℕ) (fault : ParseFault) → Takes (Sign sign.OpenBracket) line m n → IsTooHigh at p.height fault → RefusesSuffix at p m n fault
+pub item_too_high : (at : Place) (m n : State) (p : Prefix) (line : ℕ) (fault : ParseFault) → Takes (Sign sign.OpenBracket) line m n → IsTooHigh at p.height line fault → RefusesSuffix at p m n fault
 item_too_high at m n p line fault taken high = λ s read k h.
     refused_on (by_token (more_prefix read.tree k) (Sign sign.OpenBracket) line m n taken)
-    (too_high fault _ at p.height (exp 1 (λ e. token (close_bracket (λ c. more_prefix (tree.item read.tree line e c) k)))) n high h (λ full suppose e.
+    (too_high _ fault _ at p.height (exp 1 (λ e. token (close_bracket (λ c. more_prefix (tree.item read.tree line e c) k)))) n high h (λ full suppose e.
     dead_close_bracket _ (λ c whole from. suppose whole (λ f.
     high_item at s.scope.around read.tree line e c p.height read.high full (first_prefix_fits at s.scope.around _ whole from f)))))
 

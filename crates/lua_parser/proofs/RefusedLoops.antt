@@ -22,7 +22,7 @@ use Rattle.lua_parser.specs.declared.faults.ParseFault.TheVariants.{At, Locals, 
 use Rattle.lua_parser.specs.declared.places.Place.{Place}
 use Rattle.lua_parser.specs.declared.cursor.Parser.{Parser}
 use Rattle.lua_parser.specs.Frames.{frame_of, frames_of}
-use Rattle.lua_parser.specs.States.{State, Takes, scope_of, state}
+use Rattle.lua_parser.specs.States.{State, Takes, last_line, scope_of, state}
 use Rattle.lua_parser.specs.Next.{Begin, IsKind, IsName, IsNext, IsTooDeep, Misses, OnAt, OnLocals, ahead, first_kind, line_or}
 use Rattle.lua_parser.specs.Places.{IsLooped, IsWithin}
 use Rattle.lua_parser.specs.Fits.{FitsBlock, FitsValue, FitsValues, FitsLoop, FitsStat}
@@ -117,9 +117,9 @@ crowded_there tokens p n fault h = h
 
 -- where the next token fits nothing
 pub unfit_refused : (tokens : List Token) (p : Parser) (r : Reader) → ((line : ℕ) → feed r (ahead (state tokens p)) line ≡ failed) → IsWaiting r →
-    Refuses (At (line_or p.line (state tokens p).left)) r (state tokens p) (state tokens p)
+    Refuses (At (line_or (last_line (lexemes tokens)) (state tokens p).left)) r (state tokens p) (state tokens p)
 unfolding state
-unfit_refused tokens p r none waits = record { sticks = fails (At (line_or p.line (state tokens p).left)) r (state tokens p) none waits; tells = refl }
+unfit_refused tokens p r none waits = record { sticks = fails (At (line_or (last_line (lexemes tokens)) (state tokens p).left)) r (state tokens p) none waits; tells = refl }
 
 -- the kind of the next token, where it is known
 kind_next : (kind : TokenKind) (left : List Lexeme) → Begin (IsKind kind) left → first_kind left ≡ kind
@@ -169,7 +169,7 @@ many_fail f k (tree.first_name l n) m many = absurd (many refl)
 many_fail f k (tree.next_name ns c l n) m many = refl
 
 pub many_names : (at : Place) (names : List Bytes) (tokens : List Token) (p : Parser) → (length names ≡ 1 → ⊥) → IsNext (Sign sign.Assign) (state tokens p) →
-    RefusesFor at names (state tokens p) (state tokens p) (At (line_or p.line (state tokens p).left))
+    RefusesFor at names (state tokens p) (state tokens p) (At (line_or (last_line (lexemes tokens)) (state tokens p).left))
 many_names at names tokens p many next = λ f ns are k never suppose.
     unfit_refused tokens p (token (for_tail f k ns)) (λ line.
     rw (kind_next (Sign sign.Assign) (state tokens p).left next) (many_fail f k ns line (λ one. many (ap length are ∙ one)))) tt

@@ -17,7 +17,7 @@ use Rattle.lua_parser.specs.Next.{Begin, IsKind, IsName, Ends, IsTooDeep, HasNoP
 use Rattle.lua_parser.specs.Readers.{Refuses, Supposes}
 use Rattle.lua_parser.proofs.Moving.{dead_stuck, ends_stuck, fails}
 
-told_at_end : (s : State) (line : ℕ) → Ends s line → line ≡ line_or s.last s.left
+told_at_end : (s : State) (line : ℕ) → Ends s line → line ≡ line_or s.final s.left
 told_at_end s line e = rw e.nothing e.told
 
 -- ---- at the end of the text
@@ -48,19 +48,19 @@ limited line r s dead = record { sticks = dead_stuck (Depth line) r s (λ b c. c
 pub too_deep : (fault : ParseFault) (P : Type 0) (at : Place) (r : Reader) (s : State) → IsTooDeep at s fault → Supposes fault P →
     ((l : ℕ) (b : Block) → feed r (Word word.End) l ≡ chunk b → ⊥) → (200 ≤ at.depth → P → IsDead r) → IsWaiting r → Refuses fault r s s
 too_deep (At line) X at r s e h not dead waits = at_end r s line e not waits
-too_deep (Depth line) X at r s e h not dead waits = limited line r s (dead e h)
+too_deep (Depth line) X at r s e h not dead waits = limited line r s (dead e.0 h)
 too_deep other X at r s e h not dead waits = absurd e
 
 pub no_part : (fault : ParseFault) (P : Type 0) (at : Place) (r : Reader) (s : State) → HasNoPart at s fault → Supposes fault P →
     ((l : ℕ) (b : Block) → feed r (Word word.End) l ≡ chunk b → ⊥) → ((200 ≤ at.depth) ⊎ (at.room ≤ 1) → P → IsDead r) → IsWaiting r → Refuses fault r s s
 no_part (At line) X at r s e h not dead waits = at_end r s line e not waits
-no_part (Depth line) X at r s e h not dead waits = limited line r s (dead e h)
+no_part (Depth line) X at r s e h not dead waits = limited line r s (dead e.0 h)
 no_part other X at r s e h not dead waits = absurd e
 
-pub too_high : (fault : ParseFault) (P : Type 0) (at : Place) (height : ℕ) (r : Reader) (s : State) → IsTooHigh at height fault → Supposes fault P →
+pub too_high : (there : ℕ) (fault : ParseFault) (P : Type 0) (at : Place) (height : ℕ) (r : Reader) (s : State) → IsTooHigh at height there fault → Supposes fault P →
     (at.room ≤ height → P → IsDead r) → Refuses fault r s s
-too_high (Depth line) X at height r s e h dead = limited line r s (dead e h)
-too_high other X at height r s e h dead = absurd e
+too_high there (Depth line) X at height r s e h dead = limited line r s (dead e.0 h)
+too_high there other X at height r s e h dead = absurd e
 
 -- ---- where no such token is next
 
@@ -159,7 +159,7 @@ end_fails : (k : Line → Reader) (kind : TokenKind) (l : Line) → (IsKind (Wor
 end_fails k (Word word.End) l h = absurd (h refl)
 end_fails k kind l h = refl
 
-end_missing : (k : Line → Reader) (s : State) (left : List Lexeme) (line : ℕ) → s.left ≡ left → (Begin (IsKind (Word word.End)) left → ⊥) → line ≡ line_or s.last s.left →
+end_missing : (k : Line → Reader) (s : State) (left : List Lexeme) (line : ℕ) → s.left ≡ left → (Begin (IsKind (Word word.End)) left → ⊥) → line ≡ line_or s.final s.left →
     ((l : Line) (b : Block) → k l ≡ chunk b → ⊥) → Refuses (At line) (token (end_ k)) s s
 end_missing k s [] line is missing told not = record { sticks = ends_stuck (At line) (token (end_ k)) s is not tt; tells = told }
 end_missing k s (first ∷ left) line is missing told not = record {

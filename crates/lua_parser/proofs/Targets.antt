@@ -9,7 +9,7 @@ use Rattle.lua_lexer.specs.declared.words.Word.TheVariants as word
 use Rattle.lua_grammar.specs.Tree.{Line, PrefixExp, ExpList, Stat, VarList}
 use Rattle.lua_grammar.specs.Tree as tree
 use Rattle.lua_grammar.specs.Dead.{IsDead, VarsFrom}
-use Rattle.lua_grammar.specs.Printing.{a_sign, print_exp, print_varlist, a_kind}
+use Rattle.lua_grammar.specs.Printing.{lexemes, a_sign, print_exp, print_varlist, a_kind}
 use Rattle.lua_grammar.specs.Levels.{levels, height, prefix_height}
 use Rattle.lua_grammar.specs.Validity.{IsCall, IsValid, IsValidPrefix, IsVariable}
 use Rattle.lua_grammar.specs.Scopes.{Frame, Scope}
@@ -36,7 +36,7 @@ use Rattle.lua_parser.specs.Readers.{Moves, Refuses}
 use Rattle.lua_parser.specs.Reads.{ReadsPrefix, form_of}
 use Rattle.lua_parser.specs.ReadsStatements.{ReadsMoreVars, ReadsTarget, ReadsVars}
 use Rattle.lua_parser.specs.Refusals.{RefusesPrefix}
-use Rattle.lua_parser.specs.States.{State, Stops, Takes, state}
+use Rattle.lua_parser.specs.States.{State, Stops, Takes, last_line, state}
 use Rattle.lua_parser.specs.StatementRefusals.{RefusesAssignment, RefusesStat, RefusesTarget, RefusesValues}
 use Rattle.lua_parser.proofs.Moving.{by_token, fails, here, not_first, on, refused_on, stays, supposes_on}
 use Rattle.lua_parser.proofs.Printed.{prefix_ended, prefix_moves}
@@ -158,7 +158,7 @@ no_target vs c k (tree.member p d l n) other = absurd (other refl)
 no_target vs c k p other = refl
 
 pub target_is_none : (at free : Place) (tokens : List Token) (s : State) (q : Parser) (p : Prefix) → ReadsPrefix free s p (state tokens q) → Stops (state tokens q) → (p.form ≡ Variable → ⊥) →
-    RefusesTarget at s (state tokens q) (At (line_or q.line (state tokens q).left))
+    RefusesTarget at s (state tokens q) (At (line_or (last_line (lexemes tokens)) (state tokens q).left))
 target_is_none at free tokens s q p r stops other = λ vs c k suppose.
     refused_on (prefix_moves r.tree free.rest (next_target vs c k) s (state tokens q) r.printed r.valid)
     (unfit_refused tokens q (more_prefix r.tree (next_target vs c k)) (λ line.
@@ -321,7 +321,7 @@ no_statement k (tree.call p a) is = cc
 no_statement k (tree.method p x l n a) is = cc
 
 pub statement_is_none : (at free : Place) (tokens : List Token) (s : State) (q : Parser) (p : Prefix) → begins_of (ahead s) ≡ begins.Prefix → ReadsPrefix free s p (state tokens q) →
-    Stops (state tokens q) → p.form ≡ Paren → RefusesStat at s (state tokens q) (At (line_or q.line (state tokens q).left))
+    Stops (state tokens q) → p.form ≡ Paren → RefusesStat at s (state tokens q) (At (line_or (last_line (lexemes tokens)) (state tokens q).left))
 statement_is_none at free tokens s q p is r stops form = λ k never suppose.
     refused_on (on (begins_there k s is) (prefix_moves r.tree free.rest (assigns_or_calls k) s (state tokens q) r.printed r.valid))
     (unfit_refused tokens q (more_prefix r.tree (assigns_or_calls k)) (λ line.

@@ -29,17 +29,15 @@ use Rattle.lua_parser.specs.declared.places.Place.{Place}
 use Rattle.lua_parser.specs.Fits.{FitsBlock}
 use Rattle.lua_parser.specs.Next.{line_or}
 use Rattle.lua_parser.specs.Readers.{Counts, GoOn, GoOnWith, Supposes}
-use Rattle.lua_parser.specs.Unfit.{BeginAs, HasLine, IsUnfit, OfAt}
+use Rattle.lua_parser.specs.Unfit.{BeginAs, IsUnfit, OfAt}
 use Rattle.lua_parser.specs.ReadsStatements.{ReadsBlock}
-use Rattle.lua_parser.specs.States.{State, scope_of, state}
+use Rattle.lua_parser.specs.States.{State, last_line, scope_of, state}
 use Rattle.lua_parser.specs.StatementRefusals.{RefusesBlock}
+use Rattle.lua_parser.specs.Standing.{FirstFault, IsBeginning, IsBroken, IsFirst, IsOutermost, OnLimit}
+use Rattle.lua_parser.specs.Standing as standing
+use Rattle.lua_parser.proofs.Next.{final_of}
+use Rattle.lua_parser.proofs.OpenFunctions.{few_there}
 use Rattle.lua_parser.proofs.PrintedStatements.{block_ended}
-
--- the place of the chunk
-pub record IsOutermost (at : Place) : Type 0 where
-  pub depth : at.depth ≡ 1
-  pub rest : at.rest ≡ true
-  pub in_loop : at.in_loop ≡ false
 
 -- the tokens and the `end` that is put behind them
 go_on_to_end : (left : List Lexeme) → GoOn left (left ++ a_word End 1 [])
@@ -59,10 +57,6 @@ go_on_all other left = refl
 begin_on : (left xs : List Lexeme) → BeginAs left xs → GoOn left (xs ++ a_word End 1 [])
 begin_on [] xs h = rw h refl
 begin_on (first ∷ behind) xs h = (h.0 ++ a_word End 1 [], ap (λ ys. ys ++ a_word End 1 []) h.1)
-
-has_line : (line last : ℕ) (left : List Lexeme) → line ≡ line_or last left → HasLine line left
-has_line line last [] told = tt
-has_line line last (first ∷ behind) told = told
 
 -- a chunk fits
 chunk_fits : (at : Place) (kept : Function) (s : State) (b : Block) → IsOutermost at → s.scope ≡ enter [] kept outside → IsChunk b → FitsBlock at s.scope.around b
@@ -118,22 +112,33 @@ block_refused at tokens p t kept fault outer start begun refuses other program i
     sym (append_assoc sticks.read t.left (a_word End 1 [])) ∙ ap (λ xs. xs ++ a_word End 1 []) (sym sticks.printed ∙ whole_left tokens p start) in
     sticks.stuck (t.left ++ a_word End 1 []) (go_on_all fault t.left) b (ap (run read_chunk) all ∙ reads) (counted fault b stands)
 
+beginning : (tokens : List Token) (p : Parser) (kept : Function) → p.place ≡ 0 → scope_of p ≡ enter [] kept outside → IsBeginning tokens (state tokens p)
+beginning tokens p kept start begun = record { kept = kept; all = whole_left tokens p start; known = scope_there tokens p kept begun }
+
 -- where nothing fits, no chunk goes on, and one does so before
-pub block_unfit : (at : Place) (tokens : List Token) (p : Parser) (t : State) (fault : ParseFault) → p.place ≡ 0 → RefusesBlock at (state tokens p) t fault → OfAt (IsUnfit tokens) fault
-block_unfit at tokens p t (At line) start refuses =
+pub block_unfit : (at : Place) (tokens : List Token) (p q : Parser) (kept : Function) (fault : ParseFault) → IsOutermost at → p.place ≡ 0 → scope_of p ≡ enter [] kept outside → RefusesBlock at (state tokens p) (state tokens q) fault →
+    FirstFault (standing.here standing.block at) (state tokens p) (state tokens q) fault → OfAt (IsUnfit tokens) fault
+block_unfit at tokens p q kept (At line) outer start begun refuses first =
+    let t = state tokens q in
     let r = refuses (λ b. token (end_ (λ l. chunk b))) tt in
     record {
       before = r.sticks.read;
       left = t.left;
       all = sym (whole_left tokens p start) ∙ r.sticks.printed;
-      told = has_line line t.last t.left r.tells;
+      told = r.tells ∙ ap (λ final. line_or final t.left) (final_of tokens q);
       stuck = λ xs h b is.
           r.sticks.stuck (xs ++ a_word End 1 []) (begin_on t.left xs h) b
           (ap (run read_chunk) (sym (append_assoc r.sticks.read xs (a_word End 1 []))) ∙ is)
           tt;
       goes_on = begins_a_chunk r.sticks.read r.sticks.waits;
+      start = state tokens p;
+      begins = beginning tokens p kept start begun;
+      stop = t;
+      within = first (state tokens p) (standing.chunk at outer);
+      few = few_there tokens q;
+      there = refl;
     }
-block_unfit at tokens p t other start refuses = tt
+block_unfit at tokens p q kept other outer start begun refuses first = tt
 
 -- behind the chunk there are more tokens
 never_chunk : (xs : List Lexeme) (b : Block) → run failed xs ≡ chunk b → ⊥
@@ -165,20 +170,26 @@ too_many_from x [] xs b some h is = some refl
 too_many_from x (first ∷ behind) xs b some h is = one_more x first.kind first.line h.0 b (rw h.1 at is)
 
 -- the token behind the chunk is one too many
-pub token_unfit : (at : Place) (tokens : List Token) (p q : Parser) (out : List Stmt) (fault : ParseFault) → p.place ≡ 0 → ReadsBlock at (state tokens p) out (state tokens q) → q.place < length tokens →
-    fault ≡ At (line_or q.line (state tokens q).left) → OfAt (IsUnfit tokens) fault
-token_unfit at tokens p q out fault start r more is =
+pub token_unfit : (at : Place) (tokens : List Token) (p q : Parser) (kept : Function) (out : List Stmt) (fault : ParseFault) → IsOutermost at → p.place ≡ 0 → scope_of p ≡ enter [] kept outside → ReadsBlock at (state tokens p) out (state tokens q) → q.place < length tokens →
+    fault ≡ At (line_or (last_line (lexemes tokens)) (state tokens q).left) → OfAt (IsUnfit tokens) fault
+token_unfit at tokens p q kept out fault outer start begun r more is =
     let t = state tokens q in
     let moves = block_ended at (state tokens p) t out r (λ b. token (end_ (λ l. chunk b))) in
     rw is (record {
       before = moves.read;
       left = t.left;
       all = sym (whole_left tokens p start) ∙ moves.printed;
-      told = has_line (line_or q.line t.left) q.line t.left refl;
+      told = refl;
       stuck = λ xs h b reads.
           too_many_from r.tree t.left xs b (some_left tokens q more) h
           (sym (moves.runs (xs ++ a_word End 1 []) (begin_on t.left xs h)) ∙ ap (run read_chunk) (sym (append_assoc moves.read xs (a_word End 1 []))) ∙ reads);
       goes_on = begins_a_chunk moves.read (moves.waits tt);
+      start = state tokens p;
+      begins = beginning tokens p kept start begun;
+      stop = t;
+      within = standing.behind_block (standing.chunk at outer) r;
+      few = few_there tokens q;
+      there = refl;
     })
 
 pub too_many_tokens : (at : Place) (tokens : List Token) (p q : Parser) (out : List Stmt) → p.place ≡ 0 → ReadsBlock at (state tokens p) out (state tokens q) → q.place < length tokens →
@@ -190,3 +201,15 @@ too_many_tokens at tokens p q out start r more program is =
     let all : moves.read ++ (t.left ++ a_word End 1 []) ≡ lexemes tokens ++ a_word End 1 [] =
     sym (append_assoc moves.read t.left (a_word End 1 [])) ∙ ap (λ xs. xs ++ a_word End 1 []) (sym moves.printed ∙ whole_left tokens p start) in
     too_many r.tree t.left b (some_left tokens q more) (sym (moves.runs (t.left ++ a_word End 1 []) (go_on_to_end t.left)) ∙ ap (run read_chunk) all ∙ reads)
+
+-- ---- where a limit or a rule is broken
+
+first_broken : (tokens : List Token) (start t : State) (fault : ParseFault) → IsBeginning tokens start → IsFirst start t fault → OnLimit (IsBroken tokens) fault
+first_broken tokens start t (At line) begins first = tt
+first_broken tokens start t Memory begins first = tt
+first_broken tokens start t fault begins first = record { start = start; begins = begins; breaks = first }
+
+pub block_broken : (at : Place) (tokens : List Token) (p : Parser) (t : State) (kept : Function) (fault : ParseFault) → IsOutermost at → p.place ≡ 0 → scope_of p ≡ enter [] kept outside →
+    FirstFault (standing.here standing.block at) (state tokens p) t fault → OnLimit (IsBroken tokens) fault
+block_broken at tokens p t kept fault outer start begun first =
+    first_broken tokens (state tokens p) t fault (beginning tokens p kept start begun) (first (state tokens p) (standing.chunk at outer))

@@ -14,3 +14,4 @@ pub mod Refusals
 pub mod StatementRefusals
 pub mod Kinds
 pub mod Unfit
+pub mod Standing

@@ -1,5 +1,5 @@
 -- The next token, and the fault where it isn't what is read.
-use Rattle.std.specs.Prelude.{◌≡◌, ◌≤◌, ◌⊎◌, ℕ, List, [], ◌∷◌}
+use Rattle.std.specs.Prelude.{◌≡◌, ◌≤◌, ◌<◌, ◌⊎◌, ℕ, List, [], ◌∷◌}
 use Rattle.lua_lexer.specs.declared.tokens.TokenKind.{TokenKind}
 use Rattle.lua_lexer.specs.declared.tokens.TokenKind.TheVariants.{Name as NameKind, Text as TextKind, Number as NumberKind, Word as WordKind, Sign as SignKind}
 use Rattle.lua_lexer.specs.declared.words.Word.TheVariants.{End}
@@ -43,10 +43,15 @@ first_kind (first ∷ behind) = first.kind
 abbrev pub ahead : State → TokenKind
 ahead s = first_kind s.left
 
--- the line of the next token, and of the last one at the end of the text
+-- the line of the next token, and that of the last one at the end of the text
 abbrev pub line_or : ℕ → List Lexeme → ℕ
-line_or last [] = last
-line_or last (first ∷ behind) = first.line
+line_or final [] = final
+line_or final (first ∷ behind) = first.line
+
+-- the next token is on that line
+abbrev pub IsOnLine : ℕ → List Lexeme → Type 0
+IsOnLine line [] = ⊥
+IsOnLine line (first ∷ behind) = line ≡ first.line
 
 -- the fault is `At`, of which that is said, or want of memory
 abbrev pub OnAt : (ℕ → Type 0) → ParseFault → Type 0
@@ -60,10 +65,16 @@ OnLocals P (Locals line) = P
 OnLocals P Memory = Unit {0}
 OnLocals P other = ⊥
 
-abbrev pub OnUpvalues : Type 0 → ParseFault → Type 0
-OnUpvalues P (Upvalues line) = P
-OnUpvalues P Memory = Unit {0}
-OnUpvalues P other = ⊥
+-- the limit of locals has that line
+abbrev pub IsLocals : ℕ → ParseFault → Type 0
+IsLocals line (Locals told) = told ≡ line
+IsLocals line Memory = Unit {0}
+IsLocals line other = ⊥
+
+abbrev pub OnUpvalues : ℕ → Type 0 → ParseFault → Type 0
+OnUpvalues line P (Upvalues told) = P × (told ≡ line)
+OnUpvalues line P Memory = Unit {0}
+OnUpvalues line P other = ⊥
 
 abbrev pub IsMemory : ParseFault → Type 0
 IsMemory fault = fault ≡ Memory
@@ -71,30 +82,30 @@ IsMemory fault = fault ≡ Memory
 -- no token is left
 pub record Ends (s : State) (line : ℕ) : Type 0 where
   pub nothing : s.left ≡ []
-  pub told : line ≡ s.last
+  pub told : line ≡ s.final
 
 -- no such token is next, and nothing was read
 pub record Misses (P : TokenKind → Type 0) (s t : State) (line : ℕ) : Type 0 where
   pub same : t ≡ s
   pub missing : Begin P s.left → ⊥
-  pub told : line ≡ line_or s.last s.left
+  pub told : line ≡ line_or s.final s.left
 
 -- As many constructs are open as may be. Where a token is left, that is a fault of depth.
 abbrev pub IsTooDeep : Place → State → ParseFault → Type 0
 IsTooDeep at s (At line) = Ends s line
-IsTooDeep at s (Depth line) = 200 ≤ at.depth
+IsTooDeep at s (Depth line) = (200 ≤ at.depth) × IsOnLine line s.left
 IsTooDeep at s other = ⊥
 
 -- the same of a part of an expression, for which there may be no room either
 abbrev pub HasNoPart : Place → State → ParseFault → Type 0
 HasNoPart at s (At line) = Ends s line
-HasNoPart at s (Depth line) = (200 ≤ at.depth) ⊎ (at.room ≤ 1)
+HasNoPart at s (Depth line) = ((200 ≤ at.depth) ⊎ (at.room ≤ 1)) × IsOnLine line s.left
 HasNoPart at s other = ⊥
 
--- an expression of that height has no room in a higher one
-abbrev pub IsTooHigh : Place → ℕ → ParseFault → Type 0
-IsTooHigh at height (Depth line) = at.room ≤ height
-IsTooHigh at height other = ⊥
+-- an expression of that height has no room in a higher one, which the token on that line makes it a part of
+abbrev pub IsTooHigh : Place → ℕ → ℕ → ParseFault → Type 0
+IsTooHigh at height line (Depth told) = (at.room ≤ height) × (told ≡ line)
+IsTooHigh at height line other = ⊥
 
 -- arguments can't begin: no token is left, or `(` is on another line
 abbrev pub CannotOpen : State → ParseFault → Type 0
@@ -105,7 +116,7 @@ CannotOpen s other = ⊥
 -- the fault where one construct more isn't allowed
 abbrev pub IsDepth : State → ParseFault → Type 0
 IsDepth s (At line) = Ends s line
-IsDepth s (Depth line) = Unit {0}
+IsDepth s (Depth line) = IsOnLine line s.left
 IsDepth s other = ⊥
 
 -- no name is next, or so many others stand before it that there is no place for one more
@@ -117,7 +128,7 @@ MissesName count s t other = ⊥
 
 -- that sign isn't next, or no name behind it, or what stands before it is too high already
 abbrev pub MissesMember : Sign → ℕ → State → State → ParseFault → Type 0
-MissesMember sign height s t (At line) = Misses (IsKind (SignKind sign)) s t line ⊎ ((m : State) × (at : ℕ) × Takes (SignKind sign) at s m × Misses IsName m t line)
+MissesMember sign height s t (At line) = Misses (IsKind (SignKind sign)) s t line ⊎ ((m : State) × (at : ℕ) × Takes (SignKind sign) at s m × Misses IsName m t line × (height < 4_000))
 MissesMember sign height s t (Depth line) = Takes (SignKind sign) line s t × (4_000 ≤ height)
 MissesMember sign height s t Memory = Unit {0}
 MissesMember sign height s t other = ⊥

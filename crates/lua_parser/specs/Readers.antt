@@ -49,7 +49,7 @@ pub record Sticks (fault : ParseFault) (r : Reader) (s t : State) : Type 0 where
 
 -- the fault `At` has the line of the next token, and of the last one at the end of the text
 abbrev pub Tells : ParseFault → State → Type 0
-Tells (At line) t = line ≡ line_or t.last t.left
+Tells (At line) t = line ≡ line_or t.final t.left
 Tells other t = Unit {0}
 
 -- with that fault a reader is refused between two states

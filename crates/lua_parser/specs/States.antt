@@ -1,5 +1,5 @@
 -- What is left of the tokens at a place, and what is known there.
-use Rattle.std.specs.Prelude.{◌≡◌, ℕ, ◌<◌, ◌≤◌, List, ◌∷◌, drop, length, Option, Some, None}
+use Rattle.std.specs.Prelude.{◌≡◌, ℕ, ◌<◌, ◌≤◌, List, [], ◌∷◌, drop, length, Option, Some, None}
 use Rattle.lua_lexer.specs.declared.tokens.Token.{Token}
 use Rattle.lua_lexer.specs.declared.tokens.TokenKind.{TokenKind}
 use Rattle.lua_lexer.specs.declared.tokens.TokenKind.TheVariants.{Text as TextKind, Sign as SignKind}
@@ -12,17 +12,24 @@ use Rattle.lua_parser.specs.declared.cursor.Parser.{Parser}
 use Rattle.lua_parser.specs.declared.expressions.Infix.{Infix}
 use Rattle.lua_parser.specs.Frames.{frame_of, frames_of}
 
--- the tokens that are left, the line of the token before them, and the scope
+-- the line of the last token, 1 of none
+abbrev pub last_line : List Lexeme → ℕ
+last_line [] = 1
+last_line (token ∷ []) = token.line
+last_line (token ∷ next ∷ behind) = last_line (next ∷ behind)
+
+-- the tokens that are left, the line of the token before them, that of the last token of the text, and the scope
 pub record State : Type 0 where
   pub left : List Lexeme
   pub last : ℕ
+  pub final : ℕ
   pub scope : Scope
 
 abbrev pub scope_of : Parser → Scope
 scope_of p = record { functions = p.functions.items; around = frame_of p.frame ∷ frames_of p.around }
 
 unfoldable pub state : List Token → Parser → State
-state tokens p = record { left = lexemes (drop p.place tokens); last = p.line; scope = scope_of p }
+state tokens p = record { left = lexemes (drop p.place tokens); last = p.line; final = last_line (lexemes tokens); scope = scope_of p }
 
 -- a token of that kind and line stands between two states
 pub record Takes (kind : TokenKind) (line : ℕ) (s t : State) : Type 0 where

@@ -1,4 +1,4 @@
-ghost use Rattle.std.specs.Prelude.{◌≡◌, ◌≤◌, IfOk, IfErr, OnOk};
+ghost use Rattle.std.specs.Prelude.{◌≡◌, ◌≤◌, ℕ, IfOk, IfErr, OnOk};
 ghost use Rattle.lua_lexer.specs.declared.tokens.TokenKind.TheVariants.{Number as NumberKind, Sign as SignKind, Word as WordKind};
 ghost use Rattle.lua_parser.specs.States.{state, Takes, Advances};
 ghost use Rattle.lua_parser.specs.Reads.{ReadsExp};
@@ -6,6 +6,8 @@ ghost use Rattle.lua_parser.specs.Next.{Begin, IsMemory, IsNext, IsNumber, IsTex
 ghost use Rattle.lua_parser.specs.Refusals.{RefusesExp};
 ghost use Rattle.lua_lexer.specs.declared.signs.Sign.TheVariants.{Ellipsis};
 ghost use Rattle.lua_lexer.specs.declared.words.Word.TheVariants.{False, Nil, True};
+ghost use Rattle.lua_parser.specs.Standing.{FirstFault};
+ghost use Rattle.lua_parser.specs.Standing as Standing;
 
 use crate::ParseFault;
 use crate::cursor::Parser;
@@ -83,6 +85,7 @@ impl Parser {
         ensures reads { IfOk result (λ b. ReadsExp at (state tokens.now self.old) b (state tokens.now self.new)) }
         ensures level { IfOk result (λ b. 7 ≤ b.level) }
         ensures refuses { IsNext (SignKind Ellipsis) (state tokens.now self.old) → IfErr result (RefusesExp at (state tokens.now self.old) (state tokens.now self.new)) }
+        ensures order { (m : ℕ) → IfErr result (FirstFault (Standing.here (Standing.exp m) at) (state tokens.now self.old) (state tokens.now self.new)) }
         ensures forward { OnOk result (Advances tokens.now self.old self.new) }
     {
         let line = self.take_sign(tokens, Sign::Ellipsis)?;

@@ -1,7 +1,8 @@
 ghost use Rattle.std.specs.Prelude.{◌≡◌, ◌↔◌, IfOk, IfErr, IfNone, IfSome, IsTrue, MatchResult, OnOk, slice_get, Some};
 ghost use Rattle.lua_lexer.specs.declared.tokens.TokenKind.TheVariants.{Name as NameKind, Text as TextKind, Word as WordKind, Sign as SignKind};
 ghost use Rattle.lua_grammar.specs.Grammar.{first_line};
-ghost use Rattle.lua_parser.specs.States.{state, Takes, Skips, Advances, IfAdvances};
+ghost use Rattle.lua_grammar.specs.Printing.{lexemes};
+ghost use Rattle.lua_parser.specs.States.{state, last_line, Takes, Skips, Advances, IfAdvances};
 ghost use Rattle.lua_parser.specs.Places.{IsWithin, IsPart};
 ghost use Rattle.lua_parser.specs.Next.{Begin, Ends, HasNoPart, IsDepth, IsText, IsKind, IsName, IsNext, IsTooDeep, Misses, OnAt, line_or};
 
@@ -37,11 +38,11 @@ pub(crate) struct Parser {
 impl Parser {
     /// The fault at a token that fits nothing, or at the text's end.
     pub(crate) fn unfit(&self, tokens: &[Token]) -> ParseFault
-        ensures { result ≡ ParseFault.At (line_or self.now.line (state tokens.now self.now).left) }
+        ensures { result ≡ ParseFault.At (line_or (last_line (lexemes tokens.now)) (state tokens.now self.now).left) }
     {
         match tokens.get(self.place) {
             Some(token) => ParseFault::At(token.line),
-            None => ParseFault::At(self.line),
+            None => ParseFault::At(last_line(tokens)),
         }
     }
 
@@ -232,8 +233,18 @@ impl Parser {
     {
         match tokens.get(self.place) {
             Some(token) => ParseFault::Depth(token.line),
-            None => ParseFault::At(self.line),
+            None => self.unfit(tokens),
         }
+    }
+}
+
+/// The line of the last token, 1 of none.
+fn last_line(tokens: &[Token]) -> u32
+    ensures { result ≡ last_line (lexemes tokens.now) }
+{
+    match tokens.last() {
+        Some(token) => token.line,
+        None => 1,
     }
 }
 

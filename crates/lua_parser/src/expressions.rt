@@ -1,4 +1,4 @@
-ghost use Rattle.std.specs.Prelude.{◌≡◌, ◌≤◌, min, IfOk, IfErr, IfNone, MatchOption, OnOk, vec_len};
+ghost use Rattle.std.specs.Prelude.{◌≡◌, ◌≤◌, ℕ, min, IfOk, IfErr, IfNone, MatchOption, OnOk, vec_len};
 ghost use Rattle.lua_grammar.specs.Operators.{kind_of, kind_of_unary, left_level, level};
 ghost use Rattle.lua_grammar.specs.declared.operators.Operator.{Operator};
 ghost use Rattle.lua_parser.specs.States.{state, Takes, Advances, IfAdvances, SkipsOperator};
@@ -9,6 +9,8 @@ ghost use Rattle.lua_lexer.specs.declared.tokens.TokenKind.TheVariants.{Word as 
 ghost use Rattle.lua_lexer.specs.declared.words.Word.TheVariants.{Function};
 ghost use Rattle.lua_grammar.specs.Stopping.{EndsAt};
 ghost use Rattle.lua_parser.specs.Refusals.{RefusesExp, RefusesFrom};
+ghost use Rattle.lua_parser.specs.Standing.{FirstFault};
+ghost use Rattle.lua_parser.specs.Standing as Standing;
 
 use crate::ParseFault;
 use crate::cursor::Parser;
@@ -81,6 +83,7 @@ impl Parser {
         ensures level { IfOk result (λ b. min lowest 7 ≤ b.level) }
         ensures ends { OnOk result (EndsAt lowest (ahead (state tokens.now self.new))) }
         ensures refuses { lowest ≤ 7 → IfErr result (RefusesFrom lowest at (state tokens.now self.old) (state tokens.now self.new)) }
+        ensures order { IfErr result (FirstFault (Standing.here (Standing.exp lowest) at) (state tokens.now self.old) (state tokens.now self.new)) }
         ensures forward { OnOk result (Advances tokens.now self.old self.new) }
     {
         let mut left = self.operand(alloc, tokens, at)?;
@@ -109,6 +112,7 @@ impl Parser {
         ensures reads { IfOk result (λ b. ReadsExp at (state tokens.now self.old) b (state tokens.now self.new)) }
         ensures level { IfOk result (λ b. 7 ≤ b.level) }
         ensures refuses { IfErr result (RefusesExp at (state tokens.now self.old) (state tokens.now self.new)) }
+        ensures order { (m : ℕ) → IfErr result (FirstFault (Standing.here (Standing.exp m) at) (state tokens.now self.old) (state tokens.now self.new)) }
         ensures forward { OnOk result (Advances tokens.now self.old self.new) }
     {
         match self.operand_ahead(tokens) {
@@ -136,6 +140,7 @@ impl Parser {
         ensures reads { IfOk result (λ b. ReadsExp at (state tokens.now self.old) b (state tokens.now self.new)) }
         ensures level { IfOk result (λ b. 7 ≤ b.level) }
         ensures refuses { IsUnary (ahead (state tokens.now self.old)) → IfErr result (RefusesExp at (state tokens.now self.old) (state tokens.now self.new)) }
+        ensures order { (m : ℕ) → IfErr result (FirstFault (Standing.here (Standing.exp m) at) (state tokens.now self.old) (state tokens.now self.new)) }
         ensures forward { OnOk result (Advances tokens.now self.old self.new) }
     {
         let prefixed = self.take_unary(tokens)?;
@@ -150,6 +155,7 @@ impl Parser {
         ensures reads { IfOk result (λ b. ReadsExp at (state tokens.now self.old) b (state tokens.now self.new)) }
         ensures level { IfOk result (λ b. 7 ≤ b.level) }
         ensures refuses { ahead (state tokens.now self.old) ≡ WordKind Function → IfErr result (RefusesExp at (state tokens.now self.old) (state tokens.now self.new)) }
+        ensures order { (m : ℕ) → IfErr result (FirstFault (Standing.here (Standing.exp m) at) (state tokens.now self.old) (state tokens.now self.new)) }
         ensures forward { OnOk result (Advances tokens.now self.old self.new) }
     {
         let line = self.take_word(tokens, Word::Function)?;
@@ -168,6 +174,7 @@ impl Parser {
         ensures reads { IfOk result (λ b. ReadsExp at (state tokens.now self.old) b (state tokens.now self.new)) }
         ensures level { IfOk result (λ b. 7 ≤ b.level) }
         ensures refuses { operand_of (ahead (state tokens.now self.old)) ≡ Operand.Prefix → IfErr result (RefusesExp at (state tokens.now self.old) (state tokens.now self.new)) }
+        ensures order { (m : ℕ) → IfErr result (FirstFault (Standing.here (Standing.exp m) at) (state tokens.now self.old) (state tokens.now self.new)) }
         ensures forward { OnOk result (Advances tokens.now self.old self.new) }
     {
         let prefix = self.prefix(alloc, tokens, at)?;

@@ -1,13 +1,16 @@
-ghost use Rattle.std.specs.Prelude.{◌≡◌, IfErr, IfNone, IfOk, OnOk};
+ghost use Rattle.std.specs.Prelude.{◌≡◌, ◌≤◌, ◌+◌, length, IfErr, IfNone, IfOk, OnOk};
 ghost use Rattle.lua_lexer.specs.declared.tokens.TokenKind.TheVariants.{Sign as SignKind, Word as WordKind};
 ghost use Rattle.lua_lexer.specs.declared.signs.Sign.TheVariants.{Assign, Comma};
 ghost use Rattle.lua_lexer.specs.declared.words.Word.TheVariants.{For, Repeat, While};
 ghost use Rattle.lua_grammar.specs.Tree.{NameList};
 ghost use Rattle.lua_grammar.specs.Resolution.{names_of};
+ghost use Rattle.lua_grammar.specs.Scopes.{in_scope};
 ghost use Rattle.lua_parser.specs.States.{state, Advances, AdvancesOrStays};
 ghost use Rattle.lua_parser.specs.Next.{IsNext, ahead};
 ghost use Rattle.lua_parser.specs.ReadsStatements.{ReadsStat, ReadsLoop, ReadsStep, behind_for};
 ghost use Rattle.lua_parser.specs.StatementRefusals.{RefusesFor, RefusesLoop, RefusesStat, RefusesStep};
+ghost use Rattle.lua_parser.specs.Standing.{FirstFault};
+ghost use Rattle.lua_parser.specs.Standing as Standing;
 
 use crate::ParseFault;
 use crate::cursor::Parser;
@@ -28,6 +31,7 @@ impl Parser {
     ) -> Result<Stmt, ParseFault>
         ensures reads { IfOk result (λ out. ReadsStat at (state tokens.now self.old) out (state tokens.now self.new)) }
         ensures refuses { ahead (state tokens.now self.old) ≡ WordKind While → IfErr result (RefusesStat at (state tokens.now self.old) (state tokens.now self.new)) }
+        ensures order { IfErr result (FirstFault (Standing.statement at) (state tokens.now self.old) (state tokens.now self.new)) }
         ensures forward { OnOk result (Advances tokens.now self.old self.new) }
     {
         let line = self.take_word(tokens, Word::While)?;
@@ -47,6 +51,7 @@ impl Parser {
     ) -> Result<Stmt, ParseFault>
         ensures reads { IfOk result (λ out. ReadsStat at (state tokens.now self.old) out (state tokens.now self.new)) }
         ensures refuses { ahead (state tokens.now self.old) ≡ WordKind Repeat → IfErr result (RefusesStat at (state tokens.now self.old) (state tokens.now self.new)) }
+        ensures order { IfErr result (FirstFault (Standing.statement at) (state tokens.now self.old) (state tokens.now self.new)) }
         ensures forward { OnOk result (Advances tokens.now self.old self.new) }
     {
         let line = self.take_word(tokens, Word::Repeat)?;
@@ -69,6 +74,7 @@ impl Parser {
     ) -> Result<Stmt, ParseFault>
         ensures reads { IfOk result (λ out. ReadsStat at (state tokens.now self.old) out (state tokens.now self.new)) }
         ensures refuses { ahead (state tokens.now self.old) ≡ WordKind For → IfErr result (RefusesStat at (state tokens.now self.old) (state tokens.now self.new)) }
+        ensures order { IfErr result (FirstFault (Standing.statement at) (state tokens.now self.old) (state tokens.now self.new)) }
         ensures forward { OnOk result (Advances tokens.now self.old self.new) }
     {
         let line = self.take_word(tokens, Word::For)?;
@@ -93,6 +99,7 @@ impl Parser {
         ensures reads { IfOk result (λ out. (list : NameList) → names.items ≡ names_of list
             → ReadsStat at (behind_for line list (state tokens.now self.old)) out (state tokens.now self.new)) }
         ensures refuses { IsNext (SignKind Assign) (state tokens.now self.old) → IfErr result (RefusesFor at names.items (state tokens.now self.old) (state tokens.now self.new)) }
+        ensures order { in_scope (state tokens.now self.old).scope + length names.items ≤ 200 → IfErr result (FirstFault (Standing.for_tail at names.items) (state tokens.now self.old) (state tokens.now self.new)) }
         ensures forward { OnOk result (Advances tokens.now self.old self.new) }
     {
         if names.len() != 1 {
@@ -118,6 +125,7 @@ impl Parser {
         ensures reads { IfOk result (λ step. ReadsStep at (state tokens.now self.old) step (state tokens.now self.new)) }
         ensures stops { IfOk result (λ step. IfNone step (IsNext (SignKind Comma) (state tokens.now self.old) → ⊥)) }
         ensures refuses { IfErr result (RefusesStep at (state tokens.now self.old) (state tokens.now self.new)) }
+        ensures order { IfErr result (FirstFault (Standing.step at) (state tokens.now self.old) (state tokens.now self.new)) }
         ensures forward { OnOk result (AdvancesOrStays tokens.now self.old self.new) }
     {
         if !self.at_sign(tokens, Sign::Comma) {
@@ -141,6 +149,7 @@ impl Parser {
         ensures reads { IfOk result (λ out. (list : NameList) → names.items ≡ names_of list
             → ReadsStat at (behind_for line list (state tokens.now self.old)) out (state tokens.now self.new)) }
         ensures refuses { (IsNext (SignKind Assign) (state tokens.now self.old) → ⊥) → IfErr result (RefusesFor at names.items (state tokens.now self.old) (state tokens.now self.new)) }
+        ensures order { in_scope (state tokens.now self.old).scope + length names.items ≤ 200 → IfErr result (FirstFault (Standing.for_tail at names.items) (state tokens.now self.old) (state tokens.now self.new)) }
         ensures forward { OnOk result (Advances tokens.now self.old self.new) }
     {
         self.take_word(tokens, Word::In)?;
@@ -161,6 +170,7 @@ impl Parser {
     ) -> Result<LoopBlock, ParseFault>
         ensures reads { IfOk result (λ block. ReadsLoop at names.items (state tokens.now self.old) block (state tokens.now self.new)) }
         ensures refuses { IfErr result (RefusesLoop at names.items (state tokens.now self.old) (state tokens.now self.new)) }
+        ensures order { in_scope (state tokens.now self.old).scope + length names.items ≤ 200 → IfErr result (FirstFault (Standing.loop at names.items) (state tokens.now self.old) (state tokens.now self.new)) }
         ensures forward { OnOk result (Advances tokens.now self.old self.new) }
     {
         self.take_word(tokens, Word::Do)?;

@@ -5,7 +5,7 @@ ghost use Rattle.lua_grammar.specs.Scopes.{Scope, declare, in_scope, leave, look
 ghost use Rattle.lua_parser.specs.States.{state, Advances, AdvancesOrStays, scope_of};
 ghost use Rattle.lua_lexer.specs.declared.tokens.TokenKind.TheVariants.{Sign as SignKind};
 ghost use Rattle.lua_lexer.specs.declared.signs.Sign.TheVariants.{Comma};
-ghost use Rattle.lua_parser.specs.Next.{IsMemory, IsNext, MissesName, OnLocals, OnUpvalues};
+ghost use Rattle.lua_parser.specs.Next.{IsLocals, IsMemory, IsNext, MissesName, OnLocals, OnUpvalues};
 ghost use Rattle.lua_parser.specs.StatementRefusals.{RefusesNames, RefusesParameters};
 
 use crate::ParseFault;
@@ -37,12 +37,14 @@ pub(crate) struct Begun {
 
 impl Parser {
     ghost use Rattle.lua_parser.specs.Functions.{Enters, Ends};
+    ghost use Rattle.lua_parser.specs.Standing.{FirstFault};
+    ghost use Rattle.lua_parser.specs.Standing as Standing;
     ghost use Rattle.lua_parser.specs.ReadsNames.{TakesName, ReadsNames, ReadsParameters};
 
     /// The expression that a name is.
     pub(crate) fn variable(&mut self, named: Named) -> Result<Expr, ParseFault>
         ensures resolves { IfOk result (λ e. ResolvesName named.line named.name (scope_of self.old) e (scope_of self.new)) }
-        ensures crowded { IfErr result (OnUpvalues (Few (look named.name (scope_of self.old).around).1 → ⊥)) }
+        ensures crowded { IfErr result (OnUpvalues named.line (Few (look named.name (scope_of self.old).around).1 → ⊥)) }
         ensures place { self.new.place ≡ self.old.place }
         ensures line { self.new.line ≡ self.old.line }
     {
@@ -66,6 +68,7 @@ impl Parser {
         ensures reads { IfOk result (λ names. ReadsNames [] (state tokens.now self.old) names.items (state tokens.now self.new)) }
         ensures stops { OnOk result (IsNext (SignKind Comma) (state tokens.now self.new) → ⊥) }
         ensures refuses { IfErr result (RefusesNames taken (state tokens.now self.old) (state tokens.now self.new)) }
+        ensures order { IfErr result (FirstFault (Standing.names taken) (state tokens.now self.old) (state tokens.now self.new)) }
         ensures forward { OnOk result (Advances tokens.now self.old self.new) }
     {
         let mut names = Vec::new(alloc);
@@ -107,6 +110,7 @@ impl Parser {
         requires { vec_len names ≤ 200 }
         ensures reads { IfOk result (λ p. ReadsParameters names.items (state tokens.now self.old) p (state tokens.now self.new)) }
         ensures refuses { IfErr result (RefusesParameters names.items (state tokens.now self.old) (state tokens.now self.new)) }
+        ensures order { IfErr result (FirstFault (Standing.parameters names.items) (state tokens.now self.old) (state tokens.now self.new)) }
         ensures forward { OnOk result (AdvancesOrStays tokens.now self.old self.new) }
     {
         if self.at_sign(tokens, Sign::CloseParenthesis) {
@@ -150,6 +154,7 @@ impl Parser {
     pub(crate) fn local(&mut self, named: Named) -> Result<u8, ParseFault>
         ensures slot { IfOk result (λ slot. slot ≡ in_scope (scope_of self.old)) }
         ensures crowded { IfErr result (OnLocals (200 ≤ in_scope (scope_of self.old))) }
+        ensures told { IfErr result (IsLocals named.line) }
         ensures scope { OnOk result (scope_of self.new ≡ declare (named.name ∷ []) (scope_of self.old)) }
         ensures place { self.new.place ≡ self.old.place }
         ensures line { self.new.line ≡ self.old.line }

@@ -4,6 +4,7 @@ ghost use Rattle.lua_ast.specs.WholeProgram.{IsWholeProgram};
 ghost use Rattle.lua_grammar.specs.Grammar.{first_line, IsProgramOf};
 ghost use Rattle.lua_grammar.specs.Printing.{lexemes};
 ghost use Rattle.lua_parser.specs.Next.{IsMemory};
+ghost use Rattle.lua_parser.specs.Standing.{IsBroken, OnLimit};
 ghost use Rattle.lua_parser.specs.Unfit.{IsUnfit, OfAt};
 
 use crate::ParseFault;
@@ -23,6 +24,7 @@ pub fn parse(alloc: Global, tokens: &[Token]) -> Result<Program, ParseFault>
     ensures program { IfOk result (IsProgramOf tokens.now) }
     ensures whole { IfOk result IsWholeProgram }
     ensures unfit { IfErr result (OfAt (IsUnfit tokens.now)) }
+    ensures limits { IfErr result (OnLimit (IsBroken tokens.now)) }
     ensures complete { IfErr result (λ fault. (fault ≡ ParseFault.Memory → ⊥) → (program : Program) → IsProgramOf tokens.now program → ⊥) }
 {
     let line = first_line(tokens);

@@ -78,7 +78,7 @@ impl Place {
 
     /// Whether an expression of that height may be a part of one here. The line is that of the token that makes it one.
     pub(crate) fn above(self, height: u32, line: u32) -> Result<(), ParseFault>
-        ensures { MatchResult result (λ _. height < self.room) (IsTooHigh self height) }
+        ensures { MatchResult result (λ _. height < self.room) (IsTooHigh self height line) }
     {
         if height < self.room {
             Ok(())

@@ -3,7 +3,7 @@ ghost use Rattle.lua_grammar.specs.Limits.{Few};
 ghost use Rattle.lua_grammar.specs.Resolution.{variable_kind, IsFunction};
 ghost use Rattle.lua_grammar.specs.Scopes.{last_place, own, look, with_locals};
 ghost use Rattle.lua_parser.specs.Frames.{captured_of, frame_of, frames_of};
-ghost use Rattle.lua_parser.specs.Next.{IsMemory, OnLocals, OnUpvalues};
+ghost use Rattle.lua_parser.specs.Next.{IsLocals, IsMemory, OnLocals, OnUpvalues};
 
 use crate::ParseFault;
 use crate::frames::{Captured, Frame};
@@ -75,7 +75,7 @@ impl Frame {
     /// Captures a variable of the function around.
     fn hand_in(&mut self, name: &Bytes, variable: Capture, line: u32) -> Result<Capture, ParseFault>
         ensures place { IfOk result (λ found. found ≡ Capture.Outer (length self.old.captures.items)) }
-        ensures crowded { IfErr result (OnUpvalues (60 ≤ length self.old.captures.items)) }
+        ensures crowded { IfErr result (OnUpvalues line (60 ≤ length self.old.captures.items)) }
         ensures captures { OnOk result (map captured_of self.new.captures.items
             ≡ map captured_of self.old.captures.items ++ record { name = name.now; variable = variable } ∷ []) }
         ensures locals { OnOk result (self.new.locals ≡ self.old.locals) }
@@ -104,6 +104,7 @@ impl Frame {
         ensures slot { IfOk result (λ slot. slot ≡ length self.old.locals.items) }
         ensures frame { OnOk result (frame_of self.new ≡ with_locals (name ∷ []) (frame_of self.old)) }
         ensures crowded { IfErr result (OnLocals (200 ≤ length self.old.locals.items)) }
+        ensures told { IfErr result (IsLocals line) }
     {
         let slot = self.locals.len();
         if slot >= MOST_LOCALS {
@@ -124,7 +125,7 @@ pub(crate) fn look(
     line: u32,
 ) -> Result<Option<Capture>, ParseFault>
     ensures { MatchResult result (λ found. look name.now (frame_of frame.old ∷ frames_of around.old) ≡ (found, frame_of frame.new ∷ frames_of around.new))
-        (OnUpvalues (Few (look name.now (frame_of frame.old ∷ frames_of around.old)).1 → ⊥)) }
+        (OnUpvalues line (Few (look name.now (frame_of frame.old ∷ frames_of around.old)).1 → ⊥)) }
 {
     if let Some(variable) = frame.own(name.as_slice()) {
         return Ok(Some(variable));

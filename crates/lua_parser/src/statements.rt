@@ -10,6 +10,8 @@ ghost use Rattle.lua_parser.specs.Next.{IsNext, MissesMember, ahead};
 ghost use Rattle.lua_parser.specs.Kinds.{IsStatement, begins_of};
 ghost use Rattle.lua_parser.specs.declared.places.Place.{Place};
 ghost use Rattle.lua_parser.specs.Refusals.{RefusesBody};
+ghost use Rattle.lua_parser.specs.Standing.{FirstFault};
+ghost use Rattle.lua_parser.specs.Standing as Standing;
 ghost use Rattle.lua_parser.specs.StatementRefusals.{RefusesArm, RefusesArms, RefusesAssignment, RefusesBlock, RefusesFuncName, RefusesInitial, RefusesLast, RefusesLocal, RefusesMethod, RefusesScoped, RefusesStat, RefusesTarget, RefusesValue, RefusesValues};
 
 use crate::ParseFault;
@@ -67,6 +69,7 @@ impl Parser {
         requires { vec_len first ≤ 200 }
         ensures reads { IfOk result (λ number. ReadsBody at line first.items (state tokens.now self.old) number (state tokens.now self.new)) }
         ensures refuses { IfErr result (RefusesBody at line first.items (state tokens.now self.old) (state tokens.now self.new)) }
+        ensures order { IfErr result (FirstFault (Standing.body at first.items) (state tokens.now self.old) (state tokens.now self.new)) }
         ensures forward { OnOk result (Advances tokens.now self.old self.new) }
     {
         self.take_sign(tokens, Sign::OpenParenthesis)?;
@@ -89,6 +92,7 @@ impl Parser {
     ) -> Result<Vec<Stmt>, ParseFault>
         ensures reads { IfOk result (λ block. ReadsScoped at (state tokens.now self.old) block.items (state tokens.now self.new)) }
         ensures refuses { IfErr result (RefusesScoped at (state tokens.now self.old) (state tokens.now self.new)) }
+        ensures order { IfErr result (FirstFault (Standing.within Standing.block at) (state tokens.now self.old) (state tokens.now self.new)) }
         ensures forward { OnOk result (AdvancesOrStays tokens.now self.old self.new) }
     {
         let inner = self.deeper(tokens, at)?;
@@ -108,6 +112,7 @@ impl Parser {
     ) -> Result<Vec<Stmt>, ParseFault>
         ensures reads { IfOk result (λ block. ReadsBlock at (state tokens.now self.old) block.items (state tokens.now self.new)) }
         ensures refuses { IfErr result (RefusesBlock at (state tokens.now self.old) (state tokens.now self.new)) }
+        ensures order { IfErr result (FirstFault (Standing.here Standing.block at) (state tokens.now self.old) (state tokens.now self.new)) }
         ensures forward { OnOk result (AdvancesOrStays tokens.now self.old self.new) }
     {
         let mut statements = Vec::new(alloc);
@@ -134,6 +139,7 @@ impl Parser {
     fn last(&mut self, alloc: Global, tokens: &[Token], at: Place) -> Result<Stmt, ParseFault>
         ensures reads { IfOk result (λ last. ReadsLast at (state tokens.now self.old) last (state tokens.now self.new)) }
         ensures refuses { begins_of (ahead (state tokens.now self.old)) ≡ Begins.Last → IfErr result (RefusesLast at (state tokens.now self.old) (state tokens.now self.new)) }
+        ensures order { IfErr result (FirstFault (Standing.statement at) (state tokens.now self.old) (state tokens.now self.new)) }
         ensures forward { OnOk result (Advances tokens.now self.old self.new) }
     {
         if self.at_word(tokens, Word::Break) {
@@ -150,6 +156,7 @@ impl Parser {
     fn break_statement(&mut self, tokens: &[Token], at: Place) -> Result<Stmt, ParseFault>
         ensures reads { IfOk result (λ last. ReadsLast at (state tokens.now self.old) last (state tokens.now self.new)) }
         ensures refuses { IsNext (WordKind Break) (state tokens.now self.old) → IfErr result (RefusesLast at (state tokens.now self.old) (state tokens.now self.new)) }
+        ensures order { IfErr result (FirstFault (Standing.statement at) (state tokens.now self.old) (state tokens.now self.new)) }
         ensures forward { OnOk result (Advances tokens.now self.old self.new) }
     {
         let line = self.take_word(tokens, Word::Break)?;
@@ -173,6 +180,7 @@ impl Parser {
     ) -> Result<Stmt, ParseFault>
         ensures reads { IfOk result (λ out. ReadsStat at (state tokens.now self.old) out (state tokens.now self.new)) }
         ensures refuses { begins ≡ begins_of (ahead (state tokens.now self.old)) → IsStatement begins → IfErr result (RefusesStat at (state tokens.now self.old) (state tokens.now self.new)) }
+        ensures order { IfErr result (FirstFault (Standing.statement at) (state tokens.now self.old) (state tokens.now self.new)) }
         ensures forward { OnOk result (Advances tokens.now self.old self.new) }
     {
         match begins {
@@ -197,6 +205,7 @@ impl Parser {
     ) -> Result<Expr, ParseFault>
         ensures reads { IfOk result (λ e. ReadsValue at (state tokens.now self.old) e (state tokens.now self.new)) }
         ensures refuses { IfErr result (RefusesValue at (state tokens.now self.old) (state tokens.now self.new)) }
+        ensures order { IfErr result (FirstFault (Standing.value at) (state tokens.now self.old) (state tokens.now self.new)) }
         ensures forward { OnOk result (Advances tokens.now self.old self.new) }
     {
         let inner = self.deeper(tokens, at.fresh())?;
@@ -214,6 +223,7 @@ impl Parser {
     ) -> Result<Vec<Expr>, ParseFault>
         ensures reads { IfOk result (λ es. ReadsValues at (state tokens.now self.old) es.items (state tokens.now self.new)) }
         ensures refuses { IfErr result (RefusesValues at (state tokens.now self.old) (state tokens.now self.new)) }
+        ensures order { IfErr result (FirstFault (Standing.values at) (state tokens.now self.old) (state tokens.now self.new)) }
         ensures forward { OnOk result (Advances tokens.now self.old self.new) }
     {
         let inner = self.deeper(tokens, at.fresh())?;
@@ -226,6 +236,7 @@ impl Parser {
     fn arm(&mut self, alloc: Global, tokens: &[Token], at: Place) -> Result<Arm, ParseFault>
         ensures reads { IfOk result (λ arm. ReadsArm at (state tokens.now self.old) arm (state tokens.now self.new)) }
         ensures refuses { IfErr result (RefusesArm at (state tokens.now self.old) (state tokens.now self.new)) }
+        ensures order { IfErr result (FirstFault (Standing.arm at) (state tokens.now self.old) (state tokens.now self.new)) }
         ensures forward { OnOk result (Advances tokens.now self.old self.new) }
     {
         let test = self.value(alloc, tokens, at)?;
@@ -240,6 +251,7 @@ impl Parser {
         ensures reads { IfOk result (λ arms. (line : ℕ) → ReadsArms at line (state tokens.now self.old) arms.items (state tokens.now self.new)) }
         ensures stops { OnOk result (IsNext (WordKind ElseIf) (state tokens.now self.new) → ⊥) }
         ensures refuses { IfErr result (RefusesArms at (state tokens.now self.old) (state tokens.now self.new)) }
+        ensures order { IfErr result (FirstFault (Standing.arms at) (state tokens.now self.old) (state tokens.now self.new)) }
         ensures forward { OnOk result (Advances tokens.now self.old self.new) }
     {
         let first = self.arm(alloc, tokens, at)?;
@@ -261,6 +273,7 @@ impl Parser {
     ) -> Result<Stmt, ParseFault>
         ensures reads { IfOk result (λ out. ReadsStat at (state tokens.now self.old) out (state tokens.now self.new)) }
         ensures refuses { ahead (state tokens.now self.old) ≡ WordKind If → IfErr result (RefusesStat at (state tokens.now self.old) (state tokens.now self.new)) }
+        ensures order { IfErr result (FirstFault (Standing.statement at) (state tokens.now self.old) (state tokens.now self.new)) }
         ensures forward { OnOk result (Advances tokens.now self.old self.new) }
     {
         let line = self.take_word(tokens, Word::If)?;
@@ -279,6 +292,7 @@ impl Parser {
     fn do_block(&mut self, alloc: Global, tokens: &[Token], at: Place) -> Result<Stmt, ParseFault>
         ensures reads { IfOk result (λ out. ReadsStat at (state tokens.now self.old) out (state tokens.now self.new)) }
         ensures refuses { ahead (state tokens.now self.old) ≡ WordKind Do → IfErr result (RefusesStat at (state tokens.now self.old) (state tokens.now self.new)) }
+        ensures order { IfErr result (FirstFault (Standing.statement at) (state tokens.now self.old) (state tokens.now self.new)) }
         ensures forward { OnOk result (Advances tokens.now self.old self.new) }
     {
         let line = self.take_word(tokens, Word::Do)?;
@@ -297,6 +311,7 @@ impl Parser {
     ) -> Result<Stmt, ParseFault>
         ensures reads { IfOk result (λ out. ReadsStat at (state tokens.now self.old) out (state tokens.now self.new)) }
         ensures refuses { ahead (state tokens.now self.old) ≡ WordKind Function → IfErr result (RefusesStat at (state tokens.now self.old) (state tokens.now self.new)) }
+        ensures order { IfErr result (FirstFault (Standing.statement at) (state tokens.now self.old) (state tokens.now self.new)) }
         ensures forward { OnOk result (Advances tokens.now self.old self.new) }
     {
         let line = self.take_word(tokens, Word::Function)?;
@@ -321,6 +336,7 @@ impl Parser {
         ensures reads { IfOk result (λ out. (s : State) → ReadsFuncName s object (state tokens.now self.old)
             → ReadsStat at (behind_function line s) out (state tokens.now self.new)) }
         ensures refuses { IsNext (SignKind Colon) (state tokens.now self.old) → IfErr result (RefusesMethod at line object (state tokens.now self.old) (state tokens.now self.new)) }
+        ensures order { IfErr result (FirstFault (Standing.function_tail at object) (state tokens.now self.old) (state tokens.now self.new)) }
         ensures forward { OnOk result (Advances tokens.now self.old self.new) }
     {
         let name = self.name_member(alloc, tokens, Sign::Colon, object)?;
@@ -334,6 +350,7 @@ impl Parser {
         ensures reads { IfOk result (λ name. ReadsFuncName (state tokens.now self.old) name (state tokens.now self.new)) }
         ensures stops { OnOk result (IsNext (SignKind Dot) (state tokens.now self.new) → ⊥) }
         ensures refuses { (at : Place) → IfErr result (RefusesFuncName at (state tokens.now self.old) (state tokens.now self.new)) }
+        ensures order { IfErr result (FirstFault (Standing.function_name) (state tokens.now self.old) (state tokens.now self.new)) }
         ensures forward { OnOk result (Advances tokens.now self.old self.new) }
     {
         let named = self.take_name(tokens)?;
@@ -381,6 +398,7 @@ impl Parser {
     ) -> Result<Stmt, ParseFault>
         ensures reads { IfOk result (λ out. ReadsStat at (state tokens.now self.old) out (state tokens.now self.new)) }
         ensures refuses { ahead (state tokens.now self.old) ≡ WordKind Local → IfErr result (RefusesStat at (state tokens.now self.old) (state tokens.now self.new)) }
+        ensures order { IfErr result (FirstFault (Standing.statement at) (state tokens.now self.old) (state tokens.now self.new)) }
         ensures forward { OnOk result (Advances tokens.now self.old self.new) }
     {
         let line = self.take_word(tokens, Word::Local)?;
@@ -401,6 +419,7 @@ impl Parser {
     ) -> Result<Stmt, ParseFault>
         ensures reads { IfOk result (λ out. ReadsStat at (behind_local line (state tokens.now self.old)) out (state tokens.now self.new)) }
         ensures refuses { IsNext (WordKind Function) (state tokens.now self.old) → IfErr result (RefusesLocal at (state tokens.now self.old) (state tokens.now self.new)) }
+        ensures order { IfErr result (FirstFault (Standing.local at) (state tokens.now self.old) (state tokens.now self.new)) }
         ensures forward { OnOk result (Advances tokens.now self.old self.new) }
     {
         let begins = self.take_word(tokens, Word::Function)?;
@@ -424,6 +443,7 @@ impl Parser {
     ) -> Result<Stmt, ParseFault>
         ensures reads { IfOk result (λ out. ReadsStat at (behind_local line (state tokens.now self.old)) out (state tokens.now self.new)) }
         ensures refuses { (IsNext (WordKind Function) (state tokens.now self.old) → ⊥) → IfErr result (RefusesLocal at (state tokens.now self.old) (state tokens.now self.new)) }
+        ensures order { IfErr result (FirstFault (Standing.local at) (state tokens.now self.old) (state tokens.now self.new)) }
         ensures forward { OnOk result (Advances tokens.now self.old self.new) }
     {
         let count = self.in_scope();
@@ -444,6 +464,7 @@ impl Parser {
         ensures reads { IfOk result (λ values. ReadsInitial at (state tokens.now self.old) values (state tokens.now self.new)) }
         ensures missing { IfOk result (λ values. IfNone values (IsNext (SignKind Assign) (state tokens.now self.old) → ⊥)) }
         ensures refuses { IfErr result (RefusesInitial at (state tokens.now self.old) (state tokens.now self.new)) }
+        ensures order { IfErr result (FirstFault (Standing.initial at) (state tokens.now self.old) (state tokens.now self.new)) }
         ensures forward { OnOk result (AdvancesOrStays tokens.now self.old self.new) }
     {
         if !self.at_sign(tokens, Sign::Assign) {
@@ -464,6 +485,7 @@ impl Parser {
     ) -> Result<Stmt, ParseFault>
         ensures reads { IfOk result (λ out. ReadsStat at (state tokens.now self.old) out (state tokens.now self.new)) }
         ensures refuses { begins_of (ahead (state tokens.now self.old)) ≡ Begins.Prefix → IfErr result (RefusesStat at (state tokens.now self.old) (state tokens.now self.new)) }
+        ensures order { IfErr result (FirstFault (Standing.statement at) (state tokens.now self.old) (state tokens.now self.new)) }
         ensures forward { OnOk result (Advances tokens.now self.old self.new) }
     {
         let line = self.line_ahead(tokens)?;
@@ -491,6 +513,7 @@ impl Parser {
         ensures reads { IfOk result (λ out. (s : State) → ReadsVars at line s (first ∷ []) (state tokens.now self.old)
             → ReadsStat at s out (state tokens.now self.new)) }
         ensures refuses { IfErr result (RefusesAssignment at first (state tokens.now self.old) (state tokens.now self.new)) }
+        ensures order { IfErr result (λ fault. (s : State) → ReadsVars at line s (first ∷ []) (state tokens.now self.old) → FirstFault (Standing.statement at) s (state tokens.now self.new) fault) }
         ensures forward { OnOk result (Advances tokens.now self.old self.new) }
     {
         let targets = self.targets(alloc, tokens, at, first)?;
@@ -512,6 +535,7 @@ impl Parser {
             → ReadsMoreVars at line s read.tree targets.items (state tokens.now self.old) (state tokens.now self.new)) }
         ensures stops { OnOk result (IsNext (SignKind Comma) (state tokens.now self.new) → ⊥) }
         ensures refuses { IfErr result (RefusesAssignment at first (state tokens.now self.old) (state tokens.now self.new)) }
+        ensures order { IfErr result (λ fault. (line : ℕ) (s : State) → ReadsVars at line s (first ∷ []) (state tokens.now self.old) → FirstFault (Standing.statement at) s (state tokens.now self.new) fault) }
         ensures forward { OnOk result (AdvancesOrStays tokens.now self.old self.new) }
     {
         let mut targets = vec![in alloc; first]?;
@@ -528,6 +552,7 @@ impl Parser {
     fn target(&mut self, alloc: Global, tokens: &[Token], at: Place) -> Result<Expr, ParseFault>
         ensures reads { IfOk result (λ e. ReadsTarget at (state tokens.now self.old) e (state tokens.now self.new)) }
         ensures refuses { IfErr result (RefusesTarget at (state tokens.now self.old) (state tokens.now self.new)) }
+        ensures order { IfErr result (FirstFault (Standing.target at) (state tokens.now self.old) (state tokens.now self.new)) }
         ensures forward { OnOk result (Advances tokens.now self.old self.new) }
     {
         let Prefix { expr, form, .. } = self.prefix(alloc, tokens, at.fresh())?;

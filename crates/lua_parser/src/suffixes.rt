@@ -2,12 +2,14 @@ ghost use Rattle.std.specs.Prelude.{◌≡◌, ◌↔◌, Some, slice_get, IfOk,
 ghost use Rattle.lua_lexer.specs.declared.tokens.TokenKind.TheVariants.{Sign as SignKind};
 ghost use Rattle.lua_lexer.specs.declared.signs.Sign.TheVariants.{Colon, Dot, OpenBrace, OpenBracket, OpenParenthesis};
 ghost use Rattle.lua_grammar.specs.Grammar.{first_line};
-ghost use Rattle.lua_parser.specs.States.{state, Advances, TakesSeparator, OpensOnLine, GoesOn, Stops};
+ghost use Rattle.lua_parser.specs.States.{State, state, Advances, TakesSeparator, OpensOnLine, GoesOn, Stops};
 ghost use Rattle.lua_parser.specs.Reads.{ReadsPrefix, Extends, ReadsArgs, ReadsList, ReadsTable, ReadsField};
 ghost use Rattle.lua_parser.specs.Next.{Begin, CannotOpen, IsKind, IsNext, Misses, OnAt, ahead};
 ghost use Rattle.lua_parser.specs.Kinds.{BeginNamed, IsSeparator, IsSuffix};
 ghost use Rattle.lua_grammar.specs.Stopping.{IsNoComma};
 ghost use Rattle.lua_parser.specs.Refusals.{RefusesArgs, RefusesField, RefusesList, RefusesPrefix, RefusesSuffix, RefusesTable};
+ghost use Rattle.lua_parser.specs.Standing.{FirstFault};
+ghost use Rattle.lua_parser.specs.Standing as Standing;
 
 use crate::ParseFault;
 use crate::cursor::{Parser, is_name, is_sign};
@@ -49,6 +51,7 @@ impl Parser {
         ensures reads { IfOk result (λ p. ReadsPrefix at (state tokens.now self.old) p (state tokens.now self.new)) }
         ensures stops { OnOk result (Stops (state tokens.now self.new)) }
         ensures refuses { IfErr result (RefusesPrefix at (state tokens.now self.old) (state tokens.now self.new)) }
+        ensures order { IfErr result (FirstFault (Standing.prefix at) (state tokens.now self.old) (state tokens.now self.new)) }
         ensures forward { OnOk result (Advances tokens.now self.old self.new) }
     {
         let mut prefix = self.primary(alloc, tokens, at)?;
@@ -68,6 +71,7 @@ impl Parser {
     fn primary(&mut self, alloc: Global, tokens: &[Token], at: Place) -> Result<Prefix, ParseFault>
         ensures reads { IfOk result (λ p. ReadsPrefix at (state tokens.now self.old) p (state tokens.now self.new)) }
         ensures refuses { IfErr result (RefusesPrefix at (state tokens.now self.old) (state tokens.now self.new)) }
+        ensures order { IfErr result (FirstFault (Standing.prefix at) (state tokens.now self.old) (state tokens.now self.new)) }
         ensures forward { OnOk result (Advances tokens.now self.old self.new) }
     {
         if !self.at_sign(tokens, Sign::OpenParenthesis) {
@@ -84,6 +88,7 @@ impl Parser {
     fn name(&mut self, tokens: &[Token], at: Place) -> Result<Prefix, ParseFault>
         ensures reads { IfOk result (λ p. ReadsPrefix at (state tokens.now self.old) p (state tokens.now self.new)) }
         ensures refuses { (IsNext (SignKind OpenParenthesis) (state tokens.now self.old) → ⊥) → IfErr result (RefusesPrefix at (state tokens.now self.old) (state tokens.now self.new)) }
+        ensures order { IfErr result (FirstFault (Standing.prefix at) (state tokens.now self.old) (state tokens.now self.new)) }
         ensures forward { OnOk result (Advances tokens.now self.old self.new) }
     {
         let named = self.take_name(tokens)?;
@@ -104,6 +109,7 @@ impl Parser {
     ) -> Result<Prefix, ParseFault>
         ensures reads { IfOk result (λ p. Extends at object (state tokens.now self.old) p (state tokens.now self.new)) }
         ensures refuses { IsNext (SignKind Dot) (state tokens.now self.old) → IfErr result (RefusesSuffix at object (state tokens.now self.old) (state tokens.now self.new)) }
+        ensures order { IfErr result (λ fault. (s : State) → ReadsPrefix at s object (state tokens.now self.old) → FirstFault (Standing.prefix at) s (state tokens.now self.new) fault) }
         ensures forward { OnOk result (Advances tokens.now self.old self.new) }
     {
         let dot = self.take_sign(tokens, Sign::Dot)?;
@@ -129,6 +135,7 @@ impl Parser {
     ) -> Result<Prefix, ParseFault>
         ensures reads { IfOk result (λ p. Extends at object (state tokens.now self.old) p (state tokens.now self.new)) }
         ensures refuses { IsNext (SignKind OpenBracket) (state tokens.now self.old) → IfErr result (RefusesSuffix at object (state tokens.now self.old) (state tokens.now self.new)) }
+        ensures order { IfErr result (λ fault. (s : State) → ReadsPrefix at s object (state tokens.now self.old) → FirstFault (Standing.prefix at) s (state tokens.now self.new) fault) }
         ensures forward { OnOk result (Advances tokens.now self.old self.new) }
     {
         let open = self.take_sign(tokens, Sign::OpenBracket)?;
@@ -150,6 +157,7 @@ impl Parser {
     ) -> Result<Prefix, ParseFault>
         ensures reads { IfOk result (λ p. Extends at callee (state tokens.now self.old) p (state tokens.now self.new)) }
         ensures refuses { Begin (IsSuffix Suffix.Arguments) (state tokens.now self.old).left → IfErr result (RefusesSuffix at callee (state tokens.now self.old) (state tokens.now self.new)) }
+        ensures order { Begin (IsSuffix Suffix.Arguments) (state tokens.now self.old).left → IfErr result (λ fault. (s : State) → ReadsPrefix at s callee (state tokens.now self.old) → FirstFault (Standing.prefix at) s (state tokens.now self.new) fault) }
         ensures forward { OnOk result (Advances tokens.now self.old self.new) }
     {
         let line = self.arguments_line(tokens)?;
@@ -169,6 +177,7 @@ impl Parser {
     ) -> Result<Prefix, ParseFault>
         ensures reads { IfOk result (λ p. Extends at object (state tokens.now self.old) p (state tokens.now self.new)) }
         ensures refuses { IsNext (SignKind Colon) (state tokens.now self.old) → IfErr result (RefusesSuffix at object (state tokens.now self.old) (state tokens.now self.new)) }
+        ensures order { IfErr result (λ fault. (s : State) → ReadsPrefix at s object (state tokens.now self.old) → FirstFault (Standing.prefix at) s (state tokens.now self.new) fault) }
         ensures forward { OnOk result (Advances tokens.now self.old self.new) }
     {
         let colon = self.take_sign(tokens, Sign::Colon)?;
@@ -217,6 +226,7 @@ impl Parser {
     ) -> Result<Values, ParseFault>
         ensures reads { IfOk result (λ values. ReadsArgs at (state tokens.now self.old) values (state tokens.now self.new)) }
         ensures refuses { IfErr result (RefusesArgs at (state tokens.now self.old) (state tokens.now self.new)) }
+        ensures order { IfErr result (FirstFault (Standing.args at) (state tokens.now self.old) (state tokens.now self.new)) }
         ensures forward { OnOk result (Advances tokens.now self.old self.new) }
     {
         if self.at_sign(tokens, Sign::OpenBrace) {
@@ -250,6 +260,7 @@ impl Parser {
         ensures reads { IfOk result (λ values. ReadsList at (state tokens.now self.old) values (state tokens.now self.new)) }
         ensures ends { OnOk result (IsNoComma (ahead (state tokens.now self.new))) }
         ensures refuses { IfErr result (RefusesList at (state tokens.now self.old) (state tokens.now self.new)) }
+        ensures order { IfErr result (FirstFault (Standing.here Standing.list at) (state tokens.now self.old) (state tokens.now self.new)) }
         ensures forward { OnOk result (Advances tokens.now self.old self.new) }
     {
         let first = self.expression(alloc, tokens, at, 1)?;
@@ -272,6 +283,7 @@ impl Parser {
     ) -> Result<Built, ParseFault>
         ensures reads { IfOk result (λ b. ReadsTable at (state tokens.now self.old) b (state tokens.now self.new)) }
         ensures refuses { IsNext (SignKind OpenBrace) (state tokens.now self.old) → IfErr result (RefusesTable at (state tokens.now self.old) (state tokens.now self.new)) }
+        ensures order { IfErr result (FirstFault (Standing.table at) (state tokens.now self.old) (state tokens.now self.new)) }
         ensures forward { OnOk result (Advances tokens.now self.old self.new) }
     {
         let open = self.take_sign(tokens, Sign::OpenBrace)?;
@@ -323,6 +335,7 @@ impl Parser {
     fn field(&mut self, alloc: Global, tokens: &[Token], at: Place) -> Result<Item, ParseFault>
         ensures reads { IfOk result (λ item. ReadsField at (state tokens.now self.old) item (state tokens.now self.new)) }
         ensures refuses { IfErr result (RefusesField at (state tokens.now self.old) (state tokens.now self.new)) }
+        ensures order { IfErr result (FirstFault (Standing.here Standing.field at) (state tokens.now self.old) (state tokens.now self.new)) }
         ensures forward { OnOk result (Advances tokens.now self.old self.new) }
     {
         if self.at_sign(tokens, Sign::OpenBracket) {
@@ -345,6 +358,7 @@ impl Parser {
     ) -> Result<Item, ParseFault>
         ensures reads { IfOk result (λ item. ReadsField at (state tokens.now self.old) item (state tokens.now self.new)) }
         ensures refuses { IsNext (SignKind OpenBracket) (state tokens.now self.old) → IfErr result (RefusesField at (state tokens.now self.old) (state tokens.now self.new)) }
+        ensures order { IfErr result (FirstFault (Standing.here Standing.field at) (state tokens.now self.old) (state tokens.now self.new)) }
         ensures forward { OnOk result (Advances tokens.now self.old self.new) }
     {
         self.take_sign(tokens, Sign::OpenBracket)?;
@@ -365,6 +379,7 @@ impl Parser {
     ) -> Result<Item, ParseFault>
         ensures reads { IfOk result (λ item. ReadsField at (state tokens.now self.old) item (state tokens.now self.new)) }
         ensures refuses { BeginNamed (state tokens.now self.old).left → IfErr result (RefusesField at (state tokens.now self.old) (state tokens.now self.new)) }
+        ensures order { BeginNamed (state tokens.now self.old).left → IfErr result (FirstFault (Standing.here Standing.field at) (state tokens.now self.old) (state tokens.now self.new)) }
         ensures forward { OnOk result (Advances tokens.now self.old self.new) }
     {
         let named = self.take_name(tokens)?;

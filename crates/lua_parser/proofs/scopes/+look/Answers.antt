@@ -45,8 +45,8 @@ returns-in_err-found t c =
     let none : own c.args.name.now (frame_of c.args.frame.now) ≡ None = let o = none_of c.own.result c.in_default.not-Some in cc in
     let split = rw c.in-Some-pop.is at c.pop.ensures.items in
     let before : frames_of c.args.around.now ≡ frame_of c.in-Some-pop.outer ∷ frames_of c.pop.new.self = rw split (frames_pushed c.pop.new.self.items c.in-Some-pop.outer) in
-    let many : OnUpvalues (Few (look c.args.name.now (frames_of c.args.around.now)).1 → ⊥) c.in_err-found.field-0.0 = rw before c.in_err-found.ensures in
-    handed_match _ _ c.from_residual.result _ c.from_residual.ensures.1 (upvalues_on {Q = Few (look c.args.name.now (frame_of c.args.frame.now ∷ frames_of c.args.around.now)).1 → ⊥} _ (λ not few. not (few_further _ _ _ none few)) many)
+    let many : OnUpvalues c.args.line (Few (look c.args.name.now (frames_of c.args.around.now)).1 → ⊥) c.in_err-found.field-0.0 = rw before c.in_err-found.ensures in
+    handed_match _ _ c.from_residual.result _ c.from_residual.ensures.1 (upvalues_on c.args.line {Q = Few (look c.args.name.now (frame_of c.args.frame.now ∷ frames_of c.args.around.now)).1 → ⊥} _ (λ not few. not (few_further _ _ _ none few)) many)
 
 pub returns-in_err-hand_in-in-Some-found : goal.returns-in_err-hand_in-in-Some-found
 returns-in_err-hand_in-in-Some-found t c =
@@ -56,5 +56,5 @@ returns-in_err-hand_in-in-Some-found t c =
     let found = rw c.in-Some-found.is at c.in_ok-found.ensures in
     let further : look c.args.name.now (frames_of c.args.around.now) ≡ (Some c.in-Some-found.variable, frame_of c.look.new.frame ∷ frames_of c.look.new.around) = rw before found in
     handed_match _ _ c.from_residual-in_err-hand_in-in-Some-found.result _ c.from_residual-in_err-hand_in-in-Some-found.ensures.1
-    (upvalues_on {Q = Few (look c.args.name.now (frame_of c.args.frame.now ∷ frames_of c.args.around.now)).1 → ⊥} _ (λ full.
+    (upvalues_on c.args.line {Q = Few (look c.args.name.now (frame_of c.args.frame.now ∷ frames_of c.args.around.now)).1 → ⊥} _ (λ full.
     crowded_frame c.args.name.now (frame_of c.args.frame.now) (frames_of c.args.around.now) _ c.in-Some-found.variable none further (rw (captured_length c.args.frame.now.captures.items) full)) c.in_err-hand_in-in-Some-found.ensures.crowded)

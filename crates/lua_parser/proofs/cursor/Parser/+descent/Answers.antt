@@ -13,9 +13,11 @@ use Rattle.lua_parser.proofs.BlockKinds.{block_end, is_statement, nothing_return
 use Rattle.lua_parser.proofs.BlockRefusals.{scoped_refused, scoped_too_deep, last_refused, stat_refused, returned_refused}
 use Rattle.lua_parser.proofs.Blocks.{arm_read, arms_more, arms_one, block_last, block_open, do_read, if_else_read, if_read, repeat_read, return_none_read, return_read, scoped_read, stats_more, stats_none, value_read, values_read, while_read}
 use Rattle.lua_parser.proofs.Bodies.{body_read, ends_state, enters_state}
+use Rattle.lua_parser.proofs.Breaking.{args_ambiguous, ended_first, missing_first, call_breaks, call_ambiguous, counted_before, deep_breaks, function_breaks, method_breaks, operator_breaks, part_breaks, suffix_breaks}
 use Rattle.lua_parser.proofs.Calls.{ok_extends, item_read, called_read, method_called_read, no_args_read, args_read, table_arg_read, text_arg_read}
 use Rattle.lua_parser.proofs.Closures.{closure_refused}
 use Rattle.lua_parser.proofs.Constructors.{part_refused, field_refused, separator_refused}
+use Rattle.lua_parser.proofs.Declaring.{few_behind, few_declared, few_in_list, few_in_loop, few_in_range, function_stands, local_there}
 use Rattle.lua_parser.proofs.Fields.{plain_refused, key_refused, bracket_refused, equals_refused, keyed_value_refused, name_never_missed, equals_never_missed, named_value_refused}
 use Rattle.lua_parser.proofs.ForLoops.{for_read, range_read, list_read, loop_read}
 use Rattle.lua_parser.proofs.FunctionBodies.{begins_body, body_block_refused, body_too_deep, body_unended, body_unopened, parameters_refused, parameters_unclosed}
@@ -25,6 +27,7 @@ use Rattle.lua_parser.proofs.Lists.{first_refused, next_refused}
 use Rattle.lua_parser.proofs.LocalStatements.{local_refused, local_word, local_function_word, local_function_unnamed, local_function_crowded, local_body_refused, locals_state, inside, local_names_refused, local_values_refused, locals_declared, declared_state, initial_refused}
 use Rattle.lua_parser.proofs.LoopRefusals.{while_block_refused, while_do_refused, while_end_refused, while_test_refused, repeat_block_refused, repeat_test_refused, repeat_too_deep, until_refused, do_end_refused, do_refused}
 use Rattle.lua_parser.proofs.Next.{on_err, on_memory, on_want, untested}
+use Rattle.lua_parser.proofs.OpenFunctions.{few_there}
 use Rattle.lua_parser.proofs.OperandKinds.{unary_kind, closure_kind, table_kind, nil_kind, true_kind, false_kind, rest_kind, number_next, text_next, next_of}
 use Rattle.lua_parser.proofs.Operands.{exp_ends_there, right_refused, right_no_part, right_too_high, right_low, operand_refused, operand_no_part, prefix_refused, table_refused}
 use Rattle.lua_parser.proofs.Prefixes.{suffix_refused, paren_no_part, paren_open, paren_refused, item_no_part, item_open, item_refused, item_too_high}
@@ -36,10 +39,11 @@ use Rattle.lua_parser.proofs.Tables.{no_fields_read, more_fields_read, separated
 use Rattle.lua_parser.proofs.Targets.{assignment_refused, first_target_refused, statement_is_none, assigned_refused, assignment_without_assign, more_vars_on, next_target_refused, no_more_vars, target_is_none, target_refused}
 use Rattle.lua_parser.proofs.ValueRefusals.{value_refused, value_too_deep, values_refused, values_too_deep}
 use Rattle.lua_parser.proofs.cursor.Parser.+descent.Goals.{last-then-eq-via-then-eq, last-then-eq-via-else-eq+then-at_sign}
-use Rattle.lua_parser.specs.Kinds.{IsStatement, IsUnary, IsSuffix, IsSeparator}
+use Rattle.lua_parser.specs.Kinds.{IsStatement, IsUnary, IsSuffix, IsSeparator, begins_of}
 use Rattle.lua_parser.specs.Next.{IsKind, IsMemory, IsTooDeep, Misses, OnAt, ahead, IsNext, OnLocals, MissesMember, IsName, HasNoPart, IsTooHigh, Begin}
 use Rattle.lua_parser.specs.Reads.{ReadsExp}
 use Rattle.lua_parser.specs.Refusals.{RefusesFrom, RefusesList, RefusesBody, RefusesPrefix, RefusesExp, RefusesSuffix, RefusesArgs, RefusesField}
+use Rattle.lua_parser.specs.Standing.{FirstFault}
 use Rattle.lua_parser.specs.StatementRefusals.{RefusesArm, RefusesArms, RefusesBlock, RefusesLast, RefusesScoped, RefusesStat, RefusesValue, RefusesValues, RefusesNames, RefusesFor, RefusesLoop, RefusesStep, RefusesParameters, RefusesFuncName, RefusesInitial, RefusesTarget}
 use Rattle.lua_parser.specs.States.{state, scope_of}
 use Rattle.lua_parser.specs.declared.nodes.Form.TheVariants.{Variable, Call, Paren}
@@ -48,6 +52,7 @@ use Rattle.std.proofs.lemmas.Result.{err_from_is_err_and}
 use Rattle.lua_parser.specs.declared.statements.Begins.TheVariants as begins
 use Rattle.lua_parser.proofs.cursor.Parser.+descent.Goals as goal
 use Rattle.lua_lexer.specs.declared.signs.Sign.TheVariants as sign
+use Rattle.lua_parser.specs.Standing as standing
 use Rattle.lua_lexer.specs.declared.words.Word.TheVariants as word
 
 pub expression-loop-infix-init : goal.expression-loop-infix-init
@@ -92,7 +97,7 @@ expression-returns-in_err-left-clause-refuses t c = λ low.
 
 pub expression-returns-in_err-above-clause-refuses : goal.expression-returns-in_err-above-clause-refuses
 expression-returns-in_err-above-clause-refuses t c = λ low.
-    let h : IfErr c.from_residual-in_err-above.result (IsTooHigh c.args.at c.loop-infix.left.height) = search rules in
+    let h : IfErr c.from_residual-in_err-above.result (IsTooHigh c.args.at c.loop-infix.left.height c.in-Some.infix.line) = search rules in
     let before = c.loop-infix.invariant in
     let found = c.in-Some.ensures.skips in
     let level = before.level in
@@ -125,6 +130,34 @@ pub expression-returns-in_err-left-2-clause-refuses : goal.expression-returns-in
 expression-returns-in_err-left-2-clause-refuses t c = λ low.
     let h : IfErr c.from_residual-in_err-left-2.result IsMemory = search rules in
     on_want _ c.from_residual-in_err-left-2.result (λ k none. absurd none) h
+
+pub expression-returns-in_err-left-clause-order : goal.expression-returns-in_err-left-clause-order
+expression-returns-in_err-left-clause-order t c =
+    handed_on _ c.from_residual.result _ c.from_residual.ensures.1
+    (λ start stands. c.in_err-left.ensures.order c.args.lowest start (stands))
+
+pub expression-returns-in_err-above-clause-order : goal.expression-returns-in_err-above-clause-order
+expression-returns-in_err-above-clause-order t c =
+    let before = c.loop-infix.invariant in
+    let found = c.in-Some.ensures.skips in
+    handed_on _ c.from_residual-in_err-above.result _ c.from_residual-in_err-above.ensures.1
+    (operator_breaks c.args.at c.args.lowest c.loop-infix.left c.in-Some.infix _ _ _ (state c.args.tokens.now c.skip_operator.new.self) _ (few_there _ _) before.reads found c.in_err-above.ensures)
+
+pub expression-returns-in_err-inner-clause-order : goal.expression-returns-in_err-inner-clause-order
+expression-returns-in_err-inner-clause-order t c =
+    let before = c.loop-infix.invariant in
+    let found = c.in-Some.ensures.skips in
+    handed_on _ c.from_residual-in_err-inner.result _ c.from_residual-in_err-inner.ensures.1
+    (λ start stands. part_breaks _ _ _ _ (few_there _ _) c.in_err-inner.ensures start (standing.right_operand stands before.reads found c.in_ok-above.ensures))
+
+pub expression-returns-in_err-right-clause-order : goal.expression-returns-in_err-right-clause-order
+expression-returns-in_err-right-clause-order t c =
+    let before = c.loop-infix.invariant in
+    let found = c.in-Some.ensures.skips in
+    handed_on _ c.from_residual-in_err-right.result _ c.from_residual-in_err-right.ensures.1
+    (λ start stands. c.in_err-right.ensures.order start
+    (subst (λ n. standing.Stands start (standing.here (standing.exp n) c.in_ok-inner.inner) (state c.args.tokens.now c.skip_operator.new.self)) (sym c.right_level.ensures)
+    (standing.as_part (standing.right_operand stands before.reads found c.in_ok-above.ensures) c.in_ok-inner.ensures)))
 
 pub operand-returns-in-Table-clause-reads : goal.operand-returns-in-Table-clause-reads
 operand-returns-in-Table-clause-reads t c = on_ok _ c.table.ensures.reads (λ b read. table_exp _ _ _ _ read)
@@ -163,6 +196,30 @@ operand-returns-in-Rest-clause-refuses t c = c.rest.ensures.refuses (next_of (Si
 pub operand-returns-in-Prefix-clause-refuses : goal.operand-returns-in-Prefix-clause-refuses
 operand-returns-in-Prefix-clause-refuses t c = c.prefix_operand.ensures.refuses (sym c.operand_ahead.ensures ∙ c.in-Prefix.is)
 
+pub operand-returns-in-Table-clause-order : goal.operand-returns-in-Table-clause-order
+operand-returns-in-Table-clause-order t c =
+    λ m. on_err c.table.result c.table.ensures.order (λ fault breaks start stands. breaks start (standing.of_table stands))
+
+pub operand-returns-in-Nil-clause-order : goal.operand-returns-in-Nil-clause-order
+operand-returns-in-Nil-clause-order t c =
+    λ m. on_want _ c.nil.result (λ start stands. tt) (c.nil.ensures.surely (next_of (Word word.Nil) _ (λ is. cc) (nil_kind _ (sym c.operand_ahead.ensures ∙ c.in-Nil.is))))
+
+pub operand-returns-in-True-clause-order : goal.operand-returns-in-True-clause-order
+operand-returns-in-True-clause-order t c =
+    λ m. on_want _ c.truth.result (λ start stands. tt) (c.truth.ensures.surely (next_of (Word word.True) _ (λ is. cc) (true_kind _ (sym c.operand_ahead.ensures ∙ c.in-True.is))))
+
+pub operand-returns-in-False-clause-order : goal.operand-returns-in-False-clause-order
+operand-returns-in-False-clause-order t c =
+    λ m. on_want _ c.falsity.result (λ start stands. tt) (c.falsity.ensures.surely (next_of (Word word.False) _ (λ is. cc) (false_kind _ (sym c.operand_ahead.ensures ∙ c.in-False.is))))
+
+pub operand-returns-in-Number-clause-order : goal.operand-returns-in-Number-clause-order
+operand-returns-in-Number-clause-order t c =
+    λ m. on_want _ c.number.result (λ start stands. tt) (c.number.ensures.surely (number_next _ (sym c.operand_ahead.ensures ∙ c.in-Number.is)))
+
+pub operand-returns-in-Text-clause-order : goal.operand-returns-in-Text-clause-order
+operand-returns-in-Text-clause-order t c =
+    λ m. on_want _ c.text.result (λ start stands. tt) (c.text.ensures.surely (text_next _ (sym c.operand_ahead.ensures ∙ c.in-Text.is)))
+
 pub unary_operand-returns-clause-reads : goal.unary_operand-returns-clause-reads
 unary_operand-returns-clause-reads t c =
     on_node _ c.unary.ensures (λ b is.
@@ -190,6 +247,21 @@ unary_operand-returns-in_err-operand-clause-refuses t c = λ next.
 pub unary_operand-returns-clause-refuses : goal.unary_operand-returns-clause-refuses
 unary_operand-returns-clause-refuses t c = λ next. on_memory _ _ c.unary.result (λ m k none. absurd none) c.unary.ensures
 
+pub unary_operand-returns-in_err-inner-clause-order : goal.unary_operand-returns-in_err-inner-clause-order
+unary_operand-returns-in_err-inner-clause-order t c =
+    λ m. handed_on _ c.from_residual-in_err-inner.result _ c.from_residual-in_err-inner.ensures.1
+    (λ start stands. part_breaks _ _ _ _ (few_there _ _) c.in_err-inner.ensures start (standing.operand c.in_ok-prefixed.prefixed.op stands c.in_ok-prefixed.ensures.takes))
+
+pub unary_operand-returns-in_err-operand-clause-order : goal.unary_operand-returns-in_err-operand-clause-order
+unary_operand-returns-in_err-operand-clause-order t c =
+    λ m. handed_on _ c.from_residual-in_err-operand.result _ c.from_residual-in_err-operand.ensures.1
+    (λ start stands. c.in_err-operand.ensures.order start (standing.as_part (standing.operand c.in_ok-prefixed.prefixed.op stands c.in_ok-prefixed.ensures.takes) c.in_ok-inner.ensures))
+
+pub unary_operand-returns-in_err-prefixed-clause-order : goal.unary_operand-returns-in_err-prefixed-clause-order
+unary_operand-returns-in_err-prefixed-clause-order t c =
+    λ m. handed_on _ c.from_residual.result _ c.from_residual.ensures.1
+    (λ start stands. missing_first _ _ _ _ c.in_err-prefixed.ensures.misses start (standing.before_it stands))
+
 pub closure-returns-clause-reads : goal.closure-returns-clause-reads
 closure-returns-clause-reads t c =
     closure_read _ _ _ _ _ _ _ _ c.in_ok-line.ensures.takes c.in_ok-number.ensures.reads (search rules) c.leaf.ensures
@@ -204,6 +276,17 @@ closure-returns-in_err-number-clause-refuses t c = λ next.
     let h : IfErr c.from_residual-in_err-number.result (RefusesBody c.args.at c.in_ok-line.line c.new.result.items (state c.args.tokens.now c.take_word.new.self) (state c.args.tokens.now c.body.new.self)) = search rules in
     on_err c.from_residual-in_err-number.result h (λ fault refuses. closure_refused c.args.at c.in_ok-line.line c.new.result.items fault _ _ _ c.in_ok-line.ensures.takes (search rules) refuses)
 
+pub closure-returns-in_err-number-clause-order : goal.closure-returns-in_err-number-clause-order
+closure-returns-in_err-number-clause-order t c =
+    λ m. let none : c.new.result.items ≡ [] = search rules in
+    handed_on _ c.from_residual-in_err-number.result _ c.from_residual-in_err-number.ensures.1
+    (λ start stands. c.in_err-number.ensures.order start (subst (λ first. standing.Stands start (standing.body c.args.at first) (state c.args.tokens.now c.take_word.new.self)) (sym none) (standing.closure stands c.in_ok-line.ensures.takes)))
+
+pub closure-returns-in_err-line-clause-order : goal.closure-returns-in_err-line-clause-order
+closure-returns-in_err-line-clause-order t c =
+    λ m. handed_on _ c.from_residual.result _ c.from_residual.ensures.1
+    (λ start stands. missing_first _ _ _ _ c.in_err-line.ensures.misses start (standing.before_it stands))
+
 pub prefix_operand-returns-clause-reads : goal.prefix_operand-returns-clause-reads
 prefix_operand-returns-clause-reads t c = prefix_exp _ _ _ _ _ c.in_ok-prefix.ensures.reads c.in_ok-prefix.ensures.stops refl refl refl
 
@@ -211,6 +294,11 @@ pub prefix_operand-returns-in_err-prefix-clause-refuses : goal.prefix_operand-re
 prefix_operand-returns-in_err-prefix-clause-refuses t c = λ next.
     let h : IfErr c.from_residual.result (RefusesPrefix c.args.at (state c.args.tokens.now c.args.self.now) (state c.args.tokens.now c.prefix.new.self)) = search rules in
     on_err c.from_residual.result h (λ fault refuses. prefix_refused c.args.at _ _ fault next refuses)
+
+pub prefix_operand-returns-in_err-prefix-clause-order : goal.prefix_operand-returns-in_err-prefix-clause-order
+prefix_operand-returns-in_err-prefix-clause-order t c =
+    λ m. handed_on _ c.from_residual.result _ c.from_residual.ensures.1
+    (λ start stands. c.in_err-prefix.ensures.order start (standing.of_prefix stands))
 
 pub prefix-loop-suffix-init : goal.prefix-loop-suffix-init
 prefix-loop-suffix-init t c = record { forward = c.in_ok-prefix.ensures.forward; reads = c.in_ok-prefix.ensures.reads }
@@ -269,6 +357,32 @@ prefix-returns-in_err-prefix-in-Arguments-clause-refuses t c =
     handed_on (RefusesPrefix c.args.at (state c.args.tokens.now c.args.self.now) (state c.args.tokens.now c.call.new.self)) c.from_residual-in_err-prefix-in-Arguments.result _
     c.from_residual-in_err-prefix-in-Arguments.ensures.1 (suffix_refused c.args.at _ _ _ c.loop-suffix.prefix _ c.loop-suffix.invariant.reads (c.in_err-prefix-in-Arguments.ensures.refuses next))
 
+pub prefix-returns-in_err-prefix-clause-order : goal.prefix-returns-in_err-prefix-clause-order
+prefix-returns-in_err-prefix-clause-order t c =
+    handed_on _ c.from_residual.result _ c.from_residual.ensures.1
+    (λ start stands. c.in_err-prefix.ensures.order start (stands))
+
+pub prefix-returns-in_err-prefix-in-Member-clause-order : goal.prefix-returns-in_err-prefix-in-Member-clause-order
+prefix-returns-in_err-prefix-in-Member-clause-order t c =
+    handed_on _ c.from_residual-in_err-prefix-in-Member.result _ c.from_residual-in_err-prefix-in-Member.ensures.1
+    (λ start stands. c.in_err-prefix-in-Member.ensures.order _ c.loop-suffix.invariant.reads start (stands))
+
+pub prefix-returns-in_err-prefix-in-Item-clause-order : goal.prefix-returns-in_err-prefix-in-Item-clause-order
+prefix-returns-in_err-prefix-in-Item-clause-order t c =
+    handed_on _ c.from_residual-in_err-prefix-in-Item.result _ c.from_residual-in_err-prefix-in-Item.ensures.1
+    (λ start stands. c.in_err-prefix-in-Item.ensures.order _ c.loop-suffix.invariant.reads start (stands))
+
+pub prefix-returns-in_err-prefix-in-Method-clause-order : goal.prefix-returns-in_err-prefix-in-Method-clause-order
+prefix-returns-in_err-prefix-in-Method-clause-order t c =
+    handed_on _ c.from_residual-in_err-prefix-in-Method.result _ c.from_residual-in_err-prefix-in-Method.ensures.1
+    (λ start stands. c.in_err-prefix-in-Method.ensures.order _ c.loop-suffix.invariant.reads start (stands))
+
+pub prefix-returns-in_err-prefix-in-Arguments-clause-order : goal.prefix-returns-in_err-prefix-in-Arguments-clause-order
+prefix-returns-in_err-prefix-in-Arguments-clause-order t c =
+    let next = subst (λ suffix. Begin (IsSuffix suffix) (state c.args.tokens.now c.loop-suffix.self).left) c.in-Arguments.is c.in-Some.ensures in
+    handed_on _ c.from_residual-in_err-prefix-in-Arguments.result _ c.from_residual-in_err-prefix-in-Arguments.ensures.1
+    (λ start stands. c.in_err-prefix-in-Arguments.ensures.order next _ c.loop-suffix.invariant.reads start (stands))
+
 pub primary-returns-clause-reads : goal.primary-returns-clause-reads
 primary-returns-clause-reads t c =
     on_node _ c.paren.ensures (λ p is.
@@ -301,6 +415,26 @@ primary-returns-in_err-take_sign-clause-refuses t c =
 pub primary-returns-clause-refuses : goal.primary-returns-clause-refuses
 primary-returns-clause-refuses t c = on_memory _ _ c.paren.result (λ k none. absurd none) c.paren.ensures
 
+pub primary-returns-in_err-inner-clause-order : goal.primary-returns-in_err-inner-clause-order
+primary-returns-in_err-inner-clause-order t c =
+    handed_on _ c.from_residual-in_err-inner.result _ c.from_residual-in_err-inner.ensures.1
+    (λ start stands. part_breaks _ _ _ _ (few_there _ _) c.in_err-inner.ensures start (standing.in_parentheses stands c.in_ok-open.ensures.takes))
+
+pub primary-returns-in_err-built-clause-order : goal.primary-returns-in_err-built-clause-order
+primary-returns-in_err-built-clause-order t c =
+    handed_on _ c.from_residual-in_err-built.result _ c.from_residual-in_err-built.ensures.1
+    (λ start stands. c.in_err-built.ensures.order start (standing.as_part (standing.in_parentheses stands c.in_ok-open.ensures.takes) c.in_ok-inner.ensures))
+
+pub primary-returns-in_err-open-clause-order : goal.primary-returns-in_err-open-clause-order
+primary-returns-in_err-open-clause-order t c =
+    handed_on _ c.from_residual.result _ c.from_residual.ensures.1
+    (λ start stands. missing_first _ _ _ _ c.in_err-open.ensures.misses start (standing.before_it stands))
+
+pub primary-returns-in_err-take_sign-clause-order : goal.primary-returns-in_err-take_sign-clause-order
+primary-returns-in_err-take_sign-clause-order t c =
+    handed_on _ c.from_residual-in_err-take_sign.result _ c.from_residual-in_err-take_sign.ensures.1
+    (λ start stands. missing_first _ _ _ _ c.in_err-take_sign.ensures.misses start (standing.behind_exp (standing.as_part (standing.in_parentheses stands c.in_ok-open.ensures.takes) c.in_ok-inner.ensures) c.in_ok-built.ensures.reads))
+
 pub item-returns-clause-reads : goal.item-returns-clause-reads
 item-returns-clause-reads t c =
     ok_extends c.args.at c.args.object (state c.args.tokens.now c.args.self.now) _ _ _ c.indexed.ensures (λ p s is read.
@@ -313,7 +447,7 @@ item-returns-in_err-open-clause-refuses t c = λ next.
 
 pub item-returns-in_err-above-clause-refuses : goal.item-returns-in_err-above-clause-refuses
 item-returns-in_err-above-clause-refuses t c = λ next.
-    let h : IfErr c.from_residual-in_err-above.result (IsTooHigh c.args.at c.args.object.height) = search rules in
+    let h : IfErr c.from_residual-in_err-above.result (IsTooHigh c.args.at c.args.object.height c.in_ok-open.open) = search rules in
     on_err c.from_residual-in_err-above.result h (λ fault high. item_too_high c.args.at _ _ c.args.object _ fault c.in_ok-open.ensures.takes high)
 
 pub item-returns-in_err-inner-clause-refuses : goal.item-returns-in_err-inner-clause-refuses
@@ -338,6 +472,31 @@ item-returns-in_err-take_sign-clause-refuses t c = λ next.
 pub item-returns-clause-refuses : goal.item-returns-clause-refuses
 item-returns-clause-refuses t c = λ next. on_memory _ _ c.indexed.result (λ s read k none. absurd none) c.indexed.ensures
 
+pub item-returns-in_err-above-clause-order : goal.item-returns-in_err-above-clause-order
+item-returns-in_err-above-clause-order t c =
+    handed_on _ c.from_residual-in_err-above.result _ c.from_residual-in_err-above.ensures.1
+    (λ s read. suffix_breaks (SignKind OpenBracket) c.args.at _ c.args.object s _ _ (state c.args.tokens.now c.take_sign.new.self) _ (few_there _ _) tt c.in_ok-open.ensures.takes c.in_err-above.ensures read)
+
+pub item-returns-in_err-inner-clause-order : goal.item-returns-in_err-inner-clause-order
+item-returns-in_err-inner-clause-order t c =
+    handed_on _ c.from_residual-in_err-inner.result _ c.from_residual-in_err-inner.ensures.1
+    (λ s read start stands. part_breaks _ _ _ _ (few_there _ _) c.in_err-inner.ensures start (standing.key stands read c.in_ok-open.ensures.takes c.in_ok-above.ensures))
+
+pub item-returns-in_err-key-clause-order : goal.item-returns-in_err-key-clause-order
+item-returns-in_err-key-clause-order t c =
+    handed_on _ c.from_residual-in_err-key.result _ c.from_residual-in_err-key.ensures.1
+    (λ s read start stands. c.in_err-key.ensures.order start (standing.as_part (standing.key stands read c.in_ok-open.ensures.takes c.in_ok-above.ensures) c.in_ok-inner.ensures))
+
+pub item-returns-in_err-open-clause-order : goal.item-returns-in_err-open-clause-order
+item-returns-in_err-open-clause-order t c =
+    handed_on _ c.from_residual.result _ c.from_residual.ensures.1
+    (λ s read start stands. missing_first _ _ _ _ c.in_err-open.ensures.misses start (standing.behind_prefix stands read))
+
+pub item-returns-in_err-take_sign-clause-order : goal.item-returns-in_err-take_sign-clause-order
+item-returns-in_err-take_sign-clause-order t c =
+    handed_on _ c.from_residual-in_err-take_sign.result _ c.from_residual-in_err-take_sign.ensures.1
+    (λ s read start stands. missing_first _ _ _ _ c.in_err-take_sign.ensures.misses start (standing.behind_exp (standing.as_part (standing.key stands read c.in_ok-open.ensures.takes c.in_ok-above.ensures) c.in_ok-inner.ensures) c.in_ok-key.ensures.reads))
+
 pub call-returns-clause-reads : goal.call-returns-clause-reads
 call-returns-clause-reads t c =
     ok_extends c.args.at c.args.callee (state c.args.tokens.now c.args.self.now) _ _ _ c.called.ensures (λ p s is read.
@@ -351,7 +510,7 @@ call-returns-in_err-line-clause-refuses t c = λ next.
 pub call-returns-in_err-above-clause-refuses : goal.call-returns-in_err-above-clause-refuses
 call-returns-in_err-above-clause-refuses t c = λ next.
     handed_on (RefusesSuffix c.args.at c.args.callee (state c.args.tokens.now c.args.self.now) (state c.args.tokens.now c.args.self.now)) c.from_residual-in_err-above.result _
-    c.from_residual-in_err-above.ensures.1 (call_too_high c.args.at _ c.args.callee _ next c.in_err-above.ensures)
+    c.from_residual-in_err-above.ensures.1 (call_too_high _ c.args.at _ c.args.callee _ next c.in_err-above.ensures)
 
 pub call-returns-in_err-values-clause-refuses : goal.call-returns-in_err-values-clause-refuses
 call-returns-in_err-values-clause-refuses t c = λ next.
@@ -360,6 +519,21 @@ call-returns-in_err-values-clause-refuses t c = λ next.
 
 pub call-returns-clause-refuses : goal.call-returns-clause-refuses
 call-returns-clause-refuses t c = λ next. on_memory _ _ c.called.result (λ s read k none. absurd none) c.called.ensures
+
+pub call-returns-in_err-line-clause-order : goal.call-returns-in_err-line-clause-order
+call-returns-in_err-line-clause-order t c =
+    λ next. handed_on _ c.from_residual.result _ c.from_residual.ensures.1
+    (λ s read. call_ambiguous c.args.at c.args.callee s _ _ (few_there _ _) c.in_err-line.ensures.closed read)
+
+pub call-returns-in_err-above-clause-order : goal.call-returns-in_err-above-clause-order
+call-returns-in_err-above-clause-order t c =
+    λ next. handed_on _ c.from_residual-in_err-above.result _ c.from_residual-in_err-above.ensures.1
+    (λ s read. call_breaks c.args.at _ c.args.callee s _ (state c.args.tokens.now c.args.self.now) _ (few_there _ _) next c.in_ok-line.ensures.line c.in_err-above.ensures read)
+
+pub call-returns-in_err-values-clause-order : goal.call-returns-in_err-values-clause-order
+call-returns-in_err-values-clause-order t c =
+    λ next. handed_on _ c.from_residual-in_err-values.result _ c.from_residual-in_err-values.ensures.1
+    (λ s read start stands. c.in_err-values.ensures.order start (standing.call_args stands read c.in_ok-above.ensures))
 
 pub method-returns-clause-reads : goal.method-returns-clause-reads
 method-returns-clause-reads t c =
@@ -393,6 +567,31 @@ method-returns-in_err-values-clause-refuses t c = λ next.
 
 pub method-returns-clause-refuses : goal.method-returns-clause-refuses
 method-returns-clause-refuses t c = λ next. on_memory _ _ c.method_called.result (λ s read k none. absurd none) c.method_called.ensures
+
+pub method-returns-in_err-above-clause-order : goal.method-returns-in_err-above-clause-order
+method-returns-in_err-above-clause-order t c =
+    handed_on _ c.from_residual-in_err-above.result _ c.from_residual-in_err-above.ensures.1
+    (λ s read. suffix_breaks (SignKind Colon) c.args.at _ c.args.object s _ _ (state c.args.tokens.now c.take_sign.new.self) _ (few_there _ _) tt c.in_ok-colon.ensures.takes c.in_err-above.ensures read)
+
+pub method-returns-in_err-line-clause-order : goal.method-returns-in_err-line-clause-order
+method-returns-in_err-line-clause-order t c =
+    handed_on _ c.from_residual-in_err-line.result _ c.from_residual-in_err-line.ensures.1
+    (λ s read start stands. args_ambiguous c.args.at _ _ (few_there _ _) c.in_err-line.ensures.closed start (standing.method_args stands read c.in_ok-colon.ensures.takes c.in_ok-above.ensures c.in_ok-named.ensures.takes))
+
+pub method-returns-in_err-values-clause-order : goal.method-returns-in_err-values-clause-order
+method-returns-in_err-values-clause-order t c =
+    handed_on _ c.from_residual-in_err-values.result _ c.from_residual-in_err-values.ensures.1
+    (λ s read start stands. c.in_err-values.ensures.order start (standing.method_args stands read c.in_ok-colon.ensures.takes c.in_ok-above.ensures c.in_ok-named.ensures.takes))
+
+pub method-returns-in_err-colon-clause-order : goal.method-returns-in_err-colon-clause-order
+method-returns-in_err-colon-clause-order t c =
+    handed_on _ c.from_residual.result _ c.from_residual.ensures.1
+    (λ s read start stands. missing_first _ _ _ _ c.in_err-colon.ensures.misses start (standing.behind_prefix stands read))
+
+pub method-returns-in_err-named-clause-order : goal.method-returns-in_err-named-clause-order
+method-returns-in_err-named-clause-order t c =
+    handed_on _ c.from_residual-in_err-named.result _ c.from_residual-in_err-named.ensures.1
+    (λ s read start stands. missing_first _ _ _ _ c.in_err-named.ensures.misses start (standing.behind_colon stands read c.in_ok-colon.ensures.takes c.in_ok-above.ensures))
 
 pub arguments-returns-then-at_sign-clause-reads : goal.arguments-returns-then-at_sign-clause-reads
 arguments-returns-then-at_sign-clause-reads t c =
@@ -443,6 +642,39 @@ arguments-returns-in_err-take_sign-3-clause-refuses t c =
     c.from_residual-in_err-take_sign-3.ensures.1
     (args_open c.args.at c.in_ok-inner.inner _ _ _ _ _ c.in_ok-values.values _ c.in_ok-take_sign.ensures.takes open_ values.reads values.ends c.in_err-take_sign-3.ensures.misses)
 
+pub arguments-returns-in_err-table-clause-order : goal.arguments-returns-in_err-table-clause-order
+arguments-returns-in_err-table-clause-order t c =
+    handed_on _ c.from_residual.result _ c.from_residual.ensures.1
+    (λ start stands. c.in_err-table.ensures.order start (standing.table_args stands c.narrower-inner.ensures))
+
+pub arguments-returns-in_err-inner-clause-order : goal.arguments-returns-in_err-inner-clause-order
+arguments-returns-in_err-inner-clause-order t c =
+    let open_ = untested c.at_sign-2.result _ c.if-at_sign-2.false c.at_sign-2.ensures in
+    handed_on _ c.from_residual-in_err-inner.result _ c.from_residual-in_err-inner.ensures.1
+    (λ start stands. part_breaks _ _ _ _ (few_there _ _) c.in_err-inner.ensures start (standing.in_args stands c.in_ok-take_sign.ensures.takes open_))
+
+pub arguments-returns-in_err-values-clause-order : goal.arguments-returns-in_err-values-clause-order
+arguments-returns-in_err-values-clause-order t c =
+    let open_ = untested c.at_sign-2.result _ c.if-at_sign-2.false c.at_sign-2.ensures in
+    handed_on _ c.from_residual-in_err-values.result _ c.from_residual-in_err-values.ensures.1
+    (λ start stands. c.in_err-values.ensures.order start (standing.as_part (standing.in_args stands c.in_ok-take_sign.ensures.takes open_) c.in_ok-inner.ensures))
+
+pub arguments-returns-in_err-text-clause-order : goal.arguments-returns-in_err-text-clause-order
+arguments-returns-in_err-text-clause-order t c =
+    handed_on _ c.from_residual-in_err-text.result _ c.from_residual-in_err-text.ensures.1
+    (λ start stands. missing_first _ _ _ _ c.in_err-text.ensures.misses start (standing.before_it stands))
+
+pub arguments-returns-in_err-take_sign-clause-order : goal.arguments-returns-in_err-take_sign-clause-order
+arguments-returns-in_err-take_sign-clause-order t c =
+    handed_on _ c.from_residual-in_err-take_sign.result _ c.from_residual-in_err-take_sign.ensures.1
+    (λ start stands. missing_first _ _ _ _ c.in_err-take_sign.ensures.misses start (standing.before_it stands))
+
+pub arguments-returns-in_err-take_sign-3-clause-order : goal.arguments-returns-in_err-take_sign-3-clause-order
+arguments-returns-in_err-take_sign-3-clause-order t c =
+    let open_ = untested c.at_sign-2.result _ c.if-at_sign-2.false c.at_sign-2.ensures in
+    handed_on _ c.from_residual-in_err-take_sign-3.result _ c.from_residual-in_err-take_sign-3.ensures.1
+    (λ start stands. missing_first _ _ _ _ c.in_err-take_sign-3.ensures.misses start (standing.behind_list (standing.as_part (standing.in_args stands c.in_ok-take_sign.ensures.takes open_) c.in_ok-inner.ensures) c.in_ok-values.ensures.reads))
+
 pub expressions-loop-alloc-init : goal.expressions-loop-alloc-init
 expressions-loop-alloc-init t c = record {
   forward = c.in_ok-first.ensures.forward;
@@ -471,6 +703,21 @@ expressions-returns-in_err-next-clause-refuses t c =
     let small : 1 ≤ 7 = lit≤ tt in
     let h : IfErr c.from_residual-in_err-next.result (RefusesFrom 1 c.args.at (state c.args.tokens.now c.take_sign.new.self) (state c.args.tokens.now c.expression-in-loop-alloc.new.self)) = search rules in
     on_err c.from_residual-in_err-next.result h (λ fault refuses. next_refused c.args.at _ fault _ _ _ _ _ c.loop-alloc.invariant.reads c.in_ok-take_sign.ensures.takes refuses)
+
+pub expressions-returns-in_err-first-clause-order : goal.expressions-returns-in_err-first-clause-order
+expressions-returns-in_err-first-clause-order t c =
+    handed_on _ c.from_residual.result _ c.from_residual.ensures.1
+    (λ start stands. c.in_err-first.ensures.order start (standing.first_of stands))
+
+pub expressions-returns-in_err-next-clause-order : goal.expressions-returns-in_err-next-clause-order
+expressions-returns-in_err-next-clause-order t c =
+    handed_on _ c.from_residual-in_err-next.result _ c.from_residual-in_err-next.ensures.1
+    (λ start stands. c.in_err-next.ensures.order start (standing.next_of stands c.loop-alloc.invariant.reads c.in_ok-take_sign.ensures.takes))
+
+pub expressions-returns-in_err-take_sign-clause-order : goal.expressions-returns-in_err-take_sign-clause-order
+expressions-returns-in_err-take_sign-clause-order t c =
+    handed_on _ c.from_residual-in_err-take_sign.result _ c.from_residual-in_err-take_sign.ensures.1
+    (λ start stands. missing_first _ _ _ _ c.in_err-take_sign.ensures.misses start (standing.behind_list stands c.loop-alloc.invariant.reads))
 
 pub table-loop-at-init : goal.table-loop-at-init
 table-loop-at-init t c = record {
@@ -521,6 +768,39 @@ table-returns-in_err-take_separator-clause-refuses t c = λ next.
     on_err c.from_residual-in_err-take_separator.result h (λ fault misses.
     separator_refused c.args.at c.in_ok-inner.inner _ fault _ _ _ _ _ _ _ before.2 before.1 c.in_ok-item.ensures.reads (untested c.at_sign-in-loop-at.result _ c.if-at_sign.false c.at_sign-in-loop-at.ensures) misses)
 
+pub table-returns-in_err-inner-clause-order : goal.table-returns-in_err-inner-clause-order
+table-returns-in_err-inner-clause-order t c =
+    let before = c.loop-at.invariant.reads in
+    let more = untested c.at_sign.result _ c.loop-at-test.true c.at_sign.ensures in
+    handed_on _ c.from_residual-in_err-inner.result _ c.from_residual-in_err-inner.ensures.1
+    (λ start stands. part_breaks _ _ _ _ (few_there _ _) c.in_err-inner.ensures start (standing.in_table stands before.1 before.2 more))
+
+pub table-returns-in_err-item-clause-order : goal.table-returns-in_err-item-clause-order
+table-returns-in_err-item-clause-order t c =
+    let before = c.loop-at.invariant.reads in
+    let more = untested c.at_sign.result _ c.loop-at-test.true c.at_sign.ensures in
+    handed_on _ c.from_residual-in_err-item.result _ c.from_residual-in_err-item.ensures.1
+    (λ start stands. c.in_err-item.ensures.order start (standing.as_part (standing.in_table stands before.1 before.2 more) c.in_ok-inner.ensures))
+
+pub table-returns-in_err-open-clause-order : goal.table-returns-in_err-open-clause-order
+table-returns-in_err-open-clause-order t c =
+    handed_on _ c.from_residual.result _ c.from_residual.ensures.1
+    (λ start stands. missing_first _ _ _ _ c.in_err-open.ensures.misses start (standing.before_it stands))
+
+pub table-returns-in_err-take_separator-clause-order : goal.table-returns-in_err-take_separator-clause-order
+table-returns-in_err-take_separator-clause-order t c =
+    let before = c.loop-at.invariant.reads in
+    let more = untested c.at_sign.result _ c.loop-at-test.true c.at_sign.ensures in
+    handed_on _ c.from_residual-in_err-take_separator.result _ c.from_residual-in_err-take_separator.ensures.1
+    (λ start stands. missing_first _ _ _ _ c.in_err-take_separator.ensures.misses start (standing.behind_field (standing.as_part (standing.in_table stands before.1 before.2 more) c.in_ok-inner.ensures) c.in_ok-item.ensures.reads))
+
+pub table-returns-in_err-take_sign-clause-order : goal.table-returns-in_err-take_sign-clause-order
+table-returns-in_err-take_sign-clause-order t c =
+    let before = c.loop-at.invariant.reads in
+    let more = untested c.at_sign.result _ c.loop-at-test.true c.at_sign.ensures in
+    handed_on _ c.from_residual-in_err-take_sign.result _ c.from_residual-in_err-take_sign.ensures.1
+    (λ start stands. missing_first _ _ _ _ c.in_err-take_sign.ensures.misses start (standing.behind_field (standing.as_part (standing.in_table stands before.1 before.2 more) c.in_ok-inner.ensures) c.in_ok-item.ensures.reads))
+
 pub field-returns-clause-reads : goal.field-returns-clause-reads
 field-returns-clause-reads t c =
     plain_read _ _ _ _ _ c.in_ok-value.ensures.reads c.in_ok-value.ensures.ends (untested c.at_named_field.result _ c.if-at_named_field.false c.at_named_field.ensures) c.value.ensures.item c.value.ensures.height
@@ -531,6 +811,11 @@ field-returns-in_err-value-clause-refuses t c =
     let h : IfErr c.from_residual.result (RefusesFrom 1 c.args.at (state c.args.tokens.now c.args.self.now) (state c.args.tokens.now c.expression.new.self)) = search rules in
     on_err c.from_residual.result h (λ fault refuses. plain_refused c.args.at fault _ _ (untested c.at_sign.result _ c.if-at_sign.false c.at_sign.ensures)
     (untested c.at_named_field.result _ c.if-at_named_field.false c.at_named_field.ensures) refuses)
+
+pub field-returns-in_err-value-clause-order : goal.field-returns-in_err-value-clause-order
+field-returns-in_err-value-clause-order t c =
+    handed_on _ c.from_residual.result _ c.from_residual.ensures.1
+    (λ start stands. c.in_err-value.ensures.order start (standing.plain_field stands (untested c.at_named_field.result _ c.if-at_named_field.false c.at_named_field.ensures)))
 
 pub keyed_field-returns-clause-reads : goal.keyed_field-returns-clause-reads
 keyed_field-returns-clause-reads t c =
@@ -565,6 +850,31 @@ keyed_field-returns-in_err-value-clause-refuses t c = λ next.
     on_err c.from_residual-in_err-value.result h (λ fault refuses. keyed_value_refused c.args.at _ _ _ fault _ _ _ _ _ _ _ c.in_ok-take_sign.ensures.takes c.in_ok-key.ensures.reads c.in_ok-key.ensures.ends
     c.in_ok-take_sign-2.ensures.takes c.in_ok-take_sign-3.ensures.takes refuses)
 
+pub keyed_field-returns-in_err-key-clause-order : goal.keyed_field-returns-in_err-key-clause-order
+keyed_field-returns-in_err-key-clause-order t c =
+    handed_on _ c.from_residual-in_err-key.result _ c.from_residual-in_err-key.ensures.1
+    (λ start stands. c.in_err-key.ensures.order start (standing.field_key stands c.in_ok-take_sign.ensures.takes))
+
+pub keyed_field-returns-in_err-value-clause-order : goal.keyed_field-returns-in_err-value-clause-order
+keyed_field-returns-in_err-value-clause-order t c =
+    handed_on _ c.from_residual-in_err-value.result _ c.from_residual-in_err-value.ensures.1
+    (λ start stands. c.in_err-value.ensures.order start (standing.keyed_value stands c.in_ok-take_sign.ensures.takes c.in_ok-key.ensures.reads c.in_ok-take_sign-2.ensures.takes c.in_ok-take_sign-3.ensures.takes))
+
+pub keyed_field-returns-in_err-take_sign-clause-order : goal.keyed_field-returns-in_err-take_sign-clause-order
+keyed_field-returns-in_err-take_sign-clause-order t c =
+    handed_on _ c.from_residual.result _ c.from_residual.ensures.1
+    (λ start stands. missing_first _ _ _ _ c.in_err-take_sign.ensures.misses start (standing.before_it stands))
+
+pub keyed_field-returns-in_err-take_sign-2-clause-order : goal.keyed_field-returns-in_err-take_sign-2-clause-order
+keyed_field-returns-in_err-take_sign-2-clause-order t c =
+    handed_on _ c.from_residual-in_err-take_sign-2.result _ c.from_residual-in_err-take_sign-2.ensures.1
+    (λ start stands. missing_first _ _ _ _ c.in_err-take_sign-2.ensures.misses start (standing.behind_exp (standing.field_key stands c.in_ok-take_sign.ensures.takes) c.in_ok-key.ensures.reads))
+
+pub keyed_field-returns-in_err-take_sign-3-clause-order : goal.keyed_field-returns-in_err-take_sign-3-clause-order
+keyed_field-returns-in_err-take_sign-3-clause-order t c =
+    handed_on _ c.from_residual-in_err-take_sign-3.result _ c.from_residual-in_err-take_sign-3.ensures.1
+    (λ start stands. missing_first _ _ _ _ c.in_err-take_sign-3.ensures.misses start (standing.behind_key stands c.in_ok-take_sign.ensures.takes c.in_ok-key.ensures.reads c.in_ok-take_sign-2.ensures.takes))
+
 pub named_field-returns-clause-reads : goal.named_field-returns-clause-reads
 named_field-returns-clause-reads t c =
     named_read _ _ _ _ _ _ _ _ _ _ _ c.in_ok-named.ensures.takes c.into_text.ensures c.in_ok-take_sign.ensures.takes c.in_ok-value.ensures.reads c.in_ok-value.ensures.ends c.pair.ensures.item c.pair.ensures.height
@@ -584,6 +894,16 @@ named_field-returns-in_err-value-clause-refuses t c = λ next.
     let small : 1 ≤ 7 = lit≤ tt in
     let h : IfErr c.from_residual-in_err-value.result (RefusesFrom 1 c.args.at (state c.args.tokens.now c.take_sign.new.self) (state c.args.tokens.now c.expression.new.self)) = search rules in
     on_err c.from_residual-in_err-value.result h (λ fault refuses. named_value_refused c.args.at _ _ _ fault _ _ _ _ c.in_ok-named.ensures.takes c.in_ok-take_sign.ensures.takes refuses)
+
+pub named_field-returns-in_err-value-clause-order : goal.named_field-returns-in_err-value-clause-order
+named_field-returns-in_err-value-clause-order t c =
+    λ named. handed_on _ c.from_residual-in_err-value.result _ c.from_residual-in_err-value.ensures.1
+    (λ start stands. c.in_err-value.ensures.order start (standing.named_value stands c.in_ok-named.ensures.takes c.in_ok-take_sign.ensures.takes))
+
+pub named_field-returns-in_err-named-clause-order : goal.named_field-returns-in_err-named-clause-order
+named_field-returns-in_err-named-clause-order t c =
+    λ named. handed_on _ c.from_residual.result _ c.from_residual.ensures.1
+    (λ start stands. missing_first _ _ _ _ c.in_err-named.ensures.misses start (standing.before_it stands))
 
 pub arm-returns-clause-reads : goal.arm-returns-clause-reads
 arm-returns-clause-reads t c =
@@ -606,6 +926,21 @@ arm-returns-in_err-body-clause-refuses t c =
 
 pub arm-returns-clause-refuses : goal.arm-returns-clause-refuses
 arm-returns-clause-refuses t c = on_memory _ _ c.arm_node.result (λ k not none. absurd none) c.arm_node.ensures
+
+pub arm-returns-in_err-test-clause-order : goal.arm-returns-in_err-test-clause-order
+arm-returns-in_err-test-clause-order t c =
+    handed_on _ c.from_residual.result _ c.from_residual.ensures.1
+    (λ start stands. c.in_err-test.ensures.order start (standing.arm_test stands))
+
+pub arm-returns-in_err-body-clause-order : goal.arm-returns-in_err-body-clause-order
+arm-returns-in_err-body-clause-order t c =
+    handed_on _ c.from_residual-in_err-body.result _ c.from_residual-in_err-body.ensures.1
+    (λ start stands. c.in_err-body.ensures.order start (standing.arm_block stands c.in_ok-test.ensures.reads c.in_ok-take_word.ensures.takes))
+
+pub arm-returns-in_err-take_word-clause-order : goal.arm-returns-in_err-take_word-clause-order
+arm-returns-in_err-take_word-clause-order t c =
+    handed_on _ c.from_residual-in_err-take_word.result _ c.from_residual-in_err-take_word.ensures.1
+    (λ start stands. missing_first _ _ _ _ c.in_err-take_word.ensures.misses start (standing.behind_value (standing.arm_test stands) c.in_ok-test.ensures.reads))
 
 pub arms-loop-alloc-init : goal.arms-loop-alloc-init
 arms-loop-alloc-init t c =
@@ -636,6 +971,21 @@ arms-returns-in_err-next-clause-refuses t c =
     let h : IfErr c.from_residual-in_err-next.result (RefusesArm c.args.at (state c.args.tokens.now c.take_word.new.self) (state c.args.tokens.now c.arm-in-loop-alloc.new.self)) = search rules in
     on_err c.from_residual-in_err-next.result h (λ fault refuses. next_arm_refused c.args.at _ _ _ _ _ _ fault c.loop-alloc.invariant.reads c.in_ok-take_word.ensures.takes refuses)
 
+pub arms-returns-in_err-first-clause-order : goal.arms-returns-in_err-first-clause-order
+arms-returns-in_err-first-clause-order t c =
+    handed_on _ c.from_residual.result _ c.from_residual.ensures.1
+    (λ start stands. c.in_err-first.ensures.order start (standing.first_arm stands))
+
+pub arms-returns-in_err-next-clause-order : goal.arms-returns-in_err-next-clause-order
+arms-returns-in_err-next-clause-order t c =
+    handed_on _ c.from_residual-in_err-next.result _ c.from_residual-in_err-next.ensures.1
+    (λ start stands. c.in_err-next.ensures.order start (standing.next_arm stands c.loop-alloc.invariant.reads c.in_ok-take_word.ensures.takes))
+
+pub arms-returns-in_err-take_word-clause-order : goal.arms-returns-in_err-take_word-clause-order
+arms-returns-in_err-take_word-clause-order t c =
+    handed_on _ c.from_residual-in_err-take_word.result _ c.from_residual-in_err-take_word.ensures.1
+    (λ start stands. missing_first _ _ _ _ c.in_err-take_word.ensures.misses start (standing.behind_arms stands (c.loop-alloc.invariant.reads 1)))
+
 pub assignment-returns-clause-reads : goal.assignment-returns-clause-reads
 assignment-returns-clause-reads t c =
     on_node _ c.assign_node.ensures (assign_behind _ _ _ _ _ _ _ _ _ _ c.in_ok-targets.ensures.reads c.in_ok-take_sign.ensures.takes c.in_ok-values.ensures.reads)
@@ -651,6 +1001,21 @@ assignment-returns-in_err-values-clause-refuses t c =
     let h : IfErr c.from_residual-in_err-values.result (RefusesValues c.args.at (state c.args.tokens.now c.take_sign.new.self) (state c.args.tokens.now c.values.new.self)) = search rules in
     on_err c.from_residual-in_err-values.result h (λ fault refuses.
     assigned_refused c.args.at _ _ _ fault _ _ _ _ c.in_ok-targets.ensures.reads c.in_ok-take_sign.ensures.takes refuses)
+
+pub assignment-returns-in_err-targets-clause-order : goal.assignment-returns-in_err-targets-clause-order
+assignment-returns-in_err-targets-clause-order t c =
+    handed_on _ c.from_residual.result _ c.from_residual.ensures.1
+    (λ s read. c.in_err-targets.ensures.order c.args.line s read)
+
+pub assignment-returns-in_err-values-clause-order : goal.assignment-returns-in_err-values-clause-order
+assignment-returns-in_err-values-clause-order t c =
+    handed_on _ c.from_residual-in_err-values.result _ c.from_residual-in_err-values.ensures.1
+    (λ s read start stands. c.in_err-values.ensures.order start (standing.assigned stands (c.in_ok-targets.ensures.reads c.args.line s read).whole c.in_ok-take_sign.ensures.takes))
+
+pub assignment-returns-in_err-take_sign-clause-order : goal.assignment-returns-in_err-take_sign-clause-order
+assignment-returns-in_err-take_sign-clause-order t c =
+    handed_on _ c.from_residual-in_err-take_sign.result _ c.from_residual-in_err-take_sign.ensures.1
+    (λ s read start stands. missing_first _ _ _ _ c.in_err-take_sign.ensures.misses start (standing.behind_targets stands (c.in_ok-targets.ensures.reads c.args.line s read).whole))
 
 pub block-loop-statements-init : goal.block-loop-statements-init
 block-loop-statements-init t c =
@@ -687,6 +1052,16 @@ block-returns-in_err-statement-in_default-clause-refuses t c =
     let stat : IfErr c.statement.result (RefusesStat c.args.at (state c.args.tokens.now c.loop-statements.self) (state c.args.tokens.now c.statement.new.self)) = c.statement.ensures.refuses c.begins.ensures some in
     let h : IfErr c.from_residual-in_err-statement-in_default.result (RefusesStat c.args.at (state c.args.tokens.now c.loop-statements.self) (state c.args.tokens.now c.statement.new.self)) = search rules in
     on_err c.from_residual-in_err-statement-in_default.result h (λ fault refuses. stat_refused c.args.at _ _ _ _ fault c.loop-statements.invariant.reads (subst IsStatement c.begins.ensures some) refuses)
+
+pub block-returns-in_err-last-in-Last-clause-order : goal.block-returns-in_err-last-in-Last-clause-order
+block-returns-in_err-last-in-Last-clause-order t c =
+    handed_on _ c.from_residual.result _ c.from_residual.ensures.1
+    (λ start stands. c.in_err-last-in-Last.ensures.order start (standing.one_of stands c.loop-statements.invariant.reads))
+
+pub block-returns-in_err-statement-in_default-clause-order : goal.block-returns-in_err-statement-in_default-clause-order
+block-returns-in_err-statement-in_default-clause-order t c =
+    handed_on _ c.from_residual-in_err-statement-in_default.result _ c.from_residual-in_err-statement-in_default.ensures.1
+    (λ start stands. c.in_err-statement-in_default.ensures.order start (standing.one_of stands c.loop-statements.invariant.reads))
 
 pub body-returns-clause-reads : goal.body-returns-clause-reads
 body-returns-clause-reads t c =
@@ -741,6 +1116,42 @@ body-returns-in_err-take_word-clause-refuses t c =
 pub body-returns-clause-refuses : goal.body-returns-clause-refuses
 body-returns-clause-refuses t c = on_want _ c.end.result (λ k never none. absurd none) (search rules)
 
+pub body-returns-in_err-parameters-clause-order : goal.body-returns-in_err-parameters-clause-order
+body-returns-in_err-parameters-clause-order t c =
+    handed_on _ c.from_residual-in_err-parameters.result _ c.from_residual-in_err-parameters.ensures.1
+    (λ start stands. c.in_err-parameters.ensures.order start (standing.of_parameters stands c.in_ok-take_sign.ensures.takes))
+
+pub body-returns-in_err-deeper-clause-order : goal.body-returns-in_err-deeper-clause-order
+body-returns-in_err-deeper-clause-order t c =
+    let opens = enters_state c.args.tokens.now c.take_sign-2.new.self c.enter.new.self _ _ _ c.in_ok-begun.ensures.enters in
+    let same = turned c.args.tokens.now c.take_sign-2.new.self c.enter.new.self _ c.in_ok-begun.ensures.place c.in_ok-begun.ensures.line refl in
+    handed_on _ c.from_residual-in_err-deeper.result _ c.from_residual-in_err-deeper.ensures.1
+    (λ start stands. function_breaks _ _ _ _ (few_there _ _) c.in_err-deeper.ensures start (function_stands opens same.left stands c.in_ok-take_sign.ensures.takes c.in_ok-parameters.ensures.reads c.in_ok-take_sign-2.ensures.takes))
+
+pub body-returns-in_err-block-clause-order : goal.body-returns-in_err-block-clause-order
+body-returns-in_err-block-clause-order t c =
+    let opens = enters_state c.args.tokens.now c.take_sign-2.new.self c.enter.new.self _ _ _ c.in_ok-begun.ensures.enters in
+    let same = turned c.args.tokens.now c.take_sign-2.new.self c.enter.new.self _ c.in_ok-begun.ensures.place c.in_ok-begun.ensures.line refl in
+    handed_on _ c.from_residual-in_err-block.result _ c.from_residual-in_err-block.ensures.1
+    (λ start stands. c.in_err-block.ensures.order start (standing.its_block (function_stands opens same.left stands c.in_ok-take_sign.ensures.takes c.in_ok-parameters.ensures.reads c.in_ok-take_sign-2.ensures.takes) c.in_ok-deeper.ensures c.of_function-inner.ensures))
+
+pub body-returns-in_err-take_sign-clause-order : goal.body-returns-in_err-take_sign-clause-order
+body-returns-in_err-take_sign-clause-order t c =
+    handed_on _ c.from_residual.result _ c.from_residual.ensures.1
+    (λ start stands. missing_first _ _ _ _ c.in_err-take_sign.ensures.misses start (standing.before_it stands))
+
+pub body-returns-in_err-take_sign-2-clause-order : goal.body-returns-in_err-take_sign-2-clause-order
+body-returns-in_err-take_sign-2-clause-order t c =
+    handed_on _ c.from_residual-in_err-take_sign-2.result _ c.from_residual-in_err-take_sign-2.ensures.1
+    (λ start stands. missing_first _ _ _ _ c.in_err-take_sign-2.ensures.misses start (standing.behind_parameters (standing.of_parameters stands c.in_ok-take_sign.ensures.takes) c.in_ok-parameters.ensures.reads))
+
+pub body-returns-in_err-take_word-clause-order : goal.body-returns-in_err-take_word-clause-order
+body-returns-in_err-take_word-clause-order t c =
+    let opens = enters_state c.args.tokens.now c.take_sign-2.new.self c.enter.new.self _ _ _ c.in_ok-begun.ensures.enters in
+    let same = turned c.args.tokens.now c.take_sign-2.new.self c.enter.new.self _ c.in_ok-begun.ensures.place c.in_ok-begun.ensures.line refl in
+    handed_on _ c.from_residual-in_err-take_word.result _ c.from_residual-in_err-take_word.ensures.1
+    (λ start stands. missing_first _ _ _ _ c.in_err-take_word.ensures.misses start (standing.behind_block (standing.its_block (function_stands opens same.left stands c.in_ok-take_sign.ensures.takes c.in_ok-parameters.ensures.reads c.in_ok-take_sign-2.ensures.takes) c.in_ok-deeper.ensures c.of_function-inner.ensures) c.in_ok-block.ensures.reads))
+
 pub do_block-returns-clause-reads : goal.do_block-returns-clause-reads
 do_block-returns-clause-reads t c =
     on_node _ c.do_node.ensures (λ out is. do_read _ _ _ _ _ _ _ _ _ c.in_ok-line.ensures.takes c.in_ok-body.ensures.reads c.in_ok-take_word.ensures.takes is)
@@ -762,6 +1173,21 @@ do_block-returns-in_err-take_word-clause-refuses t c = λ next.
 
 pub do_block-returns-clause-refuses : goal.do_block-returns-clause-refuses
 do_block-returns-clause-refuses t c = λ next. on_memory _ _ c.do_node.result (λ k never none. absurd none) c.do_node.ensures
+
+pub do_block-returns-in_err-body-clause-order : goal.do_block-returns-in_err-body-clause-order
+do_block-returns-in_err-body-clause-order t c =
+    handed_on _ c.from_residual-in_err-body.result _ c.from_residual-in_err-body.ensures.1
+    (λ start stands. c.in_err-body.ensures.order start (standing.do_block stands c.in_ok-line.ensures.takes))
+
+pub do_block-returns-in_err-line-clause-order : goal.do_block-returns-in_err-line-clause-order
+do_block-returns-in_err-line-clause-order t c =
+    handed_on _ c.from_residual.result _ c.from_residual.ensures.1
+    (λ start stands. missing_first _ _ _ _ c.in_err-line.ensures.misses start (standing.before_it stands))
+
+pub do_block-returns-in_err-take_word-clause-order : goal.do_block-returns-in_err-take_word-clause-order
+do_block-returns-in_err-take_word-clause-order t c =
+    handed_on _ c.from_residual-in_err-take_word.result _ c.from_residual-in_err-take_word.ensures.1
+    (λ start stands. missing_first _ _ _ _ c.in_err-take_word.ensures.misses start (standing.behind_inner_block (standing.do_block stands c.in_ok-line.ensures.takes) c.in_ok-body.ensures.reads))
 
 pub for_loop-returns-clause-reads : goal.for_loop-returns-clause-reads
 for_loop-returns-clause-reads t c =
@@ -789,6 +1215,28 @@ for_loop-returns-clause-refuses t c = λ next.
     let other : IsNext (Sign sign.Assign) (state c.args.tokens.now c.names.new.self) → ⊥ = search rules in
     on_err c.list_loop.result (c.list_loop.ensures.refuses other) (λ fault refuses.
     for_tail_refused c.args.at _ _ fault _ _ _ _ c.in_ok-line.ensures.takes c.in_ok-names.ensures.reads c.in_ok-names.ensures.stops refuses)
+
+pub for_loop-returns-in_err-names-clause-order : goal.for_loop-returns-in_err-names-clause-order
+for_loop-returns-in_err-names-clause-order t c =
+    handed_on _ c.from_residual-in_err-names.result _ c.from_residual-in_err-names.ensures.1
+    (λ start stands. c.in_err-names.ensures.order start (subst (λ n. standing.Stands start (standing.names n) (state c.args.tokens.now c.take_word.new.self)) (sym (slot_state c.args.tokens.now c.take_word.new.self _ c.in_scope-count.ensures.value)) (standing.for_names stands c.in_ok-line.ensures.takes)))
+
+pub for_loop-returns-then-at_sign-clause-order : goal.for_loop-returns-then-at_sign-clause-order
+for_loop-returns-then-at_sign-clause-order t c =
+    let many : c.in_scope-count.result + length c.in_ok-names.names.items ≤ 200 = search (rules, arith) in
+    let few = few_behind c.in_scope-count.result _ _ _ _ (slot_state c.args.tokens.now c.take_word.new.self _ c.in_scope-count.ensures.value) c.in_ok-names.ensures.reads many in
+    on_err c.range_loop.result (c.range_loop.ensures.order few) (λ fault breaks start stands. breaks start (standing.behind_names stands c.in_ok-line.ensures.takes c.in_ok-names.ensures.reads few))
+
+pub for_loop-returns-clause-order : goal.for_loop-returns-clause-order
+for_loop-returns-clause-order t c =
+    let many : c.in_scope-count.result + length c.in_ok-names.names.items ≤ 200 = search (rules, arith) in
+    let few = few_behind c.in_scope-count.result _ _ _ _ (slot_state c.args.tokens.now c.take_word.new.self _ c.in_scope-count.ensures.value) c.in_ok-names.ensures.reads many in
+    on_err c.list_loop.result (c.list_loop.ensures.order few) (λ fault breaks start stands. breaks start (standing.behind_names stands c.in_ok-line.ensures.takes c.in_ok-names.ensures.reads few))
+
+pub for_loop-returns-in_err-line-clause-order : goal.for_loop-returns-in_err-line-clause-order
+for_loop-returns-in_err-line-clause-order t c =
+    handed_on _ c.from_residual.result _ c.from_residual.ensures.1
+    (λ start stands. missing_first _ _ _ _ c.in_err-line.ensures.misses start (standing.before_it stands))
 
 pub function_statement-returns-clause-reads : goal.function_statement-returns-clause-reads
 function_statement-returns-clause-reads t c =
@@ -821,6 +1269,25 @@ function_statement-returns-in_err-number-clause-refuses t c = λ next.
 
 pub function_statement-returns-clause-refuses : goal.function_statement-returns-clause-refuses
 function_statement-returns-clause-refuses t c = λ next. on_memory _ _ c.define.result (λ k never none. absurd none) c.define.ensures
+
+pub function_statement-returns-in_err-name-clause-order : goal.function_statement-returns-in_err-name-clause-order
+function_statement-returns-in_err-name-clause-order t c =
+    handed_on _ c.from_residual-in_err-name.result _ c.from_residual-in_err-name.ensures.1
+    (λ start stands. c.in_err-name.ensures.order start (standing.named stands c.in_ok-line.ensures.takes))
+
+pub function_statement-returns-then-at_sign-clause-order : goal.function_statement-returns-then-at_sign-clause-order
+function_statement-returns-then-at_sign-clause-order t c =
+    on_err c.method_statement.result c.method_statement.ensures.order (λ fault breaks start stands. breaks start (standing.behind_name stands c.in_ok-line.ensures.takes c.in_ok-name.ensures.reads))
+
+pub function_statement-returns-in_err-number-clause-order : goal.function_statement-returns-in_err-number-clause-order
+function_statement-returns-in_err-number-clause-order t c =
+    handed_on _ c.from_residual-in_err-number.result _ c.from_residual-in_err-number.ensures.1
+    (λ start stands. c.in_err-number.ensures.order start (subst (λ first. standing.Stands start (standing.body c.args.at first) (state c.args.tokens.now c.function_name.new.self)) (sym c.new.ensures.items) (standing.named_body (standing.behind_name stands c.in_ok-line.ensures.takes c.in_ok-name.ensures.reads))))
+
+pub function_statement-returns-in_err-line-clause-order : goal.function_statement-returns-in_err-line-clause-order
+function_statement-returns-in_err-line-clause-order t c =
+    handed_on _ c.from_residual.result _ c.from_residual.ensures.1
+    (λ start stands. missing_first _ _ _ _ c.in_err-line.ensures.misses start (standing.before_it stands))
 
 pub if_statement-returns-clause-reads : goal.if_statement-returns-clause-reads
 if_statement-returns-clause-reads t c =
@@ -861,6 +1328,36 @@ if_statement-returns-in_err-take_word-2-clause-refuses t c = λ next.
     let h : IfErr c.from_residual-in_err-take_word-2.result (OnAt (Misses (IsKind (Word word.End)) (state c.args.tokens.now c.scoped.new.self) (state c.args.tokens.now c.take_word-then-at_word-2.new.self))) = search rules in
     on_err c.from_residual-in_err-take_word-2.result h (λ fault missed. else_end_refused c.args.at _ _ _ _ _ _ _ _ _ _ fault c.in_ok-line.ensures.takes c.in_ok-arms.ensures.reads c.in_ok-take_word.ensures.takes c.in_ok-otherwise.ensures.reads missed)
 
+pub if_statement-returns-in_err-arms-clause-order : goal.if_statement-returns-in_err-arms-clause-order
+if_statement-returns-in_err-arms-clause-order t c =
+    handed_on _ c.from_residual-in_err-arms.result _ c.from_residual-in_err-arms.ensures.1
+    (λ start stands. c.in_err-arms.ensures.order start (standing.if_arms stands c.in_ok-line.ensures.takes))
+
+pub if_statement-returns-in_err-otherwise-clause-order : goal.if_statement-returns-in_err-otherwise-clause-order
+if_statement-returns-in_err-otherwise-clause-order t c =
+    handed_on _ c.from_residual-in_err-otherwise.result _ c.from_residual-in_err-otherwise.ensures.1
+    (λ start stands. c.in_err-otherwise.ensures.order start (standing.else_block stands c.in_ok-line.ensures.takes c.in_ok-arms.ensures.reads c.in_ok-take_word.ensures.takes))
+
+pub if_statement-returns-in_err-line-clause-order : goal.if_statement-returns-in_err-line-clause-order
+if_statement-returns-in_err-line-clause-order t c =
+    handed_on _ c.from_residual.result _ c.from_residual.ensures.1
+    (λ start stands. missing_first _ _ _ _ c.in_err-line.ensures.misses start (standing.before_it stands))
+
+pub if_statement-returns-in_err-take_word-clause-order : goal.if_statement-returns-in_err-take_word-clause-order
+if_statement-returns-in_err-take_word-clause-order t c =
+    handed_on _ c.from_residual-in_err-take_word.result _ c.from_residual-in_err-take_word.ensures.1
+    (λ start stands. missing_first _ _ _ _ c.in_err-take_word.ensures.misses start (standing.behind_arms (standing.if_arms stands c.in_ok-line.ensures.takes) (c.in_ok-arms.ensures.reads 1)))
+
+pub if_statement-returns-in_err-take_word-3-clause-order : goal.if_statement-returns-in_err-take_word-3-clause-order
+if_statement-returns-in_err-take_word-3-clause-order t c =
+    handed_on _ c.from_residual-in_err-take_word-3.result _ c.from_residual-in_err-take_word-3.ensures.1
+    (λ start stands. missing_first _ _ _ _ c.in_err-take_word-3.ensures.misses start (standing.behind_arms (standing.if_arms stands c.in_ok-line.ensures.takes) (c.in_ok-arms.ensures.reads 1)))
+
+pub if_statement-returns-in_err-take_word-2-clause-order : goal.if_statement-returns-in_err-take_word-2-clause-order
+if_statement-returns-in_err-take_word-2-clause-order t c =
+    handed_on _ c.from_residual-in_err-take_word-2.result _ c.from_residual-in_err-take_word-2.ensures.1
+    (λ start stands. missing_first _ _ _ _ c.in_err-take_word-2.ensures.misses start (standing.behind_inner_block (standing.else_block stands c.in_ok-line.ensures.takes c.in_ok-arms.ensures.reads c.in_ok-take_word.ensures.takes) c.in_ok-otherwise.ensures.reads))
+
 pub initial-returns-clause-reads : goal.initial-returns-clause-reads
 initial-returns-clause-reads t c =
     (c.in_ok-take_sign.field-0, state c.args.tokens.now c.take_sign.new.self, c.in_ok-take_sign.ensures.takes, c.in_ok-values.ensures.reads)
@@ -869,6 +1366,16 @@ pub initial-returns-in_err-values-clause-refuses : goal.initial-returns-in_err-v
 initial-returns-in_err-values-clause-refuses t c =
     let h : IfErr c.from_residual-in_err-values.result (RefusesValues c.args.at (state c.args.tokens.now c.take_sign.new.self) (state c.args.tokens.now c.values.new.self)) = search rules in
     on_err c.from_residual-in_err-values.result h (λ fault refuses. initial_refused c.args.at fault _ _ _ _ c.in_ok-take_sign.ensures.takes refuses)
+
+pub initial-returns-in_err-values-clause-order : goal.initial-returns-in_err-values-clause-order
+initial-returns-in_err-values-clause-order t c =
+    handed_on _ c.from_residual-in_err-values.result _ c.from_residual-in_err-values.ensures.1
+    (λ start stands. c.in_err-values.ensures.order start (standing.initial_values stands c.in_ok-take_sign.ensures.takes))
+
+pub initial-returns-in_err-take_sign-clause-order : goal.initial-returns-in_err-take_sign-clause-order
+initial-returns-in_err-take_sign-clause-order t c =
+    handed_on _ c.from_residual.result _ c.from_residual.ensures.1
+    (λ start stands. missing_first _ _ _ _ c.in_err-take_sign.ensures.misses start (standing.before_it stands))
 
 pub last-returns-clause-reads : goal.last-returns-clause-reads
 last-returns-clause-reads t c =
@@ -902,6 +1409,18 @@ last-returns-then-eq-clause-refuses t c = λ is. on_memory _ _ c.returned.result
 pub last-returns-clause-refuses : goal.last-returns-clause-refuses
 last-returns-clause-refuses t c = λ is. on_memory _ _ c.returned-2.result (λ k none. absurd none) c.returned-2.ensures
 
+pub last-returns-in_err-values-clause-order : goal.last-returns-in_err-values-clause-order
+last-returns-in_err-values-clause-order t c =
+    let no_end : begins_of (ahead (state c.args.tokens.now c.take_word.new.self)) ≡ begins.Nothing → ⊥ =
+    λ none. let same : c.begins.result ≡ begins.Nothing = c.begins.ensures ∙ none in let e : false ≡ true = sym c.if-eq.false ∙ c.eq.ensures ∙ (rw same refl) in cc in
+    handed_on _ c.from_residual-in_err-values.result _ c.from_residual-in_err-values.ensures.1
+    (λ start stands. c.in_err-values.ensures.order start (standing.returned stands c.in_ok-line.ensures.takes (record { no_end = no_end; no_semicolon = untested _ _ c.if-at_sign.false c.at_sign.ensures })))
+
+pub last-returns-in_err-line-clause-order : goal.last-returns-in_err-line-clause-order
+last-returns-in_err-line-clause-order t c =
+    handed_on _ c.from_residual.result _ c.from_residual.ensures.1
+    (λ start stands. missing_first _ _ _ _ c.in_err-line.ensures.misses start (standing.before_it stands))
+
 pub list_loop-returns-clause-reads : goal.list_loop-returns-clause-reads
 list_loop-returns-clause-reads t c =
     on_node _ c.generic_for.ensures (list_read _ _ _ _ _ _ _ _ _ _ c.in_ok-take_word.ensures.takes c.in_ok-values.ensures.reads c.in_ok-block.ensures.reads)
@@ -920,6 +1439,21 @@ pub list_loop-returns-in_err-block-clause-refuses : goal.list_loop-returns-in_er
 list_loop-returns-in_err-block-clause-refuses t c = λ other.
     let h : IfErr c.from_residual-in_err-block.result (RefusesLoop c.args.at c.args.names.items (state c.args.tokens.now c.values.new.self) (state c.args.tokens.now c.loop_block.new.self)) = search rules in
     on_err c.from_residual-in_err-block.result h (λ fault refuses. list_block_refused c.args.at c.args.names.items _ fault _ _ _ _ _ c.in_ok-take_word.ensures.takes c.in_ok-values.ensures.reads refuses)
+
+pub list_loop-returns-in_err-values-clause-order : goal.list_loop-returns-in_err-values-clause-order
+list_loop-returns-in_err-values-clause-order t c =
+    λ few. handed_on _ c.from_residual-in_err-values.result _ c.from_residual-in_err-values.ensures.1
+    (λ start stands. c.in_err-values.ensures.order start (standing.for_values stands c.in_ok-take_word.ensures.takes))
+
+pub list_loop-returns-in_err-block-clause-order : goal.list_loop-returns-in_err-block-clause-order
+list_loop-returns-in_err-block-clause-order t c =
+    λ few. handed_on _ c.from_residual-in_err-block.result _ c.from_residual-in_err-block.ensures.1
+    (λ start stands. c.in_err-block.ensures.order (few_in_list c.args.at _ _ _ _ _ _ _ few c.in_ok-take_word.ensures.takes c.in_ok-values.ensures.reads) start (standing.for_list stands c.in_ok-take_word.ensures.takes c.in_ok-values.ensures.reads))
+
+pub list_loop-returns-in_err-take_word-clause-order : goal.list_loop-returns-in_err-take_word-clause-order
+list_loop-returns-in_err-take_word-clause-order t c =
+    λ few. handed_on _ c.from_residual.result _ c.from_residual.ensures.1
+    (λ start stands. missing_first _ _ _ _ c.in_err-take_word.ensures.misses start (standing.before_it stands))
 
 pub local_function-returns-clause-reads : goal.local_function-returns-clause-reads
 local_function-returns-clause-reads t c =
@@ -950,6 +1484,27 @@ local_function-returns-in_err-number-clause-refuses t c = λ next.
     on_err c.from_residual-in_err-number.result h (λ fault refuses.
     local_body_refused c.args.at c.new.result.items fault _ _ _ _ _ _ _ c.in_ok-named.named.name c.in_ok-begins.ensures.takes c.in_ok-named.ensures.takes turn c.new.ensures.items refuses)
 
+pub local_function-returns-in_err-slot-clause-order : goal.local_function-returns-in_err-slot-clause-order
+local_function-returns-in_err-slot-clause-order t c =
+    handed_on _ c.from_residual-in_err-slot.result _ c.from_residual-in_err-slot.ensures.1
+    (λ start stands. local_there c.args.tokens.now (state c.args.tokens.now c.local.new.self) c.take_word.new.self c.take_name.new.self _ _ _ (few_there _ _) c.in_err-slot.ensures.crowded c.in_err-slot.ensures.told c.in_ok-named.ensures.takes start (standing.local_name stands c.in_ok-begins.ensures.takes))
+
+pub local_function-returns-in_err-number-clause-order : goal.local_function-returns-in_err-number-clause-order
+local_function-returns-in_err-number-clause-order t c =
+    let turn = declared c.args.tokens.now c.take_name.new.self c.local.new.self _ c.in_ok-slot.ensures.scope c.in_ok-slot.ensures.place c.in_ok-slot.ensures.line in
+    handed_on _ c.from_residual-in_err-number.result _ c.from_residual-in_err-number.ensures.1
+    (λ start stands. c.in_err-number.ensures.order start (subst (λ first. standing.Stands start (standing.body c.args.at first) (state c.args.tokens.now c.local.new.self)) (sym c.new.ensures.items) (standing.local_body stands c.in_ok-begins.ensures.takes c.in_ok-named.ensures.takes (record { left = turn.left; scope = turn.scope }))))
+
+pub local_function-returns-in_err-begins-clause-order : goal.local_function-returns-in_err-begins-clause-order
+local_function-returns-in_err-begins-clause-order t c =
+    handed_on _ c.from_residual.result _ c.from_residual.ensures.1
+    (λ start stands. missing_first _ _ _ _ c.in_err-begins.ensures.misses start (standing.before_it stands))
+
+pub local_function-returns-in_err-named-clause-order : goal.local_function-returns-in_err-named-clause-order
+local_function-returns-in_err-named-clause-order t c =
+    handed_on _ c.from_residual-in_err-named.result _ c.from_residual-in_err-named.ensures.1
+    (λ start stands. missing_first _ _ _ _ c.in_err-named.ensures.misses start (standing.before_it (standing.local_name stands c.in_ok-begins.ensures.takes)))
+
 pub local_names-returns-clause-reads : goal.local_names-returns-clause-reads
 local_names-returns-clause-reads t c =
     on_node _ c.local_node.ensures (λ out is. local_read _ _ _ _ _ _ _ _ _ _ c.in_ok-names.ensures.reads c.in_ok-values.ensures.reads
@@ -979,6 +1534,24 @@ local_names-returns-in_err-slots-clause-refuses t c = λ plain.
 pub local_names-returns-clause-refuses : goal.local_names-returns-clause-refuses
 local_names-returns-clause-refuses t c = λ plain. on_memory _ _ c.local_node.result (λ l k never none. absurd none) c.local_node.ensures
 
+pub local_names-returns-in_err-names-clause-order : goal.local_names-returns-in_err-names-clause-order
+local_names-returns-in_err-names-clause-order t c =
+    handed_on _ c.from_residual.result _ c.from_residual.ensures.1
+    (λ start stands. c.in_err-names.ensures.order start (subst (λ n. standing.Stands start (standing.names n) (state c.args.tokens.now c.args.self.now)) (sym (slot_state c.args.tokens.now c.args.self.now _ c.in_scope-count.ensures.value)) (standing.local_names stands)))
+
+pub local_names-returns-in_err-values-clause-order : goal.local_names-returns-in_err-values-clause-order
+local_names-returns-in_err-values-clause-order t c =
+    let many : c.in_scope-count.result + length c.in_ok-names.names.items ≤ 200 = search (rules, arith) in
+    let few = few_behind c.in_scope-count.result _ _ _ _ (slot_state c.args.tokens.now c.args.self.now _ c.in_scope-count.ensures.value) c.in_ok-names.ensures.reads many in
+    handed_on _ c.from_residual-in_err-values.result _ c.from_residual-in_err-values.ensures.1
+    (λ start stands. c.in_err-values.ensures.order start (standing.local_values stands c.in_ok-names.ensures.reads few))
+
+pub local_names-returns-in_err-slots-clause-order : goal.local_names-returns-in_err-slots-clause-order
+local_names-returns-in_err-slots-clause-order t c =
+    let few : c.in_scope-count.result + length c.in_ok-names.names.items ≤ 200 = search (rules, arith) in
+    handed_on _ c.from_residual-in_err-slots.result _ c.from_residual-in_err-slots.ensures.1
+    (λ start stands. counted_before start (state c.args.tokens.now c.declare.new.self) _ _ c.in_err-slots.ensures.crowded (few_declared c.args.at c.in_scope-count.result c.args.tokens.now _ _ c.initial.new.self c.in_ok-names.names.items _ (slot_state c.args.tokens.now c.args.self.now _ c.in_scope-count.ensures.value) c.in_ok-names.ensures.reads c.in_ok-values.ensures.reads few))
+
 pub local_statement-returns-clause-reads : goal.local_statement-returns-clause-reads
 local_statement-returns-clause-reads t c =
     on_ok _ c.local_names.ensures.reads (λ out reads. local_from _ _ _ _ _ _ c.in_ok-line.ensures.takes reads)
@@ -1001,6 +1574,19 @@ pub local_statement-returns-clause-refuses : goal.local_statement-returns-clause
 local_statement-returns-clause-refuses t c = λ next.
     on_err c.local_names.result (c.local_names.ensures.refuses (untested _ _ c.if-at_word.false c.at_word.ensures)) (λ fault refuses.
     local_refused c.args.at fault _ _ _ _ c.in_ok-line.ensures.takes refuses)
+
+pub local_statement-returns-then-at_word-clause-order : goal.local_statement-returns-then-at_word-clause-order
+local_statement-returns-then-at_word-clause-order t c =
+    on_err c.local_function.result c.local_function.ensures.order (λ fault breaks start stands. breaks start (standing.behind_local stands c.in_ok-line.ensures.takes))
+
+pub local_statement-returns-clause-order : goal.local_statement-returns-clause-order
+local_statement-returns-clause-order t c =
+    on_err c.local_names.result c.local_names.ensures.order (λ fault breaks start stands. breaks start (standing.behind_local stands c.in_ok-line.ensures.takes))
+
+pub local_statement-returns-in_err-line-clause-order : goal.local_statement-returns-in_err-line-clause-order
+local_statement-returns-in_err-line-clause-order t c =
+    handed_on _ c.from_residual.result _ c.from_residual.ensures.1
+    (λ start stands. missing_first _ _ _ _ c.in_err-line.ensures.misses start (standing.before_it stands))
 
 pub loop_block-returns-clause-reads : goal.loop_block-returns-clause-reads
 loop_block-returns-clause-reads t c =
@@ -1042,6 +1628,35 @@ loop_block-returns-in_err-take_word-2-clause-refuses t c =
     (unread c.args.tokens.now c.take_word.new.self c.declare.new.self c.in_ok-slots.ensures.place) c.in_ok-body.ensures.reads
     (unread c.args.tokens.now c.block.new.self c.leave.new.self c.leave.ensures.place) missing)
 
+pub loop_block-returns-in_err-slots-clause-order : goal.loop_block-returns-in_err-slots-clause-order
+loop_block-returns-in_err-slots-clause-order t c =
+    λ few. handed_on _ c.from_residual-in_err-slots.result _ c.from_residual-in_err-slots.ensures.1
+    (λ start stands. counted_before start (state c.args.tokens.now c.declare.new.self) _ _ c.in_err-slots.ensures.crowded (few_in_loop c.args.tokens.now c.args.self.now c.take_word.new.self _ _ _ few c.in_ok-take_word.ensures.takes))
+
+pub loop_block-returns-in_err-inner-clause-order : goal.loop_block-returns-in_err-inner-clause-order
+loop_block-returns-in_err-inner-clause-order t c =
+    λ few. let turn = declared c.args.tokens.now c.take_word.new.self c.declare.new.self _ c.in_ok-slots.ensures.scope c.in_ok-slots.ensures.place c.in_ok-slots.ensures.line in
+    handed_on _ c.from_residual-in_err-inner.result _ c.from_residual-in_err-inner.ensures.1
+    (λ start stands. deep_breaks _ _ _ _ (few_there _ _) c.in_err-inner.ensures start (standing.loop_block stands c.in_ok-take_word.ensures.takes (record { left = turn.left; scope = turn.scope }) c.looped.ensures))
+
+pub loop_block-returns-in_err-body-clause-order : goal.loop_block-returns-in_err-body-clause-order
+loop_block-returns-in_err-body-clause-order t c =
+    λ few. let turn = declared c.args.tokens.now c.take_word.new.self c.declare.new.self _ c.in_ok-slots.ensures.scope c.in_ok-slots.ensures.place c.in_ok-slots.ensures.line in
+    handed_on _ c.from_residual-in_err-body.result _ c.from_residual-in_err-body.ensures.1
+    (λ start stands. c.in_err-body.ensures.order start (standing.inside (standing.loop_block stands c.in_ok-take_word.ensures.takes (record { left = turn.left; scope = turn.scope }) c.looped.ensures) c.in_ok-inner.ensures))
+
+pub loop_block-returns-in_err-take_word-clause-order : goal.loop_block-returns-in_err-take_word-clause-order
+loop_block-returns-in_err-take_word-clause-order t c =
+    λ few. handed_on _ c.from_residual.result _ c.from_residual.ensures.1
+    (λ start stands. missing_first _ _ _ _ c.in_err-take_word.ensures.misses start (standing.before_it stands))
+
+pub loop_block-returns-in_err-take_word-2-clause-order : goal.loop_block-returns-in_err-take_word-2-clause-order
+loop_block-returns-in_err-take_word-2-clause-order t c =
+    λ few. let turn = declared c.args.tokens.now c.take_word.new.self c.declare.new.self _ c.in_ok-slots.ensures.scope c.in_ok-slots.ensures.place c.in_ok-slots.ensures.line in
+    let left = left_since c.args.tokens.now c.take_word.new.self c.block.new.self c.leave.new.self c.in_scope-count.result c.in_scope-count.ensures.value c.leave.ensures.scope c.leave.ensures.place c.leave.ensures.line in
+    handed_on _ c.from_residual-in_err-take_word-2.result _ c.from_residual-in_err-take_word-2.ensures.1
+    (λ start stands. missing_first _ _ _ _ c.in_err-take_word-2.ensures.misses start (standing.behind_loop (state c.args.tokens.now c.take_word.new.self).scope (standing.behind_block (standing.inside (standing.loop_block stands c.in_ok-take_word.ensures.takes (record { left = turn.left; scope = turn.scope }) c.looped.ensures) c.in_ok-inner.ensures) c.in_ok-body.ensures.reads) left.left left.scope))
+
 pub method_statement-returns-clause-reads : goal.method_statement-returns-clause-reads
 method_statement-returns-clause-reads t c =
     let first : c.in_ok-first.first.items ≡ self_name ∷ [] = search rules in
@@ -1066,6 +1681,17 @@ method_statement-returns-in_err-number-clause-refuses t c = λ next.
 
 pub method_statement-returns-clause-refuses : goal.method_statement-returns-clause-refuses
 method_statement-returns-clause-refuses t c = λ next. on_memory _ _ c.define.result (λ s read k never none. absurd none) c.define.ensures
+
+pub method_statement-returns-in_err-name-clause-order : goal.method_statement-returns-in_err-name-clause-order
+method_statement-returns-in_err-name-clause-order t c =
+    handed_on _ c.from_residual.result _ c.from_residual.ensures.1
+    (method_breaks c.args.at c.args.object _ _ _ (few_there _ _) c.in_err-name.ensures.misses)
+
+pub method_statement-returns-in_err-number-clause-order : goal.method_statement-returns-in_err-number-clause-order
+method_statement-returns-in_err-number-clause-order t c =
+    let first : c.in_ok-first.first.items ≡ self_name ∷ [] = search rules in
+    handed_on _ c.from_residual-in_err-number.result _ c.from_residual-in_err-number.ensures.1
+    (λ start stands. c.in_err-number.ensures.order start (subst (λ first. standing.Stands start (standing.body c.args.at first) (state c.args.tokens.now c.name_member.new.self)) (sym first) (standing.method_body stands c.in_ok-name.ensures.reads)))
 
 pub prefix_statement-returns-in-Call-clause-reads : goal.prefix_statement-returns-in-Call-clause-reads
 prefix_statement-returns-in-Call-clause-reads t c =
@@ -1094,6 +1720,26 @@ prefix_statement-returns-in-Paren-clause-refuses t c = λ begins.
     let form : c.in_ok-expr.field-0.form ≡ Paren = cc in
     subst (RefusesStat c.args.at (state c.args.tokens.now c.args.self.now) (state c.args.tokens.now c.prefix.new.self)) (sym c.unfit.ensures)
     (statement_is_none c.args.at c.fresh.result c.args.tokens.now _ c.prefix.new.self _ begins c.in_ok-expr.ensures.reads c.in_ok-expr.ensures.stops form)
+
+pub prefix_statement-returns-in_err-expr-clause-order : goal.prefix_statement-returns-in_err-expr-clause-order
+prefix_statement-returns-in_err-expr-clause-order t c =
+    handed_on _ c.from_residual-in_err-expr.result _ c.from_residual-in_err-expr.ensures.1
+    (λ start stands. c.in_err-expr.ensures.order start (standing.first_prefix stands c.fresh.ensures))
+
+pub prefix_statement-returns-in-Variable-clause-order : goal.prefix_statement-returns-in-Variable-clause-order
+prefix_statement-returns-in-Variable-clause-order t c =
+    let form : c.in_ok-expr.field-0.form ≡ Variable = cc in
+    let target = target_read c.args.at _ _ _ _ _ c.fresh.ensures c.in_ok-expr.ensures.reads c.in_ok-expr.ensures.stops form refl in
+    on_err c.assignment.result c.assignment.ensures.order (λ fault breaks. breaks _ (vars_one _ _ _ _ _ _ target c.in_ok-line.ensures.line refl))
+
+pub prefix_statement-returns-in_err-line-clause-order : goal.prefix_statement-returns-in_err-line-clause-order
+prefix_statement-returns-in_err-line-clause-order t c =
+    handed_on _ c.from_residual.result _ c.from_residual.ensures.1
+    (λ start stands. ended_first _ _ c.in_err-line.ensures.ended start (standing.before_it stands))
+
+pub prefix_statement-returns-in-Paren-clause-order : goal.prefix_statement-returns-in-Paren-clause-order
+prefix_statement-returns-in-Paren-clause-order t c =
+    subst (FirstFault (standing.statement c.args.at) (state c.args.tokens.now c.args.self.now) (state c.args.tokens.now c.prefix.new.self)) (sym c.unfit.ensures) (λ start stands. standing.behind_prefix (standing.first_prefix stands c.fresh.ensures) c.in_ok-expr.ensures.reads)
 
 pub range_loop-returns-clause-reads : goal.range_loop-returns-clause-reads
 range_loop-returns-clause-reads t c =
@@ -1144,6 +1790,45 @@ range_loop-returns-in_err-block-clause-refuses t c = λ next.
     range_block_refused c.args.at f l n _ _ fault _ _ c.in_ok-step.step _ _ _ _ _ _ _ c.in_ok-take_sign.ensures.takes c.in_ok-from.ensures.reads c.in_ok-take_sign-2.ensures.takes c.in_ok-to.ensures.reads c.in_ok-step.ensures.reads c.in_ok-step.ensures.stops
     (subst (λ names. RefusesLoop c.args.at names (state c.args.tokens.now c.step.new.self) (state c.args.tokens.now c.loop_block.new.self) fault) is refuses)))
 
+pub range_loop-returns-in_err-from-clause-order : goal.range_loop-returns-in_err-from-clause-order
+range_loop-returns-in_err-from-clause-order t c =
+    λ few. let one : length c.args.names.items ≡ 1 = search rules in
+    handed_on _ c.from_residual-in_err-from.result _ c.from_residual-in_err-from.ensures.1
+    (λ start stands. c.in_err-from.ensures.order start (standing.for_first stands one c.in_ok-take_sign.ensures.takes))
+
+pub range_loop-returns-in_err-to-clause-order : goal.range_loop-returns-in_err-to-clause-order
+range_loop-returns-in_err-to-clause-order t c =
+    λ few. let one : length c.args.names.items ≡ 1 = search rules in
+    handed_on _ c.from_residual-in_err-to.result _ c.from_residual-in_err-to.ensures.1
+    (λ start stands. c.in_err-to.ensures.order start (standing.for_limit stands one c.in_ok-take_sign.ensures.takes c.in_ok-from.ensures.reads c.in_ok-take_sign-2.ensures.takes))
+
+pub range_loop-returns-in_err-step-clause-order : goal.range_loop-returns-in_err-step-clause-order
+range_loop-returns-in_err-step-clause-order t c =
+    λ few. let one : length c.args.names.items ≡ 1 = search rules in
+    handed_on _ c.from_residual-in_err-step.result _ c.from_residual-in_err-step.ensures.1
+    (λ start stands. c.in_err-step.ensures.order start (standing.for_step stands one c.in_ok-take_sign.ensures.takes c.in_ok-from.ensures.reads c.in_ok-take_sign-2.ensures.takes c.in_ok-to.ensures.reads))
+
+pub range_loop-returns-in_err-block-clause-order : goal.range_loop-returns-in_err-block-clause-order
+range_loop-returns-in_err-block-clause-order t c =
+    λ few. let one : length c.args.names.items ≡ 1 = search rules in
+    handed_on _ c.from_residual-in_err-block.result _ c.from_residual-in_err-block.ensures.1
+    (λ start stands. c.in_err-block.ensures.order (few_in_range c.args.at _ _ _ _ _ _ _ _ _ _ _ _ _ c.in_ok-step.step few c.in_ok-take_sign.ensures.takes c.in_ok-from.ensures.reads c.in_ok-take_sign-2.ensures.takes c.in_ok-to.ensures.reads c.in_ok-step.ensures.reads) start (standing.for_range c.in_ok-step.step stands one c.in_ok-take_sign.ensures.takes c.in_ok-from.ensures.reads c.in_ok-take_sign-2.ensures.takes c.in_ok-to.ensures.reads c.in_ok-step.ensures.reads))
+
+pub range_loop-returns-in_err-take_sign-clause-order : goal.range_loop-returns-in_err-take_sign-clause-order
+range_loop-returns-in_err-take_sign-clause-order t c =
+    λ few. handed_on _ c.from_residual.result _ c.from_residual.ensures.1
+    (λ start stands. missing_first _ _ _ _ c.in_err-take_sign.ensures.misses start (standing.before_it stands))
+
+pub range_loop-returns-in_err-take_sign-2-clause-order : goal.range_loop-returns-in_err-take_sign-2-clause-order
+range_loop-returns-in_err-take_sign-2-clause-order t c =
+    λ few. let one : length c.args.names.items ≡ 1 = search rules in
+    handed_on _ c.from_residual-in_err-take_sign-2.result _ c.from_residual-in_err-take_sign-2.ensures.1
+    (λ start stands. missing_first _ _ _ _ c.in_err-take_sign-2.ensures.misses start (standing.behind_value (standing.for_first stands one c.in_ok-take_sign.ensures.takes) c.in_ok-from.ensures.reads))
+
+pub range_loop-returns-then-len-ne1-clause-order : goal.range_loop-returns-then-len-ne1-clause-order
+range_loop-returns-then-len-ne1-clause-order t c =
+    λ few. subst (FirstFault (standing.for_tail c.args.at c.args.names.items) (state c.args.tokens.now c.args.self.now) (state c.args.tokens.now c.args.self.now)) (sym c.unfit.ensures) (λ start stands. standing.before_it stands)
+
 pub repeat_loop-returns-clause-reads : goal.repeat_loop-returns-clause-reads
 repeat_loop-returns-clause-reads t c =
     on_node _ c.repeat_node.ensures (λ out is. repeat_read _ _ _ _ _ _ _ _ _ _ _ _ _ _ c.in_ok-line.ensures.takes c.looped.ensures c.in_ok-inner.ensures c.in_ok-body.ensures.reads c.in_ok-take_word.ensures.takes c.in_ok-test.ensures.reads
@@ -1177,6 +1862,31 @@ repeat_loop-returns-in_err-test-clause-refuses t c = λ next.
 pub repeat_loop-returns-clause-refuses : goal.repeat_loop-returns-clause-refuses
 repeat_loop-returns-clause-refuses t c = λ next. on_memory _ _ c.repeat_node.result (λ k never none. absurd none) c.repeat_node.ensures
 
+pub repeat_loop-returns-in_err-inner-clause-order : goal.repeat_loop-returns-in_err-inner-clause-order
+repeat_loop-returns-in_err-inner-clause-order t c =
+    handed_on _ c.from_residual-in_err-inner.result _ c.from_residual-in_err-inner.ensures.1
+    (λ start stands. deep_breaks _ _ _ _ (few_there _ _) c.in_err-inner.ensures start (standing.repeat_block stands c.in_ok-line.ensures.takes c.looped.ensures))
+
+pub repeat_loop-returns-in_err-body-clause-order : goal.repeat_loop-returns-in_err-body-clause-order
+repeat_loop-returns-in_err-body-clause-order t c =
+    handed_on _ c.from_residual-in_err-body.result _ c.from_residual-in_err-body.ensures.1
+    (λ start stands. c.in_err-body.ensures.order start (standing.inside (standing.repeat_block stands c.in_ok-line.ensures.takes c.looped.ensures) c.in_ok-inner.ensures))
+
+pub repeat_loop-returns-in_err-test-clause-order : goal.repeat_loop-returns-in_err-test-clause-order
+repeat_loop-returns-in_err-test-clause-order t c =
+    handed_on _ c.from_residual-in_err-test.result _ c.from_residual-in_err-test.ensures.1
+    (λ start stands. c.in_err-test.ensures.order start (standing.repeat_test stands c.in_ok-line.ensures.takes c.looped.ensures c.in_ok-inner.ensures c.in_ok-body.ensures.reads c.in_ok-take_word.ensures.takes))
+
+pub repeat_loop-returns-in_err-line-clause-order : goal.repeat_loop-returns-in_err-line-clause-order
+repeat_loop-returns-in_err-line-clause-order t c =
+    handed_on _ c.from_residual.result _ c.from_residual.ensures.1
+    (λ start stands. missing_first _ _ _ _ c.in_err-line.ensures.misses start (standing.before_it stands))
+
+pub repeat_loop-returns-in_err-take_word-clause-order : goal.repeat_loop-returns-in_err-take_word-clause-order
+repeat_loop-returns-in_err-take_word-clause-order t c =
+    handed_on _ c.from_residual-in_err-take_word.result _ c.from_residual-in_err-take_word.ensures.1
+    (λ start stands. missing_first _ _ _ _ c.in_err-take_word.ensures.misses start (standing.behind_block (standing.inside (standing.repeat_block stands c.in_ok-line.ensures.takes c.looped.ensures) c.in_ok-inner.ensures) c.in_ok-body.ensures.reads))
+
 pub scoped-returns-clause-reads : goal.scoped-returns-clause-reads
 scoped-returns-clause-reads t c =
     scoped_read _ _ _ _ _ _ c.in_ok-inner.ensures c.in_ok-block.ensures.reads
@@ -1191,6 +1901,16 @@ pub scoped-returns-in_err-block-clause-refuses : goal.scoped-returns-in_err-bloc
 scoped-returns-in_err-block-clause-refuses t c =
     let h : IfErr c.from_residual-in_err-block.result (RefusesBlock c.in_ok-inner.inner (state c.args.tokens.now c.args.self.now) (state c.args.tokens.now c.block.new.self)) = search rules in
     on_err c.from_residual-in_err-block.result h (λ fault refuses. scoped_refused c.args.at c.in_ok-inner.inner _ _ fault c.in_ok-inner.ensures refuses)
+
+pub scoped-returns-in_err-inner-clause-order : goal.scoped-returns-in_err-inner-clause-order
+scoped-returns-in_err-inner-clause-order t c =
+    handed_on _ c.from_residual.result _ c.from_residual.ensures.1
+    (λ start stands. deep_breaks _ _ _ _ (few_there _ _) c.in_err-inner.ensures start (stands))
+
+pub scoped-returns-in_err-block-clause-order : goal.scoped-returns-in_err-block-clause-order
+scoped-returns-in_err-block-clause-order t c =
+    handed_on _ c.from_residual-in_err-block.result _ c.from_residual-in_err-block.ensures.1
+    (λ start stands. c.in_err-block.ensures.order start (standing.inside stands c.in_ok-inner.ensures))
 
 pub statement-returns-in-If-clause-refuses : goal.statement-returns-in-If-clause-refuses
 statement-returns-in-If-clause-refuses t c = λ same is. c.if_statement.ensures.refuses (if_kind _ (sym same ∙ c.in-If.is))
@@ -1222,6 +1942,16 @@ step-returns-in_err-step-clause-refuses t c =
     let h : IfErr c.from_residual-in_err-step.result (RefusesValue c.args.at (state c.args.tokens.now c.take_sign.new.self) (state c.args.tokens.now c.value.new.self)) = search rules in
     on_err c.from_residual-in_err-step.result h (λ fault refuses. step_refused c.args.at _ fault _ _ _ c.in_ok-take_sign.ensures.takes refuses)
 
+pub step-returns-in_err-step-clause-order : goal.step-returns-in_err-step-clause-order
+step-returns-in_err-step-clause-order t c =
+    handed_on _ c.from_residual-in_err-step.result _ c.from_residual-in_err-step.ensures.1
+    (λ start stands. c.in_err-step.ensures.order start (standing.step_value stands c.in_ok-take_sign.ensures.takes))
+
+pub step-returns-in_err-take_sign-clause-order : goal.step-returns-in_err-take_sign-clause-order
+step-returns-in_err-take_sign-clause-order t c =
+    handed_on _ c.from_residual.result _ c.from_residual.ensures.1
+    (λ start stands. missing_first _ _ _ _ c.in_err-take_sign.ensures.misses start (standing.before_it stands))
+
 pub target-returns-in_err-expr-clause-refuses : goal.target-returns-in_err-expr-clause-refuses
 target-returns-in_err-expr-clause-refuses t c =
     let h : IfErr c.from_residual.result (RefusesPrefix c.fresh.result (state c.args.tokens.now c.args.self.now) (state c.args.tokens.now c.prefix.new.self)) = search rules in
@@ -1234,8 +1964,15 @@ target-returns-in-Call t c =
       reads = tt;
       refuses = subst (RefusesTarget c.args.at (state c.args.tokens.now c.args.self.now) (state c.args.tokens.now c.prefix.new.self)) (sym c.unfit.ensures)
           (target_is_none c.args.at c.fresh.result c.args.tokens.now _ c.prefix.new.self _ c.in_ok-expr.ensures.reads c.in_ok-expr.ensures.stops other);
+      order = subst (FirstFault (standing.target c.args.at) (state c.args.tokens.now c.args.self.now) (state c.args.tokens.now c.prefix.new.self)) (sym c.unfit.ensures)
+          (λ start stands. standing.behind_prefix (standing.of_target stands c.fresh.ensures) c.in_ok-expr.ensures.reads);
       forward = tt;
     }
+
+pub target-returns-in_err-expr-clause-order : goal.target-returns-in_err-expr-clause-order
+target-returns-in_err-expr-clause-order t c =
+    handed_on _ c.from_residual.result _ c.from_residual.ensures.1
+    (λ start stands. c.in_err-expr.ensures.order start (standing.of_target stands c.fresh.ensures))
 
 pub targets-loop-alloc-init : goal.targets-loop-alloc-init
 targets-loop-alloc-init t c =
@@ -1258,6 +1995,16 @@ targets-returns-in_err-next-clause-refuses t c =
     on_err c.from_residual-in_err-next.result h (λ fault refuses.
     next_target_refused c.args.at c.args.first _ _ fault _ _ _ _ c.loop-alloc.invariant.reads c.in_ok-take_sign.ensures.takes refuses)
 
+pub targets-returns-in_err-next-clause-order : goal.targets-returns-in_err-next-clause-order
+targets-returns-in_err-next-clause-order t c =
+    handed_on _ c.from_residual-in_err-next.result _ c.from_residual-in_err-next.ensures.1
+    (λ line s read start stands. c.in_err-next.ensures.order start (standing.next_target stands (c.loop-alloc.invariant.reads line s read).whole c.in_ok-take_sign.ensures.takes))
+
+pub targets-returns-in_err-take_sign-clause-order : goal.targets-returns-in_err-take_sign-clause-order
+targets-returns-in_err-take_sign-clause-order t c =
+    handed_on _ c.from_residual-in_err-take_sign.result _ c.from_residual-in_err-take_sign.ensures.1
+    (λ line s read start stands. missing_first _ _ _ _ c.in_err-take_sign.ensures.misses start (standing.behind_targets stands (c.loop-alloc.invariant.reads line s read).whole))
+
 pub value-returns-clause-reads : goal.value-returns-clause-reads
 value-returns-clause-reads t c =
     value_read _ _ _ _ _ _ _ c.fresh.ensures c.in_ok-inner.ensures c.in_ok-built.ensures.reads c.in_ok-built.ensures.ends c.into_expr.ensures
@@ -1273,6 +2020,16 @@ value-returns-in_err-built-clause-refuses t c =
     let h : IfErr c.from_residual-in_err-built.result (RefusesFrom 1 c.in_ok-inner.inner (state c.args.tokens.now c.args.self.now) (state c.args.tokens.now c.expression.new.self)) = search rules in
     on_err c.from_residual-in_err-built.result h (λ fault refuses. value_refused c.args.at c.fresh.result c.in_ok-inner.inner _ _ fault c.fresh.ensures c.in_ok-inner.ensures refuses)
 
+pub value-returns-in_err-inner-clause-order : goal.value-returns-in_err-inner-clause-order
+value-returns-in_err-inner-clause-order t c =
+    handed_on _ c.from_residual.result _ c.from_residual.ensures.1
+    (λ start stands. deep_breaks _ _ _ _ (few_there _ _) c.in_err-inner.ensures start (standing.of_value stands c.fresh.ensures))
+
+pub value-returns-in_err-built-clause-order : goal.value-returns-in_err-built-clause-order
+value-returns-in_err-built-clause-order t c =
+    handed_on _ c.from_residual-in_err-built.result _ c.from_residual-in_err-built.ensures.1
+    (λ start stands. c.in_err-built.ensures.order start (standing.inside (standing.of_value stands c.fresh.ensures) c.in_ok-inner.ensures))
+
 pub values-returns-clause-reads : goal.values-returns-clause-reads
 values-returns-clause-reads t c =
     values_read _ _ _ _ _ _ _ c.fresh.ensures c.in_ok-inner.ensures c.in_ok-values.ensures.reads c.in_ok-values.ensures.ends (rw c.into_exprs.ensures refl)
@@ -1286,6 +2043,16 @@ pub values-returns-in_err-values-clause-refuses : goal.values-returns-in_err-val
 values-returns-in_err-values-clause-refuses t c =
     let h : IfErr c.from_residual-in_err-values.result (RefusesList c.in_ok-inner.inner (state c.args.tokens.now c.args.self.now) (state c.args.tokens.now c.expressions.new.self)) = search rules in
     on_err c.from_residual-in_err-values.result h (λ fault refuses. values_refused c.args.at c.fresh.result c.in_ok-inner.inner _ _ fault c.fresh.ensures c.in_ok-inner.ensures refuses)
+
+pub values-returns-in_err-inner-clause-order : goal.values-returns-in_err-inner-clause-order
+values-returns-in_err-inner-clause-order t c =
+    handed_on _ c.from_residual.result _ c.from_residual.ensures.1
+    (λ start stands. deep_breaks _ _ _ _ (few_there _ _) c.in_err-inner.ensures start (standing.of_values stands c.fresh.ensures))
+
+pub values-returns-in_err-values-clause-order : goal.values-returns-in_err-values-clause-order
+values-returns-in_err-values-clause-order t c =
+    handed_on _ c.from_residual-in_err-values.result _ c.from_residual-in_err-values.ensures.1
+    (λ start stands. c.in_err-values.ensures.order start (standing.inside (standing.of_values stands c.fresh.ensures) c.in_ok-inner.ensures))
 
 pub while_loop-returns-clause-reads : goal.while_loop-returns-clause-reads
 while_loop-returns-clause-reads t c =
@@ -1318,3 +2085,28 @@ while_loop-returns-in_err-take_word-2-clause-refuses t c = λ next.
 
 pub while_loop-returns-clause-refuses : goal.while_loop-returns-clause-refuses
 while_loop-returns-clause-refuses t c = λ next. on_memory _ _ c.while_node.result (λ k never none. absurd none) c.while_node.ensures
+
+pub while_loop-returns-in_err-test-clause-order : goal.while_loop-returns-in_err-test-clause-order
+while_loop-returns-in_err-test-clause-order t c =
+    handed_on _ c.from_residual-in_err-test.result _ c.from_residual-in_err-test.ensures.1
+    (λ start stands. c.in_err-test.ensures.order start (standing.while_test stands c.in_ok-line.ensures.takes))
+
+pub while_loop-returns-in_err-body-clause-order : goal.while_loop-returns-in_err-body-clause-order
+while_loop-returns-in_err-body-clause-order t c =
+    handed_on _ c.from_residual-in_err-body.result _ c.from_residual-in_err-body.ensures.1
+    (λ start stands. c.in_err-body.ensures.order start (standing.while_block stands c.in_ok-line.ensures.takes c.in_ok-test.ensures.reads c.in_ok-take_word.ensures.takes c.looped.ensures))
+
+pub while_loop-returns-in_err-line-clause-order : goal.while_loop-returns-in_err-line-clause-order
+while_loop-returns-in_err-line-clause-order t c =
+    handed_on _ c.from_residual.result _ c.from_residual.ensures.1
+    (λ start stands. missing_first _ _ _ _ c.in_err-line.ensures.misses start (standing.before_it stands))
+
+pub while_loop-returns-in_err-take_word-clause-order : goal.while_loop-returns-in_err-take_word-clause-order
+while_loop-returns-in_err-take_word-clause-order t c =
+    handed_on _ c.from_residual-in_err-take_word.result _ c.from_residual-in_err-take_word.ensures.1
+    (λ start stands. missing_first _ _ _ _ c.in_err-take_word.ensures.misses start (standing.behind_value (standing.while_test stands c.in_ok-line.ensures.takes) c.in_ok-test.ensures.reads))
+
+pub while_loop-returns-in_err-take_word-2-clause-order : goal.while_loop-returns-in_err-take_word-2-clause-order
+while_loop-returns-in_err-take_word-2-clause-order t c =
+    handed_on _ c.from_residual-in_err-take_word-2.result _ c.from_residual-in_err-take_word-2.ensures.1
+    (λ start stands. missing_first _ _ _ _ c.in_err-take_word-2.ensures.misses start (standing.behind_inner_block (standing.while_block stands c.in_ok-line.ensures.takes c.in_ok-test.ensures.reads c.in_ok-take_word.ensures.takes c.looped.ensures) c.in_ok-body.ensures.reads))

@@ -9,6 +9,10 @@ use Rattle.lua_parser.proofs.Next.{on_err}
 use Rattle.lua_parser.proofs.Refusing.{never_missed}
 use Rattle.lua_parser.proofs.Blocks.{break_read}
 use Rattle.lua_parser.proofs.BlockRefusals.{break_refused}
+use Rattle.lua_parser.specs.Standing as standing
+use Rattle.lua_parser.proofs.Breaking.{missing_first}
+use Rattle.lua_parser.proofs.Handing.{handed_on}
+use Rattle.lua_parser.proofs.OpenFunctions.{few_there}
 use Rattle.lua_parser.proofs.cursor.Parser.break_statement.Goals as goal
 
 pub returns-clause-reads : goal.returns-clause-reads
@@ -23,3 +27,13 @@ returns-in_err-line-clause-refuses c = λ next.
 
 pub returns-then-not-at-clause-refuses : goal.returns-then-not-at-clause-refuses
 returns-then-not-at-clause-refuses c = λ next. break_refused c.args.at _ _ _ _ c.in_ok-line.ensures.takes (λ inside. let e : false ≡ true = sym (ap not inside) ∙ c.if-not-at.true in cc)
+
+pub returns-then-not-at-clause-order : goal.returns-then-not-at-clause-order
+returns-then-not-at-clause-order c = λ start stands.
+    let outside : c.args.at.in_loop ≡ false = search rules in
+    standing.break_outside stands c.in_ok-line.ensures.takes outside (few_there _ _)
+
+pub returns-in_err-line-clause-order : goal.returns-in_err-line-clause-order
+returns-in_err-line-clause-order c =
+    handed_on _ c.from_residual.result _ c.from_residual.ensures.1
+    (λ start stands. missing_first _ _ _ _ c.in_err-line.ensures.misses start (standing.before_it stands))

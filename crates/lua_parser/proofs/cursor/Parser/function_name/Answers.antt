@@ -8,6 +8,11 @@ use Rattle.lua_parser.proofs.FunctionStatements.{function_unnamed, function_name
 use Rattle.lua_parser.proofs.Next.{on_err}
 use Rattle.lua_parser.proofs.Scoping.{turned, name_state}
 use Rattle.lua_parser.proofs.Assignments.{name_root, name_member}
+use Rattle.lua_parser.proofs.Breaking.{function_variable_breaks, member_breaks}
+use Rattle.lua_parser.proofs.Breaking.{missing_first}
+use Rattle.lua_parser.proofs.Handing.{handed_on}
+use Rattle.lua_parser.specs.Standing as standing
+use Rattle.lua_parser.proofs.OpenFunctions.{few_there}
 use Rattle.lua_parser.proofs.cursor.Parser.function_name.Goals as goal
 
 pub loop-alloc-init : goal.loop-alloc-init
@@ -31,13 +36,28 @@ returns-in_err-named-clause-refuses c = λ at.
 
 pub returns-in_err-variable-clause-refuses : goal.returns-in_err-variable-clause-refuses
 returns-in_err-variable-clause-refuses c = λ at.
-    let h : IfErr c.from_residual-in_err-variable.result (OnUpvalues (Few (look c.in_ok-named.named.name (scope_of c.take_name.new.self).around).1 → ⊥)) = search rules in
+    let h : IfErr c.from_residual-in_err-variable.result (OnUpvalues c.in_ok-named.named.line (Few (look c.in_ok-named.named.name (scope_of c.take_name.new.self).around).1 → ⊥)) = search rules in
     let same = turned c.args.tokens.now c.take_name.new.self c.variable.new.self _ c.variable.ensures.place c.variable.ensures.line refl in
     on_err c.from_residual-in_err-variable.result h (λ fault not.
-    function_name_crowded at fault _ (state c.args.tokens.now c.take_name.new.self) _ _ c.in_ok-named.named.name c.in_ok-named.ensures.takes same.left (crowded_state c.args.tokens.now c.take_name.new.self c.in_ok-named.named.name fault not))
+    function_name_crowded at fault _ (state c.args.tokens.now c.take_name.new.self) _ _ c.in_ok-named.named.name c.in_ok-named.ensures.takes same.left (crowded_state _ c.args.tokens.now c.take_name.new.self c.in_ok-named.named.name fault not))
 
 pub returns-in_err-name-clause-refuses : goal.returns-in_err-name-clause-refuses
 returns-in_err-name-clause-refuses c = λ at.
     let h : IfErr c.from_residual-in_err-name.result (MissesMember Dot c.loop-alloc.name.height (state c.args.tokens.now c.loop-alloc.self) (state c.args.tokens.now c.name_member.new.self)) = search rules in
     on_err c.from_residual-in_err-name.result h (λ fault missed.
     function_member_missed at fault _ _ _ c.loop-alloc.name c.loop-alloc.invariant.reads (c.at_sign.ensures.0 c.loop-alloc-test.true) missed)
+
+pub returns-in_err-variable-clause-order : goal.returns-in_err-variable-clause-order
+returns-in_err-variable-clause-order c =
+    let h : IfErr c.from_residual-in_err-variable.result (OnUpvalues c.in_ok-named.named.line (Few (look c.in_ok-named.named.name (scope_of c.take_name.new.self).around).1 → ⊥)) = search rules in
+    on_err c.from_residual-in_err-variable.result h (λ fault many. function_variable_breaks _ _ c.args.tokens.now _ (state c.args.tokens.now c.variable.new.self) c.take_name.new.self fault (few_there _ _) many c.in_ok-named.ensures.takes)
+
+pub returns-in_err-name-clause-order : goal.returns-in_err-name-clause-order
+returns-in_err-name-clause-order c =
+    let h : IfErr c.from_residual-in_err-name.result (MissesMember Dot c.loop-alloc.name.height (state c.args.tokens.now c.loop-alloc.self) (state c.args.tokens.now c.name_member.new.self)) = search rules in
+    on_err c.from_residual-in_err-name.result h (λ fault missed. member_breaks c.loop-alloc.name _ _ _ fault (few_there _ _) c.loop-alloc.invariant.reads missed)
+
+pub returns-in_err-named-clause-order : goal.returns-in_err-named-clause-order
+returns-in_err-named-clause-order c =
+    handed_on _ c.from_residual.result _ c.from_residual.ensures.1
+    (λ start stands. missing_first _ _ _ _ c.in_err-named.ensures.misses start (standing.before_it stands))

@@ -7,6 +7,11 @@ use Rattle.lua_parser.specs.Next.{IsKind, IsMemory, IsName, IsTooHigh, Misses, O
 use Rattle.lua_parser.specs.States.{state}
 use Rattle.lua_lexer.specs.declared.signs.Sign.TheVariants.{Dot}
 use Rattle.lua_lexer.specs.declared.tokens.TokenKind.TheVariants.{Sign as SignKind}
+use Rattle.lua_parser.proofs.Breaking.{suffix_breaks}
+use Rattle.lua_parser.proofs.Breaking.{missing_first}
+use Rattle.lua_parser.proofs.Handing.{handed_on}
+use Rattle.lua_parser.specs.Standing as standing
+use Rattle.lua_parser.proofs.OpenFunctions.{few_there}
 use Rattle.lua_parser.proofs.cursor.Parser.member.Goals as goal
 
 pub returns-clause-reads : goal.returns-clause-reads
@@ -23,7 +28,7 @@ returns-in_err-dot-clause-refuses c = λ next.
 
 pub returns-in_err-above-clause-refuses : goal.returns-in_err-above-clause-refuses
 returns-in_err-above-clause-refuses c = λ next.
-    let h : IfErr c.from_residual-in_err-above.result (IsTooHigh c.args.at c.args.object.height) = search rules in
+    let h : IfErr c.from_residual-in_err-above.result (IsTooHigh c.args.at c.args.object.height c.in_ok-dot.dot) = search rules in
     on_err c.from_residual-in_err-above.result h (λ fault high. member_too_high c.args.at _ _ c.args.object _ fault c.in_ok-dot.ensures.takes high)
 
 pub returns-in_err-named-clause-refuses : goal.returns-in_err-named-clause-refuses
@@ -35,3 +40,18 @@ pub returns-in_err-member-clause-refuses : goal.returns-in_err-member-clause-ref
 returns-in_err-member-clause-refuses c = λ next.
     let h : IfErr c.from_residual-in_err-member.result IsMemory = search rules in
     on_want _ c.from_residual-in_err-member.result (λ s read k none. absurd none) h
+
+pub returns-in_err-above-clause-order : goal.returns-in_err-above-clause-order
+returns-in_err-above-clause-order c =
+    let h : IfErr c.from_residual-in_err-above.result (IsTooHigh c.args.at c.args.object.height c.in_ok-dot.dot) = search rules in
+    on_err c.from_residual-in_err-above.result h (λ fault high s read. suffix_breaks (SignKind Dot) c.args.at _ c.args.object s _ _ (state c.args.tokens.now c.take_sign.new.self) fault (few_there _ _) tt c.in_ok-dot.ensures.takes high read)
+
+pub returns-in_err-dot-clause-order : goal.returns-in_err-dot-clause-order
+returns-in_err-dot-clause-order c =
+    handed_on _ c.from_residual.result _ c.from_residual.ensures.1
+    (λ s read start stands. missing_first _ _ _ _ c.in_err-dot.ensures.misses start (standing.behind_prefix stands read))
+
+pub returns-in_err-named-clause-order : goal.returns-in_err-named-clause-order
+returns-in_err-named-clause-order c =
+    handed_on _ c.from_residual-in_err-named.result _ c.from_residual-in_err-named.ensures.1
+    (λ s read start stands. missing_first _ _ _ _ c.in_err-named.ensures.misses start (standing.behind_dot stands read c.in_ok-dot.ensures.takes c.in_ok-above.ensures))

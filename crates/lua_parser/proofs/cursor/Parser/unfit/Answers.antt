@@ -9,4 +9,4 @@ returns-in-Some c =
     line_of_next c.args.tokens.now c.args.self.now c.in-Some.token.now next
 
 pub returns-in-None : goal.returns-in-None
-returns-in-None c = line_of_last c.args.tokens.now c.args.self.now c.in-None.ensures.lookup.3
+returns-in-None c = rw c.last_line.ensures (line_of_last c.args.tokens.now c.args.self.now c.in-None.ensures.lookup.3)
