@@ -1,3 +1,4 @@
+mod limits;
 mod programs;
 mod written;
 
@@ -32,6 +33,11 @@ fn repeated(
         text.push_str(part)?;
     }
     text.push_str(behind)?;
+    fault_of(alloc, text.as_str())
+}
+
+/// The fault of a text.
+fn fault_of(alloc: Global, text: &str) -> Result<Option<ParseFault>, AllocError> {
     let Ok(tokens) = lex(alloc, text.as_bytes(), 1) else {
         return Ok(Some(ParseFault::Memory));
     };
