@@ -2,7 +2,8 @@ mod limits;
 mod programs;
 mod written;
 
-use lua_lexer::lex;
+use lua_ast::{Program, StmtKind};
+use lua_lexer::{Token, lex};
 use lua_parser::{ParseFault, parse};
 use std::alloc::{AllocError, Global};
 use std::test::Fail;
@@ -19,7 +20,7 @@ fn parsed(alloc: Global, text: &str) -> Result<String, AllocError> {
     }
 }
 
-/// The fault of a text that is `many` times one part, between two others.
+/// The fault of a text that is `many` times one part, between two others; `None` for a program.
 fn repeated(
     alloc: Global,
     before: &str,
@@ -33,17 +34,14 @@ fn repeated(
         text.push_str(part)?;
     }
     text.push_str(behind)?;
-    fault_of(alloc, text.as_str())
+    Ok(fault_of(alloc, text.as_str()))
 }
 
-/// The fault of a text.
-fn fault_of(alloc: Global, text: &str) -> Result<Option<ParseFault>, AllocError> {
-    let Ok(tokens) = lex(alloc, text.as_bytes(), 1) else {
-        return Ok(Some(ParseFault::Memory));
-    };
-    match parse(alloc, &tokens) {
-        Ok(_) => Ok(None),
-        Err(fault) => Ok(Some(fault)),
+/// The fault of a text; `None` for a program.
+fn fault_of(alloc: Global, text: &str) -> Option<ParseFault> {
+    match lex(alloc, text.as_bytes(), 1) {
+        Ok(tokens) => parse(alloc, &tokens).err(),
+        Err(_) => Some(ParseFault::Memory),
     }
 }
 
@@ -106,7 +104,7 @@ fn each_limit_and_one_more(rt: HostRuntime) -> Result<(), Fail> {
         ("x = ", "- ", 198, "1", None),
         ("x = ", "- ", 199, "1", Some(ParseFault::Depth(1))),
         ("x = ", "(", 199, "", Some(ParseFault::At(1))),
-        ("x = ", "(", 200_000, "", Some(ParseFault::Depth(1))),
+        ("x = ", "(", 1_000_000, "", Some(ParseFault::Depth(1))),
         ("", "do ", 199, "do end", Some(ParseFault::Depth(1))),
         ("x = 1", " + 1", 3_999, "", None),
         ("x = 1", " + 1", 4_000, "", Some(ParseFault::Depth(1))),
@@ -122,7 +120,6 @@ fn each_limit_and_one_more(rt: HostRuntime) -> Result<(), Fail> {
             "() end",
             Some(ParseFault::Depth(1)),
         ),
-        ("if x then", " elseif x then", 20_000, " end", None),
         ("", "local a ", 200, "", None),
         ("", "local a ", 201, "", Some(ParseFault::Locals(1))),
         ("local a", ", a", 199, "", None),
@@ -149,6 +146,43 @@ fn each_limit_and_one_more(rt: HostRuntime) -> Result<(), Fail> {
     Ok(())
 }
 
+/// Puts the tokens of a text behind others; true where it has tokens. So the whole may be longer than a text may be.
+fn read_behind(alloc: Global, tokens: &mut Vec<Token>, text: &str) -> Result<bool, AllocError> {
+    let Ok(found) = lex(alloc, text.as_bytes(), 1) else {
+        return Ok(false);
+    };
+    for token in found {
+        tokens.push(token)?;
+    }
+    Ok(true)
+}
+
+/// How many arms the chunk's one statement has, where it is one `if` and nothing else.
+fn arms_of(program: &Program) -> Option<usize> {
+    match program.functions.first()?.body.as_slice() {
+        [only] => match &only.kind {
+            StmtKind::If(arms, _) => Some(arms.len()),
+            _ => None,
+        },
+        _ => None,
+    }
+}
+
+#[test]
+fn a_hundred_thousand_arms_are_one_statement(rt: HostRuntime) -> Result<(), Fail> {
+    let alloc = rt.alloc();
+    let mut tokens = Vec::new(alloc);
+    let mut all_read = read_behind(alloc, &mut tokens, "if x then")?;
+    for _ in 1..100_000 {
+        all_read &= read_behind(alloc, &mut tokens, " elseif x then")?;
+    }
+    all_read &= read_behind(alloc, &mut tokens, " end")?;
+    assert!(rt; all_read);
+    let program = parse(alloc, &tokens)?;
+    assert_eq!(rt; arms_of(&program), Some(100_000));
+    Ok(())
+}
+
 /// A function that uses so many locals of the chunk, on a line of its own.
 fn uses(alloc: Global, many: u32) -> Result<String, AllocError> {
     let mut text = String::new(alloc);
@@ -170,7 +204,7 @@ fn sixty_captures_and_one_more(rt: HostRuntime) -> Result<(), Fail> {
     let alloc = rt.alloc();
     for (many, expected) in [(60, None), (61, Some(ParseFault::Upvalues(2)))] {
         let text = uses(alloc, many)?;
-        let found = repeated(alloc, text.as_str(), "", 0, "")?;
+        let found = fault_of(alloc, text.as_str());
         assert_eq!(rt; found, expected, "{many}");
     }
     Ok(())

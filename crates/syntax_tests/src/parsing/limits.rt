@@ -202,7 +202,7 @@ fn is_told(alloc: Global, row: &str) -> Result<bool, Fail> {
     for part in parts.split('|') {
         push_part(alloc, &mut text, part)?;
     }
-    let found = match fault_of(alloc, text.as_str())? {
+    let found = match fault_of(alloc, text.as_str()) {
         None => format!(in alloc; "read")?,
         Some(fault) => format!(in alloc; "{fault:?}")?,
     };
