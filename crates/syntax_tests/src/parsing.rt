@@ -1,4 +1,5 @@
 mod limits;
+mod pairs;
 mod programs;
 mod written;
 
