@@ -1,4 +1,5 @@
 mod limits;
+mod lines;
 mod pairs;
 mod programs;
 mod written;
@@ -8,15 +9,21 @@ use lua_lexer::{Token, lex};
 use lua_parser::{ParseFault, parse};
 use std::alloc::{AllocError, Global};
 use std::test::Fail;
-use written::program;
+use written::{Lines, program};
 
-/// What parsing a text gives, in the form of `written`, or the fault.
+/// What parsing a text gives, in the form of `written` without lines, or the first fault of its tokens, or else of `parse`.
 fn parsed(alloc: Global, text: &str) -> Result<String, AllocError> {
-    let Ok(tokens) = lex(alloc, text.as_bytes(), 1) else {
-        return format!(in alloc; "no tokens");
+    parsed_as(alloc, text, Lines::Hidden)
+}
+
+/// The same, with the lines of statements and expressions where they are to be shown.
+fn parsed_as(alloc: Global, text: &str, lines: Lines) -> Result<String, AllocError> {
+    let tokens = match lex(alloc, text.as_bytes(), 1) {
+        Ok(tokens) => tokens,
+        Err(fault) => return format!(in alloc; "{fault:?}"),
     };
     match parse(alloc, &tokens) {
-        Ok(found) => program(alloc, &found),
+        Ok(found) => program(alloc, &found, lines),
         Err(fault) => format!(in alloc; "{fault:?}"),
     }
 }
@@ -90,6 +97,8 @@ fn each_fault_is_met_where_it_comes(rt: HostRuntime) -> Result<(), Fail> {
         ("repeat x = 1 end", "At(1)"),
         ("break\nx = = 1", "BreakOutside(1)"),
         ("x = function() break\nreturn ... end", "BreakOutside(1)"),
+        ("x = = 1\n'a", "OpenString(2)"),
+        ("break\nx = ~ 1", "BadByte(2)"),
     ] {
         assert_eq!(rt; parsed(alloc, text)?.as_str(), expected, "{text}");
     }

@@ -112,6 +112,7 @@ Locals(3)|x = function(a|199*, a|$,$b$) end
 read|200*local a |function f(b) end
 Locals(3)|function f(a|149*, a|) |50*local b |$local$c end
 read|199*local a |for i = 1, 2 do end
+read|198*local a |for i, j in x do end
 Locals(3)|200*local a |$for$i$= 1, 2 do end
 Locals(3)|199*local a |for i$,$j$in x do end
 Locals(3)|199*local a |for i = 1, 2 do$local$b end

@@ -6,7 +6,7 @@ use std::test::Fail;
 /// A row for each binary operator: its sign, its name in the tree, and a letter for each operator of these rows in their order
 /// as the second one, as in `1 + 2 * 3`: `l` where the first one's operands go together, `r` where the second one's do
 /// (Lua 5.1 Reference Manual, 2.5.6).
-const BINARY: &str = "\
+pub(crate) const BINARY: &str = "\
 or Or lrrrrrrrrrrrrrr
 and And llrrrrrrrrrrrrr
 < Lt llllllllrrrrrrr
@@ -31,13 +31,13 @@ not Not llllllllllllllr
 
 /// An operator's row.
 #[derive(Clone, Copy)]
-struct Row<'a> {
-    sign: &'a str,
-    name: &'a str,
+pub(crate) struct Row<'a> {
+    pub sign: &'a str,
+    pub name: &'a str,
     letters: &'a str,
 }
 
-fn row_of(line: &str) -> Option<Row<'_>> {
+pub(crate) fn row_of(line: &str) -> Option<Row<'_>> {
     let (sign, rest) = line.split_once(' ')?;
     let (name, letters) = rest.split_once(' ')?;
     Some(Row {
@@ -59,7 +59,8 @@ fn binary_groups(
     let text = format!(in alloc; "return 1 {a} 2 {b} 3")?;
     let expected = match letter {
         'l' => format!(in alloc; "return ((1 {above} 2) {below} 3);")?,
-        _ => format!(in alloc; "return (1 {above} (2 {below} 3));")?,
+        'r' => format!(in alloc; "return (1 {above} (2 {below} 3));")?,
+        _ => return Ok(false),
     };
     Ok(parsed(alloc, &text)?.as_str() == expected.as_str())
 }
@@ -76,7 +77,8 @@ fn unary_groups(
     let before = format!(in alloc; "return {a} 1 {b} 2")?;
     let expected = match letter {
         'l' => format!(in alloc; "return (({unary} 1) {binary} 2);")?,
-        _ => format!(in alloc; "return ({unary} (1 {binary} 2));")?,
+        'r' => format!(in alloc; "return ({unary} (1 {binary} 2));")?,
+        _ => return Ok(false),
     };
     let behind = format!(in alloc; "return 1 {b} {a} 2")?;
     let alone = format!(in alloc; "return (1 {binary} ({unary} 2));")?;

@@ -132,7 +132,7 @@ fn each_statement_and_expression_is_read(rt: HostRuntime) -> Result<(), Fail> {
 }
 
 /// The number of files and the heads of the functions that parsing a text gives, or the fault.
-fn heads(alloc: Global, text: &str) -> Result<String, AllocError> {
+pub(crate) fn heads(alloc: Global, text: &str) -> Result<String, AllocError> {
     let Ok(tokens) = lex(alloc, text.as_bytes(), 1) else {
         return format!(in alloc; "no tokens");
     };

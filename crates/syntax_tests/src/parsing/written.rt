@@ -2,14 +2,26 @@
 use lua_ast::{Arm, Capture, Expr, ExprKind, Function, Program, Stmt, StmtKind, TableItem};
 use std::alloc::{AllocError, Global};
 
+/// Whether the lines of statements and expressions are written.
+#[derive(Clone, Copy)]
+pub(crate) enum Lines {
+    Hidden,
+    /// A statement's line before it, as `1: break`, and an expression's behind it, as `nil@1`.
+    Shown,
+}
+
 /// A program: the bodies of its functions, with ` | ` between them.
-pub(crate) fn program(alloc: Global, program: &Program) -> Result<String, AllocError> {
+pub(crate) fn program(
+    alloc: Global,
+    program: &Program,
+    lines: Lines,
+) -> Result<String, AllocError> {
     let mut all = String::new(alloc);
     for function in &program.functions {
         if !all.is_empty() {
             all.push_str(" | ")?;
         }
-        let one = block(alloc, &function.body)?;
+        let one = block(alloc, &function.body, lines)?;
         all.push_str(&one)?;
     }
     Ok(all)
@@ -42,10 +54,10 @@ fn slots(alloc: Global, slots: &[u8]) -> Result<String, AllocError> {
 }
 
 #[cycle(write_stmt)]
-fn block(alloc: Global, body: &[Stmt]) -> Result<String, AllocError> {
+fn block(alloc: Global, body: &[Stmt], lines: Lines) -> Result<String, AllocError> {
     let mut all = String::new(alloc);
     for statement in body {
-        let one = stmt(alloc, statement)?;
+        let one = stmt(alloc, statement, lines)?;
         all.push_str(&one)?;
         all.push(';')?;
     }
@@ -53,11 +65,11 @@ fn block(alloc: Global, body: &[Stmt]) -> Result<String, AllocError> {
 }
 
 #[cycle(write_stmt)]
-fn arms(alloc: Global, arms: &[Arm]) -> Result<String, AllocError> {
+fn arms(alloc: Global, arms: &[Arm], lines: Lines) -> Result<String, AllocError> {
     let mut all = String::new(alloc);
     for arm in arms {
-        let test = expr(alloc, &arm.test)?;
-        let body = block(alloc, &arm.body)?;
+        let test = expr(alloc, &arm.test, lines)?;
+        let body = block(alloc, &arm.body, lines)?;
         let one = format!(in alloc; "if {test} then {body} ")?;
         all.push_str(&one)?;
     }
@@ -65,37 +77,47 @@ fn arms(alloc: Global, arms: &[Arm]) -> Result<String, AllocError> {
 }
 
 #[cycle(write_stmt)]
-fn stmt(alloc: Global, stmt: &Stmt) -> Result<String, AllocError> {
-    match &stmt.kind {
+fn stmt(alloc: Global, statement: &Stmt, lines: Lines) -> Result<String, AllocError> {
+    let kind = stmt_kind(alloc, &statement.kind, lines)?;
+    let line = statement.line;
+    match lines {
+        Lines::Hidden => Ok(kind),
+        Lines::Shown => format!(in alloc; "{line}: {kind}"),
+    }
+}
+
+#[cycle(write_stmt)]
+fn stmt_kind(alloc: Global, kind: &StmtKind, lines: Lines) -> Result<String, AllocError> {
+    match kind {
         StmtKind::Local(targets, values) => {
             let targets = slots(alloc, targets)?;
-            let values = exprs(alloc, values)?;
+            let values = exprs(alloc, values, lines)?;
             format!(in alloc; "local {targets}= {values}")
         }
         StmtKind::LocalFunction(slot, n) => format!(in alloc; "local s{slot} f{n}"),
         StmtKind::Assign(targets, values) => {
-            let targets = exprs(alloc, targets)?;
-            let values = exprs(alloc, values)?;
+            let targets = exprs(alloc, targets, lines)?;
+            let values = exprs(alloc, values, lines)?;
             format!(in alloc; "{targets} = {values}")
         }
-        StmtKind::Call(call) => expr(alloc, call),
+        StmtKind::Call(call) => expr(alloc, call, lines),
         StmtKind::Do(body) => {
-            let body = block(alloc, body)?;
+            let body = block(alloc, body, lines)?;
             format!(in alloc; "do {body} end")
         }
         StmtKind::While(test, body) => {
-            let test = expr(alloc, test)?;
-            let body = block(alloc, body)?;
+            let test = expr(alloc, test, lines)?;
+            let body = block(alloc, body, lines)?;
             format!(in alloc; "while {test} do {body} end")
         }
         StmtKind::Repeat(body, test) => {
-            let test = expr(alloc, test)?;
-            let body = block(alloc, body)?;
+            let test = expr(alloc, test, lines)?;
+            let body = block(alloc, body, lines)?;
             format!(in alloc; "repeat {body} until {test}")
         }
         StmtKind::If(tests, otherwise) => {
-            let tests = arms(alloc, tests)?;
-            let otherwise = block(alloc, otherwise)?;
+            let tests = arms(alloc, tests, lines)?;
+            let otherwise = block(alloc, otherwise, lines)?;
             format!(in alloc; "{tests}else {otherwise} end")
         }
         StmtKind::NumericFor {
@@ -105,13 +127,13 @@ fn stmt(alloc: Global, stmt: &Stmt) -> Result<String, AllocError> {
             step,
             body,
         } => {
-            let from = expr(alloc, from)?;
-            let to = expr(alloc, to)?;
+            let from = expr(alloc, from, lines)?;
+            let to = expr(alloc, to, lines)?;
             let step = match step {
-                Some(step) => expr(alloc, step)?,
+                Some(step) => expr(alloc, step, lines)?,
                 None => String::new(alloc),
             };
-            let body = block(alloc, body)?;
+            let body = block(alloc, body, lines)?;
             format!(in alloc; "for s{slot} = {from}, {to}, {step} do {body} end")
         }
         StmtKind::GenericFor {
@@ -120,12 +142,12 @@ fn stmt(alloc: Global, stmt: &Stmt) -> Result<String, AllocError> {
             body,
         } => {
             let targets = slots(alloc, targets)?;
-            let values = exprs(alloc, values)?;
-            let body = block(alloc, body)?;
+            let values = exprs(alloc, values, lines)?;
+            let body = block(alloc, body, lines)?;
             format!(in alloc; "for {targets}in {values} do {body} end")
         }
         StmtKind::Return(values) => {
-            let values = exprs(alloc, values)?;
+            let values = exprs(alloc, values, lines)?;
             format!(in alloc; "return {values}")
         }
         StmtKind::Break => format!(in alloc; "break"),
@@ -133,30 +155,30 @@ fn stmt(alloc: Global, stmt: &Stmt) -> Result<String, AllocError> {
 }
 
 #[cycle(write_expr)]
-fn exprs(alloc: Global, exprs: &[Expr]) -> Result<String, AllocError> {
+fn exprs(alloc: Global, exprs: &[Expr], lines: Lines) -> Result<String, AllocError> {
     let mut all = String::new(alloc);
     for one in exprs {
         if !all.is_empty() {
             all.push_str(", ")?;
         }
-        let one = expr(alloc, one)?;
+        let one = expr(alloc, one, lines)?;
         all.push_str(&one)?;
     }
     Ok(all)
 }
 
 #[cycle(write_expr)]
-fn items(alloc: Global, items: &[TableItem]) -> Result<String, AllocError> {
+fn items(alloc: Global, items: &[TableItem], lines: Lines) -> Result<String, AllocError> {
     let mut all = String::new(alloc);
     for item in items {
         let one = match item {
             TableItem::Item(value) => {
-                let value = expr(alloc, value)?;
+                let value = expr(alloc, value, lines)?;
                 format!(in alloc; "{value} ")?
             }
             TableItem::Pair(key, value) => {
-                let key = expr(alloc, key)?;
-                let value = expr(alloc, value)?;
+                let key = expr(alloc, key, lines)?;
+                let value = expr(alloc, value, lines)?;
                 format!(in alloc; "{key}={value} ")?
             }
         };
@@ -165,10 +187,20 @@ fn items(alloc: Global, items: &[TableItem]) -> Result<String, AllocError> {
     Ok(all)
 }
 
+#[cycle(write_expr)]
+fn expr(alloc: Global, expression: &Expr, lines: Lines) -> Result<String, AllocError> {
+    let kind = expr_kind(alloc, &expression.kind, lines)?;
+    let line = expression.line;
+    match lines {
+        Lines::Hidden => Ok(kind),
+        Lines::Shown => format!(in alloc; "{kind}@{line}"),
+    }
+}
+
 /// An expression in Lua's own signs, each operation in parentheses of its own, and each parenthesis of the text as `<>`.
 #[cycle(write_expr)]
-pub(crate) fn expr(alloc: Global, expression: &Expr) -> Result<String, AllocError> {
-    match &expression.kind {
+fn expr_kind(alloc: Global, kind: &ExprKind, lines: Lines) -> Result<String, AllocError> {
+    match kind {
         ExprKind::Nil => format!(in alloc; "nil"),
         ExprKind::True => format!(in alloc; "true"),
         ExprKind::False => format!(in alloc; "false"),
@@ -186,46 +218,46 @@ pub(crate) fn expr(alloc: Global, expression: &Expr) -> Result<String, AllocErro
             format!(in alloc; "g{text}")
         }
         ExprKind::Index(object, key) => {
-            let object = expr(alloc, object)?;
-            let key = expr(alloc, key)?;
+            let object = expr(alloc, object, lines)?;
+            let key = expr(alloc, key, lines)?;
             format!(in alloc; "{object}[{key}]")
         }
         ExprKind::Call(callee, values) => {
-            let callee = expr(alloc, callee)?;
-            let values = exprs(alloc, values)?;
+            let callee = expr(alloc, callee, lines)?;
+            let values = exprs(alloc, values, lines)?;
             format!(in alloc; "{callee}({values})")
         }
         ExprKind::Method(object, text, values) => {
-            let object = expr(alloc, object)?;
+            let object = expr(alloc, object, lines)?;
             let text = name(alloc, text.as_slice())?;
-            let values = exprs(alloc, values)?;
+            let values = exprs(alloc, values, lines)?;
             format!(in alloc; "{object}:{text}({values})")
         }
         ExprKind::Unary(op, operand) => {
-            let operand = expr(alloc, operand)?;
+            let operand = expr(alloc, operand, lines)?;
             format!(in alloc; "({op:?} {operand})")
         }
         ExprKind::Binary(op, left, right) => {
-            let left = expr(alloc, left)?;
-            let right = expr(alloc, right)?;
+            let left = expr(alloc, left, lines)?;
+            let right = expr(alloc, right, lines)?;
             format!(in alloc; "({left} {op:?} {right})")
         }
         ExprKind::And(left, right) => {
-            let left = expr(alloc, left)?;
-            let right = expr(alloc, right)?;
+            let left = expr(alloc, left, lines)?;
+            let right = expr(alloc, right, lines)?;
             format!(in alloc; "({left} And {right})")
         }
         ExprKind::Or(left, right) => {
-            let left = expr(alloc, left)?;
-            let right = expr(alloc, right)?;
+            let left = expr(alloc, left, lines)?;
+            let right = expr(alloc, right, lines)?;
             format!(in alloc; "({left} Or {right})")
         }
         ExprKind::Paren(inner) => {
-            let inner = expr(alloc, inner)?;
+            let inner = expr(alloc, inner, lines)?;
             format!(in alloc; "<{inner}>")
         }
         ExprKind::Table(all) => {
-            let all = items(alloc, all)?;
+            let all = items(alloc, all, lines)?;
             format!(in alloc; "{{{all}}}")
         }
     }
