@@ -14,21 +14,21 @@ use Rattle.lua_grammar.specs.Reading.{arm, block, statement, feed}
 use Rattle.lua_grammar.specs.Dead.{IsDead}
 use Rattle.lua_grammar.proofs.DeadParts.{dead_block, dead_end, dead_then}
 use Rattle.lua_grammar.proofs.Stopping.{at_least_one}
-use Rattle.lua_parser.specs.declared.faults.ParseFault.{ParseFault}
-use Rattle.lua_parser.specs.declared.faults.ParseFault.TheVariants.{At, Memory}
-use Rattle.lua_parser.specs.declared.places.Place.{Place}
-use Rattle.lua_parser.specs.States.{State, Takes}
-use Rattle.lua_parser.specs.Next.{Begin, IsKind, IsNext, Misses, OnAt, line_or}
-use Rattle.lua_parser.specs.ReadsStatements.{ReadsArms, ReadsScoped, ReadsValue}
-use Rattle.lua_parser.specs.Fits.{FitsArms, FitsScoped, FitsStat, FitsValue}
-use Rattle.lua_parser.specs.Readers.{Moves, NeverChunk, Refuses, Supposes}
-use Rattle.lua_parser.specs.Refusals.{Unless}
-use Rattle.lua_parser.specs.StatementRefusals.{RefusesArm, RefusesArms, RefusesScoped, RefusesStat, RefusesValue}
-use Rattle.lua_parser.proofs.FittingBlocks.{arm_block_fits, arm_fits, arms_before_else_fit, arms_fit, else_fits, first_arms_fit, next_arm_fits, test_fits}
-use Rattle.lua_parser.proofs.Moving.{by_token, ends_stuck, fails, on, refused_on, supposes_on}
-use Rattle.lua_parser.proofs.Printed.{exp_ended}
-use Rattle.lua_parser.proofs.PrintedBlocks.{arms_moves, block_ended}
-use Rattle.lua_parser.proofs.Refusing.{no_end, no_then}
+use Rattle.lua_parser_base.specs.declared.faults.ParseFault.{ParseFault}
+use Rattle.lua_parser_base.specs.declared.faults.ParseFault.TheVariants.{At, Memory}
+use Rattle.lua_parser_base.specs.declared.places.Place.{Place}
+use Rattle.lua_parser_base.specs.States.{State, Takes}
+use Rattle.lua_parser_base.specs.Next.{Begin, IsKind, IsNext, Misses, OnAt, line_or}
+use Rattle.lua_parser_base.specs.ReadsStatements.{ReadsArms, ReadsScoped, ReadsValue}
+use Rattle.lua_parser_base.specs.Fits.{FitsArms, FitsScoped, FitsStat, FitsValue}
+use Rattle.lua_parser_base.specs.Readers.{Moves, NeverChunk, Refuses, Supposes}
+use Rattle.lua_parser_base.specs.Refusals.{Unless}
+use Rattle.lua_parser_base.specs.StatementRefusals.{RefusesArm, RefusesArms, RefusesScoped, RefusesStat, RefusesValue}
+use Rattle.lua_parser_base.proofs.FittingBlocks.{arm_block_fits, arm_fits, arms_before_else_fit, arms_fit, else_fits, first_arms_fit, next_arm_fits, test_fits}
+use Rattle.lua_parser_base.proofs.Moving.{by_token, ends_stuck, fails, on, refused_on, supposes_on}
+use Rattle.lua_parser_base.proofs.Printed.{exp_ended}
+use Rattle.lua_parser_base.proofs.PrintedBlocks.{arms_moves, block_ended}
+use Rattle.lua_parser_base.proofs.Refusing.{no_end, no_then}
 
 -- ---- a test, `then` and a block
 

@@ -6,10 +6,10 @@ use Rattle.lua_lexer.specs.declared.signs.Sign.TheVariants as sign
 use Rattle.lua_lexer.specs.declared.words.Word.TheVariants as word
 use Rattle.lua_grammar.specs.Printing.{Lexeme}
 use Rattle.lua_grammar.specs.Stopping.{IsBlockEnd, IsReturnEnd}
-use Rattle.lua_parser.specs.declared.statements.Begins.{Begins}
-use Rattle.lua_parser.specs.declared.statements.Begins.TheVariants as begins
-use Rattle.lua_parser.specs.Next.{Begin, IsKind, first_kind}
-use Rattle.lua_parser.specs.Kinds.{IsStatement, begins_of}
+use Rattle.lua_parser_base.specs.declared.beginnings.Begins.{Begins}
+use Rattle.lua_parser_base.specs.declared.beginnings.Begins.TheVariants as begins
+use Rattle.lua_parser_base.specs.Next.{Begin, IsKind, first_kind}
+use Rattle.lua_parser_base.specs.Kinds.{IsStatement, begins_of}
 
 pub if_kind : (kind : TokenKind) → begins_of kind ≡ begins.If → kind ≡ Word word.If
 if_kind (Word word.If) is = refl

@@ -9,13 +9,13 @@ use Rattle.lua_grammar.specs.Resolution.{Resolves}
 use Rattle.lua_grammar.specs.Waiting.{Reader, chunk, exp, more_exp}
 use Rattle.lua_lexer.specs.declared.tokens.TokenKind.TheVariants.{Word}
 use Rattle.lua_lexer.specs.declared.words.Word.TheVariants as word
-use Rattle.lua_parser.specs.declared.faults.ParseFault.{ParseFault}
-use Rattle.lua_parser.specs.declared.places.Place.{Place}
-use Rattle.lua_parser.specs.States.{State, Takes}
-use Rattle.lua_parser.specs.Fits.{FitsBody, FitsExp}
-use Rattle.lua_parser.specs.Refusals.{RefusesBody, RefusesExp, Unless}
-use Rattle.lua_parser.proofs.Fitting.{first_exp_fits}
-use Rattle.lua_parser.proofs.Moving.{by_token, refused_on, supposes_on}
+use Rattle.lua_parser_base.specs.declared.faults.ParseFault.{ParseFault}
+use Rattle.lua_parser_base.specs.declared.places.Place.{Place}
+use Rattle.lua_parser_base.specs.States.{State, Takes}
+use Rattle.lua_parser_base.specs.Fits.{FitsBody, FitsExp}
+use Rattle.lua_parser_base.specs.Refusals.{RefusesBody, RefusesExp, Unless}
+use Rattle.lua_parser_base.proofs.Fitting.{first_exp_fits}
+use Rattle.lua_parser_base.proofs.Moving.{by_token, refused_on, supposes_on}
 
 body_alone_fits : (at : Place) (around : List Frame) (line : Line) (b : FuncBody) → FitsExp at around (tree.function line b) → FitsBody at line [] around b
 unfolding levels IsValid Resolves

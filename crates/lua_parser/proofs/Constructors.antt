@@ -23,23 +23,23 @@ use Rattle.lua_grammar.proofs.Growing.{field_keeps}
 use Rattle.lua_grammar.proofs.ReadingTrees.{field_read}
 use Rattle.lua_grammar.proofs.SameFrames.{fields_alike}
 use Rattle.lua_grammar.proofs.StillWaiting.{field_waits}
-use Rattle.lua_parser.specs.declared.faults.ParseFault.{ParseFault}
-use Rattle.lua_parser.specs.declared.faults.ParseFault.TheVariants.{At, Memory}
-use Rattle.lua_parser.specs.declared.places.Place.{Place}
-use Rattle.lua_parser.specs.declared.nodes.Item.{Item}
-use Rattle.lua_parser.specs.declared.nodes.Items.{Items}
-use Rattle.lua_parser.specs.States.{State, Takes}
-use Rattle.lua_parser.specs.Fits.{FitsField, FitsFields, FitsTable}
-use Rattle.lua_parser.specs.Kinds.{IsSeparator}
-use Rattle.lua_parser.specs.Next.{Begin, HasNoPart, IsKind, IsNext, Misses, OnAt, ahead, first_kind}
-use Rattle.lua_parser.specs.Places.{IsPart}
-use Rattle.lua_parser.specs.Reads.{ReadsField, ReadsFields}
-use Rattle.lua_parser.specs.Readers.{GoOn, Moves}
-use Rattle.lua_parser.specs.Refusals.{RefusesField, RefusesTable, Unless}
-use Rattle.lua_parser.proofs.Heights.{exp_deep, exp_tall}
-use Rattle.lua_parser.proofs.Moving.{by_token, not_first, on, refused_on, stays, supposes_on}
-use Rattle.lua_parser.proofs.Printed.{behind_on, fields_moves, over, stops_on}
-use Rattle.lua_parser.proofs.Refusing.{ends_failed, missed, no_part}
+use Rattle.lua_parser_base.specs.declared.faults.ParseFault.{ParseFault}
+use Rattle.lua_parser_base.specs.declared.faults.ParseFault.TheVariants.{At, Memory}
+use Rattle.lua_parser_base.specs.declared.places.Place.{Place}
+use Rattle.lua_parser_base.specs.declared.nodes.Item.{Item}
+use Rattle.lua_parser_base.specs.declared.nodes.Items.{Items}
+use Rattle.lua_parser_base.specs.States.{State, Takes}
+use Rattle.lua_parser_base.specs.Fits.{FitsField, FitsFields, FitsTable}
+use Rattle.lua_parser_base.specs.Kinds.{IsSeparator}
+use Rattle.lua_parser_base.specs.Next.{Begin, HasNoPart, IsKind, IsNext, Misses, OnAt, ahead, first_kind}
+use Rattle.lua_parser_base.specs.Places.{IsPart}
+use Rattle.lua_parser_base.specs.Reads.{ReadsField, ReadsFields}
+use Rattle.lua_parser_base.specs.Readers.{GoOn, Moves}
+use Rattle.lua_parser_base.specs.Refusals.{RefusesField, RefusesTable, Unless}
+use Rattle.lua_parser_base.proofs.Heights.{exp_deep, exp_tall}
+use Rattle.lua_parser_base.proofs.Moving.{by_token, not_first, on, refused_on, stays, supposes_on}
+use Rattle.lua_parser_base.proofs.Printed.{behind_on, fields_moves, over, stops_on}
+use Rattle.lua_parser_base.proofs.Refusing.{ends_failed, missed, no_part}
 
 -- ---- what fits
 

@@ -10,19 +10,19 @@ use Rattle.lua_grammar.specs.Tree.{Bytes}
 use Rattle.lua_grammar.specs.Limits.{Few}
 use Rattle.lua_grammar.specs.Scopes.{in_scope}
 use Rattle.lua_grammar.proofs.Growing.{exp_keeps, list_keeps}
-use Rattle.lua_parser.specs.declared.cursor.Parser.{Parser}
-use Rattle.lua_parser.specs.declared.faults.ParseFault.{ParseFault}
-use Rattle.lua_parser.specs.declared.parameters.Begun.{Begun}
-use Rattle.lua_parser.specs.declared.parameters.Parameters.{Parameters}
-use Rattle.lua_parser.specs.declared.places.Place.{Place}
-use Rattle.lua_parser.specs.Functions.{Enters}
-use Rattle.lua_parser.specs.Next.{IsLocals, OnLocals}
-use Rattle.lua_parser.specs.ReadsNames.{ReadsNames, ReadsParameters}
-use Rattle.lua_parser.specs.ReadsStatements.{ReadsInitial, ReadsStep, ReadsValue, ReadsValues}
-use Rattle.lua_parser.specs.States.{State, Takes, scope_of, state}
-use Rattle.lua_parser.specs.Standing.{Stands, FirstFault}
-use Rattle.lua_parser.specs.Standing as standing
-use Rattle.lua_parser.proofs.Breaking.{local_breaks}
+use Rattle.lua_parser_base.specs.declared.cursor.Parser.{Parser}
+use Rattle.lua_parser_base.specs.declared.faults.ParseFault.{ParseFault}
+use Rattle.lua_parser_base.specs.declared.parameters.Begun.{Begun}
+use Rattle.lua_parser_base.specs.declared.parameters.Parameters.{Parameters}
+use Rattle.lua_parser_base.specs.declared.places.Place.{Place}
+use Rattle.lua_parser_base.specs.Functions.{Enters}
+use Rattle.lua_parser_base.specs.Next.{IsLocals, OnLocals}
+use Rattle.lua_parser_base.specs.ReadsNames.{ReadsNames, ReadsParameters}
+use Rattle.lua_parser_base.specs.ReadsStatements.{ReadsInitial, ReadsStep, ReadsValue, ReadsValues}
+use Rattle.lua_parser_base.specs.States.{State, Takes, scope_of, state}
+use Rattle.lua_parser_base.specs.Standing.{Stands, FirstFault}
+use Rattle.lua_parser_base.specs.Standing as standing
+use Rattle.lua_parser_base.proofs.Breaking.{local_breaks}
 use Rattle.lua_parser.proofs.LocalStatements.{in_scope_kept, initial_keeps}
 
 -- the locals of the innermost function

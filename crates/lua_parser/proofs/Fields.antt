@@ -21,20 +21,20 @@ use Rattle.lua_grammar.proofs.Few.{few_before_it}
 use Rattle.lua_grammar.proofs.Growing.{exp_keeps}
 use Rattle.lua_grammar.proofs.SameFrames.{exp_alike}
 use Rattle.lua_grammar.proofs.Stopping.{at_least_one}
-use Rattle.lua_parser.specs.declared.faults.ParseFault.{ParseFault}
-use Rattle.lua_parser.specs.declared.faults.ParseFault.TheVariants.{At, Memory}
-use Rattle.lua_parser.specs.declared.places.Place.{Place}
-use Rattle.lua_parser.specs.declared.nodes.Built.{Built}
-use Rattle.lua_parser.specs.States.{State, Takes}
-use Rattle.lua_parser.specs.Fits.{FitsExp, FitsField}
-use Rattle.lua_parser.specs.Kinds.{BeginNamed}
-use Rattle.lua_parser.specs.Next.{Begin, IsKind, IsName, IsNext, Misses, OnAt, ahead}
-use Rattle.lua_parser.specs.Reads.{ReadsExp}
-use Rattle.lua_parser.specs.Readers.{GoOn, GoOnWith, Moves, Refuses, WaitsWith}
-use Rattle.lua_parser.specs.Refusals.{RefusesField, RefusesFrom, Unless}
-use Rattle.lua_parser.proofs.Moving.{by_token, go_on_with, goes_on, on, refused_on, supposes_on}
-use Rattle.lua_parser.proofs.Printed.{exp_ended}
-use Rattle.lua_parser.proofs.Refusing.{never_missed, no_close_bracket, no_equals}
+use Rattle.lua_parser_base.specs.declared.faults.ParseFault.{ParseFault}
+use Rattle.lua_parser_base.specs.declared.faults.ParseFault.TheVariants.{At, Memory}
+use Rattle.lua_parser_base.specs.declared.places.Place.{Place}
+use Rattle.lua_parser_base.specs.declared.nodes.Built.{Built}
+use Rattle.lua_parser_base.specs.States.{State, Takes}
+use Rattle.lua_parser_base.specs.Fits.{FitsExp, FitsField}
+use Rattle.lua_parser_base.specs.Kinds.{BeginNamed}
+use Rattle.lua_parser_base.specs.Next.{Begin, IsKind, IsName, IsNext, Misses, OnAt, ahead}
+use Rattle.lua_parser_base.specs.Reads.{ReadsExp}
+use Rattle.lua_parser_base.specs.Readers.{GoOn, GoOnWith, Moves, Refuses, WaitsWith}
+use Rattle.lua_parser_base.specs.Refusals.{RefusesField, RefusesFrom, Unless}
+use Rattle.lua_parser_base.proofs.Moving.{by_token, go_on_with, goes_on, on, refused_on, supposes_on}
+use Rattle.lua_parser_base.proofs.Printed.{exp_ended}
+use Rattle.lua_parser_base.proofs.Refusing.{never_missed, no_close_bracket, no_equals}
 
 -- ---- what fits
 

@@ -14,9 +14,9 @@ use Rattle.lua_grammar.proofs.SameFrames.{exp_alike, list_alike}
 use Rattle.lua_grammar.proofs.Frames.{Steady, and_goes, and_keeps, declare_goes, leave_goes, stays}
 use Rattle.lua_grammar.proofs.Few.{few_before, few_before_it}
 use Rattle.lua_grammar.proofs.Growing.{exp_keeps, list_keeps, block_goes}
-use Rattle.lua_parser.specs.declared.places.Place.{Place}
-use Rattle.lua_parser.specs.Places.{IsLooped, IsWithin}
-use Rattle.lua_parser.specs.Fits.{FitsValue, FitsValues, FitsBlock, FitsLoop, FitsStat}
+use Rattle.lua_parser_base.specs.declared.places.Place.{Place}
+use Rattle.lua_parser_base.specs.Places.{IsLooped, IsWithin}
+use Rattle.lua_parser_base.specs.Fits.{FitsValue, FitsValues, FitsBlock, FitsLoop, FitsStat}
 
 -- the scopes before and behind the values of a loop that is within the limits, and in its block
 loop_few : (names : List Bytes) (m k t : Scope) (b : Block) (out : List Stmt) → Opens b (declare names m) out k → t ≡ leave m k → Few t.around → Few (declare_in names m.around)

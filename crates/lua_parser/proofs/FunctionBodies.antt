@@ -17,25 +17,25 @@ use Rattle.lua_grammar.specs.Resolution.{Resolves, names_of_params}
 use Rattle.lua_grammar.proofs.DeadParts.{dead_end, dead_to_end}
 use Rattle.lua_grammar.proofs.Few.{few_before, few_inside}
 use Rattle.lua_grammar.proofs.Growing.{block_goes}
-use Rattle.lua_parser.specs.declared.faults.ParseFault.{ParseFault}
-use Rattle.lua_parser.specs.declared.faults.ParseFault.TheVariants.{At, Memory}
-use Rattle.lua_parser.specs.declared.parameters.Parameters.{Parameters}
-use Rattle.lua_parser.specs.declared.parameters.Begun.{Begun}
-use Rattle.lua_parser.specs.declared.places.Place.{Place}
-use Rattle.lua_parser.specs.States.{State, Takes}
-use Rattle.lua_parser.specs.Next.{IsKind, IsTooDeep, Misses, OnAt}
-use Rattle.lua_parser.specs.Places.{IsWithin, IsOfFunction}
-use Rattle.lua_parser.specs.ReadsNames.{ReadsParameters}
-use Rattle.lua_parser.specs.ReadsStatements.{ReadsBlock}
-use Rattle.lua_parser.specs.Functions.{Enters}
-use Rattle.lua_parser.specs.Fits.{FitsBody, FitsBlock}
-use Rattle.lua_parser.specs.Readers.{Moves}
-use Rattle.lua_parser.specs.Refusals.{RefusesBody}
-use Rattle.lua_parser.specs.StatementRefusals.{RefusesBlock, RefusesParameters}
-use Rattle.lua_parser.proofs.PrintedBlocks.{block_ended}
-use Rattle.lua_parser.proofs.Moving.{by_token, moved, not_first, on, refused_on, supposes_on}
-use Rattle.lua_parser.proofs.NameLists.{over_parameters_and_close, parameters_moved}
-use Rattle.lua_parser.proofs.Refusing.{missed, no_close_parenthesis, no_end, too_deep}
+use Rattle.lua_parser_base.specs.declared.faults.ParseFault.{ParseFault}
+use Rattle.lua_parser_base.specs.declared.faults.ParseFault.TheVariants.{At, Memory}
+use Rattle.lua_parser_base.specs.declared.parameters.Parameters.{Parameters}
+use Rattle.lua_parser_base.specs.declared.parameters.Begun.{Begun}
+use Rattle.lua_parser_base.specs.declared.places.Place.{Place}
+use Rattle.lua_parser_base.specs.States.{State, Takes}
+use Rattle.lua_parser_base.specs.Next.{IsKind, IsTooDeep, Misses, OnAt}
+use Rattle.lua_parser_base.specs.Places.{IsWithin, IsOfFunction}
+use Rattle.lua_parser_base.specs.ReadsNames.{ReadsParameters}
+use Rattle.lua_parser_base.specs.ReadsStatements.{ReadsBlock}
+use Rattle.lua_parser_base.specs.Functions.{Enters}
+use Rattle.lua_parser_base.specs.Fits.{FitsBody, FitsBlock}
+use Rattle.lua_parser_base.specs.Readers.{Moves}
+use Rattle.lua_parser_base.specs.Refusals.{RefusesBody}
+use Rattle.lua_parser_base.specs.StatementRefusals.{RefusesBlock, RefusesParameters}
+use Rattle.lua_parser_base.proofs.PrintedBlocks.{block_ended}
+use Rattle.lua_parser_base.proofs.Moving.{by_token, moved, not_first, on, refused_on, supposes_on}
+use Rattle.lua_parser_base.proofs.NameLists.{over_parameters_and_close, parameters_moved}
+use Rattle.lua_parser_base.proofs.Refusing.{missed, no_close_parenthesis, no_end, too_deep}
 
 -- ---- what a body that fits says of its parts
 

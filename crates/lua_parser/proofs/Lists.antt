@@ -15,16 +15,16 @@ use Rattle.lua_grammar.proofs.Growing.{exp_keeps}
 use Rattle.lua_grammar.proofs.SameFrames.{list_alike}
 use Rattle.lua_lexer.specs.declared.tokens.TokenKind.TheVariants.{Sign}
 use Rattle.lua_lexer.specs.declared.signs.Sign.TheVariants as sign
-use Rattle.lua_parser.specs.declared.faults.ParseFault.{ParseFault}
-use Rattle.lua_parser.specs.declared.places.Place.{Place}
-use Rattle.lua_parser.specs.declared.nodes.Values.{Values}
-use Rattle.lua_parser.specs.States.{State, Takes}
-use Rattle.lua_parser.specs.Fits.{FitsExp, FitsList}
-use Rattle.lua_parser.specs.Reads.{ReadsList}
-use Rattle.lua_parser.specs.Readers.{Moves}
-use Rattle.lua_parser.specs.Refusals.{RefusesFrom, RefusesList, Unless}
-use Rattle.lua_parser.proofs.Moving.{by_token, on, refused_on, supposes_on}
-use Rattle.lua_parser.proofs.Printed.{list_moves}
+use Rattle.lua_parser_base.specs.declared.faults.ParseFault.{ParseFault}
+use Rattle.lua_parser_base.specs.declared.places.Place.{Place}
+use Rattle.lua_parser_base.specs.declared.nodes.Values.{Values}
+use Rattle.lua_parser_base.specs.States.{State, Takes}
+use Rattle.lua_parser_base.specs.Fits.{FitsExp, FitsList}
+use Rattle.lua_parser_base.specs.Reads.{ReadsList}
+use Rattle.lua_parser_base.specs.Readers.{Moves}
+use Rattle.lua_parser_base.specs.Refusals.{RefusesFrom, RefusesList, Unless}
+use Rattle.lua_parser_base.proofs.Moving.{by_token, on, refused_on, supposes_on}
+use Rattle.lua_parser_base.proofs.Printed.{list_moves}
 
 -- ---- what fits
 

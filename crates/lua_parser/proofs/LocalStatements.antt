@@ -21,24 +21,24 @@ use Rattle.lua_grammar.proofs.DeadParts.{dead_body}
 use Rattle.lua_grammar.proofs.Few.{few_before, few_before_it}
 use Rattle.lua_grammar.proofs.Frames.{Keeps, Steady, declare_goes}
 use Rattle.lua_grammar.proofs.Growing.{body_keeps, list_keeps}
-use Rattle.lua_parser.specs.declared.cursor.Parser.{Parser}
-use Rattle.lua_parser.specs.declared.faults.ParseFault.{ParseFault}
-use Rattle.lua_parser.specs.declared.faults.ParseFault.TheVariants.{Locals, Memory}
-use Rattle.lua_parser.specs.declared.places.Place.{Place}
-use Rattle.lua_parser.specs.States.{State, Takes, scope_of, state}
-use Rattle.lua_parser.specs.Next.{IsKind, IsName, IsNext, Misses, OnAt, OnLocals, ahead}
-use Rattle.lua_parser.specs.ReadsNames.{ReadsNames}
-use Rattle.lua_parser.specs.ReadsStatements.{ReadsInitial}
-use Rattle.lua_parser.specs.Fits.{FitsBody, FitsStat, FitsValues}
-use Rattle.lua_parser.specs.Refusals.{RefusesBody}
-use Rattle.lua_parser.specs.StatementRefusals.{RefusesInitial, RefusesLocal, RefusesNames, RefusesStat, RefusesValues}
-use Rattle.lua_parser.proofs.FunctionStatements.{statement_behind}
-use Rattle.lua_parser.proofs.Moving.{by_token, moved, not_first, on, refused_on, supposes_on}
-use Rattle.lua_parser.proofs.NameLists.{too_many}
-use Rattle.lua_parser.proofs.Names.{no_comma_ahead}
-use Rattle.lua_parser.proofs.Printed.{names_ended}
-use Rattle.lua_parser.proofs.Refusing.{never_missed, never_missed_ahead, no_name}
-use Rattle.lua_parser.proofs.Scoping.{Turns}
+use Rattle.lua_parser_base.specs.declared.cursor.Parser.{Parser}
+use Rattle.lua_parser_base.specs.declared.faults.ParseFault.{ParseFault}
+use Rattle.lua_parser_base.specs.declared.faults.ParseFault.TheVariants.{Locals, Memory}
+use Rattle.lua_parser_base.specs.declared.places.Place.{Place}
+use Rattle.lua_parser_base.specs.States.{State, Takes, scope_of, state}
+use Rattle.lua_parser_base.specs.Next.{IsKind, IsName, IsNext, Misses, OnAt, OnLocals, ahead}
+use Rattle.lua_parser_base.specs.ReadsNames.{ReadsNames}
+use Rattle.lua_parser_base.specs.ReadsStatements.{ReadsInitial}
+use Rattle.lua_parser_base.specs.Fits.{FitsBody, FitsStat, FitsValues}
+use Rattle.lua_parser_base.specs.Refusals.{RefusesBody}
+use Rattle.lua_parser_base.specs.StatementRefusals.{RefusesInitial, RefusesLocal, RefusesNames, RefusesStat, RefusesValues}
+use Rattle.lua_parser_base.proofs.FunctionStatements.{statement_behind}
+use Rattle.lua_parser_base.proofs.Moving.{by_token, moved, not_first, on, refused_on, supposes_on}
+use Rattle.lua_parser_base.proofs.NameLists.{too_many}
+use Rattle.lua_parser_base.proofs.Names.{no_comma_ahead}
+use Rattle.lua_parser_base.proofs.Printed.{names_ended}
+use Rattle.lua_parser_base.proofs.Refusing.{never_missed, never_missed_ahead, no_name}
+use Rattle.lua_parser_base.proofs.Scoping.{Turns}
 
 -- ---- so many locals as are in scope
 

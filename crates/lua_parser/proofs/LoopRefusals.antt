@@ -11,21 +11,21 @@ use Rattle.lua_grammar.specs.Reading.{block, loop_body, statement}
 use Rattle.lua_grammar.proofs.DeadParts.{dead_block, dead_end, dead_until}
 use Rattle.lua_grammar.proofs.DeadStatements.{dead_loop_body}
 use Rattle.lua_grammar.proofs.Stopping.{at_least_one}
-use Rattle.lua_parser.specs.declared.faults.ParseFault.{ParseFault}
-use Rattle.lua_parser.specs.declared.places.Place.{Place}
-use Rattle.lua_parser.specs.States.{State, Takes}
-use Rattle.lua_parser.specs.Next.{IsKind, IsTooDeep, Misses, OnAt}
-use Rattle.lua_parser.specs.Places.{IsLooped, IsWithin}
-use Rattle.lua_parser.specs.ReadsStatements.{ReadsBlock, ReadsScoped, ReadsValue}
-use Rattle.lua_parser.specs.Fits.{FitsBlock, FitsScoped, FitsStat, FitsValue}
-use Rattle.lua_parser.specs.Readers.{Moves}
-use Rattle.lua_parser.specs.Refusals.{Unless}
-use Rattle.lua_parser.specs.StatementRefusals.{RefusesBlock, RefusesScoped, RefusesStat, RefusesValue}
-use Rattle.lua_parser.proofs.FittingBlocks.{deep_repeat, do_fits, repeat_block_fits, repeat_test_fits, while_block_fits, while_test_fits}
-use Rattle.lua_parser.proofs.Moving.{by_token, on, refused_on, supposes_on}
-use Rattle.lua_parser.proofs.Printed.{exp_ended}
-use Rattle.lua_parser.proofs.PrintedBlocks.{block_ended}
-use Rattle.lua_parser.proofs.Refusing.{ends_failed, no_do, no_end, no_until, too_deep}
+use Rattle.lua_parser_base.specs.declared.faults.ParseFault.{ParseFault}
+use Rattle.lua_parser_base.specs.declared.places.Place.{Place}
+use Rattle.lua_parser_base.specs.States.{State, Takes}
+use Rattle.lua_parser_base.specs.Next.{IsKind, IsTooDeep, Misses, OnAt}
+use Rattle.lua_parser_base.specs.Places.{IsLooped, IsWithin}
+use Rattle.lua_parser_base.specs.ReadsStatements.{ReadsBlock, ReadsScoped, ReadsValue}
+use Rattle.lua_parser_base.specs.Fits.{FitsBlock, FitsScoped, FitsStat, FitsValue}
+use Rattle.lua_parser_base.specs.Readers.{Moves}
+use Rattle.lua_parser_base.specs.Refusals.{Unless}
+use Rattle.lua_parser_base.specs.StatementRefusals.{RefusesBlock, RefusesScoped, RefusesStat, RefusesValue}
+use Rattle.lua_parser_base.proofs.FittingBlocks.{deep_repeat, do_fits, repeat_block_fits, repeat_test_fits, while_block_fits, while_test_fits}
+use Rattle.lua_parser_base.proofs.Moving.{by_token, on, refused_on, supposes_on}
+use Rattle.lua_parser_base.proofs.Printed.{exp_ended}
+use Rattle.lua_parser_base.proofs.PrintedBlocks.{block_ended}
+use Rattle.lua_parser_base.proofs.Refusing.{ends_failed, no_do, no_end, no_until, too_deep}
 
 -- ---- `do`
 

@@ -5,9 +5,9 @@ use Rattle.lua_lexer.specs.declared.tokens.TokenKind.TheVariants.{Text, Number, 
 use Rattle.lua_lexer.specs.declared.signs.Sign.TheVariants as sign
 use Rattle.lua_lexer.specs.declared.words.Word.TheVariants as word
 use Rattle.lua_grammar.specs.Printing.{Lexeme}
-use Rattle.lua_parser.specs.declared.expressions.Operand.TheVariants as operand
-use Rattle.lua_parser.specs.Next.{Begin, IsKind, IsText, IsNumber, first_kind}
-use Rattle.lua_parser.specs.Kinds.{IsUnary, operand_of}
+use Rattle.lua_parser_base.specs.declared.operators.Operand.TheVariants as operand
+use Rattle.lua_parser_base.specs.Next.{Begin, IsKind, IsText, IsNumber, first_kind}
+use Rattle.lua_parser_base.specs.Kinds.{IsUnary, operand_of}
 
 pub unary_kind : (kind : TokenKind) → operand_of kind ≡ operand.Unary → IsUnary kind
 unary_kind (Word word.Not) is = tt

@@ -9,7 +9,7 @@ use Rattle.lua_ast.specs.declared.expressions.UnOp.{UnOp}
 use Rattle.lua_lexer.specs.declared.tokens.TokenKind.{TokenKind}
 use Rattle.lua_grammar.specs.Operators.{kind_of_unary}
 use Rattle.lua_grammar.proofs.ReadingTrees.{unary_begins}
-use Rattle.lua_parser.specs.Kinds.{operand_of}
+use Rattle.lua_parser_base.specs.Kinds.{operand_of}
 use Rattle.lua_grammar.proofs.Grouping.{levels_of, highest_right}
 use Rattle.lua_grammar.specs.Stopping.{EndsAt}
 use Rattle.lua_grammar.proofs.Stopping.{exp_goes_on, ends_there, is_operator}
@@ -18,24 +18,24 @@ use Rattle.lua_grammar.specs.Waiting.{operator_of}
 use Rattle.lua_lexer.specs.declared.tokens.TokenKind.TheVariants.{Name, Text, Number, Word, Sign}
 use Rattle.lua_lexer.specs.declared.signs.Sign.TheVariants as sign
 use Rattle.lua_lexer.specs.declared.words.Word.TheVariants as word
-use Rattle.lua_parser.specs.declared.expressions.Operand.TheVariants as operand
+use Rattle.lua_parser_base.specs.declared.operators.Operand.TheVariants as operand
 use Rattle.lua_grammar.specs.Reading.{begin_exp, begin_prefix}
 use Rattle.lua_lexer.specs.declared.words.Word.TheVariants.{End}
-use Rattle.lua_parser.specs.declared.places.Place.{Place}
-use Rattle.lua_parser.specs.declared.nodes.Built.{Built}
-use Rattle.lua_parser.specs.States.{State, Takes}
-use Rattle.lua_parser.specs.Next.{Begin, HasNoPart, IsKind, IsNext, IsTooHigh, ahead, first_kind}
-use Rattle.lua_parser.specs.Reads.{ReadsExp}
-use Rattle.lua_parser.specs.Readers.{Moves, Refuses, Supposes}
-use Rattle.lua_parser.specs.Refusals.{RefusesExp, RefusesFrom, RefusesPrefix, RefusesTable, Unless}
-use Rattle.lua_parser.specs.Fits.{FitsExp, FitsPrefix, FitsTable}
-use Rattle.lua_parser.specs.Places.{IsPart}
-use Rattle.lua_parser.specs.declared.faults.ParseFault.{ParseFault}
+use Rattle.lua_parser_base.specs.declared.places.Place.{Place}
+use Rattle.lua_parser_base.specs.declared.nodes.Built.{Built}
+use Rattle.lua_parser_base.specs.States.{State, Takes}
+use Rattle.lua_parser_base.specs.Next.{Begin, HasNoPart, IsKind, IsNext, IsTooHigh, ahead, first_kind}
+use Rattle.lua_parser_base.specs.Reads.{ReadsExp}
+use Rattle.lua_parser_base.specs.Readers.{Moves, Refuses, Supposes}
+use Rattle.lua_parser_base.specs.Refusals.{RefusesExp, RefusesFrom, RefusesPrefix, RefusesTable, Unless}
+use Rattle.lua_parser_base.specs.Fits.{FitsExp, FitsPrefix, FitsTable}
+use Rattle.lua_parser_base.specs.Places.{IsPart}
+use Rattle.lua_parser_base.specs.declared.faults.ParseFault.{ParseFault}
 use Rattle.lua_grammar.specs.Scopes.{Frame}
-use Rattle.lua_parser.proofs.Fitting.{right_operand_fits, operand_fits, first_exp_fits, deep_operand, high_operand, deep_unary, prefix_alone_fits, table_alone_fits}
-use Rattle.lua_parser.proofs.Moving.{by_token, on, refused_on, stays, supposes_on}
-use Rattle.lua_parser.proofs.Printed.{exp_moves}
-use Rattle.lua_parser.proofs.Refusing.{ends_failed, no_part, too_high}
+use Rattle.lua_parser_base.proofs.Fitting.{right_operand_fits, operand_fits, first_exp_fits, deep_operand, high_operand, deep_unary, prefix_alone_fits, table_alone_fits}
+use Rattle.lua_parser_base.proofs.Moving.{by_token, on, refused_on, stays, supposes_on}
+use Rattle.lua_parser_base.proofs.Printed.{exp_moves}
+use Rattle.lua_parser_base.proofs.Refusing.{ends_failed, no_part, too_high}
 
 -- over an expression and the operator behind it
 pub over_operator : (at : Place) (m : ℕ) (k : Exp → Reader) (op : Operator) (line : ℕ) (s a b : State) (left : Built) (r : ReadsExp at s left a) → m ≤ left.level →

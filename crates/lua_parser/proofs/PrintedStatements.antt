@@ -6,12 +6,12 @@ use Rattle.lua_grammar.specs.Tree.{Exp, ExpList, Block}
 use Rattle.lua_grammar.specs.Waiting.{Reader, exp}
 use Rattle.lua_grammar.specs.Reading.{block, list}
 use Rattle.lua_grammar.proofs.Stopping.{at_least_one}
-use Rattle.lua_parser.specs.declared.places.Place.{Place}
-use Rattle.lua_parser.specs.States.{State}
-use Rattle.lua_parser.specs.Readers.{Moves}
-use Rattle.lua_parser.specs.ReadsStatements.{ReadsBlock, ReadsValue, ReadsValues}
-use Rattle.lua_parser.proofs.Printed.{exp_ended, list_ended}
-use Rattle.lua_parser.proofs.PrintedBlocks.{block_ended as tree_ended}
+use Rattle.lua_parser_base.specs.declared.places.Place.{Place}
+use Rattle.lua_parser_base.specs.States.{State}
+use Rattle.lua_parser_base.specs.Readers.{Moves}
+use Rattle.lua_parser_base.specs.ReadsStatements.{ReadsBlock, ReadsValue, ReadsValues}
+use Rattle.lua_parser_base.proofs.Printed.{exp_ended, list_ended}
+use Rattle.lua_parser_base.proofs.PrintedBlocks.{block_ended as tree_ended}
 
 -- over a block, a value and values
 pub block_ended : (at : Place) (s t : State) (out : List Stmt) (r : ReadsBlock at s out t) (k : Block → Reader) → Moves (block k) s (k r.tree) t

@@ -17,28 +17,28 @@ use Rattle.lua_grammar.specs.Scopes.{Frame, declare, in_scope}
 use Rattle.lua_grammar.specs.Resolution.{Resolves, ResolvesList, names_of}
 use Rattle.lua_grammar.proofs.DeadParts.{dead_comma, dead_end, dead_to_end}
 use Rattle.lua_grammar.proofs.DeadStatements.{dead_loop_body}
-use Rattle.lua_parser.specs.declared.faults.ParseFault.{ParseFault}
-use Rattle.lua_parser.specs.declared.faults.ParseFault.TheVariants.{At, Locals, Memory}
-use Rattle.lua_parser.specs.declared.places.Place.{Place}
-use Rattle.lua_parser.specs.declared.cursor.Parser.{Parser}
-use Rattle.lua_parser.specs.Frames.{frame_of, frames_of}
-use Rattle.lua_parser.specs.States.{State, Takes, last_line, scope_of, state}
-use Rattle.lua_parser.specs.Next.{Begin, IsKind, IsName, IsNext, IsTooDeep, Misses, OnAt, OnLocals, ahead, first_kind, line_or}
-use Rattle.lua_parser.specs.Places.{IsLooped, IsWithin}
-use Rattle.lua_parser.specs.Fits.{FitsBlock, FitsValue, FitsValues, FitsLoop, FitsStat}
-use Rattle.lua_parser.specs.Readers.{Moves, NeverChunk, Refuses, Supposes}
-use Rattle.lua_parser.specs.Refusals.{Unless}
-use Rattle.lua_parser.specs.ReadsStatements.{ReadsBlock, ReadsStep, ReadsValue, ReadsValues}
-use Rattle.lua_parser.specs.ReadsNames.{ReadsNames}
-use Rattle.lua_parser.specs.StatementRefusals.{RefusesBlock, RefusesFor, RefusesLoop, RefusesNames, RefusesStat, RefusesStep, RefusesValue, RefusesValues, UnlessStat}
+use Rattle.lua_parser_base.specs.declared.faults.ParseFault.{ParseFault}
+use Rattle.lua_parser_base.specs.declared.faults.ParseFault.TheVariants.{At, Locals, Memory}
+use Rattle.lua_parser_base.specs.declared.places.Place.{Place}
+use Rattle.lua_parser_base.specs.declared.cursor.Parser.{Parser}
+use Rattle.lua_parser_base.specs.Frames.{frame_of, frames_of}
+use Rattle.lua_parser_base.specs.States.{State, Takes, last_line, scope_of, state}
+use Rattle.lua_parser_base.specs.Next.{Begin, IsKind, IsName, IsNext, IsTooDeep, Misses, OnAt, OnLocals, ahead, first_kind, line_or}
+use Rattle.lua_parser_base.specs.Places.{IsLooped, IsWithin}
+use Rattle.lua_parser_base.specs.Fits.{FitsBlock, FitsValue, FitsValues, FitsLoop, FitsStat}
+use Rattle.lua_parser_base.specs.Readers.{Moves, NeverChunk, Refuses, Supposes}
+use Rattle.lua_parser_base.specs.Refusals.{Unless}
+use Rattle.lua_parser_base.specs.ReadsStatements.{ReadsBlock, ReadsStep, ReadsValue, ReadsValues}
+use Rattle.lua_parser_base.specs.ReadsNames.{ReadsNames}
+use Rattle.lua_parser_base.specs.StatementRefusals.{RefusesBlock, RefusesFor, RefusesLoop, RefusesNames, RefusesStat, RefusesStep, RefusesValue, RefusesValues, UnlessStat}
 use Rattle.lua_parser.proofs.FittingLoops.{IsLoopOf, loop_block_fits, deep_loop, crowded_block, crowded_loop, list_block, list_values, range_block, range_from, range_to, steps_block, steps_from, steps_step, steps_to}
-use Rattle.lua_parser.proofs.Moving.{by_token, dead_stuck, fails, moved, not_first, on, refused_on, stays, supposes_on}
+use Rattle.lua_parser_base.proofs.Moving.{by_token, dead_stuck, fails, moved, not_first, on, refused_on, stays, supposes_on}
 use Rattle.lua_parser.proofs.PrintedStatements.{block_ended, value_ended, values_ended}
-use Rattle.lua_parser.proofs.Printed.{names_ended}
-use Rattle.lua_parser.proofs.ForLoops.{two_names}
-use Rattle.lua_parser.proofs.Names.{no_comma_ahead}
-use Rattle.lua_parser.proofs.Refusing.{no_comma, no_do, no_end, too_deep}
-use Rattle.lua_parser.proofs.Scoping.{Turns}
+use Rattle.lua_parser_base.proofs.Printed.{names_ended}
+use Rattle.lua_parser_base.proofs.ForLoops.{two_names}
+use Rattle.lua_parser_base.proofs.Names.{no_comma_ahead}
+use Rattle.lua_parser_base.proofs.Refusing.{no_comma, no_do, no_end, too_deep}
+use Rattle.lua_parser_base.proofs.Scoping.{Turns}
 
 -- ---- a step
 

@@ -21,26 +21,26 @@ use Rattle.lua_grammar.proofs.Few.{few_before_it}
 use Rattle.lua_grammar.proofs.Growing.{list_keeps, prefix_keeps}
 use Rattle.lua_grammar.proofs.Stopping.{prefix_ends}
 use Rattle.lua_grammar.specs.Stopping.{IsApart}
-use Rattle.lua_parser.specs.declared.cursor.Parser.{Parser}
-use Rattle.lua_parser.specs.declared.faults.ParseFault.{ParseFault}
-use Rattle.lua_parser.specs.declared.faults.ParseFault.TheVariants.{At, Memory}
-use Rattle.lua_parser.specs.declared.nodes.Form.TheVariants.{Variable, Paren}
-use Rattle.lua_parser.specs.declared.nodes.Prefix.{Prefix}
-use Rattle.lua_parser.specs.declared.places.Place.{Place}
-use Rattle.lua_parser.specs.declared.statements.Begins.TheVariants as begins
-use Rattle.lua_parser.specs.Fits.{FitsPrefix, FitsStat, FitsTarget, FitsValues, FitsVars}
-use Rattle.lua_parser.specs.Kinds.{begins_of}
-use Rattle.lua_parser.specs.Next.{IsKind, IsNext, Misses, OnAt, ahead, line_or}
-use Rattle.lua_parser.specs.Places.{IsFresh}
-use Rattle.lua_parser.specs.Readers.{Moves, Refuses}
-use Rattle.lua_parser.specs.Reads.{ReadsPrefix, form_of}
-use Rattle.lua_parser.specs.ReadsStatements.{ReadsMoreVars, ReadsTarget, ReadsVars}
-use Rattle.lua_parser.specs.Refusals.{RefusesPrefix}
-use Rattle.lua_parser.specs.States.{State, Stops, Takes, last_line, state}
-use Rattle.lua_parser.specs.StatementRefusals.{RefusesAssignment, RefusesStat, RefusesTarget, RefusesValues}
-use Rattle.lua_parser.proofs.Moving.{by_token, fails, here, not_first, on, refused_on, stays, supposes_on}
-use Rattle.lua_parser.proofs.Printed.{prefix_ended, prefix_moves}
-use Rattle.lua_parser.proofs.Productions.{apart_there}
+use Rattle.lua_parser_base.specs.declared.cursor.Parser.{Parser}
+use Rattle.lua_parser_base.specs.declared.faults.ParseFault.{ParseFault}
+use Rattle.lua_parser_base.specs.declared.faults.ParseFault.TheVariants.{At, Memory}
+use Rattle.lua_parser_base.specs.declared.nodes.Form.TheVariants.{Variable, Paren}
+use Rattle.lua_parser_base.specs.declared.nodes.Prefix.{Prefix}
+use Rattle.lua_parser_base.specs.declared.places.Place.{Place}
+use Rattle.lua_parser_base.specs.declared.beginnings.Begins.TheVariants as begins
+use Rattle.lua_parser_base.specs.Fits.{FitsPrefix, FitsStat, FitsTarget, FitsValues, FitsVars}
+use Rattle.lua_parser_base.specs.Kinds.{begins_of}
+use Rattle.lua_parser_base.specs.Next.{IsKind, IsNext, Misses, OnAt, ahead, line_or}
+use Rattle.lua_parser_base.specs.Places.{IsFresh}
+use Rattle.lua_parser_base.specs.Readers.{Moves, Refuses}
+use Rattle.lua_parser_base.specs.Reads.{ReadsPrefix, form_of}
+use Rattle.lua_parser_base.specs.ReadsStatements.{ReadsMoreVars, ReadsTarget, ReadsVars}
+use Rattle.lua_parser_base.specs.Refusals.{RefusesPrefix}
+use Rattle.lua_parser_base.specs.States.{State, Stops, Takes, last_line, state}
+use Rattle.lua_parser_base.specs.StatementRefusals.{RefusesAssignment, RefusesStat, RefusesTarget, RefusesValues}
+use Rattle.lua_parser_base.proofs.Moving.{by_token, fails, here, not_first, on, refused_on, stays, supposes_on}
+use Rattle.lua_parser_base.proofs.Printed.{prefix_ended, prefix_moves}
+use Rattle.lua_parser_base.proofs.Productions.{apart_there}
 use Rattle.lua_parser.proofs.RefusedLoops.{unfit_refused}
 
 -- ---- what fits

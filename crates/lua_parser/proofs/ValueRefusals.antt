@@ -6,18 +6,18 @@ use Rattle.lua_grammar.specs.Levels.{levels, list_levels}
 use Rattle.lua_grammar.specs.Waiting.{exp}
 use Rattle.lua_grammar.specs.Reading.{list}
 use Rattle.lua_grammar.proofs.DeadParts.{dead_list}
-use Rattle.lua_parser.specs.declared.faults.ParseFault.{ParseFault}
-use Rattle.lua_parser.specs.declared.places.Place.{Place}
-use Rattle.lua_parser.specs.States.{State}
-use Rattle.lua_parser.specs.Next.{IsTooDeep}
-use Rattle.lua_parser.specs.Places.{IsFresh, IsWithin}
-use Rattle.lua_parser.specs.Fits.{FitsExp, FitsList, FitsValue, FitsValues}
-use Rattle.lua_parser.specs.Refusals.{RefusesFrom, RefusesList, Unless}
-use Rattle.lua_parser.specs.StatementRefusals.{RefusesValue, RefusesValues}
-use Rattle.lua_parser.proofs.Heights.{exp_deep}
-use Rattle.lua_parser.proofs.FittingBlocks.{value_fits, values_fit}
-use Rattle.lua_parser.proofs.Moving.{supposes_on}
-use Rattle.lua_parser.proofs.Refusing.{ends_failed, too_deep}
+use Rattle.lua_parser_base.specs.declared.faults.ParseFault.{ParseFault}
+use Rattle.lua_parser_base.specs.declared.places.Place.{Place}
+use Rattle.lua_parser_base.specs.States.{State}
+use Rattle.lua_parser_base.specs.Next.{IsTooDeep}
+use Rattle.lua_parser_base.specs.Places.{IsFresh, IsWithin}
+use Rattle.lua_parser_base.specs.Fits.{FitsExp, FitsList, FitsValue, FitsValues}
+use Rattle.lua_parser_base.specs.Refusals.{RefusesFrom, RefusesList, Unless}
+use Rattle.lua_parser_base.specs.StatementRefusals.{RefusesValue, RefusesValues}
+use Rattle.lua_parser_base.proofs.Heights.{exp_deep}
+use Rattle.lua_parser_base.proofs.FittingBlocks.{value_fits, values_fit}
+use Rattle.lua_parser_base.proofs.Moving.{supposes_on}
+use Rattle.lua_parser_base.proofs.Refusing.{ends_failed, too_deep}
 
 pub value_too_deep : (at free : Place) (s : State) (fault : ParseFault) → IsFresh at free → IsTooDeep free s fault → RefusesValue at s s fault
 value_too_deep at free s fault fresh none = λ k suppose.

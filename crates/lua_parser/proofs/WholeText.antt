@@ -22,21 +22,21 @@ use Rattle.lua_grammar.proofs.Few.{few_inside}
 use Rattle.lua_grammar.proofs.Frames.{Steady, ended_keeps}
 use Rattle.lua_grammar.proofs.Growing.{block_goes}
 use Rattle.lua_grammar.proofs.Uniqueness.{is_read, stays_failed}
-use Rattle.lua_parser.specs.declared.cursor.Parser.{Parser}
-use Rattle.lua_parser.specs.declared.faults.ParseFault.{ParseFault}
-use Rattle.lua_parser.specs.declared.faults.ParseFault.TheVariants.{At, Memory}
-use Rattle.lua_parser.specs.declared.places.Place.{Place}
-use Rattle.lua_parser.specs.Fits.{FitsBlock}
-use Rattle.lua_parser.specs.Next.{line_or}
-use Rattle.lua_parser.specs.Readers.{Counts, GoOn, GoOnWith, Supposes}
+use Rattle.lua_parser_base.specs.declared.cursor.Parser.{Parser}
+use Rattle.lua_parser_base.specs.declared.faults.ParseFault.{ParseFault}
+use Rattle.lua_parser_base.specs.declared.faults.ParseFault.TheVariants.{At, Memory}
+use Rattle.lua_parser_base.specs.declared.places.Place.{Place}
+use Rattle.lua_parser_base.specs.Fits.{FitsBlock}
+use Rattle.lua_parser_base.specs.Next.{line_or}
+use Rattle.lua_parser_base.specs.Readers.{Counts, GoOn, GoOnWith, Supposes}
 use Rattle.lua_parser.specs.Unfit.{BeginAs, IsUnfit, OfAt}
-use Rattle.lua_parser.specs.ReadsStatements.{ReadsBlock}
-use Rattle.lua_parser.specs.States.{State, last_line, scope_of, state}
-use Rattle.lua_parser.specs.StatementRefusals.{RefusesBlock}
-use Rattle.lua_parser.specs.Standing.{FirstFault, IsBeginning, IsBroken, IsFirst, IsOutermost, OnLimit}
-use Rattle.lua_parser.specs.Standing as standing
-use Rattle.lua_parser.proofs.Next.{final_of}
-use Rattle.lua_parser.proofs.OpenFunctions.{few_there}
+use Rattle.lua_parser_base.specs.ReadsStatements.{ReadsBlock}
+use Rattle.lua_parser_base.specs.States.{State, last_line, scope_of, state}
+use Rattle.lua_parser_base.specs.StatementRefusals.{RefusesBlock}
+use Rattle.lua_parser_base.specs.Standing.{FirstFault, IsBeginning, IsBroken, IsFirst, IsOutermost, OnLimit}
+use Rattle.lua_parser_base.specs.Standing as standing
+use Rattle.lua_parser_base.proofs.Next.{final_of}
+use Rattle.lua_parser_base.proofs.OpenFunctions.{few_there}
 use Rattle.lua_parser.proofs.PrintedStatements.{block_ended}
 
 -- the tokens and the `end` that is put behind them

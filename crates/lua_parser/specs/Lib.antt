@@ -1,17 +1,1 @@
-pub mod Frames
-pub mod Places
-pub mod States
-pub mod Nodes
-pub mod Reads
-pub mod ReadsNames
-pub mod ReadsStatements
-pub mod Functions
-pub mod StatementNodes
-pub mod Next
-pub mod Fits
-pub mod Readers
-pub mod Refusals
-pub mod StatementRefusals
-pub mod Kinds
 pub mod Unfit
-pub mod Standing

@@ -6,11 +6,11 @@ use Rattle.lua_grammar.specs.Tree.{Block}
 use Rattle.lua_grammar.specs.Printing.{Lexeme, lexemes}
 use Rattle.lua_grammar.specs.Waiting.{chunk}
 use Rattle.lua_grammar.specs.Reading.{read}
-use Rattle.lua_parser.specs.declared.faults.ParseFault.{ParseFault}
-use Rattle.lua_parser.specs.declared.faults.ParseFault.TheVariants.{At}
-use Rattle.lua_parser.specs.Next.{line_or}
-use Rattle.lua_parser.specs.States.{State, last_line}
-use Rattle.lua_parser.specs.Standing.{IsBeginning, Within}
+use Rattle.lua_parser_base.specs.declared.faults.ParseFault.{ParseFault}
+use Rattle.lua_parser_base.specs.declared.faults.ParseFault.TheVariants.{At}
+use Rattle.lua_parser_base.specs.Next.{line_or}
+use Rattle.lua_parser_base.specs.States.{State, last_line}
+use Rattle.lua_parser_base.specs.Standing.{IsBeginning, Within}
 
 -- tokens that begin as those do, whatever stands behind the first; none where those are none
 abbrev pub BeginAs : List Lexeme → List Lexeme → Type 0

@@ -3,18 +3,15 @@ ghost use Rattle.lua_ast.specs.declared.programs.Program.{Program};
 ghost use Rattle.lua_ast.specs.WholeProgram.{IsWholeProgram};
 ghost use Rattle.lua_grammar.specs.Grammar.{first_line, IsProgramOf};
 ghost use Rattle.lua_grammar.specs.Printing.{lexemes};
-ghost use Rattle.lua_parser.specs.Next.{IsMemory};
-ghost use Rattle.lua_parser.specs.Standing.{IsBroken, OnLimit};
+ghost use Rattle.lua_parser_base.specs.Next.{IsMemory};
+ghost use Rattle.lua_parser_base.specs.Standing.{IsBroken, OnLimit};
 ghost use Rattle.lua_parser.specs.Unfit.{IsUnfit, OfAt};
 
-use crate::ParseFault;
-use crate::cursor::Parser;
-use crate::frames::Frame;
-use crate::places::{HIGHEST, Place};
-use crate::scopes::{empty_function, whole_function};
+use crate::statements::block;
 use lua_ast::{Function, Program};
 use lua_grammar::a_program_is_whole;
 use lua_lexer::Token;
+use lua_parser_base::{Frame, HIGHEST, ParseFault, Parser, Place, empty_function, whole_function};
 use resty_base::{ByteLists, Bytes};
 use std::alloc::Global;
 
@@ -41,7 +38,7 @@ pub fn parse(alloc: Global, tokens: &[Token]) -> Result<Program, ParseFault>
         rest: true,
         in_loop: false,
     };
-    let body = parser.block(alloc, tokens, at)?;
+    let body = block(&mut parser, alloc, tokens, at)?;
     if parser.place < tokens.len() {
         return Err(parser.unfit(tokens));
     }
@@ -57,7 +54,7 @@ pub fn parse(alloc: Global, tokens: &[Token]) -> Result<Program, ParseFault>
 }
 
 /// The line of the first token, 1 of none.
-#[tactic(auto, using(crate::proofs::Chunks::line_of_first, crate::proofs::Chunks::line_of_none))]
+#[tactic(auto, using(lua_parser_base::proofs::Chunks::line_of_first, lua_parser_base::proofs::Chunks::line_of_none))]
 fn first_line(tokens: &[Token]) -> u32
     ensures { result ≡ first_line (lexemes tokens.now) }
 {

@@ -1,8 +1,8 @@
 use Rattle.std.proofs.Common.{◌≡◌, ◌∷◌, [], refl, rules}
 use Rattle.std.proofs.lemmas.Result.{err_from_is_err_and}
 use Rattle.lua_parser.proofs.WholeText.{block_broken, block_refused, block_unfit, token_unfit, too_many_tokens}
-use Rattle.lua_parser.proofs.Bodies.{chunk_begins, chunk_read}
-use Rattle.lua_parser.specs.States.{state}
+use Rattle.lua_parser_base.proofs.Bodies.{chunk_begins, chunk_read}
+use Rattle.lua_parser_base.specs.States.{state}
 use Rattle.lua_parser.proofs.parser.parse.Goals as goal
 
 pub returns : goal.returns
@@ -37,4 +37,4 @@ pub returns-in_err-body-clause-limits : goal.returns-in_err-body-clause-limits
 returns-in_err-body-clause-limits c =
     let begun = chunk_begins _ _ c.with_parameters.result _ _ c.in_ok-vec.ensures.items c.with_parameters.ensures c.new.ensures.items c.new-2.ensures.items in
     let p = err_from_is_err_and c.from_residual-in_err-body.result c.from_residual-in_err-body.ensures.1 in
-    rw (p.1, p.2) (block_broken _ c.args.tokens.now _ (state c.args.tokens.now c.block.new.self) _ c.in_err-body.field-0.0 (record { depth = refl; rest = refl; in_loop = refl }) refl begun c.in_err-body.ensures.order)
+    rw (p.1, p.2) (block_broken _ c.args.tokens.now _ (state c.args.tokens.now c.block.new.parser) _ c.in_err-body.field-0.0 (record { depth = refl; rest = refl; in_loop = refl }) refl begun c.in_err-body.ensures.order)

@@ -1,6 +1,0 @@
-use Rattle.std.proofs.Common.{refl}
-use Rattle.lua_parser.proofs.Steps.{taken}
-use Rattle.lua_parser.proofs.cursor.Parser.advance.Goals as goal
-
-pub returns-clause-takes : goal.returns-clause-takes
-returns-clause-takes c = taken _ _ _ _ c.requires refl

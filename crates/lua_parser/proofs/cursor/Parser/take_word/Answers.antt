@@ -1,6 +1,0 @@
-use Rattle.lua_parser.proofs.Next.{missed}
-use Rattle.lua_parser.proofs.cursor.Parser.take_word.Goals as goal
-
-pub returns-in-None-clause-misses : goal.returns-in-None-clause-misses
-returns-in-None-clause-misses c =
-    missed c.args.tokens.now c.args.self.now c.skip_word.new.self _ _ c.in-None.ensures.skips c.in-None.ensures.missing c.unfit.ensures

@@ -1,5 +1,0 @@
-use Rattle.lua_parser.proofs.Productions.{text_read}
-use Rattle.lua_parser.proofs.cursor.Parser.text.Goals as goal
-
-pub returns-clause-reads : goal.returns-clause-reads
-returns-clause-reads c = text_read _ _ _ _ _ _ c.in_ok-text.ensures.takes c.into_text.ensures

@@ -1,5 +1,0 @@
-use Rattle.std.proofs.Common.{vec_len}
-use Rattle.lua_parser.proofs.scopes.+look.Given as goal
-
-abbrev pub decreases-look : goal.decreases-look
-decreases-look l = vec_len l.around.now

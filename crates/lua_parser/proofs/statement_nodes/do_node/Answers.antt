@@ -1,9 +1,0 @@
-use Rattle.std.proofs.Common.{refl}
-use Rattle.lua_parser.proofs.statement_nodes.do_node.Goals as goal
-
-pub returns : goal.returns
-returns c = record {
-  run = c.in_ok-new.field-0;
-  same_run = rw c.in_ok-new.ensures.ok refl;
-  built = refl;
-}

@@ -1,0 +1,14 @@
+use Rattle.std.proofs.Common.{◌≡◌, Some, slice_get, refl, ap, ◌∙◌}
+use Rattle.std.proofs.lemmas.Option.{slice_get_read}
+use Rattle.lua_parser_base.specs.Kinds.{operand_of}
+use Rattle.lua_parser_base.proofs.Next.{sees_next, sees_none}
+use Rattle.lua_parser_base.proofs.cursor.Parser.operand_ahead.Goals as goal
+
+pub returns-in-Some : goal.returns-in-Some
+returns-in-Some c =
+    let next : slice_get c.args.tokens.now c.args.self.now.place ≡ Some c.in-Some.token.now =
+    slice_get_read _ _ _ _ refl c.in-Some.ensures.lookup.3.0 c.in-Some.ensures.lookup.1 in
+    c.operand_of.ensures ∙ ap operand_of (sees_next c.args.tokens.now c.args.self.now c.in-Some.token.now next)
+
+pub returns-in-None : goal.returns-in-None
+returns-in-None c = ap operand_of (sees_none c.args.tokens.now c.args.self.now c.in-None.ensures.lookup.3)

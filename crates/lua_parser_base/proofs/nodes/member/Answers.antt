@@ -1,0 +1,9 @@
+use Rattle.std.proofs.Common.{refl, rules}
+use Rattle.lua_parser_base.proofs.nodes.member.Goals as goal
+
+pub returns : goal.returns
+returns c = record {
+  object = c.in_ok-object.object;
+  same = c.in_ok-object.ensures.ok;
+  built = (c.in_ok-new.field-0, search rules, refl);
+}

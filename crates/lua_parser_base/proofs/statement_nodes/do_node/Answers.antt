@@ -1,0 +1,9 @@
+use Rattle.std.proofs.Common.{refl}
+use Rattle.lua_parser_base.proofs.statement_nodes.do_node.Goals as goal
+
+pub returns : goal.returns
+returns c = record {
+  run = c.in_ok-new.field-0;
+  same_run = rw c.in_ok-new.ensures.ok refl;
+  built = refl;
+}

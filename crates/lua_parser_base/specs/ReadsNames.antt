@@ -1,0 +1,43 @@
+-- Lists of names and parameters that are read between two states. No scope sees them yet.
+use Rattle.std.specs.Prelude.{◌≡◌, List, [], ◌∷◌, ◌++◌}
+use Rattle.lua_lexer.specs.declared.tokens.TokenKind.{TokenKind}
+use Rattle.lua_lexer.specs.declared.tokens.TokenKind.TheVariants.{Name as NameKind, Sign as SignKind}
+use Rattle.lua_lexer.specs.declared.signs.Sign.TheVariants.{CloseParenthesis}
+use Rattle.lua_grammar.specs.Tree.{Line, Bytes, NameList, Params}
+use Rattle.lua_grammar.specs.Tree as tree
+use Rattle.lua_grammar.specs.Printing.{print_names, print_params}
+use Rattle.lua_grammar.specs.Validity.{takes_rest}
+use Rattle.lua_grammar.specs.Resolution.{names_of, names_of_params}
+use Rattle.lua_parser_base.specs.declared.parameters.Parameters.{Parameters}
+use Rattle.lua_grammar.specs.Stopping.{IsNoComma}
+use Rattle.lua_parser_base.specs.States.{State, Takes}
+use Rattle.lua_parser_base.specs.Next.{ahead}
+
+-- one name, which is put behind others
+pub record TakesName (before : List Bytes) (s : State) (names : List Bytes) (t : State) : Type 0 where
+  pub line : Line
+  pub name : Bytes
+  pub taken : Takes (NameKind name) line s t
+  pub listed : names ≡ before ++ name ∷ []
+
+-- names with commas between them, which are put behind others
+pub record ReadsNames (before : List Bytes) (s : State) (names : List Bytes) (t : State) : Type 0 where
+  pub tree : NameList
+  pub printed : s.left ≡ print_names tree t.left
+  pub scope : t.scope ≡ s.scope
+  pub listed : names ≡ before ++ names_of tree
+
+-- what stands behind parameters: `)` where there are none, and no comma behind the last name
+abbrev pub ParametersEnd : Params → TokenKind → Type 0
+ParametersEnd tree.no_params next = next ≡ SignKind CloseParenthesis
+ParametersEnd (tree.names ns) next = IsNoComma next
+ParametersEnd other next = Unit {0}
+
+-- the parameters of a function, behind those that aren't named there
+pub record ReadsParameters (before : List Bytes) (s : State) (p : Parameters) (t : State) : Type 0 where
+  pub tree : Params
+  pub printed : s.left ≡ print_params tree t.left
+  pub scope : t.scope ≡ s.scope
+  pub listed : p.names.items ≡ before ++ names_of_params tree
+  pub rest : p.rest ≡ takes_rest tree
+  pub ends : ParametersEnd tree (ahead t)

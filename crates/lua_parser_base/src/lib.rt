@@ -1,0 +1,34 @@
+//! What the parser of Lua 5.1 stands on: where it is among the tokens, what single tokens are, the scopes of functions, and the
+//! nodes of the tree; and the definitions of what each production of the grammar reads and which fault comes first.
+#![tactic(auto)]
+
+mod beginnings;
+mod constants;
+mod cursor;
+mod faults;
+mod frames;
+mod nodes;
+mod operators;
+mod parameters;
+mod places;
+mod scopes;
+mod statement_nodes;
+mod suffixes;
+
+pub use beginnings::Begins;
+pub use cursor::{Named, Parser};
+pub use faults::ParseFault;
+pub use frames::{Captured, Frame};
+pub use nodes::{
+    Built, Form, Item, Items, Prefix, Values, binary, called, indexed, leaf, member, method_called,
+    paren, unary,
+};
+pub use operators::{Infix, Operand, Prefixed};
+pub use parameters::{Begun, Parameters};
+pub use places::{HIGHEST, Place};
+pub use scopes::{empty_function, whole_function};
+pub use statement_nodes::{
+    FunctionName, LoopBlock, Range, arm_node, assign_node, define, do_node, generic_for, if_node,
+    local_node, numeric_for, repeat_node, returned, while_node,
+};
+pub use suffixes::Suffix;

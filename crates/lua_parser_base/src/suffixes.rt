@@ -1,0 +1,158 @@
+ghost use Rattle.std.specs.Prelude.{◌≡◌, ◌↔◌, Some, slice_get, IfOk, IfErr, IsTrue, MatchOption, OnOk};
+ghost use Rattle.lua_lexer.specs.declared.tokens.TokenKind.TheVariants.{Sign as SignKind};
+ghost use Rattle.lua_lexer.specs.declared.signs.Sign.TheVariants.{Colon, Dot, OpenBrace, OpenBracket, OpenParenthesis};
+ghost use Rattle.lua_grammar.specs.Grammar.{first_line};
+ghost use Rattle.lua_parser_base.specs.States.{State, state, Advances, TakesSeparator, OpensOnLine, GoesOn, Stops};
+ghost use Rattle.lua_parser_base.specs.Reads.{ReadsPrefix, Extends};
+ghost use Rattle.lua_parser_base.specs.Next.{Begin, CannotOpen, IsKind, IsNext, Misses, OnAt};
+ghost use Rattle.lua_parser_base.specs.Kinds.{BeginNamed, IsSeparator, IsSuffix};
+ghost use Rattle.lua_parser_base.specs.Refusals.{RefusesPrefix, RefusesSuffix};
+ghost use Rattle.lua_parser_base.specs.Standing.{FirstFault};
+ghost use Rattle.lua_parser_base.specs.Standing as Standing;
+
+use crate::ParseFault;
+use crate::cursor::{Parser, is_name, is_sign};
+use crate::nodes::{Form, Item, Prefix, member};
+use crate::places::Place;
+use lua_lexer::{Sign, Token, TokenKind};
+use std::alloc::Global;
+
+/// What may stand behind a prefix.
+#[derive(Clone, Copy, PartialEq, Eq)]
+pub enum Suffix {
+    Member,
+    Item,
+    Method,
+    Arguments,
+}
+
+impl Parser {
+    /// What stands behind a prefix, if it goes on.
+    pub fn suffix_ahead(&self, tokens: &[Token]) -> Option<Suffix>
+        ensures { MatchOption result (Stops (state tokens.now self.now)) (λ suffix. Begin (IsSuffix suffix) (state tokens.now self.now).left) }
+    {
+        let Some(token) = tokens.get(self.place) else {
+            return None;
+        };
+        suffix_of(&token.kind)
+    }
+
+    /// Reads a name. It has place wherever an expression has.
+    pub fn name(&mut self, tokens: &[Token], at: Place) -> Result<Prefix, ParseFault>
+        ensures reads { IfOk result (λ p. ReadsPrefix at (state tokens.now self.old) p (state tokens.now self.new)) }
+        ensures refuses { (IsNext (SignKind OpenParenthesis) (state tokens.now self.old) → ⊥) → IfErr result (RefusesPrefix at (state tokens.now self.old) (state tokens.now self.new)) }
+        ensures order { IfErr result (FirstFault (Standing.prefix at) (state tokens.now self.old) (state tokens.now self.new)) }
+        ensures forward { OnOk result (Advances tokens.now self.old self.new) }
+    {
+        let named = self.take_name(tokens)?;
+        Ok(Prefix {
+            expr: self.variable(named)?,
+            height: 1,
+            form: Form::Variable,
+        })
+    }
+
+    /// Reads `.name` behind a prefix.
+    pub fn member(
+        &mut self,
+        alloc: Global,
+        tokens: &[Token],
+        at: Place,
+        object: Prefix,
+    ) -> Result<Prefix, ParseFault>
+        ensures reads { IfOk result (λ p. Extends at object (state tokens.now self.old) p (state tokens.now self.new)) }
+        ensures refuses { IsNext (SignKind Dot) (state tokens.now self.old) → IfErr result (RefusesSuffix at object (state tokens.now self.old) (state tokens.now self.new)) }
+        ensures order { IfErr result (λ fault. (s : State) → ReadsPrefix at s object (state tokens.now self.old) → FirstFault (Standing.prefix at) s (state tokens.now self.new) fault) }
+        ensures forward { OnOk result (Advances tokens.now self.old self.new) }
+    {
+        let dot = self.take_sign(tokens, Sign::Dot)?;
+        at.above(object.height, dot)?;
+        let named = self.take_name(tokens)?;
+        let height = object.height.saturating_add(1);
+        let Prefix { expr, .. } = object;
+        Ok(Prefix {
+            expr: member(alloc, expr, dot, named)?,
+            height,
+            form: Form::Variable,
+        })
+    }
+
+    /// The line of the next token, with which arguments may begin.
+    pub fn arguments_line(&self, tokens: &[Token]) -> Result<u32, ParseFault>
+        ensures line { IfOk result (λ line. line ≡ first_line (state tokens.now self.now).left) }
+        ensures same { OnOk result (OpensOnLine (state tokens.now self.now)) }
+        ensures closed { IfErr result (CannotOpen (state tokens.now self.now)) }
+    {
+        let Some(token) = tokens.get(self.place) else {
+            return Err(self.unfit(tokens));
+        };
+        self.opening_line(tokens, token)
+    }
+
+    /// The line of that token, which is the next one; a `(` has to be on the line of the token before it.
+    fn opening_line(&self, tokens: &[Token], token: &Token) -> Result<u32, ParseFault>
+        requires { slice_get tokens.now self.now.place ≡ Some token.now }
+        ensures line { IfOk result (λ line. line ≡ first_line (state tokens.now self.now).left) }
+        ensures same { OnOk result (OpensOnLine (state tokens.now self.now)) }
+        ensures closed { IfErr result (CannotOpen (state tokens.now self.now)) }
+    {
+        if is_open_parenthesis(&token.kind) {
+            if token.line == self.line {
+                return Ok(token.line);
+            }
+            return Err(ParseFault::Ambiguous(token.line));
+        }
+        Ok(token.line)
+    }
+
+    /// Reads `,` or `;`.
+    #[tactic(auto, using(crate::proofs::Tables::comma_taken, crate::proofs::Tables::semicolon_taken))]
+    pub fn take_separator(&mut self, tokens: &[Token]) -> Result<(), ParseFault>
+        ensures takes { OnOk result (TakesSeparator (state tokens.now self.old) (state tokens.now self.new)) }
+        ensures misses { IfErr result (OnAt (Misses IsSeparator (state tokens.now self.old) (state tokens.now self.new))) }
+        ensures forward { OnOk result (Advances tokens.now self.old self.new) }
+    {
+        if self.at_sign(tokens, Sign::Comma) {
+            self.take_sign(tokens, Sign::Comma)?;
+            return Ok(());
+        }
+        self.take_sign(tokens, Sign::Semicolon)?;
+        Ok(())
+    }
+
+    /// Whether a name and `=` follow.
+    pub fn at_named_field(&self, tokens: &[Token]) -> bool
+        ensures { IsTrue result ↔ BeginNamed (state tokens.now self.now).left }
+    {
+        let Some(token) = tokens.get(self.place) else {
+            return false;
+        };
+        let Some(next) = tokens.get(self.place + 1) else {
+            return false;
+        };
+        is_name(&token.kind) && is_sign(&next.kind, Sign::Assign)
+    }
+}
+
+/// What stands behind a prefix where a token goes on with it.
+fn suffix_of(kind: &TokenKind) -> Option<Suffix>
+    ensures { MatchOption result (GoesOn kind.now → ⊥) (λ suffix. IsSuffix suffix kind.now) }
+{
+    match kind {
+        TokenKind::Sign(Sign::Dot) => Some(Suffix::Member),
+        TokenKind::Sign(Sign::OpenBracket) => Some(Suffix::Item),
+        TokenKind::Sign(Sign::Colon) => Some(Suffix::Method),
+        TokenKind::Sign(Sign::OpenParenthesis) | TokenKind::Sign(Sign::OpenBrace) => {
+            Some(Suffix::Arguments)
+        }
+        TokenKind::Text(_) => Some(Suffix::Arguments),
+        _ => None,
+    }
+}
+
+/// Whether a token is `(`.
+fn is_open_parenthesis(kind: &TokenKind) -> bool
+    ensures { IsTrue result ↔ IsKind (SignKind OpenParenthesis) kind.now }
+{
+    matches!(kind, TokenKind::Sign(Sign::OpenParenthesis))
+}
