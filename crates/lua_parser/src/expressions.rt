@@ -15,7 +15,7 @@ ghost use Rattle.lua_parser_base.specs.Standing as Standing;
 use crate::statements::body;
 use crate::suffixes::{prefix, table};
 use lua_ast::ExprKind;
-use lua_grammar::{Operator, left_level, level, operator_of, right_level};
+use lua_grammar::{left_level, level, operator_of, right_level};
 use lua_lexer::{Token, Word};
 use lua_parser_base::{
     Built, Infix, Operand, ParseFault, Parser, Place, Prefix, binary, leaf, unary,

@@ -5,10 +5,9 @@ ghost use Rattle.lua_parser_base.specs.ReadsStatements.{ReadsBlock, ReadsScoped,
 ghost use Rattle.lua_lexer.specs.declared.tokens.TokenKind.TheVariants.{Sign as SignKind};
 ghost use Rattle.lua_lexer.specs.declared.tokens.TokenKind.TheVariants.{Word as WordKind};
 ghost use Rattle.lua_lexer.specs.declared.signs.Sign.TheVariants.{Assign, Colon, Comma};
-ghost use Rattle.lua_lexer.specs.declared.words.Word.TheVariants.{Break, Do, ElseIf, Function, If, Local};
+ghost use Rattle.lua_lexer.specs.declared.words.Word.TheVariants.{Do, ElseIf, Function, If, Local};
 ghost use Rattle.lua_parser_base.specs.Next.{IsNext, ahead};
 ghost use Rattle.lua_parser_base.specs.Kinds.{IsStatement, begins_of};
-ghost use Rattle.lua_parser_base.specs.declared.places.Place.{Place};
 ghost use Rattle.lua_parser_base.specs.Refusals.{RefusesBody};
 ghost use Rattle.lua_parser_base.specs.Standing.{FirstFault};
 ghost use Rattle.lua_parser_base.specs.Standing as Standing;

@@ -1,6 +1,6 @@
-ghost use Rattle.std.specs.Prelude.{Some, IfOk, IfErr, OnOk};
+ghost use Rattle.std.specs.Prelude.{IfOk, IfErr, OnOk};
 ghost use Rattle.lua_lexer.specs.declared.tokens.TokenKind.TheVariants.{Sign as SignKind};
-ghost use Rattle.lua_lexer.specs.declared.signs.Sign.TheVariants.{Colon, OpenBrace, OpenBracket, OpenParenthesis};
+ghost use Rattle.lua_lexer.specs.declared.signs.Sign.TheVariants.{Colon, OpenBrace, OpenBracket};
 ghost use Rattle.lua_parser_base.specs.States.{State, state, Advances, Stops};
 ghost use Rattle.lua_parser_base.specs.Reads.{ReadsPrefix, Extends, ReadsArgs, ReadsList, ReadsTable, ReadsField};
 ghost use Rattle.lua_parser_base.specs.Next.{Begin, IsNext, ahead};

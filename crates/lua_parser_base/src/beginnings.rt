@@ -4,7 +4,7 @@ ghost use Rattle.lua_parser_base.specs.ReadsStatements.{ReadsLast, ReadsFuncName
 ghost use Rattle.lua_lexer.specs.declared.tokens.TokenKind.TheVariants.{Sign as SignKind};
 ghost use Rattle.lua_lexer.specs.declared.tokens.TokenKind.TheVariants.{Word as WordKind};
 ghost use Rattle.lua_lexer.specs.declared.signs.Sign.TheVariants.{Dot};
-ghost use Rattle.lua_lexer.specs.declared.words.Word.TheVariants.{Break, Do, ElseIf, Function, If, Local};
+ghost use Rattle.lua_lexer.specs.declared.words.Word.TheVariants.{Break};
 ghost use Rattle.lua_parser_base.specs.Next.{IsNext, MissesMember, ahead};
 ghost use Rattle.lua_parser_base.specs.Kinds.{begins_of};
 ghost use Rattle.lua_parser_base.specs.declared.places.Place.{Place};
@@ -14,7 +14,7 @@ ghost use Rattle.lua_parser_base.specs.StatementRefusals.{RefusesFuncName, Refus
 
 use crate::ParseFault;
 use crate::cursor::Parser;
-use crate::nodes::{Prefix, member};
+use crate::nodes::member;
 use crate::places::{HIGHEST, Place};
 use crate::statement_nodes::FunctionName;
 use lua_ast::{Stmt, StmtKind};

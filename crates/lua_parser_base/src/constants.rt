@@ -1,4 +1,4 @@
-ghost use Rattle.std.specs.Prelude.{◌≡◌, ◌≤◌, ℕ, IfOk, IfErr, OnOk};
+ghost use Rattle.std.specs.Prelude.{◌≤◌, ℕ, IfOk, IfErr, OnOk};
 ghost use Rattle.lua_lexer.specs.declared.tokens.TokenKind.TheVariants.{Number as NumberKind, Sign as SignKind, Word as WordKind};
 ghost use Rattle.lua_parser_base.specs.States.{state, Takes, Advances};
 ghost use Rattle.lua_parser_base.specs.Reads.{ReadsExp};
@@ -19,7 +19,7 @@ use resty_base::Whole;
 
 /// A number, and its line.
 #[derive(Clone, Copy)]
-pub struct Numeral {
+pub(crate) struct Numeral {
     pub number: Whole,
     pub line: u32,
 }

@@ -1,4 +1,4 @@
-ghost use Rattle.std.specs.Prelude.{◌≡◌, ◌↔◌, IfOk, IfErr, IfNone, IfSome, IsTrue, MatchResult, OnOk, slice_get, Some};
+ghost use Rattle.std.specs.Prelude.{◌≡◌, ◌↔◌, IfOk, IfErr, IfNone, IsTrue, MatchResult, OnOk, slice_get, Some};
 ghost use Rattle.lua_lexer.specs.declared.tokens.TokenKind.TheVariants.{Name as NameKind, Text as TextKind, Word as WordKind, Sign as SignKind};
 ghost use Rattle.lua_grammar.specs.Grammar.{first_line};
 ghost use Rattle.lua_grammar.specs.Printing.{lexemes};
@@ -77,7 +77,7 @@ impl Parser {
     }
 
     /// Reads that keyword where it is the next token, and answers its line.
-    pub fn skip_word(&mut self, tokens: &[Token], word: Word) -> Option<u32>
+    pub(crate) fn skip_word(&mut self, tokens: &[Token], word: Word) -> Option<u32>
         ensures skips { Skips (WordKind word) result (state tokens.now self.old) (state tokens.now self.new) }
         ensures missing { IfNone result (IsNext (WordKind word) (state tokens.now self.old) → ⊥) }
         ensures forward { IfAdvances result tokens.now self.old self.new }
@@ -256,14 +256,14 @@ fn is_word(kind: &TokenKind, word: Word) -> bool
 }
 
 /// Whether a token is that sign.
-pub fn is_sign(kind: &TokenKind, sign: Sign) -> bool
+pub(crate) fn is_sign(kind: &TokenKind, sign: Sign) -> bool
     ensures { IsTrue result ↔ IsKind (SignKind sign) kind.now }
 {
     matches!(kind, TokenKind::Sign(next) if *next == sign)
 }
 
 /// Whether a token is a name.
-pub fn is_name(kind: &TokenKind) -> bool
+pub(crate) fn is_name(kind: &TokenKind) -> bool
     ensures { IsTrue result ↔ IsName kind.now }
 {
     matches!(kind, TokenKind::Name(_))

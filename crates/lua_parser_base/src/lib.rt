@@ -20,8 +20,8 @@ pub use cursor::{Named, Parser};
 pub use faults::ParseFault;
 pub use frames::{Captured, Frame};
 pub use nodes::{
-    Built, Form, Item, Items, Prefix, Values, binary, called, indexed, leaf, member, method_called,
-    paren, unary,
+    Built, Form, Item, Items, Prefix, Values, binary, called, indexed, leaf, method_called, paren,
+    unary,
 };
 pub use operators::{Infix, Operand, Prefixed};
 pub use parameters::{Begun, Parameters};

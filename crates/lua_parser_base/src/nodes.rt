@@ -336,7 +336,12 @@ fn binary_kind(op: Operator, left: Rc<Expr>, right: Rc<Expr>) -> ExprKind
 }
 
 /// `object.name`, where the point is on the line `dot`.
-pub fn member(alloc: Global, object: Expr, dot: u32, named: Named) -> Result<Expr, ParseFault>
+pub(crate) fn member(
+    alloc: Global,
+    object: Expr,
+    dot: u32,
+    named: Named,
+) -> Result<Expr, ParseFault>
     ensures { MatchResult result (IsMember object dot named.line named.name) IsMemory }
 {
     let key = named.into_text().into_expr();

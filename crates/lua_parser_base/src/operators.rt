@@ -1,16 +1,13 @@
-ghost use Rattle.std.specs.Prelude.{◌≡◌, ◌≤◌, IfOk, IfErr, IfNone, MatchOption, OnOk};
-ghost use Rattle.lua_grammar.specs.Operators.{kind_of, kind_of_unary, left_level, level};
-ghost use Rattle.lua_grammar.specs.declared.operators.Operator.{Operator};
-ghost use Rattle.lua_parser_base.specs.States.{state, Takes, Advances, IfAdvances, SkipsOperator};
-ghost use Rattle.lua_parser_base.specs.Next.{IsNext, Misses, OnAt, ahead};
+ghost use Rattle.std.specs.Prelude.{◌≡◌, IfOk, IfErr, MatchOption, OnOk};
+ghost use Rattle.lua_grammar.specs.Operators.{kind_of_unary};
+ghost use Rattle.lua_parser_base.specs.States.{state, Takes, Advances};
+ghost use Rattle.lua_parser_base.specs.Next.{Misses, OnAt, ahead};
 ghost use Rattle.lua_parser_base.specs.Kinds.{IsUnary, operand_of};
-ghost use Rattle.lua_lexer.specs.declared.words.Word.TheVariants.{Function};
 
 use crate::ParseFault;
 use crate::cursor::Parser;
-use crate::nodes::{Prefix, binary, unary};
 use lua_ast::UnOp;
-use lua_grammar::{Operator, left_level, level, operator_of};
+use lua_grammar::Operator;
 use lua_lexer::{Sign, Token, TokenKind, Word};
 
 /// A binary operator, and its line.

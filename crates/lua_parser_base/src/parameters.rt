@@ -42,7 +42,7 @@ impl Parser {
     ghost use Rattle.lua_parser_base.specs.ReadsNames.{TakesName, ReadsNames, ReadsParameters};
 
     /// The expression that a name is.
-    pub fn variable(&mut self, named: Named) -> Result<Expr, ParseFault>
+    pub(crate) fn variable(&mut self, named: Named) -> Result<Expr, ParseFault>
         ensures resolves { IfOk result (λ e. ResolvesName named.line named.name (scope_of self.old) e (scope_of self.new)) }
         ensures crowded { IfErr result (OnUpvalues named.line (Few (look named.name (scope_of self.old).around).1 → ⊥)) }
         ensures place { self.new.place ≡ self.old.place }

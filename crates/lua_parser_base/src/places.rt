@@ -1,9 +1,9 @@
-ghost use Rattle.std.specs.Prelude.{◌≡◌, ◌≤◌, ◌<◌, MatchResult, true, false};
+ghost use Rattle.std.specs.Prelude.{◌≤◌, ◌<◌, MatchResult};
 
 use crate::ParseFault;
 
 /// How many constructs may be open at a place, the chunk among them.
-pub const DEEPEST: u32 = 200;
+pub(crate) const DEEPEST: u32 = 200;
 
 /// The greatest height of an expression.
 pub const HIGHEST: u32 = 4_000;

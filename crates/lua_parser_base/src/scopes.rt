@@ -1,4 +1,4 @@
-ghost use Rattle.std.specs.Prelude.{◌≡◌, ℕ, List, ◌≤◌, ◌<◌, ◌∷◌, ◌++◌, [], map, reverse, take, length, IfOk, IfErr, IfSome, MatchResult, OnOk, vec_len};
+ghost use Rattle.std.specs.Prelude.{◌≡◌, ℕ, List, ◌≤◌, ◌<◌, ◌∷◌, ◌++◌, [], map, take, length, IfOk, IfErr, IfSome, MatchResult, OnOk, vec_len};
 ghost use Rattle.lua_grammar.specs.Limits.{Few};
 ghost use Rattle.lua_grammar.specs.Resolution.{variable_kind, IsFunction};
 ghost use Rattle.lua_grammar.specs.Scopes.{last_place, own, look, with_locals};
@@ -13,7 +13,7 @@ use std::alloc::Global;
 use std::rc::Rc;
 
 /// How many locals of a function may be in scope.
-pub const MOST_LOCALS: usize = 200;
+pub(crate) const MOST_LOCALS: usize = 200;
 
 /// How many captures a function may have.
 const MOST_CAPTURES: usize = 60;
@@ -93,14 +93,14 @@ impl Frame {
     }
 
     /// Leaves the scope of all locals but for the first so many.
-    pub fn leave(&mut self, count: usize)
+    pub(crate) fn leave(&mut self, count: usize)
         ensures { frame_of self.new ≡ record (frame_of self.old) { locals = take count self.old.locals.items } }
     {
         self.locals.truncate(count);
     }
 
     /// Declares a local, and answers its slot.
-    pub fn declare(&mut self, name: Bytes, line: u32) -> Result<u8, ParseFault>
+    pub(crate) fn declare(&mut self, name: Bytes, line: u32) -> Result<u8, ParseFault>
         ensures slot { IfOk result (λ slot. slot ≡ length self.old.locals.items) }
         ensures frame { OnOk result (frame_of self.new ≡ with_locals (name ∷ []) (frame_of self.old)) }
         ensures crowded { IfErr result (OnLocals (200 ≤ length self.old.locals.items)) }
@@ -118,7 +118,7 @@ impl Frame {
 
 /// The variable of that name that the function `frame` sees, with the functions around it, the innermost last. `line` is
 /// that of the name.
-pub fn look(
+pub(crate) fn look(
     frame: &mut Frame,
     around: &mut Vec<Frame>,
     name: &Bytes,
@@ -142,7 +142,7 @@ pub fn look(
 }
 
 /// What a name stands for.
-pub fn variable_kind(name: Bytes, found: Option<Capture>) -> ExprKind
+pub(crate) fn variable_kind(name: Bytes, found: Option<Capture>) -> ExprKind
     ensures { result ≡ variable_kind name found }
 {
     match found {

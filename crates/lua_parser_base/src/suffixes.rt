@@ -1,6 +1,6 @@
 ghost use Rattle.std.specs.Prelude.{◌≡◌, ◌↔◌, Some, slice_get, IfOk, IfErr, IsTrue, MatchOption, OnOk};
 ghost use Rattle.lua_lexer.specs.declared.tokens.TokenKind.TheVariants.{Sign as SignKind};
-ghost use Rattle.lua_lexer.specs.declared.signs.Sign.TheVariants.{Colon, Dot, OpenBrace, OpenBracket, OpenParenthesis};
+ghost use Rattle.lua_lexer.specs.declared.signs.Sign.TheVariants.{Dot, OpenParenthesis};
 ghost use Rattle.lua_grammar.specs.Grammar.{first_line};
 ghost use Rattle.lua_parser_base.specs.States.{State, state, Advances, TakesSeparator, OpensOnLine, GoesOn, Stops};
 ghost use Rattle.lua_parser_base.specs.Reads.{ReadsPrefix, Extends};
@@ -12,7 +12,7 @@ ghost use Rattle.lua_parser_base.specs.Standing as Standing;
 
 use crate::ParseFault;
 use crate::cursor::{Parser, is_name, is_sign};
-use crate::nodes::{Form, Item, Prefix, member};
+use crate::nodes::{Form, Prefix, member};
 use crate::places::Place;
 use lua_lexer::{Sign, Token, TokenKind};
 use std::alloc::Global;
