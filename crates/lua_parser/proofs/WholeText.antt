@@ -33,7 +33,8 @@ use Rattle.lua_parser.specs.Unfit.{BeginAs, IsUnfit, OfAt}
 use Rattle.lua_parser_base.specs.ReadsStatements.{ReadsBlock}
 use Rattle.lua_parser_base.specs.States.{State, last_line, scope_of, state}
 use Rattle.lua_parser_base.specs.StatementRefusals.{RefusesBlock}
-use Rattle.lua_parser_base.specs.Standing.{FirstFault, IsBeginning, IsBroken, IsFirst, IsOutermost, OnLimit}
+use Rattle.lua_parser_base.specs.Standing.{FirstFault, IsBeginning, IsBroken, IsFirst, OnLimit}
+use Rattle.lua_parser_base.specs.Places.{IsOutermost}
 use Rattle.lua_parser_base.specs.Standing as standing
 use Rattle.lua_parser_base.proofs.Next.{final_of}
 use Rattle.lua_parser_base.proofs.OpenFunctions.{few_there}

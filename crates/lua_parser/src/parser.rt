@@ -1,17 +1,16 @@
-ghost use Rattle.std.specs.Prelude.{◌≡◌, IfErr, IfOk, MatchResult, slice_set};
+ghost use Rattle.std.specs.Prelude.{◌≡◌, IfErr, IfOk};
 ghost use Rattle.lua_ast.specs.declared.programs.Program.{Program};
 ghost use Rattle.lua_ast.specs.WholeProgram.{IsWholeProgram};
 ghost use Rattle.lua_grammar.specs.Grammar.{first_line, IsProgramOf};
 ghost use Rattle.lua_grammar.specs.Printing.{lexemes};
-ghost use Rattle.lua_parser_base.specs.Next.{IsMemory};
 ghost use Rattle.lua_parser_base.specs.Standing.{IsBroken, OnLimit};
 ghost use Rattle.lua_parser.specs.Unfit.{IsUnfit, OfAt};
 
 use crate::statements::block;
-use lua_ast::{Function, Program};
+use lua_ast::Program;
 use lua_grammar::a_program_is_whole;
 use lua_lexer::Token;
-use lua_parser_base::{Frame, HIGHEST, ParseFault, Parser, Place, empty_function, whole_function};
+use lua_parser_base::{ParseFault, Parser, Place};
 use resty_base::{ByteLists, Bytes};
 use std::alloc::Global;
 
@@ -25,31 +24,17 @@ pub fn parse(alloc: Global, tokens: &[Token]) -> Result<Program, ParseFault>
     ensures complete { IfErr result (λ fault. (fault ≡ ParseFault.Memory → ⊥) → (program : Program) → IsProgramOf tokens.now program → ⊥) }
 {
     let line = first_line(tokens);
-    let mut parser = Parser {
-        place: 0,
-        line,
-        functions: vec![in alloc; empty_function(alloc, line)?]?,
-        frame: Frame::with_parameters(alloc, Vec::new(alloc)),
-        around: Vec::new(alloc),
-    };
-    let at = Place {
-        depth: 1,
-        room: HIGHEST,
-        rest: true,
-        in_loop: false,
-    };
-    let body = block(&mut parser, alloc, tokens, at)?;
+    let mut parser = Parser::new(alloc, line)?;
+    let body = block(&mut parser, alloc, tokens, Place::outermost())?;
     if parser.place < tokens.len() {
         return Err(parser.unfit(tokens));
     }
-    let chunk = whole_function(alloc, &parser.frame, 0, true, body, line)?;
-    let Parser { functions, .. } = parser;
-    let whole = with_chunk(functions, chunk)?;
+    let functions = parser.into_functions(alloc, body, line)?;
     let files = vec![in alloc; Bytes::new()]?;
     a_program_is_whole();
     Ok(Program {
         files: ByteLists::of(files),
-        functions: whole,
+        functions,
     })
 }
 
@@ -62,16 +47,4 @@ fn first_line(tokens: &[Token]) -> u32
         Some(token) => token.line,
         None => 1,
     }
-}
-
-/// The functions, with the chunk in the first place.
-fn with_chunk(functions: Vec<Function>, chunk: Function) -> Result<Vec<Function>, ParseFault>
-    ensures { MatchResult result (λ whole. whole.items ≡ slice_set functions.items 0 chunk) IsMemory }
-{
-    let mut functions = functions;
-    let Some(first) = functions.first_mut() else {
-        return Err(ParseFault::Memory);
-    };
-    *first = chunk;
-    Ok(functions)
 }

@@ -40,3 +40,9 @@ pub record IsOfFunction (more : Bool) (at inner : Place) : Type 0 where
   pub depth : inner.depth ≡ at.depth
   pub rest : inner.rest ≡ more
   pub in_loop : inner.in_loop ≡ false
+
+-- the place of the chunk
+pub record IsOutermost (at : Place) : Type 0 where
+  pub depth : at.depth ≡ 1
+  pub rest : at.rest ≡ true
+  pub in_loop : at.in_loop ≡ false

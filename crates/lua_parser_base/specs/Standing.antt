@@ -31,7 +31,7 @@ use Rattle.lua_parser_base.specs.declared.statement_nodes.FunctionName.{Function
 use Rattle.lua_parser_base.specs.declared.beginnings.Begins.TheVariants as begins
 use Rattle.lua_parser_base.specs.Kinds.{BeginNamed, begins_of}
 use Rattle.lua_parser_base.specs.Next.{Begin, IsNext, IsOnLine, ahead}
-use Rattle.lua_parser_base.specs.Places.{IsFresh, IsLooped, IsNarrower, IsOfFunction, IsPart, IsWithin}
+use Rattle.lua_parser_base.specs.Places.{IsFresh, IsLooped, IsNarrower, IsOfFunction, IsPart, IsWithin, IsOutermost}
 use Rattle.lua_parser_base.specs.Reads.{ReadsExp, ReadsField, ReadsFields, ReadsList, ReadsPrefix}
 use Rattle.lua_parser_base.specs.ReadsNames.{ReadsNames, ReadsParameters}
 use Rattle.lua_parser_base.specs.ReadsStatements.{ReadsArms, ReadsBlock, ReadsFuncName, ReadsMember, ReadsScoped, ReadsStats, ReadsStep, ReadsValue, ReadsValues, ReadsVars}
@@ -81,12 +81,6 @@ pub record IsAt (s : State) (known : Scope) (t : State) : Type 0 where
 pub record GoesOnWithValues (s : State) : Type 0 where
   pub no_end : begins_of (ahead s) ≡ begins.Nothing → ⊥
   pub no_semicolon : IsNext (SignKind sign.Semicolon) s → ⊥
-
--- the place of the chunk
-pub record IsOutermost (at : Place) : Type 0 where
-  pub depth : at.depth ≡ 1
-  pub rest : at.rest ≡ true
-  pub in_loop : at.in_loop ≡ false
 
 -- in a text that begins at that state
 pub data Stands (start : State) : Role → State → Type 0 where

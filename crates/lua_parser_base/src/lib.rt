@@ -25,8 +25,7 @@ pub use nodes::{
 };
 pub use operators::{Infix, Operand, Prefixed};
 pub use parameters::{Begun, Parameters};
-pub use places::{HIGHEST, Place};
-pub use scopes::{empty_function, whole_function};
+pub use places::Place;
 pub use statement_nodes::{
     FunctionName, LoopBlock, Range, arm_node, assign_node, define, do_node, generic_for, if_node,
     local_node, numeric_for, repeat_node, returned, while_node,

@@ -1,7 +1,10 @@
-ghost use Rattle.std.specs.Prelude.{◌≡◌, ◌≤◌, ◌<◌, ◌+◌, ◌∷◌, [], length, slice_set, IfErr, IfOk, OnOk, vec_len};
+ghost use Rattle.std.specs.Prelude.{◌≡◌, ◌≤◌, ◌<◌, ◌+◌, ◌∷◌, [], length, slice_set, true, IfErr, IfOk, MatchResult, OnOk, vec_len};
+ghost use Rattle.lua_grammar.specs.Grammar.{outside};
 ghost use Rattle.lua_grammar.specs.Limits.{Few};
-ghost use Rattle.lua_grammar.specs.Resolution.{ResolvesName};
-ghost use Rattle.lua_grammar.specs.Scopes.{Scope, declare, in_scope, leave, look, slots_from};
+ghost use Rattle.lua_ast.specs.declared.programs.Function.{Function};
+ghost use Rattle.lua_grammar.specs.Resolution.{IsFunction, ResolvesName};
+ghost use Rattle.lua_grammar.specs.Scopes.{Scope, declare, enter, in_scope, leave, look, slots_from};
+ghost use Rattle.lua_parser_base.specs.Frames.{frame_of};
 ghost use Rattle.lua_parser_base.specs.States.{state, Advances, AdvancesOrStays, scope_of};
 ghost use Rattle.lua_lexer.specs.declared.tokens.TokenKind.TheVariants.{Sign as SignKind};
 ghost use Rattle.lua_lexer.specs.declared.signs.Sign.TheVariants.{Comma};
@@ -184,6 +187,37 @@ impl Parser {
         Ok(slots)
     }
 
+    /// Before the first token of a chunk, which is on that line.
+    pub fn new(alloc: Global, line: u32) -> Result<Parser, ParseFault>
+        ensures place { IfOk result (λ parser. parser.place ≡ 0) }
+        ensures scope { IfOk result (λ parser. (kept : Function) × (scope_of parser ≡ enter [] kept outside)) }
+        ensures memory { IfErr result IsMemory }
+    {
+        Ok(Parser {
+            place: 0,
+            line,
+            functions: vec![in alloc; empty_function(alloc, line)?]?,
+            frame: Frame::with_parameters(alloc, Vec::new(alloc)),
+            around: Vec::new(alloc),
+        })
+    }
+
+    /// The functions of the program behind the block of the chunk, which is the first of them. Its first token is on that line.
+    pub fn into_functions(
+        self,
+        alloc: Global,
+        body: Vec<Stmt>,
+        line: u32,
+    ) -> Result<Vec<Function>, ParseFault>
+        ensures functions { IfOk result (λ functions. (chunk : Function) × IsFunction line [] true (frame_of self.frame) body.items chunk
+            × (functions.items ≡ slice_set self.functions.items 0 chunk)) }
+        ensures memory { IfErr result IsMemory }
+    {
+        let chunk = whole_function(alloc, &self.frame, 0, true, body, line)?;
+        let Parser { functions, .. } = self;
+        with_chunk(functions, chunk)
+    }
+
     /// Begins a function.
     pub fn enter(
         &mut self,
@@ -247,4 +281,16 @@ impl Parser {
             *kept = function;
         }
     }
+}
+
+/// The functions, with the chunk in the first place.
+fn with_chunk(functions: Vec<Function>, chunk: Function) -> Result<Vec<Function>, ParseFault>
+    ensures { MatchResult result (λ whole. whole.items ≡ slice_set functions.items 0 chunk) IsMemory }
+{
+    let mut functions = functions;
+    let Some(first) = functions.first_mut() else {
+        return Err(ParseFault::Memory);
+    };
+    *first = chunk;
+    Ok(functions)
 }

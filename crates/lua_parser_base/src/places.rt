@@ -6,7 +6,7 @@ use crate::ParseFault;
 pub(crate) const DEEPEST: u32 = 200;
 
 /// The greatest height of an expression.
-pub const HIGHEST: u32 = 4_000;
+pub(crate) const HIGHEST: u32 = 4_000;
 
 /// Where a construct stands.
 #[derive(Clone, Copy)]
@@ -26,7 +26,19 @@ pub struct Place {
 
 impl Place {
     ghost use Rattle.lua_parser_base.specs.Next.{IsTooHigh};
-    ghost use Rattle.lua_parser_base.specs.Places.{IsFresh, IsLooped, IsNarrower, IsOfFunction};
+    ghost use Rattle.lua_parser_base.specs.Places.{IsFresh, IsLooped, IsNarrower, IsOfFunction, IsOutermost};
+
+    /// The place of the chunk's block.
+    pub fn outermost() -> Place
+        ensures { IsOutermost result }
+    {
+        Place {
+            depth: 1,
+            room: HIGHEST,
+            rest: true,
+            in_loop: false,
+        }
+    }
 
     /// The same place, in a loop.
     pub fn looped(self) -> Place

@@ -20,7 +20,7 @@ const MOST_CAPTURES: usize = 60;
 
 impl Frame {
     /// A function with these parameters.
-    pub fn with_parameters(alloc: Global, names: Vec<Bytes>) -> Frame
+    pub(crate) fn with_parameters(alloc: Global, names: Vec<Bytes>) -> Frame
         requires { vec_len names ≤ 200 }
         ensures { frame_of result ≡ record { locals = names.items; captures = []; slots = length names.items } }
     {
@@ -153,7 +153,7 @@ pub(crate) fn variable_kind(name: Bytes, found: Option<Capture>) -> ExprKind
 }
 
 /// A function without captures and statements.
-pub fn empty_function(alloc: Global, line: u32) -> Result<Function, ParseFault>
+pub(crate) fn empty_function(alloc: Global, line: u32) -> Result<Function, ParseFault>
     ensures { IfErr result IsMemory }
 {
     let none: Vec<Stmt> = Vec::new(alloc);
@@ -180,7 +180,7 @@ fn variables(alloc: Global, captures: &[Captured]) -> Result<Vec<Capture>, Parse
 }
 
 /// The function that was read, with its frame as it was at the end.
-pub fn whole_function(
+pub(crate) fn whole_function(
     alloc: Global,
     frame: &Frame,
     params: u8,
