@@ -12,8 +12,8 @@ use Rattle.lua_grammar.specs.Scopes.{in_scope}
 use Rattle.lua_grammar.proofs.Growing.{exp_keeps, list_keeps}
 use Rattle.lua_parser_base.specs.declared.cursor.Parser.{Parser}
 use Rattle.lua_parser_base.specs.declared.faults.ParseFault.{ParseFault}
-use Rattle.lua_parser_base.specs.declared.parameters.Begun.{Begun}
-use Rattle.lua_parser_base.specs.declared.parameters.Parameters.{Parameters}
+use Rattle.lua_parser_base.specs.declared.functions.Begun.{Begun}
+use Rattle.lua_parser_base.specs.declared.functions.Parameters.{Parameters}
 use Rattle.lua_parser_base.specs.declared.places.Place.{Place}
 use Rattle.lua_parser_base.specs.Functions.{Enters}
 use Rattle.lua_parser_base.specs.Next.{IsLocals, OnLocals}

@@ -19,8 +19,8 @@ use Rattle.lua_grammar.proofs.Few.{few_before, few_inside}
 use Rattle.lua_grammar.proofs.Growing.{block_goes}
 use Rattle.lua_parser_base.specs.declared.faults.ParseFault.{ParseFault}
 use Rattle.lua_parser_base.specs.declared.faults.ParseFault.TheVariants.{At, Memory}
-use Rattle.lua_parser_base.specs.declared.parameters.Parameters.{Parameters}
-use Rattle.lua_parser_base.specs.declared.parameters.Begun.{Begun}
+use Rattle.lua_parser_base.specs.declared.functions.Parameters.{Parameters}
+use Rattle.lua_parser_base.specs.declared.functions.Begun.{Begun}
 use Rattle.lua_parser_base.specs.declared.places.Place.{Place}
 use Rattle.lua_parser_base.specs.States.{State, Takes}
 use Rattle.lua_parser_base.specs.Next.{IsKind, IsTooDeep, Misses, OnAt}

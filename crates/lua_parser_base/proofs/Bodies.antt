@@ -16,8 +16,8 @@ use Rattle.lua_grammar.specs.Scopes.{Scope, enter}
 use Rattle.lua_grammar.specs.Resolution.{Resolves, Opens, EndsFunction, IsFunction, names_of_params}
 use Rattle.lua_grammar.specs.Grammar.{first_line, outside, IsProgramOf}
 use Rattle.lua_parser_base.specs.declared.places.Place.{Place}
-use Rattle.lua_parser_base.specs.declared.parameters.Parameters.{Parameters}
-use Rattle.lua_parser_base.specs.declared.parameters.Begun.{Begun}
+use Rattle.lua_parser_base.specs.declared.functions.Parameters.{Parameters}
+use Rattle.lua_parser_base.specs.declared.functions.Begun.{Begun}
 use Rattle.lua_parser_base.specs.declared.cursor.Parser.{Parser}
 use Rattle.lua_parser_base.specs.declared.frames.Frame.{Frame as KeptFrame}
 use Rattle.lua_parser_base.specs.Frames.{frame_of, frames_of}

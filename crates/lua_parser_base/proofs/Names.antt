@@ -7,7 +7,7 @@ use Rattle.lua_grammar.specs.Tree.{Bytes}
 use Rattle.lua_grammar.specs.Tree as tree
 use Rattle.lua_grammar.specs.Printing.{Lexeme, a_sign, print_names}
 use Rattle.lua_grammar.specs.Resolution.{names_of}
-use Rattle.lua_parser_base.specs.declared.parameters.Parameters.{Parameters}
+use Rattle.lua_parser_base.specs.declared.functions.Parameters.{Parameters}
 use Rattle.lua_parser_base.specs.States.{State, Takes}
 use Rattle.lua_grammar.specs.Stopping.{IsNoComma}
 use Rattle.lua_parser_base.specs.Next.{Begin, IsKind, IsNext, ahead, first_kind}

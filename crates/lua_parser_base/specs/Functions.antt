@@ -5,8 +5,8 @@ use Rattle.lua_ast.specs.declared.programs.Function.{Function}
 use Rattle.lua_grammar.specs.Tree.{Line, Bytes}
 use Rattle.lua_grammar.specs.Scopes.{Scope, enter}
 use Rattle.lua_grammar.specs.Resolution.{EndsFunction}
-use Rattle.lua_parser_base.specs.declared.parameters.Parameters.{Parameters}
-use Rattle.lua_parser_base.specs.declared.parameters.Begun.{Begun}
+use Rattle.lua_parser_base.specs.declared.functions.Parameters.{Parameters}
+use Rattle.lua_parser_base.specs.declared.functions.Begun.{Begun}
 
 -- a function with those parameters begins, whose word `function` is on that line
 pub record Enters (p : Parameters) (word : Line) (begun : Begun) (s t : Scope) : Type 0 where

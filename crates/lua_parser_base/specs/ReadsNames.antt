@@ -8,7 +8,7 @@ use Rattle.lua_grammar.specs.Tree as tree
 use Rattle.lua_grammar.specs.Printing.{print_names, print_params}
 use Rattle.lua_grammar.specs.Validity.{takes_rest}
 use Rattle.lua_grammar.specs.Resolution.{names_of, names_of_params}
-use Rattle.lua_parser_base.specs.declared.parameters.Parameters.{Parameters}
+use Rattle.lua_parser_base.specs.declared.functions.Parameters.{Parameters}
 use Rattle.lua_grammar.specs.Stopping.{IsNoComma}
 use Rattle.lua_parser_base.specs.States.{State, Takes}
 use Rattle.lua_parser_base.specs.Next.{ahead}

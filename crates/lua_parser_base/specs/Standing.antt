@@ -25,7 +25,7 @@ use Rattle.lua_parser_base.specs.declared.nodes.Item.{Item}
 use Rattle.lua_parser_base.specs.declared.nodes.Items.{Items}
 use Rattle.lua_parser_base.specs.declared.nodes.Prefix.{Prefix}
 use Rattle.lua_parser_base.specs.declared.nodes.Values.{Values}
-use Rattle.lua_parser_base.specs.declared.parameters.Parameters.{Parameters}
+use Rattle.lua_parser_base.specs.declared.functions.Parameters.{Parameters}
 use Rattle.lua_parser_base.specs.declared.places.Place.{Place}
 use Rattle.lua_parser_base.specs.declared.statement_nodes.FunctionName.{FunctionName}
 use Rattle.lua_parser_base.specs.declared.beginnings.Begins.TheVariants as begins

@@ -50,6 +50,7 @@ impl Parser {
         }
     }
 
+    /// Reads `break`, which has place in a loop alone.
     pub fn break_statement(&mut self, tokens: &[Token], at: Place) -> Result<Stmt, ParseFault>
         ensures reads { IfOk result (λ last. ReadsLast at (state tokens.now self.old) last (state tokens.now self.new)) }
         ensures refuses { IsNext (WordKind Break) (state tokens.now self.old) → IfErr result (RefusesLast at (state tokens.now self.old) (state tokens.now self.new)) }

@@ -7,9 +7,9 @@ mod constants;
 mod cursor;
 mod faults;
 mod frames;
+mod functions;
 mod nodes;
 mod operators;
-mod parameters;
 mod places;
 mod scopes;
 mod statement_nodes;
@@ -19,12 +19,12 @@ pub use beginnings::Begins;
 pub use cursor::{Named, Parser};
 pub use faults::ParseFault;
 pub use frames::{Captured, Frame};
+pub use functions::{Begun, Parameters};
 pub use nodes::{
     Built, Form, Item, Items, Prefix, Values, binary, called, indexed, leaf, method_called, paren,
     unary,
 };
 pub use operators::{Infix, Operand, Prefixed};
-pub use parameters::{Begun, Parameters};
 pub use places::Place;
 pub use statement_nodes::{
     FunctionName, LoopBlock, Range, arm_node, assign_node, define, do_node, generic_for, if_node,
