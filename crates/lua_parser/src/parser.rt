@@ -23,13 +23,12 @@ pub fn parse(alloc: Global, tokens: &[Token]) -> Result<Program, ParseFault>
     ensures limits { IfErr result (OnLimit (IsBroken tokens.now)) }
     ensures complete { IfErr result (λ fault. (fault ≡ ParseFault.Memory → ⊥) → (program : Program) → IsProgramOf tokens.now program → ⊥) }
 {
-    let line = first_line(tokens);
-    let mut parser = Parser::new(alloc, line)?;
+    let mut parser = Parser::new(alloc)?;
     let body = block(&mut parser, alloc, tokens, Place::outermost())?;
     if parser.place < tokens.len() {
         return Err(parser.unfit(tokens));
     }
-    let functions = parser.into_functions(alloc, body, line)?;
+    let functions = parser.into_functions(alloc, body, first_line(tokens))?;
     let files = vec![in alloc; Bytes::new()]?;
     a_program_is_whole();
     Ok(Program {

@@ -1,5 +1,5 @@
-ghost use Rattle.std.specs.Prelude.{◌≤◌, ℕ, IfOk, IfErr, OnOk};
-ghost use Rattle.lua_lexer.specs.declared.tokens.TokenKind.TheVariants.{Number as NumberKind, Sign as SignKind, Word as WordKind};
+ghost use Rattle.std.specs.Prelude.{◌≤◌, ℕ, ℤ, List, IfOk, IfErr, OnOk};
+ghost use Rattle.lua_lexer.specs.declared.tokens.TokenKind.TheVariants.{Number as NumberKind, Sign as SignKind, Text as TextKind, Word as WordKind};
 ghost use Rattle.lua_parser_base.specs.States.{state, Takes, Advances};
 ghost use Rattle.lua_parser_base.specs.Reads.{ReadsExp};
 ghost use Rattle.lua_parser_base.specs.Next.{Begin, IsMemory, IsNext, IsNumber, IsText, Misses, OnAt};
@@ -29,6 +29,7 @@ impl Parser {
     pub fn nil(&mut self, tokens: &[Token], at: Place) -> Result<Built, ParseFault>
         ensures reads { IfOk result (λ b. ReadsExp at (state tokens.now self.old) b (state tokens.now self.new)) }
         ensures level { IfOk result (λ b. 7 ≤ b.level) }
+        ensures takes { IfOk result (λ b. Takes (WordKind Nil) b.expr.line (state tokens.now self.old) (state tokens.now self.new)) }
         ensures surely { IsNext (WordKind Nil) (state tokens.now self.old) → IfErr result IsMemory }
         ensures forward { OnOk result (Advances tokens.now self.old self.new) }
     {
@@ -40,6 +41,7 @@ impl Parser {
     pub fn truth(&mut self, tokens: &[Token], at: Place) -> Result<Built, ParseFault>
         ensures reads { IfOk result (λ b. ReadsExp at (state tokens.now self.old) b (state tokens.now self.new)) }
         ensures level { IfOk result (λ b. 7 ≤ b.level) }
+        ensures takes { IfOk result (λ b. Takes (WordKind True) b.expr.line (state tokens.now self.old) (state tokens.now self.new)) }
         ensures surely { IsNext (WordKind True) (state tokens.now self.old) → IfErr result IsMemory }
         ensures forward { OnOk result (Advances tokens.now self.old self.new) }
     {
@@ -51,6 +53,7 @@ impl Parser {
     pub fn falsity(&mut self, tokens: &[Token], at: Place) -> Result<Built, ParseFault>
         ensures reads { IfOk result (λ b. ReadsExp at (state tokens.now self.old) b (state tokens.now self.new)) }
         ensures level { IfOk result (λ b. 7 ≤ b.level) }
+        ensures takes { IfOk result (λ b. Takes (WordKind False) b.expr.line (state tokens.now self.old) (state tokens.now self.new)) }
         ensures surely { IsNext (WordKind False) (state tokens.now self.old) → IfErr result IsMemory }
         ensures forward { OnOk result (Advances tokens.now self.old self.new) }
     {
@@ -62,6 +65,7 @@ impl Parser {
     pub fn number(&mut self, tokens: &[Token], at: Place) -> Result<Built, ParseFault>
         ensures reads { IfOk result (λ b. ReadsExp at (state tokens.now self.old) b (state tokens.now self.new)) }
         ensures level { IfOk result (λ b. 7 ≤ b.level) }
+        ensures takes { IfOk result (λ b. (n : ℤ) × Takes (NumberKind n) b.expr.line (state tokens.now self.old) (state tokens.now self.new)) }
         ensures surely { Begin IsNumber (state tokens.now self.old).left → IfErr result IsMemory }
         ensures forward { OnOk result (Advances tokens.now self.old self.new) }
     {
@@ -73,6 +77,7 @@ impl Parser {
     pub fn text(&mut self, tokens: &[Token], at: Place) -> Result<Built, ParseFault>
         ensures reads { IfOk result (λ b. ReadsExp at (state tokens.now self.old) b (state tokens.now self.new)) }
         ensures level { IfOk result (λ b. 7 ≤ b.level) }
+        ensures takes { IfOk result (λ b. (bytes : List ℕ) × Takes (TextKind bytes) b.expr.line (state tokens.now self.old) (state tokens.now self.new)) }
         ensures surely { Begin IsText (state tokens.now self.old).left → IfErr result IsMemory }
         ensures forward { OnOk result (Advances tokens.now self.old self.new) }
     {

@@ -175,6 +175,7 @@ impl Parser {
     ) -> Result<Vec<u8>, ParseFault>
         ensures slots { IfOk result (λ slots. slots.items ≡ slots_from (in_scope (scope_of self.old)) names.items) }
         ensures crowded { IfErr result (OnLocals (200 < in_scope (scope_of self.old) + length names.items)) }
+        ensures told { IfErr result (IsLocals line) }
         ensures scope { OnOk result (scope_of self.new ≡ declare names.items (scope_of self.old)) }
         ensures place { self.new.place ≡ self.old.place }
         ensures line { self.new.line ≡ self.old.line }
@@ -187,16 +188,16 @@ impl Parser {
         Ok(slots)
     }
 
-    /// Before the first token of a chunk, which is on that line.
-    pub fn new(alloc: Global, line: u32) -> Result<Parser, ParseFault>
+    /// Before the first token of a chunk.
+    pub fn new(alloc: Global) -> Result<Parser, ParseFault>
         ensures place { IfOk result (λ parser. parser.place ≡ 0) }
         ensures scope { IfOk result (λ parser. (kept : Function) × (scope_of parser ≡ enter [] kept outside)) }
         ensures memory { IfErr result IsMemory }
     {
         Ok(Parser {
             place: 0,
-            line,
-            functions: vec![in alloc; empty_function(alloc, line)?]?,
+            line: 1,
+            functions: vec![in alloc; empty_function(alloc, 1)?]?,
             frame: Frame::with_parameters(alloc, Vec::new(alloc)),
             around: Vec::new(alloc),
         })

@@ -11,7 +11,7 @@ returns c =
     let outer = c.outermost.ensures in
     let whole = c.in_ok-functions.ensures.functions in
     let files : c.of.result ≡ [] ∷ [] = search rules in
-    let read = chunk_read _ _ _ _ _ _ _ _ _ c.in_ok-body.ensures.reads start.place start.scope.1 outer.depth outer.rest outer.in_loop c.if-parser-tokens.false c.first_line-line.ensures
+    let read = chunk_read _ _ _ _ _ _ _ _ _ c.in_ok-body.ensures.reads start.place start.scope.1 outer.depth outer.rest outer.in_loop c.if-parser-tokens.false c.first_line.ensures
     whole.1 whole.2 files in
     record { program = read; whole = c.a_program_is_whole.ensures _ _ read; unfit = tt; limits = tt; complete = tt }
 
