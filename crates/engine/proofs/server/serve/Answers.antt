@@ -1,5 +1,4 @@
 use Rattle.std.proofs.Common.{◌≡◌, ◌+◌, ◌≤◌, true, false, None, [], ◌∷◌, if◌then◌else◌, refl, sym, ap, subst, ◌∙◌, arith, rules}
-use Rattle.std.proofs.lemmas.Grind.{common_steps}
 use Rattle.resty_world.specs.declared.entry.Entry.TheVariants as entry
 use Rattle.resty_world.specs.declared.event.Event.{Event}
 use Rattle.resty_world.specs.declared.event.Event.TheVariants as event
@@ -75,7 +74,7 @@ loop-given-preserved g c =
       spent = spent c.loop-given.given _ _ _ c.in_default.event (ap is_stop (sym c.in_default.event-is) ∙ sym s.stops ∙ c.if-is_stop.false) (gave.history ∙ ap (λ v. told (if v then entry.Given c.in_default.event ∷ [] else []) (g.W.World.book c.loop-given.world).history) kind.0) s.goes.events i.spent;
       faults = l;
       log_failed = c.if-engine.false;
-      within = let more = c.loop-given-test.true in grind (arith, common_steps);
+      within = let more = c.loop-given-test.true in omega (arith, more);
       bound = i.bound;
     }
 

@@ -1,5 +1,4 @@
 use Rattle.std.proofs.Common.{◌≡◌, ◌<◌, ◌≤◌, ◌+◌, ◌==◌, ℕ, true, false, None, ◌∷◌, refl, ap, sym, ◌∙◌, if◌then◌else◌, arith}
-use Rattle.std.proofs.lemmas.Grind.{common_steps}
 use Rattle.resty_base.specs.declared.names.Id.TheVariants as id
 use Rattle.resty_base.specs.declared.names.StrandId.TheVariants as strand
 use Rattle.strand_contract.specs.declared.turns.Start.TheVariants as start
@@ -16,7 +15,7 @@ returns-then-from-self-clause-standing g c =
     let n = c.note.ensures in
     let u = c.hang_up.ensures in
     let k = c.args.connection in
-    let full : (g.S.StrandContract.behavior c.args.site.now).connections ≤ c.args.self.now.connections = grind (arith, common_steps) in (
+    let full : (g.S.StrandContract.behavior c.args.site.now).connections ≤ c.args.self.now.connections = omega (arith) in (
       TurnedAway k ∷ r.0,
       stands-turned _ _ r.0 _ c.requires.0 r.1 r.2 r.3 r.4 r.5 (g.met.S.StrandContract.keeps c.args.site.now) k gave.fit (g.W.World.book c.args.world.now) (g.W.World.book c.note.new.self) (g.W.World.book c.hang_up.new.self) gave full n.history u.history (u.offered ∙ n.offered)
           (record {
@@ -38,7 +37,7 @@ pub carry-requires : goal.carry-requires
 carry-requires g c =
     let r = c.requires.1 in
     let gave = c.requires.2 in
-    let room : c.args.self.now.connections < (g.S.StrandContract.behavior c.args.site.now).connections = grind (arith, common_steps) in (
+    let room : c.args.self.now.connections < (g.S.StrandContract.behavior c.args.site.now).connections = omega (arith) in (
       Of (strand.Conn c.args.connection) (Began c.args.self.now.now.0 (start.Client c.args.connection)) None ∷ r.0,
       busy-begun _ _ r.0 _ c.requires.0 r.1 r.2 r.3 r.4 r.5 (g.met.S.StrandContract.keeps c.args.site.now) c.args.connection gave.fit (g.W.World.book c.args.world.now) gave _ room refl (g.met.S.StrandContract.asks_last c.args.site.now) _ _ c.in-Ok.ensures.0 c.in-Ok.ensures.1,
     )
@@ -47,7 +46,7 @@ pub give_up-requires : goal.give_up-requires
 give_up-requires g c =
     let r = c.requires.1 in
     let gave = c.requires.2 in
-    let room : c.args.self.now.connections < (g.S.StrandContract.behavior c.args.site.now).connections = grind (arith, common_steps) in (
+    let room : c.args.self.now.connections < (g.S.StrandContract.behavior c.args.site.now).connections = omega (arith) in (
       Of (strand.Conn c.args.connection) (Began c.args.self.now.now.0 (start.Client c.args.connection)) None ∷ r.0,
       falls-begun _ _ r.0 _ c.requires.0 r.1 r.2 r.3 r.4 r.5 (g.met.S.StrandContract.keeps c.args.site.now) c.args.connection gave.fit (g.W.World.book c.args.world.now) gave _ room refl,
     )
