@@ -1,3 +1,4 @@
+pub mod Ascii
 pub mod Counting
 pub mod FileMap
 pub mod MemoryFiles

@@ -9,6 +9,7 @@ mod lists;
 mod names;
 mod range;
 mod sinks;
+mod slices;
 mod whole_numbers;
 
 pub use boxed::Boxed;
@@ -19,4 +20,5 @@ pub use lists::ByteLists;
 pub use names::{Id, Ms, Pair2, StrandId};
 pub use range::whole;
 pub use sinks::{MemSink, Put, Sink, SinkFault, StdSink, put_all};
+pub use slices::{byte_at, bytes_after, first_bytes};
 pub use whole_numbers::Whole;
