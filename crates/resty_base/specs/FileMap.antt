@@ -1,5 +1,7 @@
--- Files as a map from names to bytes, and what a fetch answers.
-use Rattle.std.specs.Prelude.{◌≡◌, ℕ, ◌≤◌, ◌<◌, Bool, true, false, List, length, Option, Some, None}
+-- Files as a map from names to bytes, and what a fetch returns.
+use Rattle.std.specs.Prelude.{◌≡◌, ℕ, ◌≤◌, ◌<◌, Bool, true, false, List, length, Option, Some, None, IfSome}
+use Rattle.resty_base.specs.Accounts.{Account}
+use Rattle.resty_base.specs.Counting.{RoseWhere}
 use Rattle.resty_base.specs.declared.files.Fetched.{Fetched}
 use Rattle.resty_base.specs.declared.files.Fetched.TheVariants.{Text, Missing, TooLong, Failed, Memory}
 
@@ -12,19 +14,25 @@ abbrev pub is_failed : Fetched → Bool
 is_failed Failed = true
 is_failed answer = false
 
--- what is answered for a file with these bytes, none where it is missing: its bytes where they are at most
--- `max`; a fault and want of memory may stand in place of any answer
-abbrev pub Answers : Option (List ℕ) → ℕ → Fetched → Type 0
-Answers (Some bytes) max (Text text) = (text ≡ bytes) × (length bytes ≤ max)
-Answers (Some bytes) max TooLong = max < length bytes
-Answers (Some bytes) max Missing = ⊥
-Answers None max (Text text) = ⊥
-Answers None max TooLong = ⊥
-Answers None max Missing = Unit {0}
-Answers file max Failed = Unit {0}
-Answers file max Memory = Unit {0}
+-- what is returned for a file with these bytes, none where it is missing: its bytes where they are at most
+-- `max`; a fault and out of memory may stand in place of any answer
+abbrev pub IsAnswer : Option (List ℕ) → ℕ → Fetched → Type 0
+IsAnswer (Some bytes) max (Text text) = (text ≡ bytes) × (length bytes ≤ max)
+IsAnswer (Some bytes) max TooLong = max < length bytes
+IsAnswer (Some bytes) max Missing = ⊥
+IsAnswer None max (Text text) = ⊥
+IsAnswer None max TooLong = ⊥
+IsAnswer None max Missing = Unit {0}
+IsAnswer file max Failed = Unit {0}
+IsAnswer file max Memory = Unit {0}
 
--- no text is longer than `max`, also where the files tell nothing
+-- a fetch of at most `max` bytes of the file of this name gives this answer; the files stay as they were
+pub record Answers (name : List ℕ) (max : ℕ) (answer : Fetched) (old new : Account FileMap) : Type 0 where
+  pub right : IfSome old.told (λ files. IsAnswer (files name) max answer)
+  pub told : new.told ≡ old.told
+  pub faults : RoseWhere (is_failed answer) old.faults new.faults
+
+-- no text is longer than `max`, also where the files report nothing
 abbrev pub IsWithin : ℕ → Fetched → Type 0
 IsWithin max (Text text) = length text ≤ max
 IsWithin max answer = Unit {0}

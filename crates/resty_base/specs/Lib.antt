@@ -1,7 +1,8 @@
-pub mod Ascii
+pub mod Accounts
 pub mod Counting
 pub mod FileMap
-pub mod MemoryFiles
-pub mod MemorySink
 pub mod Taking
 pub mod WholeNumber
+pub mod Ascii
+pub mod MemoryFiles
+pub mod MemorySink

@@ -1,14 +1,19 @@
 -- What contracts see of files in memory.
-use Rattle.std.specs.Prelude.{ℕ, ◌+◌, ◌-◌, ◌^◌, Bool, List, min}
+use Rattle.std.specs.Prelude.{ℕ, ◌+◌, ◌-◌, ◌^◌, Bool, List, min, Some}
 use Rattle.std.specs.List.{list_any}
 use Rattle.std.specs.Prelude.{◌==◌}
 use Rattle.std.specs.BTreeMap.{get_by_text}
 use Rattle.resty_base.specs.declared.files.MemFiles.{MemFiles}
+use Rattle.resty_base.specs.Accounts.{Account}
 use Rattle.resty_base.specs.FileMap.{FileMap}
 
 -- the bytes of each name
 abbrev pub files_of : MemFiles → FileMap
 files_of files = λ name. get_by_text files.texts name
+
+-- what they hold, and their faults
+abbrev pub account_of : MemFiles → Account FileMap
+account_of files = record { told = Some (files_of files); faults = files.faults }
 
 -- the number of the next call, from 1; it stands at the last value of a u64
 abbrev pub next_call : ℕ → ℕ

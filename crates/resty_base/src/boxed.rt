@@ -1,3 +1,5 @@
+//! A value on the heap, seen as the value alone.
+
 use std::alloc::{AllocError, Global};
 use std::marker::Model;
 

@@ -1,3 +1,5 @@
+//! The calls of a shared dictionary, and their answers.
+
 use crate::{ByteLists, Bytes};
 
 /// A value that a shared dictionary keeps.

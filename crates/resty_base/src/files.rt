@@ -1,3 +1,5 @@
+//! Files that are read whole, in memory or of the system.
+
 ghost use Rattle.resty_base.specs.FileMap.{IsWithin};
 
 use crate::Bytes;
@@ -7,7 +9,7 @@ use std::fs;
 use std::io::{self, ErrorKind, Read};
 use std::rt::Files as HostFiles;
 
-/// What a fetch answers: the bytes, or why there are none.
+/// What a fetch gives: the bytes, or why there are none.
 #[derive(Debug, PartialEq, Eq, Drop)]
 pub enum Fetched {
     Text(Bytes),
@@ -16,31 +18,25 @@ pub enum Fetched {
     TooLong,
     /// The file can't be read.
     Failed,
-    /// Want of memory.
+    /// Out of memory.
     Memory,
 }
 
-/// Files that are read whole. They may tell what they hold, as a map from names to bytes, and they count their faults.
+/// Files that are read whole. They may report what they hold, as a map from names to bytes, and they count their faults.
 pub trait Files {
-    ghost use Rattle.std.specs.Prelude.{◌≡◌, ℕ, Option, IfSome};
-    ghost use Rattle.resty_base.specs.Counting.{RoseWhere};
-    ghost use Rattle.resty_base.specs.FileMap.{FileMap, Answers, IsWithin, is_failed};
+    ghost use Rattle.resty_base.specs.Accounts.{Account};
+    ghost use Rattle.resty_base.specs.FileMap.{FileMap, Answers, IsWithin};
 
-    /// What the files hold, where they tell it.
-    ghost told: { Self → Option FileMap };
-
-    /// How many faults of reading there were.
-    ghost faults: { Self → ℕ };
+    /// What the files hold, where they report it, and how many faults of reading there were.
+    ghost account: { Self → Account FileMap };
 
     /// The bytes of the file `name`, which are at most `max`.
     fn fetch(&mut self, alloc: Global, name: &str, max: usize) -> Fetched
-        ensures answer { IfSome (told self.old) (λ files. Answers (files name.now) max result) }
-        ensures within { IsWithin max result }
-        ensures kept { told self.new ≡ told self.old }
-        ensures faults { RoseWhere (is_failed result) (faults self.old) (faults self.new) };
+        ensures answers { Answers name.now max result (account self.old) (account self.new) }
+        ensures within { IsWithin max result };
 }
 
-/// Files in memory, which tell what they hold and fail at chosen calls.
+/// Files in memory, which report what they hold and fail at chosen calls.
 #[derive(Drop)]
 pub struct MemFiles {
     texts: BTreeMap<String, Bytes>,
@@ -97,20 +93,15 @@ impl MemFiles {
 }
 
 impl Files for MemFiles {
-    ghost use Rattle.std.specs.Prelude.{◌≡◌, ◌↔◌, ℕ, Some, IsTrue};
-    ghost use Rattle.resty_base.specs.Counting.{RoseWhere};
+    ghost use Rattle.std.specs.Prelude.{◌≡◌};
     ghost use Rattle.resty_base.specs.FileMap.{Answers, IsWithin, is_failed};
-    ghost use Rattle.resty_base.specs.MemoryFiles.{files_of, next_call, fails_at};
+    ghost use Rattle.resty_base.specs.MemoryFiles.{account_of, next_call, fails_at};
 
-    ghost told = { λ files. Some (files_of files) };
-
-    ghost faults = { λ files. files.faults };
+    ghost account = { account_of };
 
     fn fetch(&mut self, alloc: Global, name: &str, max: usize) -> Fetched
-        ensures answer { Answers (files_of self.old name.now) max result }
+        ensures answers { Answers name.now max result (account_of self.old) (account_of self.new) }
         ensures within { IsWithin max result }
-        ensures kept { Some (files_of self.new) ≡ Some (files_of self.old) }
-        ensures faults { RoseWhere (is_failed result) self.old.faults self.new.faults }
         ensures failed { is_failed result ≡ fails_at self.old.failing.items (next_call self.old.calls) }
         ensures calls { self.new.calls ≡ next_call self.old.calls }
         ensures failing { self.new.failing ≡ self.old.failing }
@@ -133,7 +124,7 @@ impl Files for MemFiles {
     }
 }
 
-/// The files of the system, which tell nothing.
+/// The files of the system, which report nothing.
 #[derive(Drop)]
 pub struct DiskFiles<'a, R> {
     runtime: &'a R,
@@ -154,9 +145,7 @@ impl<'a, R: HostFiles> DiskFiles<'a, R> {
 impl<R: HostFiles> Files for DiskFiles<'_, R> {
     ghost use Rattle.std.specs.Prelude.{None};
 
-    ghost told = { λ _. None };
-
-    ghost faults = { λ files. files.faults };
+    ghost account = { λ files. record { told = None; faults = files.faults } };
 
     fn fetch(&mut self, alloc: Global, name: &str, max: usize) -> Fetched {
         let answer = read_within(self.runtime, alloc, name, max);

@@ -19,6 +19,6 @@ pub use files::{DiskFiles, Fetched, Files, MemFiles};
 pub use lists::ByteLists;
 pub use names::{Id, Ms, Pair2, StrandId};
 pub use range::whole;
-pub use sinks::{MemSink, Put, Sink, SinkFault, StdSink, put_all};
+pub use sinks::{MemSink, Put, Sink, SinkFault, StdSink, put_all, put_pieces};
 pub use slices::{byte_at, bytes_after, first_bytes};
 pub use whole_numbers::Whole;

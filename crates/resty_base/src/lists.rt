@@ -1,3 +1,5 @@
+//! A list of byte strings.
+
 use crate::Bytes;
 use std::marker::Model;
 

@@ -1,3 +1,5 @@
+//! Names of moments, connections, sockets, strands and header fields.
+
 use crate::Bytes;
 
 /// A moment: milliseconds since 1970, or a span of milliseconds.

@@ -1,3 +1,5 @@
+//! A whole number of the range, as a function.
+
 ghost use Rattle.std.specs.Prelude.{◌≡◌, ◌↔◌, IsSome, IfSome};
 ghost use Rattle.resty_base.specs.WholeNumber.{IsWhole};
 

@@ -1,6 +1,7 @@
-ghost use Rattle.std.specs.Prelude.{◌≡◌, ◌<◌, ℕ, OnOk, OnErr, length, take};
-ghost use Rattle.resty_base.specs.Counting.{Rose};
-ghost use Rattle.resty_base.specs.Taking.{with_more};
+//! Sinks: what takes bytes, in memory or a stream of the system.
+
+ghost use Rattle.std.specs.Prelude.{OnOk, OnErr};
+ghost use Rattle.resty_base.specs.Taking.{TakesAll, TakesPart, joined};
 
 use std::alloc::{AllocError, Global};
 use std::io::Write;
@@ -19,32 +20,25 @@ pub enum Put {
 #[error("cannot write")]
 pub struct SinkFault;
 
-/// What takes bytes. It may tell the bytes that it took, and it counts its faults.
+/// What takes bytes. It may report the bytes that it took, and it counts its faults.
 pub trait Sink {
-    ghost use Rattle.std.specs.Prelude.{◌≡◌, ◌<◌, ℕ, List, Option, length};
-    ghost use Rattle.resty_base.specs.Counting.{RoseWhere};
-    ghost use Rattle.resty_base.specs.Taking.{IsPiece, is_failed, taken_by, with_more};
+    ghost use Rattle.std.specs.Prelude.{◌<◌, ℕ, List, length};
+    ghost use Rattle.resty_base.specs.Accounts.{Account};
+    ghost use Rattle.resty_base.specs.Taking.{Puts};
 
-    /// The bytes that it took, where it tells them.
-    ghost told: { Self → Option (List ℕ) };
-
-    /// How many faults of writing there were.
-    ghost faults: { Self → ℕ };
+    /// The bytes that it took, where it reports them, and how many faults of writing there were.
+    ghost account: { Self → Account (List ℕ) };
 
     /// Takes a first part of the bytes, or fails and takes none. It takes no memory of the caller's.
     fn put(&mut self, bytes: &[u8]) -> Put
         requires { 0 < length bytes.now }
-        ensures piece { IsPiece (length bytes.now) result }
-        ensures told { told self.new ≡ with_more (taken_by result bytes.now) (told self.old) }
-        ensures faults { RoseWhere (is_failed result) (faults self.old) (faults self.new) };
+        ensures { Puts bytes.now result (account self.old) (account self.new) };
 }
 
 /// Puts all the bytes, in as many pieces as the sink takes them. Where it fails, a proper prefix was taken.
 pub fn put_all<S: Sink>(sink: &mut S, bytes: &[u8]) -> Result<(), SinkFault>
-    ensures ok { OnOk result (S.told sink.new ≡ with_more bytes.now (S.told sink.old)) }
-    ensures no_fault { OnOk result (S.faults sink.new ≡ S.faults sink.old) }
-    ensures err { OnErr result ((count : ℕ) × (count < length bytes.now) × (S.told sink.new ≡ with_more (take count bytes.now) (S.told sink.old))) }
-    ensures fault { OnErr result (Rose (S.faults sink.old) (S.faults sink.new)) }
+    ensures ok { OnOk result (TakesAll bytes.now (S.account sink.old) (S.account sink.new)) }
+    ensures err { OnErr result (TakesPart bytes.now (S.account sink.old) (S.account sink.new)) }
 {
     let mut done = 0;
     while done < bytes.len() {
@@ -56,7 +50,18 @@ pub fn put_all<S: Sink>(sink: &mut S, bytes: &[u8]) -> Result<(), SinkFault>
     Ok(())
 }
 
-/// A sink in memory, which tells what it took and fails at chosen calls.
+/// Puts all the pieces in order. Where it fails, a proper prefix of what they are together was taken.
+pub fn put_pieces<S: Sink>(sink: &mut S, pieces: &[&[u8]]) -> Result<(), SinkFault>
+    ensures ok { OnOk result (TakesAll (joined pieces.now) (S.account sink.old) (S.account sink.new)) }
+    ensures err { OnErr result (TakesPart (joined pieces.now) (S.account sink.old) (S.account sink.new)) }
+{
+    for piece in pieces {
+        put_all(sink, piece)?;
+    }
+    Ok(())
+}
+
+/// A sink in memory, which reports what it took and fails at chosen calls.
 #[derive(Drop)]
 pub struct MemSink {
     bytes: Vec<u8>,
@@ -105,22 +110,17 @@ impl MemSink {
 }
 
 impl Sink for MemSink {
-    ghost use Rattle.std.specs.Prelude.{◌≡◌, ◌<◌, Some, true, length};
-    ghost use Rattle.resty_base.specs.Counting.{RoseWhere};
+    ghost use Rattle.std.specs.Prelude.{◌≡◌, ◌<◌, true, length};
     ghost use Rattle.resty_base.specs.MemoryFiles.{next_call, fails_at};
-    ghost use Rattle.resty_base.specs.MemorySink.{taken_of};
-    ghost use Rattle.resty_base.specs.Taking.{IsPiece, is_failed, taken_by, with_more};
+    ghost use Rattle.resty_base.specs.MemorySink.{account_of};
+    ghost use Rattle.resty_base.specs.Taking.{Puts, is_failed};
 
-    ghost told = { λ sink. Some (taken_of sink) };
-
-    ghost faults = { λ sink. sink.faults };
+    ghost account = { account_of };
 
     /// A put that isn't to fail takes all, and fails where the sink can't grow.
     fn put(&mut self, bytes: &[u8]) -> Put
         requires { 0 < length bytes.now }
-        ensures piece { IsPiece (length bytes.now) result }
-        ensures told { Some (taken_of self.new) ≡ with_more (taken_by result bytes.now) (Some (taken_of self.old)) }
-        ensures faults { RoseWhere (is_failed result) self.old.faults self.new.faults }
+        ensures puts { Puts bytes.now result (account_of self.old) (account_of self.new) }
         ensures failed { fails_at self.old.failing.items (next_call self.old.calls) ≡ true → is_failed result ≡ true }
         ensures calls { self.new.calls ≡ next_call self.old.calls }
         ensures failing { self.new.failing ≡ self.old.failing }
@@ -139,7 +139,7 @@ impl Sink for MemSink {
     }
 }
 
-/// A stream of the system, which tells nothing.
+/// A stream of the system, which reports nothing.
 #[derive(Drop)]
 pub struct StdSink<W> {
     stream: W,
@@ -160,9 +160,7 @@ impl<W: Write> StdSink<W> {
 impl<W: Write> Sink for StdSink<W> {
     ghost use Rattle.std.specs.Prelude.{None};
 
-    ghost told = { λ _. None };
-
-    ghost faults = { λ sink. sink.faults };
+    ghost account = { λ sink. record { told = None; faults = sink.faults } };
 
     /// One write to the stream; a write that takes nothing is a fault.
     fn put(&mut self, bytes: &[u8]) -> Put {

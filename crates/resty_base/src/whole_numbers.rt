@@ -1,3 +1,5 @@
+//! The whole numbers of the Lua profile.
+
 ghost use Rattle.std.specs.Prelude.{◌≡◌, ◌↔◌, IsSome, IfSome};
 ghost use Rattle.resty_base.specs.WholeNumber.{IsWhole};
 
