@@ -1,4 +1,4 @@
--- The entries of a world's calls, and the conditions of `note`.
+-- The entries of a world's calls, and what else their answers say.
 use Rattle.std.specs.Prelude.{◌≡◌, ℕ, ◌<◌, ◌≤◌, Bool, true, false, List, [], ◌∷◌, take, length, Option, Some, None, ◌+◌}
 use Rattle.resty_base.specs.declared.names.Id.{Id}
 use Rattle.resty_base.specs.declared.names.Id.TheVariants as id
@@ -80,32 +80,32 @@ abbrev pub log_failed : Logged → Bool
 log_failed logged.Failed = true
 log_failed answer = false
 
--- the strand whose place an entry uses: one that is dropped, or one that is turned away
-abbrev pub uses_place : Entry → Option StrandId
-uses_place (entry.Dropped s) = Some s
-uses_place (entry.Turned c) = Some (strand.Conn c)
-uses_place e = None
+-- the strand whose room an entry uses: one that is dropped, or one that is turned away
+abbrev pub uses_aside : Entry → Option StrandId
+uses_aside (entry.Dropped s) = Some s
+uses_aside (entry.Turned c) = Some (strand.Conn c)
+uses_aside e = None
 
--- what `note` needs: the place that the entry uses, else room for it
-abbrev pub HasPlace : Book → Option StrandId → Type 0
-HasPlace book (Some s) = book.strand_place s ≡ true
-HasPlace book None = 0 < book.spare
+-- what `note` needs: the room that is set aside for the entry, else spare room
+abbrev pub HasRoom : Book → Option StrandId → Type 0
+HasRoom book (Some s) = book.strand_aside s ≡ true
+HasRoom book None = 0 < book.spare
 
 -- how much of the spare room a note takes
 abbrev pub room_of : Option StrandId → ℕ
 room_of (Some s) = 0
 room_of None = 1
 
--- the strand for which an entry sets a place aside: the job that was accepted
-abbrev pub sets_place : Entry → Option StrandId
-sets_place (entry.Timer who due (timer.Job n)) = Some (strand.Job n)
-sets_place e = None
+-- the strand for which an entry sets room aside: the job that was accepted
+abbrev pub sets_aside : Entry → Option StrandId
+sets_aside (entry.Timer who due (timer.Job n)) = Some (strand.Job n)
+sets_aside e = None
 
 abbrev pub is_strand : Option StrandId → StrandId → Bool
 is_strand None s = false
 is_strand (Some t) s = same_strand s t
 
--- the entry comes back where the world tells no history
+-- the entry comes back where the world reports no history
 abbrev pub handed_back : {A : Type 0} → Option A → Entry → Option Entry
 handed_back None e = Some e
 handed_back (Some h) e = None

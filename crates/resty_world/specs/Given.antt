@@ -1,5 +1,6 @@
 -- The events that a world gives.
-use Rattle.std.specs.Prelude.{◌≡◌, ℕ, ◌+◌, ◌<◌, ◌≤◌, Bool, true, false, not, ◌&&◌, nat_lt, nat_le, List, [], ◌∷◌, length, slice_get, Option, Some, None, if◌then◌else◌}
+use Rattle.std.specs.Prelude.{◌≡◌, ℕ, ◌+◌, ◌<◌, ◌≤◌, Bool, true, false, not, ◌&&◌, nat_lt, nat_le}
+use Rattle.std.specs.Prelude.{List, [], ◌∷◌, length, slice_get, Option, Some, None, if◌then◌else◌}
 use Rattle.resty_base.specs.Counting.{RoseWhere}
 use Rattle.resty_base.specs.declared.names.Id.{Id}
 use Rattle.resty_base.specs.declared.names.Id.TheVariants as id
@@ -118,8 +119,8 @@ pub record Gave (old new : Book) (e : Event) : Type 0 where
   pub bad : IsBad new e
   pub is_open : (x : Id) → new.is_open x ≡ (if arrives e x then true else old.is_open x)
   pub has_ended : (x : Id) → new.has_ended x ≡ (if arrives e x then false else if ends e x then true else old.has_ended x)
-  pub id_place : (x : Id) → new.id_place x ≡ (if arrives e x then true else old.id_place x)
-  pub strand_place : (s : StrandId) → new.strand_place s ≡ (if arrives_strand e s then true else old.strand_place s)
+  pub id_aside : (x : Id) → new.id_aside x ≡ (if arrives e x then true else old.id_aside x)
+  pub strand_aside : (s : StrandId) → new.strand_aside s ≡ (if arrives_strand e s then true else old.strand_aside s)
   pub arrivals : new.arrivals ≡ old.arrivals + arrivals_of e
   pub dials : new.dials ≡ old.dials
   pub faults : RoseWhere (is_fault e) old.faults new.faults

@@ -1,5 +1,6 @@
+pub mod Ids
 pub mod Book
 pub mod Calls
+pub mod Contract
 pub mod Given
-pub mod Ids
 pub mod KeptHistory

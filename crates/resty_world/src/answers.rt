@@ -1,3 +1,5 @@
+//! What the calls of a world return.
+
 /// What a write to a connection or a socket answers.
 #[derive(Clone, Copy, Debug, PartialEq, Eq)]
 pub enum Wrote {
@@ -7,7 +9,7 @@ pub enum Wrote {
     Later,
     /// The write broke, and the bytes are lost.
     Broken,
-    /// Want of memory; nothing was taken.
+    /// Out of memory; nothing was taken.
     Memory,
 }
 

@@ -1,3 +1,5 @@
+//! The entries of a history.
+
 use crate::{Event, TimerAnswer};
 use resty_base::{Boxed, Bytes, DictAnswer, DictCall, Id, Ms, StrandId};
 
@@ -30,6 +32,6 @@ pub enum Entry {
     Start(u64),
     /// The connection was turned away.
     Turned(u64),
-    /// The strand was given up for want of memory.
+    /// The strand was given up as memory ran out.
     Dropped(StrandId),
 }

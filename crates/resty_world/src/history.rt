@@ -1,3 +1,5 @@
+//! A history that is kept, with its room.
+
 use crate::Entry;
 use std::alloc::{AllocError, Global};
 use std::marker::Model;

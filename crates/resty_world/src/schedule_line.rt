@@ -1,3 +1,5 @@
+//! The lines of a schedule.
+
 use crate::Event;
 use resty_base::Id;
 
