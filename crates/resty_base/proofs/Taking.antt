@@ -16,7 +16,7 @@ rest-is-drop done bytes = take_all (length bytes - done) (drop done bytes) (omeg
 
 -- a put of what is left after a count of bytes goes on to a later count
 pub puts_further :
-    (done count : ℕ) (bytes : List ℕ) (start before now : Account (List ℕ)) → done ≤ length bytes
+    (done count : ℕ) (bytes : List ℕ) (start before now : Account) → done ≤ length bytes
     → TakesAll (take done bytes) start before → Puts (take (length bytes - done) (drop done bytes)) (Took count) before now
     → (done + count ≤ length bytes) × TakesAll (take (done + count) bytes) start now
 puts_further done count bytes start before now within was puts =
@@ -31,7 +31,7 @@ puts_further done count bytes start before now within was puts =
     )
 
 -- all of one piece, and all of the next
-pub all_then_all : (xs ys : List ℕ) (start before now : Account (List ℕ)) → TakesAll xs start before → TakesAll ys before now → TakesAll (xs ++ ys) start now
+pub all_then_all : (xs ys : List ℕ) (start before now : Account) → TakesAll xs start before → TakesAll ys before now → TakesAll (xs ++ ys) start now
 all_then_all xs ys start before now first second = record {
   told = rw (second.told, first.told, with_more-with_more) refl;
   faults = second.faults ∙ first.faults;
@@ -39,7 +39,7 @@ all_then_all xs ys start before now first second = record {
 
 -- all of one piece, and a part of the next, with more after it
 pub all_then_part :
-    (xs ys more : List ℕ) (start before now : Account (List ℕ)) → TakesAll xs start before → TakesPart ys before now
+    (xs ys more : List ℕ) (start before now : Account) → TakesAll xs start before → TakesPart ys before now
     → TakesPart (xs ++ (ys ++ more)) start now
 all_then_part xs ys more start before now all part =
     let fewer = part.proper in
@@ -61,7 +61,7 @@ joined-at (piece ∷ pieces) (suc i) d within =
     ∙ ap (λ t. piece.now ++ t) (joined-at pieces i d (omega (arith, within)))
 
 -- a part of one piece, after all of those before it
-pub part-at : (pieces : List (Bor (List ℕ))) (i : ℕ) (d : Bor (List ℕ)) (start before now : Account (List ℕ)) → i < length pieces
+pub part-at : (pieces : List (Bor (List ℕ))) (i : ℕ) (d : Bor (List ℕ)) (start before now : Account) → i < length pieces
     → TakesAll (joined (take i pieces)) start before → TakesPart (get_or pieces i d).now before now → TakesPart (joined pieces) start now
 part-at pieces i d start before now within all part =
     rw (← joined-at pieces i d within) (all_then_part _ _ _ _ _ _ all part)

@@ -1,9 +1,9 @@
--- What contracts see of files and of sinks.
-use Rattle.std.specs.Prelude.{ℕ, Option}
+-- What contracts see of a sink.
+use Rattle.std.specs.Prelude.{ℕ, List, Option}
 
--- the account of something that is read or written
-pub record Account (A : Type 0) : Type 0 where
-  -- what it holds, or what it took, where it reports that
-  pub told : Option A
-  -- how many of its calls failed
+-- the account of a sink
+pub record Account : Type 0 where
+  -- the bytes that it took, where it reports them
+  pub told : Option (List ℕ)
+  -- how many faults of writing there were
   pub faults : ℕ

@@ -8,5 +8,5 @@ abbrev pub taken_of : MemSink → List ℕ
 taken_of sink = sink.bytes.items
 
 -- what it took, and its faults
-abbrev pub account_of : MemSink → Account (List ℕ)
+abbrev pub account_of : MemSink → Account
 account_of sink = record { told = Some (taken_of sink); faults = sink.faults }

@@ -17,24 +17,24 @@ abbrev pub joined : List (Bor (List ℕ)) → List ℕ
 joined pieces = flat_map (λ piece. piece.now) pieces
 
 -- all of them, with no fault
-pub record TakesAll (bytes : List ℕ) (old new : Account (List ℕ)) : Type 0 where
+pub record TakesAll (bytes : List ℕ) (old new : Account) : Type 0 where
   pub told : new.told ≡ with_more bytes old.told
   pub faults : new.faults ≡ old.faults
 
 -- a proper first part of them, with a fault
-pub record TakesPart (bytes : List ℕ) (old new : Account (List ℕ)) : Type 0 where
+pub record TakesPart (bytes : List ℕ) (old new : Account) : Type 0 where
   pub count : ℕ
   pub proper : count < length bytes
   pub told : new.told ≡ with_more (take count bytes) old.told
   pub faults : Rose old.faults new.faults
 
 -- nothing, with no fault
-pub record TakesNothing (old new : Account (List ℕ)) : Type 0 where
+pub record TakesNothing (old new : Account) : Type 0 where
   pub told : new.told ≡ old.told
   pub faults : new.faults ≡ old.faults
 
 -- all of them, or a proper first part where a fault came
-abbrev pub Takes : List ℕ → Account (List ℕ) → Account (List ℕ) → Type 0
+abbrev pub Takes : List ℕ → Account → Account → Type 0
 Takes bytes old new = TakesAll bytes old new ⊎ TakesPart bytes old new
 
 -- the answer of a put is a fault of writing
@@ -53,7 +53,7 @@ IsPiece offered (Took count) = (0 < count) × (count ≤ offered)
 IsPiece offered Failed = Unit {0}
 
 -- a put of these bytes gives this answer
-pub record Puts (bytes : List ℕ) (answer : Put) (old new : Account (List ℕ)) : Type 0 where
+pub record Puts (bytes : List ℕ) (answer : Put) (old new : Account) : Type 0 where
   pub piece : IsPiece (length bytes) answer
   pub told : new.told ≡ with_more (taken_by answer bytes) old.told
   pub faults : RoseWhere (is_failed answer) old.faults new.faults

@@ -24,11 +24,10 @@ pub enum Fetched {
 
 /// Files that are read whole. They may report what they hold, as a map from names to bytes, and they count their faults.
 pub trait Files {
-    ghost use Rattle.resty_base.specs.Accounts.{Account};
-    ghost use Rattle.resty_base.specs.FileMap.{FileMap, Answers, IsWithin};
+    ghost use Rattle.resty_base.specs.FileMap.{FileAccount, Answers, IsWithin};
 
-    /// What the files hold, where they report it, and how many faults of reading there were.
-    ghost account: { Self → Account FileMap };
+    /// What the files hold, where they report it, and the counts of faults of reading.
+    ghost account: { Self → FileAccount };
 
     /// The bytes of the file `name`, which are at most `max`.
     fn fetch(&mut self, alloc: Global, name: &str, max: usize) -> Fetched
@@ -145,7 +144,7 @@ impl<'a, R: HostFiles> DiskFiles<'a, R> {
 impl<R: HostFiles> Files for DiskFiles<'_, R> {
     ghost use Rattle.std.specs.Prelude.{None};
 
-    ghost account = { λ files. record { told = None; faults = files.faults } };
+    ghost account = { λ files. record { told = None; faults = λ _. files.faults } };
 
     fn fetch(&mut self, alloc: Global, name: &str, max: usize) -> Fetched {
         let answer = read_within(self.runtime, alloc, name, max);

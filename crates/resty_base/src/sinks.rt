@@ -27,7 +27,7 @@ pub trait Sink {
     ghost use Rattle.resty_base.specs.Taking.{Puts};
 
     /// The bytes that it took, where it reports them, and how many faults of writing there were.
-    ghost account: { Self → Account (List ℕ) };
+    ghost account: { Self → Account };
 
     /// Takes a first part of the bytes, or fails and takes none. It takes no memory of the caller's.
     fn put(&mut self, bytes: &[u8]) -> Put
