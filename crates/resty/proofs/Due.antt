@@ -1,6 +1,6 @@
 -- Why the work ends at a file.
 use Rattle.std.proofs.Common.{◌≡◌, ℕ, ◌≤◌, List, [], ◌∷◌, length, codes, length-append, Option, Some, None, IfSome, refl, arith}
-use Rattle.resty_base.specs.FileMap.{FileMap}
+use Rattle.resty_base.specs.FileMap.{FileMap, FileAccount}
 use Rattle.resty_world.specs.declared.schedule_line.SchedLine.{SchedLine}
 use Rattle.schedule_text.specs.Accepted.{IsRefusedAt}
 use Rattle.schedule_text.specs.LineTexts.{line_text, whole_line, schedule_text}
@@ -9,43 +9,34 @@ use Rattle.resty.specs.declared.endings.Named.TheVariants as named
 use Rattle.resty.specs.declared.endings.Ending.{Ending}
 use Rattle.resty.specs.declared.endings.Ending.TheVariants as ending
 use Rattle.resty.specs.Form.{IsUnserved}
-use Rattle.resty.specs.Reading.{IsUnread}
-use Rattle.resty.specs.Verdict.{Verdict, Missing, TooLong, NotBuilt, BadLine, Holds, HasSite, IsOfFiles, IsDue, Faults, ending_of, most_of}
+use Rattle.resty.specs.Reading.{IsUnread, EndsReading, OfConf, OfSchedule}
+use Rattle.resty.proofs.Names.{weaker_some}
+use Rattle.resty.specs.Verdict.{Verdict, Missing, TooLong, NotBuilt, BadLine, Holds, ending_of, most_of}
 
--- the verdicts of a configuration, whatever the schedule is; and those of a schedule, where the configuration is accepted
-abbrev pub OfConf : List ℕ → FileMap → Verdict → Type 0
-OfConf conf held v = (schedule : List ℕ) → IsOfFiles conf schedule held v
+pub conf_unread : (conf : List ℕ) (old new : FileAccount) (e : Ending) → IsUnread conf named.Conf old new e → EndsReading (OfConf conf) conf named.Conf old new e
+conf_unread conf old new (ending.Missing w) u = weaker_some old.told _ _ (λ held none. (Missing w, (λ schedule. rw u.0 none), refl)) u.1
+conf_unread conf old new (ending.TooLong w) u = weaker_some old.told _ _ (λ held long. (TooLong w, (λ schedule. rw u.0 long), refl)) u.1
+conf_unread conf old new (ending.Unreadable w) u = u
+conf_unread conf old new ending.Memory u = tt
+conf_unread conf old new ending.Done u = absurd u
+conf_unread conf old new ending.Usage u = absurd u
+conf_unread conf old new (ending.NotBuilt w n) u = absurd u
+conf_unread conf old new (ending.BadLine n) u = absurd u
+conf_unread conf old new ending.NotWritten u = absurd u
 
-abbrev pub OfSchedule : List ℕ → FileMap → Verdict → Type 0
-OfSchedule schedule held v = (conf body : List ℕ) → HasSite held conf body → IsOfFiles conf schedule held v
-
-pub conf_unread : (conf : List ℕ) (told : Option FileMap) (faults : Faults) (e : Ending)
-    → IsUnread told conf named.Conf faults.files_before faults.files_after e → IsDue (OfConf conf) told faults e
-conf_unread conf None faults (ending.Missing w) u = tt
-conf_unread conf (Some held) faults (ending.Missing w) u = (Missing w, λ schedule. rw u.0 u.1, refl)
-conf_unread conf None faults (ending.TooLong w) u = tt
-conf_unread conf (Some held) faults (ending.TooLong w) u = (TooLong w, λ schedule. rw u.0 u.1, refl)
-conf_unread conf told faults (ending.Unreadable w) u = u
-conf_unread conf told faults ending.Memory u = tt
-conf_unread conf told faults ending.Done u = absurd u
-conf_unread conf told faults ending.Usage u = absurd u
-conf_unread conf told faults (ending.NotBuilt w n) u = absurd u
-conf_unread conf told faults (ending.BadLine n) u = absurd u
-conf_unread conf told faults ending.NotWritten u = absurd u
-
-pub schedule_unread : (schedule : List ℕ) (told : Option FileMap) (faults : Faults) (e : Ending)
-    → IsUnread told schedule named.Schedule faults.files_before faults.files_after e → IsDue (OfSchedule schedule) told faults e
-schedule_unread schedule None faults (ending.Missing w) u = tt
-schedule_unread schedule (Some held) faults (ending.Missing w) u = (Missing w, (λ conf body site. rw u.0 (body, site, u.1)), refl)
-schedule_unread schedule None faults (ending.TooLong w) u = tt
-schedule_unread schedule (Some held) faults (ending.TooLong w) u = (TooLong w, (λ conf body site. rw u.0 (body, site, u.1)), refl)
-schedule_unread schedule told faults (ending.Unreadable w) u = u
-schedule_unread schedule told faults ending.Memory u = tt
-schedule_unread schedule told faults ending.Done u = absurd u
-schedule_unread schedule told faults ending.Usage u = absurd u
-schedule_unread schedule told faults (ending.NotBuilt w n) u = absurd u
-schedule_unread schedule told faults (ending.BadLine n) u = absurd u
-schedule_unread schedule told faults ending.NotWritten u = absurd u
+pub schedule_unread : (schedule : List ℕ) (old new : FileAccount) (e : Ending)
+    → IsUnread schedule named.Schedule old new e → EndsReading (OfSchedule schedule) schedule named.Schedule old new e
+schedule_unread schedule old new (ending.Missing w) u =
+    weaker_some old.told _ _ (λ held none. (Missing w, (λ conf body site. rw u.0 (body, site, none)), refl)) u.1
+schedule_unread schedule old new (ending.TooLong w) u =
+    weaker_some old.told _ _ (λ held long. (TooLong w, (λ conf body site. rw u.0 (body, site, long)), refl)) u.1
+schedule_unread schedule old new (ending.Unreadable w) u = u
+schedule_unread schedule old new ending.Memory u = tt
+schedule_unread schedule old new ending.Done u = absurd u
+schedule_unread schedule old new ending.Usage u = absurd u
+schedule_unread schedule old new (ending.NotBuilt w n) u = absurd u
+schedule_unread schedule old new (ending.BadLine n) u = absurd u
+schedule_unread schedule old new ending.NotWritten u = absurd u
 
 -- a text that is refused at a line
 pub conf_refused : (conf text : List ℕ) (told : Option FileMap) (n : ℕ) → IfSome told (λ held. Holds held conf (most_of named.Conf) text)

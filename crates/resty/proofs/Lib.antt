@@ -1,7 +1,7 @@
 pub mod AskingLemmas
 pub mod Five
 pub mod Names
-pub mod Pieces
+pub mod Lines
 pub mod Story
 pub mod Built
 pub mod Served

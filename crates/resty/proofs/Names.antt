@@ -1,5 +1,5 @@
--- Tests, and the names of strands.
-use Rattle.std.proofs.Common.{◌≡◌, Bool, true, false, refl, ap}
+-- Tests, what holds where something is there, and the names of strands.
+use Rattle.std.proofs.Common.{◌≡◌, Bool, true, false, Option, Some, None, IfSome, refl, ap}
 use Rattle.std.proofs.lemmas.Bool.{eq-eqb, eqb-true}
 use Rattle.resty_base.specs.declared.names.StrandId.{StrandId}
 use Rattle.resty_base.specs.declared.names.StrandId.TheVariants as strand
@@ -9,6 +9,16 @@ use Rattle.resty_world.specs.Ids.{same_strand}
 pub by_test : {C : Type 0} (b : Bool) → (b ≡ true → C) → (b ≡ false → C) → C
 by_test true on off = on refl
 by_test false on off = off refl
+
+-- what follows from what is there, where it is
+pub weaker_some : {X : Type 0} (o : Option X) (P Q : X → Type 0) → ((x : X) → P x → Q x) → IfSome o P → IfSome o Q
+weaker_some None P Q wider p = tt
+weaker_some (Some x) P Q wider p = wider x p
+
+-- the same from two such facts
+pub both_some : {X : Type 0} (o : Option X) (P Q R : X → Type 0) → ((x : X) → P x → Q x → R x) → IfSome o P → IfSome o Q → IfSome o R
+both_some None P Q R wider p q = tt
+both_some (Some x) P Q R wider p q = wider x p q
 
 pub strand-true : (s : StrandId) → same_strand s s ≡ true
 strand-true (strand.Conn c) = eq-eqb c c refl

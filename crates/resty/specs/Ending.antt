@@ -1,11 +1,11 @@
 -- How the program ends, and what it says of it.
-use Rattle.std.specs.Prelude.{ℕ, List, [], ◌++◌, codes, decimal, slice_index_or}
+use Rattle.std.specs.Prelude.{ℕ, List, [], ◌++◌, codes, decimal}
+use Rattle.resty.specs.declared.endings.Named.{Named}
 use Rattle.resty.specs.declared.endings.Named.TheVariants as named
 use Rattle.resty.specs.declared.endings.Ending.{Ending}
 use Rattle.resty.specs.declared.endings.Ending.TheVariants as ending
 use Rattle.resty.specs.declared.endings.Status.{Status}
 use Rattle.resty.specs.declared.endings.Status.TheVariants as status
-use Rattle.resty.specs.Words.{name_of}
 
 -- the exit code of a status
 abbrev pub code_of : Status → ℕ
@@ -33,18 +33,13 @@ status_of ending.NotWritten = status.WriteFault
 status_of ending.Memory = status.Memory
 
 -- the line that says how the program ended, for files of these names; where all went well there is none
-abbrev pub line_of : List ℕ → List ℕ → Ending → List ℕ
-line_of conf schedule ending.Done = []
-line_of conf schedule ending.Usage = codes "resty: usage: resty MODE [options]\n"
-line_of conf schedule (ending.Missing which) = codes "resty: no file " ++ name_of conf schedule which ++ codes "\n"
-line_of conf schedule (ending.TooLong which) = codes "resty: " ++ name_of conf schedule which ++ codes " is too long\n"
-line_of conf schedule (ending.Unreadable which) = codes "resty: cannot read " ++ name_of conf schedule which ++ codes "\n"
-line_of conf schedule (ending.NotBuilt which line) =
-    codes "resty: " ++ name_of conf schedule which ++ codes ": line " ++ decimal line ++ codes ": not built yet\n"
-line_of conf schedule (ending.BadLine line) = codes "resty: " ++ schedule ++ codes ": line " ++ decimal line ++ codes ": not a schedule line\n"
-line_of conf schedule ending.NotWritten = codes "resty: cannot write\n"
-line_of conf schedule ending.Memory = codes "resty: out of memory\n"
-
--- the same for the words of a command, where the third and the fifth are the files' names
-abbrev pub line_in : List (List ℕ) → Ending → List ℕ
-line_in words e = line_of (slice_index_or words 2 []) (slice_index_or words 4 []) e
+abbrev pub line_of : (Named → List ℕ) → Ending → List ℕ
+line_of names ending.Done = []
+line_of names ending.Usage = codes "resty: usage: resty MODE [options]\n"
+line_of names (ending.Missing which) = codes "resty: no file " ++ names which ++ codes "\n"
+line_of names (ending.TooLong which) = codes "resty: " ++ names which ++ codes " is too long\n"
+line_of names (ending.Unreadable which) = codes "resty: cannot read " ++ names which ++ codes "\n"
+line_of names (ending.NotBuilt which line) = codes "resty: " ++ names which ++ codes ": line " ++ decimal line ++ codes ": not built yet\n"
+line_of names (ending.BadLine line) = codes "resty: " ++ names named.Schedule ++ codes ": line " ++ decimal line ++ codes ": not a schedule line\n"
+line_of names ending.NotWritten = codes "resty: cannot write\n"
+line_of names ending.Memory = codes "resty: out of memory\n"

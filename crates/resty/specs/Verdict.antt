@@ -1,7 +1,8 @@
 -- What the words and the files decide.
-use Rattle.std.specs.Prelude.{◌≡◌, ℕ, ◌<◌, ◌≤◌, List, length, Option, Some, None, IfSome}
+use Rattle.std.specs.Prelude.{◌≡◌, ℕ, ◌<◌, ◌≤◌, List, length, Some, None, IfSome}
 use Rattle.resty_base.specs.Counting.{Rose}
-use Rattle.resty_base.specs.FileMap.{FileMap}
+use Rattle.resty_base.specs.Accounts.{Account}
+use Rattle.resty_base.specs.FileMap.{FileMap, FileAccount}
 use Rattle.resty_world.specs.declared.schedule_line.SchedLine.{SchedLine}
 use Rattle.schedule_text.specs.Accepted.{IsRead, IsRefusedAt}
 use Rattle.strand.specs.Configuration.{IsSite, IsFaultAt}
@@ -21,6 +22,10 @@ most_of named.Schedule = 67_108_864
 pub record Holds (files : FileMap) (name : List ℕ) (most : ℕ) (text : List ℕ) : Type 0 where
   pub here : files name ≡ Some text
   pub short : length text ≤ most
+
+-- reading the file of this name failed
+abbrev pub FailedAt : List ℕ → FileAccount → FileAccount → Type 0
+FailedAt name old new = Rose (old.faults name) (new.faults name)
 
 -- the file is too long
 pub record IsTooLong (files : FileMap) (name : List ℕ) (most : ℕ) : Type 0 where
@@ -80,18 +85,14 @@ ending_of (NotBuilt which n) = ending.NotBuilt which n
 ending_of (BadLine n) = ending.BadLine n
 ending_of (Runs body lines) = ending.Done
 
--- how often reading and writing failed, before and after
-pub record Faults : Type 0 where
-  pub files_before : ℕ
-  pub files_after : ℕ
-  pub out_before : ℕ
-  pub out_after : ℕ
-
--- Why the work ended so: a file can't be read only where reading failed, the output can't be written only where writing failed,
--- memory may be wanting at any time; else it is the verdict, where the files tell what they hold.
-abbrev pub IsDue : (FileMap → Verdict → Type 0) → Option FileMap → Faults → Ending → Type 0
-IsDue verdict told faults (ending.Unreadable which) = Rose faults.files_before faults.files_after
-IsDue verdict told faults ending.NotWritten =
-    Rose faults.out_before faults.out_after × IfSome told (λ files. (body : List ℕ) × (lines : List SchedLine) × verdict files (Runs body lines))
-IsDue verdict told faults ending.Memory = Unit {0}
-IsDue verdict told faults e = IfSome told (λ files. (v : Verdict) × verdict files v × (e ≡ ending_of v))
+-- Why the work ended so. A file can't be read only where reading that file failed, of a schedule only where the configuration
+-- is a site's; the output can't be written only where writing failed; memory may run out at any time; else it is the verdict,
+-- where the files report what they hold.
+abbrev pub IsDue : (FileMap → Verdict → Type 0) → (Named → List ℕ) → FileAccount → FileAccount → Account → Account → Ending → Type 0
+IsDue verdict names files files' out out' (ending.Unreadable named.Conf) = FailedAt (names named.Conf) files files'
+IsDue verdict names files files' out out' (ending.Unreadable named.Schedule) =
+    FailedAt (names named.Schedule) files files' × IfSome files.told (λ held. (body : List ℕ) × HasSite held (names named.Conf) body)
+IsDue verdict names files files' out out' ending.NotWritten =
+    Rose out.faults out'.faults × IfSome files.told (λ held. (body : List ℕ) × (lines : List SchedLine) × verdict held (Runs body lines))
+IsDue verdict names files files' out out' ending.Memory = Unit {0}
+IsDue verdict names files files' out out' e = IfSome files.told (λ held. (v : Verdict) × verdict held v × (e ≡ ending_of v))

@@ -1,5 +1,5 @@
 -- The words of a command.
-use Rattle.std.specs.Prelude.{◌≡◌, ◌≢◌, ℕ, List, [], ◌∷◌, map, codes, string_bytes}
+use Rattle.std.specs.Prelude.{◌≡◌, ◌≢◌, ℕ, List, [], ◌∷◌, map, codes, string_bytes, slice_index_or}
 use Rattle.std.specs.declared.alloc.Global.{Global}
 use Rattle.std.specs.declared.string.String.{String}
 use Rattle.resty.specs.declared.endings.Named.{Named}
@@ -28,3 +28,8 @@ IsForm words = (conf schedule : List ℕ) × Names words conf schedule
 abbrev pub name_of : List ℕ → List ℕ → Named → List ℕ
 name_of conf schedule named.Conf = conf
 name_of conf schedule named.Schedule = schedule
+
+-- the same, of the words of a command: its third and its fifth are the files' names
+abbrev pub name_in : List (List ℕ) → Named → List ℕ
+name_in words named.Conf = slice_index_or words 2 []
+name_in words named.Schedule = slice_index_or words 4 []

@@ -1,6 +1,7 @@
 -- What is written on the output.
 use Rattle.std.specs.Prelude.{◌≡◌, ◌⊎◌, ℕ, true, false, List, Option, IfSome}
-use Rattle.resty_base.specs.FileMap.{FileMap}
+use Rattle.resty_base.specs.Accounts.{Account}
+use Rattle.resty_base.specs.FileMap.{FileMap, FileAccount}
 use Rattle.resty_world.specs.declared.entry.Entry.{Entry}
 use Rattle.resty_world.specs.declared.schedule_line.SchedLine.{SchedLine}
 use Rattle.schedule_text.specs.EntryTexts.{history_text}
@@ -11,10 +12,10 @@ use Rattle.resty.specs.declared.endings.Status.TheVariants as status
 use Rattle.resty.specs.declared.endings.Ending.{Ending}
 use Rattle.resty.specs.declared.endings.Ending.TheVariants as ending
 use Rattle.resty.specs.Run.{IsRun, has_dropped}
-use Rattle.resty.specs.Taking.{TakesAll, TakesPart, TakesNothing}
+use Rattle.resty_base.specs.Taking.{TakesAll, TakesPart, TakesNothing}
 use Rattle.resty.specs.Verdict.{Verdict, Runs}
 
--- the history of a run of the site and the schedule; where the files tell what they hold, these are what the files hold
+-- the history of a run of the site and the schedule; where the files report what they hold, these are what the files hold
 pub record IsRunOf (verdict : FileMap → Verdict → Type 0) (told : Option FileMap) (h : List Entry) : Type 0 where
   pub body : List ℕ
   pub lines : List SchedLine
@@ -23,26 +24,23 @@ pub record IsRunOf (verdict : FileMap → Verdict → Type 0) (told : Option Fil
 
 -- What the output took. With `Done` it is the whole text of the history of a run in which no strand was given up; with
 -- `WriteFault` a proper first part of such a text; with `Memory` nothing, or the whole text where a strand was given up; else nothing.
-abbrev pub Writes : (FileMap → Verdict → Type 0) → Option FileMap → Status → Option (List ℕ) → ℕ → Option (List ℕ) → ℕ → Type 0
-Writes verdict files status.Done told faults told' faults' =
-    (h : List Entry) × IsRunOf verdict files h × (has_dropped h ≡ false) × TakesAll (history_text h) told faults told' faults'
-Writes verdict files status.WriteFault told faults told' faults' =
-    (h : List Entry) × IsRunOf verdict files h × TakesPart (history_text h) told faults told' faults'
-Writes verdict files status.Memory told faults told' faults' =
-    TakesNothing told faults told' faults'
-    ⊎ ((h : List Entry) × IsRunOf verdict files h × (has_dropped h ≡ true) × TakesAll (history_text h) told faults told' faults')
-Writes verdict files s told faults told' faults' = TakesNothing told faults told' faults'
+abbrev pub Writes : (FileMap → Verdict → Type 0) → FileAccount → Status → Account → Account → Type 0
+Writes verdict files status.Done out out' =
+    (h : List Entry) × IsRunOf verdict files.told h × (has_dropped h ≡ false) × TakesAll (history_text h) out out'
+Writes verdict files status.WriteFault out out' = (h : List Entry) × IsRunOf verdict files.told h × TakesPart (history_text h) out out'
+Writes verdict files status.Memory out out' =
+    TakesNothing out out' ⊎ ((h : List Entry) × IsRunOf verdict files.told h × (has_dropped h ≡ true) × TakesAll (history_text h) out out')
+Writes verdict files s out out' = TakesNothing out out'
 
 -- the same of one history
-abbrev pub WritesHistory : List Entry → Ending → Option (List ℕ) → ℕ → Option (List ℕ) → ℕ → Type 0
-WritesHistory h ending.Done told faults told' faults' = (has_dropped h ≡ false) × TakesAll (history_text h) told faults told' faults'
-WritesHistory h ending.NotWritten told faults told' faults' = TakesPart (history_text h) told faults told' faults'
-WritesHistory h ending.Memory told faults told' faults' =
-    TakesNothing told faults told' faults' ⊎ ((has_dropped h ≡ true) × TakesAll (history_text h) told faults told' faults')
-WritesHistory h e told faults told' faults' = ⊥
+abbrev pub WritesHistory : List Entry → Ending → Account → Account → Type 0
+WritesHistory h ending.Done out out' = (has_dropped h ≡ false) × TakesAll (history_text h) out out'
+WritesHistory h ending.NotWritten out out' = TakesPart (history_text h) out out'
+WritesHistory h ending.Memory out out' = TakesNothing out out' ⊎ ((has_dropped h ≡ true) × TakesAll (history_text h) out out')
+WritesHistory h e out out' = ⊥
 
--- the same of a run of a site and a schedule, or of none for want of memory
-abbrev pub WritesRun : List ℕ → List SchedLine → Ending → Option (List ℕ) → ℕ → Option (List ℕ) → ℕ → Type 0
-WritesRun body lines e told faults told' faults' =
-    ((h : List Entry) × IsRun {J = NoJob} (literal_behavior body) lines h × WritesHistory h e told faults told' faults')
-    ⊎ ((e ≡ ending.Memory) × TakesNothing told faults told' faults')
+-- the same of a run of a site and a schedule, or of none as memory ran out
+abbrev pub WritesRun : List ℕ → List SchedLine → Ending → Account → Account → Type 0
+WritesRun body lines e out out' =
+    ((h : List Entry) × IsRun {J = NoJob} (literal_behavior body) lines h × WritesHistory h e out out')
+    ⊎ ((e ≡ ending.Memory) × TakesNothing out out')

@@ -1,3 +1,5 @@
+//! How the work ends, and the statuses of the program.
+
 ghost use Rattle.std.specs.Prelude.{◌≡◌};
 ghost use Rattle.resty.specs.Ending.{code_of, status_of};
 
@@ -19,7 +21,7 @@ pub enum Status {
     WorldFault,
     /// As many events as were asked for were given, and none of them was Stop.
     EventsSpent,
-    /// Want of memory, or a strand was given up for it.
+    /// Memory ran out, or a strand was given up for that.
     Memory,
 }
 
@@ -53,7 +55,7 @@ pub enum Ending {
     /// This line of the schedule is no line of a schedule; lines are numbered from 1.
     BadLine(u64),
     NotWritten,
-    /// Want of memory.
+    /// Memory ran out.
     Memory,
 }
 

@@ -1,27 +1,27 @@
 //! The program: its words, the files that they name, the run, and what it writes.
 #![tactic(auto)]
 
-mod command;
+mod command_line;
 mod endings;
-mod form;
 pub mod laws;
 mod messages;
+mod program;
 mod reading;
-mod run;
+mod replaying;
+mod serve_and_write;
+mod served_form;
 pub mod server;
-mod top;
-mod work;
 mod writing;
 
 pub use endings::Status;
 use messages::{put_out_of_memory, put_usage};
+pub use program::resty;
 use resty_base::{DiskFiles, Sink, StdSink};
 use schedule::{Replay, SchedFault, schedule_of};
 use std::alloc::Global;
 use std::env;
 use std::io::{self, ErrorKind};
 use std::process::ExitCode;
-pub use top::resty;
 
 fn main(rt: HostRuntime) -> ExitCode {
     let mut err = StdSink::new(rt.stderr());

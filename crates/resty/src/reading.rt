@@ -1,13 +1,14 @@
-ghost use Rattle.std.specs.Prelude.{◌≡◌, ◌≤◌, ℕ, List, IfSome, IfOk, IfErr, OnOk, length};
-ghost use Rattle.resty_base.specs.FileMap.{FileMap};
+//! The reading of the files that the words name.
+
+ghost use Rattle.std.specs.Prelude.{◌≡◌, ◌≤◌, IfSome, IfOk, IfErr, OnOk, length};
 ghost use Rattle.resty.specs.Form.{IsServed};
-ghost use Rattle.resty.specs.Reading.{IsUnread, EndsReading};
-ghost use Rattle.resty.specs.Verdict.{Holds, HasSite, HasSchedule, IsOfFiles, IsDue, most_of};
+ghost use Rattle.resty.specs.Reading.{IsUnread, EndsReading, OfConf, OfSchedule, ReadsWell};
+ghost use Rattle.resty.specs.Verdict.{Holds, HasSite, HasSchedule, most_of};
 ghost use Rattle.resty.specs.Words.{name_of};
 
-use crate::command::FileNames;
+use crate::command_line::FileNames;
 use crate::endings::{Ending, Named};
-use crate::form::first_unserved;
+use crate::served_form::first_unserved;
 use resty_base::{Bytes, Fetched, Files};
 use schedule::{SchedFault, Schedule, schedule_of};
 use std::alloc::Global;
@@ -20,11 +21,11 @@ fn read_named<F: Files>(
     names: &FileNames<'_>,
     which: Named,
 ) -> Result<Bytes, Ending>
-    ensures text { IfOk result (λ text. IfSome (F.told files.old) (λ held. Holds held (name_of names.now.conf.now names.now.schedule.now which) (most_of which) text)) }
+    ensures text { IfOk result (λ text. IfSome (F.account files.old).told
+        (λ held. Holds held (name_of names.now.conf.now names.now.schedule.now which) (most_of which) text)) }
     ensures within { IfOk result (λ text. length text ≤ most_of which) }
-    ensures unread { IfErr result (IsUnread (F.told files.old) (name_of names.now.conf.now names.now.schedule.now which) which (F.faults files.old) (F.faults files.new)) }
-    ensures no_fault { OnOk result (F.faults files.new ≡ F.faults files.old) }
-    ensures kept { F.told files.new ≡ F.told files.old }
+    ensures unread { IfErr result (IsUnread (name_of names.now.conf.now names.now.schedule.now which) which (F.account files.old) (F.account files.new)) }
+    ensures well { OnOk result (ReadsWell (F.account files.old) (F.account files.new)) }
 {
     match files.fetch(alloc, names.name(which), most_of(which)) {
         Fetched::Text(text) => Ok(text),
@@ -51,12 +52,9 @@ pub fn read_site<F: Files>(
     files: &mut F,
     names: &FileNames<'_>,
 ) -> Result<Site, Ending>
-    ensures site { IfOk result (λ site. IfSome (F.told files.old) (λ held. HasSite held names.now.conf.now site)) }
-    ensures due { IfErr result (IsDue (λ held v. (schedule : List ℕ) → IsOfFiles names.now.conf.now schedule held v) (F.told files.old)
-        (record { files_before = F.faults files.old; files_after = F.faults files.new; out_before = 0; out_after = 0 })) }
-    ensures reading { IfErr result EndsReading }
-    ensures no_fault { OnOk result (F.faults files.new ≡ F.faults files.old) }
-    ensures kept { F.told files.new ≡ F.told files.old }
+    ensures site { IfOk result (λ site. IfSome (F.account files.old).told (λ held. HasSite held names.now.conf.now site)) }
+    ensures due { IfErr result (EndsReading (OfConf names.now.conf.now) names.now.conf.now Named.Conf (F.account files.old) (F.account files.new)) }
+    ensures well { OnOk result (ReadsWell (F.account files.old) (F.account files.new)) }
 {
     let text = match read_named(alloc, files, names, Named::Conf) {
         Ok(text) => text,
@@ -75,14 +73,12 @@ pub fn read_schedule<F: Files>(
     files: &mut F,
     names: &FileNames<'_>,
 ) -> Result<Schedule, Ending>
-    ensures schedule { IfOk result (λ lines. IfSome (F.told files.old) (λ held. HasSchedule held names.now.schedule.now lines)) }
+    ensures schedule { IfOk result (λ lines. IfSome (F.account files.old).told (λ held. HasSchedule held names.now.schedule.now lines)) }
     ensures served { IfOk result IsServed }
     ensures few { IfOk result (λ lines. length lines ≤ 67_108_864) }
-    ensures due { IfErr result (IsDue (λ held v. (conf body : List ℕ) → HasSite held conf body → IsOfFiles conf names.now.schedule.now held v) (F.told files.old)
-        (record { files_before = F.faults files.old; files_after = F.faults files.new; out_before = 0; out_after = 0 })) }
-    ensures reading { IfErr result EndsReading }
-    ensures no_fault { OnOk result (F.faults files.new ≡ F.faults files.old) }
-    ensures kept { F.told files.new ≡ F.told files.old }
+    ensures due { IfErr result (EndsReading (OfSchedule names.now.schedule.now) names.now.schedule.now Named.Schedule
+        (F.account files.old) (F.account files.new)) }
+    ensures well { OnOk result (ReadsWell (F.account files.old) (F.account files.new)) }
 {
     let text = match read_named(alloc, files, names, Named::Schedule) {
         Ok(text) => text,

@@ -1,3 +1,5 @@
+//! The writing of a history.
+
 ghost use Rattle.std.specs.Prelude.{◌≡◌};
 ghost use Rattle.std.specs.List.{list_any};
 ghost use Rattle.resty.specs.Run.{has_dropped, is_dropped};
@@ -11,7 +13,7 @@ use std::alloc::Global;
 
 /// Writes the text of a history of which serving ended well.
 pub fn write_history<O: Sink>(alloc: Global, history: &History, out: &mut O) -> Ending
-    ensures { WritesHistory history.now.entries result (O.told out.old) (O.faults out.old) (O.told out.new) (O.faults out.new) }
+    ensures { WritesHistory history.now.entries result (O.account out.old) (O.account out.new) }
 {
     let text = match history_text(alloc, history) {
         Ok(text) => text,
