@@ -14,7 +14,7 @@ use Rattle.lua_grammar.specs.Resolution.{Opens, EndsFunction}
 -- the line of the first token, 1 of none
 abbrev pub first_line : List Lexeme → Line
 first_line [] = 1
-first_line (first ∷ behind) = first.line
+first_line (first ∷ after) = first.line
 
 abbrev pub outside : Scope
 outside = record { functions = []; around = [] }

@@ -64,7 +64,7 @@ left_level (Plain Concat) = 5
 left_level (Plain Pow) = 9
 left_level op = level op
 
--- the lowest level of a right operand: all but `..` and `^` associate to the left, and a unary operator may stand behind
+-- the lowest level of a right operand: all but `..` and `^` associate to the left, and a unary operator may stand after
 -- `^`
 abbrev pub right_level : Operator → ℕ
 right_level (Plain Concat) = 4

@@ -1,5 +1,5 @@
 -- The program that a tree stands for. Names are resolved in the order of the text, from the scope before a part of the tree
--- to the scope behind it.
+-- to the scope after it.
 use Rattle.std.specs.Prelude.{◌≡◌, ℕ, ◌≤◌, Bool, List, [], ◌∷◌, ◌++◌, map, length, slice_set, Option, Some, None, Vec, codes}
 use Rattle.std.specs.Global.{Global}
 use Rattle.std.specs.declared.rc.Rc.{Rc}
@@ -19,7 +19,8 @@ use Rattle.lua_grammar.specs.declared.operators.Operator.{Operator}
 use Rattle.lua_grammar.specs.declared.operators.Operator.TheVariants.{Or, And, Plain}
 use Rattle.lua_grammar.specs.Scopes.{Frame, Scope, look, declare, in_scope, slots_from, leave, enter}
 use Rattle.lua_grammar.specs.Validity.{takes_rest}
-use Rattle.lua_grammar.specs.Tree.{Line, Bytes, NameList, Params, FuncName, Exp, PrefixExp, Args, ExpList, Table, Fields, Field, FuncBody, Block, Stats, Stat, Arms, LastStat, VarList}
+use Rattle.lua_grammar.specs.Tree.{Line, Bytes, NameList, Params, FuncName, Exp, PrefixExp, Args, ExpList, Table, Fields, Field, FuncBody, Block, Stats, Stat}
+use Rattle.lua_grammar.specs.Tree.{Arms, LastStat, VarList}
 use Rattle.lua_grammar.specs.Tree as tree
 
 abbrev pub Shared : Type 0
@@ -86,7 +87,7 @@ pub record ResolvesName (l : Line) (n : Bytes) (s : Scope) (e : Expr) (t : Scope
   pub expr : e ≡ node l (variable_kind n (look n s.around).0)
   pub scope : t ≡ record s { around = (look n s.around).1 }
 
--- a function with these parameters, behind whose statements the scope of the function is `frame`
+-- a function with these parameters, after whose statements the scope of the function is `frame`
 pub record IsFunction (line : Line) (names : List Bytes) (rest : Bool) (frame : Frame) (statements : List Stmt) (f : Function) : Type 0 where
   pub file : f.file ≡ 0
   pub params : f.params ≡ length names
@@ -181,7 +182,7 @@ unfoldable mutual
       (kept : Function) × (out : List Stmt) × (m : Scope) × Opens b (enter (before ++ names_of_params ps) kept s) out m
       × EndsFunction l (before ++ names_of_params ps) (takes_rest ps) out s m t × (n ≡ length s.functions)
 
-  -- the scope behind is that at the block's end, with its locals
+  -- the scope after is that at the block's end, with its locals
   pub Opens : Block → Scope → List Stmt → Scope → Type 0
   Opens (tree.statements ss) s out t = ResolvesStats ss s out t
   Opens (tree.with_last ss l x) s out t =

@@ -82,13 +82,13 @@ unfoldable pub slots_from : ℕ → List Bytes → List ℕ
 slots_from slot [] = []
 slots_from slot (name ∷ names) = slot ∷ slots_from (slot + 1) names
 
--- behind a block that was entered with so many locals, those that it declared are out of scope
+-- after a block that was entered with so many locals, those that it declared are out of scope
 abbrev pub leave_in : ℕ → List Frame → List Frame
 leave_in count [] = []
 leave_in count (f ∷ around) = record f { locals = take count f.locals } ∷ around
 
 abbrev pub leave : Scope → Scope → Scope
-leave before behind = record behind { around = leave_in (in_scope before) behind.around }
+leave before after = record after { around = leave_in (in_scope before) after.around }
 
 -- a function begins, with its parameters as its first locals: a place is kept for it
 abbrev pub enter : List Bytes → Function → Scope → Scope

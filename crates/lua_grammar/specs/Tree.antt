@@ -1,5 +1,5 @@
 -- The concrete syntax tree of a chunk (Lua 5.1 Reference Manual, 8): one constructor a production. A repetition of the
--- manual is a list that grows at its end. Each `Line` is that of a token: a keyword, a sign, or what stands behind it.
+-- manual is a list that grows at its end. Each `Line` is that of a token: a keyword, a sign, or what stands after it.
 use Rattle.std.specs.Prelude.{ℕ, ℤ, List}
 use Rattle.lua_ast.specs.declared.expressions.UnOp.{UnOp}
 use Rattle.lua_grammar.specs.declared.operators.Operator.{Operator}
@@ -32,7 +32,7 @@ pub data Separator : Type 0 where
   comma : Line → Separator
   semicolon : Line → Separator
 
--- [`;´] behind a statement
+-- [`;´] after a statement
 pub data End : Type 0 where
   bare : End
   closed : (semicolon : Line) → End

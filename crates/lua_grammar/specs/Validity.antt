@@ -4,7 +4,8 @@
 use Rattle.std.specs.Prelude.{◌≡◌, ℕ, ◌+◌, ◌≤◌, Bool, true, false}
 use Rattle.lua_grammar.specs.Operators.{level, left_level, right_level, unary_level, highest_level}
 use Rattle.lua_grammar.specs.Levels.{height, prefix_height, table_height, funcname_height}
-use Rattle.lua_grammar.specs.Tree.{Line, Bytes, NameList, Params, FuncName, Separator, End, Exp, PrefixExp, Args, ExpList, Table, Fields, Field, FuncBody, Block, Stats, Stat, Arms, LastStat, VarList}
+use Rattle.lua_grammar.specs.Tree.{Line, Bytes, NameList, Params, FuncName, Separator, End, Exp, PrefixExp, Args, ExpList, Table, Fields, Field, FuncBody}
+use Rattle.lua_grammar.specs.Tree.{Block, Stats, Stat, Arms, LastStat, VarList}
 use Rattle.lua_grammar.specs.Tree as tree
 
 -- the level of precedence of an expression
@@ -50,7 +51,7 @@ BeginOn line (tree.no_args o c) = o ≡ line
 BeginOn line (tree.args o es c) = o ≡ line
 BeginOn line other = Unit {0}
 
--- an expression or a statement whose last tokens are a prefix: a `(` behind it would be that of a call
+-- an expression or a statement whose last tokens are a prefix: a `(` after it would be that of a call
 abbrev pub EndsWithPrefix : Exp → Type 0
 EndsWithPrefix (tree.prefix p) = Unit {0}
 EndsWithPrefix (tree.binary a op l b) = EndsWithPrefix b
@@ -86,7 +87,7 @@ StatBeginsWithParen (tree.assign vs q es) = VarsBeginWithParen vs
 StatBeginsWithParen (tree.call_statement p) = BeginsWithParen p
 StatBeginsWithParen other = ⊥
 
--- a statement behind others: a `(` that could be that of a call is that of a call, unless a `;` stands before it
+-- a statement after others: a `(` that could be that of a call is that of a call, unless a `;` stands before it
 abbrev pub MayFollow : Stats → Stat → Type 0
 MayFollow (tree.more_stats ss before tree.bare) s = StatEndsWithPrefix before → StatBeginsWithParen s → ⊥
 MayFollow other s = Unit {0}
