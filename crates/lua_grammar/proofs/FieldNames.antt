@@ -1,4 +1,4 @@
--- A field that begins with a name: what stands after that tells whether it is the field's.
+-- A field that begins with a name: the token after that says whether it is the field's.
 use Rattle.std.proofs.Common.{◌≡◌, true, List, [], ◌∷◌, refl, ap}
 use Rattle.lua_ast.specs.declared.expressions.UnOp.TheVariants as unary
 use Rattle.lua_ast.specs.declared.expressions.BinOp.TheVariants.{Add, Sub, Mul, Div, Mod, Pow, Concat, Eq, Ne, Lt, Le, Gt, Ge}
@@ -86,7 +86,7 @@ exp_alike_but_named (tree.unary unary.Not l e) r other after h x = token_alike r
 exp_alike_but_named (tree.unary unary.Length l e) r other after h x = token_alike r other (Sign sign.Hash) l (print_exp e after) h refl (λ n is. cc)
 exp_alike_but_named (tree.unary unary.Minus l e) r other after h x = token_alike r other (Sign sign.Minus) l (print_exp e after) h refl (λ n is. cc)
 
--- no operator is after, nothing that continues a prefix, and no `=`
+-- no operator comes next, nothing that continues a prefix, and no `=`
 pub field_stops : (f : Field) (after : List Lexeme) → Behind IsNoOperator after → Behind IsApart after → Behind IsNoAssign after → FieldStops f after
 field_stops (tree.keyed o key c q e) after none apart assign = (stops e after none (λ h. apart), ends_in 1 after none)
 field_stops (tree.named l n q e) after none apart assign = (stops e after none (λ h. apart), ends_in 1 after none)

@@ -112,7 +112,7 @@ fails_or_goes_on (after_return r k) live = inr (by_token (after_return r k) (Sig
 pub open_chunk : IsOpen read_chunk
 open_chunk = λ b. live_end (λ l. chunk b) (λ l. (tt, ([], b, refl)))
 
--- what stands after is read by what was made of what stands before
+-- what comes after is read by what was made of what comes before
 pub run_after : (r : Reader) (xs ys : List Lexeme) → run r (xs ++ ys) ≡ run (run r xs) ys
 run_after r [] ys = refl
 run_after r (first ∷ after) ys = run_after (feed r first.kind first.line) after ys

@@ -39,7 +39,7 @@ abbrev pub IsNoParen : TokenKind → Type 0
 IsNoParen (Sign sign.OpenParenthesis) = ⊥
 IsNoParen other = Unit {0}
 
--- ---- what is after an expression
+-- ---- what comes after an expression
 
 pub is_operator : (op : Operator) → operator_of (kind_of op) ≡ Some op
 is_operator Or = refl
@@ -102,7 +102,7 @@ pub ends_in : (m : ℕ) (after : List Lexeme) → Behind IsNoOperator after → 
 ends_in m [] h = h
 ends_in m (first ∷ after) h = h m
 
--- no operator is after, and nothing that continues a prefix, if that is at the end
+-- no operator comes next, and nothing that continues a prefix, if that is at the end
 pub stops : (e : Exp) (after : List Lexeme) → Behind IsNoOperator after → (EndsWithPrefix e → Behind IsApart after) → Stops e after
 stops (tree.prefix p) after h k = k tt
 stops (tree.binary a op l b) after h k = (ends_in (right_level op) after h, stops b after h k)

@@ -28,6 +28,7 @@ use Rattle.lua_grammar.specs.Reading.{read, read_chunk, run}
 abbrev pub IsOneValid : Exp → Exp → Type 0
 IsOneValid some other = (IsValid false some × (IsValid false other → ⊥)) ⊎ ((IsValid false some → ⊥) × IsValid false other)
 
+-- the first tree is valid, and the second isn't
 abbrev pub IsValidNot : Exp → Exp → Type 0
 IsValidNot some other = IsValid false some × (IsValid false other → ⊥)
 

@@ -1,4 +1,4 @@
--- The tokens of a tree, each as its kind and its line, before a rest.
+-- The tokens of a tree in the order of the text, each as its kind and its line, before those that come after it.
 use Rattle.std.specs.Prelude.{List, ◌∷◌, map}
 use Rattle.lua_lexer.specs.declared.tokens.Token.{Token}
 use Rattle.lua_lexer.specs.declared.tokens.TokenKind.{TokenKind}
@@ -14,7 +14,7 @@ use Rattle.lua_grammar.specs.Tree.{Line, Bytes, NameList, Params, FuncName, Sepa
 use Rattle.lua_grammar.specs.Tree.{Block, Stats, Stat, Arms, LastStat, VarList}
 use Rattle.lua_grammar.specs.Tree as tree
 
--- a token without its place in the text
+-- a token as the grammar sees it, without its position in the text
 pub record Lexeme : Type 0 where
   pub kind : TokenKind
   pub line : Line
@@ -25,6 +25,7 @@ lexeme token = record { kind = token.kind; line = token.line }
 abbrev pub lexemes : List Token → List Lexeme
 lexemes tokens = map lexeme tokens
 
+-- one token before those that come after it
 abbrev pub a_kind : TokenKind → Line → List Lexeme → List Lexeme
 a_kind kind line after = record { kind = kind; line = line } ∷ after
 

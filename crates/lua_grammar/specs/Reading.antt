@@ -224,6 +224,8 @@ feed (after_return r k) (Word word.ElseIf) l = feed (k (tree.return_none r)) (Wo
 feed (after_return r k) (Word word.Until) l = feed (k (tree.return_none r)) (Word word.Until) l
 feed (after_return r k) kind l = begin_list (λ es. k (tree.return_values r es)) kind l
 
+-- ---- all tokens
+
 abbrev pub run : Reader → List Lexeme → Reader
 run r [] = r
 run r (first ∷ after) = run (feed r first.kind first.line) after

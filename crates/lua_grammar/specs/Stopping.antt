@@ -10,6 +10,7 @@ use Rattle.lua_grammar.specs.Tree as tree
 use Rattle.lua_grammar.specs.Printing.{Lexeme, print_end}
 use Rattle.lua_grammar.specs.Waiting.{operator_of, above}
 
+-- a token of that kind comes next
 abbrev pub Behind : (TokenKind → Type 0) → List Lexeme → Type 0
 Behind P [] = ⊥
 Behind P (first ∷ after) = P first.kind
@@ -56,19 +57,21 @@ abbrev pub IsReturnEnd : TokenKind → Type 0
 IsReturnEnd (Sign sign.Semicolon) = Unit {0}
 IsReturnEnd kind = IsBlockEnd kind
 
--- an expression, but for operators after the whole of it
+-- ---- what comes next doesn't continue ..
+
+-- an expression, unless it is an operator after the whole of it
 abbrev pub Stops : Exp → List Lexeme → Type 0
 Stops (tree.prefix p) after = Behind IsApart after
 Stops (tree.binary a op l b) after = Behind (EndsAt (right_level op)) after × Stops b after
 Stops (tree.unary op l e) after = Behind (EndsAt 7) after × Stops e after
 Stops other after = Unit {0}
 
--- the last of expressions, as a whole
+-- the last of a list of expressions, not even as an operator
 abbrev pub LastStops : ExpList → List Lexeme → Type 0
 LastStops (tree.one e) after = Stops e after × Behind (EndsAt 1) after
 LastStops (tree.more es c e) after = Stops e after × Behind (EndsAt 1) after
 
--- a name alone, which `=` after it makes that of a field
+-- a name alone: with `=` after it, it would be that of a field
 abbrev pub IsLone : Exp → Type 0
 IsLone (tree.prefix (tree.variable l n)) = Unit {0}
 IsLone other = ⊥
