@@ -31,8 +31,8 @@ pub record Agree (s s' t t' : Scope) (A : Type 0) : Type 0 where
 pub told : {X : Type 0} (R : X → X → Type 0) {x y z w : X} → z ≡ x → w ≡ y → R x y → R z w
 told R p q h = subst₂ R (sym p) (sym q) h
 
-pub behind : {s s' t t' : Scope} {A : Type 0} → Like s s' → Agree s s' t t' A → Like t t'
-behind {s = s} {s' = s'} {t = t} {t' = t'} like a = record {
+pub after : {s s' t t' : Scope} {A : Type 0} → Like s s' → Agree s s' t t' A → Like t t'
+after {s = s} {s' = s'} {t = t} {t' = t'} like a = record {
   around = a.around;
   count =
       let e = length_all_zip SameFunction a.new a.other a.same in
@@ -56,7 +56,7 @@ still {s = s} {s' = s'} like p q h = record {
 
 pub next : {s s' m m' t t' : Scope} {A B : Type 0} → Like s s' → Agree s s' m m' A → (Like m m' → A → Agree m m' t t' B) → Agree s s' t t' B
 next {s = s} {s' = s'} like a go =
-    let b = go (behind like a) a.holds in
+    let b = go (after like a) a.holds in
     record {
       new = a.new ++ b.new;
       other = a.other ++ b.other;

@@ -1,4 +1,4 @@
--- Tokens behind which a reader of a chunk waits begin a chunk.
+-- Tokens after which a reader of a chunk waits begin a chunk.
 use Rattle.std.proofs.Common.{◌≡◌, List, [], ◌∷◌, ◌++◌, inl, inr, refl, sym, ap, subst, ◌∙◌, append_assoc}
 use Rattle.std.proofs.lemmas.List.{append-nil}
 use Rattle.lua_lexer.specs.declared.tokens.TokenKind.{TokenKind}
@@ -8,7 +8,7 @@ use Rattle.lua_grammar.specs.Tree.{Block}
 use Rattle.lua_grammar.specs.Printing.{Lexeme, a_kind, print_block}
 use Rattle.lua_grammar.specs.Waiting.{chunk, IsWaiting}
 use Rattle.lua_grammar.specs.Reading.{read, read_chunk, run}
-use Rattle.lua_grammar.proofs.Live.{open_run, open_chunk, run_behind, fails_or_goes_on}
+use Rattle.lua_grammar.proofs.Live.{open_run, open_chunk, run_after, fails_or_goes_on}
 use Rattle.lua_grammar.proofs.LiveStates.{on_line_one}
 use Rattle.lua_grammar.proofs.Printed.{ends_in_end}
 
@@ -22,12 +22,12 @@ abbrev final : Lexeme → List Lexeme → Lexeme
 final d [] = d
 final d (x ∷ xs) = final x xs
 
-final_behind : (d : Lexeme) (xs : List Lexeme) (x : Lexeme) → final d (xs ++ x ∷ []) ≡ x
-final_behind d [] x = refl
-final_behind d (y ∷ xs) x = final_behind y xs x
+final_after : (d : Lexeme) (xs : List Lexeme) (x : Lexeme) → final d (xs ++ x ∷ []) ≡ x
+final_after d [] x = refl
+final_after d (y ∷ xs) x = final_after y xs x
 
 same_last : (xs ys : List Lexeme) (x y : Lexeme) → xs ++ x ∷ [] ≡ ys ++ y ∷ [] → x ≡ y
-same_last xs ys x y same = sym (final_behind x xs x) ∙ ap (final x) same ∙ final_behind x ys y
+same_last xs ys x y same = sym (final_after x xs x) ∙ ap (final x) same ∙ final_after x ys y
 
 -- the last token that leads to a chunk is an `end`
 last_is_end : (xs : List Lexeme) (last : TokenKind) (b : Block) → run read_chunk (xs ++ a_kind last 1 []) ≡ chunk b → last ≡ Word End
@@ -46,5 +46,5 @@ waits_for_one tokens (kind ∷ kinds) b waits is =
 pub begins_a_chunk : (tokens : List Lexeme) → IsWaiting (run read_chunk tokens) → (rest : List Lexeme) × (block : Block) × read (tokens ++ rest) ≡ chunk block
 begins_a_chunk tokens waits = elim (fails_or_goes_on (run read_chunk tokens) (open_run read_chunk open_chunk tokens)) [
   | inl fails ↦ absurd (subst IsWaiting fails waits)
-  | inr on ↦ waits_for_one tokens on.0 on.1 waits (run_behind read_chunk tokens (on_line_one on.0) ∙ on.2)
+  | inr on ↦ waits_for_one tokens on.0 on.1 waits (run_after read_chunk tokens (on_line_one on.0) ∙ on.2)
 ]

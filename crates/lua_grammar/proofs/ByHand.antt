@@ -26,7 +26,7 @@ chunk =
 name : List ℕ
 name = codes "a"
 
--- the scope behind the local, and the frame of the inner function at its end
+-- the scope after the local, and the frame of the inner function at its end
 before : Function → Scope
 before f = record { functions = f ∷ []; around = record { locals = name ∷ []; captures = []; slots = 1 } ∷ [] }
 
@@ -47,7 +47,7 @@ chunk_resolves program is =
     let first = statement 1 (stmt.Local c.targets c.values) in
     let second = statement 2 (stmt.Return c.returned) in
     let third = statement 2 (stmt.Return i.returned) in
-    let behind : Scope = record { functions = f ∷ g ∷ []; around = (before f).around } in
+    let after : Scope = record { functions = f ∷ g ∷ []; around = (before f).around } in
     let last : Scope = record { functions = f ∷ g ∷ []; around = [] } in
     let is_f : IsFunction 1 [] true (record { locals = name ∷ []; captures = []; slots = 1 }) (first ∷ second ∷ []) f = record {
       file = c.file;
@@ -74,7 +74,7 @@ chunk_resolves program is =
     let read : ResolvesName 2 name (enter [] g (before f)) (node 2 (kind.Captured 0)) (at_end f g) = record { expr = refl; scope = refl } in (
       f,
       first ∷ second ∷ [],
-      behind,
+      after,
       last,
       (
         first ∷ [],

@@ -15,7 +15,7 @@ use Rattle.lua_grammar.specs.Dead.{ExpFrom, PrefixFrom, ListFrom, NamesFrom, Fun
 use Rattle.lua_grammar.proofs.DeadParts.{exp_from_on, prefix_from_on, list_from_on, funcname_from_on, arms_from_on, dead_name, dead_close_bracket, dead_list, dead_to_end, dead_begin_prefix, dead_begin_exp, dead_begin_list, dead_begin_args, dead_fields}
 use Rattle.lua_grammar.proofs.DeadStatements.{dead_next_name, dead_arm, dead_next_statement, dead_last_statement, dead_next_target, dead_statement, dead_last}
 
--- behind a prefix, arguments
+-- after a prefix, arguments
 dead_call : (p : PrefixExp) (k : PrefixExp → Reader) → IsDead (more_prefix p k)
     → (kind : TokenKind) (l : Line) → IsDead (begin_args (λ a. more_prefix (tree.call p a) k) kind l)
 dead_call p k dead kind l =
@@ -81,10 +81,10 @@ dead_feed (after_return r k) dead kind l = dead_begin_list (λ es. k (tree.retur
 
 pub dead_run : (r : Reader) → IsDead r → (xs : List Lexeme) → IsDead (run r xs)
 dead_run r dead [] = dead
-dead_run r dead (first ∷ behind) = dead_run (feed r first.kind first.line) (dead_feed r dead first.kind first.line) behind
+dead_run r dead (first ∷ after) = dead_run (feed r first.kind first.line) (dead_feed r dead first.kind first.line) after
 
 dead_is_no_chunk : (r : Reader) (b : Block) → IsDead r → r ≡ chunk b → IsChunk b → ⊥
 dead_is_no_chunk r b dead is = rw is at dead
 
-pub dead_reads_no_chunk : (r : Reader) (behind : List Lexeme) (b : Block) → IsDead r → run r behind ≡ chunk b → IsChunk b → ⊥
-dead_reads_no_chunk r behind b dead is = dead_is_no_chunk (run r behind) b (dead_run r dead behind) is
+pub dead_reads_no_chunk : (r : Reader) (after : List Lexeme) (b : Block) → IsDead r → run r after ≡ chunk b → IsChunk b → ⊥
+dead_reads_no_chunk r after b dead is = dead_is_no_chunk (run r after) b (dead_run r dead after) is

@@ -1,4 +1,4 @@
--- What begins a production is dead where the production is so behind each tree that it may read.
+-- What begins a production is dead where the production is so after each tree that it may read.
 use Rattle.std.proofs.Common.{ℕ}
 use Rattle.lua_lexer.specs.declared.tokens.TokenKind.{TokenKind}
 use Rattle.lua_lexer.specs.declared.tokens.TokenKind.TheVariants.{Name, Text, Number, Word, Sign}
@@ -101,15 +101,15 @@ dead_list k dead = λ e whole from. dead whole
 pub dead_to_end : (k : Block → Line → Reader) → ((b : Block) (e : Line) → IsDead (k b e)) → IsDead (block (λ b. token (end_ (λ e. k b e))))
 dead_to_end k dead = dead_block (λ b. token (end_ (λ e. k b e))) (λ b. dead_end (k b) (dead b))
 
-pub dead_body_behind : (o : Line) (k : FuncBody → Reader) → ((b : FuncBody) → IsDead (k b)) → (ps : Params) (c : Line) → IsDead (body_behind o k ps c)
-dead_body_behind o k dead ps c = dead_to_end (λ b e. k (tree.function_body o ps c b e)) (λ b e. dead (tree.function_body o ps c b e))
+pub dead_body_after : (o : Line) (k : FuncBody → Reader) → ((b : FuncBody) → IsDead (k b)) → (ps : Params) (c : Line) → IsDead (body_behind o k ps c)
+dead_body_after o k dead ps c = dead_to_end (λ b e. k (tree.function_body o ps c b e)) (λ b e. dead (tree.function_body o ps c b e))
 
 pub dead_params : (o : Line) (k : FuncBody → Reader) → ((b : FuncBody) → IsDead (k b)) → (kind : TokenKind) (l : Line) → IsDead (params o k kind l)
-dead_params o k dead (Sign sign.CloseParenthesis) c = dead_body_behind o k dead tree.no_params c
-dead_params o k dead (Sign sign.Ellipsis) d = dead_close_parenthesis _ (dead_body_behind o k dead (tree.only_rest d))
+dead_params o k dead (Sign sign.CloseParenthesis) c = dead_body_after o k dead tree.no_params c
+dead_params o k dead (Sign sign.Ellipsis) d = dead_close_parenthesis _ (dead_body_after o k dead (tree.only_rest d))
 dead_params o k dead (Name n) l = λ those from. (
-  dead_close_parenthesis _ (dead_body_behind o k dead (tree.names those)),
-  λ c d. dead_close_parenthesis _ (dead_body_behind o k dead (tree.names_and_rest those c d)),
+  dead_close_parenthesis _ (dead_body_after o k dead (tree.names those)),
+  λ c d. dead_close_parenthesis _ (dead_body_after o k dead (tree.names_and_rest those c d)),
 )
 dead_params o k dead other l = tt
 

@@ -1,4 +1,4 @@
--- What begins a statement is dead where the statement is so behind each tree that it may read.
+-- What begins a statement is dead where the statement is so after each tree that it may read.
 use Rattle.lua_lexer.specs.declared.tokens.TokenKind.{TokenKind}
 use Rattle.lua_lexer.specs.declared.tokens.TokenKind.TheVariants.{Name, Word, Sign}
 use Rattle.lua_lexer.specs.declared.signs.Sign.TheVariants as sign

@@ -35,7 +35,7 @@ captures_steady fs gs captures p all = All-weaker (λ c. HasIn fs c.variable) (�
 IsPlace : ℕ → Option ℕ → Type 0
 IsPlace count place = IfSome place (λ n. n < count)
 
-later_place : (count : ℕ) (behind here : Option ℕ) → IsPlace count behind → IsPlace (suc count) here → IsPlace (suc count) (later behind here)
+later_place : (count : ℕ) (after here : Option ℕ) → IsPlace count after → IsPlace (suc count) here → IsPlace (suc count) (later after here)
 unfolding IsPlace
 later_place count (Some n) here h k = omega arith
 later_place count None here h k = k
@@ -71,9 +71,9 @@ record Found (found : Option Capture × List Frame) : Type 0 where
   fits : Fits found.1
   has : IfSome found.0 (HasIn found.1)
 
-one_behind : (c : Captured) (f : Frame) (fs : List Frame) → HasIn (record f { captures = f.captures ++ c ∷ [] } ∷ fs) (Outer (length f.captures))
+one_after : (c : Captured) (f : Frame) (fs : List Frame) → HasIn (record f { captures = f.captures ++ c ∷ [] } ∷ fs) (Outer (length f.captures))
 unfolding HasIn
-one_behind c f fs = let e = length-append f.captures (c ∷ []) in omega (arith, e)
+one_after c f fs = let e = length-append f.captures (c ∷ []) in omega (arith, e)
 
 nearest_found : (name : Bytes) (f : Frame) (fs : List Frame) (mine : Option Capture) (further : Option Capture × List Frame) → Fits (f ∷ fs) →
     IfSome mine (HasIn (f ∷ fs)) → AllZip Steady fs further.1 → Found further → Found (nearest name f fs mine further)
@@ -89,7 +89,7 @@ nearest_found name f fs None (Some variable, others) fit has steady found = reco
     All-push (λ c. HasIn others c.variable) f.captures (record { name = name; variable = variable }) (captures_steady fs others f.captures steady fit.1) found.has,
     found.fits,
   );
-  has = one_behind (record { name = name; variable = variable }) f others;
+  has = one_after (record { name = name; variable = variable }) f others;
 }
 
 look_found : (name : Bytes) (fs : List Frame) → Fits fs → Found (look name fs)

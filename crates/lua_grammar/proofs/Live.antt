@@ -12,9 +12,9 @@ use Rattle.lua_grammar.specs.Waiting.{Reader, failed, chunk, token, exp, more_ex
 use Rattle.lua_grammar.specs.Reading.{begin_args, next_statement, last_statement, feed, run, read_chunk}
 use Rattle.lua_grammar.proofs.LiveStates.{CanGoOn, IsOpen, IsLivePrefix, on_line_one, by_token, at_some, at_semicolon, live_more_exp, live_more_list, live_more_names, live_more_stats, live_more_prefix, live_exp}
 use Rattle.lua_grammar.proofs.LiveParts.{live_name, live_close_bracket, live_end, live_list, live_to_end, open_begin_exp, open_begin_list, open_begin_args, live_begin_args, open_fields}
-use Rattle.lua_grammar.proofs.LiveStatements.{behind_statement, live_next_name, live_arm, live_more_arms, live_next_statement, live_last_statement, live_values, open_more_targets, open_statement, open_last}
+use Rattle.lua_grammar.proofs.LiveStatements.{live_after, live_next_name, live_arm, live_more_arms, live_next_statement, live_last_statement, live_values, open_more_targets, open_statement, open_last}
 
--- behind a prefix, arguments
+-- after a prefix, arguments
 open_call : (p : PrefixExp) (k : PrefixExp → Reader) → IsLivePrefix k → (kind : TokenKind) (l : Line) → IsOpen (begin_args (λ a. more_prefix (tree.call p a) k) kind l)
 open_call p k live kind l = open_begin_args (λ a. more_prefix (tree.call p a) k) (λ a. live_more_prefix (tree.call p a) k live) kind l
 
@@ -57,7 +57,7 @@ open_feed (more_vars vs k) live kind l = tt
 open_feed (more_arms arms k) live (Word word.ElseIf) i =
     (live_arm (λ t h b. more_arms (tree.elseif_arm arms i t h b) k) (λ t h b. live_more_arms (tree.elseif_arm arms i t h b) k live)).0
 open_feed (more_arms arms k) live (Word word.Else) l =
-    (live_to_end (λ b e. k (tree.if_else arms l b e)) (λ b e. behind_statement k live (tree.if_else arms l b e))).0
+    (live_to_end (λ b e. k (tree.if_else arms l b e)) (λ b e. live_after k live (tree.if_else arms l b e))).0
 open_feed (more_arms arms k) live (Word word.End) e = (live (tree.if_then arms e)).0
 open_feed (more_arms arms k) live kind l = tt
 open_feed (more_stats ss k) live (Word word.End) l = open_feed (k (tree.statements ss)) (live (tree.statements ss)).0 (Word word.End) l
@@ -84,7 +84,7 @@ open_feed (after_return r k) live kind l =
 
 pub open_run : (r : Reader) → IsOpen r → (xs : List Lexeme) → IsOpen (run r xs)
 open_run r live [] = live
-open_run r live (first ∷ behind) = open_run (feed r first.kind first.line) (open_feed r live first.kind first.line) behind
+open_run r live (first ∷ after) = open_run (feed r first.kind first.line) (open_feed r live first.kind first.line) after
 
 -- ---- what is open has failed, or goes on
 
@@ -100,7 +100,7 @@ fails_or_goes_on (more_fields o fs k) live = inr (by_token (more_fields o fs k) 
 fails_or_goes_on (more_names ns k rest) live = inr (live_more_names ns k rest live).1
 fails_or_goes_on (more_funcname f k) live = inr (by_token (more_funcname f k) (Sign sign.OpenParenthesis) (live f).1)
 fails_or_goes_on (more_vars vs k) live = inr (by_token (more_vars vs k) (Sign sign.Assign) (live_values vs k live 1).1)
-fails_or_goes_on (more_arms arms k) live = inr (by_token (more_arms arms k) (Word word.End) (behind_statement k live (tree.if_then arms 1)).1)
+fails_or_goes_on (more_arms arms k) live = inr (by_token (more_arms arms k) (Word word.End) (live_after k live (tree.if_then arms 1)).1)
 fails_or_goes_on (more_stats ss k) live = inr (live_more_stats ss k live).1
 fails_or_goes_on (unless_assign r k) live = inr (by_token (unless_assign r k) (Sign sign.Assign) live.2)
 fails_or_goes_on (after_statement k) live = inr (by_token (after_statement k) (Sign sign.Semicolon) (live (tree.closed 1)).1)
@@ -112,14 +112,14 @@ fails_or_goes_on (after_return r k) live = inr (by_token (after_return r k) (Sig
 pub open_chunk : IsOpen read_chunk
 open_chunk = λ b. live_end (λ l. chunk b) (λ l. (tt, ([], b, refl)))
 
--- what stands behind is read by what was made of what stands before
-pub run_behind : (r : Reader) (xs ys : List Lexeme) → run r (xs ++ ys) ≡ run (run r xs) ys
-run_behind r [] ys = refl
-run_behind r (first ∷ behind) ys = run_behind (feed r first.kind first.line) behind ys
+-- what comes after is read by what was made of what comes before
+pub run_after : (r : Reader) (xs ys : List Lexeme) → run r (xs ++ ys) ≡ run (run r xs) ys
+run_after r [] ys = refl
+run_after r (first ∷ after) ys = run_after (feed r first.kind first.line) after ys
 
 pub goes_on_to_chunk : (tokens : List Lexeme) → (run read_chunk tokens ≡ failed → ⊥)
     → (rest : List Lexeme) × (block : Block) × run read_chunk (tokens ++ rest) ≡ chunk block
 goes_on_to_chunk tokens reads = elim (fails_or_goes_on (run read_chunk tokens) (open_run read_chunk open_chunk tokens)) [
   | inl fails ↦ absurd (reads fails)
-  | inr on ↦ (on_line_one on.0, on.1, run_behind read_chunk tokens (on_line_one on.0) ∙ on.2)
+  | inr on ↦ (on_line_one on.0, on.1, run_after read_chunk tokens (on_line_one on.0) ∙ on.2)
 ]

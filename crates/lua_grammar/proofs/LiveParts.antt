@@ -1,4 +1,4 @@
--- What begins a production is live where the reader is so behind each tree that the production may read.
+-- What begins a production is live where the reader is so after each tree that the production may read.
 use Rattle.std.proofs.Common.{ℕ, []}
 use Rattle.lua_lexer.specs.declared.tokens.TokenKind.{TokenKind}
 use Rattle.lua_lexer.specs.declared.tokens.TokenKind.TheVariants.{Name, Text, Number, Word, Sign}
@@ -90,27 +90,27 @@ live_list k live = live_exp 1 (λ e. more_list (tree.one e) k) (λ e. live_more_
 pub live_to_end : (k : Block → Line → Reader) → ((b : Block) (e : Line) → IsLive (k b e)) → IsLive (block (λ b. token (end_ (λ e. k b e))))
 live_to_end k live = live_block (λ b. token (end_ (λ e. k b e))) (λ b. live_end (k b) (live b))
 
-live_body_behind : (o : Line) (k : FuncBody → Reader) → ((b : FuncBody) → IsLive (k b)) → (ps : Params) (c : Line) → IsLive (body_behind o k ps c)
-live_body_behind o k live ps c = live_to_end (λ b e. k (tree.function_body o ps c b e)) (λ b e. live (tree.function_body o ps c b e))
+live_body_after : (o : Line) (k : FuncBody → Reader) → ((b : FuncBody) → IsLive (k b)) → (ps : Params) (c : Line) → IsLive (body_behind o k ps c)
+live_body_after o k live ps c = live_to_end (λ b e. k (tree.function_body o ps c b e)) (λ b e. live (tree.function_body o ps c b e))
 
--- parameters up to their `)`, and the body behind them
-live_params_behind : (o : Line) (k : FuncBody → Reader) → ((b : FuncBody) → IsLive (k b)) → (ps : Params)
+-- parameters up to their `)`, and the body after them
+live_params_after : (o : Line) (k : FuncBody → Reader) → ((b : FuncBody) → IsLive (k b)) → (ps : Params)
     → IsLiveAt EndsList (token (close_parenthesis (body_behind o k ps)))
-live_params_behind o k live ps = live_close_parenthesis (body_behind o k ps) (live_body_behind o k live ps)
+live_params_after o k live ps = live_close_parenthesis (body_behind o k ps) (live_body_after o k live ps)
 
 open_params : (o : Line) (k : FuncBody → Reader) → ((b : FuncBody) → IsLive (k b)) → (kind : TokenKind) (l : Line) → IsOpen (params o k kind l)
-open_params o k live (Sign sign.CloseParenthesis) c = (live_body_behind o k live tree.no_params c).0
-open_params o k live (Sign sign.Ellipsis) d = (live_params_behind o k live (tree.only_rest d)).0
+open_params o k live (Sign sign.CloseParenthesis) c = (live_body_after o k live tree.no_params c).0
+open_params o k live (Sign sign.Ellipsis) d = (live_params_after o k live (tree.only_rest d)).0
 open_params o k live (Name n) l = λ those. (
-  (live_params_behind o k live (tree.names those)).0,
-  (Sign sign.CloseParenthesis, parenthesis_ends_names, (live_body_behind o k live (tree.names those) 1).1),
-  λ c d. (live_params_behind o k live (tree.names_and_rest those c d)).0,
+  (live_params_after o k live (tree.names those)).0,
+  (Sign sign.CloseParenthesis, parenthesis_ends_names, (live_body_after o k live (tree.names those) 1).1),
+  λ c d. (live_params_after o k live (tree.names_and_rest those c d)).0,
 )
 open_params o k live other l = tt
 
 live_params : (o : Line) (k : FuncBody → Reader) → ((b : FuncBody) → IsLive (k b)) → IsLive (token (params o k))
 live_params o k live =
-    let on = by_token (token (params o k)) (Sign sign.CloseParenthesis) (live_body_behind o k live tree.no_params 1).1 in
+    let on = by_token (token (params o k)) (Sign sign.CloseParenthesis) (live_body_after o k live tree.no_params 1).1 in
     ((open_params o k live, on), on)
 
 pub open_body : (k : FuncBody → Reader) → ((b : FuncBody) → IsLive (k b)) → (kind : TokenKind) (l : Line) → IsOpen (body k kind l)
@@ -137,7 +137,7 @@ open_begin_prefix k live other l = tt
 pub prefix_goes_on : (k : PrefixExp → Reader) → IsLivePrefix k → CanGoOn (begin_prefix k (Name []) 1)
 prefix_goes_on k live = (live_more_prefix (tree.variable 1 []) k live).1
 
--- what stands behind a whole that is known
+-- what stands after a whole that is known
 live_whole : (m : ℕ) (e : Exp) (k : Exp → Reader) → ((e : Exp) → IsLiveAt EndsExp (k e)) → IsLive (more_exp m e k)
 live_whole m e k live = live_at_some (more_exp m e k) (live_more_exp m e k live)
 
@@ -180,7 +180,7 @@ live_begin_args k live =
 
 -- ---- fields of a table
 
--- behind a field, by `}`
+-- after a field, by `}`
 abbrev IsLiveField : (Field → TokenKind → Line → Reader) → Type 0
 IsLiveField k = (f : Field) → ((kind : TokenKind) (l : Line) → IsOpen (k f kind l)) × CanGoOn (k f (Sign sign.CloseBrace) 1)
 

@@ -1,4 +1,4 @@
--- What begins a statement is live where the reader is so behind each statement.
+-- What begins a statement is live where the reader is so after each statement.
 use Rattle.std.proofs.Common.{[]}
 use Rattle.lua_lexer.specs.declared.tokens.TokenKind.{TokenKind}
 use Rattle.lua_lexer.specs.declared.tokens.TokenKind.TheVariants.{Name, Word, Sign}
@@ -15,9 +15,9 @@ use Rattle.lua_grammar.proofs.LiveParts.{live_name, live_comma, open_do, live_th
 abbrev pub IsLiveStatement : (Stat → Reader) → Type 0
 IsLiveStatement k = (s : Stat) → IsLiveAtSemicolon (k s)
 
--- behind a statement that is known
-pub behind_statement : (k : Stat → Reader) → IsLiveStatement k → (s : Stat) → IsLive (k s)
-behind_statement k live s = ((live s).0, by_token (k s) (Sign sign.Semicolon) (live s).1)
+-- after a statement that is known
+pub live_after : (k : Stat → Reader) → IsLiveStatement k → (s : Stat) → IsLive (k s)
+live_after k live s = ((live s).0, by_token (k s) (Sign sign.Semicolon) (live s).1)
 
 -- ---- names
 
@@ -50,21 +50,21 @@ live_loop_body k live =
 open_for_limit : (f l : Line) (n : Bytes) (q : Line) (from : Exp) (c : Line) (to : Exp) (k : Stat → Reader) → IsLiveStatement k
     → (kind : TokenKind) (m : Line) → IsOpen (for_limit f l n q from c to k kind m)
 open_for_limit f l n q from c to k live (Sign sign.Comma) m = λ step.
-    let behind = λ (d : Line) (b : Block) (e : Line). k (tree.for_steps f l n q from c to m step d b e) in
-    live_of_list (token (loop_body behind)) (live_loop_body behind (λ d b e. behind_statement k live (tree.for_steps f l n q from c to m step d b e)))
+    let after = λ (d : Line) (b : Block) (e : Line). k (tree.for_steps f l n q from c to m step d b e) in
+    live_of_list (token (loop_body after)) (live_loop_body after (λ d b e. live_after k live (tree.for_steps f l n q from c to m step d b e)))
 open_for_limit f l n q from c to k live kind m =
-    open_loop_body (λ d b e. k (tree.for_range f l n q from c to d b e)) (λ d b e. behind_statement k live (tree.for_range f l n q from c to d b e)) kind m
+    open_loop_body (λ d b e. k (tree.for_range f l n q from c to d b e)) (λ d b e. live_after k live (tree.for_range f l n q from c to d b e)) kind m
 
 live_for_limit : (f l : Line) (n : Bytes) (q : Line) (from : Exp) (c : Line) (to : Exp) (k : Stat → Reader) → IsLiveStatement k
     → IsLiveAt EndsExp (token (for_limit f l n q from c to k))
 live_for_limit f l n q from c to k live =
-    let on = loop_body_goes_on (λ d b e. k (tree.for_range f l n q from c to d b e)) (λ d b e. behind_statement k live (tree.for_range f l n q from c to d b e)) in
+    let on = loop_body_goes_on (λ d b e. k (tree.for_range f l n q from c to d b e)) (λ d b e. live_after k live (tree.for_range f l n q from c to d b e)) in
     ((open_for_limit f l n q from c to k live, by_token (token (for_limit f l n q from c to k)) (Word word.Do) on), (Word word.Do, do_ends.last, on))
 
 live_for_in : (f : Line) (k : Stat → Reader) → IsLiveStatement k → (ns : NameList) (i : Line) → IsLive (for_tail f k ns (Word word.In) i)
 live_for_in f k live ns i =
     live_list (λ es. token (loop_body (λ d b e. k (tree.for_in f ns i es d b e))))
-    (λ es. live_loop_body (λ d b e. k (tree.for_in f ns i es d b e)) (λ d b e. behind_statement k live (tree.for_in f ns i es d b e)))
+    (λ es. live_loop_body (λ d b e. k (tree.for_in f ns i es d b e)) (λ d b e. live_after k live (tree.for_in f ns i es d b e)))
 
 open_for_tail : (f : Line) (k : Stat → Reader) → IsLiveStatement k → (ns : NameList) (kind : TokenKind) (i : Line) → IsOpen (for_tail f k ns kind i)
 open_for_tail f k live ns (Word word.In) i = (live_for_in f k live ns i).0
@@ -90,26 +90,26 @@ live_for f k live =
 open_function_tail : (f : Line) (k : Stat → Reader) → IsLiveStatement k → (n : FuncName) (kind : TokenKind) (l : Line) → IsOpen (function_tail f k n kind l)
 open_function_tail f k live n (Sign sign.Colon) c =
     (live_name (λ l m. token (body (λ b. k (tree.method_statement f n c l m b))))
-    (λ l m. live_body (λ b. k (tree.method_statement f n c l m b)) (λ b. behind_statement k live (tree.method_statement f n c l m b)))).0
-open_function_tail f k live n kind l = open_body (λ b. k (tree.function_statement f n b)) (λ b. behind_statement k live (tree.function_statement f n b)) kind l
+    (λ l m. live_body (λ b. k (tree.method_statement f n c l m b)) (λ b. live_after k live (tree.method_statement f n c l m b)))).0
+open_function_tail f k live n kind l = open_body (λ b. k (tree.function_statement f n b)) (λ b. live_after k live (tree.function_statement f n b)) kind l
 
 open_function : (f : Line) (k : Stat → Reader) → IsLiveStatement k → (kind : TokenKind) (l : Line) → IsOpen (function_ f k kind l)
 open_function f k live (Name n) l = λ whole.
-    let on = body_goes_on (λ b. k (tree.function_statement f whole b)) (λ b. behind_statement k live (tree.function_statement f whole b)) in
+    let on = body_goes_on (λ b. k (tree.function_statement f whole b)) (λ b. live_after k live (tree.function_statement f whole b)) in
     ((open_function_tail f k live whole, by_token (token (function_tail f k whole)) (Sign sign.OpenParenthesis) on), on)
 open_function f k live other l = tt
 
 live_function : (f : Line) (k : Stat → Reader) → IsLiveStatement k → IsLive (token (function_ f k))
 live_function f k live =
     let root = tree.root_name 1 [] in
-    let on = body_goes_on (λ b. k (tree.function_statement f root b)) (λ b. behind_statement k live (tree.function_statement f root b)) in
+    let on = body_goes_on (λ b. k (tree.function_statement f root b)) (λ b. live_after k live (tree.function_statement f root b)) in
     let named = by_token (token (function_ f k)) (Name []) (by_token _ (Sign sign.OpenParenthesis) on) in
     ((open_function f k live, named), named)
 
 open_local : (l : Line) (k : Stat → Reader) → IsLiveStatement k → (kind : TokenKind) (m : Line) → IsOpen (local_ l k kind m)
 open_local l k live (Word word.Function) f =
     (live_name (λ m n. token (body (λ b. k (tree.local_function l f m n b))))
-    (λ m n. live_body (λ b. k (tree.local_function l f m n b)) (λ b. behind_statement k live (tree.local_function l f m n b)))).0
+    (λ m n. live_body (λ b. k (tree.local_function l f m n b)) (λ b. live_after k live (tree.local_function l f m n b)))).0
 open_local l k live (Name n) m = λ those. (live, (Sign sign.Semicolon, semicolon_ends_names, (live (tree.local l those)).1), λ c d. tt)
 open_local l k live other m = tt
 
@@ -126,7 +126,7 @@ live_arm k live = live_exp 1 _ (λ t. live_then (λ h. block (λ b. k t h b)) (�
 
 -- arms go on by `end`
 pub live_more_arms : (arms : Arms) (k : Stat → Reader) → IsLiveStatement k → IsLiveAt EndsBlock (more_arms arms k)
-live_more_arms arms k live = (live, (Word word.End, end_ends, (behind_statement k live (tree.if_then arms 1)).1))
+live_more_arms arms k live = (live, (Word word.End, end_ends, (live_after k live (tree.if_then arms 1)).1))
 
 pub live_next_statement : (ss : Stats) (k : Block → Reader) → ((b : Block) → IsLiveAt EndsBlock (k b)) → IsLiveStatement (next_statement ss k)
 live_next_statement ss k live s =
@@ -168,10 +168,10 @@ open_more_targets vs c k live =
     (open_begin_prefix (next_target vs c k) target, by_token _ (Name []) (prefix_goes_on (next_target vs c k) target))
 
 pub open_statement : (k : Stat → Reader) → IsLiveStatement k → (kind : TokenKind) (l : Line) → IsOpen (statement k kind l)
-open_statement k live (Word word.Do) d = (live_to_end (λ b e. k (tree.do_block d b e)) (λ b e. behind_statement k live (tree.do_block d b e))).0
+open_statement k live (Word word.Do) d = (live_to_end (λ b e. k (tree.do_block d b e)) (λ b e. live_after k live (tree.do_block d b e))).0
 open_statement k live (Word word.While) w = λ t.
-    let behind = λ (d : Line) (b : Block) (e : Line). k (tree.while_loop w t d b e) in
-    live_of_list (token (loop_body behind)) (live_loop_body behind (λ d b e. behind_statement k live (tree.while_loop w t d b e)))
+    let after = λ (d : Line) (b : Block) (e : Line). k (tree.while_loop w t d b e) in
+    live_of_list (token (loop_body after)) (live_loop_body after (λ d b e. live_after k live (tree.while_loop w t d b e)))
 open_statement k live (Word word.Repeat) r =
     (live_block (λ b. token (until_ (λ u. exp 1 (λ t. k (tree.repeat_loop r b u t)))))
     (λ b. live_until _ (λ u. live_exp 1 (λ t. k (tree.repeat_loop r b u t)) (λ t. live_of_list _ (at_semicolon _ (live (tree.repeat_loop r b u t))))))).0

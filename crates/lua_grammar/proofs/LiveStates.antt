@@ -142,7 +142,7 @@ live_of_list r live = (live.0, of_list r live.1)
 pub at_semicolon : (r : Reader) → IsLiveAtSemicolon r → IsLiveAt EndsList r
 at_semicolon r live = (live.0, (Sign sign.Semicolon, semicolon_ends, live.1))
 
--- behind an expression, a list, names and a block
+-- after an expression, a list, names and a block
 pub live_more_exp : (m : ℕ) (e : Exp) (k : Exp → Reader) → ((e : Exp) → IsLiveAt EndsExp (k e)) → IsLiveAt EndsExp (more_exp m e k)
 live_more_exp m e k live =
     let on = (live e).1 in
@@ -163,7 +163,7 @@ live_more_stats ss k live =
     let on = (live (tree.statements ss)).1 in
     (live, by_token _ on.0 (by_same (feed (more_stats ss k) on.0 1) (feed (k (tree.statements ss)) on.0 1) (on.1.block ss k 1) on.2))
 
--- behind a prefix, by a member of it
+-- after a prefix, by a member of it
 pub live_more_prefix : (p : PrefixExp) (k : PrefixExp → Reader) → IsLivePrefix k → IsLive (more_prefix p k)
 live_more_prefix p k live =
     let whole = tree.member p 1 1 [] in let on = live.1 p 1 1 [] in (

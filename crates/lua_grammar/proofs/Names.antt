@@ -6,7 +6,7 @@ use Rattle.lua_ast.specs.declared.programs.Capture.TheVariants.{Slot}
 use Rattle.lua_grammar.specs.Tree.{Bytes}
 use Rattle.lua_grammar.specs.Scopes.{Frame, last_place, later, own, look, with_locals}
 
--- one more name behind the others
+-- one more name after the others
 pub one_more : (name : Bytes) (xs : List Bytes) (x : Bytes) →
     last_place name (xs ++ x ∷ []) ≡ (if bytes_eq x name then Some (length xs) else last_place name xs)
 unfolding last_place

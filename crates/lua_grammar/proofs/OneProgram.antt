@@ -15,9 +15,12 @@ use Rattle.lua_grammar.specs.Scopes.{Scope, declare, enter, in_scope}
 use Rattle.lua_grammar.specs.Resolution.{Index, ResolvesFuncName, Resolves, ResolvesPrefix, ResolvesArgs, ResolvesList, ResolvesTable, ResolvesFields, ResolvesField, ResolvesBody, Opens, ResolvesStats, ResolvesStat, ResolvesArms, ResolvesLast, ResolvesVars, Shared, args_line, vars_line, prefix_line, arms_line, names_of, names_of_params, self_name}
 use Rattle.lua_grammar.specs.Printing.{lexemes}
 use Rattle.lua_grammar.specs.Grammar.{IsProgramOf, ResolvesChunk, first_line, outside}
-use Rattle.lua_grammar.proofs.SameNodes.{zip_append, zip_one, zip_none, nil_same, false_same, true_same, number_same, text_same, vararg_same, function_same, unary_same, paren_same, binary_same, index_same, call_same, method_same, table_same, pair_same, item_same, local_same, local_function_same, assign_same, call_statement_same, return_same, break_same, do_same, while_same, repeat_same, if_same, numeric_same, generic_same, arm_same}
+use Rattle.lua_grammar.proofs.SameNodes.{zip_append, zip_one, zip_none, nil_same, false_same, true_same, number_same, text_same, vararg_same, function_same}
+use Rattle.lua_grammar.proofs.SameNodes.{unary_same, paren_same, binary_same, index_same, call_same, method_same, table_same, pair_same, item_same, local_same}
+use Rattle.lua_grammar.proofs.SameNodes.{local_function_same, assign_same, call_statement_same, return_same, break_same, do_same, while_same, repeat_same}
+use Rattle.lua_grammar.proofs.SameNodes.{if_same, numeric_same, generic_same, arm_same}
 use Rattle.lua_grammar.proofs.Uniqueness.{one_tree}
-use Rattle.lua_grammar.proofs.Agreeing.{Like, Agree, told, behind, still, next, last, declared_like, after_declare, then_declare, then_leave, same_place, same_slots, name_agrees, entered_like, ended_agrees}
+use Rattle.lua_grammar.proofs.Agreeing.{Like, Agree, told, after, still, next, last, declared_like, after_declare, then_declare, then_leave, same_place, same_slots, name_agrees, entered_like, ended_agrees}
 
 -- one more at the end of a list
 appended : {X : Type 0} (R : X → X → Type 0) (xs ys before before' : List X) (x y : X) → xs ≡ before ++ x ∷ [] → ys ≡ before' ++ y ∷ [] →
@@ -207,7 +210,7 @@ mutual
       then_declare (names_of ns) m m' (
       let a = list_agrees es s s' values.value.items values'.value.items m m' p p' like in
       last a λ h. told SameStmt i i' (local_same l slots slots' values values'
-      (same_slots (names_of ns) m m' slots.value.items slots'.value.items (behind like a) j j') h)) u u'
+      (same_slots (names_of ns) m m' slots.value.items slots'.value.items (after like a) j j') h)) u u'
 
   arms_agree : (a : Arms) (s s' : Scope) (list list' : List Arm) (t t' : Scope) → ResolvesArms a s list t → ResolvesArms a s' list' t' → Like s s' →
       Agree s s' t t' (AllZip SameArm list list')

@@ -50,19 +50,19 @@ token_above m (Some op) kind is = elim (nat_le m (level op)) as (λ fits. IsToke
 
 -- ---- one token
 
--- behind the same tokens
+-- after the same tokens
 printed_same : {done those : Tokens} (r : Reader) (kind : TokenKind) (l : Line) → done ≡ those
     → IsPrinted (those ∘ a_kind kind l) r → IsPrinted (done ∘ a_kind kind l) r
 printed_same r kind l same printed = rw same printed
 
--- behind an expression, an operator and its second operand
+-- after an expression, an operator and its second operand
 printed_binary : (m : ℕ) (e : Exp) (op : Operator) (l : Line) (k : Exp → Reader) (before : Tokens)
     → ((whole : Exp) → IsPrinted (before ∘ print_exp whole) (k whole)) → (kind : TokenKind) → kind_of op ≡ kind
     → IsPrinted (before ∘ print_exp e ∘ a_kind kind l) (exp (right_level op) (λ b. more_exp m (tree.binary e op l b) k))
 unfolding print_exp
 printed_binary m e op l k before printed kind is = λ b. (before, ap (λ kind. before ∘ print_exp e ∘ a_kind kind l ∘ print_exp b) (sym is), printed)
 
--- behind a prefix, arguments
+-- after a prefix, arguments
 printed_call : (p : PrefixExp) (k : PrefixExp → Reader) (before : Tokens) → ((whole : PrefixExp) → IsPrinted (before ∘ print_prefixexp whole) (k whole))
     → (kind : TokenKind) (l : Line) → IsPrinted (before ∘ print_prefixexp p ∘ a_kind kind l) (begin_args (λ a. more_prefix (tree.call p a) k) kind l)
 unfolding print_exp
@@ -155,14 +155,14 @@ printed_feed (after_return r k) done (before, same, printed) kind l = printed_sa
 
 pub printed_run : (r : Reader) (done : Tokens) → IsPrinted done r → (xs : List Lexeme) → IsPrinted (done ∘ ◌++◌ xs) (run r xs)
 printed_run r done printed [] = printed
-printed_run r done printed (first ∷ behind) =
-    printed_run (feed r first.kind first.line) (done ∘ a_kind first.kind first.line) (printed_feed r done printed first.kind first.line) behind
+printed_run r done printed (first ∷ after) =
+    printed_run (feed r first.kind first.line) (done ∘ a_kind first.kind first.line) (printed_feed r done printed first.kind first.line) after
 
 -- ---- a chunk
 
 -- up to its `end`
-printed_chunk : IsPrinted (λ behind. behind) read_chunk
-printed_chunk = printed_block (λ b. token (end_ (λ l. chunk b))) (λ behind. behind) (λ b. printed_end (λ l. chunk b) (print_block b) (λ l. (l, refl)))
+printed_chunk : IsPrinted (λ after. after) read_chunk
+printed_chunk = printed_block (λ b. token (end_ (λ l. chunk b))) (λ after. after) (λ b. printed_end (λ l. chunk b) (print_block b) (λ l. (l, refl)))
 
 printed_is : (r : Reader) (done : Tokens) (b : Block) → IsPrinted done r → r ≡ chunk b → (l : Line) × done ≡ print_block b ∘ a_word word.End l
 printed_is r done b printed is = rw is at printed
@@ -173,18 +173,18 @@ initial [] = []
 initial (x ∷ []) = []
 initial (x ∷ y ∷ xs) = x ∷ initial (y ∷ xs)
 
-initial_behind : (xs : List Lexeme) (x : Lexeme) → initial (xs ++ x ∷ []) ≡ xs
-initial_behind [] x = refl
-initial_behind (y ∷ []) x = refl
-initial_behind (y ∷ z ∷ xs) x = ap (λ those. y ∷ those) (initial_behind (z ∷ xs) x)
+initial_after : (xs : List Lexeme) (x : Lexeme) → initial (xs ++ x ∷ []) ≡ xs
+initial_after [] x = refl
+initial_after (y ∷ []) x = refl
+initial_after (y ∷ z ∷ xs) x = ap (λ those. y ∷ those) (initial_after (z ∷ xs) x)
 
 same_but_last : (xs ys : List Lexeme) (x y : Lexeme) → xs ++ x ∷ [] ≡ ys ++ y ∷ [] → xs ≡ ys
-same_but_last xs ys x y same = sym (initial_behind xs x) ∙ ap initial same ∙ initial_behind ys y
+same_but_last xs ys x y same = sym (initial_after xs x) ∙ ap initial same ∙ initial_after ys y
 
 -- the tokens that lead to a chunk are those of the chunk, and an `end`
 pub ends_in_end : (tokens : List Lexeme) (block : Block) → run read_chunk tokens ≡ chunk block → (l : Line) × tokens ≡ print_block block [] ++ a_word word.End l []
 ends_in_end tokens block is =
-    let ends = printed_is (run read_chunk tokens) (◌++◌ tokens) block (printed_run read_chunk (λ behind. behind) printed_chunk tokens) is in
+    let ends = printed_is (run read_chunk tokens) (◌++◌ tokens) block (printed_run read_chunk (λ after. after) printed_chunk tokens) is in
     (ends.0, sym (append-nil tokens) ∙ ap (λ (f : Tokens). f []) ends.1 ∙ (block_before block).splits [] (a_word word.End ends.0 []))
 
 pub read_prints : (tokens : List Lexeme) (block : Block) → read tokens ≡ chunk block → print_block block [] ≡ tokens

@@ -1,4 +1,4 @@
--- What begins a production is printed where the production is so behind the tokens of each tree that it may read.
+-- What begins a production is printed where the production is so after the tokens of each tree that it may read.
 use Rattle.std.proofs.Common.{ℕ, refl}
 use Rattle.lua_lexer.specs.declared.tokens.TokenKind.{TokenKind}
 use Rattle.lua_lexer.specs.declared.tokens.TokenKind.TheVariants.{Name, Text, Number, Word, Sign}
@@ -74,30 +74,30 @@ pub printed_to_end : (k : Block → Line → Reader) (done : Tokens)
 printed_to_end k done printed =
     printed_block (λ b. token (end_ (λ e. k b e))) done (λ b. printed_end (k b) (done ∘ print_block b) (printed b))
 
-pub printed_body_behind : (o : Line) (k : FuncBody → Reader) (done : Tokens) → ((b : FuncBody) → IsPrinted (done ∘ print_funcbody b) (k b))
+pub printed_body_after : (o : Line) (k : FuncBody → Reader) (done : Tokens) → ((b : FuncBody) → IsPrinted (done ∘ print_funcbody b) (k b))
     → (ps : Params) (c : Line)
     → IsPrinted (done ∘ a_sign sign.OpenParenthesis o ∘ print_params ps ∘ a_sign sign.CloseParenthesis c) (body_behind o k ps c)
 unfolding print_exp
-printed_body_behind o k done printed ps c =
+printed_body_after o k done printed ps c =
     printed_to_end (λ b e. k (tree.function_body o ps c b e)) (done ∘ a_sign sign.OpenParenthesis o ∘ print_params ps ∘ a_sign sign.CloseParenthesis c)
     (λ b e. printed (tree.function_body o ps c b e))
 
 -- parameters up to their `)`
-printed_params_behind : (o : Line) (k : FuncBody → Reader) (done : Tokens) → ((b : FuncBody) → IsPrinted (done ∘ print_funcbody b) (k b))
+printed_params_after : (o : Line) (k : FuncBody → Reader) (done : Tokens) → ((b : FuncBody) → IsPrinted (done ∘ print_funcbody b) (k b))
     → (ps : Params) (kind : TokenKind) (l : Line)
     → IsPrinted (done ∘ a_sign sign.OpenParenthesis o ∘ print_params ps ∘ a_kind kind l) (close_parenthesis (body_behind o k ps) kind l)
-printed_params_behind o k done printed ps =
-    printed_close_parenthesis (body_behind o k ps) (done ∘ a_sign sign.OpenParenthesis o ∘ print_params ps) (printed_body_behind o k done printed ps)
+printed_params_after o k done printed ps =
+    printed_close_parenthesis (body_behind o k ps) (done ∘ a_sign sign.OpenParenthesis o ∘ print_params ps) (printed_body_after o k done printed ps)
 
 pub printed_params : (o : Line) (k : FuncBody → Reader) (done : Tokens) → ((b : FuncBody) → IsPrinted (done ∘ print_funcbody b) (k b))
     → (kind : TokenKind) (l : Line) → IsPrinted (done ∘ a_sign sign.OpenParenthesis o ∘ a_kind kind l) (params o k kind l)
-printed_params o k done printed (Sign sign.CloseParenthesis) c = printed_body_behind o k done printed tree.no_params c
-printed_params o k done printed (Sign sign.Ellipsis) d = printed_params_behind o k done printed (tree.only_rest d)
+printed_params o k done printed (Sign sign.CloseParenthesis) c = printed_body_after o k done printed tree.no_params c
+printed_params o k done printed (Sign sign.Ellipsis) d = printed_params_after o k done printed (tree.only_rest d)
 printed_params o k done printed (Name n) l = (
   done ∘ a_sign sign.OpenParenthesis o,
   refl,
-  λ those. printed_params_behind o k done printed (tree.names those),
-  λ those c d. printed_params_behind o k done printed (tree.names_and_rest those c d),
+  λ those. printed_params_after o k done printed (tree.names those),
+  λ those c d. printed_params_after o k done printed (tree.names_and_rest those c d),
 )
 printed_params o k done printed other l = tt
 
@@ -116,7 +116,7 @@ printed_begin_prefix k done printed (Sign sign.OpenParenthesis) o = λ e.
     printed_close_parenthesis (λ c. more_prefix (tree.paren o e c) k) (done ∘ a_sign sign.OpenParenthesis o ∘ print_exp e) (λ c. (done, refl, printed))
 printed_begin_prefix k done printed other l = tt
 
--- behind a prefix, an expression goes on
+-- after a prefix, an expression goes on
 printed_prefix : (m : ℕ) (k : Exp → Reader) (done : Tokens) → ((e : Exp) → IsPrinted (done ∘ print_exp e) (k e))
     → (kind : TokenKind) (l : Line) → IsPrinted (done ∘ a_kind kind l) (begin_prefix (λ p. more_exp m (tree.prefix p) k) kind l)
 unfolding print_exp
@@ -179,8 +179,8 @@ pub printed_field : (k : Field → TokenKind → Line → Reader) (done : Tokens
     → (kind : TokenKind) (l : Line) → IsPrinted (done ∘ a_kind kind l) (field k kind l)
 unfolding print_exp
 printed_field k done printed (Sign sign.OpenBracket) o = λ key.
-    let behind_key = done ∘ a_sign sign.OpenBracket o ∘ print_exp key in
-    printed_close_bracket _ behind_key (λ c. printed_equals _ (behind_key ∘ a_sign sign.CloseBracket c) (λ q e. printed (tree.keyed o key c q e)))
+    let after_key = done ∘ a_sign sign.OpenBracket o ∘ print_exp key in
+    printed_close_bracket _ after_key (λ c. printed_equals _ (after_key ∘ a_sign sign.CloseBracket c) (λ q e. printed (tree.keyed o key c q e)))
 printed_field k done printed (Name n) l =
     (printed_begin_exp 1 (λ e. token (k (tree.plain e))) done (λ e. printed (tree.plain e)) (Name n) l, λ q e. printed (tree.named l n q e))
 printed_field k done printed kind l = printed_begin_exp 1 (λ e. token (k (tree.plain e))) done (λ e. printed (tree.plain e)) kind l

@@ -1,4 +1,4 @@
--- What begins a statement is printed where the statement is so behind the tokens of each tree that it may read.
+-- What begins a statement is printed where the statement is so after the tokens of each tree that it may read.
 use Rattle.std.proofs.Common.{refl}
 use Rattle.lua_lexer.specs.declared.tokens.TokenKind.{TokenKind}
 use Rattle.lua_lexer.specs.declared.tokens.TokenKind.TheVariants.{Name, Word, Sign}

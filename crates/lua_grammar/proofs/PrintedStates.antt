@@ -1,4 +1,4 @@
--- Printed states of a reader: the tokens so far are those of what it has read, whatever it reads behind them.
+-- Printed states of a reader: the tokens so far are those of what it has read, whatever it reads after them.
 use Rattle.std.proofs.Common.{◌≡◌, List}
 use Rattle.lua_lexer.specs.declared.tokens.TokenKind.{TokenKind}
 use Rattle.lua_lexer.specs.declared.signs.Sign.TheVariants.{Assign, Comma, OpenBrace, Ellipsis}
@@ -11,13 +11,13 @@ use Rattle.lua_grammar.specs.Waiting.{Reader, failed, chunk, token, exp, more_ex
 abbrev pub Tokens : Type 0
 Tokens = List Lexeme → List Lexeme
 
--- tokens, and others behind them
+-- tokens, and others after them
 infixr 90 ◌∘◌
 abbrev pub ◌∘◌ : Tokens → Tokens → Tokens
-(first ∘ second) behind = first (second behind)
+(first ∘ second) after = first (second after)
 
--- A reader that waits for a tree is printed where it is so behind the tokens of each tree. Where it has read a part, the last
--- tokens are those of that part, and it is printed where, with a tree in place of the part, it is so behind the tokens of each tree.
+-- A reader that waits for a tree is printed where it is so after the tokens of each tree. Where it has read a part, the last
+-- tokens are those of that part, and it is printed where, with a tree in place of the part, it is so after the tokens of each tree.
 abbrev pub IsPrinted : Tokens → Reader → Type 0
 IsPrinted done failed = Unit {0}
 IsPrinted done (chunk b) = (l : Line) × done ≡ print_block b ∘ a_word EndWord l

@@ -1,4 +1,4 @@
--- The first tokens of trees, and what may stand behind statements.
+-- The first tokens of trees, and what may stand after statements.
 use Rattle.std.proofs.Common.{◌≡◌, Bool, true, false, List, [], ◌∷◌, refl, ap}
 use Rattle.lua_ast.specs.declared.expressions.UnOp.TheVariants as unary
 use Rattle.lua_lexer.specs.declared.tokens.TokenKind.{TokenKind}
@@ -61,9 +61,9 @@ block_end_ends_return : (kind : TokenKind) → IsBlockEnd kind → IsReturnEnd k
 block_end_ends_return (Sign sign.Semicolon) h = tt
 block_end_ends_return kind h = h
 
-start_is_apart : (behind : List Lexeme) → Behind IsStart behind → Behind IsNoParen behind → Behind IsApart behind
+start_is_apart : (after : List Lexeme) → Behind IsStart after → Behind IsNoParen after → Behind IsApart after
 start_is_apart [] h k = h
-start_is_apart (first ∷ behind) h k = at first.kind h k
+start_is_apart (first ∷ after) h k = at first.kind h k
   where
     at : (kind : TokenKind) → IsStart kind → IsNoParen kind → IsApart kind
     at (Name n) h k = tt
@@ -77,42 +77,42 @@ start_is_apart (first ∷ behind) h k = at first.kind h k
 abbrev pub Alike : Reader → Reader → Type 0
 Alike r other = (kind : TokenKind) (l : Line) → begins kind ≡ true → feed r kind l ≡ feed other kind l
 
-token_alike : (r other : Reader) (kind : TokenKind) (l : Line) (behind : List Lexeme) → Alike r other → begins kind ≡ true
-    → run (feed r kind l) behind ≡ run (feed other kind l) behind
-token_alike r other kind l behind h k = ap (λ r. run r behind) (h kind l k)
+token_alike : (r other : Reader) (kind : TokenKind) (l : Line) (after : List Lexeme) → Alike r other → begins kind ≡ true
+    → run (feed r kind l) after ≡ run (feed other kind l) after
+token_alike r other kind l after h k = ap (λ r. run r after) (h kind l k)
 
 mutual
   unfolding print_exp
 
-  pub exp_alike : (e : Exp) (r other : Reader) (behind : List Lexeme) → Alike r other → run r (print_exp e behind) ≡ run other (print_exp e behind)
-  exp_alike (tree.nil l) r other behind h = token_alike r other (Word word.Nil) l behind h refl
-  exp_alike (tree.false_ l) r other behind h = token_alike r other (Word word.False) l behind h refl
-  exp_alike (tree.true_ l) r other behind h = token_alike r other (Word word.True) l behind h refl
-  exp_alike (tree.number l n) r other behind h = token_alike r other (Number n) l behind h refl
-  exp_alike (tree.string l bytes) r other behind h = token_alike r other (Text bytes) l behind h refl
-  exp_alike (tree.dots l) r other behind h = token_alike r other (Sign sign.Ellipsis) l behind h refl
-  exp_alike (tree.function l body) r other behind h = token_alike r other (Word word.Function) l (print_funcbody body behind) h refl
-  exp_alike (tree.prefix p) r other behind h = prefix_alike p r other behind h
-  exp_alike (tree.table (tree.separated o fs c)) r other behind h = token_alike r other (Sign sign.OpenBrace) o (print_fields fs (a_sign sign.CloseBrace c behind)) h refl
-  exp_alike (tree.table (tree.ending o fs f c)) r other behind h =
-      token_alike r other (Sign sign.OpenBrace) o (print_fields fs (print_field f (a_sign sign.CloseBrace c behind))) h refl
-  exp_alike (tree.binary a op l b) r other behind h = exp_alike a r other _ h
-  exp_alike (tree.unary unary.Not l e) r other behind h = token_alike r other (Word word.Not) l (print_exp e behind) h refl
-  exp_alike (tree.unary unary.Length l e) r other behind h = token_alike r other (Sign sign.Hash) l (print_exp e behind) h refl
-  exp_alike (tree.unary unary.Minus l e) r other behind h = token_alike r other (Sign sign.Minus) l (print_exp e behind) h refl
+  pub exp_alike : (e : Exp) (r other : Reader) (after : List Lexeme) → Alike r other → run r (print_exp e after) ≡ run other (print_exp e after)
+  exp_alike (tree.nil l) r other after h = token_alike r other (Word word.Nil) l after h refl
+  exp_alike (tree.false_ l) r other after h = token_alike r other (Word word.False) l after h refl
+  exp_alike (tree.true_ l) r other after h = token_alike r other (Word word.True) l after h refl
+  exp_alike (tree.number l n) r other after h = token_alike r other (Number n) l after h refl
+  exp_alike (tree.string l bytes) r other after h = token_alike r other (Text bytes) l after h refl
+  exp_alike (tree.dots l) r other after h = token_alike r other (Sign sign.Ellipsis) l after h refl
+  exp_alike (tree.function l body) r other after h = token_alike r other (Word word.Function) l (print_funcbody body after) h refl
+  exp_alike (tree.prefix p) r other after h = prefix_alike p r other after h
+  exp_alike (tree.table (tree.separated o fs c)) r other after h = token_alike r other (Sign sign.OpenBrace) o (print_fields fs (a_sign sign.CloseBrace c after)) h refl
+  exp_alike (tree.table (tree.ending o fs f c)) r other after h =
+      token_alike r other (Sign sign.OpenBrace) o (print_fields fs (print_field f (a_sign sign.CloseBrace c after))) h refl
+  exp_alike (tree.binary a op l b) r other after h = exp_alike a r other _ h
+  exp_alike (tree.unary unary.Not l e) r other after h = token_alike r other (Word word.Not) l (print_exp e after) h refl
+  exp_alike (tree.unary unary.Length l e) r other after h = token_alike r other (Sign sign.Hash) l (print_exp e after) h refl
+  exp_alike (tree.unary unary.Minus l e) r other after h = token_alike r other (Sign sign.Minus) l (print_exp e after) h refl
 
-  prefix_alike : (p : PrefixExp) (r other : Reader) (behind : List Lexeme) → Alike r other → run r (print_prefixexp p behind) ≡ run other (print_prefixexp p behind)
-  prefix_alike (tree.variable l n) r other behind h = token_alike r other (Name n) l behind h refl
-  prefix_alike (tree.paren o e c) r other behind h = token_alike r other (Sign sign.OpenParenthesis) o (print_exp e (a_sign sign.CloseParenthesis c behind)) h refl
-  prefix_alike (tree.item p o e c) r other behind h = prefix_alike p r other _ h
-  prefix_alike (tree.member p d l n) r other behind h = prefix_alike p r other _ h
-  prefix_alike (tree.call p a) r other behind h = prefix_alike p r other _ h
-  prefix_alike (tree.method p c l n a) r other behind h = prefix_alike p r other _ h
+  prefix_alike : (p : PrefixExp) (r other : Reader) (after : List Lexeme) → Alike r other → run r (print_prefixexp p after) ≡ run other (print_prefixexp p after)
+  prefix_alike (tree.variable l n) r other after h = token_alike r other (Name n) l after h refl
+  prefix_alike (tree.paren o e c) r other after h = token_alike r other (Sign sign.OpenParenthesis) o (print_exp e (a_sign sign.CloseParenthesis c after)) h refl
+  prefix_alike (tree.item p o e c) r other after h = prefix_alike p r other _ h
+  prefix_alike (tree.member p d l n) r other after h = prefix_alike p r other _ h
+  prefix_alike (tree.call p a) r other after h = prefix_alike p r other _ h
+  prefix_alike (tree.method p c l n a) r other after h = prefix_alike p r other _ h
 
-pub list_alike : (es : ExpList) (r other : Reader) (behind : List Lexeme) → Alike r other → run r (print_explist es behind) ≡ run other (print_explist es behind)
+pub list_alike : (es : ExpList) (r other : Reader) (after : List Lexeme) → Alike r other → run r (print_explist es after) ≡ run other (print_explist es after)
 unfolding print_explist
-list_alike (tree.one e) r other behind h = exp_alike e r other behind h
-list_alike (tree.more es c e) r other behind h = list_alike es r other _ h
+list_alike (tree.one e) r other after h = exp_alike e r other after h
+list_alike (tree.more es c e) r other after h = list_alike es r other _ h
 
 -- ---- statements
 
@@ -120,88 +120,88 @@ list_alike (tree.more es c e) r other behind h = list_alike es r other _ h
 abbrev Starts : Type 0 → List Lexeme → Type 0
 Starts paren xs = Behind IsStart xs × ((paren → ⊥) → Behind IsNoParen xs)
 
-prefix_starts : (p : PrefixExp) (behind : List Lexeme) → Starts (BeginsWithParen p) (print_prefixexp p behind)
+prefix_starts : (p : PrefixExp) (after : List Lexeme) → Starts (BeginsWithParen p) (print_prefixexp p after)
 unfolding print_prefixexp
-prefix_starts (tree.variable l n) behind = (tt, λ h. tt)
-prefix_starts (tree.paren o e c) behind = (tt, λ h. absurd (h tt))
-prefix_starts (tree.item p o e c) behind = prefix_starts p _
-prefix_starts (tree.member p d l n) behind = prefix_starts p _
-prefix_starts (tree.call p a) behind = prefix_starts p _
-prefix_starts (tree.method p c l n a) behind = prefix_starts p _
+prefix_starts (tree.variable l n) after = (tt, λ h. tt)
+prefix_starts (tree.paren o e c) after = (tt, λ h. absurd (h tt))
+prefix_starts (tree.item p o e c) after = prefix_starts p _
+prefix_starts (tree.member p d l n) after = prefix_starts p _
+prefix_starts (tree.call p a) after = prefix_starts p _
+prefix_starts (tree.method p c l n a) after = prefix_starts p _
 
-vars_start : (vs : VarList) (behind : List Lexeme) → Starts (VarsBeginWithParen vs) (print_varlist vs behind)
+vars_start : (vs : VarList) (after : List Lexeme) → Starts (VarsBeginWithParen vs) (print_varlist vs after)
 unfolding print_varlist
-vars_start (tree.one_var p) behind = prefix_starts p behind
-vars_start (tree.more_vars vs c p) behind = vars_start vs _
+vars_start (tree.one_var p) after = prefix_starts p after
+vars_start (tree.more_vars vs c p) after = vars_start vs _
 
-arms_start : (arms : Arms) (behind : List Lexeme) → Starts ⊥ (print_arms arms behind)
+arms_start : (arms : Arms) (after : List Lexeme) → Starts ⊥ (print_arms arms after)
 unfolding print_arms
-arms_start (tree.if_arm i t h b) behind = (tt, λ h. tt)
-arms_start (tree.elseif_arm arms i t h b) behind = arms_start arms _
+arms_start (tree.if_arm i t h b) after = (tt, λ h. tt)
+arms_start (tree.elseif_arm arms i t h b) after = arms_start arms _
 
-stat_starts : (s : Stat) (behind : List Lexeme) → Starts (StatBeginsWithParen s) (print_stat s behind)
+stat_starts : (s : Stat) (after : List Lexeme) → Starts (StatBeginsWithParen s) (print_stat s after)
 unfolding print_stat
-stat_starts (tree.assign vs q es) behind = vars_start vs _
-stat_starts (tree.call_statement p) behind = prefix_starts p behind
-stat_starts (tree.if_then arms x) behind = arms_start arms _
-stat_starts (tree.if_else arms l b x) behind = arms_start arms _
-stat_starts other behind = (tt, λ h. tt)
+stat_starts (tree.assign vs q es) after = vars_start vs _
+stat_starts (tree.call_statement p) after = prefix_starts p after
+stat_starts (tree.if_then arms x) after = arms_start arms _
+stat_starts (tree.if_else arms l b x) after = arms_start arms _
+stat_starts other after = (tt, λ h. tt)
 
-last_starts : (s : LastStat) (behind : List Lexeme) → Behind IsStart (print_laststat s behind) × Behind IsNoParen (print_laststat s behind)
+last_starts : (s : LastStat) (after : List Lexeme) → Behind IsStart (print_laststat s after) × Behind IsNoParen (print_laststat s after)
 unfolding print_laststat
-last_starts (tree.return_none r) behind = (tt, tt)
-last_starts (tree.return_values r es) behind = (tt, tt)
-last_starts (tree.break_ b) behind = (tt, tt)
+last_starts (tree.return_none r) after = (tt, tt)
+last_starts (tree.return_values r es) after = (tt, tt)
+last_starts (tree.break_ b) after = (tt, tt)
 
--- what may stand behind statements
+-- what may stand after statements
 abbrev pub Follows : Stats → List Lexeme → Type 0
-Follows (tree.more_stats ss s tree.bare) behind = Behind IsStart behind × (StatEndsWithPrefix s → Behind IsNoParen behind)
-Follows (tree.more_stats ss s (tree.closed l)) behind = Behind IsStart behind
-Follows tree.no_stats behind = Unit {0}
+Follows (tree.more_stats ss s tree.bare) after = Behind IsStart after × (StatEndsWithPrefix s → Behind IsNoParen after)
+Follows (tree.more_stats ss s (tree.closed l)) after = Behind IsStart after
+Follows tree.no_stats after = Unit {0}
 
-pub stat_follows : (ss : Stats) (s : Stat) (behind : List Lexeme) → MayFollow ss s → Follows ss (print_stat s behind)
-stat_follows tree.no_stats s behind h = tt
-stat_follows (tree.more_stats ss before tree.bare) s behind h = let starts = stat_starts s behind in (starts.0, λ ends. starts.1 (h ends))
-stat_follows (tree.more_stats ss before (tree.closed l)) s behind h = (stat_starts s behind).0
+pub stat_follows : (ss : Stats) (s : Stat) (after : List Lexeme) → MayFollow ss s → Follows ss (print_stat s after)
+stat_follows tree.no_stats s after h = tt
+stat_follows (tree.more_stats ss before tree.bare) s after h = let starts = stat_starts s after in (starts.0, λ ends. starts.1 (h ends))
+stat_follows (tree.more_stats ss before (tree.closed l)) s after h = (stat_starts s after).0
 
-follows : (ss : Stats) (behind : List Lexeme) → Behind IsStart behind → Behind IsNoParen behind → Follows ss behind
-follows tree.no_stats behind h k = tt
-follows (tree.more_stats ss s tree.bare) behind h k = (h, λ ends. k)
-follows (tree.more_stats ss s (tree.closed l)) behind h k = h
+follows : (ss : Stats) (after : List Lexeme) → Behind IsStart after → Behind IsNoParen after → Follows ss after
+follows tree.no_stats after h k = tt
+follows (tree.more_stats ss s tree.bare) after h k = (h, λ ends. k)
+follows (tree.more_stats ss s (tree.closed l)) after h k = h
 
-pub last_follows : (ss : Stats) (s : LastStat) (behind : List Lexeme) → Follows ss (print_laststat s behind)
-last_follows ss s behind = let starts = last_starts s behind in follows ss _ starts.0 starts.1
+pub last_follows : (ss : Stats) (s : LastStat) (after : List Lexeme) → Follows ss (print_laststat s after)
+last_follows ss s after = let starts = last_starts s after in follows ss _ starts.0 starts.1
 
-pub end_follows : (ss : Stats) (behind : List Lexeme) → Behind IsBlockEnd behind → Follows ss behind
-end_follows ss behind h = follows ss behind (weaker IsBlockEnd IsStart behind block_end_starts h) (weaker IsBlockEnd IsNoParen behind block_end_is_no_paren h)
+pub end_follows : (ss : Stats) (after : List Lexeme) → Behind IsBlockEnd after → Follows ss after
+end_follows ss after h = follows ss after (weaker IsBlockEnd IsStart after block_end_starts h) (weaker IsBlockEnd IsNoParen after block_end_is_no_paren h)
 
--- what stands behind a statement, be it a `;` or another
-pub record IsBehind (s : Type 0) (xs : List Lexeme) : Type 0 where
+-- what stands after a statement, be it a `;` or another
+pub record IsAfter (s : Type 0) (xs : List Lexeme) : Type 0 where
   pub next : Behind IsNext xs
   pub apart : s → Behind IsApart xs
 
-pub behind_stat : (ss : Stats) (s : Stat) (x : End) (behind : List Lexeme) → Follows (tree.more_stats ss s x) behind → IsBehind (StatEndsWithPrefix s) (print_end x behind)
-behind_stat ss s tree.bare behind h =
-    record { next = weaker IsStart IsNext behind start_is_next h.0; apart = λ ends. start_is_apart behind h.0 (h.1 ends) }
-behind_stat ss s (tree.closed l) behind h = record { next = tt; apart = λ ends. tt }
+pub after_stat : (ss : Stats) (s : Stat) (x : End) (after : List Lexeme) → Follows (tree.more_stats ss s x) after → IsAfter (StatEndsWithPrefix s) (print_end x after)
+after_stat ss s tree.bare after h =
+    record { next = weaker IsStart IsNext after start_is_next h.0; apart = λ ends. start_is_apart after h.0 (h.1 ends) }
+after_stat ss s (tree.closed l) after h = record { next = tt; apart = λ ends. tt }
 
-pub starts_behind : (ss : Stats) (s : Stat) (x : End) (behind : List Lexeme) → Follows (tree.more_stats ss s x) behind → Behind IsStart behind
-starts_behind ss s tree.bare behind h = h.0
-starts_behind ss s (tree.closed l) behind h = h
+pub starts_after : (ss : Stats) (s : Stat) (x : End) (after : List Lexeme) → Follows (tree.more_stats ss s x) after → Behind IsStart after
+starts_after ss s tree.bare after h = h.0
+starts_after ss s (tree.closed l) after h = h
 
-pub behind_last : (x : End) (behind : List Lexeme) → Behind IsBlockEnd behind → IsBehind (Unit {0}) (print_end x behind)
-behind_last tree.bare behind h =
-    let starts = weaker IsBlockEnd IsStart behind block_end_starts h in record {
-      next = weaker IsStart IsNext behind start_is_next starts;
-      apart = λ ends. start_is_apart behind starts (weaker IsBlockEnd IsNoParen behind block_end_is_no_paren h);
+pub after_last : (x : End) (after : List Lexeme) → Behind IsBlockEnd after → IsAfter (Unit {0}) (print_end x after)
+after_last tree.bare after h =
+    let starts = weaker IsBlockEnd IsStart after block_end_starts h in record {
+      next = weaker IsStart IsNext after start_is_next starts;
+      apart = λ ends. start_is_apart after starts (weaker IsBlockEnd IsNoParen after block_end_is_no_paren h);
     }
-behind_last (tree.closed l) behind h = record { next = tt; apart = λ ends. tt }
+after_last (tree.closed l) after h = record { next = tt; apart = λ ends. tt }
 
-pub return_ends_there : (x : End) (behind : List Lexeme) → Behind IsBlockEnd behind → Behind IsReturnEnd (print_end x behind)
-return_ends_there tree.bare behind h = weaker IsBlockEnd IsReturnEnd behind block_end_ends_return h
-return_ends_there (tree.closed l) behind h = tt
+pub return_ends_there : (x : End) (after : List Lexeme) → Behind IsBlockEnd after → Behind IsReturnEnd (print_end x after)
+return_ends_there tree.bare after h = weaker IsBlockEnd IsReturnEnd after block_end_ends_return h
+return_ends_there (tree.closed l) after h = tt
 
--- ---- behind statements that may stand there each of them is handed on
+-- ---- after statements that may stand there each of them is handed on
 
 next_no_comma : (kind : TokenKind) → IsNext kind → IsNoComma kind
 next_no_comma (Sign sign.Comma) h = absurd h
@@ -215,44 +215,44 @@ start_no_semicolon : (kind : TokenKind) → IsStart kind → IsNoSemicolon kind
 start_no_semicolon (Sign sign.Semicolon) h = absurd h
 start_no_semicolon kind h = tt
 
-none : (behind : List Lexeme) → Behind IsNext behind → Behind IsNoOperator behind
-none behind h = weaker IsNext IsNoOperator behind no_operator h
+none : (after : List Lexeme) → Behind IsNext after → Behind IsNoOperator after
+none after h = weaker IsNext IsNoOperator after no_operator h
 
-pub stat_stops : (s : Stat) (behind : List Lexeme) → IsBehind (StatEndsWithPrefix s) behind → StatStops s behind
-stat_stops (tree.assign vs q es) behind b = (last_stops es behind (none behind b.next) b.apart, weaker IsNext IsNoComma behind next_no_comma b.next)
-stat_stops (tree.call_statement p) behind b = b.apart tt
-stat_stops (tree.repeat_loop r c u t) behind b = (stops t behind (none behind b.next) b.apart, ends_in 1 behind (none behind b.next))
-stat_stops (tree.local l ns) behind b = (weaker IsNext IsNoComma behind next_no_comma b.next, weaker IsNext IsNoAssign behind next_no_assign b.next)
-stat_stops (tree.local_values l ns q es) behind b = (last_stops es behind (none behind b.next) b.apart, weaker IsNext IsNoComma behind next_no_comma b.next)
-stat_stops other behind b = tt
+pub stat_stops : (s : Stat) (after : List Lexeme) → IsAfter (StatEndsWithPrefix s) after → StatStops s after
+stat_stops (tree.assign vs q es) after b = (last_stops es after (none after b.next) b.apart, weaker IsNext IsNoComma after next_no_comma b.next)
+stat_stops (tree.call_statement p) after b = b.apart tt
+stat_stops (tree.repeat_loop r c u t) after b = (stops t after (none after b.next) b.apart, ends_in 1 after (none after b.next))
+stat_stops (tree.local l ns) after b = (weaker IsNext IsNoComma after next_no_comma b.next, weaker IsNext IsNoAssign after next_no_assign b.next)
+stat_stops (tree.local_values l ns q es) after b = (last_stops es after (none after b.next) b.apart, weaker IsNext IsNoComma after next_no_comma b.next)
+stat_stops other after b = tt
 
-end_stops : (x : End) (behind : List Lexeme) → Behind IsStart behind → EndStops x behind
-end_stops tree.bare behind h = weaker IsStart IsNoSemicolon behind start_no_semicolon h
-end_stops (tree.closed l) behind h = tt
+end_stops : (x : End) (after : List Lexeme) → Behind IsStart after → EndStops x after
+end_stops tree.bare after h = weaker IsStart IsNoSemicolon after start_no_semicolon h
+end_stops (tree.closed l) after h = tt
 
-pub stats_stop : (ss : Stats) (behind : List Lexeme) → Follows ss behind → StatsStop ss behind
-stats_stop tree.no_stats behind f = tt
-stats_stop (tree.more_stats ss s x) behind f = (stat_stops s (print_end x behind) (behind_stat ss s x behind f), end_stops x behind (starts_behind ss s x behind f))
+pub stats_stop : (ss : Stats) (after : List Lexeme) → Follows ss after → StatsStop ss after
+stats_stop tree.no_stats after f = tt
+stats_stop (tree.more_stats ss s x) after f = (stat_stops s (print_end x after) (after_stat ss s x after f), end_stops x after (starts_after ss s x after f))
 
--- behind the last statement of a block
-pub last_ends : (x : End) (behind : List Lexeme) → Behind IsBlockEnd behind → EndStops x behind
-last_ends x behind h = end_stops x behind (weaker IsBlockEnd IsStart behind block_end_starts h)
+-- after the last statement of a block
+pub last_ends : (x : End) (after : List Lexeme) → Behind IsBlockEnd after → EndStops x after
+last_ends x after h = end_stops x after (weaker IsBlockEnd IsStart after block_end_starts h)
 
-pub last_list : (es : ExpList) (x : End) (behind : List Lexeme) → Behind IsBlockEnd behind → LastStops es (print_end x behind) × Behind IsNoComma (print_end x behind)
-last_list es x behind h =
-    let b = behind_last x behind h in
-    (last_stops es _ (none _ b.next) (λ ends. b.apart tt), weaker IsNext IsNoComma (print_end x behind) next_no_comma b.next)
+pub last_list : (es : ExpList) (x : End) (after : List Lexeme) → Behind IsBlockEnd after → LastStops es (print_end x after) × Behind IsNoComma (print_end x after)
+last_list es x after h =
+    let b = after_last x after h in
+    (last_stops es _ (none _ b.next) (λ ends. b.apart tt), weaker IsNext IsNoComma (print_end x after) next_no_comma b.next)
 
-last_stat_stops : (s : LastStat) (x : End) (behind : List Lexeme) → Behind IsBlockEnd behind → LastStatStops s (print_end x behind)
-last_stat_stops (tree.return_none r) x behind h = return_ends_there x behind h
-last_stat_stops (tree.return_values r es) x behind h = last_list es x behind h
-last_stat_stops (tree.break_ b) x behind h = tt
+last_stat_stops : (s : LastStat) (x : End) (after : List Lexeme) → Behind IsBlockEnd after → LastStatStops s (print_end x after)
+last_stat_stops (tree.return_none r) x after h = return_ends_there x after h
+last_stat_stops (tree.return_values r es) x after h = last_list es x after h
+last_stat_stops (tree.break_ b) x after h = tt
 
 -- where a block ends
-pub block_stops : (b : Block) (behind : List Lexeme) → Behind IsBlockEnd behind → BlockStops b behind
-block_stops (tree.statements ss) behind h = (stats_stop ss behind (end_follows ss behind h), h)
-block_stops (tree.with_last ss s x) behind h = (last_stat_stops s x behind h, last_ends x behind h)
+pub block_stops : (b : Block) (after : List Lexeme) → Behind IsBlockEnd after → BlockStops b after
+block_stops (tree.statements ss) after h = (stats_stop ss after (end_follows ss after h), h)
+block_stops (tree.with_last ss s x) after h = (last_stat_stops s x after h, last_ends x after h)
 
-pub arms_stop : (arms : Arms) (behind : List Lexeme) → Behind IsBlockEnd behind → ArmsStop arms behind
-arms_stop (tree.if_arm i t h b) behind e = block_stops b behind e
-arms_stop (tree.elseif_arm those i t h b) behind e = block_stops b behind e
+pub arms_stop : (arms : Arms) (after : List Lexeme) → Behind IsBlockEnd after → ArmsStop arms after
+arms_stop (tree.if_arm i t h b) after e = block_stops b after e
+arms_stop (tree.elseif_arm those i t h b) after e = block_stops b after e

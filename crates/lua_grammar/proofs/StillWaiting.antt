@@ -48,7 +48,7 @@ exp_waits (tree.unary op l e) rest m k v h =
 pub prefix_waits : (p : PrefixExp) (rest : Bool) (k : PrefixExp → Reader) → IsValidPrefix rest p → IsWaiting (run (token (begin_prefix k)) (print_prefixexp p []))
 prefix_waits p rest k v = waits_as _ (more_prefix p k) (prefix_read p rest (token (begin_prefix k)) k [] (record { name = λ n l. refl; paren = λ o. refl }) v) tt
 
--- fields of a table: behind a name alone the reader waits for `=` or for what goes on with the name
+-- fields of a table: after a name alone the reader waits for `=` or for what goes on with the name
 plain_waits : (e : Exp) (rest : Bool) (o : Line) (fs : Fields) (k : Table → Reader) → IsValid rest e → IsWaiting (run (more_fields o fs k) (print_exp e []))
 unfolding print_exp IsValid
 plain_waits (tree.prefix (tree.variable l n)) rest o fs k v = tt
@@ -121,7 +121,7 @@ stats_wait (tree.more_stats ss s (tree.closed l)) rest loop k v =
     ∙ stat_read s rest loop ss k (a_sign sign.Semicolon l []) v.1 (stat_stops s _ (record { next = tt; apart = λ ends. tt })))
     tt
 
--- behind the last statement of a block a `;`
+-- after the last statement of a block a `;`
 last_closed : (s : LastStat) (l : Line) → LastStatStops s (a_sign sign.Semicolon l [])
 last_closed (tree.return_none r) l = tt
 last_closed (tree.return_values r es) l = (last_stops es _ (λ m. refl) (λ ends. tt), tt)

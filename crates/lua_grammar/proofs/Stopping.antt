@@ -30,7 +30,7 @@ IsStart (Word word.Or) = ⊥
 IsStart (Word w) = Unit {0}
 IsStart other = ⊥
 
--- it may stand behind a statement
+-- it may stand after a statement
 abbrev pub IsNext : TokenKind → Type 0
 IsNext (Sign sign.Semicolon) = Unit {0}
 IsNext kind = IsStart kind
@@ -39,7 +39,7 @@ abbrev pub IsNoParen : TokenKind → Type 0
 IsNoParen (Sign sign.OpenParenthesis) = ⊥
 IsNoParen other = Unit {0}
 
--- ---- what is behind an expression
+-- ---- what comes after an expression
 
 pub is_operator : (op : Operator) → operator_of (kind_of op) ≡ Some op
 is_operator Or = refl
@@ -82,32 +82,32 @@ ends_at : (m : ℕ) (op : Operator) → level op < m → EndsAt m (kind_of op)
 ends_at m op h = rw (is_operator op, lt-leb m (level op) h) refl
 
 -- an operator of which an expression may be the left operand
-pub stops_at : (rest : Bool) (e : Exp) (op : Operator) (l : Line) (behind : List Lexeme) → IsValid rest e → left_level op ≤ exp_level e → Stops e (a_kind (kind_of op) l behind)
+pub stops_at : (rest : Bool) (e : Exp) (op : Operator) (l : Line) (after : List Lexeme) → IsValid rest e → left_level op ≤ exp_level e → Stops e (a_kind (kind_of op) l after)
 unfolding IsValid
-stops_at rest (tree.prefix p) op l behind v h = operator_apart op
-stops_at rest (tree.binary a op' l' b) op l behind v h =
+stops_at rest (tree.prefix p) op l after v h = operator_apart op
+stops_at rest (tree.binary a op' l' b) op l after v h =
     let mine = levels_of op' in
     let its = levels_of op in
     let within = within_right _ _ _ _ _ _ mine its h in (
       ends_at _ op (below_right _ _ _ _ _ _ mine its h),
-      stops_at rest b op l behind v.1 (let right = v.3 in omega (arith, within, right)),
+      stops_at rest b op l after v.1 (let right = v.3 in omega (arith, within, right)),
     )
-stops_at rest (tree.unary op' l' e) op l behind v h = (
+stops_at rest (tree.unary op' l' e) op l after v h = (
   ends_at 7 op (below_unary _ _ _ (levels_of op) h),
-  stops_at rest e op l behind v.0 (let operand = v.1 in omega (arith, h, operand)),
+  stops_at rest e op l after v.0 (let operand = v.1 in omega (arith, h, operand)),
 )
-stops_at rest other op l behind v h = tt
+stops_at rest other op l after v h = tt
 
-pub ends_in : (m : ℕ) (behind : List Lexeme) → Behind IsNoOperator behind → Behind (EndsAt m) behind
+pub ends_in : (m : ℕ) (after : List Lexeme) → Behind IsNoOperator after → Behind (EndsAt m) after
 ends_in m [] h = h
-ends_in m (first ∷ behind) h = h m
+ends_in m (first ∷ after) h = h m
 
--- no operator is behind, and nothing that continues a prefix, if that is at the end
-pub stops : (e : Exp) (behind : List Lexeme) → Behind IsNoOperator behind → (EndsWithPrefix e → Behind IsApart behind) → Stops e behind
-stops (tree.prefix p) behind h k = k tt
-stops (tree.binary a op l b) behind h k = (ends_in (right_level op) behind h, stops b behind h k)
-stops (tree.unary op l e) behind h k = (ends_in 7 behind h, stops e behind h k)
-stops other behind h k = tt
+-- no operator comes next, and nothing that continues a prefix, if that is at the end
+pub stops : (e : Exp) (after : List Lexeme) → Behind IsNoOperator after → (EndsWithPrefix e → Behind IsApart after) → Stops e after
+stops (tree.prefix p) after h k = k tt
+stops (tree.binary a op l b) after h k = (ends_in (right_level op) after h, stops b after h k)
+stops (tree.unary op l e) after h k = (ends_in 7 after h, stops e after h k)
+stops other after h k = tt
 
 pub at_least_one : (e : Exp) → 1 ≤ exp_level e
 at_least_one (tree.binary a op l b) = some_level _ _ _ (levels_of op)
@@ -117,24 +117,24 @@ at_least_one other = lit≤ tt
 -- ---- what the reader does there
 
 -- two readers do the same with the first token
-pub by_first : (P : TokenKind → Type 0) (r other : Reader) (behind : List Lexeme) → ((kind : TokenKind) (l : Line) → P kind → feed r kind l ≡ feed other kind l)
-    → Behind P behind → run r behind ≡ run other behind
+pub by_first : (P : TokenKind → Type 0) (r other : Reader) (after : List Lexeme) → ((kind : TokenKind) (l : Line) → P kind → feed r kind l ≡ feed other kind l)
+    → Behind P after → run r after ≡ run other after
 by_first P r other [] same h = absurd h
-by_first P r other (first ∷ behind) same h = ap (λ r. run r behind) (same first.kind first.line h)
+by_first P r other (first ∷ after) same h = ap (λ r. run r after) (same first.kind first.line h)
 
-pub weaker : (P Q : TokenKind → Type 0) (behind : List Lexeme) → ((kind : TokenKind) → P kind → Q kind) → Behind P behind → Behind Q behind
+pub weaker : (P Q : TokenKind → Type 0) (after : List Lexeme) → ((kind : TokenKind) → P kind → Q kind) → Behind P after → Behind Q after
 weaker P Q [] f h = h
-weaker P Q (first ∷ behind) f h = f first.kind h
+weaker P Q (first ∷ after) f h = f first.kind h
 
 pub exp_goes_on : (m : ℕ) (a : Exp) (op : Operator) (l : Line) (k : Exp → Reader) → m ≤ level op
     → feed (more_exp m a k) (kind_of op) l ≡ exp (right_level op) (λ b. more_exp m (tree.binary a op l b) k)
 exp_goes_on m a op l k h = rw (goes_on m op h, feed) refl
 
-pub exp_ends : (m : ℕ) (e : Exp) (k : Exp → Reader) (behind : List Lexeme) → Behind (EndsAt m) behind → run (more_exp m e k) behind ≡ run (k e) behind
-exp_ends m e k behind h = by_first (EndsAt m) _ _ behind (λ kind l ends. rw (ends, feed) refl) h
+pub exp_ends : (m : ℕ) (e : Exp) (k : Exp → Reader) (after : List Lexeme) → Behind (EndsAt m) after → run (more_exp m e k) after ≡ run (k e) after
+exp_ends m e k after h = by_first (EndsAt m) _ _ after (λ kind l ends. rw (ends, feed) refl) h
 
-pub prefix_ends : (p : PrefixExp) (k : PrefixExp → Reader) (behind : List Lexeme) → Behind IsApart behind → run (more_prefix p k) behind ≡ run (k p) behind
-prefix_ends p k behind h = by_first IsApart _ _ behind at h
+pub prefix_ends : (p : PrefixExp) (k : PrefixExp → Reader) (after : List Lexeme) → Behind IsApart after → run (more_prefix p k) after ≡ run (k p) after
+prefix_ends p k after h = by_first IsApart _ _ after at h
   where
     at : (kind : TokenKind) (l : Line) → IsApart kind → feed (more_prefix p k) kind l ≡ feed (k p) kind l
     at (Text bytes) l h = absurd h
@@ -145,28 +145,28 @@ prefix_ends p k behind h = by_first IsApart _ _ behind at h
     at (Sign sign.OpenParenthesis) l h = absurd h
     at kind l h = refl
 
-pub last_stops : (es : ExpList) (behind : List Lexeme) → Behind IsNoOperator behind → (ListEndsWithPrefix es → Behind IsApart behind) → LastStops es behind
-last_stops (tree.one e) behind h k = (stops e behind h k, ends_in 1 behind h)
-last_stops (tree.more es c e) behind h k = (stops e behind h k, ends_in 1 behind h)
+pub last_stops : (es : ExpList) (after : List Lexeme) → Behind IsNoOperator after → (ListEndsWithPrefix es → Behind IsApart after) → LastStops es after
+last_stops (tree.one e) after h k = (stops e after h k, ends_in 1 after h)
+last_stops (tree.more es c e) after h k = (stops e after h k, ends_in 1 after h)
 
-pub list_ends : (es : ExpList) (k : ExpList → Reader) (behind : List Lexeme) → Behind IsNoComma behind → run (more_list es k) behind ≡ run (k es) behind
-list_ends es k behind h = by_first IsNoComma _ _ behind at h
+pub list_ends : (es : ExpList) (k : ExpList → Reader) (after : List Lexeme) → Behind IsNoComma after → run (more_list es k) after ≡ run (k es) after
+list_ends es k after h = by_first IsNoComma _ _ after at h
   where
     at : (kind : TokenKind) (l : Line) → IsNoComma kind → feed (more_list es k) kind l ≡ feed (k es) kind l
     at (Sign sign.Comma) l h = absurd h
     at kind l h = refl
 
-pub names_end : (ns : NameList) (k : NameList → Reader) (rest : NameList → Line → Line → Reader) (behind : List Lexeme) → Behind IsNoComma behind
-    → run (more_names ns k rest) behind ≡ run (k ns) behind
-names_end ns k rest behind h = by_first IsNoComma _ _ behind at h
+pub names_end : (ns : NameList) (k : NameList → Reader) (rest : NameList → Line → Line → Reader) (after : List Lexeme) → Behind IsNoComma after
+    → run (more_names ns k rest) after ≡ run (k ns) after
+names_end ns k rest after h = by_first IsNoComma _ _ after at h
   where
     at : (kind : TokenKind) (l : Line) → IsNoComma kind → feed (more_names ns k rest) kind l ≡ feed (k ns) kind l
     at (Sign sign.Comma) l h = absurd h
     at kind l h = refl
 
-pub local_ends : (at_line : Line) (ns : NameList) (k : Stat → Reader) (behind : List Lexeme) → Behind IsNoAssign behind
-    → run (after_local at_line ns k) behind ≡ run (k (tree.local at_line ns)) behind
-local_ends at_line ns k behind h = by_first IsNoAssign _ _ behind at h
+pub local_ends : (at_line : Line) (ns : NameList) (k : Stat → Reader) (after : List Lexeme) → Behind IsNoAssign after
+    → run (after_local at_line ns k) after ≡ run (k (tree.local at_line ns)) after
+local_ends at_line ns k after h = by_first IsNoAssign _ _ after at h
   where
     at : (kind : TokenKind) (l : Line) → IsNoAssign kind → feed (after_local at_line ns k) kind l ≡ feed (k (tree.local at_line ns)) kind l
     at (Sign sign.Assign) l h = absurd h
@@ -189,8 +189,8 @@ assigns_next (tree.item p o e q) vs c k h = refl
 assigns_next (tree.member p d l n) vs c k h = refl
 assigns_next p vs c k h = absurd h
 
-pub block_ends : (ss : Stats) (k : Block → Reader) (behind : List Lexeme) → Behind IsBlockEnd behind → run (more_stats ss k) behind ≡ run (k (tree.statements ss)) behind
-block_ends ss k behind h = by_first IsBlockEnd _ _ behind at h
+pub block_ends : (ss : Stats) (k : Block → Reader) (after : List Lexeme) → Behind IsBlockEnd after → run (more_stats ss k) after ≡ run (k (tree.statements ss)) after
+block_ends ss k after h = by_first IsBlockEnd _ _ after at h
   where
     at : (kind : TokenKind) (l : Line) → IsBlockEnd kind → feed (more_stats ss k) kind l ≡ feed (k (tree.statements ss)) kind l
     at (Word word.End) l h = refl
@@ -199,17 +199,17 @@ block_ends ss k behind h = by_first IsBlockEnd _ _ behind at h
     at (Word word.Until) l h = refl
     at kind l h = absurd h
 
-pub statement_ends : (x : End) (k : End → Reader) (behind : List Lexeme) → EndStops x behind → run (after_statement k) (print_end x behind) ≡ run (k x) behind
-statement_ends (tree.closed l) k behind h = refl
-statement_ends tree.bare k behind h = by_first IsNoSemicolon _ _ behind at h
+pub statement_ends : (x : End) (k : End → Reader) (after : List Lexeme) → EndStops x after → run (after_statement k) (print_end x after) ≡ run (k x) after
+statement_ends (tree.closed l) k after h = refl
+statement_ends tree.bare k after h = by_first IsNoSemicolon _ _ after at h
   where
     at : (kind : TokenKind) (l : Line) → IsNoSemicolon kind → feed (after_statement k) kind l ≡ feed (k tree.bare) kind l
     at (Sign sign.Semicolon) l h = absurd h
     at kind l h = refl
 
-pub return_ends : (r : Line) (k : LastStat → Reader) (behind : List Lexeme) → Behind IsReturnEnd behind
-    → run (after_return r k) behind ≡ run (k (tree.return_none r)) behind
-return_ends r k behind h = by_first IsReturnEnd _ _ behind at h
+pub return_ends : (r : Line) (k : LastStat → Reader) (after : List Lexeme) → Behind IsReturnEnd after
+    → run (after_return r k) after ≡ run (k (tree.return_none r)) after
+return_ends r k after h = by_first IsReturnEnd _ _ after at h
   where
     at : (kind : TokenKind) (l : Line) → IsReturnEnd kind → feed (after_return r k) kind l ≡ feed (k (tree.return_none r)) kind l
     at (Sign sign.Semicolon) l h = refl
@@ -219,7 +219,7 @@ return_ends r k behind h = by_first IsReturnEnd _ _ behind at h
     at (Word word.Until) l h = refl
     at kind l h = absurd h
 
--- ---- the operator behind an expression that was read as far as it goes
+-- ---- the operator after an expression that was read as far as it goes
 
 pub operator_kind : (kind : TokenKind) (op : Operator) → operator_of kind ≡ Some op → kind ≡ kind_of op
 operator_kind (Word word.Or) op is = let same : Or ≡ op = cc in ap kind_of same

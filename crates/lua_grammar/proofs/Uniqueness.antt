@@ -19,13 +19,13 @@ is_read b v = let e = (block_before b).splits [] (a_word EndWord 1 []) in
 
 pub stays_failed : (xs : List Lexeme) → run failed xs ≡ failed
 stays_failed [] = refl
-stays_failed (first ∷ behind) = stays_failed behind
+stays_failed (first ∷ after) = stays_failed after
 
 pub one_tree : (b other : Block) → IsValidBlock true false b → IsValidBlock true false other → print_block b [] ≡ print_block other [] → b ≡ other
 one_tree b other v w e =
     let p : chunk b ≡ chunk other = sym (is_read b v) ∙ ap read e ∙ is_read other w in cc
 
--- ---- a `(` behind a prefix
+-- ---- a `(` after a prefix
 
 pub reads_call : (b : Block) (line : tree.Line) → IsValidBlock true false b → print_block b [] ≡ print_block (two_statements line tree.bare) [] → b ≡ one_call line
 unfolding print_block

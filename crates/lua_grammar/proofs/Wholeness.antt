@@ -208,7 +208,7 @@ chunk_whole line chunk program (kept, out, m, t, opens, ends, functions, files) 
     let a = ended_whole line [] _ kept out outside m t (block_whole chunk (enter [] kept outside) out m opens (entered_fits [] [] nothing_fits)) ends in
     let all = program.functions.items in
     let e : all ≡ a.new = functions ∙ a.grows in
-    let stands : Stands 0 a.new all = record { before = []; behind = []; is = e ∙ sym (append-nil a.new); counted = refl } in
+    let stands : Stands 0 a.new all = record { before = []; after = []; is = e ∙ sym (append-nil a.new); counted = refl } in
     seen (All (IsWholeFunction program)) e (All-weaker (IsWholeBody all) (IsWholeFunction program) (λ f h. in_program program f files h) a.new (a.bodies all stands))
 
 -- a program is whole

@@ -20,11 +20,11 @@ unfoldable pub Covers : List Frame → Function → Type 0
 Covers [] f = ⊥
 Covers (g ∷ gs) f = (g.slots ≤ f.slots) × (length g.captures ≤ length f.captures.items)
 
--- the new functions stand in the list, behind so many others
+-- the new functions stand in the list, after so many others
 pub record Stands (count : ℕ) (new all : List Function) : Type 0 where
   pub before : List Function
-  pub behind : List Function
-  pub is : all ≡ before ++ (new ++ behind)
+  pub after : List Function
+  pub is : all ≡ before ++ (new ++ after)
   pub counted : length before ≡ count
 
 pub record IsWholeBody (all : List Function) (f : Function) : Type 0 where
@@ -60,16 +60,16 @@ seen P e h = subst P (sym e) h
 first_stands : (count : ℕ) (xs ys all : List Function) → Stands count (xs ++ ys) all → Stands count xs all
 first_stands count xs ys all s = record {
   before = s.before;
-  behind = ys ++ s.behind;
-  is = s.is ∙ ap (λ zs. s.before ++ zs) (append_assoc xs ys s.behind);
+  after = ys ++ s.after;
+  is = s.is ∙ ap (λ zs. s.before ++ zs) (append_assoc xs ys s.after);
   counted = s.counted;
 }
 
 second_stands : (count : ℕ) (xs ys all old new : List Function) → length old ≡ count → new ≡ old ++ xs → Stands count (xs ++ ys) all → Stands (length new) ys all
 second_stands count xs ys all old new c e s = record {
   before = s.before ++ xs;
-  behind = s.behind;
-  is = s.is ∙ (ap (λ zs. s.before ++ zs) (append_assoc xs ys s.behind) ∙ sym (append_assoc s.before xs (ys ++ s.behind)));
+  after = s.after;
+  is = s.is ∙ (ap (λ zs. s.before ++ zs) (append_assoc xs ys s.after) ∙ sym (append_assoc s.before xs (ys ++ s.after)));
   counted =
       let p = length-append s.before xs in
       let q = ap length e ∙ length-append old xs in
@@ -176,7 +176,7 @@ frame_covered fs f gs g e p q = seen (λ z. Covers z g) e (p, q)
 inner_there : (count : ℕ) (f g : Function) (new all : List Function) → All (HasVariable f) g.captures.items → Stands count (g ∷ new) all → HasInner all f count
 inner_there count f g new all h s =
     let there_is : slice_get all count ≡ Some g = ap (λ zs. slice_get zs count) s.is
-    ∙ (ap (λ n. slice_get (s.before ++ (g ∷ new ++ s.behind)) n) (sym s.counted) ∙ there s.before g (new ++ s.behind)) in
+    ∙ (ap (λ n. slice_get (s.before ++ (g ∷ new ++ s.after)) n) (sym s.counted) ∙ there s.before g (new ++ s.after)) in
     seen (λ z. IsSomeAnd z (λ inner. All (HasVariable f) inner.captures.items)) there_is h
 
 same_count : (xs : List Function) (kept g : Function) (new all : List Function) → Stands (length (xs ++ g ∷ [])) new all → Stands (length (xs ++ kept ∷ [])) new all

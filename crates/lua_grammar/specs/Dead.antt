@@ -1,10 +1,12 @@
 -- Dead states of a reader: no tokens lead from them to a chunk that stands for a program.
 use Rattle.lua_lexer.specs.declared.tokens.TokenKind.{TokenKind}
 use Rattle.lua_grammar.specs.declared.operators.Operator.{Operator}
-use Rattle.lua_grammar.specs.Tree.{Line, Bytes, NameList, FuncName, Separator, End, Exp, PrefixExp, Args, ExpList, Fields, Field, Block, Stats, Stat, Arms, LastStat, VarList}
+use Rattle.lua_grammar.specs.Tree.{Line, Bytes, NameList, FuncName, Separator, End, Exp, PrefixExp, Args, ExpList, Fields, Field, Block, Stats, Stat, Arms}
+use Rattle.lua_grammar.specs.Tree.{LastStat, VarList}
 use Rattle.lua_grammar.specs.Tree as tree
 use Rattle.lua_grammar.specs.Grammar.{IsChunk}
-use Rattle.lua_grammar.specs.Waiting.{Reader, failed, chunk, token, exp, more_exp, more_prefix, more_list, more_fields, more_names, more_funcname, more_vars, more_arms, more_stats, unless_assign, after_statement, after_local, after_return}
+use Rattle.lua_grammar.specs.Waiting.{Reader, failed, chunk, token, exp, more_exp, more_prefix, more_list, more_fields, more_names, more_funcname, more_vars}
+use Rattle.lua_grammar.specs.Waiting.{more_arms, more_stats, unless_assign, after_statement, after_local, after_return}
 
 -- ---- what a part that was read becomes as it goes on: itself, or a whole that begins with it
 
@@ -47,7 +49,7 @@ pub data StatsFrom (first : Stats) : Stats → Type 0 where
   alone : StatsFrom first first
   more : (ss : Stats) (s : Stat) (x : End) → StatsFrom first ss → StatsFrom first (tree.more_stats ss s x)
 
--- ---- a reader is dead where it is so behind each tree that it may go on with
+-- ---- a reader is dead where it is so after each tree that it may go on with
 
 abbrev pub IsDead : Reader → Type 0
 IsDead failed = Unit {0}

@@ -14,8 +14,9 @@ use Rattle.lua_grammar.specs.Resolution.{Opens, EndsFunction}
 -- the line of the first token, 1 of none
 abbrev pub first_line : List Lexeme → Line
 first_line [] = 1
-first_line (first ∷ behind) = first.line
+first_line (first ∷ after) = first.line
 
+-- before the chunk, which is itself a function
 abbrev pub outside : Scope
 outside = record { functions = []; around = [] }
 
@@ -40,5 +41,6 @@ pub record IsChunkOf (tokens : List Token) (program : Program) (chunk : Block) :
   pub shallow : block_levels chunk ≤ 200
   pub resolved : ResolvesChunk (first_line (lexemes tokens)) chunk program
 
+-- the tokens are those of some chunk, and the program is what it stands for
 abbrev pub IsProgramOf : List Token → Program → Type 0
 IsProgramOf tokens program = (chunk : Block) × IsChunkOf tokens program chunk

@@ -17,15 +17,18 @@ use Rattle.lua_grammar.specs.declared.operators.Operator.{Operator}
 use Rattle.lua_grammar.specs.declared.operators.Operator.TheVariants.{Plain}
 use Rattle.lua_grammar.specs.Tree.{Line, Bytes, Exp, Block}
 use Rattle.lua_grammar.specs.Tree as tree
-use Rattle.lua_grammar.specs.Printing.{Lexeme, lexemes, a_kind, a_word, a_sign, a_name}
-use Rattle.lua_grammar.specs.Validity.{IsValid}
+use Rattle.lua_grammar.specs.Printing.{Lexeme, lexemes, a_kind, a_word, a_sign, a_name, print_block}
+use Rattle.lua_grammar.specs.Validity.{IsValid, IsValidBlock}
 use Rattle.lua_grammar.specs.Scopes.{Frame, look, with_locals}
 use Rattle.lua_grammar.specs.Resolution.{SharedList, node, statement}
+use Rattle.lua_grammar.specs.Waiting.{chunk}
+use Rattle.lua_grammar.specs.Reading.{read, read_chunk, run}
 
 -- one of two trees is valid, and the other isn't
 abbrev pub IsOneValid : Exp → Exp → Type 0
 IsOneValid some other = (IsValid false some × (IsValid false other → ⊥)) ⊎ ((IsValid false some → ⊥) × IsValid false other)
 
+-- the first tree is valid, and the second isn't
 abbrev pub IsValidNot : Exp → Exp → Type 0
 IsValidNot some other = IsValid false some × (IsValid false other → ⊥)
 
@@ -51,7 +54,7 @@ not_of_equal = tree.unary unary.Not 1 (tree.binary (tree.nil 2) (Plain Eq) 3 (tr
 
 -- the first token is that sign
 abbrev pub BeginWith : Sign → List Token → Type 0
-BeginWith sign tokens = (line : ℕ) × (behind : List Lexeme) × (lexemes tokens ≡ a_sign sign line behind)
+BeginWith sign tokens = (line : ℕ) × (after : List Lexeme) × (lexemes tokens ≡ a_sign sign line after)
 
 -- `local a = 1` on line 1, `return function() return a end` on line 2
 abbrev pub tokens_by_hand : List Lexeme
@@ -99,6 +102,18 @@ pub record IsProgramByHand (program : Program) : Type 0 where
 -- what is printed stands before the rest, whatever it is
 pub record IsBefore (f : List Lexeme → List Lexeme) : Type 0 where
   pub splits : (xs ys : List Lexeme) → f (xs ++ ys) ≡ f xs ++ ys
+
+-- a valid chunk that has these tokens
+abbrev pub IsTreeOf : List Lexeme → Block → Type 0
+IsTreeOf tokens block = IsValidBlock true false block × (print_block block [] ≡ tokens)
+
+-- the tokens begin those of a chunk that is read
+abbrev pub BeginChunk : List Lexeme → Type 0
+BeginChunk tokens = (rest : List Lexeme) × (block : Block) × (read (tokens ++ rest) ≡ chunk block)
+
+-- further tokens lead a reader of a chunk that has taken these to its chunk
+abbrev pub GoesOnToChunk : List Lexeme → Type 0
+GoesOnToChunk tokens = (rest : List Lexeme) × (block : Block) × (run read_chunk (tokens ++ rest) ≡ chunk block)
 
 -- a chunk without statements
 pub record IsEmptyProgram (program : Program) : Type 0 where

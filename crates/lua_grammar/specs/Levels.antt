@@ -1,6 +1,7 @@
 -- How deep a tree nests, and how high its expressions are.
 use Rattle.std.specs.Prelude.{ℕ, ◌+◌, max}
-use Rattle.lua_grammar.specs.Tree.{Line, Bytes, NameList, Params, FuncName, Separator, End, Exp, PrefixExp, Args, ExpList, Table, Fields, Field, FuncBody, Block, Stats, Stat, Arms, LastStat, VarList}
+use Rattle.lua_grammar.specs.Tree.{Line, Bytes, NameList, Params, FuncName, Separator, End, Exp, PrefixExp, Args, ExpList, Table, Fields, Field, FuncBody}
+use Rattle.lua_grammar.specs.Tree.{Block, Stats, Stat, Arms, LastStat, VarList}
 use Rattle.lua_grammar.specs.Tree as tree
 
 -- How many levels a tree opens. A block is a level, and so is each expression that isn't the left operand of an operator or

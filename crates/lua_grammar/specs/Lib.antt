@@ -7,8 +7,8 @@ pub mod Scopes
 pub mod Resolution
 pub mod Limits
 pub mod Grammar
-pub mod Laws
 pub mod Waiting
 pub mod Reading
-pub mod Stopping
 pub mod Dead
+pub mod Stopping
+pub mod Laws

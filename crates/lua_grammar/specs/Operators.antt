@@ -34,7 +34,8 @@ kind_of_unary unary.Not = Word word.Not
 kind_of_unary unary.Length = Sign sign.Hash
 kind_of_unary unary.Minus = Sign sign.Minus
 
--- from low to high: `or`; `and`; comparisons; `..`; `+ -`; `* / %`; unary operators; `^`; and all else
+-- how tightly an operator binds, from low to high: `or`; `and`; `< > <= >= ~= ==`; `..`; `+ -`; `* / %`; `not # -`, which
+-- are unary; and `^`
 abbrev pub level : Operator → ℕ
 level Or = 1
 level And = 2
@@ -52,20 +53,23 @@ level (Plain Div) = 6
 level (Plain Mod) = 6
 level (Plain Pow) = 8
 
+-- `not`, `#` and `-` before one operand
 abbrev pub unary_level : ℕ
 unary_level = 7
 
+-- an expression whose outermost production is no operator
 abbrev pub highest_level : ℕ
 highest_level = 9
 
--- the lowest level of a left operand: `..` and `^` associate to the right
+-- the lowest level of a left operand: that of the operator itself, but one more for `..` and `^`, which associate to the
+-- right
 abbrev pub left_level : Operator → ℕ
 left_level (Plain Concat) = 5
 left_level (Plain Pow) = 9
 left_level op = level op
 
--- the lowest level of a right operand: all but `..` and `^` associate to the left, and a unary operator may stand behind
--- `^`
+-- the lowest level of a right operand: one more than that of the operator itself, since all but `..` and `^` associate to
+-- the left; that of `..` itself; and after `^` that of a unary operator, as in `2^-3`
 abbrev pub right_level : Operator → ℕ
 right_level (Plain Concat) = 4
 right_level (Plain Pow) = unary_level

@@ -6,10 +6,13 @@ use Rattle.lua_lexer.specs.declared.tokens.TokenKind.TheVariants.{Name, Text, Nu
 use Rattle.lua_lexer.specs.declared.signs.Sign.TheVariants as sign
 use Rattle.lua_lexer.specs.declared.words.Word.TheVariants as word
 use Rattle.lua_grammar.specs.Operators.{right_level}
-use Rattle.lua_grammar.specs.Tree.{Line, Bytes, NameList, Params, FuncName, End, Exp, PrefixExp, Args, ExpList, Table, Fields, Field, FuncBody, Block, Stats, Stat, Arms, LastStat, VarList}
+use Rattle.lua_grammar.specs.Tree.{Line, Bytes, NameList, Params, FuncName, End, Exp, PrefixExp, Args, ExpList, Table, Fields, Field, FuncBody, Block, Stats}
+use Rattle.lua_grammar.specs.Tree.{Stat, Arms, LastStat, VarList}
 use Rattle.lua_grammar.specs.Tree as tree
 use Rattle.lua_grammar.specs.Printing.{Lexeme, a_word}
-use Rattle.lua_grammar.specs.Waiting.{Reader, failed, chunk, token, exp, more_exp, more_prefix, more_list, more_fields, more_names, more_funcname, more_vars, more_arms, more_stats, unless_assign, after_statement, after_local, after_return, operator_of, above, name, close_parenthesis, close_bracket, equals, comma, do_, then_, end_, until_}
+use Rattle.lua_grammar.specs.Waiting.{Reader, failed, chunk, token, exp, more_exp, more_prefix, more_list, more_fields, more_names, more_funcname, more_vars}
+use Rattle.lua_grammar.specs.Waiting.{more_arms, more_stats, unless_assign, after_statement, after_local, after_return, operator_of, above, name}
+use Rattle.lua_grammar.specs.Waiting.{close_parenthesis, close_bracket, equals, comma, do_, then_, end_, until_}
 
 -- ---- productions from their first token on
 
@@ -74,7 +77,7 @@ after_field o fs k f (Sign sign.Semicolon) l = more_fields o (tree.more_fields f
 after_field o fs k f (Sign sign.CloseBrace) l = k (tree.ending o fs f l)
 after_field o fs k f other l = failed
 
--- behind a name that begins a field `=` may follow, and then the name is that of the field
+-- after a name that begins a field `=` may follow, and then the name is that of the field
 abbrev pub field : (Field → TokenKind → Line → Reader) → TokenKind → Line → Reader
 field k (Sign sign.OpenBracket) o =
     exp 1 (λ key. token (close_bracket (λ c. token (equals (λ q. exp 1 (λ e. token (k (tree.keyed o key c q e))))))))
@@ -221,11 +224,13 @@ feed (after_return r k) (Word word.ElseIf) l = feed (k (tree.return_none r)) (Wo
 feed (after_return r k) (Word word.Until) l = feed (k (tree.return_none r)) (Word word.Until) l
 feed (after_return r k) kind l = begin_list (λ es. k (tree.return_values r es)) kind l
 
+-- ---- all tokens
+
 abbrev pub run : Reader → List Lexeme → Reader
 run r [] = r
-run r (first ∷ behind) = run (feed r first.kind first.line) behind
+run r (first ∷ after) = run (feed r first.kind first.line) after
 
--- a chunk is read up to an `end` that is put behind it
+-- a chunk is read up to an `end` that is put after it
 abbrev pub read_chunk : Reader
 read_chunk = block (λ b. token (end_ (λ l. chunk b)))
 

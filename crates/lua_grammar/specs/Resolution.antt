@@ -1,5 +1,5 @@
 -- The program that a tree stands for. Names are resolved in the order of the text, from the scope before a part of the tree
--- to the scope behind it.
+-- to the scope after it.
 use Rattle.std.specs.Prelude.{◌≡◌, ℕ, ◌≤◌, Bool, List, [], ◌∷◌, ◌++◌, map, length, slice_set, Option, Some, None, Vec, codes}
 use Rattle.std.specs.Global.{Global}
 use Rattle.std.specs.declared.rc.Rc.{Rc}
@@ -19,9 +19,11 @@ use Rattle.lua_grammar.specs.declared.operators.Operator.{Operator}
 use Rattle.lua_grammar.specs.declared.operators.Operator.TheVariants.{Or, And, Plain}
 use Rattle.lua_grammar.specs.Scopes.{Frame, Scope, look, declare, in_scope, slots_from, leave, enter}
 use Rattle.lua_grammar.specs.Validity.{takes_rest}
-use Rattle.lua_grammar.specs.Tree.{Line, Bytes, NameList, Params, FuncName, Exp, PrefixExp, Args, ExpList, Table, Fields, Field, FuncBody, Block, Stats, Stat, Arms, LastStat, VarList}
+use Rattle.lua_grammar.specs.Tree.{Line, Bytes, NameList, Params, FuncName, Exp, PrefixExp, Args, ExpList, Table, Fields, Field, FuncBody, Block, Stats, Stat}
+use Rattle.lua_grammar.specs.Tree.{Arms, LastStat, VarList}
 use Rattle.lua_grammar.specs.Tree as tree
 
+-- an expression that is a part of another, or of a statement
 abbrev pub Shared : Type 0
 Shared = Rc Expr Global
 
@@ -76,17 +78,18 @@ binary_kind Or a b = kind.Or a b
 binary_kind And a b = kind.And a b
 binary_kind (Plain op) a b = kind.Binary op a b
 
--- a name of a variable, or of a global where there is none
+-- a variable that was found, or else the global of that name
 abbrev pub variable_kind : Bytes → Option Capture → ExprKind
 variable_kind name (Some (Slot slot)) = kind.Slot slot
 variable_kind name (Some (Outer place)) = kind.Captured place
 variable_kind name None = kind.Global name
 
+-- a name where it is read or written
 pub record ResolvesName (l : Line) (n : Bytes) (s : Scope) (e : Expr) (t : Scope) : Type 0 where
   pub expr : e ≡ node l (variable_kind n (look n s.around).0)
   pub scope : t ≡ record s { around = (look n s.around).1 }
 
--- a function with these parameters, behind whose statements the scope of the function is `frame`
+-- the function with these parameters and statements, of which `frame` is known at its end
 pub record IsFunction (line : Line) (names : List Bytes) (rest : Bool) (frame : Frame) (statements : List Stmt) (f : Function) : Type 0 where
   pub file : f.file ≡ 0
   pub params : f.params ≡ length names
@@ -98,8 +101,8 @@ pub record IsFunction (line : Line) (names : List Bytes) (rest : Bool) (frame : 
   pub few_locals : frame.slots ≤ 200
   pub few_captures : length frame.captures ≤ 60
 
--- A function that begins in the scope `s` and at whose end the scope is `t`: it takes its place among the functions, and the
--- scope is again that of the function around.
+-- A function that begins in the scope `s` and at whose end the scope is `t`: its entry among the functions is now itself, and
+-- the scope `u` after it is again that of the enclosing function.
 abbrev pub EndsFunction : Line → List Bytes → Bool → List Stmt → Scope → Scope → Scope → Type 0
 EndsFunction line names rest statements s t u =
     (f : Function) × (frame : Frame) × (around : List Frame) × (t.around ≡ frame ∷ around)
@@ -110,6 +113,7 @@ EndsFunction line names rest statements s t u =
 abbrev pub self_name : Bytes
 self_name = codes "self"
 
+-- `object.name`, and the target of `function object:name`
 abbrev pub Index : Line → Shared → Line → Bytes → Expr → Type 0
 Index dot object l n e = (key : Shared) × (key.value ≡ node l (kind.Text n)) × (e ≡ node dot (kind.Index object key))
 
@@ -174,14 +178,14 @@ unfoldable mutual
   ResolvesField (tree.named l n q b) s i t = (value : Expr) × Resolves b s value t × (i ≡ tableitem.Pair (node l (kind.Text n)) value)
   ResolvesField (tree.plain b) s i t = (value : Expr) × Resolves b s value t × (i ≡ tableitem.Item value)
 
-  -- the function whose word `function` stands on that line is number `n` of the program; before its named parameters
-  -- stand those
+  -- the function whose word `function` stands on line `l` is number `n` of the program; its parameters are the names `before`
+  -- (`self` of a method) and those that it lists
   pub ResolvesBody : List Bytes → Line → FuncBody → Scope → ℕ → Scope → Type 0
   ResolvesBody before l (tree.function_body o ps c b x) s n t =
       (kept : Function) × (out : List Stmt) × (m : Scope) × Opens b (enter (before ++ names_of_params ps) kept s) out m
       × EndsFunction l (before ++ names_of_params ps) (takes_rest ps) out s m t × (n ≡ length s.functions)
 
-  -- the scope behind is that at the block's end, with its locals
+  -- the statements of a block; the scope after them is that at its end, with its locals, which `leave` takes out of scope
   pub Opens : Block → Scope → List Stmt → Scope → Type 0
   Opens (tree.statements ss) s out t = ResolvesStats ss s out t
   Opens (tree.with_last ss l x) s out t =

@@ -6,7 +6,7 @@ use Rattle.lua_ast.specs.declared.programs.Capture.TheVariants.{Slot, Outer}
 use Rattle.lua_ast.specs.declared.programs.Function.{Function}
 use Rattle.lua_grammar.specs.Tree.{Bytes}
 
--- a variable of the function around, and the name by which it was captured
+-- a variable of the enclosing function, and the name by which it was captured
 pub record Captured : Type 0 where
   pub name : Bytes
   pub variable : Capture
@@ -18,30 +18,32 @@ pub record Frame : Type 0 where
   pub captures : List Captured
   pub slots : ℕ
 
--- what a place of the text knows: a place for each function whose word `function` stands before it, and the functions
--- around it, the innermost first
+-- what is known at a position of the text: an entry for each function whose word `function` stands before it, and the
+-- functions that enclose it, the innermost first
 pub record Scope : Type 0 where
   pub functions : List Function
   pub around : List Frame
 
--- the last place of a name
+-- the index that was found in the rest of a list, one further on, or else the one here
 abbrev pub later : Option ℕ → Option ℕ → Option ℕ
 later (Some n) here = Some (n + 1)
 later None here = here
 
+-- the index of a name's last occurrence
 unfoldable pub last_place : Bytes → List Bytes → Option ℕ
 last_place name [] = None
 last_place name (x ∷ xs) = later (last_place name xs) (if bytes_eq x name then Some 0 else None)
 
--- the variable of that name that a function has without looking further out: its newest local, or else a capture
+-- a local comes before a capture
 abbrev pub local_or : Option ℕ → Option ℕ → Option Capture
 local_or (Some slot) capture = Some (Slot slot)
 local_or None capture = option_map Outer capture
 
+-- the variable of that name that a function has without looking further out: its newest local, or else a capture
 unfoldable pub own : Bytes → Frame → Option Capture
 own name f = local_or (last_place name f.locals) (last_place name (map (λ c. c.name) f.captures))
 
--- what was found in the functions around `f` is a capture of `f` from now on
+-- what was found in the functions that enclose `f` is a capture of `f` from now on
 abbrev pub handed : Bytes → Frame → Option Capture → List Frame → Option Capture × List Frame
 handed name f None around = (None, f ∷ around)
 handed name f (Some variable) around =
@@ -52,8 +54,8 @@ abbrev pub nearest : Bytes → Frame → List Frame → Option Capture → Optio
 nearest name f around (Some variable) further = (Some variable, f ∷ around)
 nearest name f around None further = handed name f further.0 further.1
 
--- Where a name is read or written, it is the nearest variable of that name, and each function between becomes one more
--- capture on the way. Where no function around has one, the name is a global.
+-- Where a name is read or written, it is the nearest variable of that name, and each function on the way to it gets one more
+-- capture. Where no enclosing function has one, the name is a global, and nothing is captured.
 unfoldable pub look : Bytes → List Frame → Option Capture × List Frame
 look name [] = (None, [])
 look name (f ∷ around) = nearest name f around (own name f) (look name around)
@@ -77,20 +79,20 @@ count_in (f ∷ around) = length f.locals
 abbrev pub in_scope : Scope → ℕ
 in_scope s = count_in s.around
 
--- the slots of names, of which the first has that one
+-- the slots of names, from that one on
 unfoldable pub slots_from : ℕ → List Bytes → List ℕ
 slots_from slot [] = []
 slots_from slot (name ∷ names) = slot ∷ slots_from (slot + 1) names
 
--- behind a block that was entered with so many locals, those that it declared are out of scope
+-- after a block that was entered with so many locals, those that it declared are out of scope
 abbrev pub leave_in : ℕ → List Frame → List Frame
 leave_in count [] = []
 leave_in count (f ∷ around) = record f { locals = take count f.locals } ∷ around
 
 abbrev pub leave : Scope → Scope → Scope
-leave before behind = record behind { around = leave_in (in_scope before) behind.around }
+leave before after = record after { around = leave_in (in_scope before) after.around }
 
--- a function begins, with its parameters as its first locals: a place is kept for it
+-- a function begins, with its parameters as its first locals: until it ends, `kept` is its entry among the functions
 abbrev pub enter : List Bytes → Function → Scope → Scope
 enter names kept s = record {
   functions = s.functions ++ kept ∷ [];

@@ -1,4 +1,4 @@
--- What stands behind a tree where a reader hands it on: a token that doesn't continue it.
+-- What stands after a tree where a reader hands it on: a token that doesn't continue it.
 use Rattle.std.specs.Prelude.{◌≡◌, ℕ, List, [], ◌∷◌, None}
 use Rattle.lua_lexer.specs.declared.tokens.TokenKind.{TokenKind}
 use Rattle.lua_lexer.specs.declared.tokens.TokenKind.TheVariants.{Text, Word, Sign}
@@ -10,9 +10,10 @@ use Rattle.lua_grammar.specs.Tree as tree
 use Rattle.lua_grammar.specs.Printing.{Lexeme, print_end}
 use Rattle.lua_grammar.specs.Waiting.{operator_of, above}
 
+-- a token of that kind comes next
 abbrev pub Behind : (TokenKind → Type 0) → List Lexeme → Type 0
 Behind P [] = ⊥
-Behind P (first ∷ behind) = P first.kind
+Behind P (first ∷ after) = P first.kind
 
 -- no operator of that level or a higher one
 abbrev pub EndsAt : ℕ → TokenKind → Type 0
@@ -51,63 +52,65 @@ IsBlockEnd (Word word.ElseIf) = Unit {0}
 IsBlockEnd (Word word.Until) = Unit {0}
 IsBlockEnd other = ⊥
 
--- it may stand behind `return`
+-- it may stand after `return`
 abbrev pub IsReturnEnd : TokenKind → Type 0
 IsReturnEnd (Sign sign.Semicolon) = Unit {0}
 IsReturnEnd kind = IsBlockEnd kind
 
--- an expression, but for operators behind the whole of it
+-- ---- what comes next doesn't continue ..
+
+-- an expression, unless it is an operator after the whole of it
 abbrev pub Stops : Exp → List Lexeme → Type 0
-Stops (tree.prefix p) behind = Behind IsApart behind
-Stops (tree.binary a op l b) behind = Behind (EndsAt (right_level op)) behind × Stops b behind
-Stops (tree.unary op l e) behind = Behind (EndsAt 7) behind × Stops e behind
-Stops other behind = Unit {0}
+Stops (tree.prefix p) after = Behind IsApart after
+Stops (tree.binary a op l b) after = Behind (EndsAt (right_level op)) after × Stops b after
+Stops (tree.unary op l e) after = Behind (EndsAt 7) after × Stops e after
+Stops other after = Unit {0}
 
--- the last of expressions, as a whole
+-- the last of a list of expressions, not even as an operator
 abbrev pub LastStops : ExpList → List Lexeme → Type 0
-LastStops (tree.one e) behind = Stops e behind × Behind (EndsAt 1) behind
-LastStops (tree.more es c e) behind = Stops e behind × Behind (EndsAt 1) behind
+LastStops (tree.one e) after = Stops e after × Behind (EndsAt 1) after
+LastStops (tree.more es c e) after = Stops e after × Behind (EndsAt 1) after
 
--- a name alone, which `=` behind it makes that of a field
+-- a name alone: with `=` after it, it would be that of a field
 abbrev pub IsLone : Exp → Type 0
 IsLone (tree.prefix (tree.variable l n)) = Unit {0}
 IsLone other = ⊥
 
 -- a field
 abbrev pub FieldStops : Field → List Lexeme → Type 0
-FieldStops (tree.keyed o k c q e) behind = Stops e behind × Behind (EndsAt 1) behind
-FieldStops (tree.named l n q e) behind = Stops e behind × Behind (EndsAt 1) behind
-FieldStops (tree.plain e) behind = Stops e behind × Behind (EndsAt 1) behind × (IsLone e → Behind IsNoAssign behind)
+FieldStops (tree.keyed o k c q e) after = Stops e after × Behind (EndsAt 1) after
+FieldStops (tree.named l n q e) after = Stops e after × Behind (EndsAt 1) after
+FieldStops (tree.plain e) after = Stops e after × Behind (EndsAt 1) after × (IsLone e → Behind IsNoAssign after)
 
 -- a statement
 abbrev pub StatStops : Stat → List Lexeme → Type 0
-StatStops (tree.assign vs q es) behind = LastStops es behind × Behind IsNoComma behind
-StatStops (tree.call_statement p) behind = Behind IsApart behind
-StatStops (tree.repeat_loop r b u t) behind = Stops t behind × Behind (EndsAt 1) behind
-StatStops (tree.local l ns) behind = Behind IsNoComma behind × Behind IsNoAssign behind
-StatStops (tree.local_values l ns q es) behind = LastStops es behind × Behind IsNoComma behind
-StatStops other behind = Unit {0}
+StatStops (tree.assign vs q es) after = LastStops es after × Behind IsNoComma after
+StatStops (tree.call_statement p) after = Behind IsApart after
+StatStops (tree.repeat_loop r b u t) after = Stops t after × Behind (EndsAt 1) after
+StatStops (tree.local l ns) after = Behind IsNoComma after × Behind IsNoAssign after
+StatStops (tree.local_values l ns q es) after = LastStops es after × Behind IsNoComma after
+StatStops other after = Unit {0}
 
 abbrev pub EndStops : End → List Lexeme → Type 0
-EndStops tree.bare behind = Behind IsNoSemicolon behind
-EndStops (tree.closed l) behind = Unit {0}
+EndStops tree.bare after = Behind IsNoSemicolon after
+EndStops (tree.closed l) after = Unit {0}
 
 abbrev pub StatsStop : Stats → List Lexeme → Type 0
-StatsStop tree.no_stats behind = Unit {0}
-StatsStop (tree.more_stats ss s x) behind = StatStops s (print_end x behind) × EndStops x behind
+StatsStop tree.no_stats after = Unit {0}
+StatsStop (tree.more_stats ss s x) after = StatStops s (print_end x after) × EndStops x after
 
 -- the last statement of a block
 abbrev pub LastStatStops : LastStat → List Lexeme → Type 0
-LastStatStops (tree.return_none r) behind = Behind IsReturnEnd behind
-LastStatStops (tree.return_values r es) behind = LastStops es behind × Behind IsNoComma behind
-LastStatStops (tree.break_ b) behind = Unit {0}
+LastStatStops (tree.return_none r) after = Behind IsReturnEnd after
+LastStatStops (tree.return_values r es) after = LastStops es after × Behind IsNoComma after
+LastStatStops (tree.break_ b) after = Unit {0}
 
 -- a block
 abbrev pub BlockStops : Block → List Lexeme → Type 0
-BlockStops (tree.statements ss) behind = StatsStop ss behind × Behind IsBlockEnd behind
-BlockStops (tree.with_last ss s x) behind = LastStatStops s (print_end x behind) × EndStops x behind
+BlockStops (tree.statements ss) after = StatsStop ss after × Behind IsBlockEnd after
+BlockStops (tree.with_last ss s x) after = LastStatStops s (print_end x after) × EndStops x after
 
 -- the last block of the arms of an `if`
 abbrev pub ArmsStop : Arms → List Lexeme → Type 0
-ArmsStop (tree.if_arm i t h b) behind = BlockStops b behind
-ArmsStop (tree.elseif_arm those i t h b) behind = BlockStops b behind
+ArmsStop (tree.if_arm i t h b) after = BlockStops b after
+ArmsStop (tree.elseif_arm those i t h b) after = BlockStops b after

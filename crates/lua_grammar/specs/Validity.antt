@@ -4,7 +4,8 @@
 use Rattle.std.specs.Prelude.{◌≡◌, ℕ, ◌+◌, ◌≤◌, Bool, true, false}
 use Rattle.lua_grammar.specs.Operators.{level, left_level, right_level, unary_level, highest_level}
 use Rattle.lua_grammar.specs.Levels.{height, prefix_height, table_height, funcname_height}
-use Rattle.lua_grammar.specs.Tree.{Line, Bytes, NameList, Params, FuncName, Separator, End, Exp, PrefixExp, Args, ExpList, Table, Fields, Field, FuncBody, Block, Stats, Stat, Arms, LastStat, VarList}
+use Rattle.lua_grammar.specs.Tree.{Line, Bytes, NameList, Params, FuncName, Separator, End, Exp, PrefixExp, Args, ExpList, Table, Fields, Field, FuncBody}
+use Rattle.lua_grammar.specs.Tree.{Block, Stats, Stat, Arms, LastStat, VarList}
 use Rattle.lua_grammar.specs.Tree as tree
 
 -- the level of precedence of an expression
@@ -25,7 +26,7 @@ IsCall (tree.call p a) = Unit {0}
 IsCall (tree.method p c l n a) = Unit {0}
 IsCall other = ⊥
 
--- the line of the last token
+-- the line of the last token; that of a string is the one on which it begins
 abbrev pub table_end : Table → Line
 table_end (tree.separated o fs c) = c
 table_end (tree.ending o fs f c) = c
@@ -50,7 +51,7 @@ BeginOn line (tree.no_args o c) = o ≡ line
 BeginOn line (tree.args o es c) = o ≡ line
 BeginOn line other = Unit {0}
 
--- an expression or a statement whose last tokens are a prefix: a `(` behind it would be that of a call
+-- An expression, a list or a statement whose last tokens are a prefix: a `(` after it would be that of a call.
 abbrev pub EndsWithPrefix : Exp → Type 0
 EndsWithPrefix (tree.prefix p) = Unit {0}
 EndsWithPrefix (tree.binary a op l b) = EndsWithPrefix b
@@ -68,7 +69,7 @@ StatEndsWithPrefix (tree.repeat_loop r b u t) = EndsWithPrefix t
 StatEndsWithPrefix (tree.local_values l ns q es) = ListEndsWithPrefix es
 StatEndsWithPrefix other = ⊥
 
--- the first token is `(`
+-- a prefix, targets or a statement whose first token is `(`
 abbrev pub BeginsWithParen : PrefixExp → Type 0
 BeginsWithParen (tree.variable l n) = ⊥
 BeginsWithParen (tree.paren o e c) = Unit {0}
@@ -86,12 +87,13 @@ StatBeginsWithParen (tree.assign vs q es) = VarsBeginWithParen vs
 StatBeginsWithParen (tree.call_statement p) = BeginsWithParen p
 StatBeginsWithParen other = ⊥
 
--- a statement behind others: a `(` that could be that of a call is that of a call, unless a `;` stands before it
+-- A statement may come after others. A `(` that could be that of a call is that of a call: so where this one begins with
+-- `(`, and the one before it ends with a prefix, a `;` stands between them.
 abbrev pub MayFollow : Stats → Stat → Type 0
 MayFollow (tree.more_stats ss before tree.bare) s = StatEndsWithPrefix before → StatBeginsWithParen s → ⊥
 MayFollow other s = Unit {0}
 
--- no expression is higher
+-- an expression may be that high, and no higher
 abbrev pub IsLow : ℕ → Type 0
 IsLow h = h ≤ 4_000
 
@@ -102,8 +104,8 @@ takes_rest (tree.names ns) = false
 takes_rest (tree.names_and_rest ns c l) = true
 takes_rest (tree.only_rest l) = true
 
--- Valid in a function that takes more arguments as `...`, or doesn't; a block or a statement also inside a loop of that
--- function, or not.
+-- What is valid depends on the function that it is in: `rest` says whether that takes more arguments, as `...`, and `loop`
+-- whether a block or a statement is inside a loop of that function.
 unfoldable mutual
   pub IsValid : Bool → Exp → Type 0
   IsValid rest (tree.dots l) = rest ≡ true

@@ -1,4 +1,4 @@
--- A reader of tokens: what it waits for, and which tokens it tells from one another.
+-- A reader of tokens: what it waits for, and which tokens it distinguishes.
 use Rattle.std.specs.Prelude.{ℕ, Option, Some, None, nat_le, if◌then◌else◌}
 use Rattle.lua_ast.specs.declared.expressions.BinOp.TheVariants.{Add, Sub, Mul, Div, Mod, Pow, Concat, Eq, Ne, Lt, Le, Gt, Ge}
 use Rattle.lua_lexer.specs.declared.tokens.TokenKind.{TokenKind}
@@ -10,7 +10,7 @@ use Rattle.lua_grammar.specs.declared.operators.Operator.TheVariants.{Or, And, P
 use Rattle.lua_grammar.specs.Operators.{level}
 use Rattle.lua_grammar.specs.Tree.{Line, Bytes, NameList, FuncName, End, Exp, PrefixExp, ExpList, Table, Fields, Block, Stats, Stat, Arms, LastStat, VarList}
 
--- What a reader waits for, and how it goes on with what it has read then. With `more` or `after` it has read a part already,
+-- What a reader waits for, and how it goes on with what it has read then. With `more_` or `after_` it has read a part already,
 -- and goes on with that at a token that doesn't continue it. With `unless_assign` it goes on in one way at `=`, else in another.
 pub data Reader : Type 0 where
   failed : Reader
@@ -39,6 +39,7 @@ IsWaiting other = Unit {0}
 
 -- ---- tokens
 
+-- the operator that a token is, if it is one
 abbrev pub operator_of : TokenKind → Option Operator
 operator_of (Word word.Or) = Some Or
 operator_of (Word word.And) = Some And
@@ -57,6 +58,7 @@ operator_of (Sign sign.Greater) = Some (Plain Gt)
 operator_of (Sign sign.GreaterEqual) = Some (Plain Ge)
 operator_of other = None
 
+-- the same operator, if its level is that or a higher one
 abbrev pub above : ℕ → Option Operator → Option Operator
 above lowest None = None
 above lowest (Some op) = if nat_le lowest (level op) then Some op else None

@@ -1,3 +1,4 @@
+//! Laws of the grammar, each the contract of a function that does nothing.
 ghost use Rattle.std.specs.Prelude.{◌≡◌, ℕ, true, false, List, [], ◌++◌};
 ghost use Rattle.lua_ast.specs.SameProgram.{SameProgram};
 ghost use Rattle.lua_ast.specs.WholeProgram.{IsWholeProgram};
@@ -5,7 +6,9 @@ ghost use Rattle.lua_ast.specs.declared.programs.Program.{Program};
 ghost use Rattle.lua_lexer.specs.declared.signs.Sign.TheVariants.{Assign};
 ghost use Rattle.lua_lexer.specs.declared.tokens.Token.{Token};
 ghost use Rattle.lua_grammar.specs.Grammar.{IsChunk, IsProgramOf, ResolvesChunk};
-ghost use Rattle.lua_grammar.specs.Laws.{BeginWith, BeginsWithChunk, IsBefore, IsEmptyProgram, IsSeen, IsOneValid, IsProgramByHand, IsValidNot, grouped_left, grouped_right, minus_of_power, power_of_minus, not_before_equal, not_of_equal, one_call, tokens_by_hand, two_statements};
+ghost use Rattle.lua_grammar.specs.Laws.{BeginChunk, BeginWith, BeginsWithChunk, GoesOnToChunk, IsBefore, IsEmptyProgram, IsOneValid, IsProgramByHand, IsSeen};
+ghost use Rattle.lua_grammar.specs.Laws.{IsTreeOf, IsValidNot, grouped_left, grouped_right, minus_of_power, not_before_equal, not_of_equal, one_call};
+ghost use Rattle.lua_grammar.specs.Laws.{power_of_minus, tokens_by_hand, two_statements};
 ghost use Rattle.lua_grammar.specs.Printing.{Lexeme, lexemes, print_block};
 ghost use Rattle.lua_grammar.specs.Reading.{read, read_chunk, run};
 ghost use Rattle.lua_grammar.specs.Scopes.{Frame};
@@ -53,7 +56,7 @@ pub fn a_new_local_is_seen()
 
 /// Tokens have at most one tree: two valid chunks of the same kinds of tokens on the same lines are the same.
 pub fn tokens_have_one_tree()
-    ensures { (chunk other : Block) → IsValidBlock true false chunk → IsValidBlock true false other → print_block chunk [] ≡ print_block other [] → chunk ≡ other }
+    ensures { (tokens : List Lexeme) (chunk other : Block) → IsTreeOf tokens chunk → IsTreeOf tokens other → chunk ≡ other }
 {}
 
 /// Each valid chunk is read from its tokens.
@@ -66,33 +69,33 @@ pub fn what_is_read_prints_to_its_tokens()
     ensures { (tokens : List Lexeme) (block : Block) → read tokens ≡ chunk block → print_block block [] ≡ tokens }
 {}
 
-/// A reader that failed at a token fails at all that stands behind it.
+/// A reader that failed at a token fails at all that stands after it.
 pub fn a_failed_reader_stays_failed()
-    ensures { (behind : List Lexeme) → run failed behind ≡ failed }
+    ensures { (after : List Lexeme) → run failed after ≡ failed }
 {}
 
 /// No tokens lead from a dead state of a reader to a chunk that stands for a program.
 pub fn a_dead_reader_reads_no_chunk()
-    ensures { (r : Reader) (behind : List Lexeme) (block : Block) → IsDead r → run r behind ≡ chunk block → IsChunk block → ⊥ }
+    ensures { (r : Reader) (after : List Lexeme) (block : Block) → IsDead r → run r after ≡ chunk block → IsChunk block → ⊥ }
 {}
 
 /// A reader of a chunk that hasn't failed at some tokens can go on: further tokens lead it to a chunk.
 pub fn a_reader_that_has_not_failed_can_go_on()
-    ensures { (tokens : List Lexeme) → (run read_chunk tokens ≡ failed → ⊥) → (rest : List Lexeme) × (block : Block) × (run read_chunk (tokens ++ rest) ≡ chunk block) }
+    ensures { (tokens : List Lexeme) → (run read_chunk tokens ≡ failed → ⊥) → GoesOnToChunk tokens }
 {}
 
-/// Tokens behind which a reader of a chunk waits begin a chunk.
+/// Tokens after which a reader of a chunk waits begin a chunk.
 pub fn tokens_of_a_waiting_reader_begin_a_chunk()
-    ensures { (tokens : List Lexeme) → IsWaiting (run read_chunk tokens) → (rest : List Lexeme) × (block : Block) × (read (tokens ++ rest) ≡ chunk block) }
+    ensures { (tokens : List Lexeme) → IsWaiting (run read_chunk tokens) → BeginChunk tokens }
 {}
 
-/// In `a = f (g)()` the `(` behind `f` is that of a call, and no other tree has these tokens. With `f` and the `(` on
+/// In `a = f (g)()` the `(` after `f` is that of a call, and no other tree has these tokens. With `f` and the `(` on
 /// two lines no tree has them, and with a `;` between they are two statements (Lua 5.1 Reference Manual, 2.5.8).
-pub fn a_parenthesis_behind_a_prefix_calls()
+pub fn a_parenthesis_after_a_prefix_calls()
     ensures same { print_block (one_call 1) [] ≡ print_block (two_statements 1 bare) [] }
     ensures valid { IsValidBlock true false (one_call 1) }
-    ensures only { (chunk : Block) → IsValidBlock true false chunk → print_block chunk [] ≡ print_block (two_statements 1 bare) [] → chunk ≡ one_call 1 }
-    ensures lines { (chunk : Block) → IsValidBlock true false chunk → print_block chunk [] ≡ print_block (two_statements 2 bare) [] → ⊥ }
+    ensures only { (chunk : Block) → IsTreeOf (print_block (two_statements 1 bare) []) chunk → chunk ≡ one_call 1 }
+    ensures lines { (chunk : Block) → IsTreeOf (print_block (two_statements 2 bare) []) chunk → ⊥ }
     ensures apart { IsValidBlock true false (two_statements 2 (closed 1)) }
 {}
 

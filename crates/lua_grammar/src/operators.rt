@@ -1,3 +1,4 @@
+//! The table of binary operators: their tokens, and how tightly they bind (Lua 5.1 Reference Manual, 2.5.6).
 ghost use Rattle.std.specs.Prelude.{◌≡◌, IfSome};
 ghost use Rattle.lua_grammar.specs.Operators.{kind_of, level, left_level, right_level};
 ghost use Rattle.lua_grammar.specs.declared.operators.Operator.{Operator};

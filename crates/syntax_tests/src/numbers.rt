@@ -1,3 +1,4 @@
+//! Arithmetic of whole numbers, and numbers as texts.
 use lua_numbers::*;
 use resty_base::{Whole, whole};
 use std::test::Fail;

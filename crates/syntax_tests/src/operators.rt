@@ -1,3 +1,4 @@
+//! Which tokens are operators, and the levels of operators.
 use lua_ast::BinOp;
 use lua_grammar::{Operator, left_level, level, operator_of, right_level};
 use lua_lexer::{Sign, TokenKind, Word};

@@ -1,3 +1,4 @@
+//! What parsing gives for whole texts, and each limit with one more.
 mod limits;
 mod lines;
 mod pairs;
@@ -34,14 +35,14 @@ fn repeated(
     before: &str,
     part: &str,
     many: u32,
-    behind: &str,
+    after: &str,
 ) -> Result<Option<ParseFault>, AllocError> {
     let mut text = String::new(alloc);
     text.push_str(before)?;
     for _ in 0..many {
         text.push_str(part)?;
     }
-    text.push_str(behind)?;
+    text.push_str(after)?;
     Ok(fault_of(alloc, text.as_str()))
 }
 
@@ -108,7 +109,7 @@ fn each_fault_is_met_where_it_comes(rt: HostRuntime) -> Result<(), Fail> {
 #[test]
 fn each_limit_and_one_more(rt: HostRuntime) -> Result<(), Fail> {
     let alloc = rt.alloc();
-    for (before, part, many, behind, expected) in [
+    for (before, part, many, after, expected) in [
         ("x = 1", " .. 1", 198, "", None),
         ("x = 1", " .. 1", 199, "", Some(ParseFault::Depth(1))),
         ("x = ", "- ", 198, "1", None),
@@ -150,14 +151,14 @@ fn each_limit_and_one_more(rt: HostRuntime) -> Result<(), Fail> {
         ),
         ("", "do local a end ", 300, "", None),
     ] {
-        let found = repeated(alloc, before, part, many, behind)?;
-        assert_eq!(rt; found, expected, "{before}{part}{many}{behind}");
+        let found = repeated(alloc, before, part, many, after)?;
+        assert_eq!(rt; found, expected, "{before}{part}{many}{after}");
     }
     Ok(())
 }
 
-/// Puts the tokens of a text behind others; true where it has tokens. So the whole may be longer than a text may be.
-fn read_behind(alloc: Global, tokens: &mut Vec<Token>, text: &str) -> Result<bool, AllocError> {
+/// Puts the tokens of a text after others; true where it has tokens. So the whole may be longer than a text may be.
+fn read_after(alloc: Global, tokens: &mut Vec<Token>, text: &str) -> Result<bool, AllocError> {
     let Ok(found) = lex(alloc, text.as_bytes(), 1) else {
         return Ok(false);
     };
@@ -182,11 +183,11 @@ fn arms_of(program: &Program) -> Option<usize> {
 fn a_hundred_thousand_arms_are_one_statement(rt: HostRuntime) -> Result<(), Fail> {
     let alloc = rt.alloc();
     let mut tokens = Vec::new(alloc);
-    let mut all_read = read_behind(alloc, &mut tokens, "if x then")?;
+    let mut all_read = read_after(alloc, &mut tokens, "if x then")?;
     for _ in 1..100_000 {
-        all_read &= read_behind(alloc, &mut tokens, " elseif x then")?;
+        all_read &= read_after(alloc, &mut tokens, " elseif x then")?;
     }
-    all_read &= read_behind(alloc, &mut tokens, " end")?;
+    all_read &= read_after(alloc, &mut tokens, " end")?;
     assert!(rt; all_read);
     let program = parse(alloc, &tokens)?;
     assert_eq!(rt; arms_of(&program), Some(100_000));

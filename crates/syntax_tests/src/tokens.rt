@@ -1,3 +1,4 @@
+//! The tokens of texts with their lines and positions, the first faults of texts that have none, and the ends of blocks.
 use lua_lexer::*;
 use std::alloc::{AllocError, Global};
 use std::test::Fail;
@@ -24,8 +25,8 @@ fn written(alloc: Global, tokens: &[Token]) -> Result<String, AllocError> {
     Ok(all)
 }
 
-/// The lines and places of the tokens, as `LINE:START-END` between single blanks.
-fn places(alloc: Global, tokens: &[Token]) -> Result<String, AllocError> {
+/// The lines and positions of the tokens, as `LINE:START-END` between single blanks.
+fn positions(alloc: Global, tokens: &[Token]) -> Result<String, AllocError> {
     let mut all = String::new(alloc);
     for token in tokens {
         if !all.is_empty() {
@@ -127,7 +128,7 @@ fn texts_give_their_tokens(rt: HostRuntime) -> Result<(), Fail> {
 }
 
 #[test]
-fn tokens_have_their_lines_and_places(rt: HostRuntime) -> Result<(), Fail> {
+fn tokens_have_their_lines_and_positions(rt: HostRuntime) -> Result<(), Fail> {
     let alloc = rt.alloc();
     for (text, line, want) in [
         ("x = 0x10", 1, "1:0-1 1:2-3 1:4-8"),
@@ -139,7 +140,7 @@ fn tokens_have_their_lines_and_places(rt: HostRuntime) -> Result<(), Fail> {
         ("a", 4_293_918_719, "4293918719:0-1"),
     ] {
         let tokens = lex(alloc, text.as_bytes(), line)?;
-        let got = places(alloc, &tokens)?;
+        let got = positions(alloc, &tokens)?;
         assert_eq!(rt; got.as_str(), want, "of {text:?}");
     }
     Ok(())

@@ -1,3 +1,4 @@
+//! Heights of expressions, and programs in which each number names something that is there.
 use lua_ast::*;
 use resty_base::{ByteLists, Bytes};
 use std::alloc::{AllocError, Global};

@@ -1,9 +1,11 @@
-//! Where the faults of limits and contexts come, as rows: the fault, or `read` for a program, and behind it the parts of a
-//! text. A part stands once, or as often as the number before its `*` says; in it each `$` is a line end, and each `@` the
-//! number of the turn, from 0. The tokens that matter stand on lines of their own, so that a fault's line tells its token.
+//! Where the faults of limits and contexts come, as tables of texts and their faults.
 use super::fault_of;
 use std::alloc::Global;
 use std::test::Fail;
+
+// A row is the fault, or `read` for a program, and after it the parts of a text. A part stands once, or as often as the
+// number before its `*` says; in it each `$` is a line end, and each `@` the number of the turn, from 0. The tokens that
+// matter stand on lines of their own, so that a fault's line says which token it is.
 
 /// 200 constructs may be open at once. The fault is at the first token of the one that is too many.
 const DEPTHS: &str = "\
@@ -140,7 +142,9 @@ const CONTEXTS: &str = "\
 Ambiguous(2)|x = f$(y)
 Ambiguous(2)|x = f()$(y)
 Ambiguous(3)|local a = b[$1]$(y)
+Ambiguous(3)|b [[$v$]] ( )
 Ambiguous(2)|x = {f$()}
+Ambiguous(2)|({x$(23).f})
 Ambiguous(3)|return f$:m$(x)
 Ambiguous(2)|f((g)$(x))
 read|x = f${} f$'a' f$.g()
@@ -159,7 +163,7 @@ VarargOutside(2)|local function f() f(1,$...) end
 VarargOutside(2)|function f(...) x = function() return {$...} end end
 read|function f(...) return {...} end return ...";
 
-/// Of two faults the earlier one is answered.
+/// Of two faults the earlier one is returned. Where one `(` is both on another line and one too high, the first of these is.
 const BOTH: &str = "\
 Locals(2)|200*local a |local$b$= = 1
 Depth(2)|x = |199*(|$1$) + + 1
@@ -171,6 +175,7 @@ Locals(4)|199*local function f() |local function g(a|198*, a|,$b$,$c$)$end|199* 
 BreakOutside(2)|x = 1$break$|201* local a
 VarargOutside(2)|function f() return$...$+ break end
 Ambiguous(2)|x = f$|199*(|$1
+Ambiguous(2)|x = a|3999*.b|$(1)
 Depth(2)|x = |199*(|$f$(1)
 Upvalues(2)|61*local a@ |function f() return 0|60*, a@|,$a60$(1) end
 Depth(2)|61*local a@ |function f() return 0|60*, a@|, |198*(|$1$, a60
@@ -180,7 +185,7 @@ VarargOutside(2)|function f() x =$...$while x do end break end
 At(1)|200* do
 At(1)|x = |199*(";
 
-/// Puts a part of a row behind a text.
+/// Puts a part of a row after a text.
 fn push_part(alloc: Global, text: &mut String, part: &str) -> Result<(), Fail> {
     let (many, part) = part.split_once('*').unwrap_or(("1", part));
     let many = many.parse::<u32>().ok().ok_or("a part has no count")?;
@@ -196,7 +201,7 @@ fn push_part(alloc: Global, text: &mut String, part: &str) -> Result<(), Fail> {
     Ok(())
 }
 
-/// The row tells what its text gives.
+/// The row says what its text gives.
 fn is_told(alloc: Global, row: &str) -> Result<bool, Fail> {
     let (fault, parts) = row.split_once('|').ok_or("a row has no text")?;
     let mut text = String::new(alloc);

@@ -65,7 +65,7 @@ fn binary_groups(
     Ok(parsed(alloc, &text)?.as_str() == expected.as_str())
 }
 
-/// Whether a unary operator before a binary one groups as the letter says, and takes the operand behind one alone.
+/// Whether a unary operator before a binary one groups as the letter says, and takes the operand after one alone.
 fn unary_groups(
     alloc: Global,
     first: &Row<'_>,
@@ -80,10 +80,10 @@ fn unary_groups(
         'r' => format!(in alloc; "return ({unary} (1 {binary} 2));")?,
         _ => return Ok(false),
     };
-    let behind = format!(in alloc; "return 1 {b} {a} 2")?;
+    let after = format!(in alloc; "return 1 {b} {a} 2")?;
     let alone = format!(in alloc; "return (1 {binary} ({unary} 2));")?;
     let is_grouped = parsed(alloc, &before)?.as_str() == expected.as_str();
-    Ok(is_grouped && parsed(alloc, &behind)?.as_str() == alone.as_str())
+    Ok(is_grouped && parsed(alloc, &after)?.as_str() == alone.as_str())
 }
 
 #[test]

@@ -1,3 +1,4 @@
+//! The programs of texts: each statement and expression, how operators group, and the heads of functions.
 use super::parsed;
 use super::written::head;
 use lua_lexer::lex;

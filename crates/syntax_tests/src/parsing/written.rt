@@ -6,7 +6,7 @@ use std::alloc::{AllocError, Global};
 #[derive(Clone, Copy)]
 pub(crate) enum Lines {
     Hidden,
-    /// A statement's line before it, as `1: break`, and an expression's behind it, as `nil@1`.
+    /// A statement's line before it, as `1: break`, and an expression's after it, as `nil@1`.
     Shown,
 }
 
