@@ -240,4 +240,11 @@ impl StrandContract for LiteralStrand {
             Place::Sock(_) => &[],
         }
     }
+
+    fn wants(&self, place: Place) -> bool {
+        match place {
+            Place::Client => !self.head.is_whole(),
+            Place::Sock(_) => false,
+        }
+    }
 }

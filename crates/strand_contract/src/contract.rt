@@ -77,6 +77,10 @@ pub trait StrandContract: Drop {
         ensures { (es : List (LocalAction Self.Job)) → stands site.now self.now es → IsExecution (behavior site.now) es → lives es ≡ true
             → todo (behavior site.now) es ≡ [] → result.now ≡ piece (behavior site.now) place es };
 
+    /// Whether it wants bytes of the place now: a hint that changes nothing of what is promised. A live world doesn't
+    /// read an id whose bytes aren't wanted.
+    fn wants(&self, place: Place) -> bool;
+
     /// What is no turn of its own leaves it as it is.
     ghost still: { (site : Self.Site) (strand : Self) (a : LocalAction Self.Job) (es : List (LocalAction Self.Job))
         → is_still a ≡ true → stands site strand es → stands site strand (a ∷ es) };

@@ -129,4 +129,9 @@ impl StrandContract for Mute {
         let _ = place;
         &[]
     }
+
+    fn wants(&self, place: Place) -> bool {
+        let _ = place;
+        true
+    }
 }
