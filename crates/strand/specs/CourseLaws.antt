@@ -10,7 +10,7 @@ use Rattle.strand_contract.specs.declared.turns.Act.TheVariants as act
 use Rattle.strand_contract.specs.Actions.{Word, Moment, Stop, LocalAction, Told, Did, Began, Came, Ended, Broke, TakesAgain, Connected, Refused}
 use Rattle.strand_contract.specs.Actions.{Put, Later, Lost, Closed, Logged, Asked, Took, Dialled, Kept, Timed, Dropped, Ran, Offered, Due, Halted, Gone}
 use Rattle.strand_contract.specs.Alone.{lives, is_open, was_put_off, taken, is_some_left, todo, left_by, carried, run_by}
-use Rattle.strand_contract.specs.Alone.{lined_up, waiting, offers, offered_by, to_offer, begun_offer, going_on, offering, IsExecution}
+use Rattle.strand_contract.specs.Alone.{waiting, offered_by, to_offer, begun_offer, going_on, offering, IsExecution}
 use Rattle.strand_contract.specs.Alone.{IsFirstOpen, IsOfferedAt, IsGivenAt, IsBetween, HasNoWork, IsNextAct, KeepsNothingBack}
 use Rattle.strand_contract.specs.ClientOnly.{client-only, never, over, clash, none-due, first-of-none}
 use Rattle.strand_contract.specs.Mute.{is_client, end_acts, mute_acts}
@@ -21,7 +21,7 @@ use Rattle.strand.specs.Literal.{received, sent_to_client, unsent, client_acts, 
 use Rattle.strand.specs.Turns.{stage_by, job_stage_by, stage_of}
 use Rattle.strand.specs.HeadLaws.{whole-stays}
 use Rattle.strand.specs.Laws.{quiet, client-only-acts}
-use Rattle.strand.specs.Course.{waits, next, Living, IsJob, IsReading, IsReady, IsSending, IsToOffer, IsOffering, IsPutOff, IsEnding, IsClosing, IsDead}
+use Rattle.strand.specs.Course.{waits, next, Living, IsJob, IsReading, IsReady, IsToOffer, IsOffering, IsPutOff, IsEnding}
 use Rattle.strand.specs.Course.{Standing, Course, unborn, job, reading, ready, awaits_offer, offers_it, put_off, ending, closing, dead}
 
 -- an action of a living strand that gives these acts, which begin turns alone

@@ -1,4 +1,5 @@
 -- One strand alone: what its actions leave to be done, and which action may come next.
+-- Here es is an execution of the strand, b its behavior, q a place, and k the number of a thread or a socket.
 use Rattle.std.specs.Prelude.{◌≡◌, ◌⊎◌, ℕ, ◌+◌, ◌-◌, ◌%◌, ◌<◌, nat_le, nat_lt, max, Bool, true, false, ◌&&◌}
 use Rattle.std.specs.Prelude.{◌||◌, ◌==◌, List, [], ◌∷◌, ◌++◌, take, drop, length, Option, Some, None, if◌then◌else◌}
 use Rattle.strand_contract.specs.declared.turns.Place.{Place}

@@ -1,4 +1,5 @@
 -- Executions of all strands: what one strand sees of them, the history that they leave, and what makes them lawful.
+-- Here ms is an execution of all strands, s a strand, and n the world's number of a socket that an action gains.
 use Rattle.std.specs.Prelude.{◌≡◌, ℕ, ◌+◌, ◌-◌, ◌<◌, ◌≤◌, max, Bool, true, false, ◌||◌}
 use Rattle.std.specs.Prelude.{List, [], ◌∷◌, ◌++◌, Option, Some, None, slice_index, length, if◌then◌else◌}
 use Rattle.resty_base.specs.declared.names.Id.{Id}
