@@ -27,7 +27,7 @@ impl Outgoing {
         }
     }
 
-    /// Sends these in the place of what was sent.
+    /// Makes these the bytes that are sent.
     pub fn send(&mut self, bytes: Vec<u8>)
         ensures bytes { self.new.bytes.items ≡ bytes.items }
         ensures taken { self.new.taken ≡ self.old.taken }
