@@ -14,7 +14,8 @@ use Rattle.strand.specs.declared.strand.Stage.TheVariants as stage
 use Rattle.strand.specs.Literal.{literal_behavior}
 use Rattle.strand.specs.Laws.{client-only-acts}
 use Rattle.strand.specs.Turns.{Held, left_to_send, next_piece, count_taken, is_done, end_if, end_if_acts, took, took_acts, put_off, offer_acts, ran, left_at, left_of, stage_of, held_after}
-use Rattle.strand.specs.Course.{IsOffering, course, is-offered, is-ready, between-turns}
+use Rattle.strand.specs.Course.{IsOffering}
+use Rattle.strand.specs.CourseLaws.{course, is-offered, is-ready, between-turns}
 
 pub if-ok : {T E : Type 0} (r : Result T E) (P Q : T → Type 0) → IfOk r P → ((v : T) → P v → Q v) → IfOk r Q
 if-ok (Ok v) P Q h f = f v h

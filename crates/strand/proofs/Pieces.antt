@@ -7,7 +7,8 @@ use Rattle.strand_contract.specs.ClientOnly.{clash}
 use Rattle.strand_contract.specs.Mute.{begins_client, is_client}
 use Rattle.strand.specs.Literal.{sent_to_client, literal_behavior}
 use Rattle.strand.specs.Turns.{next_piece, held_after}
-use Rattle.strand.specs.Course.{Course, unborn, job, reading, ready, in_line, offers_it, put_off, ending, closing, dead, course, filled, unborn-lives}
+use Rattle.strand.specs.Course.{Course, unborn, job, reading, ready, awaits_offer, offers_it, put_off, ending, closing, dead}
+use Rattle.strand.specs.CourseLaws.{course, filled, unborn-lives}
 
 second-false : (a b : Bool) → (a || b) ≡ false → b ≡ false
 second-false true b h = clash true refl h
@@ -27,7 +28,7 @@ at-course body es (unborn e) l t = unborn-lives es e l
 at-course body es (job w) l t = rw (w.opened, job-sends body es w.client_is, drop-none (taken place.Client es)) refl
 at-course body es (reading w) l t = rw w.living.opened refl
 at-course body es (ready w) l t = rw w.living.opened refl
-at-course body es (in_line w) l t = rw w.living.opened refl
+at-course body es (awaits_offer w) l t = rw w.living.opened refl
 at-course body es (offers_it w) l t = rw w.living.opened refl
 at-course body es (put_off w) l t = rw w.0.living.opened refl
 at-course body es (ending w) l t = filled _ _ _ w.to_do t

@@ -4,10 +4,10 @@ use Rattle.std.specs.Prelude.{codes}
 use Rattle.std.proofs.Math.Seq.{drop-append_seam}
 use Rattle.std.proofs.lemmas.List.{take-append-drop, append_cancel_left}
 use Rattle.strand_contract.specs.ClientOnly.{clash}
-use Rattle.strand.specs.Configuration.{feed, quote, is_literal_byte, is_literal, all_literal, calls_text, second_line, body_of, IsBehindSecond}
+use Rattle.strand.specs.Configuration.{feed, quote, is_literal_byte, is_literal, all_literal, calls_text, second_line, body_of, IsAfterSecond}
 use Rattle.strand.specs.Reading.{literal_count}
 
--- what stands in front of the calls, of a literal, behind it, and behind the calls
+-- what stands in front of the calls, of a literal, after it, and after the calls
 abbrev pub line_start : List ℕ
 line_start = codes "location / { content_by_lua_block {"
 
@@ -51,13 +51,13 @@ literal-short (b ∷ bs) = test (is_literal_byte b) (literal-short bs)
 -- two literals that end at the same quote are the same
 pub record Same (d l x y : List ℕ) : Type 0 where
   pub literal : d ≡ l
-  pub behind_is : x ≡ y
+  pub after_is : x ≡ y
 
 quote-none : {C : Type 0} (c : ℕ) (l : List ℕ) → is_literal (c ∷ l) ≡ true → 34 ≡ c → C
 quote-none c l h e = clash (is_literal_byte c) (and-first (is_literal_byte c) (is_literal l) h) (rw (← e) refl)
 
 same-call : (d l x y : List ℕ) → is_literal d ≡ true → is_literal l ≡ true → d ++ 34 ∷ x ≡ l ++ 34 ∷ y → Same d l x y
-same-call [] [] x y p q e = record { literal = refl; behind_is = let f : 34 ∷ x ≡ 34 ∷ y = e in cc }
+same-call [] [] x y p q e = record { literal = refl; after_is = let f : 34 ∷ x ≡ 34 ∷ y = e in cc }
 same-call [] (c ∷ l) x y p q e = quote-none c l q (let f : 34 ∷ x ≡ c ∷ (l ++ 34 ∷ y) = e in cc)
 same-call (c ∷ d) [] x y p q e = quote-none c d p (let f : c ∷ (d ++ 34 ∷ x) ≡ 34 ∷ y = e in cc)
 same-call (c ∷ d) (k ∷ l) x y p q e =
@@ -65,7 +65,7 @@ same-call (c ∷ d) (k ∷ l) x y p q e =
     let first : c ≡ k = cc in
     let rest : d ++ 34 ∷ x ≡ l ++ 34 ∷ y = cc in
     let same = same-call d l x y (and-second (is_literal_byte c) (is_literal d) p) (and-second (is_literal_byte k) (is_literal l) q) rest in
-    record { literal = cc (first, same.literal); behind_is = same.behind_is }
+    record { literal = cc (first, same.literal); after_is = same.after_is }
 
 joined : (a b l c d e f : List ℕ) → ((a ++ (b ++ l ++ c ++ d)) ++ e) ++ f ≡ (a ++ b) ++ (l ++ (c ++ d) ++ (e ++ f))
 joined a b l c d e f = simp append_assoc
@@ -97,7 +97,7 @@ ahead (d ∷ ds) [] rest t p q e = no-start t _ (e ∙ call-is d ds rest)
 ahead (d ∷ ds) (l ∷ ls) rest t p q e =
     let f = start-cancel _ _ (sym (call-is l ls (line_end ++ t)) ∙ e ∙ call-is d ds rest) in
     let same = same-call l d _ _ (and-first (is_literal l) (all_literal ls) q) (and-first (is_literal d) (all_literal ds) p) (sym (end-split l _) ∙ f ∙ end-split d _) in
-    let onward = ahead ds ls rest t (and-second (is_literal d) (all_literal ds) p) (and-second (is_literal l) (all_literal ls) q) (let k : 41 ∷ (calls_text ls ++ (line_end ++ t)) ≡ 41 ∷ (calls_text ds ++ rest) = same.behind_is in cc) in
+    let onward = ahead ds ls rest t (and-second (is_literal d) (all_literal ds) p) (and-second (is_literal l) (all_literal ls) q) (let k : 41 ∷ (calls_text ls ++ (line_end ++ t)) ≡ 41 ∷ (calls_text ds ++ rest) = same.after_is in cc) in
     record { more = onward.more; all = cc (same.literal, onward.all); here = onward.here }
 
 -- so far these calls were read
@@ -149,7 +149,7 @@ feed-is : (ending t : List ℕ) → (ending ++ feed) ++ t ≡ ending ++ (feed ++
 feed-is ending t = append_assoc ending feed t
 
 -- what a whole line has ahead
-line-ahead : (text rest body t : List ℕ) (count : ℕ) (ls : List (List ℕ)) (r : IsReading text rest body count) → IsBehindSecond text ls t → Ahead r.done ls rest (feed ++ t)
+line-ahead : (text rest body t : List ℕ) (count : ℕ) (ls : List (List ℕ)) (r : IsReading text rest body count) → IsAfterSecond text ls t → Ahead r.done ls rest (feed ++ t)
 line-ahead text rest body t count ls r b =
     ahead r.done ls rest (feed ++ t) r.literal b.0.literal (append_cancel_left line_start _ _ (sym (second-is (calls_text ls) t) ∙ sym b.1 ∙ r.here))
 
@@ -160,7 +160,7 @@ ahead-none rest t ds ls none a = cases a.more a.all a.here
     cases [] p q = (p ∙ append-nil ds, sym q)
     cases (m ∷ ms) p q = absurd (none (m ++ call_end ++ (calls_text ms ++ (line_end ++ t))) (sym q ∙ call-is m ms (line_end ++ t)))
 
-pub no-line-start : (text : List ℕ) → ((x : List ℕ) → ¬ (text ≡ line_start ++ x)) → (ls : List (List ℕ)) (t : List ℕ) → ¬ (IsBehindSecond text ls t)
+pub no-line-start : (text : List ℕ) → ((x : List ℕ) → ¬ (text ≡ line_start ++ x)) → (ls : List (List ℕ)) (t : List ℕ) → ¬ (IsAfterSecond text ls t)
 no-line-start text none ls t b = none _ (b.1 ∙ second-is (calls_text ls) t)
 
 all-second : (ds ms : List (List ℕ)) (m : List ℕ) → all_literal (ds ++ m ∷ ms) ≡ true → is_literal m ≡ true
@@ -171,7 +171,7 @@ call-ends : (literal m x : List ℕ) → is_literal m ≡ true → literal ≡ m
 call-ends literal m x h e = rw (e, literal-count m (41 ∷ x) h) (drop-append_seam m (34 ∷ 41 ∷ x))
 
 pub no-call-end : (text rest body literal : List ℕ) (count : ℕ) → IsReading text rest body count → rest ≡ call_start ++ literal → ((x : List ℕ) → ¬ (drop (literal_count literal) literal ≡ call_end ++ x))
-    → (ls : List (List ℕ)) (t : List ℕ) → ¬ (IsBehindSecond text ls t)
+    → (ls : List (List ℕ)) (t : List ℕ) → ¬ (IsAfterSecond text ls t)
 no-call-end text rest body literal count r s none ls t b = let a = line-ahead text rest body t count ls r b in cases a.more a.all a.here
   where
     cases : (more : List (List ℕ)) → ls ≡ r.done ++ more → calls_text more ++ (line_end ++ (feed ++ t)) ≡ rest → ⊥
@@ -182,12 +182,12 @@ no-call-end text rest body literal count r s none ls t b = let a = line-ahead te
         none x (call-ends literal m x (all-second r.done ms m (sym (ap all_literal p) ∙ b.0.literal)) (sym here ∙ end-split m x))
 
 pub no-line-end : (text rest body : List ℕ) (count : ℕ) → IsReading text rest body count → ((x : List ℕ) → ¬ (rest ≡ call_start ++ x)) → ((x : List ℕ) → ¬ (rest ≡ line_end ++ x))
-    → (ls : List (List ℕ)) (t : List ℕ) → ¬ (IsBehindSecond text ls t)
+    → (ls : List (List ℕ)) (t : List ℕ) → ¬ (IsAfterSecond text ls t)
 no-line-end text rest body count r none ends ls t b = ends _ (ahead-none rest (feed ++ t) r.done ls none (line-ahead text rest body t count ls r b)).1
 
 -- where a line is whole, its calls and its length are these
 pub record IsMeasured (text ending t : List ℕ) (count : ℕ) : Type 0 where
-  pub behind_is : ending ≡ feed ++ t
+  pub after_is : ending ≡ feed ++ t
   pub some : 1 ≤ count
   pub few : count ≤ 1_000
   pub short : length text - length ending ≤ 65_536
@@ -195,17 +195,17 @@ pub record IsMeasured (text ending t : List ℕ) (count : ℕ) : Type 0 where
 length-is : (a b text : List ℕ) → text ≡ a ++ b → length text - length b ≡ length a
 length-is a b text e = omega (arith, ap length e, length-append a b)
 
-pub measured : (text rest body ending t : List ℕ) (count : ℕ) (ls : List (List ℕ)) → IsReading text rest body count → ((x : List ℕ) → ¬ (rest ≡ call_start ++ x)) → rest ≡ line_end ++ ending → IsBehindSecond text ls t → IsMeasured text ending t count
+pub measured : (text rest body ending t : List ℕ) (count : ℕ) (ls : List (List ℕ)) → IsReading text rest body count → ((x : List ℕ) → ¬ (rest ≡ call_start ++ x)) → rest ≡ line_end ++ ending → IsAfterSecond text ls t → IsMeasured text ending t count
 measured text rest body ending t count ls r none e b =
     let a = ahead-none rest (feed ++ t) r.done ls none (line-ahead text rest body t count ls r b) in
     let here : ending ≡ feed ++ t = append_cancel_left line_end _ _ (sym e ∙ a.1) in
     let counted : count ≡ length ls = r.counted ∙ ap length (sym a.0) in
     let long : length text - length ending ≡ length (second_line ls) = length-is (second_line ls) ending text (b.1 ∙ append_assoc (second_line ls) feed t ∙ ap (λ x. second_line ls ++ x) (sym here)) in
-    record { behind_is = here; some = omega (arith, counted, b.0.some); few = omega (arith, counted, b.0.few); short = omega (arith, long, b.0.short) }
+    record { after_is = here; some = omega (arith, counted, b.0.some); few = omega (arith, counted, b.0.few); short = omega (arith, long, b.0.short) }
 
 -- a line that was read whole
 pub read-whole : (text rest body ending t : List ℕ) (count : ℕ) (r : IsReading text rest body count) → rest ≡ line_end ++ ending → ending ≡ feed ++ t → 1 ≤ count → count ≤ 1_000 → length text - length ending ≤ 65_536
-    → IsBehindSecond text r.done t
+    → IsAfterSecond text r.done t
 read-whole text rest body ending t count r e f some few short =
     let here : text ≡ second_line r.done ++ ending = r.here ∙ ap (λ x. line_start ++ (calls_text r.done ++ x)) e ∙ sym (whole-is (calls_text r.done) ending) in
     let long = length-is (second_line r.done) ending text here in (

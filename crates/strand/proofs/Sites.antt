@@ -1,7 +1,7 @@
 -- A configuration text is read in one way.
-use Rattle.std.proofs.Common.{◌≡◌, ℕ, ◌<◌, true, List, [], ◌∷◌, ◌++◌, length, sym, ◌∙◌, ap, inl, inr, arith, append_assoc, append-nil}
+use Rattle.std.proofs.Common.{◌≡◌, ℕ, ◌<◌, true, List, [], ◌∷◌, ◌++◌, length, sym, ◌∙◌, ap, arith, append_assoc, append-nil}
 use Rattle.std.proofs.lemmas.List.{append_cancel_left}
-use Rattle.strand.specs.Configuration.{feed, all_literal, calls_text, first_line, second_line, third_line, conf_text, body_of, IsBehindFirst, IsFaultAt, IsSite}
+use Rattle.strand.specs.Configuration.{feed, all_literal, calls_text, first_line, second_line, third_line, conf_text, body_of, IsAfterFirst, IsFaultAt, wrong_first, wrong_second, wrong_third, more, IsSite}
 use Rattle.strand.proofs.Reading.{line_start, line_end, ahead, no-start, second-is, call-is}
 
 conf-parts : (a b c f : List ℕ) → ((((a ++ f) ++ b) ++ f) ++ c) ++ f ≡ (a ++ f) ++ ((b ++ f) ++ ((c ++ f) ++ []))
@@ -10,10 +10,10 @@ conf-parts a b c f = simp (append_assoc, append-nil)
 conf-is : (ls : List (List ℕ)) → conf_text ls ≡ (first_line ++ feed) ++ ((second_line ls ++ feed) ++ ((third_line ++ feed) ++ []))
 conf-is ls = conf-parts first_line (second_line ls) third_line feed
 
--- two second lines with what is behind them
+-- two second lines with what is after them
 pub record SameLine (ls ks : List (List ℕ)) (a b : List ℕ) : Type 0 where
   pub literals : ls ≡ ks
-  pub behind_is : a ≡ b
+  pub after_is : a ≡ b
 
 same-line : (ls ks : List (List ℕ)) (a b : List ℕ) → all_literal ls ≡ true → all_literal ks ≡ true → (second_line ls ++ feed) ++ a ≡ (second_line ks ++ feed) ++ b → SameLine ls ks a b
 same-line ls ks a b p q e =
@@ -22,12 +22,12 @@ same-line ls ks a b p q e =
     cases on.more on.all on.here
   where
     cases : (more : List (List ℕ)) → ls ≡ ks ++ more → calls_text more ++ (line_end ++ (feed ++ a)) ≡ line_end ++ (feed ++ b) → SameLine ls ks a b
-    cases [] r s = record { literals = r ∙ append-nil ks; behind_is = append_cancel_left (line_end ++ feed) a b s }
+    cases [] r s = record { literals = r ∙ append-nil ks; after_is = append_cancel_left (line_end ++ feed) a b s }
     cases (m ∷ ms) r s = no-start (feed ++ b) _ (sym s ∙ call-is m ms (line_end ++ (feed ++ a)))
 
--- what is behind the first line of such a text
-behind-first : (text behind : List ℕ) (ls : List (List ℕ)) → text ≡ conf_text ls → IsBehindFirst text behind → behind ≡ (second_line ls ++ feed) ++ ((third_line ++ feed) ++ [])
-behind-first text behind ls e f = append_cancel_left (first_line ++ feed) _ _ (sym f ∙ e ∙ conf-is ls)
+-- what is after the first line of such a text
+after-first : (text after : List ℕ) (ls : List (List ℕ)) → text ≡ conf_text ls → IsAfterFirst text after → after ≡ (second_line ls ++ feed) ++ ((third_line ++ feed) ++ [])
+after-first text after ls e f = append_cancel_left (first_line ++ feed) _ _ (sym f ∙ e ∙ conf-is ls)
 
 pub one-site : (text a b : List ℕ) → IsSite text a → IsSite text b → a ≡ b
 one-site text a b s t =
@@ -35,18 +35,15 @@ one-site text a b s t =
     let same = same-line s.0 t.0 _ _ s.1.literal t.1.literal e in
     s.3 ∙ ap body_of same.literals ∙ sym t.3
 
-none-behind : (rest : List ℕ) → 0 < length rest → rest ≡ [] → ⊥
-none-behind rest h e = omega (arith, ap length e)
+none-after : (rest : List ℕ) → 0 < length rest → rest ≡ [] → ⊥
+none-after rest h e = omega (arith, ap length e)
 
 pub no-fault : (text body : List ℕ) (n : ℕ) → IsSite text body → ¬ (IsFaultAt text n)
-no-fault text body n s fault = elim fault [
-  | inl w ↦ w.1 _ (s.2 ∙ conf-is s.0)
-  | inr v ↦ elim v [
-    | inl w ↦ w.1.2 s.0 _ (s.1, behind-first text w.1.0 s.0 s.2 w.1.1)
-    | inr u ↦ elim u [
-      | inl w ↦ (let same = same-line s.0 w.1.1 _ w.1.2 s.1.literal w.1.4.0.literal (sym (behind-first text w.1.0 s.0 s.2 w.1.3) ∙ w.1.4.1) in w.1.5 [] (sym same.behind_is))
-      | inr w ↦ (let same = same-line s.0 w.1.1 _ w.1.2 s.1.literal w.1.5.0.literal (sym (behind-first text w.1.0 s.0 s.2 w.1.4) ∙ w.1.5.1) in
-          none-behind w.1.3 w.1.7 (append_cancel_left (third_line ++ feed) _ _ (sym w.1.6 ∙ sym same.behind_is)))
-    ]
-  ]
-]
+no-fault text body n s (wrong_first none) = none _ (s.2 ∙ conf-is s.0)
+no-fault text body n s (wrong_second {after} a none) = none s.0 _ (s.1, after-first text after s.0 s.2 a)
+no-fault text body n s (wrong_third {after} {last} {ls} a b none) =
+    let same = same-line s.0 ls _ last s.1.literal b.0.literal (sym (after-first text after s.0 s.2 a) ∙ b.1) in
+    none [] (sym same.after_is)
+no-fault text body n s (more {after} {last} {rest} {ls} a b c some) =
+    let same = same-line s.0 ls _ last s.1.literal b.0.literal (sym (after-first text after s.0 s.2 a) ∙ b.1) in
+    none-after rest some (append_cancel_left (third_line ++ feed) _ _ (sym c ∙ sym same.after_is))

@@ -12,10 +12,10 @@ use Rattle.strand.specs.declared.head.Head.TheVariants.{Empty}
 use Rattle.strand.specs.declared.strand.Stage.{Stage}
 use Rattle.strand.specs.declared.strand.Stage.TheVariants as stage
 use Rattle.strand.specs.Requests.{is_whole}
-use Rattle.strand.specs.Heads.{whole-is, after-append}
+use Rattle.strand.specs.HeadLaws.{whole-is, after-append}
 use Rattle.strand.specs.Literal.{received, sent_to_client, literal_acts, literal_behavior}
 use Rattle.strand.specs.Turns.{Held, after_bytes, is_end, came, came_acts, ended, next_piece, end_if, end_if_acts, took, took_acts, put_off, stage_of, held_after}
-use Rattle.strand.specs.Course.{course, is-offered, no-socket}
+use Rattle.strand.specs.CourseLaws.{course, is-offered, no-socket}
 
 -- the two are what a strand holds, and gives, after this happened to it
 pub record Turns {J : Type 0} (body : List ℕ) (es : List (LocalAction J)) (holds : Held) (acts : List (Act J)) : Type 0 where

@@ -1,5 +1,5 @@
 -- The configuration text of a literal site, as it is printed.
-use Rattle.std.specs.Prelude.{◌≡◌, ◌⊎◌, ℕ, ◌≤◌, ◌<◌, nat_le, Bool, true, not, ◌&&◌, ◌==◌, List, [], ◌∷◌, ◌++◌, length, codes}
+use Rattle.std.specs.Prelude.{◌≡◌, ℕ, ◌≤◌, ◌<◌, nat_le, Bool, true, not, ◌&&◌, ◌==◌, List, [], ◌∷◌, ◌++◌, length, codes}
 
 abbrev pub feed : List ℕ
 feed = 10 ∷ []
@@ -23,7 +23,7 @@ all_literal (l ∷ ls) = is_literal l && all_literal ls
 abbrev pub say_text : List ℕ → List ℕ
 say_text literal = codes "ngx.say(" ++ quote ++ literal ++ quote ++ codes ")"
 
--- calls, each behind a space
+-- calls, each after a space
 abbrev pub calls_text : List (List ℕ) → List ℕ
 calls_text [] = []
 calls_text (l ∷ ls) = codes " " ++ say_text l ++ calls_text ls
@@ -53,25 +53,24 @@ abbrev pub body_of : List (List ℕ) → List ℕ
 body_of [] = []
 body_of (l ∷ ls) = l ++ feed ++ body_of ls
 
--- the text begins with such a line, and this is behind it
-abbrev pub IsBehindFirst : List ℕ → List ℕ → Type 0
-IsBehindFirst text rest = text ≡ first_line ++ feed ++ rest
+-- the text begins with the line, and this comes after it
+abbrev pub IsAfterFirst : List ℕ → List ℕ → Type 0
+IsAfterFirst text rest = text ≡ first_line ++ feed ++ rest
 
-abbrev pub IsBehindSecond : List ℕ → List (List ℕ) → List ℕ → Type 0
-IsBehindSecond text ls rest = AreLiterals ls × (text ≡ second_line ls ++ feed ++ rest)
+abbrev pub IsAfterSecond : List ℕ → List (List ℕ) → List ℕ → Type 0
+IsAfterSecond text ls rest = AreLiterals ls × (text ≡ second_line ls ++ feed ++ rest)
 
-abbrev pub IsBehindThird : List ℕ → List ℕ → Type 0
-IsBehindThird text rest = text ≡ third_line ++ feed ++ rest
+abbrev pub IsAfterThird : List ℕ → List ℕ → Type 0
+IsAfterThird text rest = text ≡ third_line ++ feed ++ rest
 
--- the first line that differs, or the one behind the last where lines are missing
-abbrev pub IsFaultAt : List ℕ → ℕ → Type 0
-IsFaultAt text n =
-    ((n ≡ 1) × ((rest : List ℕ) → ¬ (IsBehindFirst text rest)))
-    ⊎ (((n ≡ 2) × ((behind : List ℕ) × IsBehindFirst text behind × ((ls : List (List ℕ)) (rest : List ℕ) → ¬ (IsBehindSecond behind ls rest))))
-    ⊎ (((n ≡ 3) × ((behind : List ℕ) × (ls : List (List ℕ)) × (last : List ℕ) × IsBehindFirst text behind × IsBehindSecond behind ls last
-    × ((rest : List ℕ) → ¬ (IsBehindThird last rest))))
-    ⊎ ((n ≡ 4) × ((behind : List ℕ) × (ls : List (List ℕ)) × (last : List ℕ) × (rest : List ℕ) × IsBehindFirst text behind × IsBehindSecond behind ls last
-    × IsBehindThird last rest × (0 < length rest)))))
+-- the fault of a text stands at the first line that differs, or at the one after the last where lines are missing
+pub data IsFaultAt (text : List ℕ) : ℕ → Type 0 where
+  wrong_first : ((rest : List ℕ) → ¬ (IsAfterFirst text rest)) → IsFaultAt text 1
+  wrong_second : {after : List ℕ} → IsAfterFirst text after → ((ls : List (List ℕ)) (rest : List ℕ) → ¬ (IsAfterSecond after ls rest)) → IsFaultAt text 2
+  wrong_third : {after last : List ℕ} {ls : List (List ℕ)} → IsAfterFirst text after → IsAfterSecond after ls last
+      → ((rest : List ℕ) → ¬ (IsAfterThird last rest)) → IsFaultAt text 3
+  more : {after last rest : List ℕ} {ls : List (List ℕ)} → IsAfterFirst text after → IsAfterSecond after ls last
+      → IsAfterThird last rest → 0 < length rest → IsFaultAt text 4
 
 -- the text is one of those, and this is the body
 abbrev pub IsSite : List ℕ → List ℕ → Type 0

@@ -33,11 +33,13 @@ client-quiet body a es h = refl
 pub quiet : {J : Type 0} (body : List ℕ) (a : LocalAction J) (es : List (LocalAction J)) → is_still a ≡ true → literal_acts body (a ∷ es) ≡ []
 quiet body a es h = none-either (is_client (a ∷ es)) (client_acts body (a ∷ es)) (mute_acts (a ∷ es)) (client-quiet body a es h) (mute-quiet a es h)
 
-same-sent : {J : Type 0} (body : List ℕ) (a : LocalAction J) (es : List (LocalAction J)) → is_still a ≡ true → sent_to_client body (a ∷ es) ≡ sent_to_client body es
+same-sent : {J : Type 0} (body : List ℕ) (a : LocalAction J) (es : List (LocalAction J)) → is_still a ≡ true
+    → sent_to_client body (a ∷ es) ≡ sent_to_client body es
 same-sent body (Did (Ran k)) es h = clash false h refl
 same-sent body a es h = refl
 
-pub silent : {J : Type 0} (body : List ℕ) (q : Place) (a : LocalAction J) (es : List (LocalAction J)) → is_still a ≡ true → literal_sent body q (a ∷ es) ≡ literal_sent body q es
+pub silent : {J : Type 0} (body : List ℕ) (q : Place) (a : LocalAction J) (es : List (LocalAction J)) → is_still a ≡ true
+    → literal_sent body q (a ∷ es) ≡ literal_sent body q es
 silent body place.Client a es h = same-sent body a es h
 silent body (place.Sock k) a es h = refl
 
@@ -58,11 +60,13 @@ same-held body (Did (Lost q)) es h = clash false h refl
 same-held body (Did Halted) es h = clash false h refl
 same-held body a es h = ap (λ s. record (held_after body es) { stage = s }) (same-either (is_client es) (stage_of body es))
 
-pub still : {J : Type 0} (body : List ℕ) (holds : Held) (a : LocalAction J) (es : List (LocalAction J)) → is_still a ≡ true → holds ≡ held_after body es → holds ≡ held_after body (a ∷ es)
+pub still : {J : Type 0} (body : List ℕ) (holds : Held) (a : LocalAction J) (es : List (LocalAction J)) → is_still a ≡ true → holds ≡ held_after body es
+    → holds ≡ held_after body (a ∷ es)
 still body holds a es h e = e ∙ sym (same-held body a es h)
 
 -- a property of the acts of a literal strand
-acts-are : {J : Type 0} (P : List (Act J) → Type 0) (body : List ℕ) → P [] → P (act.Ready 0 ∷ []) → P (act.Offer place.Client ∷ []) → P (end_acts true) → ((es : List (LocalAction J)) → P (mute_acts es))
+acts-are : {J : Type 0} (P : List (Act J) → Type 0) (body : List ℕ) → P [] → P (act.Ready 0 ∷ []) → P (act.Offer place.Client ∷ []) → P (end_acts true)
+    → ((es : List (LocalAction J)) → P (mute_acts es))
     → (es : List (LocalAction J)) → P (literal_acts body es)
 acts-are {J = J} P body none ready offer ends mute es = choose (is_client es)
   where

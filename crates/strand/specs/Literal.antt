@@ -11,7 +11,7 @@ use Rattle.strand_contract.specs.Mute.{is_client, end_acts, mute_acts}
 use Rattle.strand.specs.Requests.{is_whole}
 use Rattle.strand.specs.Replies.{reply}
 
--- all bytes that came at the client's line
+-- all bytes that came from the client
 abbrev pub with_came : {J : Type 0} → LocalAction J → List ℕ → List ℕ
 with_came (Did (Came place.Client bytes)) before = before ++ bytes
 with_came a before = before
@@ -29,11 +29,11 @@ abbrev pub sent_to_client : {J : Type 0} → List ℕ → List (LocalAction J) �
 sent_to_client body [] = []
 sent_to_client body (a ∷ es) = made_by a (is_client es) (reply body (moment es)) (sent_to_client body es)
 
--- what of it wasn't taken
+-- the rest of it that isn't taken yet
 abbrev pub unsent : {J : Type 0} → List ℕ → List (LocalAction J) → List ℕ
 unsent body es = drop (taken place.Client es) (sent_to_client body es)
 
--- the acts of a client's turn: when the request is whole a thread is put in line, its run offers the reply, and when that is taken the strand ends
+-- the acts of a client's turn: a whole request readies a thread, its run offers the reply, and when that is taken the strand ends
 abbrev pub client_acts : {J : Type 0} → List ℕ → List (LocalAction J) → List (Act J)
 client_acts body (Did (Came place.Client bytes) ∷ es) =
     if not (is_whole (received es)) && is_whole (received es ++ bytes) then act.Ready 0 ∷ [] else []

@@ -13,7 +13,7 @@ use Rattle.strand.specs.declared.strand.Stage.TheVariants as stage
 use Rattle.strand.specs.Requests.{is_whole}
 use Rattle.strand.specs.Literal.{received, sent_to_client, unsent}
 
--- how far the head has come behind one more byte
+-- how far the head has come after one more byte
 abbrev pub after_byte : Head → ℕ → Head
 after_byte head.Empty b = if b == 10 then head.Empty else (if b == 13 then head.EmptyReturn else head.Line)
 after_byte head.EmptyReturn b = if b == 10 then head.Empty else head.Line
@@ -30,7 +30,7 @@ abbrev pub is_end : Head → Bool
 is_end head.Whole = true
 is_end h = false
 
--- what a strand holds
+-- what a strand holds, all that was sent and how much of it was taken included
 pub record Held : Type 0 where
   pub client : Bool
   pub head : Head
@@ -38,7 +38,7 @@ pub record Held : Type 0 where
   pub sent : List ℕ
   pub taken : ℕ
 
--- what of it wasn't taken
+-- the rest that isn't taken yet
 abbrev pub left_to_send : Held → List ℕ
 left_to_send h = drop h.taken h.sent
 

@@ -1,5 +1,7 @@
+//! The text of a literal configuration, read.
+
 ghost use Rattle.std.specs.Prelude.{◌≡◌, ◌++◌, List, [], ◌∷◌, ℕ, IfOk, IfErr, MatchOption, length};
-ghost use Rattle.strand.specs.Configuration.{is_literal_byte, body_of, IsSite, IsBehindSecond};
+ghost use Rattle.strand.specs.Configuration.{is_literal_byte, body_of, IsSite, IsAfterSecond};
 ghost use Rattle.strand.specs.Faults.{IsSiteFault};
 ghost use Rattle.strand.specs.Reading.{literal_count};
 
@@ -36,7 +38,7 @@ pub fn literal_site(alloc: Global, text: &[u8]) -> Result<Site, SiteFault>
     ensures site { IfOk result (λ site. IsSite text.now site) }
     ensures fault { IfErr result (λ fault. IsSiteFault text.now fault) }
 {
-    let Some(second) = behind(text, FIRST_LINE) else {
+    let Some(second) = after(text, FIRST_LINE) else {
         return Err(SiteFault::NotYet(1));
     };
     let mut body = Vec::new(alloc);
@@ -45,7 +47,7 @@ pub fn literal_site(alloc: Global, text: &[u8]) -> Result<Site, SiteFault>
         Ok(None) => return Err(SiteFault::NotYet(2)),
         Err(_) => return Err(SiteFault::Memory),
     };
-    let Some(rest) = behind(third, THIRD_LINE) else {
+    let Some(rest) = after(third, THIRD_LINE) else {
         return Err(SiteFault::NotYet(3));
     };
     if !rest.is_empty() {
@@ -54,21 +56,21 @@ pub fn literal_site(alloc: Global, text: &[u8]) -> Result<Site, SiteFault>
     Ok(Site::of(body))
 }
 
-/// What is behind the second line, if the text begins with one. Its literals go into the body.
+/// What comes after the second line, if the text begins with one. Its literals go into the body.
 fn second_line<'a>(body: &mut Vec<u8>, text: &'a [u8]) -> Result<Option<&'a [u8]>, AllocError>
     requires { body.old.items ≡ [] }
     ensures { IfOk result (λ found. MatchOption found
-        ((ls : List (List ℕ)) (rest : List ℕ) → ¬ (IsBehindSecond text.now ls rest))
-        (λ rest. (ls : List (List ℕ)) × IsBehindSecond text.now ls rest.now × (body.new.items ≡ body_of ls))) }
+        ((ls : List (List ℕ)) (rest : List ℕ) → ¬ (IsAfterSecond text.now ls rest))
+        (λ rest. (ls : List (List ℕ)) × IsAfterSecond text.now ls rest.now × (body.new.items ≡ body_of ls))) }
 {
-    let Some(calls) = behind(text, SECOND_LINE) else {
+    let Some(calls) = after(text, SECOND_LINE) else {
         return Ok(None);
     };
     let mut rest = calls;
     let mut count = 0;
-    while let Some(literal) = behind(rest, CALL) {
+    while let Some(literal) = after(rest, CALL) {
         let (literal, end) = literal.split_at(literal_len(literal));
-        let Some(next) = behind(end, CALL_END) else {
+        let Some(next) = after(end, CALL_END) else {
             return Ok(None);
         };
         body.extend_from_slice(literal)?;
@@ -76,17 +78,17 @@ fn second_line<'a>(body: &mut Vec<u8>, text: &'a [u8]) -> Result<Option<&'a [u8]
         count += 1;
         rest = next;
     }
-    let Some(end) = behind(rest, SECOND_LINE_END) else {
+    let Some(end) = after(rest, SECOND_LINE_END) else {
         return Ok(None);
     };
     if count == 0 || MOST_CALLS < count || LONGEST_LINE < text.len() - end.len() {
         return Ok(None);
     }
-    Ok(behind(end, LF))
+    Ok(after(end, LF))
 }
 
-/// What is behind the prefix.
-fn behind<'a>(text: &'a [u8], prefix: &[u8]) -> Option<&'a [u8]>
+/// What comes after the prefix, if the text begins with it.
+fn after<'a>(text: &'a [u8], prefix: &[u8]) -> Option<&'a [u8]>
     ensures { MatchOption result ((rest : List ℕ) → ¬ (text.now ≡ prefix.now ++ rest)) (λ rest. text.now ≡ prefix.now ++ rest.now) }
 {
     if text.len() < prefix.len() {

@@ -1,18 +1,20 @@
+//! The head of a request: how far it has come, byte by byte.
+
 ghost use Rattle.std.specs.Prelude.{◌≡◌, ◌==◌};
 ghost use Rattle.strand.specs.Turns.{after_byte, after_bytes, is_end};
 
 /// How far the head of a request has come.
 #[derive(Clone, Copy, Debug, PartialEq, Eq)]
 pub enum Head {
-    /// Nothing came but empty lines, and maybe CR behind them.
+    /// Nothing came but empty lines; then maybe CR after them.
     Empty,
     EmptyReturn,
     /// A line of the head began.
     Line,
-    /// A line of the head ended, and maybe CR came behind it.
+    /// A line of the head ended; then maybe CR came after it.
     LineEnd,
     LineEndReturn,
-    /// The empty line behind the head came.
+    /// The empty line after the head came.
     Whole,
 }
 
@@ -34,7 +36,7 @@ impl Head {
         }
     }
 
-    /// How far it has come behind these bytes.
+    /// How far it has come after these bytes.
     pub fn read(self, bytes: &[u8]) -> Head
         ensures { result ≡ after_bytes self bytes.now }
     {

@@ -1,5 +1,4 @@
-//! The site of a literal configuration, and its strands: each client gets one reply to its first request, and the
-//! connection closes.
+//! The site of a literal configuration, and its strands: each client gets one reply to its first request, and the connection closes.
 #![tactic(auto)]
 
 mod configuration;

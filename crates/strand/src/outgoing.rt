@@ -1,6 +1,8 @@
+//! What is sent to a client, piece by piece.
+
 use std::alloc::Global;
 
-/// Bytes that are sent to a client, in pieces that end at multiples of this many bytes.
+/// Bytes are sent to a client in pieces that end at multiples of this many bytes.
 const PIECE: usize = 16_384;
 
 /// What is sent to a client, and how much of it was taken.
@@ -11,8 +13,9 @@ pub struct Outgoing {
 }
 
 impl Outgoing {
-    ghost use Rattle.std.specs.Prelude.{◌≡◌, ◌+◌, ◌-◌, ◌%◌, [], take, drop, length, not};
+    ghost use Rattle.std.specs.Prelude.{◌≡◌, ◌+◌, [], take, length, not};
     ghost use Rattle.strand_contract.specs.Alone.{is_some_left};
+    ghost use Rattle.strand.specs.Pieces.{untaken, first_piece};
 
     pub fn new(alloc: Global) -> Outgoing
         ensures bytes { result.bytes.items ≡ [] }
@@ -24,7 +27,7 @@ impl Outgoing {
         }
     }
 
-    /// Sends these.
+    /// Makes these the bytes that are sent.
     pub fn send(&mut self, bytes: Vec<u8>)
         ensures bytes { self.new.bytes.items ≡ bytes.items }
         ensures taken { self.new.taken ≡ self.old.taken }
@@ -34,7 +37,7 @@ impl Outgoing {
 
     /// The next piece.
     pub fn piece(&self) -> &[u8]
-        ensures { result.now ≡ take (16_384 - self.now.taken % 16_384) (drop self.now.taken self.now.bytes.items) }
+        ensures { result.now ≡ first_piece self.now }
     {
         let start = self.taken.min(self.bytes.len());
         let rest = &self.bytes[start..];
@@ -45,14 +48,15 @@ impl Outgoing {
     /// So many bytes of the piece were taken.
     pub fn take(&mut self, count: usize)
         ensures bytes { self.new.bytes.items ≡ self.old.bytes.items }
-        ensures taken { self.new.taken ≡ self.old.taken + length (take count (take (16_384 - self.old.taken % 16_384) (drop self.old.taken self.old.bytes.items))) }
+        ensures taken { self.new.taken ≡ self.old.taken + length (take count (first_piece self.old)) }
     {
         let count = self.piece().len().min(count);
         self.taken += count;
     }
 
+    /// Whether all was taken.
     pub fn is_done(&self) -> bool
-        ensures { is_some_left (drop self.now.taken self.now.bytes.items) ≡ not result }
+        ensures { is_some_left (untaken self.now) ≡ not result }
     {
         self.bytes.len() <= self.taken
     }

@@ -1,3 +1,5 @@
+//! The reply to a request of HTTP/1.0, with its date.
+
 ghost use Rattle.std.specs.Prelude.{◌≡◌, IfOk};
 ghost use Rattle.strand.specs.Dates.{date_text};
 ghost use Rattle.strand.specs.Replies.{reply};
@@ -6,7 +8,7 @@ use httpdate::HttpDate;
 use resty_base::Ms;
 use std::alloc::{AllocError, Global};
 
-/// The last second of the year 9999, behind which the date stands still.
+/// The last second of the year 9999: after it the date stands still.
 const LAST_SECOND: u64 = 253_402_300_799;
 
 fn date(now: Ms) -> [u8; 29]

@@ -1,3 +1,5 @@
+//! The site of a literal configuration, and why a text has none.
+
 use std::marker::Model;
 use thiserror::Error;
 
@@ -10,7 +12,7 @@ pub struct Site {
 /// Why there is no site.
 #[derive(Debug, Drop, Error)]
 pub enum SiteFault {
-    /// The text is none that is built yet, from this line on.
+    /// From this line on the text is none of those that are built yet.
     #[error("not built yet")]
     NotYet(u32),
     #[error("out of memory")]

@@ -1,3 +1,5 @@
+//! The strand of a literal site: it meets the contract with a behavior of its own.
+
 use crate::Site;
 use crate::head::Head;
 use crate::outgoing::Outgoing;
@@ -14,7 +16,7 @@ pub struct NoJob;
 /// What a strand waits for.
 #[derive(Clone, Copy, Debug, PartialEq, Eq)]
 enum Stage {
-    /// The request, or a job's end.
+    /// A whole request, or a job's end.
     Waiting,
     /// The run of the thread that makes the reply.
     Ready,
@@ -38,7 +40,8 @@ pub struct LiteralStrand {
 impl LiteralStrand {
     ghost use Rattle.std.specs.Prelude.{◌≡◌, ◌<◌, ◌^◌, ◌&&◌, not, [], IfOk, length, take};
     ghost use Rattle.strand.specs.Replies.{reply};
-    ghost use Rattle.strand.specs.Turns.{came, came_acts, offer_if, offer_acts, end_if, end_if_acts, ran, took, took_acts, put_off, taken_again, next_piece, is_done, ended, is_end};
+    ghost use Rattle.strand.specs.Turns.{came, came_acts, offer_if, offer_acts, end_if, end_if_acts, ran, took};
+    ghost use Rattle.strand.specs.Turns.{took_acts, put_off, taken_again, next_piece, is_done, ended, is_end};
     ghost use Rattle.strand.specs.Views.{held};
 
     fn came(&mut self, alloc: Global, bytes: &[u8]) -> Result<Acts<NoJob>, AllocError>
@@ -140,7 +143,7 @@ impl StrandContract for LiteralStrand {
     ghost use Rattle.strand_contract.specs.Actions.{LocalAction, Did, Began};
     ghost use Rattle.strand.specs.Literal.{literal_behavior};
     ghost use Rattle.strand.specs.Turns.{held_after, left_of};
-    ghost use Rattle.strand.specs.Course.{hangs-up-open, leaves-nothing-open, keeps};
+    ghost use Rattle.strand.specs.CourseLaws.{hangs-up-open, leaves-nothing-open, keeps};
     ghost use Rattle.strand.specs.Laws.{still, quiet, silent, asks-last};
     ghost use Rattle.strand.specs.Views.{held};
 
@@ -204,7 +207,7 @@ impl StrandContract for LiteralStrand {
         now: Ms,
         seen: Seen,
     ) -> Result<Acts<NoJob>, AllocError> {
-        // It has no sockets: only its client's line is offered.
+        // It has no sockets: only its client's connection is offered.
         match seen {
             Seen::Bytes(Place::Client, bytes) => self.came(alloc, bytes.as_slice()),
             Seen::Ended(Place::Client) => self.ended(alloc),

@@ -10,12 +10,12 @@ use Rattle.strand_contract.specs.declared.turns.Place.{Place}
 use Rattle.strand_contract.specs.declared.turns.Place.TheVariants as place
 use Rattle.strand_contract.specs.declared.turns.Start.{Start}
 
--- what every living strand is told
+-- what all living strands are told
 pub data Word : Type 0 where
   Moment : (t : ℕ) → Word
   Stop : Word
 
--- what happens to one strand. Jobs start as J says
+-- what happens to one strand; J is what a job starts with
 pub data Action (J : Type 0) : Type 0 where
   -- it begins, at a moment
   Began : (now : ℕ) (start : Start J) → Action J
@@ -37,7 +37,7 @@ pub data Action (J : Type 0) : Type 0 where
   Dialled : (host : List ℕ) (port : ℕ) (done : Bool) → Action J
   Kept : (sock : ℕ) (key : List ℕ) (idle : Ms) (size : ℕ) → Action J
   Timed : (due : Ms) (answer : TimerAnswer) → Action J
-  -- it is given up for want of memory
+  -- it is given up: memory ran out
   Dropped : Action J
   -- internal, without an entry: a thread runs, an offer of a place begins, a deadline is taken, Stop ends it, its life is over
   Ran : (thread : ℕ) → Action J
@@ -46,14 +46,14 @@ pub data Action (J : Type 0) : Type 0 where
   Halted : Action J
   Gone : Action J
 
--- one strand's own execution is made of what it is told and of what happens to it
+-- of what one strand's own execution is made: what it is told with all others, and what happens to it alone
 pub data LocalAction (J : Type 0) : Type 0 where
   Told : (w : Word) → LocalAction J
   Did : (x : Action J) → LocalAction J
 
 -- an execution of all strands
 pub data GlobalAction (J : Type 0) : Type 0 where
-  -- of one strand; where it gains a socket or closes one of the pool's, with the world's number of that
+  -- of one strand; with the world's number of the socket that it gains, or of the pool's that its keeping closes
   Of : (s : StrandId) (x : Action J) (sock : Option ℕ) → GlobalAction J
   Everyone : (w : Word) → GlobalAction J
   -- a connection is turned away as it arrives
@@ -62,7 +62,7 @@ pub data GlobalAction (J : Type 0) : Type 0 where
   IdleGave : (e : Event) → GlobalAction J
   IdleClosed : (n : ℕ) → GlobalAction J
 
--- the two are the same place
+-- two places are the same
 abbrev pub same_place : Place → Place → Bool
 same_place place.Client place.Client = true
 same_place (place.Sock k) (place.Sock j) = k == j

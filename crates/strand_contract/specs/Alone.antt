@@ -1,11 +1,14 @@
 -- One strand alone: what its actions leave to be done, and which action may come next.
-use Rattle.std.specs.Prelude.{◌≡◌, ◌⊎◌, ℕ, ◌+◌, ◌-◌, ◌%◌, ◌<◌, nat_le, nat_lt, max, Bool, true, false, ◌&&◌, ◌||◌, ◌==◌, List, [], ◌∷◌, ◌++◌, take, drop, length, Option, Some, None, if◌then◌else◌}
+-- Here es is an execution of the strand, b its behavior, q a place, and k the number of a thread or a socket.
+use Rattle.std.specs.Prelude.{◌≡◌, ◌⊎◌, ℕ, ◌+◌, ◌-◌, ◌%◌, ◌<◌, nat_le, nat_lt, max, Bool, true, false, ◌&&◌}
+use Rattle.std.specs.Prelude.{◌||◌, ◌==◌, List, [], ◌∷◌, ◌++◌, take, drop, length, Option, Some, None, if◌then◌else◌}
 use Rattle.strand_contract.specs.declared.turns.Place.{Place}
 use Rattle.strand_contract.specs.declared.turns.Place.TheVariants as place
 use Rattle.strand_contract.specs.declared.turns.Start.TheVariants as start
 use Rattle.strand_contract.specs.declared.turns.Act.{Act}
 use Rattle.strand_contract.specs.declared.turns.Act.TheVariants as act
-use Rattle.strand_contract.specs.Actions.{Moment, Stop, Began, Came, Ended, Broke, TakesAgain, Connected, Refused, Put, Later, Lost, Closed, Logged, Asked, Took, Dialled, Kept, Timed, Dropped, Ran, Offered, Due, Halted, Gone, LocalAction, Told, Did, same_place}
+use Rattle.strand_contract.specs.Actions.{Moment, Stop, LocalAction, Told, Did, same_place, Began, Came, Ended, Broke, TakesAgain, Connected, Refused}
+use Rattle.strand_contract.specs.Actions.{Put, Later, Lost, Closed, Logged, Asked, Took, Dialled, Kept, Timed, Dropped, Ran, Offered, Due, Halted, Gone}
 use Rattle.strand_contract.specs.Behaviors.{Behavior}
 
 -- the strand has begun, and its life isn't over
@@ -36,14 +39,14 @@ is_stopping (Told Stop ∷ es) = true
 is_stopping (Did Halted ∷ es) = false
 is_stopping (a ∷ es) = is_stopping es
 
--- how many sockets it got so far
+-- how many sockets the strand got so far
 abbrev pub socket_count : {J : Type 0} → List (LocalAction J) → ℕ
 socket_count [] = 0
 socket_count (Did (Dialled host port true) ∷ es) = socket_count es + 1
 socket_count (Did (Took key (Some uses)) ∷ es) = socket_count es + 1
 socket_count (a ∷ es) = socket_count es
 
--- the place is open: the client's line from the beginning, a socket from its dial or take, up to its closing or keeping
+-- the place is open: the client's connection from the beginning, a socket from its dial or take, until it is closed or kept in the pool
 abbrev pub is_open : {J : Type 0} → Place → List (LocalAction J) → Bool
 is_open q [] = false
 is_open q (Did (Began now (start.Client c)) ∷ es) = same_place q place.Client
@@ -66,7 +69,7 @@ taken q [] = 0
 taken q (Did (Put p bytes) ∷ es) = if same_place q p then taken q es + length bytes else taken q es
 taken q (a ∷ es) = taken q es
 
--- the last answer to the place's writes was that it takes none for now
+-- at the last write the place took none for now
 abbrev pub was_put_off : {J : Type 0} → Place → List (LocalAction J) → Bool
 was_put_off q [] = false
 was_put_off q (Did (Put p bytes) ∷ es) = if same_place q p then false else was_put_off q es
@@ -74,7 +77,7 @@ was_put_off q (Did (Later p) ∷ es) = if same_place q p then true else was_put_
 was_put_off q (Did (Lost p) ∷ es) = if same_place q p then false else was_put_off q es
 was_put_off q (a ∷ es) = was_put_off q es
 
--- what was sent to the place, while it is open, and isn't taken yet
+-- what was sent to an open place and isn't taken yet
 abbrev pub queued : {J : Type 0} → Behavior J → Place → List (LocalAction J) → List ℕ
 queued b q es = if is_open q es then drop (taken q es) (b.sent q es) else []
 
@@ -82,6 +85,7 @@ queued b q es = if is_open q es then drop (taken q es) (b.sent q es) else []
 abbrev pub piece : {J : Type 0} → Behavior J → Place → List (LocalAction J) → List ℕ
 piece b q es = take (16_384 - taken q es % 16_384) (queued b q es)
 
+-- the list isn't empty
 abbrev pub is_some_left : List ℕ → Bool
 is_some_left [] = false
 is_some_left (x ∷ xs) = true
@@ -114,44 +118,50 @@ abbrev pub todo : {J : Type 0} → Behavior J → List (LocalAction J) → List 
 todo b [] = []
 todo b (a ∷ es) = left_by a (todo b es) ++ carried (b.acts (a ∷ es))
 
--- the threads in line: these acts put threads at the end and take ended ones out, and a run takes the first
+-- a list without the first element that is k
 abbrev pub without : ℕ → List ℕ → List ℕ
 without k [] = []
 without k (j ∷ js) = if k == j then js else j ∷ without k js
 
+-- the run queue after these acts: threads are put at its end, and those that ended are taken out
 abbrev pub lined_up : {J : Type 0} → List (Act J) → List ℕ → List ℕ
 lined_up [] threads = threads
 lined_up (act.Ready k ∷ acts) threads = lined_up acts (threads ++ k ∷ [])
 lined_up (act.Unready k ∷ acts) threads = lined_up acts (without k threads)
 lined_up (a ∷ acts) threads = lined_up acts threads
 
+-- and after an action: a run takes the first
 abbrev pub run_by : {J : Type 0} → LocalAction J → List ℕ → List ℕ
 run_by (Did (Ran k)) threads = drop 1 threads
 run_by a threads = threads
 
+-- the run queue: the threads that wait for their run
 abbrev pub waiting : {J : Type 0} → Behavior J → List (LocalAction J) → List ℕ
 waiting b [] = []
 waiting b (a ∷ es) = lined_up (b.acts (a ∷ es)) (run_by a (waiting b es))
 
--- the places in line to be offered
+-- the places that acts put at the end of the offer queue
 abbrev pub offers : {J : Type 0} → List (Act J) → List Place
 offers [] = []
 offers (act.Offer q ∷ acts) = q ∷ offers acts
 offers (a ∷ acts) = offers acts
 
+-- an offer takes the first
 abbrev pub offered_by : {J : Type 0} → LocalAction J → List Place → List Place
 offered_by (Did (Offered q)) places = drop 1 places
 offered_by a places = places
 
+-- the offer queue: the places that wait for their offer
 abbrev pub to_offer : {J : Type 0} → Behavior J → List (LocalAction J) → List Place
 to_offer b [] = []
 to_offer b (a ∷ es) = offered_by a (to_offer b es) ++ offers (b.acts (a ∷ es))
 
--- the deadlines that are armed, in the order of arming: each with its number and its moment
+-- deadlines without the first of this number
 abbrev pub disarmed : ℕ → List (ℕ × ℕ) → List (ℕ × ℕ)
 disarmed n [] = []
 disarmed n (d ∷ ds) = if n == d.0 then ds else d ∷ disarmed n ds
 
+-- the armed deadlines after these acts, and after an action: one that is due is taken out
 abbrev pub armed_by : {J : Type 0} → List (Act J) → List (ℕ × ℕ) → List (ℕ × ℕ)
 armed_by [] ds = ds
 armed_by (act.Arm n at ∷ acts) ds = armed_by acts (ds ++ (n, at.0) ∷ [])
@@ -162,24 +172,27 @@ abbrev pub taken_by : {J : Type 0} → LocalAction J → List (ℕ × ℕ) → L
 taken_by (Did (Due n)) ds = disarmed n ds
 taken_by a ds = ds
 
+-- the deadlines that are armed, in the order of arming: each with its number and its moment
 abbrev pub armed : {J : Type 0} → Behavior J → List (LocalAction J) → List (ℕ × ℕ)
 armed b [] = []
 armed b (a ∷ es) = armed_by (b.acts (a ∷ es)) (taken_by a (armed b es))
 
--- the deadline that is due: of those that aren't above now the least, among equals the one that was armed first
+-- of a deadline and those that were armed later, the one that is due first
 abbrev pub sooner : ℕ → ℕ × ℕ → Option (ℕ × ℕ) → Option (ℕ × ℕ)
 sooner now d None = if nat_le d.1 now then Some d else None
 sooner now d (Some e) = if nat_le d.1 now && nat_le d.1 e.1 then Some d else Some e
 
+-- the deadline that is due: the least that isn't later than now, among equals the one that was armed first
 abbrev pub due : ℕ → List (ℕ × ℕ) → Option (ℕ × ℕ)
 due now [] = None
 due now (d ∷ ds) = sooner now d (due now ds)
 
--- the place whose offer was begun and neither put off nor broken off
+-- the place, unless it is this one
 abbrev pub but : Place → Option Place → Option Place
 but q None = None
 but q (Some p) = if same_place q p then None else Some p
 
+-- the place whose offer was begun and neither put off nor broken off
 abbrev pub begun_offer : {J : Type 0} → List (LocalAction J) → Option Place
 begun_offer [] = None
 begun_offer (Did (Offered q) ∷ es) = Some q
@@ -193,11 +206,12 @@ begun_offer (Did (Kept k key idle size) ∷ es) = begun_offer es
 begun_offer (Did (Timed at answer) ∷ es) = begun_offer es
 begun_offer (a ∷ es) = None
 
--- the place whose offer goes on: something of it is left
+-- the place, where something that was sent to it is left
 abbrev pub going_on : {J : Type 0} → Behavior J → List (LocalAction J) → Option Place → Option Place
 going_on b es None = None
 going_on b es (Some q) = if is_some_left (queued b q es) then Some q else None
 
+-- the place whose offer goes on
 abbrev pub offering : {J : Type 0} → Behavior J → List (LocalAction J) → Option Place
 offering b es = going_on b es (begun_offer es)
 
@@ -218,7 +232,7 @@ in_offers (Did (Due n) ∷ es) = false
 in_offers (Did Halted ∷ es) = false
 in_offers (a ∷ es) = in_offers es
 
--- nothing is left to be done by a strand that lives
+-- a living strand has nothing left to do
 pub record HasNoWork {J : Type 0} (b : Behavior J) (es : List (LocalAction J)) : Type 0 where
   pub no_act : todo b es ≡ []
   pub no_thread : waiting b es ≡ []
@@ -232,7 +246,7 @@ pub record IsQuiescent {J : Type 0} (b : Behavior J) (es : List (LocalAction J))
   pub idle : lives es ≡ true → HasNoWork b es
   pub closed : lives es ≡ false → (q : Place) → is_open q es ≡ false
 
--- xs is ys up to some place
+-- ys begins with xs
 abbrev pub IsPrefixOf : {A : Type 0} → List A → List A → Type 0
 IsPrefixOf {A} xs ys = (rest : List A) × (xs ++ rest ≡ ys)
 
@@ -248,13 +262,13 @@ pub record IsGivenAt {J : Type 0} (b : Behavior J) (es : List (LocalAction J)) (
   pub idle : HasNoWork b es
   pub opened : is_open q es ≡ true
 
--- the place is being offered
+-- an offer of the place goes on
 pub record IsOfferedAt {J : Type 0} (b : Behavior J) (es : List (LocalAction J)) (q : Place) : Type 0 where
   pub living : lives es ≡ true
   pub no_act : todo b es ≡ []
   pub offered : offering b es ≡ Some q
 
--- the client's line comes before the sockets, and these by their numbers
+-- the client's connection comes before the sockets, and these come by their numbers
 abbrev pub is_before : Place → Place → Bool
 is_before place.Client (place.Sock k) = true
 is_before (place.Sock j) (place.Sock k) = nat_lt j k
@@ -306,6 +320,6 @@ abbrev pub IsExecution : {J : Type 0} → Behavior J → List (LocalAction J) �
 IsExecution b [] = Unit {0}
 IsExecution b (a ∷ es) = IsExecution b es × Enabled b es a
 
--- nothing that was sent is held back while the place takes bytes
+-- nothing that was sent to an open place is held back, unless the place takes none for now
 abbrev pub KeepsNothingBack : {J : Type 0} → Behavior J → List (LocalAction J) → Type 0
 KeepsNothingBack b es = (q : Place) → is_open q es ≡ true → (queued b q es ≡ []) ⊎ (was_put_off q es ≡ true)

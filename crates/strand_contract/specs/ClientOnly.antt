@@ -1,4 +1,4 @@
--- Strands that have nothing but their client's line: their acts put turns in line, hang up and end a life.
+-- Strands that have nothing but their client's connection: their acts queue turns, hang up and end a life. What their executions have is proved.
 use Rattle.std.specs.Prelude.{◌≡◌, ℕ, Bool, true, false, List, [], ◌∷◌, ◌++◌, drop, Some, None, if◌then◌else◌, refl}
 use Rattle.std.proofs.Common.{sym, ◌∙◌, ap, subst}
 use Rattle.strand_contract.specs.declared.turns.Place.TheVariants as place
@@ -6,11 +6,13 @@ use Rattle.strand_contract.specs.declared.turns.Start.TheVariants as start
 use Rattle.strand_contract.specs.declared.turns.Act.{Act}
 use Rattle.strand_contract.specs.declared.turns.Act.TheVariants as act
 use Rattle.strand_contract.specs.declared.turns.Answer.{Answer}
-use Rattle.strand_contract.specs.Actions.{Action, Began, Came, Ended, Broke, TakesAgain, Connected, Refused, Put, Later, Lost, Closed, Logged, Asked, Took, Dialled, Kept, Timed, Dropped, Ran, Offered, Due, Halted, Gone, LocalAction, Told, Did, same_place}
+use Rattle.strand_contract.specs.Actions.{Action, LocalAction, Told, Did, same_place, Began, Came, Ended, Broke, TakesAgain, Connected, Refused}
+use Rattle.strand_contract.specs.Actions.{Put, Later, Lost, Closed, Logged, Asked, Took, Dialled, Kept, Timed, Dropped, Ran, Offered, Due, Halted, Gone}
 use Rattle.strand_contract.specs.Behaviors.{Behavior}
 use Rattle.strand_contract.specs.Alone.{lives, was_dropped, is_open, moment, todo, left_by, carried, armed, armed_by, taken_by, due, IsExecution}
 use Rattle.strand_contract.specs.Laws.{answered, is_still}
 
+-- the acts queue turns, hang up and end a life, and no more
 abbrev pub IsClientOnly : {J : Type 0} → List (Act J) → Type 0
 IsClientOnly [] = Unit {0}
 IsClientOnly (act.Ready k ∷ acts) = IsClientOnly acts
@@ -95,31 +97,38 @@ no-socket b (Did (Closed q)) es k f p h = closed-stays (same_place (place.Sock k
 no-socket b (Did (Kept j key idle size)) es k f p h = never _ _ p f.1 (λ w. absurd w)
 no-socket b a es k f p h = h
 
-pub client-only : {J : Type 0} (b : Behavior J) → ((es : List (LocalAction J)) → IsClientOnly (b.acts es)) → (es : List (LocalAction J)) → IsExecution b es → HasClientOnly b es
+-- what the acts of all turns are, the whole execution keeps to
+pub client-only : {J : Type 0} (b : Behavior J) → ((es : List (LocalAction J)) → IsClientOnly (b.acts es)) → (es : List (LocalAction J)) → IsExecution b es
+    → HasClientOnly b es
 client-only {J = J} b acts [] f = record { to_do = tt; no_deadline = refl; no_socket = λ k. refl }
 client-only {J = J} b acts (a ∷ es) f = let before : HasClientOnly b es = client-only b acts es f.0 in record {
-  to_do = only-append J (left_by a (todo b es)) (carried (b.acts (a ∷ es))) (only-left_by J a (todo b es) before.to_do) (only-carried J (b.acts (a ∷ es)) (acts (a ∷ es)));
+  to_do = only-append J (left_by a (todo b es)) (carried (b.acts (a ∷ es)))
+      (only-left_by J a (todo b es) before.to_do) (only-carried J (b.acts (a ∷ es)) (acts (a ∷ es)));
   no_deadline = rw (before.no_deadline, none-taken J a) (none-armed J (b.acts (a ∷ es)) (acts (a ∷ es)));
   no_socket = λ k. no-socket b a es k f before.to_do (before.no_socket k);
 }
 
--- a strand that was dropped has nothing left to do and no life
+-- the strand has nothing left to do and no life
 pub record IsOver {J : Type 0} (b : Behavior J) (es : List (LocalAction J)) : Type 0 where
   pub dead : lives es ≡ false
   pub no_act : todo b es ≡ []
 
+-- what is no turn of the strand gives no acts
 abbrev pub IsQuiet : {J : Type 0} → Behavior J → Type 0
 IsQuiet {J} b = (a : LocalAction J) (es : List (LocalAction J)) → is_still a ≡ true → b.acts (a ∷ es) ≡ []
 
+-- a test isn't both true and false
 pub clash : {C : Type 0} (x : Bool) → x ≡ true → x ≡ false → C
 clash x p q = absurd (let e : true ≡ false = sym p ∙ q in cc)
 
 differs : {J : Type 0} {C : Type 0} (acts rest : List (Act J)) (a : Act J) → acts ≡ a ∷ rest → acts ≡ [] → C
 differs acts rest a p q = absurd (let e : a ∷ rest ≡ [] = sym p ∙ q in cc)
 
-still-over : {J : Type 0} (b : Behavior J) (a : LocalAction J) (es : List (LocalAction J)) → IsQuiet b → is_still a ≡ true → left_by a [] ≡ [] → todo b es ≡ [] → todo b (a ∷ es) ≡ []
+still-over : {J : Type 0} (b : Behavior J) (a : LocalAction J) (es : List (LocalAction J)) → IsQuiet b → is_still a ≡ true → left_by a [] ≡ [] → todo b es ≡ []
+    → todo b (a ∷ es) ≡ []
 still-over b a es quiet h l e = rw (e, quiet a es h, l) refl
 
+-- so it is with each that was dropped
 pub over : {J : Type 0} (b : Behavior J) → IsQuiet b → (es : List (LocalAction J)) → IsExecution b es → was_dropped es ≡ true → IsOver b es
 over b quiet [] f h = clash false h refl
 over b quiet (Told w ∷ es) f h = clash (lives es) f.1.0 (over b quiet es f.0 h).dead
@@ -133,7 +142,9 @@ over b quiet (Did (Refused k) ∷ es) f h = clash (lives es) f.1.living (over b 
 over b quiet (Did (Put q bytes) ∷ es) f h = clash (lives es) f.1.0.living (over b quiet es f.0 h).dead
 over b quiet (Did (Later q) ∷ es) f h = clash (lives es) f.1.living (over b quiet es f.0 h).dead
 over b quiet (Did (Lost q) ∷ es) f h = clash (lives es) f.1.living (over b quiet es f.0 h).dead
-over b quiet (Did (Closed q) ∷ es) f h = let before : IsOver b es = over b quiet es f.0 h in record { dead = before.dead; no_act = still-over b (Did (Closed q)) es quiet refl refl before.no_act }
+over b quiet (Did (Closed q) ∷ es) f h =
+    let before : IsOver b es = over b quiet es f.0 h in
+    record { dead = before.dead; no_act = still-over b (Did (Closed q)) es quiet refl refl before.no_act }
 over b quiet (Did (Logged line done) ∷ es) f h = differs _ f.1.0 _ f.1.1 (over b quiet es f.0 h).no_act
 over b quiet (Did (Asked zone call answer) ∷ es) f h = differs _ _ _ f.1 (over b quiet es f.0 h).no_act
 over b quiet (Did (Took key uses) ∷ es) f h = differs _ _ _ f.1 (over b quiet es f.0 h).no_act
@@ -148,7 +159,8 @@ over b quiet (Did Halted ∷ es) f h = clash (lives es) f.1.0.living (over b qui
 over b quiet (Did Gone ∷ es) f h = differs _ _ _ f.1 (over b quiet es f.0 h).no_act
 
 -- no deadline is due where none is armed
-pub none-due : {J : Type 0} {C : Type 0} (b : Behavior J) (es : List (LocalAction J)) (d : ℕ × ℕ) → HasClientOnly b es → due (moment es) (armed b es) ≡ Some d → C
+pub none-due : {J : Type 0} {C : Type 0} (b : Behavior J) (es : List (LocalAction J)) (d : ℕ × ℕ) → HasClientOnly b es → due (moment es) (armed b es) ≡ Some d
+    → C
 none-due b es d h e = absurd (let f : None ≡ Some d = sym (ap (due (moment es)) h.no_deadline) ∙ e in cc)
 
 -- a list isn't empty where something is first in it

@@ -1,5 +1,7 @@
--- Executions of all strands: each strand's own, the history that is told, and what makes it lawful.
-use Rattle.std.specs.Prelude.{◌≡◌, ℕ, ◌+◌, ◌-◌, ◌<◌, ◌≤◌, max, Bool, true, false, ◌||◌, List, [], ◌∷◌, ◌++◌, Option, Some, None, slice_index, length, if◌then◌else◌}
+-- Executions of all strands: what one strand sees of them, the history that they leave, and what makes them lawful.
+-- Here ms is an execution of all strands, s a strand, and n the world's number of a socket that an action gains.
+use Rattle.std.specs.Prelude.{◌≡◌, ℕ, ◌+◌, ◌-◌, ◌<◌, ◌≤◌, max, Bool, true, false, ◌||◌}
+use Rattle.std.specs.Prelude.{List, [], ◌∷◌, ◌++◌, Option, Some, None, slice_index, length, if◌then◌else◌}
 use Rattle.resty_base.specs.declared.names.Id.{Id}
 use Rattle.resty_base.specs.declared.names.Id.TheVariants as id
 use Rattle.resty_base.specs.declared.names.StrandId.{StrandId}
@@ -12,44 +14,49 @@ use Rattle.strand_contract.specs.declared.turns.Place.{Place}
 use Rattle.strand_contract.specs.declared.turns.Place.TheVariants as place
 use Rattle.strand_contract.specs.declared.turns.Start.{Start}
 use Rattle.strand_contract.specs.declared.turns.Start.TheVariants as start
-use Rattle.strand_contract.specs.Actions.{Word, Moment, Stop, Action, Began, Came, Ended, Broke, TakesAgain, Connected, Refused, Put, Later, Lost, Closed, Logged, Asked, Took, Dialled, Kept, Timed, Dropped, LocalAction, Told, Did, GlobalAction, Of, Everyone, TurnedAway, IdleGave, IdleClosed, is_given, is_internal}
+use Rattle.strand_contract.specs.Actions.{Word, Moment, Stop, Action, LocalAction, Told, Did, GlobalAction}
+use Rattle.strand_contract.specs.Actions.{Of, Everyone, TurnedAway, IdleGave, IdleClosed, is_given, is_internal}
+use Rattle.strand_contract.specs.Actions.{Began, Came, Ended, Broke, TakesAgain, Connected, Refused}
+use Rattle.strand_contract.specs.Actions.{Put, Later, Lost, Closed, Logged, Asked, Took, Dialled, Kept, Timed, Dropped}
 use Rattle.strand_contract.specs.Behaviors.{Behavior}
 use Rattle.strand_contract.specs.Alone.{lives, piece, IsExecution, IsQuiescent, KeepsNothingBack}
 
--- what one strand sees of an execution
+-- what one strand sees of an execution: its own actions, and what all living strands are told
 abbrev pub projection : {J : Type 0} → StrandId → List (GlobalAction J) → List (LocalAction J)
 projection s [] = []
 projection s (Of t x n ∷ ms) = if same_strand s t then Did x ∷ projection s ms else projection s ms
 projection s (Everyone w ∷ ms) = if lives (projection s ms) then Told w ∷ projection s ms else projection s ms
 projection s (m ∷ ms) = projection s ms
 
--- a strand's part of the history: its own execution without what leaves no entry
+-- an execution of one strand without what leaves no entry
 abbrev pub without_internal : {J : Type 0} → List (LocalAction J) → List (LocalAction J)
 without_internal [] = []
 without_internal (Told w ∷ es) = Told w ∷ without_internal es
 without_internal (Did x ∷ es) = if is_internal x then without_internal es else Did x ∷ without_internal es
 
+-- a strand's part of the history
 abbrev pub part : {J : Type 0} → StrandId → List (GlobalAction J) → List (LocalAction J)
 part s ms = without_internal (projection s ms)
 
--- the world's numbers of the sockets that a strand got, in order
+-- the world's number of the socket that an action gains
 abbrev pub gained : {J : Type 0} → Action J → Option ℕ → List ℕ
 gained (Dialled host port true) (Some n) = n ∷ []
 gained (Took key (Some uses)) (Some n) = n ∷ []
 gained x n = []
 
+-- the world's numbers of the sockets that a strand got, in order
 abbrev pub sockets : {J : Type 0} → StrandId → List (GlobalAction J) → List ℕ
 sockets s [] = []
 sockets s (Of t x n ∷ ms) = if same_strand s t then sockets s ms ++ gained x n else sockets s ms
 sockets s (m ∷ ms) = sockets s ms
 
--- the id that a place of a strand stands for
+-- the world's id of a place of a strand
 abbrev pub id_at : {J : Type 0} → StrandId → Place → List (GlobalAction J) → Id
 id_at (strand.Conn c) place.Client ms = id.Conn c
 id_at (strand.Job n) place.Client ms = id.Conn 0
 id_at s (place.Sock k) ms = id.Sock (slice_index (sockets s ms) k)
 
--- the entry of a strand's beginning
+-- the entry that a strand's beginning leaves
 abbrev pub start_entry : {J : Type 0} → Start J → Entry
 start_entry (start.Client c) = entry.Given (event.Arrive c)
 start_entry (start.Job n job) = entry.Start n
@@ -81,6 +88,7 @@ entry_of b s (Timed at answer) n ms = entry.Timer s at answer ∷ []
 entry_of b s Dropped n ms = entry.Dropped s ∷ []
 entry_of b s x n ms = []
 
+-- the entry of what all living strands are told
 abbrev pub word_entry : Word → Entry
 word_entry (Moment t) = entry.Given (event.Moment (record { 0 = t }))
 word_entry Stop = entry.Given event.Stop
@@ -98,7 +106,7 @@ abbrev pub external : {J : Type 0} → Behavior J → List (GlobalAction J) → 
 external b [] = []
 external b (m ∷ ms) = entries_of b m ms ++ external b ms
 
--- how long the piece was that each write was offered, of those that were taken or put off, the newest first
+-- of each write that was taken or put off, how long the offered piece was; the newest first
 abbrev pub offered_by : {J : Type 0} → Behavior J → Action J → List (LocalAction J) → List ℕ
 offered_by b (Put q bytes) es = length (piece b q es) ∷ []
 offered_by b (Later q) es = length (piece b q es) ∷ []
@@ -154,14 +162,14 @@ BeginsRight [] = Unit {0}
 BeginsRight (Of s (Began now begin) n ∷ ms) = BeginsRight ms × IsStartOf s begin × (now ≡ present ms) × IsNewest s ms
 BeginsRight (m ∷ ms) = BeginsRight ms
 
--- each strand does what it does alone, from its own start and moment, and all are at rest at each given event and at the end
+-- each strand does what it would do alone, from its own start and moment; at each given event and at the end all are at rest
 pub record IsLawful {J : Type 0} (b : Behavior J) (ms : List (GlobalAction J)) : Type 0 where
   pub alone : (s : StrandId) → IsExecution b (projection s ms)
   pub begins : BeginsRight ms
   pub given : IsGivenAtRest b ms
   pub rests : AllQuiescent b ms
 
--- nothing that was sent to an open place of a living strand is held back, at each given event and at the end
+-- no living strand holds back what it sent to an open place; at each given event none did; and both
 abbrev pub NoneHoldsBack : {J : Type 0} → Behavior J → List (GlobalAction J) → Type 0
 NoneHoldsBack b ms = (s : StrandId) → lives (projection s ms) ≡ true → KeepsNothingBack b (projection s ms)
 
@@ -179,7 +187,7 @@ open_connections (Of s (Began now (start.Client c)) n ∷ ms) = open_connections
 open_connections (Of s (Closed place.Client) n ∷ ms) = open_connections ms - 1
 open_connections (m ∷ ms) = open_connections ms
 
--- a connection is turned away exactly where as many are open as may be. There is no dictionary, pool or timer yet
+-- a connection is turned away exactly where as many are open as may be. (There is no dictionary, pool or timer yet.)
 abbrev pub IsPlain : {J : Type 0} → Behavior J → List (GlobalAction J) → Type 0
 IsPlain b [] = Unit {0}
 IsPlain b (Of s (Began now (start.Client c)) n ∷ ms) = IsPlain b ms × (open_connections ms < b.connections)

@@ -1,4 +1,4 @@
--- What the calls and the laws of a strand speak of.
+-- What the calls and the laws of a strand speak of: what it is shown and told in return, as actions, and which turns are its own.
 use Rattle.std.specs.Prelude.{◌≡◌, Bool, true, false, List, [], ◌∷◌, take, Option, Some, None}
 use Rattle.strand_contract.specs.declared.turns.Act.{Act}
 use Rattle.strand_contract.specs.declared.turns.Act.TheVariants as act
@@ -6,11 +6,12 @@ use Rattle.strand_contract.specs.declared.turns.Seen.{Seen}
 use Rattle.strand_contract.specs.declared.turns.Seen.TheVariants as seen
 use Rattle.strand_contract.specs.declared.turns.Answer.{Answer}
 use Rattle.strand_contract.specs.declared.turns.Answer.TheVariants as answer
-use Rattle.strand_contract.specs.Actions.{Action, Came, Ended, Broke, TakesAgain, Connected, Refused, Put, Later, Lost, Closed, Logged, Asked, Took, Dialled, Kept, Timed, Dropped, Ran, Offered, Due, Halted, Gone, LocalAction, Told, Did}
+use Rattle.strand_contract.specs.Actions.{Action, LocalAction, Told, Did, Came, Ended, Broke, TakesAgain, Connected, Refused}
+use Rattle.strand_contract.specs.Actions.{Put, Later, Lost, Closed, Logged, Asked, Took, Dialled, Kept, Timed, Dropped, Ran, Offered, Due, Halted, Gone}
 use Rattle.strand_contract.specs.Behaviors.{Behavior}
 use Rattle.strand_contract.specs.Alone.{piece}
 
--- the action that a strand is shown: of an offer, the bytes that were taken of the piece
+-- the action that a strand is shown: of a write, the bytes that were taken of the piece
 abbrev pub action_of : {J : Type 0} → Behavior J → List (LocalAction J) → Seen → Action J
 action_of b es (seen.Bytes q bytes) = Came q bytes
 action_of b es (seen.Ended q) = Ended q
@@ -25,7 +26,7 @@ action_of b es (seen.Due n) = Due n
 action_of b es (seen.Run k) = Ran k
 action_of b es seen.Stop = Halted
 
--- the action of an answer to the act that awaits it, none where it isn't of its kind
+-- the action of an answer to the act that awaits it; none where the answer isn't of the act's kind
 abbrev pub answered : {J : Type 0} → List (Act J) → Answer → Option (Action J)
 answered (act.Dict zone call ∷ []) (answer.Dict given) = Some (Asked zone call given)
 answered (act.Take key ∷ []) (answer.Took uses) = Some (Took key uses)
@@ -34,7 +35,7 @@ answered (act.Keep k key idle size ∷ []) answer.Kept = Some (Kept k key idle s
 answered (act.Timer at job ∷ []) (answer.Timer given) = Some (Timed at given)
 answered acts given = None
 
--- a turn that the strand makes by itself, and not for something that the world gave
+-- the strand takes this turn by itself, and not for something that the world gave
 abbrev pub is_own_turn : Seen → Bool
 is_own_turn (seen.Took q n) = true
 is_own_turn (seen.Later q) = true
@@ -44,7 +45,7 @@ is_own_turn (seen.Run k) = true
 is_own_turn seen.Stop = true
 is_own_turn s = false
 
--- actions at which no call of the strand is made
+-- the action is no turn: no call of the strand is made for it
 abbrev pub is_still : {J : Type 0} → LocalAction J → Bool
 is_still (Told w) = true
 is_still (Did (Closed q)) = true

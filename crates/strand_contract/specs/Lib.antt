@@ -1,9 +1,9 @@
 pub mod Actions
-pub mod Alone
 pub mod Behaviors
-pub mod ClientOnly
+pub mod Alone
 pub mod Executions
+pub mod Order
 pub mod Laws
 pub mod Mute
+pub mod ClientOnly
 pub mod MuteLaws
-pub mod Order

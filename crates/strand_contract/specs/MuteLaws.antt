@@ -10,8 +10,10 @@ use Rattle.strand_contract.specs.declared.turns.Act.TheVariants as act
 use Rattle.strand_contract.specs.declared.turns.Answer.{Answer}
 use Rattle.strand_contract.specs.declared.turns.Seen.{Seen}
 use Rattle.strand_contract.specs.declared.turns.Seen.TheVariants as seen
-use Rattle.strand_contract.specs.Actions.{Action, Moment, Stop, Began, Came, Ended, Broke, TakesAgain, Connected, Refused, Put, Later, Lost, Closed, Logged, Asked, Took, Dialled, Kept, Timed, Dropped, Ran, Offered, Due, Halted, Gone, LocalAction, Told, Did}
-use Rattle.strand_contract.specs.Alone.{lives, is_open, taken, todo, carried, lined_up, offers, waiting, to_offer, queued, offering, going_on, begun_offer, IsExecution, IsFirstOpen, KeepsNothingBack, IsNextAct}
+use Rattle.strand_contract.specs.Actions.{Action, Moment, Stop, LocalAction, Told, Did, Began, Came, Ended, Broke, TakesAgain, Connected, Refused}
+use Rattle.strand_contract.specs.Actions.{Put, Later, Lost, Closed, Logged, Asked, Took, Dialled, Kept, Timed, Dropped, Ran, Offered, Due, Halted, Gone}
+use Rattle.strand_contract.specs.Alone.{lives, is_open, taken, todo, carried, lined_up, offers, waiting, to_offer}
+use Rattle.strand_contract.specs.Alone.{queued, offering, going_on, begun_offer, IsExecution, IsFirstOpen, KeepsNothingBack, IsNextAct}
 use Rattle.strand_contract.specs.Laws.{action_of, answered, is_own_turn, is_still, IsLastAct}
 use Rattle.strand_contract.specs.ClientOnly.{IsClientOnly, client-only, never, over, clash, none-due, first-of-none, unasked}
 use Rattle.strand_contract.specs.Mute.{is_client, end_acts, mute_acts, mute_behavior, was_halted}
@@ -75,11 +77,12 @@ IsMuteTodo acts live opened halted =
     ⊎ (((acts ≡ act.HangUp place.Client ∷ act.Gone ∷ []) × (live ≡ true) × (opened ≡ true) × (halted ≡ true))
     ⊎ ((acts ≡ act.Gone ∷ []) × (live ≡ true) × (opened ≡ false) × (halted ≡ true)))
 
+-- where such a strand stands
 pub record Course {J : Type 0} (es : List (LocalAction J)) : Type 0 where
   pub to_do : IsMuteTodo (todo mute_behavior es) (lives es) (is_open place.Client es) (was_halted es)
   pub no_thread : waiting mute_behavior es ≡ []
   pub no_place : to_offer mute_behavior es ≡ []
-  -- until Stop ends it, its line is open if it is a client
+  -- until Stop ends it, its connection is open exactly where it is a client's
   pub before : was_halted es ≡ false → lives es ≡ true → is_open place.Client es ≡ is_client es
   -- once Stop has ended it, something is left to be done while it lives
   pub after : was_halted es ≡ true → lives es ≡ true → todo mute_behavior es ≡ [] → ⊥
@@ -152,7 +155,8 @@ halted {J = J} es g l e = record {
     some true acts p q = let r : act.HangUp place.Client ∷ act.Gone ∷ [] ≡ [] = rw p at q in cc
     some false acts p q = let r : act.Gone ∷ [] ≡ [] = rw p at q in cc
 
-gone : {J : Type 0} (a : LocalAction J) (es : List (LocalAction J)) → Course es → todo mute_behavior (a ∷ es) ≡ [] → waiting mute_behavior (a ∷ es) ≡ waiting mute_behavior es
+gone : {J : Type 0} (a : LocalAction J) (es : List (LocalAction J)) → Course es → todo mute_behavior (a ∷ es) ≡ []
+    → waiting mute_behavior (a ∷ es) ≡ waiting mute_behavior es
     → to_offer mute_behavior (a ∷ es) ≡ to_offer mute_behavior es ++ [] → lives (a ∷ es) ≡ false → Course (a ∷ es)
 gone a es g t w o l = record {
   to_do = inl t;
@@ -162,7 +166,7 @@ gone a es g t w o l = record {
   after = λ p q r. clash _ q l;
 }
 
--- the place that is hung up is the client's line, and it is open
+-- the place that is hung up is the client's connection, and it is open
 hung : {J : Type 0} (acts rest : List (Act J)) (q : Place) (live opened stopped : Bool) → IsMuteTodo acts live opened stopped → acts ≡ act.HangUp q ∷ rest
     → (q ≡ place.Client) × (acts ≡ act.HangUp place.Client ∷ act.Gone ∷ []) × (live ≡ true) × (opened ≡ true) × (stopped ≡ true)
 hung acts rest q live opened stopped t e = elim t [
@@ -173,7 +177,8 @@ hung acts rest q live opened stopped t e = elim t [
   ]
 ]
 
-closed : {J : Type 0} (es : List (LocalAction J)) (q : Place) → Course es → (IsNextAct mute_behavior es (act.HangUp q) × (is_open q es ≡ true)) ⊎ IsFirstOpen es q
+closed : {J : Type 0} (es : List (LocalAction J)) (q : Place) → Course es
+    → (IsNextAct mute_behavior es (act.HangUp q) × (is_open q es ≡ true)) ⊎ IsFirstOpen es q
     → IsExecution (mute_behavior {J = J}) es → Course (Did (Closed q) ∷ es)
 closed es q g f execution = elim f [
   | inl w ↦ (let h = hung _ w.0.0 q _ _ _ g.to_do w.0.1 in record {
@@ -214,11 +219,13 @@ course (Did (Due n) ∷ es) f = none-due mute_behavior es _ (client-only mute_be
 course (Did Halted ∷ es) f = halted es (course es f.0) f.1.0.living f.1.0.no_act
 course (Did Gone ∷ es) f = gone _ es (course es f.0) (rw f.1 refl) refl refl refl
 
-pub mute-hangs-up : {J : Type 0} (es : List (LocalAction J)) (q : Place) (rest : List (Act J)) → IsExecution mute_behavior es → todo mute_behavior es ≡ act.HangUp q ∷ rest
+pub mute-hangs-up : {J : Type 0} (es : List (LocalAction J)) (q : Place) (rest : List (Act J)) → IsExecution mute_behavior es
+    → todo mute_behavior es ≡ act.HangUp q ∷ rest
     → (lives es ≡ true) × (is_open q es ≡ true)
 mute-hangs-up es q rest f e = let h = hung _ rest q _ _ _ (course es f).to_do e in (h.2, rw h.0 h.3)
 
-pub mute-leaves : {J : Type 0} (es : List (LocalAction J)) (q : Place) → IsExecution mute_behavior es → todo mute_behavior es ≡ act.Gone ∷ [] → is_open q es ≡ false
+pub mute-leaves : {J : Type 0} (es : List (LocalAction J)) (q : Place) → IsExecution mute_behavior es → todo mute_behavior es ≡ act.Gone ∷ []
+    → is_open q es ≡ false
 mute-leaves es place.Client f e = elim (course es f).to_do [
   | inl w ↦ absurd (let k : act.Gone ∷ [] ≡ [] = sym e ∙ w in cc)
   | inr v ↦ elim v [
@@ -232,11 +239,13 @@ pub mute-keeps : {J : Type 0} (es : List (LocalAction J)) → KeepsNothingBack (
 mute-keeps es q opened = inl (none-queued q es)
 
 -- what the calls of the strand take for granted
-pub mute-unasked : {J : Type 0} {C : Type 0} (es : List (LocalAction J)) (given : Answer) (x : Action J) → IsExecution mute_behavior es → answered (todo mute_behavior es) given ≡ Some x → C
+pub mute-unasked : {J : Type 0} {C : Type 0} (es : List (LocalAction J)) (given : Answer) (x : Action J) → IsExecution mute_behavior es
+    → answered (todo mute_behavior es) given ≡ Some x → C
 mute-unasked es given x f = unasked _ given x (client-only mute_behavior mute-only es f).to_do
 
 -- of the turns that a strand makes by itself, only the end by Stop can come
-pub mute-turns : {J : Type 0} (es : List (LocalAction J)) (shown : Seen) → is_own_turn shown ≡ true → IsExecution (mute_behavior {J = J}) (Did (action_of mute_behavior es shown) ∷ es)
+pub mute-turns : {J : Type 0} (es : List (LocalAction J)) (shown : Seen) → is_own_turn shown ≡ true
+    → IsExecution (mute_behavior {J = J}) (Did (action_of mute_behavior es shown) ∷ es)
     → (shown ≡ seen.Stop) × (was_halted es ≡ false)
 mute-turns es (seen.Took q n) h f = never-offers es q f.1.0.offered
 mute-turns es (seen.Later q) h f = never-offers es q f.1.offered
@@ -247,6 +256,7 @@ mute-turns es seen.Stop h f = (refl, unhalted es (course es f.0) f.1.0.living f.
 mute-turns es other h f = clash false h refl
 
 -- the end by Stop leaves it less to do
-pub mute-left : {J : Type 0} (acts : List (Act J)) (client was is : Bool) → was ≡ false → is ≡ true → acts ≡ end_acts client → (if is then 0 else 3) + length acts < (if was then 0 else 3)
+pub mute-left : {J : Type 0} (acts : List (Act J)) (client was is : Bool) → was ≡ false → is ≡ true → acts ≡ end_acts client
+    → (if is then 0 else 3) + length acts < (if was then 0 else 3)
 mute-left acts true was is p q e = rw (p, q, e) (lit< tt)
 mute-left acts false was is p q e = rw (p, q, e) (lit< tt)

@@ -1,4 +1,4 @@
--- The order of the turns of all strands: no line of waiting turns is in it, only which turn made which.
+-- The order of the turns of all strands. No queue of all is in it: only that turns come in the order in which they were asked for.
 use Rattle.std.specs.Prelude.{◌≡◌, ℕ, Bool, true, false, not, ◌||◌, ◌&&◌, List, [], ◌∷◌, ◌++◌, if◌then◌else◌}
 use Rattle.resty_base.specs.declared.names.StrandId.{StrandId}
 use Rattle.resty_world.specs.Ids.{same_strand}
@@ -25,7 +25,7 @@ abbrev pub only : {A : Type 0} → StrandId → List (StrandId × A) → List A
 only s [] = []
 only s (x ∷ xs) = if same_strand s x.0 then x.1 ∷ only s xs else only s xs
 
--- threads that are put in line, and those that run, the oldest first
+-- the threads that acts put into the run queue, and those that run, the oldest first
 abbrev pub readied : {J : Type 0} → List (Act J) → List ℕ
 readied [] = []
 readied (act.Ready k ∷ acts) = k ∷ readied acts
@@ -45,7 +45,7 @@ all_run [] = []
 all_run (Of s x n ∷ ms) = all_run ms ++ with_strand s (run_of x)
 all_run (m ∷ ms) = all_run ms
 
--- places that are put in line, and those whose offer begins, the oldest first
+-- the places that acts put into the offer queue, and those whose offer begins, the oldest first
 abbrev pub offer_of : {J : Type 0} → Action J → List Place
 offer_of (Offered q) = q ∷ []
 offer_of x = []
@@ -66,7 +66,7 @@ begun_before t s [] = false
 begun_before t s (Of r (Began now begin) n ∷ ms) = if same_strand s r then has_begun t ms else begun_before t s ms
 begun_before t s (m ∷ ms) = begun_before t s ms
 
--- the newest turn of all is an offer
+-- the action begins an offer, or runs a thread
 abbrev pub is_offer : {J : Type 0} → Action J → Bool
 is_offer (Offered q) = true
 is_offer x = false
@@ -75,6 +75,7 @@ abbrev pub is_run : {J : Type 0} → Action J → Bool
 is_run (Ran k) = true
 is_run x = false
 
+-- the newest turn of all is an offer
 abbrev pub offers_last : {J : Type 0} → List (GlobalAction J) → Bool
 offers_last [] = false
 offers_last (Of s x n ∷ ms) = is_offer x || (not (is_run x || is_event x) && offers_last ms)
@@ -86,7 +87,7 @@ was_touched s [] = false
 was_touched s (Of t x n ∷ ms) = same_strand s t || (not (is_given x) && was_touched s ms)
 was_touched s (m ∷ ms) = not (has_given m) && was_touched s ms
 
--- no turn of a living strand is under way; no place, no thread of one is in line
+-- no turn of a living strand is under way; no living strand has a place, or a thread, in its queue
 abbrev pub NoneUnderWay : {J : Type 0} → Behavior J → List (GlobalAction J) → Type 0
 NoneUnderWay b ms = (s : StrandId) → lives (projection s ms) ≡ true → IsBetween b (projection s ms)
 
@@ -96,14 +97,14 @@ NoPlaceInLine b ms = (s : StrandId) → lives (projection s ms) ≡ true → to_
 abbrev pub NoThreadInLine : {J : Type 0} → Behavior J → List (GlobalAction J) → Type 0
 NoThreadInLine b ms = (s : StrandId) → lives (projection s ms) ≡ true → waiting b (projection s ms) ≡ []
 
--- of what was put in line by all, this is the first that still waits: whatever a living strand has in line was put there no earlier
+-- of all that was queued, this is the first that still waits: whatever a living strand has in its queue was put there no earlier
 pub record IsFirstWaiting {A : Type 0} (line : List (StrandId × A)) (waits : StrandId → List A → Type 0) (s : StrandId) (x : A) : Type 0 where
   pub before : List (StrandId × A)
   pub after : List (StrandId × A)
   pub here : line ≡ before ++ (s, x) ∷ after
   pub first : (t : StrandId) (xs : List A) → waits t xs → IsSubsequence xs (only t ((s, x) ∷ after))
 
--- a living strand's threads, and its places, in line
+-- the run queue, and the offer queue, of a living strand
 abbrev pub HasThreads : {J : Type 0} → Behavior J → List (GlobalAction J) → StrandId → List ℕ → Type 0
 HasThreads b ms t xs = (lives (projection t ms) ≡ true) × (xs ≡ waiting b (projection t ms))
 
@@ -114,8 +115,9 @@ HasPlaces b ms t xs = (lives (projection t ms) ≡ true) × (xs ≡ to_offer b (
 abbrev pub IsFirstToEnd : {J : Type 0} → StrandId → List (GlobalAction J) → Type 0
 IsFirstToEnd s ms = (t : StrandId) → begun_before t s ms ≡ true → lives (projection t ms) ≡ true → is_stopping (projection t ms) ≡ false
 
--- Turns don't interleave. A thread runs, after offers, only where no place is left in line, and a place is offered, after
--- runs and events, only where no thread is; of those in line each is the first. Stop ends strands in the order of their beginning. A strand is dropped at an event of its own
+-- Turns don't interleave. After offers a thread runs only where no place is left in an offer queue, and after runs and events a
+-- place is offered only where no thread is left in a run queue; each is the first that waits. Stop ends strands in the order of
+-- their beginning. A strand is dropped at an event of its own
 abbrev pub TurnsInOrder : {J : Type 0} → Behavior J → List (GlobalAction J) → Type 0
 TurnsInOrder b [] = Unit {0}
 TurnsInOrder b (Of s (Ran k) n ∷ ms) =
@@ -129,7 +131,7 @@ TurnsInOrder b (Of s Halted n ∷ ms) = TurnsInOrder b ms × NoneUnderWay b ms �
 TurnsInOrder b (Of s Dropped n ∷ ms) = TurnsInOrder b ms × (was_touched s ms ≡ true)
 TurnsInOrder b (m ∷ ms) = TurnsInOrder b ms
 
--- The turns are in order: runs in the order in which their threads were put in line, offers likewise by their places.
+-- The turns are in order: threads run in the order in which they were queued, and places are offered likewise.
 -- (Deadlines have no order among strands yet.)
 pub record IsOrdered {J : Type 0} (b : Behavior J) (ms : List (GlobalAction J)) : Type 0 where
   pub runs : IsSubsequence (all_run ms) (all_readied b ms)

@@ -1,8 +1,10 @@
+//! The contract that a strand meets: its calls, each a turn of its behavior, and the laws of what it does.
+
 use crate::{Acts, Answer, Place, Seen, Start};
 use resty_base::Ms;
 use std::alloc::{AllocError, Global};
 
-/// One strand, by what it does: nothing of how it does it. After want of memory it may only be dropped.
+/// One strand, by what it does and not by how it does it. Once it ran out of memory it may only be dropped.
 pub trait StrandContract: Drop {
     ghost use Rattle.std.specs.Prelude.{◌≡◌, ◌<◌, ◌≤◌, List, ℕ, [], ◌∷◌, IfOk, true, false, Some, ◌+◌, length};
     ghost use Rattle.strand_contract.specs.declared.turns.Place.{Place};
@@ -12,7 +14,7 @@ pub trait StrandContract: Drop {
     ghost use Rattle.strand_contract.specs.Behaviors.{Behavior};
     ghost use Rattle.strand_contract.specs.Laws.{action_of, answered, is_own_turn, is_still, IsLastAct};
 
-    /// What all strands of one server stand on.
+    /// What all strands of one server share.
     type Site: Drop;
 
     /// How a timer job starts.
@@ -57,7 +59,7 @@ pub trait StrandContract: Drop {
             × (acts.items ≡ (behavior site.now).acts (Did (action_of (behavior site.now) es seen) ∷ es))) }
         ensures left { is_own_turn seen ≡ true → IfOk result (λ acts. left self.new + length acts.items < left self.old) };
 
-    /// Goes on with the answer to the act that awaits it.
+    /// Takes the turn that begins with the answer to the act that awaits it.
     fn answer(
         &mut self,
         alloc: Global,
@@ -72,7 +74,7 @@ pub trait StrandContract: Drop {
             stands site.now self.new (Did x ∷ es) × (acts.items ≡ (behavior site.now).acts (Did x ∷ es))) }
         ensures left { IfOk result (λ acts. left self.new + length acts.items < left self.old) };
 
-    /// The piece that is offered next at the place, while it lives. It takes no memory.
+    /// The piece that is offered next at the place, while the strand lives. It takes no memory.
     fn queued(&self, site: &Self::Site, place: Place) -> &[u8]
         ensures { (es : List (LocalAction Self.Job)) → stands site.now self.now es → IsExecution (behavior site.now) es → lives es ≡ true
             → todo (behavior site.now) es ≡ [] → result.now ≡ piece (behavior site.now) place es };

@@ -1,5 +1,4 @@
-//! What the engine knows of a strand: the turns that it takes, as a function of what happened to it, and the calls by
-//! which it takes them. The definitions of executions, of their histories and of their order stand beside it.
+//! What the engine knows of a strand: the turns that it takes, as a function of what happened to it, and the calls by which it takes them.
 #![tactic(auto)]
 
 mod contract;

@@ -1,17 +1,19 @@
+//! A strand that does nothing, and waits for Stop: it meets the contract, so the contract's clauses can be met.
+
 use crate::{Act, Acts, Answer, Place, Seen, Start, StrandContract};
 use resty_base::Ms;
 use std::alloc::{AllocError, Global};
 use std::collections::VecDeque;
 
-/// The site of strands that answer nothing.
+/// The site of strands that do nothing.
 #[derive(Debug, Drop)]
 pub struct MuteSite;
 
-/// It asks for no timer job.
+/// No strand of this site asks for a timer job.
 #[derive(Debug, Drop)]
 pub struct NoJob;
 
-/// A strand that answers nothing: it waits for Stop.
+/// A strand that does nothing: it waits for Stop.
 #[derive(Debug, Drop)]
 pub struct Mute {
     is_client: bool,

@@ -1,3 +1,5 @@
+//! What a strand is shown, what it asks for, and the answers that it gets.
+
 use resty_base::{Boxed, Bytes, DictAnswer, DictCall, Ms};
 use resty_world::TimerAnswer;
 use std::collections::VecDeque;
@@ -9,7 +11,7 @@ pub enum Start<J> {
     Job(u64, J),
 }
 
-/// The client's line, or a socket by the strand's own count from 0.
+/// A strand's client connection, or one of its sockets, by the strand's own count from 0.
 #[derive(Clone, Copy, Debug, PartialEq, Eq, PartialOrd, Ord, Hash)]
 pub enum Place {
     Client,
@@ -41,13 +43,13 @@ pub enum Seen {
     Stop,
 }
 
-/// What a turn asks of whoever holds the strand.
+/// What a turn asks of the engine that holds the strand.
 #[derive(Debug, Drop)]
 pub enum Act<J> {
     /// Puts a thread at the end of the run queue, or takes out one that ended while it was there.
     Ready(u32),
     Unready(u32),
-    /// Puts a place at the end of the offer list.
+    /// Puts a place at the end of the offer queue.
     Offer(Place),
     /// Arms the deadline of a number at a moment, or cancels it.
     Arm(u32, Ms),
@@ -60,7 +62,7 @@ pub enum Act<J> {
     /// Takes an idle socket of that key from the pool.
     Take(Bytes),
     Dial([u8; 4], u16),
-    /// Gives a socket to the pool: its key, how long it may be idle, the pool's size.
+    /// Gives a socket to the pool: its number, its key, how long it may be idle, the pool's size.
     Keep(u32, Bytes, Ms, u32),
     /// Asks for a timer job at a moment.
     Timer(Ms, J),

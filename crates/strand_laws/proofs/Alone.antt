@@ -48,7 +48,7 @@ module _ {J : Type 0} where
         inr (subst (λ (x : LocalAction J). GoesOn (x ∷ es) ds) same v.2)
   ]
 
-  -- where something came from outside on both sides, both stood at the same place
+  -- where something came from outside on both sides, both stood at the same point
   both : (b : Behavior J) → IsQuiet b → (x y : LocalAction J) (ds es : List (LocalAction J)) → was_dropped (x ∷ ds) ≡ false → was_dropped (y ∷ es) ≡ false → IsExecution b (x ∷ ds) → IsExecution b (y ∷ es)
       → is_own x ≡ false → is_own y ≡ false → GoesOn ds es ⊎ GoesOn es ds → ds ≡ es
   both b quiet x y ds es v w f g p q (inl r) = stays b (still-given b quiet ds x f.0 (tail-whole x ds v) f.1 p (head-whole x ds v)) g.0 r
@@ -101,9 +101,9 @@ module _ {J : Type 0} where
   one-at-rest b ds es quiet f g v w s t e = one b quiet ds es f g v w (still-at-rest b quiet ds f v s) (still-at-rest b quiet es g w t) e
 
   -- what goes on from it has it at its end
-  behind : {ds es : List (LocalAction J)} → GoesOn ds es → (later : List (LocalAction J)) × (es ≡ later ++ ds)
-  behind here = ([], refl)
-  behind (more {a = a} own r) = let w = behind r in (a ∷ w.0, ap (λ l. a ∷ l) w.1)
+  extends : {ds es : List (LocalAction J)} → GoesOn ds es → (later : List (LocalAction J)) × (es ≡ later ++ ds)
+  extends here = ([], refl)
+  extends (more {a = a} own r) = let w = extends r in (a ∷ w.0, ap (λ l. a ∷ l) w.1)
 
   less : (b : Behavior J) (a : LocalAction J) (es : List (LocalAction J)) (g : Input J) (rest : List (Input J)) → Means b es a → gave (a ∷ es) ≡ g ∷ rest → gave es ≡ rest
   less b a es g rest m e = let lists : m.input ∷ gave es ≡ g ∷ rest = ap (λ l. l ++ gave es) (sym m.is) ∙ e in cc
@@ -120,7 +120,7 @@ module _ {J : Type 0} where
       (λ own.
       let tails : gave es ≡ gave ds = less b y es g (gave ds) (means b es y h.1 own (head-whole y es w)) e in
       elim (same-gave (length ds + length es) b quiet ds es (omega arith) f h.0 v (tail-whole y es w) (sym tails)) [
-        | inl r ↦ behind r
+        | inl r ↦ extends r
         | inr r ↦ ([], stays b (still-given b quiet es y h.0 (tail-whole y es w) h.1 own (head-whole y es w)) f r)
       ]))
   longer b quiet g (k ∷ rest) ds (y ∷ es) f h v w e = onto y ds es (by_test (is_own y)
@@ -130,7 +130,7 @@ module _ {J : Type 0} where
   pub beginning : (b : Behavior J) (ds es : List (LocalAction J)) (rest : List (Input J)) → IsQuiet b → IsExecution b ds → IsExecution b es → was_dropped ds ≡ false → was_dropped es ≡ false
       → IsQuiescent b es → gave es ≡ rest ++ gave ds → (later : List (LocalAction J)) × (es ≡ later ++ ds)
   beginning b ds es [] quiet f g v w rests e = elim (same-gave (length ds + length es) b quiet ds es (omega arith) f g v w (sym e)) [
-    | inl r ↦ behind r
+    | inl r ↦ extends r
     | inr r ↦ ([], stays b (still-at-rest b quiet es g w rests) f r)
   ]
   beginning b ds es (k ∷ rest) quiet f g v w rests e = longer b quiet k rest ds es f g v w e

@@ -1,4 +1,4 @@
--- What came from outside tells the action, where the action may come.
+-- What came from outside determines the action, where the action may come.
 use Rattle.std.proofs.Common.{◌≡◌, ℕ, Bool, true, false, List, [], ◌∷◌, ◌++◌, Option, Some, None, length, take, refl, sym, ap, ◌∙◌}
 use Rattle.std.proofs.Math.Seq.{take-append_seam}
 use Rattle.strand_contract.specs.declared.turns.Act.{Act}

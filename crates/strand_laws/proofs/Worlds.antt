@@ -1,4 +1,4 @@
--- A part tells what came from outside, and is determined by it.
+-- A part shows what came from outside, and is determined by it.
 use Rattle.std.proofs.Common.{◌≡◌, false, List, [], ◌∷◌, ◌++◌, refl, ap, sym, ◌∙◌}
 use Rattle.resty_base.specs.declared.names.StrandId.{StrandId}
 use Rattle.strand_contract.specs.Actions.{Dropped, Ran, Offered, Due, Halted, Gone, LocalAction, Told, Did, GlobalAction}

@@ -10,7 +10,7 @@ EndsByClosings (Did Dropped ∷ es) = lives es ≡ true
 EndsByClosings (Did (Closed q) ∷ es) = (is_open q es ≡ true) × EndsByClosings es
 EndsByClosings (a ∷ es) = ⊥
 
--- what a strand that was dropped did before
+-- what a dropped strand did before that
 abbrev pub before_drop : {J : Type 0} → List (LocalAction J) → List (LocalAction J)
 before_drop [] = []
 before_drop (Did Dropped ∷ es) = es

@@ -1,22 +1,24 @@
--- What came to a strand from outside.
+-- What came to a strand from outside, read off its actions.
 use Rattle.std.specs.Prelude.{ℕ, Bool, List, [], ◌∷◌, ◌++◌, length}
 use Rattle.strand_contract.specs.declared.turns.Start.{Start}
 use Rattle.strand_contract.specs.declared.turns.Seen.{Seen}
 use Rattle.strand_contract.specs.declared.turns.Seen.TheVariants as seen
 use Rattle.strand_contract.specs.declared.turns.Answer.{Answer}
 use Rattle.strand_contract.specs.declared.turns.Answer.TheVariants as answer
-use Rattle.strand_contract.specs.Actions.{Word, Began, Came, Ended, Broke, TakesAgain, Connected, Refused, Put, Later, Lost, Logged, Asked, Took, Dialled, Kept, Timed, LocalAction, Told, Did}
+use Rattle.strand_contract.specs.Actions.{Word, LocalAction, Told, Did, Began, Came, Ended, Broke, TakesAgain, Connected, Refused}
+use Rattle.strand_contract.specs.Actions.{Put, Later, Lost, Logged, Asked, Took, Dialled, Kept, Timed}
 
+-- one thing that came from outside
 pub data Input (J : Type 0) : Type 0 where
   -- its start, with the moment at which it begins
   Starts : (now : ℕ) (start : Start J) → Input J
-  -- what every living strand is told
+  -- what all living strands are told
   Hears : (w : Word) → Input J
   -- what came at its places; of a write, only how much was taken
   Sees : (shown : Seen) → Input J
   -- whether a log line was written
   Wrote : (done : Bool) → Input J
-  -- what its calls were answered
+  -- the answer to one of its calls
   Learns : (given : Answer) → Input J
 
 -- the input of an action, none where the strand does it by itself

@@ -1,2 +1,2 @@
-pub mod Drops
 pub mod Inputs
+pub mod Drops

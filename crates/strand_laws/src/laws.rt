@@ -1,4 +1,4 @@
-//! What came to a strand from outside decides what it does, whatever all others do.
+//! Laws: what came to a strand from outside decides what it does, whatever all others do.
 
 ghost use Rattle.std.specs.Prelude.{◌≡◌, ℕ, List, ◌∷◌, ◌++◌, Option, true, false};
 ghost use Rattle.resty_base.specs.declared.names.StrandId.{StrandId};

@@ -13,6 +13,7 @@ use Rattle.strand.specs.Configuration.{IsSite}
 use Rattle.strand.specs.Examples.{hi}
 use Rattle.strand_laws.proofs.OwnSteps.{clash, by_test}
 use Rattle.worked_example.specs.Exchange.{request, at_second_1, arrives, asks, lines}
+use Rattle.worked_example.specs.Texts.{configuration_text, schedule_text}
 
 -- each line fits what stands before it
 same-line : (before : List SchedLine) (l next : SchedLine) → Fits before l → Some l ≡ Some next → Fits before next
@@ -44,9 +45,9 @@ fit (suc (suc zero)) next e = same-line (line.Given at_second_1 ∷ line.Given a
 fit (suc (suc (suc zero))) next e = same-line (line.Given at_second_1 ∷ line.Given arrives ∷ line.Given asks ∷ []) (line.Given event.Stop) next (record { goes_on = refl; ranged = tt; follows = tt }) e
 fit (suc (suc (suc (suc i)))) next e = absurd (cc)
 
-pub schedule : IsRead (codes "moment 1000\narrive c1\nbytes c1 \"GET / HTTP/1.0\\r\\n\\r\\n\"\nstop\n") lines
+pub schedule : IsRead schedule_text lines
 unfolding digits
 schedule = record { whole = refl; made = record { fit = fit; before = line.Given at_second_1 ∷ line.Given arrives ∷ line.Given asks ∷ []; ends = refl } }
 
-pub site : IsSite (codes "http { server { listen 8080;\nlocation / { content_by_lua_block { ngx.say(\"hi\") } }\n} }\n") hi
+pub site : IsSite configuration_text hi
 site = (codes "hi" ∷ [], record { some = lit< tt; few = lit< tt; literal = refl; short = lit< tt }, refl, refl)

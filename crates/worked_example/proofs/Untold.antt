@@ -44,7 +44,7 @@ up_to_request = line.Given at_second_1 ∷ line.Given arrives ∷ line.Given ask
 abbrev arrived : List Entry
 arrived = entry.Given arrives ∷ entry.Given at_second_1 ∷ []
 
--- the client has arrived and its line is open: the request is given
+-- the client has arrived and its connection is open: the request is given
 request-given : (h : List Entry) → given_by h (line.Given asks) ++ h ≡ arrived → ⊥
 request-given h made = by_test (is_skipped h (line.Given asks))
     (λ on.
@@ -67,7 +67,7 @@ asked-open schedule (Listened port failed ∷ steps) right passed made = asked-o
 asked-open schedule (AskedAtBadLine ∷ steps) right passed made = asked-open schedule steps right.0 passed made
 asked-open schedule (AskedAtEnd ∷ steps) right passed made = asked-open schedule steps right.0 passed made
 
--- Stop comes behind the request
+-- Stop comes after the request
 stopped : (schedule : List SchedLine) (steps : List Step) → AreSteps schedule steps → lines_of steps ≡ lines → history_of steps ≡ entry.Given event.Stop ∷ arrived → ⊥
 stopped schedule [] right passed made = cc
 stopped schedule (Passed l ∷ steps) right passed made =
@@ -83,7 +83,7 @@ stopped schedule (Listened port failed ∷ steps) right passed made = stopped sc
 stopped schedule (AskedAtBadLine ∷ steps) right passed made = stopped schedule steps right.0 passed made
 stopped schedule (AskedAtEnd ∷ steps) right passed made = stopped schedule steps right.0 passed made
 
--- the line is closed last, which is no event
+-- the connection is closed last, which is no event
 closed : (schedule : List SchedLine) (steps : List Step) → AreSteps schedule steps → lines_of steps ≡ lines → history_of steps ≡ not_asked → ⊥
 closed schedule [] right passed made = cc
 closed schedule (Passed l ∷ steps) right passed made =

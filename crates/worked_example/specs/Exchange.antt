@@ -1,4 +1,4 @@
--- One exchange: a client asks, gets its reply, and its line is closed. Histories and executions have the newest first.
+-- One exchange: a client asks, gets its reply, and its connection is closed. Histories and executions have the newest first.
 use Rattle.std.specs.Prelude.{ℕ, List, [], ◌∷◌, None, codes}
 use Rattle.resty_base.specs.declared.names.Id.TheVariants as id
 use Rattle.resty_base.specs.declared.names.StrandId.TheVariants as strand
@@ -14,10 +14,11 @@ use Rattle.strand_contract.specs.Actions.{Moment, Stop, Action, Began, Came, Ran
 use Rattle.strand.specs.declared.strand.NoJob.{NoJob}
 use Rattle.strand.specs.Examples.{hi_reply}
 
+-- what the client asks
 abbrev pub request : List ℕ
 request = codes "GET / HTTP/1.0\r\n\r\n"
 
--- what is given
+-- what is given: a moment, the client's arrival and its request
 abbrev pub at_second_1 : Event
 at_second_1 = event.Moment (record { 0 = 1_000 })
 

@@ -8,6 +8,7 @@ use Rattle.resty_world.specs.declared.entry.Entry.{Entry}
 use Rattle.resty_world.specs.declared.entry.Entry.TheVariants as entry
 use Rattle.strand_contract.specs.Actions.{GlobalAction}
 use Rattle.strand_contract.specs.Executions.{external, IsLawful, IsPlain}
+use Rattle.strand_contract.specs.Order.{IsOrdered}
 use Rattle.strand.specs.declared.strand.NoJob.{NoJob}
 use Rattle.strand.specs.Examples.{hi, hi_reply}
 use Rattle.strand.specs.Literal.{literal_behavior}
@@ -26,15 +27,23 @@ put_after_stop = entry.Close (id.Conn 1) ∷ entry.Put (id.Conn 1) hi_reply ∷ 
 abbrev pub date_late : List Entry
 date_late = entry.Given event.Stop ∷ entry.Close (id.Conn 1) ∷ entry.Put (id.Conn 1) (reply hi 2_000) ∷ asked
 
--- the line isn't closed behind the reply
+-- the connection isn't closed after the reply
 abbrev pub no_close : List Entry
 no_close = entry.Given event.Stop ∷ entry.Put (id.Conn 1) hi_reply ∷ asked
 
 -- no execution that is lawful and plain has this history
 abbrev pub HasNoExecution : List Entry → Type 0
-HasNoExecution h = (ms : List (GlobalAction NoJob)) → IsLawful (literal_behavior hi) ms → IsPlain (literal_behavior hi) ms → external (literal_behavior hi) ms ≡ h → ⊥
+HasNoExecution h =
+    (ms : List (GlobalAction NoJob)) → IsLawful (literal_behavior hi) ms → IsPlain (literal_behavior hi) ms
+    → external (literal_behavior hi) ms ≡ h → ⊥
 
--- the request is never given, though the line is open: Stop closes it
+-- none that is lawful, plain and ordered has it
+abbrev pub HasNoOrderedExecution : List Entry → Type 0
+HasNoOrderedExecution h =
+    (ms : List (GlobalAction NoJob)) → IsLawful (literal_behavior hi) ms → IsPlain (literal_behavior hi) ms → IsOrdered (literal_behavior hi) ms
+    → external (literal_behavior hi) ms ≡ h → ⊥
+
+-- the request is never given, though the connection is open: Stop closes it
 abbrev pub not_asked : List Entry
 not_asked = entry.Close (id.Conn 1) ∷ entry.Given event.Stop ∷ entry.Given arrives ∷ entry.Given at_second_1 ∷ []
 

@@ -1,5 +1,5 @@
 use Rattle.std.proofs.Common.{sym}
-use Rattle.strand.specs.Heads.{end-rests}
+use Rattle.strand.specs.HeadLaws.{end-rests}
 use Rattle.strand.proofs.head.Head.read.Goals as goal
 
 pub returns-then-is_whole : goal.returns-then-is_whole

@@ -2,7 +2,7 @@ use Rattle.std.proofs.Common.{◌≡◌, ◌∙◌, ap, length, take, List, ℕ}
 use Rattle.std.proofs.lemmas.Slice.Eq.{bytes_eq-Decides}
 use Rattle.std.proofs.Math.Seq.{take-append_seam}
 use Rattle.strand_contract.specs.ClientOnly.{clash}
-use Rattle.strand.proofs.configuration.behind.Goals as goal
+use Rattle.strand.proofs.configuration.after.Goals as goal
 
 pub returns-else-eq : goal.returns-else-eq
 returns-else-eq c = λ (rest : List ℕ) e.
