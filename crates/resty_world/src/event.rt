@@ -1,4 +1,5 @@
 use resty_base::{Bytes, Id, Ms};
+use std::alloc::AllocError;
 
 /// What a world gives: an event from `Arrive` to `Stop`, or why there is none.
 #[derive(Debug, PartialEq, Eq, Drop)]
@@ -27,4 +28,28 @@ pub enum Event {
     BadLine(u64),
     /// Want of memory.
     Memory,
+}
+
+impl Event {
+    ghost use Rattle.std.specs.Prelude.{◌≡◌, IfOk};
+
+    /// The same event, whose bytes are shared.
+    pub fn shared(&self) -> Result<Event, AllocError>
+        ensures { IfOk result (λ copy. copy ≡ self.now) }
+    {
+        Ok(match self {
+            Event::Arrive(number) => Event::Arrive(*number),
+            Event::Bytes(id, bytes) => Event::Bytes(*id, bytes.clone()?),
+            Event::Ended(id) => Event::Ended(*id),
+            Event::Broken(id) => Event::Broken(*id),
+            Event::Ready(id) => Event::Ready(*id),
+            Event::Dialled(number) => Event::Dialled(*number),
+            Event::Refused(number) => Event::Refused(*number),
+            Event::Moment(now) => Event::Moment(*now),
+            Event::Stop => Event::Stop,
+            Event::Fault => Event::Fault,
+            Event::BadLine(number) => Event::BadLine(*number),
+            Event::Memory => Event::Memory,
+        })
+    }
 }
