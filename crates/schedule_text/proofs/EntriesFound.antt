@@ -25,9 +25,9 @@ use Rattle.resty_world.specs.declared.event.Event.TheVariants as event
 use Rattle.schedule_text.specs.EntryTexts.{answer_text, call_text, closed_text, entry_text, host_text, name_text, socket_or, taken_text, timer_text, value_text}
 use Rattle.schedule_text.specs.Found.{after_quoted, begins, integer_in, limited, number_in, octet_in, port_in, rest_of, small_in, socket_in, strand_in, unquoted, word_of}
 use Rattle.schedule_text.specs.FoundEntries.{empty, after_call, after_incr, after_store, after_value, answer_in, call_of, dial_in, dict_in, entry_in, host_in, incr_in, keep_in, kept_in, log_in, names_in, plain_value, store_in, take_in, taken_in, timer_answer_in, timer_in, value_in}
-use Rattle.schedule_text.specs.Ranges.{IsAnswer, IsBytes, IsCall, IsEntry, IsHost, IsInteger, IsNumber, IsPlace, IsSmall, IsSocket, IsStrand, IsTaken, IsTimer, IsValue, IsZone, is_zone_byte}
+use Rattle.schedule_text.specs.Ranges.{IsAnswer, IsBytes, IsCall, IsEntry, IsHost, IsInteger, IsNumber, IsOrdinal, IsSmall, IsSocket, IsStrand, IsTaken, IsTimer, IsValue, IsZone, is_zone_byte}
 use Rattle.schedule_text.specs.Words.{quoted, strand_text}
-use Rattle.schedule_text.proofs.Finding.{after-found, before-split, before-whole, behind-found, behind-split, behind-whole, decimal-lacks, id-found, integer-begins, integer-found, integer-lacks, lacks-append, number-found, strand-found, strand-lacks, unquoted-all, unquoted-found}
+use Rattle.schedule_text.proofs.Finding.{after-found, before-split, before-whole, after_quotes-found, after-split, after-whole, decimal-lacks, id-found, integer-begins, integer-found, integer-lacks, lacks-append, number-found, strand-found, strand-lacks, unquoted-all, unquoted-found}
 use Rattle.schedule_text.proofs.LinesFound.{event-found, id-and-bytes}
 use Rattle.schedule_text.proofs.ByTest.{apart-false, lacks}
 
@@ -59,9 +59,9 @@ octets-found a b c d small_a small_b small_c small_d =
     let out_c : lacks 46 z ≡ true = decimal-lacks 46 c (omega arith) (omega arith) in
     let parts : host_text (a ∷ b ∷ c ∷ d ∷ []) ≡ x ++ 46 ∷ (y ++ 46 ∷ (z ++ 46 ∷ w)) = simp append_assoc in
     ap host_in parts
-    ∙ rw (before-split 46 x (y ++ 46 ∷ (z ++ 46 ∷ w)) out_a, behind-split 46 x (y ++ 46 ∷ (z ++ 46 ∷ w)) out_a)
-    (rw (before-split 46 y (z ++ 46 ∷ w) out_b, behind-split 46 y (z ++ 46 ∷ w) out_b)
-    (rw (before-split 46 z w out_c, behind-split 46 z w out_c)
+    ∙ rw (before-split 46 x (y ++ 46 ∷ (z ++ 46 ∷ w)) out_a, after-split 46 x (y ++ 46 ∷ (z ++ 46 ∷ w)) out_a)
+    (rw (before-split 46 y (z ++ 46 ∷ w) out_b, after-split 46 y (z ++ 46 ∷ w) out_b)
+    (rw (before-split 46 z w out_c, after-split 46 z w out_c)
     (rw (octet-found a small_a, octet-found b small_b, octet-found c small_c, octet-found d small_d) refl)))
 
 pub host-found : (host : List ℕ) → IsHost host → host_in (host_text host) ≡ host
@@ -92,11 +92,11 @@ host-lacks k (a ∷ b ∷ c ∷ d ∷ e ∷ others) low is = absurd (let f = is.
 
 -- ---- parts of a text
 
--- the first word and what stands behind it
+-- the first word and what stands after it
 first-found : {A : Type 0} (made : List ℕ → List ℕ → A) (w rest : List ℕ) → lacks 32 w ≡ true → made (word_of (w ++ 32 ∷ rest)) (rest_of (w ++ 32 ∷ rest)) ≡ made w rest
-first-found made w rest out = ap (λ x. made x (rest_of (w ++ 32 ∷ rest))) (before-split 32 w rest out) ∙ ap (made w) (behind-split 32 w rest out)
+first-found made w rest out = ap (λ x. made x (rest_of (w ++ 32 ∷ rest))) (before-split 32 w rest out) ∙ ap (made w) (after-split 32 w rest out)
 
--- quoted bytes and what stands behind them
+-- quoted bytes and what stands after them
 key-found : {A : Type 0} (made : List ℕ → List ℕ → A) (key rest : List ℕ) → IsBytes key → made (unquoted (quoted key ++ 32 ∷ rest)) (after_quoted (quoted key ++ 32 ∷ rest)) ≡ made key rest
 key-found made key rest small = ap (λ x. made x (after_quoted (quoted key ++ 32 ∷ rest))) (unquoted-found key (32 ∷ rest) small) ∙ ap (made key) (after-found key rest small)
 
@@ -119,7 +119,7 @@ integer-goes_on : (d : ℕ) (n : ℤ) (rest : List ℕ) → NoDigit d → 45 ≢
 integer-goes_on d (pos n) rest other minus within = number-goes_on d n rest other within
 integer-goes_on d (negsuc n) rest other minus within = apart-false 45 d minus
 
--- a value is found with what stands behind it
+-- a value is found with what stands after it
 pub record ValueFound (v : DictValue) (rest : List ℕ) : Type 0 where
   pub found : value_in (value_text v ++ 32 ∷ rest) ≡ v
   pub after : after_value (value_text v ++ 32 ∷ rest) ≡ rest
@@ -133,14 +133,14 @@ value-found (value.Number n) rest fits =
     let plain = integer-goes_on 34 n (32 ∷ rest) (λ c least most same. absurd (omega arith)) (λ same. absurd (omega arith)) fits in
     let out = integer-lacks 32 n (omega arith) fits in record {
       found = rw (plain, before-split 32 (signed_decimal n) rest out) (number-value n fits);
-      after = rw (plain, behind-split 32 (signed_decimal n) rest out) refl;
+      after = rw (plain, after-split 32 (signed_decimal n) rest out) refl;
     }
 value-found (value.Truth true) rest fits = record { found = refl; after = refl }
 value-found (value.Truth false) rest fits = record { found = refl; after = refl }
 
 -- ---- calls of a dictionary
 
--- what stands behind the key of a call that stores
+-- what stands after the key of a call that stores
 abbrev stored : DictValue → ℕ → ℕ → List ℕ → List ℕ
 stored v ttl flags rest = value_text v ++ 32 ∷ (decimal ttl ++ 32 ∷ (decimal flags ++ 32 ∷ rest))
 
@@ -160,20 +160,20 @@ store-after : (v : DictValue) (ttl flags : ℕ) (rest : List ℕ) → IsValue v 
 store-after v ttl flags rest good long small =
     let last = decimal flags ++ 32 ∷ rest in
     ap (λ t. rest_of (rest_of t)) (value-found v (decimal ttl ++ 32 ∷ last) good).after
-    ∙ ap rest_of (behind-split 32 (decimal ttl) last (decimal-lacks 32 ttl (omega arith) long))
-    ∙ behind-split 32 (decimal flags) rest (decimal-lacks 32 flags (omega arith) (omega arith))
+    ∙ ap rest_of (after-split 32 (decimal ttl) last (decimal-lacks 32 ttl (omega arith) long))
+    ∙ after-split 32 (decimal flags) rest (decimal-lacks 32 flags (omega arith) (omega arith))
 
--- a call is found with what stands behind it
+-- a call is found with what stands after it
 pub record CallFound (c : DictCall) (rest : List ℕ) : Type 0 where
   pub found : call_of (word_of (call_text c ++ 32 ∷ rest)) (rest_of (call_text c ++ 32 ∷ rest)) ≡ c
   pub after : after_call (word_of (call_text c ++ 32 ∷ rest)) (rest_of (call_text c ++ 32 ∷ rest)) ≡ rest
 
--- the text of a call that stores, behind its word
+-- the text of a call that stores, after its word
 store-parts : (key : List ℕ) (v : DictValue) (ttl flags : ℕ) (rest : List ℕ)
     → ((((((quoted key ++ codes " ") ++ value_text v) ++ codes " ") ++ decimal ttl) ++ codes " ") ++ decimal flags) ++ 32 ∷ rest ≡ quoted key ++ 32 ∷ stored v ttl flags rest
 store-parts key v ttl flags rest = simp append_assoc
 
--- how a call that stores is found behind its word
+-- how a call that stores is found after its word
 stored-found : (h : How) (key : List ℕ) (v : DictValue) (ttl flags : ℕ) (text rest : List ℕ) → IsBytes key → IsValue v → IsNumber ttl → IsSmall flags
     → text ≡ quoted key ++ 32 ∷ stored v ttl flags rest → (store_in h (unquoted text) (after_quoted text) ≡ call.Store h key v ttl flags) × (after_store (after_quoted text) ≡ rest)
 stored-found h key v ttl flags text rest each good long small is = (
@@ -185,14 +185,14 @@ incr-none : (key : List ℕ) (by : ℤ) (ttl : ℕ) (text rest : List ℕ) → I
     → (incr_in (unquoted text) (after_quoted text) ≡ call.Incr key by None ttl) × (after_incr (after_quoted text) ≡ rest)
 incr-none key by ttl text rest each good none is =
     let last = codes "none" ++ 32 ∷ rest in
-    let behind_key = signed_decimal by ++ 32 ∷ last in
+    let after_key = signed_decimal by ++ 32 ∷ last in
     let out = integer-lacks 32 by (omega arith) good in (
-      ap (λ t. incr_in (unquoted t) (after_quoted t)) is ∙ key-found incr_in key behind_key each
+      ap (λ t. incr_in (unquoted t) (after_quoted t)) is ∙ key-found incr_in key after_key each
           ∙ first-found (λ x t. if begins 110 t then call.Incr key (integer_in x) None 0
           else call.Incr key (integer_in x) (Some (integer_in (word_of t))) (number_in (word_of (rest_of t)))) (signed_decimal by) last out
           ∙ ap (λ n. call.Incr key n None 0) (integer-found by good) ∙ ap (λ n. call.Incr key by None n) (sym none),
-      ap (λ t. after_incr (after_quoted t)) is ∙ ap after_incr (after-found key behind_key each)
-          ∙ ap (λ t. if begins 110 t then rest_of t else rest_of (rest_of t)) (behind-split 32 (signed_decimal by) last out),
+      ap (λ t. after_incr (after_quoted t)) is ∙ ap after_incr (after-found key after_key each)
+          ∙ ap (λ t. if begins 110 t then rest_of t else rest_of (rest_of t)) (after-split 32 (signed_decimal by) last out),
     )
 
 incr-some : (key : List ℕ) (by first : ℤ) (ttl : ℕ) (text rest : List ℕ) → IsBytes key → IsInteger by → IsInteger first → IsNumber ttl
@@ -201,12 +201,12 @@ incr-some : (key : List ℕ) (by first : ℤ) (ttl : ℕ) (text rest : List ℕ)
 incr-some key by first ttl text rest each good fine long is =
     let last = decimal ttl ++ 32 ∷ rest in
     let more = signed_decimal first ++ 32 ∷ last in
-    let behind_key = signed_decimal by ++ 32 ∷ more in
+    let after_key = signed_decimal by ++ 32 ∷ more in
     let out = integer-lacks 32 by (omega arith) good in
     let out_first = integer-lacks 32 first (omega arith) fine in
     let out_ttl = decimal-lacks 32 ttl (omega arith) long in
     let other = integer-goes_on 110 first (32 ∷ last) (λ c least most same. absurd (omega arith)) (λ same. absurd (omega arith)) fine in (
-      ap (λ t. incr_in (unquoted t) (after_quoted t)) is ∙ key-found incr_in key behind_key each
+      ap (λ t. incr_in (unquoted t) (after_quoted t)) is ∙ key-found incr_in key after_key each
           ∙ first-found (λ x t. if begins 110 t then call.Incr key (integer_in x) None 0
           else call.Incr key (integer_in x) (Some (integer_in (word_of t))) (number_in (word_of (rest_of t)))) (signed_decimal by) more out
           ∙ ap (λ b. if b then call.Incr key (integer_in (signed_decimal by)) None 0
@@ -216,10 +216,10 @@ incr-some key by first ttl text rest each good fine long is =
           ∙ ap (λ n. call.Incr key by (Some n) (number_in (word_of last))) (integer-found first fine)
           ∙ ap (λ w. call.Incr key by (Some first) (number_in w)) (before-split 32 (decimal ttl) rest out_ttl)
           ∙ ap (λ n. call.Incr key by (Some first) n) (number-found ttl long),
-      ap (λ t. after_incr (after_quoted t)) is ∙ ap after_incr (after-found key behind_key each)
-          ∙ ap (λ t. if begins 110 t then rest_of t else rest_of (rest_of t)) (behind-split 32 (signed_decimal by) more out)
+      ap (λ t. after_incr (after_quoted t)) is ∙ ap after_incr (after-found key after_key each)
+          ∙ ap (λ t. if begins 110 t then rest_of t else rest_of (rest_of t)) (after-split 32 (signed_decimal by) more out)
           ∙ ap (λ b. if b then rest_of more else rest_of (rest_of more)) other
-          ∙ ap rest_of (behind-split 32 (signed_decimal first) last out_first) ∙ behind-split 32 (decimal ttl) rest out_ttl,
+          ∙ ap rest_of (after-split 32 (signed_decimal first) last out_first) ∙ after-split 32 (decimal ttl) rest out_ttl,
     )
 
 incr-parts : (key by first ttl rest : List ℕ)
@@ -230,7 +230,7 @@ counted-found : {A : Type 0} (made : ℕ → A) (n : ℕ) (rest : List ℕ) → 
 counted-found made n rest small = ap (λ w. made (small_in w)) (before-split 32 (decimal n) rest (decimal-lacks 32 n (omega arith) (omega arith))) ∙ ap made (small-found n small)
 
 counted-after : (n : ℕ) (rest : List ℕ) → IsSmall n → rest_of (decimal n ++ 32 ∷ rest) ≡ rest
-counted-after n rest small = behind-split 32 (decimal n) rest (decimal-lacks 32 n (omega arith) (omega arith))
+counted-after n rest small = after-split 32 (decimal n) rest (decimal-lacks 32 n (omega arith) (omega arith))
 
 counted-goes_on : (n : ℕ) (rest : List ℕ) → IsSmall n → begins 34 (decimal n ++ 32 ∷ rest) ≡ false
 counted-goes_on n rest small = number-goes_on 34 n (32 ∷ rest) (λ c least most same. absurd (omega arith)) (omega arith)
@@ -272,7 +272,7 @@ names-found (suc most) (n ∷ names) few small =
     let others = flat_map name_text names in
     let each = small 0 n (omega arith) in
     ap (λ x. x ∷ names_in most (after_quoted (quoted n ++ others))) (unquoted-found n others each)
-    ∙ ap (λ t. n ∷ names_in most (drop 1 t)) (behind-found n others each)
+    ∙ ap (λ t. n ∷ names_in most (drop 1 t)) (after_quotes-found n others each)
     ∙ ap (λ ns. n ∷ ns) (names-found most names (omega arith) (λ k e within. small (suc k) e (omega arith)))
 
 names-short : (names : List (List ℕ)) → length names ≤ length (flat_map name_text names)
@@ -292,7 +292,7 @@ number-answer n false fits =
     let out = integer-lacks 32 n (omega arith) fits in
     ap (λ t. answer.Number (integer_in (word_of t)) (not (empty (rest_of t)))) (append-nil (signed_decimal n))
     ∙ ap (λ x. answer.Number (integer_in x) (not (empty (rest_of (signed_decimal n))))) (before-whole 32 (signed_decimal n) out)
-    ∙ ap (λ t. answer.Number (integer_in (signed_decimal n)) (not (empty t))) (behind-whole 32 (signed_decimal n) out)
+    ∙ ap (λ t. answer.Number (integer_in (signed_decimal n)) (not (empty t))) (after-whole 32 (signed_decimal n) out)
     ∙ ap (λ m. answer.Number m false) (integer-found n fits)
 
 found-answer : (v : DictValue) (flags : ℕ) → IsValue v → IsSmall flags → answer_in (answer_text (answer.Found v flags)) ≡ answer.Found v flags
@@ -326,7 +326,7 @@ zone-lacks d (b ∷ zone) other each =
     rw (apart-false b d (λ same. let here = each 0 b (omega arith) in absurd (let e : true ≡ false = sym here ∙ ap is_zone_byte same ∙ other in cc)))
     (zone-lacks d zone other (λ k e within. each (suc k) e (omega arith)))
 
--- the strand that an entry names, and what stands behind it
+-- the strand that an entry names, and what stands after it
 who-found : (made : StrandId → List ℕ → Entry) (who : StrandId) (text rest : List ℕ) → IsStrand who → text ≡ strand_text who ++ 32 ∷ rest
     → made (strand_in (word_of text)) (rest_of text) ≡ made who rest
 who-found made who text rest named is =
@@ -382,7 +382,7 @@ kept-found who n key idle size closed long small named =
     ∙ ap (λ m. entry.Keep who n key record { 0 = idle } m (socket_in (rest_of (rest_of last)))) (small-found size small)
     ∙ ap (entry.Keep who n key record { 0 = idle } size) (closed-found closed named)
 
-keep-found : (who : StrandId) (n : ℕ) (key rest : List ℕ) → IsPlace n → IsBytes key → keep_in who (115 ∷ (decimal n ++ 32 ∷ (quoted key ++ 32 ∷ rest))) ≡ kept_in who n key rest
+keep-found : (who : StrandId) (n : ℕ) (key rest : List ℕ) → IsOrdinal n → IsBytes key → keep_in who (115 ∷ (decimal n ++ 32 ∷ (quoted key ++ 32 ∷ rest))) ≡ kept_in who n key rest
 keep-found who n key rest named each =
     first-found (λ x t. kept_in who (number_in x) (unquoted t) (after_quoted t)) (decimal n) (quoted key ++ 32 ∷ rest) (decimal-lacks 32 n (omega arith) named.1)
     ∙ ap (λ m. kept_in who m (unquoted (quoted key ++ 32 ∷ rest)) (after_quoted (quoted key ++ 32 ∷ rest))) (number-found n named.1)

@@ -94,7 +94,7 @@ timer-lacks (timer.Job n) fits = decimal-lacks 10 n (omega arith) fits.1
 timer-lacks timer.Full fits = refl
 timer-lacks timer.Exiting fits = refl
 
--- a strand, and what stands behind it
+-- a strand, and what stands after it
 who-lacks : (who : StrandId) (rest : List ℕ) → IsStrand who → lacks 10 rest ≡ true → lacks 10 (strand_text who ++ 32 ∷ rest) ≡ true
 who-lacks who rest named out = both-lack (strand_text who) (32 ∷ rest) (strand-lacks 10 who (omega arith) named) out
 

@@ -1,4 +1,4 @@
--- What is found at a place of a text that was put together from words.
+-- What is found within a text that was put together from words.
 use Rattle.std.proofs.Common.{◌≡◌, ◌≢◌, ℕ, zero, suc, ◌-◌, ◌/◌, ◌%◌, ◌^◌, ◌<◌, ◌≤◌, ℤ, pos, negsuc, true, false, ◌&&◌, eqb, leb, ltb, nat_eq, List, [], ◌∷◌, ◌++◌, All, Option, Some, None, MatchOption, length, drop, unwrap_or, refl, sym, ap, ◌∙◌, append_assoc, append-nil, arith}
 use Rattle.std.specs.Bool.{if◌then◌else◌}
 use Rattle.std.specs.Cmp.Lexicographic.{pointwise, bytes_decides}
@@ -14,7 +14,7 @@ use Rattle.resty_base.specs.declared.names.Id.{Id}
 use Rattle.resty_base.specs.declared.names.Id.TheVariants as id
 use Rattle.resty_base.specs.declared.names.StrandId.{StrandId}
 use Rattle.resty_base.specs.declared.names.StrandId.TheVariants as strand
-use Rattle.schedule_text.specs.Found.{before, behind, begins, byte_in, bytes_behind, hex_value, id_in, integer_in, number_in, spelling_length, strand_in, text_behind, unquoted, behind_quoted, after_quoted}
+use Rattle.schedule_text.specs.Found.{before, after, begins, byte_in, spelled_after, hex_value, id_in, integer_in, number_in, spelling_length, strand_in, rest_after, unquoted, after_quotes, after_quoted}
 use Rattle.schedule_text.specs.Ranges.{IsBytes, IsId, IsInteger, IsNumber, IsStrand, last_number}
 use Rattle.schedule_text.specs.Words.{hex_digit, id_text, quoted, quoted_byte, strand_text}
 use Rattle.schedule_text.proofs.ByTest.{by_test, same-true, apart-false, lacks}
@@ -35,19 +35,19 @@ pub before-split : (d : ℕ) (xs ys : List ℕ) → lacks d xs ≡ true → befo
 before-split d [] ys out = rw (same-true d) refl
 before-split d (x ∷ xs) ys out = rw (first-lacks d x xs out) (ap (λ t. x ∷ t) (before-split d xs ys (rest-lacks d x xs out)))
 
-pub behind-split : (d : ℕ) (xs ys : List ℕ) → lacks d xs ≡ true → behind d (xs ++ d ∷ ys) ≡ ys
-behind-split d [] ys out = rw (same-true d) refl
-behind-split d (x ∷ xs) ys out = rw (first-lacks d x xs out) (behind-split d xs ys (rest-lacks d x xs out))
+pub after-split : (d : ℕ) (xs ys : List ℕ) → lacks d xs ≡ true → after d (xs ++ d ∷ ys) ≡ ys
+after-split d [] ys out = rw (same-true d) refl
+after-split d (x ∷ xs) ys out = rw (first-lacks d x xs out) (after-split d xs ys (rest-lacks d x xs out))
 
 pub before-whole : (d : ℕ) (xs : List ℕ) → lacks d xs ≡ true → before d xs ≡ xs
 before-whole d [] out = refl
 before-whole d (x ∷ xs) out = rw (first-lacks d x xs out) (ap (λ t. x ∷ t) (before-whole d xs (rest-lacks d x xs out)))
 
-pub behind-whole : (d : ℕ) (xs : List ℕ) → lacks d xs ≡ true → behind d xs ≡ []
-behind-whole d [] out = refl
-behind-whole d (x ∷ xs) out = rw (first-lacks d x xs out) (behind-whole d xs (rest-lacks d x xs out))
+pub after-whole : (d : ℕ) (xs : List ℕ) → lacks d xs ≡ true → after d xs ≡ []
+after-whole d [] out = refl
+after-whole d (x ∷ xs) out = rw (first-lacks d x xs out) (after-whole d xs (rest-lacks d x xs out))
 
--- the test and the fact that it tells
+-- the test and the fact that it says
 pub lacks-tells : (d : ℕ) (xs : List ℕ) → lacks d xs ≡ true → All (λ b. b ≢ d) xs
 lacks-tells d [] out = λ k e within. absurd (omega arith)
 lacks-tells d (x ∷ xs) out = lack-cons d x xs (eqb-false x d (first-lacks d x xs out)) (lacks-tells d xs (rest-lacks d x xs out))
@@ -64,12 +64,12 @@ pub lacks-append : (d : ℕ) (xs ys : List ℕ) → lacks d (xs ++ ys) ≡ lacks
 lacks-append d [] ys = refl
 lacks-append d (x ∷ xs) ys = by_test (eqb x d) (λ same. rw same refl) (λ other. rw other (lacks-append d xs ys))
 
--- what `split` answers
+-- what `split` returns
 pub before-parts : (d : ℕ) (text xs ys : List ℕ) → text ≡ xs ++ d ∷ ys → All (λ b. b ≢ d) xs → xs ≡ before d text
 before-parts d text xs ys is out = sym (ap (before d) is ∙ before-split d xs ys (tells-lacks d xs out))
 
-pub behind-parts : (d : ℕ) (text xs ys : List ℕ) → text ≡ xs ++ d ∷ ys → All (λ b. b ≢ d) xs → ys ≡ behind d text
-behind-parts d text xs ys is out = sym (ap (behind d) is ∙ behind-split d xs ys (tells-lacks d xs out))
+pub after-parts : (d : ℕ) (text xs ys : List ℕ) → text ≡ xs ++ d ∷ ys → All (λ b. b ≢ d) xs → ys ≡ after d text
+after-parts d text xs ys is out = sym (ap (after d) is ∙ after-split d xs ys (tells-lacks d xs out))
 
 drop-whole : (xs : List ℕ) → drop (length xs) xs ≡ []
 drop-whole [] = refl
@@ -78,8 +78,8 @@ drop-whole (x ∷ xs) = drop-whole xs
 pub before-none : (d : ℕ) (text : List ℕ) → All (λ b. b ≢ d) text → text ≡ before d text
 before-none d text out = sym (before-whole d text (tells-lacks d text out))
 
-pub behind-none : (d : ℕ) (text : List ℕ) → All (λ b. b ≢ d) text → drop (length text) text ≡ behind d text
-behind-none d text out = drop-whole text ∙ sym (behind-whole d text (tells-lacks d text out))
+pub after-none : (d : ℕ) (text : List ℕ) → All (λ b. b ≢ d) text → drop (length text) text ≡ after d text
+after-none d text out = drop-whole text ∙ sym (after-whole d text (tells-lacks d text out))
 
 -- ---- numbers
 
@@ -124,7 +124,7 @@ no-number text none =
     (λ other. rw (small, other) refl))
     (λ large. rw large refl)
 
--- what `number_in` answers
+-- what `number_in` returns
 pub number_read : (text : List ℕ) (o : Option ℕ) → MatchOption o ((n : ℕ) → n < 2 ^ 64 → text ≢ decimal n) (λ n. (text ≡ decimal n) × (n < 2 ^ 64)) → unwrap_or o 0 ≡ number_in text
 number_read text None none = sym (no-number text none)
 number_read text (Some n) known = sym (ap number_in known.0 ∙ number-of-decimal n known.1)
@@ -173,72 +173,72 @@ strand-lacks d (strand.Job n) small within = rw (apart-false 116 d (λ same. ome
 hex_value-digit : (d : ℕ) → d < 16 → hex_value (hex_digit d) ≡ d
 hex_value-digit d small = grind (arith, nat_tests)
 
--- a spelling is read as its byte, and the reading goes on behind it
+-- a spelling is read as its byte, and the reading goes on after it
 pub record Spells (x : ℕ) (rest : List ℕ) : Type 0 where
-  pub bytes : bytes_behind 0 (quoted_byte x ++ rest) ≡ x ∷ bytes_behind 0 rest
-  pub text : text_behind 0 (quoted_byte x ++ rest) ≡ text_behind 0 rest
+  pub bytes : spelled_after 0 (quoted_byte x ++ rest) ≡ x ∷ spelled_after 0 rest
+  pub text : rest_after 0 (quoted_byte x ++ rest) ≡ rest_after 0 rest
 
 spells : (x : ℕ) (rest : List ℕ) → x < 256 → Spells x rest
 spells x rest small = by_test (eqb x 34)
-    (λ is. let e = sym (eqb-true x 34 is) in record { bytes = rw is (ap (λ z. z ∷ bytes_behind 0 rest) e); text = rw is refl })
+    (λ is. let e = sym (eqb-true x 34 is) in record { bytes = rw is (ap (λ z. z ∷ spelled_after 0 rest) e); text = rw is refl })
     (λ not_quote. by_test (eqb x 92)
-    (λ is. let e = sym (eqb-true x 92 is) in record { bytes = rw (not_quote, is) (ap (λ z. z ∷ bytes_behind 0 rest) e); text = rw (not_quote, is) refl })
+    (λ is. let e = sym (eqb-true x 92 is) in record { bytes = rw (not_quote, is) (ap (λ z. z ∷ spelled_after 0 rest) e); text = rw (not_quote, is) refl })
     (λ not_slash. by_test (eqb x 10)
     (λ is. let e = sym (eqb-true x 10 is) in record {
-      bytes = rw (not_quote, not_slash, is) (ap (λ z. z ∷ bytes_behind 0 rest) e);
+      bytes = rw (not_quote, not_slash, is) (ap (λ z. z ∷ spelled_after 0 rest) e);
       text = rw (not_quote, not_slash, is) refl;
     })
     (λ not_lf. by_test (eqb x 13)
     (λ is. let e = sym (eqb-true x 13 is) in record {
-      bytes = rw (not_quote, not_slash, not_lf, is) (ap (λ z. z ∷ bytes_behind 0 rest) e);
+      bytes = rw (not_quote, not_slash, not_lf, is) (ap (λ z. z ∷ spelled_after 0 rest) e);
       text = rw (not_quote, not_slash, not_lf, is) refl;
     })
     (λ not_cr. by_test (leb 32 x && leb x 126)
     (λ is. record { bytes = simp (not_quote, not_slash, not_lf, not_cr, is); text = simp (not_quote, not_slash, not_lf, not_cr, is) })
     (λ other. record {
       bytes = rw (not_quote, not_slash, not_lf, not_cr, other)
-          (ap (λ z. z ∷ bytes_behind 0 rest) (rw (hex_value-digit (x / 16) (omega arith), hex_value-digit (x % 16) (omega arith)) (omega arith)));
+          (ap (λ z. z ∷ spelled_after 0 rest) (rw (hex_value-digit (x / 16) (omega arith), hex_value-digit (x % 16) (omega arith)) (omega arith)));
       text = rw (not_quote, not_slash, not_lf, not_cr, other) refl;
     })))))
 
--- the bytes of a text up to its second quote, and what stands behind that
+-- the bytes of a text up to its second quote, and what stands after that
 all-spelled : (bytes rest : List ℕ) → IsBytes bytes
-    → (bytes_behind 0 (flat_map quoted_byte bytes ++ 34 ∷ rest) ≡ bytes) × (text_behind 0 (flat_map quoted_byte bytes ++ 34 ∷ rest) ≡ rest)
+    → (spelled_after 0 (flat_map quoted_byte bytes ++ 34 ∷ rest) ≡ bytes) × (rest_after 0 (flat_map quoted_byte bytes ++ 34 ∷ rest) ≡ rest)
 all-spelled [] rest small = (refl, refl)
 all-spelled (x ∷ xs) rest small =
     let first = spells x (flat_map quoted_byte xs ++ 34 ∷ rest) (small 0 x (omega arith)) in
     let others = all-spelled xs rest (λ k e within. small (suc k) e (omega arith)) in
     let whole = append_assoc (quoted_byte x) (flat_map quoted_byte xs) (34 ∷ rest) in
-    (ap (bytes_behind 0) whole ∙ first.bytes ∙ ap (λ t. x ∷ t) others.0, ap (text_behind 0) whole ∙ first.text ∙ others.1)
+    (ap (spelled_after 0) whole ∙ first.bytes ∙ ap (λ t. x ∷ t) others.0, ap (rest_after 0) whole ∙ first.text ∙ others.1)
 
 quoted-whole : (bytes rest : List ℕ) → quoted bytes ++ rest ≡ 34 ∷ (flat_map quoted_byte bytes ++ 34 ∷ rest)
 quoted-whole bytes rest = ap (λ t. 34 ∷ t) (append_assoc (flat_map quoted_byte bytes) (34 ∷ []) rest)
 
 pub unquoted-found : (bytes rest : List ℕ) → IsBytes bytes → unquoted (quoted bytes ++ rest) ≡ bytes
 unfolding unquoted
-unquoted-found bytes rest small = ap (bytes_behind 1) (quoted-whole bytes rest) ∙ (all-spelled bytes rest small).0
+unquoted-found bytes rest small = ap (spelled_after 1) (quoted-whole bytes rest) ∙ (all-spelled bytes rest small).0
 
-pub behind-found : (bytes rest : List ℕ) → IsBytes bytes → behind_quoted (quoted bytes ++ rest) ≡ rest
-unfolding behind_quoted
-behind-found bytes rest small = ap (text_behind 1) (quoted-whole bytes rest) ∙ (all-spelled bytes rest small).1
+pub after_quotes-found : (bytes rest : List ℕ) → IsBytes bytes → after_quotes (quoted bytes ++ rest) ≡ rest
+unfolding after_quotes
+after_quotes-found bytes rest small = ap (rest_after 1) (quoted-whole bytes rest) ∙ (all-spelled bytes rest small).1
 
 pub unquoted-all : (bytes : List ℕ) → IsBytes bytes → unquoted (quoted bytes) ≡ bytes
 unquoted-all bytes small = ap unquoted (sym (append-nil (quoted bytes))) ∙ unquoted-found bytes [] small
 
-pub behind-all : (bytes : List ℕ) → IsBytes bytes → behind_quoted (quoted bytes) ≡ []
-behind-all bytes small = ap behind_quoted (sym (append-nil (quoted bytes))) ∙ behind-found bytes [] small
+pub after_quotes-all : (bytes : List ℕ) → IsBytes bytes → after_quotes (quoted bytes) ≡ []
+after_quotes-all bytes small = ap after_quotes (sym (append-nil (quoted bytes))) ∙ after_quotes-found bytes [] small
 
 pub after-found : (bytes rest : List ℕ) → IsBytes bytes → after_quoted (quoted bytes ++ 32 ∷ rest) ≡ rest
-after-found bytes rest small = ap (drop 1) (behind-found bytes (32 ∷ rest) small)
+after-found bytes rest small = ap (drop 1) (after_quotes-found bytes (32 ∷ rest) small)
 
 -- ---- the loop over quoted bytes
 
-bytes-drop : (k : ℕ) (xs : List ℕ) → bytes_behind k xs ≡ bytes_behind 0 (drop k xs)
+bytes-drop : (k : ℕ) (xs : List ℕ) → spelled_after k xs ≡ spelled_after 0 (drop k xs)
 bytes-drop zero xs = refl
 bytes-drop (suc k) [] = refl
 bytes-drop (suc k) (x ∷ xs) = bytes-drop k xs
 
-text-drop : (k : ℕ) (xs : List ℕ) → text_behind k xs ≡ text_behind 0 (drop k xs)
+text-drop : (k : ℕ) (xs : List ℕ) → rest_after k xs ≡ rest_after 0 (drop k xs)
 text-drop zero xs = refl
 text-drop (suc k) [] = refl
 text-drop (suc k) (x ∷ xs) = text-drop k xs
@@ -253,14 +253,14 @@ drop-before (suc n) b rest some = ap (λ m. drop m rest) (let e : n ≡ suc n - 
 
 -- how far the loop came: these bytes, and the text that is left
 pub record Unquotes (text bytes rest : List ℕ) : Type 0 where
-  pub bytes_are : unquoted text ≡ bytes ++ bytes_behind 0 rest
-  pub behind_is : behind_quoted text ≡ text_behind 0 rest
+  pub bytes_are : unquoted text ≡ bytes ++ spelled_after 0 rest
+  pub after_is : after_quotes text ≡ rest_after 0 rest
 
 pub unquotes-start : (text rest : List ℕ) → rest ≡ drop 1 text → Unquotes text [] rest
-unfolding unquoted behind_quoted
+unfolding unquoted after_quotes
 unquotes-start text rest is = record {
-  bytes_are = bytes-drop 1 text ∙ ap (bytes_behind 0) (sym is);
-  behind_is = text-drop 1 text ∙ ap (text_behind 0) (sym is);
+  bytes_are = bytes-drop 1 text ∙ ap (spelled_after 0) (sym is);
+  after_is = text-drop 1 text ∙ ap (rest_after 0) (sym is);
 }
 
 pub unquotes-more : (text bytes more rest after : List ℕ) (x : ℕ) → Unquotes text bytes rest → 0 < length rest → begins 34 rest ≡ false → x ≡ byte_in rest
@@ -268,26 +268,26 @@ pub unquotes-more : (text bytes more rest after : List ℕ) (x : ℕ) → Unquot
 unquotes-more text bytes more [] after x before some going spelled pushed is = absurd (omega arith)
 unquotes-more text bytes more (b ∷ rest) after x before some going spelled pushed is =
     let left : after ≡ drop (spelling_length (b ∷ rest) - 1) rest = is ∙ drop-before (spelling_length (b ∷ rest)) b rest (spelling-some (b ∷ rest)) in
-    let step : bytes_behind 0 (b ∷ rest) ≡ x ∷ bytes_behind 0 after =
-    ap (λ t. if t then [] else byte_in (b ∷ rest) ∷ bytes_behind (spelling_length (b ∷ rest) - 1) rest) going
-    ∙ ap (λ z. z ∷ bytes_behind (spelling_length (b ∷ rest) - 1) rest) (sym spelled)
-    ∙ ap (λ t. x ∷ t) (bytes-drop (spelling_length (b ∷ rest) - 1) rest ∙ ap (bytes_behind 0) (sym left)) in
+    let step : spelled_after 0 (b ∷ rest) ≡ x ∷ spelled_after 0 after =
+    ap (λ t. if t then [] else byte_in (b ∷ rest) ∷ spelled_after (spelling_length (b ∷ rest) - 1) rest) going
+    ∙ ap (λ z. z ∷ spelled_after (spelling_length (b ∷ rest) - 1) rest) (sym spelled)
+    ∙ ap (λ t. x ∷ t) (bytes-drop (spelling_length (b ∷ rest) - 1) rest ∙ ap (spelled_after 0) (sym left)) in
     record {
-      bytes_are = before.bytes_are ∙ ap (λ t. bytes ++ t) step ∙ sym (append_assoc bytes (x ∷ []) (bytes_behind 0 after)) ∙ ap (λ t. t ++ bytes_behind 0 after) (sym pushed);
-      behind_is = before.behind_is ∙ ap (λ t. if t then rest else text_behind (spelling_length (b ∷ rest) - 1) rest) going
-          ∙ text-drop (spelling_length (b ∷ rest) - 1) rest ∙ ap (text_behind 0) (sym left);
+      bytes_are = before.bytes_are ∙ ap (λ t. bytes ++ t) step ∙ sym (append_assoc bytes (x ∷ []) (spelled_after 0 after)) ∙ ap (λ t. t ++ spelled_after 0 after) (sym pushed);
+      after_is = before.after_is ∙ ap (λ t. if t then rest else rest_after (spelling_length (b ∷ rest) - 1) rest) going
+          ∙ text-drop (spelling_length (b ∷ rest) - 1) rest ∙ ap (rest_after 0) (sym left);
     }
 
 -- the reading is over at the end of the text
-pub unquotes-end : (text bytes rest : List ℕ) → Unquotes text bytes rest → length rest ≡ 0 → (bytes ≡ unquoted text) × (drop 1 rest ≡ behind_quoted text)
-unquotes-end text bytes [] before none = (sym (before.bytes_are ∙ append-nil bytes), sym before.behind_is)
+pub unquotes-end : (text bytes rest : List ℕ) → Unquotes text bytes rest → length rest ≡ 0 → (bytes ≡ unquoted text) × (drop 1 rest ≡ after_quotes text)
+unquotes-end text bytes [] before none = (sym (before.bytes_are ∙ append-nil bytes), sym before.after_is)
 unquotes-end text bytes (b ∷ rest) before none = absurd (omega arith)
 
 -- and at a quote
-pub unquotes-quote : (text bytes rest : List ℕ) → Unquotes text bytes rest → begins 34 rest ≡ true → (bytes ≡ unquoted text) × (drop 1 rest ≡ behind_quoted text)
+pub unquotes-quote : (text bytes rest : List ℕ) → Unquotes text bytes rest → begins 34 rest ≡ true → (bytes ≡ unquoted text) × (drop 1 rest ≡ after_quotes text)
 unquotes-quote text bytes [] before quote = on-absurd quote
 unquotes-quote text bytes (b ∷ rest) before quote = (
   sym (before.bytes_are
-      ∙ ap (λ t. bytes ++ (if t then [] else byte_in (b ∷ rest) ∷ bytes_behind (spelling_length (b ∷ rest) - 1) rest)) quote ∙ append-nil bytes),
-  sym (before.behind_is ∙ ap (λ t. if t then rest else text_behind (spelling_length (b ∷ rest) - 1) rest) quote),
+      ∙ ap (λ t. bytes ++ (if t then [] else byte_in (b ∷ rest) ∷ spelled_after (spelling_length (b ∷ rest) - 1) rest)) quote ∙ append-nil bytes),
+  sym (before.after_is ∙ ap (λ t. if t then rest else rest_after (spelling_length (b ∷ rest) - 1) rest) quote),
 )

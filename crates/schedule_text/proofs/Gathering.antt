@@ -23,7 +23,7 @@ gathered-more history e lines more present now stopped ended before is_lines is_
 pub gathered-start : (lines : List SchedLine) → lines ≡ [] → Gathered (reverse (take 0 [])) lines 0 false
 gathered-start lines none = record { lines_are = none; present_is = refl; stopped_is = refl }
 
--- the entries up to a place, the newest first, with one more
+-- the entries up to an index, the newest first, with one more
 pub one-more : (xs : List Entry) (i : ℕ) (e : Entry) → i < length xs → e ≡ get_or xs i e → reverse (take (i + 1) xs) ≡ e ∷ reverse (take i xs)
 one-more xs i e within is =
     ap reverse (ap (λ n. take n xs) (let s : i + 1 ≡ suc i = omega arith in s) ∙ take-suc xs i e within) ∙ reverse-append (take i xs) (get_or xs i e ∷ [])

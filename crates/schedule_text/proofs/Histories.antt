@@ -59,9 +59,9 @@ came-unread text rest line after entries n came split out none = record {
   numbered = came.numbered;
   made = came.made;
   whole = came.whole;
-  unread = λ next behind fits is.
-      let ways = split-unique 10 line (entry_text next) after behind out (unbroken next fits)
-      (sym (append_assoc line (codes "\n") after) ∙ sym split ∙ is ∙ append_assoc (entry_text next) (codes "\n") behind) in
+  unread = λ next tail fits is.
+      let ways = split-unique 10 line (entry_text next) after tail out (unbroken next fits)
+      (sym (append_assoc line (codes "\n") after) ∙ sym split ∙ is ∙ append_assoc (entry_text next) (codes "\n") tail) in
       none next fits ways.0;
   some = λ empty. let e : [] ≡ line ++ codes "\n" ++ after = sym empty ∙ split in filled line after (sym e);
 }
@@ -78,11 +78,11 @@ came-unended text rest entries n came out some = record {
   numbered = came.numbered;
   made = came.made;
   whole = came.whole;
-  unread = λ next behind fits is. split-absent 10 (entry_text next) behind rest out (is ∙ append_assoc (entry_text next) (codes "\n") behind);
+  unread = λ next tail fits is. split-absent 10 (entry_text next) tail rest out (is ∙ append_assoc (entry_text next) (codes "\n") tail);
   some = some;
 }
 
--- what the end of the reading answers
+-- what the end of the reading returns
 pub came-finished : {H : Type 0} (entries_of : H → List Entry) (text rest : List ℕ) (entries : List Entry) (n : ℕ) (r : Result H SchedFault) → Came text entries rest n → Lacks 10 rest
     → MatchResult r (λ h. (rest ≡ []) × (entries_of h ≡ entries)) (λ f. (rest ≢ []) × (f ≡ fault.BadLine n)) → MatchResult r (λ h. IsHistoryOf text (entries_of h)) (IsHistoryFault text)
 came-finished entries_of text rest entries n (Ok h) came out known = subst (IsHistoryOf text) (sym known.1) (came-end text rest entries n came known.0)
@@ -94,7 +94,7 @@ filled : (line rest : List ℕ) → line ++ codes "\n" ++ rest ≡ [] → ⊥
 filled [] rest is = let e : 10 ∷ rest ≡ [] = is in cc
 filled (x ∷ line) rest is = let e : x ∷ (line ++ codes "\n" ++ rest) ≡ [] = is in cc
 
--- an entry, and what stands behind it, is known by the text
+-- an entry, and what stands after it, is known by the text
 next-alone : (e g : Entry) (t u : List ℕ) → IsEntry e → IsEntry g → entry_line e ++ t ≡ entry_line g ++ u → (e ≡ g) × (t ≡ u)
 next-alone e g t u fits fits_g is =
     let ways = split-unique 10 (entry_text e) (entry_text g) t u (unbroken e fits) (unbroken g fits_g)
@@ -132,7 +132,7 @@ history-alone h g all_h all_g is =
     let same = lines-alone (reverse h) (reverse g) (all-reverse h all_h) (all-reverse g all_g) lines in
     sym (reverse-reverse h) ∙ ap reverse same ∙ reverse-reverse g
 
--- where a text is that of a history, that history is the answer, unless memory is wanting
+-- where a text is that of a history, that history is returned, unless out of memory
 pub accepted : {H : Type 0} (entries_of : H → List Entry) (text : List ℕ) (r : Result H SchedFault) → MatchResult r (λ h. IsHistoryOf text (entries_of h)) (IsHistoryFault text) → (entries : List Entry)
     → IsHistoryOf text entries → MatchResult r (λ h. entries_of h ≡ entries) (λ f. f ≡ fault.Memory)
 accepted entries_of text (Ok h) read entries known = history-alone (entries_of h) entries read.made known.made (sym read.whole ∙ known.whole)

@@ -14,17 +14,17 @@ use Rattle.schedule_text.specs.FoundLines.{event_in, line_in, room_in}
 use Rattle.schedule_text.specs.LineTexts.{event_text, line_text}
 use Rattle.schedule_text.specs.Ranges.{IsEvent, IsId, IsBytes, IsLine}
 use Rattle.schedule_text.specs.Words.{hex_digit, id_text, quoted, quoted_byte}
-use Rattle.schedule_text.proofs.Finding.{before-split, behind-split, decimal-begins, decimal-lacks, id-found, id-lacks, lacks-append, number-found, unquoted-all}
+use Rattle.schedule_text.proofs.Finding.{before-split, after-split, decimal-begins, decimal-lacks, id-found, id-lacks, lacks-append, number-found, unquoted-all}
 use Rattle.schedule_text.proofs.ByTest.{apart-false, by_test, lacks}
 
--- the word before a space, and what stands behind it
+-- the word before a space, and what stands after it
 pub word-found : (w rest : List ℕ) → lacks 32 w ≡ true → word_of ((w ++ 32 ∷ []) ++ rest) ≡ w
 word-found w rest out = ap word_of (append_assoc w (32 ∷ []) rest) ∙ before-split 32 w rest out
 
 pub rest-found : (w rest : List ℕ) → lacks 32 w ≡ true → rest_of ((w ++ 32 ∷ []) ++ rest) ≡ rest
-rest-found w rest out = ap rest_of (append_assoc w (32 ∷ []) rest) ∙ behind-split 32 w rest out
+rest-found w rest out = ap rest_of (append_assoc w (32 ∷ []) rest) ∙ after-split 32 w rest out
 
--- an id and quoted bytes behind it
+-- an id and quoted bytes after it
 pub id-and-bytes : {A : Type 0} (made : Id → List ℕ → A) (i : Id) (bytes : List ℕ) → IsId i → IsBytes bytes
     → made (id_in (word_of ((id_text i ++ 32 ∷ []) ++ quoted bytes))) (unquoted (rest_of ((id_text i ++ 32 ∷ []) ++ quoted bytes))) ≡ made i bytes
 id-and-bytes made i bytes named small =

@@ -5,7 +5,7 @@ use Rattle.std.proofs.lemmas.List.Sums.{sum_by-append}
 use Rattle.resty_world.specs.declared.event.Event.TheVariants as event
 use Rattle.resty_world.specs.declared.schedule_line.SchedLine.{SchedLine}
 use Rattle.resty_world.specs.declared.schedule_line.SchedLine.TheVariants as line
-use Rattle.schedule_text.specs.Accepted.{IsRead, IsRefusedAt, IsFaultOf}
+use Rattle.schedule_text.specs.Accepted.{IsRead, IsRefusedAt, IsScheduleFault}
 use Rattle.schedule_text.specs.declared.fault.SchedFault.{SchedFault}
 use Rattle.schedule_text.specs.declared.fault.SchedFault.TheVariants as fault
 use Rattle.schedule_text.specs.Fitting.{Fits, IsSchedule}
@@ -21,7 +21,7 @@ use Rattle.schedule_text.proofs.Spelled.{line-alone}
 unbroken : (l : SchedLine) → IsLine l → Lacks 10 (line_text l)
 unbroken l fits = lacks-tells 10 (line_text l) (line-unbroken l fits)
 
--- a line, and what stands behind it, is known by the text
+-- a line, and what stands after it, is known by the text
 next-alone : (l m : SchedLine) (t u : List ℕ) → IsLine l → IsLine m
     → whole_line l ++ t ≡ whole_line m ++ u → (l ≡ m) × (t ≡ u)
 next-alone l m t u fits_l fits_m is =
@@ -29,7 +29,7 @@ next-alone l m t u fits_l fits_m is =
     (sym (append_assoc (line_text l) (codes "\n") t) ∙ is ∙ append_assoc (line_text m) (codes "\n") u) in
     (line-alone l m fits_l fits_m ways.0, ways.1)
 
--- each line fits what stands before it, from a place on
+-- each line fits what stands before it, from an index on
 abbrev pub FitsFrom : List SchedLine → List SchedLine → Type 0
 FitsFrom before lines = (i : ℕ) (next : SchedLine) → slice_get lines i ≡ Some next → Fits (before ++ take i lines) next
 
@@ -87,8 +87,8 @@ pub never-refused : (text : List ℕ) (lines : List SchedLine) (n : ℕ) → IsR
 never-refused text lines n known refused =
     unrefused [] refused.lines lines refused.rest refused.fit known.made.fit (sym refused.whole ∙ known.whole) refused.unread refused.unended (has-stop lines known.made)
 
--- where a text is that of a schedule, that schedule is the answer, unless memory is wanting
-pub accepted : (text : List ℕ) (r : Result (List SchedLine) SchedFault) → MatchResult r (IsRead text) (IsFaultOf text) → (lines : List SchedLine) → IsRead text lines
+-- where a text is that of a schedule, that schedule is returned, unless out of memory
+pub accepted : (text : List ℕ) (r : Result (List SchedLine) SchedFault) → MatchResult r (IsRead text) (IsScheduleFault text) → (lines : List SchedLine) → IsRead text lines
     → MatchResult r (λ s. s ≡ lines) (λ f. f ≡ fault.Memory)
 accepted text (Ok s) read lines known = lines-alone [] s lines read.made.fit known.made.fit (sym read.whole ∙ known.whole)
 accepted text (Err (fault.BadLine n)) refused lines known = absurd (never-refused text lines n known refused)

@@ -8,7 +8,7 @@ use Rattle.std.proofs.Math.Seq.{take-append_seam}
 use Rattle.resty_world.specs.declared.event.Event.TheVariants as event
 use Rattle.resty_world.specs.declared.schedule_line.SchedLine.{SchedLine}
 use Rattle.resty_world.specs.declared.schedule_line.SchedLine.TheVariants as line
-use Rattle.schedule_text.specs.Accepted.{IsRead, IsRefusedAt, IsFaultOf}
+use Rattle.schedule_text.specs.Accepted.{IsRead, IsRefusedAt, IsScheduleFault}
 use Rattle.schedule_text.specs.declared.fault.SchedFault.{SchedFault}
 use Rattle.schedule_text.specs.declared.fault.SchedFault.TheVariants as fault
 use Rattle.schedule_text.specs.Fitting.{Fits, AllFit}
@@ -29,7 +29,7 @@ pub record Reached (text : List ℕ) (lines : List SchedLine) (rest : List ℕ) 
 schedule_text-push : (lines : List SchedLine) (l : SchedLine) → schedule_text (lines ++ l ∷ []) ≡ schedule_text lines ++ whole_line l
 schedule_text-push lines l = flat_map-append whole_line lines (l ∷ []) ∙ ap (λ s. schedule_text lines ++ s) (append-nil (whole_line l))
 
--- a place within lines with one more is one of those before, or the last
+-- an index within lines with one more is one of those before, or the last
 slice_get-push : {A : Type 0} (xs : List A) (x y : A) (i : ℕ) → slice_get (xs ++ x ∷ []) i ≡ Some y → (i < length xs → slice_get xs i ≡ Some y) × (length xs ≤ i → (i ≡ length xs) × (x ≡ y))
 slice_get-push [] x y zero here = ((λ lt. absurd (omega arith)), (λ le. (refl, (let e : x ≡ y = cc in e))))
 slice_get-push [] x y (suc i) here = absurd (let e : None ≡ Some y = here in cc)
@@ -43,11 +43,11 @@ slice_get-push (z ∷ zs) x y (suc i) here =
 -- lines that fit, with one more that fits them
 fit-push : (lines : List SchedLine) (l : SchedLine) → AllFit lines → Fits lines l → AllFit (lines ++ l ∷ [])
 fit-push lines l fit next i y here =
-    let places = slice_get-push lines l y i here in
+    let ways = slice_get-push lines l y i here in
     by_order i (length lines)
-    (λ lt. rw (let le : i ≤ length lines = omega arith in take-append-le i lines (l ∷ []) le) (fit i y (places.0 lt)))
+    (λ lt. rw (let le : i ≤ length lines = omega arith in take-append-le i lines (l ∷ []) le) (fit i y (ways.0 lt)))
     (λ le.
-    let last = places.1 le in
+    let last = ways.1 le in
     subst (λ z. Fits (take i (lines ++ l ∷ [])) z) last.1
     (subst (λ ls. Fits ls l) (sym (take-append_seam lines (l ∷ [])) ∙ ap (λ n. take n (lines ++ l ∷ [])) (sym last.0)) next))
 
@@ -117,7 +117,7 @@ reached-over text rest line after lines more l n before split reads stops pushed
   numbered = numbered;
   fit = rw pushed (fit-push lines l before.fit record { goes_on = before.unended; ranged = reads.0; follows = reads.1 });
   whole = rw pushed (text-push text rest line after lines l before.whole split reads.2);
-  unread = λ next behind fits is.
+  unread = λ next tail fits is.
       let ended : stops_in more ≡ 1 = rw (pushed, stops_in-push lines l, stops) (omega (arith, before.unended)) in
       let none = fits.goes_on in absurd (omega arith);
   unended = λ none. absurd (some none);
@@ -132,9 +132,9 @@ reached-unread text rest line after lines n before split out none numbered = rec
   numbered = numbered;
   fit = before.fit;
   whole = before.whole;
-  unread = λ next behind fits is.
-      let ways = split-unique 10 line (line_text next) after behind out (lacks-tells 10 (line_text next) (line-unbroken next fits.ranged))
-      (sym (append_assoc line (codes "\n") after) ∙ sym split ∙ is ∙ append_assoc (line_text next) (codes "\n") behind) in
+  unread = λ next tail fits is.
+      let ways = split-unique 10 line (line_text next) after tail out (lacks-tells 10 (line_text next) (line-unbroken next fits.ranged))
+      (sym (append_assoc line (codes "\n") after) ∙ sym split ∙ is ∙ append_assoc (line_text next) (codes "\n") tail) in
       none next fits.ranged fits.follows ways.0;
   unended = λ empty. before.unended;
 }
@@ -147,13 +147,13 @@ reached-unended text rest lines n before out numbered = record {
   numbered = numbered;
   fit = before.fit;
   whole = before.whole;
-  unread = λ next behind fits is. split-absent 10 (line_text next) behind rest out (is ∙ append_assoc (line_text next) (codes "\n") behind);
+  unread = λ next tail fits is. split-absent 10 (line_text next) tail rest out (is ∙ append_assoc (line_text next) (codes "\n") tail);
   unended = λ empty. before.unended;
 }
 
--- what the end of the reading answers
+-- what the end of the reading returns
 pub finished : (text after : List ℕ) (more : List SchedLine) (r : Result (List SchedLine) SchedFault)
     → MatchResult r (λ s. (after ≡ []) × (s ≡ more)) (λ f. (after ≢ []) × (f ≡ fault.BadLine (length more + 1)))
-    → (after ≡ [] → IsRead text more) → (after ≢ [] → IsRefusedAt text (length more + 1)) → MatchResult r (IsRead text) (IsFaultOf text)
+    → (after ≡ [] → IsRead text more) → (after ≢ [] → IsRefusedAt text (length more + 1)) → MatchResult r (IsRead text) (IsScheduleFault text)
 finished text after more (Ok s) known read refused = subst (IsRead text) (sym known.1) (read known.0)
-finished text after more (Err f) known read refused = subst (IsFaultOf text) (sym known.1) (refused known.0)
+finished text after more (Err f) known read refused = subst (IsScheduleFault text) (sym known.1) (refused known.0)

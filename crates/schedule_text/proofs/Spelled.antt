@@ -1,5 +1,5 @@
 -- A text is that of the line, or of the entry, that is found in it, or of none.
-use Rattle.std.proofs.Common.{◌≡◌, ℕ, Bool, true, false, List, Option, Some, None, MatchOption, refl, sym, ap, subst, ◌∙◌}
+use Rattle.std.proofs.Common.{◌≡◌, ℕ, Bool, true, false, List, Option, Some, None, refl, sym, ap, subst, ◌∙◌}
 use Rattle.std.specs.Bool.{then_some}
 use Rattle.std.specs.Prelude.{◌↔◌, IsTrue}
 use Rattle.resty_world.specs.declared.entry.Entry.{Entry}
@@ -10,7 +10,7 @@ use Rattle.schedule_text.specs.FoundEntries.{entry_in}
 use Rattle.schedule_text.specs.FoundLines.{line_in}
 use Rattle.schedule_text.specs.LineTexts.{line_text}
 use Rattle.schedule_text.specs.Ranges.{IsEntry, IsLine}
-use Rattle.schedule_text.specs.Reading.{ReadsEntry, ReadsLine, ReadsNext}
+use Rattle.schedule_text.specs.Reading.{IsNextOf, ReadsEntry, ReadsLine, ReadsNext}
 use Rattle.schedule_text.proofs.EntriesFound.{entry-found}
 use Rattle.schedule_text.proofs.LinesFound.{line-found}
 
@@ -39,10 +39,11 @@ entry-read text found false is tells = λ next ranged same.
     clash (tells.1 (subst IsEntry (sym e) ranged, same ∙ ap entry_text (sym e)))
 
 -- what a line that was read is, where it may follow others
-pub next-read : (before : List SchedLine) (text : List ℕ) (read next : Option SchedLine) → ReadsLine text read → (read ≡ None → next ≡ None)
-    → ((l : SchedLine) → read ≡ Some l → MatchOption next (Follows before l → ⊥) (λ n. (n ≡ l) × Follows before n)) → ReadsNext before text next
-next-read before text None next none stays some = subst (ReadsNext before text) (sym (stays refl)) (λ l ranged follows is. none l ranged is)
-next-read before text (Some l) None reads stays some = λ n ranged follows is.
-    let same = line-alone n l ranged reads.0 (sym is ∙ reads.1) in some l refl (subst (Follows before) same follows)
-next-read before text (Some l) (Some n) reads stays some =
-    let known = some l refl in (subst IsLine (sym known.0) reads.0, known.1, reads.1 ∙ ap line_text (sym known.0))
+pub next-read : (before : List SchedLine) (text : List ℕ) (read next : Option SchedLine) → ReadsLine text read → IsNextOf before read next → ReadsNext before text next
+next-read before text None None none known = λ l ranged follows is. none l ranged is
+next-read before text None (Some n) none known = absurd (let e : None ≡ Some n = known.0 in cc)
+next-read before text (Some l) None reads known = λ n ranged follows is.
+    let same = line-alone n l ranged reads.0 (sym is ∙ reads.1) in known l refl (subst (Follows before) same follows)
+next-read before text (Some l) (Some n) reads known =
+    let same : n ≡ l = (let e : Some l ≡ Some n = known.0 in cc) in
+    (subst IsLine (sym same) reads.0, known.1, reads.1 ∙ ap line_text (sym same))

@@ -1,21 +1,5 @@
 -- Parts of texts.
-use Rattle.std.proofs.Common.{◌≡◌, ◌≢◌, ℕ, suc, ◌+◌, true, false, nat_eq, List, [], ◌∷◌, ◌++◌, length, take, drop, All, Option, Some, None, MatchOption, refl, sym, ap, ◌∙◌, arith}
-use Rattle.std.specs.Cmp.Lexicographic.{pointwise, same_text, other_text}
-use Rattle.std.proofs.Math.Seq.{take-append_seam}
-use Rattle.std.proofs.lemmas.List.{take-append-drop}
-
--- what a text is behind a beginning that was sought
-pub after_means : {B : Type 0} (now : B → List ℕ) (xs p : List ℕ) (r : Option B)
-    → MatchOption r (pointwise nat_eq (take (length p) xs) p ≡ false) (λ x. (pointwise nat_eq (take (length p) xs) p ≡ true) × (now x ≡ drop (length p) xs) × (length (now x) + length p ≡ length xs))
-    → MatchOption r ((rest : List ℕ) → xs ≢ p ++ rest) (λ x. xs ≡ p ++ now x)
-after_means now xs p None differs = λ rest is. other_text (take (length p) xs) p (sym differs) (ap (take (length p)) is ∙ take-append_seam p rest)
-after_means now xs p (Some x) parts =
-    sym (take-append-drop (length p) xs) ∙ ap (λ ys. ys ++ drop (length p) xs) (same_text (take (length p) xs) p (sym parts.0)) ∙ ap (λ ys. p ++ ys) (sym parts.1)
-
--- what is put before two texts is taken off them
-pub append-cancel : (xs ys zs : List ℕ) → xs ++ ys ≡ xs ++ zs → ys ≡ zs
-append-cancel [] ys zs same = same
-append-cancel (x ∷ xs) ys zs same = append-cancel xs ys zs (let e : xs ++ ys ≡ xs ++ zs = cc in e)
+use Rattle.std.proofs.Common.{◌≡◌, ◌≢◌, ℕ, suc, List, [], ◌∷◌, ◌++◌, All, refl, arith}
 
 -- a text is split in one way at the first of a byte
 pub split-unique : (d : ℕ) (xs ys us vs : List ℕ) → All (λ b. b ≢ d) xs → All (λ b. b ≢ d) ys → xs ++ d ∷ us ≡ ys ++ d ∷ vs → (xs ≡ ys) × (us ≡ vs)

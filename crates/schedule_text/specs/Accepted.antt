@@ -1,5 +1,6 @@
 -- Which texts are schedules and histories, and where a text is refused.
-use Rattle.std.specs.Prelude.{◌≡◌, ◌≢◌, ℕ, ◌+◌, List, [], ◌++◌, length, All}
+use Rattle.std.specs.Prelude.{◌≡◌, ◌≢◌, ℕ, ◌+◌, List, [], ◌++◌, length, All, Result, MatchResult}
+use Rattle.resty_world.specs.KeptHistory.{Kept}
 use Rattle.resty_world.specs.declared.entry.Entry.{Entry}
 use Rattle.resty_world.specs.declared.schedule_line.SchedLine.{SchedLine}
 use Rattle.schedule_text.specs.declared.fault.SchedFault.{SchedFault}
@@ -25,10 +26,15 @@ pub record IsRefusedAt (text : List ℕ) (n : ℕ) : Type 0 where
   pub unread : (next : SchedLine) (after : List ℕ) → Fits lines next → rest ≡ whole_line next ++ after → ⊥
   pub unended : rest ≡ [] → stops_in lines ≡ 0
 
--- nothing is said where memory is wanting
-abbrev pub IsFaultOf : List ℕ → SchedFault → Type 0
-IsFaultOf text (fault.BadLine n) = IsRefusedAt text n
-IsFaultOf text fault.Memory = Unit {0}
+-- why a text isn't read as a schedule; out of memory says nothing of the text
+abbrev pub IsScheduleFault : List ℕ → SchedFault → Type 0
+IsScheduleFault text (fault.BadLine n) = IsRefusedAt text n
+IsScheduleFault text fault.Memory = Unit {0}
+
+-- a text of a schedule is read as that schedule, unless out of memory
+abbrev pub AcceptsSchedule : List ℕ → Result (List SchedLine) SchedFault → Type 0
+AcceptsSchedule text result =
+    (lines : List SchedLine) → IsRead text lines → MatchResult result (λ schedule. schedule ≡ lines) (λ why. why ≡ fault.Memory)
 
 -- the entries, the newest first, are in their ranges
 abbrev pub IsHistory : List Entry → Type 0
@@ -49,6 +55,12 @@ pub record IsNoHistoryAt (text : List ℕ) (n : ℕ) : Type 0 where
   pub unread : (next : Entry) (after : List ℕ) → IsEntry next → rest ≡ entry_line next ++ after → ⊥
   pub some : rest ≢ []
 
+-- why a text isn't read as a history
 abbrev pub IsHistoryFault : List ℕ → SchedFault → Type 0
 IsHistoryFault text (fault.BadLine n) = IsNoHistoryAt text n
 IsHistoryFault text fault.Memory = Unit {0}
+
+-- a text of a history is read as that history, unless out of memory
+abbrev pub AcceptsHistory : List ℕ → Result Kept SchedFault → Type 0
+AcceptsHistory text result =
+    (entries : List Entry) → IsHistoryOf text entries → MatchResult result (λ history. history.entries ≡ entries) (λ why. why ≡ fault.Memory)

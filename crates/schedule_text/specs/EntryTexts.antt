@@ -23,27 +23,30 @@ host_text host =
     decimal (slice_index host 0) ++ codes "." ++ decimal (slice_index host 1) ++ codes "." ++ decimal (slice_index host 2)
     ++ codes "." ++ decimal (slice_index host 3)
 
--- a socket, and what stands where there is none
+-- a socket, and what is written where there is none
 abbrev pub socket_or : List ℕ → Option ℕ → List ℕ
 socket_or none None = none
 socket_or none (Some n) = codes "s" ++ decimal n
 
+-- a value that a dictionary keeps
 abbrev pub value_text : DictValue → List ℕ
 value_text (value.Text bytes) = quoted bytes
 value_text (value.Number n) = signed_decimal n
 value_text (value.Truth true) = codes "true"
 value_text (value.Truth false) = codes "false"
 
+-- how a value is stored, and a space
 abbrev pub how_text : How → List ℕ
 how_text how.Set = codes "set "
 how_text how.Add = codes "add "
 how_text how.Replace = codes "replace "
 
--- the first value of a count that isn't there, with its time to live
+-- the value with which a key that isn't there begins to count, and its time to live
 abbrev pub init_text : Option ℤ → ℕ → List ℕ
 init_text None ttl = codes " none"
 init_text (Some n) ttl = codes " " ++ signed_decimal n ++ codes " " ++ decimal ttl
 
+-- a call of a dictionary
 abbrev pub call_text : DictCall → List ℕ
 call_text (call.Get key) = codes "get " ++ quoted key
 call_text (call.Store how key value ttl flags) =
@@ -54,14 +57,16 @@ call_text call.FlushAll = codes "flush_all"
 call_text (call.FlushExpired most) = codes "flush_expired " ++ decimal most
 call_text (call.Keys most) = codes "get_keys " ++ decimal most
 
--- valid items were evicted
+-- whether valid items were evicted
 abbrev pub forcible_text : Bool → List ℕ
 forcible_text true = codes " forcible"
 forcible_text false = []
 
+-- a space and a key
 abbrev pub name_text : List ℕ → List ℕ
 name_text name = codes " " ++ quoted name
 
+-- the answer of a dictionary
 abbrev pub answer_text : DictAnswer → List ℕ
 answer_text (answer.Found v flags) = codes "found " ++ value_text v ++ codes " " ++ decimal flags
 answer_text answer.Nothing = codes "none"
@@ -75,12 +80,12 @@ answer_text (answer.Number n forcible) = codes "number " ++ signed_decimal n ++ 
 answer_text (answer.Count n) = codes "count " ++ decimal n
 answer_text (answer.Names names) = codes "keys" ++ flat_map name_text names
 
--- whether the log line was written
+-- whether the line of the log was written
 abbrev pub failed_text : Bool → List ℕ
 failed_text true = []
 failed_text false = codes "failed "
 
--- the socket that was taken from the pool and its uses
+-- the socket that was taken from the pool, and how often it was used
 abbrev pub taken_text : Option (ℕ × ℕ) → List ℕ
 taken_text None = codes "none"
 taken_text (Some taken) = codes "s" ++ decimal taken.0 ++ codes " " ++ decimal taken.1
@@ -90,10 +95,11 @@ abbrev pub closed_text : Option ℕ → List ℕ
 closed_text None = []
 closed_text (Some n) = codes " s" ++ decimal n
 
--- how long a socket may be idle, and the size of its pool
+-- how long a socket may be idle, the size of its pool, and the socket that was closed for it
 abbrev pub pool_text : ℕ → ℕ → Option ℕ → List ℕ
 pool_text idle size closed = decimal idle ++ codes " " ++ decimal size ++ codes " = kept" ++ closed_text closed
 
+-- what was returned where a timer was asked for
 abbrev pub timer_text : TimerAnswer → List ℕ
 timer_text (timer.Job n) = codes "t" ++ decimal n
 timer_text timer.Full = codes "full"
@@ -109,7 +115,8 @@ entry_text (entry.Close i) = codes "close " ++ id_text i
 entry_text (entry.Dial who host port n) =
     codes "dial " ++ strand_text who ++ codes " " ++ host_text host ++ codes " " ++ decimal port ++ codes " " ++ socket_or (codes "failed") n
 entry_text (entry.Log who text written) = codes "log " ++ strand_text who ++ codes " " ++ failed_text written ++ quoted text
-entry_text (entry.Dict who zone call answer) = codes "dict " ++ strand_text who ++ codes " " ++ zone ++ codes " " ++ call_text call ++ codes " = " ++ answer_text answer
+entry_text (entry.Dict who zone call answer) =
+    codes "dict " ++ strand_text who ++ codes " " ++ zone ++ codes " " ++ call_text call ++ codes " = " ++ answer_text answer
 entry_text (entry.Take who key got) = codes "take " ++ strand_text who ++ codes " " ++ quoted key ++ codes " = " ++ taken_text got
 entry_text (entry.Keep who n key idle size closed) =
     codes "keep " ++ strand_text who ++ codes " s" ++ decimal n ++ codes " " ++ quoted key ++ codes " " ++ pool_text idle.0 size closed

@@ -13,6 +13,7 @@ FollowsEvent before (event.Arrive k) = k ≡ arrivals_in before + 1
 FollowsEvent before (event.Moment t) = latest_in before ≤ t.0
 FollowsEvent before e = Unit {0}
 
+-- the line may come after the others
 abbrev pub Follows : List SchedLine → SchedLine → Type 0
 Follows before (line.Given e) = FollowsEvent before e
 Follows before l = Unit {0}
@@ -27,6 +28,7 @@ pub record Fits (before : List SchedLine) (next : SchedLine) : Type 0 where
 abbrev pub AllFit : List SchedLine → Type 0
 AllFit lines = (i : ℕ) (next : SchedLine) → slice_get lines i ≡ Some next → Fits (take i lines) next
 
+-- the lines make a schedule
 pub record IsSchedule (lines : List SchedLine) : Type 0 where
   pub fit : AllFit lines
   pub before : List SchedLine

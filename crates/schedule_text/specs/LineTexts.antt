@@ -7,7 +7,7 @@ use Rattle.resty_world.specs.declared.schedule_line.SchedLine.{SchedLine}
 use Rattle.resty_world.specs.declared.schedule_line.SchedLine.TheVariants as line
 use Rattle.schedule_text.specs.Words.{id_text, quoted}
 
--- an event; what is no event has no text
+-- an event; what no world gives has no text
 abbrev pub event_text : Event → List ℕ
 event_text (event.Arrive k) = codes "arrive c" ++ decimal k
 event_text (event.Bytes i bytes) = codes "bytes " ++ id_text i ++ codes " " ++ quoted bytes
@@ -35,5 +35,6 @@ line_text (line.FailPut i) = codes "fail put " ++ id_text i
 abbrev pub whole_line : SchedLine → List ℕ
 whole_line l = line_text l ++ codes "\n"
 
+-- the lines of a schedule in order
 abbrev pub schedule_text : List SchedLine → List ℕ
 schedule_text lines = flat_map whole_line lines

@@ -5,11 +5,12 @@ use Rattle.resty_world.specs.declared.event.Event.TheVariants as event
 use Rattle.resty_world.specs.declared.schedule_line.SchedLine.{SchedLine}
 use Rattle.resty_world.specs.declared.schedule_line.SchedLine.TheVariants as line
 
--- the event, or the line, is an arrival
+-- the event is an arrival
 abbrev pub is_arrival_event : Event → Bool
 is_arrival_event (event.Arrive k) = true
 is_arrival_event e = false
 
+-- the line is an arrival
 abbrev pub is_arrival : SchedLine → Bool
 is_arrival (line.Given e) = is_arrival_event e
 is_arrival l = false
@@ -33,5 +34,6 @@ abbrev pub is_stop : SchedLine → Bool
 is_stop (line.Given event.Stop) = true
 is_stop l = false
 
+-- how many lines end the schedule
 abbrev pub stops_in : List SchedLine → ℕ
 stops_in lines = count_by is_stop lines

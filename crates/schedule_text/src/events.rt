@@ -1,6 +1,7 @@
+//! The given events of a history as a schedule.
 ghost use Rattle.std.specs.Prelude.{◌≡◌, ◌++◌, ◌∷◌, [], IfOk, OnOk};
 ghost use Rattle.resty_world.specs.declared.event.Event.TheVariants.{Stop};
-ghost use Rattle.schedule_text.specs.Events.{events_of as events, given_line as line_of_event, lines_after, present_after as present_behind, stopped_after as stopped_behind};
+ghost use Rattle.schedule_text.specs.Events as events;
 
 use crate::Schedule;
 use resty_base::Ms;
@@ -10,7 +11,7 @@ use std::alloc::{AllocError, Global};
 /// The given events of a history as a schedule: a moment below the present one is written as the present one, and `stop` is
 /// added where it isn't the last.
 pub fn events_of(alloc: Global, history: &History) -> Result<Schedule, AllocError>
-    ensures { IfOk result (λ schedule. schedule ≡ events history.now.entries) }
+    ensures { IfOk result (λ schedule. schedule ≡ events.events_of history.now.entries) }
 {
     let mut lines = Vec::new(alloc);
     let mut present = 0;
@@ -28,7 +29,7 @@ pub fn events_of(alloc: Global, history: &History) -> Result<Schedule, AllocErro
 
 /// Adds the entry's event, if it is a given one.
 fn add_event(lines: &mut Vec<SchedLine>, present: u64, entry: &Entry) -> Result<(), AllocError>
-    ensures { OnOk result (lines.new.items ≡ lines_after entry.now present lines.old.items) }
+    ensures { OnOk result (lines.new.items ≡ events.lines_after entry.now present lines.old.items) }
 {
     match entry {
         Entry::Given(event) => Ok(lines.push(given_line(present, event)?)?),
@@ -38,27 +39,17 @@ fn add_event(lines: &mut Vec<SchedLine>, present: u64, entry: &Entry) -> Result<
 
 /// The event as a line.
 fn given_line(present: u64, event: &Event) -> Result<SchedLine, AllocError>
-    ensures { IfOk result (λ line. line ≡ line_of_event present event.now) }
+    ensures { IfOk result (λ line. line ≡ events.given_line present event.now) }
 {
     Ok(SchedLine::Given(match event {
-        Event::Arrive(number) => Event::Arrive(*number),
-        Event::Bytes(id, bytes) => Event::Bytes(*id, bytes.clone()?),
-        Event::Ended(id) => Event::Ended(*id),
-        Event::Broken(id) => Event::Broken(*id),
-        Event::Ready(id) => Event::Ready(*id),
-        Event::Dialled(number) => Event::Dialled(*number),
-        Event::Refused(number) => Event::Refused(*number),
         Event::Moment(now) => Event::Moment(Ms(now.0.max(present))),
-        Event::Stop => Event::Stop,
-        Event::Fault => Event::Fault,
-        Event::BadLine(number) => Event::BadLine(*number),
-        Event::Memory => Event::Memory,
+        _ => event.shared()?,
     }))
 }
 
-/// The present moment behind an entry.
+/// The present moment after an entry.
 fn present_after(entry: &Entry, present: u64) -> u64
-    ensures { result ≡ present_behind entry.now present }
+    ensures { result ≡ events.present_after entry.now present }
 {
     match entry {
         Entry::Given(Event::Moment(now)) => present.max(now.0),
@@ -66,9 +57,9 @@ fn present_after(entry: &Entry, present: u64) -> u64
     }
 }
 
-/// Whether the last given event is `stop`, behind an entry.
+/// Whether the last given event is `stop`, after an entry.
 fn stopped_after(entry: &Entry, stopped: bool) -> bool
-    ensures { result ≡ stopped_behind entry.now stopped }
+    ensures { result ≡ events.stopped_after entry.now stopped }
 {
     match entry {
         Entry::Given(Event::Stop) => true,

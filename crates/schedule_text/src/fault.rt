@@ -1,3 +1,4 @@
+//! Why a text is refused.
 use thiserror::Error;
 
 /// Why a text is no schedule, or no history. Lines are numbered from 1.

@@ -1,3 +1,4 @@
+//! Laws of the texts: each is the clause of a function that does nothing.
 ghost use Rattle.std.specs.Prelude.{◌≡◌, ℕ, List};
 ghost use Rattle.resty_world.specs.declared.entry.Entry.{Entry};
 ghost use Rattle.resty_world.specs.declared.schedule_line.SchedLine.{SchedLine};

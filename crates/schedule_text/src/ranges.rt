@@ -1,6 +1,6 @@
 //! Whether what stands in a line is within its range.
 ghost use Rattle.std.specs.Prelude.{◌≡◌, ◌↔◌, IsTrue};
-ghost use Rattle.schedule_text.specs.Ranges.{IsEvent, IsId, IsLine, IsNumber, IsPlace, IsReceived, IsRoom, IsSmall, IsStrand};
+ghost use Rattle.schedule_text.specs.Ranges.{IsEvent, IsId, IsLine, IsNumber, IsOrdinal, IsReceived, IsRoom, IsSmall, IsStrand};
 
 use resty_base::{Id, StrandId};
 use resty_world::{Event, SchedLine};
@@ -24,8 +24,9 @@ fn is_number(number: u64) -> bool
     number <= LAST_NUMBER
 }
 
-fn is_place(number: u64) -> bool
-    ensures { IsTrue result ↔ IsPlace number }
+/// Whether it can be the number of a connection, a socket or a job.
+fn is_ordinal(number: u64) -> bool
+    ensures { IsTrue result ↔ IsOrdinal number }
 {
     0 < number && number <= LAST_NUMBER
 }
@@ -34,7 +35,7 @@ fn is_id(id: Id) -> bool
     ensures { IsTrue result ↔ IsId id }
 {
     match id {
-        Id::Conn(number) | Id::Sock(number) => is_place(number),
+        Id::Conn(number) | Id::Sock(number) => is_ordinal(number),
     }
 }
 
@@ -42,7 +43,7 @@ fn is_strand(strand: StrandId) -> bool
     ensures { IsTrue result ↔ IsStrand strand }
 {
     match strand {
-        StrandId::Conn(number) | StrandId::Job(number) => is_place(number),
+        StrandId::Conn(number) | StrandId::Job(number) => is_ordinal(number),
     }
 }
 
@@ -58,7 +59,7 @@ pub fn is_event(event: &Event) -> bool
 {
     match event {
         Event::Arrive(number) | Event::Dialled(number) | Event::Refused(number) => {
-            is_place(*number)
+            is_ordinal(*number)
         }
         Event::Bytes(id, bytes) => is_id(*id) && is_received(bytes.as_slice()),
         Event::Ended(id) | Event::Broken(id) | Event::Ready(id) => is_id(*id),

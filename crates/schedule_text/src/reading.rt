@@ -1,7 +1,8 @@
-ghost use Rattle.std.specs.Prelude.{◌≡◌, ◌≢◌, ◌+◌, List, [], MatchResult, length};
-ghost use Rattle.resty_world.specs.declared.schedule_line.SchedLine.{SchedLine};
-ghost use Rattle.schedule_text.specs.Accepted.{IsFaultOf, IsRead};
-ghost use Rattle.schedule_text.specs.Lines.{is_stop as stop_test};
+//! Reading a schedule line by line.
+ghost use Rattle.std.specs.Prelude.{◌≡◌, ◌+◌, MatchResult, length};
+ghost use Rattle.schedule_text.specs.Accepted.{AcceptsSchedule, IsScheduleFault, IsRead};
+ghost use Rattle.schedule_text.specs.Lines as lines;
+ghost use Rattle.schedule_text.specs.Reading.{ReadsToEnd};
 
 use crate::{SchedFault, Schedule};
 pub use histories::history_of;
@@ -26,16 +27,15 @@ const SHORTEST_LINE: usize = 9;
 
 /// Reads a schedule, the last line of which is `stop`.
 pub fn schedule_of(alloc: Global, text: &[u8]) -> Result<Schedule, SchedFault>
-    ensures read { MatchResult result (IsRead text.now) (IsFaultOf text.now) }
-    // A text of a schedule is read as that schedule, unless memory is wanting.
-    ensures accepted { (lines : List SchedLine) → IsRead text.now lines → MatchResult result (λ schedule. schedule ≡ lines) (λ fault. fault ≡ SchedFault.Memory) }
+    ensures read { MatchResult result (IsRead text.now) (IsScheduleFault text.now) }
+    ensures accepted { AcceptsSchedule text.now result }
 {
     read_lines(alloc, text)
 }
 
 /// Reads the lines one after another.
 fn read_lines(alloc: Global, text: &[u8]) -> Result<Schedule, SchedFault>
-    ensures { MatchResult result (IsRead text.now) (IsFaultOf text.now) }
+    ensures { MatchResult result (IsRead text.now) (IsScheduleFault text.now) }
 {
     let mut reader = Reader::new(alloc);
     if reader.reserve(most_lines(text)).is_err() {
@@ -63,14 +63,14 @@ fn read_lines(alloc: Global, text: &[u8]) -> Result<Schedule, SchedFault>
 
 /// Whether the line ends the schedule.
 fn is_stop(line: &SchedLine) -> bool
-    ensures { result ≡ stop_test line.now }
+    ensures { result ≡ lines.is_stop line.now }
 {
     matches!(line, SchedLine::Given(Event::Stop))
 }
 
-/// The schedule that was read up to its `stop`, behind which nothing may stand.
+/// The schedule that was read up to its `stop`, after which nothing may stand.
 fn finish(reader: Reader, rest: &[u8]) -> Result<Schedule, SchedFault>
-    ensures { MatchResult result (λ schedule. (rest.now ≡ []) × (schedule ≡ reader.lines.items)) (λ fault. (rest.now ≢ []) × (fault ≡ SchedFault.BadLine (length reader.lines.items + 1))) }
+    ensures { ReadsToEnd rest.now (length reader.lines.items + 1) (λ schedule. schedule ≡ reader.lines.items) result }
 {
     if rest.is_empty() {
         Ok(Schedule::new(reader.into_lines()))

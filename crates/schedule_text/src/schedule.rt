@@ -1,3 +1,4 @@
+//! A schedule: its lines in the order of the text.
 use resty_world::SchedLine;
 use std::marker::Model;
 

@@ -1,3 +1,4 @@
+//! The texts of schedules and of histories.
 ghost use Rattle.std.specs.Prelude.{◌≡◌, ◌++◌, IfOk, OnOk};
 ghost use Rattle.schedule_text.specs.EntryTexts.{history_text};
 ghost use Rattle.schedule_text.specs.LineTexts.{schedule_text};

@@ -1,3 +1,4 @@
+//! Tests of `resty_base`.
 use resty_base::*;
 use std::alloc::Global;
 use std::process::Abort;

@@ -1,3 +1,4 @@
+//! Tests of `strand`: the literal configuration and its reply.
 use resty_base::{Bytes, Ms};
 use std::alloc::{AllocError, Global};
 use std::test::Fail;
@@ -19,52 +20,54 @@ fn refused_at(rt: &HostRuntime, text: &[u8]) -> u32 {
     }
 }
 
+/// Texts, and the line at which each is refused, 0 where it isn't.
+const CONFIGURATIONS: [(&[u8], u32); 14] = [
+    (CONF, 0),
+    (
+        b"http { server { listen 8080;\nlocation / { content_by_lua_block { ngx.say(\"a\") ngx.say(\"\") ngx.say(\"}\") } }\n} }\n",
+        0,
+    ),
+    (b"", 1),
+    (b"http { server { listen 8080;", 1),
+    (b"http { server { listen 8081;\n", 1),
+    (b"http { server { listen 8080;\n", 2),
+    (
+        b"http { server { listen 8080;\nlocation / { content_by_lua_block { ngx.print(\"x\") } }\n} }\n",
+        2,
+    ),
+    (
+        b"http { server { listen 8080;\nlocation / { content_by_lua_block { } }\n} }\n",
+        2,
+    ),
+    (
+        b"http { server { listen 8080;\nlocation / { content_by_lua_block { ngx.say(\"a\\n\") } }\n} }\n",
+        2,
+    ),
+    (
+        b"http { server { listen 8080;\nlocation / { content_by_lua_block { ngx.say(\"a\")  ngx.say(\"b\") } }\n} }\n",
+        2,
+    ),
+    (
+        b"http { server { listen 8080;\nlocation / { content_by_lua_block { ngx.say(\"hi\") } }\n",
+        3,
+    ),
+    (
+        b"http { server { listen 8080;\nlocation / { content_by_lua_block { ngx.say(\"hi\") } }\n} }",
+        3,
+    ),
+    (
+        b"http { server { listen 8080;\nlocation / { content_by_lua_block { ngx.say(\"hi\") } }\n} }\n\n",
+        4,
+    ),
+    (
+        b"http { server { listen 8080;\nlocation / { content_by_lua_block { ngx.say(\"hi\") } }\n} }\nx",
+        4,
+    ),
+];
+
 #[test]
 fn texts_are_taken_or_refused_at_a_line(rt: HostRuntime) {
-    let table: [(&[u8], u32); 14] = [
-        (CONF, 0),
-        (
-            b"http { server { listen 8080;\nlocation / { content_by_lua_block { ngx.say(\"a\") ngx.say(\"\") ngx.say(\"}\") } }\n} }\n",
-            0,
-        ),
-        (b"", 1),
-        (b"http { server { listen 8080;", 1),
-        (b"http { server { listen 8081;\n", 1),
-        (b"http { server { listen 8080;\n", 2),
-        (
-            b"http { server { listen 8080;\nlocation / { content_by_lua_block { ngx.print(\"x\") } }\n} }\n",
-            2,
-        ),
-        (
-            b"http { server { listen 8080;\nlocation / { content_by_lua_block { } }\n} }\n",
-            2,
-        ),
-        (
-            b"http { server { listen 8080;\nlocation / { content_by_lua_block { ngx.say(\"a\\n\") } }\n} }\n",
-            2,
-        ),
-        (
-            b"http { server { listen 8080;\nlocation / { content_by_lua_block { ngx.say(\"a\")  ngx.say(\"b\") } }\n} }\n",
-            2,
-        ),
-        (
-            b"http { server { listen 8080;\nlocation / { content_by_lua_block { ngx.say(\"hi\") } }\n",
-            3,
-        ),
-        (
-            b"http { server { listen 8080;\nlocation / { content_by_lua_block { ngx.say(\"hi\") } }\n} }",
-            3,
-        ),
-        (
-            b"http { server { listen 8080;\nlocation / { content_by_lua_block { ngx.say(\"hi\") } }\n} }\n\n",
-            4,
-        ),
-        (
-            b"http { server { listen 8080;\nlocation / { content_by_lua_block { ngx.say(\"hi\") } }\n} }\nx",
-            4,
-        ),
-    ];
-    for (text, line) in table {
+    for (text, line) in CONFIGURATIONS {
         assert_eq!(rt; refused_at(&rt, text), line);
     }
 }

@@ -1,3 +1,4 @@
+//! Tests of `strand_contract`: the strand that says nothing.
 use resty_base::{Bytes, Ms};
 use std::test::Fail;
 use strand_contract::*;

@@ -1,3 +1,4 @@
+//! Tests of `schedule`: the world that replays a schedule.
 ghost use Rattle.std.specs.Prelude.{◌≡◌, true};
 ghost use Rattle.resty_base.specs.declared.names.Id.{Id};
 ghost use Rattle.resty_base.specs.declared.names.Id.TheVariants.{Conn};
@@ -28,7 +29,7 @@ const NEXT: Call = Call::Next;
 
 const PUT_2: Call = Call::Put(CLIENT);
 
-/// Calls the world, and says in one letter what it answered: `g` given, `f` fault, `b` bad line, `t` taken or done, `w` would wait,
+/// Calls the world, and says in one letter what it returned: `g` given, `f` fault, `b` bad line, `t` taken or done, `w` would wait,
 /// `l` lost or failed, `-` where the id isn't open.
 fn answer(world: &mut Replay, alloc: Global, call: Call) -> u8 {
     let who = StrandId::Conn(1);
@@ -80,7 +81,7 @@ fn answers(world: &mut Replay, alloc: Global, calls: &[Call]) -> Result<Vec<u8>,
     Ok(told)
 }
 
-/// What the calls answer over a schedule, a letter each, and the history's text behind them.
+/// What the calls answer over a schedule, a letter each, and the history's text after them.
 fn played(alloc: Global, schedule: &[u8], calls: &[Call]) -> Result<Bytes, AllocError> {
     let Ok(schedule) = schedule_of(alloc, schedule) else {
         return Ok(Bytes::from_static(b"refused"));
@@ -92,87 +93,89 @@ fn played(alloc: Global, schedule: &[u8], calls: &[Call]) -> Result<Bytes, Alloc
     Ok(Bytes::from_vec(told)?)
 }
 
+/// Schedules, calls of the world, and what `played` then says.
+const PLAYS: [(&[u8], &[Call], &[u8]); 12] = [
+    // A connection takes all, then so many bytes as a line lets it, and then it waits.
+    (
+        b"arrive c1\nroom c1 3\nready c1\nroom c1 all\nstop\n",
+        &[NEXT, PUT_2, NEXT, PUT_2, PUT_2, PUT_2, NEXT, PUT_2, NEXT],
+        b"gtgttwgtf\narrive c1\nput c1 \"ab\"\nready c1\nput c1 \"ab\"\nput c1 \"a\"\nlater c1\nstop\nput c1 \"ab\"\n",
+    ),
+    // A line makes one call fail, once it was passed.
+    (
+        b"arrive c1\nfail put c1\nfail put c1\nready c1\nstop\n",
+        &[NEXT, PUT_2, NEXT, PUT_2, PUT_2, PUT_2],
+        b"gtgllt\narrive c1\nput c1 \"ab\"\nready c1\nlost c1\nlost c1\nput c1 \"ab\"\n",
+    ),
+    (
+        b"fail dial\nfail log\nmoment 1\nstop\n",
+        &[
+            Call::Dial,
+            NEXT,
+            Call::Dial,
+            Call::Dial,
+            Call::Log,
+            Call::Log,
+        ],
+        b"tgltlt\ndial c1 127.0.0.1 9000 s1\nmoment 1\ndial c1 127.0.0.1 9000 failed\ndial c1 127.0.0.1 9000 s2\nlog c1 failed \"x\"\nlog c1 \"x\"\n",
+    ),
+    // Listening fails by the first line alone, and once.
+    (
+        b"fail listen\nstop\n",
+        &[Call::Listen, Call::Listen, NEXT],
+        b"ltg\nstop\n",
+    ),
+    (
+        b"moment 1\nfail listen\nstop\n",
+        &[NEXT, NEXT, Call::Listen],
+        b"ggt\nmoment 1\nstop\n",
+    ),
+    (
+        b"moment 5\nfail next\nstop\n",
+        &[NEXT, NEXT, NEXT, NEXT],
+        b"gfgf\nmoment 5\nstop\n",
+    ),
+    // A line with an id that was never there is bad, until it is there.
+    (b"bytes s9 \"x\"\nstop\n", &[NEXT, NEXT], b"bb\n"),
+    (
+        b"arrive c1\nroom c2 1\nstop\n",
+        &[NEXT, NEXT],
+        b"gb\narrive c1\n",
+    ),
+    (
+        b"dialled s1\nstop\n",
+        &[NEXT, Call::Dial, NEXT],
+        b"btg\ndial c1 127.0.0.1 9000 s1\ndialled s1\n",
+    ),
+    // Bytes after an end or a break are skipped, and so are lines with an id that was hung up.
+    (
+        b"dialled s1\nbytes s1 \"x\"\nended s1\nbytes s1 \"y\"\nready s1\nrefused s1\nstop\n",
+        &[
+            Call::Dial,
+            NEXT,
+            NEXT,
+            NEXT,
+            NEXT,
+            Call::Close(Id::Sock(1)),
+            NEXT,
+        ],
+        b"tggggtg\ndial c1 127.0.0.1 9000 s1\ndialled s1\nbytes s1 \"x\"\nended s1\nready s1\nclose s1\nstop\n",
+    ),
+    (
+        b"arrive c1\nbroken c1\nbytes c1 \"x\"\nstop\n",
+        &[NEXT, NEXT, NEXT],
+        b"ggg\narrive c1\nbroken c1\nstop\n",
+    ),
+    (
+        b"arrive c1\nbytes c1 \"a\"\nready c1\nroom c1 1\nfail put c1\nmoment 1\nstop\n",
+        &[NEXT, Call::Close(CLIENT), PUT_2, NEXT, NEXT],
+        b"gt-gg\narrive c1\nclose c1\nmoment 1\nstop\n",
+    ),
+];
+
 #[test]
 fn a_schedule_says_what_its_world_answers(rt: HostRuntime) -> Result<(), Fail> {
-    let cases: [(&[u8], &[Call], &[u8]); 12] = [
-        // A place takes all, then so many bytes as a line lets it, and then it waits.
-        (
-            b"arrive c1\nroom c1 3\nready c1\nroom c1 all\nstop\n",
-            &[NEXT, PUT_2, NEXT, PUT_2, PUT_2, PUT_2, NEXT, PUT_2, NEXT],
-            b"gtgttwgtf\narrive c1\nput c1 \"ab\"\nready c1\nput c1 \"ab\"\nput c1 \"a\"\nlater c1\nstop\nput c1 \"ab\"\n",
-        ),
-        // A line makes one call fail, once it was passed.
-        (
-            b"arrive c1\nfail put c1\nfail put c1\nready c1\nstop\n",
-            &[NEXT, PUT_2, NEXT, PUT_2, PUT_2, PUT_2],
-            b"gtgllt\narrive c1\nput c1 \"ab\"\nready c1\nlost c1\nlost c1\nput c1 \"ab\"\n",
-        ),
-        (
-            b"fail dial\nfail log\nmoment 1\nstop\n",
-            &[
-                Call::Dial,
-                NEXT,
-                Call::Dial,
-                Call::Dial,
-                Call::Log,
-                Call::Log,
-            ],
-            b"tgltlt\ndial c1 127.0.0.1 9000 s1\nmoment 1\ndial c1 127.0.0.1 9000 failed\ndial c1 127.0.0.1 9000 s2\nlog c1 failed \"x\"\nlog c1 \"x\"\n",
-        ),
-        // Listening fails by the first line alone, and once.
-        (
-            b"fail listen\nstop\n",
-            &[Call::Listen, Call::Listen, NEXT],
-            b"ltg\nstop\n",
-        ),
-        (
-            b"moment 1\nfail listen\nstop\n",
-            &[NEXT, NEXT, Call::Listen],
-            b"ggt\nmoment 1\nstop\n",
-        ),
-        (
-            b"moment 5\nfail next\nstop\n",
-            &[NEXT, NEXT, NEXT, NEXT],
-            b"gfgf\nmoment 5\nstop\n",
-        ),
-        // A line with an id that was never there is bad, until it is there.
-        (b"bytes s9 \"x\"\nstop\n", &[NEXT, NEXT], b"bb\n"),
-        (
-            b"arrive c1\nroom c2 1\nstop\n",
-            &[NEXT, NEXT],
-            b"gb\narrive c1\n",
-        ),
-        (
-            b"dialled s1\nstop\n",
-            &[NEXT, Call::Dial, NEXT],
-            b"btg\ndial c1 127.0.0.1 9000 s1\ndialled s1\n",
-        ),
-        // Bytes behind an end or a break are skipped, and so are lines with an id that was hung up.
-        (
-            b"dialled s1\nbytes s1 \"x\"\nended s1\nbytes s1 \"y\"\nready s1\nrefused s1\nstop\n",
-            &[
-                Call::Dial,
-                NEXT,
-                NEXT,
-                NEXT,
-                NEXT,
-                Call::Close(Id::Sock(1)),
-                NEXT,
-            ],
-            b"tggggtg\ndial c1 127.0.0.1 9000 s1\ndialled s1\nbytes s1 \"x\"\nended s1\nready s1\nclose s1\nstop\n",
-        ),
-        (
-            b"arrive c1\nbroken c1\nbytes c1 \"x\"\nstop\n",
-            &[NEXT, NEXT, NEXT],
-            b"ggg\narrive c1\nbroken c1\nstop\n",
-        ),
-        (
-            b"arrive c1\nbytes c1 \"a\"\nready c1\nroom c1 1\nfail put c1\nmoment 1\nstop\n",
-            &[NEXT, Call::Close(CLIENT), PUT_2, NEXT, NEXT],
-            b"gt-gg\narrive c1\nclose c1\nmoment 1\nstop\n",
-        ),
-    ];
-    for (schedule, calls, told) in cases {
+    for (schedule, calls, told) in PLAYS {
         assert_eq!(rt; played(rt.alloc(), schedule, calls)?.as_slice(), told);
     }
     Ok(())
@@ -250,7 +253,8 @@ fn a_world_gives_its_lines_and_tells_what_was_done(rt: HostRuntime) -> Result<()
     expect_event(&rt, &mut world, alloc, &Event::Stop);
     expect_event(&rt, &mut world, alloc, &Event::Fault);
     let expected =
-        b"moment 1000\narrive c1\nput c1 \"HTTP\"\nlog c1 \"seen\"\ndial c1 127.0.0.1 9000 s1\nstart t1\ntimer c1 7 = t2\ndropped t2\nclose c1\ndial c1 127.0.0.1 9001 s2\nclose s2\nstop\n";
+        b"moment 1000\narrive c1\nput c1 \"HTTP\"\nlog c1 \"seen\"\ndial c1 127.0.0.1 9000 s1\nstart t1\n\
+          timer c1 7 = t2\ndropped t2\nclose c1\ndial c1 127.0.0.1 9001 s2\nclose s2\nstop\n";
     assert!(rt; has_history(alloc, &world, expected)?);
     Ok(())
 }

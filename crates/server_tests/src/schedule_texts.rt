@@ -1,3 +1,4 @@
+//! Tests of `schedule_text`: texts that are read, printed and refused.
 use resty_base::{Bytes, Id};
 use resty_world::{Entry, History};
 use schedule_text::*;
@@ -110,45 +111,49 @@ fn other_lines_are_refused(rt: HostRuntime) -> Result<(), Fail> {
     Ok(())
 }
 
+/// Schedules, after the number of the line at which each is refused, 0 where it isn't.
+const SCHEDULES: [(u64, &[u8]); 18] = [
+    (0, b"arrive c1\nbytes c1 \"G\"\nbytes c1 \"ET \"\nstop\n"),
+    (2, b"moment 2\nmoment 1\nstop\n"),
+    (1, b""),
+    (1, b"stop"),
+    (1, b"\nstop\n"),
+    (2, b"stop\nstop\n"),
+    (2, b"stop\n\n"),
+    (2, b"stop\nx"),
+    (2, b"moment 1\n"),
+    (2, b"moment 1\nstop"),
+    (2, b"moment 5\nmoment 4\nstop\n"),
+    (2, b"arrive c1\n"),
+    (2, b"arrive c1\narrive c1\nstop\n"),
+    (2, b"arrive c1\narrive c3\nstop\n"),
+    (1, b"arrive c2\nstop\n"),
+    (3, b"arrive c1\narrive c2\nput c1 \"a\"\nstop\n"),
+    (2, b"stop\nready c1\n"),
+    (1, b"stop\r\n"),
+];
+
+/// The same of histories.
+const HISTORIES: [(u64, &[u8]); 10] = [
+    (1, b"put c1 \"\r\"\n"),
+    (0, b"stop\nmoment 2\nmoment 1\narrive c7\n"),
+    (1, b"\n"),
+    (1, b"stop\r\n"),
+    (1, b"put c1 \"\t\"\n"),
+    (1, b"put c1 \"\xff\"\n"),
+    (1, b"stop"),
+    (2, b"stop\nstop"),
+    (2, b"stop\n\nstop\n"),
+    (3, b"stop\nstop\nroom c1 all\n"),
+];
+
 #[test]
 fn texts_are_refused_at_their_line(rt: HostRuntime) {
     let a = rt.alloc();
-    let schedules: [(u64, &[u8]); 18] = [
-        (0, b"arrive c1\nbytes c1 \"G\"\nbytes c1 \"ET \"\nstop\n"),
-        (2, b"moment 2\nmoment 1\nstop\n"),
-        (1, b""),
-        (1, b"stop"),
-        (1, b"\nstop\n"),
-        (2, b"stop\nstop\n"),
-        (2, b"stop\n\n"),
-        (2, b"stop\nx"),
-        (2, b"moment 1\n"),
-        (2, b"moment 1\nstop"),
-        (2, b"moment 5\nmoment 4\nstop\n"),
-        (2, b"arrive c1\n"),
-        (2, b"arrive c1\narrive c1\nstop\n"),
-        (2, b"arrive c1\narrive c3\nstop\n"),
-        (1, b"arrive c2\nstop\n"),
-        (3, b"arrive c1\narrive c2\nput c1 \"a\"\nstop\n"),
-        (2, b"stop\nready c1\n"),
-        (1, b"stop\r\n"),
-    ];
-    for (number, text) in schedules {
+    for (number, text) in SCHEDULES {
         assert_eq!(rt; no_schedule_at(a, text), number);
     }
-    let histories: [(u64, &[u8]); 10] = [
-        (1, b"put c1 \"\r\"\n"),
-        (0, b"stop\nmoment 2\nmoment 1\narrive c7\n"),
-        (1, b"\n"),
-        (1, b"stop\r\n"),
-        (1, b"put c1 \"\t\"\n"),
-        (1, b"put c1 \"\xff\"\n"),
-        (1, b"stop"),
-        (2, b"stop\nstop"),
-        (2, b"stop\n\nstop\n"),
-        (3, b"stop\nstop\nroom c1 all\n"),
-    ];
-    for (number, text) in histories {
+    for (number, text) in HISTORIES {
         assert_eq!(rt; no_history_at(a, text), number);
     }
 }

@@ -1,3 +1,4 @@
+//! Tests of `resty_world`: the history that is kept.
 use resty_base::Ms;
 use resty_world::*;
 use std::test::Fail;

@@ -1,8 +1,9 @@
 //! Whether an entry of a history is within its ranges.
 ghost use Rattle.std.specs.Prelude.{◌≡◌, ◌↔◌, ◌≤◌, All, IsTrue};
-ghost use Rattle.schedule_text.specs.Ranges.{IsAnswer, IsBytes, IsCall, IsEntry, IsHost, IsInit, IsInteger, IsNumber, IsSmall, IsSocket, IsTaken, IsTimer, IsValue, IsZone, is_zone_byte as zone_byte};
+ghost use Rattle.schedule_text.specs.Ranges.{IsAnswer, IsBytes, IsCall, IsEntry, IsHost, IsInit, IsInteger, IsNumber, IsSmall, IsSocket};
+ghost use Rattle.schedule_text.specs.Ranges.{IsTaken, IsTimer, IsValue, IsZone, is_zone_byte as zone_byte};
 
-use crate::ranges::{LAST_NUMBER, is_event, is_id, is_number, is_place, is_strand};
+use crate::ranges::{LAST_NUMBER, is_event, is_id, is_number, is_ordinal, is_strand};
 use resty_base::{Bytes, DictAnswer, DictCall, DictValue, Ms};
 use resty_world::{Entry, TimerAnswer};
 
@@ -23,7 +24,7 @@ fn is_small(number: u32) -> bool
 }
 
 /// Whether the port and the numbers of the host are in their ranges, which the types have already.
-fn is_place_to_dial(host: &[u8; 4], port: u16) -> bool
+fn is_address(host: &[u8; 4], port: u16) -> bool
     ensures { IsTrue result ↔ (IsHost host.now × (port ≤ 65_535)) }
 {
     are_bytes(host.as_slice()) && port <= u16::MAX
@@ -52,7 +53,7 @@ fn is_socket(socket: Option<u64>) -> bool
 {
     match socket {
         None => true,
-        Some(number) => is_place(number),
+        Some(number) => is_ordinal(number),
     }
 }
 
@@ -124,7 +125,7 @@ fn is_taken(got: Option<(u64, u32)>) -> bool
 {
     match got {
         None => true,
-        Some((socket, uses)) => is_place(socket) && is_small(uses),
+        Some((socket, uses)) => is_ordinal(socket) && is_small(uses),
     }
 }
 
@@ -132,7 +133,7 @@ fn is_timer(answer: TimerAnswer) -> bool
     ensures { IsTrue result ↔ IsTimer answer }
 {
     match answer {
-        TimerAnswer::Job(number) => is_place(number),
+        TimerAnswer::Job(number) => is_ordinal(number),
         TimerAnswer::Full | TimerAnswer::Exiting => true,
     }
 }
@@ -146,7 +147,7 @@ pub fn is_entry(entry: &Entry) -> bool
         Entry::Put(id, bytes) => is_id(*id) && are_bytes(bytes.as_slice()),
         Entry::Later(id) | Entry::Lost(id) | Entry::Close(id) => is_id(*id),
         Entry::Dial(who, host, port, socket) => {
-            is_strand(*who) && is_place_to_dial(host, *port) && is_socket(*socket)
+            is_strand(*who) && is_address(host, *port) && is_socket(*socket)
         }
         Entry::Log(who, text, _) => is_strand(*who) && are_bytes(text.as_slice()),
         Entry::Dict(who, zone, call, answer) => {
@@ -159,12 +160,12 @@ pub fn is_entry(entry: &Entry) -> bool
             is_strand(*who) && are_bytes(key.as_slice()) && is_taken(*got)
         }
         Entry::Keep(who, socket, key, idle, size, closed) => {
-            is_strand(*who) && is_place(*socket) && is_kept(key.as_slice(), *idle, *size, *closed)
+            is_strand(*who) && is_ordinal(*socket) && is_kept(key.as_slice(), *idle, *size, *closed)
         }
         Entry::Timer(who, due, answer) => {
             is_strand(*who) && is_number(due.0) && is_timer(*answer)
         }
-        Entry::Start(number) | Entry::Turned(number) => is_place(*number),
+        Entry::Start(number) | Entry::Turned(number) => is_ordinal(*number),
         Entry::Dropped(who) => is_strand(*who),
     }
 }

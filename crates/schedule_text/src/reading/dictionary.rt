@@ -1,6 +1,6 @@
-//! The calls of a dictionary and its answers that stand at a place of a text.
+//! The calls of a dictionary and its answers that stand within a text.
 ghost use Rattle.std.specs.Prelude.{◌≡◌, IfOk, length};
-ghost use Rattle.schedule_text.specs.FoundEntries.{after_call, after_incr, after_keyed, after_plain, after_store, after_value, answer_in as answer_of_text, answer_of as answer_by, call_of as call_by, incr_in as incr, keyed_call as keyed, names_in as names, plain_call as plain, plain_value as unquoted_value, store_in as store, value_in as value_of};
+ghost use Rattle.schedule_text.specs.FoundEntries as found;
 
 use crate::reading::numbers::{integer_in, number_in, small_in};
 use crate::reading::quotes::first_quoted;
@@ -10,7 +10,7 @@ use std::alloc::{AllocError, Global};
 
 /// A value that isn't quoted.
 fn plain_value(text: &[u8]) -> DictValue
-    ensures { result ≡ unquoted_value text.now }
+    ensures { result ≡ found.plain_value text.now }
 {
     if begins(text, b't') {
         DictValue::Truth(true)
@@ -21,9 +21,9 @@ fn plain_value(text: &[u8]) -> DictValue
     }
 }
 
-/// A value, and what stands behind it and a space.
+/// A value, and what stands after it and a space.
 fn first_value(alloc: Global, text: &[u8]) -> Result<(DictValue, &[u8]), AllocError>
-    ensures { IfOk result (λ read. (read.0 ≡ value_of text.now) × (read.1.now ≡ after_value text.now)) }
+    ensures { IfOk result (λ read. (read.0 ≡ found.value_in text.now) × (read.1.now ≡ found.after_value text.now)) }
 {
     if begins(text, b'"') {
         let (bytes, rest) = first_quoted(alloc, text)?;
@@ -34,9 +34,9 @@ fn first_value(alloc: Global, text: &[u8]) -> Result<(DictValue, &[u8]), AllocEr
     }
 }
 
-/// The storing of a value, of which the text begins behind the key.
+/// The storing of a value, of which the text begins after the key.
 fn store(alloc: Global, how: How, key: Bytes, text: &[u8]) -> Result<(DictCall, &[u8]), AllocError>
-    ensures { IfOk result (λ read. (read.0 ≡ store how key text.now) × (read.1.now ≡ after_store text.now)) }
+    ensures { IfOk result (λ read. (read.0 ≡ found.store_in how key text.now) × (read.1.now ≡ found.after_store text.now)) }
 {
     let (value, rest) = first_value(alloc, text)?;
     let (ttl, rest) = first_word(rest);
@@ -51,14 +51,14 @@ fn store(alloc: Global, how: How, key: Bytes, text: &[u8]) -> Result<(DictCall, 
     Ok((call, rest))
 }
 
-/// The adding to a number, of which the text begins behind the key.
+/// The adding to a number, of which the text begins after the key.
 fn incr(key: Bytes, text: &[u8]) -> (DictCall, &[u8])
-    ensures call { result.0 ≡ incr key text.now }
-    ensures rest { result.1.now ≡ after_incr text.now }
+    ensures call { result.0 ≡ found.incr_in key text.now }
+    ensures rest { result.1.now ≡ found.after_incr text.now }
 {
     let (by, rest) = first_word(text);
     let by = integer_in(by);
-    let (first, behind) = first_word(rest);
+    let (first, after) = first_word(rest);
     if begins(rest, b'n') {
         let call = DictCall::Incr {
             key,
@@ -66,44 +66,44 @@ fn incr(key: Bytes, text: &[u8]) -> (DictCall, &[u8])
             init: None,
             ttl: 0,
         };
-        return (call, behind);
+        return (call, after);
     }
-    let (ttl, behind) = first_word(behind);
+    let (ttl, after) = first_word(after);
     let call = DictCall::Incr {
         key,
         by,
         init: Some(integer_in(first)),
         ttl: number_in(ttl),
     };
-    (call, behind)
+    (call, after)
 }
 
-/// A call without a key, by its first word and what stands behind that.
+/// A call without a key, by its first word and what stands after that.
 fn plain_call<'a>(word: &[u8], rest: &'a [u8]) -> (DictCall, &'a [u8])
-    ensures call { result.0 ≡ plain word.now rest.now }
-    ensures rest { result.1.now ≡ after_plain word.now rest.now }
+    ensures call { result.0 ≡ found.plain_call word.now rest.now }
+    ensures rest { result.1.now ≡ found.after_plain word.now rest.now }
 {
     if is(word, b"flush_all") {
         return (DictCall::FlushAll, rest);
     }
-    let (most, behind) = first_word(rest);
+    let (most, after) = first_word(rest);
     if is(word, b"flush_expired") {
-        (DictCall::FlushExpired(small_in(most)), behind)
+        (DictCall::FlushExpired(small_in(most)), after)
     } else if is(word, b"get_keys") {
-        (DictCall::Keys(small_in(most)), behind)
+        (DictCall::Keys(small_in(most)), after)
     } else {
-        (DictCall::FlushAll, behind)
+        (DictCall::FlushAll, after)
     }
 }
 
-/// A call with a key, of which the text begins behind that.
+/// A call with a key, of which the text begins after that.
 fn keyed_call<'a>(
     alloc: Global,
     word: &[u8],
     key: Bytes,
     text: &'a [u8],
 ) -> Result<(DictCall, &'a [u8]), AllocError>
-    ensures { IfOk result (λ read. (read.0 ≡ keyed word.now key text.now) × (read.1.now ≡ after_keyed word.now text.now)) }
+    ensures { IfOk result (λ read. (read.0 ≡ found.keyed_call word.now key text.now) × (read.1.now ≡ found.after_keyed word.now text.now)) }
 {
     if is(word, b"get") {
         Ok((DictCall::Get(key), text))
@@ -120,17 +120,17 @@ fn keyed_call<'a>(
     }
 }
 
-/// The call whose first word this is, and what stands behind the call and a space.
+/// The call whose first word this is, and what stands after the call and a space.
 pub fn call_in<'a>(
     alloc: Global,
     word: &[u8],
     rest: &'a [u8],
 ) -> Result<(DictCall, &'a [u8]), AllocError>
-    ensures { IfOk result (λ read. (read.0 ≡ call_by word.now rest.now) × (read.1.now ≡ after_call word.now rest.now)) }
+    ensures { IfOk result (λ read. (read.0 ≡ found.call_of word.now rest.now) × (read.1.now ≡ found.after_call word.now rest.now)) }
 {
     if begins(rest, b'"') {
-        let (key, behind) = first_quoted(alloc, rest)?;
-        keyed_call(alloc, word, key, behind)
+        let (key, after) = first_quoted(alloc, rest)?;
+        keyed_call(alloc, word, key, after)
     } else {
         Ok(plain_call(word, rest))
     }
@@ -138,7 +138,7 @@ pub fn call_in<'a>(
 
 /// Quoted texts with one space between them.
 fn names_in(alloc: Global, text: &[u8]) -> Result<ByteLists, AllocError>
-    ensures { IfOk result (λ read. read ≡ names (length text.now) text.now) }
+    ensures { IfOk result (λ read. read ≡ found.names_in (length text.now) text.now) }
 {
     let mut names = Vec::new(alloc);
     let mut rest = text;
@@ -146,18 +146,18 @@ fn names_in(alloc: Global, text: &[u8]) -> Result<ByteLists, AllocError>
         if rest.is_empty() {
             break;
         }
-        let (name, behind) = first_quoted(alloc, rest)?;
+        let (name, after) = first_quoted(alloc, rest)?;
         names.push(name)?;
-        rest = behind;
+        rest = after;
     }
     Ok(ByteLists::of(names))
 }
 
-/// An answer but names, by its first word and what stands behind that.
+/// An answer but names, by its first word and what stands after that.
 fn answer_by_word(alloc: Global, word: &[u8], rest: &[u8]) -> Result<DictAnswer, AllocError>
-    ensures { IfOk result (λ answer. answer ≡ answer_by word.now rest.now) }
+    ensures { IfOk result (λ answer. answer ≡ found.answer_of word.now rest.now) }
 {
-    let (first, behind) = first_word(rest);
+    let (first, after) = first_word(rest);
     if is(word, b"found") {
         let (value, flags) = first_value(alloc, rest)?;
         Ok(DictAnswer::Found(value, small_in(flags)))
@@ -168,13 +168,13 @@ fn answer_by_word(alloc: Global, word: &[u8], rest: &[u8]) -> Result<DictAnswer,
     } else if is(word, b"missing") {
         Ok(DictAnswer::Missing)
     } else if is(word, b"no") {
-        Ok(DictAnswer::NoMemory(!behind.is_empty()))
+        Ok(DictAnswer::NoMemory(!after.is_empty()))
     } else if is(word, b"not") {
         Ok(DictAnswer::NotNumber)
     } else if is(word, b"range") {
         Ok(DictAnswer::OutOfRange)
     } else if is(word, b"number") {
-        Ok(DictAnswer::Number(integer_in(first), !behind.is_empty()))
+        Ok(DictAnswer::Number(integer_in(first), !after.is_empty()))
     } else if is(word, b"count") {
         Ok(DictAnswer::Count(small_in(rest)))
     } else {
@@ -184,7 +184,7 @@ fn answer_by_word(alloc: Global, word: &[u8], rest: &[u8]) -> Result<DictAnswer,
 
 /// The answer that the text is, if it is one.
 pub fn answer_in(alloc: Global, text: &[u8]) -> Result<DictAnswer, AllocError>
-    ensures { IfOk result (λ answer. answer ≡ answer_of_text text.now) }
+    ensures { IfOk result (λ answer. answer ≡ found.answer_in text.now) }
 {
     let (word, rest) = first_word(text);
     if is(word, b"keys") {

@@ -1,6 +1,6 @@
 //! The entry of a history that a text is, if it is one.
 ghost use Rattle.std.specs.Prelude.{◌≡◌, IfOk};
-ghost use Rattle.schedule_text.specs.FoundEntries.{after_call, answer_in as answer_of_text, call_of as call_by, dial_in as dial, dict_in as dict, entry_in as entry_of_text, host_in as host, keep_in as keep, kept_in as kept, log_in as log, plain_entry as plain, strand_entry as of_strand, take_in as take, taken_in as taken, timer_answer_in as timer_answer, timer_in as timer};
+ghost use Rattle.schedule_text.specs.FoundEntries as found;
 
 use crate::reading::dictionary::{answer_in, call_in};
 use crate::reading::lines::event_in;
@@ -14,7 +14,7 @@ use std::alloc::{AllocError, Global};
 
 /// Four numbers with dots.
 fn host_in(text: &[u8]) -> [u8; 4]
-    ensures { result ≡ host text.now }
+    ensures { result ≡ found.host_in text.now }
 {
     let (first, rest) = split(text, b'.');
     let (second, rest) = split(rest, b'.');
@@ -27,16 +27,18 @@ fn host_in(text: &[u8]) -> [u8; 4]
     ]
 }
 
+/// A dial, of which the text begins after the strand.
 fn dial_in(who: StrandId, text: &[u8]) -> Entry
-    ensures { result ≡ dial who text.now }
+    ensures { result ≡ found.dial_in who text.now }
 {
     let (host, rest) = first_word(text);
     let (port, socket) = first_word(rest);
     Entry::Dial(who, host_in(host), port_in(port), socket_in(socket))
 }
 
+/// A line of a log, of which the text begins after the strand.
 fn log_in(alloc: Global, who: StrandId, text: &[u8]) -> Result<Entry, AllocError>
-    ensures { IfOk result (λ entry. entry ≡ log who text.now) }
+    ensures { IfOk result (λ entry. entry ≡ found.log_in who text.now) }
 {
     if begins(text, b'f') {
         let (_, quoted) = first_word(text);
@@ -46,8 +48,9 @@ fn log_in(alloc: Global, who: StrandId, text: &[u8]) -> Result<Entry, AllocError
     }
 }
 
+/// A call of a dictionary with its answer, of which the text begins after the strand.
 fn dict_in(alloc: Global, who: StrandId, text: &[u8]) -> Result<Entry, AllocError>
-    ensures { IfOk result (λ entry. entry ≡ dict who text.now) }
+    ensures { IfOk result (λ entry. entry ≡ found.dict_in who text.now) }
 {
     let (zone, rest) = first_word(text);
     let (word, rest) = first_word(rest);
@@ -58,27 +61,28 @@ fn dict_in(alloc: Global, who: StrandId, text: &[u8]) -> Result<Entry, AllocErro
     Ok(Entry::Dict(who, zone, call, answer))
 }
 
-/// The call whose first word this is, on the heap, and what stands behind the call and a space.
+/// The call whose first word this is, on the heap, and what stands after the call and a space.
 fn boxed_call_in<'a>(
     alloc: Global,
     word: &[u8],
     rest: &'a [u8],
 ) -> Result<(Boxed<DictCall>, &'a [u8]), AllocError>
-    ensures { IfOk result (λ read. (read.0 ≡ call_by word.now rest.now) × (read.1.now ≡ after_call word.now rest.now)) }
+    ensures { IfOk result (λ read. (read.0 ≡ found.call_of word.now rest.now) × (read.1.now ≡ found.after_call word.now rest.now)) }
 {
-    let (call, behind) = call_in(alloc, word, rest)?;
-    Ok((Boxed::new(alloc, call)?, behind))
+    let (call, after) = call_in(alloc, word, rest)?;
+    Ok((Boxed::new(alloc, call)?, after))
 }
 
 /// The answer that the text is, on the heap.
 fn boxed_answer_in(alloc: Global, text: &[u8]) -> Result<Boxed<DictAnswer>, AllocError>
-    ensures { IfOk result (λ answer. answer ≡ answer_of_text text.now) }
+    ensures { IfOk result (λ answer. answer ≡ found.answer_in text.now) }
 {
     Boxed::new(alloc, answer_in(alloc, text)?)
 }
 
+/// What a pool gave.
 fn taken_in(text: &[u8]) -> Option<(u64, u32)>
-    ensures { result ≡ taken text.now }
+    ensures { result ≡ found.taken_in text.now }
 {
     if begins(text, b's') {
         let (socket, uses) = first_word(text);
@@ -88,17 +92,18 @@ fn taken_in(text: &[u8]) -> Option<(u64, u32)>
     }
 }
 
+/// The taking of a socket from a pool, of which the text begins after the strand.
 fn take_in(alloc: Global, who: StrandId, text: &[u8]) -> Result<Entry, AllocError>
-    ensures { IfOk result (λ entry. entry ≡ take who text.now) }
+    ensures { IfOk result (λ entry. entry ≡ found.take_in who text.now) }
 {
     let (key, rest) = first_quoted(alloc, text)?;
     let (_, got) = first_word(rest);
     Ok(Entry::Take(who, key, taken_in(got)))
 }
 
-/// The keeping of a socket, of which the text begins behind the key.
+/// The keeping of a socket, of which the text begins after the key.
 fn kept_in(who: StrandId, socket: u64, key: Bytes, text: &[u8]) -> Entry
-    ensures { result ≡ kept who socket key text.now }
+    ensures { result ≡ found.kept_in who socket key text.now }
 {
     let (idle, rest) = first_word(text);
     let (size, rest) = first_word(rest);
@@ -108,16 +113,18 @@ fn kept_in(who: StrandId, socket: u64, key: Bytes, text: &[u8]) -> Entry
     Entry::Keep(who, socket, key, idle, small_in(size), socket_in(closed))
 }
 
+/// The keeping of a socket, of which the text begins after the strand.
 fn keep_in(alloc: Global, who: StrandId, text: &[u8]) -> Result<Entry, AllocError>
-    ensures { IfOk result (λ entry. entry ≡ keep who text.now) }
+    ensures { IfOk result (λ entry. entry ≡ found.keep_in who text.now) }
 {
     let (socket, quoted) = first_word(text);
     let (key, rest) = first_quoted(alloc, quoted)?;
     Ok(kept_in(who, numbered(socket), key, rest))
 }
 
+/// What was returned where a timer was asked for.
 fn timer_answer_in(text: &[u8]) -> TimerAnswer
-    ensures { result ≡ timer_answer text.now }
+    ensures { result ≡ found.timer_answer_in text.now }
 {
     if begins(text, b't') {
         TimerAnswer::Job(numbered(text))
@@ -128,8 +135,9 @@ fn timer_answer_in(text: &[u8]) -> TimerAnswer
     }
 }
 
+/// The asking for a timer, of which the text begins after the strand.
 fn timer_in(who: StrandId, text: &[u8]) -> Entry
-    ensures { result ≡ timer who text.now }
+    ensures { result ≡ found.timer_in who text.now }
 {
     let (due, rest) = first_word(text);
     let (_, answer) = first_word(rest);
@@ -138,7 +146,7 @@ fn timer_in(who: StrandId, text: &[u8]) -> Entry
 
 /// An entry of one word and one name, else a given event.
 fn plain_entry(alloc: Global, word: &[u8], rest: &[u8], text: &[u8]) -> Result<Entry, AllocError>
-    ensures { IfOk result (λ entry. entry ≡ plain word.now rest.now text.now) }
+    ensures { IfOk result (λ entry. entry ≡ found.plain_entry word.now rest.now text.now) }
 {
     if is(word, b"later") {
         Ok(Entry::Later(id_in(rest)))
@@ -159,22 +167,22 @@ fn plain_entry(alloc: Global, word: &[u8], rest: &[u8], text: &[u8]) -> Result<E
 
 /// An entry of what a strand did, else another.
 fn strand_entry(alloc: Global, word: &[u8], rest: &[u8], text: &[u8]) -> Result<Entry, AllocError>
-    ensures { IfOk result (λ entry. entry ≡ of_strand word.now rest.now text.now) }
+    ensures { IfOk result (λ entry. entry ≡ found.strand_entry word.now rest.now text.now) }
 {
-    let (who, behind) = first_word(rest);
+    let (who, after) = first_word(rest);
     let who = strand_in(who);
     if is(word, b"dial") {
-        Ok(dial_in(who, behind))
+        Ok(dial_in(who, after))
     } else if is(word, b"log") {
-        log_in(alloc, who, behind)
+        log_in(alloc, who, after)
     } else if is(word, b"dict") {
-        dict_in(alloc, who, behind)
+        dict_in(alloc, who, after)
     } else if is(word, b"take") {
-        take_in(alloc, who, behind)
+        take_in(alloc, who, after)
     } else if is(word, b"keep") {
-        keep_in(alloc, who, behind)
+        keep_in(alloc, who, after)
     } else if is(word, b"timer") {
-        Ok(timer_in(who, behind))
+        Ok(timer_in(who, after))
     } else {
         plain_entry(alloc, word, rest, text)
     }
@@ -182,7 +190,7 @@ fn strand_entry(alloc: Global, word: &[u8], rest: &[u8], text: &[u8]) -> Result<
 
 /// The entry that the text is, if it is one.
 pub fn entry_in(alloc: Global, text: &[u8]) -> Result<Entry, AllocError>
-    ensures { IfOk result (λ entry. entry ≡ entry_of_text text.now) }
+    ensures { IfOk result (λ entry. entry ≡ found.entry_in text.now) }
 {
     let (word, rest) = first_word(text);
     if is(word, b"put") {

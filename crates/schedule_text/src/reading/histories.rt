@@ -1,6 +1,7 @@
-ghost use Rattle.std.specs.Prelude.{◌≡◌, ◌≢◌, ◌∷◌, List, [], MatchResult, OnOk};
-ghost use Rattle.resty_world.specs.declared.entry.Entry.{Entry};
-ghost use Rattle.schedule_text.specs.Accepted.{IsHistoryFault, IsHistoryOf};
+//! Reading a history entry by entry.
+ghost use Rattle.std.specs.Prelude.{◌≡◌, ◌∷◌, MatchResult, OnOk};
+ghost use Rattle.schedule_text.specs.Accepted.{AcceptsHistory, IsHistoryFault, IsHistoryOf};
+ghost use Rattle.schedule_text.specs.Reading.{ReadsToEnd};
 
 use crate::SchedFault;
 use crate::reading::spelled::read_entry;
@@ -11,8 +12,7 @@ use std::alloc::{AllocError, Global};
 /// Reads a history: entries in any order, one a line.
 pub fn history_of(alloc: Global, text: &[u8]) -> Result<History, SchedFault>
     ensures read { MatchResult result (λ history. IsHistoryOf text.now history.entries) (IsHistoryFault text.now) }
-    // A text of a history is read as that history, unless memory is wanting.
-    ensures accepted { (entries : List Entry) → IsHistoryOf text.now entries → MatchResult result (λ history. history.entries ≡ entries) (λ fault. fault ≡ SchedFault.Memory) }
+    ensures accepted { AcceptsHistory text.now result }
 {
     read_entries(alloc, text)
 }
@@ -42,7 +42,7 @@ fn read_entries(alloc: Global, text: &[u8]) -> Result<History, SchedFault>
 
 /// The history that was read up to the line of this number, which may not be there.
 fn finish(history: History, number: u64, rest: &[u8]) -> Result<History, SchedFault>
-    ensures { MatchResult result (λ read. (rest.now ≡ []) × (read.entries ≡ history.entries)) (λ fault. (rest.now ≢ []) × (fault ≡ SchedFault.BadLine number)) }
+    ensures { ReadsToEnd rest.now number (λ read. read.entries ≡ history.entries) result }
 {
     if rest.is_empty() {
         Ok(history)

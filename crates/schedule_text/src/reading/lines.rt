@@ -1,6 +1,6 @@
 //! The event and the line of a schedule that a text is, if it is one.
 ghost use Rattle.std.specs.Prelude.{◌≡◌, IfOk};
-ghost use Rattle.schedule_text.specs.FoundLines.{event_in as event_of_text, fail_in as fail_of, line_in as line_of_text, plain_event as plain, room_in as room_of};
+ghost use Rattle.schedule_text.specs.FoundLines as found;
 
 use crate::reading::names::id_in;
 use crate::reading::numbers::{number_in, numbered};
@@ -10,9 +10,9 @@ use resty_base::Ms;
 use resty_world::{Event, SchedLine};
 use std::alloc::{AllocError, Global};
 
-/// An event but bytes, by the first word and what stands behind it.
+/// An event but the coming of bytes, by its first word and what stands after that.
 fn plain_event(word: &[u8], rest: &[u8]) -> Event
-    ensures { result ≡ plain word.now rest.now }
+    ensures { result ≡ found.plain_event word.now rest.now }
 {
     if is(word, b"arrive") {
         Event::Arrive(numbered(rest))
@@ -37,7 +37,7 @@ fn plain_event(word: &[u8], rest: &[u8]) -> Event
 
 /// The event that the text is, if it is one; a fault where it begins with no word of an event.
 pub fn event_in(alloc: Global, text: &[u8]) -> Result<Event, AllocError>
-    ensures { IfOk result (λ event. event ≡ event_of_text text.now) }
+    ensures { IfOk result (λ event. event ≡ found.event_in text.now) }
 {
     let (word, rest) = first_word(text);
     if is(word, b"bytes") {
@@ -48,8 +48,9 @@ pub fn event_in(alloc: Global, text: &[u8]) -> Result<Event, AllocError>
     }
 }
 
+/// `all`, or for how many bytes there is room.
 fn room_in(text: &[u8]) -> Option<u64>
-    ensures { result ≡ room_of text.now }
+    ensures { result ≡ found.room_in text.now }
 {
     if begins(text, b'a') {
         None
@@ -58,8 +59,9 @@ fn room_in(text: &[u8]) -> Option<u64>
     }
 }
 
+/// What is to fail.
 fn fail_in(text: &[u8]) -> SchedLine
-    ensures { result ≡ fail_of text.now }
+    ensures { result ≡ found.fail_in text.now }
 {
     if is(text, b"next") {
         SchedLine::FailNext
@@ -77,7 +79,7 @@ fn fail_in(text: &[u8]) -> SchedLine
 
 /// The line that the text is, if it is one.
 pub fn line_in(alloc: Global, text: &[u8]) -> Result<SchedLine, AllocError>
-    ensures { IfOk result (λ line. line ≡ line_of_text text.now) }
+    ensures { IfOk result (λ line. line ≡ found.line_in text.now) }
 {
     let (word, rest) = first_word(text);
     if is(word, b"room") {

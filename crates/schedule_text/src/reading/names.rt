@@ -1,6 +1,6 @@
 //! Names of connections, sockets and strands.
 ghost use Rattle.std.specs.Prelude.{◌≡◌};
-ghost use Rattle.schedule_text.specs.Found.{id_in as id, socket_in as socket, strand_in as strand};
+ghost use Rattle.schedule_text.specs.Found as found;
 
 use crate::reading::numbers::numbered;
 use crate::reading::splits::begins;
@@ -8,7 +8,7 @@ use resty_base::{Id, StrandId};
 
 /// The connection or the socket.
 pub fn id_in(text: &[u8]) -> Id
-    ensures { result ≡ id text.now }
+    ensures { result ≡ found.id_in text.now }
 {
     if begins(text, b's') {
         Id::Sock(numbered(text))
@@ -19,7 +19,7 @@ pub fn id_in(text: &[u8]) -> Id
 
 /// The strand.
 pub fn strand_in(text: &[u8]) -> StrandId
-    ensures { result ≡ strand text.now }
+    ensures { result ≡ found.strand_in text.now }
 {
     if begins(text, b't') {
         StrandId::Job(numbered(text))
@@ -30,7 +30,7 @@ pub fn strand_in(text: &[u8]) -> StrandId
 
 /// The socket, where one is named.
 pub fn socket_in(text: &[u8]) -> Option<u64>
-    ensures { result ≡ socket text.now }
+    ensures { result ≡ found.socket_in text.now }
 {
     if begins(text, b's') {
         Some(numbered(text))

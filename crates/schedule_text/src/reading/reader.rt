@@ -1,6 +1,7 @@
+//! The lines of a schedule that were read, and which line may come next.
 ghost use Rattle.std.specs.Prelude.{◌≡◌};
 ghost use Rattle.schedule_text.specs.Lines.{arrivals_in, latest_in};
-ghost use Rattle.schedule_text.specs.Reading.{arrived_after as arrived_by, latest_after as latest_by};
+ghost use Rattle.schedule_text.specs.Reading as reading;
 
 use crate::reading::spelled::read_line;
 use resty_world::{Event, SchedLine};
@@ -19,10 +20,9 @@ pub struct Reader {
 }
 
 impl Reader {
-    ghost use Rattle.std.specs.Prelude.{◌≡◌, ◌+◌, ◌++◌, ◌∷◌, ◌↔◌, [], length, IfOk, MatchOption, OnOk, OnErr, IsTrue};
-    ghost use Rattle.resty_world.specs.declared.schedule_line.SchedLine.{SchedLine};
+    ghost use Rattle.std.specs.Prelude.{◌≡◌, ◌+◌, ◌++◌, ◌∷◌, ◌↔◌, [], length, IfOk, OnOk, OnErr, IsTrue};
     ghost use Rattle.schedule_text.specs.Fitting.{Fits, Follows};
-    ghost use Rattle.schedule_text.specs.Reading.{ReadsNext};
+    ghost use Rattle.schedule_text.specs.Reading.{IsNextOf, ReadsNext};
 
     /// Nothing was read yet; takes no memory.
     pub fn new(alloc: Global) -> Reader
@@ -76,8 +76,7 @@ impl Reader {
 
     /// The line, where it may follow those that were read.
     fn next_of(&self, read: Option<SchedLine>) -> Option<SchedLine>
-        ensures none { read ≡ None → result ≡ None }
-        ensures some { (line : SchedLine) → read ≡ Some line → MatchOption result (Follows self.now.lines.items line → ⊥) (λ next. (next ≡ line) × Follows self.now.lines.items next) }
+        ensures { IsNextOf self.now.lines.items read result }
     {
         match read {
             Some(line) if self.precedes(&line) => Some(line),
@@ -119,9 +118,9 @@ impl Reader {
     }
 }
 
-/// How many connections arrived, behind a line that follows others.
+/// How many connections arrived, after a line that follows others.
 fn arrived_after(line: &SchedLine, before: u64) -> u64
-    ensures { result ≡ arrived_by line.now before }
+    ensures { result ≡ reading.arrived_after line.now before }
 {
     match line {
         SchedLine::Given(Event::Arrive(number)) => *number,
@@ -129,9 +128,9 @@ fn arrived_after(line: &SchedLine, before: u64) -> u64
     }
 }
 
-/// The latest moment, behind a line that follows others.
+/// The latest moment, after a line that follows others.
 fn latest_after(line: &SchedLine, before: u64) -> u64
-    ensures { result ≡ latest_by line.now before }
+    ensures { result ≡ reading.latest_after line.now before }
 {
     match line {
         SchedLine::Given(Event::Moment(now)) => now.0,

@@ -1,6 +1,7 @@
 //! The entries of a history.
 ghost use Rattle.std.specs.Prelude.{◌≡◌, ◌++◌, OnOk, codes, decimal};
-ghost use Rattle.schedule_text.specs.EntryTexts.{answer_text, call_text, entry_line, entry_text, failed_text, host_text, pool_text, socket_or, taken_text, timer_text};
+ghost use Rattle.resty_world.specs.declared.entry.Entry.TheVariants.{Dial, Dict, Log, Take, Timer};
+ghost use Rattle.schedule_text.specs.EntryTexts.{entry_line, entry_text, host_text, pool_text, socket_or, taken_text, timer_text};
 ghost use Rattle.schedule_text.specs.Words.{quoted, strand_text};
 
 use crate::text::dictionary::{put_answer, put_call};
@@ -67,7 +68,7 @@ fn put_dial(
     port: u16,
     number: Option<u64>,
 ) -> Result<(), AllocError>
-    ensures { OnOk result (out.new.items ≡ out.old.items ++ codes "dial " ++ strand_text who ++ codes " " ++ host_text host ++ codes " " ++ decimal port ++ codes " " ++ socket_or (codes "failed") number) }
+    ensures { OnOk result (out.new.items ≡ out.old.items ++ entry_text (Dial who host port number)) }
 {
     put_who(out, b"dial ", who)?;
     put_host(out, host)?;
@@ -87,7 +88,7 @@ fn put_dialled(out: &mut Vec<u8>, number: Option<u64>) -> Result<(), AllocError>
 
 /// Puts a log line.
 fn put_log(out: &mut Vec<u8>, who: StrandId, text: &[u8], written: bool) -> Result<(), AllocError>
-    ensures { OnOk result (out.new.items ≡ out.old.items ++ codes "log " ++ strand_text who ++ codes " " ++ failed_text written ++ quoted text.now) }
+    ensures { OnOk result (out.new.items ≡ out.old.items ++ entry_text (Log who text.now written)) }
 {
     put_who(out, b"log ", who)?;
     if written {
@@ -105,7 +106,7 @@ fn put_dict(
     call: &DictCall,
     answer: &DictAnswer,
 ) -> Result<(), AllocError>
-    ensures { OnOk result (out.new.items ≡ out.old.items ++ codes "dict " ++ strand_text who ++ codes " " ++ zone.now ++ codes " " ++ call_text call.now ++ codes " = " ++ answer_text answer.now) }
+    ensures { OnOk result (out.new.items ≡ out.old.items ++ entry_text (Dict who zone.now call.now answer.now)) }
 {
     put_who(out, b"dict ", who)?;
     put_spaced(out, zone)?;
@@ -114,7 +115,7 @@ fn put_dict(
     put_answer(out, answer)
 }
 
-/// Puts a text with a space before and behind it.
+/// Puts a text with a space before and after it.
 fn put_spaced(out: &mut Vec<u8>, text: &[u8]) -> Result<(), AllocError>
     ensures { OnOk result (out.new.items ≡ out.old.items ++ codes " " ++ text.now ++ codes " ") }
 {
@@ -130,7 +131,7 @@ fn put_take(
     key: &[u8],
     got: Option<(u64, u32)>,
 ) -> Result<(), AllocError>
-    ensures { OnOk result (out.new.items ≡ out.old.items ++ codes "take " ++ strand_text who ++ codes " " ++ quoted key.now ++ codes " = " ++ taken_text got) }
+    ensures { OnOk result (out.new.items ≡ out.old.items ++ entry_text (Take who key.now got)) }
 {
     put_who(out, b"take ", who)?;
     put_with_quoted(out, b" ", key)?;
@@ -178,14 +179,14 @@ fn put_timer(
     due: Ms,
     answer: TimerAnswer,
 ) -> Result<(), AllocError>
-    ensures { OnOk result (out.new.items ≡ out.old.items ++ codes "timer " ++ strand_text who ++ codes " " ++ decimal due.0 ++ codes " = " ++ timer_text answer) }
+    ensures { OnOk result (out.new.items ≡ out.old.items ++ entry_text (Timer who due answer)) }
 {
     put_who(out, b"timer ", who)?;
     put_numbered(out, b" ", due.0)?;
     put_timer_answer(out, answer)
 }
 
-/// Puts what the asking for a timer was answered.
+/// Puts what was returned where a timer was asked for.
 fn put_timer_answer(out: &mut Vec<u8>, answer: TimerAnswer) -> Result<(), AllocError>
     ensures { OnOk result (out.new.items ≡ out.old.items ++ codes " = " ++ timer_text answer) }
 {

@@ -1,3 +1,4 @@
+//! The texts of events.
 ghost use Rattle.std.specs.Prelude.{◌≡◌, ◌++◌, OnOk};
 ghost use Rattle.schedule_text.specs.LineTexts.{event_text};
 

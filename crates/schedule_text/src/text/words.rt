@@ -1,4 +1,4 @@
-//! The words of the texts: numbers, names, quoted bytes. Each is put behind what `out` holds.
+//! The words of the texts: numbers, names, quoted bytes. Each is put after what `out` holds.
 ghost use Rattle.std.specs.Prelude.{◌≡◌, ◌++◌, ◌<◌, OnOk, codes, decimal};
 ghost use Rattle.std.specs.Fmt.{signed_decimal};
 ghost use Rattle.schedule_text.specs.Words.{hex_digit, id_text, quoted, quoted_byte, strand_text};
@@ -67,7 +67,11 @@ fn hex(digit: u8) -> u8
     requires { digit < 16 }
     ensures { result ≡ hex_digit digit }
 {
-    if digit < 10 { 48 + digit } else { 87 + digit }
+    if digit < 10 {
+        b'0' + digit
+    } else {
+        b'a' - 10 + digit
+    }
 }
 
 /// Puts a byte as it stands within quotes.

@@ -79,7 +79,8 @@ dialled s1
 put s1 "hello\n"
 bytes s1 "world\r\n"
 keep c1 s1 "127.0.0.1:9000" 10000 8 = kept
-put c1 "HTTP/1.1 200 OK\r\nServer: resty\r\nDate: Tue, 14 Nov 2023 22:13:20 GMT\r\nContent-Type: text/plain\r\nTransfer-Encoding: chunked\r\nConnection: keep-alive\r\nX-Hits: 1\r\n\r\nc\r\none:7 world\n\r\n0\r\n\r\n"
+put c1 "HTTP/1.1 200 OK\r\nServer: resty\r\nDate: Tue, 14 Nov 2023 22:13:20 GMT\r\n"
+put c1 "Content-Type: text/plain\r\nTransfer-Encoding: chunked\r\nConnection: keep-alive\r\nX-Hits: 1\r\n\r\nc\r\none:7 world\n\r\n0\r\n\r\n"
 stop
 close c1
 close s1

@@ -57,25 +57,15 @@ fn events_are_lines(rt: HostRuntime) {
 }
 
 #[test]
-fn entries_are_lines(rt: HostRuntime) {
-    let cases: [(&[u8], Entry); 18] = [
+fn entries_of_a_world_are_lines(rt: HostRuntime) {
+    let cases: [(&[u8], Entry); 11] = [
         (b"put c1 \"H\"\n", Entry::Put(Id::Conn(1), text(b"H"))),
         (b"later s7\n", Entry::Later(Id::Sock(7))),
         (b"lost c1\n", Entry::Lost(Id::Conn(1))),
         (b"close s3\n", Entry::Close(Id::Sock(3))),
-        (
-            b"dial c2 10.0.0.255 9000 s3\n",
-            Entry::Dial(WHO, HOST, 9000, Some(3)),
-        ),
-        (
-            b"dial t1 10.0.0.255 65535 failed\n",
-            Entry::Dial(JOB, HOST, 65_535, None),
-        ),
-        (b"log c2 \"x\"\n", Entry::Log(WHO, text(b"x"), true)),
-        (
-            b"log t1 failed \"\"\n",
-            Entry::Log(JOB, Bytes::new(), false),
-        ),
+        (b"start t1\n", Entry::Start(1)),
+        (b"turned c2\n", Entry::Turned(2)),
+        (b"dropped t3\n", Entry::Dropped(StrandId::Job(3))),
         (
             b"take c2 \"A:9000\" = none\n",
             Entry::Take(WHO, text(b"A:9000"), None),
@@ -92,6 +82,28 @@ fn entries_are_lines(rt: HostRuntime) {
             b"keep c2 s3 \"A\" 0 1 = kept s2\n",
             Entry::Keep(WHO, 3, text(b"A"), Ms(0), 1, Some(2)),
         ),
+    ];
+    for (line, entry) in cases {
+        assert!(rt; has_text(rt.alloc(), line, entry));
+    }
+}
+
+#[test]
+fn entries_of_a_strand_are_lines(rt: HostRuntime) {
+    let cases: [(&[u8], Entry); 7] = [
+        (
+            b"dial c2 10.0.0.255 9000 s3\n",
+            Entry::Dial(WHO, HOST, 9000, Some(3)),
+        ),
+        (
+            b"dial t1 10.0.0.255 65535 failed\n",
+            Entry::Dial(JOB, HOST, 65_535, None),
+        ),
+        (b"log c2 \"x\"\n", Entry::Log(WHO, text(b"x"), true)),
+        (
+            b"log t1 failed \"\"\n",
+            Entry::Log(JOB, Bytes::new(), false),
+        ),
         (
             b"timer c2 5 = t1\n",
             Entry::Timer(WHO, Ms(5), TimerAnswer::Job(1)),
@@ -104,9 +116,6 @@ fn entries_are_lines(rt: HostRuntime) {
             b"timer c2 5 = exiting\n",
             Entry::Timer(WHO, Ms(5), TimerAnswer::Exiting),
         ),
-        (b"start t1\n", Entry::Start(1)),
-        (b"turned c2\n", Entry::Turned(2)),
-        (b"dropped t3\n", Entry::Dropped(StrandId::Job(3))),
     ];
     for (line, entry) in cases {
         assert!(rt; has_text(rt.alloc(), line, entry));
@@ -147,12 +156,9 @@ fn get() -> DictCall {
 }
 
 #[test]
-fn dictionary_calls_are_lines(rt: HostRuntime) -> Result<(), Fail> {
+fn gets_and_stores_are_lines(rt: HostRuntime) {
     let a = rt.alloc();
-    let mut names = Vec::new(a);
-    names.push(text(b"a"))?;
-    names.push(text(b"b c"))?;
-    let cases: [(&[u8], DictCall, DictAnswer); 16] = [
+    let cases: [(&[u8], DictCall, DictAnswer); 6] = [
         (b"dict c2 d get \"k\" = none\n", get(), DictAnswer::Nothing),
         (
             b"dict c2 d get \"k\" = found \"v\" 0\n",
@@ -179,6 +185,16 @@ fn dictionary_calls_are_lines(rt: HostRuntime) -> Result<(), Fail> {
             store(How::Replace, DictValue::Truth(true), 0, 0),
             DictAnswer::Missing,
         ),
+    ];
+    for (line, call, answer) in cases {
+        assert!(rt; has_call(a, line, call, answer));
+    }
+}
+
+#[test]
+fn deletions_and_counts_are_lines(rt: HostRuntime) {
+    let a = rt.alloc();
+    let cases: [(&[u8], DictCall, DictAnswer); 5] = [
         (
             b"dict c2 d delete \"k\" = done forcible\n",
             DictCall::Delete(text(b"k")),
@@ -204,6 +220,19 @@ fn dictionary_calls_are_lines(rt: HostRuntime) -> Result<(), Fail> {
             incr(1, None, 0),
             DictAnswer::NotNumber,
         ),
+    ];
+    for (line, call, answer) in cases {
+        assert!(rt; has_call(a, line, call, answer));
+    }
+}
+
+#[test]
+fn flushes_and_names_are_lines(rt: HostRuntime) -> Result<(), Fail> {
+    let a = rt.alloc();
+    let mut names = Vec::new(a);
+    names.push(text(b"a"))?;
+    names.push(text(b"b c"))?;
+    let cases: [(&[u8], DictCall, DictAnswer); 5] = [
         (
             b"dict c2 d flush_all = done\n",
             DictCall::FlushAll,
