@@ -1,3 +1,4 @@
+pub mod AsideLemmas
 pub mod KnowingLemmas
 pub mod NextLine
 pub mod Noting

@@ -1,13 +1,14 @@
--- The places that are set aside, as one is set or used, and the flags of the connections.
-use Rattle.std.proofs.Common.{◌≡◌, ℕ, ◌+◌, ◌<◌, ◌≤◌, Bool, true, false, ltb, List, [], ◌∷◌, length, refl, sym, ap, ◌∙◌, arith}
+-- The ids that are open, as one is opened or closed, and names that are the same.
+use Rattle.std.proofs.Common.{◌≡◌, ℕ, ◌+◌, ◌<◌, ◌≤◌, Bool, true, false, not, ltb, List, [], ◌∷◌, length, refl, sym, ap, ◌∙◌, true≢false, arith}
 use Rattle.std.specs.Bool.{if◌then◌else◌}
+use Rattle.std.specs.Prelude.{◌&&◌}
 use Rattle.std.proofs.lemmas.Bool.{eqb-true, ltb-true, ltb-false}
 use Rattle.resty_base.specs.declared.names.Id.{Id}
 use Rattle.resty_base.specs.declared.names.Id.TheVariants as id
 use Rattle.resty_base.specs.declared.names.StrandId.{StrandId}
 use Rattle.resty_base.specs.declared.names.StrandId.TheVariants as strand
 use Rattle.resty_world.specs.Ids.{same_id, same_strand}
-use Rattle.schedule.specs.Places.{has, without}
+use Rattle.schedule.specs.Places.{has, without, are_distinct}
 
 pub same_id-eq : (x y : Id) → same_id x y ≡ true → x ≡ y
 same_id-eq (id.Conn c) (id.Conn d) same = ap id.Conn (eqb-true c d same)
@@ -57,25 +58,54 @@ pub has-without : {A : Type 0} (same : A → A → Bool) (is_eq : (x y : A) → 
 has-without same is_eq x i [] = off-off (same x i)
 has-without same is_eq x i (y ∷ ys) = has-without_step same is_eq x i y (without same i ys) ys (same y i) refl (has-without same is_eq x i ys)
 
-length-without_step : {A : Type 0} (y : A) (rest ys : List A) (b : Bool) → length rest ≤ length ys → length (if b then rest else y ∷ rest) ≤ length ys + 1
-length-without_step y rest ys true le = omega arith
-length-without_step y rest ys false le = omega arith
+first-off : (b c : Bool) → (if b then true else c) ≡ false → b ≡ false
+first-off true c off = absurd (true≢false off)
+first-off false c off = refl
 
-pub length-without_le : {A : Type 0} (same : A → A → Bool) (i : A) (ys : List A) → length (without same i ys) ≤ length ys
-length-without_le same i [] = omega arith
-length-without_le same i (y ∷ ys) =
-    let step = length-without_step y (without same i ys) ys (same y i) (length-without_le same i ys) in omega arith
+rest-off : (b c : Bool) → (if b then true else c) ≡ false → c ≡ false
+rest-off true c off = absurd (true≢false off)
+rest-off false c off = off
 
-fewer_step : {A : Type 0} (y : A) (rest ys : List A) (b p r : Bool) → (p ≡ true → b ≡ true) → length rest ≤ length ys → (r ≡ true → length rest + 1 ≤ length ys)
-    → (if p then true else r) ≡ true → length (if b then rest else y ∷ rest) + 1 ≤ length ys + 1
-fewer_step y rest ys true p r apart le lt is_in = omega arith
-fewer_step y rest ys false true r apart le lt is_in = absurd (let e : false ≡ true = apart refl in cc)
-fewer_step y rest ys false false r apart le lt is_in = let h = lt is_in in omega arith
+both-on : (b c : Bool) → (not b && c) ≡ true → (b ≡ false) × (c ≡ true)
+both-on true c on = absurd (true≢false (sym on))
+both-on false c on = (refl, on)
 
-pub length-without : {A : Type 0} (same : A → A → Bool) (is_eq : (x y : A) → same x y ≡ true → x ≡ y) (i : A) (ys : List A)
-    → has same i ys ≡ true → length (without same i ys) + 1 ≤ length ys
-length-without same is_eq i [] is_in = absurd (let e : false ≡ true = is_in in cc)
-length-without same is_eq i (y ∷ ys) is_in =
-    let step = fewer_step y (without same i ys) ys (same y i) (same i y) (has same i ys)
-    (λ is_y. let e = is_eq i y is_y in ap (λ z. same z i) (sym e) ∙ ap (λ z. same i z) e ∙ is_y)
-    (length-without_le same i ys) (length-without same is_eq i ys) is_in in omega arith
+module _ {A : Type 0} (same : A → A → Bool) (is_eq : (x y : A) → same x y ≡ true → x ≡ y) where
+  turned : (x y : A) → same x y ≡ true → same y x ≡ true
+  turned x y on = let e = is_eq x y on in ap (λ z. same z x) (sym e) ∙ ap (λ z. same x z) e ∙ on
+
+  kept : {B : Type 0} (y i : A) (rest stays : B) → same i y ≡ false → (if same y i then rest else stays) ≡ stays
+  kept y i rest stays off = by_test (same y i) (λ on. absurd (true≢false (sym (turned y i on) ∙ off))) (λ no. rw no refl)
+
+  -- without one that isn't there all is as it was
+  without-absent : (i : A) (ys : List A) → has same i ys ≡ false → without same i ys ≡ ys
+  without-absent i [] off = refl
+  without-absent i (y ∷ ys) off =
+      kept y i (without same i ys) (y ∷ without same i ys) (first-off (same i y) (has same i ys) off)
+      ∙ ap (λ zs. y ∷ zs) (without-absent i ys (rest-off (same i y) (has same i ys) off))
+
+  -- where no two are the same, there is one less without one that was there
+  pub length-without : (i : A) (ys : List A) → are_distinct same ys ≡ true → has same i ys ≡ true → length (without same i ys) + 1 ≡ length ys
+  length-without i [] distinct is_in = absurd (true≢false (sym is_in))
+  length-without i (y ∷ ys) distinct is_in =
+      let both = both-on (has same y ys) (are_distinct same ys) distinct in
+      by_test (same i y)
+      (λ on.
+      let e = is_eq i y on in
+      let gone : without same i ys ≡ ys = without-absent i ys (ap (λ z. has same z ys) e ∙ both.0) in
+      ap (λ b. length (if b then without same i ys else y ∷ without same i ys) + 1) (turned i y on) ∙ ap (λ zs. length zs + 1) gone ∙ omega arith)
+      (λ off.
+      let less = length-without i ys both.1 (sym (ap (λ b. if b then true else has same i ys) off) ∙ is_in) in
+      ap (λ zs. length zs + 1) (kept y i (without same i ys) (y ∷ without same i ys) off) ∙ omega (arith, less))
+
+  -- no two are the same without one
+  pub distinct-without : (i : A) (ys : List A) → are_distinct same ys ≡ true → are_distinct same (without same i ys) ≡ true
+  distinct-without i [] distinct = refl
+  distinct-without i (y ∷ ys) distinct =
+      let both = both-on (has same y ys) (are_distinct same ys) distinct in
+      let rest = distinct-without i ys both.1 in
+      by_test (same y i)
+      (λ on. ap (λ b. are_distinct same (if b then without same i ys else y ∷ without same i ys)) on ∙ rest)
+      (λ off.
+      let out : has same y (without same i ys) ≡ false = has-without same is_eq y i ys ∙ ap (λ b. if b then false else has same y ys) off ∙ both.0 in
+      ap (λ b. are_distinct same (if b then without same i ys else y ∷ without same i ys)) off ∙ ap (λ b. not b && are_distinct same (without same i ys)) out ∙ rest)

@@ -1,4 +1,4 @@
--- Where a replay stands behind one step more.
+-- Where a replay stands after one step more.
 use Rattle.std.proofs.Common.{◌≡◌, ℕ, ◌+◌, ◌-◌, ◌<◌, ◌≤◌, Bool, true, false, cond, not, List, [], ◌∷◌, ◌++◌, length, reverse, get_or, Some, slice_get, refl, sym, ap, subst, ◌∙◌, arith, length-append, length-take-le}
 use Rattle.std.proofs.lemmas.Bool.{lt-ltb}
 use Rattle.std.proofs.lemmas.List.{take_all, same_from_push, reverse-append, get_or_default}
@@ -18,11 +18,12 @@ use Rattle.schedule.specs.declared.replay.Replay.{Replay}
 use Rattle.schedule.specs.Counts.{arrived_in, dials_in, losses_in, loses_by, counted}
 use Rattle.schedule.specs.Peers.{peer_at, room_in, put_fails_in}
 use Rattle.schedule.specs.ReplayBook.{StandsBy, Stands, StandsAnywhere}
-use Rattle.schedule.specs.Steps.{Step, Call, Passed, Answered, Listened, AskedAtBadLine, AskedAtEnd, Dialling, Logging, Writing, AreSteps, FailsRightly, IsAnswer, is_skipped, given_by, history_of, lines_of, offers_by, is_call, failing_by, answered_by, tells_failure, one_if, unspent, room_by, room_behind, is_fail_next, is_failed_log, begins_by_failing, has_listened_in_vain, newest_given, faults_in}
+use Rattle.schedule.specs.Steps.{Step, Call, Passed, Answered, Listened, AskedAtBadLine, AskedAtEnd, Dialling, Logging, Writing, AreSteps, FailsRightly, IsAnswer, is_skipped, given_by, history_of}
+use Rattle.schedule.specs.Steps.{lines_of, offers_by, is_call, failing_by, answered_by, tells_failure, one_if, unspent, room_by, room_after, is_fail_next, is_failed_log, begins_by_failing, has_listened_in_vain, newest_given, faults_in}
 use Rattle.schedule.proofs.Passing.{take-more}
 use Rattle.schedule.proofs.PlacesLemmas.{by_test, same_id-eq}
 
--- counting goes on behind the last value
+-- counting goes on after the last value
 capped : (n k : ℕ) → counted (counted n + k) ≡ counted (n + k)
 capped n k = omega arith
 
@@ -60,7 +61,7 @@ pub answers : (old new : Replay) (e : Entry) (n : ℕ) (s : Stands old) → new.
     → new.history.entries ≡ e ∷ old.history.entries → reverse new.offered.items ≡ offers_by e n (reverse old.offered.items)
     → FailsRightly (answered_by e) (tells_failure e) s.steps → IsAnswer s.steps e n
     → new.faults ≡ counted (old.faults + one_if (is_failed_log e)) → new.losses ≡ counted (old.losses + loses_by e)
-    → ((x : Id) → room_in (peer_at new.peers x) ≡ room_behind e x (room_in (peer_at old.peers x)))
+    → ((x : Id) → room_in (peer_at new.peers x) ≡ room_after e x (room_in (peer_at old.peers x)))
     → ((x : Id) → put_fails_in (peer_at new.peers x) ≡ put_fails_in (peer_at old.peers x) - one_if (tells_failure e && is_call (answered_by e) (Writing x)))
     → new.dial_fails ≡ old.dial_fails - one_if (tells_failure e && is_call (answered_by e) Dialling)
     → new.log_fails ≡ old.log_fails - one_if (tells_failure e && is_call (answered_by e) Logging)
@@ -73,7 +74,7 @@ answers old new e n s course passed entries offered rightly right faults losses 
   offered = ap (offers_by e n) s.offered ∙ sym offered;
   faults = faults ∙ ap (λ k. counted (k + one_if (is_failed_log e))) s.faults ∙ capped (faults_in s.steps) _;
   losses = losses ∙ ap (λ k. counted (k + loses_by e)) s.losses ∙ rw entries (omega arith);
-  rooms = λ x. rooms x ∙ ap (room_behind e x) (s.rooms x);
+  rooms = λ x. rooms x ∙ ap (room_after e x) (s.rooms x);
   put_fails = λ x. put_fails x ∙ ap (λ k. k - one_if (tells_failure e && is_call (answered_by e) (Writing x))) (s.put_fails x);
   dial_fails = dial_fails ∙ ap (λ k. k - one_if (tells_failure e && is_call (answered_by e) Dialling)) s.dial_fails;
   log_fails = log_fails ∙ ap (λ k. k - one_if (tells_failure e && is_call (answered_by e) Logging)) s.log_fails;
@@ -193,7 +194,7 @@ listens old new port s course passed entries offered faults losses peers dial_fa
   kept = refl;
 }
 
--- asking behind the last line
+-- asking after the last line
 pub fails_at_end : (old new : Replay) (s : StandsAnywhere old) → IsSchedule old.course → old.passed ≡ length old.course → new.course ≡ old.course → new.passed ≡ old.passed
     → new.history.entries ≡ old.history.entries → new.offered.items ≡ old.offered.items → new.faults ≡ counted (old.faults + 1) → new.losses ≡ old.losses
     → new.peers ≡ old.peers → new.dial_fails ≡ old.dial_fails → new.log_fails ≡ old.log_fails → new.listen_fails ≡ old.listen_fails → new.port ≡ old.port → Stands new

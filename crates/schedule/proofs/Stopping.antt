@@ -1,4 +1,4 @@
--- Behind `stop` there is no line.
+-- After `stop` there is no line.
 use Rattle.std.proofs.Common.{◌≡◌, ℕ, zero, suc, ◌+◌, ◌<◌, Bool, true, false, cond, inl, inr, List, [], ◌∷◌, ◌++◌, length, take, Some, None, slice_get, refl, sym, ap, subst, ◌∙◌, arith}
 use Rattle.std.proofs.lemmas.Bool.{cases_lt}
 use Rattle.std.proofs.lemmas.List.{take_all}
@@ -56,7 +56,7 @@ all-passed lines passed history offered whole told newest = elim (cases_lt passe
   | inl within ↦
       let next = line-at lines passed within in
       let none = (whole.fit passed next.0 next.1).goes_on in
-      let some = stop-passed (take passed lines ++ told.behind) told.steps told.steps_right (ap newest_given told.steps_history ∙ newest) in
+      let some = stop-passed (take passed lines ++ told.after) told.steps told.steps_right (ap newest_given told.steps_history ∙ newest) in
       absurd (omega (arith, none, some, ap stops_in told.steps_lines))
   | inr end ↦ take_all passed lines end
 ]

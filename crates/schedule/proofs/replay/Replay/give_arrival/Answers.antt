@@ -33,9 +33,10 @@ invariant_of-self c =
       known = rw entries (knows-new roll c.add_connection.new.self history (entry.Given (event.Arrive number)) (id.Conn (length roll.connections + 1)) world.known (next-connection roll)
           (search rules) (omega (arith, world.known.arrived, connections)) (omega (arith, world.known.dialled, sockets))
           (ap (λ n. id.Conn n ∷ open_ids history) c.requires.next) (λ x. refl) (λ x. refl));
-      places = rw entries (omega (arith, world.places));
-      room = omega (arith, c.requires.ready.room);
-      counted = omega (arith, c.requires.ready.counted);
+      opened = rw entries (omega (arith, world.opened));
+      strands = omega (arith, c.requires.ready.strand, c.add.ensures.free);
+      room = omega (arith, c.requires.ready.room, c.add.ensures.count);
+      counted = omega (arith, c.requires.ready.counted, c.add.ensures.count);
     }
 
 pub returns-clause-answered : goal.returns-clause-answered

@@ -43,7 +43,8 @@ invariant_of-self-2 c =
       known = rw entries (knows-new roll c.add_socket.new.self history e (id.Sock (length roll.sockets + 1)) world.known (next-socket roll)
           (search rules) (omega (arith, world.known.arrived, connections)) (omega (arith, world.known.dialled, sockets))
           (ap (λ n. id.Sock n ∷ open_ids history) number) (λ x. refl) (λ x. refl));
-      places = rw entries (omega (arith, world.places));
+      opened = rw entries (omega (arith, world.opened));
+      strands = world.strands;
       room = omega arith;
       counted = omega arith;
     }
