@@ -13,8 +13,8 @@ use Rattle.resty_world.specs.Ids.{same_strand}
 use Rattle.schedule.specs.declared.replay.Replay.{Replay}
 use Rattle.schedule.specs.Aside.{HasAside}
 use Rattle.schedule.specs.ReplayBook.{book_of}
-use Rattle.schedule.specs.Places.{has}
-use Rattle.schedule.proofs.PlacesLemmas.{by_test}
+use Rattle.schedule.specs.OpenIds.{has}
+use Rattle.schedule.proofs.OpenIdsLemmas.{by_test}
 
 -- what `==` returns is whether the two are the same
 same-by-eq : (x y : StrandId) → derived.ghosts.eq x y ≡ same_strand x y

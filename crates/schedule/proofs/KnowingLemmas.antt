@@ -12,8 +12,8 @@ use Rattle.schedule.specs.declared.peer.Peer.{Peer}
 use Rattle.schedule.specs.Counts.{arrived_in, dials_in}
 use Rattle.schedule.specs.Knowing.{Knows}
 use Rattle.schedule.specs.Peers.{Roll, IsChanged, numbered, peer_at, fresh, opened, closed, ended, unended}
-use Rattle.schedule.specs.Places.{has, are_distinct, open_ids, hung_up, has_ended}
-use Rattle.schedule.proofs.PlacesLemmas.{by_test, same_id-eq}
+use Rattle.schedule.specs.OpenIds.{has, are_distinct, open_ids, hung_up, has_ended}
+use Rattle.schedule.proofs.OpenIdsLemmas.{by_test, same_id-eq}
 
 -- the number after the last is nobody's
 none-after : (peers : List Peer) → slice_get peers (length peers) ≡ None

@@ -3,7 +3,7 @@ pub mod KnowingLemmas
 pub mod NextLine
 pub mod Noting
 pub mod Passing
-pub mod PlacesLemmas
+pub mod OpenIdsLemmas
 pub mod Plain
 pub mod Running
 pub mod Standing

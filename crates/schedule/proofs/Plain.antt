@@ -18,7 +18,7 @@ use Rattle.schedule.specs.declared.replay.Replay.{Replay}
 use Rattle.schedule.specs.Counts.{arrived_in, dials_in, loses_by}
 use Rattle.schedule.specs.Knowing.{Knows}
 use Rattle.schedule.specs.Peers.{Roll, peer_at, ended}
-use Rattle.schedule.specs.Places.{open_ids, hung_up, has_ended}
+use Rattle.schedule.specs.OpenIds.{open_ids, hung_up, has_ended}
 use Rattle.schedule.specs.ReplayBook.{book_of}
 use Rattle.schedule.specs.Steps.{is_skipped}
 use Rattle.schedule.proofs.KnowingLemmas.{open_where_due, first-off}

@@ -21,7 +21,7 @@ use Rattle.schedule.specs.ReplayBook.{StandsBy, Stands, StandsAnywhere}
 use Rattle.schedule.specs.Steps.{Step, Call, Passed, Answered, Listened, AskedAtBadLine, AskedAtEnd, Dialling, Logging, Writing, AreSteps, FailsRightly, IsAnswer, is_skipped, given_by, history_of}
 use Rattle.schedule.specs.Steps.{lines_of, offers_by, is_call, failing_by, answered_by, tells_failure, one_if, unspent, room_by, room_after, is_fail_next, is_failed_log, begins_by_failing, has_listened_in_vain, newest_given, faults_in}
 use Rattle.schedule.proofs.Passing.{take-more}
-use Rattle.schedule.proofs.PlacesLemmas.{by_test, same_id-eq}
+use Rattle.schedule.proofs.OpenIdsLemmas.{by_test, same_id-eq}
 
 -- counting goes on after the last value
 capped : (n k : ℕ) → counted (counted n + k) ≡ counted (n + k)
@@ -49,7 +49,7 @@ unspent-few c (AskedAtEnd ∷ steps) = unspent-few c steps
 pub few-unspent : {kind : List Step → Type 0} (w : Replay) (s : StandsBy kind w) (c : Call) → unspent c s.steps ≤ w.passed
 few-unspent w s c = omega (arith, unspent-few c s.steps, ap length s.passed, length-take-le w.passed w.course, w.passed_lines)
 
--- one more or less at a place
+-- one more or less at an id
 pub one-more : (f : Id → ℕ) (i : Id) (more : ℕ) → more ≡ f i + 1 → (x : Id) → (if same_id x i then more else f x) ≡ f x + one_if (same_id x i)
 one-more f i more is x = by_test (same_id x i) (λ on. rw on (is ∙ ap (λ y. f y + 1) (sym (same_id-eq x i on)))) (λ off. rw off (none-more (f x)))
 
@@ -221,10 +221,10 @@ fails_at_end old new s whole end course passed entries offered faults losses pee
 pub asks_at_bad_line : (w : Replay) (s : StandsAnywhere w) (l : SchedLine) → slice_get w.course w.passed ≡ Some l
     → names_absent (arrived_in w.history.entries) (dials_in w.history.entries) (named_id l) ≡ true → Stands w
 asks_at_bad_line w s l here absent =
-    let place : length (lines_of s.steps) ≡ w.passed = ap length s.passed ∙ length-take-le w.passed w.course w.passed_lines in
+    let count : length (lines_of s.steps) ≡ w.passed = ap length s.passed ∙ length-take-le w.passed w.course w.passed_lines in
     record {
       steps = AskedAtBadLine ∷ s.steps;
-      right = (s.right, (l, rw place here, rw s.history absent));
+      right = (s.right, (l, rw count here, rw s.history absent));
       passed = s.passed;
       history = s.history;
       offered = s.offered;
@@ -253,7 +253,7 @@ must_fail c steps n is some = sym (lt-ltb 0 (unspent c steps) (omega (arith, is)
 pub must_work : (c : Call) (steps : List Step) (n : ℕ) → n ≡ unspent c steps → n ≡ 0 → FailsRightly (Some c) false steps
 must_work c steps n is none = sym (ap (nat_lt 0) (sym is ∙ none))
 
--- a change of a value at a place
+-- a change of a value at an id
 pub changed_by : {A : Type 0} (f : Id → A) (g : A → A) (i : Id) (v : A) → v ≡ g (f i) → (x : Id) → (if same_id x i then v else f x) ≡ (if same_id x i then g (f x) else f x)
 changed_by f g i v is x = by_test (same_id x i) (λ on. rw on (is ∙ ap (λ y. g (f y)) (sym (same_id-eq x i on)))) (λ off. rw off refl)
 

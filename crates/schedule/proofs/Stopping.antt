@@ -44,7 +44,7 @@ stop-passed schedule (Listened port failed ∷ steps) right newest = stop-passed
 stop-passed schedule (AskedAtBadLine ∷ steps) right newest = stop-passed schedule steps right.0 newest
 stop-passed schedule (AskedAtEnd ∷ steps) right newest = stop-passed schedule steps right.0 newest
 
--- there is a line at each place within
+-- there is a line at each index within
 pub line-at : (lines : List SchedLine) (at : ℕ) → at < length lines → (l : SchedLine) × (slice_get lines at ≡ Some l)
 line-at [] at within = absurd (omega arith)
 line-at (l ∷ lines) zero within = (l, refl)

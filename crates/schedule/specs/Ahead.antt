@@ -8,7 +8,7 @@ use Rattle.resty_world.specs.Given.{named_id, names_absent}
 use Rattle.schedule.specs.declared.ahead.Ahead.{Ahead}
 use Rattle.schedule.specs.declared.ahead.Ahead.TheVariants as ahead
 use Rattle.schedule.specs.Counts.{arrived_in, dials_in}
-use Rattle.schedule.specs.Places.{hung_up, has_ended}
+use Rattle.schedule.specs.OpenIds.{hung_up, has_ended}
 use Rattle.schedule.specs.Steps.{is_skipped}
 
 -- the line is an event

@@ -5,7 +5,7 @@ use Rattle.resty_world.specs.declared.entry.Entry.{Entry}
 use Rattle.resty_world.specs.Ids.{same_id}
 use Rattle.schedule.specs.Counts.{arrived_in, dials_in}
 use Rattle.schedule.specs.Peers.{Roll, peer_at, opened, closed, ended}
-use Rattle.schedule.specs.Places.{has, are_distinct, open_ids, hung_up, has_ended}
+use Rattle.schedule.specs.OpenIds.{has, are_distinct, open_ids, hung_up, has_ended}
 
 -- There are so many as arrived and were dialled. Of each it is known whether it is open and whether it was hung up, and where it wasn't,
 -- whether it ended or broke; each is opened once.

@@ -1,5 +1,5 @@
 pub mod Counts
-pub mod Places
+pub mod OpenIds
 pub mod Steps
 pub mod Told
 pub mod ReplayBook

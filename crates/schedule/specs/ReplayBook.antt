@@ -11,7 +11,7 @@ use Rattle.schedule.specs.Ahead.{ahead_of}
 use Rattle.schedule.specs.Aside.{is_aside, rooms}
 use Rattle.schedule.specs.Counts.{losses_in, counted}
 use Rattle.schedule.specs.Peers.{peer_at, ended, room_in, put_fails_in}
-use Rattle.schedule.specs.Places.{has, open_ids}
+use Rattle.schedule.specs.OpenIds.{has, open_ids}
 use Rattle.schedule.specs.Steps.{Step, AreSteps, Dialling, Logging, Writing, history_of, lines_of, offers_of, room_of, unspent}
 use Rattle.schedule.specs.Steps.{begins_by_failing, has_listened_in_vain, port_of, within_asking, faults_in}
 

@@ -12,7 +12,7 @@ use Rattle.resty_world.specs.Given.{named_id, names_absent}
 use Rattle.resty_world.specs.Ids.{same_id}
 use Rattle.schedule_text.specs.Ranges.{IsBytes}
 use Rattle.schedule.specs.Counts.{arrived_in, dials_in}
-use Rattle.schedule.specs.Places.{hung_up, has_ended}
+use Rattle.schedule.specs.OpenIds.{hung_up, has_ended}
 
 -- a step: a line is passed; a call is answered by an entry, of a piece of that length where it is a write; listening on a port is
 -- answered, and it fails or not; or an event is asked for where the next line is bad, or after the last line

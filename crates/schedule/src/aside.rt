@@ -2,9 +2,9 @@
 
 ghost use Rattle.std.specs.Prelude.{◌≡◌, ◌+◌, ◌*◌, ◌<◌, ◌≤◌, [], length, true, false, OnOk, if◌then◌else◌};
 ghost use Rattle.resty_base.specs.declared.names.StrandId.{StrandId as Strand};
-ghost use Rattle.resty_world.specs.Calls.{uses_aside, sets_aside, room_of, is_strand};
+ghost use Rattle.resty_world.specs.Calls.{uses_aside, room_of};
 ghost use Rattle.resty_world.specs.Ids.{same_strand};
-ghost use Rattle.schedule.specs.Aside.{is_aside, HasAside};
+ghost use Rattle.schedule.specs.Aside.{is_aside, HasAside, IsNoted};
 
 use indexmap::IndexSet;
 use resty_base::StrandId;
@@ -78,7 +78,7 @@ impl Aside {
     pub fn note(&mut self, entry: &Entry)
         requires free { room_of (uses_aside entry.now) ≤ self.old.free }
         requires aside { HasAside self.old (uses_aside entry.now) }
-        ensures aside { (s : Strand) → is_aside self.new s ≡ (if is_strand (sets_aside entry.now) s then true else if is_strand (uses_aside entry.now) s then false else is_aside self.old s) }
+        ensures noted { IsNoted entry.now self.old self.new }
         ensures count { length self.new.strands + 1 ≤ length self.old.strands + 2 * room_of (uses_aside entry.now) }
         ensures free { self.old.free ≤ self.new.free + room_of (uses_aside entry.now) }
     {

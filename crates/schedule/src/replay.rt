@@ -4,7 +4,7 @@ ghost use Rattle.std.specs.Prelude.{◌≡◌, ℕ, ◌^◌, ◌<◌, ◌≤◌,
 ghost use Rattle.schedule_text.specs.Lines.{arrivals_in};
 ghost use Rattle.schedule.specs.Aside.{rooms};
 ghost use Rattle.schedule.specs.Knowing.{Knows};
-ghost use Rattle.schedule.specs.Places.{open_ids};
+ghost use Rattle.schedule.specs.OpenIds.{open_ids};
 
 use crate::ahead::Ahead;
 use crate::aside::Aside;
@@ -112,7 +112,7 @@ impl Replay {
     }
 
     /// For how many entries room is set aside.
-    pub fn set_aside(&self) -> usize
+    fn set_aside(&self) -> usize
         ensures count { result ≡ rooms self.now.open_count self.now.aside self.now.spare }
         ensures within { result ≤ self.now.history.room }
     {

@@ -16,7 +16,7 @@ impl Replay {
     ghost use Rattle.schedule_text.specs.Fitting.{Fits, IsSchedule};
     ghost use Rattle.schedule.specs.Ahead.{ahead_of, is_absent};
     ghost use Rattle.schedule.specs.Aside.{rooms};
-    ghost use Rattle.schedule.specs.Places.{hung_up};
+    ghost use Rattle.schedule.specs.OpenIds.{hung_up};
     ghost use Rattle.schedule.specs.Steps.{is_skipped};
     ghost use Rattle.schedule.specs.ReplayBook.{book_of, IsReady, IsQuietTo, IsPast, IsLater, HasAnswered};
 

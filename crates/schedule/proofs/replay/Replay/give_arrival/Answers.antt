@@ -7,7 +7,7 @@ use Rattle.resty_world.specs.declared.entry.Entry.TheVariants as entry
 use Rattle.resty_world.specs.declared.schedule_line.SchedLine.TheVariants as line
 use Rattle.resty_world.specs.Ids.{same_id}
 use Rattle.schedule.specs.Peers.{peer_at, room_in, put_fails_in, fresh}
-use Rattle.schedule.specs.Places.{open_ids}
+use Rattle.schedule.specs.OpenIds.{open_ids}
 use Rattle.std.proofs.lemmas.Option.{slice_get_within}
 use Rattle.schedule.proofs.KnowingLemmas.{next-connection, knows-new, unseen}
 use Rattle.schedule.proofs.Passing.{arrivals-more}

@@ -4,7 +4,7 @@ use Rattle.resty_world.specs.declared.entry.Entry.TheVariants as entry
 use Rattle.resty_world.specs.declared.schedule_line.SchedLine.TheVariants as line
 use Rattle.resty_world.specs.Ids.{same_id}
 use Rattle.schedule.specs.Peers.{peer_at, opened, closed, room_in, put_fails_in}
-use Rattle.schedule.specs.Places.{has, open_ids, hung_up}
+use Rattle.schedule.specs.OpenIds.{has, open_ids, hung_up}
 use Rattle.std.proofs.lemmas.Option.{slice_get_within}
 use Rattle.schedule.proofs.KnowingLemmas.{knows-changed, ended-after, unseen, own-value}
 use Rattle.schedule.proofs.Passing.{arrivals-more}

@@ -20,12 +20,56 @@ pass_fail_put-requires-clause-there c =
 pub returns-in-Room-clause-past : goal.returns-in-Room-clause-past
 returns-in-Room-clause-past c =
     let ok = c.pass_room.ensures.past in
-    record { book = ok.book; passed = ok.passed; schedule = ok.schedule; entries = ok.entries; reached = λ s. ok.reached (record { steps = s.steps; right = s.right; passed = s.passed; history = s.history; offered = s.offered; faults = s.faults; losses = s.losses; rooms = s.rooms; put_fails = s.put_fails; dial_fails = s.dial_fails; log_fails = s.log_fails; listen_fails = s.listen_fails; port = s.port; kept = tt }); ready = λ r. ok.ready (record { room = r.room; counted = r.counted; strand = r.strand; connection = r.connection }) }
+    record {
+      book = ok.book;
+      passed = ok.passed;
+      schedule = ok.schedule;
+      entries = ok.entries;
+      reached = λ s. ok.reached (record {
+        steps = s.steps;
+        right = s.right;
+        passed = s.passed;
+        history = s.history;
+        offered = s.offered;
+        faults = s.faults;
+        losses = s.losses;
+        rooms = s.rooms;
+        put_fails = s.put_fails;
+        dial_fails = s.dial_fails;
+        log_fails = s.log_fails;
+        listen_fails = s.listen_fails;
+        port = s.port;
+        kept = tt;
+      });
+      ready = λ r. ok.ready (record { room = r.room; counted = r.counted; strand = r.strand; connection = r.connection });
+    }
 
 pub returns-in-FailPut-clause-past : goal.returns-in-FailPut-clause-past
 returns-in-FailPut-clause-past c =
     let ok = c.pass_fail_put.ensures.past in
-    record { book = ok.book; passed = ok.passed; schedule = ok.schedule; entries = ok.entries; reached = λ s. ok.reached (record { steps = s.steps; right = s.right; passed = s.passed; history = s.history; offered = s.offered; faults = s.faults; losses = s.losses; rooms = s.rooms; put_fails = s.put_fails; dial_fails = s.dial_fails; log_fails = s.log_fails; listen_fails = s.listen_fails; port = s.port; kept = tt }); ready = λ r. ok.ready (record { room = r.room; counted = r.counted; strand = r.strand; connection = r.connection }) }
+    record {
+      book = ok.book;
+      passed = ok.passed;
+      schedule = ok.schedule;
+      entries = ok.entries;
+      reached = λ s. ok.reached (record {
+        steps = s.steps;
+        right = s.right;
+        passed = s.passed;
+        history = s.history;
+        offered = s.offered;
+        faults = s.faults;
+        losses = s.losses;
+        rooms = s.rooms;
+        put_fails = s.put_fails;
+        dial_fails = s.dial_fails;
+        log_fails = s.log_fails;
+        listen_fails = s.listen_fails;
+        port = s.port;
+        kept = tt;
+      });
+      ready = λ r. ok.ready (record { room = r.room; counted = r.counted; strand = r.strand; connection = r.connection });
+    }
 
 pub overflow_add-self : goal.overflow_add-self
 overflow_add-self c =

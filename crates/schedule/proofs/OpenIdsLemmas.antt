@@ -8,7 +8,7 @@ use Rattle.resty_base.specs.declared.names.Id.TheVariants as id
 use Rattle.resty_base.specs.declared.names.StrandId.{StrandId}
 use Rattle.resty_base.specs.declared.names.StrandId.TheVariants as strand
 use Rattle.resty_world.specs.Ids.{same_id, same_strand}
-use Rattle.schedule.specs.Places.{has, without, are_distinct}
+use Rattle.schedule.specs.OpenIds.{has, without, are_distinct}
 
 pub same_id-eq : (x y : Id) → same_id x y ≡ true → x ≡ y
 same_id-eq (id.Conn c) (id.Conn d) same = ap id.Conn (eqb-true c d same)
