@@ -1,8 +1,9 @@
+pub mod AsideLemmas
 pub mod KnowingLemmas
 pub mod NextLine
 pub mod Noting
 pub mod Passing
-pub mod PlacesLemmas
+pub mod OpenIdsLemmas
 pub mod Plain
 pub mod Running
 pub mod Standing

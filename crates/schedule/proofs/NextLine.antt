@@ -108,16 +108,16 @@ nothing_by history line.FailLog is = let wrong : ahead.Quiet ≡ ahead.Nothing =
 nothing_by history line.FailListen is = let wrong : ahead.Quiet ≡ ahead.Nothing = is in cc
 nothing_by history (line.FailPut i) is = let wrong : ahead.Quiet ≡ ahead.Nothing = is in cc
 
--- nothing is ahead only behind the last line
+-- nothing is ahead only after the last line
 pub nothing_ahead : (history : List Entry) (l : Option SchedLine) → ahead_of history l ≡ ahead.Nothing → l ≡ None
 nothing_ahead history None is = refl
 nothing_ahead history (Some l) is =
     absurd (nothing_by history l (there history l ahead.Nothing (λ same. let wrong : ahead.Absent ≡ ahead.Nothing = same in cc) is).1)
 
-pub behind_last : (lines : List SchedLine) (at : ℕ) → slice_get lines at ≡ None → length lines ≤ at
-behind_last [] at none = omega arith
-behind_last (l ∷ lines) zero none = absurd (let wrong : Some l ≡ None = none in cc)
-behind_last (l ∷ lines) (suc at) none = omega (arith, behind_last lines at none)
+pub after_last : (lines : List SchedLine) (at : ℕ) → slice_get lines at ≡ None → length lines ≤ at
+after_last [] at none = omega arith
+after_last (l ∷ lines) zero none = absurd (let wrong : Some l ≡ None = none in cc)
+after_last (l ∷ lines) (suc at) none = omega (arith, after_last lines at none)
 
 absent_by_event : (history : List Entry) (e : Event) → ahead_by history (line.Given e) ≡ ahead.Absent → ⊥
 absent_by_event history e is = chosen (is_skipped history (line.Given e)) ahead.Quiet ahead.Due ahead.Absent is

@@ -1,20 +1,19 @@
 -- What a noted entry changes in a history.
-use Rattle.std.proofs.Common.{◌≡◌, ℕ, ◌+◌, ◌≤◌, true, false, List, ◌∷◌, length, reverse, refl, ap, ◌∙◌, arith}
+use Rattle.std.proofs.Common.{◌≡◌, ℕ, true, false, List, ◌∷◌, reverse, Option, None, refl, sym, ap, ◌∙◌, arith}
 use Rattle.std.specs.Bool.{if◌then◌else◌}
-use Rattle.resty_base.specs.declared.names.StrandId.{StrandId}
-use Rattle.resty_base.specs.declared.names.StrandId.TheVariants as strand
+use Rattle.resty_base.specs.declared.names.Id.{Id}
+use Rattle.resty_world.specs.Ids.{same_id}
 use Rattle.resty_world.specs.declared.entry.Entry.{Entry}
 use Rattle.resty_world.specs.declared.entry.Entry.TheVariants as entry
 use Rattle.resty_world.specs.declared.answers.TimerAnswer.TheVariants as timer
-use Rattle.resty_world.specs.Book.{Book}
-use Rattle.resty_world.specs.Calls.{is_noted, uses_place, sets_place, room_of, is_strand, HasPlace}
-use Rattle.resty_world.specs.Ids.{same_strand}
+use Rattle.resty_world.specs.Calls.{is_noted}
 use Rattle.schedule.specs.declared.replay.Replay.{Replay}
 use Rattle.schedule.specs.Knowing.{Knows}
 use Rattle.schedule.specs.Peers.{Roll, peer_at, room_in, put_fails_in}
-use Rattle.schedule.specs.Places.{has, open_ids, strands_in, count_of}
+use Rattle.schedule.specs.OpenIds.{has, are_distinct, open_ids, closes, hung_up, ends_by, has_ended}
+use Rattle.schedule.specs.Steps.{Step, IsAnswer, answered_by, tells_failure, offers_by, room_after, is_failed_log}
+use Rattle.schedule.specs.Counts.{arrives_by, dials_by, loses_by}
 use Rattle.schedule.specs.ReplayBook.{Stands}
-use Rattle.schedule.proofs.PlacesLemmas.{has-without, length-without, same_strand-eq}
 use Rattle.schedule.proofs.Standing.{answers, same_faults, same_losses}
 
 -- a world stands one step on, where it keeps all else
@@ -23,136 +22,183 @@ StandsOn e = (old new : Replay) (s : Stands old) → new.course ≡ old.course �
     → new.history.entries ≡ e ∷ old.history.entries → new.offered.items ≡ old.offered.items → new.faults ≡ old.faults → new.losses ≡ old.losses
     → new.dial_fails ≡ old.dial_fails → new.log_fails ≡ old.log_fails → new.listen_fails ≡ old.listen_fails → new.port ≡ old.port → Stands new
 
-pub record Noting (history : List Entry) (e : Entry) (spare : ℕ) (roll : Roll) : Type 0 where
-  pub set : count_of (sets_place e) ≤ room_of (uses_place e)
-  pub one : room_of (uses_place e) ≤ 1
-  pub left : room_of (uses_place e) ≤ spare
-  pub strands : length (strands_in (e ∷ history)) + 1 ≤ length (strands_in history) + count_of (sets_place e) + room_of (uses_place e)
+pub record Noting (history : List Entry) (e : Entry) (roll : Roll) : Type 0 where
   pub ids : open_ids (e ∷ history) ≡ open_ids history
   pub known : Knows roll (e ∷ history)
-  pub places : (s : StrandId) → has same_strand s (strands_in (e ∷ history))
-      ≡ (if is_strand (sets_place e) s then true else if is_strand (uses_place e) s then false else has same_strand s (strands_in history))
   pub stands : StandsOn e
+
+-- an entry by which nothing but the history changes
+record IsPlain (e : Entry) : Type 0 where
+  ids : (history : List Entry) → open_ids (e ∷ history) ≡ open_ids history
+  arrives : arrives_by e ≡ 0
+  dials : dials_by e ≡ 0
+  closes_none : (x : Id) → closes e x ≡ false
+  ends_none : (x : Id) → ends_by e x ≡ false
+  offers : (others : List ℕ) → offers_by e 0 others ≡ others
+  no_call : answered_by e ≡ None
+  no_failure : tells_failure e ≡ false
+  no_failed_log : is_failed_log e ≡ false
+  no_loss : loses_by e ≡ 0
+  room : (x : Id) (room : Option ℕ) → room_after e x room ≡ room
+  answer : (steps : List Step) → IsAnswer steps e 0
+
+plain-stands : (e : Entry) → IsPlain e → StandsOn e
+plain-stands e p old new s course passed peers entries offered faults losses dial_fails log_fails listen_fails port =
+    answers old new e 0 s course passed entries (ap reverse offered ∙ sym (p.offers (reverse old.offered.items)))
+    (rw p.no_call tt) (p.answer s.steps)
+    (rw p.no_failed_log (faults ∙ same_faults old s)) (rw p.no_loss (losses ∙ same_losses old s))
+    (λ x. ap (λ r. room_in (peer_at r x)) peers ∙ sym (p.room x _))
+    (λ x. rw p.no_failure (ap (λ r. put_fails_in (peer_at r x)) peers ∙ omega arith))
+    (rw p.no_failure (dial_fails ∙ omega arith)) (rw p.no_failure (log_fails ∙ omega arith)) listen_fails port
+
+plain-noted : (roll : Roll) (history : List Entry) (e : Entry) → Knows roll history → IsPlain e → Noting history e roll
+plain-noted roll history e known p = record {
+  ids = p.ids history;
+  known = record {
+    arrived = omega (arith, known.arrived, p.arrives);
+    dialled = omega (arith, known.dialled, p.dials);
+    are_open = λ x. known.are_open x ∙ sym (ap (has same_id x) (p.ids history));
+    are_closed = λ x. known.are_closed x ∙ sym (ap (λ b. if b then true else hung_up history x) (p.closes_none x));
+    are_ended = λ x off. known.are_ended x off ∙ sym (ap (λ b. if b then true else has_ended history x) (p.ends_none x));
+    distinct = ap (are_distinct same_id) (p.ids history) ∙ known.distinct;
+  };
+  stands = plain-stands e p;
+}
 
 never : {C : Type 0} → false ≡ true → C
 never h = absurd (let e : false ≡ true = h in cc)
 
-pub noted : (book : Book) (roll : Roll) (history : List Entry) (e : Entry) → ((s : StrandId) → book.strand_place s ≡ has same_strand s (strands_in history))
-    → Knows roll history → is_noted e ≡ true → HasPlace book (uses_place e) → Noting history e book.spare roll
-noted book roll history (entry.Given event) by known kind place = never kind
-noted book roll history (entry.Put i bytes) by known kind place = never kind
-noted book roll history (entry.Later i) by known kind place = never kind
-noted book roll history (entry.Lost i) by known kind place = never kind
-noted book roll history (entry.Close i) by known kind place = never kind
-noted book roll history (entry.Dial who host port n) by known kind place = never kind
-noted book roll history (entry.Log who line written) by known kind place = never kind
-noted book roll history (entry.Dict who zone call answer) by known kind place = record {
-  set = omega arith;
-  one = omega arith;
-  left = omega arith;
-  strands = omega arith;
-  ids = refl;
-  known = record { arrived = known.arrived ∙ omega arith; dialled = known.dialled ∙ omega arith; are_open = known.are_open; are_closed = known.are_closed; are_ended = known.are_ended };
-  places = λ s. refl;
-  stands = λ old new s course passed peers entries offered faults losses dial_fails log_fails listen_fails port.
-      answers old new (entry.Dict who zone call answer) 0 s course passed entries (ap reverse offered) tt tt (faults ∙ same_faults old s) (losses ∙ same_losses old s) (λ x. ap (λ r. room_in (peer_at r x)) peers)
-      (λ x. ap (λ r. put_fails_in (peer_at r x)) peers ∙ omega arith) (dial_fails ∙ omega arith) (log_fails ∙ omega arith) listen_fails port;
-}
-noted book roll history (entry.Take who key got) by known kind place = record {
-  set = omega arith;
-  one = omega arith;
-  left = omega arith;
-  strands = omega arith;
-  ids = refl;
-  known = record { arrived = known.arrived ∙ omega arith; dialled = known.dialled ∙ omega arith; are_open = known.are_open; are_closed = known.are_closed; are_ended = known.are_ended };
-  places = λ s. refl;
-  stands = λ old new s course passed peers entries offered faults losses dial_fails log_fails listen_fails port.
-      answers old new (entry.Take who key got) 0 s course passed entries (ap reverse offered) tt tt (faults ∙ same_faults old s) (losses ∙ same_losses old s) (λ x. ap (λ r. room_in (peer_at r x)) peers)
-      (λ x. ap (λ r. put_fails_in (peer_at r x)) peers ∙ omega arith) (dial_fails ∙ omega arith) (log_fails ∙ omega arith) listen_fails port;
-}
-noted book roll history (entry.Keep who n key idle size closed) by known kind place = record {
-  set = omega arith;
-  one = omega arith;
-  left = omega arith;
-  strands = omega arith;
-  ids = refl;
-  known = record { arrived = known.arrived ∙ omega arith; dialled = known.dialled ∙ omega arith; are_open = known.are_open; are_closed = known.are_closed; are_ended = known.are_ended };
-  places = λ s. refl;
-  stands = λ old new s course passed peers entries offered faults losses dial_fails log_fails listen_fails port.
-      answers old new (entry.Keep who n key idle size closed) 0 s course passed entries (ap reverse offered) tt tt (faults ∙ same_faults old s) (losses ∙ same_losses old s) (λ x. ap (λ r. room_in (peer_at r x)) peers)
-      (λ x. ap (λ r. put_fails_in (peer_at r x)) peers ∙ omega arith) (dial_fails ∙ omega arith) (log_fails ∙ omega arith) listen_fails port;
-}
-noted book roll history (entry.Timer who due (timer.Job n)) by known kind place = record {
-  set = omega arith;
-  one = omega arith;
-  left = omega arith;
-  strands = omega arith;
-  ids = refl;
-  known = record { arrived = known.arrived ∙ omega arith; dialled = known.dialled ∙ omega arith; are_open = known.are_open; are_closed = known.are_closed; are_ended = known.are_ended };
-  places = λ s. refl;
-  stands = λ old new s course passed peers entries offered faults losses dial_fails log_fails listen_fails port.
-      answers old new (entry.Timer who due (timer.Job n)) 0 s course passed entries (ap reverse offered) tt tt (faults ∙ same_faults old s) (losses ∙ same_losses old s) (λ x. ap (λ r. room_in (peer_at r x)) peers)
-      (λ x. ap (λ r. put_fails_in (peer_at r x)) peers ∙ omega arith) (dial_fails ∙ omega arith) (log_fails ∙ omega arith) listen_fails port;
-}
-noted book roll history (entry.Timer who due timer.Full) by known kind place = record {
-  set = omega arith;
-  one = omega arith;
-  left = omega arith;
-  strands = omega arith;
-  ids = refl;
-  known = record { arrived = known.arrived ∙ omega arith; dialled = known.dialled ∙ omega arith; are_open = known.are_open; are_closed = known.are_closed; are_ended = known.are_ended };
-  places = λ s. refl;
-  stands = λ old new s course passed peers entries offered faults losses dial_fails log_fails listen_fails port.
-      answers old new (entry.Timer who due timer.Full) 0 s course passed entries (ap reverse offered) tt tt (faults ∙ same_faults old s) (losses ∙ same_losses old s) (λ x. ap (λ r. room_in (peer_at r x)) peers)
-      (λ x. ap (λ r. put_fails_in (peer_at r x)) peers ∙ omega arith) (dial_fails ∙ omega arith) (log_fails ∙ omega arith) listen_fails port;
-}
-noted book roll history (entry.Timer who due timer.Exiting) by known kind place = record {
-  set = omega arith;
-  one = omega arith;
-  left = omega arith;
-  strands = omega arith;
-  ids = refl;
-  known = record { arrived = known.arrived ∙ omega arith; dialled = known.dialled ∙ omega arith; are_open = known.are_open; are_closed = known.are_closed; are_ended = known.are_ended };
-  places = λ s. refl;
-  stands = λ old new s course passed peers entries offered faults losses dial_fails log_fails listen_fails port.
-      answers old new (entry.Timer who due timer.Exiting) 0 s course passed entries (ap reverse offered) tt tt (faults ∙ same_faults old s) (losses ∙ same_losses old s) (λ x. ap (λ r. room_in (peer_at r x)) peers)
-      (λ x. ap (λ r. put_fails_in (peer_at r x)) peers ∙ omega arith) (dial_fails ∙ omega arith) (log_fails ∙ omega arith) listen_fails port;
-}
-noted book roll history (entry.Start n) by known kind place = record {
-  set = omega arith;
-  one = omega arith;
-  left = omega arith;
-  strands = omega arith;
-  ids = refl;
-  known = record { arrived = known.arrived ∙ omega arith; dialled = known.dialled ∙ omega arith; are_open = known.are_open; are_closed = known.are_closed; are_ended = known.are_ended };
-  places = λ s. refl;
-  stands = λ old new s course passed peers entries offered faults losses dial_fails log_fails listen_fails port.
-      answers old new (entry.Start n) 0 s course passed entries (ap reverse offered) tt tt (faults ∙ same_faults old s) (losses ∙ same_losses old s) (λ x. ap (λ r. room_in (peer_at r x)) peers)
-      (λ x. ap (λ r. put_fails_in (peer_at r x)) peers ∙ omega arith) (dial_fails ∙ omega arith) (log_fails ∙ omega arith) listen_fails port;
-}
-noted book roll history (entry.Turned c) by known kind place =
-    let fewer = length-without same_strand same_strand-eq (strand.Conn c) (strands_in history) (rw (← by (strand.Conn c)) place) in record {
-      set = omega arith;
-      one = omega arith;
-      left = omega arith;
-      strands = omega arith;
-      ids = refl;
-      known = record { arrived = known.arrived ∙ omega arith; dialled = known.dialled ∙ omega arith; are_open = known.are_open; are_closed = known.are_closed; are_ended = known.are_ended };
-      places = λ s. has-without same_strand same_strand-eq s (strand.Conn c) (strands_in history);
-      stands = λ old new s course passed peers entries offered faults losses dial_fails log_fails listen_fails port.
-          answers old new (entry.Turned c) 0 s course passed entries (ap reverse offered) tt tt (faults ∙ same_faults old s) (losses ∙ same_losses old s) (λ x. ap (λ r. room_in (peer_at r x)) peers)
-          (λ x. ap (λ r. put_fails_in (peer_at r x)) peers ∙ omega arith) (dial_fails ∙ omega arith) (log_fails ∙ omega arith) listen_fails port;
-    }
-noted book roll history (entry.Dropped dropped) by known kind place =
-    let fewer = length-without same_strand same_strand-eq dropped (strands_in history) (rw (← by dropped) place) in record {
-      set = omega arith;
-      one = omega arith;
-      left = omega arith;
-      strands = omega arith;
-      ids = refl;
-      known = record { arrived = known.arrived ∙ omega arith; dialled = known.dialled ∙ omega arith; are_open = known.are_open; are_closed = known.are_closed; are_ended = known.are_ended };
-      places = λ s. has-without same_strand same_strand-eq s dropped (strands_in history);
-      stands = λ old new s course passed peers entries offered faults losses dial_fails log_fails listen_fails port.
-          answers old new (entry.Dropped dropped) 0 s course passed entries (ap reverse offered) tt tt (faults ∙ same_faults old s) (losses ∙ same_losses old s) (λ x. ap (λ r. room_in (peer_at r x)) peers)
-          (λ x. ap (λ r. put_fails_in (peer_at r x)) peers ∙ omega arith) (dial_fails ∙ omega arith) (log_fails ∙ omega arith) listen_fails port;
-    }
+pub noted : (roll : Roll) (history : List Entry) (e : Entry) → Knows roll history → is_noted e ≡ true → Noting history e roll
+noted roll history (entry.Given event) known kind = never kind
+noted roll history (entry.Put i bytes) known kind = never kind
+noted roll history (entry.Later i) known kind = never kind
+noted roll history (entry.Lost i) known kind = never kind
+noted roll history (entry.Close i) known kind = never kind
+noted roll history (entry.Dial who host port n) known kind = never kind
+noted roll history (entry.Log who line written) known kind = never kind
+noted roll history (entry.Dict who zone call answer) known kind = plain-noted roll history (entry.Dict who zone call answer) known (record {
+  ids = λ h. refl;
+  arrives = refl;
+  dials = refl;
+  closes_none = λ x. refl;
+  ends_none = λ x. refl;
+  offers = λ others. refl;
+  no_call = refl;
+  no_failure = refl;
+  no_failed_log = refl;
+  no_loss = refl;
+  room = λ x room. refl;
+  answer = λ steps. tt;
+})
+noted roll history (entry.Take who key got) known kind = plain-noted roll history (entry.Take who key got) known (record {
+  ids = λ h. refl;
+  arrives = refl;
+  dials = refl;
+  closes_none = λ x. refl;
+  ends_none = λ x. refl;
+  offers = λ others. refl;
+  no_call = refl;
+  no_failure = refl;
+  no_failed_log = refl;
+  no_loss = refl;
+  room = λ x room. refl;
+  answer = λ steps. tt;
+})
+noted roll history (entry.Keep who n key idle size closed) known kind = plain-noted roll history (entry.Keep who n key idle size closed) known (record {
+  ids = λ h. refl;
+  arrives = refl;
+  dials = refl;
+  closes_none = λ x. refl;
+  ends_none = λ x. refl;
+  offers = λ others. refl;
+  no_call = refl;
+  no_failure = refl;
+  no_failed_log = refl;
+  no_loss = refl;
+  room = λ x room. refl;
+  answer = λ steps. tt;
+})
+noted roll history (entry.Timer who due (timer.Job n)) known kind = plain-noted roll history (entry.Timer who due (timer.Job n)) known (record {
+  ids = λ h. refl;
+  arrives = refl;
+  dials = refl;
+  closes_none = λ x. refl;
+  ends_none = λ x. refl;
+  offers = λ others. refl;
+  no_call = refl;
+  no_failure = refl;
+  no_failed_log = refl;
+  no_loss = refl;
+  room = λ x room. refl;
+  answer = λ steps. tt;
+})
+noted roll history (entry.Timer who due timer.Full) known kind = plain-noted roll history (entry.Timer who due timer.Full) known (record {
+  ids = λ h. refl;
+  arrives = refl;
+  dials = refl;
+  closes_none = λ x. refl;
+  ends_none = λ x. refl;
+  offers = λ others. refl;
+  no_call = refl;
+  no_failure = refl;
+  no_failed_log = refl;
+  no_loss = refl;
+  room = λ x room. refl;
+  answer = λ steps. tt;
+})
+noted roll history (entry.Timer who due timer.Exiting) known kind = plain-noted roll history (entry.Timer who due timer.Exiting) known (record {
+  ids = λ h. refl;
+  arrives = refl;
+  dials = refl;
+  closes_none = λ x. refl;
+  ends_none = λ x. refl;
+  offers = λ others. refl;
+  no_call = refl;
+  no_failure = refl;
+  no_failed_log = refl;
+  no_loss = refl;
+  room = λ x room. refl;
+  answer = λ steps. tt;
+})
+noted roll history (entry.Start n) known kind = plain-noted roll history (entry.Start n) known (record {
+  ids = λ h. refl;
+  arrives = refl;
+  dials = refl;
+  closes_none = λ x. refl;
+  ends_none = λ x. refl;
+  offers = λ others. refl;
+  no_call = refl;
+  no_failure = refl;
+  no_failed_log = refl;
+  no_loss = refl;
+  room = λ x room. refl;
+  answer = λ steps. tt;
+})
+noted roll history (entry.Turned c) known kind = plain-noted roll history (entry.Turned c) known (record {
+  ids = λ h. refl;
+  arrives = refl;
+  dials = refl;
+  closes_none = λ x. refl;
+  ends_none = λ x. refl;
+  offers = λ others. refl;
+  no_call = refl;
+  no_failure = refl;
+  no_failed_log = refl;
+  no_loss = refl;
+  room = λ x room. refl;
+  answer = λ steps. tt;
+})
+noted roll history (entry.Dropped dropped) known kind = plain-noted roll history (entry.Dropped dropped) known (record {
+  ids = λ h. refl;
+  arrives = refl;
+  dials = refl;
+  closes_none = λ x. refl;
+  ends_none = λ x. refl;
+  offers = λ others. refl;
+  no_call = refl;
+  no_failure = refl;
+  no_failed_log = refl;
+  no_loss = refl;
+  room = λ x room. refl;
+  answer = λ steps. tt;
+})

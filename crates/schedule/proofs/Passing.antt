@@ -6,7 +6,7 @@ use Rattle.std.proofs.lemmas.Option.{slice_get_within, get_or_from_slice_get}
 use Rattle.resty_world.specs.declared.schedule_line.SchedLine.{SchedLine}
 use Rattle.schedule_text.specs.Lines.{arrivals_in, is_arrival}
 
--- the lines up to a place, with the line there
+-- the lines up to an index, with the line there
 pub take-more : {A : Type 0} (xs : List A) (i : ℕ) (x : A) → slice_get xs i ≡ Some x → take (i + 1) xs ≡ take i xs ++ x ∷ []
 take-more xs i x here = take_more xs i x (slice_get_within xs i x here) ∙ ap (λ y. take i xs ++ y ∷ []) (get_or_from_slice_get xs i x x here)
 

@@ -6,6 +6,7 @@ use Rattle.resty_base.specs.declared.names.Id.TheVariants as id
 use Rattle.resty_base.specs.declared.names.StrandId.{StrandId}
 use Rattle.resty_world.specs.declared.event.Event.{Event}
 use Rattle.resty_world.specs.declared.event.Event.TheVariants as event
+use Rattle.resty_world.specs.declared.entry.Entry.{Entry}
 use Rattle.resty_world.specs.declared.entry.Entry.TheVariants as entry
 use Rattle.resty_world.specs.declared.schedule_line.SchedLine.{SchedLine}
 use Rattle.resty_world.specs.declared.schedule_line.SchedLine.TheVariants as line
@@ -16,10 +17,11 @@ use Rattle.schedule_text.specs.Lines.{is_arrival}
 use Rattle.schedule.specs.declared.replay.Replay.{Replay}
 use Rattle.schedule.specs.Counts.{arrived_in, dials_in, loses_by}
 use Rattle.schedule.specs.Knowing.{Knows}
-use Rattle.schedule.specs.Places.{open_ids, strands_in}
+use Rattle.schedule.specs.Peers.{Roll, peer_at, ended}
+use Rattle.schedule.specs.OpenIds.{open_ids, hung_up, has_ended}
 use Rattle.schedule.specs.ReplayBook.{book_of}
 use Rattle.schedule.specs.Steps.{is_skipped}
-use Rattle.schedule.proofs.KnowingLemmas.{open_where_due}
+use Rattle.schedule.proofs.KnowingLemmas.{open_where_due, first-off}
 
 pub record Plain (world : Replay) (e : Event) : Type 0 where
   pub fit : IsFit (book_of world) e
@@ -34,15 +36,15 @@ pub record Plain (world : Replay) (e : Event) : Type 0 where
   pub no_arrival : is_arrival (line.Given e) ≡ false
   pub no_loss : loses_by (entry.Given e) ≡ 0
   pub ids : open_ids (entry.Given e ∷ world.history.entries) ≡ open_ids world.history.entries
-  pub strands : strands_in (entry.Given e ∷ world.history.entries) ≡ strands_in world.history.entries
   pub known : Knows world.peers (entry.Given e ∷ world.history.entries)
 
 either-off : (b c : Bool) → (b || c) ≡ false → c ≡ false
 either-off true c is = absurd (let wrong : true ≡ false = is in cc)
 either-off false c is = is
 
-over_where_due : (b c : Bool) → (b || c) ≡ false → c ≡ false
-over_where_due b c is = either-off b c is
+not_ended_where_due : (roll : Roll) (history : List Entry) (i : Id) → Knows roll history → (hung_up history i || has_ended history i) ≡ false → ended (peer_at roll i) ≡ false
+not_ended_where_due roll history i known due =
+    known.are_ended i (known.are_closed i ∙ first-off (hung_up history i) (has_ended history i) due) ∙ either-off (hung_up history i) (has_ended history i) due
 
 pub plain : (world : Replay) (before : List SchedLine) (e : Event) → Fits before (line.Given e)
     → names_absent (arrived_in world.history.entries) (dials_in world.history.entries) (named_id (line.Given e)) ≡ false
@@ -55,7 +57,7 @@ plain world before event.Fault fits there due not_arrive not_ended not_broken = 
 plain world before (event.BadLine n) fits there due not_arrive not_ended not_broken = absurd fits.ranged
 plain world before event.Memory fits there due not_arrive not_ended not_broken = absurd fits.ranged
 plain world before (event.Bytes i bytes) fits there due not_arrive not_ended not_broken = record {
-  fit = (open_where_due world.peers world.history.entries i _ world.known there due, over_where_due _ _ due, fits.ranged.1.some, fits.ranged.1.within);
+  fit = (open_where_due world.peers world.history.entries i _ world.known there due, not_ended_where_due world.peers world.history.entries i world.known due, fits.ranged.1.some, fits.ranged.1.within);
   not_bad = λ book. tt;
   entries = refl;
   no_id = λ x. refl;
@@ -67,8 +69,7 @@ plain world before (event.Bytes i bytes) fits there due not_arrive not_ended not
   no_arrival = refl;
   no_loss = refl;
   ids = refl;
-  strands = refl;
-  known = record { arrived = world.known.arrived ∙ omega arith; dialled = world.known.dialled ∙ omega arith; are_open = world.known.are_open; are_closed = world.known.are_closed; are_ended = world.known.are_ended };
+  known = record { arrived = world.known.arrived ∙ omega arith; dialled = world.known.dialled ∙ omega arith; are_open = world.known.are_open; are_closed = world.known.are_closed; are_ended = world.known.are_ended; distinct = world.known.distinct };
 }
 plain world before (event.Ready i) fits there due not_arrive not_ended not_broken = record {
   fit = open_where_due world.peers world.history.entries i false world.known there due;
@@ -83,8 +84,7 @@ plain world before (event.Ready i) fits there due not_arrive not_ended not_broke
   no_arrival = refl;
   no_loss = refl;
   ids = refl;
-  strands = refl;
-  known = record { arrived = world.known.arrived ∙ omega arith; dialled = world.known.dialled ∙ omega arith; are_open = world.known.are_open; are_closed = world.known.are_closed; are_ended = world.known.are_ended };
+  known = record { arrived = world.known.arrived ∙ omega arith; dialled = world.known.dialled ∙ omega arith; are_open = world.known.are_open; are_closed = world.known.are_closed; are_ended = world.known.are_ended; distinct = world.known.distinct };
 }
 plain world before (event.Dialled n) fits there due not_arrive not_ended not_broken = record {
   fit = open_where_due world.peers world.history.entries (id.Sock n) false world.known there due;
@@ -99,8 +99,7 @@ plain world before (event.Dialled n) fits there due not_arrive not_ended not_bro
   no_arrival = refl;
   no_loss = refl;
   ids = refl;
-  strands = refl;
-  known = record { arrived = world.known.arrived ∙ omega arith; dialled = world.known.dialled ∙ omega arith; are_open = world.known.are_open; are_closed = world.known.are_closed; are_ended = world.known.are_ended };
+  known = record { arrived = world.known.arrived ∙ omega arith; dialled = world.known.dialled ∙ omega arith; are_open = world.known.are_open; are_closed = world.known.are_closed; are_ended = world.known.are_ended; distinct = world.known.distinct };
 }
 plain world before (event.Refused n) fits there due not_arrive not_ended not_broken = record {
   fit = open_where_due world.peers world.history.entries (id.Sock n) false world.known there due;
@@ -115,8 +114,7 @@ plain world before (event.Refused n) fits there due not_arrive not_ended not_bro
   no_arrival = refl;
   no_loss = refl;
   ids = refl;
-  strands = refl;
-  known = record { arrived = world.known.arrived ∙ omega arith; dialled = world.known.dialled ∙ omega arith; are_open = world.known.are_open; are_closed = world.known.are_closed; are_ended = world.known.are_ended };
+  known = record { arrived = world.known.arrived ∙ omega arith; dialled = world.known.dialled ∙ omega arith; are_open = world.known.are_open; are_closed = world.known.are_closed; are_ended = world.known.are_ended; distinct = world.known.distinct };
 }
 plain world before (event.Moment t) fits there due not_arrive not_ended not_broken = record {
   fit = fits.ranged;
@@ -131,8 +129,7 @@ plain world before (event.Moment t) fits there due not_arrive not_ended not_brok
   no_arrival = refl;
   no_loss = refl;
   ids = refl;
-  strands = refl;
-  known = record { arrived = world.known.arrived ∙ omega arith; dialled = world.known.dialled ∙ omega arith; are_open = world.known.are_open; are_closed = world.known.are_closed; are_ended = world.known.are_ended };
+  known = record { arrived = world.known.arrived ∙ omega arith; dialled = world.known.dialled ∙ omega arith; are_open = world.known.are_open; are_closed = world.known.are_closed; are_ended = world.known.are_ended; distinct = world.known.distinct };
 }
 plain world before event.Stop fits there due not_arrive not_ended not_broken = record {
   fit = tt;
@@ -147,6 +144,5 @@ plain world before event.Stop fits there due not_arrive not_ended not_broken = r
   no_arrival = refl;
   no_loss = refl;
   ids = refl;
-  strands = refl;
-  known = record { arrived = world.known.arrived ∙ omega arith; dialled = world.known.dialled ∙ omega arith; are_open = world.known.are_open; are_closed = world.known.are_closed; are_ended = world.known.are_ended };
+  known = record { arrived = world.known.arrived ∙ omega arith; dialled = world.known.dialled ∙ omega arith; are_open = world.known.are_open; are_closed = world.known.are_closed; are_ended = world.known.are_ended; distinct = world.known.distinct };
 }

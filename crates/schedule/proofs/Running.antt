@@ -67,14 +67,15 @@ knows-still old new history connections sockets known =
       dialled = ap length sockets ∙ known.dialled;
       are_open = λ x. ap opened (at x) ∙ known.are_open x;
       are_closed = λ x. ap closed (at x) ∙ known.are_closed x;
-      are_ended = λ x. ap ended (at x) ∙ known.are_ended x;
+      are_ended = λ x off. ap ended (at x) ∙ known.are_ended x (sym (ap closed (at x)) ∙ off);
+      distinct = known.distinct;
     }
 
 -- a world that changed nothing of which steps speak
 pub later-still : (old new : Replay) → new.course ≡ old.course → new.passed ≡ old.passed → new.history.entries ≡ old.history.entries → new.offered.items ≡ old.offered.items
-    → new.faults ≡ old.faults → new.losses ≡ old.losses → ((x : Id) → peer_at new.peers x ≡ peer_at old.peers x)
+    → new.faults ≡ old.faults → new.losses ≡ old.losses → ((x : Id) → room_in (peer_at new.peers x) ≡ room_in (peer_at old.peers x)) → ((x : Id) → put_fails_in (peer_at new.peers x) ≡ put_fails_in (peer_at old.peers x))
     → new.dial_fails ≡ old.dial_fails → new.log_fails ≡ old.log_fails → new.listen_fails ≡ old.listen_fails → new.port ≡ old.port → IsLater old new
-later-still old new course passed entries offered faults losses at dial_fails log_fails listen_fails port = record {
+later-still old new course passed entries offered faults losses rooms put_fails dial_fails log_fails listen_fails port = record {
   schedule = course;
   passed = omega (arith, passed);
   stands = λ s. record {
@@ -85,8 +86,8 @@ later-still old new course passed entries offered faults losses at dial_fails lo
     offered = s.offered ∙ ap reverse (sym offered);
     faults = faults ∙ s.faults;
     losses = rw entries (losses ∙ s.losses);
-    rooms = λ x. ap room_in (at x) ∙ s.rooms x;
-    put_fails = λ x. ap put_fails_in (at x) ∙ s.put_fails x;
+    rooms = λ x. rooms x ∙ s.rooms x;
+    put_fails = λ x. put_fails x ∙ s.put_fails x;
     dial_fails = dial_fails ∙ s.dial_fails;
     log_fails = log_fails ∙ s.log_fails;
     listen_fails = listen_fails ∙ rw course s.listen_fails;
@@ -95,7 +96,7 @@ later-still old new course passed entries offered faults losses at dial_fails lo
   };
 }
 
--- an asking is answered behind these lines
+-- an asking is answered after these lines
 pub answered-on : (old mid new : Replay) → IsPast old mid → HasAnswered mid new → IsLater old new
 answered-on old mid new past answered = record {
   schedule = answered.schedule ∙ past.schedule;
@@ -126,7 +127,7 @@ fit-on old passed event.Fault fit = fit
 fit-on old passed (event.BadLine n) fit = fit
 fit-on old passed event.Memory fit = fit
 
--- what is given behind these lines is given by the world
+-- what is given after these lines is given by the world
 pub gave-on : (old : Book) (passed : ℕ) (mid new : Book) (e : Event) → old.passed ≤ passed → mid ≡ record old { passed = passed } → Gave mid new e → Gave old new e
 gave-on old passed mid new e below is gave =
     let g = subst (λ b. Gave b new e) is gave in
@@ -139,8 +140,8 @@ gave-on old passed mid new e below is gave =
       bad = g.bad;
       is_open = g.is_open;
       has_ended = g.has_ended;
-      id_place = g.id_place;
-      strand_place = g.strand_place;
+      id_aside = g.id_aside;
+      strand_aside = g.strand_aside;
       arrivals = g.arrivals;
       dials = g.dials;
       faults = g.faults;
@@ -155,6 +156,26 @@ told-same : (h : Option (List Entry)) → h ≡ told [] h
 told-same None = refl
 told-same (Some h) = refl
 
+-- nothing is given out of memory
+pub gave-memory : (old new : Book) → new ≡ old → Gave old new event.Memory
+gave-memory old new is = record {
+  history = ap (λ (b : Book). b.history) is ∙ told-same old.history;
+  offered = ap (λ (b : Book). b.offered) is;
+  schedule = ap (λ (b : Book). b.schedule) is;
+  passed = omega (arith, ap (λ (b : Book). b.passed) is);
+  fit = tt;
+  bad = tt;
+  is_open = λ x. ap (λ (b : Book). b.is_open x) is;
+  has_ended = λ x. ap (λ (b : Book). b.has_ended x) is;
+  id_aside = λ x. ap (λ (b : Book). b.id_aside x) is;
+  strand_aside = λ s. ap (λ (b : Book). b.strand_aside s) is;
+  arrivals = ap (λ (b : Book). b.arrivals) is ∙ omega arith;
+  dials = ap (λ (b : Book). b.dials) is;
+  faults = ap (λ (b : Book). b.faults) is;
+  losses = ap (λ (b : Book). b.losses) is;
+  port = ap (λ (b : Book). b.port) is;
+}
+
 -- nothing is given where the next line is bad
 pub gave-bad : (old : Book) (passed : ℕ) (mid : Book) (n : ℕ) → old.passed ≤ passed → mid ≡ record old { passed = passed } → IsBadLine mid n → Gave old mid (event.BadLine n)
 gave-bad old passed mid n below is bad = record {
@@ -166,8 +187,8 @@ gave-bad old passed mid n below is bad = record {
   bad = bad;
   is_open = λ x. ap (λ (b : Book). b.is_open x) is;
   has_ended = λ x. ap (λ (b : Book). b.has_ended x) is;
-  id_place = λ x. ap (λ (b : Book). b.id_place x) is;
-  strand_place = λ s. ap (λ (b : Book). b.strand_place s) is;
+  id_aside = λ x. ap (λ (b : Book). b.id_aside x) is;
+  strand_aside = λ s. ap (λ (b : Book). b.strand_aside s) is;
   arrivals = ap (λ (b : Book). b.arrivals) is ∙ omega arith;
   dials = ap (λ (b : Book). b.dials) is;
   faults = ap (λ (b : Book). b.faults) is;

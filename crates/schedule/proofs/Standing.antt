@@ -1,4 +1,4 @@
--- Where a replay stands behind one step more.
+-- Where a replay stands after one step more.
 use Rattle.std.proofs.Common.{◌≡◌, ℕ, ◌+◌, ◌-◌, ◌<◌, ◌≤◌, Bool, true, false, cond, not, List, [], ◌∷◌, ◌++◌, length, reverse, get_or, Some, slice_get, refl, sym, ap, subst, ◌∙◌, arith, length-append, length-take-le}
 use Rattle.std.proofs.lemmas.Bool.{lt-ltb}
 use Rattle.std.proofs.lemmas.List.{take_all, same_from_push, reverse-append, get_or_default}
@@ -18,11 +18,12 @@ use Rattle.schedule.specs.declared.replay.Replay.{Replay}
 use Rattle.schedule.specs.Counts.{arrived_in, dials_in, losses_in, loses_by, counted}
 use Rattle.schedule.specs.Peers.{peer_at, room_in, put_fails_in}
 use Rattle.schedule.specs.ReplayBook.{StandsBy, Stands, StandsAnywhere}
-use Rattle.schedule.specs.Steps.{Step, Call, Passed, Answered, Listened, AskedAtBadLine, AskedAtEnd, Dialling, Logging, Writing, AreSteps, FailsRightly, IsAnswer, is_skipped, given_by, history_of, lines_of, offers_by, is_call, failing_by, answered_by, tells_failure, one_if, unspent, room_by, room_behind, is_fail_next, is_failed_log, begins_by_failing, has_listened_in_vain, newest_given, faults_in}
+use Rattle.schedule.specs.Steps.{Step, Call, Passed, Answered, Listened, AskedAtBadLine, AskedAtEnd, Dialling, Logging, Writing, AreSteps, FailsRightly, IsAnswer, is_skipped, given_by, history_of}
+use Rattle.schedule.specs.Steps.{lines_of, offers_by, is_call, failing_by, answered_by, tells_failure, one_if, unspent, room_by, room_after, is_fail_next, is_failed_log, begins_by_failing, has_listened_in_vain, newest_given, faults_in}
 use Rattle.schedule.proofs.Passing.{take-more}
-use Rattle.schedule.proofs.PlacesLemmas.{by_test, same_id-eq}
+use Rattle.schedule.proofs.OpenIdsLemmas.{by_test, same_id-eq}
 
--- counting goes on behind the last value
+-- counting goes on after the last value
 capped : (n k : ℕ) → counted (counted n + k) ≡ counted (n + k)
 capped n k = omega arith
 
@@ -48,7 +49,7 @@ unspent-few c (AskedAtEnd ∷ steps) = unspent-few c steps
 pub few-unspent : {kind : List Step → Type 0} (w : Replay) (s : StandsBy kind w) (c : Call) → unspent c s.steps ≤ w.passed
 few-unspent w s c = omega (arith, unspent-few c s.steps, ap length s.passed, length-take-le w.passed w.course, w.passed_lines)
 
--- one more or less at a place
+-- one more or less at an id
 pub one-more : (f : Id → ℕ) (i : Id) (more : ℕ) → more ≡ f i + 1 → (x : Id) → (if same_id x i then more else f x) ≡ f x + one_if (same_id x i)
 one-more f i more is x = by_test (same_id x i) (λ on. rw on (is ∙ ap (λ y. f y + 1) (sym (same_id-eq x i on)))) (λ off. rw off (none-more (f x)))
 
@@ -60,7 +61,7 @@ pub answers : (old new : Replay) (e : Entry) (n : ℕ) (s : Stands old) → new.
     → new.history.entries ≡ e ∷ old.history.entries → reverse new.offered.items ≡ offers_by e n (reverse old.offered.items)
     → FailsRightly (answered_by e) (tells_failure e) s.steps → IsAnswer s.steps e n
     → new.faults ≡ counted (old.faults + one_if (is_failed_log e)) → new.losses ≡ counted (old.losses + loses_by e)
-    → ((x : Id) → room_in (peer_at new.peers x) ≡ room_behind e x (room_in (peer_at old.peers x)))
+    → ((x : Id) → room_in (peer_at new.peers x) ≡ room_after e x (room_in (peer_at old.peers x)))
     → ((x : Id) → put_fails_in (peer_at new.peers x) ≡ put_fails_in (peer_at old.peers x) - one_if (tells_failure e && is_call (answered_by e) (Writing x)))
     → new.dial_fails ≡ old.dial_fails - one_if (tells_failure e && is_call (answered_by e) Dialling)
     → new.log_fails ≡ old.log_fails - one_if (tells_failure e && is_call (answered_by e) Logging)
@@ -73,7 +74,7 @@ answers old new e n s course passed entries offered rightly right faults losses 
   offered = ap (offers_by e n) s.offered ∙ sym offered;
   faults = faults ∙ ap (λ k. counted (k + one_if (is_failed_log e))) s.faults ∙ capped (faults_in s.steps) _;
   losses = losses ∙ ap (λ k. counted (k + loses_by e)) s.losses ∙ rw entries (omega arith);
-  rooms = λ x. rooms x ∙ ap (room_behind e x) (s.rooms x);
+  rooms = λ x. rooms x ∙ ap (room_after e x) (s.rooms x);
   put_fails = λ x. put_fails x ∙ ap (λ k. k - one_if (tells_failure e && is_call (answered_by e) (Writing x))) (s.put_fails x);
   dial_fails = dial_fails ∙ ap (λ k. k - one_if (tells_failure e && is_call (answered_by e) Dialling)) s.dial_fails;
   log_fails = log_fails ∙ ap (λ k. k - one_if (tells_failure e && is_call (answered_by e) Logging)) s.log_fails;
@@ -193,7 +194,7 @@ listens old new port s course passed entries offered faults losses peers dial_fa
   kept = refl;
 }
 
--- asking behind the last line
+-- asking after the last line
 pub fails_at_end : (old new : Replay) (s : StandsAnywhere old) → IsSchedule old.course → old.passed ≡ length old.course → new.course ≡ old.course → new.passed ≡ old.passed
     → new.history.entries ≡ old.history.entries → new.offered.items ≡ old.offered.items → new.faults ≡ counted (old.faults + 1) → new.losses ≡ old.losses
     → new.peers ≡ old.peers → new.dial_fails ≡ old.dial_fails → new.log_fails ≡ old.log_fails → new.listen_fails ≡ old.listen_fails → new.port ≡ old.port → Stands new
@@ -220,10 +221,10 @@ fails_at_end old new s whole end course passed entries offered faults losses pee
 pub asks_at_bad_line : (w : Replay) (s : StandsAnywhere w) (l : SchedLine) → slice_get w.course w.passed ≡ Some l
     → names_absent (arrived_in w.history.entries) (dials_in w.history.entries) (named_id l) ≡ true → Stands w
 asks_at_bad_line w s l here absent =
-    let place : length (lines_of s.steps) ≡ w.passed = ap length s.passed ∙ length-take-le w.passed w.course w.passed_lines in
+    let count : length (lines_of s.steps) ≡ w.passed = ap length s.passed ∙ length-take-le w.passed w.course w.passed_lines in
     record {
       steps = AskedAtBadLine ∷ s.steps;
-      right = (s.right, (l, rw place here, rw s.history absent));
+      right = (s.right, (l, rw count here, rw s.history absent));
       passed = s.passed;
       history = s.history;
       offered = s.offered;
@@ -252,7 +253,7 @@ must_fail c steps n is some = sym (lt-ltb 0 (unspent c steps) (omega (arith, is)
 pub must_work : (c : Call) (steps : List Step) (n : ℕ) → n ≡ unspent c steps → n ≡ 0 → FailsRightly (Some c) false steps
 must_work c steps n is none = sym (ap (nat_lt 0) (sym is ∙ none))
 
--- a change of a value at a place
+-- a change of a value at an id
 pub changed_by : {A : Type 0} (f : Id → A) (g : A → A) (i : Id) (v : A) → v ≡ g (f i) → (x : Id) → (if same_id x i then v else f x) ≡ (if same_id x i then g (f x) else f x)
 changed_by f g i v is x = by_test (same_id x i) (λ on. rw on (is ∙ ap (λ y. g (f y)) (sym (same_id-eq x i on)))) (λ off. rw off refl)
 

@@ -1,4 +1,4 @@
--- Behind `stop` there is no line.
+-- After `stop` there is no line.
 use Rattle.std.proofs.Common.{◌≡◌, ℕ, zero, suc, ◌+◌, ◌<◌, Bool, true, false, cond, inl, inr, List, [], ◌∷◌, ◌++◌, length, take, Some, None, slice_get, refl, sym, ap, subst, ◌∙◌, arith}
 use Rattle.std.proofs.lemmas.Bool.{cases_lt}
 use Rattle.std.proofs.lemmas.List.{take_all}
@@ -44,7 +44,7 @@ stop-passed schedule (Listened port failed ∷ steps) right newest = stop-passed
 stop-passed schedule (AskedAtBadLine ∷ steps) right newest = stop-passed schedule steps right.0 newest
 stop-passed schedule (AskedAtEnd ∷ steps) right newest = stop-passed schedule steps right.0 newest
 
--- there is a line at each place within
+-- there is a line at each index within
 pub line-at : (lines : List SchedLine) (at : ℕ) → at < length lines → (l : SchedLine) × (slice_get lines at ≡ Some l)
 line-at [] at within = absurd (omega arith)
 line-at (l ∷ lines) zero within = (l, refl)
@@ -56,7 +56,7 @@ all-passed lines passed history offered whole told newest = elim (cases_lt passe
   | inl within ↦
       let next = line-at lines passed within in
       let none = (whole.fit passed next.0 next.1).goes_on in
-      let some = stop-passed (take passed lines ++ told.behind) told.steps told.steps_right (ap newest_given told.steps_history ∙ newest) in
+      let some = stop-passed (take passed lines ++ told.after) told.steps told.steps_right (ap newest_given told.steps_history ∙ newest) in
       absurd (omega (arith, none, some, ap stops_in told.steps_lines))
   | inr end ↦ take_all passed lines end
 ]

@@ -1,9 +1,10 @@
-pub mod Ahead
 pub mod Counts
-pub mod Knowing
-pub mod Peers
-pub mod Places
-pub mod ReplayBook
+pub mod OpenIds
 pub mod Steps
 pub mod Told
-pub mod Writing
+pub mod ReplayBook
+pub mod Peers
+pub mod Aside
+pub mod Ahead
+pub mod Knowing
+pub mod ReplayLaws

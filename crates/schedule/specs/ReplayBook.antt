@@ -1,20 +1,19 @@
 -- What contracts see of a replay.
-use Rattle.std.specs.Prelude.{◌≡◌, ℕ, ◌+◌, ◌*◌, ◌^◌, ◌<◌, ◌≤◌, false, ◌&&◌, not, List, [], length, take, reverse, slice_get, Some, None}
-use Rattle.std.proofs.Common.{◌∙◌, refl, sym, ap}
-use Rattle.std.proofs.Math.Nat.{le_refl, le_trans}
+use Rattle.std.specs.Prelude.{◌≡◌, ℕ, ◌+◌, ◌^◌, ◌<◌, ◌≤◌, false, ◌&&◌, not, List, [], length, take, reverse, slice_get, Some, None}
 use Rattle.resty_base.specs.declared.names.Id.{Id}
 use Rattle.resty_base.specs.declared.names.StrandId.{StrandId}
 use Rattle.resty_world.specs.declared.schedule_line.SchedLine.{SchedLine}
 use Rattle.resty_world.specs.Book.{Book}
-use Rattle.resty_world.specs.Ids.{same_id, same_strand}
+use Rattle.resty_world.specs.Ids.{same_id}
 use Rattle.schedule.specs.declared.replay.Replay.{Replay}
 use Rattle.schedule.specs.declared.ahead.Ahead.TheVariants as ahead
 use Rattle.schedule.specs.Ahead.{ahead_of}
+use Rattle.schedule.specs.Aside.{is_aside, rooms}
 use Rattle.schedule.specs.Counts.{losses_in, counted}
-use Rattle.schedule.specs.Peers.{peer_at, room_in, put_fails_in}
-use Rattle.schedule.specs.Places.{has, open_ids, strands_in, has_ended}
-use Rattle.schedule.specs.Steps.{Step, AreSteps, Dialling, Logging, Writing, history_of, lines_of, offers_of, room_of, unspent, begins_by_failing, has_listened_in_vain, port_of, within_asking, faults_in}
-use Rattle.schedule.specs.Told.{TellsSchedule}
+use Rattle.schedule.specs.Peers.{peer_at, ended, room_in, put_fails_in}
+use Rattle.schedule.specs.OpenIds.{has, open_ids}
+use Rattle.schedule.specs.Steps.{Step, AreSteps, Dialling, Logging, Writing, history_of, lines_of, offers_of, room_of, unspent}
+use Rattle.schedule.specs.Steps.{begins_by_failing, has_listened_in_vain, port_of, within_asking, faults_in}
 
 abbrev pub book_of : Replay → Book
 book_of w = record {
@@ -24,9 +23,9 @@ book_of w = record {
   passed = w.passed;
   spare = w.spare;
   is_open = λ x. has same_id x (open_ids w.history.entries);
-  has_ended = λ x. has_ended w.history.entries x;
-  id_place = λ x. has same_id x (open_ids w.history.entries);
-  strand_place = λ s. has same_strand s (strands_in w.history.entries);
+  has_ended = λ x. ended (peer_at w.peers x);
+  id_aside = λ x. has same_id x (open_ids w.history.entries);
+  strand_aside = is_aside w.aside;
   arrivals = length w.peers.connections;
   dials = length w.peers.sockets;
   faults = w.faults;
@@ -58,21 +57,6 @@ Stands w = StandsBy (λ steps. within_asking steps ≡ false) w
 abbrev pub StandsAnywhere : Replay → Type 0
 StandsAnywhere w = StandsBy (λ steps. Unit {0}) w
 
--- a replay that stands at steps tells its schedule
-pub tells : (w : Replay) → Stands w → TellsSchedule (book_of w)
-tells w s = record {
-  lines = w.course;
-  schedule = refl;
-  steps = s.steps;
-  right = s.right;
-  passed = s.passed;
-  history = ap Some (sym s.history);
-  offered = ap Some (sym s.offered);
-  faults = s.faults;
-  losses = s.losses ∙ ap (λ h. counted (losses_in h)) (sym s.history);
-  port = s.port;
-}
-
 -- the second is the first, some calls later: where the first stood at steps, so does the second
 pub record IsLater (before now : Replay) : Type 0 where
   pub schedule : now.course ≡ before.course
@@ -81,15 +65,16 @@ pub record IsLater (before now : Replay) : Type 0 where
 
 -- there is room for the entry of any event, and for all that an arrival sets aside
 pub record IsReady (w : Replay) : Type 0 where
-  pub room : w.held + 2 * w.spare + 3 ≤ w.history.room
-  pub counted : w.held + 2 * w.spare + 3 < 2 ^ 64
+  pub room : rooms w.open_count w.aside w.spare + 3 ≤ w.history.room
+  pub counted : rooms w.open_count w.aside w.spare + 3 < 2 ^ 64
+  pub strand : w.spare + 1 ≤ w.aside.free
   pub connection : 0 < w.peers.free
 
--- the lines from the next up to this place are passed, and give no event
+-- the lines from the next up to this index are passed, and give no event
 abbrev pub IsQuietTo : Replay → ℕ → Type 0
-IsQuietTo w at = (k : ℕ) → w.passed ≤ k → k < at → ahead_of w.history.entries (slice_get w.course k) ≡ ahead.Quiet
+IsQuietTo w index = (k : ℕ) → w.passed ≤ k → k < index → ahead_of w.history.entries (slice_get w.course k) ≡ ahead.Quiet
 
--- the second is the first behind some lines more, of which none gave an event
+-- the second is the first after some lines more, of which none gave an event
 pub record IsPast (before now : Replay) : Type 0 where
   pub book : book_of now ≡ record (book_of before) { passed = now.passed }
   pub passed : before.passed ≤ now.passed
@@ -98,22 +83,11 @@ pub record IsPast (before now : Replay) : Type 0 where
   pub reached : StandsAnywhere before → StandsAnywhere now
   pub ready : IsReady before → IsReady now
 
--- the second is the first behind the answer of an asking, which may have passed lines before
+-- the second is the first after the answer of an asking, which may have passed lines before
 pub record HasAnswered (before now : Replay) : Type 0 where
   pub schedule : now.course ≡ before.course
   pub passed : before.passed ≤ now.passed
   pub stands : StandsAnywhere before → Stands now
-
--- a world is itself, and what comes later than a later world is later
-pub IsLater-same : (world : Replay) → IsLater world world
-IsLater-same world = record { schedule = refl; passed = le_refl world.passed; stands = λ stands. stands }
-
-pub IsLater-joins : (first second third : Replay) → IsLater first second → IsLater second third → IsLater first third
-IsLater-joins first second third early late = record {
-  schedule = late.schedule ∙ early.schedule;
-  passed = le_trans early.passed late.passed;
-  stands = λ stands. late.stands (early.stands stands);
-}
 
 -- a world of which nothing was asked yet
 pub record IsFresh (lines : List SchedLine) (book : Book) : Type 0 where
@@ -124,8 +98,8 @@ pub record IsFresh (lines : List SchedLine) (book : Book) : Type 0 where
   pub spare : book.spare ≡ 0
   pub is_open : (x : Id) → book.is_open x ≡ false
   pub has_ended : (x : Id) → book.has_ended x ≡ false
-  pub id_place : (x : Id) → book.id_place x ≡ false
-  pub strand_place : (s : StrandId) → book.strand_place s ≡ false
+  pub id_aside : (x : Id) → book.id_aside x ≡ false
+  pub strand_aside : (s : StrandId) → book.strand_aside s ≡ false
   pub arrivals : book.arrivals ≡ 0
   pub dials : book.dials ≡ 0
   pub faults : book.faults ≡ 0

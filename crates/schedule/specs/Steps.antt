@@ -1,5 +1,6 @@
 -- What a replay does step by step, and which steps the lines that it passed allow.
-use Rattle.std.specs.Prelude.{◌≡◌, ℕ, ◌+◌, ◌-◌, ◌<◌, min, Bool, true, false, not, ◌||◌, ◌&&◌, nat_lt, List, [], ◌∷◌, ◌++◌, length, slice_get, Option, Some, None, if◌then◌else◌}
+use Rattle.std.specs.Prelude.{◌≡◌, ℕ, ◌+◌, ◌-◌, ◌<◌, min, Bool, true, false, not, ◌||◌, ◌&&◌, nat_lt}
+use Rattle.std.specs.Prelude.{List, [], ◌∷◌, ◌++◌, length, slice_get, Option, Some, None, if◌then◌else◌}
 use Rattle.resty_base.specs.declared.names.Id.{Id}
 use Rattle.resty_world.specs.declared.event.Event.{Event}
 use Rattle.resty_world.specs.declared.event.Event.TheVariants as event
@@ -11,10 +12,10 @@ use Rattle.resty_world.specs.Given.{named_id, names_absent}
 use Rattle.resty_world.specs.Ids.{same_id}
 use Rattle.schedule_text.specs.Ranges.{IsBytes}
 use Rattle.schedule.specs.Counts.{arrived_in, dials_in}
-use Rattle.schedule.specs.Places.{hung_up, has_ended}
+use Rattle.schedule.specs.OpenIds.{hung_up, has_ended}
 
 -- a step: a line is passed; a call is answered by an entry, of a piece of that length where it is a write; listening on a port is
--- answered, and it fails or not; or an event is asked for where the next line is bad, or behind the last line
+-- answered, and it fails or not; or an event is asked for where the next line is bad, or after the last line
 pub data Step : Type 0 where
   Passed : SchedLine → Step
   Answered : Entry → ℕ → Step
@@ -102,7 +103,7 @@ answered_by (entry.Dial who host port n) = Some Dialling
 answered_by (entry.Log who text written) = Some Logging
 answered_by e = None
 
--- the entry tells that its call failed
+-- the entry says that its call failed
 abbrev pub tells_failure : Entry → Bool
 tells_failure (entry.Lost i) = true
 tells_failure (entry.Dial who host port None) = true
@@ -121,7 +122,7 @@ unspent c (Listened port failed ∷ steps) = unspent c steps
 unspent c (AskedAtBadLine ∷ steps) = unspent c steps
 unspent c (AskedAtEnd ∷ steps) = unspent c steps
 
--- the room behind a `room` line, and behind an entry
+-- the room after a `room` line, and after an entry
 abbrev pub room_by : SchedLine → Id → Option ℕ → Option ℕ
 room_by (line.Room i n) x room = if same_id x i then n else room
 room_by l x room = room
@@ -130,15 +131,15 @@ abbrev pub less : ℕ → Option ℕ → Option ℕ
 less n None = None
 less n (Some room) = Some (room - n)
 
-abbrev pub room_behind : Entry → Id → Option ℕ → Option ℕ
-room_behind (entry.Put i bytes) x room = if same_id x i then less (length bytes) room else room
-room_behind e x room = room
+abbrev pub room_after : Entry → Id → Option ℕ → Option ℕ
+room_after (entry.Put i bytes) x room = if same_id x i then less (length bytes) room else room
+room_after e x room = room
 
--- How many bytes a place takes: so many as its last `room` line gave, less what it took since; all where there is none.
+-- How many bytes a connection or a socket takes: so many as its last `room` line gave, less what it took since; all where there is none.
 abbrev pub room_of : Id → List Step → Option ℕ
 room_of x [] = None
 room_of x (Passed l ∷ steps) = room_by l x (room_of x steps)
-room_of x (Answered e n ∷ steps) = room_behind e x (room_of x steps)
+room_of x (Answered e n ∷ steps) = room_after e x (room_of x steps)
 room_of x (Listened port failed ∷ steps) = room_of x steps
 room_of x (AskedAtBadLine ∷ steps) = room_of x steps
 room_of x (AskedAtEnd ∷ steps) = room_of x steps
@@ -208,7 +209,7 @@ within_asking (s ∷ steps) = false
 abbrev pub names_absent_now : List Step → SchedLine → Bool
 names_absent_now steps l = names_absent (arrived_in (history_of steps)) (dials_in (history_of steps)) (named_id l)
 
--- A step may come behind the steps before it. A line that is passed names no id that was never there, and a bad line does. No call is answered
+-- A step may come after the steps before it. A line that is passed names no id that was never there, and a bad line does. No call is answered
 -- within an asking. Listening fails once, where the schedule begins with `fail listen`. The last line is `stop`.
 abbrev pub IsStep : List SchedLine → List Step → Step → Type 0
 IsStep schedule steps (Passed l) = names_absent_now steps l ≡ false

@@ -1,3 +1,5 @@
+//! What the next line of a schedule is.
+
 /// What the next line of a schedule is to a world that is asked for an event.
 #[derive(Clone, Copy, Debug, PartialEq, Eq)]
 pub enum Ahead {

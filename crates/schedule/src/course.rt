@@ -1,3 +1,5 @@
+//! The schedule that a world goes by.
+
 use resty_world::SchedLine;
 use schedule_text::Schedule;
 use std::marker::Model;
@@ -41,14 +43,14 @@ impl Course {
         self.schedule.as_slice().len()
     }
 
-    /// The line at this place, from 0.
-    pub fn line(&self, at: usize) -> &SchedLine
-        requires { at < length self.now }
-        ensures here { slice_get self.now at ≡ Some result.now }
-        ensures fits { Fits (take at self.now) result.now }
+    /// The line at this index, from 0.
+    pub fn line(&self, index: usize) -> &SchedLine
+        requires { index < length self.now }
+        ensures here { slice_get self.now index ≡ Some result.now }
+        ensures fits { Fits (take index self.now) result.now }
     {
         let lines = self.schedule.as_slice();
-        &lines[at]
+        &lines[index]
     }
 
     /// Whether the first line makes listening fail.

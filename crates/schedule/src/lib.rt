@@ -2,6 +2,7 @@
 #![tactic(auto)]
 
 mod ahead;
+mod aside;
 mod course;
 mod laws;
 mod peer;

@@ -1,3 +1,7 @@
+//! What is kept of a connection or a socket.
+
+use resty_base::Id;
+
 /// What a replay keeps of a connection or a socket.
 #[derive(Clone, Copy, Debug, PartialEq, Eq)]
 pub struct Peer {
@@ -12,7 +16,7 @@ pub struct Peer {
 
 impl Peer {
     ghost use Rattle.std.specs.Prelude.{◌≡◌, ◌≢◌, ◌<◌, ◌≤◌, Some, IfSome};
-    ghost use Rattle.schedule.specs.Peers.{fresh};
+    ghost use Rattle.schedule.specs.Peers.{fresh, closed_peer};
     ghost use Rattle.schedule.specs.Steps.{TakesLeast, less};
 
     /// One that is new.
@@ -48,6 +52,17 @@ impl Peer {
     {
         Peer {
             room: self.room.map(|room| room - count as u64),
+            ..*self
+        }
+    }
+
+    /// The same, once it was hung up: of a socket it isn't known any more whether it ended.
+    pub fn hung_up(&self, id: Id) -> Peer
+        ensures { result ≡ closed_peer id self.now }
+    {
+        Peer {
+            is_open: false,
+            has_ended: self.has_ended && matches!(id, Id::Conn(_)),
             ..*self
         }
     }

@@ -1,3 +1,5 @@
+//! The connections that arrived and the sockets that were dialled.
+
 ghost use Rattle.std.specs.Prelude.{◌≡◌};
 ghost use Rattle.schedule.specs.Peers.{numbered};
 
@@ -19,15 +21,18 @@ impl Model for Peers {
 
     ghost Value = { Roll };
 
-    ghost view = { λ peers. record { connections = peers.connections.items; sockets = peers.sockets.items; free = vec_capacity peers.connections - vec_len peers.connections } };
+    ghost view = { λ peers. record {
+      connections = peers.connections.items;
+      sockets = peers.sockets.items;
+      free = vec_capacity peers.connections - vec_len peers.connections;
+    } };
 }
 
 impl Peers {
-    ghost use Rattle.std.specs.Prelude.{◌≡◌, ◌+◌, ◌<◌, length, Some, None, OnOk, OnErr, IsSome, if◌then◌else◌};
+    ghost use Rattle.std.specs.Prelude.{◌≡◌, ◌+◌, ◌<◌, length, Some, None, OnOk, OnErr, IsSome};
     ghost use Rattle.resty_base.specs.declared.names.Id.{Id};
     ghost use Rattle.resty_base.specs.declared.names.Id.TheVariants.{Conn, Sock};
-    ghost use Rattle.resty_world.specs.Ids.{same_id};
-    ghost use Rattle.schedule.specs.Peers.{peer_at, fresh};
+    ghost use Rattle.schedule.specs.Peers.{peer_at, fresh, unended, IsChanged};
 
     /// Nobody; takes no memory.
     pub fn new(alloc: Global) -> Peers
@@ -68,7 +73,7 @@ impl Peers {
     /// Keeps this of an id that is there.
     pub fn set(&mut self, id: Id, peer: Peer)
         requires { IsSome (peer_at self.old id) }
-        ensures set { (x : Id) → peer_at self.new x ≡ (if same_id x id then Some peer else peer_at self.old x) }
+        ensures set { IsChanged id (Some peer) self.old self.new }
         ensures connections { length self.new.connections ≡ length self.old.connections }
         ensures sockets { length self.new.sockets ≡ length self.old.sockets }
         ensures free { self.new.free ≡ self.old.free }
@@ -79,7 +84,20 @@ impl Peers {
         }
     }
 
-    /// Makes room for the next connection.
+    /// Forgets that the id ended, if it is there.
+    pub fn forget_end(&mut self, id: Id)
+        ensures forgotten { IsChanged id (unended (peer_at self.old id)) self.old self.new }
+        ensures connections { length self.new.connections ≡ length self.old.connections }
+        ensures sockets { length self.new.sockets ≡ length self.old.sockets }
+        ensures free { self.new.free ≡ self.old.free }
+    {
+        if let Some(peer) = self.get(id) {
+            let has_ended = false;
+            self.set(id, Peer { has_ended, ..peer });
+        }
+    }
+
+    /// Makes way for the next connection.
     pub fn make_way(&mut self) -> Result<(), AllocError>
         ensures connections { self.new.connections ≡ self.old.connections }
         ensures sockets { self.new.sockets ≡ self.old.sockets }
@@ -91,7 +109,7 @@ impl Peers {
     /// Adds the next connection, for which there is room.
     pub fn add_connection(&mut self)
         requires { 0 < self.old.free }
-        ensures added { (x : Id) → peer_at self.new x ≡ (if same_id x (Conn (length self.old.connections + 1)) then Some fresh else peer_at self.old x) }
+        ensures added { IsChanged (Conn (length self.old.connections + 1)) (Some fresh) self.old self.new }
         ensures connections { length self.new.connections ≡ length self.old.connections + 1 }
         ensures sockets { length self.new.sockets ≡ length self.old.sockets }
     {
@@ -100,7 +118,7 @@ impl Peers {
 
     /// Adds the next socket.
     pub fn add_socket(&mut self) -> Result<(), AllocError>
-        ensures added { OnOk result ((x : Id) → peer_at self.new x ≡ (if same_id x (Sock (length self.old.sockets + 1)) then Some fresh else peer_at self.old x)) }
+        ensures added { OnOk result (IsChanged (Sock (length self.old.sockets + 1)) (Some fresh) self.old self.new) }
         ensures connections { OnOk result (length self.new.connections ≡ length self.old.connections) }
         ensures sockets { OnOk result (length self.new.sockets ≡ length self.old.sockets + 1) }
         ensures err { OnErr result (self.new ≡ self.old) }
@@ -115,6 +133,6 @@ impl Peers {
 fn numbered(peers: &[Peer], number: u64) -> Option<Peer>
     ensures { result ≡ numbered peers.now number }
 {
-    let place = (number as usize).checked_sub(1)?;
-    peers.get(place).copied()
+    let index = (number as usize).checked_sub(1)?;
+    peers.get(index).copied()
 }

@@ -1,9 +1,13 @@
-ghost use Rattle.std.specs.Prelude.{◌≡◌, ℕ, ◌+◌, ◌*◌, ◌^◌, ◌<◌, ◌≤◌, length, take};
+//! The world in memory, and what it knows of the next line.
+
+ghost use Rattle.std.specs.Prelude.{◌≡◌, ℕ, ◌^◌, ◌<◌, ◌≤◌, length, take};
 ghost use Rattle.schedule_text.specs.Lines.{arrivals_in};
+ghost use Rattle.schedule.specs.Aside.{rooms};
 ghost use Rattle.schedule.specs.Knowing.{Knows};
-ghost use Rattle.schedule.specs.Places.{open_ids, strands_in};
+ghost use Rattle.schedule.specs.OpenIds.{open_ids};
 
 use crate::ahead::Ahead;
+use crate::aside::Aside;
 use crate::course::Course;
 use crate::peers::Peers;
 use resty_base::Id;
@@ -17,9 +21,10 @@ mod room;
 mod world;
 mod writing;
 
-/// The world in memory: it goes by the lines of a schedule, and tells its history.
+/// The world in memory: it goes by the lines of a schedule, and reports its history.
 ///
-/// For each place that is set aside, and for the entries that may still be noted, its history has room.
+/// Its history has room for one entry more for each id that is open and for each strand for which room is set aside, and for
+/// the entries that may still be noted.
 #[derive(Drop)]
 pub struct Replay {
     course: Course,
@@ -28,9 +33,11 @@ pub struct Replay {
     history: History,
     /// How long the pieces were that were taken or put off.
     offered: Vec<usize>,
-    /// For how many later entries room is set aside.
-    held: usize,
-    /// How many entries may still be noted, each with a place that it sets aside.
+    /// How many connections and sockets are open.
+    open_count: usize,
+    /// The strands for which room is set aside.
+    aside: Aside,
+    /// How many entries may still be noted, each with room that it sets aside.
     spare: usize,
     peers: Peers,
     /// How many of the next dials fail.
@@ -46,19 +53,19 @@ pub struct Replay {
     ghost few: { length course < 2 ^ 64 },
     ghost numbered: { length peers.connections ≡ arrivals_in (take passed course) },
     ghost known: { Knows peers history.entries },
-    ghost places: { length (open_ids history.entries) + length (strands_in history.entries) ≤ held },
-    ghost room: { held + 2 * spare ≤ history.room },
-    ghost counted: { held + 2 * spare < 2 ^ 64 },
+    ghost opened: { open_count ≡ length (open_ids history.entries) },
+    ghost strands: { spare ≤ aside.free },
+    ghost room: { rooms open_count aside spare ≤ history.room },
+    ghost counted: { rooms open_count aside spare < 2 ^ 64 },
 }
 
 impl Replay {
-    ghost use Rattle.std.specs.Prelude.{◌≢◌, slice_get, Some, ◌||◌, ◌&&◌, if◌then◌else◌};
-    ghost use Rattle.resty_world.specs.declared.schedule_line.SchedLine.TheVariants.{Given};
-    ghost use Rattle.resty_world.specs.Given.{was_there, names_absent};
+    ghost use Rattle.std.specs.Prelude.{◌≢◌, slice_get, Some};
+    ghost use Rattle.resty_world.specs.declared.schedule_line.SchedLine.TheVariants.{Given, FailPut};
+    ghost use Rattle.resty_world.specs.Given.{was_there};
     ghost use Rattle.schedule.specs.Counts.{arrived_in, dials_in};
-    ghost use Rattle.schedule.specs.Places.{hung_up, has_ended};
     ghost use Rattle.schedule_text.specs.Fitting.{IsSchedule};
-    ghost use Rattle.schedule.specs.Ahead.{ahead_of};
+    ghost use Rattle.schedule.specs.Ahead.{ahead_of, ahead_of_id};
     ghost use Rattle.schedule.specs.ReplayBook.{book_of, Stands, IsFresh, IsQuietTo};
 
     /// The world that goes by this schedule; takes no memory.
@@ -74,7 +81,8 @@ impl Replay {
             passed: 0,
             history: History::new(alloc),
             offered: Vec::new(alloc),
-            held: 0,
+            open_count: 0,
+            aside: Aside::new(alloc),
             spare: 0,
             peers: Peers::new(alloc),
             dial_fails: 0,
@@ -104,11 +112,11 @@ impl Replay {
     }
 
     /// For how many entries room is set aside.
-    pub fn set_aside(&self) -> usize
-        ensures count { result ≡ self.now.held + 2 * self.now.spare }
+    fn set_aside(&self) -> usize
+        ensures count { result ≡ rooms self.now.open_count self.now.aside self.now.spare }
         ensures within { result ≤ self.now.history.room }
     {
-        self.held + 2 * self.spare
+        self.open_count + self.aside.len() + 2 * self.spare
     }
 
     /// Whether the connection or the socket was ever there.
@@ -118,28 +126,28 @@ impl Replay {
         self.peers.get(id).is_some()
     }
 
-    /// The place of the line that answers an asking: the next that isn't passed quietly. It is the end where there is none.
+    /// The index of the line that answers an asking: the next that isn't passed quietly. It is the end where there is none.
     fn answering(&self) -> usize
         ensures below { self.now.passed ≤ result }
         ensures quiet { IsQuietTo self.now result }
         ensures loud { ahead_of self.now.history.entries (slice_get self.now.course result) ≢ Ahead.Quiet }
     {
-        let mut at = self.passed;
-        while self.ahead(at) == Ahead::Quiet {
-            at += 1;
+        let mut index = self.passed;
+        while self.ahead(index) == Ahead::Quiet {
+            index += 1;
         }
-        at
+        index
     }
 
-    /// What the line at this place is, where all lines before it were passed.
-    fn ahead(&self, at: usize) -> Ahead
-        ensures next { result ≡ ahead_of self.now.history.entries (slice_get self.now.course at) }
+    /// What the line at this index is, where all lines before it were passed.
+    fn ahead(&self, index: usize) -> Ahead
+        ensures next { result ≡ ahead_of self.now.history.entries (slice_get self.now.course index) }
         ensures made { IsSchedule self.now.course }
     {
-        if at >= self.course.len() {
+        if index >= self.course.len() {
             return Ahead::Nothing;
         }
-        match self.course.line(at) {
+        match self.course.line(index) {
             SchedLine::Given(event) => self.ahead_by_event(event),
             SchedLine::Room(id, _) | SchedLine::FailPut(id) => self.ahead_by_setting(*id),
             SchedLine::FailNext => Ahead::Fault,
@@ -149,7 +157,7 @@ impl Replay {
 
     /// What a setting of this id is.
     fn ahead_by_setting(&self, id: Id) -> Ahead
-        ensures { result ≡ (if names_absent (arrived_in self.now.history.entries) (dials_in self.now.history.entries) (Some id) then Ahead.Absent else Ahead.Quiet) }
+        ensures { result ≡ ahead_of self.now.history.entries (Some (FailPut id)) }
     {
         if self.was_there(id) {
             Ahead::Quiet
@@ -174,8 +182,7 @@ impl Replay {
 
     /// What a line with an event of this id is, where it brings bytes or doesn't.
     fn ahead_by_id(&self, id: Id, bytes: bool) -> Ahead
-        ensures { result ≡ (if names_absent (arrived_in self.now.history.entries) (dials_in self.now.history.entries) (Some id) then Ahead.Absent
-            else if hung_up self.now.history.entries id || bytes && has_ended self.now.history.entries id then Ahead.Quiet else Ahead.Due) }
+        ensures { result ≡ ahead_of_id self.now.history.entries id bytes }
     {
         match self.peers.get(id) {
             Some(peer) if !peer.is_open || bytes && peer.has_ended => Ahead::Quiet,

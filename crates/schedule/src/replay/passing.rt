@@ -1,31 +1,33 @@
+//! Passing lines, and giving their events.
+
 use super::Replay;
 use super::giving::given_twice;
 use super::room::{make_way, one_more};
 use crate::ahead::Ahead;
 use crate::peer::Peer;
-use resty_base::Id;
+use resty_base::{Id, StrandId};
 use resty_world::{Entry, Event, SchedLine};
 use std::alloc::AllocError;
 
 impl Replay {
-    ghost use Rattle.std.specs.Prelude.{◌≡◌, ◌<◌, ◌+◌, ◌*◌, ◌^◌, ◌≤◌, slice_get, Some, take, false, length, OnOk};
+    ghost use Rattle.std.specs.Prelude.{◌≡◌, ◌<◌, ◌+◌, ◌≤◌, slice_get, Some, take, false, length, OnOk};
     ghost use Rattle.resty_world.specs.declared.schedule_line.SchedLine.TheVariants.{Given, Room, FailPut};
-    ghost use Rattle.resty_world.specs.Given.{Gave, named_id, names_absent};
+    ghost use Rattle.resty_world.specs.Given.{Gave, named_id};
     ghost use Rattle.schedule_text.specs.Fitting.{Fits, IsSchedule};
-    ghost use Rattle.schedule.specs.Ahead.{ahead_of};
-    ghost use Rattle.schedule.specs.Counts.{arrived_in, dials_in};
-    ghost use Rattle.schedule.specs.Places.{hung_up};
+    ghost use Rattle.schedule.specs.Ahead.{ahead_of, is_absent};
+    ghost use Rattle.schedule.specs.Aside.{rooms};
+    ghost use Rattle.schedule.specs.OpenIds.{hung_up};
     ghost use Rattle.schedule.specs.Steps.{is_skipped};
     ghost use Rattle.schedule.specs.ReplayBook.{book_of, IsReady, IsQuietTo, IsPast, IsLater, HasAnswered};
 
-    /// Passes the lines up to this place, which give no event.
-    pub(super) fn pass_to(&mut self, at: usize)
-        requires below { self.old.passed ≤ at }
-        requires quiet { IsQuietTo self.old at }
+    /// Passes the lines up to this index, which give no event.
+    pub(super) fn pass_to(&mut self, index: usize)
+        requires below { self.old.passed ≤ index }
+        requires quiet { IsQuietTo self.old index }
         ensures past { IsPast self.old self.new }
-        ensures there { self.new.passed ≡ at }
+        ensures there { self.new.passed ≡ index }
     {
-        while self.passed < at {
+        while self.passed < index {
             self.pass_quiet();
         }
     }
@@ -56,7 +58,7 @@ impl Replay {
     /// Passes a line that lets the id take so many bytes more.
     fn pass_room(&mut self, id: Id, room: Option<u64>)
         requires here { slice_get self.old.course self.old.passed ≡ Some (Room id room) }
-        requires there { names_absent (arrived_in self.old.history.entries) (dials_in self.old.history.entries) (Some id) ≡ false }
+        requires there { is_absent self.old.history.entries (Some id) ≡ false }
         ensures past { IsPast self.old self.new }
         ensures one { self.new.passed ≡ self.old.passed + 1 }
     {
@@ -70,7 +72,7 @@ impl Replay {
     /// Passes a line that makes a write to the id fail.
     fn pass_fail_put(&mut self, id: Id)
         requires here { slice_get self.old.course self.old.passed ≡ Some (FailPut id) }
-        requires there { names_absent (arrived_in self.old.history.entries) (dials_in self.old.history.entries) (Some id) ≡ false }
+        requires there { is_absent self.old.history.entries (Some id) ≡ false }
         ensures past { IsPast self.old self.new }
         ensures one { self.new.passed ≡ self.old.passed + 1 }
     {
@@ -93,7 +95,7 @@ impl Replay {
         Event::Fault
     }
 
-    /// Fails where an event is asked for behind the last line.
+    /// Fails where an event is asked for after the last line.
     pub(super) fn fail_at_end(&mut self) -> Event
         requires whole { IsSchedule self.old.course }
         requires end { self.old.passed ≡ length self.old.course }
@@ -104,21 +106,21 @@ impl Replay {
         Event::Fault
     }
 
-    /// Gives the event of the line at this place, where the lines before it give none. Without memory nothing is passed.
-    pub(super) fn give(&mut self, at: usize) -> Event
-        requires below { self.old.passed ≤ at }
-        requires quiet { IsQuietTo self.old at }
-        requires due { ahead_of self.old.history.entries (slice_get self.old.course at) ≡ Ahead.Due }
+    /// Gives the event of the line at this index, where the lines before it give none. Out of memory, nothing is passed.
+    pub(super) fn give(&mut self, index: usize) -> Event
+        requires below { self.old.passed ≤ index }
+        requires quiet { IsQuietTo self.old index }
+        requires due { ahead_of self.old.history.entries (slice_get self.old.course index) ≡ Ahead.Due }
         ensures gave { Gave (book_of self.old) (book_of self.new) result }
         ensures later { IsLater self.old self.new }
     {
-        let Ok((given, kept)) = given_twice(self.course.line(at)) else {
+        let Ok((given, kept)) = given_twice(self.course.line(index)) else {
             return Event::Memory;
         };
         if self.make_ready().is_err() {
             return Event::Memory;
         }
-        self.pass_to(at);
+        self.pass_to(index);
         self.give_next(given, kept)
     }
 
@@ -133,6 +135,7 @@ impl Replay {
         let taken = self.set_aside();
         let ahead = self.course.len() - self.passed;
         make_way(&mut self.history, taken, 3, ahead)?;
+        self.aside.reserve(self.spare + 1)?;
         self.peers.make_way()
     }
 
@@ -142,7 +145,7 @@ impl Replay {
         requires copy { kept ≡ given }
         requires here { slice_get self.old.course self.old.passed ≡ Some (Given given) }
         requires fits { Fits (take self.old.passed self.old.course) (Given given) }
-        requires there { names_absent (arrived_in self.old.history.entries) (dials_in self.old.history.entries) (named_id (Given given)) ≡ false }
+        requires there { is_absent self.old.history.entries (named_id (Given given)) ≡ false }
         requires due { is_skipped self.old.history.entries (Given given) ≡ false }
         ensures gave { Gave (book_of self.old) (book_of self.new) result }
         ensures answered { HasAnswered self.old self.new }
@@ -169,7 +172,8 @@ impl Replay {
         ensures answered { HasAnswered self.old self.new }
     {
         self.peers.add_connection();
-        self.held += 2;
+        self.open_count += 1;
+        self.aside.add(StrandId::Conn(number));
         self.history.push_reserved(Entry::Given(kept));
         self.passed += 1;
         Event::Arrive(number)
@@ -177,10 +181,10 @@ impl Replay {
 
     /// Gives the end of an id, for which there is room in the history.
     fn give_end(&mut self, id: Id, kept: Event) -> Event
-        requires room { self.old.held + 2 * self.old.spare + 1 ≤ self.old.history.room }
+        requires room { rooms self.old.open_count self.old.aside self.old.spare + 1 ≤ self.old.history.room }
         requires copy { kept ≡ Event.Ended id }
         requires here { slice_get self.old.course self.old.passed ≡ Some (Given (Event.Ended id)) }
-        requires there { names_absent (arrived_in self.old.history.entries) (dials_in self.old.history.entries) (Some id) ≡ false }
+        requires there { is_absent self.old.history.entries (Some id) ≡ false }
         requires due { hung_up self.old.history.entries id ≡ false }
         ensures gave { Gave (book_of self.old) (book_of self.new) result }
         ensures answered { HasAnswered self.old self.new }
@@ -197,10 +201,10 @@ impl Replay {
 
     /// Gives the break of an id, for which there is room in the history.
     fn give_break(&mut self, id: Id, kept: Event) -> Event
-        requires room { self.old.held + 2 * self.old.spare + 1 ≤ self.old.history.room }
+        requires room { rooms self.old.open_count self.old.aside self.old.spare + 1 ≤ self.old.history.room }
         requires copy { kept ≡ Event.Broken id }
         requires here { slice_get self.old.course self.old.passed ≡ Some (Given (Event.Broken id)) }
-        requires there { names_absent (arrived_in self.old.history.entries) (dials_in self.old.history.entries) (Some id) ≡ false }
+        requires there { is_absent self.old.history.entries (Some id) ≡ false }
         requires due { hung_up self.old.history.entries id ≡ false }
         ensures gave { Gave (book_of self.old) (book_of self.new) result }
         ensures answered { HasAnswered self.old self.new }

@@ -1,29 +1,20 @@
+//! Room in the history, and counts.
+
 ghost use Rattle.std.specs.Prelude.{◌≡◌, ◌+◌, ◌<◌, ◌≤◌, ◌^◌, OnOk};
-ghost use Rattle.resty_world.specs.Calls.{room_of, sets_place, uses_place};
+ghost use Rattle.resty_world.specs.Calls.{room_of, uses_aside};
 ghost use Rattle.resty_base.specs.Counting.{Rose};
 ghost use Rattle.schedule.specs.Counts.{counted};
-ghost use Rattle.schedule.specs.Places.{count_of};
 
-use resty_world::{Entry, History, TimerAnswer};
+use resty_world::{Entry, History};
 use std::alloc::AllocError;
 
-/// How much of the room for notes an entry takes: none where it is written on the place of its strand.
+/// How much of the spare room an entry takes: none where it has the room of its strand.
 pub fn room_taken(entry: &Entry) -> usize
-    ensures { result ≡ room_of (uses_place entry.now) }
+    ensures { result ≡ room_of (uses_aside entry.now) }
 {
     match entry {
         Entry::Turned(_) | Entry::Dropped(_) => 0,
         _ => 1,
-    }
-}
-
-/// How many places the entry sets aside.
-pub fn places_set(entry: &Entry) -> usize
-    ensures { result ≡ count_of (sets_place entry.now) }
-{
-    match entry {
-        Entry::Timer(_, _, TimerAnswer::Job(_)) => 1,
-        _ => 0,
     }
 }
 

@@ -1,13 +1,15 @@
+//! The replay as a world.
+
 use super::Replay;
-use super::room::{make_way, one_more, places_set, room_taken};
+use super::room::{make_way, one_more, room_taken};
 use crate::ahead::Ahead;
-use crate::peer::Peer;
 use resty_base::{Bytes, Id, Ms, StrandId};
 use resty_world::{Dial, Entry, Event, History, Listened, Logged, Noted, World, Wrote};
 use std::alloc::Global;
 
 impl World for Replay {
-    ghost use Rattle.schedule.specs.ReplayBook.{book_of, IsLater, IsLater-same, IsLater-joins};
+    ghost use Rattle.schedule.specs.ReplayBook.{book_of, IsLater};
+    ghost use Rattle.schedule.specs.ReplayLaws.{IsLater-same, IsLater-joins};
 
     ghost book = { book_of };
 
@@ -31,23 +33,28 @@ impl World for Replay {
     fn next_event(&mut self, alloc: Global, until: Option<Ms>) -> Event {
         let _ = alloc;
         let _ = until;
-        let at = self.answering();
-        match self.ahead(at) {
-            Ahead::Due => self.give(at),
+        let index = self.answering();
+        match self.ahead(index) {
+            Ahead::Due => self.give(index),
             Ahead::Absent => {
-                self.pass_to(at);
-                Event::BadLine(at as u64 + 1)
+                self.pass_to(index);
+                Event::BadLine(index as u64 + 1)
             }
             Ahead::Fault => {
-                self.pass_to(at);
+                self.pass_to(index);
                 self.fail_next()
             }
             Ahead::Nothing => {
-                self.pass_to(at);
+                self.pass_to(index);
                 self.fail_at_end()
             }
             Ahead::Quiet => unreachable!(),
         }
+    }
+
+    fn wants(&mut self, id: Id, wanted: bool) {
+        let _ = id;
+        let _ = wanted;
     }
 
     fn put_bytes(&mut self, alloc: Global, id: Id, bytes: &[u8]) -> Wrote {
@@ -88,7 +95,7 @@ impl World for Replay {
         }
         self.history
             .push_reserved(Entry::Dial(who, host, port, Some(number)));
-        self.held += 1;
+        self.open_count += 1;
         Dial::Started(number)
     }
 
@@ -96,15 +103,16 @@ impl World for Replay {
         let Some(peer) = self.peers.get(id) else {
             unreachable!()
         };
-        self.peers.set(
-            id,
-            Peer {
-                is_open: false,
-                ..peer
-            },
-        );
+        self.peers.set(id, peer.hung_up(id));
         self.history.push_reserved(Entry::Close(id));
-        self.held -= 1;
+        self.open_count -= 1;
+    }
+
+    fn forget(&mut self, who: StrandId) {
+        self.aside.remove(who);
+        if let StrandId::Conn(number) = who {
+            self.peers.forget_end(Id::Conn(number));
+        }
     }
 
     fn write_log(&mut self, alloc: Global, who: StrandId, line: &[u8]) -> Logged {
@@ -131,7 +139,7 @@ impl World for Replay {
             return Noted::Done;
         }
         let taken = self.set_aside();
-        if make_way(&mut self.history, taken, 2, 0).is_err() {
+        if make_way(&mut self.history, taken, 2, 0).is_err() || self.aside.reserve(1).is_err() {
             return Noted::Memory;
         }
         self.spare = 1;
@@ -139,9 +147,8 @@ impl World for Replay {
     }
 
     fn note(&mut self, entry: Entry) -> Option<Entry> {
-        let room = room_taken(&entry);
-        self.held = self.held + places_set(&entry) + room - 1;
-        self.spare -= room;
+        self.spare -= room_taken(&entry);
+        self.aside.note(&entry);
         self.history.push_reserved(entry);
         None
     }

@@ -1,3 +1,5 @@
+//! Writes to a connection or a socket.
+
 use super::Replay;
 use super::room::one_more;
 use crate::peer::Peer;
@@ -6,17 +8,18 @@ use resty_world::{Entry, Wrote};
 use std::alloc::Global;
 
 impl Replay {
-    ghost use Rattle.std.specs.Prelude.{◌≡◌, ◌≢◌, ◌<◌, ◌+◌, ◌*◌, ◌≤◌, Some, length, vec_len, vec_capacity};
+    ghost use Rattle.std.specs.Prelude.{◌≡◌, ◌≢◌, ◌<◌, ◌+◌, ◌≤◌, Some, length, vec_len, vec_capacity};
+    ghost use Rattle.resty_world.specs.Contract.{Puts};
+    ghost use Rattle.schedule.specs.Aside.{rooms};
     ghost use Rattle.schedule.specs.Peers.{peer_at};
     ghost use Rattle.schedule.specs.ReplayBook.{book_of, IsLater};
-    ghost use Rattle.schedule.specs.Writing.{Writes};
 
     /// A write breaks, for which there is room in the history.
     pub(super) fn lose(&mut self, id: Id, peer: Peer, bytes: &[u8]) -> Wrote
         requires here { peer_at self.old.peers id ≡ Some peer }
         requires fails { 0 < peer.put_fails }
-        requires room { self.old.held + 2 * self.old.spare + 1 ≤ self.old.history.room }
-        ensures writes { Writes (book_of self.old) (book_of self.new) id bytes.now result }
+        requires room { rooms self.old.open_count self.old.aside self.old.spare + 1 ≤ self.old.history.room }
+        ensures puts { Puts id bytes.now result (book_of self.old) (book_of self.new) }
         ensures later { IsLater self.old self.new }
     {
         let put_fails = peer.put_fails - 1;
@@ -31,9 +34,9 @@ impl Replay {
         requires here { peer_at self.old.peers id ≡ Some peer }
         requires works { peer.put_fails ≡ 0 }
         requires full { peer.room ≡ Some 0 }
-        requires room { self.old.held + 2 * self.old.spare + 1 ≤ self.old.history.room }
+        requires room { rooms self.old.open_count self.old.aside self.old.spare + 1 ≤ self.old.history.room }
         requires offer { vec_len self.old.offered < vec_capacity self.old.offered }
-        ensures writes { Writes (book_of self.old) (book_of self.new) id bytes.now result }
+        ensures puts { Puts id bytes.now result (book_of self.old) (book_of self.new) }
         ensures later { IsLater self.old self.new }
     {
         self.offered.push_reserved(bytes.len());
@@ -47,9 +50,9 @@ impl Replay {
         requires works { peer.put_fails ≡ 0 }
         requires free { peer.room ≢ Some 0 }
         requires piece { 0 < length bytes.now }
-        requires room { self.old.held + 2 * self.old.spare + 1 ≤ self.old.history.room }
+        requires room { rooms self.old.open_count self.old.aside self.old.spare + 1 ≤ self.old.history.room }
         requires offer { vec_len self.old.offered < vec_capacity self.old.offered }
-        ensures writes { Writes (book_of self.old) (book_of self.new) id bytes.now result }
+        ensures puts { Puts id bytes.now result (book_of self.old) (book_of self.new) }
         ensures later { IsLater self.old self.new }
     {
         let count = peer.takes(bytes.len());

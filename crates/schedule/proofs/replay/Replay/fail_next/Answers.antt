@@ -24,7 +24,8 @@ invariant_of-self c =
       few = world.few;
       numbered = world.numbered ∙ sym (arrivals-more world.course world.passed line.FailNext here ∙ omega arith);
       known = world.known;
-      places = world.places;
+      opened = world.opened;
+      strands = world.strands;
       room = world.room;
       counted = world.counted;
     }

@@ -1,5 +1,16 @@
-use Rattle.std.proofs.Common.{rules}
+use Rattle.std.proofs.Common.{subst, rules}
+use Rattle.resty_world.specs.Given.{Gave}
+use Rattle.schedule.specs.ReplayBook.{book_of}
+use Rattle.schedule.proofs.Running.{gave-memory, gave-past}
 use Rattle.schedule.proofs.replay.Replay.give.Goals as goal
+
+pub returns-then-is_err-clause-gave : goal.returns-then-is_err-clause-gave
+returns-then-is_err-clause-gave c = gave-memory (book_of c.args.self.now) (book_of c.make_ready.new.self) c.make_ready.ensures.book
+
+pub returns-clause-gave : goal.returns-clause-gave
+returns-clause-gave c =
+    subst (λ b. Gave b (book_of c.give_next.new.self) c.give_next.result) c.make_ready.ensures.book
+    (gave-past c.make_ready.new.self c.pass_to.new.self c.give_next.new.self c.give_next.result c.pass_to.ensures.past c.give_next.ensures.gave)
 
 pub returns-clause-later : goal.returns-clause-later
 returns-clause-later c = search rules

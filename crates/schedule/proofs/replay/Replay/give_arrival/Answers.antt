@@ -7,7 +7,7 @@ use Rattle.resty_world.specs.declared.entry.Entry.TheVariants as entry
 use Rattle.resty_world.specs.declared.schedule_line.SchedLine.TheVariants as line
 use Rattle.resty_world.specs.Ids.{same_id}
 use Rattle.schedule.specs.Peers.{peer_at, room_in, put_fails_in, fresh}
-use Rattle.schedule.specs.Places.{open_ids}
+use Rattle.schedule.specs.OpenIds.{open_ids}
 use Rattle.std.proofs.lemmas.Option.{slice_get_within}
 use Rattle.schedule.proofs.KnowingLemmas.{next-connection, knows-new, unseen}
 use Rattle.schedule.proofs.Passing.{arrivals-more}
@@ -33,9 +33,10 @@ invariant_of-self c =
       known = rw entries (knows-new roll c.add_connection.new.self history (entry.Given (event.Arrive number)) (id.Conn (length roll.connections + 1)) world.known (next-connection roll)
           (search rules) (omega (arith, world.known.arrived, connections)) (omega (arith, world.known.dialled, sockets))
           (ap (λ n. id.Conn n ∷ open_ids history) c.requires.next) (λ x. refl) (λ x. refl));
-      places = rw entries (omega (arith, world.places));
-      room = omega (arith, c.requires.ready.room);
-      counted = omega (arith, c.requires.ready.counted);
+      opened = rw entries (omega (arith, world.opened));
+      strands = omega (arith, c.requires.ready.strand, c.add.ensures.free);
+      room = omega (arith, c.requires.ready.room, c.add.ensures.count);
+      counted = omega (arith, c.requires.ready.counted, c.add.ensures.count);
     }
 
 pub returns-clause-answered : goal.returns-clause-answered

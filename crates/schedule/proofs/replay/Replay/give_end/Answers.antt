@@ -4,9 +4,9 @@ use Rattle.resty_world.specs.declared.entry.Entry.TheVariants as entry
 use Rattle.resty_world.specs.declared.schedule_line.SchedLine.TheVariants as line
 use Rattle.resty_world.specs.Ids.{same_id}
 use Rattle.schedule.specs.Peers.{peer_at, opened, closed, room_in, put_fails_in}
-use Rattle.schedule.specs.Places.{has, open_ids, hung_up}
+use Rattle.schedule.specs.OpenIds.{has, open_ids, hung_up}
 use Rattle.std.proofs.lemmas.Option.{slice_get_within}
-use Rattle.schedule.proofs.KnowingLemmas.{knows-changed, unseen, own-value}
+use Rattle.schedule.proofs.KnowingLemmas.{knows-changed, ended-after, unseen, own-value}
 use Rattle.schedule.proofs.Passing.{arrivals-more}
 use Rattle.schedule.proofs.Standing.{gives}
 use Rattle.schedule.proofs.replay.Replay.give_end.Goals as goal
@@ -29,8 +29,10 @@ invariant_of-self c =
           c.set.ensures.set c.set.ensures.connections c.set.ensures.sockets (omega arith) (omega arith)
           (λ x. sym (own-value (λ y. has same_id y (open_ids history)) c.args.id _ (sym (world.known.are_open c.args.id) ∙ ap opened here) x))
           (λ x. sym (own-value (hung_up history) c.args.id _ (sym (world.known.are_closed c.args.id) ∙ ap closed here) x))
-          (λ x. refl));
-      places = rw entries (omega (arith, world.places));
+          (ended-after roll c.set.new.self history (entry.Given (event.Ended c.args.id)) c.args.id c.in-Some.peer _ world.known here c.set.ensures.set refl (λ x. refl))
+          world.known.distinct);
+      opened = rw entries world.opened;
+      strands = world.strands;
       room = omega arith;
       counted = world.counted;
     }

@@ -20,12 +20,56 @@ pass_fail_put-requires-clause-there c =
 pub returns-in-Room-clause-past : goal.returns-in-Room-clause-past
 returns-in-Room-clause-past c =
     let ok = c.pass_room.ensures.past in
-    record { book = ok.book; passed = ok.passed; schedule = ok.schedule; entries = ok.entries; reached = λ s. ok.reached (record { steps = s.steps; right = s.right; passed = s.passed; history = s.history; offered = s.offered; faults = s.faults; losses = s.losses; rooms = s.rooms; put_fails = s.put_fails; dial_fails = s.dial_fails; log_fails = s.log_fails; listen_fails = s.listen_fails; port = s.port; kept = tt }); ready = λ r. ok.ready (record { room = r.room; counted = r.counted; connection = r.connection }) }
+    record {
+      book = ok.book;
+      passed = ok.passed;
+      schedule = ok.schedule;
+      entries = ok.entries;
+      reached = λ s. ok.reached (record {
+        steps = s.steps;
+        right = s.right;
+        passed = s.passed;
+        history = s.history;
+        offered = s.offered;
+        faults = s.faults;
+        losses = s.losses;
+        rooms = s.rooms;
+        put_fails = s.put_fails;
+        dial_fails = s.dial_fails;
+        log_fails = s.log_fails;
+        listen_fails = s.listen_fails;
+        port = s.port;
+        kept = tt;
+      });
+      ready = λ r. ok.ready (record { room = r.room; counted = r.counted; strand = r.strand; connection = r.connection });
+    }
 
 pub returns-in-FailPut-clause-past : goal.returns-in-FailPut-clause-past
 returns-in-FailPut-clause-past c =
     let ok = c.pass_fail_put.ensures.past in
-    record { book = ok.book; passed = ok.passed; schedule = ok.schedule; entries = ok.entries; reached = λ s. ok.reached (record { steps = s.steps; right = s.right; passed = s.passed; history = s.history; offered = s.offered; faults = s.faults; losses = s.losses; rooms = s.rooms; put_fails = s.put_fails; dial_fails = s.dial_fails; log_fails = s.log_fails; listen_fails = s.listen_fails; port = s.port; kept = tt }); ready = λ r. ok.ready (record { room = r.room; counted = r.counted; connection = r.connection }) }
+    record {
+      book = ok.book;
+      passed = ok.passed;
+      schedule = ok.schedule;
+      entries = ok.entries;
+      reached = λ s. ok.reached (record {
+        steps = s.steps;
+        right = s.right;
+        passed = s.passed;
+        history = s.history;
+        offered = s.offered;
+        faults = s.faults;
+        losses = s.losses;
+        rooms = s.rooms;
+        put_fails = s.put_fails;
+        dial_fails = s.dial_fails;
+        log_fails = s.log_fails;
+        listen_fails = s.listen_fails;
+        port = s.port;
+        kept = tt;
+      });
+      ready = λ r. ok.ready (record { room = r.room; counted = r.counted; strand = r.strand; connection = r.connection });
+    }
 
 pub overflow_add-self : goal.overflow_add-self
 overflow_add-self c =
@@ -48,7 +92,8 @@ invariant_of-self-in-FailDial c =
       few = world.few;
       numbered = sym (more ∙ omega (arith, world.numbered, none));
       known = world.known;
-      places = world.places;
+      opened = world.opened;
+      strands = world.strands;
       room = world.room;
       counted = world.counted;
     }
@@ -67,7 +112,7 @@ returns-in-FailDial-clause-past c =
       reached = λ s. passes (λ steps. Unit {0}) world _ (line.FailDial) s refl refl here quiet.known quiet.silent refl refl (search rules) refl
           (λ x. refl) (λ x. omega arith)
           (omega (arith, s.dial_fails, few-unspent world s Dialling, world.few, within, counted_is c.one_more-self.result world.dial_fails c.one_more-self.ensures.counted)) (omega arith) refl refl tt;
-      ready = λ r. record { room = r.room; counted = r.counted; connection = r.connection };
+      ready = λ r. record { room = r.room; counted = r.counted; strand = r.strand; connection = r.connection };
     }
 
 pub overflow_add-self-in-FailLog : goal.overflow_add-self-in-FailLog
@@ -91,7 +136,8 @@ invariant_of-self-in-FailLog c =
       few = world.few;
       numbered = sym (more ∙ omega (arith, world.numbered, none));
       known = world.known;
-      places = world.places;
+      opened = world.opened;
+      strands = world.strands;
       room = world.room;
       counted = world.counted;
     }
@@ -110,7 +156,7 @@ returns-in-FailLog-clause-past c =
       reached = λ s. passes (λ steps. Unit {0}) world _ (line.FailLog) s refl refl here quiet.known quiet.silent refl refl (search rules) refl
           (λ x. refl) (λ x. omega arith)
           (omega arith) (omega (arith, s.log_fails, few-unspent world s Logging, world.few, within, counted_is c.one_more-self-in-FailLog.result world.log_fails c.one_more-self-in-FailLog.ensures.counted)) refl refl tt;
-      ready = λ r. record { room = r.room; counted = r.counted; connection = r.connection };
+      ready = λ r. record { room = r.room; counted = r.counted; strand = r.strand; connection = r.connection };
     }
 
 pub overflow_add-self-in-Given : goal.overflow_add-self-in-Given
@@ -134,7 +180,8 @@ invariant_of-self-in-Given c =
       few = world.few;
       numbered = sym (more ∙ omega (arith, world.numbered, none));
       known = world.known;
-      places = world.places;
+      opened = world.opened;
+      strands = world.strands;
       room = world.room;
       counted = world.counted;
     }
@@ -153,7 +200,7 @@ returns-in-Given-clause-past c =
       reached = λ s. passes (λ steps. Unit {0}) world _ (line.Given c.in-Given.field-0) s refl refl here quiet.known quiet.silent refl refl (search rules) refl
           (λ x. refl) (λ x. omega arith)
           (omega arith) (omega arith) refl refl tt;
-      ready = λ r. record { room = r.room; counted = r.counted; connection = r.connection };
+      ready = λ r. record { room = r.room; counted = r.counted; strand = r.strand; connection = r.connection };
     }
 
 pub overflow_add-self-in-FailListen : goal.overflow_add-self-in-FailListen
@@ -177,7 +224,8 @@ invariant_of-self-in-FailListen c =
       few = world.few;
       numbered = sym (more ∙ omega (arith, world.numbered, none));
       known = world.known;
-      places = world.places;
+      opened = world.opened;
+      strands = world.strands;
       room = world.room;
       counted = world.counted;
     }
@@ -196,5 +244,5 @@ returns-in-FailListen-clause-past c =
       reached = λ s. passes (λ steps. Unit {0}) world _ (line.FailListen) s refl refl here quiet.known quiet.silent refl refl (search rules) refl
           (λ x. refl) (λ x. omega arith)
           (omega arith) (omega arith) refl refl tt;
-      ready = λ r. record { room = r.room; counted = r.counted; connection = r.connection };
+      ready = λ r. record { room = r.room; counted = r.counted; strand = r.strand; connection = r.connection };
     }

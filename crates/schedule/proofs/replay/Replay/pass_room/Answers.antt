@@ -1,6 +1,7 @@
-use Rattle.std.proofs.Common.{◌≡◌, Some, refl, sym, ap, ◌∙◌, arith, rules}
+use Rattle.std.proofs.Common.{◌≡◌, ◌+◌, Some, refl, sym, ap, ◌∙◌, arith, rules}
 use Rattle.resty_world.specs.declared.schedule_line.SchedLine.TheVariants as line
-use Rattle.schedule.specs.Peers.{peer_at, room_in, put_fails_in}
+use Rattle.schedule.specs.Peers.{peer_at, ended, room_in, put_fails_in}
+use Rattle.schedule.specs.ReplayBook.{book_of}
 use Rattle.std.proofs.lemmas.Option.{slice_get_within}
 use Rattle.schedule.proofs.KnowingLemmas.{knows-same, changed, unseen}
 use Rattle.schedule.proofs.Passing.{arrivals-more}
@@ -19,7 +20,8 @@ invariant_of-self c =
       few = world.few;
       numbered = sym (more ∙ omega (arith, world.numbered, c.set.ensures.connections));
       known = knows-same roll c.set.new.self world.history.entries c.args.id c.in-Some.peer _ world.known here c.set.ensures.set refl refl c.set.ensures.connections c.set.ensures.sockets;
-      places = world.places;
+      opened = world.opened;
+      strands = world.strands;
       room = world.room;
       counted = world.counted;
     }
@@ -30,7 +32,12 @@ returns-clause-past c =
     let here : peer_at world.peers c.args.id ≡ Some c.in-Some.peer = sym c.get.ensures ∙ c.in-Some.is in
     let within = slice_get_within world.course world.passed (line.Room c.args.id c.args.room) c.requires.here in
     record {
-      book = rw (c.set.ensures.connections, c.set.ensures.sockets) refl;
+      book = λ i. record (book_of world) {
+        passed = world.passed + 1;
+        has_ended = λ x. unseen ended world.peers c.set.new.self c.args.id _ c.set.ensures.set (ap ended here) x i;
+        arrivals = c.set.ensures.connections i;
+        dials = c.set.ensures.sockets i;
+      };
       passed = omega arith;
       schedule = refl;
       entries = refl;
@@ -38,5 +45,5 @@ returns-clause-past c =
           (λ x. changed room_in world.peers c.set.new.self c.args.id _ c.set.ensures.set x)
           (λ x. unseen put_fails_in world.peers c.set.new.self c.args.id _ c.set.ensures.set (ap put_fails_in here) x ∙ omega arith)
           (omega arith) (omega arith) refl refl tt;
-      ready = λ r. record { room = r.room; counted = r.counted; connection = rw c.set.ensures.free r.connection };
+      ready = λ r. record { room = r.room; counted = r.counted; strand = r.strand; connection = rw c.set.ensures.free r.connection };
     }

@@ -5,7 +5,7 @@ use Rattle.resty_base.specs.declared.names.Id.TheVariants as id
 use Rattle.resty_world.specs.declared.entry.Entry.TheVariants as entry
 use Rattle.resty_world.specs.Ids.{same_id}
 use Rattle.schedule.specs.Peers.{peer_at, room_in, put_fails_in, fresh}
-use Rattle.schedule.specs.Places.{open_ids}
+use Rattle.schedule.specs.OpenIds.{open_ids}
 use Rattle.schedule.proofs.KnowingLemmas.{next-socket, knows-new, unseen}
 use Rattle.schedule.proofs.Standing.{answers, same_faults, same_losses, must_fail, must_work}
 use Rattle.schedule.specs.Counts.{dials_in}
@@ -43,7 +43,8 @@ invariant_of-self-2 c =
       known = rw entries (knows-new roll c.add_socket.new.self history e (id.Sock (length roll.sockets + 1)) world.known (next-socket roll)
           (search rules) (omega (arith, world.known.arrived, connections)) (omega (arith, world.known.dialled, sockets))
           (ap (λ n. id.Sock n ∷ open_ids history) number) (λ x. refl) (λ x. refl));
-      places = rw entries (omega (arith, world.places));
+      opened = rw entries (omega (arith, world.opened));
+      strands = world.strands;
       room = omega arith;
       counted = omega arith;
     }

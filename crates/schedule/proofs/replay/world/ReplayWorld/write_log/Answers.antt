@@ -4,8 +4,15 @@ use Rattle.schedule.proofs.Standing.{answers, same_faults, same_losses, must_fai
 use Rattle.schedule.specs.Steps.{Logging}
 use Rattle.schedule.proofs.replay.world.ReplayWorld.write_log.Goals as goal
 
-pub returns-then-self-gt0-clause-faults : goal.returns-then-self-gt0-clause-faults
-returns-then-self-gt0-clause-faults c = c.one_more-self.ensures.rose
+pub returns-then-self-gt0-clause-logs : goal.returns-then-self-gt0-clause-logs
+returns-then-self-gt0-clause-logs c = record {
+  history = search rules;
+  offered = refl;
+  ids = search rules;
+  course = search rules;
+  faults = c.one_more-self.ensures.rose;
+  losses = refl;
+}
 
 pub returns-then-self-gt0-clause-same : goal.returns-then-self-gt0-clause-same
 returns-then-self-gt0-clause-same c =
