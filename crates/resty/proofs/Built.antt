@@ -13,7 +13,7 @@ use Rattle.resty.specs.Built.{IsBuilt}
 use Rattle.resty.specs.Form.{IsServed}
 use Rattle.resty.proofs.Story.{AreEventLines, AreToldEntries, entries-told, served-events}
 use Rattle.schedule_text.specs.Accepted.{IsHistory}
-use Rattle.schedule_text.specs.Ranges.{IsBytes, IsEntry, IsPlace}
+use Rattle.schedule_text.specs.Ranges.{IsBytes, IsEntry, IsOrdinal}
 use Rattle.schedule.specs.Told.{IsTold}
 use Rattle.strand_contract.specs.declared.turns.Place.{Place}
 use Rattle.strand_contract.specs.declared.turns.Place.TheVariants as place
@@ -34,7 +34,7 @@ older (x ∷ xs) ys all = older xs ys all.1
 
 -- the strand is a connection whose number a line can name
 abbrev IsNumbered : StrandId → Type 0
-IsNumbered (strand.Conn c) = IsPlace c
+IsNumbered (strand.Conn c) = IsOrdinal c
 IsNumbered (strand.Job n) = ⊥
 
 -- what is used of an execution, which holds of each earlier part of it too
@@ -60,8 +60,8 @@ split h all = (λ k e within. (all k e within).0, λ k e within. (all k e within
 one : (e : Entry) → IsFit e → All IsFit (e ∷ [])
 one e fit = All-cons IsFit e [] fit (All-nil IsFit)
 
-begun-numbered : (J : Type 0) (s : StrandId) (c : ℕ) → IsStartOf {J = J} s (start.Client c) → IsPlace c → IsNumbered s
-begun-numbered J (strand.Conn k) c same small = subst IsPlace same small
+begun-numbered : (J : Type 0) (s : StrandId) (c : ℕ) → IsStartOf {J = J} s (start.Client c) → IsOrdinal c → IsNumbered s
+begun-numbered J (strand.Conn k) c same small = subst IsOrdinal same small
 begun-numbered J (strand.Job k) c same small = absurd same
 
 opened-queue : (c : Bool) (bytes : List ℕ) → is_some_left (if c then bytes else []) ≡ true → c ≡ true
@@ -241,7 +241,7 @@ module _ {J : Type 0} where
   entries-fit body (Everyone (Moment t)) ms f g = one (entry.Given (event.Moment (record { 0 = t }))) f.told.0
   entries-fit body (Everyone Stop) ms f g = one (entry.Given event.Stop) (tt, tt)
   entries-fit body (TurnedAway c) ms f g =
-      let number : IsPlace c = f.told.1.1.0.1 in
+      let number : IsOrdinal c = f.told.1.1.0.1 in
       All-cons IsFit (entry.Close (id.Conn c)) (entry.Turned c ∷ entry.Given (event.Arrive c) ∷ []) (tt, number)
       (All-cons IsFit (entry.Turned c) (entry.Given (event.Arrive c) ∷ []) (tt, number) (one (entry.Given (event.Arrive c)) (tt, number)))
   entries-fit body (IdleGave e) ms f g = absurd f.plain
