@@ -1,6 +1,7 @@
 -- One lemma for each act that is carried out, for the end of a turn, and for a strand that is given up.
 use Rattle.std.proofs.Common.{◌≡◌, ◌⊎◌, ℕ, ◌+◌, ◌-◌, ◌<◌, ◌≤◌, Bool, true, false, not, ◌||◌, ◌&&◌, ◌==◌, List, [], ◌∷◌, ◌++◌, Option, Some, None, if◌then◌else◌, refl, sym, ap, subst, ◌∙◌, append_assoc, append-nil, inl, inr, arith}
 use Rattle.std.proofs.lemmas.Bool.{eqb-true}
+use Rattle.resty_base.specs.declared.names.Id.{Id}
 use Rattle.resty_base.specs.declared.names.Id.TheVariants as id
 use Rattle.resty_base.specs.declared.names.StrandId.{StrandId}
 use Rattle.resty_base.specs.declared.names.StrandId.TheVariants as strand
@@ -8,7 +9,9 @@ use Rattle.resty_world.specs.declared.entry.Entry.{Entry}
 use Rattle.resty_world.specs.declared.entry.Entry.TheVariants as entry
 use Rattle.resty_world.specs.declared.answers.Logged.{Logged as LogAnswer}
 use Rattle.resty_world.specs.declared.answers.Logged.TheVariants as logged
-use Rattle.resty_world.specs.Book.{Book, KeepsIds, told}
+use Rattle.resty_world.specs.Book.{Book, KeepsIds, KeepsTold, told}
+use Rattle.resty_world.specs.Contract.{HangsUp, Forgets, Logs, Notes}
+use Rattle.resty_world.specs.Ids.{same_strand, is_own}
 use Rattle.resty_world.specs.Calls.{log_entry}
 use Rattle.strand_contract.specs.declared.turns.Place.{Place}
 use Rattle.strand_contract.specs.declared.turns.Place.TheVariants as place
@@ -22,9 +25,9 @@ use Rattle.strand_contract.specs.Laws.{IsLastAct, is_still}
 use Rattle.strand_contract.specs.Order.{IsSubsequence, keep, with_strand, only, readied, run_of, offer_of, all_readied, all_run, all_placed, all_offered, offers_last, was_touched, TurnsInOrder}
 use Rattle.engine.specs.declared.engine.Seat.{Seat}
 use Rattle.engine.specs.Right.{Tells}
-use Rattle.engine.specs.Standing.{Held, is_to_end, Fit, Common, Around, Near, Busy, Falls, Standing, IsOffer}
+use Rattle.engine.specs.Standing.{Held, is_to_end, Share, share_of, Said, said_of, Fit, Fits, HasAsides, Common, Around, Near, Busy, Falls, Standing, IsOffer}
 use Rattle.engine.proofs.Lists.{by_test, clash, same-true, sub-more, sub-through, sub-front, sub-same, only-same, only-other, tells-more, tells-same}
-use Rattle.engine.proofs.Marks.{projection-same, projection-other, touches, fit-same, SameHeld, held-same, SameBook, book-same, MayCome, common-next, around-next}
+use Rattle.engine.proofs.Marks.{projection-same, projection-other, touches, fit-same, SameHeld, held-same, SameBook, same-keeps, same-hung, hung-closed, same-dropped, same-forgot, forgot-aside, own-closed, MayCome, common-next, around-next}
 
 pub sub-behind : {A : Type 0} (xs : List A) {ys zs : List A} → IsSubsequence ys zs → IsSubsequence (xs ++ ys) (xs ++ zs)
 sub-behind [] r = r
@@ -48,23 +51,54 @@ offer-closed go o None h = λ on. refl
 offer-closed go o (Some place.Client) h = λ on. refl
 offer-closed go o (Some (place.Sock k)) h = absurd h
 
+-- room is set aside for c's strand and for the others
+pub aside-all : {J : Type 0} (c : ℕ) (book : Book) (ms : List (GlobalAction J)) → ((s : StrandId) → same_strand s (strand.Conn c) ≡ false → book.strand_aside s ≡ lives (projection s ms))
+    → book.strand_aside (strand.Conn c) ≡ lives (projection (strand.Conn c) ms) → (s : StrandId) → book.strand_aside s ≡ lives (projection s ms)
+aside-all c book ms others own (strand.Conn t) = by_test (t == c)
+    (λ e. subst (λ (i : ℕ). book.strand_aside (strand.Conn i) ≡ lives (projection (strand.Conn i) ms)) (sym (eqb-true t c e)) own)
+    (λ ne. others (strand.Conn t) ne)
+aside-all c book ms others own (strand.Job n) = others (strand.Job n) refl
+
+-- a call of the world that enters nothing, and opens and closes nothing
+pub common-kept : {J : Type 0} (b : Behavior J) (runs : List (StrandId × ℕ)) (offered : List (StrandId × Place)) (now count : ℕ) (book book' : Book) (ms : List (GlobalAction J))
+    → Common b runs offered now count book ms → KeepsTold book book' → ((n : ℕ) → book'.is_open (id.Sock n) ≡ book.is_open (id.Sock n)) → (HasAsides book → HasAsides book') → book'.arrivals ≡ book.arrivals
+    → Common b runs offered now count book' ms
+common-kept b runs offered now count book book' ms k entered socks asides arrivals = record {
+  alone = k.alone;
+  begins = k.begins;
+  given = k.given;
+  kept = k.kept;
+  plain = k.plain;
+  runs = k.runs;
+  offered = k.offered;
+  turns = k.turns;
+  told = tells-same book.history book'.history (external b ms) k.told entered.history;
+  offers_told = tells-same book.offered book'.offered (offered_lengths b ms) k.offers_told entered.offered;
+  unborn = λ t past. k.unborn t (rw arrivals at past);
+  jobless = k.jobless;
+  no_socket = λ n. socks n ∙ k.no_socket n;
+  asides = asides k.asides;
+  count = k.count;
+  present = k.present;
+}
+
 module _ {J S : Type 0} (b : Behavior J) (st : S → List (LocalAction J) → Type 0) (c : ℕ) where
   -- fewer turns are to come
-  pub around-lists : (al o : Bool) (h : Held S) (threads threads' : List (StrandId × ℕ)) (places places' : List (StrandId × Place)) (book : Book) (ms : List (GlobalAction J))
-      → Around b st c al o h threads places book ms → IsSubsequence threads' threads → IsSubsequence places' places → Around b st c al o h threads' places' book ms
-  around-lists al o h threads threads' places places' book ms a runs list = record {
+  pub around-queues : (al o : Bool) (h : Held S) (threads threads' : List (StrandId × ℕ)) (offer_queue offer_queue' : List (StrandId × Place)) (book : Book) (ms : List (GlobalAction J))
+      → Around b st c al o h threads offer_queue book ms → IsSubsequence threads' threads → IsSubsequence offer_queue' offer_queue → Around b st c al o h threads' offer_queue' book ms
+  around-queues al o h threads threads' offer_queue offer_queue' book ms a runs list = record {
     each = a.each;
     dead = a.dead;
     closed = a.closed;
     shut = a.shut;
+    aside = a.aside;
     out = a.out;
     arrived = a.arrived;
     alive = a.alive;
-    line_open = a.line_open;
+    connection = a.connection;
     client = a.client;
     no_socket = a.no_socket;
-    id_aside = a.id_aside;
-    strand_aside = a.strand_aside;
+    own_aside = a.own_aside;
     common = record {
       alone = a.common.alone;
       begins = a.common.begins;
@@ -79,6 +113,7 @@ module _ {J S : Type 0} (b : Behavior J) (st : S → List (LocalAction J) → Ty
       unborn = a.common.unborn;
       jobless = a.common.jobless;
       no_socket = a.common.no_socket;
+      asides = a.common.asides;
       count = a.common.count;
       present = a.common.present;
     };
@@ -87,13 +122,13 @@ module _ {J S : Type 0} (b : Behavior J) (st : S → List (LocalAction J) → Ty
   -- what a busy strand leaves when it is given up
   pub near-falls : (acts : List (Act J)) (go o : Bool) (h : Held S) (book : Book) (ms : List (GlobalAction J)) → Near b st c acts go o h book ms → Falls b st c o h book ms
   near-falls acts go o h book ms y = record {
-    around = around-lists true o h _ h.queue _ h.places book ms y.around (sub-front h.queue _) (sub-front h.places _);
+    around = around-queues true o h _ h.run_queue _ h.offer_queue book ms y.around (sub-front h.run_queue _) (sub-front h.offer_queue _);
     last = y.last;
     touched = y.touched;
   }
 
   -- the strand is gone
-  pub around-dead : (h : Held S) (book : Book) (ms : List (GlobalAction J)) → Around b st c false false h h.queue h.places book ms → (h.in_offers ≡ false → offers_last ms ≡ true → h.places ≡ []) → (h.in_offers ≡ true → offers_last ms ≡ false → h.queue ≡ []) → Standing b st h book ms
+  pub around-dead : (h : Held S) (book : Book) (ms : List (GlobalAction J)) → Around b st c false false h h.run_queue h.offer_queue book ms → (h.in_offers ≡ false → offers_last ms ≡ true → h.offer_queue ≡ []) → (h.in_offers ≡ true → offers_last ms ≡ false → h.run_queue ≡ []) → Standing b st h book ms
   around-dead h book ms a runs_flip offers_flip = record {
     each = λ t live. by_test (t == c)
         (λ e. clash (subst (λ (i : ℕ). lives (projection (strand.Conn i) ms) ≡ true) (eqb-true t c e) live) a.alive)
@@ -102,28 +137,46 @@ module _ {J S : Type 0} (b : Behavior J) (st : S → List (LocalAction J) → Ty
         (λ e. subst (λ (i : ℕ). h.seats (strand.Conn i) ≡ None) (sym (eqb-true t c e)) a.out)
         (λ ne. a.dead t ne gone);
     closed = λ t gone. by_test (t == c)
-        (λ e. subst (λ (i : ℕ). book.is_open (id.Conn i) ≡ false) (sym (eqb-true t c e)) a.line_open)
+        (λ e. subst (λ (i : ℕ). book.is_open (id.Conn i) ≡ false) (sym (eqb-true t c e)) a.connection)
         (λ ne. a.closed t ne gone);
     shut = λ t gone q. by_test (t == c)
         (λ e. subst (λ (i : ℕ). is_open q (projection (strand.Conn i) ms) ≡ false) (sym (eqb-true t c e)) (none-open (projection (strand.Conn c) ms) a.client a.no_socket q))
         (λ ne. a.shut t ne gone q);
+    aside = aside-all c book ms a.aside (a.own_aside ∙ sym a.alive);
     flip_to_runs = runs_flip;
     flip_to_offers = offers_flip;
     common = a.common;
   }
 
+  -- what was reported of a strand that is over is forgotten
+  pub standing-forgets : (h : Held S) (book book' : Book) (ms : List (GlobalAction J)) → Standing b st h book ms → lives (projection (strand.Conn c) ms) ≡ false → Forgets (strand.Conn c) book book' → Standing b st h book' ms
+  standing-forgets h book book' ms g off forgot =
+      let same : SameBook c book book' = same-forgot c forgot in
+      record {
+        each = λ t live. by_test (t == c)
+            (λ e. clash (subst (λ (i : ℕ). lives (projection (strand.Conn i) ms) ≡ true) (eqb-true t c e) live) off)
+            (λ ne. fit-same refl refl refl refl refl refl refl (same.is_open t ne) (same.has_ended t ne) (g.each t live));
+        dead = g.dead;
+        closed = λ t gone. forgot.is_open (id.Conn t) ∙ g.closed t gone;
+        shut = g.shut;
+        aside = aside-all c book' ms (λ s ne. same.strand_aside s ne ∙ g.aside s) (forgot-aside c forgot ∙ sym off);
+        flip_to_runs = g.flip_to_runs;
+        flip_to_offers = g.flip_to_offers;
+        common = common-kept b h.run_queue h.offer_queue h.now h.connections book book' ms g.common forgot.entered (λ n. same.sockets n) same.asides forgot.numbers.arrivals;
+      }
+
   module _ (quiet : (a : LocalAction J) (es : List (LocalAction J)) → is_still a ≡ true → b.acts (a ∷ es) ≡ []) where
-    dropped : (o : Bool) (h : Held S) (book book1 : Book) (ms : List (GlobalAction J)) → Falls b st c o h book ms
-        → SameBook c book book1 → book1.is_open (id.Conn c) ≡ book.is_open (id.Conn c) → book1.id_place (id.Conn c) ≡ book.id_place (id.Conn c) → book1.arrivals ≡ book.arrivals
-        → ((n : ℕ) → book1.is_open (id.Sock n) ≡ book.is_open (id.Sock n))
-        → book1.history ≡ told (entry.Dropped (strand.Conn c) ∷ []) book.history → book1.offered ≡ book.offered
-        → Around b st c false o h h.queue h.places book1 (Of (strand.Conn c) Dropped None ∷ ms)
-    dropped o h book book1 ms f same opened aside arrivals socks history told_offers =
-        let a : Around b st c true o h h.queue h.places book ms = f.around in
+    dropped : (o : Bool) (h : Held S) (book book1 : Book) (back : Option Entry) (ms : List (GlobalAction J)) → Falls b st c o h book ms
+        → Notes (entry.Dropped (strand.Conn c)) back book book1
+        → Around b st c false o h h.run_queue h.offer_queue book1 (Of (strand.Conn c) Dropped None ∷ ms)
+    dropped o h book book1 back ms f noted =
+        let a : Around b st c true o h h.run_queue h.offer_queue book ms = f.around in
+        let same : SameBook c book book1 = same-dropped c noted in
+        let arrivals : book1.arrivals ≡ book.arrivals = noted.numbers.arrivals in
         let none : b.acts (Did Dropped ∷ projection (strand.Conn c) ms) ≡ [] = quiet (Did Dropped) (projection (strand.Conn c) ms) refl in
-        around-next b st c ms Dropped true false o o h h h.queue h.queue h.places h.places book book1 a (held-same c h) same a.out refl (opened ∙ a.line_open) a.client a.no_socket
-        (λ on. aside ∙ a.id_aside on) (λ e. absurd (let x : false ≡ true = e in cc)) (rw arrivals a.arrived)
-        (common-next b st c ms Dropped h.queue h.queue h.places h.places h.now h.connections h.connections book book1 a.common
+        around-next b st c ms Dropped true false o o h h h.run_queue h.run_queue h.offer_queue h.offer_queue book book1 a (held-same c h) same a.out refl (noted.is_open (id.Conn c) ∙ a.connection) a.client a.no_socket
+        (noted.strand_aside (strand.Conn c) ∙ ap (λ v. if v then false else book.strand_aside (strand.Conn c)) (same-true c)) (rw arrivals a.arrived)
+        (common-next b st c ms Dropped h.run_queue h.run_queue h.offer_queue h.offer_queue h.now h.connections h.connections book book1 a.common
         (record {
           enabled = a.alive;
           begins = a.common.begins;
@@ -132,41 +185,37 @@ module _ {J S : Type 0} (b : Behavior J) (st : S → List (LocalAction J) → Ty
           plain = a.common.plain;
           turns = (a.common.turns, f.touched);
           counts = a.common.count;
-        }) (rw arrivals a.arrived) (omega (arith, arrivals)) (λ n. socks n ∙ a.common.no_socket n)
-        (tells-more book.history book1.history (entry.Dropped (strand.Conn c) ∷ []) (external b ms) a.common.told history)
-        (tells-same book.offered book1.offered (offered_lengths b ms) a.common.offers_told told_offers)
-        (lines-still (strand.Conn c) (all_run ms) h.queue (all_readied b ms) [] (readied (b.acts (Did Dropped ∷ projection (strand.Conn c) ms))) refl (ap readied none) a.common.runs)
-        (lines-still (strand.Conn c) (all_offered ms) h.places (all_placed b ms) [] (offers (b.acts (Did Dropped ∷ projection (strand.Conn c) ms))) refl (ap offers none) a.common.offered))
+        }) (rw arrivals a.arrived) (omega (arith, arrivals)) (λ n. same.sockets n ∙ a.common.no_socket n) (same.asides a.common.asides)
+        (tells-more book.history book1.history (entry.Dropped (strand.Conn c) ∷ []) (external b ms) a.common.told noted.history)
+        (tells-same book.offered book1.offered (offered_lengths b ms) a.common.offers_told noted.offered)
+        (lines-still (strand.Conn c) (all_run ms) h.run_queue (all_readied b ms) [] (readied (b.acts (Did Dropped ∷ projection (strand.Conn c) ms))) refl (ap readied none) a.common.runs)
+        (lines-still (strand.Conn c) (all_offered ms) h.offer_queue (all_placed b ms) [] (offers (b.acts (Did Dropped ∷ projection (strand.Conn c) ms))) refl (ap offers none) a.common.offered))
 
-    -- its line was closed before
-    pub fallen-shut : (h : Held S) (book book1 : Book) (ms : List (GlobalAction J)) → Falls b st c false h book ms
-        → SameBook c book book1 → book1.is_open (id.Conn c) ≡ book.is_open (id.Conn c) → book1.id_place (id.Conn c) ≡ book.id_place (id.Conn c) → book1.arrivals ≡ book.arrivals
-        → ((n : ℕ) → book1.is_open (id.Sock n) ≡ book.is_open (id.Sock n))
-        → book1.history ≡ told (entry.Dropped (strand.Conn c) ∷ []) book.history → book1.offered ≡ book.offered
-        → Standing b st h book1 (Of (strand.Conn c) Dropped None ∷ ms)
-    fallen-shut h book book1 ms f same opened aside arrivals socks history told_offers =
-        around-dead h book1 (Of (strand.Conn c) Dropped None ∷ ms) (dropped false h book book1 ms f same opened aside arrivals socks history told_offers) (λ run on. clash on (f.last ∙ run)) (λ offer off. clash (f.last ∙ offer) off)
+    -- its connection was closed before
+    pub fallen-shut : (h : Held S) (book book1 book2 : Book) (back : Option Entry) (ms : List (GlobalAction J)) → Falls b st c false h book ms
+        → Notes (entry.Dropped (strand.Conn c)) back book book1 → Forgets (strand.Conn c) book1 book2
+        → Standing b st h book2 (Of (strand.Conn c) Dropped None ∷ ms)
+    fallen-shut h book book1 book2 back ms f noted forgot =
+        let a : Around b st c false false h h.run_queue h.offer_queue book1 (Of (strand.Conn c) Dropped None ∷ ms) = dropped false h book book1 back ms f noted in
+        standing-forgets h book1 book2 (Of (strand.Conn c) Dropped None ∷ ms) (around-dead h book1 (Of (strand.Conn c) Dropped None ∷ ms) a (λ run on. clash on (f.last ∙ run)) (λ offer off. clash (f.last ∙ offer) off)) a.alive forgot
 
-    -- its line is closed after it
-    pub fallen-open : (h h' : Held S) (book book1 book2 : Book) (ms : List (GlobalAction J)) → Falls b st c true h book ms
-        → SameBook c book book1 → book1.is_open (id.Conn c) ≡ book.is_open (id.Conn c) → book1.id_place (id.Conn c) ≡ book.id_place (id.Conn c) → book1.arrivals ≡ book.arrivals
-        → ((n : ℕ) → book1.is_open (id.Sock n) ≡ book.is_open (id.Sock n))
-        → book1.history ≡ told (entry.Dropped (strand.Conn c) ∷ []) book.history → book1.offered ≡ book.offered
-        → SameBook c book1 book2 → book2.is_open (id.Conn c) ≡ false → book2.arrivals ≡ book1.arrivals
-        → ((n : ℕ) → book2.is_open (id.Sock n) ≡ book1.is_open (id.Sock n))
-        → book2.history ≡ told (entry.Close (id.Conn c) ∷ []) book1.history → book2.offered ≡ book1.offered
+    -- its connection is closed after it
+    pub fallen-open : (h h' : Held S) (book book1 book2 book3 : Book) (back : Option Entry) (ms : List (GlobalAction J)) → Falls b st c true h book ms
+        → Notes (entry.Dropped (strand.Conn c)) back book book1 → HangsUp (id.Conn c) book1 book2 → Forgets (strand.Conn c) book2 book3
         → h' ≡ record h { connections = h.connections - 1 }
-        → Standing b st h' book2 (Of (strand.Conn c) (Closed place.Client) None ∷ Of (strand.Conn c) Dropped None ∷ ms)
-    fallen-open h h' book book1 book2 ms f same opened aside arrivals socks history told_offers same2 closed arrivals2 socks2 history2 offers2 held =
+        → Standing b st h' book3 (Of (strand.Conn c) (Closed place.Client) None ∷ Of (strand.Conn c) Dropped None ∷ ms)
+    fallen-open h h' book book1 book2 book3 back ms f noted hung forgot held =
         let fell : List (GlobalAction J) = Of (strand.Conn c) Dropped None ∷ ms in
-        let a : Around b st c false true h h.queue h.places book1 fell = dropped true h book book1 ms f same opened aside arrivals socks history told_offers in
+        let a : Around b st c false true h h.run_queue h.offer_queue book1 fell = dropped true h book book1 back ms f noted in
         let none : b.acts (Did (Closed place.Client) ∷ projection (strand.Conn c) fell) ≡ [] = quiet (Did (Closed place.Client)) (projection (strand.Conn c) fell) refl in
         let g : Held S = record h { connections = h.connections - 1 } in
-        rw held (around-dead g book2 (Of (strand.Conn c) (Closed place.Client) None ∷ fell)
-        (around-next b st c fell (Closed place.Client) false false true false h g h.queue h.queue h.places h.places book1 book2 a
-        (record { seats = λ t ne. refl; queue = λ t ne. refl; places = λ t ne. refl; in_offers = refl; now = refl; ends = λ t ne. refl }) same2 a.out a.alive closed refl a.no_socket
-        (λ e. absurd (let x : false ≡ true = e in cc)) (λ e. absurd (let x : false ≡ true = e in cc)) (rw arrivals2 a.arrived)
-        (common-next b st c fell (Closed place.Client) h.queue h.queue h.places h.places h.now h.connections (h.connections - 1) book1 book2 a.common
+        let same : SameBook c book1 book2 = same-hung c hung in
+        let arrivals : book2.arrivals ≡ book1.arrivals = hung.numbers.arrivals in
+        let shut : Around b st c false false g g.run_queue g.offer_queue book2 (Of (strand.Conn c) (Closed place.Client) None ∷ fell) =
+        (around-next b st c fell (Closed place.Client) false false true false h g h.run_queue h.run_queue h.offer_queue h.offer_queue book1 book2 a
+        (record { seats = λ t ne. refl; run_queue = λ t ne. refl; offer_queue = λ t ne. refl; in_offers = refl; now = refl; ends = λ t ne. refl }) same a.out a.alive (hung-closed c hung) refl a.no_socket
+        (hung.strand_aside (strand.Conn c) ∙ a.own_aside) (rw arrivals a.arrived)
+        (common-next b st c fell (Closed place.Client) h.run_queue h.run_queue h.offer_queue h.offer_queue h.now h.connections (h.connections - 1) book1 book2 a.common
         (record {
           enabled = inr (record { dropped = ap was_dropped (projection-same c Dropped None ms); opened = a.client; first = λ p before. absurd (not-before-client p before) });
           begins = a.common.begins;
@@ -175,36 +224,37 @@ module _ {J S : Type 0} (b : Behavior J) (st : S → List (LocalAction J) → Ty
           plain = a.common.plain;
           turns = a.common.turns;
           counts = ap (λ n. n - 1) a.common.count;
-        }) (rw arrivals2 a.arrived) (omega (arith, arrivals2)) (λ n. socks2 n ∙ a.common.no_socket n)
-        (tells-more book1.history book2.history (entry.Close (id.Conn c) ∷ []) (external b fell) a.common.told history2)
-        (tells-same book1.offered book2.offered (offered_lengths b fell) a.common.offers_told offers2)
-        (lines-still (strand.Conn c) (all_run fell) h.queue (all_readied b fell) [] (readied (b.acts (Did (Closed place.Client) ∷ projection (strand.Conn c) fell))) refl (ap readied none) a.common.runs)
-        (lines-still (strand.Conn c) (all_offered fell) h.places (all_placed b fell) [] (offers (b.acts (Did (Closed place.Client) ∷ projection (strand.Conn c) fell))) refl (ap offers none) a.common.offered)))
-        (λ run on. clash on (f.last ∙ run)) (λ offer off. clash (f.last ∙ offer) off))
+        }) (rw arrivals a.arrived) (omega (arith, arrivals)) (λ n. same.sockets n ∙ a.common.no_socket n) (same.asides a.common.asides)
+        (tells-more book1.history book2.history (entry.Close (id.Conn c) ∷ []) (external b fell) a.common.told hung.history)
+        (tells-same book1.offered book2.offered (offered_lengths b fell) a.common.offers_told hung.offered)
+        (lines-still (strand.Conn c) (all_run fell) h.run_queue (all_readied b fell) [] (readied (b.acts (Did (Closed place.Client) ∷ projection (strand.Conn c) fell))) refl (ap readied none) a.common.runs)
+        (lines-still (strand.Conn c) (all_offered fell) h.offer_queue (all_placed b fell) [] (offers (b.acts (Did (Closed place.Client) ∷ projection (strand.Conn c) fell))) refl (ap offers none) a.common.offered))) in
+        rw held (standing-forgets g book2 book3 (Of (strand.Conn c) (Closed place.Client) None ∷ fell) (around-dead g book2 (Of (strand.Conn c) (Closed place.Client) None ∷ fell) shut
+        (λ run on. clash on (f.last ∙ run)) (λ offer off. clash (f.last ∙ offer) off)) shut.alive forgot)
 
   -- a thread is put in line
   pub busy-ready : (x : S) (k : ℕ) (acts : List (Act J)) (go o : Bool) (h h' : Held S) (book : Book) (ms : List (GlobalAction J))
-      → Busy b st c x (act.Ready k ∷ acts) go o h book ms → h' ≡ record h { queue = h.queue ++ (strand.Conn c, k) ∷ [] } → Busy b st c x acts go o h' book ms
+      → Busy b st c x (act.Ready k ∷ acts) go o h book ms → h' ≡ record h { run_queue = h.run_queue ++ (strand.Conn c, k) ∷ [] } → Busy b st c x acts go o h' book ms
   busy-ready x k acts go o h h' book ms y held = rw held (record {
     near = record {
       around = record {
-        each = λ t ne live. fit-same refl refl refl refl refl (only-other (strand.Conn t) (strand.Conn c) k h.queue ne) refl refl refl refl refl (y.near.around.each t ne live);
+        each = λ t ne live. fit-same refl refl refl refl refl (only-other (strand.Conn t) (strand.Conn c) k h.run_queue ne) refl refl refl (y.near.around.each t ne live);
         dead = y.near.around.dead;
         closed = y.near.around.closed;
         shut = y.near.around.shut;
+        aside = y.near.around.aside;
         out = y.near.around.out;
         arrived = y.near.around.arrived;
         alive = y.near.around.alive;
-        line_open = y.near.around.line_open;
+        connection = y.near.around.connection;
         client = y.near.around.client;
         no_socket = y.near.around.no_socket;
-        id_aside = y.near.around.id_aside;
-        strand_aside = y.near.around.strand_aside;
+        own_aside = y.near.around.own_aside;
         common = rw append_assoc y.near.around.common;
       };
       to_do = y.near.to_do;
       last_act = y.near.last_act;
-      threads = ap (λ l. lined_up acts l) (only-same (strand.Conn c) k h.queue) ∙ y.near.threads;
+      threads = ap (λ l. lined_up acts l) (only-same (strand.Conn c) k h.run_queue) ∙ y.near.threads;
       offered = y.near.offered;
       deadlines = y.near.deadlines;
       kind = y.near.kind;
@@ -221,28 +271,28 @@ module _ {J S : Type 0} (b : Behavior J) (st : S → List (LocalAction J) → Ty
 
   -- a place is put in line
   pub busy-offer : (x : S) (q : Place) (acts : List (Act J)) (go o : Bool) (h h' : Held S) (book : Book) (ms : List (GlobalAction J))
-      → Busy b st c x (act.Offer q ∷ acts) go o h book ms → h' ≡ record h { places = h.places ++ (strand.Conn c, q) ∷ [] } → Busy b st c x acts go o h' book ms
+      → Busy b st c x (act.Offer q ∷ acts) go o h book ms → h' ≡ record h { offer_queue = h.offer_queue ++ (strand.Conn c, q) ∷ [] } → Busy b st c x acts go o h' book ms
   busy-offer x q acts go o h h' book ms y held = rw held (record {
     near = record {
       around = record {
-        each = λ t ne live. fit-same refl refl refl refl refl refl (only-other (strand.Conn t) (strand.Conn c) q h.places ne) refl refl refl refl (y.near.around.each t ne live);
+        each = λ t ne live. fit-same refl refl refl refl refl refl (only-other (strand.Conn t) (strand.Conn c) q h.offer_queue ne) refl refl (y.near.around.each t ne live);
         dead = y.near.around.dead;
         closed = y.near.around.closed;
         shut = y.near.around.shut;
+        aside = y.near.around.aside;
         out = y.near.around.out;
         arrived = y.near.around.arrived;
         alive = y.near.around.alive;
-        line_open = y.near.around.line_open;
+        connection = y.near.around.connection;
         client = y.near.around.client;
         no_socket = y.near.around.no_socket;
-        id_aside = y.near.around.id_aside;
-        strand_aside = y.near.around.strand_aside;
+        own_aside = y.near.around.own_aside;
         common = rw append_assoc y.near.around.common;
       };
       to_do = y.near.to_do;
       last_act = y.near.last_act;
       threads = y.near.threads;
-      offered = ap (λ l. l ++ offers acts) (only-same (strand.Conn c) q h.places) ∙ append_assoc (only (strand.Conn c) h.places) (q ∷ []) (offers acts) ∙ y.near.offered;
+      offered = ap (λ l. l ++ offers acts) (only-same (strand.Conn c) q h.offer_queue) ∙ append_assoc (only (strand.Conn c) h.offer_queue) (q ∷ []) (offers acts) ∙ y.near.offered;
       deadlines = y.near.deadlines;
       kind = y.near.kind;
       offer = y.near.offer;
@@ -275,24 +325,24 @@ module _ {J S : Type 0} (b : Behavior J) (st : S → List (LocalAction J) → Ty
   -- the client's line is hung up
   pub busy-closed : (x : S) (rest : List (Act J)) (go : Bool) (h h' : Held S) (book book' : Book) (ms : List (GlobalAction J))
       → Busy b st c x (act.HangUp place.Client ∷ rest) go true h book ms
-      → SameBook c book book' → book'.is_open (id.Conn c) ≡ false → book'.has_ended (id.Conn c) ≡ book.has_ended (id.Conn c) → book'.strand_place (strand.Conn c) ≡ book.strand_place (strand.Conn c) → book'.arrivals ≡ book.arrivals
-      → ((n : ℕ) → book'.is_open (id.Sock n) ≡ book.is_open (id.Sock n))
-      → book'.history ≡ told (entry.Close (id.Conn c) ∷ []) book.history → book'.offered ≡ book.offered
+      → HangsUp (id.Conn c) book book'
       → h' ≡ record h { connections = h.connections - 1 }
       → Busy b st c x rest go false h' book' (Of (strand.Conn c) (Closed place.Client) None ∷ ms)
-  busy-closed x rest go h h' book book' ms y same closed ended aside arrivals socks history told_offers held =
+  busy-closed x rest go h h' book book' ms y hung held =
       let z : Action J = Closed place.Client in
       let es : List (LocalAction J) = projection (strand.Conn c) ms in
       let a = y.near.around in
       let none : b.acts (Did z ∷ es) ≡ [] = quiet (Did z) es refl in
       let own : projection (strand.Conn c) (Of (strand.Conn c) z None ∷ ms) ≡ Did z ∷ es = projection-same c z None ms in
       let g : Held S = record h { connections = h.connections - 1 } in
+      let same : SameBook c book book' = same-hung c hung in
+      let arrivals : book'.arrivals ≡ book.arrivals = hung.numbers.arrivals in
       rw held (record {
         near = record {
-          around = around-next b st c ms z true true true false h g _ (h.queue ++ with_strand (strand.Conn c) (readied rest)) _ (h.places ++ with_strand (strand.Conn c) (offers rest)) book book' a
-              (record { seats = λ t ne. refl; queue = λ t ne. refl; places = λ t ne. refl; in_offers = refl; now = refl; ends = λ t ne. refl }) same a.out a.alive closed refl a.no_socket
-              (λ e. absurd (let w : false ≡ true = e in cc)) (λ on. aside ∙ a.strand_aside on) (rw arrivals a.arrived)
-              (common-next b st c ms z _ (h.queue ++ with_strand (strand.Conn c) (readied rest)) _ (h.places ++ with_strand (strand.Conn c) (offers rest)) h.now h.connections (h.connections - 1) book book' a.common
+          around = around-next b st c ms z true true true false h g _ (h.run_queue ++ with_strand (strand.Conn c) (readied rest)) _ (h.offer_queue ++ with_strand (strand.Conn c) (offers rest)) book book' a
+              (record { seats = λ t ne. refl; run_queue = λ t ne. refl; offer_queue = λ t ne. refl; in_offers = refl; now = refl; ends = λ t ne. refl }) same a.out a.alive (hung-closed c hung) refl a.no_socket
+              (hung.strand_aside (strand.Conn c) ∙ a.own_aside) (rw arrivals a.arrived)
+              (common-next b st c ms z _ (h.run_queue ++ with_strand (strand.Conn c) (readied rest)) _ (h.offer_queue ++ with_strand (strand.Conn c) (offers rest)) h.now h.connections (h.connections - 1) book book' a.common
               (record {
                 enabled = inl ((carried rest, y.near.to_do), a.client);
                 begins = a.common.begins;
@@ -301,9 +351,9 @@ module _ {J S : Type 0} (b : Behavior J) (st : S → List (LocalAction J) → Ty
                 plain = a.common.plain;
                 turns = a.common.turns;
                 counts = ap (λ n. n - 1) a.common.count;
-              }) (rw arrivals a.arrived) (omega (arith, arrivals)) (λ n. socks n ∙ a.common.no_socket n)
-              (tells-more book.history book'.history (entry.Close (id.Conn c) ∷ []) (external b ms) a.common.told history)
-              (tells-same book.offered book'.offered (offered_lengths b ms) a.common.offers_told told_offers)
+              }) (rw arrivals a.arrived) (omega (arith, arrivals)) (λ n. same.sockets n ∙ a.common.no_socket n) (same.asides a.common.asides)
+              (tells-more book.history book'.history (entry.Close (id.Conn c) ∷ []) (external b ms) a.common.told hung.history)
+              (tells-same book.offered book'.offered (offered_lengths b ms) a.common.offers_told hung.offered)
               (lines-still (strand.Conn c) (all_run ms) _ (all_readied b ms) [] (readied (b.acts (Did z ∷ es))) refl (ap readied none) a.common.runs)
               (lines-still (strand.Conn c) (all_offered ms) _ (all_placed b ms) [] (offers (b.acts (Did z ∷ es))) refl (ap offers none) a.common.offered));
           to_do = ap (todo b) own ∙ (rw (none, y.near.to_do) (append-nil (carried rest)));
@@ -315,7 +365,7 @@ module _ {J S : Type 0} (b : Behavior J) (st : S → List (LocalAction J) → Ty
           offer = subst (λ (fs : List (LocalAction J)). IsOffer go false (begun_offer fs)) (sym own) (offer-closed go true (begun_offer es) y.near.offer);
           moment = ap moment own ∙ y.near.moment;
           stopping = ap is_stopping own ∙ y.near.stopping;
-          no_more = ap (has_ended place.Client) own ∙ y.near.no_more ∙ sym ended;
+          no_more = ap (has_ended place.Client) own ∙ y.near.no_more ∙ sym (hung.has_ended (id.Conn c));
           not_to_end = y.near.not_to_end;
           last = y.near.last;
           touched = touches c z None ms;
@@ -326,10 +376,10 @@ module _ {J S : Type 0} (b : Behavior J) (st : S → List (LocalAction J) → Ty
   -- a log line is written, or isn't
   pub busy-logged : (x : S) (line : List ℕ) (r : LogAnswer) (rest : List (Act J)) (go o : Bool) (h : Held S) (book book' : Book) (ms : List (GlobalAction J))
       → Busy b st c x (act.Log line ∷ rest) go o h book ms
-      → (r ≡ logged.Memory → ⊥) → KeepsIds book book'
-      → book'.history ≡ told (log_entry (strand.Conn c) line r) book.history → book'.offered ≡ book.offered
+      → (r ≡ logged.Memory → ⊥) → Logs (strand.Conn c) line r book book'
       → Busy b st c x rest go o h book' (Of (strand.Conn c) (Logged line (done_of r)) None ∷ ms)
-  busy-logged x line r rest go o h book book' ms y ok ids history told_offers =
+  busy-logged x line r rest go o h book book' ms y ok logs =
+      let ids : KeepsIds book book' = logs.ids in
       let z : Action J = Logged line (done_of r) in
       let es : List (LocalAction J) = projection (strand.Conn c) ms in
       let a = y.near.around in
@@ -337,10 +387,10 @@ module _ {J S : Type 0} (b : Behavior J) (st : S → List (LocalAction J) → Ty
       let own : projection (strand.Conn c) (Of (strand.Conn c) z None ∷ ms) ≡ Did z ∷ es = projection-same c z None ms in
       record {
         near = record {
-          around = around-next b st c ms z true true o o h h _ (h.queue ++ with_strand (strand.Conn c) (readied rest)) _ (h.places ++ with_strand (strand.Conn c) (offers rest)) book book' a
-              (held-same c h) (record { is_open = λ t ne. ids.is_open (id.Conn t); has_ended = λ t ne. ids.has_ended (id.Conn t); id_place = λ t ne. ids.id_place (id.Conn t); strand_place = λ t ne. ids.strand_place (strand.Conn t) }) a.out a.alive (ids.is_open (id.Conn c) ∙ a.line_open) a.client a.no_socket
-              (λ on. ids.id_place (id.Conn c) ∙ a.id_aside on) (λ on. ids.strand_place (strand.Conn c) ∙ a.strand_aside on) (rw ids.arrivals a.arrived)
-              (common-next b st c ms z _ (h.queue ++ with_strand (strand.Conn c) (readied rest)) _ (h.places ++ with_strand (strand.Conn c) (offers rest)) h.now h.connections h.connections book book' a.common
+          around = around-next b st c ms z true true o o h h _ (h.run_queue ++ with_strand (strand.Conn c) (readied rest)) _ (h.offer_queue ++ with_strand (strand.Conn c) (offers rest)) book book' a
+              (held-same c h) (same-keeps c ids) a.out a.alive (ids.is_open (id.Conn c) ∙ a.connection) a.client a.no_socket
+              (ids.strand_aside (strand.Conn c) ∙ a.own_aside) (rw ids.arrivals a.arrived)
+              (common-next b st c ms z _ (h.run_queue ++ with_strand (strand.Conn c) (readied rest)) _ (h.offer_queue ++ with_strand (strand.Conn c) (offers rest)) h.now h.connections h.connections book book' a.common
               (record {
                 enabled = (carried rest, y.near.to_do);
                 begins = a.common.begins;
@@ -349,9 +399,9 @@ module _ {J S : Type 0} (b : Behavior J) (st : S → List (LocalAction J) → Ty
                 plain = a.common.plain;
                 turns = a.common.turns;
                 counts = a.common.count;
-              }) (rw ids.arrivals a.arrived) (omega (arith, ids.arrivals)) (λ n. ids.is_open (id.Sock n) ∙ a.common.no_socket n)
-              (tells-more book.history book'.history (entry.Log (strand.Conn c) line (done_of r) ∷ []) (external b ms) a.common.told (history ∙ ap (λ e. told e book.history) (log_entry-done (strand.Conn c) line r ok)))
-              (tells-same book.offered book'.offered (offered_lengths b ms) a.common.offers_told told_offers)
+              }) (rw ids.arrivals a.arrived) (omega (arith, ids.arrivals)) (λ n. ids.is_open (id.Sock n) ∙ a.common.no_socket n) ((same-keeps c ids).asides a.common.asides)
+              (tells-more book.history book'.history (entry.Log (strand.Conn c) line (done_of r) ∷ []) (external b ms) a.common.told (logs.history ∙ ap (λ e. told e book.history) (log_entry-done (strand.Conn c) line r ok)))
+              (tells-same book.offered book'.offered (offered_lengths b ms) a.common.offers_told logs.offered)
               (lines-still (strand.Conn c) (all_run ms) _ (all_readied b ms) [] (readied (b.acts (Did z ∷ es))) refl (ap readied none) a.common.runs)
               (lines-still (strand.Conn c) (all_offered ms) _ (all_placed b ms) [] (offers (b.acts (Did z ∷ es))) refl (ap offers none) a.common.offered));
           to_do = ap (todo b) own ∙ (rw (none, y.near.to_do) (append-nil (carried rest)));
@@ -372,17 +422,19 @@ module _ {J S : Type 0} (b : Behavior J) (st : S → List (LocalAction J) → Ty
       }
 
   -- its life is over
-  pub standing-gone : (x : S) (rest : List (Act J)) (go : Bool) (h : Held S) (book : Book) (ms : List (GlobalAction J))
-      → Busy b st c x (act.Gone ∷ rest) go false h book ms
-      → Standing b st h book (Of (strand.Conn c) Gone None ∷ ms)
-  standing-gone x rest go h book ms y =
+  pub standing-gone : (x : S) (rest : List (Act J)) (go : Bool) (h : Held S) (book book' : Book) (ms : List (GlobalAction J))
+      → Busy b st c x (act.Gone ∷ rest) go false h book ms → Forgets (strand.Conn c) book book'
+      → Standing b st h book' (Of (strand.Conn c) Gone None ∷ ms)
+  standing-gone x rest go h book book' ms y forgot =
+      let same : SameBook c book book' = same-forgot c forgot in
+      let arrivals : book'.arrivals ≡ book.arrivals = forgot.numbers.arrivals in
       let es : List (LocalAction J) = projection (strand.Conn c) ms in
       let none : b.acts (Did Gone ∷ es) ≡ [] = quiet (Did Gone) es refl in
-      let a = around-lists b st c true false h _ h.queue _ h.places book ms y.near.around (sub-front h.queue _) (sub-front h.places _) in
-      around-dead b st c h book (Of (strand.Conn c) Gone None ∷ ms)
-      (around-next b st c ms Gone true false false false h h h.queue h.queue h.places h.places book book a (held-same c h) (book-same c book) a.out refl a.line_open a.client a.no_socket
-      (λ e. absurd (let w : false ≡ true = e in cc)) (λ e. absurd (let w : false ≡ true = e in cc)) a.arrived
-      (common-next b st c ms Gone h.queue h.queue h.places h.places h.now h.connections h.connections book book a.common
+      let a = around-queues b st c true false h _ h.run_queue _ h.offer_queue book ms y.near.around (sub-front h.run_queue _) (sub-front h.offer_queue _) in
+      around-dead b st c h book' (Of (strand.Conn c) Gone None ∷ ms)
+      (around-next b st c ms Gone true false false false h h h.run_queue h.run_queue h.offer_queue h.offer_queue book book' a (held-same c h) same a.out refl (forgot.is_open (id.Conn c) ∙ a.connection) a.client a.no_socket
+      (forgot-aside c forgot) (rw arrivals a.arrived)
+      (common-next b st c ms Gone h.run_queue h.run_queue h.offer_queue h.offer_queue h.now h.connections h.connections book book' a.common
       (record {
         enabled = y.near.to_do ∙ ap (λ l. act.Gone ∷ carried l) y.near.last_act;
         begins = a.common.begins;
@@ -391,9 +443,10 @@ module _ {J S : Type 0} (b : Behavior J) (st : S → List (LocalAction J) → Ty
         plain = a.common.plain;
         turns = a.common.turns;
         counts = a.common.count;
-      }) a.arrived (omega arith) a.common.no_socket a.common.told a.common.offers_told
-      (lines-still (strand.Conn c) (all_run ms) h.queue (all_readied b ms) [] (readied (b.acts (Did Gone ∷ es))) refl (ap readied none) a.common.runs)
-      (lines-still (strand.Conn c) (all_offered ms) h.places (all_placed b ms) [] (offers (b.acts (Did Gone ∷ es))) refl (ap offers none) a.common.offered)))
+      }) (rw arrivals a.arrived) (omega (arith, arrivals)) (λ n. same.sockets n ∙ a.common.no_socket n) (same.asides a.common.asides)
+      (tells-same book.history book'.history (external b ms) a.common.told forgot.entered.history) (tells-same book.offered book'.offered (offered_lengths b ms) a.common.offers_told forgot.entered.offered)
+      (lines-still (strand.Conn c) (all_run ms) h.run_queue (all_readied b ms) [] (readied (b.acts (Did Gone ∷ es))) refl (ap readied none) a.common.runs)
+      (lines-still (strand.Conn c) (all_offered ms) h.offer_queue (all_placed b ms) [] (offers (b.acts (Did Gone ∷ es))) refl (ap offers none) a.common.offered)))
       (λ run on. clash on (y.near.last ∙ run)) (λ offer off. clash (y.near.last ∙ offer) off)
 
 module _ {J S : Type 0} (b : Behavior J) (st : S → List (LocalAction J) → Type 0) (c : ℕ) where
@@ -411,46 +464,36 @@ module _ {J S : Type 0} (b : Behavior J) (st : S → List (LocalAction J) → Ty
   nothing-open leaves x rest go o h book ms y =
       sym y.near.around.client ∙ leaves (projection (strand.Conn c) ms) place.Client (y.near.around.common.alone (strand.Conn c)) (y.near.to_do ∙ ap (λ l. act.Gone ∷ carried l) y.near.last_act)
 
+  -- what the world asks of a strand that is forgotten
+  pub gone-closed : (leaves : (es : List (LocalAction J)) (q : Place) → IsExecution b es → todo b es ≡ act.Gone ∷ [] → is_open q es ≡ false)
+      → (x : S) (rest : List (Act J)) (go o : Bool) (h : Held S) (book : Book) (ms : List (GlobalAction J))
+      → Busy b st c x (act.Gone ∷ rest) go o h book ms → (i : Id) → is_own (strand.Conn c) i ≡ true → book.is_open i ≡ false
+  gone-closed leaves x rest go o h book ms y = own-closed c book (y.near.around.connection ∙ nothing-open leaves x rest go o h book ms y)
+
   -- a call of the world that leaves all as it is
-  pub around-kept : (al o : Bool) (h : Held S) (threads : List (StrandId × ℕ)) (places : List (StrandId × Place)) (book book' : Book) (ms : List (GlobalAction J))
-      → Around b st c al o h threads places book ms → KeepsIds book book' → book'.history ≡ book.history → book'.offered ≡ book.offered
-      → Around b st c al o h threads places book' ms
-  around-kept al o h threads places book book' ms a ids history told_offers = record {
-    each = λ t ne live. fit-same refl refl refl refl refl refl refl (ids.is_open (id.Conn t)) (ids.has_ended (id.Conn t)) (ids.id_place (id.Conn t)) (ids.strand_place (strand.Conn t)) (a.each t ne live);
+  pub around-kept : (al o : Bool) (h : Held S) (threads : List (StrandId × ℕ)) (offer_queue : List (StrandId × Place)) (book book' : Book) (ms : List (GlobalAction J))
+      → Around b st c al o h threads offer_queue book ms → KeepsIds book book' → KeepsTold book book'
+      → Around b st c al o h threads offer_queue book' ms
+  around-kept al o h threads offer_queue book book' ms a ids entered = record {
+    each = λ t ne live. fit-same refl refl refl refl refl refl refl (ids.is_open (id.Conn t)) (ids.has_ended (id.Conn t)) (a.each t ne live);
     dead = a.dead;
     closed = λ t ne gone. ids.is_open (id.Conn t) ∙ a.closed t ne gone;
     shut = a.shut;
+    aside = λ s ne. ids.strand_aside s ∙ a.aside s ne;
     out = a.out;
     arrived = rw ids.arrivals a.arrived;
     alive = a.alive;
-    line_open = ids.is_open (id.Conn c) ∙ a.line_open;
+    connection = ids.is_open (id.Conn c) ∙ a.connection;
     client = a.client;
     no_socket = a.no_socket;
-    id_aside = λ on. ids.id_place (id.Conn c) ∙ a.id_aside on;
-    strand_aside = λ on. ids.strand_place (strand.Conn c) ∙ a.strand_aside on;
-    common = record {
-      alone = a.common.alone;
-      begins = a.common.begins;
-      given = a.common.given;
-      kept = a.common.kept;
-      plain = a.common.plain;
-      runs = a.common.runs;
-      offered = a.common.offered;
-      turns = a.common.turns;
-      told = tells-same book.history book'.history (external b ms) a.common.told history;
-      offers_told = tells-same book.offered book'.offered (offered_lengths b ms) a.common.offers_told told_offers;
-      unborn = λ t past. a.common.unborn t (rw ids.arrivals at past);
-      jobless = a.common.jobless;
-      no_socket = λ n. ids.is_open (id.Sock n) ∙ a.common.no_socket n;
-      count = a.common.count;
-      present = a.common.present;
-    };
+    own_aside = ids.strand_aside (strand.Conn c) ∙ a.own_aside;
+    common = common-kept b threads offer_queue h.now h.connections book book' ms a.common entered (λ n. ids.is_open (id.Sock n)) ((same-keeps c ids).asides) ids.arrivals;
   }
 
   pub falls-kept : (o : Bool) (h : Held S) (book book' : Book) (ms : List (GlobalAction J))
-      → Falls b st c o h book ms → KeepsIds book book' → book'.history ≡ book.history → book'.offered ≡ book.offered → Falls b st c o h book' ms
-  falls-kept o h book book' ms f ids history told_offers = record {
-    around = around-kept true o h h.queue h.places book book' ms f.around ids history told_offers;
+      → Falls b st c o h book ms → KeepsIds book book' → KeepsTold book book' → Falls b st c o h book' ms
+  falls-kept o h book book' ms f ids entered = record {
+    around = around-kept true o h h.run_queue h.offer_queue book book' ms f.around ids entered;
     last = f.last;
     touched = f.touched;
   }

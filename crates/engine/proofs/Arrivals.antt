@@ -5,9 +5,11 @@ use Rattle.std.proofs.lemmas.Bool.{eqb-true, cases_lt}
 use Rattle.resty_base.specs.declared.names.Id.TheVariants as id
 use Rattle.resty_base.specs.declared.names.StrandId.{StrandId}
 use Rattle.resty_base.specs.declared.names.StrandId.TheVariants as strand
+use Rattle.resty_world.specs.declared.entry.Entry.{Entry}
 use Rattle.resty_world.specs.declared.entry.Entry.TheVariants as entry
 use Rattle.resty_world.specs.declared.event.Event.TheVariants as event
 use Rattle.resty_world.specs.Book.{Book, told}
+use Rattle.resty_world.specs.Contract.{HangsUp, Forgets, Notes}
 use Rattle.resty_world.specs.Given.{Gave}
 use Rattle.resty_world.specs.Ids.{same_strand}
 use Rattle.strand_contract.specs.declared.turns.Place.{Place}
@@ -24,10 +26,10 @@ use Rattle.engine.specs.declared.engine.Seat.{Seat}
 use Rattle.engine.specs.Right.{Tells}
 use Rattle.engine.specs.Standing.{Held, is_to_end, Fit, Common, Around, Near, Busy, Falls, Standing}
 use Rattle.engine.proofs.Lists.{by_test, clash, same-true, tells-more, tells-same}
-use Rattle.engine.proofs.Marks.{projection-same, touches, SameHeld, SameBook, MayCome, common-next, around-next, Begins, near-begins}
-use Rattle.engine.proofs.Acts.{around-lists}
+use Rattle.engine.proofs.Marks.{projection-same, touches, fit-same, SameHeld, SameBook, same-arrived, same-turned, same-hung, same-joins, hung-closed, MayCome, common-next, around-next, Begins, near-begins}
+use Rattle.engine.proofs.Acts.{around-queues, aside-all, standing-forgets}
 use Rattle.engine.proofs.Lists.{sub-front}
-use Rattle.engine.proofs.Turns.{turn-lists}
+use Rattle.engine.proofs.Turns.{turn-queues}
 use Rattle.engine.proofs.Events.{at-rest, none-holds}
 
 -- a strand that has begun has an execution of its own
@@ -48,7 +50,7 @@ begun-some s (TurnedAway c ∷ ms) h nil = begun-some s ms h nil
 begun-some s (IdleGave e ∷ ms) h nil = begun-some s ms h nil
 begun-some s (IdleClosed n ∷ ms) h nil = begun-some s ms h nil
 
-module _ {J S : Type 0} (b : Behavior J) (st : S → List (LocalAction J) → Type 0) (ms : List (GlobalAction J)) (h : Held S) (book : Book) (g : Standing b st h book ms) (queue : h.queue ≡ []) (places : h.places ≡ []) (running : h.in_offers ≡ false) (ending : h.ending ≡ stop.Over)
+module _ {J S : Type 0} (b : Behavior J) (st : S → List (LocalAction J) → Type 0) (ms : List (GlobalAction J)) (h : Held S) (book : Book) (g : Standing b st h book ms) (run_queue : h.run_queue ≡ []) (offer_queue : h.offer_queue ≡ []) (running : h.in_offers ≡ false) (ending : h.ending ≡ stop.Over)
     (keeps : (es : List (LocalAction J)) → IsExecution b es → lives es ≡ true → HasNoWork b es → KeepsNothingBack b es) (c : ℕ) (new : c ≡ book.arrivals + 1) where
   unseen : projection (strand.Conn c) ms ≡ []
   unseen = g.common.unborn c (omega (arith, new))
@@ -58,20 +60,20 @@ module _ {J S : Type 0} (b : Behavior J) (st : S → List (LocalAction J) → Ty
   newest t begun = elim (cases_lt book.arrivals t) [ inl past ↦ absurd (begun-some (strand.Conn t) ms begun (g.common.unborn t past)) | inr known ↦ omega (arith, new, known) ]
 
   -- what is known before the strand begins
-  around-unseen : Around b st c false false h h.queue h.places (record book { arrivals = c }) ms
+  around-unseen : Around b st c false false h h.run_queue h.offer_queue (record book { arrivals = c }) ms
   around-unseen = record {
     each = λ t ne live. g.each t live;
     dead = λ t ne gone. g.dead t gone;
     closed = λ t ne gone. g.closed t gone;
     shut = λ t ne gone q. g.shut t gone q;
+    aside = λ s ne. g.aside s;
     out = g.dead c (ap lives unseen);
     arrived = omega arith;
     alive = ap lives unseen;
-    line_open = g.closed c (ap lives unseen);
+    connection = g.closed c (ap lives unseen);
     client = ap (is_open place.Client) unseen;
     no_socket = λ k. ap (is_open (place.Sock k)) unseen;
-    id_aside = λ e. absurd (let w : false ≡ true = e in cc);
-    strand_aside = λ e. absurd (let w : false ≡ true = e in cc);
+    own_aside = g.aside (strand.Conn c) ∙ ap lives unseen;
     common = record {
       alone = g.common.alone;
       begins = g.common.begins;
@@ -86,50 +88,46 @@ module _ {J S : Type 0} (b : Behavior J) (st : S → List (LocalAction J) → Ty
       unborn = λ t past. g.common.unborn t (let after : c < t = past in omega (arith, new));
       jobless = g.common.jobless;
       no_socket = g.common.no_socket;
+      asides = g.common.asides;
       count = g.common.count;
       present = g.common.present;
     };
   }
 
   module _ (book' : Book) (gave : Gave book book' (event.Arrive c)) (h' : Held S) (room : h.connections < b.connections) (held : h' ≡ record h { connections = h.connections + 1 }) where
-    around-begun : Around b st c true true h' (h'.queue ++ with_strand (strand.Conn c) (readied (b.acts (Did (Began h.now (start.Client c)) ∷ projection (strand.Conn c) ms)))) (h'.places ++ with_strand (strand.Conn c) (offers (b.acts (Did (Began h.now (start.Client c)) ∷ projection (strand.Conn c) ms)))) book' (Of (strand.Conn c) (Began h.now (start.Client c)) None ∷ ms)
+    around-begun : Around b st c true true h' (h'.run_queue ++ with_strand (strand.Conn c) (readied (b.acts (Did (Began h.now (start.Client c)) ∷ projection (strand.Conn c) ms)))) (h'.offer_queue ++ with_strand (strand.Conn c) (offers (b.acts (Did (Began h.now (start.Client c)) ∷ projection (strand.Conn c) ms)))) book' (Of (strand.Conn c) (Began h.now (start.Client c)) None ∷ ms)
     around-begun =
         let z : Action J = Began h.now (start.Client c) in
         let es : List (LocalAction J) = projection (strand.Conn c) ms in
         let k : Held S = record h { connections = h.connections + 1 } in
-        rw held (around-next b st c ms z false true false true h k h.queue (h.queue ++ with_strand (strand.Conn c) (readied (b.acts (Did z ∷ es)))) h.places (h.places ++ with_strand (strand.Conn c) (offers (b.acts (Did z ∷ es)))) (record book { arrivals = c }) book' around-unseen
-        (record { seats = λ t ne. refl; queue = λ t ne. refl; places = λ t ne. refl; in_offers = refl; now = refl; ends = λ t ne. refl })
-        (record {
-          is_open = λ t ne. gave.is_open (id.Conn t) ∙ ap (λ v. if v then true else book.is_open (id.Conn t)) ne;
-          has_ended = λ t ne. gave.has_ended (id.Conn t) ∙ ap (λ v. if v then false else book.has_ended (id.Conn t)) ne;
-          id_place = λ t ne. gave.id_place (id.Conn t) ∙ ap (λ v. if v then true else book.id_place (id.Conn t)) ne;
-          strand_place = λ t ne. gave.strand_place (strand.Conn t) ∙ ap (λ v. if v then true else book.strand_place (strand.Conn t)) ne;
-        })
+        let same : SameBook c book book' = same-arrived c gave in
+        rw held (around-next b st c ms z false true false true h k h.run_queue (h.run_queue ++ with_strand (strand.Conn c) (readied (b.acts (Did z ∷ es)))) h.offer_queue (h.offer_queue ++ with_strand (strand.Conn c) (offers (b.acts (Did z ∷ es)))) (record book { arrivals = c }) book' around-unseen
+        (record { seats = λ t ne. refl; run_queue = λ t ne. refl; offer_queue = λ t ne. refl; in_offers = refl; now = refl; ends = λ t ne. refl })
+        (record { is_open = same.is_open; has_ended = same.has_ended; strand_aside = same.strand_aside; sockets = same.sockets; asides = same.asides })
         around-unseen.out refl
         (gave.is_open (id.Conn c) ∙ ap (λ v. if v then true else book.is_open (id.Conn c)) (same-true c)) refl (λ k. refl)
-        (λ e. gave.id_place (id.Conn c) ∙ ap (λ v. if v then true else book.id_place (id.Conn c)) (same-true c))
-        (λ e. gave.strand_place (strand.Conn c) ∙ ap (λ v. if v then true else book.strand_place (strand.Conn c)) (same-true c))
+        (gave.strand_aside (strand.Conn c) ∙ ap (λ v. if v then true else book.strand_aside (strand.Conn c)) (same-true c))
         (omega (arith, new, gave.arrivals))
-        (common-next b st c ms z h.queue (h.queue ++ with_strand (strand.Conn c) (readied (b.acts (Did z ∷ es)))) h.places (h.places ++ with_strand (strand.Conn c) (offers (b.acts (Did z ∷ es)))) h.now h.connections (h.connections + 1) (record book { arrivals = c }) book' around-unseen.common
+        (common-next b st c ms z h.run_queue (h.run_queue ++ with_strand (strand.Conn c) (readied (b.acts (Did z ∷ es)))) h.offer_queue (h.offer_queue ++ with_strand (strand.Conn c) (offers (b.acts (Did z ∷ es)))) h.now h.connections (h.connections + 1) (record book { arrivals = c }) book' around-unseen.common
         (record {
           enabled = unseen;
           begins = (g.common.begins, refl, sym g.common.present, newest);
-          given = (g.common.given, λ e. at-rest b st ms h book g queue places ending);
-          kept = (g.common.kept, λ e. none-holds b st ms h book g queue places ending keeps);
+          given = (g.common.given, λ e. at-rest b st ms h book g run_queue offer_queue ending);
+          kept = (g.common.kept, λ e. none-holds b st ms h book g run_queue offer_queue ending keeps);
           plain = (g.common.plain, rw g.common.count room);
           turns = g.common.turns;
           counts = ap (λ n. n + 1) g.common.count;
         })
-        (omega (arith, new, gave.arrivals)) (let later : c ≤ book'.arrivals = omega (arith, new, gave.arrivals) in later) (λ n. gave.is_open (id.Sock n) ∙ g.common.no_socket n)
+        (omega (arith, new, gave.arrivals)) (let later : c ≤ book'.arrivals = omega (arith, new, gave.arrivals) in later) (λ n. gave.is_open (id.Sock n) ∙ g.common.no_socket n) (same.asides g.common.asides)
         (tells-more book.history book'.history (entry.Given (event.Arrive c) ∷ []) (external b ms) g.common.told gave.history)
         (tells-same book.offered book'.offered (offered_lengths b ms) g.common.offers_told gave.offered)
-        (turn-lists b st c ms (strand.Conn c) (all_run ms) h.queue (all_readied b ms) [] (readied (b.acts (Did z ∷ es))) (rw append-nil g.common.runs))
-        (turn-lists b st c ms (strand.Conn c) (all_offered ms) h.places (all_placed b ms) [] (offers (b.acts (Did z ∷ es))) (rw append-nil g.common.offered))))
+        (turn-queues b st c ms (strand.Conn c) (all_run ms) h.run_queue (all_readied b ms) [] (readied (b.acts (Did z ∷ es))) (rw append-nil g.common.runs))
+        (turn-queues b st c ms (strand.Conn c) (all_offered ms) h.offer_queue (all_placed b ms) [] (offers (b.acts (Did z ∷ es))) (rw append-nil g.common.offered))))
 
     -- its beginning took no memory, or there was none
     pub falls-begun : Falls b st c true h' book' (Of (strand.Conn c) (Began h.now (start.Client c)) None ∷ ms)
     falls-begun = record {
-      around = around-lists b st c true true h' _ h'.queue _ h'.places book' (Of (strand.Conn c) (Began h.now (start.Client c)) None ∷ ms) around-begun (sub-front h'.queue _) (sub-front h'.places _);
+      around = around-queues b st c true true h' _ h'.run_queue _ h'.offer_queue book' (Of (strand.Conn c) (Began h.now (start.Client c)) None ∷ ms) around-begun (sub-front h'.run_queue _) (sub-front h'.offer_queue _);
       last = rw held (sym running);
       touched = touches c (Began h.now (start.Client c)) None ms;
     }
@@ -144,8 +142,8 @@ module _ {J S : Type 0} (b : Behavior J) (st : S → List (LocalAction J) → Ty
               (record {
                 done = rw unseen refl;
                 no_use = refl;
-                line = rw (unseen, held, queue) refl;
-                list = rw (unseen, held, places) refl;
+                threads = rw (unseen, held, run_queue) refl;
+                offered = rw (unseen, held, offer_queue) refl;
                 deadlines = rw unseen refl;
                 kind = rw held (sym running);
                 offer = λ e. absurd (let w : false ≡ true = e in cc);
@@ -159,45 +157,49 @@ module _ {J S : Type 0} (b : Behavior J) (st : S → List (LocalAction J) → Ty
         }
 
   -- as many are open as may be
-  pub stands-turned : (book1 book2 book3 : Book) → Gave book book1 (event.Arrive c) → b.connections ≤ h.connections
-      → book2.history ≡ told (entry.Turned c ∷ []) book1.history → book3.history ≡ told (entry.Close (id.Conn c) ∷ []) book2.history → book3.offered ≡ book1.offered
-      → SameBook c book1 book3 → book3.is_open (id.Conn c) ≡ false → book3.arrivals ≡ book1.arrivals → ((n : ℕ) → book3.is_open (id.Sock n) ≡ book1.is_open (id.Sock n))
+  pub stands-turned : (book1 book2 book3 : Book) (back : Option Entry) → Gave book book1 (event.Arrive c) → b.connections ≤ h.connections
+      → Notes (entry.Turned c) back book1 book2 → HangsUp (id.Conn c) book2 book3
       → Standing b st h book3 (TurnedAway c ∷ ms)
-  stands-turned book1 book2 book3 gave full noted closed offers same shut arrivals socks =
-      let other_open = λ (t : ℕ) (ne : (t == c) ≡ false). same.is_open t ne ∙ gave.is_open (id.Conn t) ∙ ap (λ v. if v then true else book.is_open (id.Conn t)) ne in
+  stands-turned book1 book2 book3 back gave full noted hung =
+      let same : SameBook c book book3 = same-joins (same-joins (same-arrived c gave) (same-turned c noted)) (same-hung c hung) in
+      let arrivals : book3.arrivals ≡ book1.arrivals = hung.numbers.arrivals ∙ noted.numbers.arrivals in
       record {
         each = λ t live. by_test (t == c)
             (λ e. absurd (let w : false ≡ true = sym (ap lives unseen) ∙ subst (λ (i : ℕ). lives (projection (strand.Conn i) ms) ≡ true) (eqb-true t c e) live in cc))
-            (λ ne. rw (
-              other_open t ne,
-              (same.has_ended t ne ∙ gave.has_ended (id.Conn t) ∙ ap (λ v. if v then false else book.has_ended (id.Conn t)) ne),
-              (same.id_place t ne ∙ gave.id_place (id.Conn t) ∙ ap (λ v. if v then true else book.id_place (id.Conn t)) ne),
-              (same.strand_place t ne ∙ gave.strand_place (strand.Conn t) ∙ ap (λ v. if v then true else book.strand_place (strand.Conn t)) ne),
-            ) (g.each t live));
+            (λ ne. fit-same refl refl refl refl refl refl refl (same.is_open t ne) (same.has_ended t ne) (g.each t live));
         dead = g.dead;
         closed = λ t gone. by_test (t == c)
-            (λ e. subst (λ (i : ℕ). book3.is_open (id.Conn i) ≡ false) (sym (eqb-true t c e)) shut)
-            (λ ne. other_open t ne ∙ g.closed t gone);
+            (λ e. subst (λ (i : ℕ). book3.is_open (id.Conn i) ≡ false) (sym (eqb-true t c e)) (hung-closed c hung))
+            (λ ne. same.is_open t ne ∙ g.closed t gone);
         shut = g.shut;
+        aside = aside-all c book3 ms (λ s ne. same.strand_aside s ne ∙ g.aside s) (hung.strand_aside (strand.Conn c) ∙ noted.strand_aside (strand.Conn c) ∙ ap (λ v. if v then false else book1.strand_aside (strand.Conn c)) (same-true c) ∙ sym (ap lives unseen));
         flip_to_runs = λ run on. absurd (let w : false ≡ true = on in cc);
-        flip_to_offers = λ offer off. queue;
+        flip_to_offers = λ offer off. run_queue;
         common = record {
           alone = g.common.alone;
           begins = g.common.begins;
-          given = (g.common.given, λ e. at-rest b st ms h book g queue places ending);
-          kept = (g.common.kept, λ e. none-holds b st ms h book g queue places ending keeps);
+          given = (g.common.given, λ e. at-rest b st ms h book g run_queue offer_queue ending);
+          kept = (g.common.kept, λ e. none-holds b st ms h book g run_queue offer_queue ending keeps);
           plain = (g.common.plain, rw g.common.count full);
           runs = g.common.runs;
           offered = g.common.offered;
           turns = g.common.turns;
           told = tells-more book2.history book3.history (entry.Close (id.Conn c) ∷ []) (entry.Turned c ∷ entry.Given (event.Arrive c) ∷ external b ms)
               (tells-more book1.history book2.history (entry.Turned c ∷ []) (entry.Given (event.Arrive c) ∷ external b ms)
-              (tells-more book.history book1.history (entry.Given (event.Arrive c) ∷ []) (external b ms) g.common.told gave.history) noted) closed;
-          offers_told = tells-same book.offered book3.offered (offered_lengths b ms) g.common.offers_told (offers ∙ gave.offered);
+              (tells-more book.history book1.history (entry.Given (event.Arrive c) ∷ []) (external b ms) g.common.told gave.history) noted.history) hung.history;
+          offers_told = tells-same book.offered book3.offered (offered_lengths b ms) g.common.offers_told (hung.offered ∙ noted.offered ∙ gave.offered);
           unborn = λ t past. g.common.unborn t (let after : book3.arrivals < t = past in omega (arith, new, arrivals, gave.arrivals));
           jobless = g.common.jobless;
-          no_socket = λ n. socks n ∙ gave.is_open (id.Sock n) ∙ g.common.no_socket n;
+          no_socket = λ n. same.sockets n ∙ g.common.no_socket n;
+          asides = same.asides g.common.asides;
           count = g.common.count;
           present = g.common.present;
         };
       }
+
+  -- and nothing of the connection is kept
+  pub stands-turned-away : (book1 book2 book3 book4 : Book) (back : Option Entry) → Gave book book1 (event.Arrive c) → b.connections ≤ h.connections
+      → Notes (entry.Turned c) back book1 book2 → HangsUp (id.Conn c) book2 book3 → Forgets (strand.Conn c) book3 book4
+      → Standing b st h book4 (TurnedAway c ∷ ms)
+  stands-turned-away book1 book2 book3 book4 back gave full noted hung forgot =
+      standing-forgets b st c h book3 book4 (TurnedAway c ∷ ms) (stands-turned book1 book2 book3 back gave full noted hung) (ap lives unseen) forgot

@@ -18,5 +18,6 @@ fresh-right b book fresh = record {
   };
   kept = (tt, λ s on. absurd (let e : false ≡ true = on in cc));
   plain = tt;
+  aside = fresh.none_aside;
   ordered = record { runs = none; offered = none; turns = tt };
 }

@@ -24,35 +24,37 @@ use Rattle.strand_contract.specs.Order.{only, run_of, offer_of, all_run, all_off
 use Rattle.engine.specs.declared.engine.Seat.{Seat}
 use Rattle.engine.specs.Engine.{shown}
 use Rattle.engine.specs.Right.{Tells, IsFresh, IsRight}
-use Rattle.engine.specs.Standing.{Held, is_to_end, Fit, Turn, Standing}
+use Rattle.engine.specs.Standing.{Held, is_to_end, Share, share_of, Said, said_of, Fit, HasAsides, Turn, Standing}
 use Rattle.engine.proofs.Lists.{by_test, clash, same-true, tells-more, tells-same, sub-same}
-use Rattle.engine.proofs.Marks.{SameBook, MayCome}
+use Rattle.engine.proofs.Marks.{SameBook, gave-asides, MayCome}
 use Rattle.engine.proofs.Turns.{seat-lives, seat-fits, around-leave, turn-next, no-job}
 
 -- where nothing has happened, and no strand has a seat
 pub fresh-stands : {J S : Type 0} (b : Behavior J) (st : S → List (LocalAction J) → Type 0) (h : Held S) (book : Book) → IsFresh book → ((s : StrandId) → h.seats s ≡ None)
-    → h.queue ≡ [] → h.places ≡ [] → h.now ≡ 0 → h.connections ≡ 0 → Standing b st h book []
-fresh-stands b st h book fresh seats queue places now count = record {
+    → h.run_queue ≡ [] → h.offer_queue ≡ [] → h.now ≡ 0 → h.connections ≡ 0 → Standing b st h book []
+fresh-stands b st h book fresh seats run_queue offer_queue now count = record {
   each = λ t live. absurd (let e : false ≡ true = live in cc);
   dead = λ t gone. seats (strand.Conn t);
   closed = λ t gone. fresh.none_open (id.Conn t);
   shut = λ t gone q. refl;
+  aside = λ s. fresh.none_aside s;
   flip_to_runs = λ run on. absurd (let e : false ≡ true = on in cc);
-  flip_to_offers = λ offer off. queue;
+  flip_to_offers = λ offer off. run_queue;
   common = record {
     alone = λ s. tt;
     begins = tt;
     given = tt;
     kept = tt;
     plain = tt;
-    runs = rw queue (sub-same []);
-    offered = rw places (sub-same []);
+    runs = rw run_queue (sub-same []);
+    offered = rw offer_queue (sub-same []);
     turns = tt;
     told = fresh.history;
     offers_told = fresh.offered;
     unborn = λ t past. refl;
     jobless = λ n. refl;
     no_socket = λ n. fresh.none_open (id.Sock n);
+    asides = λ x on. clash on (fresh.none_open x);
     count = sym count;
     present = sym now;
   };
@@ -72,13 +74,13 @@ shown-open (event.Broken j) i given book book' gave is = subst (λ (k : Id). boo
 shown-open (event.Ready j) i given book book' gave is = subst (λ (k : Id). book.is_open k ≡ true) (first-same (j, seen.Ready place.Client) (i, given) is) gave.fit
 shown-open e i given book book' gave is = absurd (let w : None ≡ Some (i, given) = is in cc)
 
-module _ {J S : Type 0} (b : Behavior J) (st : S → List (LocalAction J) → Type 0) (ms : List (GlobalAction J)) (h : Held S) (book : Book) (g : Standing b st h book ms) (queue : h.queue ≡ []) (places : h.places ≡ []) (ending : h.ending ≡ stop.Over) where
+module _ {J S : Type 0} (b : Behavior J) (st : S → List (LocalAction J) → Type 0) (ms : List (GlobalAction J)) (h : Held S) (book : Book) (g : Standing b st h book ms) (run_queue : h.run_queue ≡ []) (offer_queue : h.offer_queue ≡ []) (ending : h.ending ≡ stop.Over) where
   pub at-rest : AllQuiescent b ms
   at-rest (strand.Conn t) = record {
     idle = λ live. let f = g.each t live in record {
       no_act = f.no_act;
-      no_thread = f.threads ∙ ap (only (strand.Conn t)) queue;
-      no_place = f.offered ∙ ap (only (strand.Conn t)) places;
+      no_thread = f.threads ∙ ap (only (strand.Conn t)) run_queue;
+      no_place = f.offered ∙ ap (only (strand.Conn t)) offer_queue;
       no_offer = f.no_offer;
       no_deadline = rw f.no_deadline refl;
       no_stop = f.stopping ∙ ap (λ o. is_to_end o t) ending;
@@ -100,9 +102,10 @@ module _ {J S : Type 0} (b : Behavior J) (st : S → List (LocalAction J) → Ty
       lawful = record { alone = g.common.alone; begins = g.common.begins; given = g.common.given; rests = at-rest };
       kept = (g.common.kept, none-holds);
       plain = g.common.plain;
+      aside = g.aside;
       ordered = record {
-        runs = rw (queue, append-nil) at g.common.runs;
-        offered = rw (places, append-nil) at g.common.offered;
+        runs = rw (run_queue, append-nil) at g.common.runs;
+        offered = rw (offer_queue, append-nil) at g.common.offered;
         turns = g.common.turns;
       };
     }
@@ -116,7 +119,7 @@ module _ {J S : Type 0} (b : Behavior J) (st : S → List (LocalAction J) → Ty
     module _ (asks : (es : List (LocalAction J)) → IsLastAct (b.acts es)) (c : ℕ) (x : Seat S) (h' : Held S) (book' : Book)
         (here : h.seats (strand.Conn c) ≡ Some x) (running : h.in_offers ≡ false)
         (seats : (t : StrandId) → h'.seats t ≡ (if same_strand t (strand.Conn c) then None else h.seats t))
-        (queues : h'.queue ≡ h.queue) (lists : h'.places ≡ h.places) (phase : h'.in_offers ≡ h.in_offers) (now : h'.now ≡ h.now) (count : h'.connections ≡ h.connections) (ends : h'.ending ≡ h.ending) where
+        (runs_same : h'.run_queue ≡ h.run_queue) (offers_same : h'.offer_queue ≡ h.offer_queue) (phase : h'.in_offers ≡ h.in_offers) (now : h'.now ≡ h.now) (count : h'.connections ≡ h.connections) (ends : h'.ending ≡ h.ending) where
       turn-event : (given : Seen)
           → MayCome b c (action_of b (projection (strand.Conn c) ms) given) ms h'.connections
           → lives (Did (action_of b (projection (strand.Conn c) ms) given) ∷ projection (strand.Conn c) ms) ≡ lives (projection (strand.Conn c) ms)
@@ -132,7 +135,7 @@ module _ {J S : Type 0} (b : Behavior J) (st : S → List (LocalAction J) → Ty
           → is_stopping (Did (action_of b (projection (strand.Conn c) ms) given) ∷ projection (strand.Conn c) ms) ≡ is_stopping (projection (strand.Conn c) ms)
           → has_ended place.Client (Did (action_of b (projection (strand.Conn c) ms) given) ∷ projection (strand.Conn c) ms) ≡ book'.has_ended (id.Conn c)
           → offers_last (Of (strand.Conn c) (action_of b (projection (strand.Conn c) ms) given) None ∷ ms) ≡ false
-          → ((y : Id) → book'.is_open y ≡ book.is_open y) → ((y : Id) → book'.id_place y ≡ book.id_place y) → ((s : StrandId) → book'.strand_place s ≡ book.strand_place s)
+          → ((y : Id) → book'.is_open y ≡ book.is_open y) → (HasAsides book → HasAsides book') → ((s : StrandId) → book'.strand_aside s ≡ book.strand_aside s)
           → ((t : ℕ) → (t == c) ≡ false → book'.has_ended (id.Conn t) ≡ book.has_ended (id.Conn t))
           → book'.arrivals ≡ book.arrivals
           → Tells book'.history (external b (Of (strand.Conn c) (action_of b (projection (strand.Conn c) ms) given) None ∷ ms))
@@ -143,17 +146,17 @@ module _ {J S : Type 0} (b : Behavior J) (st : S → List (LocalAction J) → Ty
           let mine = g.each c alive in
           let fits = seat-fits b st c ms h book x g here in
           let out : h'.seats (strand.Conn c) ≡ None = seats (strand.Conn c) ∙ ap (λ v. if v then None else h.seats (strand.Conn c)) (same-true c) in
-          let a = around-leave b st c ms h h' h.queue h.places book x g here seats (λ t ne. ap (only (strand.Conn t)) queues) (λ t ne. ap (only (strand.Conn t)) lists) phase now count (λ t ne living. ap (λ o. is_to_end o t) ends) g.common.runs g.common.offered in
-          turn-next b st c ms asks given x.strand false x.is_open x.is_open h' h' h.queue h.places book book' a fits.0 (mine.moment ∙ sym now)
-          (record { seats = λ t ne. refl; queue = λ t ne. refl; places = λ t ne. refl; in_offers = refl; now = refl; ends = λ t ne. refl })
-          (record { is_open = λ t ne. ids (id.Conn t); has_ended = ended; id_place = λ t ne. aside (id.Conn t); strand_place = λ t ne. own_aside (strand.Conn t) }) out may
-          (live ∙ alive) (ids (id.Conn c) ∙ sym fits.1) (opens place.Client ∙ mine.client ∙ sym fits.1) (λ k. opens (place.Sock k) ∙ mine.no_socket k) (λ on. aside (id.Conn c) ∙ mine.id_aside (sym fits.1 ∙ on)) (own_aside (strand.Conn c) ∙ mine.strand_aside) arrivals (λ n. ids (id.Sock n)) told offers_told
-          (rw (no_run, queues, append-nil) g.common.runs) (rw (no_offer, lists, append-nil) g.common.offered)
+          let a = around-leave b st c ms h h' h.run_queue h.offer_queue book x g here seats (λ t ne. ap (only (strand.Conn t)) runs_same) (λ t ne. ap (only (strand.Conn t)) offers_same) phase now count (λ t ne living. ap (λ o. is_to_end o t) ends) g.common.runs g.common.offered in
+          turn-next b st c ms asks given x.strand false x.is_open x.is_open h' h' h.run_queue h.offer_queue book book' a fits.0 (mine.moment ∙ sym now)
+          (record { seats = λ t ne. refl; run_queue = λ t ne. refl; offer_queue = λ t ne. refl; in_offers = refl; now = refl; ends = λ t ne. refl })
+          (record { is_open = λ t ne. ids (id.Conn t); has_ended = ended; strand_aside = λ s ne. own_aside s; sockets = λ n. ids (id.Sock n); asides = aside }) out may
+          (live ∙ alive) (ids (id.Conn c) ∙ sym fits.1) (opens place.Client ∙ mine.client ∙ sym fits.1) (λ k. opens (place.Sock k) ∙ mine.no_socket k) (own_aside (strand.Conn c) ∙ g.aside (strand.Conn c) ∙ alive) arrivals told offers_told
+          (rw (no_run, runs_same, append-nil) g.common.runs) (rw (no_offer, offers_same, append-nil) g.common.offered)
           (record {
             done = mine.no_act;
             no_use = no_use;
-            line = line ∙ mine.threads ∙ sym (ap (only (strand.Conn c)) queues);
-            list = list ∙ mine.offered ∙ sym (ap (only (strand.Conn c)) lists);
+            threads = line ∙ mine.threads ∙ sym (ap (only (strand.Conn c)) runs_same);
+            offered = list ∙ mine.offered ∙ sym (ap (only (strand.Conn c)) offers_same);
             deadlines = mine.no_deadline;
             kind = kind ∙ sym (phase ∙ running);
             offer = rw offer (λ e. absurd (let w : false ≡ true = e in cc));
@@ -183,7 +186,7 @@ module _ {J S : Type 0} (b : Behavior J) (st : S → List (LocalAction J) → Ty
             turns = g.common.turns;
             counts = g.common.count ∙ sym count;
           }) refl (λ q. refl) refl refl refl refl refl refl refl refl refl
-          (mine.no_more ∙ sym (gave.has_ended (id.Conn c))) refl gave.is_open gave.id_place gave.strand_place (λ t ne. gave.has_ended (id.Conn t)) (omega (arith, gave.arrivals))
+          (mine.no_more ∙ sym (gave.has_ended (id.Conn c))) refl gave.is_open (gave-asides (event.Bytes (id.Conn c) bytes) gave) gave.strand_aside (λ t ne. gave.has_ended (id.Conn t)) (omega (arith, gave.arrivals))
           (tells-more book.history book'.history (entry.Given (event.Bytes (id.Conn c) bytes) ∷ []) (external b ms) g.common.told gave.history)
           (tells-same book.offered book'.offered (offered_lengths b ms) g.common.offers_told gave.offered)
 
@@ -199,7 +202,7 @@ module _ {J S : Type 0} (b : Behavior J) (st : S → List (LocalAction J) → Ty
             turns = g.common.turns;
             counts = g.common.count ∙ sym count;
           }) refl (λ q. refl) refl refl refl refl refl refl refl refl refl
-          (sym (gave.has_ended (id.Conn c) ∙ ap (λ v. if v then true else book.has_ended (id.Conn c)) (same-true c))) refl gave.is_open gave.id_place gave.strand_place
+          (sym (gave.has_ended (id.Conn c) ∙ ap (λ v. if v then true else book.has_ended (id.Conn c)) (same-true c))) refl gave.is_open (gave-asides (event.Ended (id.Conn c)) gave) gave.strand_aside
           (λ t ne. gave.has_ended (id.Conn t) ∙ ap (λ v. if v then true else book.has_ended (id.Conn t)) ne) (omega (arith, gave.arrivals))
           (tells-more book.history book'.history (entry.Given (event.Ended (id.Conn c)) ∷ []) (external b ms) g.common.told gave.history)
           (tells-same book.offered book'.offered (offered_lengths b ms) g.common.offers_told gave.offered)
@@ -216,7 +219,7 @@ module _ {J S : Type 0} (b : Behavior J) (st : S → List (LocalAction J) → Ty
             turns = g.common.turns;
             counts = g.common.count ∙ sym count;
           }) refl (λ q. refl) refl refl refl refl refl refl refl refl refl
-          (sym (gave.has_ended (id.Conn c) ∙ ap (λ v. if v then true else book.has_ended (id.Conn c)) (same-true c))) refl gave.is_open gave.id_place gave.strand_place
+          (sym (gave.has_ended (id.Conn c) ∙ ap (λ v. if v then true else book.has_ended (id.Conn c)) (same-true c))) refl gave.is_open (gave-asides (event.Broken (id.Conn c)) gave) gave.strand_aside
           (λ t ne. gave.has_ended (id.Conn t) ∙ ap (λ v. if v then true else book.has_ended (id.Conn t)) ne) (omega (arith, gave.arrivals))
           (tells-more book.history book'.history (entry.Given (event.Broken (id.Conn c)) ∷ []) (external b ms) g.common.told gave.history)
           (tells-same book.offered book'.offered (offered_lengths b ms) g.common.offers_told gave.offered)
@@ -234,7 +237,7 @@ module _ {J S : Type 0} (b : Behavior J) (st : S → List (LocalAction J) → Ty
             turns = g.common.turns;
             counts = g.common.count ∙ sym count;
           }) refl (λ q. refl) refl refl refl refl refl refl refl refl refl
-          ((g.each c alive).no_more ∙ sym (gave.has_ended (id.Conn c))) refl gave.is_open gave.id_place gave.strand_place (λ t ne. gave.has_ended (id.Conn t)) (omega (arith, gave.arrivals))
+          ((g.each c alive).no_more ∙ sym (gave.has_ended (id.Conn c))) refl gave.is_open (gave-asides (event.Ready (id.Conn c)) gave) gave.strand_aside (λ t ne. gave.has_ended (id.Conn t)) (omega (arith, gave.arrivals))
           (tells-more book.history book'.history (entry.Given (event.Ready (id.Conn c)) ∷ []) (external b ms) g.common.told gave.history)
           (tells-same book.offered book'.offered (offered_lengths b ms) g.common.offers_told gave.offered)
 

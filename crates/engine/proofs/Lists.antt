@@ -1,4 +1,4 @@
--- Tests of names, and lists with some left out.
+-- Tests of names, and offers_same with some left out.
 use Rattle.std.proofs.Common.{◌≡◌, ℕ, Bool, true, false, ◌==◌, List, [], ◌∷◌, ◌++◌, Option, Some, None, if◌then◌else◌, refl, ap, sym, ◌∙◌, append-nil, append_assoc}
 use Rattle.std.proofs.lemmas.Bool.{eq-eqb}
 use Rattle.resty_base.specs.declared.names.StrandId.{StrandId}

@@ -14,26 +14,30 @@ use Rattle.strand_contract.specs.Behaviors.{Behavior}
 use Rattle.strand_contract.specs.Alone.{lives, is_open, waiting, to_offer, armed, offering, going_on, begun_offer, in_offers}
 use Rattle.strand_contract.specs.Executions.{projection}
 use Rattle.strand_contract.specs.Order.{IsSubsequence, only, all_run, all_readied, all_offered, all_placed, offers_last}
+use Rattle.engine.specs.declared.engine.Engine.{Engine}
 use Rattle.engine.specs.declared.engine.Seat.{Seat}
-use Rattle.engine.specs.Standing.{Held, is_to_end, Fit, Common, Around, Near, Busy, Standing, Falls, IsOffer}
+use Rattle.engine.specs.Engine.{view_of, IsBusy, IsDone}
+use Rattle.engine.specs.Standing.{Held, is_to_end, Share, share_of, Said, said_of, Fit, Common, Around, Near, Busy, Standing, Falls, IsOffer}
 use Rattle.engine.proofs.Lists.{by_test, clash, same-true, strand-true}
 use Rattle.engine.proofs.Marks.{fit-same}
+use Rattle.engine.proofs.Acts.{aside-all}
 
 module _ {J S : Type 0} (b : Behavior J) (st : S → List (LocalAction J) → Type 0) (c : ℕ) where
   -- the turn is over, and nothing is under way
   pub busy-done : (x : Seat S) (go : Bool) (h h' : Held S) (book : Book) (ms : List (GlobalAction J))
       → Busy b st c x.strand [] go x.is_open h book ms → offering b (projection (strand.Conn c) ms) ≡ None
       → ((s : StrandId) → h'.seats s ≡ (if same_strand s (strand.Conn c) then Some x else h.seats s))
-      → h'.queue ≡ h.queue → h'.places ≡ h.places → h'.in_offers ≡ h.in_offers → h'.now ≡ h.now → h'.connections ≡ h.connections → h'.ending ≡ h.ending
+      → h'.run_queue ≡ h.run_queue → h'.offer_queue ≡ h.offer_queue → h'.in_offers ≡ h.in_offers → h'.now ≡ h.now → h'.connections ≡ h.connections → h'.ending ≡ h.ending
       → Standing b st h' book ms
-  busy-done x go h h' book ms y still seats queue places phase now count ends =
+  busy-done x go h h' book ms y still seats run_queue offer_queue phase now count ends =
       let here : h'.seats (strand.Conn c) ≡ Some x = seats (strand.Conn c) ∙ ap (λ v. if v then Some x else h.seats (strand.Conn c)) (same-true c) in
       let other = λ (t : ℕ) (ne : (t == c) ≡ false). seats (strand.Conn t) ∙ ap (λ v. if v then Some x else h.seats (strand.Conn t)) ne in
       let n = y.near in
       let a = n.around in
       let es : List (LocalAction J) = projection (strand.Conn c) ms in
-      let mine : Fit b st h.in_offers h.now (is_to_end h.ending c) es (h'.seats (strand.Conn c)) (only (strand.Conn c) h.queue) (only (strand.Conn c) h.places) (book.is_open (id.Conn c)) (book.has_ended (id.Conn c)) (book.id_place (id.Conn c)) (book.strand_place (strand.Conn c)) = record {
-        held = (x, here, y.stands, sym a.line_open);
+      let g : Held S = record h { seats = h'.seats } in
+      let mine : Fit b st (share_of c g) (said_of c book) es = record {
+        held = (x, here, y.stands, sym a.connection);
         no_act = n.to_do;
         threads = sym n.threads;
         offered = sym n.offered ∙ append-nil _;
@@ -44,15 +48,13 @@ module _ {J S : Type 0} (b : Behavior J) (st : S → List (LocalAction J) → Ty
         no_deadline = sym n.deadlines;
         no_socket = a.no_socket;
         stopping = n.stopping ∙ sym n.not_to_end;
-        client = a.client ∙ sym a.line_open;
+        client = a.client ∙ sym a.connection;
         no_more = n.no_more;
-        id_aside = λ on. a.id_aside (sym a.line_open ∙ on);
-        strand_aside = a.strand_aside refl;
       } in
       record {
-        each = λ t live. rw (queue, places, phase, now, ends) (by_test (t == c)
-            (λ e. subst (λ (i : ℕ). Fit b st h.in_offers h.now (is_to_end h.ending i) (projection (strand.Conn i) ms) (h'.seats (strand.Conn i)) (only (strand.Conn i) h.queue) (only (strand.Conn i) h.places) (book.is_open (id.Conn i)) (book.has_ended (id.Conn i)) (book.id_place (id.Conn i)) (book.strand_place (strand.Conn i))) (sym (eqb-true t c e)) mine)
-            (λ ne. fit-same refl refl refl refl (other t ne) refl refl refl refl refl refl (a.each t ne live)));
+        each = λ t live. rw (run_queue, offer_queue, phase, now, ends) (by_test (t == c)
+            (λ e. subst (λ (i : ℕ). Fit b st (share_of i g) (said_of i book) (projection (strand.Conn i) ms)) (sym (eqb-true t c e)) mine)
+            (λ ne. fit-same refl refl refl refl (other t ne) refl refl refl refl (a.each t ne live)));
         dead = λ t gone. by_test (t == c)
             (λ e. clash a.alive (subst (λ (i : ℕ). lives (projection (strand.Conn i) ms) ≡ false) (eqb-true t c e) gone))
             (λ ne. other t ne ∙ a.dead t ne gone);
@@ -62,6 +64,7 @@ module _ {J S : Type 0} (b : Behavior J) (st : S → List (LocalAction J) → Ty
         shut = λ t gone q. by_test (t == c)
             (λ e. clash a.alive (subst (λ (i : ℕ). lives (projection (strand.Conn i) ms) ≡ false) (eqb-true t c e) gone))
             (λ ne. a.shut t ne gone q);
+        aside = aside-all c book ms a.aside (a.own_aside ∙ sym a.alive);
         flip_to_runs = λ run on. clash on (n.last ∙ sym phase ∙ run);
         flip_to_offers = λ offer off. clash (n.last ∙ sym phase ∙ offer) off;
         common = record {
@@ -70,14 +73,15 @@ module _ {J S : Type 0} (b : Behavior J) (st : S → List (LocalAction J) → Ty
           given = a.common.given;
           kept = a.common.kept;
           plain = a.common.plain;
-          runs = rw queue (rw append-nil at a.common.runs);
-          offered = rw places (rw append-nil at a.common.offered);
+          runs = rw run_queue (rw append-nil at a.common.runs);
+          offered = rw offer_queue (rw append-nil at a.common.offered);
           turns = a.common.turns;
           told = a.common.told;
           offers_told = a.common.offers_told;
           unborn = a.common.unborn;
           jobless = a.common.jobless;
           no_socket = a.common.no_socket;
+          asides = a.common.asides;
           count = a.common.count ∙ sym count;
           present = a.common.present ∙ sym now;
         };
@@ -86,23 +90,23 @@ module _ {J S : Type 0} (b : Behavior J) (st : S → List (LocalAction J) → Ty
   -- the seats stay as they are
   pub falls-seats : (o : Bool) (h h' : Held S) (book : Book) (ms : List (GlobalAction J))
       → Falls b st c o h book ms → ((s : StrandId) → h'.seats s ≡ h.seats s)
-      → h'.queue ≡ h.queue → h'.places ≡ h.places → h'.in_offers ≡ h.in_offers → h'.now ≡ h.now → h'.connections ≡ h.connections → h'.ending ≡ h.ending
+      → h'.run_queue ≡ h.run_queue → h'.offer_queue ≡ h.offer_queue → h'.in_offers ≡ h.in_offers → h'.now ≡ h.now → h'.connections ≡ h.connections → h'.ending ≡ h.ending
       → Falls b st c o h' book ms
-  falls-seats o h h' book ms f seats queue places phase now count ends = record {
+  falls-seats o h h' book ms f seats run_queue offer_queue phase now count ends = record {
     around = record {
-      each = λ t ne live. rw (queue, places, phase, now, ends) (fit-same refl refl refl refl (seats (strand.Conn t)) refl refl refl refl refl refl (f.around.each t ne live));
+      each = λ t ne live. rw (run_queue, offer_queue, phase, now, ends) (fit-same refl refl refl refl (seats (strand.Conn t)) refl refl refl refl (f.around.each t ne live));
       dead = λ t ne gone. seats (strand.Conn t) ∙ f.around.dead t ne gone;
       closed = f.around.closed;
       shut = f.around.shut;
+      aside = f.around.aside;
       out = seats (strand.Conn c) ∙ f.around.out;
       arrived = f.around.arrived;
       alive = f.around.alive;
-      line_open = f.around.line_open;
+      connection = f.around.connection;
       client = f.around.client;
       no_socket = f.around.no_socket;
-      id_aside = f.around.id_aside;
-      strand_aside = f.around.strand_aside;
-      common = rw (queue, places, now, count) f.around.common;
+      own_aside = f.around.own_aside;
+      common = rw (run_queue, offer_queue, now, count) f.around.common;
     };
     last = f.last ∙ sym phase;
     touched = f.touched;
@@ -117,8 +121,12 @@ module _ {J S : Type 0} (b : Behavior J) (st : S → List (LocalAction J) → Ty
       closes (Some place.Client) k = absurd (let e : false ≡ true = k in cc)
       closes (Some (place.Sock j)) k = absurd k
 
--- no place is in line: threads run
-pub to-runs : {J S : Type 0} (b : Behavior J) (st : S → List (LocalAction J) → Type 0) (h h' : Held S) (book : Book) (ms : List (GlobalAction J)) → Standing b st h book ms → h.places ≡ [] → h' ≡ record h { in_offers = false } → Standing b st h' book ms
+-- a turn in which no offer goes on is over
+pub done-of : {J S : Type 0} (b : Behavior J) (st : S → List (LocalAction J) → Type 0) (c : ℕ) (seat : Seat S) (e : Engine S) (book : Book) → IsBusy b st c seat [] false e book → IsDone b st c seat e book
+done-of b st c seat e book y = (false, y.0, y.1, no-offer b st c seat.is_open (projection (strand.Conn c) y.0) y.1.near.offer)
+
+-- no place is in the queue: threads run
+pub to-runs : {J S : Type 0} (b : Behavior J) (st : S → List (LocalAction J) → Type 0) (h h' : Held S) (book : Book) (ms : List (GlobalAction J)) → Standing b st h book ms → h.offer_queue ≡ [] → h' ≡ record h { in_offers = false } → Standing b st h' book ms
 to-runs b st h h' book ms g nil held = rw held (record {
   each = λ t live. let f = g.each t live in record {
     held = f.held;
@@ -134,19 +142,18 @@ to-runs b st h h' book ms g nil held = rw held (record {
     stopping = f.stopping;
     client = f.client;
     no_more = f.no_more;
-    id_aside = f.id_aside;
-    strand_aside = f.strand_aside;
   };
   dead = g.dead;
   closed = g.closed;
   shut = g.shut;
+  aside = g.aside;
   flip_to_runs = λ run on. nil;
   flip_to_offers = λ offer off. absurd (let e : false ≡ true = offer in cc);
   common = g.common;
 })
 
--- no thread is in line: places are offered
-pub to-offers : {J S : Type 0} (b : Behavior J) (st : S → List (LocalAction J) → Type 0) (h h' : Held S) (book : Book) (ms : List (GlobalAction J)) → Standing b st h book ms → h.queue ≡ [] → h' ≡ record h { in_offers = true } → Standing b st h' book ms
+-- no thread is in the queue: places are offered
+pub to-offers : {J S : Type 0} (b : Behavior J) (st : S → List (LocalAction J) → Type 0) (h h' : Held S) (book : Book) (ms : List (GlobalAction J)) → Standing b st h book ms → h.run_queue ≡ [] → h' ≡ record h { in_offers = true } → Standing b st h' book ms
 to-offers b st h h' book ms g nil held = rw held (record {
   each = λ t live. let f = g.each t live in record {
     held = f.held;
@@ -162,12 +169,11 @@ to-offers b st h h' book ms g nil held = rw held (record {
     stopping = f.stopping;
     client = f.client;
     no_more = f.no_more;
-    id_aside = f.id_aside;
-    strand_aside = f.strand_aside;
   };
   dead = g.dead;
   closed = g.closed;
   shut = g.shut;
+  aside = g.aside;
   flip_to_runs = λ run on. absurd (let e : true ≡ false = run in cc);
   flip_to_offers = λ offer off. nil;
   common = g.common;

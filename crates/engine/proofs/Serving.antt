@@ -2,24 +2,26 @@
 use Rattle.std.proofs.Common.{◌≡◌, ◌⊎◌, ℕ, ◌+◌, Bool, true, false, List, [], ◌∷◌, ◌++◌, length, Option, Some, None, IfSome, if◌then◌else◌, refl, sym, ap, subst, ◌∙◌, inl, inr, arith}
 use Rattle.std.specs.Option.{option_map}
 use Rattle.resty_base.specs.Counting.{Rose, RoseWhere}
+use Rattle.resty_base.specs.declared.names.StrandId.{StrandId}
 use Rattle.resty_world.specs.declared.entry.Entry.{Entry}
 use Rattle.resty_world.specs.declared.entry.Entry.TheVariants as entry
 use Rattle.resty_world.specs.declared.event.Event.{Event}
 use Rattle.resty_world.specs.declared.event.Event.TheVariants as event
 use Rattle.resty_world.specs.Book.{Book, told}
-use Rattle.resty_world.specs.Given.{is_event, is_fault, given_entry, Gave}
+use Rattle.resty_world.specs.Given.{is_event, is_fault, given_entry, arrives_strand, Gave}
 use Rattle.strand_contract.specs.Actions.{LocalAction}
 use Rattle.strand_contract.specs.Behaviors.{Behavior}
 use Rattle.strand_contract.specs.Alone.{lives, IsExecution, HasNoWork, KeepsNothingBack}
 use Rattle.strand_contract.specs.Executions.{external, offered_lengths}
 use Rattle.engine.specs.declared.engine.Engine.{Engine}
-use Rattle.engine.specs.Engine.{is_stop, Rests, Logs, Goes}
+use Rattle.engine.specs.Stepping.{is_stop}
+use Rattle.engine.specs.Engine.{Rests}
 use Rattle.engine.specs.Right.{IsRight, IsFresh, Tells, events_of, IsStopped, HasNoStop, IsSpent, HasFailedLog, IsFaulted}
 use Rattle.engine.proofs.Lists.{tells-same, told-nothing}
 use Rattle.engine.proofs.Events.{rests-right}
 
-pub right-same : {J : Type 0} (b : Behavior J) (old new : Book) → IsRight b old → new.history ≡ old.history → new.offered ≡ old.offered → IsRight b new
-right-same b old new r history offers = record {
+pub right-same : {J : Type 0} (b : Behavior J) (old new : Book) → IsRight b old → new.history ≡ old.history → new.offered ≡ old.offered → ((s : StrandId) → new.strand_aside s ≡ old.strand_aside s) → IsRight b new
+right-same b old new r history offers asides = record {
   execution = r.execution;
   history = tells-same old.history new.history (external b r.execution) r.history history;
   offered = tells-same old.offered new.offered (offered_lengths b r.execution) r.offered offers;
@@ -27,16 +29,22 @@ right-same b old new r history offers = record {
   kept = r.kept;
   plain = r.plain;
   ordered = r.ordered;
+  aside = λ s. asides s ∙ r.aside s;
 }
 
 pub engine-right : {J S : Type 0} (b : Behavior J) (st : S → List (LocalAction J) → Type 0) (e : Engine S) (book : Book)
     → ((es : List (LocalAction J)) → IsExecution b es → lives es ≡ true → HasNoWork b es → KeepsNothingBack b es) → Rests b st e book → IsRight b book
-engine-right b st e book keeps r = rests-right b st r.0 _ book r.1 r.2 r.3 r.5 keeps
+engine-right b st e book keeps r = rests-right b st r.0 _ book r.1 r.2.0 r.2.1 r.2.3 keeps
+
+-- what is no event isn't an arrival
+not-arrived : (e : Event) (s : StrandId) → is_event e ≡ false → arrives_strand e s ≡ false
+not-arrived (event.Arrive c) s h = absurd (let w : true ≡ false = h in cc)
+not-arrived e s h = refl
 
 -- what wasn't given isn't told
 pub right-still : {J S : Type 0} (b : Behavior J) (st : S → List (LocalAction J) → Type 0) (e : Engine S) (old new : Book) (given : Event)
     → ((es : List (LocalAction J)) → IsExecution b es → lives es ≡ true → HasNoWork b es → KeepsNothingBack b es) → Rests b st e old → Gave old new given → is_event given ≡ false → IsRight b new
-right-still b st e old new given keeps r gave none = right-same b old new (engine-right b st e old keeps r) (gave.history ∙ ap (λ v. told (if v then entry.Given given ∷ [] else []) old.history) none ∙ told-nothing old.history) gave.offered
+right-still b st e old new given keeps r gave none = right-same b old new (engine-right b st e old keeps r) (gave.history ∙ ap (λ v. told (if v then entry.Given given ∷ [] else []) old.history) none ∙ told-nothing old.history) gave.offered (λ s. gave.strand_aside s ∙ ap (λ v. if v then true else old.strand_aside s) (not-arrived given s none))
 
 pub stop-only : (e : Event) → is_stop e ≡ true → e ≡ event.Stop
 stop-only event.Stop h = refl
@@ -90,9 +98,6 @@ faulted n (Some h) new is was = rw is (inl was.no_stop)
 pub unwritten : (history : Option (List Entry)) → IfSome history HasFailedLog → IfSome history IsFaulted
 unwritten None f = tt
 unwritten (Some h) f = inr f
-
-pub logs-flag : (n : ℕ) (f f' : Bool) (book : Book) → f ≡ f' → Logs n f book → Logs n f' book
-logs-flag n f f' book same l = subst (λ (v : Bool). Logs n v book) same l
 
 pub fault-free : (e : Event) (before now : ℕ) → is_fault e ≡ false → RoseWhere (is_fault e) before now → now ≡ before
 fault-free e before now none r = let s : RoseWhere false before now = rw none at r in s

@@ -23,10 +23,10 @@ use Rattle.strand_contract.specs.Laws.{action_of, is_still, IsLastAct}
 use Rattle.strand_contract.specs.Order.{IsSubsequence, none, keep, skip, with_strand, only, readied, run_of, offer_of, all_readied, all_run, all_placed, all_offered, offers_last, NoneUnderWay, NoPlaceInLine, NoThreadInLine, IsFirstWaiting, HasThreads, HasPlaces}
 use Rattle.engine.specs.declared.engine.Seat.{Seat}
 use Rattle.engine.specs.Right.{Tells}
-use Rattle.engine.specs.Standing.{Held, is_to_end, Fit, Common, Around, Near, Busy, Turn, Standing, Falls, IsOffer}
+use Rattle.engine.specs.Standing.{Held, is_to_end, Share, share_of, Said, said_of, Fit, Common, Around, Near, Busy, Turn, Standing, Falls, IsOffer}
 use Rattle.engine.proofs.Lists.{by_test, clash, same-true, strand-true, sub-more, sub-through, sub-front, sub-without, tells-more, tells-same}
 use Rattle.engine.proofs.Marks.{projection-same, touches, fit-same, SameHeld, SameBook, book-same, MayCome, common-next, around-next, Begins, near-begins}
-use Rattle.engine.proofs.Acts.{lines-still, near-falls, around-lists}
+use Rattle.engine.proofs.Acts.{lines-still, near-falls, around-queues}
 
 -- where one comes after some that are left out of a list, it stands in it, before those behind it
 pub record Splits {A : Type 0} (x : A) (ys zs : List A) : Type 0 where
@@ -85,33 +85,33 @@ module _ {J S : Type 0} (b : Behavior J) (st : S → List (LocalAction J) → Ty
   lives-arrived book live unborn = elim (cases_lt book.arrivals c) [ inl past ↦ clash live (ap lives (unborn c past)) | inr h ↦ h ]
 
   -- the strand leaves its seat
-  pub around-leave : (h h' : Held S) (threads : List (StrandId × ℕ)) (places : List (StrandId × Place)) (book : Book) (x : Seat S)
+  pub around-leave : (h h' : Held S) (threads : List (StrandId × ℕ)) (offer_queue : List (StrandId × Place)) (book : Book) (x : Seat S)
       → Standing b st h book ms → h.seats (strand.Conn c) ≡ Some x
       → ((s : StrandId) → h'.seats s ≡ (if same_strand s (strand.Conn c) then None else h.seats s))
-      → ((t : ℕ) → (t == c) ≡ false → only (strand.Conn t) h'.queue ≡ only (strand.Conn t) h.queue)
-      → ((t : ℕ) → (t == c) ≡ false → only (strand.Conn t) h'.places ≡ only (strand.Conn t) h.places)
+      → ((t : ℕ) → (t == c) ≡ false → only (strand.Conn t) h'.run_queue ≡ only (strand.Conn t) h.run_queue)
+      → ((t : ℕ) → (t == c) ≡ false → only (strand.Conn t) h'.offer_queue ≡ only (strand.Conn t) h.offer_queue)
       → h'.in_offers ≡ h.in_offers → h'.now ≡ h.now → h'.connections ≡ h.connections
       → ((t : ℕ) → (t == c) ≡ false → lives (projection (strand.Conn t) ms) ≡ true → is_to_end h'.ending t ≡ is_to_end h.ending t)
-      → IsSubsequence (all_run ms ++ threads) (all_readied b ms) → IsSubsequence (all_offered ms ++ places) (all_placed b ms)
-      → Around b st c true x.is_open h' threads places book ms
-  around-leave h h' threads places book x g here seats hq hp phase now count ends runs list =
+      → IsSubsequence (all_run ms ++ threads) (all_readied b ms) → IsSubsequence (all_offered ms ++ offer_queue) (all_placed b ms)
+      → Around b st c true x.is_open h' threads offer_queue book ms
+  around-leave h h' threads offer_queue book x g here seats hq hp phase now count ends runs list =
       let live = seat-lives h book x g here in
       let mine = g.each c live in
       let fits = seat-fits h book x g here in
       let others = λ (t : ℕ) (ne : (t == c) ≡ false). seats (strand.Conn t) ∙ ap (λ v. if v then None else h.seats (strand.Conn t)) ne in
       record {
-        each = λ t ne alive. fit-same phase now (ends t ne alive) refl (others t ne) (hq t ne) (hp t ne) refl refl refl refl (g.each t alive);
+        each = λ t ne alive. fit-same phase now (ends t ne alive) refl (others t ne) (hq t ne) (hp t ne) refl refl (g.each t alive);
         dead = λ t ne gone. others t ne ∙ g.dead t gone;
         closed = λ t ne gone. g.closed t gone;
         shut = λ t ne gone q. g.shut t gone q;
+        aside = λ s ne. g.aside s;
         out = seats (strand.Conn c) ∙ ap (λ v. if v then None else h.seats (strand.Conn c)) (same-true c);
         arrived = lives-arrived book live g.common.unborn;
         alive = live;
-        line_open = sym fits.1;
+        connection = sym fits.1;
         client = mine.client ∙ sym fits.1;
         no_socket = mine.no_socket;
-        id_aside = λ on. mine.id_aside (sym fits.1 ∙ on);
-        strand_aside = λ on. mine.strand_aside;
+        own_aside = g.aside (strand.Conn c) ∙ live;
         common = record {
           alone = g.common.alone;
           begins = g.common.begins;
@@ -126,17 +126,18 @@ module _ {J S : Type 0} (b : Behavior J) (st : S → List (LocalAction J) → Ty
           unborn = g.common.unborn;
           jobless = g.common.jobless;
           no_socket = g.common.no_socket;
+          asides = g.common.asides;
           count = g.common.count ∙ sym count;
           present = g.common.present ∙ sym now;
         };
       }
 
-  pub turn-lists : {A : Type 0} (s : StrandId) (xs l ys : List (StrandId × A)) (r more : List A) → IsSubsequence (xs ++ with_strand s r ++ l) ys → IsSubsequence (xs ++ with_strand s r ++ (l ++ with_strand s more)) (ys ++ with_strand s more)
-  turn-lists s xs l ys r more h = rw (← append_assoc (xs ++ with_strand s r) l (with_strand s more)) (sub-more h (with_strand s more))
+  pub turn-queues : {A : Type 0} (s : StrandId) (xs l ys : List (StrandId × A)) (r more : List A) → IsSubsequence (xs ++ with_strand s r ++ l) ys → IsSubsequence (xs ++ with_strand s r ++ (l ++ with_strand s more)) (ys ++ with_strand s more)
+  turn-queues s xs l ys r more h = rw (← append_assoc (xs ++ with_strand s r) l (with_strand s more)) (sub-more h (with_strand s more))
 
   -- what a strand is shown, out of its seat
-  pub turn-next : (asks : (es : List (LocalAction J)) → IsLastAct (b.acts es)) (given : Seen) (x : S) (go o o' : Bool) (h h' : Held S) (threads : List (StrandId × ℕ)) (places : List (StrandId × Place)) (book book' : Book)
-      → Around b st c true o h threads places book ms
+  pub turn-next : (asks : (es : List (LocalAction J)) → IsLastAct (b.acts es)) (given : Seen) (x : S) (go o o' : Bool) (h h' : Held S) (threads : List (StrandId × ℕ)) (offer_queue : List (StrandId × Place)) (book book' : Book)
+      → Around b st c true o h threads offer_queue book ms
       → st x (projection (strand.Conn c) ms) → moment (projection (strand.Conn c) ms) ≡ h'.now
       → SameHeld c h h' → SameBook c book book' → h'.seats (strand.Conn c) ≡ None
       → MayCome b c (action_of b (projection (strand.Conn c) ms) given) ms h'.connections
@@ -144,17 +145,15 @@ module _ {J S : Type 0} (b : Behavior J) (st : S → List (LocalAction J) → Ty
       → book'.is_open (id.Conn c) ≡ o'
       → is_open place.Client (Did (action_of b (projection (strand.Conn c) ms) given) ∷ projection (strand.Conn c) ms) ≡ o'
       → ((k : ℕ) → is_open (place.Sock k) (Did (action_of b (projection (strand.Conn c) ms) given) ∷ projection (strand.Conn c) ms) ≡ false)
-      → (o' ≡ true → book'.id_place (id.Conn c) ≡ true)
-      → book'.strand_place (strand.Conn c) ≡ true
+      → book'.strand_aside (strand.Conn c) ≡ true
       → book'.arrivals ≡ book.arrivals
-      → ((n : ℕ) → book'.is_open (id.Sock n) ≡ book.is_open (id.Sock n))
       → Tells book'.history (external b (Of (strand.Conn c) (action_of b (projection (strand.Conn c) ms) given) None ∷ ms))
       → Tells book'.offered (offered_lengths b (Of (strand.Conn c) (action_of b (projection (strand.Conn c) ms) given) None ∷ ms))
-      → IsSubsequence (all_run ms ++ with_strand (strand.Conn c) (run_of (action_of b (projection (strand.Conn c) ms) given)) ++ h'.queue) (all_readied b ms)
-      → IsSubsequence (all_offered ms ++ with_strand (strand.Conn c) (offer_of (action_of b (projection (strand.Conn c) ms) given)) ++ h'.places) (all_placed b ms)
+      → IsSubsequence (all_run ms ++ with_strand (strand.Conn c) (run_of (action_of b (projection (strand.Conn c) ms) given)) ++ h'.run_queue) (all_readied b ms)
+      → IsSubsequence (all_offered ms ++ with_strand (strand.Conn c) (offer_of (action_of b (projection (strand.Conn c) ms) given)) ++ h'.offer_queue) (all_placed b ms)
       → Begins b st c ms (action_of b (projection (strand.Conn c) ms) given) go o' h' book'
       → Turn b st c x given go o' h' book' ms
-  turn-next asks given x go o o' h h' threads places book book' a stands time sh sb out may live line client socks id_aside aside arrivals book_socks told offers_told runs list begins =
+  turn-next asks given x go o o' h h' threads offer_queue book book' a stands time sh sb out may live there client socks aside arrivals told offers_told runs list begins =
       let z : Action J = action_of b (projection (strand.Conn c) ms) given in
       let es : List (LocalAction J) = projection (strand.Conn c) ms in
       let born : c ≤ book'.arrivals = rw arrivals a.arrived in
@@ -163,10 +162,10 @@ module _ {J S : Type 0} (b : Behavior J) (st : S → List (LocalAction J) → Ty
         moment = time;
         execution = (a.common.alone (strand.Conn c), may.enabled);
         near = near-begins b st c ms asks z go o' h' book'
-            (around-next b st c ms z true true o o' h h' threads (h'.queue ++ with_strand (strand.Conn c) (readied (b.acts (Did z ∷ es)))) places (h'.places ++ with_strand (strand.Conn c) (offers (b.acts (Did z ∷ es)))) book book' a sh sb out live line client socks id_aside (λ on. aside) born
-            (rw sh.now (common-next b st c ms z threads (h'.queue ++ with_strand (strand.Conn c) (readied (b.acts (Did z ∷ es)))) places (h'.places ++ with_strand (strand.Conn c) (offers (b.acts (Did z ∷ es)))) h.now h.connections h'.connections book book' a.common may born (omega (arith, arrivals)) (λ n. book_socks n ∙ a.common.no_socket n) told offers_told
-            (turn-lists (strand.Conn c) (all_run ms) h'.queue (all_readied b ms) (run_of z) (readied (b.acts (Did z ∷ es))) runs)
-            (turn-lists (strand.Conn c) (all_offered ms) h'.places (all_placed b ms) (offer_of z) (offers (b.acts (Did z ∷ es))) list))))
+            (around-next b st c ms z true true o o' h h' threads (h'.run_queue ++ with_strand (strand.Conn c) (readied (b.acts (Did z ∷ es)))) offer_queue (h'.offer_queue ++ with_strand (strand.Conn c) (offers (b.acts (Did z ∷ es)))) book book' a sh sb out live there client socks aside born
+            (rw sh.now (common-next b st c ms z threads (h'.run_queue ++ with_strand (strand.Conn c) (readied (b.acts (Did z ∷ es)))) offer_queue (h'.offer_queue ++ with_strand (strand.Conn c) (offers (b.acts (Did z ∷ es)))) h.now h.connections h'.connections book book' a.common may born (omega (arith, arrivals)) (λ n. sb.sockets n ∙ a.common.no_socket n) (sb.asides a.common.asides) told offers_told
+            (turn-queues (strand.Conn c) (all_run ms) h'.run_queue (all_readied b ms) (run_of z) (readied (b.acts (Did z ∷ es))) runs)
+            (turn-queues (strand.Conn c) (all_offered ms) h'.offer_queue (all_placed b ms) (offer_of z) (offers (b.acts (Did z ∷ es))) list))))
             begins;
       }
 
@@ -187,15 +186,15 @@ module _ {J S : Type 0} (b : Behavior J) (st : S → List (LocalAction J) → Ty
   between (strand.Conn t) live = record { living = live; no_act = (g.each t live).no_act; no_offer = (g.each t live).no_offer }
   between (strand.Job n) live = absurd (no-job n ms (g.common.jobless n) live)
 
-  pub no-place : h.places ≡ [] → NoPlaceInLine b ms
+  pub no-place : h.offer_queue ≡ [] → NoPlaceInLine b ms
   no-place nil (strand.Conn t) live = (g.each t live).offered ∙ ap (only (strand.Conn t)) nil
   no-place nil (strand.Job n) live = absurd (no-job n ms (g.common.jobless n) live)
 
-  pub no-thread : h.queue ≡ [] → NoThreadInLine b ms
+  pub no-thread : h.run_queue ≡ [] → NoThreadInLine b ms
   no-thread nil (strand.Conn t) live = (g.each t live).threads ∙ ap (only (strand.Conn t)) nil
   no-thread nil (strand.Job n) live = absurd (no-job n ms (g.common.jobless n) live)
 
-  pub first-run : (c k : ℕ) (rest : List (StrandId × ℕ)) → h.queue ≡ (strand.Conn c, k) ∷ rest → IsFirstWaiting (all_readied b ms) (HasThreads b ms) (strand.Conn c) k
+  pub first-run : (c k : ℕ) (rest : List (StrandId × ℕ)) → h.run_queue ≡ (strand.Conn c, k) ∷ rest → IsFirstWaiting (all_readied b ms) (HasThreads b ms) (strand.Conn c) k
   first-run c k rest now =
       let s = sub-split (all_run ms) (strand.Conn c, k) rest (all_readied b ms) (rw now at g.common.runs) in
       record { before = s.before; after = s.after; here = s.here; first = λ t xs w. waits t xs w s.after s.rest }
@@ -204,7 +203,7 @@ module _ {J S : Type 0} (b : Behavior J) (st : S → List (LocalAction J) → Ty
       waits (strand.Conn t) xs w after r = rw (w.1, (g.each t w.0).threads, now) (only-sub (strand.Conn t) (keep {x = (strand.Conn c, k)} r))
       waits (strand.Job n) xs w after r = absurd (no-job n ms (g.common.jobless n) w.0)
 
-  pub first-offer : (c : ℕ) (q : Place) (rest : List (StrandId × Place)) → h.places ≡ (strand.Conn c, q) ∷ rest → IsFirstWaiting (all_placed b ms) (HasPlaces b ms) (strand.Conn c) q
+  pub first-offer : (c : ℕ) (q : Place) (rest : List (StrandId × Place)) → h.offer_queue ≡ (strand.Conn c, q) ∷ rest → IsFirstWaiting (all_placed b ms) (HasPlaces b ms) (strand.Conn c) q
   first-offer c q rest now =
       let s = sub-split (all_offered ms) (strand.Conn c, q) rest (all_placed b ms) (rw now at g.common.offered) in
       record { before = s.before; after = s.after; here = s.here; first = λ t xs w. waits t xs w s.after s.rest }
@@ -214,20 +213,21 @@ module _ {J S : Type 0} (b : Behavior J) (st : S → List (LocalAction J) → Ty
       waits (strand.Job n) xs w after r = absurd (no-job n ms (g.common.jobless n) w.0)
 
   -- the front of a line is of a strand that has no seat
-  pub skip-run : (h' : Held S) (s : StrandId) (k : ℕ) (rest : List (StrandId × ℕ)) → h.queue ≡ (s, k) ∷ rest → h.seats s ≡ None
-      → ((t : StrandId) → h'.seats t ≡ (if same_strand t s then None else h.seats t)) → h'.queue ≡ rest → h'.places ≡ h.places → h'.in_offers ≡ h.in_offers → h'.now ≡ h.now → h'.connections ≡ h.connections → h'.ending ≡ h.ending
+  pub skip-run : (h' : Held S) (s : StrandId) (k : ℕ) (rest : List (StrandId × ℕ)) → h.run_queue ≡ (s, k) ∷ rest → h.seats s ≡ None
+      → ((t : StrandId) → h'.seats t ≡ (if same_strand t s then None else h.seats t)) → h'.run_queue ≡ rest → h'.offer_queue ≡ h.offer_queue → h'.in_offers ≡ h.in_offers → h'.now ≡ h.now → h'.connections ≡ h.connections → h'.ending ≡ h.ending
       → Standing b st h' book ms
-  skip-run h' s k rest front gone seats queue places phase now count ends = record {
+  skip-run h' s k rest front gone seats run_queue offer_queue phase now count ends = record {
     each = λ t live. let f = g.each t live in
         by_test (same_strand (strand.Conn t) s)
         (λ e. absurd (seated t s f.held.0 f.held.1 e gone))
-        (λ ne. fit-same phase now (ap (λ o. is_to_end o t) ends) refl (seats (strand.Conn t) ∙ ap (λ v. if v then None else h.seats (strand.Conn t)) ne) (ap (only (strand.Conn t)) queue ∙ sym (ap (only (strand.Conn t)) front ∙ ap (λ v. if v then k ∷ only (strand.Conn t) rest else only (strand.Conn t) rest) ne)) (ap (only (strand.Conn t)) places) refl refl refl refl f);
+        (λ ne. fit-same phase now (ap (λ o. is_to_end o t) ends) refl (seats (strand.Conn t) ∙ ap (λ v. if v then None else h.seats (strand.Conn t)) ne) (ap (only (strand.Conn t)) run_queue ∙ sym (ap (only (strand.Conn t)) front ∙ ap (λ v. if v then k ∷ only (strand.Conn t) rest else only (strand.Conn t) rest) ne)) (ap (only (strand.Conn t)) offer_queue) refl refl f);
     dead = λ t off. by_test (same_strand (strand.Conn t) s)
         (λ e. seats (strand.Conn t) ∙ ap (λ v. if v then None else h.seats (strand.Conn t)) e)
         (λ ne. seats (strand.Conn t) ∙ ap (λ v. if v then None else h.seats (strand.Conn t)) ne ∙ g.dead t off);
     closed = g.closed;
     shut = g.shut;
-    flip_to_runs = λ run on. places ∙ g.flip_to_runs (sym phase ∙ run) on;
+    aside = g.aside;
+    flip_to_runs = λ run on. offer_queue ∙ g.flip_to_runs (sym phase ∙ run) on;
     flip_to_offers = λ offer off. absurd (let e : (s, k) ∷ rest ≡ [] = sym front ∙ g.flip_to_offers (sym phase ∙ offer) off in cc);
     common = record {
       alone = g.common.alone;
@@ -235,14 +235,15 @@ module _ {J S : Type 0} (b : Behavior J) (st : S → List (LocalAction J) → Ty
       given = g.common.given;
       kept = g.common.kept;
       plain = g.common.plain;
-      runs = rw queue (sub-through (sub-without (all_run ms) (s, k) rest) (rw front at g.common.runs));
-      offered = rw places g.common.offered;
+      runs = rw run_queue (sub-through (sub-without (all_run ms) (s, k) rest) (rw front at g.common.runs));
+      offered = rw offer_queue g.common.offered;
       turns = g.common.turns;
       told = g.common.told;
       offers_told = g.common.offers_told;
       unborn = g.common.unborn;
       jobless = g.common.jobless;
       no_socket = g.common.no_socket;
+      asides = g.common.asides;
       count = g.common.count ∙ sym count;
       present = g.common.present ∙ sym now;
     };
@@ -252,35 +253,37 @@ module _ {J S : Type 0} (b : Behavior J) (st : S → List (LocalAction J) → Ty
       seated t (strand.Conn c) x some same nil = let e : Some x ≡ None = sym some ∙ subst (λ (i : ℕ). h.seats (strand.Conn i) ≡ None) (sym (eqb-true t c same)) nil in cc
       seated t (strand.Job n) x some same nil = absurd (let e : false ≡ true = same in cc)
 
-  pub skip-offer : (h' : Held S) (s : StrandId) (q : Place) (rest : List (StrandId × Place)) → h.places ≡ (s, q) ∷ rest → h.seats s ≡ None
-      → ((t : StrandId) → h'.seats t ≡ (if same_strand t s then None else h.seats t)) → h'.places ≡ rest → h'.queue ≡ h.queue → h'.in_offers ≡ h.in_offers → h'.now ≡ h.now → h'.connections ≡ h.connections → h'.ending ≡ h.ending
+  pub skip-offer : (h' : Held S) (s : StrandId) (q : Place) (rest : List (StrandId × Place)) → h.offer_queue ≡ (s, q) ∷ rest → h.seats s ≡ None
+      → ((t : StrandId) → h'.seats t ≡ (if same_strand t s then None else h.seats t)) → h'.offer_queue ≡ rest → h'.run_queue ≡ h.run_queue → h'.in_offers ≡ h.in_offers → h'.now ≡ h.now → h'.connections ≡ h.connections → h'.ending ≡ h.ending
       → Standing b st h' book ms
-  skip-offer h' s q rest front gone seats places queue phase now count ends = record {
+  skip-offer h' s q rest front gone seats offer_queue run_queue phase now count ends = record {
     each = λ t live. let f = g.each t live in
         by_test (same_strand (strand.Conn t) s)
         (λ e. absurd (seated t s f.held.0 f.held.1 e gone))
-        (λ ne. fit-same phase now (ap (λ o. is_to_end o t) ends) refl (seats (strand.Conn t) ∙ ap (λ v. if v then None else h.seats (strand.Conn t)) ne) (ap (only (strand.Conn t)) queue) (ap (only (strand.Conn t)) places ∙ sym (ap (only (strand.Conn t)) front ∙ ap (λ v. if v then q ∷ only (strand.Conn t) rest else only (strand.Conn t) rest) ne)) refl refl refl refl f);
+        (λ ne. fit-same phase now (ap (λ o. is_to_end o t) ends) refl (seats (strand.Conn t) ∙ ap (λ v. if v then None else h.seats (strand.Conn t)) ne) (ap (only (strand.Conn t)) run_queue) (ap (only (strand.Conn t)) offer_queue ∙ sym (ap (only (strand.Conn t)) front ∙ ap (λ v. if v then q ∷ only (strand.Conn t) rest else only (strand.Conn t) rest) ne)) refl refl f);
     dead = λ t off. by_test (same_strand (strand.Conn t) s)
         (λ e. seats (strand.Conn t) ∙ ap (λ v. if v then None else h.seats (strand.Conn t)) e)
         (λ ne. seats (strand.Conn t) ∙ ap (λ v. if v then None else h.seats (strand.Conn t)) ne ∙ g.dead t off);
     closed = g.closed;
     shut = g.shut;
+    aside = g.aside;
     flip_to_runs = λ run on. absurd (let e : (s, q) ∷ rest ≡ [] = sym front ∙ g.flip_to_runs (sym phase ∙ run) on in cc);
-    flip_to_offers = λ offer off. queue ∙ g.flip_to_offers (sym phase ∙ offer) off;
+    flip_to_offers = λ offer off. run_queue ∙ g.flip_to_offers (sym phase ∙ offer) off;
     common = record {
       alone = g.common.alone;
       begins = g.common.begins;
       given = g.common.given;
       kept = g.common.kept;
       plain = g.common.plain;
-      runs = rw queue g.common.runs;
-      offered = rw places (sub-through (sub-without (all_offered ms) (s, q) rest) (rw front at g.common.offered));
+      runs = rw run_queue g.common.runs;
+      offered = rw offer_queue (sub-through (sub-without (all_offered ms) (s, q) rest) (rw front at g.common.offered));
       turns = g.common.turns;
       told = g.common.told;
       offers_told = g.common.offers_told;
       unborn = g.common.unborn;
       jobless = g.common.jobless;
       no_socket = g.common.no_socket;
+      asides = g.common.asides;
       count = g.common.count ∙ sym count;
       present = g.common.present ∙ sym now;
     };
@@ -292,10 +295,10 @@ module _ {J S : Type 0} (b : Behavior J) (st : S → List (LocalAction J) → Ty
 
   -- a thread runs
   pub turn-run : (asks : (es : List (LocalAction J)) → IsLastAct (b.acts es)) (c k : ℕ) (rest : List (StrandId × ℕ)) (x : Seat S) (h' : Held S)
-      → h.queue ≡ (strand.Conn c, k) ∷ rest → h.seats (strand.Conn c) ≡ Some x → h.in_offers ≡ false → h.ending ≡ stop.Over
-      → ((t : StrandId) → h'.seats t ≡ (if same_strand t (strand.Conn c) then None else h.seats t)) → h'.queue ≡ rest → h'.places ≡ h.places → h'.in_offers ≡ h.in_offers → h'.now ≡ h.now → h'.connections ≡ h.connections → h'.ending ≡ h.ending
+      → h.run_queue ≡ (strand.Conn c, k) ∷ rest → h.seats (strand.Conn c) ≡ Some x → h.in_offers ≡ false → h.ending ≡ stop.Over
+      → ((t : StrandId) → h'.seats t ≡ (if same_strand t (strand.Conn c) then None else h.seats t)) → h'.run_queue ≡ rest → h'.offer_queue ≡ h.offer_queue → h'.in_offers ≡ h.in_offers → h'.now ≡ h.now → h'.connections ≡ h.connections → h'.ending ≡ h.ending
       → Turn b st c x.strand (seen.Run k) false x.is_open h' book ms
-  turn-run asks c k rest x h' front here running no_end seats queue places phase now count ends =
+  turn-run asks c k rest x h' front here running no_end seats run_queue offer_queue phase now count ends =
       let z : Action J = Ran k in
       let es : List (LocalAction J) = projection (strand.Conn c) ms in
       let live : lives es ≡ true = seat-lives b st c ms h book x g here in
@@ -303,11 +306,11 @@ module _ {J S : Type 0} (b : Behavior J) (st : S → List (LocalAction J) → Ty
       let fits = seat-fits b st c ms h book x g here in
       let line : waiting b es ≡ k ∷ only (strand.Conn c) rest = mine.threads ∙ ap (only (strand.Conn c)) front ∙ ap (λ v. if v then k ∷ only (strand.Conn c) rest else only (strand.Conn c) rest) (same-true c) in
       let out : h'.seats (strand.Conn c) ≡ None = seats (strand.Conn c) ∙ ap (λ v. if v then None else h.seats (strand.Conn c)) (same-true c) in
-      let a = around-leave b st c ms h h' rest h.places book x g here seats
-      (λ t ne. ap (only (strand.Conn t)) queue ∙ sym (ap (only (strand.Conn t)) front ∙ ap (λ v. if v then k ∷ only (strand.Conn t) rest else only (strand.Conn t) rest) ne)) (λ t ne. ap (only (strand.Conn t)) places) phase now count (λ t ne alive. ap (λ o. is_to_end o t) ends)
+      let a = around-leave b st c ms h h' rest h.offer_queue book x g here seats
+      (λ t ne. ap (only (strand.Conn t)) run_queue ∙ sym (ap (only (strand.Conn t)) front ∙ ap (λ v. if v then k ∷ only (strand.Conn t) rest else only (strand.Conn t) rest) ne)) (λ t ne. ap (only (strand.Conn t)) offer_queue) phase now count (λ t ne alive. ap (λ o. is_to_end o t) ends)
       (sub-through (sub-without (all_run ms) (strand.Conn c, k) rest) (rw front at g.common.runs)) g.common.offered in
-      turn-next b st c ms asks (seen.Run k) x.strand false x.is_open x.is_open h' h' rest h.places book book a fits.0 (mine.moment ∙ sym now)
-      (record { seats = λ t ne. refl; queue = λ t ne. refl; places = λ t ne. refl; in_offers = refl; now = refl; ends = λ t ne. refl }) (book-same c book) out
+      turn-next b st c ms asks (seen.Run k) x.strand false x.is_open x.is_open h' h' rest h.offer_queue book book a fits.0 (mine.moment ∙ sym now)
+      (record { seats = λ t ne. refl; run_queue = λ t ne. refl; offer_queue = λ t ne. refl; in_offers = refl; now = refl; ends = λ t ne. refl }) (book-same c book) out
       (record {
         enabled = (record { living = live; no_act = mine.no_act; no_offer = mine.no_offer }, (only (strand.Conn c) rest, sym line), (λ on. mine.offered ∙ (mine.runs_first running on)), (rw mine.no_deadline refl), (mine.stopping ∙ ap (λ o. is_to_end o c) no_end));
         begins = g.common.begins;
@@ -316,13 +319,13 @@ module _ {J S : Type 0} (b : Behavior J) (st : S → List (LocalAction J) → Ty
         plain = g.common.plain;
         turns = (g.common.turns, between, (λ on. no-place (g.flip_to_runs running on)), first-run c k rest front);
         counts = g.common.count ∙ sym count;
-      }) live (sym fits.1) (mine.client ∙ sym fits.1) mine.no_socket (λ on. mine.id_aside (sym fits.1 ∙ on)) mine.strand_aside refl (λ n. refl) g.common.told g.common.offers_told
-      (rw (queue, append_assoc) (rw front at g.common.runs)) (rw (places, append-nil) g.common.offered)
+      }) live (sym fits.1) (mine.client ∙ sym fits.1) mine.no_socket (g.aside (strand.Conn c) ∙ live) refl g.common.told g.common.offers_told
+      (rw (run_queue, append_assoc) (rw front at g.common.runs)) (rw (offer_queue, append-nil) g.common.offered)
       (record {
         done = mine.no_act;
         no_use = refl;
-        line = ap (drop 1) line ∙ sym (ap (only (strand.Conn c)) queue);
-        list = mine.offered ∙ sym (ap (only (strand.Conn c)) places);
+        threads = ap (drop 1) line ∙ sym (ap (only (strand.Conn c)) run_queue);
+        offered = mine.offered ∙ sym (ap (only (strand.Conn c)) offer_queue);
         deadlines = mine.no_deadline;
         kind = sym (phase ∙ running);
         offer = (λ e. absurd (let w : false ≡ true = e in cc));
@@ -335,10 +338,10 @@ module _ {J S : Type 0} (b : Behavior J) (st : S → List (LocalAction J) → Ty
 
   -- a place is offered: what is known of the others, and of the strand
   offer-around : (quiet : (a : LocalAction J) (es : List (LocalAction J)) → is_still a ≡ true → b.acts (a ∷ es) ≡ []) (c : ℕ) (q : Place) (rest : List (StrandId × Place)) (x : Seat S) (h' : Held S)
-      → h.places ≡ (strand.Conn c, q) ∷ rest → h.seats (strand.Conn c) ≡ Some x → h.in_offers ≡ true → h.ending ≡ stop.Over
-      → ((t : StrandId) → h'.seats t ≡ (if same_strand t (strand.Conn c) then None else h.seats t)) → h'.places ≡ rest → h'.queue ≡ h.queue → h'.in_offers ≡ h.in_offers → h'.now ≡ h.now → h'.connections ≡ h.connections → h'.ending ≡ h.ending
-      → Around b st c true x.is_open h' h'.queue h'.places book (Of (strand.Conn c) (Offered q) None ∷ ms)
-  offer-around quiet c q rest x h' front here running no_end seats places queue phase now count ends =
+      → h.offer_queue ≡ (strand.Conn c, q) ∷ rest → h.seats (strand.Conn c) ≡ Some x → h.in_offers ≡ true → h.ending ≡ stop.Over
+      → ((t : StrandId) → h'.seats t ≡ (if same_strand t (strand.Conn c) then None else h.seats t)) → h'.offer_queue ≡ rest → h'.run_queue ≡ h.run_queue → h'.in_offers ≡ h.in_offers → h'.now ≡ h.now → h'.connections ≡ h.connections → h'.ending ≡ h.ending
+      → Around b st c true x.is_open h' h'.run_queue h'.offer_queue book (Of (strand.Conn c) (Offered q) None ∷ ms)
+  offer-around quiet c q rest x h' front here running no_end seats offer_queue run_queue phase now count ends =
       let z : Action J = Offered q in
       let es : List (LocalAction J) = projection (strand.Conn c) ms in
       let live : lives es ≡ true = seat-lives b st c ms h book x g here in
@@ -347,12 +350,12 @@ module _ {J S : Type 0} (b : Behavior J) (st : S → List (LocalAction J) → Ty
       let none : b.acts (Did z ∷ es) ≡ [] = quiet (Did z) es refl in
       let line : to_offer b es ≡ q ∷ only (strand.Conn c) rest = mine.offered ∙ ap (only (strand.Conn c)) front ∙ ap (λ v. if v then q ∷ only (strand.Conn c) rest else only (strand.Conn c) rest) (same-true c) in
       let out : h'.seats (strand.Conn c) ≡ None = seats (strand.Conn c) ∙ ap (λ v. if v then None else h.seats (strand.Conn c)) (same-true c) in
-      let a = around-leave b st c ms h h' h.queue rest book x g here seats
-      (λ t ne. ap (only (strand.Conn t)) queue) (λ t ne. ap (only (strand.Conn t)) places ∙ sym (ap (only (strand.Conn t)) front ∙ ap (λ v. if v then q ∷ only (strand.Conn t) rest else only (strand.Conn t) rest) ne)) phase now count (λ t ne alive. ap (λ o. is_to_end o t) ends)
+      let a = around-leave b st c ms h h' h.run_queue rest book x g here seats
+      (λ t ne. ap (only (strand.Conn t)) run_queue) (λ t ne. ap (only (strand.Conn t)) offer_queue ∙ sym (ap (only (strand.Conn t)) front ∙ ap (λ v. if v then q ∷ only (strand.Conn t) rest else only (strand.Conn t) rest) ne)) phase now count (λ t ne alive. ap (λ o. is_to_end o t) ends)
       g.common.runs (sub-through (sub-without (all_offered ms) (strand.Conn c, q) rest) (rw front at g.common.offered)) in
-      around-next b st c ms z true true x.is_open x.is_open h' h' h.queue h'.queue rest h'.places book book a
-      (record { seats = λ t ne. refl; queue = λ t ne. refl; places = λ t ne. refl; in_offers = refl; now = refl; ends = λ t ne. refl }) (book-same c book) out live (sym fits.1) (mine.client ∙ sym fits.1) mine.no_socket (λ on. mine.id_aside (sym fits.1 ∙ on)) (λ on. mine.strand_aside) a.arrived
-      (common-next b st c ms z h.queue h'.queue rest h'.places h'.now h'.connections h'.connections book book a.common
+      around-next b st c ms z true true x.is_open x.is_open h' h' h.run_queue h'.run_queue rest h'.offer_queue book book a
+      (record { seats = λ t ne. refl; run_queue = λ t ne. refl; offer_queue = λ t ne. refl; in_offers = refl; now = refl; ends = λ t ne. refl }) (book-same c book) out live (sym fits.1) (mine.client ∙ sym fits.1) mine.no_socket (g.aside (strand.Conn c) ∙ live) a.arrived
+      (common-next b st c ms z h.run_queue h'.run_queue rest h'.offer_queue h'.now h'.connections h'.connections book book a.common
       (record {
         enabled = (record { living = live; no_act = mine.no_act; no_offer = mine.no_offer }, (only (strand.Conn c) rest, sym line), (λ off. mine.threads ∙ (mine.offers_first running off)), (rw mine.no_deadline refl), (mine.stopping ∙ ap (λ o. is_to_end o c) no_end));
         begins = g.common.begins;
@@ -361,29 +364,29 @@ module _ {J S : Type 0} (b : Behavior J) (st : S → List (LocalAction J) → Ty
         plain = g.common.plain;
         turns = (g.common.turns, between, (λ off. no-thread (g.flip_to_offers running off)), first-offer c q rest front);
         counts = g.common.count ∙ sym count;
-      }) a.arrived (omega arith) g.common.no_socket g.common.told g.common.offers_told
-      (rw queue (lines-still (strand.Conn c) (all_run ms) h.queue (all_readied b ms) [] (readied (b.acts (Did z ∷ es))) refl (ap readied none) g.common.runs))
-      (rw places (offered-next (all_offered ms) (strand.Conn c, q) rest (all_placed b ms) (with_strand (strand.Conn c) (offers (b.acts (Did z ∷ es)))) (ap (with_strand (strand.Conn c)) (ap offers none)) (rw front at g.common.offered))))
+      }) a.arrived (omega arith) g.common.no_socket g.common.asides g.common.told g.common.offers_told
+      (rw run_queue (lines-still (strand.Conn c) (all_run ms) h.run_queue (all_readied b ms) [] (readied (b.acts (Did z ∷ es))) refl (ap readied none) g.common.runs))
+      (rw offer_queue (offered-next (all_offered ms) (strand.Conn c, q) rest (all_placed b ms) (with_strand (strand.Conn c) (offers (b.acts (Did z ∷ es)))) (ap (with_strand (strand.Conn c)) (ap offers none)) (rw front at g.common.offered))))
     where
       offered-next : (xs : List (StrandId × Place)) (e : StrandId × Place) (l ys more : List (StrandId × Place)) → more ≡ [] → IsSubsequence (xs ++ e ∷ l) ys → IsSubsequence (xs ++ e ∷ [] ++ l) (ys ++ more)
       offered-next xs e l ys more nil r = rw nil (simp (append_assoc, append-nil) r)
 
   pub falls-offered : (quiet : (a : LocalAction J) (es : List (LocalAction J)) → is_still a ≡ true → b.acts (a ∷ es) ≡ []) (c : ℕ) (q : Place) (rest : List (StrandId × Place)) (x : Seat S) (h' : Held S)
-      → h.places ≡ (strand.Conn c, q) ∷ rest → h.seats (strand.Conn c) ≡ Some x → h.in_offers ≡ true → h.ending ≡ stop.Over
-      → ((t : StrandId) → h'.seats t ≡ (if same_strand t (strand.Conn c) then None else h.seats t)) → h'.places ≡ rest → h'.queue ≡ h.queue → h'.in_offers ≡ h.in_offers → h'.now ≡ h.now → h'.connections ≡ h.connections → h'.ending ≡ h.ending
+      → h.offer_queue ≡ (strand.Conn c, q) ∷ rest → h.seats (strand.Conn c) ≡ Some x → h.in_offers ≡ true → h.ending ≡ stop.Over
+      → ((t : StrandId) → h'.seats t ≡ (if same_strand t (strand.Conn c) then None else h.seats t)) → h'.offer_queue ≡ rest → h'.run_queue ≡ h.run_queue → h'.in_offers ≡ h.in_offers → h'.now ≡ h.now → h'.connections ≡ h.connections → h'.ending ≡ h.ending
       → Falls b st c x.is_open h' book (Of (strand.Conn c) (Offered q) None ∷ ms)
-  falls-offered quiet c q rest x h' front here running no_end seats places queue phase now count ends = record {
-    around = offer-around quiet c q rest x h' front here running no_end seats places queue phase now count ends;
+  falls-offered quiet c q rest x h' front here running no_end seats offer_queue run_queue phase now count ends = record {
+    around = offer-around quiet c q rest x h' front here running no_end seats offer_queue run_queue phase now count ends;
     last = sym (phase ∙ running);
     touched = touches c (Offered q) None ms;
   }
 
   -- the client's line is offered
   pub busy-offered : (still : (y : S) (a : LocalAction J) (es : List (LocalAction J)) → is_still a ≡ true → st y es → st y (a ∷ es)) (quiet : (a : LocalAction J) (es : List (LocalAction J)) → is_still a ≡ true → b.acts (a ∷ es) ≡ []) (c : ℕ) (rest : List (StrandId × Place)) (x : Seat S) (h' : Held S)
-      → h.places ≡ (strand.Conn c, place.Client) ∷ rest → h.seats (strand.Conn c) ≡ Some x → h.in_offers ≡ true → h.ending ≡ stop.Over
-      → ((t : StrandId) → h'.seats t ≡ (if same_strand t (strand.Conn c) then None else h.seats t)) → h'.places ≡ rest → h'.queue ≡ h.queue → h'.in_offers ≡ h.in_offers → h'.now ≡ h.now → h'.connections ≡ h.connections → h'.ending ≡ h.ending
+      → h.offer_queue ≡ (strand.Conn c, place.Client) ∷ rest → h.seats (strand.Conn c) ≡ Some x → h.in_offers ≡ true → h.ending ≡ stop.Over
+      → ((t : StrandId) → h'.seats t ≡ (if same_strand t (strand.Conn c) then None else h.seats t)) → h'.offer_queue ≡ rest → h'.run_queue ≡ h.run_queue → h'.in_offers ≡ h.in_offers → h'.now ≡ h.now → h'.connections ≡ h.connections → h'.ending ≡ h.ending
       → Busy b st c x.strand [] true x.is_open h' book (Of (strand.Conn c) (Offered place.Client) None ∷ ms)
-  busy-offered still quiet c rest x h' front here running no_end seats places queue phase now count ends =
+  busy-offered still quiet c rest x h' front here running no_end seats offer_queue run_queue phase now count ends =
       let z : Action J = Offered place.Client in
       let es : List (LocalAction J) = projection (strand.Conn c) ms in
       let live : lives es ≡ true = seat-lives b st c ms h book x g here in
@@ -394,11 +397,11 @@ module _ {J S : Type 0} (b : Behavior J) (st : S → List (LocalAction J) → Ty
       let line : to_offer b es ≡ place.Client ∷ only (strand.Conn c) rest = mine.offered ∙ ap (only (strand.Conn c)) front ∙ ap (λ v. if v then place.Client ∷ only (strand.Conn c) rest else only (strand.Conn c) rest) (same-true c) in
       record {
         near = record {
-          around = rw (append-nil, append-nil) (offer-around quiet c place.Client rest x h' front here running no_end seats places queue phase now count ends);
+          around = rw (append-nil, append-nil) (offer-around quiet c place.Client rest x h' front here running no_end seats offer_queue run_queue phase now count ends);
           to_do = ap (todo b) own ∙ (rw (none, mine.no_act) refl);
           last_act = tt;
-          threads = sym (ap (waiting b) own ∙ (rw none (mine.threads ∙ sym (ap (only (strand.Conn c)) queue))));
-          offered = append-nil _ ∙ sym (ap (to_offer b) own ∙ (rw (none, line) (append-nil _ ∙ sym (ap (only (strand.Conn c)) places))));
+          threads = sym (ap (waiting b) own ∙ (rw none (mine.threads ∙ sym (ap (only (strand.Conn c)) run_queue))));
+          offered = append-nil _ ∙ sym (ap (to_offer b) own ∙ (rw (none, line) (append-nil _ ∙ sym (ap (only (strand.Conn c)) offer_queue))));
           deadlines = sym (ap (armed b) own ∙ (rw (none, mine.no_deadline) refl));
           kind = ap in_offers own ∙ sym (phase ∙ running);
           offer = subst (λ (fs : List (LocalAction J)). IsOffer true x.is_open (begun_offer fs)) (sym own) refl;

@@ -10,7 +10,7 @@ use Rattle.resty_base.specs.declared.names.StrandId.{StrandId}
 use Rattle.resty_base.specs.declared.names.StrandId.TheVariants as strand
 use Rattle.resty_world.specs.declared.entry.Entry.TheVariants as entry
 use Rattle.resty_world.specs.declared.event.Event.TheVariants as event
-use Rattle.resty_world.specs.Book.{Book, told}
+use Rattle.resty_world.specs.Book.{Book, KeepsIds, told}
 use Rattle.resty_world.specs.Ids.{same_strand}
 use Rattle.strand_contract.specs.declared.turns.Place.{Place}
 use Rattle.strand_contract.specs.declared.turns.Place.TheVariants as place
@@ -25,9 +25,9 @@ use Rattle.strand_contract.specs.Order.{only, begun_before, IsFirstToEnd}
 use Rattle.engine.specs.declared.engine.Seat.{Seat}
 use Rattle.engine.specs.Right.{Tells}
 use Rattle.engine.specs.Slots.{is_after}
-use Rattle.engine.specs.Standing.{Held, is_to_end, Fit, Standing, Turn}
+use Rattle.engine.specs.Standing.{Held, is_to_end, Share, share_of, Said, said_of, Fit, Standing, Turn}
 use Rattle.engine.proofs.Lists.{by_test, clash, same-true, tells-more, tells-same}
-use Rattle.engine.proofs.Marks.{fit-same, SameBook, book-same, MayCome}
+use Rattle.engine.proofs.Marks.{fit-same, SameBook, book-same, same-keeps, MayCome}
 use Rattle.engine.proofs.Turns.{seat-lives, seat-fits, around-leave, turn-next, no-job, between}
 use Rattle.engine.proofs.Events.{at-rest, none-holds}
 
@@ -58,17 +58,17 @@ heard test w es on = ap (λ v. if v then Told w ∷ es else es) on
 unheard : {J : Type 0} (test : Bool) (w : Word) (es : List (LocalAction J)) → test ≡ false → (if test then Told w ∷ es else es) ≡ es
 unheard test w es off = ap (λ v. if v then Told w ∷ es else es) off
 
-module _ {J S : Type 0} (b : Behavior J) (st : S → List (LocalAction J) → Type 0) (ms : List (GlobalAction J)) (h : Held S) (book : Book) (g : Standing b st h book ms) (queue : h.queue ≡ []) (places : h.places ≡ []) (running : h.in_offers ≡ false) (ending : h.ending ≡ stop.Over)
+module _ {J S : Type 0} (b : Behavior J) (st : S → List (LocalAction J) → Type 0) (ms : List (GlobalAction J)) (h : Held S) (book : Book) (g : Standing b st h book ms) (run_queue : h.run_queue ≡ []) (offer_queue : h.offer_queue ≡ []) (running : h.in_offers ≡ false) (ending : h.ending ≡ stop.Over)
     (keeps : (es : List (LocalAction J)) → IsExecution b es → lives es ≡ true → HasNoWork b es → KeepsNothingBack b es)
     (still : (x : S) (a : LocalAction J) (es : List (LocalAction J)) → is_still a ≡ true → st x es → st x (a ∷ es))
     (quiet : (a : LocalAction J) (es : List (LocalAction J)) → is_still a ≡ true → b.acts (a ∷ es) ≡ []) (w : Word) where
   alone-told : (s : StrandId) → IsExecution b (projection s (Everyone w ∷ ms))
   alone-told s = by_test (lives (projection s ms))
-      (λ live. subst (λ (fs : List (LocalAction J)). IsExecution b fs) (sym (heard (lives (projection s ms)) w (projection s ms) live)) (g.common.alone s, (live, (at-rest b st ms h book g queue places ending s).idle live)))
+      (λ live. subst (λ (fs : List (LocalAction J)). IsExecution b fs) (sym (heard (lives (projection s ms)) w (projection s ms) live)) (g.common.alone s, (live, (at-rest b st ms h book g run_queue offer_queue ending s).idle live)))
       (λ gone. subst (λ (fs : List (LocalAction J)). IsExecution b fs) (sym (unheard (lives (projection s ms)) w (projection s ms) gone)) (g.common.alone s))
 
   fit-told : (t : ℕ) (seat : Option (Seat S)) → seat ≡ h.seats (strand.Conn t) → lives (projection (strand.Conn t) ms) ≡ true
-      → Fit b st false (after_word w h.now) (is_to_end (ending_after w) t) (Told w ∷ projection (strand.Conn t) ms) seat [] [] (book.is_open (id.Conn t)) (book.has_ended (id.Conn t)) (book.id_place (id.Conn t)) (book.strand_place (strand.Conn t))
+      → Fit b st (record { seat = seat; threads = []; places = []; in_offers = false; now = after_word w h.now; to_end = is_to_end (ending_after w) t }) (said_of t book) (Told w ∷ projection (strand.Conn t) ms)
   fit-told t seat same live =
       let f = g.each t live in
       let es : List (LocalAction J) = projection (strand.Conn t) ms in
@@ -76,8 +76,8 @@ module _ {J S : Type 0} (b : Behavior J) (st : S → List (LocalAction J) → Ty
       record {
         held = (f.held.0, same ∙ f.held.1, still f.held.0.strand (Told w) es refl f.held.2, f.held.3);
         no_act = rw (none, f.no_act) refl;
-        threads = rw none (f.threads ∙ ap (only (strand.Conn t)) queue);
-        offered = rw none (append-nil _ ∙ f.offered ∙ ap (only (strand.Conn t)) places);
+        threads = rw none (f.threads ∙ ap (only (strand.Conn t)) run_queue);
+        offered = rw none (append-nil _ ∙ f.offered ∙ ap (only (strand.Conn t)) offer_queue);
         no_offer = refl;
         runs_first = λ run on. refl;
         offers_first = λ offer off. refl;
@@ -87,42 +87,42 @@ module _ {J S : Type 0} (b : Behavior J) (st : S → List (LocalAction J) → Ty
         stopping = stopping-told w es t (f.stopping ∙ ap (λ o. is_to_end o t) ending);
         client = f.client;
         no_more = f.no_more;
-        id_aside = f.id_aside;
-        strand_aside = f.strand_aside;
       }
 
   -- all are told
-  pub stands-told : (h' : Held S) (book' : Book) → ((s : StrandId) → h'.seats s ≡ h.seats s) → h'.queue ≡ h.queue → h'.places ≡ h.places → h'.in_offers ≡ h.in_offers → h'.now ≡ after_word w h.now → h'.connections ≡ h.connections → h'.ending ≡ ending_after w
-      → book'.history ≡ told (word_entry w ∷ []) book.history → book'.offered ≡ book.offered
-      → ((y : Id) → book'.is_open y ≡ book.is_open y) → ((y : Id) → book'.has_ended y ≡ book.has_ended y) → ((y : Id) → book'.id_place y ≡ book.id_place y) → ((s : StrandId) → book'.strand_place s ≡ book.strand_place s) → book'.arrivals ≡ book.arrivals
+  pub stands-told : (h' : Held S) (book' : Book) → ((s : StrandId) → h'.seats s ≡ h.seats s) → h'.run_queue ≡ h.run_queue → h'.offer_queue ≡ h.offer_queue → h'.in_offers ≡ h.in_offers → h'.now ≡ after_word w h.now → h'.connections ≡ h.connections → h'.ending ≡ ending_after w
+      → book'.history ≡ told (word_entry w ∷ []) book.history → book'.offered ≡ book.offered → KeepsIds book book'
       → Standing b st h' book' (Everyone w ∷ ms)
-  stands-told h' book' seats queues lists phase now count ends history offers opened ended aside own_aside arrivals =
+  stands-told h' book' seats runs_same offers_same phase now count ends history offers ids =
+      let arrivals : book'.arrivals ≡ book.arrivals = ids.arrivals in
       let lived = λ (t : ℕ) (gone : lives (projection (strand.Conn t) (Everyone w ∷ ms)) ≡ false). by_test (lives (projection (strand.Conn t) ms))
       (λ live. clash (let one : lives (Told w ∷ projection (strand.Conn t) ms) ≡ true = live in ap lives (heard (lives (projection (strand.Conn t) ms)) w (projection (strand.Conn t) ms) live) ∙ one) gone)
       (λ off. off) in
       record {
         each = λ t on. by_test (lives (projection (strand.Conn t) ms))
-            (λ live. fit-same (phase ∙ running) now (ap (λ o. is_to_end o t) ends) (heard (lives (projection (strand.Conn t) ms)) w (projection (strand.Conn t) ms) live) refl (ap (only (strand.Conn t)) (queues ∙ queue)) (ap (only (strand.Conn t)) (lists ∙ places)) (opened (id.Conn t)) (ended (id.Conn t)) (aside (id.Conn t)) (own_aside (strand.Conn t)) (fit-told t (h'.seats (strand.Conn t)) (seats (strand.Conn t)) live))
+            (λ live. fit-same (phase ∙ running) now (ap (λ o. is_to_end o t) ends) (heard (lives (projection (strand.Conn t) ms)) w (projection (strand.Conn t) ms) live) refl (ap (only (strand.Conn t)) (runs_same ∙ run_queue)) (ap (only (strand.Conn t)) (offers_same ∙ offer_queue)) (ids.is_open (id.Conn t)) (ids.has_ended (id.Conn t)) (fit-told t (h'.seats (strand.Conn t)) (seats (strand.Conn t)) live))
             (λ gone. clash on (ap lives (unheard (lives (projection (strand.Conn t) ms)) w (projection (strand.Conn t) ms) gone) ∙ gone));
         dead = λ t gone. seats (strand.Conn t) ∙ g.dead t (lived t gone);
-        closed = λ t gone. opened (id.Conn t) ∙ g.closed t (lived t gone);
+        closed = λ t gone. ids.is_open (id.Conn t) ∙ g.closed t (lived t gone);
         shut = λ t gone q. ap (is_open q) (unheard (lives (projection (strand.Conn t) ms)) w (projection (strand.Conn t) ms) (lived t gone)) ∙ g.shut t (lived t gone) q;
+        aside = λ s. ids.strand_aside s ∙ g.aside s ∙ sym (by_test (lives (projection s ms)) (λ live. ap lives (heard (lives (projection s ms)) w (projection s ms) live)) (λ gone. ap lives (unheard (lives (projection s ms)) w (projection s ms) gone)));
         flip_to_runs = λ run on. absurd (let e : false ≡ true = on in cc);
-        flip_to_offers = λ offer off. queues ∙ queue;
+        flip_to_offers = λ offer off. runs_same ∙ run_queue;
         common = record {
           alone = alone-told;
           begins = g.common.begins;
-          given = (g.common.given, λ e. at-rest b st ms h book g queue places ending);
-          kept = (g.common.kept, λ e. none-holds b st ms h book g queue places ending keeps);
+          given = (g.common.given, λ e. at-rest b st ms h book g run_queue offer_queue ending);
+          kept = (g.common.kept, λ e. none-holds b st ms h book g run_queue offer_queue ending keeps);
           plain = g.common.plain;
-          runs = rw queues g.common.runs;
-          offered = rw lists g.common.offered;
+          runs = rw runs_same g.common.runs;
+          offered = rw offers_same g.common.offered;
           turns = g.common.turns;
           told = tells-more book.history book'.history (word_entry w ∷ []) (external b ms) g.common.told history;
           offers_told = tells-same book.offered book'.offered (offered_lengths b ms) g.common.offers_told offers;
           unborn = λ t past. unheard (lives (projection (strand.Conn t) ms)) w (projection (strand.Conn t) ms) (ap lives (g.common.unborn t (rw arrivals at past))) ∙ g.common.unborn t (rw arrivals at past);
           jobless = λ n. unheard (lives (projection (strand.Job n) ms)) w (projection (strand.Job n) ms) (ap lives (g.common.jobless n)) ∙ g.common.jobless n;
-          no_socket = λ n. opened (id.Sock n) ∙ g.common.no_socket n;
+          no_socket = λ n. ids.is_open (id.Sock n) ∙ g.common.no_socket n;
+          asides = (same-keeps 0 ids).asides g.common.asides;
           count = g.common.count ∙ sym count;
           present = present-told w ms ∙ ap (after_word w) g.common.present ∙ sym now;
         };
@@ -160,10 +160,11 @@ module _ {J S : Type 0} (b : Behavior J) (st : S → List (LocalAction J) → Ty
   -- no strand that lives is still to be ended
   pub stands-ended : (h' : Held S) → ((t : ℕ) → is_after last t ≡ true → h.seats (strand.Conn t) ≡ None) → h' ≡ record h { ending = stop.Over } → Standing b st h' book ms
   stands-ended h' none held = rw held (record {
-    each = λ t live. fit-same refl refl (sym (ap (λ o. is_to_end o t) ending ∙ by_test (is_after last t) (λ on. absurd (seated t live (none t on))) (λ off. off))) refl refl refl refl refl refl refl refl (g.each t live);
+    each = λ t live. fit-same refl refl (sym (ap (λ o. is_to_end o t) ending ∙ by_test (is_after last t) (λ on. absurd (seated t live (none t on))) (λ off. off))) refl refl refl refl refl refl (g.each t live);
     dead = g.dead;
     closed = g.closed;
     shut = g.shut;
+    aside = g.aside;
     flip_to_runs = g.flip_to_runs;
     flip_to_offers = g.flip_to_offers;
     common = g.common;
@@ -173,9 +174,9 @@ module _ {J S : Type 0} (b : Behavior J) (st : S → List (LocalAction J) → Ty
   pub turn-halt : (asks : (es : List (LocalAction J)) → IsLastAct (b.acts es)) (c : ℕ) (x : Seat S) (h' : Held S)
       → is_after last c ≡ true → ((t : ℕ) → is_after last t ≡ true → t < c → h.seats (strand.Conn t) ≡ None)
       → h.seats (strand.Conn c) ≡ Some x → h.in_offers ≡ false
-      → ((s : StrandId) → h'.seats s ≡ (if same_strand s (strand.Conn c) then None else h.seats s)) → h'.queue ≡ h.queue → h'.places ≡ h.places → h'.in_offers ≡ h.in_offers → h'.now ≡ h.now → h'.connections ≡ h.connections → h'.ending ≡ stop.After (Some c)
+      → ((s : StrandId) → h'.seats s ≡ (if same_strand s (strand.Conn c) then None else h.seats s)) → h'.run_queue ≡ h.run_queue → h'.offer_queue ≡ h.offer_queue → h'.in_offers ≡ h.in_offers → h'.now ≡ h.now → h'.connections ≡ h.connections → h'.ending ≡ stop.After (Some c)
       → Turn b st c x.strand seen.Stop false x.is_open h' book ms
-  turn-halt asks c x h' after first here running seats queues lists phase now count ends =
+  turn-halt asks c x h' after first here running seats runs_same offers_same phase now count ends =
       let z : Action J = Halted in
       let es : List (LocalAction J) = projection (strand.Conn c) ms in
       let live : lives es ≡ true = seat-lives b st c ms h book x g here in
@@ -187,9 +188,9 @@ module _ {J S : Type 0} (b : Behavior J) (st : S → List (LocalAction J) → Ty
         | inl less ↦ not-after c t (omega (arith, less)) ∙ sym (ap (λ o. is_to_end o t) ending ∙ passed t less alive)
         | inr more ↦ sym (ap (λ o. is_to_end o t) ending ∙ after-more last c t after more)
       ] in
-      let a = around-leave b st c ms h h' h.queue h.places book x g here seats (λ t ne. ap (only (strand.Conn t)) queues) (λ t ne. ap (only (strand.Conn t)) lists) phase now count others g.common.runs g.common.offered in
-      turn-next b st c ms asks seen.Stop x.strand false x.is_open x.is_open h' h' h.queue h.places book book a fits.0 (mine.moment ∙ sym now)
-      (record { seats = λ t ne. refl; queue = λ t ne. refl; places = λ t ne. refl; in_offers = refl; now = refl; ends = λ t ne. refl }) (book-same c book) out
+      let a = around-leave b st c ms h h' h.run_queue h.offer_queue book x g here seats (λ t ne. ap (only (strand.Conn t)) runs_same) (λ t ne. ap (only (strand.Conn t)) offers_same) phase now count others g.common.runs g.common.offered in
+      turn-next b st c ms asks seen.Stop x.strand false x.is_open x.is_open h' h' h.run_queue h.offer_queue book book a fits.0 (mine.moment ∙ sym now)
+      (record { seats = λ t ne. refl; run_queue = λ t ne. refl; offer_queue = λ t ne. refl; in_offers = refl; now = refl; ends = λ t ne. refl }) (book-same c book) out
       (record {
         enabled = (record { living = live; no_act = mine.no_act; no_offer = mine.no_offer }, mine.stopping ∙ ap (λ o. is_to_end o c) ending ∙ after);
         begins = g.common.begins;
@@ -198,13 +199,13 @@ module _ {J S : Type 0} (b : Behavior J) (st : S → List (LocalAction J) → Ty
         plain = g.common.plain;
         turns = (g.common.turns, between b st ms h book g, earlier);
         counts = g.common.count ∙ sym count;
-      }) live (sym fits.1) (mine.client ∙ sym fits.1) mine.no_socket (λ on. mine.id_aside (sym fits.1 ∙ on)) mine.strand_aside refl (λ n. refl) g.common.told g.common.offers_told
-      (rw (queues, append-nil) g.common.runs) (rw (lists, append-nil) g.common.offered)
+      }) live (sym fits.1) (mine.client ∙ sym fits.1) mine.no_socket (g.aside (strand.Conn c) ∙ live) refl g.common.told g.common.offers_told
+      (rw (runs_same, append-nil) g.common.runs) (rw (offers_same, append-nil) g.common.offered)
       (record {
         done = mine.no_act;
         no_use = refl;
-        line = mine.threads ∙ sym (ap (only (strand.Conn c)) queues);
-        list = mine.offered ∙ sym (ap (only (strand.Conn c)) lists);
+        threads = mine.threads ∙ sym (ap (only (strand.Conn c)) runs_same);
+        offered = mine.offered ∙ sym (ap (only (strand.Conn c)) offers_same);
         deadlines = mine.no_deadline;
         kind = sym (phase ∙ running);
         offer = (λ e. absurd (let w : false ≡ true = e in cc));

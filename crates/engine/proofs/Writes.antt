@@ -19,7 +19,7 @@ use Rattle.strand_contract.specs.Order.{run_of, offer_of, all_run, all_readied, 
 use Rattle.engine.specs.Right.{Tells}
 use Rattle.engine.specs.Standing.{Held, Busy, Turn, IsOffer}
 use Rattle.engine.proofs.Lists.{by_test, clash, tells-more}
-use Rattle.engine.proofs.Marks.{SameBook, MayCome, held-same, Begins}
+use Rattle.engine.proofs.Marks.{SameBook, same-keeps, MayCome, held-same, Begins}
 use Rattle.engine.proofs.Turns.{turn-next}
 
 some-left : (q : List ℕ) → 0 < length q → is_some_left q ≡ true
@@ -86,14 +86,14 @@ module _ {J S : Type 0} (b : Behavior J) (st : S → List (LocalAction J) → Ty
   answered given go may live opens no_use no_run no_offer line list kind offer time stop more last told offers_told =
       let a = y.near.around in
       turn-next b st c ms asks given x go o o h h _ _ book book' a y.stands y.near.moment (held-same c h)
-      (record { is_open = λ t ne. ids.is_open (id.Conn t); has_ended = λ t ne. ids.has_ended (id.Conn t); id_place = λ t ne. ids.id_place (id.Conn t); strand_place = λ t ne. ids.strand_place (strand.Conn t) }) a.out may
-      (live ∙ a.alive) (ids.is_open (id.Conn c) ∙ a.line_open) (opens place.Client ∙ a.client) (λ k. opens (place.Sock k) ∙ a.no_socket k) (λ on. ids.id_place (id.Conn c) ∙ a.id_aside on) (ids.strand_place (strand.Conn c) ∙ a.strand_aside refl) ids.arrivals (λ n. ids.is_open (id.Sock n)) told offers_told
+      (same-keeps c ids) a.out may
+      (live ∙ a.alive) (ids.is_open (id.Conn c) ∙ a.connection) (opens place.Client ∙ a.client) (λ k. opens (place.Sock k) ∙ a.no_socket k) (ids.strand_aside (strand.Conn c) ∙ a.own_aside) ids.arrivals told offers_told
       (rw (no_run, append-nil) (rw append-nil at a.common.runs)) (rw (no_offer, append-nil) (rw append-nil at a.common.offered))
       (record {
         done = y.near.to_do;
         no_use = no_use;
-        line = line ∙ sym y.near.threads;
-        list = list ∙ sym y.near.offered ∙ append-nil _;
+        threads = line ∙ sym y.near.threads;
+        offered = list ∙ sym y.near.offered ∙ append-nil _;
         deadlines = sym y.near.deadlines;
         kind = kind ∙ y.near.kind;
         offer = offer;

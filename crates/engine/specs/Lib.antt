@@ -1,4 +1,5 @@
-pub mod Engine
 pub mod Right
+pub mod Stepping
 pub mod Slots
 pub mod Standing
+pub mod Engine

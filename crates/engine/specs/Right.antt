@@ -2,6 +2,7 @@
 use Rattle.std.specs.Prelude.{◌≡◌, ◌⊎◌, ℕ, false, List, [], ◌∷◌, length, Option, Some, None, IfSome}
 use Rattle.resty_base.specs.Counting.{Rose}
 use Rattle.resty_base.specs.declared.names.Id.{Id}
+use Rattle.resty_base.specs.declared.names.StrandId.{StrandId}
 use Rattle.resty_world.specs.declared.entry.Entry.{Entry}
 use Rattle.resty_world.specs.declared.entry.Entry.TheVariants as entry
 use Rattle.resty_world.specs.declared.event.Event.{Event}
@@ -10,7 +11,8 @@ use Rattle.resty_world.specs.Book.{Book}
 use Rattle.resty_world.specs.Given.{IsBadLine}
 use Rattle.strand_contract.specs.Actions.{GlobalAction}
 use Rattle.strand_contract.specs.Behaviors.{Behavior}
-use Rattle.strand_contract.specs.Executions.{external, offered_lengths, IsLawful, IsKept, IsPlain}
+use Rattle.strand_contract.specs.Alone.{lives}
+use Rattle.strand_contract.specs.Executions.{projection, external, offered_lengths, IsLawful, IsKept, IsPlain}
 use Rattle.strand_contract.specs.Order.{IsOrdered}
 use Rattle.engine.specs.declared.server.Ended.{Ended}
 use Rattle.engine.specs.declared.server.Ended.TheVariants as ended
@@ -20,15 +22,17 @@ abbrev pub Tells : {A : Type 0} → Option (List A) → List A → Type 0
 Tells None xs = Unit {0}
 Tells (Some told) xs = told ≡ xs
 
--- a world at which nothing has happened
+-- a world at which nothing has happened, as each is when it's made
 pub record IsFresh (book : Book) : Type 0 where
   pub history : Tells book.history []
   pub offered : Tells book.offered []
   pub arrivals : book.arrivals ≡ 0
   pub dials : book.dials ≡ 0
   pub none_open : (x : Id) → book.is_open x ≡ false
+  pub none_aside : (s : StrandId) → book.strand_aside s ≡ false
 
--- the world's history is that of one execution, which is lawful, kept, plain and ordered
+-- the world's history is that of one execution, which is lawful, kept, plain and ordered; room is set aside for the strands
+-- that live, and for no other
 pub record IsRight {J : Type 0} (b : Behavior J) (book : Book) : Type 0 where
   pub execution : List (GlobalAction J)
   pub history : Tells book.history (external b execution)
@@ -37,6 +41,7 @@ pub record IsRight {J : Type 0} (b : Behavior J) (book : Book) : Type 0 where
   pub kept : IsKept b execution
   pub plain : IsPlain b execution
   pub ordered : IsOrdered b execution
+  pub aside : (s : StrandId) → book.strand_aside s ≡ lives (projection s execution)
 
 -- the events that were given, the newest first
 abbrev pub events_of : List Entry → List Event

@@ -1,38 +1,43 @@
-use crate::Slots;
+//! The engine: what it holds of each strand, and how it takes an event of the world with all turns that follow.
+
+use crate::slots::Slots;
 use resty_base::{Id, Ms, StrandId};
 use resty_world::{Entry, Event, Logged, World, Wrote};
 use std::alloc::Global;
 use std::collections::VecDeque;
 use strand_contract::{Act, Acts, Place, Seen, Start, StrandContract};
 
-/// A strand in its seat, and whether its client's line is open.
+/// A strand in its seat.
 #[derive(Drop)]
-pub struct Seat<S> {
-    pub strand: S,
-    pub is_open: bool,
+pub(crate) struct Seat<S> {
+    strand: S,
+    /// Whether its client's connection is open.
+    is_open: bool,
+    /// Whether it wants bytes of its client, as the world was told last.
+    wanted: bool,
 }
 
-/// The strands that live, their threads and their places in line.
+/// The strands that live, the threads that are to run, and the places that are to be offered.
 #[derive(Drop)]
 pub struct Engine<S> {
-    pub alloc: Global,
-    pub seats: Slots<Seat<S>>,
-    pub queue: VecDeque<(StrandId, u32)>,
-    pub places: VecDeque<(StrandId, Place)>,
+    alloc: Global,
+    seats: Slots<Seat<S>>,
+    run_queue: VecDeque<(StrandId, u32)>,
+    offer_queue: VecDeque<(StrandId, Place)>,
     /// Whether places are offered now, and no threads run.
-    pub in_offers: bool,
-    pub now: Ms,
+    in_offers: bool,
+    now: Ms,
     /// How many connections are open.
-    pub connections: u64,
+    connections: u64,
     /// Which strands are still to be ended by Stop.
-    pub ending: Ending,
-    /// Whether a log line wasn't written.
-    pub log_failed: bool,
+    ending: Ending,
+    /// Whether a log line wasn't written in this step.
+    log_failed: bool,
 }
 
 /// Which strands Stop is still to end.
 #[derive(Clone, Copy, Debug, PartialEq, Eq)]
-pub enum Ending {
+pub(crate) enum Ending {
     /// None: Stop wasn't given, or has ended all.
     Over,
     /// Each that began after this connection; after none, all.
@@ -41,7 +46,7 @@ pub enum Ending {
 
 /// How an act was carried out.
 #[derive(Clone, Copy, Debug, PartialEq, Eq)]
-pub enum Carried {
+pub(crate) enum Carried {
     Done,
     /// The strand's life is over.
     Over,
@@ -49,31 +54,38 @@ pub enum Carried {
     Wanting,
 }
 
+/// What a step came to.
+#[derive(Clone, Copy, Debug, PartialEq, Eq)]
+pub enum Stepped {
+    /// The next event may come.
+    Went,
+    /// The event was Stop.
+    Stopped,
+    /// A log line of this step wasn't written.
+    LogFailed,
+}
+
 impl<S: StrandContract> Engine<S> {
-    ghost use Rattle.std.specs.Prelude.{◌≡◌, ◌<◌, ◌≤◌, ◌+◌, ℕ, List, [], ◌∷◌, Bool, true, false, Some, None, MatchOption, IfSome, length};
-    ghost use Rattle.strand_contract.specs.Actions.{GlobalAction};
-    ghost use Rattle.strand_contract.specs.Alone.{offering};
-    ghost use Rattle.strand_contract.specs.Executions.{projection};
+    ghost use Rattle.std.specs.Prelude.{◌≡◌, ◌<◌, ◌≤◌, ◌+◌, List, [], ◌∷◌, Bool, true, false, MatchOption, IfSome, length};
     ghost use Rattle.strand_contract.specs.Laws.{is_own_turn};
     ghost use Rattle.strand_contract.specs.declared.turns.Act.{Act};
     ghost use Rattle.resty_world.specs.Book.{Book};
     ghost use Rattle.resty_world.specs.Given.{Gave};
-    ghost use Rattle.resty_world.specs.declared.event.Event.{Event};
     ghost use Rattle.resty_base.specs.declared.names.Id.{Id};
     ghost use Rattle.engine.specs.Right.{IsFresh};
-    ghost use Rattle.engine.specs.Standing.{Standing, Busy, Falls, Turn};
-    ghost use Rattle.engine.specs.Engine.{view_of, Stands, Rests, work, left_of, Goes, shown, is_stop};
+    ghost use Rattle.engine.specs.Stepping.{Steps, Goes, is_stop};
+    ghost use Rattle.engine.specs.Engine.{Stands, Rests, IsGiven, IsShown, IsTurn, IsBusy, IsDone, IsFalling, IsCarried};
+    ghost use Rattle.engine.specs.Engine.{Works, KeepsPhase, work, left_of};
 
     /// No strands, at the moment 0; takes no memory.
     pub fn new(alloc: Global) -> Engine<S>
-        ensures rests { (site : S.Site) (book : Book) → IsFresh book → Rests (S.behavior site) (S.stands site) result book }
-        ensures log_failed { result.log_failed ≡ false }
+        ensures { (site : S.Site) (book : Book) → IsFresh book → Rests (S.behavior site) (S.stands site) result book }
     {
         Engine {
             alloc,
             seats: Slots::new(alloc),
-            queue: VecDeque::new(alloc),
-            places: VecDeque::new(alloc),
+            run_queue: VecDeque::new(alloc),
+            offer_queue: VecDeque::new(alloc),
             in_offers: false,
             now: Ms(0),
             connections: 0,
@@ -82,58 +94,59 @@ impl<S: StrandContract> Engine<S> {
         }
     }
 
-    /// Gives a strand up: tells that it was dropped, and closes its line.
-    fn give_up<W: World>(&mut self, site: &S::Site, connection: u64, is_open: bool, world: &mut W)
-        requires { (ms : List (GlobalAction S.Job)) × Falls (S.behavior site.now) (S.stands site.now) connection is_open (view_of self.old) (W.book world.old) ms }
-        ensures standing { Stands (S.behavior site.now) (S.stands site.now) self.new (W.book world.new) }
-        ensures goes { Goes W.same W.book world.old world.new self.old.log_failed self.new.log_failed }
-        ensures in_offers { self.new.in_offers ≡ self.old.in_offers }
-        ensures ending { self.new.ending ≡ self.old.ending }
-        ensures seats { self.new.seats ≡ self.old.seats }
-        ensures queue { self.new.queue ≡ self.old.queue }
-        ensures places { self.new.places ≡ self.old.places }
+    /// Gives a strand up: notes that it was dropped, and closes its connection.
+    fn give_up<W: World>(&mut self, connection: u64, is_open: bool, world: &mut W)
+        requires { (site : S.Site) × IsFalling (S.behavior site) (S.stands site) connection is_open self.old (W.book world.old) }
+        ensures standing { (site : S.Site) → IsFalling (S.behavior site) (S.stands site) connection is_open self.old (W.book world.old)
+            → Stands (S.behavior site) (S.stands site) self.new (W.book world.new) }
+        ensures works { Works W.same W.book self.old self.new world.old world.new }
+        ensures kept { self.new ≡ record self.old { connections = self.new.connections } }
     {
-        let _ = site;
         let _ = world.note(Entry::Dropped(StrandId::Conn(connection)));
         if is_open {
             world.hang_up(Id::Conn(connection));
             self.connections = self.connections.saturating_sub(1);
         }
+        world.forget(StrandId::Conn(connection));
     }
 
     /// Carries out one act of a turn.
     fn carry_out<W: World>(
         &mut self,
-        site: &S::Site,
         connection: u64,
-        is_open: &mut bool,
+        seat: &mut Seat<S>,
         act: Act<S::Job>,
         world: &mut W,
     ) -> Carried
-        requires { (x : S) × (rest : List (Act S.Job)) × (go : Bool) × (ms : List (GlobalAction S.Job)) × Busy (S.behavior site.now) (S.stands site.now) connection x (act ∷ rest) go is_open.old (view_of self.old) (W.book world.old) ms }
-        ensures done { result ≡ Carried.Done → (x : S) (rest : List (Act S.Job)) (go : Bool) (ms : List (GlobalAction S.Job)) → Busy (S.behavior site.now) (S.stands site.now) connection x (act ∷ rest) go is_open.old (view_of self.old) (W.book world.old) ms
-            → (ms' : List (GlobalAction S.Job)) × Busy (S.behavior site.now) (S.stands site.now) connection x rest go is_open.new (view_of self.new) (W.book world.new) ms' }
-        ensures over { result ≡ Carried.Over → Stands (S.behavior site.now) (S.stands site.now) self.new (W.book world.new) }
-        ensures wanting { result ≡ Carried.Wanting → (ms : List (GlobalAction S.Job)) × Falls (S.behavior site.now) (S.stands site.now) connection is_open.new (view_of self.new) (W.book world.new) ms }
-        ensures goes { Goes W.same W.book world.old world.new self.old.log_failed self.new.log_failed }
-        ensures in_offers { self.new.in_offers ≡ self.old.in_offers }
-        ensures ending { self.new.ending ≡ self.old.ending }
+        requires { (site : S.Site) × (rest : List (Act S.Job)) × (go : Bool)
+            × IsBusy (S.behavior site) (S.stands site) connection seat.old (act ∷ rest) go self.old (W.book world.old) }
+        ensures carried { (site : S.Site) (rest : List (Act S.Job)) (go : Bool)
+            → IsBusy (S.behavior site) (S.stands site) connection seat.old (act ∷ rest) go self.old (W.book world.old)
+            → IsCarried (S.behavior site) (S.stands site) connection seat.new rest go self.new (W.book world.new) result }
+        ensures works { Works W.same W.book self.old self.new world.old world.new }
+        ensures phase { KeepsPhase self.old self.new }
+        ensures strand { seat.new.strand ≡ seat.old.strand }
         ensures work { work S.left self.new ≤ work S.left self.old + 1 }
     {
-        let _ = site;
         match act {
-            Act::Ready(thread) => match self.queue.push_back((StrandId::Conn(connection), thread)) {
+            Act::Ready(thread) => match self
+                .run_queue
+                .push_back((StrandId::Conn(connection), thread))
+            {
                 Ok(()) => Carried::Done,
                 Err(_) => Carried::Wanting,
             },
-            Act::Offer(place) => match self.places.push_back((StrandId::Conn(connection), place)) {
+            Act::Offer(place) => match self
+                .offer_queue
+                .push_back((StrandId::Conn(connection), place))
+            {
                 Ok(()) => Carried::Done,
                 Err(_) => Carried::Wanting,
             },
             Act::HangUp(place) => match place {
                 Place::Client => {
                     world.hang_up(Id::Conn(connection));
-                    *is_open = false;
+                    seat.is_open = false;
                     self.connections = self.connections.saturating_sub(1);
                     Carried::Done
                 }
@@ -151,7 +164,10 @@ impl<S: StrandContract> Engine<S> {
                 }
                 Logged::Memory => Carried::Wanting,
             },
-            Act::Gone => Carried::Over,
+            Act::Gone => {
+                world.forget(StrandId::Conn(connection));
+                Carried::Over
+            }
             // There are no deadlines, sockets, dictionaries, pools and timers yet.
             _ => Carried::Wanting,
         }
@@ -160,36 +176,31 @@ impl<S: StrandContract> Engine<S> {
     /// Carries out the acts of a turn; the strand comes back if it still lives.
     fn carry<W: World>(
         &mut self,
-        site: &S::Site,
         connection: u64,
-        seat: Seat<S>,
+        mut seat: Seat<S>,
         mut acts: Acts<S::Job>,
         going: bool,
         world: &mut W,
     ) -> Option<Seat<S>>
-        requires { (ms : List (GlobalAction S.Job)) × Busy (S.behavior site.now) (S.stands site.now) connection seat.strand acts.items going seat.is_open (view_of self.old) (W.book world.old) ms }
-        ensures lives { MatchOption result (Stands (S.behavior site.now) (S.stands site.now) self.new (W.book world.new))
-            (λ next. (ms : List (GlobalAction S.Job)) × Busy (S.behavior site.now) (S.stands site.now) connection next.strand [] going next.is_open (view_of self.new) (W.book world.new) ms) }
-        ensures goes { Goes W.same W.book world.old world.new self.old.log_failed self.new.log_failed }
-        ensures in_offers { self.new.in_offers ≡ self.old.in_offers }
-        ensures ending { self.new.ending ≡ self.old.ending }
+        requires { (site : S.Site) × IsBusy (S.behavior site) (S.stands site) connection seat acts.items going self.old (W.book world.old) }
+        ensures lives { (site : S.Site) → IsBusy (S.behavior site) (S.stands site) connection seat acts.items going self.old (W.book world.old)
+            → MatchOption result (Stands (S.behavior site) (S.stands site) self.new (W.book world.new))
+            (λ next. IsBusy (S.behavior site) (S.stands site) connection next [] going self.new (W.book world.new)) }
+        ensures works { Works W.same W.book self.old self.new world.old world.new }
+        ensures phase { KeepsPhase self.old self.new }
         ensures work { work S.left self.new + left_of S.left result ≤ work S.left self.old + S.left seat.strand + length acts.items }
     {
-        let Seat {
-            strand,
-            mut is_open,
-        } = seat;
         while let Some(act) = acts.pop_front() {
-            match self.carry_out(site, connection, &mut is_open, act, world) {
+            match self.carry_out(connection, &mut seat, act, world) {
                 Carried::Done => {}
                 Carried::Over => return None,
                 Carried::Wanting => {
-                    self.give_up(site, connection, is_open, world);
+                    self.give_up(connection, seat.is_open, world);
                     return None;
                 }
             }
         }
-        Some(Seat { strand, is_open })
+        Some(seat)
     }
 
     /// Shows the strand something, and carries out what follows; it comes back if it still lives.
@@ -202,37 +213,51 @@ impl<S: StrandContract> Engine<S> {
         going: bool,
         world: &mut W,
     ) -> Option<Seat<S>>
-        requires { (ms : List (GlobalAction S.Job)) × Turn (S.behavior site.now) (S.stands site.now) connection seat.strand seen going seat.is_open (view_of self.old) (W.book world.old) ms }
+        requires { IsTurn (S.behavior site.now) (S.stands site.now) connection seat seen going self.old (W.book world.old) }
         ensures lives { MatchOption result (Stands (S.behavior site.now) (S.stands site.now) self.new (W.book world.new))
-            (λ next. (ms : List (GlobalAction S.Job)) × Busy (S.behavior site.now) (S.stands site.now) connection next.strand [] going next.is_open (view_of self.new) (W.book world.new) ms) }
-        ensures goes { Goes W.same W.book world.old world.new self.old.log_failed self.new.log_failed }
-        ensures in_offers { self.new.in_offers ≡ self.old.in_offers }
-        ensures ending { self.new.ending ≡ self.old.ending }
+            (λ next. IsBusy (S.behavior site.now) (S.stands site.now) connection next [] going self.new (W.book world.new)) }
+        ensures works { Works W.same W.book self.old self.new world.old world.new }
+        ensures phase { KeepsPhase self.old self.new }
         ensures work { is_own_turn seen ≡ true → work S.left self.new + left_of S.left result ≤ work S.left self.old + S.left seat.strand }
-        ensures less { is_own_turn seen ≡ true → IfSome result (λ next. work S.left self.new + S.left next.strand < work S.left self.old + S.left seat.strand) }
+        ensures less { is_own_turn seen ≡ true
+            → IfSome result (λ next. work S.left self.new + S.left next.strand < work S.left self.old + S.left seat.strand) }
     {
         match seat.strand.given(self.alloc, site, self.now, seen) {
-            Ok(acts) => self.carry(site, connection, seat, acts, going, world),
+            Ok(acts) => self.carry(connection, seat, acts, going, world),
             Err(_) => {
-                self.give_up(site, connection, seat.is_open, world);
+                self.give_up(connection, seat.is_open, world);
                 None
             }
         }
     }
 
+    /// Says to the world whether the strand wants bytes of its client, where that changed and the connection is open.
+    fn say_wanted<W: World>(connection: u64, seat: &mut Seat<S>, world: &mut W)
+        requires { seat.old.is_open ≡ true → (W.book world.old).is_open (Id.Conn connection) ≡ true }
+        ensures seat { seat.new ≡ record seat.old { wanted = seat.new.wanted } }
+        ensures book { W.book world.new ≡ W.book world.old }
+        ensures same { W.same world.old world.new }
+    {
+        let wanted = seat.strand.wants(Place::Client);
+        if seat.is_open && wanted != seat.wanted {
+            world.wants(Id::Conn(connection), wanted);
+            seat.wanted = wanted;
+        }
+    }
+
     /// Gives a strand its seat again, once its turn is over.
-    fn put_back<W: World>(&mut self, site: &S::Site, connection: u64, seat: Seat<S>, world: &mut W)
-        requires { (go : Bool) × (ms : List (GlobalAction S.Job)) × Busy (S.behavior site.now) (S.stands site.now) connection seat.strand [] go seat.is_open (view_of self.old) (W.book world.old) ms
-            × (offering (S.behavior site.now) (projection (StrandId.Conn connection) ms) ≡ None) }
-        ensures standing { Stands (S.behavior site.now) (S.stands site.now) self.new (W.book world.new) }
-        ensures goes { Goes W.same W.book world.old world.new self.old.log_failed self.new.log_failed }
-        ensures in_offers { self.new.in_offers ≡ self.old.in_offers }
-        ensures ending { self.new.ending ≡ self.old.ending }
+    fn put_back<W: World>(&mut self, connection: u64, mut seat: Seat<S>, world: &mut W)
+        requires { (site : S.Site) × IsDone (S.behavior site) (S.stands site) connection seat self.old (W.book world.old) }
+        ensures standing { (site : S.Site) → IsDone (S.behavior site) (S.stands site) connection seat self.old (W.book world.old)
+            → Stands (S.behavior site) (S.stands site) self.new (W.book world.new) }
+        ensures works { Works W.same W.book self.old self.new world.old world.new }
+        ensures phase { KeepsPhase self.old self.new }
         ensures work { work S.left self.new ≤ work S.left self.old + S.left seat.strand }
     {
+        Self::say_wanted(connection, &mut seat, world);
         let is_open = seat.is_open;
         if !self.seats.put_back(connection, seat) {
-            self.give_up(site, connection, is_open, world);
+            self.give_up(connection, is_open, world);
         }
     }
 
@@ -245,33 +270,31 @@ impl<S: StrandContract> Engine<S> {
         seen: Seen,
         world: &mut W,
     )
-        requires { (ms : List (GlobalAction S.Job)) × Turn (S.behavior site.now) (S.stands site.now) connection seat.strand seen false seat.is_open (view_of self.old) (W.book world.old) ms }
+        requires { IsTurn (S.behavior site.now) (S.stands site.now) connection seat seen false self.old (W.book world.old) }
         ensures standing { Stands (S.behavior site.now) (S.stands site.now) self.new (W.book world.new) }
-        ensures goes { Goes W.same W.book world.old world.new self.old.log_failed self.new.log_failed }
-        ensures in_offers { self.new.in_offers ≡ self.old.in_offers }
-        ensures ending { self.new.ending ≡ self.old.ending }
+        ensures works { Works W.same W.book self.old self.new world.old world.new }
+        ensures phase { KeepsPhase self.old self.new }
         ensures work { is_own_turn seen ≡ true → work S.left self.new ≤ work S.left self.old + S.left seat.strand }
     {
         if let Some(next) = self.show(site, connection, seat, seen, false, world) {
-            self.put_back(site, connection, next, world);
+            self.put_back(connection, next, world);
         }
     }
 
-    /// Runs the first thread in line whose strand lives, and tells whether there was one.
+    /// Runs the first thread in the queue whose strand lives, and says whether there was one.
     fn run_next<W: World>(&mut self, site: &S::Site, world: &mut W) -> bool
         requires standing { Stands (S.behavior site.now) (S.stands site.now) self.old (W.book world.old) }
         requires in_offers { self.old.in_offers ≡ false }
         requires ending { self.old.ending ≡ Ending.Over }
         ensures standing { Stands (S.behavior site.now) (S.stands site.now) self.new (W.book world.new) }
-        ensures goes { Goes W.same W.book world.old world.new self.old.log_failed self.new.log_failed }
-        ensures in_offers { self.new.in_offers ≡ false }
-        ensures ending { self.new.ending ≡ Ending.Over }
-        ensures none { result ≡ false → self.new.queue.items ≡ [] }
-        ensures places { result ≡ false → self.new.places.items ≡ self.old.places.items }
+        ensures works { Works W.same W.book self.old self.new world.old world.new }
+        ensures phase { KeepsPhase self.old self.new }
+        ensures none { result ≡ false → self.new.run_queue.items ≡ [] }
+        ensures offers { result ≡ false → self.new.offer_queue.items ≡ self.old.offer_queue.items }
         ensures kept { work S.left self.new ≤ work S.left self.old }
         ensures less { result ≡ true → work S.left self.new < work S.left self.old }
     {
-        while let Some((who, thread)) = self.queue.pop_front() {
+        while let Some((who, thread)) = self.run_queue.pop_front() {
             if let Some(seat) = self.seats.take_out(who) {
                 if let StrandId::Conn(connection) = who {
                     self.take_turn(site, connection, seat, Seen::Run(thread), world);
@@ -282,19 +305,18 @@ impl<S: StrandContract> Engine<S> {
         false
     }
 
-    /// Offers the client's line piece by piece, until nothing is left or it is put off.
+    /// Offers what the client is sent piece by piece, until nothing is left or it is put off.
     fn offer<W: World>(&mut self, site: &S::Site, connection: u64, mut seat: Seat<S>, world: &mut W)
-        requires { (ms : List (GlobalAction S.Job)) × Busy (S.behavior site.now) (S.stands site.now) connection seat.strand [] true seat.is_open (view_of self.old) (W.book world.old) ms }
+        requires { IsBusy (S.behavior site.now) (S.stands site.now) connection seat [] true self.old (W.book world.old) }
         ensures standing { Stands (S.behavior site.now) (S.stands site.now) self.new (W.book world.new) }
-        ensures goes { Goes W.same W.book world.old world.new self.old.log_failed self.new.log_failed }
-        ensures in_offers { self.new.in_offers ≡ self.old.in_offers }
-        ensures ending { self.new.ending ≡ self.old.ending }
+        ensures works { Works W.same W.book self.old self.new world.old world.new }
+        ensures phase { KeepsPhase self.old self.new }
         ensures work { work S.left self.new ≤ work S.left self.old + S.left seat.strand }
     {
         loop {
             let piece = seat.strand.queued(site, Place::Client);
             if piece.is_empty() {
-                self.put_back(site, connection, seat, world);
+                self.put_back(connection, seat, world);
                 return;
             }
             match world.put_bytes(self.alloc, Id::Conn(connection), piece) {
@@ -318,28 +340,27 @@ impl<S: StrandContract> Engine<S> {
                     return;
                 }
                 Wrote::Memory => {
-                    self.give_up(site, connection, seat.is_open, world);
+                    self.give_up(connection, seat.is_open, world);
                     return;
                 }
             }
         }
     }
 
-    /// Offers the first place in line whose strand lives, and tells whether there was one.
+    /// Offers the first place in the queue whose strand lives, and says whether there was one.
     fn offer_next<W: World>(&mut self, site: &S::Site, world: &mut W) -> bool
         requires standing { Stands (S.behavior site.now) (S.stands site.now) self.old (W.book world.old) }
         requires in_offers { self.old.in_offers ≡ true }
         requires ending { self.old.ending ≡ Ending.Over }
         ensures standing { Stands (S.behavior site.now) (S.stands site.now) self.new (W.book world.new) }
-        ensures goes { Goes W.same W.book world.old world.new self.old.log_failed self.new.log_failed }
-        ensures in_offers { self.new.in_offers ≡ true }
-        ensures ending { self.new.ending ≡ Ending.Over }
-        ensures none { result ≡ false → self.new.places.items ≡ [] }
-        ensures queue { result ≡ false → self.new.queue.items ≡ self.old.queue.items }
+        ensures works { Works W.same W.book self.old self.new world.old world.new }
+        ensures phase { KeepsPhase self.old self.new }
+        ensures none { result ≡ false → self.new.offer_queue.items ≡ [] }
+        ensures runs { result ≡ false → self.new.run_queue.items ≡ self.old.run_queue.items }
         ensures kept { work S.left self.new ≤ work S.left self.old }
         ensures less { result ≡ true → work S.left self.new < work S.left self.old }
     {
-        while let Some((who, place)) = self.places.pop_front() {
+        while let Some((who, place)) = self.offer_queue.pop_front() {
             if let Some(seat) = self.seats.take_out(who) {
                 if let StrandId::Conn(connection) = who {
                     self.offer_place(site, connection, place, seat, world);
@@ -359,29 +380,28 @@ impl<S: StrandContract> Engine<S> {
         seat: Seat<S>,
         world: &mut W,
     )
-        requires client { place ≡ Place.Client → (ms : List (GlobalAction S.Job)) × Busy (S.behavior site.now) (S.stands site.now) connection seat.strand [] true seat.is_open (view_of self.old) (W.book world.old) ms }
-        requires falls { (ms : List (GlobalAction S.Job)) × Falls (S.behavior site.now) (S.stands site.now) connection seat.is_open (view_of self.old) (W.book world.old) ms }
+        requires client { place ≡ Place.Client → IsBusy (S.behavior site.now) (S.stands site.now) connection seat [] true self.old (W.book world.old) }
+        requires falls { IsFalling (S.behavior site.now) (S.stands site.now) connection seat.is_open self.old (W.book world.old) }
         ensures standing { Stands (S.behavior site.now) (S.stands site.now) self.new (W.book world.new) }
-        ensures goes { Goes W.same W.book world.old world.new self.old.log_failed self.new.log_failed }
-        ensures in_offers { self.new.in_offers ≡ self.old.in_offers }
-        ensures ending { self.new.ending ≡ self.old.ending }
+        ensures works { Works W.same W.book self.old self.new world.old world.new }
+        ensures phase { KeepsPhase self.old self.new }
         ensures work { work S.left self.new ≤ work S.left self.old + S.left seat.strand }
     {
         match place {
             Place::Client => self.offer(site, connection, seat, world),
             // No strand has a socket yet.
-            Place::Sock(_) => self.give_up(site, connection, seat.is_open, world),
+            Place::Sock(_) => self.give_up(connection, seat.is_open, world),
         }
     }
 
-    /// One turn, of a thread or of a place; false where neither is in line.
+    /// One turn, of a thread or of a place; false where both queues are empty.
     fn turn<W: World>(&mut self, site: &S::Site, world: &mut W) -> bool
         requires standing { Stands (S.behavior site.now) (S.stands site.now) self.old (W.book world.old) }
         requires ending { self.old.ending ≡ Ending.Over }
         ensures standing { Stands (S.behavior site.now) (S.stands site.now) self.new (W.book world.new) }
-        ensures goes { Goes W.same W.book world.old world.new self.old.log_failed self.new.log_failed }
+        ensures works { Works W.same W.book self.old self.new world.old world.new }
         ensures ending { self.new.ending ≡ Ending.Over }
-        ensures none { result ≡ false → (self.new.queue.items ≡ []) × (self.new.places.items ≡ []) }
+        ensures none { result ≡ false → (self.new.run_queue.items ≡ []) × (self.new.offer_queue.items ≡ []) }
         ensures less { result ≡ true → work S.left self.new < work S.left self.old }
     {
         if self.in_offers {
@@ -399,12 +419,12 @@ impl<S: StrandContract> Engine<S> {
         }
     }
 
-    /// All turns, until nothing is in line.
+    /// All turns, until both queues are empty.
     fn settle<W: World>(&mut self, site: &S::Site, world: &mut W)
         requires standing { Stands (S.behavior site.now) (S.stands site.now) self.old (W.book world.old) }
         requires ending { self.old.ending ≡ Ending.Over }
         ensures rests { Rests (S.behavior site.now) (S.stands site.now) self.new (W.book world.new) }
-        ensures goes { Goes W.same W.book world.old world.new self.old.log_failed self.new.log_failed }
+        ensures works { Works W.same W.book self.old self.new world.old world.new }
     {
         while self.turn(site, world) {}
         self.in_offers = false;
@@ -412,14 +432,15 @@ impl<S: StrandContract> Engine<S> {
 
     /// A connection arrived: its strand begins, or it is turned away where as many are open as may be.
     fn arrive<W: World>(&mut self, site: &S::Site, connection: u64, world: &mut W)
-        requires { (before : Book) × Rests (S.behavior site.now) (S.stands site.now) self.old before × Gave before (W.book world.old) (Event.Arrive connection) }
+        requires { IsGiven (S.behavior site.now) (S.stands site.now) self.old (W.book world.old) (Event.Arrive connection) }
         ensures standing { Stands (S.behavior site.now) (S.stands site.now) self.new (W.book world.new) }
-        ensures goes { Goes W.same W.book world.old world.new self.old.log_failed self.new.log_failed }
+        ensures works { Works W.same W.book self.old self.new world.old world.new }
         ensures ending { self.new.ending ≡ Ending.Over }
     {
         if u64::from(S::connections(site)) <= self.connections {
             let _ = world.note(Entry::Turned(connection));
             world.hang_up(Id::Conn(connection));
+            world.forget(StrandId::Conn(connection));
             return;
         }
         self.connections += 1;
@@ -428,20 +449,21 @@ impl<S: StrandContract> Engine<S> {
                 let seat = Seat {
                     strand,
                     is_open: true,
+                    wanted: true,
                 };
-                if let Some(next) = self.carry(site, connection, seat, acts, false, world) {
-                    self.put_back(site, connection, next, world);
+                if let Some(next) = self.carry(connection, seat, acts, false, world) {
+                    self.put_back(connection, next, world);
                 }
             }
-            Err(_) => self.give_up(site, connection, true, world),
+            Err(_) => self.give_up(connection, true, world),
         }
     }
 
     /// Something was given at a connection: its strand's turn.
     fn come<W: World>(&mut self, site: &S::Site, id: Id, seen: Seen, world: &mut W)
-        requires { (before : Book) × (e : Event) × Rests (S.behavior site.now) (S.stands site.now) self.old before × Gave before (W.book world.old) e × (shown e ≡ Some (id, seen)) }
+        requires { IsShown (S.behavior site.now) (S.stands site.now) self.old (W.book world.old) id seen }
         ensures standing { Stands (S.behavior site.now) (S.stands site.now) self.new (W.book world.new) }
-        ensures goes { Goes W.same W.book world.old world.new self.old.log_failed self.new.log_failed }
+        ensures works { Works W.same W.book self.old self.new world.old world.new }
         ensures ending { self.new.ending ≡ Ending.Over }
     {
         if let Id::Conn(connection) = id {
@@ -457,7 +479,7 @@ impl<S: StrandContract> Engine<S> {
         requires in_offers { self.old.in_offers ≡ false }
         requires ending { self.old.ending ≡ Ending.After None }
         ensures standing { Stands (S.behavior site.now) (S.stands site.now) self.new (W.book world.new) }
-        ensures goes { Goes W.same W.book world.old world.new self.old.log_failed self.new.log_failed }
+        ensures works { Works W.same W.book self.old self.new world.old world.new }
         ensures ending { self.new.ending ≡ Ending.Over }
     {
         let mut last = None;
@@ -471,11 +493,11 @@ impl<S: StrandContract> Engine<S> {
         self.ending = Ending::Over;
     }
 
-    /// Takes what the world gave, up to the turns that follow, and tells whether it was Stop.
+    /// Takes what the world gave, up to the turns that follow, and says whether it was Stop.
     fn take<W: World>(&mut self, site: &S::Site, event: Event, world: &mut W) -> bool
-        requires { (before : Book) × Rests (S.behavior site.now) (S.stands site.now) self.old before × Gave before (W.book world.old) event }
+        requires { IsGiven (S.behavior site.now) (S.stands site.now) self.old (W.book world.old) event }
         ensures standing { Stands (S.behavior site.now) (S.stands site.now) self.new (W.book world.new) }
-        ensures goes { Goes W.same W.book world.old world.new self.old.log_failed self.new.log_failed }
+        ensures works { Works W.same W.book self.old self.new world.old world.new }
         ensures ending { self.new.ending ≡ Ending.Over }
         ensures stops { result ≡ is_stop event }
     {
@@ -502,15 +524,22 @@ impl<S: StrandContract> Engine<S> {
         false
     }
 
-    /// Takes what the world gave, with all turns that follow, and tells whether it was Stop.
-    pub fn step<W: World>(&mut self, site: &S::Site, event: Event, world: &mut W) -> bool
-        requires { (before : Book) × Rests (S.behavior site.now) (S.stands site.now) self.old before × Gave before (W.book world.old) event }
+    /// Takes what the world gave, with all turns that follow.
+    pub fn step<W: World>(&mut self, site: &S::Site, event: Event, world: &mut W) -> Stepped
+        requires { IsGiven (S.behavior site.now) (S.stands site.now) self.old (W.book world.old) event }
         ensures rests { Rests (S.behavior site.now) (S.stands site.now) self.new (W.book world.new) }
-        ensures goes { Goes W.same W.book world.old world.new self.old.log_failed self.new.log_failed }
-        ensures stops { result ≡ is_stop event }
+        ensures goes { Goes W.same W.book world.old world.new }
+        ensures stepped { Steps event (W.book world.old) (W.book world.new) result }
     {
+        self.log_failed = false;
         let is_stop = self.take(site, event, world);
         self.settle(site, world);
-        is_stop
+        if self.log_failed {
+            Stepped::LogFailed
+        } else if is_stop {
+            Stepped::Stopped
+        } else {
+            Stepped::Went
+        }
     }
 }

@@ -1,10 +1,9 @@
-//! Many strands over one world: one line of threads, one list of offers, a place for each strand that lives.
+//! Many strands over one world: a queue of threads, a queue of offers, and a seat for each strand that lives.
 #![tactic(auto)]
 
 mod engine;
 mod server;
 mod slots;
 
-pub use engine::{Carried, Ending, Engine, Seat};
+pub use engine::{Engine, Stepped};
 pub use server::{Ended, serve};
-pub use slots::Slots;

@@ -1,6 +1,8 @@
+//! Serving a world: its events, one after another, until Stop or a fault.
+
 ghost use Rattle.engine.specs.Right.{IsFresh, IsRight, EndsBy};
 
-use crate::Engine;
+use crate::{Engine, Stepped};
 use resty_world::{Event, World};
 use std::alloc::Global;
 use strand_contract::StrandContract;
@@ -16,7 +18,7 @@ pub enum Ended {
     WorldFault,
     /// This line of the world's schedule names an id that was never there.
     BadLine(u64),
-    /// Want of memory.
+    /// Out of memory.
     Memory,
 }
 
@@ -39,16 +41,11 @@ pub fn serve<S: StrandContract, W: World>(
             Event::Fault => return Ended::WorldFault,
             Event::BadLine(line) => return Ended::BadLine(line),
             Event::Memory => return Ended::Memory,
-            event => {
-                let is_stop = engine.step(&site, event, world);
-                if engine.log_failed {
-                    return Ended::WorldFault;
-                }
-                if is_stop {
-                    return Ended::Stopped;
-                }
-                given += 1;
-            }
+            event => match engine.step(&site, event, world) {
+                Stepped::LogFailed => return Ended::WorldFault,
+                Stepped::Stopped => return Ended::Stopped,
+                Stepped::Went => given += 1,
+            },
         }
     }
     Ended::Spent(events)

@@ -4,17 +4,16 @@ use Rattle.resty_world.specs.declared.event.Event.{Event}
 use Rattle.resty_world.specs.declared.event.Event.TheVariants as event
 use Rattle.resty_world.specs.Book.{told}
 use Rattle.resty_world.specs.Given.{Gave, is_event, is_fault}
-use Rattle.engine.specs.Engine.{is_stop, Logs}
-use Rattle.engine.proofs.Serving.{engine-right, right-still, event-or, stopped, stop-only, spent, fresh-spent, faulted, unwritten, logs-flag, fault-free}
+use Rattle.engine.specs.Stepping.{is_stop}
+use Rattle.engine.proofs.Serving.{engine-right, right-still, event-or, stopped, stop-only, spent, fresh-spent, faulted, unwritten, fault-free}
 use Rattle.engine.proofs.server.serve.Goals as goal
 
 pub loop-given-init : goal.loop-given-init
 loop-given-init g c = record {
-  rests = c.new-engine.ensures.rests c.args.site (g.W.World.book c.args.world.now) c.requires;
+  rests = c.new-engine.ensures c.args.site (g.W.World.book c.args.world.now) c.requires;
   same = g.met.W.World.stays _;
   spent = fresh-spent _ c.requires.history;
   faults = refl;
-  log_failed = c.new-engine.ensures.log_failed;
   within = omega arith;
   bound = refl;
 }
@@ -28,52 +27,45 @@ returns-in-BadLine-clause-right g c = right-still _ _ c.loop-given.engine (g.W.W
 pub returns-in-Memory-clause-right : goal.returns-in-Memory-clause-right
 returns-in-Memory-clause-right g c = right-still _ _ c.loop-given.engine (g.W.World.book c.loop-given.world) _ event.Memory (g.met.S.StrandContract.keeps c.args.site) c.loop-given.invariant.rests c.in-Memory.ensures.gave refl
 
-pub returns-then-engine : goal.returns-then-engine
-returns-then-engine g c =
+pub returns-in-LogFailed : goal.returns-in-LogFailed
+returns-in-LogFailed g c =
     let i = c.loop-given.invariant in
-    let s = c.step-is_stop.ensures in
-    let n = (g.W.World.book c.args.world.now).faults in
+    let s = c.in-LogFailed.ensures in
     let gave : Gave (g.W.World.book c.loop-given.world) (g.W.World.book c.next_event.new.self) c.in_default.event = subst (λ (e : Event). Gave (g.W.World.book c.loop-given.world) (g.W.World.book c.next_event.new.self) e) c.in_default.event-is c.next_event.ensures.gave in
     let kind = subst (λ (e : Event). (is_event e ≡ true) × (is_fault e ≡ false)) c.in_default.event-is (event-or c.next_event.result c.in_default.not-Fault c.in_default.not-BadLine c.in_default.not-Memory) in
     let faults = fault-free c.in_default.event _ _ kind.1 gave.faults ∙ i.faults in
-    let l : Logs n true (g.W.World.book c.step-is_stop.new.world) = logs-flag n _ true _ c.if-engine.true (s.goes.logs n (logs-flag n false _ _ (sym i.log_failed) faults)) in
     record {
-      right = engine-right _ _ c.step-is_stop.new.self (g.W.World.book c.step-is_stop.new.world) (g.met.S.StrandContract.keeps c.args.site) s.rests;
-      ended = (l.0, unwritten _ l.1);
+      right = engine-right _ _ c.step.new.self (g.W.World.book c.step.new.world) (g.met.S.StrandContract.keeps c.args.site) s.rests;
+      ended = (rw faults at s.stepped.0, unwritten _ s.stepped.1);
       same = g.met.W.World.joins _ _ _ (g.met.W.World.joins _ _ _ i.same c.next_event.ensures.same) s.goes.later;
     }
 
-pub returns-then-is_stop : goal.returns-then-is_stop
-returns-then-is_stop g c =
+pub returns-in-Stopped : goal.returns-in-Stopped
+returns-in-Stopped g c =
     let i = c.loop-given.invariant in
-    let s = c.step-is_stop.ensures in
-    let n = (g.W.World.book c.args.world.now).faults in
+    let s = c.in-Stopped.ensures in
     let gave : Gave (g.W.World.book c.loop-given.world) (g.W.World.book c.next_event.new.self) c.in_default.event = subst (λ (e : Event). Gave (g.W.World.book c.loop-given.world) (g.W.World.book c.next_event.new.self) e) c.in_default.event-is c.next_event.ensures.gave in
     let kind = subst (λ (e : Event). (is_event e ≡ true) × (is_fault e ≡ false)) c.in_default.event-is (event-or c.next_event.result c.in_default.not-Fault c.in_default.not-BadLine c.in_default.not-Memory) in
     let faults = fault-free c.in_default.event _ _ kind.1 gave.faults ∙ i.faults in
-    let l : Logs n false (g.W.World.book c.step-is_stop.new.world) = logs-flag n _ false _ c.if-engine.false (s.goes.logs n (logs-flag n false _ _ (sym i.log_failed) faults)) in
-    let stop : Gave (g.W.World.book c.loop-given.world) (g.W.World.book c.next_event.new.self) event.Stop = subst (λ (e : Event). Gave (g.W.World.book c.loop-given.world) (g.W.World.book c.next_event.new.self) e) (stop-only c.in_default.event (ap is_stop (sym c.in_default.event-is) ∙ sym s.stops ∙ c.if-is_stop.true)) gave in
+    let stop : Gave (g.W.World.book c.loop-given.world) (g.W.World.book c.next_event.new.self) event.Stop = subst (λ (e : Event). Gave (g.W.World.book c.loop-given.world) (g.W.World.book c.next_event.new.self) e) (stop-only c.in_default.event (ap is_stop (sym c.in_default.event-is) ∙ s.stepped.0)) gave in
     record {
-      right = engine-right _ _ c.step-is_stop.new.self (g.W.World.book c.step-is_stop.new.world) (g.met.S.StrandContract.keeps c.args.site) s.rests;
-      ended = (stopped _ _ _ stop.history s.goes.events, l);
+      right = engine-right _ _ c.step.new.self (g.W.World.book c.step.new.world) (g.met.S.StrandContract.keeps c.args.site) s.rests;
+      ended = (stopped _ _ _ stop.history s.goes.events, s.stepped.1 ∙ faults);
       same = g.met.W.World.joins _ _ _ (g.met.W.World.joins _ _ _ i.same c.next_event.ensures.same) s.goes.later;
     }
 
 pub loop-given-preserved : goal.loop-given-preserved
 loop-given-preserved g c =
     let i = c.loop-given.invariant in
-    let s = c.step-is_stop.ensures in
-    let n = (g.W.World.book c.args.world.now).faults in
+    let s = c.in-Went.ensures in
     let gave : Gave (g.W.World.book c.loop-given.world) (g.W.World.book c.next_event.new.self) c.in_default.event = subst (λ (e : Event). Gave (g.W.World.book c.loop-given.world) (g.W.World.book c.next_event.new.self) e) c.in_default.event-is c.next_event.ensures.gave in
     let kind = subst (λ (e : Event). (is_event e ≡ true) × (is_fault e ≡ false)) c.in_default.event-is (event-or c.next_event.result c.in_default.not-Fault c.in_default.not-BadLine c.in_default.not-Memory) in
     let faults = fault-free c.in_default.event _ _ kind.1 gave.faults ∙ i.faults in
-    let l : Logs n false (g.W.World.book c.step-is_stop.new.world) = logs-flag n _ false _ c.if-engine.false (s.goes.logs n (logs-flag n false _ _ (sym i.log_failed) faults)) in
     record {
       rests = s.rests;
       same = g.met.W.World.joins _ _ _ (g.met.W.World.joins _ _ _ i.same c.next_event.ensures.same) s.goes.later;
-      spent = spent c.loop-given.given _ _ _ c.in_default.event (ap is_stop (sym c.in_default.event-is) ∙ sym s.stops ∙ c.if-is_stop.false) (gave.history ∙ ap (λ v. told (if v then entry.Given c.in_default.event ∷ [] else []) (g.W.World.book c.loop-given.world).history) kind.0) s.goes.events i.spent;
-      faults = l;
-      log_failed = c.if-engine.false;
+      spent = spent c.loop-given.given _ _ _ c.in_default.event (ap is_stop (sym c.in_default.event-is) ∙ s.stepped.0) (gave.history ∙ ap (λ v. told (if v then entry.Given c.in_default.event ∷ [] else []) (g.W.World.book c.loop-given.world).history) kind.0) s.goes.events i.spent;
+      faults = s.stepped.1 ∙ faults;
       within = let more = c.loop-given-test.true in omega (arith, more);
       bound = i.bound;
     }

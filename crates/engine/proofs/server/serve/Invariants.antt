@@ -1,4 +1,4 @@
-use Rattle.std.proofs.Common.{◌≡◌, ◌≤◌, ◌-◌, ℕ, false, IfSome}
+use Rattle.std.proofs.Common.{◌≡◌, ◌≤◌, ◌-◌, ℕ, IfSome}
 use Rattle.engine.specs.Engine.{Rests}
 use Rattle.engine.specs.Right.{IsSpent}
 use Rattle.engine.proofs.server.serve.Given as goal
@@ -9,7 +9,6 @@ invariant-loop-given g l = record {
   same : g.W.World.same l.fn.world l.world;
   spent : IfSome (g.W.World.book l.world).history (IsSpent l.given);
   faults : (g.W.World.book l.world).faults ≡ (g.W.World.book l.fn.world).faults;
-  log_failed : l.engine.log_failed ≡ false;
   within : l.given ≤ l.fn.events;
   bound : l.events ≡ l.fn.events;
 }

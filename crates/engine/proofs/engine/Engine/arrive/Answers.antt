@@ -4,42 +4,71 @@ use Rattle.resty_base.specs.declared.names.StrandId.TheVariants as strand
 use Rattle.strand_contract.specs.declared.turns.Start.TheVariants as start
 use Rattle.strand_contract.specs.Actions.{Of, Began, TurnedAway}
 use Rattle.engine.proofs.Lists.{same-true}
-use Rattle.engine.proofs.Arrivals.{falls-begun, busy-begun, stands-turned}
-use Rattle.engine.proofs.Going.{goes-joins, goes-work, turned-work, closed-work}
+use Rattle.engine.proofs.Arrivals.{falls-begun, busy-begun, stands-turned-away}
+use Rattle.engine.proofs.Seats.{done-of}
+use Rattle.engine.proofs.Going.{goes-joins, goes-work, turned-work, closed-work, forgot-work}
 use Rattle.engine.proofs.engine.Engine.arrive.Goals as goal
 
 pub returns-then-from-self-clause-standing : goal.returns-then-from-self-clause-standing
 returns-then-from-self-clause-standing g c =
     let r = c.requires.1 in
     let gave = c.requires.2 in
-    let n = c.note.ensures in
-    let u = c.hang_up.ensures in
     let k = c.args.connection in
     let full : (g.S.StrandContract.behavior c.args.site.now).connections ≤ c.args.self.now.connections = omega (arith) in (
       TurnedAway k ∷ r.0,
-      stands-turned _ _ r.0 _ c.requires.0 r.1 r.2 r.3 r.4 r.5 (g.met.S.StrandContract.keeps c.args.site.now) k gave.fit (g.W.World.book c.args.world.now) (g.W.World.book c.note.new.self) (g.W.World.book c.hang_up.new.self) gave full n.history u.history (u.offered ∙ n.offered)
-          (record {
-            is_open = λ t ne. u.is_open (id.Conn t) ∙ ap (λ v. if v then false else (g.W.World.book c.note.new.self).is_open (id.Conn t)) ne ∙ n.is_open (id.Conn t);
-            has_ended = λ t ne. u.has_ended (id.Conn t) ∙ n.has_ended (id.Conn t);
-            id_place = λ t ne. u.id_place (id.Conn t) ∙ ap (λ v. if v then false else (g.W.World.book c.note.new.self).id_place (id.Conn t)) ne ∙ n.id_place (id.Conn t);
-            strand_place = λ t ne. u.strand_place (strand.Conn t) ∙ n.strand_place (strand.Conn t) ∙ ap (λ v. if v then false else (g.W.World.book c.args.world.now).strand_place (strand.Conn t)) ne;
-          })
-          (u.is_open (id.Conn k) ∙ ap (λ v. if v then false else (g.W.World.book c.note.new.self).is_open (id.Conn k)) (same-true k)) (u.arrivals ∙ n.arrivals) (λ m. u.is_open (id.Sock m) ∙ n.is_open (id.Sock m)),
+      stands-turned-away _ _ r.0 _ c.requires.0 r.1 r.2.0 r.2.1 r.2.2 r.2.3 (g.met.S.StrandContract.keeps c.args.site.now) k gave.fit (g.W.World.book c.args.world.now) _ _ _ _ gave full c.note.ensures.notes c.hang_up.ensures.hangs_up c.forget.ensures.forgets,
     )
 
-pub returns-then-from-self-clause-goes : goal.returns-then-from-self-clause-goes
-returns-then-from-self-clause-goes g c =
-    goes-joins g.W.World.same g.W.World.book _ c.note.new.self _ _ _ _ (g.met.W.World.joins _ _ _)
-    (goes-work g.W.World.same g.W.World.book _ _ _ _ c.note.ensures.same (turned-work c.args.connection) c.note.ensures.history c.note.ensures.faults)
-    (goes-work g.W.World.same g.W.World.book _ _ _ _ c.hang_up.ensures.same (closed-work (id.Conn c.args.connection)) c.hang_up.ensures.history c.hang_up.ensures.faults)
+pub returns-then-from-self-clause-works : goal.returns-then-from-self-clause-works
+returns-then-from-self-clause-works g c =
+    goes-joins g.W.World.same g.W.World.book _ c.hang_up.new.self _ _ _ _ (g.met.W.World.joins _ _ _)
+    (goes-joins g.W.World.same g.W.World.book _ c.note.new.self _ _ _ _ (g.met.W.World.joins _ _ _)
+    (goes-work g.W.World.same g.W.World.book _ _ _ _ c.note.ensures.same (turned-work c.args.connection) c.note.ensures.notes.history c.note.ensures.notes.counts.faults)
+    (goes-work g.W.World.same g.W.World.book _ _ _ _ c.hang_up.ensures.same (closed-work (id.Conn c.args.connection)) c.hang_up.ensures.hangs_up.history c.hang_up.ensures.hangs_up.counts.faults))
+    (forgot-work g.W.World.same g.W.World.book _ _ _ (strand.Conn c.args.connection) c.forget.ensures.same c.forget.ensures.forgets)
 
 pub carry-requires : goal.carry-requires
 carry-requires g c =
     let r = c.requires.1 in
     let gave = c.requires.2 in
     let room : c.args.self.now.connections < (g.S.StrandContract.behavior c.args.site.now).connections = omega (arith) in (
+      c.args.site.now,
+      (
+        Of (strand.Conn c.args.connection) (Began c.args.self.now.now.0 (start.Client c.args.connection)) None ∷ r.0,
+        busy-begun _ _ r.0 _ c.requires.0 r.1 r.2.0 r.2.1 r.2.2 r.2.3 (g.met.S.StrandContract.keeps c.args.site.now) c.args.connection gave.fit (g.W.World.book c.args.world.now) gave _ room refl (g.met.S.StrandContract.asks_last c.args.site.now) _ _ c.in-Ok.ensures.0 c.in-Ok.ensures.1,
+      ),
+    )
+
+pub put_back-requires : goal.put_back-requires
+put_back-requires g c =
+    let r = c.requires.1 in
+    let gave = c.requires.2 in
+    let room : c.args.self.now.connections < (g.S.StrandContract.behavior c.args.site.now).connections = omega (arith) in (
+      c.args.site.now,
+      done-of _ _ c.args.connection c.in-Some.next c.carry.new.self (g.W.World.book c.carry.new.world) (c.in-Some.ensures.lives c.args.site.now (
+        Of (strand.Conn c.args.connection) (Began c.args.self.now.now.0 (start.Client c.args.connection)) None ∷ r.0,
+        busy-begun _ _ r.0 _ c.requires.0 r.1 r.2.0 r.2.1 r.2.2 r.2.3 (g.met.S.StrandContract.keeps c.args.site.now) c.args.connection gave.fit (g.W.World.book c.args.world.now) gave _ room refl (g.met.S.StrandContract.asks_last c.args.site.now) _ _ c.in-Ok.ensures.0 c.in-Ok.ensures.1,
+      )),
+    )
+
+pub returns-in-Some-clause-standing : goal.returns-in-Some-clause-standing
+returns-in-Some-clause-standing g c =
+    let r = c.requires.1 in
+    let gave = c.requires.2 in
+    let room : c.args.self.now.connections < (g.S.StrandContract.behavior c.args.site.now).connections = omega (arith) in
+    c.put_back.ensures.standing c.args.site.now (done-of _ _ c.args.connection c.in-Some.next c.carry.new.self (g.W.World.book c.carry.new.world) (c.in-Some.ensures.lives c.args.site.now (
       Of (strand.Conn c.args.connection) (Began c.args.self.now.now.0 (start.Client c.args.connection)) None ∷ r.0,
-      busy-begun _ _ r.0 _ c.requires.0 r.1 r.2 r.3 r.4 r.5 (g.met.S.StrandContract.keeps c.args.site.now) c.args.connection gave.fit (g.W.World.book c.args.world.now) gave _ room refl (g.met.S.StrandContract.asks_last c.args.site.now) _ _ c.in-Ok.ensures.0 c.in-Ok.ensures.1,
+      busy-begun _ _ r.0 _ c.requires.0 r.1 r.2.0 r.2.1 r.2.2 r.2.3 (g.met.S.StrandContract.keeps c.args.site.now) c.args.connection gave.fit (g.W.World.book c.args.world.now) gave _ room refl (g.met.S.StrandContract.asks_last c.args.site.now) _ _ c.in-Ok.ensures.0 c.in-Ok.ensures.1,
+    )))
+
+pub returns-in_default-clause-standing : goal.returns-in_default-clause-standing
+returns-in_default-clause-standing g c =
+    let r = c.requires.1 in
+    let gave = c.requires.2 in
+    let room : c.args.self.now.connections < (g.S.StrandContract.behavior c.args.site.now).connections = omega (arith) in
+    c.in_default.ensures.lives c.args.site.now (
+      Of (strand.Conn c.args.connection) (Began c.args.self.now.now.0 (start.Client c.args.connection)) None ∷ r.0,
+      busy-begun _ _ r.0 _ c.requires.0 r.1 r.2.0 r.2.1 r.2.2 r.2.3 (g.met.S.StrandContract.keeps c.args.site.now) c.args.connection gave.fit (g.W.World.book c.args.world.now) gave _ room refl (g.met.S.StrandContract.asks_last c.args.site.now) _ _ c.in-Ok.ensures.0 c.in-Ok.ensures.1,
     )
 
 pub give_up-requires : goal.give_up-requires
@@ -47,6 +76,19 @@ give_up-requires g c =
     let r = c.requires.1 in
     let gave = c.requires.2 in
     let room : c.args.self.now.connections < (g.S.StrandContract.behavior c.args.site.now).connections = omega (arith) in (
+      c.args.site.now,
+      (
+        Of (strand.Conn c.args.connection) (Began c.args.self.now.now.0 (start.Client c.args.connection)) None ∷ r.0,
+        falls-begun _ _ r.0 _ c.requires.0 r.1 r.2.0 r.2.1 r.2.2 r.2.3 (g.met.S.StrandContract.keeps c.args.site.now) c.args.connection gave.fit (g.W.World.book c.args.world.now) gave _ room refl,
+      ),
+    )
+
+pub returns-in-Err-clause-standing : goal.returns-in-Err-clause-standing
+returns-in-Err-clause-standing g c =
+    let r = c.requires.1 in
+    let gave = c.requires.2 in
+    let room : c.args.self.now.connections < (g.S.StrandContract.behavior c.args.site.now).connections = omega (arith) in
+    c.give_up.ensures.standing c.args.site.now (
       Of (strand.Conn c.args.connection) (Began c.args.self.now.now.0 (start.Client c.args.connection)) None ∷ r.0,
-      falls-begun _ _ r.0 _ c.requires.0 r.1 r.2 r.3 r.4 r.5 (g.met.S.StrandContract.keeps c.args.site.now) c.args.connection gave.fit (g.W.World.book c.args.world.now) gave _ room refl,
+      falls-begun _ _ r.0 _ c.requires.0 r.1 r.2.0 r.2.1 r.2.2 r.2.3 (g.met.S.StrandContract.keeps c.args.site.now) c.args.connection gave.fit (g.W.World.book c.args.world.now) gave _ room refl,
     )

@@ -1,39 +1,67 @@
 use Rattle.std.proofs.Common.{◌≡◌, [], ◌∷◌, ◌+◌, ◌≤◌, length, refl, ap, ◌∙◌, arith}
 use Rattle.std.proofs.lemmas.Grind.{common_steps}
-use Rattle.engine.specs.Engine.{work, Goes}
 use Rattle.engine.proofs.Going.{goes-stays, goes-joins}
 use Rattle.engine.proofs.engine.Engine.carry.Goals as goal
 
 pub loop-act-init : goal.loop-act-init
-loop-act-init g c = record { busy = c.requires; goes = goes-stays g.W.World.same g.W.World.book _ _ (g.met.W.World.stays _); in_offers = refl; ending = refl; work = omega arith }
+loop-act-init g c = record {
+  site = c.requires.0;
+  begun = c.requires.1;
+  busy = λ site y. y;
+  works = goes-stays g.W.World.same g.W.World.book _ _ (g.met.W.World.stays _);
+  phase = (refl, refl);
+  work = omega arith;
+}
 
 pub carry_out-requires : goal.carry_out-requires
 carry_out-requires g c =
     let now : c.loop-act.acts.items ≡ c.in-Some.act ∷ c.pop_front.new.self.items = c.in-Some.ensures.items in
-    let y = c.loop-act.invariant.busy in
-    (c.args.seat.strand, c.pop_front.new.self.items, c.args.going, y.0, rw now at y.1)
+    let i = c.loop-act.invariant in
+    let y = i.busy i.site i.begun in
+    (i.site, c.pop_front.new.self.items, c.args.going, (y.0, rw now at y.1))
+
+pub give_up-requires : goal.give_up-requires
+give_up-requires g c =
+    let now : c.loop-act.acts.items ≡ c.in-Some.act ∷ c.pop_front.new.self.items = c.in-Some.ensures.items in
+    let i = c.loop-act.invariant in
+    let y = i.busy i.site i.begun in
+    (i.site, c.in-Wanting.ensures.carried i.site c.pop_front.new.self.items c.args.going (y.0, rw now at y.1))
 
 pub loop-act-preserved : goal.loop-act-preserved
 loop-act-preserved g c =
     let now : c.loop-act.acts.items ≡ c.in-Some.act ∷ c.pop_front.new.self.items = c.in-Some.ensures.items in
-    let y = c.loop-act.invariant.busy in
+    let i = c.loop-act.invariant in
     record {
-      busy = c.in-Done.ensures.done refl c.args.seat.strand c.pop_front.new.self.items c.args.going y.0 (rw now at y.1);
-      goes = goes-joins g.W.World.same g.W.World.book _ _ _ _ _ _ (g.met.W.World.joins _ _ _) c.loop-act.invariant.goes c.in-Done.ensures.goes;
-      in_offers = c.in-Done.ensures.in_offers ∙ c.loop-act.invariant.in_offers;
-      ending = c.in-Done.ensures.ending ∙ c.loop-act.invariant.ending;
-      work = omega (arith, ap length now, c.in-Done.ensures.work, c.loop-act.invariant.work);
+      site = i.site;
+      begun = i.begun;
+      busy = λ site begun. let y = i.busy site begun in c.in-Done.ensures.carried site c.pop_front.new.self.items c.args.going (y.0, rw now at y.1);
+      works = goes-joins g.W.World.same g.W.World.book _ _ _ _ _ _ (g.met.W.World.joins _ _ _) i.works c.in-Done.ensures.works;
+      phase = (c.in-Done.ensures.phase.0 ∙ i.phase.0, c.in-Done.ensures.phase.1 ∙ i.phase.1);
+      work = omega (arith, ap length now, c.in-Done.ensures.work, ap g.S.StrandContract.left c.in-Done.ensures.strand, i.work);
     }
 
-pub returns-in-Over-clause-goes : goal.returns-in-Over-clause-goes
-returns-in-Over-clause-goes g c = goes-joins g.W.World.same g.W.World.book _ _ _ _ _ _ (g.met.W.World.joins _ _ _) c.loop-act.invariant.goes c.in-Over.ensures.goes
+pub returns-in-Over-clause-lives : goal.returns-in-Over-clause-lives
+returns-in-Over-clause-lives g c = λ site begun.
+    let now : c.loop-act.acts.items ≡ c.in-Some.act ∷ c.pop_front.new.self.items = c.in-Some.ensures.items in
+    let y = c.loop-act.invariant.busy site begun in
+    c.in-Over.ensures.carried site c.pop_front.new.self.items c.args.going (y.0, rw now at y.1)
 
-pub returns-in-Wanting-clause-goes : goal.returns-in-Wanting-clause-goes
-returns-in-Wanting-clause-goes g c =
-    goes-joins g.W.World.same g.W.World.book _ _ _ _ _ _ (g.met.W.World.joins _ _ _) (goes-joins g.W.World.same g.W.World.book _ _ _ _ _ _ (g.met.W.World.joins _ _ _) c.loop-act.invariant.goes c.in-Wanting.ensures.goes) c.give_up.ensures.goes
+pub returns-in-Over-clause-works : goal.returns-in-Over-clause-works
+returns-in-Over-clause-works g c = goes-joins g.W.World.same g.W.World.book _ _ _ _ _ _ (g.met.W.World.joins _ _ _) c.loop-act.invariant.works c.in-Over.ensures.works
+
+pub returns-in-Wanting-clause-lives : goal.returns-in-Wanting-clause-lives
+returns-in-Wanting-clause-lives g c = λ site begun.
+    let now : c.loop-act.acts.items ≡ c.in-Some.act ∷ c.pop_front.new.self.items = c.in-Some.ensures.items in
+    let y = c.loop-act.invariant.busy site begun in
+    c.give_up.ensures.standing site (c.in-Wanting.ensures.carried site c.pop_front.new.self.items c.args.going (y.0, rw now at y.1))
+
+pub returns-in-Wanting-clause-works : goal.returns-in-Wanting-clause-works
+returns-in-Wanting-clause-works g c =
+    goes-joins g.W.World.same g.W.World.book _ _ _ _ _ _ (g.met.W.World.joins _ _ _)
+    (goes-joins g.W.World.same g.W.World.book _ _ _ _ _ _ (g.met.W.World.joins _ _ _) c.loop-act.invariant.works c.in-Wanting.ensures.works) c.give_up.ensures.works
 
 pub returns-clause-lives : goal.returns-clause-lives
-returns-clause-lives g c =
-    let y = c.loop-act.invariant.busy in
+returns-clause-lives g c = λ site begun.
+    let y = c.loop-act.invariant.busy site begun in
     let none : c.loop-act.acts.items ≡ [] = grind (arith, common_steps) in
     (y.0, rw none at y.1)

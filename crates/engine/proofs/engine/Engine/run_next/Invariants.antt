@@ -1,17 +1,17 @@
 use Rattle.std.proofs.Common.{◌≡◌, ◌≤◌, false, length, None}
 use Rattle.engine.specs.declared.engine.Ending.TheVariants as stop
-use Rattle.engine.specs.Engine.{Stands, work, Goes}
+use Rattle.engine.specs.Engine.{Stands, work, Works}
 use Rattle.engine.proofs.engine.Engine.run_next.Given as goal
 
 abbrev pub invariant-loop-who : goal.invariant-loop-who
 invariant-loop-who g l = record {
   standing : Stands (g.S.StrandContract.behavior l.site) (g.S.StrandContract.stands l.site) l.self (g.W.World.book l.world);
-  goes : Goes g.W.World.same g.W.World.book l.fn.world l.world l.fn.self.log_failed l.self.log_failed;
+  works : Works g.W.World.same g.W.World.book l.fn.self l.self l.fn.world l.world;
   in_offers : l.self.in_offers ≡ false;
   ending : l.self.ending ≡ stop.Over;
-  places : l.self.places.items ≡ l.fn.self.places.items;
+  offer_queue : l.self.offer_queue.items ≡ l.fn.self.offer_queue.items;
   less : work g.S.StrandContract.left l.self ≤ work g.S.StrandContract.left l.fn.self;
 }
 
 abbrev pub decreases-loop-who : goal.decreases-loop-who
-decreases-loop-who g l = length l.self.queue.items
+decreases-loop-who g l = length l.self.run_queue.items

@@ -1,12 +1,12 @@
 use Rattle.std.proofs.Common.{◌≡◌, None}
 use Rattle.engine.specs.declared.engine.Ending.TheVariants as stop
-use Rattle.engine.specs.Engine.{Stands, work, Goes}
+use Rattle.engine.specs.Engine.{Stands, work, Works}
 use Rattle.engine.proofs.engine.Engine.settle.Given as goal
 
 abbrev pub invariant-loop : goal.invariant-loop
 invariant-loop g l = record {
   standing : Stands (g.S.StrandContract.behavior l.site) (g.S.StrandContract.stands l.site) l.self (g.W.World.book l.world);
-  goes : Goes g.W.World.same g.W.World.book l.fn.world l.world l.fn.self.log_failed l.self.log_failed;
+  works : Works g.W.World.same g.W.World.book l.fn.self l.self l.fn.world l.world;
   ending : l.self.ending ≡ stop.Over;
 }
 

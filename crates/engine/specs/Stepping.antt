@@ -1,0 +1,26 @@
+-- What a step of the engine does to the world.
+use Rattle.std.specs.Prelude.{◌≡◌, Bool, true, false, IfSome}
+use Rattle.std.specs.Option.{option_map}
+use Rattle.resty_base.specs.Counting.{Rose}
+use Rattle.resty_world.specs.Book.{Book}
+use Rattle.resty_world.specs.declared.event.Event.{Event}
+use Rattle.resty_world.specs.declared.event.Event.TheVariants as event
+use Rattle.engine.specs.declared.engine.Stepped.{Stepped}
+use Rattle.engine.specs.declared.engine.Stepped.TheVariants as to
+use Rattle.engine.specs.Right.{events_of, HasFailedLog}
+
+-- a world some calls later, of which no event was asked
+pub record Goes {V : Type 0} (same : V → V → Type 0) (book : V → Book) (old new : V) : Type 0 where
+  pub later : same old new
+  pub events : option_map events_of (book new).history ≡ option_map events_of (book old).history
+
+abbrev pub is_stop : Event → Bool
+is_stop event.Stop = true
+is_stop e = false
+
+-- what a step came to, by its event and by the world's book before and after it: whether the event was Stop, or a log line of
+-- this step wasn't written
+abbrev pub Steps : Event → Book → Book → Stepped → Type 0
+Steps e old new to.Went = (is_stop e ≡ false) × (new.faults ≡ old.faults)
+Steps e old new to.Stopped = (is_stop e ≡ true) × (new.faults ≡ old.faults)
+Steps e old new to.LogFailed = Rose old.faults new.faults × IfSome new.history HasFailedLog
