@@ -260,5 +260,5 @@ module _ {J : Type 0} where
     alone = alone;
     begins = begins;
     plain = plain;
-    told = subst AreToldEntries (told.steps_history ∙ is) (entries-told (lines ++ told.behind) told.steps (subst AreEventLines (sym told.steps_lines) (served-events lines whole)) told.steps_right);
+    told = subst AreToldEntries (told.steps_history ∙ is) (entries-told (lines ++ told.after) told.steps (subst AreEventLines (sym told.steps_lines) (served-events lines whole)) told.steps_right);
   })))

@@ -16,7 +16,7 @@ use Rattle.resty_world.specs.Ids.{same_id}
 use Rattle.schedule_text.specs.Fitting.{Fits}
 use Rattle.schedule_text.specs.Lines.{arrivals_in}
 use Rattle.schedule_text.specs.Ranges.{IsBytes, IsEvent}
-use Rattle.schedule.specs.Steps.{Step, Call, Passed, Answered, Listened, AskedAtBadLine, AskedAtEnd, Writing, AreSteps, history_of, lines_of, is_skipped, unspent, one_if, room_of, room_behind, begins_by_failing, has_listened_in_vain, newest_given, is_failed_log, IsAnswer, faults_in}
+use Rattle.schedule.specs.Steps.{Step, Call, Passed, Answered, Listened, AskedAtBadLine, AskedAtEnd, Writing, AreSteps, history_of, lines_of, is_skipped, unspent, one_if, room_of, room_after, begins_by_failing, has_listened_in_vain, newest_given, is_failed_log, IsAnswer, faults_in}
 use Rattle.engine.specs.Right.{events_of, HasNoStop, HasFailedLog, IsStopped}
 use Rattle.resty.specs.Built.{IsBuiltEvent}
 use Rattle.resty.specs.Form.{IsServed, IsServedLine}
@@ -62,21 +62,21 @@ both-same : (b : Bool) (r : Option ℕ) → (if b then r else r) ≡ r
 both-same true r = refl
 both-same false r = refl
 
-none-behind : (e : Entry) (x : Id) → room_behind e x None ≡ None
-none-behind (entry.Given e) x = refl
-none-behind (entry.Put i bytes) x = both-same (same_id x i) None
-none-behind (entry.Later i) x = refl
-none-behind (entry.Lost i) x = refl
-none-behind (entry.Close i) x = refl
-none-behind (entry.Dial who host port n) x = refl
-none-behind (entry.Log who text written) x = refl
-none-behind (entry.Dict who zone call answer) x = refl
-none-behind (entry.Take who key got) x = refl
-none-behind (entry.Keep who k key idle size closed) x = refl
-none-behind (entry.Timer who due answer) x = refl
-none-behind (entry.Start k) x = refl
-none-behind (entry.Turned c) x = refl
-none-behind (entry.Dropped who) x = refl
+none-after : (e : Entry) (x : Id) → room_after e x None ≡ None
+none-after (entry.Given e) x = refl
+none-after (entry.Put i bytes) x = both-same (same_id x i) None
+none-after (entry.Later i) x = refl
+none-after (entry.Lost i) x = refl
+none-after (entry.Close i) x = refl
+none-after (entry.Dial who host port n) x = refl
+none-after (entry.Log who text written) x = refl
+none-after (entry.Dict who zone call answer) x = refl
+none-after (entry.Take who key got) x = refl
+none-after (entry.Keep who k key idle size closed) x = refl
+none-after (entry.Timer who due answer) x = refl
+none-after (entry.Start k) x = refl
+none-after (entry.Turned c) x = refl
+none-after (entry.Dropped who) x = refl
 
 -- no place has a room of its own
 pub no-room : (x : Id) (steps : List Step) → AreEventLines (lines_of steps) → room_of x steps ≡ None
@@ -88,7 +88,7 @@ no-room x (Passed line.FailDial ∷ steps) all = absurd (last-event (lines_of st
 no-room x (Passed line.FailLog ∷ steps) all = absurd (last-event (lines_of steps) line.FailLog all).1
 no-room x (Passed line.FailListen ∷ steps) all = absurd (last-event (lines_of steps) line.FailListen all).1
 no-room x (Passed (line.FailPut i) ∷ steps) all = absurd (last-event (lines_of steps) (line.FailPut i) all).1
-no-room x (Answered e n ∷ steps) all = ap (room_behind e x) (no-room x steps all) ∙ none-behind e x
+no-room x (Answered e n ∷ steps) all = ap (room_after e x) (no-room x steps all) ∙ none-after e x
 no-room x (Listened port failed ∷ steps) all = no-room x steps all
 no-room x (AskedAtBadLine ∷ steps) all = no-room x steps all
 no-room x (AskedAtEnd ∷ steps) all = no-room x steps all

@@ -1,5 +1,5 @@
 -- Serving by the strands of a literal site.
-use Rattle.std.specs.Prelude.{◌≡◌, Bool, true, false}
+use Rattle.std.specs.Prelude.{◌≡◌}
 use Rattle.resty_world.specs.Book.{Book}
 use Rattle.engine.specs.Engine as generic
 use Rattle.strand.specs.declared.strand.NoJob.{NoJob}
@@ -7,15 +7,7 @@ use Rattle.strand.specs.Literal.{literal_behavior}
 use Rattle.strand.specs.Turns.{held_after}
 use Rattle.strand.specs.Views.{held}
 use Rattle.resty.specs.declared.server.Engine.{Engine}
-use Rattle.resty.specs.declared.server.Stepped.{Stepped}
-use Rattle.resty.specs.declared.server.Stepped.TheVariants as to
 
 -- The engine stands for an execution of the site's strands whose history the world tells, and nothing is left to be done.
 abbrev pub Rests : Engine → Book → Type 0
 Rests e book = generic.Rests {J = NoJob} (literal_behavior e.site) (λ strand es. held strand ≡ held_after e.site es) e.strands book
-
--- what a step came to: whether the event was Stop, and whether a log line wasn't written
-abbrev pub stepped : Bool → Bool → Stepped
-stepped stop true = to.LogFailed
-stepped true false = to.Stopped
-stepped false false = to.Went

@@ -1,35 +1,24 @@
 //! Serving by the strands of a literal site.
 
 ghost use Rattle.std.specs.Prelude.{◌≡◌, IfOk};
-ghost use Rattle.engine.specs.Engine.{Goes, is_stop};
+ghost use Rattle.engine.specs.Stepping.{Goes, Steps};
 ghost use Rattle.engine.specs.Right.{IsFresh, IsRight, EndsBy};
 ghost use Rattle.resty_world.specs.Book.{Book};
 ghost use Rattle.resty_world.specs.Given.{Gave};
 ghost use Rattle.strand.specs.Literal.{literal_behavior};
 ghost use Rattle.strand.specs.declared.strand.NoJob.{NoJob};
-ghost use Rattle.resty.specs.Serving.{Rests, stepped};
+ghost use Rattle.resty.specs.Serving.{Rests};
 
-use engine::Ended;
+use engine::{Ended, Stepped};
 use resty_world::{Event, World};
 use std::alloc::{AllocError, Global};
 use strand::{LiteralStrand, Site};
 
-/// The strands of a site that live, their threads and their places in line.
+/// The strands of a site that live, with the queues of their threads and their offers.
 #[derive(Drop)]
 pub struct Engine {
     pub site: Site,
     pub strands: engine::Engine<LiteralStrand>,
-}
-
-/// What a step came to.
-#[derive(Clone, Copy, Debug, PartialEq, Eq)]
-pub enum Stepped {
-    /// The next event may come.
-    Went,
-    /// The event was Stop.
-    Stopped,
-    /// In this step or an earlier one a log line wasn't written.
-    LogFailed,
 }
 
 impl Engine {
@@ -48,17 +37,10 @@ impl Engine {
         requires { (before : Book) × Rests self.old before × Gave before (W.book world.old) event }
         ensures rests { Rests self.new (W.book world.new) }
         ensures site { self.new.site ≡ self.old.site }
-        ensures goes { Goes W.same W.book world.old world.new self.old.strands.log_failed self.new.strands.log_failed }
-        ensures stepped { result ≡ stepped (is_stop event) self.new.strands.log_failed }
+        ensures goes { Goes W.same W.book world.old world.new }
+        ensures stepped { Steps event (W.book world.old) (W.book world.new) result }
     {
-        let is_stop = self.strands.step(&self.site, event, world);
-        if self.strands.log_failed {
-            Stepped::LogFailed
-        } else if is_stop {
-            Stepped::Stopped
-        } else {
-            Stepped::Went
-        }
+        self.strands.step(&self.site, event, world)
     }
 }
 

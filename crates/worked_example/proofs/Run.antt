@@ -166,7 +166,7 @@ told = record {
   steps =
       Passed (line.Given event.Stop) ∷ Answered (entry.Close (id.Conn 1)) 0 ∷ Answered (entry.Put (id.Conn 1) hi_reply) (length hi_reply)
       ∷ Passed (line.Given asks) ∷ Passed (line.Given arrives) ∷ Passed (line.Given at_second_1_event) ∷ [];
-  behind = [];
+  after = [];
   steps_right = ((((((tt, refl), refl), refl), (refl, (refl, reply-bytes), refl)), (tt, tt, refl)), refl);
   steps_lines = refl;
   steps_history = refl;

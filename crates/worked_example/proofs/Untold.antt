@@ -99,4 +99,4 @@ closed schedule (AskedAtBadLine ∷ steps) right passed made = closed schedule s
 closed schedule (AskedAtEnd ∷ steps) right passed made = closed schedule steps right.0 passed made
 
 pub untold : (offered : List ℕ) → IsTold lines not_asked offered → ⊥
-untold offered told = closed (lines ++ told.behind) told.steps told.steps_right told.steps_lines told.steps_history
+untold offered told = closed (lines ++ told.after) told.steps told.steps_right told.steps_lines told.steps_history
