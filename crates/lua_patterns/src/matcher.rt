@@ -5,7 +5,7 @@ ghost use Rattle.lua_patterns.specs.Classes.{accepts};
 ghost use Rattle.lua_patterns.specs.Trails.{Test, accepts_first, closing_len, balanced_len, repeated_len, behind, captured, whole};
 ghost use Rattle.lua_patterns.specs.Searches.{Outcome};
 ghost use Rattle.lua_patterns.specs.Balance.{AreRight};
-ghost use Rattle.lua_patterns.specs.Matching.{fewer, one_more_byte, next_at, ahead, Before, BeforeItem, Steps, Resumes, Tries, Takes, Ends};
+ghost use Rattle.lua_patterns.specs.Matching.{capture_next, len_next, end_trail, ahead, GoesOn, GoesOnAt, GoesBack, Takes, Tries, Ends};
 
 use crate::balance::Balance;
 use crate::captures::{
@@ -152,7 +152,7 @@ impl Search<'_> {
 
     /// The class is taken once.
     fn once(&self, state: &mut State, class: Class, after: usize) -> Result<Step, PatFault>
-        ensures { (expected : Result Outcome PatFault) → BeforeItem self.now.subject.now self.now.pattern.now self.now.anchored self.now.limit state.old (Item.Repeated class Repeat.Once) after expected → Steps self.now.subject.now self.now.pattern.now self.now.anchored self.now.limit state.old state.new expected result }
+        ensures { GoesOnAt self.now state.old (Item.Repeated class Repeat.Once) after state.new result }
     {
         self.make_tests(&mut state.tests, 1)?;
         if !self.accepts_at(class, state.place) {
@@ -165,7 +165,7 @@ impl Search<'_> {
 
     /// The class is taken once, or else not at all.
     fn optional(&self, state: &mut State, class: Class, after: usize) -> Result<Step, PatFault>
-        ensures { (expected : Result Outcome PatFault) → BeforeItem self.now.subject.now self.now.pattern.now self.now.anchored self.now.limit state.old (Item.Repeated class Repeat.Optional) after expected → Steps self.now.subject.now self.now.pattern.now self.now.anchored self.now.limit state.old state.new expected result }
+        ensures { GoesOnAt self.now state.old (Item.Repeated class Repeat.Optional) after state.new result }
     {
         self.make_tests(&mut state.tests, 1)?;
         let place = state.place;
@@ -184,7 +184,7 @@ impl Search<'_> {
 
     /// The class is taken as often as it can be, or else fewer times.
     fn longest(&self, state: &mut State, class: Class, after: usize) -> Result<Step, PatFault>
-        ensures { (expected : Result Outcome PatFault) → BeforeItem self.now.subject.now self.now.pattern.now self.now.anchored self.now.limit state.old (Item.Repeated class Repeat.Longest) after expected → Steps self.now.subject.now self.now.pattern.now self.now.anchored self.now.limit state.old state.new expected result }
+        ensures { GoesOnAt self.now state.old (Item.Repeated class Repeat.Longest) after state.new result }
     {
         let lowest = state.place;
         let taken = self.run_len(class, lowest);
@@ -210,7 +210,7 @@ impl Search<'_> {
         class: Class,
         after: usize,
     ) -> Result<Step, PatFault>
-        ensures { (expected : Result Outcome PatFault) → BeforeItem self.now.subject.now self.now.pattern.now self.now.anchored self.now.limit state.old (Item.Repeated class Repeat.LongestOfSome) after expected → Steps self.now.subject.now self.now.pattern.now self.now.anchored self.now.limit state.old state.new expected result }
+        ensures { GoesOnAt self.now state.old (Item.Repeated class Repeat.LongestOfSome) after state.new result }
     {
         self.make_tests(&mut state.tests, 1)?;
         if !self.accepts_at(class, state.place) {
@@ -224,7 +224,7 @@ impl Search<'_> {
     fn shortest(&self, state: &mut State, class: Class, after: usize) -> Result<Step, PatFault>
         requires further { state.old.at < after }
         requires within { state.old.at < length self.now.pattern.now }
-        ensures { (expected : Result Outcome PatFault) → BeforeItem self.now.subject.now self.now.pattern.now self.now.anchored self.now.limit state.old (Item.Repeated class Repeat.Shortest) after expected → Steps self.now.subject.now self.now.pattern.now self.now.anchored self.now.limit state.old state.new expected result }
+        ensures { GoesOnAt self.now state.old (Item.Repeated class Repeat.Shortest) after state.new result }
     {
         let place = state.place;
         state.pending.push(Pending::More {
@@ -246,7 +246,7 @@ impl Search<'_> {
     ) -> Result<Step, PatFault>
         requires further { state.old.at < after }
         requires within { state.old.at < length self.now.pattern.now }
-        ensures { (expected : Result Outcome PatFault) → BeforeItem self.now.subject.now self.now.pattern.now self.now.anchored self.now.limit state.old (Item.Repeated class repeat) after expected → Steps self.now.subject.now self.now.pattern.now self.now.anchored self.now.limit state.old state.new expected result }
+        ensures { GoesOnAt self.now state.old (Item.Repeated class repeat) after state.new result }
     {
         match repeat {
             Repeat::Once => self.once(state, class, after),
@@ -259,7 +259,7 @@ impl Search<'_> {
 
     /// One capture more.
     fn captured(&self, state: &mut State, capture: Capture, after: usize) -> Result<Step, PatFault>
-        ensures { (expected : Result Outcome PatFault) → Before self.now.subject.now self.now.pattern.now self.now.anchored self.now.limit state.old (captured capture state.old.captures.items (next_at self.now.subject.now self.now.pattern.now state.old.start after state.old.place)) expected → Steps self.now.subject.now self.now.pattern.now self.now.anchored self.now.limit state.old state.new expected result }
+        ensures { GoesOn self.now state.old (capture_next self.now state.old capture after) state.new result }
     {
         if state.captures.as_slice().len() >= MOST_CAPTURES {
             return Err(PatFault::Captures { tests: state.tests });
@@ -273,7 +273,7 @@ impl Search<'_> {
 
     /// The last open capture is closed; `at` is the place of the parenthesis in the pattern.
     fn closed(&self, state: &mut State, at: usize, after: usize) -> Result<Step, PatFault>
-        ensures { (expected : Result Outcome PatFault) → BeforeItem self.now.subject.now self.now.pattern.now self.now.anchored self.now.limit state.old (Item.Close at) after expected → Steps self.now.subject.now self.now.pattern.now self.now.anchored self.now.limit state.old state.new expected result }
+        ensures { GoesOnAt self.now state.old (Item.Close at) after state.new result }
     {
         let Some(found) = last_open(&state.captures) else {
             return Err(PatFault::Malformed {
@@ -291,7 +291,7 @@ impl Search<'_> {
     /// Goes on behind so many bytes, if there are so many.
     fn behind(&self, state: &mut State, len: Option<usize>, after: usize) -> Result<Step, PatFault>
         requires { IfSome len (λ n. state.old.place + n < 2 ^ 64) }
-        ensures { (expected : Result Outcome PatFault) → Before self.now.subject.now self.now.pattern.now self.now.anchored self.now.limit state.old (Test ∷ behind state.old.place len (λ p. next_at self.now.subject.now self.now.pattern.now state.old.start after p state.old.captures.items)) expected → Steps self.now.subject.now self.now.pattern.now self.now.anchored self.now.limit state.old state.new expected result }
+        ensures { GoesOn self.now state.old (len_next self.now state.old len after) state.new result }
     {
         self.make_tests(&mut state.tests, 1)?;
         let Some(len) = len else {
@@ -310,7 +310,7 @@ impl Search<'_> {
         at: usize,
         after: usize,
     ) -> Result<Step, PatFault>
-        ensures { (expected : Result Outcome PatFault) → BeforeItem self.now.subject.now self.now.pattern.now self.now.anchored self.now.limit state.old (Item.Reference digit at) after expected → Steps self.now.subject.now self.now.pattern.now self.now.anchored self.now.limit state.old state.new expected result }
+        ensures { GoesOnAt self.now state.old (Item.Reference digit at) after state.new result }
     {
         let Some(cap) = referenced(&state.captures, digit) else {
             return Err(PatFault::Malformed {
@@ -326,7 +326,7 @@ impl Search<'_> {
     fn at_end(&self, state: &mut State, after: usize) -> Result<Step, PatFault>
         requires further { state.old.at < after }
         requires within { state.old.at < length self.now.pattern.now }
-        ensures { (expected : Result Outcome PatFault) → BeforeItem self.now.subject.now self.now.pattern.now self.now.anchored self.now.limit state.old (Item.End) after expected → Steps self.now.subject.now self.now.pattern.now self.now.anchored self.now.limit state.old state.new expected result }
+        ensures { GoesOnAt self.now state.old Item.End after state.new result }
     {
         if state.place == self.subject.len() {
             state.at = after;
@@ -338,7 +338,7 @@ impl Search<'_> {
 
     /// The pattern's end is reached.
     fn whole(&self, alloc: Global, state: &mut State) -> Result<Step, PatFault>
-        ensures { (expected : Result Outcome PatFault) → Before self.now.subject.now self.now.pattern.now self.now.anchored self.now.limit state.old (whole state.old.start state.old.place state.old.captures.items) expected → Steps self.now.subject.now self.now.pattern.now self.now.anchored self.now.limit state.old state.new expected result }
+        ensures { GoesOn self.now state.old (end_trail state.old) state.new result }
     {
         if let Some(at) = first_open(&state.captures) {
             return Err(PatFault::Malformed {
@@ -363,7 +363,7 @@ impl Search<'_> {
         balance: &mut Balance,
     ) -> Result<Step, PatFault>
         requires { AreRight self.now.subject.now balance.old.pairs.items }
-        ensures steps { (expected : Result Outcome PatFault) → Before self.now.subject.now self.now.pattern.now self.now.anchored self.now.limit state.old (ahead self.now.subject.now self.now.pattern.now state.old) expected → Steps self.now.subject.now self.now.pattern.now self.now.anchored self.now.limit state.old state.new expected result }
+        ensures steps { GoesOn self.now state.old (ahead self.now state.old) state.new result }
         ensures right { AreRight self.now.subject.now balance.new.pairs.items }
     {
         if state.at >= self.pattern.len() {
@@ -398,7 +398,7 @@ impl Search<'_> {
     /// Goes on with the next place where a match may begin, if there is one.
     fn next_start(&self, state: &mut State) -> bool
         requires { state.old.pending.items ≡ [] }
-        ensures { (expected : Result Outcome PatFault) → Before self.now.subject.now self.now.pattern.now self.now.anchored self.now.limit state.old [] expected → Resumes self.now.subject.now self.now.pattern.now self.now.anchored self.now.limit state.old state.new expected (Ok result) }
+        ensures { GoesBack self.now state.old state.new (Ok result) }
     {
         if self.anchored || state.start >= self.subject.len() {
             return false;
@@ -418,7 +418,7 @@ impl Search<'_> {
         lowest: usize,
         place: usize,
     ) -> Result<(), PatFault>
-        ensures { (expected : Result Outcome PatFault) → Before self.now.subject.now self.now.pattern.now self.now.anchored self.now.limit state.old (fewer (λ p. next_at self.now.subject.now self.now.pattern.now state.old.start after p state.old.captures.items) lowest (place - lowest)) expected → Takes self.now.subject.now self.now.pattern.now self.now.anchored self.now.limit state.old state.new expected result }
+        ensures { Takes self.now state.old (Pending.Fewer after lowest place) state.new result }
     {
         state.at = after;
         if place <= lowest {
@@ -442,7 +442,7 @@ impl Search<'_> {
         after: usize,
         place: usize,
     ) -> Result<bool, PatFault>
-        ensures { (expected : Result Outcome PatFault) → Before self.now.subject.now self.now.pattern.now self.now.anchored self.now.limit state.old (one_more_byte (accepts self.now.pattern.now class) (λ p. next_at self.now.subject.now self.now.pattern.now state.old.start after p state.old.captures.items) place (drop place self.now.subject.now)) expected → Tries self.now.subject.now self.now.pattern.now self.now.anchored self.now.limit state.old state.new expected result }
+        ensures { Tries self.now state.old (Pending.More class after place) state.new result }
     {
         self.make_tests(&mut state.tests, 1)?;
         if !self.accepts_at(class, place) {
@@ -461,7 +461,7 @@ impl Search<'_> {
 
     /// Goes back to the last open choice, or on to the next place where a match may begin, if there is one.
     fn resume(&self, state: &mut State) -> Result<bool, PatFault>
-        ensures { (expected : Result Outcome PatFault) → Before self.now.subject.now self.now.pattern.now self.now.anchored self.now.limit state.old [] expected → Resumes self.now.subject.now self.now.pattern.now self.now.anchored self.now.limit state.old state.new expected result }
+        ensures { GoesBack self.now state.old state.new result }
     {
         while let Some(pending) = state.pending.pop() {
             match pending {
@@ -491,7 +491,7 @@ impl Search<'_> {
 
     /// The first match, in order of preference.
     pub(crate) fn run(&self, alloc: Global, state: &mut State) -> Result<Option<Found>, PatFault>
-        ensures { (expected : Result Outcome PatFault) → Before self.now.subject.now self.now.pattern.now self.now.anchored self.now.limit state.old (ahead self.now.subject.now self.now.pattern.now state.old) expected → Ends state.new expected result }
+        ensures { Ends self.now state.old state.new result }
     {
         let mut balance = Balance {
             scanned: 0,

@@ -11,8 +11,8 @@ pub returns-in_err-found : goal.returns-in_err-found
 returns-in_err-found c =
     let p = err_from_is_err_and c.from_residual.result c.from_residual.ensures.1 in
     rw (p.1, p.2) (λ other. sym (c.in_err-found.ensures _
-    (begins c.args.subject.now c.args.pattern.now _ c.args.tests c.args.from _ c.new-2.result.items c.new.result.items c.if-from-subject.false (ap (λ (x : ℕ). x == 94) c.byte_at-anchored.ensures) (search rules) c.new-2.ensures.items c.new.ensures.items) other))
+    (begins _ c.args.from _ c.new-2.result.items c.new.result.items c.if-from-subject.false (ap (λ (x : ℕ). x == 94) c.byte_at-anchored.ensures) (search rules) c.new-2.ensures.items c.new.ensures.items) other))
 
 pub returns : goal.returns
 returns c = sym (c.in_ok-found.ensures _
-    (begins c.args.subject.now c.args.pattern.now _ c.args.tests c.args.from _ c.new-2.result.items c.new.result.items c.if-from-subject.false (ap (λ (x : ℕ). x == 94) c.byte_at-anchored.ensures) (search rules) c.new-2.ensures.items c.new.ensures.items))
+    (begins _ c.args.from _ c.new-2.result.items c.new.result.items c.if-from-subject.false (ap (λ (x : ℕ). x == 94) c.byte_at-anchored.ensures) (search rules) c.new-2.ensures.items c.new.ensures.items))

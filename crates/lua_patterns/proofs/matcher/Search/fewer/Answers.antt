@@ -5,8 +5,8 @@ use Rattle.lua_patterns.proofs.matcher.Search.fewer.Goals as goal
 
 pub returns-then-place-lowest : goal.returns-then-place-lowest
 returns-then-place-lowest c = λ expected before.
-    (fewer_last _ _ _ _ c.args.state.now c.args.after c.args.lowest c.args.place expected c.if-place-lowest.true before, omega arith)
+    (fewer_last c.args.self.now c.args.state.now c.args.after c.args.lowest c.args.place expected c.if-place-lowest.true before, omega arith)
 
 pub returns : goal.returns
 returns c = λ expected before.
-    (fewer_steps _ _ _ _ c.args.state.now c.args.after c.args.lowest c.args.place _ expected (omega arith) (chosen _ _ _ _ c.push.ensures.items (ap is_ok c.in_ok-push.was)) before, omega arith)
+    (fewer_steps c.args.self.now c.args.state.now c.args.after c.args.lowest c.args.place _ expected (omega arith) (chosen _ _ _ _ c.push.ensures.items (ap is_ok c.in_ok-push.was)) before, omega arith)
