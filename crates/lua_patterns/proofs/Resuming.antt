@@ -1,5 +1,5 @@
 -- Back to the last open choice.
-use Rattle.std.proofs.Common.{◌≡◌, ℕ, ◌-◌, ◌<◌, ◌≤◌, Bool, true, false, List, [], ◌∷◌, ◌++◌, take, length, None, Result, Ok, Err, ◌∙◌, ap, arith, length-append, append-nil}
+use Rattle.std.proofs.Common.{◌≡◌, ◌-◌, ◌<◌, ◌≤◌, Bool, true, false, List, [], ◌∷◌, ◌++◌, take, length, None, Result, Ok, Err, ◌∙◌, ap, arith, length-append, append-nil}
 use Rattle.lua_patterns.specs.declared.answers.PatFault.{PatFault}
 use Rattle.lua_patterns.specs.declared.captures.Capture.{Capture}
 use Rattle.lua_patterns.specs.declared.captures.OpenCapture.{OpenCapture}

@@ -43,10 +43,10 @@ steps_whole search old new expected (Whole other) found is steps =
     ap (λ f. Ok (record { tests = new.tests; found = Some (match_of f) })) (sym (same_found other found is)) ∙ steps
 
 -- where a search begins
-pub begins_behind : (subject pattern : List ℕ) (limit start : ℕ) → length subject < start
+pub begins_after : (subject pattern : List ℕ) (limit start : ℕ) → length subject < start
     → answer limit 0 (search_trail subject pattern start) ≡ Ok (record { tests = 0; found = None })
 unfolding search_trail
-begins_behind subject pattern limit start behind = rw (lt-ltb (length subject) start behind) (nothing_met limit 0)
+begins_after subject pattern limit start past = rw (lt-ltb (length subject) start past) (nothing_met limit 0)
 
 first_trails : (subject pattern : List ℕ) (anchored : Bool) (start : ℕ) → start ≤ length subject → anchored ≡ (slice_index pattern 0 == 94)
     → trail_at subject pattern (if anchored then 1 else 0) start ++ later_from subject pattern anchored start ≡ search_trail subject pattern start

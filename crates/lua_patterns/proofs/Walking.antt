@@ -1,4 +1,4 @@
--- From item to item, back to open choices, and on to later places.
+-- From item to item, back to open choices, and on to later indices.
 use Rattle.std.proofs.Common.{◌≡◌, ◌⊎◌, ℕ, zero, suc, ◌+◌, ◌-◌, ◌*◌, ◌<◌, ◌≤◌, Bool, true, false, List, [], ◌∷◌, ◌++◌, drop, length, Option, None, Result, Ok, Err, refl, sym, ◌∙◌, ap, subst, arith, inl, inr, length-drop}
 use Rattle.std.proofs.lemmas.List.{drop-drop, drop_all}
 use Rattle.lua_patterns.specs.declared.answers.PatFault.{PatFault}
@@ -12,43 +12,43 @@ use Rattle.lua_patterns.specs.declared.captures.Cap.TheVariants as cap
 use Rattle.lua_patterns.specs.declared.matcher.Pending.{Pending}
 use Rattle.lua_patterns.specs.declared.matcher.Search.{Search}
 use Rattle.lua_patterns.specs.declared.matcher.State.{State}
-use Rattle.lua_patterns.specs.Items.{item_at, items_behind, items_from}
-use Rattle.lua_patterns.specs.Trails.{Event, Test, behind, balanced_len, captured, whole, item_trail, trail}
+use Rattle.lua_patterns.specs.Items.{item_at, items_after, items_from}
+use Rattle.lua_patterns.specs.Trails.{Event, Test, advanced, balanced_len, captured, whole, item_trail, trail}
 use Rattle.lua_patterns.specs.Searches.{trails, trail_at, answer, Outcome}
-use Rattle.lua_patterns.specs.Matching.{next_at, left_behind, later_from, later_trails, trails_behind, stacked, pending_trail, undone, ahead, Before, BeforeItem, Nears}
+use Rattle.lua_patterns.specs.Matching.{next_at, left_after, later_from, later_trails, trails_after, stacked, pending_trail, undone, ahead, Before, BeforeItem, Nears}
 use Rattle.lua_patterns.proofs.Answering.{wrong_met, nothing_met}
 use Rattle.lua_patterns.proofs.Stack.{stacked_push, stacked_none}
 use Rattle.lua_patterns.proofs.Reading.{drop_among}
 use Rattle.std.proofs.Common.{append-nil, add-one, drop-cons}
 use Rattle.std.proofs.Math.Nat.{mul-le-mul_right}
 
-items_skip : (k at : ℕ) (text : List ℕ) → items_behind k at text ≡ items_behind 0 (at + k) (drop k text)
-unfolding items_behind
-items_skip zero at text = let none : at ≡ at + zero = omega arith in ap (λ p. items_behind 0 p text) none
+items_skip : (k at : ℕ) (text : List ℕ) → items_after k at text ≡ items_after 0 (at + k) (drop k text)
+unfolding items_after
+items_skip zero at text = let none : at ≡ at + zero = omega arith in ap (λ p. items_after 0 p text) none
 items_skip (suc k) at [] = refl
-items_skip (suc k) at (c ∷ cs) = let same : at + 1 + k ≡ at + suc k = omega arith in items_skip k (at + 1) cs ∙ ap (λ p. items_behind 0 p (drop k cs)) same
+items_skip (suc k) at (c ∷ cs) = let same : at + 1 + k ≡ at + suc k = omega arith in items_skip k (at + 1) cs ∙ ap (λ p. items_after 0 p (drop k cs)) same
 
--- the first item, and those behind it
+-- the first item, and those after it
 items_first : (at : ℕ) (text : List ℕ) → 0 < length text → 0 < (item_at at text).size
-    → items_behind 0 at text ≡ (item_at at text).item ∷ items_behind 0 (at + (item_at at text).size) (drop (item_at at text).size text)
-unfolding items_behind
+    → items_after 0 at text ≡ (item_at at text).item ∷ items_after 0 (at + (item_at at text).size) (drop (item_at at text).size text)
+unfolding items_after
 items_first at [] some size = absurd (omega arith)
 items_first at (c ∷ cs) some size =
     let n = (item_at at (c ∷ cs)).size in
-    let place : at + 1 + (n - 1) ≡ at + n = omega (arith, size) in
+    let index : at + 1 + (n - 1) ≡ at + n = omega (arith, size) in
     ap (λ more. (item_at at (c ∷ cs)).item ∷ more)
-    (items_skip (n - 1) (at + 1) cs ∙ ap (λ p. items_behind 0 p (drop (n - 1) cs)) place ∙ ap (items_behind 0 (at + n)) (drop_among n c cs size))
+    (items_skip (n - 1) (at + 1) cs ∙ ap (λ p. items_after 0 p (drop (n - 1) cs)) index ∙ ap (items_after 0 (at + n)) (drop_among n c cs size))
 
 pub items_step : (pattern : List ℕ) (at : ℕ) (found : SizedItem) → at < length pattern → found ≡ item_at at (drop at pattern) → 0 < found.size
     → items_from pattern at ≡ found.item ∷ items_from pattern (at + found.size)
 items_step pattern at found within is size =
     let some : 0 < length (drop at pattern) = omega (arith, length-drop at pattern) in
     let sized : 0 < (item_at at (drop at pattern)).size = subst (λ (f : SizedItem). 0 < f.size) is size in
-    rw is (items_first at (drop at pattern) some sized ∙ ap (λ text. (item_at at (drop at pattern)).item ∷ items_behind 0 (at + (item_at at (drop at pattern)).size) text) (drop-drop (item_at at (drop at pattern)).size at pattern))
+    rw is (items_first at (drop at pattern) some sized ∙ ap (λ text. (item_at at (drop at pattern)).item ∷ items_after 0 (at + (item_at at (drop at pattern)).size) text) (drop-drop (item_at at (drop at pattern)).size at pattern))
 
 items_end : (pattern : List ℕ) (at : ℕ) → length pattern ≤ at → items_from pattern at ≡ []
-unfolding items_behind
-items_end pattern at behind = rw (drop_all at pattern behind) refl
+unfolding items_after
+items_end pattern at past = rw (drop_all at pattern past) refl
 
 -- at an item
 pub item_into : (search : Search) (s : State) (found : SizedItem) (one : Item) (expected : Result Outcome PatFault)
@@ -62,44 +62,44 @@ item_into search s found one expected within is size one_is before =
 -- at the pattern's end
 pub end_into : (search : Search) (s : State) (expected : Result Outcome PatFault)
     → length search.pattern.now ≤ s.at → Before search s (ahead search s) expected
-    → Before search s (whole s.start s.place s.captures.items) expected
+    → Before search s (whole s.start s.index s.captures.items) expected
 unfolding trail
-end_into search s expected behind before = rw (items_end search.pattern.now s.at behind) at before
+end_into search s expected past before = rw (items_end search.pattern.now s.at past) at before
 
 -- what single items mean
 pub open_into : (search : Search) (s : State) (at after : ℕ) (expected : Result Outcome PatFault)
     → BeforeItem search s (item.Open at) after expected
-    → Before search s (captured (capture.Open s.place at) s.captures.items (next_at search s.start after s.place)) expected
+    → Before search s (captured (capture.Open s.index at) s.captures.items (next_at search s.start after s.index)) expected
 unfolding item_trail
 open_into search s at after expected before = before
 
 pub position_into : (search : Search) (s : State) (after : ℕ) (expected : Result Outcome PatFault)
     → BeforeItem search s item.Position after expected
-    → Before search s (captured (capture.Closed (cap.Position s.place)) s.captures.items (next_at search s.start after s.place)) expected
+    → Before search s (captured (capture.Closed (cap.Position s.index)) s.captures.items (next_at search s.start after s.index)) expected
 unfolding item_trail
 position_into search s after expected before = before
 
 pub balanced_into : (search : Search) (s : State) (opening closing after : ℕ) (text : List ℕ) (len : Option ℕ) (expected : Result Outcome PatFault)
-    → text ≡ drop s.place search.subject.now → len ≡ balanced_len opening closing text
+    → text ≡ drop s.index search.subject.now → len ≡ balanced_len opening closing text
     → BeforeItem search s (item.Balanced opening closing) after expected
-    → Before search s (Test ∷ behind s.place len (λ p. next_at search s.start after p s.captures.items)) expected
+    → Before search s (Test ∷ advanced s.index len (λ p. next_at search s.start after p s.captures.items)) expected
 unfolding item_trail
 balanced_into search s opening closing after text len expected here sized before = rw (sized ∙ ap (balanced_len opening closing) here) before
 
 pub wrong_into : (search : Search) (s : State) (at after : ℕ) (expected : Result Outcome PatFault)
     → BeforeItem search s (item.Wrong at) after expected → Err (fault.Malformed at s.tests) ≡ expected
 unfolding item_trail
-wrong_into search s at after expected before = sym (wrong_met search.limit s.tests at (left_behind search s)) ∙ before
+wrong_into search s at after expected before = sym (wrong_met search.limit s.tests at (left_after search s)) ∙ before
 
-pub trails_first : (at : ℕ → List Event) (place : ℕ) (text : List ℕ) → trails at place text ≡ at place ++ trails_behind at place text
+pub trails_first : (at : ℕ → List Event) (index : ℕ) (text : List ℕ) → trails at index text ≡ at index ++ trails_after at index text
 unfolding trails
-trails_first at place [] = sym (append-nil (at place))
-trails_first at place (c ∷ cs) = refl
+trails_first at index [] = sym (append-nil (at index))
+trails_first at index (c ∷ cs) = refl
 
-after_next : (at : ℕ → List Event) (subject : List ℕ) (place : ℕ) → place < length subject
-    → trails_behind at place (drop place subject) ≡ at (place + 1) ++ trails_behind at (place + 1) (drop (place + 1) subject)
-after_next at subject place within =
-    rw (drop-cons subject place 0) (ap (trails at (place + 1)) (ap (λ k. drop k subject) (sym (add-one place))) ∙ trails_first at (place + 1) (drop (place + 1) subject))
+after_next : (at : ℕ → List Event) (subject : List ℕ) (index : ℕ) → index < length subject
+    → trails_after at index (drop index subject) ≡ at (index + 1) ++ trails_after at (index + 1) (drop (index + 1) subject)
+after_next at subject index within =
+    rw (drop-cons subject index 0) (ap (trails at (index + 1)) (ap (λ k. drop k subject) (sym (add-one index))) ∙ trails_first at (index + 1) (drop (index + 1) subject))
 
 -- there are no later indices, or a next one
 later_none : (subject pattern : List ℕ) (anchored : Bool) (start : ℕ) → (anchored ≡ true) ⊎ (length subject ≤ start)

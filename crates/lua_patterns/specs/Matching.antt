@@ -14,29 +14,29 @@ use Rattle.lua_patterns.specs.declared.matcher.Step.TheVariants.{On, Back, Whole
 use Rattle.lua_patterns.specs.Classes.{accepts}
 use Rattle.lua_patterns.specs.Captures.{opened_again}
 use Rattle.lua_patterns.specs.Items.{items_from}
-use Rattle.lua_patterns.specs.Trails.{Event, Test, accepts_first, shortest, behind, captured, whole, trail, item_trail}
+use Rattle.lua_patterns.specs.Trails.{Event, Test, accepts_first, shortest, advanced, captured, whole, trail, item_trail}
 use Rattle.lua_patterns.specs.Searches.{trails, trail_at, Outcome, answer, match_of}
 
--- what follows at so many bytes behind the lowest place, then at one fewer, down to that place
+-- what follows at so many bytes after the lowest index, then at one fewer, down to that index
 unfoldable pub fewer : (ℕ → List Event) → ℕ → ℕ → List Event
 fewer next lowest zero = next lowest
 fewer next lowest (suc n) = next (lowest + suc n) ++ fewer next lowest n
 
 -- one byte more, and then more and more
 abbrev pub one_more_byte : (ℕ → Bool) → (ℕ → List Event) → ℕ → List ℕ → List Event
-one_more_byte accepted next place text =
-    Test ∷ (if accepts_first accepted text then shortest accepted next (place + 1) (drop 1 text) else [])
+one_more_byte accepted next index text =
+    Test ∷ (if accepts_first accepted text then shortest accepted next (index + 1) (drop 1 text) else [])
 
--- what follows the items from a place of the pattern on, at each place of the subject
+-- what follows the items from an index of the pattern on, at each index of the subject
 abbrev pub next_at : Search → ℕ → ℕ → ℕ → List Capture → List Event
-next_at search start after place captures =
-    trail search.subject.now search.pattern.now start (items_from search.pattern.now after) place captures
+next_at search start after index captures =
+    trail search.subject.now search.pattern.now start (items_from search.pattern.now after) index captures
 
 -- the trail of one open choice; what is only undone has none
 abbrev pub pending_trail : Search → ℕ → Pending → List Capture → List Event
-pending_trail search start (Fewer after lowest place) captures = fewer (λ p. next_at search start after p captures) lowest (place - lowest)
-pending_trail search start (More class after place) captures =
-    one_more_byte (accepts search.pattern.now class) (λ p. next_at search start after p captures) place (drop place search.subject.now)
+pending_trail search start (Fewer after lowest index) captures = fewer (λ p. next_at search start after p captures) lowest (index - lowest)
+pending_trail search start (More class after index) captures =
+    one_more_byte (accepts search.pattern.now class) (λ p. next_at search start after p captures) index (drop index search.subject.now)
 pending_trail search start Forget captures = []
 pending_trail search start (Reopen found) captures = []
 
@@ -44,8 +44,8 @@ pending_trail search start (Reopen found) captures = []
 abbrev pub undone : Pending → List Capture → List Capture
 undone Forget captures = take (length captures - 1) captures
 undone (Reopen found) captures = opened_again found captures
-undone (Fewer after lowest place) captures = captures
-undone (More class after place) captures = captures
+undone (Fewer after lowest index) captures = captures
+undone (More class after index) captures = captures
 
 -- the trails of the open choices, of which the last comes first, and then what lies below
 unfoldable pub stacked : Search → ℕ → (List Capture → List Event) → List Pending → List Capture → List Event
@@ -53,44 +53,44 @@ stacked search start below [] captures = below captures
 stacked search start below (choice ∷ choices) captures =
     stacked search start (λ older. pending_trail search start choice older ++ below (undone choice older)) choices captures
 
--- the trails of the later places where a match may begin
-abbrev pub trails_behind : (ℕ → List Event) → ℕ → List ℕ → List Event
-trails_behind at place [] = []
-trails_behind at place (c ∷ cs) = trails at (place + 1) cs
+-- the trails of the later indices where a match may begin
+abbrev pub trails_after : (ℕ → List Event) → ℕ → List ℕ → List Event
+trails_after at index [] = []
+trails_after at index (c ∷ cs) = trails at (index + 1) cs
 
 abbrev pub later_from : List ℕ → List ℕ → Bool → ℕ → List Event
 later_from subject pattern true start = []
-later_from subject pattern false start = trails_behind (trail_at subject pattern 0) start (drop start subject)
+later_from subject pattern false start = trails_after (trail_at subject pattern 0) start (drop start subject)
 
 abbrev pub later_trails : Search → ℕ → List Event
 later_trails search start = later_from search.subject.now search.pattern.now search.anchored start
 
 -- what the matcher meets where it stands, and what comes after that
 abbrev pub ahead : Search → State → List Event
-ahead search s = next_at search s.start s.at s.place s.captures.items
+ahead search s = next_at search s.start s.at s.index s.captures.items
 
-abbrev pub left_behind : Search → State → List Event
-left_behind search s = stacked search s.start (λ captures. later_trails search s.start) s.pending.items s.captures.items
+abbrev pub left_after : Search → State → List Event
+left_after search s = stacked search s.start (λ captures. later_trails search s.start) s.pending.items s.captures.items
 
--- what an item means where the matcher stands, with what follows it from a place of the pattern on
+-- what an item means where the matcher stands, with what follows it from an index of the pattern on
 abbrev pub item_next : Search → State → Item → ℕ → List Event
 item_next search s item after =
     item_trail search.subject.now search.pattern.now item
-    (trail search.subject.now search.pattern.now s.start (items_from search.pattern.now after)) s.place s.captures.items
+    (trail search.subject.now search.pattern.now s.start (items_from search.pattern.now after)) s.index s.captures.items
 
 -- what one capture more means there, so many bytes more, and the pattern's end
 abbrev pub capture_next : Search → State → Capture → ℕ → List Event
-capture_next search s capture after = captured capture s.captures.items (next_at search s.start after s.place)
+capture_next search s capture after = captured capture s.captures.items (next_at search s.start after s.index)
 
 abbrev pub len_next : Search → State → Option ℕ → ℕ → List Event
-len_next search s len after = Test ∷ behind s.place len (λ p. next_at search s.start after p s.captures.items)
+len_next search s len after = Test ∷ advanced s.index len (λ p. next_at search s.start after p s.captures.items)
 
 abbrev pub end_trail : State → List Event
-end_trail s = whole s.start s.place s.captures.items
+end_trail s = whole s.start s.index s.captures.items
 
--- the search, whose answer is known, has this before it, and then what is left behind
+-- the search, whose answer is known, has this before it, and then what is left after it
 abbrev pub Before : Search → State → List Event → Result Outcome PatFault → Type 0
-Before search s trail expected = answer search.limit s.tests (trail ++ left_behind search s) ≡ expected
+Before search s trail expected = answer search.limit s.tests (trail ++ left_after search s) ≡ expected
 
 abbrev pub BeforeItem : Search → State → Item → ℕ → Result Outcome PatFault → Type 0
 BeforeItem search s item after expected = Before search s (item_next search s item after) expected

@@ -14,6 +14,6 @@ returns-then-not-accepts_at c = λ expected.
 
 pub returns : goal.returns
 returns c = λ expected before.
-    steps_later c.args.self.now c.args.state.now (record c.args.state.now { tests = c.make_tests.new.made; place = c.args.state.now.place + 1 }) c.longest.new.state expected c.longest.result
+    steps_later c.args.self.now c.args.state.now (record c.args.state.now { tests = c.make_tests.new.made; index = c.args.state.now.index + 1 }) c.longest.new.state expected c.longest.result
     (omega (arith, c.in_ok-make_tests.ensures.ok))
     (c.longest.ensures expected (some_then_any c.args.self.now c.args.state.now _ c.args.class c.args.after expected c.in_ok-make_tests.ensures.ok (sym c.accepts_at.ensures.value ∙ c.if-not-accepts_at.false) before))

@@ -1,6 +1,6 @@
 use Rattle.std.proofs.Common.{arith, refl, Ok}
 use Rattle.lua_patterns.specs.Searches.{answer}
-use Rattle.lua_patterns.specs.Matching.{left_behind}
+use Rattle.lua_patterns.specs.Matching.{left_after}
 use Rattle.std.proofs.lemmas.Result.{err_from_is_err_and}
 use Rattle.lua_patterns.proofs.Resuming.{popped_at, fewer_left, forgotten, reopened, none_left, resumes_later, tries_true, tries_false}
 use Rattle.lua_patterns.proofs.matcher.Search.resume.Goals as goal
@@ -31,14 +31,14 @@ returns-then-branch c = λ expected before.
 
 pub loop-pending-smaller-else-branch : goal.loop-pending-smaller-else-branch
 loop-pending-smaller-else-branch c =
-    let expected = answer c.args.self.now.limit c.loop-pending.state.tests (left_behind c.args.self.now c.loop-pending.state) in
+    let expected = answer c.args.self.now.limit c.loop-pending.state.tests (left_after c.args.self.now c.loop-pending.state) in
     let tries = tries_false c.args.self.now (record c.loop-pending.state { pending = c.pop.new.self }) c.more.new.state expected c.in_ok-more-in-More.field-0 c.if-branch.false
     (c.in_ok-more-in-More.ensures expected (popped_at c.args.self.now c.loop-pending.state c.in-Some.pending _ c.pop.new.self.items expected c.in-Some.ensures.items c.in-More.is refl)) in
     rw tries.2 (fewer_left _ _ _ c.in-Some.ensures.items)
 
 pub loop-pending-preserved-else-branch : goal.loop-pending-preserved-else-branch
 loop-pending-preserved-else-branch c =
-    let whole = answer c.args.self.now.limit c.loop-pending.state.tests (left_behind c.args.self.now c.loop-pending.state) in
+    let whole = answer c.args.self.now.limit c.loop-pending.state.tests (left_after c.args.self.now c.loop-pending.state) in
     let counted = tries_false c.args.self.now (record c.loop-pending.state { pending = c.pop.new.self }) c.more.new.state whole c.in_ok-more-in-More.field-0 c.if-branch.false
     (c.in_ok-more-in-More.ensures whole (popped_at c.args.self.now c.loop-pending.state c.in-Some.pending _ c.pop.new.self.items whole c.in-Some.ensures.items c.in-More.is refl)) in (
       λ expected before. (tries_false c.args.self.now (record c.loop-pending.state { pending = c.pop.new.self }) c.more.new.state expected c.in_ok-more-in-More.field-0 c.if-branch.false

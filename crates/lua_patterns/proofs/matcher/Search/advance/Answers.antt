@@ -1,6 +1,6 @@
 use Rattle.std.proofs.lemmas.Result.{err_from_is_err_and}
-use Rattle.lua_patterns.proofs.Capturing.{test_full, behind_none, behind_steps}
-use Rattle.lua_patterns.proofs.matcher.Search.behind.Goals as goal
+use Rattle.lua_patterns.proofs.Capturing.{test_full, advanced_none, advanced_steps}
+use Rattle.lua_patterns.proofs.matcher.Search.advance.Goals as goal
 
 pub returns-in_err-make_tests : goal.returns-in_err-make_tests
 returns-in_err-make_tests c =
@@ -9,8 +9,8 @@ returns-in_err-make_tests c =
 
 pub returns-in_default : goal.returns-in_default
 returns-in_default c = λ expected before.
-    behind_none c.args.self.now c.args.state.now _ c.args.len _ expected c.in_ok-make_tests.ensures.ok c.in_default.is before
+    advanced_none c.args.self.now c.args.state.now _ c.args.len _ expected c.in_ok-make_tests.ensures.ok c.in_default.is before
 
 pub returns : goal.returns
 returns c = λ expected before.
-    behind_steps c.args.self.now c.args.state.now _ c.args.after c.args.len c.in-Some.len expected c.in_ok-make_tests.ensures.ok c.in-Some.is before
+    advanced_steps c.args.self.now c.args.state.now _ c.args.after c.args.len c.in-Some.len expected c.in_ok-make_tests.ensures.ok c.in-Some.is before
