@@ -1,10 +1,13 @@
 -- Character classes (Lua 5.1 manual, 5.4.1). Letters are those of ASCII.
-use Rattle.std.specs.Prelude.{ℕ, zero, suc, ◌-◌, Bool, true, false, not, ◌&&◌, ◌||◌, ◌==◌, nat_lt, List, [], ◌∷◌, length, slice_index, slice_range, Option, Some, None, if◌then◌else◌}
-use Rattle.std.specs.Char.{is_ascii_alphabetic, is_ascii_control, is_ascii_digit, is_ascii_lowercase, is_ascii_punctuation, is_ascii_uppercase, is_ascii_alphanumeric, is_ascii_hexdigit, to_ascii_lowercase}
+use Rattle.std.specs.Prelude.{ℕ, zero, suc, ◌-◌, Bool, true, false, not, ◌&&◌, ◌||◌, ◌==◌, nat_lt, List, [], ◌∷◌, length, slice_index, slice_range, Option}
+use Rattle.std.specs.Prelude.{Some, None, if◌then◌else◌}
+use Rattle.std.specs.Char.{is_ascii_alphabetic, is_ascii_control, is_ascii_digit, is_ascii_lowercase, is_ascii_punctuation, is_ascii_uppercase}
+use Rattle.std.specs.Char.{is_ascii_alphanumeric, is_ascii_hexdigit, to_ascii_lowercase}
 use Rattle.std.specs.Int.{is_in_range}
 use Rattle.lua_patterns.specs.declared.classes.Class.{Class}
 use Rattle.lua_patterns.specs.declared.classes.Class.TheVariants.{Any, Byte, Letter, Set}
-use Rattle.resty_base.specs.Ascii.{space, percent, dash, close_bracket, letter_a, letter_c, letter_d, letter_l, letter_p, letter_s, letter_u, letter_w, letter_x, letter_z}
+use Rattle.resty_base.specs.Ascii.{space, percent, dash, close_bracket, letter_a, letter_c, letter_d, letter_l, letter_p, letter_s, letter_u, letter_w}
+use Rattle.resty_base.specs.Ascii.{letter_x, letter_z}
 
 -- a space, or one of tab, line feed, vertical tab, form feed and carriage return
 abbrev pub is_space : ℕ → Bool

@@ -1,5 +1,6 @@
 -- Pattern items (Lua 5.1 manual, 5.4.1), read off the bytes of a pattern. Indices count from the pattern's first byte.
-use Rattle.std.specs.Prelude.{ℕ, zero, suc, ◌+◌, ◌-◌, ◌&&◌, ◌==◌, nat_lt, List, [], ◌∷◌, drop, length, slice_index, Option, Some, None, option_map, if◌then◌else◌}
+use Rattle.std.specs.Prelude.{ℕ, zero, suc, ◌+◌, ◌-◌, ◌&&◌, ◌==◌, nat_lt, List, [], ◌∷◌, drop, length, slice_index, Option, Some, None, option_map}
+use Rattle.std.specs.Prelude.{if◌then◌else◌}
 use Rattle.std.specs.Char.{is_ascii_digit}
 use Rattle.lua_patterns.specs.declared.classes.Class.TheVariants.{Any, Byte, Letter, Set}
 use Rattle.lua_patterns.specs.declared.items.Repeat.{Repeat}
@@ -8,7 +9,8 @@ use Rattle.lua_patterns.specs.declared.items.Item.{Item}
 use Rattle.lua_patterns.specs.declared.items.Item.TheVariants.{Repeated, Open, Close, Position, Balanced, Reference, End, Wrong}
 use Rattle.lua_patterns.specs.declared.items.SizedClass.{SizedClass}
 use Rattle.lua_patterns.specs.declared.items.SizedItem.{SizedItem}
-use Rattle.resty_base.specs.Ascii.{dollar, percent, open_parenthesis, close_parenthesis, star, plus, dash, dot, question_mark, open_bracket, close_bracket, caret, letter_b, letter_f}
+use Rattle.resty_base.specs.Ascii.{dollar, percent, open_parenthesis, close_parenthesis, star, plus, dash, dot, question_mark, open_bracket, close_bracket}
+use Rattle.resty_base.specs.Ascii.{caret, letter_b, letter_f}
 
 -- how many bytes stand before the ']' that closes a set, of which the first so many don't close it; nor does the byte after a '%'
 unfoldable pub inside_after : ℕ → List ℕ → Option ℕ

@@ -1,5 +1,6 @@
 -- What a matcher with open choices still has before it.
-use Rattle.std.specs.Prelude.{◌≡◌, ◌≢◌, ℕ, zero, suc, ◌+◌, ◌-◌, ◌<◌, ◌≤◌, ◌⊎◌, Bool, true, false, List, [], ◌∷◌, ◌++◌, take, drop, length, Option, Some, None, option_map, Result, Ok, Err, if◌then◌else◌}
+use Rattle.std.specs.Prelude.{◌≡◌, ◌≢◌, ℕ, zero, suc, ◌+◌, ◌-◌, ◌<◌, ◌≤◌, ◌⊎◌, Bool, true, false, List, [], ◌∷◌, ◌++◌, take, drop, length, Option, Some, None}
+use Rattle.std.specs.Prelude.{option_map, Result, Ok, Err, if◌then◌else◌}
 use Rattle.lua_patterns.specs.declared.items.Item.{Item}
 use Rattle.lua_patterns.specs.declared.captures.Capture.{Capture}
 use Rattle.lua_patterns.specs.declared.answers.PatFault.{PatFault}
@@ -75,8 +76,7 @@ left_after search s = stacked search s.start (λ captures. later_trails search s
 -- what an item means where the matcher stands, with what follows it from an index of the pattern on
 abbrev pub item_next : Search → State → Item → ℕ → List Event
 item_next search s item after =
-    item_trail search.subject.now search.pattern.now item
-    (trail search.subject.now search.pattern.now s.start (items_from search.pattern.now after)) s.index s.captures.items
+    item_trail search.subject.now search.pattern.now item (next_at search s.start after) s.index s.captures.items
 
 -- what one capture more means there, so many bytes more, and the pattern's end
 abbrev pub capture_next : Search → State → Capture → ℕ → List Event

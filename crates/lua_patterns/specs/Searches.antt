@@ -1,5 +1,6 @@
 -- A search (Lua 5.1 manual, 5.4): the first match in order of preference, from the first index on at which there is one.
-use Rattle.std.specs.Prelude.{◌≡◌, ◌≢◌, ℕ, ◌+◌, ◌==◌, nat_lt, List, [], ◌∷◌, ◌++◌, drop, length, slice_index, Option, Some, None, option_map, Result, Ok, Err, if◌then◌else◌}
+use Rattle.std.specs.Prelude.{◌≡◌, ◌≢◌, ℕ, ◌+◌, ◌==◌, nat_lt, List, [], ◌∷◌, ◌++◌, drop, length, slice_index, Option, Some, None, option_map, Result, Ok, Err}
+use Rattle.std.specs.Prelude.{if◌then◌else◌}
 use Rattle.lua_patterns.specs.declared.answers.PatFault.{PatFault}
 use Rattle.lua_patterns.specs.declared.answers.PatFault.TheVariants as fault
 use Rattle.lua_patterns.specs.declared.answers.Found.{Found}

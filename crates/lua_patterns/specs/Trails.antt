@@ -1,5 +1,6 @@
 -- The trail at an index of the subject: what is met there, in order of preference (Lua 5.1 manual, 5.4.1).
-use Rattle.std.specs.Prelude.{ℕ, zero, suc, ◌+◌, Bool, false, ◌==◌, nat_lt, List, [], ◌∷◌, ◌++◌, drop, length, nat_eq, slice_range, Option, Some, None, option_map, if◌then◌else◌}
+use Rattle.std.specs.Prelude.{ℕ, zero, suc, ◌+◌, Bool, false, ◌==◌, nat_lt, List, [], ◌∷◌, ◌++◌, drop, length, nat_eq, slice_range, Option, Some, None}
+use Rattle.std.specs.Prelude.{option_map, if◌then◌else◌}
 use Rattle.std.specs.List.{starts_with}
 use Rattle.lua_patterns.specs.declared.items.Repeat.{Repeat}
 use Rattle.lua_patterns.specs.declared.items.Repeat.TheVariants.{Once, Optional, Longest, LongestOfSome, Shortest}

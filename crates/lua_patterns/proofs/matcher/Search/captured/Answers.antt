@@ -12,7 +12,10 @@ returns-then-as_slice-ge-MOST_CAPTURES c = λ expected before other.
 pub returns-in_err-make_tests : goal.returns-in_err-make_tests
 returns-in_err-make_tests c =
     let p = err_from_is_err_and c.from_residual.result c.from_residual.ensures.1 in
-    rw (p.1, p.2) (λ expected before other. test_full c.args.self.now c.args.state.now (next_at c.args.self.now c.args.state.now.start c.args.after c.args.state.now.index (c.args.state.now.captures.items ++ c.args.capture ∷ [])) _ expected c.in_err-make_tests.ensures.err (captured_room c.args.self.now c.args.state.now c.args.capture (next_at c.args.self.now c.args.state.now.start c.args.after c.args.state.now.index) c.args.state.now.captures.items expected (rw c.as_slice.ensures.value at c.if-as_slice-ge-MOST_CAPTURES.false) before))
+    let next = next_at c.args.self.now c.args.state.now.start c.args.after c.args.state.now.index in
+    rw (p.1, p.2) (λ expected before other.
+    test_full c.args.self.now c.args.state.now (next (c.args.state.now.captures.items ++ c.args.capture ∷ [])) _ expected c.in_err-make_tests.ensures.err
+    (captured_room c.args.self.now c.args.state.now c.args.capture next c.args.state.now.captures.items expected (rw c.as_slice.ensures.value at c.if-as_slice-ge-MOST_CAPTURES.false) before))
 
 pub returns : goal.returns
 returns c = λ expected before.

@@ -24,7 +24,8 @@ returns-in-Close-clause-steps c = λ expected before.
 
 pub returns-in_ok-len-in-Balanced-clause-steps : goal.returns-in_ok-len-in-Balanced-clause-steps
 returns-in_ok-len-in-Balanced-clause-steps c = λ expected before.
-    c.advance.ensures expected (balanced_into c.args.self.now c.args.state.now c.in-Balanced.opening c.in-Balanced.closing _ (drop c.args.state.now.index c.args.self.now.subject.now) _ expected refl c.in_ok-len-in-Balanced.ensures.value (item_into c.args.self.now c.args.state.now c.item_at-item.result _ expected c.if-state-self.false c.item_at-item.ensures.value c.item_at-item.ensures.within.0 c.in-Balanced.is before))
+    c.advance.ensures expected (balanced_into c.args.self.now c.args.state.now c.in-Balanced.opening c.in-Balanced.closing _ (drop c.args.state.now.index c.args.self.now.subject.now) _ expected refl c.in_ok-len-in-Balanced.ensures.value
+    (item_into c.args.self.now c.args.state.now c.item_at-item.result _ expected c.if-state-self.false c.item_at-item.ensures.value c.item_at-item.ensures.within.0 c.in-Balanced.is before))
 
 pub returns-in-Reference-clause-steps : goal.returns-in-Reference-clause-steps
 returns-in-Reference-clause-steps c = λ expected before.
