@@ -1,4 +1,5 @@
 //! Tests of the store: scripts of calls with their answers.
+
 mod calls;
 mod values;
 
@@ -210,7 +211,7 @@ set_globals 3
 globals = 3";
 
 /// Two tables, the first of which has the other, and a closure, frozen; then a table that has itself, also as its
-/// metatable, and a cell; and what a copy of them tells once they are gone.
+/// metatable, and a cell; and what a copy of them gives once they are gone.
 const CYCLES: &str = "\
 make_table = 1
 set 0 null table:1 = ok
@@ -321,6 +322,19 @@ fn scripts_give_their_answers(rt: HostRuntime) -> Result<(), Fail> {
         COPIES,
     ] {
         assert_eq!(rt; first_wrong(rt.alloc(), script)?, None);
+    }
+    Ok(())
+}
+
+#[test]
+fn faults_show_what_lua_says_or_their_names(rt: HostRuntime) -> Result<(), Fail> {
+    for (fault, text) in [
+        (StoreFault::Full, "not enough memory (storage limit)"),
+        (StoreFault::Frozen, "Frozen"),
+        (StoreFault::BadKey, "table index is nil"),
+        (StoreFault::Memory, "Memory"),
+    ] {
+        assert_eq!(rt; format!(in rt.alloc(); "{fault}")?.as_str(), text);
     }
     Ok(())
 }
