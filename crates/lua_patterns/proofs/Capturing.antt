@@ -158,7 +158,7 @@ pub whole_met : (search : Search) (s : State) (t : ℕ) (caps : List Cap) (expec
     → (s.tests + 1 ≤ search.limit) × (t ≡ s.tests + 1) → None ≡ first_open s.captures.items → caps ≡ closed_ones s.captures.items
     → Before search s (whole s.start s.index s.captures.items) expected
     → Ok (record { tests = t; found = Some (record { start = s.start; end = s.index; captures = caps }) }) ≡ expected
-whole_met search s t caps expected made is told before =
-    rw (made.1, told)
+whole_met search s t caps expected made is known before =
+    rw (made.1, known)
     (sym (match_met search.limit (s.tests + 1) (record { start = s.start; end = s.index; captures = closed_ones s.captures.items }) (left_after search s))
     ∙ sym (one_test search.limit s.tests _ made.0) ∙ (rw (← is) at before))

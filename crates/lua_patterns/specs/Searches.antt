@@ -19,7 +19,7 @@ abbrev pub trail_at : List ℕ → List ℕ → ℕ → ℕ → List Event
 trail_at subject pattern at start = trail subject pattern start (items_from pattern at) start []
 
 -- the trail of a search: of each index from the given one on, or of that one alone where '^' stands first in the pattern.
--- Behind the subject's end there is none
+-- After the subject's end there is none
 unfoldable pub search_trail : List ℕ → List ℕ → ℕ → List Event
 search_trail subject pattern «from» =
     if nat_lt (length subject) «from» then []

@@ -1,6 +1,6 @@
 //! How many bytes `%b` takes, kept for all indices once they were gone through often.
 
-ghost use Rattle.std.specs.Prelude.{◌≡◌, ◌≤◌, ◌<◌, ◌+◌, ◌-◌, ◌^◌, ◌∷◌, ℕ, List, OnOk, IfSome, IfOk, IfErr, drop, length};
+ghost use Rattle.std.specs.Prelude.{◌≡◌, ◌<◌, ◌+◌, ◌^◌, OnOk, IfSome, IfOk, IfErr, drop};
 ghost use Rattle.lua_patterns.specs.Trails.{balanced_len};
 ghost use Rattle.lua_patterns.specs.Balance.{IsRight, IsRightOf, AreRight, Waits, Reaches};
 

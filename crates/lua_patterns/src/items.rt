@@ -1,6 +1,6 @@
 //! Pattern items, read off the bytes of a pattern.
 
-ghost use Rattle.std.specs.Prelude.{◌≡◌, ◌≤◌, ◌<◌, ◌+◌, IfSome, drop, length, slice_index};
+ghost use Rattle.std.specs.Prelude.{◌≡◌, ◌≤◌, ◌<◌, ◌+◌, IfSome, drop, length};
 ghost use Rattle.lua_patterns.specs.Items.{inside_len, opening_size, set_at, class_at, repeat_of, repeat_size, wrong_at, repeated_at, escaped_at, item_at};
 
 use crate::classes::Class;

@@ -1,11 +1,10 @@
 //! The matcher: its state, a step for each kind of item, the way back to open choices, and its run.
 
-ghost use Rattle.std.specs.Prelude.{◌≡◌, ◌≢◌, ◌+◌, ◌-◌, ◌<◌, ◌≤◌, ◌^◌, ◌∷◌, [], IsTrue, IfSome, IfErr, OnOk, Result, Ok, drop, length, Bool, true, false};
+ghost use Rattle.std.specs.Prelude.{◌≡◌, ◌+◌, ◌-◌, ◌<◌, ◌≤◌, ◌^◌, [], IsTrue, IfSome, IfErr, OnOk, Ok, drop, length};
 ghost use Rattle.std.specs.List.{prefix_len};
 ghost use Rattle.lua_patterns.specs.declared.answers.PatFault.{PatFault};
 ghost use Rattle.lua_patterns.specs.Classes.{accepts};
-ghost use Rattle.lua_patterns.specs.Trails.{Test, accepts_first, closing_len, balanced_len, repeated_len, advanced, captured, whole};
-ghost use Rattle.lua_patterns.specs.Searches.{Outcome};
+ghost use Rattle.lua_patterns.specs.Trails.{accepts_first, closing_len, balanced_len, repeated_len};
 ghost use Rattle.lua_patterns.specs.Balance.{AreRight};
 ghost use Rattle.lua_patterns.specs.Matching.{capture_next, len_next, end_trail, ahead, GoesOn, GoesOnAt, GoesBack, Takes, Tries, Ends};
 

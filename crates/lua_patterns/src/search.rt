@@ -1,6 +1,5 @@
 //! The search, which is the public call.
 
-ghost use Rattle.std.specs.Prelude.{◌≡◌};
 ghost use Rattle.lua_patterns.specs.Searches.{search_trail, answer, Answers};
 
 use crate::matcher::{Search, State};

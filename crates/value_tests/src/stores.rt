@@ -62,7 +62,7 @@ units = 544
 walk 0 = 0 1 2 3 4 5 6 7 8 9 10 11 12 13 14 15";
 
 /// Keys that are set to nil and again.
-const NIL_IN_PLACE: &str = "\
+const NIL_AT_A_KEY: &str = "\
 set 0 'a 1 = ok
 walk 0 = 1
 set 0 'b 2 = ok
@@ -312,7 +312,7 @@ make_table = 4";
 fn scripts_give_their_answers(rt: HostRuntime) -> Result<(), Fail> {
     for script in [
         KEYS,
-        NIL_IN_PLACE,
+        NIL_AT_A_KEY,
         EMPTIED,
         BORDERS,
         FAULTS,
