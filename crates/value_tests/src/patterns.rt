@@ -295,9 +295,10 @@ a|[a-%|0|0|malformed 0 (0)";
 /// The same with a line end in the subject.
 const LINE_END: &str = "a\nb|a$|0|5|none (5)";
 
-/// Wrong items that are met as the tests run out: with exactly the tests that are made before them they are the outcome,
-/// with one fewer the pattern is too complex. Each kind of wrong item stands here, and before it each way to get there:
-/// on, back by a byte fewer or more, and to a later start. The numbers were worked out by hand from what `find_in` counts.
+/// Wrong items, and the 33rd capture, that are met as the tests run out: with exactly the tests that are made before them
+/// they are the outcome, with one fewer the pattern is too complex. Each kind of wrong item stands here, and before it
+/// each way to get there: on, back by a byte fewer or more, and to a later start. The numbers were worked out by hand from
+/// what `find_in` counts.
 const WRONG_AT_THE_LAST_TEST: &str = "\
 x|x[a|0|1|malformed 1 (1)
 ab|a-b%|0|3|malformed 3 (3)
@@ -311,7 +312,8 @@ a|^a)|0|1|malformed 2 (1)
 aa|(a)%1%|0|4|malformed 5 (4)
 ()x|%b()[|0|1|malformed 4 (1)
 a|()%0|0|1|malformed 2 (1)
-a|()(a|0|3|malformed 2 (3)";
+a|()(a|0|3|malformed 2 (3)
+|()()()()()()()()()()()()()()()()()()()()()()()()()()()()()()()()()|0|32|too many captures (32)";
 
 /// The next part of a row.
 fn part<'a>(row: &mut Split<'a, char>) -> Result<&'a str, Fail> {
@@ -368,12 +370,7 @@ fn searches_give_their_captures(rt: HostRuntime) -> Result<(), Fail> {
 
 #[test]
 fn what_is_wrong_is_met_before_its_own_count(rt: HostRuntime) -> Result<(), Fail> {
-    let alloc = rt.alloc();
-    assert_eq!(rt; first_wrong(alloc, WRONG_AT_THE_LAST_TEST)?, None);
-    let pattern = "()".repeat(alloc, 33)?;
-    let many = outcome(alloc, b"", pattern.as_bytes(), 0, 32)?;
-    assert_eq!(rt; many.as_str(), "too many captures (32)");
-    assert!(rt; is_too_complex(alloc, b"", pattern.as_bytes(), 0, 31)?);
+    assert_eq!(rt; first_wrong(rt.alloc(), WRONG_AT_THE_LAST_TEST)?, None);
     Ok(())
 }
 

@@ -328,14 +328,17 @@ fn scripts_give_their_answers(rt: HostRuntime) -> Result<(), Fail> {
 
 #[test]
 fn faults_show_what_lua_says_or_their_names(rt: HostRuntime) -> Result<(), Fail> {
-    for (fault, text) in [
-        (StoreFault::Full, "not enough memory (storage limit)"),
-        (StoreFault::Frozen, "Frozen"),
-        (StoreFault::BadKey, "table index is nil"),
-        (StoreFault::Memory, "Memory"),
-    ] {
-        assert_eq!(rt; format!(in rt.alloc(); "{fault}")?.as_str(), text);
-    }
+    let (full, frozen, key, memory) = (
+        StoreFault::Full,
+        StoreFault::Frozen,
+        StoreFault::BadKey,
+        StoreFault::Memory,
+    );
+    let shown = format!(in rt.alloc(); "{full}, {frozen}, {key}, {memory}")?;
+    assert_eq!(rt;
+        shown.as_str(),
+        "not enough memory (storage limit), Frozen, table index is nil, Memory"
+    );
     Ok(())
 }
 
