@@ -1,4 +1,4 @@
--- What a search answers, some tests on.
+-- What a search gives, some tests on.
 use Rattle.std.proofs.Common.{◌≡◌, ℕ, zero, suc, ◌+◌, ◌<◌, ◌≤◌, List, [], ◌∷◌, ◌++◌, replicate, Some, None, Ok, Err, refl, ◌∙◌, ap, arith, inl, inr}
 use Rattle.std.proofs.lemmas.Bool.{lt-ltb, le-ltb, cases_lt}
 use Rattle.lua_patterns.specs.declared.answers.PatFault.TheVariants as fault

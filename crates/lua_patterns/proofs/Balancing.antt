@@ -71,11 +71,11 @@ closes_answered o c x s text ends size is are zero less =
     let last : length (ends ++ s ∷ []) - zero - 1 ≡ length ends = omega (arith, length-append ends (s ∷ [])) in
     closes_first o c x text is ∙ ap Some (omega (arith, size, at_seam ends s (length (ends ++ s ∷ []) - zero - 1) last))
 closes_answered o c x s text ends size is are (suc n) less =
-    let place : length (ends ++ s ∷ []) - suc n - 1 ≡ length ends - n - 1 = omega (arith, length-append ends (s ∷ [])) in
+    let index : length (ends ++ s ∷ []) - suc n - 1 ≡ length ends - n - 1 = omega (arith, length-append ends (s ∷ [])) in
     let inner : n < length ends = omega (arith, length-append ends (s ∷ []), less) in
     let first : length ends - n - 1 < length ends = omega (arith, inner) in
     closes_later o c x n text is ∙ ap one_more (are.answered n inner)
-    ∙ ap Some (omega (arith, are.within (length ends - n - 1) first, before_seam ends s (length (ends ++ s ∷ []) - suc n - 1) (length ends - n - 1) place first))
+    ∙ ap Some (omega (arith, are.within (length ends - n - 1) first, before_seam ends s (length (ends ++ s ∷ []) - suc n - 1) (length ends - n - 1) index first))
 
 closes_unanswered : (o c x s : ℕ) (text ends : List ℕ) → x ≡ c → AreWaiting o c text ends
     → (n : ℕ) → length (ends ++ s ∷ []) ≤ n → closing_len o c n (x ∷ text) ≡ None
@@ -103,9 +103,9 @@ wait_opens o c x text ends new rest other is parts shorter are =
       within = λ i less. omega (arith, same i less, are.within i (omega (arith, less, shorter)));
       answered = λ n less.
           let inner : suc n < length ends = omega (arith, less, shorter) in
-          let place : length ends - suc n - 1 ≡ length new - n - 1 = omega (arith, shorter) in
+          let index : length ends - suc n - 1 ≡ length new - n - 1 = omega (arith, shorter) in
           let first : length new - n - 1 < length new = omega (arith, less) in
-          let found : get_or ends (length ends - suc n - 1) 0 ≡ get_or new (length new - n - 1) 0 = ap (λ k. get_or ends k 0) place ∙ sym (same (length new - n - 1) first) in
+          let found : get_or ends (length ends - suc n - 1) 0 ≡ get_or new (length new - n - 1) 0 = ap (λ k. get_or ends k 0) index ∙ sym (same (length new - n - 1) first) in
           let below : get_or ends (length ends - suc n - 1) 0 ≤ length text = are.within (length ends - suc n - 1) (omega (arith, inner)) in
           opens o c x n text other is ∙ ap one_more (are.answered (suc n) inner) ∙ ap Some (omega (arith, found, below));
       unanswered = λ n most. opens o c x n text other is ∙ ap one_more (are.unanswered (suc n) (omega (arith, shorter, most)));
@@ -127,14 +127,14 @@ unfolding closing_len
 wait_none o c [] ends empty none = rw none (record { within = λ i less. absurd (omega (arith, less)); answered = λ n less. absurd (omega (arith, less)); unanswered = λ n most. refl })
 wait_none o c (x ∷ xs) ends empty none = absurd (omega (arith, empty))
 
--- what stands behind a byte more
+-- what stands after a byte more
 drop_front : (x k : ℕ) (text : List ℕ) → k ≤ length text → drop (length (x ∷ text) - k) (x ∷ text) ≡ drop (length text - k) text
 drop_front x k text within =
-    let place : length (x ∷ text) - k ≡ suc (length text - k) = omega (arith, within) in rw place refl
+    let index : length (x ∷ text) - k ≡ suc (length text - k) = omega (arith, within) in rw index refl
 
 whole_front : (x k : ℕ) (text : List ℕ) → k ≡ suc (length text) → drop (length (x ∷ text) - k) (x ∷ text) ≡ x ∷ text
 whole_front x k text is =
-    let place : length (x ∷ text) - k ≡ 0 = omega (arith, is) in rw place refl
+    let index : length (x ∷ text) - k ≡ 0 = omega (arith, is) in rw index refl
 
 -- where nothing matches at the front
 front_elsewhere : (o c x : ℕ) (text suffixes lens : List ℕ) → balanced_len o c (x ∷ text) ≡ None → AreMatches o c text suffixes lens
@@ -186,9 +186,9 @@ module _ (o c x r s : ℕ) (text suffixes lens : List ℕ) (size : s ≡ length 
   more_taken : (i : ℕ) → i < length (suffixes ++ s ∷ []) → (i < length suffixes) ⊎ (length suffixes ≤ i)
       → balanced_len o c (drop (length (x ∷ text) - get_or (suffixes ++ s ∷ []) i 0) (x ∷ text)) ≡ Some (get_or (lens ++ r ∷ []) i 0)
   more_taken i less (inl inner) =
-      let place = before_seam suffixes s i i refl inner in
+      let index = before_seam suffixes s i i refl inner in
       let len = before_seam lens r i i refl (omega (arith, are.both, inner)) in
-      ap (λ k. balanced_len o c (drop (length (x ∷ text) - k) (x ∷ text))) place ∙ ap (balanced_len o c) (drop_front x (get_or suffixes i 0) text (are.within i inner))
+      ap (λ k. balanced_len o c (drop (length (x ∷ text) - k) (x ∷ text))) index ∙ ap (balanced_len o c) (drop_front x (get_or suffixes i 0) text (are.within i inner))
       ∙ are.taken i inner ∙ ap Some (sym len)
   more_taken i less (inr most) =
       let last : i ≡ length suffixes = omega (arith, less, most, length-append suffixes (s ∷ [])) in
@@ -229,8 +229,8 @@ pub reach_more : (o c x s e q r : ℕ) (text ends suffixes lens new beside : Lis
     → q ≡ s - e → r ≡ min (q + 1) 18446744073709551615 → new ≡ suffixes ++ s ∷ [] → beside ≡ lens ++ r ∷ []
     → AreWaiting o c text ends → AreMatches o c text suffixes lens → AreMatches o c (x ∷ text) new beside
 reach_more o c x s e q r text ends suffixes lens new beside size small is some last less sum put put_beside waiting are =
-    let place : length ends - 0 - 1 ≡ length ends - 1 = omega arith in
-    let end : get_or ends (length ends - 0 - 1) 0 ≡ e = ap (λ k. get_or ends k 0) place ∙ last in
+    let index : length ends - 0 - 1 ≡ length ends - 1 = omega arith in
+    let end : get_or ends (length ends - 0 - 1) 0 ≡ e = ap (λ k. get_or ends k 0) index ∙ last in
     let below : get_or ends (length ends - 0 - 1) 0 ≤ length text = waiting.within (length ends - 0 - 1) (omega (arith, some)) in
     let takes : balanced_len o c (x ∷ text) ≡ Some r = takes_first o c x text is ∙ ap one_more (waiting.answered 0 some) ∙ ap Some (omega (arith, size, small, end, below, less, sum)) in
     rw (put, put_beside) (more o c x r s text suffixes lens size takes are)
@@ -273,33 +273,33 @@ pub search_missed : (looked suffixes : List ℕ) (s at : ℕ) → looked ≡ suf
 search_missed looked suffixes s at same answer up =
     let all = searched suffixes s (Err at) (subst (λ l. IsBinarySearchResult (λ y. nat_cmp y s) l (Err at)) same answer) up in (all.1, all.2)
 
--- what is known of a place
-place_of : (subject : List ℕ) (place s : ℕ) → s ≡ length subject - place → place ≤ length subject → length subject - s ≡ place
-place_of subject place s is within = omega (arith, is, within)
+-- what is known of an index
+index_of : (subject : List ℕ) (index s : ℕ) → s ≡ length subject - index → index ≤ length subject → length subject - s ≡ index
+index_of subject index s is within = omega (arith, is, within)
 
-pub known_some : (o c place s at : ℕ) (subject suffixes lens : List ℕ) → AreMatches o c subject suffixes lens → s ≡ length subject - place → place ≤ length subject
-    → at < length suffixes → get_or suffixes at 0 ≡ s → Some (get_or lens at 0) ≡ balanced_len o c (drop place subject)
-known_some o c place s at subject suffixes lens are is within inside same =
-    sym (ap (λ k. balanced_len o c (drop k subject)) (sym (ap (λ k. length subject - k) same ∙ place_of subject place s is within)) ∙ are.taken at inside)
+pub known_some : (o c index s at : ℕ) (subject suffixes lens : List ℕ) → AreMatches o c subject suffixes lens → s ≡ length subject - index → index ≤ length subject
+    → at < length suffixes → get_or suffixes at 0 ≡ s → Some (get_or lens at 0) ≡ balanced_len o c (drop index subject)
+known_some o c index s at subject suffixes lens are is within inside same =
+    sym (ap (λ k. balanced_len o c (drop k subject)) (sym (ap (λ k. length subject - k) same ∙ index_of subject index s is within)) ∙ are.taken at inside)
 
-pub known_within : (o c place s at : ℕ) (subject suffixes lens : List ℕ) → AreMatches o c subject suffixes lens → s ≡ length subject - place → place ≤ length subject
-    → length subject < 2 ^ 64 → at < length suffixes → get_or suffixes at 0 ≡ s → place + get_or lens at 0 < 2 ^ 64
-known_within o c place s at subject suffixes lens are is within small inside same =
-    let least = balanced_within o c (drop place subject) (get_or lens at 0) (sym (known_some o c place s at subject suffixes lens are is within inside same)) in
-    omega (arith, least, length-drop place subject, within, small)
+pub known_within : (o c index s at : ℕ) (subject suffixes lens : List ℕ) → AreMatches o c subject suffixes lens → s ≡ length subject - index → index ≤ length subject
+    → length subject < 2 ^ 64 → at < length suffixes → get_or suffixes at 0 ≡ s → index + get_or lens at 0 < 2 ^ 64
+known_within o c index s at subject suffixes lens are is within small inside same =
+    let least = balanced_within o c (drop index subject) (get_or lens at 0) (sym (known_some o c index s at subject suffixes lens are is within inside same)) in
+    omega (arith, least, length-drop index subject, within, small)
 
-pub known_none : (o c place s at : ℕ) (subject suffixes lens : List ℕ) → AreMatches o c subject suffixes lens → s ≡ length subject - place → place ≤ length subject
-    → ((k : ℕ) → k < at → get_or suffixes k 0 < s) → ((k : ℕ) → at ≤ k → k < length suffixes → s < get_or suffixes k 0) → None ≡ balanced_len o c (drop place subject)
-known_none o c place s at subject suffixes lens are is within before behind =
-    sym (ap (λ k. balanced_len o c (drop k subject)) (sym (place_of subject place s is within))
+pub known_none : (o c index s at : ℕ) (subject suffixes lens : List ℕ) → AreMatches o c subject suffixes lens → s ≡ length subject - index → index ≤ length subject
+    → ((k : ℕ) → k < at → get_or suffixes k 0 < s) → ((k : ℕ) → at ≤ k → k < length suffixes → s < get_or suffixes k 0) → None ≡ balanced_len o c (drop index subject)
+known_none o c index s at subject suffixes lens are is within before after =
+    sym (ap (λ k. balanced_len o c (drop k subject)) (sym (index_of subject index s is within))
     ∙ are.elsewhere s (omega (arith, is)) (λ i less same. apart i less same (cases_lt i at)))
   where
     apart : (i : ℕ) → i < length suffixes → get_or suffixes i 0 ≡ s → (i < at) ⊎ (at ≤ i) → ⊥
     apart i less same (inl first) = omega (arith, same, before i first)
-    apart i less same (inr last) = omega (arith, same, behind i last less)
+    apart i less same (inr last) = omega (arith, same, after i last less)
 
-pub known_beyond : (o c : ℕ) (subject : List ℕ) (place : ℕ) → length subject < place → None ≡ balanced_len o c (drop place subject)
-known_beyond o c subject place behind = rw (drop_all place subject (omega (arith, behind))) refl
+pub known_beyond : (o c : ℕ) (subject : List ℕ) (index : ℕ) → length subject < index → None ≡ balanced_len o c (drop index subject)
+known_beyond o c subject index after = rw (drop_all index subject (omega (arith, after))) refl
 
 -- nothing is kept yet
 pub no_pairs : (subject : List ℕ) (pairs : List Pair) → pairs ≡ [] → AreRight subject pairs

@@ -36,7 +36,7 @@ pub last_open_at_closed : (captures : List Capture) (i : ℕ) (d : Capture) (c :
     → last_open (take (i + 1) captures) ≡ last_open (take i captures)
 last_open_at_closed captures i d c within here = rw (take_more captures i d within, here, last_open_same (take i captures) c) refl
 
--- a capture that was put behind is forgotten
+-- a capture that was put last is forgotten
 pub forget_last : (captures : List Capture) (c : Capture) → take (length (captures ++ c ∷ []) - 1) (captures ++ c ∷ []) ≡ captures
 forget_last captures c =
     let size : length (captures ++ c ∷ []) - 1 ≡ length captures = omega (arith, length-append captures (c ∷ [])) in
@@ -46,9 +46,9 @@ same_some : {A : Type 0} (x y : A) → Some x ≡ Some y → x ≡ y
 same_some x y e = cc
 
 -- one step of it
-last_here : (c : Capture) (captures : List Capture) (behind : Option OpenCapture) (d : Capture)
-    → ((other : OpenCapture) → behind ≡ Some other → get_or captures other.index d ≡ Open other.start other.at)
-    → (found : OpenCapture) → last_open_from c behind ≡ Some found → get_or (c ∷ captures) found.index d ≡ Open found.start found.at
+last_here : (c : Capture) (captures : List Capture) (later : Option OpenCapture) (d : Capture)
+    → ((other : OpenCapture) → later ≡ Some other → get_or captures other.index d ≡ Open other.start other.at)
+    → (found : OpenCapture) → last_open_from c later ≡ Some found → get_or (c ∷ captures) found.index d ≡ Open found.start found.at
 last_here c captures (Some other) d known found last =
     let is = same_some (record { index = other.index + 1; start = other.start; at = other.at }) found last in
     let P : OpenCapture → Type 0 = λ f. get_or (c ∷ captures) f.index d ≡ Open f.start f.at in
@@ -67,9 +67,9 @@ last_open_is [] found d last = cc
 last_open_is (c ∷ captures) found d last = last_here c captures (last_open captures) d (λ other. last_open_is captures other d) found last
 
 -- a capture that was closed is opened again
-pub opened_again_is : (captures : List Capture) (found : OpenCapture) (place : ℕ) → last_open captures ≡ Some found
-    → opened_again found (closed_at place found captures) ≡ captures
-opened_again_is captures found place last =
-    set-set captures found.index (Closed (Span found.start place)) (Open found.start found.at)
+pub opened_again_is : (captures : List Capture) (found : OpenCapture) (index : ℕ) → last_open captures ≡ Some found
+    → opened_again found (closed_at index found captures) ≡ captures
+opened_again_is captures found index last =
+    set-set captures found.index (Closed (Span found.start index)) (Open found.start found.at)
     ∙ ap (slice_set captures found.index) (sym (last_open_is captures found (Open 0 0) last))
     ∙ set-get_or captures found.index (Open 0 0)

@@ -5,11 +5,11 @@ use Rattle.std.proofs.lemmas.Bool.{ne_eqb}
 use Rattle.std.proofs.Common.{eq-eqb, add-zero}
 use Rattle.std.proofs.lemmas.List.{drop_all}
 use Rattle.lua_patterns.specs.Trails.{closing_len}
-use Rattle.lua_patterns.specs.Classes.{in_part, in_parts_behind, in_set, part_size}
-use Rattle.lua_patterns.specs.Items.{inside_behind}
+use Rattle.lua_patterns.specs.Classes.{in_part, in_parts_after, in_set, part_size}
+use Rattle.lua_patterns.specs.Items.{inside_after}
 
-parts_skip : (k c : ℕ) (xs : List ℕ) → in_parts_behind k c xs ≡ in_parts_behind 0 c (drop k xs)
-unfolding in_parts_behind
+parts_skip : (k c : ℕ) (xs : List ℕ) → in_parts_after k c xs ≡ in_parts_after 0 c (drop k xs)
+unfolding in_parts_after
 parts_skip zero c xs = refl
 parts_skip (suc k) c [] = refl
 parts_skip (suc k) c (x ∷ xs) = parts_skip k c xs
@@ -21,21 +21,21 @@ drop_among (suc n) c cs some = let less : suc n - 1 ≡ n = omega arith in ap (�
 
 -- the part at the front has the byte
 pub part_found : (c : ℕ) (rest : List ℕ) → 0 < length rest → in_part c rest ≡ true → in_set c rest ≡ true
-unfolding in_parts_behind
+unfolding in_parts_after
 part_found c [] some found = absurd (omega arith)
 part_found c (x ∷ xs) some found = rw found refl
 
 -- it hasn't
 pub part_passed : (c : ℕ) (rest : List ℕ) → 0 < length rest → 0 < part_size rest → in_part c rest ≡ false
     → in_set c (drop (part_size rest) rest) ≡ in_set c rest
-unfolding in_parts_behind
+unfolding in_parts_after
 part_passed c [] some size passed = absurd (omega arith)
 part_passed c (x ∷ xs) some size passed =
     rw passed (ap (in_set c) (sym (drop_among (part_size (x ∷ xs)) x xs size)) ∙ sym (parts_skip (part_size (x ∷ xs) - 1) c xs))
 
 -- there is none
 pub no_part : (c : ℕ) (rest : List ℕ) → length rest ≡ 0 → in_set c rest ≡ false
-unfolding in_parts_behind
+unfolding in_parts_after
 no_part c [] none = refl
 no_part c (x ∷ xs) none = absurd (omega arith)
 
@@ -44,14 +44,14 @@ more_map : (i : ℕ) (o : Option ℕ) → option_map (λ n. n + i) (option_map (
 more_map i None = refl
 more_map i (Some n) = ap Some (omega arith)
 
--- the byte at a place of a set's inside is kept
+-- the byte at an index of a set's inside is kept
 pub kept_step : (text : List ℕ) (i k j : ℕ) → i < length text → 0 < k → j ≡ k - 1
-    → option_map (λ n. n + (i + 1)) (inside_behind j (drop (i + 1) text)) ≡ option_map (λ n. n + i) (inside_behind k (drop i text))
-unfolding inside_behind
+    → option_map (λ n. n + (i + 1)) (inside_after j (drop (i + 1) text)) ≡ option_map (λ n. n + i) (inside_after k (drop i text))
+unfolding inside_after
 kept_step text i zero j within some less = absurd (omega arith)
 kept_step text i (suc k) j within some less =
     let one_less : j ≡ k = omega arith in
-    rw (one_less, drop-cons text i 0, add-one i) (sym (more_map i (inside_behind k (drop (suc i) text))))
+    rw (one_less, drop-cons text i 0, add-one i) (sym (more_map i (inside_after k (drop (suc i) text))))
 
 -- what a '%' keeps
 pub one_if : (c k : ℕ) → c ≡ 37 → k ≡ 1 → k ≡ (if c == 37 then 1 else 0)
@@ -60,15 +60,15 @@ one_if c k is one = rw (is, one) refl
 pub none_if : (c k j : ℕ) → k ≤ 0 → (c ≡ 37 → ⊥) → j ≡ k → j ≡ (if c == 37 then 1 else 0)
 none_if c k j none other same = rw (ne_eqb c 37 other) (omega arith)
 
--- the byte at a place of a set's inside is no bracket
+-- the byte at an index of a set's inside is no bracket
 pub inside_step : (text : List ℕ) (i k j : ℕ) → i < length text → k ≤ 0 → (get_or text i 0 ≡ 93 → ⊥) → j ≡ (if get_or text i 0 == 37 then 1 else 0)
-    → option_map (λ n. n + (i + 1)) (inside_behind j (drop (i + 1) text)) ≡ option_map (λ n. n + i) (inside_behind k (drop i text))
-unfolding inside_behind
+    → option_map (λ n. n + (i + 1)) (inside_after j (drop (i + 1) text)) ≡ option_map (λ n. n + i) (inside_after k (drop i text))
+unfolding inside_after
 inside_step text i k j within none other next =
     let zero_kept : k ≡ 0 = omega arith in
-    rw (zero_kept, next, drop-cons text i 0, add-one i, ne_eqb (get_or text i 0) 93 other) (sym (more_map i (inside_behind (if get_or text i 0 == 37 then 1 else 0) (drop (suc i) text))))
+    rw (zero_kept, next, drop-cons text i 0, add-one i, ne_eqb (get_or text i 0) 93 other) (sym (more_map i (inside_after (if get_or text i 0 == 37 then 1 else 0) (drop (suc i) text))))
 
--- a closing byte that answers an inner opening one
+-- a closing byte that closes an inner opening one
 pub closes_inner : (opening closing : ℕ) (text : List ℕ) (i others next : ℕ) → i < length text → get_or text i 0 ≡ closing → (others ≡ 0 → ⊥) → next ≡ others - 1
     → option_map (λ n. n + (i + 1)) (closing_len opening closing next (drop (i + 1) text)) ≡ option_map (λ n. n + i) (closing_len opening closing others (drop i text))
 unfolding closing_len
@@ -109,7 +109,7 @@ closes_here opening closing text i others whole within is none before =
 pub never_closes : (opening closing : ℕ) (text : List ℕ) (i others : ℕ) (whole : Option ℕ) → length text ≤ i
     → option_map (λ n. n + i) (closing_len opening closing others (drop i text)) ≡ whole → None ≡ whole
 unfolding closing_len
-never_closes opening closing text i others whole behind before = rw (drop_all i text behind) at before
+never_closes opening closing text i others whole past before = rw (drop_all i text past) at before
 
 nothing_more : (o : Option ℕ) → option_map (λ n. n + 0) o ≡ o
 nothing_more None = refl

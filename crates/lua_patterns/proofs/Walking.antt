@@ -1,4 +1,4 @@
--- From item to item, back to open choices, and on to later places.
+-- From item to item, back to open choices, and on to later indices.
 use Rattle.std.proofs.Common.{◌≡◌, ◌⊎◌, ℕ, zero, suc, ◌+◌, ◌-◌, ◌*◌, ◌<◌, ◌≤◌, Bool, true, false, List, [], ◌∷◌, ◌++◌, drop, length, Option, None, Result, Ok, Err, refl, sym, ◌∙◌, ap, subst, arith, inl, inr, length-drop}
 use Rattle.std.proofs.lemmas.List.{drop-drop, drop_all}
 use Rattle.lua_patterns.specs.declared.answers.PatFault.{PatFault}
@@ -10,128 +10,137 @@ use Rattle.lua_patterns.specs.declared.captures.Capture.{Capture}
 use Rattle.lua_patterns.specs.declared.captures.Capture.TheVariants as capture
 use Rattle.lua_patterns.specs.declared.captures.Cap.TheVariants as cap
 use Rattle.lua_patterns.specs.declared.matcher.Pending.{Pending}
+use Rattle.lua_patterns.specs.declared.matcher.Search.{Search}
 use Rattle.lua_patterns.specs.declared.matcher.State.{State}
-use Rattle.lua_patterns.specs.Items.{item_at, items_behind, items_from}
-use Rattle.lua_patterns.specs.Trails.{Event, Test, behind, balanced_len, captured, whole, item_trail, trail}
+use Rattle.lua_patterns.specs.Items.{item_at, items_after, items_from}
+use Rattle.lua_patterns.specs.Trails.{Event, Test, advanced, balanced_len, captured, whole, item_trail, trail}
 use Rattle.lua_patterns.specs.Searches.{trails, trail_at, answer, Outcome}
-use Rattle.lua_patterns.specs.Matching.{next_at, left_behind, later_trails, trails_behind, stacked, pending_trail, undone, ahead, Before, BeforeItem, Nears}
+use Rattle.lua_patterns.specs.Matching.{next_at, left_after, later_from, later_trails, trails_after, stacked, pending_trail, undone, ahead, Before, BeforeItem, Nears}
 use Rattle.lua_patterns.proofs.Answering.{wrong_met, nothing_met}
 use Rattle.lua_patterns.proofs.Stack.{stacked_push, stacked_none}
 use Rattle.lua_patterns.proofs.Reading.{drop_among}
 use Rattle.std.proofs.Common.{append-nil, add-one, drop-cons}
 use Rattle.std.proofs.Math.Nat.{mul-le-mul_right}
 
-items_skip : (k at : ℕ) (text : List ℕ) → items_behind k at text ≡ items_behind 0 (at + k) (drop k text)
-unfolding items_behind
-items_skip zero at text = let none : at ≡ at + zero = omega arith in ap (λ p. items_behind 0 p text) none
+items_skip : (k at : ℕ) (text : List ℕ) → items_after k at text ≡ items_after 0 (at + k) (drop k text)
+unfolding items_after
+items_skip zero at text = let none : at ≡ at + zero = omega arith in ap (λ p. items_after 0 p text) none
 items_skip (suc k) at [] = refl
-items_skip (suc k) at (c ∷ cs) = let same : at + 1 + k ≡ at + suc k = omega arith in items_skip k (at + 1) cs ∙ ap (λ p. items_behind 0 p (drop k cs)) same
+items_skip (suc k) at (c ∷ cs) = let same : at + 1 + k ≡ at + suc k = omega arith in items_skip k (at + 1) cs ∙ ap (λ p. items_after 0 p (drop k cs)) same
 
--- the first item, and those behind it
+-- the first item, and those after it
 items_first : (at : ℕ) (text : List ℕ) → 0 < length text → 0 < (item_at at text).size
-    → items_behind 0 at text ≡ (item_at at text).item ∷ items_behind 0 (at + (item_at at text).size) (drop (item_at at text).size text)
-unfolding items_behind
+    → items_after 0 at text ≡ (item_at at text).item ∷ items_after 0 (at + (item_at at text).size) (drop (item_at at text).size text)
+unfolding items_after
 items_first at [] some size = absurd (omega arith)
 items_first at (c ∷ cs) some size =
     let n = (item_at at (c ∷ cs)).size in
-    let place : at + 1 + (n - 1) ≡ at + n = omega (arith, size) in
+    let index : at + 1 + (n - 1) ≡ at + n = omega (arith, size) in
     ap (λ more. (item_at at (c ∷ cs)).item ∷ more)
-    (items_skip (n - 1) (at + 1) cs ∙ ap (λ p. items_behind 0 p (drop (n - 1) cs)) place ∙ ap (items_behind 0 (at + n)) (drop_among n c cs size))
+    (items_skip (n - 1) (at + 1) cs ∙ ap (λ p. items_after 0 p (drop (n - 1) cs)) index ∙ ap (items_after 0 (at + n)) (drop_among n c cs size))
 
 pub items_step : (pattern : List ℕ) (at : ℕ) (found : SizedItem) → at < length pattern → found ≡ item_at at (drop at pattern) → 0 < found.size
     → items_from pattern at ≡ found.item ∷ items_from pattern (at + found.size)
 items_step pattern at found within is size =
     let some : 0 < length (drop at pattern) = omega (arith, length-drop at pattern) in
     let sized : 0 < (item_at at (drop at pattern)).size = subst (λ (f : SizedItem). 0 < f.size) is size in
-    rw is (items_first at (drop at pattern) some sized ∙ ap (λ text. (item_at at (drop at pattern)).item ∷ items_behind 0 (at + (item_at at (drop at pattern)).size) text) (drop-drop (item_at at (drop at pattern)).size at pattern))
+    rw is (items_first at (drop at pattern) some sized ∙ ap (λ text. (item_at at (drop at pattern)).item ∷ items_after 0 (at + (item_at at (drop at pattern)).size) text) (drop-drop (item_at at (drop at pattern)).size at pattern))
 
 items_end : (pattern : List ℕ) (at : ℕ) → length pattern ≤ at → items_from pattern at ≡ []
-unfolding items_behind
-items_end pattern at behind = rw (drop_all at pattern behind) refl
+unfolding items_after
+items_end pattern at past = rw (drop_all at pattern past) refl
 
 -- at an item
-pub item_into : (subject pattern : List ℕ) (anchored : Bool) (limit : ℕ) (s : State) (found : SizedItem) (one : Item) (expected : Result Outcome PatFault)
-    → s.at < length pattern → found ≡ item_at s.at (drop s.at pattern) → 0 < found.size → found.item ≡ one
-    → Before subject pattern anchored limit s (ahead subject pattern s) expected
-    → BeforeItem subject pattern anchored limit s one (s.at + found.size) expected
+pub item_into : (search : Search) (s : State) (found : SizedItem) (one : Item) (expected : Result Outcome PatFault)
+    → s.at < length search.pattern.now → found ≡ item_at s.at (drop s.at search.pattern.now) → 0 < found.size → found.item ≡ one
+    → Before search s (ahead search s) expected
+    → BeforeItem search s one (s.at + found.size) expected
 unfolding trail
-item_into subject pattern anchored limit s found one expected within is size one_is before =
-    rw (← one_is) (rw (items_step pattern s.at found within is size) at before)
+item_into search s found one expected within is size one_is before =
+    rw (← one_is) (rw (items_step search.pattern.now s.at found within is size) at before)
 
 -- at the pattern's end
-pub end_into : (subject pattern : List ℕ) (anchored : Bool) (limit : ℕ) (s : State) (expected : Result Outcome PatFault)
-    → length pattern ≤ s.at → Before subject pattern anchored limit s (ahead subject pattern s) expected
-    → Before subject pattern anchored limit s (whole s.start s.place s.captures.items) expected
+pub end_into : (search : Search) (s : State) (expected : Result Outcome PatFault)
+    → length search.pattern.now ≤ s.at → Before search s (ahead search s) expected
+    → Before search s (whole s.start s.index s.captures.items) expected
 unfolding trail
-end_into subject pattern anchored limit s expected behind before = rw (items_end pattern s.at behind) at before
+end_into search s expected past before = rw (items_end search.pattern.now s.at past) at before
 
 -- what single items mean
-pub open_into : (subject pattern : List ℕ) (anchored : Bool) (limit : ℕ) (s : State) (at after : ℕ) (expected : Result Outcome PatFault)
-    → BeforeItem subject pattern anchored limit s (item.Open at) after expected
-    → Before subject pattern anchored limit s (captured (capture.Open s.place at) s.captures.items (next_at subject pattern s.start after s.place)) expected
+pub open_into : (search : Search) (s : State) (at after : ℕ) (expected : Result Outcome PatFault)
+    → BeforeItem search s (item.Open at) after expected
+    → Before search s (captured (capture.Open s.index at) s.captures.items (next_at search s.start after s.index)) expected
 unfolding item_trail
-open_into subject pattern anchored limit s at after expected before = before
+open_into search s at after expected before = before
 
-pub position_into : (subject pattern : List ℕ) (anchored : Bool) (limit : ℕ) (s : State) (after : ℕ) (expected : Result Outcome PatFault)
-    → BeforeItem subject pattern anchored limit s item.Position after expected
-    → Before subject pattern anchored limit s (captured (capture.Closed (cap.Position s.place)) s.captures.items (next_at subject pattern s.start after s.place)) expected
+pub position_into : (search : Search) (s : State) (after : ℕ) (expected : Result Outcome PatFault)
+    → BeforeItem search s item.Position after expected
+    → Before search s (captured (capture.Closed (cap.Position s.index)) s.captures.items (next_at search s.start after s.index)) expected
 unfolding item_trail
-position_into subject pattern anchored limit s after expected before = before
+position_into search s after expected before = before
 
-pub balanced_into : (subject pattern : List ℕ) (anchored : Bool) (limit : ℕ) (s : State) (opening closing after : ℕ) (text : List ℕ) (len : Option ℕ) (expected : Result Outcome PatFault)
-    → text ≡ drop s.place subject → len ≡ balanced_len opening closing text
-    → BeforeItem subject pattern anchored limit s (item.Balanced opening closing) after expected
-    → Before subject pattern anchored limit s (Test ∷ behind s.place len (λ p. next_at subject pattern s.start after p s.captures.items)) expected
+pub balanced_into : (search : Search) (s : State) (opening closing after : ℕ) (text : List ℕ) (len : Option ℕ) (expected : Result Outcome PatFault)
+    → text ≡ drop s.index search.subject.now → len ≡ balanced_len opening closing text
+    → BeforeItem search s (item.Balanced opening closing) after expected
+    → Before search s (Test ∷ advanced s.index len (λ p. next_at search s.start after p s.captures.items)) expected
 unfolding item_trail
-balanced_into subject pattern anchored limit s opening closing after text len expected here sized before = rw (sized ∙ ap (balanced_len opening closing) here) before
+balanced_into search s opening closing after text len expected here sized before = rw (sized ∙ ap (balanced_len opening closing) here) before
 
-pub wrong_into : (subject pattern : List ℕ) (anchored : Bool) (limit : ℕ) (s : State) (at after : ℕ) (expected : Result Outcome PatFault)
-    → BeforeItem subject pattern anchored limit s (item.Wrong at) after expected → Err (fault.Malformed at s.tests) ≡ expected
+pub wrong_into : (search : Search) (s : State) (at after : ℕ) (expected : Result Outcome PatFault)
+    → BeforeItem search s (item.Wrong at) after expected → Err (fault.Malformed at s.tests) ≡ expected
 unfolding item_trail
-wrong_into subject pattern anchored limit s at after expected before = sym (wrong_met limit s.tests at (left_behind subject pattern anchored s)) ∙ before
+wrong_into search s at after expected before = sym (wrong_met search.limit s.tests at (left_after search s)) ∙ before
 
--- there are no later places, or a next one
-pub no_later : (subject pattern : List ℕ) (anchored : Bool) (limit : ℕ) (s : State) (expected : Result Outcome PatFault)
-    → s.pending.items ≡ [] → (anchored ≡ true) ⊎ (length subject ≤ s.start)
-    → Before subject pattern anchored limit s [] expected → Ok (record { tests = s.tests; found = None }) ≡ expected
-no_later subject pattern true limit s expected empty last before =
-    sym (nothing_met limit s.tests) ∙ ap (answer limit s.tests) (sym (stacked_none subject pattern s.start (λ older. []) s.captures.items)) ∙ (rw empty at before)
-no_later subject pattern false limit s expected empty (inl e) before = cc
-no_later subject pattern false limit s expected empty (inr last) before =
-    sym (nothing_met limit s.tests)
-    ∙ ap (answer limit s.tests) (sym (stacked_none subject pattern s.start (λ older. []) s.captures.items))
-    ∙ (rw (empty, drop_all s.start subject last) at before)
-
-pub trails_first : (at : ℕ → List Event) (place : ℕ) (text : List ℕ) → trails at place text ≡ at place ++ trails_behind at place text
+pub trails_first : (at : ℕ → List Event) (index : ℕ) (text : List ℕ) → trails at index text ≡ at index ++ trails_after at index text
 unfolding trails
-trails_first at place [] = sym (append-nil (at place))
-trails_first at place (c ∷ cs) = refl
+trails_first at index [] = sym (append-nil (at index))
+trails_first at index (c ∷ cs) = refl
 
-behind_next : (at : ℕ → List Event) (subject : List ℕ) (place : ℕ) → place < length subject
-    → trails_behind at place (drop place subject) ≡ at (place + 1) ++ trails_behind at (place + 1) (drop (place + 1) subject)
-behind_next at subject place within =
-    rw (drop-cons subject place 0) (ap (trails at (place + 1)) (ap (λ k. drop k subject) (sym (add-one place))) ∙ trails_first at (place + 1) (drop (place + 1) subject))
+after_next : (at : ℕ → List Event) (subject : List ℕ) (index : ℕ) → index < length subject
+    → trails_after at index (drop index subject) ≡ at (index + 1) ++ trails_after at (index + 1) (drop (index + 1) subject)
+after_next at subject index within =
+    rw (drop-cons subject index 0) (ap (trails at (index + 1)) (ap (λ k. drop k subject) (sym (add-one index))) ∙ trails_first at (index + 1) (drop (index + 1) subject))
 
-pub next_later : (subject pattern : List ℕ) (anchored : Bool) (limit : ℕ) (s : State) (captures : List Capture) (expected : Result Outcome PatFault)
-    → s.pending.items ≡ [] → anchored ≡ false → s.start < length subject → captures ≡ []
-    → Before subject pattern anchored limit s [] expected
-    → answer limit s.tests (next_at subject pattern (s.start + 1) 0 (s.start + 1) captures ++ stacked subject pattern (s.start + 1) (λ older. later_trails subject pattern anchored (s.start + 1)) s.pending.items captures) ≡ expected
-next_later subject pattern anchored limit s captures expected empty free within cleared before =
-    let was = rw (empty, free, stacked_none subject pattern s.start (λ older. trails_behind (trail_at subject pattern 0) s.start (drop s.start subject)) s.captures.items, behind_next (trail_at subject pattern 0) subject s.start within) at before in
-    rw (empty, free, cleared, stacked_none subject pattern (s.start + 1) (λ older. trails_behind (trail_at subject pattern 0) (s.start + 1) (drop (s.start + 1) subject)) []) was
+-- there are no later indices, or a next one
+later_none : (subject pattern : List ℕ) (anchored : Bool) (start : ℕ) → (anchored ≡ true) ⊎ (length subject ≤ start)
+    → later_from subject pattern anchored start ≡ []
+later_none subject pattern true start last = refl
+later_none subject pattern false start (inl e) = cc
+later_none subject pattern false start (inr last) = rw (drop_all start subject last) refl
+
+later_next : (subject pattern : List ℕ) (anchored : Bool) (start : ℕ) → anchored ≡ false → start < length subject
+    → later_from subject pattern anchored start ≡ trail_at subject pattern 0 (start + 1) ++ later_from subject pattern anchored (start + 1)
+later_next subject pattern anchored start free within = rw free (after_next (trail_at subject pattern 0) subject start within)
+
+pub no_later : (search : Search) (s : State) (expected : Result Outcome PatFault)
+    → s.pending.items ≡ [] → (search.anchored ≡ true) ⊎ (length search.subject.now ≤ s.start)
+    → Before search s [] expected → Ok (record { tests = s.tests; found = None }) ≡ expected
+no_later search s expected empty last before =
+    let below = λ (older : List Capture). later_trails search s.start in
+    let none = stacked_none search s.start below s.captures.items ∙ later_none search.subject.now search.pattern.now search.anchored s.start last in
+    sym (nothing_met search.limit s.tests) ∙ ap (answer search.limit s.tests) (sym none) ∙ (rw empty at before)
+
+pub next_later : (search : Search) (s : State) (captures : List Capture) (expected : Result Outcome PatFault)
+    → s.pending.items ≡ [] → search.anchored ≡ false → s.start < length search.subject.now → captures ≡ []
+    → Before search s [] expected
+    → answer search.limit s.tests (next_at search (s.start + 1) 0 (s.start + 1) captures ++ stacked search (s.start + 1) (λ older. later_trails search (s.start + 1)) s.pending.items captures) ≡ expected
+next_later search s captures expected empty free within cleared before =
+    let later = later_next search.subject.now search.pattern.now search.anchored s.start free within in
+    let was = rw (empty, stacked_none search s.start (λ older. later_trails search s.start) s.captures.items) at before in
+    rw (empty, cleared, stacked_none search (s.start + 1) (λ older. later_trails search (s.start + 1)) []) (ap (answer search.limit s.tests) (sym later) ∙ was)
 
 -- an open choice is taken from the stack
-pub popped : (subject pattern : List ℕ) (anchored : Bool) (limit : ℕ) (s : State) (choice : Pending) (choices : List Pending) (expected : Result Outcome PatFault)
-    → s.pending.items ≡ choices ++ choice ∷ [] → Before subject pattern anchored limit s [] expected
-    → answer limit s.tests (pending_trail subject pattern s.start choice s.captures.items
-    ++ stacked subject pattern s.start (λ older. later_trails subject pattern anchored s.start) choices (undone choice s.captures.items)) ≡ expected
-popped subject pattern anchored limit s choice choices expected pushed before =
-    rw (pushed, stacked_push subject pattern s.start (λ older. later_trails subject pattern anchored s.start) choices choice s.captures.items) at before
+pub popped : (search : Search) (s : State) (choice : Pending) (choices : List Pending) (expected : Result Outcome PatFault)
+    → s.pending.items ≡ choices ++ choice ∷ [] → Before search s [] expected
+    → answer search.limit s.tests (pending_trail search s.start choice s.captures.items
+    ++ stacked search s.start (λ older. later_trails search s.start) choices (undone choice s.captures.items)) ≡ expected
+popped search s choice choices expected pushed before =
+    rw (pushed, stacked_push search s.start (λ older. later_trails search s.start) choices choice s.captures.items) at before
 
 -- where a step leads on, less is left to be done
-pub left_falls : (limit size : ℕ) (pattern : List ℕ) (old new : State) → size ≡ length pattern → Nears limit pattern old new
-    → (limit - new.tests) * (size + 2) + (size + 1 - new.at) < (limit - old.tests) * (size + 2) + (size + 1 - old.at)
-left_falls limit size pattern old new is (inl less) =
-    let more : (limit - new.tests + 1) * (size + 2) ≤ (limit - old.tests) * (size + 2) = mul-le-mul_right (size + 2) (omega (arith, less)) in
+pub left_falls : (search : Search) (size : ℕ) (old new : State) → size ≡ length search.pattern.now → Nears search old new
+    → (search.limit - new.tests) * (size + 2) + (size + 1 - new.at) < (search.limit - old.tests) * (size + 2) + (size + 1 - old.at)
+left_falls search size old new is (inl less) =
+    let more : (search.limit - new.tests + 1) * (size + 2) ≤ (search.limit - old.tests) * (size + 2) = mul-le-mul_right (size + 2) (omega (arith, less)) in
     omega (arith, more)
-left_falls limit size pattern old new is (inr further) = rw further.0 (omega (arith, is, further.1, further.2))
+left_falls search size old new is (inr further) = rw further.0 (omega (arith, is, further.1, further.2))

@@ -5,15 +5,15 @@ use Rattle.lua_patterns.specs.declared.captures.Cap.TheVariants.{Span}
 use Rattle.lua_patterns.specs.declared.captures.Capture.{Capture}
 use Rattle.lua_patterns.specs.declared.captures.Capture.TheVariants.{Open, Closed}
 use Rattle.lua_patterns.specs.declared.captures.OpenCapture.{OpenCapture}
-use Rattle.lua_patterns.specs.Ascii.{digit_zero}
+use Rattle.resty_base.specs.Ascii.{digit_zero}
 
--- the place in the pattern of the first parenthesis that is still open
+-- the index in the pattern of the first parenthesis that is still open
 abbrev pub first_open : List Capture → Option ℕ
 first_open [] = None
 first_open (Open start at ∷ captures) = Some at
 first_open (Closed c ∷ captures) = first_open captures
 
--- the last open one of a capture and those behind it, of which that one is known
+-- the last open one of a capture and those after it, of which that one is known
 abbrev pub last_open_from : Capture → Option OpenCapture → Option OpenCapture
 last_open_from capture (Some found) = Some (record { index = found.index + 1; start = found.start; at = found.at })
 last_open_from (Open start at) None = Some (record { index = 0; start = start; at = at })
@@ -24,9 +24,9 @@ unfoldable pub last_open : List Capture → Option OpenCapture
 last_open [] = None
 last_open (capture ∷ captures) = last_open_from capture (last_open captures)
 
--- a capture is closed at a place, or opened again
+-- a capture is closed at an index, or opened again
 abbrev pub closed_at : ℕ → OpenCapture → List Capture → List Capture
-closed_at place found captures = slice_set captures found.index (Closed (Span found.start place))
+closed_at index found captures = slice_set captures found.index (Closed (Span found.start index))
 
 abbrev pub opened_again : OpenCapture → List Capture → List Capture
 opened_again found captures = slice_set captures found.index (Open found.start found.at)

@@ -1,10 +1,13 @@
 -- Character classes (Lua 5.1 manual, 5.4.1). Letters are those of ASCII.
-use Rattle.std.specs.Prelude.{ℕ, zero, suc, ◌-◌, Bool, true, false, not, ◌&&◌, ◌||◌, ◌==◌, nat_lt, List, [], ◌∷◌, length, slice_index, slice_range, Option, Some, None, if◌then◌else◌}
-use Rattle.std.specs.Char.{is_ascii_alphabetic, is_ascii_control, is_ascii_digit, is_ascii_lowercase, is_ascii_punctuation, is_ascii_uppercase, is_ascii_alphanumeric, is_ascii_hexdigit, to_ascii_lowercase}
+use Rattle.std.specs.Prelude.{ℕ, zero, suc, ◌-◌, Bool, true, false, not, ◌&&◌, ◌||◌, ◌==◌, nat_lt, List, [], ◌∷◌, length, slice_index, slice_range, Option}
+use Rattle.std.specs.Prelude.{Some, None, if◌then◌else◌}
+use Rattle.std.specs.Char.{is_ascii_alphabetic, is_ascii_control, is_ascii_digit, is_ascii_lowercase, is_ascii_punctuation, is_ascii_uppercase}
+use Rattle.std.specs.Char.{is_ascii_alphanumeric, is_ascii_hexdigit, to_ascii_lowercase}
 use Rattle.std.specs.Int.{is_in_range}
 use Rattle.lua_patterns.specs.declared.classes.Class.{Class}
 use Rattle.lua_patterns.specs.declared.classes.Class.TheVariants.{Any, Byte, Letter, Set}
-use Rattle.lua_patterns.specs.Ascii.{space, percent, dash, close_bracket, letter_a, letter_c, letter_d, letter_l, letter_p, letter_s, letter_u, letter_w, letter_x, letter_z}
+use Rattle.resty_base.specs.Ascii.{space, percent, dash, close_bracket, letter_a, letter_c, letter_d, letter_l, letter_p, letter_s, letter_u, letter_w}
+use Rattle.resty_base.specs.Ascii.{letter_x, letter_z}
 
 -- a space, or one of tab, line feed, vertical tab, form feed and carriage return
 abbrev pub is_space : ℕ → Bool
@@ -24,7 +27,7 @@ abbrev pub agrees : ℕ → ℕ → Option Bool → Bool
 agrees letter c (Some within) = if is_ascii_lowercase letter then within else not within
 agrees letter c None = letter == c
 
--- a byte is in the class that stands behind a '%'
+-- a byte is in the class that stands after a '%'
 abbrev pub in_escaped : ℕ → ℕ → Bool
 in_escaped letter c = agrees letter c (named (to_ascii_lowercase letter) c)
 
@@ -36,27 +39,27 @@ is_range inside = slice_index inside 1 == dash && nat_lt 2 (length inside)
 abbrev pub part_size : List ℕ → ℕ
 part_size inside = if slice_index inside 0 == percent then 2 else if is_range inside then 3 else 1
 
--- the byte behind a '%' at the front; where a range has taken the '%' away from the byte that it stands before, and
+-- the byte after a '%' at the front; where a range has taken the '%' away from the byte that it stands before, and
 -- another one is last, that is the closing bracket, as Lua 5.1 reads it
-abbrev pub behind_percent : List ℕ → ℕ
-behind_percent inside = if nat_lt 1 (length inside) then slice_index inside 1 else close_bracket
+abbrev pub after_percent : List ℕ → ℕ
+after_percent inside = if nat_lt 1 (length inside) then slice_index inside 1 else close_bracket
 
 -- a byte is in the part at the front of a set's inside
 unfoldable pub in_part : ℕ → List ℕ → Bool
 in_part c inside =
-    if slice_index inside 0 == percent then in_escaped (behind_percent inside) c
+    if slice_index inside 0 == percent then in_escaped (after_percent inside) c
     else if is_range inside then is_in_range (slice_index inside 0) (slice_index inside 2) c
     else slice_index inside 0 == c
 
--- a byte is in one of the parts behind the first so many bytes
-unfoldable pub in_parts_behind : ℕ → ℕ → List ℕ → Bool
-in_parts_behind skipped c [] = false
-in_parts_behind (suc skipped) c (x ∷ xs) = in_parts_behind skipped c xs
-in_parts_behind zero c (x ∷ xs) = in_part c (x ∷ xs) || in_parts_behind (part_size (x ∷ xs) - 1) c xs
+-- a byte is in one of the parts after the first so many bytes
+unfoldable pub in_parts_after : ℕ → ℕ → List ℕ → Bool
+in_parts_after skipped c [] = false
+in_parts_after (suc skipped) c (x ∷ xs) = in_parts_after skipped c xs
+in_parts_after zero c (x ∷ xs) = in_part c (x ∷ xs) || in_parts_after (part_size (x ∷ xs) - 1) c xs
 
 -- a byte is in the set with that inside
 abbrev pub in_set : ℕ → List ℕ → Bool
-in_set c inside = in_parts_behind 0 c inside
+in_set c inside = in_parts_after 0 c inside
 
 -- a byte is in a class of the pattern
 abbrev pub accepts : List ℕ → Class → ℕ → Bool

@@ -1,5 +1,6 @@
--- Pattern items (Lua 5.1 manual, 5.4.1), read off the bytes of a pattern. Places count from the pattern's first byte.
-use Rattle.std.specs.Prelude.{ℕ, zero, suc, ◌+◌, ◌-◌, ◌&&◌, ◌==◌, nat_lt, List, [], ◌∷◌, drop, length, slice_index, Option, Some, None, option_map, if◌then◌else◌}
+-- Pattern items (Lua 5.1 manual, 5.4.1), read off the bytes of a pattern. Indices count from the pattern's first byte.
+use Rattle.std.specs.Prelude.{ℕ, zero, suc, ◌+◌, ◌-◌, ◌&&◌, ◌==◌, nat_lt, List, [], ◌∷◌, drop, length, slice_index, Option, Some, None, option_map}
+use Rattle.std.specs.Prelude.{if◌then◌else◌}
 use Rattle.std.specs.Char.{is_ascii_digit}
 use Rattle.lua_patterns.specs.declared.classes.Class.TheVariants.{Any, Byte, Letter, Set}
 use Rattle.lua_patterns.specs.declared.items.Repeat.{Repeat}
@@ -8,24 +9,25 @@ use Rattle.lua_patterns.specs.declared.items.Item.{Item}
 use Rattle.lua_patterns.specs.declared.items.Item.TheVariants.{Repeated, Open, Close, Position, Balanced, Reference, End, Wrong}
 use Rattle.lua_patterns.specs.declared.items.SizedClass.{SizedClass}
 use Rattle.lua_patterns.specs.declared.items.SizedItem.{SizedItem}
-use Rattle.lua_patterns.specs.Ascii.{dollar, percent, open_parenthesis, close_parenthesis, star, plus, dash, dot, question_mark, open_bracket, close_bracket, caret, letter_b, letter_f}
+use Rattle.resty_base.specs.Ascii.{dollar, percent, open_parenthesis, close_parenthesis, star, plus, dash, dot, question_mark, open_bracket, close_bracket}
+use Rattle.resty_base.specs.Ascii.{caret, letter_b, letter_f}
 
--- how many bytes stand before the ']' that closes a set, of which the first so many don't close it; nor does the byte behind a '%'
-unfoldable pub inside_behind : ℕ → List ℕ → Option ℕ
-inside_behind kept [] = None
-inside_behind (suc kept) (c ∷ cs) = option_map (λ n. n + 1) (inside_behind kept cs)
-inside_behind zero (c ∷ cs) =
-    if c == close_bracket then Some 0 else option_map (λ n. n + 1) (inside_behind (if c == percent then 1 else 0) cs)
+-- how many bytes stand before the ']' that closes a set, of which the first so many don't close it; nor does the byte after a '%'
+unfoldable pub inside_after : ℕ → List ℕ → Option ℕ
+inside_after kept [] = None
+inside_after (suc kept) (c ∷ cs) = option_map (λ n. n + 1) (inside_after kept cs)
+inside_after zero (c ∷ cs) =
+    if c == close_bracket then Some 0 else option_map (λ n. n + 1) (inside_after (if c == percent then 1 else 0) cs)
 
 -- how many bytes a set's inside has, which the text begins with; its first byte never closes it
 abbrev pub inside_len : List ℕ → Option ℕ
-inside_len text = inside_behind (if slice_index text 0 == percent then 2 else 1) text
+inside_len text = inside_after (if slice_index text 0 == percent then 2 else 1) text
 
 -- how many bytes open a set: '[' or '[^'
 abbrev pub opening_size : List ℕ → ℕ
 opening_size text = if slice_index text 1 == caret then 2 else 1
 
--- the set at the front of a text that begins at a place
+-- the set at the front of a text that begins at an index
 unfoldable pub set_at : ℕ → List ℕ → Option SizedClass
 set_at at text =
     let opening = opening_size text in
@@ -42,7 +44,7 @@ class_at at text =
     else if first == dot then Some (record { class = Any; size = 1 })
     else Some (record { class = Byte first; size = 1 })
 
--- how often a class is taken, by the byte behind it, and how many bytes say so
+-- how often a class is taken, by the byte after it, and how many bytes say so
 abbrev pub repeat_of : ℕ → Repeat
 repeat_of c =
     if c == question_mark then Optional else if c == star then Longest else if c == plus then LongestOfSome
@@ -55,7 +57,7 @@ repeat_size Longest = 1
 repeat_size LongestOfSome = 1
 repeat_size Shortest = 1
 
--- a wrong item; what stands behind it is never met
+-- a wrong item; what stands after it is never met
 abbrev pub wrong_at : ℕ → SizedItem
 wrong_at at = record { item = Wrong at; size = 1 }
 
@@ -74,7 +76,7 @@ escaped_at at text =
     else if is_ascii_digit second then record { item = Reference second at; size = 2 }
     else repeated_at at text (class_at at text)
 
--- the item at the front of what stands at a place
+-- the item at the front of what stands at an index
 unfoldable pub item_at : ℕ → List ℕ → SizedItem
 item_at at text =
     let first = slice_index text 0 in
@@ -85,13 +87,13 @@ item_at at text =
     else if first == dollar && (length text == 1) then record { item = End; size = 1 }
     else repeated_at at text (class_at at text)
 
--- the items behind the first so many bytes of what stands at a place
-unfoldable pub items_behind : ℕ → ℕ → List ℕ → List Item
-items_behind skipped at [] = []
-items_behind (suc skipped) at (c ∷ cs) = items_behind skipped (at + 1) cs
-items_behind zero at (c ∷ cs) =
-    let found = item_at at (c ∷ cs) in found.item ∷ items_behind (found.size - 1) (at + 1) cs
+-- the items after the first so many bytes of what stands at an index
+unfoldable pub items_after : ℕ → ℕ → List ℕ → List Item
+items_after skipped at [] = []
+items_after (suc skipped) at (c ∷ cs) = items_after skipped (at + 1) cs
+items_after zero at (c ∷ cs) =
+    let found = item_at at (c ∷ cs) in found.item ∷ items_after (found.size - 1) (at + 1) cs
 
--- the items of a pattern from a place on
+-- the items of a pattern from an index on
 abbrev pub items_from : List ℕ → ℕ → List Item
-items_from pattern at = items_behind 0 at (drop at pattern)
+items_from pattern at = items_after 0 at (drop at pattern)

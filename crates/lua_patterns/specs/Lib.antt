@@ -1,4 +1,3 @@
-pub mod Ascii
 pub mod Classes
 pub mod Items
 pub mod Captures

@@ -1,9 +1,11 @@
+//! What a search gives: a match, how many tests it made, and the faults.
+
 use crate::captures::Cap;
 use std::alloc::{AllocError, AllocFailed};
 use thiserror::Error;
 
-/// A match: the places of its first byte and of the byte behind its last, and its captures in the order of their
-/// opening parentheses. Places count from 0.
+/// A match: the indices of its first byte and of the byte after its last, and its captures in the order of their
+/// opening parentheses. Indices count from 0.
 #[derive(Debug, PartialEq, Eq, Drop)]
 pub struct Found {
     pub start: usize,
@@ -21,7 +23,7 @@ pub struct Searched {
 /// Why a search has no answer. `Display` writes the message of Lua, or the variant's name where Lua has none.
 #[derive(Clone, Copy, Debug, PartialEq, Eq, Error)]
 pub enum PatFault {
-    /// A wrong item was reached, which begins at this place of the pattern; so many tests were made before.
+    /// A wrong item was reached, which begins at this index of the pattern; so many tests were made before.
     #[error("malformed pattern")]
     Malformed { at: usize, tests: u64 },
     /// More than 32 captures; so many tests were made before.
@@ -30,7 +32,7 @@ pub enum PatFault {
     /// More tests than were allowed.
     #[error("pattern too complex")]
     Tests,
-    /// Want of memory.
+    /// Out of memory.
     #[error("Memory")]
     Memory,
 }

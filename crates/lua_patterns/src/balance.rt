@@ -1,10 +1,12 @@
-ghost use Rattle.std.specs.Prelude.{◌≡◌, ◌≤◌, ◌<◌, ◌+◌, ◌-◌, ◌^◌, ◌∷◌, ℕ, List, OnOk, IfSome, IfOk, IfErr, drop, length};
+//! How many bytes `%b` takes, kept for all indices once they were gone through often.
+
+ghost use Rattle.std.specs.Prelude.{◌≡◌, ◌<◌, ◌+◌, ◌^◌, OnOk, IfSome, IfOk, IfErr, drop};
 ghost use Rattle.lua_patterns.specs.Trails.{balanced_len};
-ghost use Rattle.lua_patterns.specs.Balance.{AreWaiting, IsRight, IsRightOf, AreRight};
+ghost use Rattle.lua_patterns.specs.Balance.{IsRight, IsRightOf, AreRight, Waits, Reaches};
 
 use crate::PatFault;
-use crate::classes::from_place;
 use crate::matcher::balanced_len;
+use resty_base::bytes_after;
 use std::alloc::Global;
 
 /// Where `%b` matches with an opening and a closing byte: the suffixes of the subject at which it takes bytes, by their
@@ -34,7 +36,7 @@ fn wait(
     opening: u8,
     closing: u8,
 ) -> Result<(), PatFault>
-    ensures ok { (text : List ℕ) → suffix ≡ length text + 1 → AreWaiting opening closing text ends.old.items → OnOk result (AreWaiting opening closing (byte ∷ text) ends.new.items) }
+    ensures ok { OnOk result (Waits opening closing byte suffix ends.old.items ends.new.items) }
     ensures memory { IfErr result (λ fault. fault ≡ PatFault.Memory) }
 {
     if byte == closing {
@@ -49,7 +51,7 @@ impl Pair {
     /// Puts one byte more in front of a text that has these closing bytes that wait for an opening one. With it the text
     /// has `suffix` bytes.
     fn reach(&mut self, byte: u8, suffix: usize, ends: &[usize]) -> Result<(), PatFault>
-        ensures ok { (text : List ℕ) → suffix ≡ length text + 1 → length text < 2 ^ 63 → AreWaiting self.old.opening self.old.closing text ends.now → IsRightOf text self.old → OnOk result (IsRightOf (byte ∷ text) self.new) }
+        ensures ok { OnOk result (Reaches byte suffix ends.now self.old self.new) }
         ensures same { OnOk result ((self.new.opening ≡ self.old.opening) × (self.new.closing ≡ self.old.closing)) }
         ensures memory { IfErr result (λ fault. fault ≡ PatFault.Memory) }
     {
@@ -85,13 +87,13 @@ impl Pair {
         Ok(pair)
     }
 
-    /// How many bytes `%b` takes at a place of the subject.
-    fn len_at(&self, subject: &[u8], place: usize) -> Option<usize>
+    /// How many bytes `%b` takes at an index of the subject.
+    fn len_at(&self, subject: &[u8], index: usize) -> Option<usize>
         requires { IsRightOf subject.now self.now }
-        ensures value { result ≡ balanced_len self.now.opening self.now.closing (drop place subject.now) }
-        ensures within { IfSome result (λ n. place + n < 2 ^ 64) }
+        ensures value { result ≡ balanced_len self.now.opening self.now.closing (drop index subject.now) }
+        ensures within { IfSome result (λ n. index + n < 2 ^ 64) }
     {
-        let suffix = subject.len().checked_sub(place)?;
+        let suffix = subject.len().checked_sub(index)?;
         match self.suffixes.binary_search(&suffix) {
             Ok(at) => Some(self.lens[at]),
             Err(_) => None,
@@ -103,50 +105,50 @@ impl Pair {
 fn kept_len(
     pairs: &[Pair],
     subject: &[u8],
-    place: usize,
+    index: usize,
     opening: u8,
     closing: u8,
 ) -> Option<Option<usize>>
     requires { AreRight subject.now pairs.now }
-    ensures value { IfSome result (λ len. len ≡ balanced_len opening closing (drop place subject.now)) }
-    ensures within { IfSome result (λ len. IfSome len (λ n. place + n < 2 ^ 64)) }
+    ensures value { IfSome result (λ len. len ≡ balanced_len opening closing (drop index subject.now)) }
+    ensures within { IfSome result (λ len. IfSome len (λ n. index + n < 2 ^ 64)) }
 {
     for pair in pairs {
         if pair.opening == opening && pair.closing == closing {
-            return Some(pair.len_at(subject, place));
+            return Some(pair.len_at(subject, index));
         }
     }
     None
 }
 
 impl Balance {
-    /// How many bytes `%b` takes at a place of the subject. Where more bytes were gone through than the subject has, each
-    /// pair that is met is worked out once for all places.
+    /// How many bytes `%b` takes at an index of the subject. Where more bytes were gone through than the subject has, each
+    /// pair that is met is worked out once for all indices.
     pub(crate) fn len_at(
         &mut self,
         alloc: Global,
         subject: &[u8],
-        place: usize,
+        index: usize,
         opening: u8,
         closing: u8,
     ) -> Result<Option<usize>, PatFault>
         requires { AreRight subject.now self.old.pairs.items }
-        ensures value { IfOk result (λ len. len ≡ balanced_len opening closing (drop place subject.now)) }
-        ensures within { IfOk result (λ len. IfSome len (λ n. place + n < 2 ^ 64)) }
+        ensures value { IfOk result (λ len. len ≡ balanced_len opening closing (drop index subject.now)) }
+        ensures within { IfOk result (λ len. IfSome len (λ n. index + n < 2 ^ 64)) }
         ensures memory { IfErr result (λ fault. fault ≡ PatFault.Memory) }
         ensures right { AreRight subject.now self.new.pairs.items }
     {
-        let text = from_place(subject, place);
+        let text = bytes_after(subject, index);
         if self.scanned <= subject.len() {
             let len = balanced_len(text, opening, closing);
             self.scanned = self.scanned.saturating_add(len.unwrap_or(text.len()));
             return Ok(len);
         }
-        if let Some(len) = kept_len(&self.pairs, subject, place, opening, closing) {
+        if let Some(len) = kept_len(&self.pairs, subject, index, opening, closing) {
             return Ok(len);
         }
         let pair = Pair::of(alloc, subject, opening, closing)?;
-        let len = pair.len_at(subject, place);
+        let len = pair.len_at(subject, index);
         self.pairs.push(pair)?;
         Ok(len)
     }

@@ -1,10 +1,12 @@
+//! Captures, while a match is sought and once it is found.
+
 ghost use Rattle.std.specs.Prelude.{◌≡◌, ◌-◌, take, length, IfOk, IfErr};
 ghost use Rattle.lua_patterns.specs.Captures.{first_open, last_open, closed_at, opened_again, closed_ones, referenced};
 
 use crate::PatFault;
 use std::alloc::Global;
 
-/// What was captured: the places of the first byte and of the byte behind the last, or for `()` a place. Places count
+/// What was captured: the indices of the first byte and of the byte after the last, or for `()` an index. Indices count
 /// from 0.
 #[derive(Clone, Copy, Debug, PartialEq, Eq)]
 pub enum Cap {
@@ -12,7 +14,7 @@ pub enum Cap {
     Position(usize),
 }
 
-/// A capture while a match is sought: still open, with the place where it starts and that of its parenthesis in the
+/// A capture while a match is sought: still open, with the index where it starts and that of its parenthesis in the
 /// pattern, or closed.
 #[derive(Clone, Copy, Debug)]
 pub(crate) enum Capture {
@@ -20,7 +22,7 @@ pub(crate) enum Capture {
     Closed(Cap),
 }
 
-/// The number of an open capture, from 0, the place where it starts and that of its parenthesis in the pattern.
+/// The number of an open capture, from 0, the index where it starts and that of its parenthesis in the pattern.
 #[derive(Clone, Copy, Debug)]
 pub(crate) struct OpenCapture {
     pub index: usize,
@@ -28,7 +30,7 @@ pub(crate) struct OpenCapture {
     pub at: usize,
 }
 
-/// The place in the pattern of the first parenthesis that is still open.
+/// The index in the pattern of the first parenthesis that is still open.
 pub(crate) fn first_open(captures: &[Capture]) -> Option<usize>
     ensures { result ≡ first_open captures.now }
 {
@@ -54,12 +56,12 @@ pub(crate) fn last_open(captures: &[Capture]) -> Option<OpenCapture>
     found
 }
 
-/// Closes an open capture at a place.
-pub(crate) fn close_at(captures: &mut Vec<Capture>, found: OpenCapture, place: usize)
-    ensures { captures.new.items ≡ closed_at place found captures.old.items }
+/// Closes an open capture at an index.
+pub(crate) fn close_at(captures: &mut Vec<Capture>, found: OpenCapture, index: usize)
+    ensures { captures.new.items ≡ closed_at index found captures.old.items }
 {
     if found.index < captures.len() {
-        captures[found.index] = Capture::Closed(Cap::Span(found.start, place));
+        captures[found.index] = Capture::Closed(Cap::Span(found.start, index));
     }
 }
 

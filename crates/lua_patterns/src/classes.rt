@@ -1,5 +1,9 @@
-ghost use Rattle.std.specs.Prelude.{◌≡◌, ◌≤◌, ◌<◌, drop, length, slice_index, slice_range};
-ghost use Rattle.lua_patterns.specs.Classes.{is_space, named, in_escaped, is_range, part_size, behind_percent, in_part, in_set, accepts};
+//! Character classes and sets, and which bytes they accept.
+
+ghost use Rattle.std.specs.Prelude.{◌≡◌, ◌<◌, slice_range};
+ghost use Rattle.lua_patterns.specs.Classes.{is_space, named, in_escaped, is_range, part_size, after_percent, in_part, in_set, accepts};
+
+use resty_base::{byte_at, bytes_after};
 
 /// What a byte of the subject is compared with (Lua 5.1 manual, 5.4.1, "character class").
 #[derive(Clone, Copy, Debug)]
@@ -8,7 +12,7 @@ pub(crate) enum Class {
     Any,
     /// A byte that stands for itself.
     Byte(u8),
-    /// The byte behind a `%`.
+    /// The byte after a `%`.
     Letter(u8),
     /// A set, or its complement; its inside stands in the pattern from `start` up to `end`.
     Set {
@@ -45,7 +49,7 @@ fn named(letter: u8, byte: u8) -> Option<bool>
     }
 }
 
-/// A byte is in the class that stands behind a `%`.
+/// A byte is in the class that stands after a `%`.
 fn in_escaped(letter: u8, byte: u8) -> bool
     ensures { result ≡ in_escaped letter byte }
 {
@@ -61,13 +65,6 @@ fn in_escaped(letter: u8, byte: u8) -> bool
     }
 }
 
-/// The byte at a place, 0 at the end and behind it.
-pub(crate) fn byte_at(text: &[u8], place: usize) -> u8
-    ensures { result ≡ slice_index text.now place }
-{
-    if place < text.len() { text[place] } else { 0 }
-}
-
 /// The bytes from `start` up to `end`, as far as they are there.
 pub(crate) fn between(text: &[u8], start: usize, end: usize) -> &[u8]
     ensures { result.now ≡ slice_range text.now start end }
@@ -75,13 +72,6 @@ pub(crate) fn between(text: &[u8], start: usize, end: usize) -> &[u8]
     let end = end.min(text.len());
     let start = start.min(end);
     &text[start..end]
-}
-
-/// The bytes from a place on, none behind the end.
-pub(crate) fn from_place(text: &[u8], place: usize) -> &[u8]
-    ensures { result.now ≡ drop place text.now }
-{
-    &text[place.min(text.len())..]
 }
 
 /// A range stands at the front of a set's inside.
@@ -105,9 +95,9 @@ fn part_size(inside: &[u8]) -> usize
     }
 }
 
-/// The byte behind a `%` at the front of a set's inside.
-fn behind_percent(inside: &[u8]) -> u8
-    ensures { result ≡ behind_percent inside.now }
+/// The byte after a `%` at the front of a set's inside.
+fn after_percent(inside: &[u8]) -> u8
+    ensures { result ≡ after_percent inside.now }
 {
     if inside.len() > 1 { inside[1] } else { b']' }
 }
@@ -119,7 +109,7 @@ fn in_part(byte: u8, inside: &[u8]) -> bool
 {
     let first = byte_at(inside, 0);
     if first == b'%' {
-        in_escaped(behind_percent(inside), byte)
+        in_escaped(after_percent(inside), byte)
     } else if is_range(inside) {
         first <= byte && byte <= byte_at(inside, 2)
     } else {
@@ -137,7 +127,7 @@ fn in_set(byte: u8, inside: &[u8]) -> bool
         if in_part(byte, rest) {
             return true;
         }
-        rest = from_place(rest, part_size(rest));
+        rest = bytes_after(rest, part_size(rest));
     }
     false
 }

@@ -1,7 +1,10 @@
-ghost use Rattle.std.specs.Prelude.{◌≡◌, ◌≤◌, ◌<◌, ◌+◌, IfSome, drop, length, slice_index};
+//! Pattern items, read off the bytes of a pattern.
+
+ghost use Rattle.std.specs.Prelude.{◌≡◌, ◌≤◌, ◌<◌, ◌+◌, IfSome, drop, length};
 ghost use Rattle.lua_patterns.specs.Items.{inside_len, opening_size, set_at, class_at, repeat_of, repeat_size, wrong_at, repeated_at, escaped_at, item_at};
 
-use crate::classes::{Class, byte_at, from_place};
+use crate::classes::Class;
+use resty_base::{byte_at, bytes_after};
 
 /// How often a class is taken: once, `?`, `*`, `+` and `-`.
 #[derive(Clone, Copy, Debug)]
@@ -13,7 +16,7 @@ pub(crate) enum Repeat {
     Shortest,
 }
 
-/// A pattern item (Lua 5.1 manual, 5.4.1). Those that may be wrong have the place of the pattern where they begin.
+/// A pattern item (Lua 5.1 manual, 5.4.1). Those that may be wrong have the index of the pattern where they begin.
 #[derive(Clone, Copy, Debug)]
 pub(crate) enum Item {
     Repeated(Class, Repeat),
@@ -48,8 +51,8 @@ pub(crate) struct SizedItem {
 }
 
 /// How many bytes stand before the `]` that closes a set, which the text is the inside of. The first byte never closes
-/// it, nor does one behind a `%`.
-#[tactic(auto, unfolding(crate::specs::Items::inside_behind))]
+/// it, nor does one after a `%`.
+#[tactic(auto, unfolding(crate::specs::Items::inside_after))]
 fn inside_len(text: &[u8]) -> Option<usize>
     ensures value { result ≡ inside_len text.now }
     ensures within { IfSome result (λ n. n < length text.now) }
@@ -74,16 +77,16 @@ fn opening_size(text: &[u8]) -> usize
     if byte_at(text, 1) == b'^' { 2 } else { 1 }
 }
 
-/// The set at a place.
+/// The set at an index.
 #[tactic(auto, unfolding(crate::specs::Items::set_at))]
 fn set_at(pattern: &[u8], at: usize) -> Option<SizedClass>
     requires { at < length pattern.now }
     ensures value { result ≡ set_at at (drop at pattern.now) }
     ensures within { IfSome result (λ found. (0 < found.size) × (at + found.size ≤ length pattern.now)) }
 {
-    let text = from_place(pattern, at);
+    let text = bytes_after(pattern, at);
     let opening = opening_size(text);
-    let n = inside_len(from_place(text, opening))?;
+    let n = inside_len(bytes_after(text, opening))?;
     let start = at + opening;
     Some(SizedClass {
         class: Class::Set {
@@ -95,14 +98,14 @@ fn set_at(pattern: &[u8], at: usize) -> Option<SizedClass>
     })
 }
 
-/// The character class at a place, if there is one.
+/// The character class at an index, if there is one.
 #[tactic(auto, unfolding(crate::specs::Items::class_at))]
 fn class_at(pattern: &[u8], at: usize) -> Option<SizedClass>
     requires { at < length pattern.now }
     ensures value { result ≡ class_at at (drop at pattern.now) }
     ensures within { IfSome result (λ found. (0 < found.size) × (at + found.size ≤ length pattern.now)) }
 {
-    let text = from_place(pattern, at);
+    let text = bytes_after(pattern, at);
     let class = match byte_at(text, 0) {
         b'%' if text.len() < 2 => return None,
         b'%' => Class::Letter(byte_at(text, 1)),
@@ -114,7 +117,7 @@ fn class_at(pattern: &[u8], at: usize) -> Option<SizedClass>
     Some(SizedClass { class, size })
 }
 
-/// How often a class is taken, by the byte behind it.
+/// How often a class is taken, by the byte after it.
 fn repeat_of(byte: u8) -> Repeat
     ensures { result ≡ repeat_of byte }
 {
@@ -137,7 +140,7 @@ fn repeat_size(repeat: Repeat) -> usize
     }
 }
 
-/// The class at a place, with what says how often it is taken.
+/// The class at an index, with what says how often it is taken.
 fn repeated_at(pattern: &[u8], at: usize) -> SizedItem
     requires { at < length pattern.now }
     ensures value { result ≡ repeated_at at (drop at pattern.now) (class_at at (drop at pattern.now)) }
@@ -153,14 +156,14 @@ fn repeated_at(pattern: &[u8], at: usize) -> SizedItem
     }
 }
 
-/// The item at a place that begins with a `%`.
+/// The item at an index that begins with a `%`.
 #[tactic(auto, unfolding(crate::specs::Items::escaped_at))]
 fn escaped_at(pattern: &[u8], at: usize) -> SizedItem
     requires { at < length pattern.now }
     ensures value { result ≡ escaped_at at (drop at pattern.now) }
     ensures within { (0 < result.size) × (at + result.size ≤ length pattern.now) }
 {
-    let text = from_place(pattern, at);
+    let text = bytes_after(pattern, at);
     match byte_at(text, 1) {
         b'b' if text.len() > 3 => SizedItem {
             item: Item::Balanced(text[2], text[3]),
@@ -175,14 +178,14 @@ fn escaped_at(pattern: &[u8], at: usize) -> SizedItem
     }
 }
 
-/// The item at a place.
+/// The item at an index.
 #[tactic(auto, unfolding(crate::specs::Items::item_at))]
 pub(crate) fn item_at(pattern: &[u8], at: usize) -> SizedItem
     requires { at < length pattern.now }
     ensures value { result ≡ item_at at (drop at pattern.now) }
     ensures within { (0 < result.size) × (at + result.size ≤ length pattern.now) }
 {
-    let text = from_place(pattern, at);
+    let text = bytes_after(pattern, at);
     let item = match byte_at(text, 0) {
         b'(' if byte_at(text, 1) == b')' => Item::Position,
         b'(' => Item::Open(at),

@@ -1,26 +1,28 @@
-ghost use Rattle.std.specs.Prelude.{◌≡◌, ◌≢◌, ◌+◌, ◌-◌, ◌<◌, ◌≤◌, ◌^◌, ◌∷◌, [], IsTrue, IfSome, IfErr, OnOk, Result, Ok, drop, length, Bool, true, false};
+//! The matcher: its state, a step for each kind of item, the way back to open choices, and its run.
+
+ghost use Rattle.std.specs.Prelude.{◌≡◌, ◌+◌, ◌-◌, ◌<◌, ◌≤◌, ◌^◌, [], IsTrue, IfSome, IfErr, OnOk, Ok, drop, length};
 ghost use Rattle.std.specs.List.{prefix_len};
 ghost use Rattle.lua_patterns.specs.declared.answers.PatFault.{PatFault};
 ghost use Rattle.lua_patterns.specs.Classes.{accepts};
-ghost use Rattle.lua_patterns.specs.Trails.{Test, accepts_first, closing_len, balanced_len, repeated_len, behind, captured, whole};
-ghost use Rattle.lua_patterns.specs.Searches.{Outcome};
+ghost use Rattle.lua_patterns.specs.Trails.{accepts_first, closing_len, balanced_len, repeated_len};
 ghost use Rattle.lua_patterns.specs.Balance.{AreRight};
-ghost use Rattle.lua_patterns.specs.Matching.{fewer, one_more_byte, next_at, ahead, Before, BeforeItem, Steps, Resumes, Tries, Takes, Ends};
+ghost use Rattle.lua_patterns.specs.Matching.{capture_next, len_next, end_trail, ahead, GoesOn, GoesOnAt, GoesBack, Takes, Tries, Ends};
 
 use crate::balance::Balance;
 use crate::captures::{
     Cap, Capture, OpenCapture, close_at, closed_ones, first_open, forget_last, last_open,
     open_again, referenced,
 };
-use crate::classes::{Class, accepts, between, from_place};
+use crate::classes::{Class, accepts, between};
 use crate::items::{Item, Repeat, SizedItem, item_at};
 use crate::{Found, PatFault};
+use resty_base::bytes_after;
 use std::alloc::Global;
 
 /// How many captures a match may have.
 const MOST_CAPTURES: usize = 32;
 
-/// What doesn't change during a search: a match may begin at its first place alone where it is anchored.
+/// What doesn't change during a search: a match may begin at its first index alone where it is anchored.
 #[derive(Clone, Copy)]
 pub(crate) struct Search<'a> {
     pub subject: &'a [u8],
@@ -32,17 +34,17 @@ pub(crate) struct Search<'a> {
 /// A choice that is open, or what is undone on the way back to an older one.
 #[derive(Clone, Copy, Debug)]
 pub(crate) enum Pending {
-    /// Go on in the pattern at `after` from `place`, and then from the places before it, down to `lowest`.
+    /// Go on in the pattern at `after` from `index`, and then from the indices before it, down to `lowest`.
     Fewer {
         after: usize,
         lowest: usize,
-        place: usize,
+        index: usize,
     },
-    /// Take one byte more of the class at `place`, and go on in the pattern at `after`.
+    /// Take one byte more of the class at `index`, and go on in the pattern at `after`.
     More {
         class: Class,
         after: usize,
-        place: usize,
+        index: usize,
     },
     /// Forget the last capture.
     Forget,
@@ -50,13 +52,13 @@ pub(crate) enum Pending {
     Reopen(OpenCapture),
 }
 
-/// Where a search stands: the tests that it made, where the match would start, the place in the subject, the place in
+/// Where a search stands: the tests that it made, where the match would start, the index in the subject, the index in
 /// the pattern, the captures so far, and the choices that are open, the last one last.
 #[derive(Drop)]
 pub(crate) struct State {
     pub tests: u64,
     pub start: usize,
-    pub place: usize,
+    pub index: usize,
     pub at: usize,
     pub captures: Vec<Capture>,
     pub pending: Vec<Pending>,
@@ -70,7 +72,7 @@ pub(crate) enum Step {
     Whole(Found),
 }
 
-/// How many bytes stand up to the closing byte, and with it, that answers the opening byte before them.
+/// How many bytes stand up to the closing byte, and with it, that closes the opening byte before them.
 fn closing_len(text: &[u8], opening: u8, closing: u8) -> Option<usize>
     ensures value { result ≡ closing_len opening closing 0 text.now }
     ensures within { IfSome result (λ n. n ≤ length text.now) }
@@ -119,7 +121,7 @@ fn repeated_len(subject: &[u8], text: &[u8], cap: Cap) -> Option<usize>
 }
 
 impl Search<'_> {
-    /// Makes so many tests, behind those that were made.
+    /// Makes so many tests more.
     fn make_tests(&self, made: &mut u64, count: usize) -> Result<(), PatFault>
         ensures ok { OnOk result ((made.old + count ≤ self.now.limit) × (made.new ≡ made.old + count)) }
         ensures err { IfErr result (λ wrong. (wrong ≡ PatFault.Tests) × (self.now.limit < made.old + count)) }
@@ -131,20 +133,20 @@ impl Search<'_> {
         Ok(())
     }
 
-    /// The class accepts the byte at a place, where there is one.
-    fn accepts_at(&self, class: Class, place: usize) -> bool
-        ensures value { result ≡ accepts_first (accepts self.now.pattern.now class) (drop place self.now.subject.now) }
-        ensures within { IsTrue result → place < length self.now.subject.now }
+    /// The class accepts the byte at an index, where there is one.
+    fn accepts_at(&self, class: Class, index: usize) -> bool
+        ensures value { result ≡ accepts_first (accepts self.now.pattern.now class) (drop index self.now.subject.now) }
+        ensures within { IsTrue result → index < length self.now.subject.now }
     {
-        place < self.subject.len() && accepts(self.pattern, class, self.subject[place])
+        index < self.subject.len() && accepts(self.pattern, class, self.subject[index])
     }
 
-    /// How many bytes from a place on the class accepts.
-    fn run_len(&self, class: Class, place: usize) -> usize
-        ensures value { result ≡ prefix_len (accepts self.now.pattern.now class) (drop place self.now.subject.now) }
-        ensures within { result ≤ length self.now.subject.now - place }
+    /// How many bytes from an index on the class accepts.
+    fn run_len(&self, class: Class, index: usize) -> usize
+        ensures value { result ≡ prefix_len (accepts self.now.pattern.now class) (drop index self.now.subject.now) }
+        ensures within { result ≤ length self.now.subject.now - index }
     {
-        from_place(self.subject, place)
+        bytes_after(self.subject, index)
             .iter()
             .take_while(|byte| accepts(self.pattern, class, **byte))
             .count()
@@ -152,41 +154,41 @@ impl Search<'_> {
 
     /// The class is taken once.
     fn once(&self, state: &mut State, class: Class, after: usize) -> Result<Step, PatFault>
-        ensures { (expected : Result Outcome PatFault) → BeforeItem self.now.subject.now self.now.pattern.now self.now.anchored self.now.limit state.old (Item.Repeated class Repeat.Once) after expected → Steps self.now.subject.now self.now.pattern.now self.now.anchored self.now.limit state.old state.new expected result }
+        ensures { GoesOnAt self.now state.old (Item.Repeated class Repeat.Once) after state.new result }
     {
         self.make_tests(&mut state.tests, 1)?;
-        if !self.accepts_at(class, state.place) {
+        if !self.accepts_at(class, state.index) {
             return Ok(Step::Back);
         }
-        state.place += 1;
+        state.index += 1;
         state.at = after;
         Ok(Step::On)
     }
 
     /// The class is taken once, or else not at all.
     fn optional(&self, state: &mut State, class: Class, after: usize) -> Result<Step, PatFault>
-        ensures { (expected : Result Outcome PatFault) → BeforeItem self.now.subject.now self.now.pattern.now self.now.anchored self.now.limit state.old (Item.Repeated class Repeat.Optional) after expected → Steps self.now.subject.now self.now.pattern.now self.now.anchored self.now.limit state.old state.new expected result }
+        ensures { GoesOnAt self.now state.old (Item.Repeated class Repeat.Optional) after state.new result }
     {
         self.make_tests(&mut state.tests, 1)?;
-        let place = state.place;
+        let index = state.index;
         state.at = after;
-        if !self.accepts_at(class, place) {
+        if !self.accepts_at(class, index) {
             return Ok(Step::On);
         }
         state.pending.push(Pending::Fewer {
             after,
-            lowest: place,
-            place,
+            lowest: index,
+            index,
         })?;
-        state.place = place + 1;
+        state.index = index + 1;
         Ok(Step::On)
     }
 
     /// The class is taken as often as it can be, or else fewer times.
     fn longest(&self, state: &mut State, class: Class, after: usize) -> Result<Step, PatFault>
-        ensures { (expected : Result Outcome PatFault) → BeforeItem self.now.subject.now self.now.pattern.now self.now.anchored self.now.limit state.old (Item.Repeated class Repeat.Longest) after expected → Steps self.now.subject.now self.now.pattern.now self.now.anchored self.now.limit state.old state.new expected result }
+        ensures { GoesOnAt self.now state.old (Item.Repeated class Repeat.Longest) after state.new result }
     {
-        let lowest = state.place;
+        let lowest = state.index;
         let taken = self.run_len(class, lowest);
         self.make_tests(&mut state.tests, taken)?;
         self.make_tests(&mut state.tests, 1)?;
@@ -194,11 +196,11 @@ impl Search<'_> {
         if taken == 0 {
             return Ok(Step::On);
         }
-        state.place = lowest + taken;
+        state.index = lowest + taken;
         state.pending.push(Pending::Fewer {
             after,
             lowest,
-            place: lowest + taken - 1,
+            index: lowest + taken - 1,
         })?;
         Ok(Step::On)
     }
@@ -210,13 +212,13 @@ impl Search<'_> {
         class: Class,
         after: usize,
     ) -> Result<Step, PatFault>
-        ensures { (expected : Result Outcome PatFault) → BeforeItem self.now.subject.now self.now.pattern.now self.now.anchored self.now.limit state.old (Item.Repeated class Repeat.LongestOfSome) after expected → Steps self.now.subject.now self.now.pattern.now self.now.anchored self.now.limit state.old state.new expected result }
+        ensures { GoesOnAt self.now state.old (Item.Repeated class Repeat.LongestOfSome) after state.new result }
     {
         self.make_tests(&mut state.tests, 1)?;
-        if !self.accepts_at(class, state.place) {
+        if !self.accepts_at(class, state.index) {
             return Ok(Step::Back);
         }
-        state.place += 1;
+        state.index += 1;
         self.longest(state, class, after)
     }
 
@@ -224,13 +226,13 @@ impl Search<'_> {
     fn shortest(&self, state: &mut State, class: Class, after: usize) -> Result<Step, PatFault>
         requires further { state.old.at < after }
         requires within { state.old.at < length self.now.pattern.now }
-        ensures { (expected : Result Outcome PatFault) → BeforeItem self.now.subject.now self.now.pattern.now self.now.anchored self.now.limit state.old (Item.Repeated class Repeat.Shortest) after expected → Steps self.now.subject.now self.now.pattern.now self.now.anchored self.now.limit state.old state.new expected result }
+        ensures { GoesOnAt self.now state.old (Item.Repeated class Repeat.Shortest) after state.new result }
     {
-        let place = state.place;
+        let index = state.index;
         state.pending.push(Pending::More {
             class,
             after,
-            place,
+            index,
         })?;
         state.at = after;
         Ok(Step::On)
@@ -246,7 +248,7 @@ impl Search<'_> {
     ) -> Result<Step, PatFault>
         requires further { state.old.at < after }
         requires within { state.old.at < length self.now.pattern.now }
-        ensures { (expected : Result Outcome PatFault) → BeforeItem self.now.subject.now self.now.pattern.now self.now.anchored self.now.limit state.old (Item.Repeated class repeat) after expected → Steps self.now.subject.now self.now.pattern.now self.now.anchored self.now.limit state.old state.new expected result }
+        ensures { GoesOnAt self.now state.old (Item.Repeated class repeat) after state.new result }
     {
         match repeat {
             Repeat::Once => self.once(state, class, after),
@@ -259,7 +261,7 @@ impl Search<'_> {
 
     /// One capture more.
     fn captured(&self, state: &mut State, capture: Capture, after: usize) -> Result<Step, PatFault>
-        ensures { (expected : Result Outcome PatFault) → Before self.now.subject.now self.now.pattern.now self.now.anchored self.now.limit state.old (captured capture state.old.captures.items (next_at self.now.subject.now self.now.pattern.now state.old.start after state.old.place)) expected → Steps self.now.subject.now self.now.pattern.now self.now.anchored self.now.limit state.old state.new expected result }
+        ensures { GoesOn self.now state.old (capture_next self.now state.old capture after) state.new result }
     {
         if state.captures.as_slice().len() >= MOST_CAPTURES {
             return Err(PatFault::Captures { tests: state.tests });
@@ -271,9 +273,9 @@ impl Search<'_> {
         Ok(Step::On)
     }
 
-    /// The last open capture is closed; `at` is the place of the parenthesis in the pattern.
+    /// The last open capture is closed; `at` is the index of the parenthesis in the pattern.
     fn closed(&self, state: &mut State, at: usize, after: usize) -> Result<Step, PatFault>
-        ensures { (expected : Result Outcome PatFault) → BeforeItem self.now.subject.now self.now.pattern.now self.now.anchored self.now.limit state.old (Item.Close at) after expected → Steps self.now.subject.now self.now.pattern.now self.now.anchored self.now.limit state.old state.new expected result }
+        ensures { GoesOnAt self.now state.old (Item.Close at) after state.new result }
     {
         let Some(found) = last_open(&state.captures) else {
             return Err(PatFault::Malformed {
@@ -283,26 +285,26 @@ impl Search<'_> {
         };
         self.make_tests(&mut state.tests, 1)?;
         state.pending.push(Pending::Reopen(found))?;
-        close_at(&mut state.captures, found, state.place);
+        close_at(&mut state.captures, found, state.index);
         state.at = after;
         Ok(Step::On)
     }
 
-    /// Goes on behind so many bytes, if there are so many.
-    fn behind(&self, state: &mut State, len: Option<usize>, after: usize) -> Result<Step, PatFault>
-        requires { IfSome len (λ n. state.old.place + n < 2 ^ 64) }
-        ensures { (expected : Result Outcome PatFault) → Before self.now.subject.now self.now.pattern.now self.now.anchored self.now.limit state.old (Test ∷ behind state.old.place len (λ p. next_at self.now.subject.now self.now.pattern.now state.old.start after p state.old.captures.items)) expected → Steps self.now.subject.now self.now.pattern.now self.now.anchored self.now.limit state.old state.new expected result }
+    /// Goes on after so many bytes, if there are so many.
+    fn advance(&self, state: &mut State, len: Option<usize>, after: usize) -> Result<Step, PatFault>
+        requires { IfSome len (λ n. state.old.index + n < 2 ^ 64) }
+        ensures { GoesOn self.now state.old (len_next self.now state.old len after) state.new result }
     {
         self.make_tests(&mut state.tests, 1)?;
         let Some(len) = len else {
             return Ok(Step::Back);
         };
-        state.place += len;
+        state.index += len;
         state.at = after;
         Ok(Step::On)
     }
 
-    /// A back reference to the capture of a digit; `at` is its place in the pattern.
+    /// A back reference to the capture of a digit; `at` is its index in the pattern.
     fn referred(
         &self,
         state: &mut State,
@@ -310,7 +312,7 @@ impl Search<'_> {
         at: usize,
         after: usize,
     ) -> Result<Step, PatFault>
-        ensures { (expected : Result Outcome PatFault) → BeforeItem self.now.subject.now self.now.pattern.now self.now.anchored self.now.limit state.old (Item.Reference digit at) after expected → Steps self.now.subject.now self.now.pattern.now self.now.anchored self.now.limit state.old state.new expected result }
+        ensures { GoesOnAt self.now state.old (Item.Reference digit at) after state.new result }
     {
         let Some(cap) = referenced(&state.captures, digit) else {
             return Err(PatFault::Malformed {
@@ -318,17 +320,17 @@ impl Search<'_> {
                 tests: state.tests,
             });
         };
-        let len = repeated_len(self.subject, from_place(self.subject, state.place), cap);
-        self.behind(state, len, after)
+        let len = repeated_len(self.subject, bytes_after(self.subject, state.index), cap);
+        self.advance(state, len, after)
     }
 
     /// The subject's end stands here.
     fn at_end(&self, state: &mut State, after: usize) -> Result<Step, PatFault>
         requires further { state.old.at < after }
         requires within { state.old.at < length self.now.pattern.now }
-        ensures { (expected : Result Outcome PatFault) → BeforeItem self.now.subject.now self.now.pattern.now self.now.anchored self.now.limit state.old (Item.End) after expected → Steps self.now.subject.now self.now.pattern.now self.now.anchored self.now.limit state.old state.new expected result }
+        ensures { GoesOnAt self.now state.old Item.End after state.new result }
     {
-        if state.place == self.subject.len() {
+        if state.index == self.subject.len() {
             state.at = after;
             return Ok(Step::On);
         }
@@ -338,7 +340,7 @@ impl Search<'_> {
 
     /// The pattern's end is reached.
     fn whole(&self, alloc: Global, state: &mut State) -> Result<Step, PatFault>
-        ensures { (expected : Result Outcome PatFault) → Before self.now.subject.now self.now.pattern.now self.now.anchored self.now.limit state.old (whole state.old.start state.old.place state.old.captures.items) expected → Steps self.now.subject.now self.now.pattern.now self.now.anchored self.now.limit state.old state.new expected result }
+        ensures { GoesOn self.now state.old (end_trail state.old) state.new result }
     {
         if let Some(at) = first_open(&state.captures) {
             return Err(PatFault::Malformed {
@@ -350,7 +352,7 @@ impl Search<'_> {
         let captures = closed_ones(alloc, &state.captures)?;
         Ok(Step::Whole(Found {
             start: state.start,
-            end: state.place,
+            end: state.index,
             captures,
         }))
     }
@@ -363,7 +365,7 @@ impl Search<'_> {
         balance: &mut Balance,
     ) -> Result<Step, PatFault>
         requires { AreRight self.now.subject.now balance.old.pairs.items }
-        ensures steps { (expected : Result Outcome PatFault) → Before self.now.subject.now self.now.pattern.now self.now.anchored self.now.limit state.old (ahead self.now.subject.now self.now.pattern.now state.old) expected → Steps self.now.subject.now self.now.pattern.now self.now.anchored self.now.limit state.old state.new expected result }
+        ensures steps { GoesOn self.now state.old (ahead self.now state.old) state.new result }
         ensures right { AreRight self.now.subject.now balance.new.pairs.items }
     {
         if state.at >= self.pattern.len() {
@@ -374,17 +376,17 @@ impl Search<'_> {
         match item {
             Item::Repeated(class, repeat) => self.repeated(state, class, repeat, after),
             Item::Open(at) => {
-                let start = state.place;
+                let start = state.index;
                 self.captured(state, Capture::Open { start, at }, after)
             }
             Item::Position => {
-                let place = Cap::Position(state.place);
-                self.captured(state, Capture::Closed(place), after)
+                let cap = Cap::Position(state.index);
+                self.captured(state, Capture::Closed(cap), after)
             }
             Item::Close(at) => self.closed(state, at, after),
             Item::Balanced(opening, closing) => {
-                let len = balance.len_at(alloc, self.subject, state.place, opening, closing)?;
-                self.behind(state, len, after)
+                let len = balance.len_at(alloc, self.subject, state.index, opening, closing)?;
+                self.advance(state, len, after)
             }
             Item::Reference(digit, at) => self.referred(state, digit, at, after),
             Item::End => self.at_end(state, after),
@@ -395,41 +397,41 @@ impl Search<'_> {
         }
     }
 
-    /// Goes on with the next place where a match may begin, if there is one.
+    /// Goes on with the next index where a match may begin, if there is one.
     fn next_start(&self, state: &mut State) -> bool
         requires { state.old.pending.items ≡ [] }
-        ensures { (expected : Result Outcome PatFault) → Before self.now.subject.now self.now.pattern.now self.now.anchored self.now.limit state.old [] expected → Resumes self.now.subject.now self.now.pattern.now self.now.anchored self.now.limit state.old state.new expected (Ok result) }
+        ensures { GoesBack self.now state.old state.new (Ok result) }
     {
         if self.anchored || state.start >= self.subject.len() {
             return false;
         }
         state.start += 1;
-        state.place = state.start;
+        state.index = state.start;
         state.at = 0;
         state.captures.clear();
         true
     }
 
-    /// Goes on with one place fewer of a repetition.
+    /// Goes on with one byte fewer of a repetition.
     fn fewer(
         &self,
         state: &mut State,
         after: usize,
         lowest: usize,
-        place: usize,
+        index: usize,
     ) -> Result<(), PatFault>
-        ensures { (expected : Result Outcome PatFault) → Before self.now.subject.now self.now.pattern.now self.now.anchored self.now.limit state.old (fewer (λ p. next_at self.now.subject.now self.now.pattern.now state.old.start after p state.old.captures.items) lowest (place - lowest)) expected → Takes self.now.subject.now self.now.pattern.now self.now.anchored self.now.limit state.old state.new expected result }
+        ensures { Takes self.now state.old (Pending.Fewer after lowest index) state.new result }
     {
         state.at = after;
-        if place <= lowest {
-            state.place = lowest;
+        if index <= lowest {
+            state.index = lowest;
             return Ok(());
         }
-        state.place = place;
+        state.index = index;
         state.pending.push(Pending::Fewer {
             after,
             lowest,
-            place: place - 1,
+            index: index - 1,
         })?;
         Ok(())
     }
@@ -440,45 +442,45 @@ impl Search<'_> {
         state: &mut State,
         class: Class,
         after: usize,
-        place: usize,
+        index: usize,
     ) -> Result<bool, PatFault>
-        ensures { (expected : Result Outcome PatFault) → Before self.now.subject.now self.now.pattern.now self.now.anchored self.now.limit state.old (one_more_byte (accepts self.now.pattern.now class) (λ p. next_at self.now.subject.now self.now.pattern.now state.old.start after p state.old.captures.items) place (drop place self.now.subject.now)) expected → Tries self.now.subject.now self.now.pattern.now self.now.anchored self.now.limit state.old state.new expected result }
+        ensures { Tries self.now state.old (Pending.More class after index) state.new result }
     {
         self.make_tests(&mut state.tests, 1)?;
-        if !self.accepts_at(class, place) {
+        if !self.accepts_at(class, index) {
             return Ok(false);
         }
-        let place = place + 1;
+        let index = index + 1;
         state.pending.push(Pending::More {
             class,
             after,
-            place,
+            index,
         })?;
-        state.place = place;
+        state.index = index;
         state.at = after;
         Ok(true)
     }
 
-    /// Goes back to the last open choice, or on to the next place where a match may begin, if there is one.
+    /// Goes back to the last open choice, or on to the next index where a match may begin, if there is one.
     fn resume(&self, state: &mut State) -> Result<bool, PatFault>
-        ensures { (expected : Result Outcome PatFault) → Before self.now.subject.now self.now.pattern.now self.now.anchored self.now.limit state.old [] expected → Resumes self.now.subject.now self.now.pattern.now self.now.anchored self.now.limit state.old state.new expected result }
+        ensures { GoesBack self.now state.old state.new result }
     {
         while let Some(pending) = state.pending.pop() {
             match pending {
                 Pending::Fewer {
                     after,
                     lowest,
-                    place,
+                    index,
                 } => {
-                    self.fewer(state, after, lowest, place)?;
+                    self.fewer(state, after, lowest, index)?;
                     return Ok(true);
                 }
                 Pending::More {
                     class,
                     after,
-                    place,
+                    index,
                 } => {
-                    if self.more(state, class, after, place)? {
+                    if self.more(state, class, after, index)? {
                         return Ok(true);
                     }
                 }
@@ -491,7 +493,7 @@ impl Search<'_> {
 
     /// The first match, in order of preference.
     pub(crate) fn run(&self, alloc: Global, state: &mut State) -> Result<Option<Found>, PatFault>
-        ensures { (expected : Result Outcome PatFault) → Before self.now.subject.now self.now.pattern.now self.now.anchored self.now.limit state.old (ahead self.now.subject.now self.now.pattern.now state.old) expected → Ends state.new expected result }
+        ensures { Ends self.now state.old state.new result }
     {
         let mut balance = Balance {
             scanned: 0,

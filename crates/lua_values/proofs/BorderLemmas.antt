@@ -4,7 +4,7 @@ use Rattle.std.proofs.Common.{◌≡◌, ◌≢◌, ℕ, zero, suc, ◌+◌, ◌
 use Rattle.std.proofs.lemmas.Bool.{cases_Bool, cases_lt}
 use Rattle.lua_values.specs.declared.values.Value.{Value}
 use Rattle.lua_values.specs.Values.{same, is_nil, number}
-use Rattle.lua_values.specs.Pairs.{value_at, has_place}
+use Rattle.lua_values.specs.Pairs.{value_at, has_entry}
 use Rattle.lua_values.specs.Border.{border_from, border_of, IsLeastBorder}
 use Rattle.lua_values.proofs.PairLemmas.{value_at-absent}
 
@@ -22,34 +22,34 @@ abbrev without : List (Value × Value) → Value → List (Value × Value)
 without [] key = []
 without (p ∷ ps) key = if same key p.0 then ps else p ∷ without ps key
 
-length-without : (ps : List (Value × Value)) (key : Value) → has_place ps key ≡ true → length ps ≡ suc (length (without ps key))
+length-without : (ps : List (Value × Value)) (key : Value) → has_entry ps key ≡ true → length ps ≡ suc (length (without ps key))
 length-without [] key h = absurd (true≢false (sym h))
-length-without (p ∷ ps) key h = by (same key p.0) (λ e. length-without ps key (sym (ap (λ b. b || has_place ps key) e) ∙ h))
+length-without (p ∷ ps) key h = by (same key p.0) (λ e. length-without ps key (sym (ap (λ b. b || has_entry ps key) e) ∙ h))
   where
     by : (b : Bool) → (b ≡ false → length ps ≡ suc (length (without ps key))) → length (p ∷ ps) ≡ suc (length (if b then ps else p ∷ without ps key))
     by true rest = refl
     by false rest = ap suc (rest refl)
 
 -- another key keeps its pair
-has-without : (ps : List (Value × Value)) (key other : Value) → same other key ≡ false → has_place (without ps key) other ≡ has_place ps other
+has-without : (ps : List (Value × Value)) (key other : Value) → same other key ≡ false → has_entry (without ps key) other ≡ has_entry ps other
 has-without [] key other n = refl
 has-without (p ∷ ps) key other n = by (same key p.0) (λ e. same-true key p.0 e) (has-without ps key other n)
   where
-    by : (b : Bool) → (b ≡ true → key ≡ p.0) → has_place (without ps key) other ≡ has_place ps other
-        → has_place (if b then ps else p ∷ without ps key) other ≡ (same other p.0 || has_place ps other)
-    by true e rest = ap (λ b. b || has_place ps other) (sym n ∙ ap (same other) (e refl))
+    by : (b : Bool) → (b ≡ true → key ≡ p.0) → has_entry (without ps key) other ≡ has_entry ps other
+        → has_entry (if b then ps else p ∷ without ps key) other ≡ (same other p.0 || has_entry ps other)
+    by true e rest = ap (λ b. b || has_entry ps other) (sym n ∙ ap (same other) (e refl))
     by false e rest = ap (λ b. same other p.0 || b) rest
 
--- where 1 to n have places there are as many pairs
-pub many_places : (n : ℕ) (ps : List (Value × Value)) → ((k : ℕ) → k < n → has_place ps (number (k + 1)) ≡ true) → n ≤ length ps
-many_places zero ps h = omega arith
-many_places (suc n) ps h =
-    let here : has_place ps (number (n + 1)) ≡ true = h n (omega arith) in
-    let rest : n ≤ length (without ps (number (n + 1))) = many_places n (without ps (number (n + 1))) (λ k lt. has-without ps (number (n + 1)) (number (k + 1)) (other-number (k + 1) (n + 1) (λ e. omega arith)) ∙ h k (omega arith)) in
+-- where 1 to n have entries there are as many pairs
+pub many_entries : (n : ℕ) (ps : List (Value × Value)) → ((k : ℕ) → k < n → has_entry ps (number (k + 1)) ≡ true) → n ≤ length ps
+many_entries zero ps h = omega arith
+many_entries (suc n) ps h =
+    let here : has_entry ps (number (n + 1)) ≡ true = h n (omega arith) in
+    let rest : n ≤ length (without ps (number (n + 1))) = many_entries n (without ps (number (n + 1))) (λ k lt. has-without ps (number (n + 1)) (number (k + 1)) (other-number (k + 1) (n + 1) (λ e. omega arith)) ∙ h k (omega arith)) in
     omega (arith, length-without ps (number (n + 1)) here)
 
-has_if_live : (ps : List (Value × Value)) (key : Value) → is_nil (value_at ps key) ≡ false → has_place ps key ≡ true
-has_if_live ps key h = elim (cases_Bool (has_place ps key)) [ inl e ↦ e | inr e ↦ absurd (true≢false (sym (value_at-absent ps key e) ∙ h)) ]
+has_if_live : (ps : List (Value × Value)) (key : Value) → is_nil (value_at ps key) ≡ false → has_entry ps key ≡ true
+has_if_live ps key h = elim (cases_Bool (has_entry ps key)) [ inl e ↦ e | inr e ↦ absurd (true≢false (sym (value_at-absent ps key e) ∙ h)) ]
 
 -- there is a value at each number up to the border
 full-below : (ps : List (Value × Value)) (n more k : ℕ) → n ≤ k → k < border_from ps n more → is_nil (value_at ps (number (k + 1))) ≡ false
@@ -65,7 +65,7 @@ full-below ps n (suc more) k a b = by (is_nil (value_at ps (number (n + 1)))) re
           | inr here ↦ let at : n ≡ k = omega arith in subst (λ m. is_nil (value_at ps (number (m + 1))) ≡ false) at e
         ]
 
--- and none behind it, unless all were tried
+-- and none after it, unless all were tried
 ends-or_all : (ps : List (Value × Value)) (n more : ℕ) → (is_nil (value_at ps (number (border_from ps n more + 1))) ≡ true) ⊎ (border_from ps n more ≡ n + more)
 ends-or_all ps n zero = inr (omega arith)
 ends-or_all ps n (suc more) = by (is_nil (value_at ps (number (n + 1)))) refl (ends-or_all ps (n + 1) more)
@@ -85,7 +85,7 @@ too_many ps all e =
       | inl before ↦ full-below ps 0 (length ps) k (omega arith) before
       | inr last ↦ let at : border_of ps ≡ k = omega arith in subst (λ m. is_nil (value_at ps (number (m + 1))) ≡ false) at e
     ] in
-    let most : length ps + 1 ≤ length ps = many_places (length ps + 1) ps (λ k lt. has_if_live ps (number (k + 1)) (live k lt)) in
+    let most : length ps + 1 ≤ length ps = many_entries (length ps + 1) ps (λ k lt. has_if_live ps (number (k + 1)) (live k lt)) in
     omega arith
 
 pub border_is : (ps : List (Value × Value)) → IsLeastBorder ps (border_of ps)

@@ -9,7 +9,7 @@ use Rattle.lua_values.specs.declared.kinds.TypeKind.{TypeKind}
 use Rattle.lua_values.specs.declared.kinds.TypeKind.TheVariants.{Text as OfTexts, Object as OfObjects}
 use Rattle.lua_values.specs.declared.kinds.TypeMetatables.{TypeMetatables}
 use Rattle.lua_values.specs.Values.{same, is_nil}
-use Rattle.lua_values.specs.Pairs.{value_at, with_value, first_live, behind, next_pair}
+use Rattle.lua_values.specs.Pairs.{value_at, with_value, first_live, pairs_after, next_pair}
 use Rattle.lua_values.specs.Heap.{Heap, TableView, ClosureView}
 use Rattle.lua_values.specs.Fits.{Fits, FitsMeta, FitsPair, FitsTable, FitCells, FitTypes, FitsHeap, FitsItself, IsNoShorter}
 use Rattle.lua_values.specs.Laws.{Keeps, StillFits, WritesKeepFitting, ReadsFit}
@@ -93,7 +93,7 @@ keeps h g f = (
   f.longer,
 )
 
--- what is read of a list at a number, or in its place where there is none
+-- what is read of a list at a number, or instead of it where there is none
 read-all : {X : Type 0} (P : X → Type 0) (xs : List X) (i : ℕ) (d : X) → All P xs → P d → P (unwrap_or (slice_get xs i) d)
 read-all P [] i d h p = p
 read-all P (x ∷ xs) zero d h p = All-head P x xs h
@@ -136,20 +136,20 @@ first_live-fits h (p ∷ ps) f = by (is_nil p.1) (first_live-fits h ps (All-tail
     by true rest = rest
     by false rest = All-head (FitsPair h) p ps f
 
-behind-fits : (h : Heap) (ps : List (Value × Value)) (k : Value) → All (FitsPair h) ps → All (FitsPair h) (behind ps k)
-behind-fits h [] k f = f
-behind-fits h (p ∷ ps) k f = by (same k p.0) (behind-fits h ps k (All-tail (FitsPair h) p ps f))
+after-fits : (h : Heap) (ps : List (Value × Value)) (k : Value) → All (FitsPair h) ps → All (FitsPair h) (pairs_after ps k)
+after-fits h [] k f = f
+after-fits h (p ∷ ps) k f = by (same k p.0) (after-fits h ps k (All-tail (FitsPair h) p ps f))
   where
-    by : (b : Bool) → All (FitsPair h) (behind ps k) → All (FitsPair h) (if b then ps else behind ps k)
+    by : (b : Bool) → All (FitsPair h) (pairs_after ps k) → All (FitsPair h) (if b then ps else pairs_after ps k)
     by true rest = All-tail (FitsPair h) p ps f
     by false rest = rest
 
 next-fits : (h : Heap) (ps : List (Value × Value)) (k : Value) → All (FitsPair h) ps → IfSome (next_pair ps k) (FitsPair h)
 next-fits h ps k f = by (is_nil k)
   where
-    by : (b : Bool) → IfSome (first_live (if b then ps else behind ps k)) (FitsPair h)
+    by : (b : Bool) → IfSome (first_live (if b then ps else pairs_after ps k)) (FitsPair h)
     by true = first_live-fits h ps f
-    by false = first_live-fits h (behind ps k) (behind-fits h ps k f)
+    by false = first_live-fits h (pairs_after ps k) (after-fits h ps k f)
 
 type-fits : (h : Heap) (metas : TypeMetatables) (kind : TypeKind) → FitTypes h metas → FitsMeta h (calls.type_metatable_of metas kind)
 type-fits h metas OfTexts f = f.text
@@ -202,7 +202,9 @@ writes_keep_fitting = record {
   make_closure = λ h function cells f fc. keeps h (calls.with_closure h function cells) (one_closure h function cells f fc);
   freeze = λ h f. keeps h (calls.frozen h) (record { longer = record { tables = omega arith; cells = omega arith; closures = omega arith }; tables = f.tables; cells = f.cells; closures = f.closures; globals = f.globals; metatables = f.metatables; frozen_tables = omega arith; frozen_cells = omega arith; frozen_closures = omega arith });
   set_globals = λ h t f there. keeps h (record h { globals = t }) (record { longer = record { tables = omega arith; cells = omega arith; closures = omega arith }; tables = f.tables; cells = f.cells; closures = f.closures; globals = there; metatables = f.metatables; frozen_tables = f.frozen_tables; frozen_cells = f.frozen_cells; frozen_closures = f.frozen_closures });
-  set_type_metatable = λ h kind m f fm. keeps h (record h { metatables = calls.with_type_metatable h.metatables kind m }) (record { longer = record { tables = omega arith; cells = omega arith; closures = omega arith }; tables = f.tables; cells = f.cells; closures = f.closures; globals = f.globals; metatables = with_type-fits h h.metatables kind m f.metatables fm; frozen_tables = f.frozen_tables; frozen_cells = f.frozen_cells; frozen_closures = f.frozen_closures });
+  set_type_metatable = λ h kind m f fm.
+      keeps h (record h { metatables = calls.with_type_metatable h.metatables kind m })
+      (record { longer = record { tables = omega arith; cells = omega arith; closures = omega arith }; tables = f.tables; cells = f.cells; closures = f.closures; globals = f.globals; metatables = with_type-fits h h.metatables kind m f.metatables fm; frozen_tables = f.frozen_tables; frozen_cells = f.frozen_cells; frozen_closures = f.frozen_closures });
   add_units = λ h n f. keeps h (record h { units = n }) (record { longer = record { tables = omega arith; cells = omega arith; closures = omega arith }; tables = f.tables; cells = f.cells; closures = f.closures; globals = f.globals; metatables = f.metatables; frozen_tables = f.frozen_tables; frozen_cells = f.frozen_cells; frozen_closures = f.frozen_closures });
   new = new_fits;
 }

@@ -13,7 +13,7 @@ flag_at-grown [] (suc k) = refl
 flag_at-grown (x ∷ xs) zero = refl
 flag_at-grown (x ∷ xs) (suc k) = flag_at-grown xs k
 
--- where the first flag from a place on is, by the block of the place and by the next block that has one
+-- where the first flag from an index on is, by the block of the index and by the next block that has one
 pub next-none : (lower upper : List Bool) (from : ℕ) → IsSummary lower upper → IsFirstWithin lower from ((from / 32 + 1) * 32) None
     → IsFirstFrom upper (from / 32 + 1) None → IsFirstFrom lower from None
 next-none lower upper from s here none k le =
@@ -29,9 +29,9 @@ pub next-blank : (lower upper : List Bool) (next : ℕ) → IsSummary lower uppe
     → IsFirstWithin lower (next * 32) ((next + 1) * 32) None → ⊥
 next-blank lower upper next s on blank = s.holds next on (λ k e. blank k (omega arith) (omega arith))
 
-pub next-some : (lower upper : List Bool) (from next place : ℕ) → IsSummary lower upper → IsFirstWithin lower from ((from / 32 + 1) * 32) None
-    → IsFirstFrom upper (from / 32 + 1) (Some next) → IsFirstWithin lower (next * 32) ((next + 1) * 32) (Some place) → IsFirstAt lower from place
-next-some lower upper from next place s here first found = record {
+pub next-some : (lower upper : List Bool) (from next index : ℕ) → IsSummary lower upper → IsFirstWithin lower from ((from / 32 + 1) * 32) None
+    → IsFirstFrom upper (from / 32 + 1) (Some next) → IsFirstWithin lower (next * 32) ((next + 1) * 32) (Some index) → IsFirstAt lower from index
+next-some lower upper from next index s here first found = record {
   later = let a = first.later in let b = found.1.later in omega arith;
   stands = found.1.stands;
   before = λ k le lt. elim (cases_Bool (flag_at lower k)) [
@@ -49,7 +49,7 @@ next-some lower upper from next place s here first found = record {
 pub next-any : (lower upper : List Bool) (from next : ℕ) → IsSummary lower upper → IsFirstWithin lower from ((from / 32 + 1) * 32) None
     → IsFirstFrom upper (from / 32 + 1) (Some next) → (r : Option ℕ) → IsFirstWithin lower (next * 32) ((next + 1) * 32) r → IsFirstFrom lower from r
 next-any lower upper from next s here first None found = absurd (next-blank lower upper next s first.stands found)
-next-any lower upper from next s here first (Some place) found = next-some lower upper from next place s here first found
+next-any lower upper from next s here first (Some index) found = next-some lower upper from next index s here first found
 
 -- a list with more flags that don't stand
 pub summary-same : (lower lower' upper upper' : List Bool) → IsSummary lower upper → ((k : ℕ) → flag_at lower' k ≡ flag_at lower k)
@@ -60,34 +60,34 @@ summary-same lower lower' upper upper' s low up covers = record {
   holds = λ block on blank. s.holds block (sym (up block) ∙ on) (λ k e. sym (low k) ∙ blank k e);
 }
 
--- a flag is set, and the flag of its block tells what the block then has
-pub summary-set : (lower upper : List Bool) (place : ℕ) (flag any : Bool) → IsSummary lower upper → place < length lower
-    → (any ≡ false → IsBlank (slice_set lower place flag) (place / 32)) → (any ≡ true → IsBlank (slice_set lower place flag) (place / 32) → ⊥)
-    → IsSummary (slice_set lower place flag) (slice_set upper (place / 32) any)
-summary-set lower upper place flag any s lt none some = record {
+-- a flag is set, and the flag of its block says what the block then has
+pub summary-set : (lower upper : List Bool) (index : ℕ) (flag any : Bool) → IsSummary lower upper → index < length lower
+    → (any ≡ false → IsBlank (slice_set lower index flag) (index / 32)) → (any ≡ true → IsBlank (slice_set lower index flag) (index / 32) → ⊥)
+    → IsSummary (slice_set lower index flag) (slice_set upper (index / 32) any)
+summary-set lower upper index flag any s lt none some = record {
   covers = λ k in_range.
-      let same : length (slice_set lower place flag) ≡ length lower = length-set lower place flag in
-      let upper_same : length (slice_set upper (place / 32) any) ≡ length upper = length-set upper (place / 32) any in
+      let same : length (slice_set lower index flag) ≡ length lower = length-set lower index flag in
+      let upper_same : length (slice_set upper (index / 32) any) ≡ length upper = length-set upper (index / 32) any in
       let at : k / 32 < length upper = s.covers k (omega arith) in
       omega arith;
-  marks = λ k on. elim (cases_eq (k / 32) (place / 32)) [
+  marks = λ k on. elim (cases_eq (k / 32) (index / 32)) [
     | inl e ↦ elim (cases_Bool any) [
-      | inl set ↦ subst (λ b. flag_at (slice_set upper (place / 32) any) b ≡ true) (sym e) (get_or-set_same upper (place / 32) any false (s.covers place lt) ∙ set)
+      | inl set ↦ subst (λ b. flag_at (slice_set upper (index / 32) any) b ≡ true) (sym e) (get_or-set_same upper (index / 32) any false (s.covers index lt) ∙ set)
       | inr clear ↦ absurd (true≢false (sym on ∙ none clear k e))
     ]
     | inr n ↦
-        get_or-set_other upper (place / 32) (k / 32) any false n
-        ∙ s.marks k (sym (get_or-set_other lower place k flag false (λ e. n (ap (λ i. i / 32) e))) ∙ on)
+        get_or-set_other upper (index / 32) (k / 32) any false n
+        ∙ s.marks k (sym (get_or-set_other lower index k flag false (λ e. n (ap (λ i. i / 32) e))) ∙ on)
   ];
-  holds = λ block on blank. elim (cases_eq block (place / 32)) [
+  holds = λ block on blank. elim (cases_eq block (index / 32)) [
     | inl e ↦
         some
-        (sym (get_or-set_same upper (place / 32) any false (s.covers place lt)) ∙ subst (λ b. flag_at (slice_set upper (place / 32) any) b ≡ true) e on)
-        (subst (IsBlank (slice_set lower place flag)) e blank)
+        (sym (get_or-set_same upper (index / 32) any false (s.covers index lt)) ∙ subst (λ b. flag_at (slice_set upper (index / 32) any) b ≡ true) e on)
+        (subst (IsBlank (slice_set lower index flag)) e blank)
     | inr n ↦
         s.holds block
-        (sym (get_or-set_other upper (place / 32) block any false n) ∙ on)
-        (λ k e. sym (get_or-set_other lower place k flag false (λ at. n (sym e ∙ ap (λ i. i / 32) at))) ∙ blank k e)
+        (sym (get_or-set_other upper (index / 32) block any false n) ∙ on)
+        (λ k e. sym (get_or-set_other lower index k flag false (λ at. n (sym e ∙ ap (λ i. i / 32) at))) ∙ blank k e)
   ];
 }
 

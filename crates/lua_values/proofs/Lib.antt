@@ -3,5 +3,5 @@ mod FitLemmas
 mod FlagLemmas
 mod FreezableLemmas
 mod PairLemmas
-mod PlaceLemmas
+mod EntryLemmas
 mod TableLemmas

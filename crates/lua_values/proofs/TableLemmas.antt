@@ -7,13 +7,13 @@ use Rattle.std.proofs.lemmas.List.{length-set, get_or-set_same, get_or-set_other
 use Rattle.indexmap.specs.IndexMap.{insert_entry}
 use Rattle.lua_values.specs.declared.values.Value.{Value}
 use Rattle.lua_values.specs.Values.{same, is_nil, number}
-use Rattle.lua_values.specs.Pairs.{value_at, has_place, first_live}
+use Rattle.lua_values.specs.Pairs.{value_at, has_entry, first_live}
 use Rattle.lua_values.specs.Border.{border_from, border_of}
 use Rattle.lua_values.specs.Flags.{flag_at, IsFirstAt, IsFirstFrom, with_flag}
 use Rattle.lua_values.specs.TableFlags.{lives, is_hole, IsIndexed, IsHoleOf}
 use Rattle.lua_values.proofs.BorderLemmas.{same-true, other-number}
 use Rattle.lua_values.proofs.PairLemmas.{insert-length}
-use Rattle.lua_values.proofs.PlaceLemmas.{same-refl, place-has}
+use Rattle.lua_values.proofs.EntryLemmas.{same-refl, index-has}
 use Rattle.indexmap.proofs.MapLemmas.{Found-position}
 
 -- what stands at keys once one is set
@@ -35,10 +35,10 @@ value_at-other (p ∷ ps) k v other n = by (same k p.0) refl (value_at-other ps 
     by false e rest = ap (λ x. if same other p.0 then p.1 else x) rest
 
 -- which pairs live once a key is set
-pub lives-set : (ps : List (Value × Value)) (k v : Value) → has_place ps k ≡ true
+pub lives-set : (ps : List (Value × Value)) (k v : Value) → has_entry ps k ≡ true
     → lives (insert_entry same ps k v) ≡ slice_set (lives ps) (position_or_len (same k) (keys_of ps)) (not (is_nil v))
 lives-set [] k v h = absurd (true≢false (sym h))
-lives-set (p ∷ ps) k v h = by (same k p.0) (λ e. lives-set ps k v (sym (ap (λ b. b || has_place ps k) e) ∙ h))
+lives-set (p ∷ ps) k v h = by (same k p.0) (λ e. lives-set ps k v (sym (ap (λ b. b || has_entry ps k) e) ∙ h))
   where
     by : (b : Bool) → (b ≡ false → lives (insert_entry same ps k v) ≡ slice_set (lives ps) (position_or_len (same k) (keys_of ps)) (not (is_nil v)))
         → lives (if b then (p.0, v) ∷ ps else p ∷ insert_entry same ps k v)
@@ -48,23 +48,23 @@ lives-set (p ∷ ps) k v h = by (same k p.0) (λ e. lives-set ps k v (sym (ap (�
         let e : 1 + position_or_len (same k) (keys_of ps) ≡ suc (position_or_len (same k) (keys_of ps)) = omega arith in
         rw e (ap (λ xs. not (is_nil p.1) ∷ xs) (rest refl))
 
-pub lives-new : (ps : List (Value × Value)) (k v : Value) → has_place ps k ≡ false → lives (insert_entry same ps k v) ≡ lives ps ++ not (is_nil v) ∷ []
+pub lives-new : (ps : List (Value × Value)) (k v : Value) → has_entry ps k ≡ false → lives (insert_entry same ps k v) ≡ lives ps ++ not (is_nil v) ∷ []
 lives-new [] k v h = refl
 lives-new (p ∷ ps) k v h = by (same k p.0) refl (lives-new ps k v)
   where
-    by : (b : Bool) → same k p.0 ≡ b → (has_place ps k ≡ false → lives (insert_entry same ps k v) ≡ lives ps ++ not (is_nil v) ∷ [])
+    by : (b : Bool) → same k p.0 ≡ b → (has_entry ps k ≡ false → lives (insert_entry same ps k v) ≡ lives ps ++ not (is_nil v) ∷ [])
         → lives (if b then (p.0, v) ∷ ps else p ∷ insert_entry same ps k v) ≡ not (is_nil p.1) ∷ (lives ps ++ not (is_nil v) ∷ [])
-    by true e rest = absurd (true≢false (sym (ap (λ b. b || has_place ps k) e) ∙ h))
-    by false e rest = ap (λ xs. not (is_nil p.1) ∷ xs) (rest (sym (ap (λ b. b || has_place ps k) e) ∙ h))
+    by true e rest = absurd (true≢false (sym (ap (λ b. b || has_entry ps k) e) ∙ h))
+    by false e rest = ap (λ xs. not (is_nil p.1) ∷ xs) (rest (sym (ap (λ b. b || has_entry ps k) e) ∙ h))
 
-pub length-new : (ps : List (Value × Value)) (k v : Value) → has_place ps k ≡ false → length (insert_entry same ps k v) ≡ length ps + 1
+pub length-new : (ps : List (Value × Value)) (k v : Value) → has_entry ps k ≡ false → length (insert_entry same ps k v) ≡ length ps + 1
 length-new [] k v h = refl
 length-new (p ∷ ps) k v h = by (same k p.0) refl (length-new ps k v)
   where
-    by : (b : Bool) → same k p.0 ≡ b → (has_place ps k ≡ false → length (insert_entry same ps k v) ≡ length ps + 1)
+    by : (b : Bool) → same k p.0 ≡ b → (has_entry ps k ≡ false → length (insert_entry same ps k v) ≡ length ps + 1)
         → length (if b then (p.0, v) ∷ ps else p ∷ insert_entry same ps k v) ≡ suc (length ps) + 1
-    by true e rest = absurd (true≢false (sym (ap (λ b. b || has_place ps k) e) ∙ h))
-    by false e rest = let more = rest (sym (ap (λ b. b || has_place ps k) e) ∙ h) in omega arith
+    by true e rest = absurd (true≢false (sym (ap (λ b. b || has_entry ps k) e) ∙ h))
+    by false e rest = let more = rest (sym (ap (λ b. b || has_entry ps k) e) ∙ h) in omega arith
 
 -- two lists of flags agree still once one is set in both
 pub set-agree : (xs ys : List Bool) (i : ℕ) (b : Bool) → i < length xs → i < length ys → ((k : ℕ) → flag_at xs k ≡ flag_at ys k)
@@ -74,7 +74,7 @@ set-agree xs ys i b lx ly same k = elim (cases_eq k i) [
   | inr n ↦ get_or-set_other xs i k b false n ∙ same k ∙ sym (get_or-set_other ys i k b false n)
 ]
 
--- a flag that stands behind the last of the other list
+-- a flag that stands after the last of the other list
 pub push-agree : (xs ys : List Bool) (b : Bool) → length ys < length xs → ((k : ℕ) → flag_at xs k ≡ flag_at ys k)
     → (k : ℕ) → flag_at (slice_set xs (length ys) b) k ≡ flag_at (ys ++ b ∷ []) k
 push-agree xs ys b lt same k = elim (cases_eq k (length ys)) [
@@ -110,7 +110,7 @@ holes-set ps key v n holes (Some j) are there at k = elim (cases_eq k j) [
     hole_there : (j : ℕ) → (j < n) × (key ≡ number (j + 1)) → is_hole n (insert_entry same ps key v) j ≡ is_nil v
     hole_there j at = rw (lt-ltb j n at.0) (ap (λ x. is_nil (value_at (insert_entry same ps key v) x)) (sym at.1) ∙ ap is_nil (value_at-set ps key v))
 
--- and once one number more is told
+-- and once one number more is known
 pub holes-more : (ps : List (Value × Value)) (n : ℕ) (holes : List Bool) → ((k : ℕ) → flag_at holes k ≡ is_hole n ps k) → n < length holes
     → (k : ℕ) → flag_at (slice_set holes n (is_nil (value_at ps (number (n + 1))))) k ≡ is_hole (n + 1) ps k
 holes-more ps n holes are there k = elim (cases_eq k n) [
@@ -122,15 +122,15 @@ holes-more ps n holes are there k = elim (cases_eq k n) [
   ]
 ]
 
--- the first live pair from a place on, by the flags
-pub live-first : (ps : List (Value × Value)) (from place : ℕ) → IsFirstAt (lives ps) from place → first_live (drop from ps) ≡ slice_get ps place
-live-first [] from place h = absurd (true≢false (sym h.stands))
+-- the first live pair from an index on, by the flags
+pub live-first : (ps : List (Value × Value)) (from index : ℕ) → IsFirstAt (lives ps) from index → first_live (drop from ps) ≡ slice_get ps index
+live-first [] from index h = absurd (true≢false (sym h.stands))
 live-first (p ∷ ps) zero zero h = rw (not-true (is_nil p.1) h.stands) refl
-live-first (p ∷ ps) zero (suc place) h =
-    rw (not-false (is_nil p.1) (h.before 0 (omega arith) (omega arith))) (live-first ps 0 place (record { later = omega arith; stands = h.stands; before = λ k le lt. h.before (suc k) (omega arith) (omega arith) }))
+live-first (p ∷ ps) zero (suc index) h =
+    rw (not-false (is_nil p.1) (h.before 0 (omega arith) (omega arith))) (live-first ps 0 index (record { later = omega arith; stands = h.stands; before = λ k le lt. h.before (suc k) (omega arith) (omega arith) }))
 live-first (p ∷ ps) (suc from) zero h = absurd (let l = h.later in omega arith)
-live-first (p ∷ ps) (suc from) (suc place) h =
-    live-first ps from place (record { later = let l = h.later in omega arith; stands = h.stands; before = λ k le lt. h.before (suc k) (omega arith) (omega arith) })
+live-first (p ∷ ps) (suc from) (suc index) h =
+    live-first ps from index (record { later = let l = h.later in omega arith; stands = h.stands; before = λ k le lt. h.before (suc k) (omega arith) (omega arith) })
 
 pub live-none : (ps : List (Value × Value)) (from : ℕ) → ((k : ℕ) → from ≤ k → flag_at (lives ps) k ≡ false) → first_live (drop from ps) ≡ None
 live-none [] zero h = refl
@@ -165,18 +165,18 @@ border-some ps holes j are first =
     border-stop ps 0 (length ps) j (omega arith) (omega arith) at.1 (λ k c d. let off : nat_lt k (length ps) && is_nil (value_at ps (number (k + 1))) ≡ false = sym (are k) ∙ first.before k (omega arith) d in
     sym (ap (λ b. b && is_nil (value_at ps (number (k + 1)))) (lt-ltb k (length ps) (omega arith))) ∙ off)
 
-pub live-some : (ps : List (Value × Value)) (live : List Bool) → ((k : ℕ) → flag_at live k ≡ flag_at (lives ps) k) → (from place : ℕ) → IsFirstAt live from place
-    → first_live (drop from ps) ≡ slice_get ps place
-live-some ps live marks from place h =
-    live-first ps from place (record { later = h.later; stands = sym (marks place) ∙ h.stands; before = λ k le lt. sym (marks k) ∙ h.before k le lt })
+pub live-some : (ps : List (Value × Value)) (live : List Bool) → ((k : ℕ) → flag_at live k ≡ flag_at (lives ps) k) → (from index : ℕ) → IsFirstAt live from index
+    → first_live (drop from ps) ≡ slice_get ps index
+live-some ps live marks from index h =
+    live-first ps from index (record { later = h.later; stands = sym (marks index) ∙ h.stands; before = λ k le lt. sym (marks k) ∙ h.before k le lt })
 
 pub live-nowhere : (ps : List (Value × Value)) (live : List Bool) → ((k : ℕ) → flag_at live k ≡ flag_at (lives ps) k) → (from : ℕ) → IsFirstFrom live from None
     → first_live (drop from ps) ≡ None
 live-nowhere ps live marks from h = live-none ps from (λ k le. sym (marks k) ∙ h k le)
 
-with_flag-length : (xs : List Bool) (place : Option ℕ) (b : Bool) → length (with_flag xs place b) ≡ length xs
+with_flag-length : (xs : List Bool) (index : Option ℕ) (b : Bool) → length (with_flag xs index b) ≡ length xs
 with_flag-length xs None b = refl
-with_flag-length xs (Some place) b = length-set xs place b
+with_flag-length xs (Some index) b = length-set xs index b
 
 lives-length : (ps : List (Value × Value)) → length (lives ps) ≡ length ps
 lives-length [] = refl
@@ -188,7 +188,7 @@ pub indexed-write : (ps : List (Value × Value)) (k v : Value) (live holes : Lis
     → IsIndexed (insert_entry same ps k v) (slice_set live i (not (is_nil v))) (with_flag holes hole (is_nil v))
 indexed-write ps k v live holes i hole x e at =
     let found = Found-position (same k) ps i e in
-    let there = place-has ps k i e in
+    let there = index-has ps k i e in
     let same_length : length (insert_entry same ps k v) ≡ length ps = insert-length ps k v there in
     let set : lives (insert_entry same ps k v) ≡ slice_set (lives ps) i (not (is_nil v)) = lives-set ps k v there ∙ ap (λ n. slice_set (lives ps) n (not (is_nil v))) found.or_len in
     let live_length : length (slice_set live i (not (is_nil v))) ≡ length live = length-set live i (not (is_nil v)) in
@@ -205,7 +205,7 @@ indexed-write ps k v live holes i hole x e at =
 
 -- and once a new key is put last
 indexed-last : (ps : List (Value × Value)) (k v : Value) (live live' holes holes' : List Bool) (hole : Option ℕ) → IsIndexed ps live holes
-    → has_place ps k ≡ false → ((j : ℕ) → flag_at live' j ≡ flag_at live j) → ((j : ℕ) → flag_at holes' j ≡ flag_at holes j)
+    → has_entry ps k ≡ false → ((j : ℕ) → flag_at live' j ≡ flag_at live j) → ((j : ℕ) → flag_at holes' j ≡ flag_at holes j)
     → length ps < length live' → length ps < length holes' → IsHoleOf k (length ps) hole
     → IsIndexed (insert_entry same ps k v) (slice_set live' (length ps) (not (is_nil v)))
     (slice_set (with_flag holes' hole (is_nil v)) (length ps) (is_nil (value_at (insert_entry same ps k v) (number (length ps + 1)))))
@@ -229,7 +229,7 @@ indexed-last ps k v live live' holes holes' hole x absent l h live_there holes_t
 
 -- whose value isn't nil
 pub indexed-append : (ps : List (Value × Value)) (k v : Value) (live live' holes holes' : List Bool) (hole : Option ℕ) → IsIndexed ps live holes
-    → has_place ps k ≡ false → is_nil v ≡ false → ((j : ℕ) → flag_at live' j ≡ flag_at live j) → ((j : ℕ) → flag_at holes' j ≡ flag_at holes j)
+    → has_entry ps k ≡ false → is_nil v ≡ false → ((j : ℕ) → flag_at live' j ≡ flag_at live j) → ((j : ℕ) → flag_at holes' j ≡ flag_at holes j)
     → length ps < length live' → length ps < length holes' → IsHoleOf k (length ps) hole
     → IsIndexed (insert_entry same ps k v) (slice_set live' (length ps) true)
     (slice_set (with_flag holes' hole false) (length ps) (is_nil (value_at (insert_entry same ps k v) (number (length ps + 1)))))

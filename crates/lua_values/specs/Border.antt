@@ -9,7 +9,7 @@ pub record IsLeastBorder (ps : List (Value × Value)) (n : ℕ) : Type 0 where
   pub ends : is_nil (value_at ps (number (n + 1))) ≡ true
   pub full : (k : ℕ) → k < n → is_nil (value_at ps (number (k + 1))) ≡ false
 
--- the least of n, n + 1, .. with nothing behind it, where `more` numbers are tried
+-- the least of n, n + 1, .. with nothing after it, where `more` numbers are tried
 abbrev pub border_from : List (Value × Value) → ℕ → ℕ → ℕ
 border_from ps n zero = n
 border_from ps n (suc more) = if is_nil (value_at ps (number (n + 1))) then n else border_from ps (n + 1) more

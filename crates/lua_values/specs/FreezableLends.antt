@@ -4,6 +4,6 @@ use Rattle.std.specs.Borrow.{Lends, Fml, RattleType, MutBor}
 use Rattle.lua_values.specs.Freezable.{Freezable, with_item}
 use Rattle.lua_values.specs.contracts.freezable.FreezableList.{the_row}
 
--- once the borrow r ends, the item at the place is the last value written through r
+-- once the borrow r ends, the item at the index is the last value written through r
 abbrev pub lends_item : (T : RattleType) → MutBor (Freezable T.Denot) → ℕ → MutBor T.Denot → Fml
-lends_item T list place r = Lends (the_row T) T list r (with_item list.now place)
+lends_item T list index r = Lends (the_row T) T list r (with_item list.now index)

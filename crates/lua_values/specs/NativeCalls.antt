@@ -36,7 +36,7 @@ pub record Counts (result : NativeResult) (old : StoreView) (answer : NativeOut)
   pub steps : new.steps ≡ min step_limit (old.steps + steps_of result)
   pub meant : new.steps < step_limit → IsAnswer result old.heap answer new.heap
 
--- a call answers what is meant, or the want of memory, after which nothing is said of the store
+-- a call gives what is meant, or `Memory`, after which nothing is said of the store
 abbrev pub Answers : NativeResult → StoreView → NativeOut → StoreView → Type 0
 Answers result old Memory new = Unit {0}
 Answers result old (Values answer) new = Counts result old (Values answer) new
@@ -55,7 +55,7 @@ pub record KeepsFrozen (old new : Heap) : Type 0 where
   pub closures : take old.base.closures new.closures ≡ take old.base.closures old.closures
   pub no_shorter : IsNoShorter old new
 
--- the heap that a call leaves keeps what is frozen, fits itself, and fits what the call answers
+-- the heap that a call leaves keeps what is frozen, fits itself, and fits what the call gives
 abbrev pub LeavesFitting : Heap → NativeResult → Type 0
 LeavesFitting old (Gives values heap steps) = KeepsFrozen old heap × FitsItself heap × All (Fits heap) values
 LeavesFitting old (Faults value heap steps) = KeepsFrozen old heap × FitsItself heap × Fits heap value

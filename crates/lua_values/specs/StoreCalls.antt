@@ -1,6 +1,7 @@
 -- What each call of a store gives and leaves. A number that isn't there reads as an empty table, nil or nothing, and a
 -- write to it changes nothing.
-use Rattle.std.specs.Prelude.{◌≡◌, ℕ, ◌+◌, ◌*◌, nat_lt, Bool, ◌&&◌, List, [], ◌∷◌, ◌++◌, length, Option, Some, None, slice_get, slice_set, unwrap_or, if◌then◌else◌}
+use Rattle.std.specs.Prelude.{◌≡◌, ℕ, ◌+◌, ◌*◌, nat_lt, Bool, ◌&&◌, List, [], ◌∷◌, ◌++◌, length, Option, Some, None, slice_get, slice_set, unwrap_or}
+use Rattle.std.specs.Prelude.{if◌then◌else◌}
 use Rattle.lua_values.specs.declared.values.Value.{Value}
 use Rattle.lua_values.specs.declared.values.Value.TheVariants.{Nil}
 use Rattle.lua_values.specs.declared.values.ObjectKind.TheVariants.{Socket, Reader, Semaphore, Zone}
@@ -10,7 +11,7 @@ use Rattle.lua_values.specs.declared.kinds.TypeMetatables.{TypeMetatables}
 use Rattle.lua_values.specs.declared.faults.StoreFault.{StoreFault}
 use Rattle.lua_values.specs.declared.faults.StoreFault.TheVariants.{Full, Frozen, BadKey, Memory}
 use Rattle.lua_values.specs.Values.{is_nil}
-use Rattle.lua_values.specs.Pairs.{with_value, needs_place}
+use Rattle.lua_values.specs.Pairs.{with_value, needs_entry}
 use Rattle.lua_values.specs.Heap.{Heap, TableView, StoreView, unit_limit}
 
 -- the pairs and the metatable of a table
@@ -23,7 +24,7 @@ pairs_of heap t = (table_of heap t).pairs
 abbrev pub cell_of : Heap → ℕ → Value
 cell_of heap c = unwrap_or (slice_get heap.cells c) Nil
 
--- the call is refused by its cause, or by the want of memory where it has none
+-- the call is refused by its cause, or by `Memory` where it has none
 abbrev pub IsCause : Option StoreFault → StoreFault → Type 0
 IsCause None fault = fault ≡ Memory
 IsCause (Some cause) fault = fault ≡ cause
@@ -40,23 +41,23 @@ full_cause heap n = if is_full heap n then Some Full else None
 abbrev pub frozen_cause : ℕ → ℕ → Option StoreFault
 frozen_cause frozen n = if nat_lt n frozen then Some Frozen else None
 
--- the table is there, and the key needs a new place in it
-abbrev pub takes_place : Heap → ℕ → Value → Value → Bool
-takes_place heap t key value = nat_lt t (length heap.tables) && needs_place (pairs_of heap t) key value
+-- the table is there, and the key needs a new entry in it
+abbrev pub takes_entry : Heap → ℕ → Value → Value → Bool
+takes_entry heap t key value = nat_lt t (length heap.tables) && needs_entry (pairs_of heap t) key value
 
 -- why a value isn't set at a key
 abbrev pub set_cause : Heap → ℕ → Value → Value → Option StoreFault
 set_cause heap t key value =
     if is_nil key then Some BadKey
     else if nat_lt t heap.base.tables then Some Frozen
-    else if takes_place heap t key value && is_full heap 32 then Some Full
+    else if takes_entry heap t key value && is_full heap 32 then Some Full
     else None
 
--- a value at a key of a table; a new place takes 32 units
+-- a value at a key of a table; a new entry takes 32 units
 abbrev pub with_pair : Heap → ℕ → Value → Value → Heap
 with_pair heap t key value = record heap {
   tables = slice_set heap.tables t (record (table_of heap t) { pairs = with_value (pairs_of heap t) key value });
-  units = heap.units + (if takes_place heap t key value then 32 else 0);
+  units = heap.units + (if takes_entry heap t key value then 32 else 0);
 }
 
 abbrev pub with_metatable : Heap → ℕ → Option ℕ → Heap

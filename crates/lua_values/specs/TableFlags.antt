@@ -14,14 +14,14 @@ lives ps = map (λ p. not (is_nil p.1)) ps
 abbrev pub is_hole : ℕ → List (Value × Value) → ℕ → Bool
 is_hole n ps k = nat_lt k n && is_nil (value_at ps (number (k + 1)))
 
--- The flags of places stand where a value isn't nil, and those of the numbers up to that of places where nothing is.
+-- The entries' flags stand where a value isn't nil, and those of the numbers up to that of entries where nothing is.
 pub record IsIndexed (ps : List (Value × Value)) (live holes : List Bool) : Type 0 where
   pub marks_live : (k : ℕ) → flag_at live k ≡ flag_at (lives ps) k
   pub marks_holes : (k : ℕ) → flag_at holes k ≡ is_hole (length ps) ps k
   pub live_there : length ps ≤ length live
   pub holes_there : length ps ≤ length holes
 
--- the place among the first n numbers that a key has, if it is one of them
+-- the index among the first n numbers that a key has, if it is one of them
 abbrev pub IsHoleOf : Value → ℕ → Option ℕ → Type 0
 IsHoleOf key n None = (k : ℕ) → k < n → same (number (k + 1)) key ≡ false
 IsHoleOf key n (Some k) = (k < n) × (key ≡ number (k + 1))

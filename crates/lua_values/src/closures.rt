@@ -1,3 +1,5 @@
+//! A closure, with the cells that it captured.
+
 ghost use Rattle.std.specs.Prelude.{◌≡◌, IfOk};
 
 use std::alloc::{AllocError, Global};

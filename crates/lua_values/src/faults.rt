@@ -1,20 +1,22 @@
+//! Why a call of a store is refused.
+
 use std::alloc::{AllocError, AllocFailed};
 use thiserror::Error;
 
 /// Why a call of a store is refused. Where several causes stand together, `BadKey` comes before `Frozen`, that before
-/// `Full`, and that before `Memory`.
+/// `Full`, and that before `Memory`. `Display` writes the message of Lua, or the variant's name where Lua has none.
 #[derive(Clone, Copy, Debug, PartialEq, Eq, Error)]
 pub enum StoreFault {
     /// The units would pass 1,048,576.
     #[error("not enough memory (storage limit)")]
     Full,
     /// The table or the cell is frozen.
-    #[error("attempt to modify a frozen value")]
+    #[error("Frozen")]
     Frozen,
     /// The key is nil.
     #[error("table index is nil")]
     BadKey,
-    /// Want of memory.
+    /// Out of memory.
     #[error("Memory")]
     Memory,
 }

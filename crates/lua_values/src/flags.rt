@@ -1,3 +1,5 @@
+//! A list of flags, in which the next one that stands is found without a walk.
+
 ghost use Rattle.std.specs.Prelude.{◌≡◌, ◌<◌, ◌≤◌, ◌⊎◌, ◌+◌, ◌*◌, ◌/◌, ◌++◌, ℕ, [], ◌∷◌, true, false, length, slice_set, IfOk, OnOk, OnErr};
 ghost use Rattle.std.specs.Option.{ForSome};
 ghost use Rattle.lua_values.specs.Flags.{flag_at, IsFirstFrom, IsFirstWithin, IsBlank, IsSummary, with_flag};
@@ -11,7 +13,7 @@ const WIDTH: usize = 32;
 /// How many flags there may be.
 const MOST: usize = 32_768;
 
-/// A list of flags, up to 32,768. Where the next one is that stands is told by the flags of blocks of 32 and of groups
+/// A list of flags, up to 32,768. Where the next one is that stands is known by the flags of blocks of 32 and of groups
 /// of 32 blocks, so that no more than 160 flags are read, and none where no flag stands.
 #[derive(Drop)]
 pub struct Flags {
@@ -30,7 +32,9 @@ impl Model for Flags {
 
     ghost view = { λ all. all.flags.items };
 
-    ghost invariant = { λ all. IsSummary all.flags.items all.blocks.items × IsSummary all.blocks.items all.groups.items × (length all.flags.items ≤ 32_768) × (all.standing ≡ count_standing all.flags.items) };
+    ghost invariant = { λ all.
+        IsSummary all.flags.items all.blocks.items × IsSummary all.blocks.items all.groups.items
+        × (length all.flags.items ≤ 32_768) × (all.standing ≡ count_standing all.flags.items) };
 }
 
 impl Flags {
@@ -54,63 +58,63 @@ impl Flags {
         self.flags.len()
     }
 
-    /// Adds a flag that doesn't stand. There may be 32,768; one more is a want of memory.
+    /// Adds a flag that doesn't stand. There may be 32,768; one more gives `AllocError`.
     pub fn grow(&mut self) -> Result<(), AllocError>
         ensures done { OnOk result (self.new ≡ self.old ++ false ∷ []) }
         ensures few { OnOk result (length self.new ≤ 32_768) }
         ensures kept { OnErr result (self.new ≡ self.old) }
     {
-        let place = self.flags.len();
-        if place >= MOST {
+        let index = self.flags.len();
+        if index >= MOST {
             return Err(AllocError);
         }
-        cover(&mut self.groups, place / WIDTH / WIDTH)?;
-        cover(&mut self.blocks, place / WIDTH)?;
+        cover(&mut self.groups, index / WIDTH / WIDTH)?;
+        cover(&mut self.blocks, index / WIDTH)?;
         self.flags.push(false)?;
         Ok(())
     }
 
-    /// Has a flag at a place that may be the next.
-    pub fn reach(&mut self, place: usize) -> Result<(), AllocError>
+    /// Has a flag at an index that may be the next.
+    pub fn reach(&mut self, index: usize) -> Result<(), AllocError>
         ensures same { (k : ℕ) → flag_at self.new k ≡ flag_at self.old k }
         ensures longer { length self.old ≤ length self.new }
         ensures few { OnOk result (length self.new ≤ 32_768) }
-        ensures reached { OnOk result (place ≤ length self.old → place < length self.new) }
+        ensures reached { OnOk result (index ≤ length self.old → index < length self.new) }
     {
-        if place >= self.len() {
+        if index >= self.len() {
             self.grow()?;
         }
         Ok(())
     }
 
     /// Sets a flag; takes no memory.
-    pub fn set(&mut self, place: usize, flag: bool)
-        requires { place < length self.old }
-        ensures { self.new ≡ slice_set self.old place flag }
+    pub fn set(&mut self, index: usize, flag: bool)
+        requires { index < length self.old }
+        ensures { self.new ≡ slice_set self.old index flag }
     {
-        if self.flags[place] == flag {
+        if self.flags[index] == flag {
             return;
         }
-        self.flags[place] = flag;
+        self.flags[index] = flag;
         self.standing = count_with(self.standing, flag);
-        let block = place / WIDTH;
+        let block = index / WIDTH;
         self.blocks[block] = any_in(self.flags.as_slice(), block);
         let group = block / WIDTH;
         self.groups[group] = any_in(self.blocks.as_slice(), group);
     }
 
-    /// Sets a flag where a place is given; takes no memory.
-    pub fn set_at(&mut self, place: Option<usize>, flag: bool)
-        requires { ForSome place (λ place. place < length self.old) }
-        ensures { self.new ≡ with_flag self.old place flag }
+    /// Sets a flag where an index is given; takes no memory.
+    pub fn set_at(&mut self, index: Option<usize>, flag: bool)
+        requires { ForSome index (λ index. index < length self.old) }
+        ensures { self.new ≡ with_flag self.old index flag }
     {
-        match place {
+        match index {
             None => {}
-            Some(place) => self.set(place, flag),
+            Some(index) => self.set(index, flag),
         }
     }
 
-    /// The first flag from a place on that stands.
+    /// The first flag from an index on that stands.
     pub fn first_from(&self, from: usize) -> Option<usize>
         ensures { IsFirstFrom self.now from result }
     {
@@ -150,7 +154,7 @@ fn count_with(standing: usize, flag: bool) -> usize
     if flag { standing + 1 } else { standing - 1 }
 }
 
-/// The first flag from a place on that stands.
+/// The first flag from an index on that stands.
 fn flag_from(flags: &[bool], blocks: &[bool], groups: &[bool], from: usize) -> Option<usize>
     requires flags { IsSummary flags.now blocks.now }
     requires blocks { IsSummary blocks.now groups.now }
@@ -162,7 +166,7 @@ fn flag_from(flags: &[bool], blocks: &[bool], groups: &[bool], from: usize) -> O
     }
     let block = from / WIDTH;
     match first_within(flags, from, (block + 1) * WIDTH) {
-        Some(place) => Some(place),
+        Some(index) => Some(index),
         None => match block_from(blocks, groups, block + 1) {
             None => None,
             Some(next) => first_within(flags, next * WIDTH, (next + 1) * WIDTH),
@@ -195,13 +199,13 @@ fn any_in(flags: &[bool], block: usize) -> bool
     first_within(flags, block * WIDTH, (block + 1) * WIDTH).is_some()
 }
 
-/// The first flag from a place on and before another that stands.
+/// The first flag from an index on and before another that stands.
 fn first_within(flags: &[bool], from: usize, end: usize) -> Option<usize>
     ensures first { IsFirstWithin flags.now from end result }
 {
-    for place in from..end.min(flags.len()) {
-        if flags[place] {
-            return Some(place);
+    for index in from..end.min(flags.len()) {
+        if flags[index] {
+            return Some(index);
         }
     }
     None

@@ -1,3 +1,5 @@
+//! A list whose first items may be frozen, and are shared with its copies.
+
 ghost use Rattle.std.specs.Prelude.{◌≡◌, ◌++◌, ◌∷◌, [], ◌^◌, ◌<◌, ◌≤◌, Some, length, slice_get, option_copied, IfOk, OnOk, OnErr};
 ghost use Rattle.std.specs.Borrow.{sem};
 ghost use Rattle.lua_values.specs.Freezable.{all_frozen};
@@ -18,7 +20,8 @@ pub struct FreezableList<T> {
 
 impl<T> Model for FreezableList<T> {
     ghost use Rattle.std.specs.Prelude.{◌++◌, ◌≤◌, length};
-    ghost use Rattle.lua_values.specs.Freezable.{Freezable, freezable_code};
+    ghost use Rattle.lua_values.specs.Freezable.{Freezable};
+    ghost use Rattle.lua_values.specs.FreezableLaws.{freezable_code};
 
     ghost Value = { Freezable T };
 
@@ -58,27 +61,27 @@ impl<T: Drop> FreezableList<T> {
         self.frozen
     }
 
-    /// The item at a place.
-    pub fn get(&self, place: usize) -> Option<&T>
-        ensures { option_copied result ≡ slice_get self.now.items place }
+    /// The item at an index.
+    pub fn get(&self, index: usize) -> Option<&T>
+        ensures { option_copied result ≡ slice_get self.now.items index }
     {
         let shared = self.base.len();
-        if place < shared {
-            self.base.get(place)
+        if index < shared {
+            self.base.get(index)
         } else {
-            self.own.get(place - shared)
+            self.own.get(index - shared)
         }
     }
 
-    /// The item at a place that isn't frozen, to write to.
-    pub fn item_mut(&mut self, place: usize) -> &mut T
-        requires there { place < length self.old.items }
-        requires unfrozen { self.old.frozen ≤ place }
-        ensures* writes_back { sem 𝓛 (lends_item T.row self.entry place result) }
-        ensures item { slice_get self.old.items place ≡ Some result.now }
+    /// The item at an index that isn't frozen, to write to.
+    pub fn item_mut(&mut self, index: usize) -> &mut T
+        requires there { index < length self.old.items }
+        requires unfrozen { self.old.frozen ≤ index }
+        ensures* writes_back { sem 𝓛 (lends_item T.row self.entry index result) }
+        ensures item { slice_get self.old.items index ≡ Some result.now }
     {
         let shared = self.base.len();
-        &mut self.own[place - shared]
+        &mut self.own[index - shared]
     }
 
     /// Puts an item last.

@@ -1,3 +1,5 @@
+//! The types whose values share one metatable, and these metatables.
+
 ghost use Rattle.std.specs.Prelude.{◌≡◌};
 ghost use Rattle.lua_values.specs.StoreCalls.{type_metatable_of, with_type_metatable};
 

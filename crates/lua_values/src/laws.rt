@@ -1,3 +1,5 @@
+//! Laws of the definitions, each the contract of a function.
+
 ghost use Rattle.lua_values.specs.Laws.{SameIsEqual, BorderIsLeast, StillFits, WritesKeepFitting, ReadsFit, BothAreLawful};
 
 /// Primitive equality is the equality of values.

@@ -1,10 +1,12 @@
+//! The functions of the host, by their numbers, and two libraries of them as one.
+
 ghost use Rattle.std.specs.Prelude.{◌≡◌, ℕ, ◌+◌, ◌-◌, ◌<◌, ◌≤◌};
 ghost use Rattle.lua_values.specs.NativeCalls.{Meaning, Answers, both};
 
 use crate::{Store, Value, Values};
 use std::alloc::Global;
 
-/// What a function of the host answers: values, a fault, that its answer is left to the outside, or the want of memory.
+/// What a function of the host gives: values, a fault, that its answer is left to the outside, or `Memory`.
 #[derive(Debug, Drop)]
 pub enum NativeOut {
     Values(Values),

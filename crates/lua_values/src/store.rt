@@ -1,3 +1,5 @@
+//! The store: its tables, cells and closures, and its counts of steps and units.
+
 ghost use Rattle.std.specs.Prelude.{◌≡◌, ◌+◌, ◌≤◌, min, OnOk, OnErr, IfOk, IfErr};
 ghost use Rattle.lua_values.specs.Heap.{step_limit, unit_limit};
 ghost use Rattle.lua_values.specs.StoreCalls as calls;

@@ -1,9 +1,11 @@
+//! A table: its pairs in order, its border and its metatable.
+
 ghost use Rattle.std.specs.Prelude.{◌≡◌, ◌+◌, ◌≤◌, ◌<◌, [], None, Some, true, false, length, drop, position, is_some, IfSome, IfOk, OnOk, OnErr, IsOk};
 ghost use Rattle.std.specs.Option.{option_map};
 ghost use Rattle.std.specs.Map.{keys_of};
 ghost use Rattle.std.specs.Map.Iter.{deref_pair};
 ghost use Rattle.lua_values.specs.declared.values.Value.{Value as LuaValue};
-ghost use Rattle.lua_values.specs.Pairs.{value_at, has_place, needs_place, with_value, first_live, next_pair};
+ghost use Rattle.lua_values.specs.Pairs.{value_at, has_entry, needs_entry, with_value, first_live, next_pair};
 ghost use Rattle.lua_values.specs.Values.{same, is_nil, number};
 ghost use Rattle.lua_values.specs.TableFlags.{IsHoleOf, IsInOrder};
 ghost use Rattle.lua_values.specs.Border.{border_of};
@@ -18,14 +20,14 @@ use std::marker::Model;
 /// A table: its pairs in the order in which the keys were set first, those of value nil included, and its metatable.
 /// Beside the pairs stand the flags of those whose value isn't nil, and of the numbers, up to that of pairs, at which
 /// nothing is; so what comes next and the border are found without a walk. Where the first keys are 1, 2, .. in this
-/// order, the place of such a number is known without a look at the keys. There are at most 32,768 places, more than the
-/// units of a store allow; one more is a want of memory.
+/// order, the index of such a number is known without a look at the keys. There are at most 32,768 entries, more than the
+/// units of a store allow; one more gives `AllocError`.
 #[derive(Drop)]
 pub struct Table {
-    places: IndexMap<Value, Value>,
+    pairs: IndexMap<Value, Value>,
     live: Flags,
     holes: Flags,
-    /// How many places from the first on have the numbers 1, 2, .. as their keys.
+    /// How many entries from the first on have the numbers 1, 2, .. as their keys.
     in_order: usize,
     meta: Option<u32>,
 }
@@ -36,9 +38,9 @@ impl Model for Table {
 
     ghost Value = { TableView };
 
-    ghost view = { λ table. record { pairs = table.places.entries; meta = table.meta } };
+    ghost view = { λ table. record { pairs = table.pairs.entries; meta = table.meta } };
 
-    ghost invariant = { λ table. IsIndexed table.places.entries table.live table.holes × IsInOrder table.places.entries table.in_order };
+    ghost invariant = { λ table. IsIndexed table.pairs.entries table.live table.holes × IsInOrder table.pairs.entries table.in_order };
 }
 
 impl Table {
@@ -47,7 +49,7 @@ impl Table {
         ensures { result ≡ record { pairs = []; meta = None } }
     {
         Table {
-            places: IndexMap::new(alloc),
+            pairs: IndexMap::new(alloc),
             live: Flags::new(alloc),
             holes: Flags::new(alloc),
             in_order: 0,
@@ -55,40 +57,40 @@ impl Table {
         }
     }
 
-    /// The value at a key that has a place.
+    /// The value at a key that has an entry.
     pub fn get(&self, key: &Value) -> Option<&Value>
-        ensures place { is_some result ≡ has_place self.now.pairs key.now }
+        ensures entry { is_some result ≡ has_entry self.now.pairs key.now }
         ensures value { IfSome result (λ value. value.now ≡ value_at self.now.pairs key.now) }
     {
-        match place_of(&self.places, self.in_order, key) {
-            Some(place) => Some(&self.places[place]),
+        match index_of(&self.pairs, self.in_order, key) {
+            Some(index) => Some(&self.pairs[index]),
             None => None,
         }
     }
 
-    /// Whether a value at the key needs a new place.
-    pub fn needs_place(&self, key: &Value, value: &Value) -> bool
-        ensures { result ≡ needs_place self.now.pairs key.now value.now }
+    /// Whether a value at the key needs a new entry.
+    pub fn needs_entry(&self, key: &Value, value: &Value) -> bool
+        ensures { result ≡ needs_entry self.now.pairs key.now value.now }
     {
-        !(value.is_nil() || self.has_place(key))
+        !(value.is_nil() || self.has_entry(key))
     }
 
-    /// Whether a key has a place.
-    fn has_place(&self, key: &Value) -> bool
-        ensures { result ≡ has_place self.now.pairs key.now }
+    /// Whether a key has an entry.
+    fn has_entry(&self, key: &Value) -> bool
+        ensures { result ≡ has_entry self.now.pairs key.now }
     {
         self.get(key).is_some()
     }
 
-    /// Sets a value at a key; takes no memory where that needs no new place.
+    /// Sets a value at a key; takes no memory where that needs no new entry.
     pub fn put(&mut self, key: Value, value: Value) -> Result<(), AllocError>
         ensures done { OnOk result (self.new ≡ record { pairs = with_value self.old.pairs key value; meta = self.old.meta }) }
         ensures kept { OnErr result (self.new ≡ self.old) }
-        ensures in_place { needs_place self.old.pairs key value ≡ false → IsOk result }
+        ensures without_memory { needs_entry self.old.pairs key value ≡ false → IsOk result }
     {
-        match place_of(&self.places, self.in_order, &key) {
-            Some(place) => {
-                self.write(place, &key, value);
+        match index_of(&self.pairs, self.in_order, &key) {
+            Some(index) => {
+                self.write(index, &key, value);
                 Ok(())
             }
             None => {
@@ -101,66 +103,66 @@ impl Table {
         }
     }
 
-    /// Sets the value at a key whose place is given; takes no memory.
-    fn write(&mut self, place: usize, key: &Value, value: Value)
-        requires { position (same key.now) (keys_of self.old.pairs) ≡ Some place }
+    /// Sets the value at a key whose index is given; takes no memory.
+    fn write(&mut self, index: usize, key: &Value, value: Value)
+        requires { position (same key.now) (keys_of self.old.pairs) ≡ Some index }
         ensures { self.new ≡ record { pairs = with_value self.old.pairs key.now value; meta = self.old.meta } }
     {
-        let hole = hole_of(key, self.places.len());
+        let hole = hole_of(key, self.pairs.len());
         let nil = value.is_nil();
-        self.places[place] = value;
-        self.live.set(place, !nil);
+        self.pairs[index] = value;
+        self.live.set(index, !nil);
         self.holes.set_at(hole, nil);
     }
 
     /// Puts a new key last, with a value that isn't nil.
     fn append(&mut self, key: Value, value: Value) -> Result<(), AllocError>
-        requires absent { has_place self.old.pairs key ≡ false }
+        requires absent { has_entry self.old.pairs key ≡ false }
         requires live { is_nil value ≡ false }
         ensures done { OnOk result (self.new ≡ record { pairs = with_value self.old.pairs key value; meta = self.old.meta }) }
         ensures kept { OnErr result (self.new ≡ self.old) }
     {
-        let place = self.places.len();
-        self.live.reach(place)?;
-        self.holes.reach(place)?;
-        let hole = hole_of(&key, place);
-        let number = place as u32 + 1;
-        let in_order = order_with(&self.places, self.in_order, &key, number);
-        match self.places.insert(key, value) {
+        let index = self.pairs.len();
+        self.live.reach(index)?;
+        self.holes.reach(index)?;
+        let hole = hole_of(&key, index);
+        let number = index as u32 + 1;
+        let in_order = order_with(&self.pairs, self.in_order, &key, number);
+        match self.pairs.insert(key, value) {
             Ok(_) => {}
             Err(_) => return Err(AllocError),
         }
         self.in_order = in_order;
-        self.live.set(place, true);
+        self.live.set(index, true);
         self.holes.set_at(hole, false);
         self.holes
-            .set(place, is_hole(&self.places, in_order, number));
+            .set(index, is_hole(&self.pairs, in_order, number));
         Ok(())
     }
 
-    /// The pair that comes next behind a key, and for nil the first.
+    /// The pair that comes next after a key, and for nil the first.
     pub fn next(&self, key: &Value) -> Option<(&Value, &Value)>
         ensures { option_map deref_pair result ≡ next_pair self.now.pairs key.now }
     {
         if key.is_nil() {
             return self.live_from(0);
         }
-        match place_of(&self.places, self.in_order, key) {
-            Some(place) => {
-                let within = place < self.places.len();
+        match index_of(&self.pairs, self.in_order, key) {
+            Some(index) => {
+                let within = index < self.pairs.len();
                 prove!(within);
-                self.live_from(place + 1)
+                self.live_from(index + 1)
             }
             None => None,
         }
     }
 
-    /// The first pair from a place on whose value isn't nil.
+    /// The first pair from an index on whose value isn't nil.
     fn live_from(&self, from: usize) -> Option<(&Value, &Value)>
         ensures { option_map deref_pair result ≡ first_live (drop from self.now.pairs) }
     {
         match self.live.first_from(from) {
-            Some(place) => self.places.get_index(place),
+            Some(index) => self.pairs.get_index(index),
             None => None,
         }
     }
@@ -171,7 +173,7 @@ impl Table {
     {
         match self.holes.first_from(0) {
             Some(hole) => hole as u64,
-            None => self.places.len() as u64,
+            None => self.pairs.len() as u64,
         }
     }
 
@@ -196,7 +198,7 @@ impl Clone for Table {
 
     fn clone(&self) -> Result<Table, AllocError> {
         Ok(Table {
-            places: self.places.clone()?,
+            pairs: self.pairs.clone()?,
             live: self.live.clone()?,
             holes: self.holes.clone()?,
             in_order: self.in_order,
@@ -205,40 +207,40 @@ impl Clone for Table {
     }
 }
 
-/// The place of a key, where the first keys are the numbers 1, 2, .. `in_order`.
-fn place_of(places: &IndexMap<Value, Value>, in_order: usize, key: &Value) -> Option<usize>
-    requires { IsInOrder places.now.entries in_order }
-    ensures { result ≡ position (same key.now) (keys_of places.now.entries) }
+/// The index of a key, where the first keys are the numbers 1, 2, .. `in_order`.
+fn index_of(pairs: &IndexMap<Value, Value>, in_order: usize, key: &Value) -> Option<usize>
+    requires { IsInOrder pairs.now.entries in_order }
+    ensures { result ≡ position (same key.now) (keys_of pairs.now.entries) }
 {
-    match hole_of(key, places.len()) {
-        Some(place) if place < in_order => Some(place),
-        _ => places.get_index_of(key),
+    match hole_of(key, pairs.len()) {
+        Some(index) if index < in_order => Some(index),
+        _ => pairs.get_index_of(key),
     }
 }
 
 /// How many of the first keys are the numbers 1, 2, .. once this new key is put last, which is the `number`-th.
-fn order_with(places: &IndexMap<Value, Value>, in_order: usize, key: &Value, number: u32) -> usize
-    requires order { IsInOrder places.now.entries in_order }
-    requires absent { has_place places.now.entries key.now ≡ false }
-    requires number { number ≡ length places.now.entries + 1 }
+fn order_with(pairs: &IndexMap<Value, Value>, in_order: usize, key: &Value, number: u32) -> usize
+    requires order { IsInOrder pairs.now.entries in_order }
+    requires absent { has_entry pairs.now.entries key.now ≡ false }
+    requires number { number ≡ length pairs.now.entries + 1 }
     requires small { number ≤ 1_000_000_000 }
-    ensures { (value : LuaValue) → is_nil value ≡ false → IsInOrder (with_value places.now.entries key.now value) result }
+    ensures { (value : LuaValue) → is_nil value ≡ false → IsInOrder (with_value pairs.now.entries key.now value) result }
 {
-    if in_order == places.len() && *key == numbered(number) {
+    if in_order == pairs.len() && *key == numbered(number) {
         number as usize
     } else {
         in_order
     }
 }
 
-/// The place of a key among the first `places` numbers, if it is one of them.
-fn hole_of(key: &Value, places: usize) -> Option<usize>
-    ensures { IsHoleOf key.now places result }
+/// The index of a key among the first `count` numbers, if it is one of them.
+fn hole_of(key: &Value, count: usize) -> Option<usize>
+    ensures { IsHoleOf key.now count result }
 {
     match key {
         Value::Number(whole) => match usize::try_from(whole.get()) {
             Ok(n) => {
-                if 1 <= n && n <= places {
+                if 1 <= n && n <= count {
                     Some(n - 1)
                 } else {
                     None
@@ -251,14 +253,14 @@ fn hole_of(key: &Value, places: usize) -> Option<usize>
 }
 
 /// Whether nothing is at the number n.
-fn is_hole(places: &IndexMap<Value, Value>, in_order: usize, n: u32) -> bool
-    requires order { IsInOrder places.now.entries in_order }
+fn is_hole(pairs: &IndexMap<Value, Value>, in_order: usize, n: u32) -> bool
+    requires order { IsInOrder pairs.now.entries in_order }
     requires small { n ≤ 1_000_000_000 }
-    ensures { result ≡ is_nil (value_at places.now.entries (number n)) }
+    ensures { result ≡ is_nil (value_at pairs.now.entries (number n)) }
 {
-    match place_of(places, in_order, &numbered(n)) {
+    match index_of(pairs, in_order, &numbered(n)) {
         None => true,
-        Some(place) => places[place].is_nil(),
+        Some(index) => pairs[index].is_nil(),
     }
 }
 

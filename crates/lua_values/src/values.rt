@@ -1,3 +1,5 @@
+//! The values of Lua, and a list of them.
+
 ghost use Rattle.std.specs.Prelude.{◌≡◌};
 
 use resty_base::{Bytes, Whole};

@@ -1,3 +1,5 @@
+//! Tests of patterns: rows of a subject, a pattern and what a search of it gives.
+
 use lua_patterns::*;
 use std::alloc::{AllocError, Global};
 use std::str::Split;
@@ -38,18 +40,18 @@ fn written(alloc: Global, found: &Found, tests: u64) -> Result<String, AllocErro
     Ok(all)
 }
 
-/// A capture as `START-END` or `@PLACE`.
+/// A capture as `START-END` or `@INDEX`.
 fn reach(alloc: Global, cap: Cap) -> Result<String, AllocError> {
     match cap {
         Cap::Span(start, end) => format!(in alloc; "{start}-{end}"),
-        Cap::Position(place) => format!(in alloc; "@{place}"),
+        Cap::Position(index) => format!(in alloc; "@{index}"),
     }
 }
 
-/// Searches for classes, sets and repeated ones, and at both ends: a subject, a pattern, the place from which it is sought, the tests that
-/// this makes, and the outcome. The matches, their captures and whether there is a fault are what Lua 5.1.5's own matcher answers, but for
-/// `%f`, which is an item there, and a place behind the end, which is the end there. The tests, and where a wrong item begins, were worked
-/// out from the rules, apart from this crate.
+/// Searches for classes, sets and repeated ones, and at both ends: a subject, a pattern, the index from which it is
+/// sought, the tests that this makes, and the outcome. The matches, their captures and whether there is a fault are what
+/// Lua 5.1.5's own matcher gives, but for `%f`, which is an item there, and an index after the end, which is the end
+/// there. The tests, and where a wrong item begins, were worked out from the rules, apart from this crate.
 const CLASSES: &str = "\
 hello world|o|0|6|4-5 (6)
 hello world|o|5|4|7-8 (4)
@@ -293,19 +295,39 @@ a|[a-%|0|0|malformed 0 (0)";
 /// The same with a line end in the subject.
 const LINE_END: &str = "a\nb|a$|0|5|none (5)";
 
+/// Wrong items, and the 33rd capture, that are met as the tests run out: with exactly the tests that are made before them
+/// they are the outcome, with one fewer the pattern is too complex. Each kind of wrong item stands here, and before it
+/// each way to get there: on, back by a byte fewer or more, and to a later start. The numbers were worked out by hand from
+/// what `find_in` counts.
+const WRONG_AT_THE_LAST_TEST: &str = "\
+x|x[a|0|1|malformed 1 (1)
+ab|a-b%|0|3|malformed 3 (3)
+aab|a*b)|0|4|malformed 3 (4)
+ab|a(b%2|0|3|malformed 3 (3)
+ba|a%f|0|2|malformed 1 (2)
+aa|a*a%b(|0|5|malformed 3 (5)
+aab|a+[^|0|3|malformed 2 (3)
+b|a?[|0|1|malformed 2 (1)
+a|^a)|0|1|malformed 2 (1)
+aa|(a)%1%|0|4|malformed 5 (4)
+()x|%b()[|0|1|malformed 4 (1)
+a|()%0|0|1|malformed 2 (1)
+a|()(a|0|3|malformed 2 (3)
+|()()()()()()()()()()()()()()()()()()()()()()()()()()()()()()()()()|0|32|too many captures (32)";
+
 /// The next part of a row.
 fn part<'a>(row: &mut Split<'a, char>) -> Result<&'a str, Fail> {
     Ok(row.next().ok_or("a part is missing")?)
 }
 
-/// The search of a row tells its outcome with exactly as many tests as it makes, and none with one fewer.
-fn is_told(alloc: Global, row: &str) -> Result<bool, Fail> {
+/// The search of a row has its outcome with exactly as many tests as it makes, and none with one fewer.
+fn is_right(alloc: Global, row: &str) -> Result<bool, Fail> {
     let mut row = row.split('|');
     let (subject, pattern) = (part(&mut row)?.as_bytes(), part(&mut row)?.as_bytes());
-    let from = part(&mut row)?.parse::<usize>().ok().ok_or("no place")?;
+    let from = part(&mut row)?.parse::<usize>().ok().ok_or("no index")?;
     let tests = part(&mut row)?.parse::<u64>().ok().ok_or("no count")?;
-    let told = outcome(alloc, subject, pattern, from, tests)?;
-    if told.as_str() != part(&mut row)? {
+    let found = outcome(alloc, subject, pattern, from, tests)?;
+    if found.as_str() != part(&mut row)? {
         return Ok(false);
     }
     Ok(tests == 0 || is_too_complex(alloc, subject, pattern, from, tests - 1)?)
@@ -319,14 +341,14 @@ fn is_too_complex(
     from: usize,
     limit: u64,
 ) -> Result<bool, AllocError> {
-    let told = outcome(alloc, subject, pattern, from, limit)?;
-    Ok(told.as_str() == "pattern too complex")
+    let found = outcome(alloc, subject, pattern, from, limit)?;
+    Ok(found.as_str() == "pattern too complex")
 }
 
-/// The first row that isn't told.
-fn first_untold<'a>(alloc: Global, rows: &'a str) -> Result<Option<&'a str>, Fail> {
+/// The first row that isn't right.
+fn first_wrong<'a>(alloc: Global, rows: &'a str) -> Result<Option<&'a str>, Fail> {
     for row in rows.lines() {
-        if !is_told(alloc, row)? {
+        if !is_right(alloc, row)? {
             return Ok(Some(row));
         }
     }
@@ -334,19 +356,25 @@ fn first_untold<'a>(alloc: Global, rows: &'a str) -> Result<Option<&'a str>, Fai
 }
 
 #[test]
-fn searches_tell_their_first_match_and_their_tests(rt: HostRuntime) -> Result<(), Fail> {
-    assert_eq!(rt; first_untold(rt.alloc(), CLASSES)?, None);
-    assert!(rt; is_told(rt.alloc(), LINE_END)?);
+fn searches_give_their_first_match_and_their_tests(rt: HostRuntime) -> Result<(), Fail> {
+    assert_eq!(rt; first_wrong(rt.alloc(), CLASSES)?, None);
+    assert!(rt; is_right(rt.alloc(), LINE_END)?);
     Ok(())
 }
 
 #[test]
-fn searches_tell_their_captures(rt: HostRuntime) -> Result<(), Fail> {
-    assert_eq!(rt; first_untold(rt.alloc(), CAPTURES)?, None);
+fn searches_give_their_captures(rt: HostRuntime) -> Result<(), Fail> {
+    assert_eq!(rt; first_wrong(rt.alloc(), CAPTURES)?, None);
     Ok(())
 }
 
-/// Bytes that are no text. The rows whose pattern has no zero byte are what Lua 5.1.5's own matcher answers; in its
+#[test]
+fn what_is_wrong_is_met_before_its_own_count(rt: HostRuntime) -> Result<(), Fail> {
+    assert_eq!(rt; first_wrong(rt.alloc(), WRONG_AT_THE_LAST_TEST)?, None);
+    Ok(())
+}
+
+/// Bytes that are no text. The rows whose pattern has no zero byte are what Lua 5.1.5's own matcher gives; in its
 /// patterns a zero byte is the end.
 #[test]
 fn bytes_that_are_no_text_are_sought_as_well(rt: HostRuntime) -> Result<(), Fail> {
@@ -366,8 +394,8 @@ fn bytes_that_are_no_text_are_sought_as_well(rt: HostRuntime) -> Result<(), Fail
         (b"\xc8".as_slice(), b"%W".as_slice(), "0-1 (2)"),
         (b"\x80".as_slice(), b"%C".as_slice(), "0-1 (2)"),
     ] {
-        let told = outcome(alloc, subject, pattern, 0, 100)?;
-        assert_eq!(rt; told.as_str(), expected, "{subject:?} {pattern:?}");
+        let found = outcome(alloc, subject, pattern, 0, 100)?;
+        assert_eq!(rt; found.as_str(), expected, "{subject:?} {pattern:?}");
     }
     Ok(())
 }

@@ -1,4 +1,5 @@
 //! Tests of the store: scripts of calls with their answers.
+
 mod calls;
 mod values;
 
@@ -61,7 +62,7 @@ units = 544
 walk 0 = 0 1 2 3 4 5 6 7 8 9 10 11 12 13 14 15";
 
 /// Keys that are set to nil and again.
-const NIL_IN_PLACE: &str = "\
+const NIL_AT_A_KEY: &str = "\
 set 0 'a 1 = ok
 walk 0 = 1
 set 0 'b 2 = ok
@@ -210,7 +211,7 @@ set_globals 3
 globals = 3";
 
 /// Two tables, the first of which has the other, and a closure, frozen; then a table that has itself, also as its
-/// metatable, and a cell; and what a copy of them tells once they are gone.
+/// metatable, and a cell; and what a copy of them gives once they are gone.
 const CYCLES: &str = "\
 make_table = 1
 set 0 null table:1 = ok
@@ -311,7 +312,7 @@ make_table = 4";
 fn scripts_give_their_answers(rt: HostRuntime) -> Result<(), Fail> {
     for script in [
         KEYS,
-        NIL_IN_PLACE,
+        NIL_AT_A_KEY,
         EMPTIED,
         BORDERS,
         FAULTS,
@@ -322,6 +323,22 @@ fn scripts_give_their_answers(rt: HostRuntime) -> Result<(), Fail> {
     ] {
         assert_eq!(rt; first_wrong(rt.alloc(), script)?, None);
     }
+    Ok(())
+}
+
+#[test]
+fn faults_show_what_lua_says_or_their_names(rt: HostRuntime) -> Result<(), Fail> {
+    let (full, frozen, key, memory) = (
+        StoreFault::Full,
+        StoreFault::Frozen,
+        StoreFault::BadKey,
+        StoreFault::Memory,
+    );
+    let shown = format!(in rt.alloc(); "{full}, {frozen}, {key}, {memory}")?;
+    assert_eq!(rt;
+        shown.as_str(),
+        "not enough memory (storage limit), Frozen, table index is nil, Memory"
+    );
     Ok(())
 }
 

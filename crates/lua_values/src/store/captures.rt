@@ -1,3 +1,5 @@
+//! The calls of a store on cells and closures.
+
 ghost use Rattle.std.specs.Prelude.{◌≡◌, Some, None, length, slice_get, OnOk, OnErr, IfOk, IfErr, MatchOption};
 ghost use Rattle.lua_values.specs.StoreCalls as calls;
 

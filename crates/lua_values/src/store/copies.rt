@@ -1,3 +1,5 @@
+//! The copy of a store.
+
 ghost use Rattle.std.specs.Prelude.{◌≡◌, IfOk};
 
 use super::Store;

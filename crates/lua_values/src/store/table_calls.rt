@@ -1,7 +1,9 @@
+//! The calls of a store on tables.
+
 ghost use Rattle.std.specs.Prelude.{◌≡◌, ◌≢◌, ◌<◌, ◌≤◌, true, false, None, Some, Err, length, OnOk, OnErr, IfOk, IfErr};
 ghost use Rattle.std.specs.Option.{option_map};
 ghost use Rattle.std.specs.Map.Iter.{deref_pair};
-ghost use Rattle.lua_values.specs.Pairs.{value_at, needs_place, next_pair};
+ghost use Rattle.lua_values.specs.Pairs.{value_at, needs_entry, next_pair};
 ghost use Rattle.lua_values.specs.Border.{border_of};
 ghost use Rattle.lua_values.specs.StoreCalls as calls;
 
@@ -9,8 +11,8 @@ use super::{Store, TABLE_UNITS, UNIT_LIMIT};
 use crate::tables::Table;
 use crate::{StoreFault, Value};
 
-/// The units of a new place in a table.
-const PLACE_UNITS: u64 = 32;
+/// The units of a new entry in a table.
+const ENTRY_UNITS: u64 = 32;
 
 impl Store {
     /// Makes an empty table without a metatable, which takes 32 units, and gives its number.
@@ -43,14 +45,14 @@ impl Store {
         }
     }
 
-    /// Sets a value at a key of a table. A key that has a place keeps it, and that takes no memory; nil at a key
-    /// without one changes nothing; else the key's place is the last, and takes 32 units.
+    /// Sets a value at a key of a table. A key that has an entry keeps it, and that takes no memory; nil at a key
+    /// without one changes nothing; else the key's entry is the last, and takes 32 units.
     pub fn set(&mut self, t: u32, key: Value, value: Value) -> Result<(), StoreFault>
         ensures done { OnOk result (self.new ≡ record { heap = calls.with_pair self.old.heap t key value; steps = self.old.steps }) }
         ensures allowed { OnOk result (calls.set_cause self.old.heap t key value ≡ None) }
         ensures cause { IfErr result (calls.IsCause (calls.set_cause self.old.heap t key value)) }
         ensures kept { OnErr result (self.new ≡ self.old) }
-        ensures in_place { calls.takes_place self.old.heap t key value ≡ false → result ≢ Err StoreFault.Memory }
+        ensures without_memory { calls.takes_entry self.old.heap t key value ≡ false → result ≢ Err StoreFault.Memory }
     {
         if key.is_nil() {
             return Err(StoreFault::BadKey);
@@ -58,58 +60,58 @@ impl Store {
         if (t as usize) < self.tables.frozen() {
             return Err(StoreFault::Frozen);
         }
-        let place = t as usize;
-        if self.takes_place(t, &key, &value) {
-            self.set_new(place, key, value)
+        let index = t as usize;
+        if self.takes_entry(t, &key, &value) {
+            self.set_new_entry(index, key, value)
         } else {
-            self.set_in_place(place, key, value);
+            self.set_without_new_entry(index, key, value);
             Ok(())
         }
     }
 
-    /// Whether a table is there in which a value at the key needs a new place.
-    fn takes_place(&self, t: u32, key: &Value, value: &Value) -> bool
-        ensures { result ≡ calls.takes_place self.now.heap t key.now value.now }
+    /// Whether a table is there in which a value at the key needs a new entry.
+    fn takes_entry(&self, t: u32, key: &Value, value: &Value) -> bool
+        ensures { result ≡ calls.takes_entry self.now.heap t key.now value.now }
     {
         match self.tables.get(t as usize) {
             None => false,
-            Some(table) => table.needs_place(key, value),
+            Some(table) => table.needs_entry(key, value),
         }
     }
 
-    /// Sets a value at a key that needs no new place, if its table is there.
-    fn set_in_place(&mut self, place: usize, key: Value, value: Value)
-        requires in_place { calls.takes_place self.old.heap place key value ≡ false }
-        requires unfrozen { self.old.heap.base.tables ≤ place }
-        ensures { self.new ≡ record { heap = calls.with_pair self.old.heap place key value; steps = self.old.steps } }
+    /// Sets a value at a key that needs no new entry, if its table is there.
+    fn set_without_new_entry(&mut self, index: usize, key: Value, value: Value)
+        requires no_entry { calls.takes_entry self.old.heap index key value ≡ false }
+        requires unfrozen { self.old.heap.base.tables ≤ index }
+        ensures { self.new ≡ record { heap = calls.with_pair self.old.heap index key value; steps = self.old.steps } }
     {
-        if place < self.tables.len() {
-            match self.tables.item_mut(place).put(key, value) {
+        if index < self.tables.len() {
+            match self.tables.item_mut(index).put(key, value) {
                 Ok(()) => {}
                 Err(_) => unreachable!(),
             }
         }
     }
 
-    /// Sets a value at a key that needs a new place in its table.
+    /// Sets a value at a key that needs a new entry in its table.
     #[tactic(auto, using(crate::proofs::FreezableLemmas::set_same_item))]
-    fn set_new(&mut self, place: usize, key: Value, value: Value) -> Result<(), StoreFault>
-        requires new_place { calls.takes_place self.old.heap place key value ≡ true }
-        requires unfrozen { self.old.heap.base.tables ≤ place }
-        ensures done { OnOk result (self.new ≡ record { heap = calls.with_pair self.old.heap place key value; steps = self.old.steps }) }
+    fn set_new_entry(&mut self, index: usize, key: Value, value: Value) -> Result<(), StoreFault>
+        requires new_entry { calls.takes_entry self.old.heap index key value ≡ true }
+        requires unfrozen { self.old.heap.base.tables ≤ index }
+        ensures done { OnOk result (self.new ≡ record { heap = calls.with_pair self.old.heap index key value; steps = self.old.steps }) }
         ensures allowed { OnOk result (calls.full_cause self.old.heap 32 ≡ None) }
         ensures cause { IfErr result (calls.IsCause (calls.full_cause self.old.heap 32)) }
         ensures kept { OnErr result (self.new ≡ self.old) }
     {
-        if self.units + PLACE_UNITS > UNIT_LIMIT {
+        if self.units + ENTRY_UNITS > UNIT_LIMIT {
             return Err(StoreFault::Full);
         }
-        self.tables.item_mut(place).put(key, value)?;
-        self.units += PLACE_UNITS;
+        self.tables.item_mut(index).put(key, value)?;
+        self.units += ENTRY_UNITS;
         Ok(())
     }
 
-    /// The pair that comes next behind a key of a table (Lua 5.1 Reference Manual, section 5.1, `next`), and the first
+    /// The pair that comes next after a key of a table (Lua 5.1 Reference Manual, section 5.1, `next`), and the first
     /// for nil.
     pub fn next(&self, t: u32, key: &Value) -> Option<(&Value, &Value)>
         ensures { option_map deref_pair result ≡ next_pair (calls.pairs_of self.now.heap t) key.now }
@@ -150,11 +152,11 @@ impl Store {
         if (t as usize) < self.tables.frozen() {
             return Err(StoreFault::Frozen);
         }
-        let place = t as usize;
-        if place >= self.tables.len() {
+        let index = t as usize;
+        if index >= self.tables.len() {
             return Ok(());
         }
-        self.tables.item_mut(place).set_metatable(meta);
+        self.tables.item_mut(index).set_metatable(meta);
         Ok(())
     }
 }

@@ -1,4 +1,5 @@
-//! Calls of a store as lines, each with its answer behind ` = `.
+//! Calls of a store as lines, each with its answer after ` = `.
+
 use super::values::{count, id, object, optional, value};
 use lua_values::{Store, StoreFault, TypeKind, Value};
 use std::alloc::Global;
@@ -12,8 +13,8 @@ struct Stores {
     current: usize,
 }
 
-/// The first line of a script whose call doesn't give the answer that it tells. The calls are of a new store; `copy`
-/// makes a copy beside it, `replace` puts one in its place, and `store N` goes over to the N-th, from 0.
+/// The first line of a script whose call doesn't give the answer that it has. The calls are of a new store; `copy`
+/// makes a copy beside it, `replace` puts one instead of it, and `store N` goes over to the N-th, from 0.
 pub(super) fn first_wrong<'a>(alloc: Global, script: &'a str) -> Result<Option<&'a str>, Fail> {
     let mut stores = Stores {
         all: Vec::new(alloc),
@@ -75,7 +76,7 @@ fn gives(
         "set" | "set_metatable" | "set_cell" => writes(alloc, store, name, call, answer),
         "make_table" | "make_cell" | "make_closure" => makes(alloc, store, name, call, answer),
         "cell" | "closure" | "type_metatable" => looks_up(alloc, store, name, call, answer),
-        "units" | "steps" | "globals" => told(store, name, answer),
+        "units" | "steps" | "globals" => counted(store, name, answer),
         _ => counts(store, name, call, answer),
     }
 }
@@ -131,7 +132,7 @@ fn walks(alloc: Global, store: &Store, t: u32, values: &str) -> Result<bool, Fai
     Ok(store.next(t, &key).is_none())
 }
 
-/// What a call that gives nothing says.
+/// What a call that gives nothing returns, in a word.
 fn said(outcome: Result<(), StoreFault>) -> &'static str {
     match outcome {
         Ok(()) => "ok",
@@ -150,16 +151,16 @@ fn writes(
     call: &mut SplitWhitespace<'_>,
     answer: &str,
 ) -> Result<bool, Fail> {
-    let place = id(word(call)?)?;
+    let number = id(word(call)?)?;
     if name == "set_metatable" {
-        return Ok(said(store.set_metatable(place, optional(word(call)?)?)) == answer);
+        return Ok(said(store.set_metatable(number, optional(word(call)?)?)) == answer);
     }
     let first = value(alloc, word(call)?)?;
     if name == "set_cell" {
-        return Ok(said(store.set_cell(place, first)) == answer);
+        return Ok(said(store.set_cell(number, first)) == answer);
     }
     let new = value(alloc, word(call)?)?;
-    Ok(said(store.set(place, first, new)) == answer)
+    Ok(said(store.set(number, first, new)) == answer)
 }
 
 /// The calls that make something and give its number.
@@ -227,7 +228,7 @@ fn type_kind(word: &str) -> Result<TypeKind, Fail> {
 }
 
 /// The counts, and the global table.
-fn told(store: &Store, name: &str, answer: &str) -> Result<bool, Fail> {
+fn counted(store: &Store, name: &str, answer: &str) -> Result<bool, Fail> {
     match name {
         "units" => Ok(store.units() == count(answer)?),
         "steps" => Ok(store.steps() == count(answer)?),

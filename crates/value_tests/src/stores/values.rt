@@ -1,10 +1,11 @@
 //! Values in a short written form, for tests.
+
 use lua_values::{ObjectKind, Value};
 use resty_base::{Bytes, whole};
 use std::alloc::Global;
 use std::test::Fail;
 
-/// `nil`, `true`, `false`, `null`, a number, `'` and a text, or a kind with a number behind a colon, as `table:1`.
+/// `nil`, `true`, `false`, `null`, a number, `'` and a text, or a kind with a number after a colon, as `table:1`.
 pub(super) fn value(alloc: Global, word: &str) -> Result<Value, Fail> {
     if let Some(text) = word.strip_prefix('\'') {
         return Ok(Value::Text(Bytes::copy_from_slice(alloc, text.as_bytes())?));

@@ -1,7 +1,7 @@
 use Rattle.std.proofs.Common.{◌≡◌, ◌+◌, ◌≤◌, drop, option_map}
-use Rattle.lua_patterns.specs.Items.{inside_len, inside_behind}
+use Rattle.lua_patterns.specs.Items.{inside_len, inside_after}
 use Rattle.lua_patterns.proofs.items.inside_len.Given as goal
 
 abbrev pub invariant-loop-index : goal.invariant-loop-index
 invariant-loop-index l =
-    (option_map (λ n. n + l.index) (inside_behind l.kept (drop l.index l.text)) ≡ inside_len l.text) × (l.kept ≤ 2)
+    (option_map (λ n. n + l.index) (inside_after l.kept (drop l.index l.text)) ≡ inside_len l.text) × (l.kept ≤ 2)

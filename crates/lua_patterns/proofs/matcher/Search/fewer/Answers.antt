@@ -3,10 +3,10 @@ use Rattle.std.proofs.ResultArms.{chosen}
 use Rattle.lua_patterns.proofs.Stepping.{fewer_last, fewer_steps}
 use Rattle.lua_patterns.proofs.matcher.Search.fewer.Goals as goal
 
-pub returns-then-place-lowest : goal.returns-then-place-lowest
-returns-then-place-lowest c = λ expected before.
-    (fewer_last _ _ _ _ c.args.state.now c.args.after c.args.lowest c.args.place expected c.if-place-lowest.true before, omega arith)
+pub returns-then-index-lowest : goal.returns-then-index-lowest
+returns-then-index-lowest c = λ expected before.
+    (fewer_last c.args.self.now c.args.state.now c.args.after c.args.lowest c.args.index expected c.if-index-lowest.true before, omega arith)
 
 pub returns : goal.returns
 returns c = λ expected before.
-    (fewer_steps _ _ _ _ c.args.state.now c.args.after c.args.lowest c.args.place _ expected (omega arith) (chosen _ _ _ _ c.push.ensures.items (ap is_ok c.in_ok-push.was)) before, omega arith)
+    (fewer_steps c.args.self.now c.args.state.now c.args.after c.args.lowest c.args.index _ expected (omega arith) (chosen _ _ _ _ c.push.ensures.items (ap is_ok c.in_ok-push.was)) before, omega arith)

@@ -6,14 +6,14 @@ use Rattle.lua_patterns.proofs.matcher.Search.longest_of_some.Goals as goal
 pub returns-in_err-make_tests : goal.returns-in_err-make_tests
 returns-in_err-make_tests c =
     let p = err_from_is_err_and c.from_residual.result c.from_residual.ensures.1 in
-    rw (p.1, p.2) (λ expected before other. full_steps _ _ _ _ c.args.state.now c.args.class _ c.args.after _ expected c.in_err-make_tests.ensures.err (λ e. cc) (λ e. cc) before)
+    rw (p.1, p.2) (λ expected before other. full_steps c.args.self.now c.args.state.now c.args.class _ c.args.after _ expected c.in_err-make_tests.ensures.err (λ e. cc) (λ e. cc) before)
 
 pub returns-then-not-accepts_at : goal.returns-then-not-accepts_at
 returns-then-not-accepts_at c = λ expected.
-    some_fails _ _ _ _ c.args.state.now _ c.args.class c.args.after expected c.in_ok-make_tests.ensures.ok (sym c.accepts_at.ensures.value ∙ c.if-not-accepts_at.true)
+    some_fails c.args.self.now c.args.state.now _ c.args.class c.args.after expected c.in_ok-make_tests.ensures.ok (sym c.accepts_at.ensures.value ∙ c.if-not-accepts_at.true)
 
 pub returns : goal.returns
 returns c = λ expected before.
-    steps_later _ _ _ _ c.args.state.now (record c.args.state.now { tests = c.make_tests.new.made; place = c.args.state.now.place + 1 }) c.longest.new.state expected c.longest.result
+    steps_later c.args.self.now c.args.state.now (record c.args.state.now { tests = c.make_tests.new.made; index = c.args.state.now.index + 1 }) c.longest.new.state expected c.longest.result
     (omega (arith, c.in_ok-make_tests.ensures.ok))
-    (c.longest.ensures expected (some_then_any _ _ _ _ c.args.state.now _ c.args.class c.args.after expected c.in_ok-make_tests.ensures.ok (sym c.accepts_at.ensures.value ∙ c.if-not-accepts_at.false) before))
+    (c.longest.ensures expected (some_then_any c.args.self.now c.args.state.now _ c.args.class c.args.after expected c.in_ok-make_tests.ensures.ok (sym c.accepts_at.ensures.value ∙ c.if-not-accepts_at.false) before))

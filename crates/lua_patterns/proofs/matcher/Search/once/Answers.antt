@@ -6,12 +6,12 @@ use Rattle.lua_patterns.proofs.matcher.Search.once.Goals as goal
 pub returns-in_err-make_tests : goal.returns-in_err-make_tests
 returns-in_err-make_tests c =
     let p = err_from_is_err_and c.from_residual.result c.from_residual.ensures.1 in
-    rw (p.1, p.2) (λ expected before other. full_steps _ _ _ _ c.args.state.now c.args.class _ c.args.after _ expected c.in_err-make_tests.ensures.err (λ e. cc) (λ e. cc) before)
+    rw (p.1, p.2) (λ expected before other. full_steps c.args.self.now c.args.state.now c.args.class _ c.args.after _ expected c.in_err-make_tests.ensures.err (λ e. cc) (λ e. cc) before)
 
 pub returns-then-not-accepts_at : goal.returns-then-not-accepts_at
 returns-then-not-accepts_at c = λ expected.
-    once_fails _ _ _ _ c.args.state.now _ c.args.class c.args.after expected c.in_ok-make_tests.ensures.ok (sym c.accepts_at.ensures.value ∙ c.if-not-accepts_at.true)
+    once_fails c.args.self.now c.args.state.now _ c.args.class c.args.after expected c.in_ok-make_tests.ensures.ok (sym c.accepts_at.ensures.value ∙ c.if-not-accepts_at.true)
 
 pub returns : goal.returns
 returns c = λ expected.
-    once_steps _ _ _ _ c.args.state.now _ c.args.class c.args.after expected c.in_ok-make_tests.ensures.ok (sym c.accepts_at.ensures.value ∙ c.if-not-accepts_at.false)
+    once_steps c.args.self.now c.args.state.now _ c.args.class c.args.after expected c.in_ok-make_tests.ensures.ok (sym c.accepts_at.ensures.value ∙ c.if-not-accepts_at.false)

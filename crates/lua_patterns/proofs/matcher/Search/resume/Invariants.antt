@@ -7,8 +7,8 @@ use Rattle.lua_patterns.proofs.matcher.Search.resume.Given as goal
 abbrev pub invariant-loop-pending : goal.invariant-loop-pending
 invariant-loop-pending l =
     ((expected : Result Outcome PatFault)
-    → Before l.self.subject.now l.self.pattern.now l.self.anchored l.self.limit l.fn.state [] expected
-    → Before l.self.subject.now l.self.pattern.now l.self.anchored l.self.limit l.state [] expected)
+    → Before l.self l.fn.state [] expected
+    → Before l.self l.state [] expected)
     × (l.fn.state.tests ≤ l.state.tests)
 
 abbrev pub decreases-loop-pending : goal.decreases-loop-pending

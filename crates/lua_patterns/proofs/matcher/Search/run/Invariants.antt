@@ -9,8 +9,8 @@ abbrev pub invariant-loop-balance : goal.invariant-loop-balance
 invariant-loop-balance l =
     AreRight l.self.subject.now l.balance.pairs.items
     × ((expected : Result Outcome PatFault)
-    → Before l.self.subject.now l.self.pattern.now l.self.anchored l.self.limit l.fn.state (ahead l.self.subject.now l.self.pattern.now l.fn.state) expected
-    → Before l.self.subject.now l.self.pattern.now l.self.anchored l.self.limit l.state (ahead l.self.subject.now l.self.pattern.now l.state) expected)
+    → Before l.self l.fn.state (ahead l.self l.fn.state) expected
+    → Before l.self l.state (ahead l.self l.state) expected)
 
 abbrev pub decreases-loop-balance : goal.decreases-loop-balance
 decreases-loop-balance l =

@@ -5,4 +5,4 @@ use Rattle.lua_patterns.proofs.matcher.Search.shortest.Goals as goal
 
 pub returns : goal.returns
 returns c = λ expected.
-    shortest_steps _ _ _ _ c.args.state.now c.args.class c.args.after _ expected c.requires.further c.requires.within (chosen _ _ _ _ c.push.ensures.items (ap is_ok c.in_ok-push.was))
+    shortest_steps c.args.self.now c.args.state.now c.args.class c.args.after _ expected c.requires.further c.requires.within (chosen _ _ _ _ c.push.ensures.items (ap is_ok c.in_ok-push.was))

@@ -9,4 +9,4 @@ pub returns-in-None-get : goal.returns-in-None-get
 returns-in-None-get c =
     let there : c.in-Some.table.now.pairs ≡ pairs_of c.args.self.now.heap c.args.t =
     rw (← c.self.view_is) (ap (λ (found : Option TableView). (unwrap_or found (record { pairs = []; meta = None })).pairs) c.in-Some.ensures) in
-    c.self.invariant.0 ∙ nil-absent c.in-Some.table.now.pairs c.args.key.now (sym c.in-None-get.ensures.place) ∙ ap (λ pairs. value_at pairs c.args.key.now) there
+    c.self.invariant.0 ∙ nil-absent c.in-Some.table.now.pairs c.args.key.now (sym c.in-None-get.ensures.entry) ∙ ap (λ pairs. value_at pairs c.args.key.now) there

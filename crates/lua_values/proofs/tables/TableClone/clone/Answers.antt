@@ -4,10 +4,10 @@ use Rattle.lua_values.proofs.tables.TableClone.clone.Goals as goal
 
 pub invariant_of-result : goal.invariant_of-result
 invariant_of-result c =
-    let pairs = clone-same c.self.inside.places.entries c.in_ok-clone.field-0.entries c.in_ok-clone.ensures.cases in
+    let pairs = clone-same c.self.inside.pairs.entries c.in_ok-clone.field-0.entries c.in_ok-clone.ensures.cases in
     rw (pairs, c.in_ok-clone-2.ensures.cases, c.in_ok-clone-3.ensures.cases) c.self.invariant
 
 pub returns : goal.returns
 returns c = record {
-  cases = ap (λ ps. record { pairs = ps; meta = c.self.inside.meta }) (clone-same c.self.inside.places.entries c.in_ok-clone.field-0.entries c.in_ok-clone.ensures.cases) ∙ c.self.view_is;
+  cases = ap (λ ps. record { pairs = ps; meta = c.self.inside.meta }) (clone-same c.self.inside.pairs.entries c.in_ok-clone.field-0.entries c.in_ok-clone.ensures.cases) ∙ c.self.view_is;
 }
