@@ -1,5 +1,5 @@
 -- One lemma for each act that is carried out, for the end of a turn, and for a strand that is given up.
-use Rattle.std.proofs.Common.{◌≡◌, ◌⊎◌, ℕ, ◌+◌, ◌-◌, ◌<◌, ◌≤◌, Bool, true, false, not, ◌||◌, ◌&&◌, ◌==◌, List, [], ◌∷◌, ◌++◌, Option, Some, None, if◌then◌else◌, refl, sym, ap, subst, ◌∙◌, append_assoc, append-nil, inl, inr, arith}
+use Rattle.std.proofs.Common.{◌≡◌, ℕ, ◌-◌, Bool, true, false, ◌==◌, List, [], ◌∷◌, ◌++◌, Option, Some, None, if◌then◌else◌, refl, sym, ap, subst, ◌∙◌, append_assoc, append-nil, inl, inr, arith}
 use Rattle.std.proofs.lemmas.Bool.{eqb-true}
 use Rattle.resty_base.specs.declared.names.Id.{Id}
 use Rattle.resty_base.specs.declared.names.Id.TheVariants as id
@@ -19,23 +19,21 @@ use Rattle.strand_contract.specs.declared.turns.Act.{Act}
 use Rattle.strand_contract.specs.declared.turns.Act.TheVariants as act
 use Rattle.strand_contract.specs.Actions.{Action, LocalAction, Did, GlobalAction, Of, Closed, Logged, Dropped, Gone}
 use Rattle.strand_contract.specs.Behaviors.{Behavior}
-use Rattle.strand_contract.specs.Alone.{lives, was_dropped, moment, is_open, has_ended, todo, carried, left_by, waiting, lined_up, run_by, to_offer, offers, offered_by, armed, armed_by, taken_by, offering, begun_offer, but, in_offers, is_stopping, is_before, Enabled, IsExecution, IsFirstOpen}
-use Rattle.strand_contract.specs.Executions.{projection, external, offered_lengths, present, open_connections}
-use Rattle.strand_contract.specs.Laws.{IsLastAct, is_still}
-use Rattle.strand_contract.specs.Order.{IsSubsequence, keep, with_strand, only, readied, run_of, offer_of, all_readied, all_run, all_placed, all_offered, offers_last, was_touched, TurnsInOrder}
-use Rattle.engine.specs.declared.engine.Seat.{Seat}
-use Rattle.engine.specs.Right.{Tells}
-use Rattle.engine.specs.Standing.{Held, is_to_end, Share, share_of, Said, said_of, Fit, Fits, HasAsides, Common, Around, Near, Busy, Falls, Standing, IsOffer}
-use Rattle.engine.proofs.Lists.{by_test, clash, same-true, sub-more, sub-through, sub-front, sub-same, only-same, only-other, tells-more, tells-same}
-use Rattle.engine.proofs.Marks.{projection-same, projection-other, touches, fit-same, SameHeld, held-same, SameBook, same-keeps, same-hung, hung-closed, same-dropped, same-forgot, forgot-aside, own-closed, MayCome, common-next, around-next}
+use Rattle.strand_contract.specs.Alone.{lives, was_dropped, moment, is_open, has_ended, todo, carried, waiting, lined_up, to_offer, offers, armed, begun_offer, but, in_offers, is_stopping, is_before, IsExecution}
+use Rattle.strand_contract.specs.Executions.{projection, external, offered_lengths}
+use Rattle.strand_contract.specs.Laws.{is_still}
+use Rattle.strand_contract.specs.Order.{IsSubsequence, keep, with_strand, only, readied, all_readied, all_run, all_placed, all_offered, offers_last}
+use Rattle.engine.specs.Standing.{Held, HasAsides, Common, Around, Near, Busy, Falls, Standing, IsOffer}
+use Rattle.engine.proofs.Lists.{by_test, clash, same-true, sub-through, sub-front, only-same, only-other, tells-more, tells-same}
+use Rattle.engine.proofs.Marks.{projection-same, touches, fit-same, held-same, SameBook, same-keeps, same-hung, hung-closed, same-dropped, same-forgot, forgot-aside, forgot-ended, own-closed, common-next, around-next}
 
-pub sub-behind : {A : Type 0} (xs : List A) {ys zs : List A} → IsSubsequence ys zs → IsSubsequence (xs ++ ys) (xs ++ zs)
-sub-behind [] r = r
-sub-behind (x ∷ xs) r = keep (sub-behind xs r)
+pub sub-after : {A : Type 0} (xs : List A) {ys zs : List A} → IsSubsequence ys zs → IsSubsequence (xs ++ ys) (xs ++ zs)
+sub-after [] r = r
+sub-after (x ∷ xs) r = keep (sub-after xs r)
 
 -- a still action leaves what ran and what is to run
-pub lines-still : {A : Type 0} (s : StrandId) (xs rl ys : List (StrandId × A)) (r u : List A) → r ≡ [] → u ≡ [] → IsSubsequence (xs ++ rl) ys → IsSubsequence (xs ++ with_strand s r ++ rl) (ys ++ with_strand s u)
-lines-still s xs rl ys r u er eu h = rw (er, eu) (simp append-nil h)
+pub queues-still : {A : Type 0} (s : StrandId) (xs rl ys : List (StrandId × A)) (r u : List A) → r ≡ [] → u ≡ [] → IsSubsequence (xs ++ rl) ys → IsSubsequence (xs ++ with_strand s r ++ rl) (ys ++ with_strand s u)
+queues-still s xs rl ys r u er eu h = rw (er, eu) (simp append-nil h)
 
 not-before-client : (p : Place) → is_before p place.Client ≡ true → ⊥
 not-before-client place.Client h = absurd (let e : false ≡ true = h in cc)
@@ -92,6 +90,7 @@ module _ {J S : Type 0} (b : Behavior J) (st : S → List (LocalAction J) → Ty
     closed = a.closed;
     shut = a.shut;
     aside = a.aside;
+    forgotten = a.forgotten;
     out = a.out;
     arrived = a.arrived;
     alive = a.alive;
@@ -105,8 +104,8 @@ module _ {J S : Type 0} (b : Behavior J) (st : S → List (LocalAction J) → Ty
       given = a.common.given;
       kept = a.common.kept;
       plain = a.common.plain;
-      runs = sub-through (sub-behind (all_run ms) runs) a.common.runs;
-      offered = sub-through (sub-behind (all_offered ms) list) a.common.offered;
+      runs = sub-through (sub-after (all_run ms) runs) a.common.runs;
+      offered = sub-through (sub-after (all_offered ms) list) a.common.offered;
       turns = a.common.turns;
       told = a.common.told;
       offers_told = a.common.offers_told;
@@ -128,8 +127,8 @@ module _ {J S : Type 0} (b : Behavior J) (st : S → List (LocalAction J) → Ty
   }
 
   -- the strand is gone
-  pub around-dead : (h : Held S) (book : Book) (ms : List (GlobalAction J)) → Around b st c false false h h.run_queue h.offer_queue book ms → (h.in_offers ≡ false → offers_last ms ≡ true → h.offer_queue ≡ []) → (h.in_offers ≡ true → offers_last ms ≡ false → h.run_queue ≡ []) → Standing b st h book ms
-  around-dead h book ms a runs_flip offers_flip = record {
+  pub around-dead : (h : Held S) (book : Book) (ms : List (GlobalAction J)) → Around b st c false false h h.run_queue h.offer_queue book ms → book.has_ended (id.Conn c) ≡ false → (h.in_offers ≡ false → offers_last ms ≡ true → h.offer_queue ≡ []) → (h.in_offers ≡ true → offers_last ms ≡ false → h.run_queue ≡ []) → Standing b st h book ms
+  around-dead h book ms a ended runs_flip offers_flip = record {
     each = λ t live. by_test (t == c)
         (λ e. clash (subst (λ (i : ℕ). lives (projection (strand.Conn i) ms) ≡ true) (eqb-true t c e) live) a.alive)
         (λ ne. a.each t ne live);
@@ -143,26 +142,34 @@ module _ {J S : Type 0} (b : Behavior J) (st : S → List (LocalAction J) → Ty
         (λ e. subst (λ (i : ℕ). is_open q (projection (strand.Conn i) ms) ≡ false) (sym (eqb-true t c e)) (none-open (projection (strand.Conn c) ms) a.client a.no_socket q))
         (λ ne. a.shut t ne gone q);
     aside = aside-all c book ms a.aside (a.own_aside ∙ sym a.alive);
+    forgotten = λ t gone. by_test (t == c)
+        (λ e. subst (λ (i : ℕ). book.has_ended (id.Conn i) ≡ false) (sym (eqb-true t c e)) ended)
+        (λ ne. a.forgotten t ne gone);
     flip_to_runs = runs_flip;
     flip_to_offers = offers_flip;
     common = a.common;
   }
 
   -- what was reported of a strand that is over is forgotten
-  pub standing-forgets : (h : Held S) (book book' : Book) (ms : List (GlobalAction J)) → Standing b st h book ms → lives (projection (strand.Conn c) ms) ≡ false → Forgets (strand.Conn c) book book' → Standing b st h book' ms
-  standing-forgets h book book' ms g off forgot =
+  around-forgets : (h : Held S) (book book' : Book) (ms : List (GlobalAction J)) → Around b st c false false h h.run_queue h.offer_queue book ms → Forgets (strand.Conn c) book book'
+      → Around b st c false false h h.run_queue h.offer_queue book' ms
+  around-forgets h book book' ms a forgot =
       let same : SameBook c book book' = same-forgot c forgot in
       record {
-        each = λ t live. by_test (t == c)
-            (λ e. clash (subst (λ (i : ℕ). lives (projection (strand.Conn i) ms) ≡ true) (eqb-true t c e) live) off)
-            (λ ne. fit-same refl refl refl refl refl refl refl (same.is_open t ne) (same.has_ended t ne) (g.each t live));
-        dead = g.dead;
-        closed = λ t gone. forgot.is_open (id.Conn t) ∙ g.closed t gone;
-        shut = g.shut;
-        aside = aside-all c book' ms (λ s ne. same.strand_aside s ne ∙ g.aside s) (forgot-aside c forgot ∙ sym off);
-        flip_to_runs = g.flip_to_runs;
-        flip_to_offers = g.flip_to_offers;
-        common = common-kept b h.run_queue h.offer_queue h.now h.connections book book' ms g.common forgot.entered (λ n. same.sockets n) same.asides forgot.numbers.arrivals;
+        each = λ t ne live. fit-same refl refl refl refl refl refl refl (same.is_open t ne) (same.has_ended t ne) (a.each t ne live);
+        dead = a.dead;
+        closed = λ t ne gone. same.is_open t ne ∙ a.closed t ne gone;
+        shut = a.shut;
+        aside = λ s ne. same.strand_aside s ne ∙ a.aside s ne;
+        forgotten = λ t ne gone. same.has_ended t ne ∙ a.forgotten t ne gone;
+        out = a.out;
+        arrived = rw forgot.numbers.arrivals a.arrived;
+        alive = a.alive;
+        connection = forgot.is_open (id.Conn c) ∙ a.connection;
+        client = a.client;
+        no_socket = a.no_socket;
+        own_aside = forgot-aside c forgot;
+        common = common-kept b h.run_queue h.offer_queue h.now h.connections book book' ms a.common forgot.entered (λ n. same.sockets n) same.asides forgot.numbers.arrivals;
       }
 
   module _ (quiet : (a : LocalAction J) (es : List (LocalAction J)) → is_still a ≡ true → b.acts (a ∷ es) ≡ []) where
@@ -188,8 +195,8 @@ module _ {J S : Type 0} (b : Behavior J) (st : S → List (LocalAction J) → Ty
         }) (rw arrivals a.arrived) (omega (arith, arrivals)) (λ n. same.sockets n ∙ a.common.no_socket n) (same.asides a.common.asides)
         (tells-more book.history book1.history (entry.Dropped (strand.Conn c) ∷ []) (external b ms) a.common.told noted.history)
         (tells-same book.offered book1.offered (offered_lengths b ms) a.common.offers_told noted.offered)
-        (lines-still (strand.Conn c) (all_run ms) h.run_queue (all_readied b ms) [] (readied (b.acts (Did Dropped ∷ projection (strand.Conn c) ms))) refl (ap readied none) a.common.runs)
-        (lines-still (strand.Conn c) (all_offered ms) h.offer_queue (all_placed b ms) [] (offers (b.acts (Did Dropped ∷ projection (strand.Conn c) ms))) refl (ap offers none) a.common.offered))
+        (queues-still (strand.Conn c) (all_run ms) h.run_queue (all_readied b ms) [] (readied (b.acts (Did Dropped ∷ projection (strand.Conn c) ms))) refl (ap readied none) a.common.runs)
+        (queues-still (strand.Conn c) (all_offered ms) h.offer_queue (all_placed b ms) [] (offers (b.acts (Did Dropped ∷ projection (strand.Conn c) ms))) refl (ap offers none) a.common.offered))
 
     -- its connection was closed before
     pub fallen-shut : (h : Held S) (book book1 book2 : Book) (back : Option Entry) (ms : List (GlobalAction J)) → Falls b st c false h book ms
@@ -197,7 +204,7 @@ module _ {J S : Type 0} (b : Behavior J) (st : S → List (LocalAction J) → Ty
         → Standing b st h book2 (Of (strand.Conn c) Dropped None ∷ ms)
     fallen-shut h book book1 book2 back ms f noted forgot =
         let a : Around b st c false false h h.run_queue h.offer_queue book1 (Of (strand.Conn c) Dropped None ∷ ms) = dropped false h book book1 back ms f noted in
-        standing-forgets h book1 book2 (Of (strand.Conn c) Dropped None ∷ ms) (around-dead h book1 (Of (strand.Conn c) Dropped None ∷ ms) a (λ run on. clash on (f.last ∙ run)) (λ offer off. clash (f.last ∙ offer) off)) a.alive forgot
+        around-dead h book2 (Of (strand.Conn c) Dropped None ∷ ms) (around-forgets h book1 book2 (Of (strand.Conn c) Dropped None ∷ ms) a forgot) (forgot-ended c forgot) (λ run on. clash on (f.last ∙ run)) (λ offer off. clash (f.last ∙ offer) off)
 
     -- its connection is closed after it
     pub fallen-open : (h h' : Held S) (book book1 book2 book3 : Book) (back : Option Entry) (ms : List (GlobalAction J)) → Falls b st c true h book ms
@@ -227,12 +234,12 @@ module _ {J S : Type 0} (b : Behavior J) (st : S → List (LocalAction J) → Ty
         }) (rw arrivals a.arrived) (omega (arith, arrivals)) (λ n. same.sockets n ∙ a.common.no_socket n) (same.asides a.common.asides)
         (tells-more book1.history book2.history (entry.Close (id.Conn c) ∷ []) (external b fell) a.common.told hung.history)
         (tells-same book1.offered book2.offered (offered_lengths b fell) a.common.offers_told hung.offered)
-        (lines-still (strand.Conn c) (all_run fell) h.run_queue (all_readied b fell) [] (readied (b.acts (Did (Closed place.Client) ∷ projection (strand.Conn c) fell))) refl (ap readied none) a.common.runs)
-        (lines-still (strand.Conn c) (all_offered fell) h.offer_queue (all_placed b fell) [] (offers (b.acts (Did (Closed place.Client) ∷ projection (strand.Conn c) fell))) refl (ap offers none) a.common.offered))) in
-        rw held (standing-forgets g book2 book3 (Of (strand.Conn c) (Closed place.Client) None ∷ fell) (around-dead g book2 (Of (strand.Conn c) (Closed place.Client) None ∷ fell) shut
-        (λ run on. clash on (f.last ∙ run)) (λ offer off. clash (f.last ∙ offer) off)) shut.alive forgot)
+        (queues-still (strand.Conn c) (all_run fell) h.run_queue (all_readied b fell) [] (readied (b.acts (Did (Closed place.Client) ∷ projection (strand.Conn c) fell))) refl (ap readied none) a.common.runs)
+        (queues-still (strand.Conn c) (all_offered fell) h.offer_queue (all_placed b fell) [] (offers (b.acts (Did (Closed place.Client) ∷ projection (strand.Conn c) fell))) refl (ap offers none) a.common.offered))) in
+        rw held (around-dead g book3 (Of (strand.Conn c) (Closed place.Client) None ∷ fell) (around-forgets g book2 book3 (Of (strand.Conn c) (Closed place.Client) None ∷ fell) shut forgot) (forgot-ended c forgot)
+        (λ run on. clash on (f.last ∙ run)) (λ offer off. clash (f.last ∙ offer) off))
 
-  -- a thread is put in line
+  -- a thread is put in the queue
   pub busy-ready : (x : S) (k : ℕ) (acts : List (Act J)) (go o : Bool) (h h' : Held S) (book : Book) (ms : List (GlobalAction J))
       → Busy b st c x (act.Ready k ∷ acts) go o h book ms → h' ≡ record h { run_queue = h.run_queue ++ (strand.Conn c, k) ∷ [] } → Busy b st c x acts go o h' book ms
   busy-ready x k acts go o h h' book ms y held = rw held (record {
@@ -243,6 +250,7 @@ module _ {J S : Type 0} (b : Behavior J) (st : S → List (LocalAction J) → Ty
         closed = y.near.around.closed;
         shut = y.near.around.shut;
         aside = y.near.around.aside;
+        forgotten = y.near.around.forgotten;
         out = y.near.around.out;
         arrived = y.near.around.arrived;
         alive = y.near.around.alive;
@@ -269,7 +277,7 @@ module _ {J S : Type 0} (b : Behavior J) (st : S → List (LocalAction J) → Ty
     stands = y.stands;
   })
 
-  -- a place is put in line
+  -- a place is put in the queue
   pub busy-offer : (x : S) (q : Place) (acts : List (Act J)) (go o : Bool) (h h' : Held S) (book : Book) (ms : List (GlobalAction J))
       → Busy b st c x (act.Offer q ∷ acts) go o h book ms → h' ≡ record h { offer_queue = h.offer_queue ++ (strand.Conn c, q) ∷ [] } → Busy b st c x acts go o h' book ms
   busy-offer x q acts go o h h' book ms y held = rw held (record {
@@ -280,6 +288,7 @@ module _ {J S : Type 0} (b : Behavior J) (st : S → List (LocalAction J) → Ty
         closed = y.near.around.closed;
         shut = y.near.around.shut;
         aside = y.near.around.aside;
+        forgotten = y.near.around.forgotten;
         out = y.near.around.out;
         arrived = y.near.around.arrived;
         alive = y.near.around.alive;
@@ -322,7 +331,7 @@ offer-logged line done es go o h = h
 module _ {J S : Type 0} (b : Behavior J) (st : S → List (LocalAction J) → Type 0) (c : ℕ)
     (still : (x : S) (a : LocalAction J) (es : List (LocalAction J)) → is_still a ≡ true → st x es → st x (a ∷ es))
     (quiet : (a : LocalAction J) (es : List (LocalAction J)) → is_still a ≡ true → b.acts (a ∷ es) ≡ []) where
-  -- the client's line is hung up
+  -- the client's connection is closed
   pub busy-closed : (x : S) (rest : List (Act J)) (go : Bool) (h h' : Held S) (book book' : Book) (ms : List (GlobalAction J))
       → Busy b st c x (act.HangUp place.Client ∷ rest) go true h book ms
       → HangsUp (id.Conn c) book book'
@@ -354,8 +363,8 @@ module _ {J S : Type 0} (b : Behavior J) (st : S → List (LocalAction J) → Ty
               }) (rw arrivals a.arrived) (omega (arith, arrivals)) (λ n. same.sockets n ∙ a.common.no_socket n) (same.asides a.common.asides)
               (tells-more book.history book'.history (entry.Close (id.Conn c) ∷ []) (external b ms) a.common.told hung.history)
               (tells-same book.offered book'.offered (offered_lengths b ms) a.common.offers_told hung.offered)
-              (lines-still (strand.Conn c) (all_run ms) _ (all_readied b ms) [] (readied (b.acts (Did z ∷ es))) refl (ap readied none) a.common.runs)
-              (lines-still (strand.Conn c) (all_offered ms) _ (all_placed b ms) [] (offers (b.acts (Did z ∷ es))) refl (ap offers none) a.common.offered));
+              (queues-still (strand.Conn c) (all_run ms) _ (all_readied b ms) [] (readied (b.acts (Did z ∷ es))) refl (ap readied none) a.common.runs)
+              (queues-still (strand.Conn c) (all_offered ms) _ (all_placed b ms) [] (offers (b.acts (Did z ∷ es))) refl (ap offers none) a.common.offered));
           to_do = ap (todo b) own ∙ (rw (none, y.near.to_do) (append-nil (carried rest)));
           last_act = y.near.last_act;
           threads = sym (ap (waiting b) own ∙ (rw none (sym y.near.threads)));
@@ -402,8 +411,8 @@ module _ {J S : Type 0} (b : Behavior J) (st : S → List (LocalAction J) → Ty
               }) (rw ids.arrivals a.arrived) (omega (arith, ids.arrivals)) (λ n. ids.is_open (id.Sock n) ∙ a.common.no_socket n) ((same-keeps c ids).asides a.common.asides)
               (tells-more book.history book'.history (entry.Log (strand.Conn c) line (done_of r) ∷ []) (external b ms) a.common.told (logs.history ∙ ap (λ e. told e book.history) (log_entry-done (strand.Conn c) line r ok)))
               (tells-same book.offered book'.offered (offered_lengths b ms) a.common.offers_told logs.offered)
-              (lines-still (strand.Conn c) (all_run ms) _ (all_readied b ms) [] (readied (b.acts (Did z ∷ es))) refl (ap readied none) a.common.runs)
-              (lines-still (strand.Conn c) (all_offered ms) _ (all_placed b ms) [] (offers (b.acts (Did z ∷ es))) refl (ap offers none) a.common.offered));
+              (queues-still (strand.Conn c) (all_run ms) _ (all_readied b ms) [] (readied (b.acts (Did z ∷ es))) refl (ap readied none) a.common.runs)
+              (queues-still (strand.Conn c) (all_offered ms) _ (all_placed b ms) [] (offers (b.acts (Did z ∷ es))) refl (ap offers none) a.common.offered));
           to_do = ap (todo b) own ∙ (rw (none, y.near.to_do) (append-nil (carried rest)));
           last_act = y.near.last_act;
           threads = sym (ap (waiting b) own ∙ (rw none (sym y.near.threads)));
@@ -445,8 +454,9 @@ module _ {J S : Type 0} (b : Behavior J) (st : S → List (LocalAction J) → Ty
         counts = a.common.count;
       }) (rw arrivals a.arrived) (omega (arith, arrivals)) (λ n. same.sockets n ∙ a.common.no_socket n) (same.asides a.common.asides)
       (tells-same book.history book'.history (external b ms) a.common.told forgot.entered.history) (tells-same book.offered book'.offered (offered_lengths b ms) a.common.offers_told forgot.entered.offered)
-      (lines-still (strand.Conn c) (all_run ms) h.run_queue (all_readied b ms) [] (readied (b.acts (Did Gone ∷ es))) refl (ap readied none) a.common.runs)
-      (lines-still (strand.Conn c) (all_offered ms) h.offer_queue (all_placed b ms) [] (offers (b.acts (Did Gone ∷ es))) refl (ap offers none) a.common.offered)))
+      (queues-still (strand.Conn c) (all_run ms) h.run_queue (all_readied b ms) [] (readied (b.acts (Did Gone ∷ es))) refl (ap readied none) a.common.runs)
+      (queues-still (strand.Conn c) (all_offered ms) h.offer_queue (all_placed b ms) [] (offers (b.acts (Did Gone ∷ es))) refl (ap offers none) a.common.offered)))
+      (forgot-ended c forgot)
       (λ run on. clash on (y.near.last ∙ run)) (λ offer off. clash (y.near.last ∙ offer) off)
 
 module _ {J S : Type 0} (b : Behavior J) (st : S → List (LocalAction J) → Type 0) (c : ℕ) where
@@ -480,6 +490,7 @@ module _ {J S : Type 0} (b : Behavior J) (st : S → List (LocalAction J) → Ty
     closed = λ t ne gone. ids.is_open (id.Conn t) ∙ a.closed t ne gone;
     shut = a.shut;
     aside = λ s ne. ids.strand_aside s ∙ a.aside s ne;
+    forgotten = λ t ne gone. ids.has_ended (id.Conn t) ∙ a.forgotten t ne gone;
     out = a.out;
     arrived = rw ids.arrivals a.arrived;
     alive = a.alive;

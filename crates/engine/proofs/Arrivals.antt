@@ -1,6 +1,6 @@
 -- Connections that arrive: a strand begins, or the connection is turned away.
 use Rattle.engine.specs.declared.engine.Ending.TheVariants as stop
-use Rattle.std.proofs.Common.{◌≡◌, ◌⊎◌, ℕ, ◌+◌, ◌<◌, ◌≤◌, Bool, true, false, not, ◌||◌, ◌&&◌, ◌==◌, List, [], ◌∷◌, ◌++◌, Option, Some, None, if◌then◌else◌, refl, sym, ap, subst, ◌∙◌, append_assoc, append-nil, inl, inr, arith}
+use Rattle.std.proofs.Common.{◌≡◌, ℕ, ◌+◌, ◌<◌, ◌≤◌, Bool, true, false, ◌||◌, ◌==◌, List, [], ◌∷◌, ◌++◌, Option, None, if◌then◌else◌, refl, sym, ap, subst, ◌∙◌, append-nil, inl, inr, arith}
 use Rattle.std.proofs.lemmas.Bool.{eqb-true, cases_lt}
 use Rattle.resty_base.specs.declared.names.Id.TheVariants as id
 use Rattle.resty_base.specs.declared.names.StrandId.{StrandId}
@@ -8,26 +8,23 @@ use Rattle.resty_base.specs.declared.names.StrandId.TheVariants as strand
 use Rattle.resty_world.specs.declared.entry.Entry.{Entry}
 use Rattle.resty_world.specs.declared.entry.Entry.TheVariants as entry
 use Rattle.resty_world.specs.declared.event.Event.TheVariants as event
-use Rattle.resty_world.specs.Book.{Book, told}
+use Rattle.resty_world.specs.Book.{Book}
 use Rattle.resty_world.specs.Contract.{HangsUp, Forgets, Notes}
 use Rattle.resty_world.specs.Given.{Gave}
 use Rattle.resty_world.specs.Ids.{same_strand}
-use Rattle.strand_contract.specs.declared.turns.Place.{Place}
 use Rattle.strand_contract.specs.declared.turns.Place.TheVariants as place
 use Rattle.strand_contract.specs.declared.turns.Start.TheVariants as start
 use Rattle.strand_contract.specs.declared.turns.Act.{Act}
 use Rattle.strand_contract.specs.Actions.{Action, LocalAction, Did, GlobalAction, Of, Everyone, TurnedAway, IdleGave, IdleClosed, Began}
 use Rattle.strand_contract.specs.Behaviors.{Behavior}
-use Rattle.strand_contract.specs.Alone.{lives, moment, is_open, has_ended, todo, waiting, to_offer, offers, armed, in_offers, is_stopping, IsExecution, HasNoWork, KeepsNothingBack}
-use Rattle.strand_contract.specs.Executions.{projection, external, offered_lengths, present, open_connections, has_begun}
+use Rattle.strand_contract.specs.Alone.{lives, is_open, has_ended, offers, is_stopping, IsExecution, HasNoWork, KeepsNothingBack}
+use Rattle.strand_contract.specs.Executions.{projection, external, offered_lengths, has_begun}
 use Rattle.strand_contract.specs.Laws.{IsLastAct}
-use Rattle.strand_contract.specs.Order.{with_strand, only, readied, all_run, all_readied, all_offered, all_placed, offers_last}
-use Rattle.engine.specs.declared.engine.Seat.{Seat}
-use Rattle.engine.specs.Right.{Tells}
-use Rattle.engine.specs.Standing.{Held, is_to_end, Fit, Common, Around, Near, Busy, Falls, Standing}
-use Rattle.engine.proofs.Lists.{by_test, clash, same-true, tells-more, tells-same}
-use Rattle.engine.proofs.Marks.{projection-same, touches, fit-same, SameHeld, SameBook, same-arrived, same-turned, same-hung, same-joins, hung-closed, MayCome, common-next, around-next, Begins, near-begins}
-use Rattle.engine.proofs.Acts.{around-queues, aside-all, standing-forgets}
+use Rattle.strand_contract.specs.Order.{with_strand, readied, all_run, all_readied, all_offered, all_placed}
+use Rattle.engine.specs.Standing.{Held, is_to_end, Around, Near, Busy, Falls, Standing}
+use Rattle.engine.proofs.Lists.{by_test, same-true, tells-more, tells-same}
+use Rattle.engine.proofs.Marks.{projection-same, touches, fit-same, SameBook, same-arrived, same-turned, same-hung, same-forgot, forgot-aside, forgot-ended, same-joins, hung-closed, common-next, around-next, near-begins}
+use Rattle.engine.proofs.Acts.{around-queues, aside-all}
 use Rattle.engine.proofs.Lists.{sub-front}
 use Rattle.engine.proofs.Turns.{turn-queues}
 use Rattle.engine.proofs.Events.{at-rest, none-holds}
@@ -67,6 +64,7 @@ module _ {J S : Type 0} (b : Behavior J) (st : S → List (LocalAction J) → Ty
     closed = λ t ne gone. g.closed t gone;
     shut = λ t ne gone q. g.shut t gone q;
     aside = λ s ne. g.aside s;
+    forgotten = λ t ne gone. g.forgotten t gone;
     out = g.dead c (ap lives unseen);
     arrived = omega arith;
     alive = ap lives unseen;
@@ -156,23 +154,26 @@ module _ {J S : Type 0} (b : Behavior J) (st : S → List (LocalAction J) → Ty
           stands = subst (λ (fs : List (LocalAction J)). st x fs) (sym own) stands;
         }
 
-  -- as many are open as may be
-  pub stands-turned : (book1 book2 book3 : Book) (back : Option Entry) → Gave book book1 (event.Arrive c) → b.connections ≤ h.connections
-      → Notes (entry.Turned c) back book1 book2 → HangsUp (id.Conn c) book2 book3
-      → Standing b st h book3 (TurnedAway c ∷ ms)
-  stands-turned book1 book2 book3 back gave full noted hung =
-      let same : SameBook c book book3 = same-joins (same-joins (same-arrived c gave) (same-turned c noted)) (same-hung c hung) in
-      let arrivals : book3.arrivals ≡ book1.arrivals = hung.numbers.arrivals ∙ noted.numbers.arrivals in
+  -- as many are open as may be: it is turned away, and nothing of the connection is kept
+  pub stands-turned : (book1 book2 book3 book4 : Book) (back : Option Entry) → Gave book book1 (event.Arrive c) → b.connections ≤ h.connections
+      → Notes (entry.Turned c) back book1 book2 → HangsUp (id.Conn c) book2 book3 → Forgets (strand.Conn c) book3 book4
+      → Standing b st h book4 (TurnedAway c ∷ ms)
+  stands-turned book1 book2 book3 book4 back gave full noted hung forgot =
+      let same : SameBook c book book4 = same-joins (same-joins (same-joins (same-arrived c gave) (same-turned c noted)) (same-hung c hung)) (same-forgot c forgot) in
+      let arrivals : book4.arrivals ≡ book1.arrivals = forgot.numbers.arrivals ∙ hung.numbers.arrivals ∙ noted.numbers.arrivals in
       record {
         each = λ t live. by_test (t == c)
             (λ e. absurd (let w : false ≡ true = sym (ap lives unseen) ∙ subst (λ (i : ℕ). lives (projection (strand.Conn i) ms) ≡ true) (eqb-true t c e) live in cc))
             (λ ne. fit-same refl refl refl refl refl refl refl (same.is_open t ne) (same.has_ended t ne) (g.each t live));
         dead = g.dead;
         closed = λ t gone. by_test (t == c)
-            (λ e. subst (λ (i : ℕ). book3.is_open (id.Conn i) ≡ false) (sym (eqb-true t c e)) (hung-closed c hung))
+            (λ e. subst (λ (i : ℕ). book4.is_open (id.Conn i) ≡ false) (sym (eqb-true t c e)) (forgot.is_open (id.Conn c) ∙ hung-closed c hung))
             (λ ne. same.is_open t ne ∙ g.closed t gone);
         shut = g.shut;
-        aside = aside-all c book3 ms (λ s ne. same.strand_aside s ne ∙ g.aside s) (hung.strand_aside (strand.Conn c) ∙ noted.strand_aside (strand.Conn c) ∙ ap (λ v. if v then false else book1.strand_aside (strand.Conn c)) (same-true c) ∙ sym (ap lives unseen));
+        aside = aside-all c book4 ms (λ s ne. same.strand_aside s ne ∙ g.aside s) (forgot-aside c forgot ∙ sym (ap lives unseen));
+        forgotten = λ t gone. by_test (t == c)
+            (λ e. subst (λ (i : ℕ). book4.has_ended (id.Conn i) ≡ false) (sym (eqb-true t c e)) (forgot-ended c forgot))
+            (λ ne. same.has_ended t ne ∙ g.forgotten t gone);
         flip_to_runs = λ run on. absurd (let w : false ≡ true = on in cc);
         flip_to_offers = λ offer off. run_queue;
         common = record {
@@ -184,11 +185,12 @@ module _ {J S : Type 0} (b : Behavior J) (st : S → List (LocalAction J) → Ty
           runs = g.common.runs;
           offered = g.common.offered;
           turns = g.common.turns;
-          told = tells-more book2.history book3.history (entry.Close (id.Conn c) ∷ []) (entry.Turned c ∷ entry.Given (event.Arrive c) ∷ external b ms)
+          told = tells-same book3.history book4.history (entry.Close (id.Conn c) ∷ entry.Turned c ∷ entry.Given (event.Arrive c) ∷ external b ms)
+              (tells-more book2.history book3.history (entry.Close (id.Conn c) ∷ []) (entry.Turned c ∷ entry.Given (event.Arrive c) ∷ external b ms)
               (tells-more book1.history book2.history (entry.Turned c ∷ []) (entry.Given (event.Arrive c) ∷ external b ms)
-              (tells-more book.history book1.history (entry.Given (event.Arrive c) ∷ []) (external b ms) g.common.told gave.history) noted.history) hung.history;
-          offers_told = tells-same book.offered book3.offered (offered_lengths b ms) g.common.offers_told (hung.offered ∙ noted.offered ∙ gave.offered);
-          unborn = λ t past. g.common.unborn t (let after : book3.arrivals < t = past in omega (arith, new, arrivals, gave.arrivals));
+              (tells-more book.history book1.history (entry.Given (event.Arrive c) ∷ []) (external b ms) g.common.told gave.history) noted.history) hung.history) forgot.entered.history;
+          offers_told = tells-same book.offered book4.offered (offered_lengths b ms) g.common.offers_told (forgot.entered.offered ∙ hung.offered ∙ noted.offered ∙ gave.offered);
+          unborn = λ t past. g.common.unborn t (let after : book4.arrivals < t = past in omega (arith, new, arrivals, gave.arrivals));
           jobless = g.common.jobless;
           no_socket = λ n. same.sockets n ∙ g.common.no_socket n;
           asides = same.asides g.common.asides;
@@ -196,10 +198,3 @@ module _ {J S : Type 0} (b : Behavior J) (st : S → List (LocalAction J) → Ty
           present = g.common.present;
         };
       }
-
-  -- and nothing of the connection is kept
-  pub stands-turned-away : (book1 book2 book3 book4 : Book) (back : Option Entry) → Gave book book1 (event.Arrive c) → b.connections ≤ h.connections
-      → Notes (entry.Turned c) back book1 book2 → HangsUp (id.Conn c) book2 book3 → Forgets (strand.Conn c) book3 book4
-      → Standing b st h book4 (TurnedAway c ∷ ms)
-  stands-turned-away book1 book2 book3 book4 back gave full noted hung forgot =
-      standing-forgets b st c h book3 book4 (TurnedAway c ∷ ms) (stands-turned book1 book2 book3 back gave full noted hung) (ap lives unseen) forgot

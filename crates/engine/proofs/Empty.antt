@@ -1,5 +1,6 @@
 -- The execution in which nothing happens.
 use Rattle.std.proofs.Common.{◌≡◌, true, false, refl, []}
+use Rattle.resty_base.specs.declared.names.Id.TheVariants as id
 use Rattle.resty_world.specs.Book.{Book}
 use Rattle.strand_contract.specs.Behaviors.{Behavior}
 use Rattle.strand_contract.specs.Order.{none}
@@ -19,5 +20,6 @@ fresh-right b book fresh = record {
   kept = (tt, λ s on. absurd (let e : false ≡ true = on in cc));
   plain = tt;
   aside = fresh.none_aside;
+  forgotten = λ c off. fresh.none_ended (id.Conn c);
   ordered = record { runs = none; offered = none; turns = tt };
 }

@@ -1,6 +1,6 @@
 -- What a world gives where all strands are at rest: what is known of them there, and the turns that it begins.
 use Rattle.engine.specs.declared.engine.Ending.TheVariants as stop
-use Rattle.std.proofs.Common.{◌≡◌, ℕ, ◌<◌, ◌≤◌, Bool, true, false, ◌==◌, List, [], ◌∷◌, ◌++◌, length, Option, Some, None, if◌then◌else◌, refl, sym, ap, subst, ◌∙◌, append_assoc, append-nil, arith}
+use Rattle.std.proofs.Common.{◌≡◌, ℕ, true, false, ◌==◌, List, [], ◌∷◌, Some, None, if◌then◌else◌, refl, sym, ap, subst, ◌∙◌, append-nil, arith}
 use Rattle.resty_base.specs.declared.names.Id.{Id}
 use Rattle.resty_base.specs.declared.names.Id.TheVariants as id
 use Rattle.resty_base.specs.declared.names.StrandId.{StrandId}
@@ -15,18 +15,18 @@ use Rattle.strand_contract.specs.declared.turns.Place.{Place}
 use Rattle.strand_contract.specs.declared.turns.Place.TheVariants as place
 use Rattle.strand_contract.specs.declared.turns.Seen.{Seen}
 use Rattle.strand_contract.specs.declared.turns.Seen.TheVariants as seen
-use Rattle.strand_contract.specs.Actions.{Action, LocalAction, Did, GlobalAction, Of, Came, Ended, Broke, TakesAgain}
+use Rattle.strand_contract.specs.Actions.{LocalAction, Did, GlobalAction, Of}
 use Rattle.strand_contract.specs.Behaviors.{Behavior}
 use Rattle.strand_contract.specs.Alone.{lives, moment, is_open, has_ended, left_by, waiting, run_by, to_offer, offered_by, begun_offer, in_offers, is_stopping, IsExecution, HasNoWork, KeepsNothingBack, IsGivenAt}
 use Rattle.strand_contract.specs.Executions.{projection, external, offered_lengths, AllQuiescent, NoneHoldsBack}
 use Rattle.strand_contract.specs.Laws.{action_of, IsLastAct}
-use Rattle.strand_contract.specs.Order.{only, run_of, offer_of, all_run, all_offered, offers_last}
+use Rattle.strand_contract.specs.Order.{only, run_of, offer_of, offers_last}
 use Rattle.engine.specs.declared.engine.Seat.{Seat}
 use Rattle.engine.specs.Engine.{shown}
 use Rattle.engine.specs.Right.{Tells, IsFresh, IsRight}
-use Rattle.engine.specs.Standing.{Held, is_to_end, Share, share_of, Said, said_of, Fit, HasAsides, Turn, Standing}
+use Rattle.engine.specs.Standing.{Held, is_to_end, HasAsides, Turn, Standing}
 use Rattle.engine.proofs.Lists.{by_test, clash, same-true, tells-more, tells-same, sub-same}
-use Rattle.engine.proofs.Marks.{SameBook, gave-asides, MayCome}
+use Rattle.engine.proofs.Marks.{gave-asides, MayCome}
 use Rattle.engine.proofs.Turns.{seat-lives, seat-fits, around-leave, turn-next, no-job}
 
 -- where nothing has happened, and no strand has a seat
@@ -38,6 +38,7 @@ fresh-stands b st h book fresh seats run_queue offer_queue now count = record {
   closed = λ t gone. fresh.none_open (id.Conn t);
   shut = λ t gone q. refl;
   aside = λ s. fresh.none_aside s;
+  forgotten = λ t gone. fresh.none_ended (id.Conn t);
   flip_to_runs = λ run on. absurd (let e : false ≡ true = on in cc);
   flip_to_offers = λ offer off. run_queue;
   common = record {
@@ -103,6 +104,7 @@ module _ {J S : Type 0} (b : Behavior J) (st : S → List (LocalAction J) → Ty
       kept = (g.common.kept, none-holds);
       plain = g.common.plain;
       aside = g.aside;
+      forgotten = g.forgotten;
       ordered = record {
         runs = rw (run_queue, append-nil) at g.common.runs;
         offered = rw (offer_queue, append-nil) at g.common.offered;
@@ -141,7 +143,7 @@ module _ {J S : Type 0} (b : Behavior J) (st : S → List (LocalAction J) → Ty
           → Tells book'.history (external b (Of (strand.Conn c) (action_of b (projection (strand.Conn c) ms) given) None ∷ ms))
           → Tells book'.offered (offered_lengths b (Of (strand.Conn c) (action_of b (projection (strand.Conn c) ms) given) None ∷ ms))
           → Turn b st c x.strand given false x.is_open h' book' ms
-      turn-event given may live opens no_use no_run no_offer line list kind offer time stopping more last ids aside own_aside ended arrivals told offers_told =
+      turn-event given may live opens no_use no_run no_offer threads list kind offer time stopping more last ids aside own_aside ended arrivals told offers_told =
           let alive : lives (projection (strand.Conn c) ms) ≡ true = seat-lives b st c ms h book x g here in
           let mine = g.each c alive in
           let fits = seat-fits b st c ms h book x g here in
@@ -155,7 +157,7 @@ module _ {J S : Type 0} (b : Behavior J) (st : S → List (LocalAction J) → Ty
           (record {
             done = mine.no_act;
             no_use = no_use;
-            threads = line ∙ mine.threads ∙ sym (ap (only (strand.Conn c)) runs_same);
+            threads = threads ∙ mine.threads ∙ sym (ap (only (strand.Conn c)) runs_same);
             offered = list ∙ mine.offered ∙ sym (ap (only (strand.Conn c)) offers_same);
             deadlines = mine.no_deadline;
             kind = kind ∙ sym (phase ∙ running);

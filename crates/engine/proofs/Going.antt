@@ -1,7 +1,6 @@
 -- A world some calls later, of which no event was asked.
-use Rattle.std.proofs.Common.{◌≡◌, ℕ, Bool, true, false, List, [], ◌∷◌, ◌++◌, Option, Some, None, IfSome, refl, ap, sym, ◌∙◌, arith}
+use Rattle.std.proofs.Common.{◌≡◌, ℕ, Bool, true, false, List, [], ◌∷◌, ◌++◌, Option, Some, None, IfSome, refl, ap, sym, ◌∙◌}
 use Rattle.std.specs.Option.{option_map}
-use Rattle.resty_base.specs.Counting.{Rose, RoseWhere}
 use Rattle.resty_base.specs.declared.names.Id.{Id}
 use Rattle.resty_base.specs.declared.names.StrandId.{StrandId}
 use Rattle.resty_world.specs.declared.entry.Entry.{Entry}
@@ -12,7 +11,7 @@ use Rattle.resty_world.specs.declared.answers.Logged.{Logged as LogAnswer}
 use Rattle.resty_world.specs.declared.answers.Logged.TheVariants as logged
 use Rattle.resty_world.specs.Book.{Book, told}
 use Rattle.resty_world.specs.Contract.{Forgets}
-use Rattle.resty_world.specs.Calls.{wrote_entry, log_entry, log_failed}
+use Rattle.resty_world.specs.Calls.{wrote_entry, log_entry}
 use Rattle.engine.specs.Right.{events_of, HasFailedLog}
 use Rattle.engine.proofs.Lists.{told-nothing}
 use Rattle.engine.specs.Engine.{Logs, Worked}

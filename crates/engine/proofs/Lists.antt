@@ -1,11 +1,11 @@
 -- Tests of names, and offers_same with some left out.
-use Rattle.std.proofs.Common.{◌≡◌, ℕ, Bool, true, false, ◌==◌, List, [], ◌∷◌, ◌++◌, Option, Some, None, if◌then◌else◌, refl, ap, sym, ◌∙◌, append-nil, append_assoc}
+use Rattle.std.proofs.Common.{◌≡◌, ℕ, Bool, true, false, ◌==◌, List, [], ◌∷◌, ◌++◌, Option, Some, None, if◌then◌else◌, refl, ap, sym, ◌∙◌, append-nil}
 use Rattle.std.proofs.lemmas.Bool.{eq-eqb}
 use Rattle.resty_base.specs.declared.names.StrandId.{StrandId}
 use Rattle.resty_base.specs.declared.names.StrandId.TheVariants as strand
 use Rattle.resty_world.specs.Ids.{same_strand}
 use Rattle.resty_world.specs.Book.{told}
-use Rattle.strand_contract.specs.Order.{IsSubsequence, none, keep, skip, with_strand, only}
+use Rattle.strand_contract.specs.Order.{IsSubsequence, none, keep, skip, only}
 use Rattle.engine.specs.Right.{Tells}
 
 -- both outcomes of a test

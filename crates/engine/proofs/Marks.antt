@@ -1,5 +1,5 @@
 -- How an execution goes on, action by action, with one strand out of its seat.
-use Rattle.std.proofs.Common.{◌≡◌, ℕ, ◌+◌, ◌<◌, ◌≤◌, Bool, true, false, not, ◌||◌, ◌&&◌, ◌==◌, List, [], ◌∷◌, ◌++◌, Option, Some, None, if◌then◌else◌, refl, sym, ap, subst, ◌∙◌, append_assoc, append-nil, arith}
+use Rattle.std.proofs.Common.{◌≡◌, ℕ, ◌<◌, ◌≤◌, Bool, true, false, not, ◌||◌, ◌&&◌, ◌==◌, List, [], ◌∷◌, ◌++◌, Option, None, if◌then◌else◌, refl, sym, ap, subst, ◌∙◌, arith}
 use Rattle.std.proofs.lemmas.Bool.{eqb-true}
 use Rattle.std.proofs.lemmas.Bool.Decides.{nat_tests}
 use Rattle.resty_base.specs.declared.names.Id.{Id}
@@ -16,17 +16,16 @@ use Rattle.resty_world.specs.Given.{Gave, arrives}
 use Rattle.resty_world.specs.Ids.{same_id, same_strand, is_own}
 use Rattle.strand_contract.specs.declared.turns.Place.{Place}
 use Rattle.strand_contract.specs.declared.turns.Place.TheVariants as place
-use Rattle.strand_contract.specs.declared.turns.Act.{Act}
 use Rattle.strand_contract.specs.Actions.{Action, LocalAction, Did, GlobalAction, Of, Due, is_given}
 use Rattle.strand_contract.specs.Behaviors.{Behavior}
-use Rattle.strand_contract.specs.Alone.{lives, moment, is_open, has_ended, todo, carried, left_by, waiting, lined_up, run_by, to_offer, offers, offered_by, armed, armed_by, taken_by, offering, begun_offer, in_offers, is_stopping, Enabled, IsExecution}
-use Rattle.strand_contract.specs.Executions.{projection, external, offered_lengths, present, open_connections, BeginsRight, IsGivenAtRest, HeldNothingBack, IsPlain}
+use Rattle.strand_contract.specs.Alone.{lives, moment, is_open, has_ended, todo, left_by, waiting, lined_up, run_by, to_offer, offers, offered_by, armed, armed_by, taken_by, begun_offer, in_offers, is_stopping, Enabled, IsExecution}
+use Rattle.strand_contract.specs.Executions.{projection, external, offered_lengths, open_connections, BeginsRight, IsGivenAtRest, HeldNothingBack, IsPlain}
 use Rattle.strand_contract.specs.Laws.{IsLastAct}
-use Rattle.strand_contract.specs.Order.{IsSubsequence, with_strand, only, readied, run_of, offer_of, all_readied, all_run, all_placed, all_offered, offers_last, was_touched, TurnsInOrder}
+use Rattle.strand_contract.specs.Order.{IsSubsequence, with_strand, only, readied, all_readied, all_run, all_placed, all_offered, offers_last, was_touched, TurnsInOrder}
 use Rattle.engine.specs.declared.engine.Seat.{Seat}
 use Rattle.engine.specs.Right.{Tells}
-use Rattle.engine.specs.Standing.{Held, is_to_end, Share, share_of, Said, said_of, Fit, HasAsides, Common, Around, Near, IsOffer}
-use Rattle.engine.proofs.Lists.{by_test, clash, same-true, sub-more, sub-through, sub-front}
+use Rattle.engine.specs.Standing.{Held, is_to_end, Fit, HasAsides, Common, Around, Near, IsOffer}
+use Rattle.engine.proofs.Lists.{same-true}
 
 pub projection-same : {J : Type 0} (c : ℕ) (x : Action J) (n : Option ℕ) (ms : List (GlobalAction J)) → projection (strand.Conn c) (Of (strand.Conn c) x n ∷ ms) ≡ Did x ∷ projection (strand.Conn c) ms
 projection-same c x n ms = ap (λ b. if b then Did x ∷ projection (strand.Conn c) ms else projection (strand.Conn c) ms) (same-true c)
@@ -125,6 +124,9 @@ same-forgot c {book = book} f = record {
   sockets = λ n. f.is_open (id.Sock n);
   asides = λ a x on. f.id_aside x ∙ a x (sym (f.is_open x) ∙ on);
 }
+
+pub forgot-ended : (c : ℕ) {book book' : Book} → Forgets (strand.Conn c) book book' → book'.has_ended (id.Conn c) ≡ false
+forgot-ended c {book = book} f = f.has_ended (id.Conn c) ∙ ap (λ v. if v then false else book.has_ended (id.Conn c)) (same-true c)
 
 pub forgot-aside : (c : ℕ) {book book' : Book} → Forgets (strand.Conn c) book book' → book'.strand_aside (strand.Conn c) ≡ false
 forgot-aside c {book = book} f = f.strand_aside (strand.Conn c) ∙ ap (λ v. if v then false else book.strand_aside (strand.Conn c)) (same-true c)
@@ -233,6 +235,7 @@ module _ {J S : Type 0} (b : Behavior J) (st : S → List (LocalAction J) → Ty
     closed = λ t ne gone. sb.is_open t ne ∙ a.closed t ne (sym (ap lives (projection-other t c x None ms ne)) ∙ gone);
     shut = λ t ne gone q. let same = projection-other t c x None ms ne in ap (is_open q) same ∙ a.shut t ne (sym (ap lives same) ∙ gone) q;
     aside = λ s ne. sb.strand_aside s ne ∙ a.aside s ne ∙ sym (ap lives (projection-out s c x None ms ne));
+    forgotten = λ t ne gone. sb.has_ended t ne ∙ a.forgotten t ne (sym (ap lives (projection-other t c x None ms ne)) ∙ gone);
     out = out;
     arrived = born;
     alive = ap lives (projection-same c x None ms) ∙ alive;

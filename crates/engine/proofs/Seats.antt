@@ -1,24 +1,22 @@
 -- Strands that leave their seats, and come back to them.
-use Rattle.std.proofs.Common.{◌≡◌, ℕ, ◌<◌, ◌≤◌, Bool, true, false, ◌==◌, List, [], ◌∷◌, ◌++◌, Option, Some, None, if◌then◌else◌, refl, sym, ap, subst, ◌∙◌, append_assoc, append-nil, inl, inr, arith}
-use Rattle.std.proofs.lemmas.Bool.{eqb-true, cases_lt}
-use Rattle.resty_base.specs.declared.names.Id.TheVariants as id
+use Rattle.std.proofs.Common.{◌≡◌, ℕ, Bool, true, false, ◌==◌, List, [], Option, Some, None, if◌then◌else◌, refl, sym, ap, subst, ◌∙◌, append-nil}
+use Rattle.std.proofs.lemmas.Bool.{eqb-true}
 use Rattle.resty_base.specs.declared.names.StrandId.{StrandId}
 use Rattle.resty_base.specs.declared.names.StrandId.TheVariants as strand
 use Rattle.resty_world.specs.Book.{Book}
 use Rattle.resty_world.specs.Ids.{same_strand}
 use Rattle.strand_contract.specs.declared.turns.Place.{Place}
 use Rattle.strand_contract.specs.declared.turns.Place.TheVariants as place
-use Rattle.strand_contract.specs.declared.turns.Act.{Act}
 use Rattle.strand_contract.specs.Actions.{LocalAction, GlobalAction}
 use Rattle.strand_contract.specs.Behaviors.{Behavior}
-use Rattle.strand_contract.specs.Alone.{lives, is_open, waiting, to_offer, armed, offering, going_on, begun_offer, in_offers}
+use Rattle.strand_contract.specs.Alone.{lives, offering, going_on, begun_offer}
 use Rattle.strand_contract.specs.Executions.{projection}
-use Rattle.strand_contract.specs.Order.{IsSubsequence, only, all_run, all_readied, all_offered, all_placed, offers_last}
+use Rattle.strand_contract.specs.Order.{only}
 use Rattle.engine.specs.declared.engine.Engine.{Engine}
 use Rattle.engine.specs.declared.engine.Seat.{Seat}
-use Rattle.engine.specs.Engine.{view_of, IsBusy, IsDone}
-use Rattle.engine.specs.Standing.{Held, is_to_end, Share, share_of, Said, said_of, Fit, Common, Around, Near, Busy, Standing, Falls, IsOffer}
-use Rattle.engine.proofs.Lists.{by_test, clash, same-true, strand-true}
+use Rattle.engine.specs.Engine.{IsBusy, IsDone}
+use Rattle.engine.specs.Standing.{Held, share_of, said_of, Fit, Busy, Standing, Falls, IsOffer}
+use Rattle.engine.proofs.Lists.{by_test, clash, same-true}
 use Rattle.engine.proofs.Marks.{fit-same}
 use Rattle.engine.proofs.Acts.{aside-all}
 
@@ -65,6 +63,9 @@ module _ {J S : Type 0} (b : Behavior J) (st : S → List (LocalAction J) → Ty
             (λ e. clash a.alive (subst (λ (i : ℕ). lives (projection (strand.Conn i) ms) ≡ false) (eqb-true t c e) gone))
             (λ ne. a.shut t ne gone q);
         aside = aside-all c book ms a.aside (a.own_aside ∙ sym a.alive);
+        forgotten = λ t gone. by_test (t == c)
+            (λ e. clash a.alive (subst (λ (i : ℕ). lives (projection (strand.Conn i) ms) ≡ false) (eqb-true t c e) gone))
+            (λ ne. a.forgotten t ne gone);
         flip_to_runs = λ run on. clash on (n.last ∙ sym phase ∙ run);
         flip_to_offers = λ offer off. clash (n.last ∙ sym phase ∙ offer) off;
         common = record {
@@ -99,6 +100,7 @@ module _ {J S : Type 0} (b : Behavior J) (st : S → List (LocalAction J) → Ty
       closed = f.around.closed;
       shut = f.around.shut;
       aside = f.around.aside;
+      forgotten = f.around.forgotten;
       out = seats (strand.Conn c) ∙ f.around.out;
       arrived = f.around.arrived;
       alive = f.around.alive;
@@ -147,6 +149,7 @@ to-runs b st h h' book ms g nil held = rw held (record {
   closed = g.closed;
   shut = g.shut;
   aside = g.aside;
+  forgotten = g.forgotten;
   flip_to_runs = λ run on. nil;
   flip_to_offers = λ offer off. absurd (let e : false ≡ true = offer in cc);
   common = g.common;
@@ -174,6 +177,7 @@ to-offers b st h h' book ms g nil held = rw held (record {
   closed = g.closed;
   shut = g.shut;
   aside = g.aside;
+  forgotten = g.forgotten;
   flip_to_runs = λ run on. absurd (let e : true ≡ false = run in cc);
   flip_to_offers = λ offer off. nil;
   common = g.common;

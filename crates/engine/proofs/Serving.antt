@@ -1,14 +1,16 @@
--- What a world tells between two events, and at the end.
-use Rattle.std.proofs.Common.{◌≡◌, ◌⊎◌, ℕ, ◌+◌, Bool, true, false, List, [], ◌∷◌, ◌++◌, length, Option, Some, None, IfSome, if◌then◌else◌, refl, sym, ap, subst, ◌∙◌, inl, inr, arith}
+-- What a world reports between two events, and at the end.
+use Rattle.std.proofs.Common.{◌≡◌, ℕ, ◌+◌, Bool, true, false, List, [], ◌∷◌, length, Option, Some, None, IfSome, if◌then◌else◌, refl, sym, ap, subst, ◌∙◌, inl, inr, arith}
 use Rattle.std.specs.Option.{option_map}
-use Rattle.resty_base.specs.Counting.{Rose, RoseWhere}
+use Rattle.resty_base.specs.Counting.{RoseWhere}
+use Rattle.resty_base.specs.declared.names.Id.{Id}
+use Rattle.resty_base.specs.declared.names.Id.TheVariants as id
 use Rattle.resty_base.specs.declared.names.StrandId.{StrandId}
 use Rattle.resty_world.specs.declared.entry.Entry.{Entry}
 use Rattle.resty_world.specs.declared.entry.Entry.TheVariants as entry
 use Rattle.resty_world.specs.declared.event.Event.{Event}
 use Rattle.resty_world.specs.declared.event.Event.TheVariants as event
 use Rattle.resty_world.specs.Book.{Book, told}
-use Rattle.resty_world.specs.Given.{is_event, is_fault, given_entry, arrives_strand, Gave}
+use Rattle.resty_world.specs.Given.{is_event, is_fault, arrives, arrives_strand, ends, Gave}
 use Rattle.strand_contract.specs.Actions.{LocalAction}
 use Rattle.strand_contract.specs.Behaviors.{Behavior}
 use Rattle.strand_contract.specs.Alone.{lives, IsExecution, HasNoWork, KeepsNothingBack}
@@ -16,12 +18,12 @@ use Rattle.strand_contract.specs.Executions.{external, offered_lengths}
 use Rattle.engine.specs.declared.engine.Engine.{Engine}
 use Rattle.engine.specs.Stepping.{is_stop}
 use Rattle.engine.specs.Engine.{Rests}
-use Rattle.engine.specs.Right.{IsRight, IsFresh, Tells, events_of, IsStopped, HasNoStop, IsSpent, HasFailedLog, IsFaulted}
+use Rattle.engine.specs.Right.{IsRight, Tells, events_of, IsStopped, HasNoStop, IsSpent, HasFailedLog, IsFaulted}
 use Rattle.engine.proofs.Lists.{tells-same, told-nothing}
 use Rattle.engine.proofs.Events.{rests-right}
 
-pub right-same : {J : Type 0} (b : Behavior J) (old new : Book) → IsRight b old → new.history ≡ old.history → new.offered ≡ old.offered → ((s : StrandId) → new.strand_aside s ≡ old.strand_aside s) → IsRight b new
-right-same b old new r history offers asides = record {
+pub right-same : {J : Type 0} (b : Behavior J) (old new : Book) → IsRight b old → new.history ≡ old.history → new.offered ≡ old.offered → ((s : StrandId) → new.strand_aside s ≡ old.strand_aside s) → ((x : Id) → new.has_ended x ≡ old.has_ended x) → IsRight b new
+right-same b old new r history offers asides ended = record {
   execution = r.execution;
   history = tells-same old.history new.history (external b r.execution) r.history history;
   offered = tells-same old.offered new.offered (offered_lengths b r.execution) r.offered offers;
@@ -30,6 +32,7 @@ right-same b old new r history offers asides = record {
   plain = r.plain;
   ordered = r.ordered;
   aside = λ s. asides s ∙ r.aside s;
+  forgotten = λ c off. ended (id.Conn c) ∙ r.forgotten c off;
 }
 
 pub engine-right : {J S : Type 0} (b : Behavior J) (st : S → List (LocalAction J) → Type 0) (e : Engine S) (book : Book)
@@ -41,10 +44,18 @@ not-arrived : (e : Event) (s : StrandId) → is_event e ≡ false → arrives_st
 not-arrived (event.Arrive c) s h = absurd (let w : true ≡ false = h in cc)
 not-arrived e s h = refl
 
+not-ended : (e : Event) (x : Id) → is_event e ≡ false → (ended : Bool) → (if arrives e x then false else if ends e x then true else ended) ≡ ended
+not-ended event.Fault x h ended = refl
+not-ended (event.BadLine n) x h ended = refl
+not-ended event.Memory x h ended = refl
+not-ended e x h ended = absurd (let w : true ≡ false = h in cc)
+
 -- what wasn't given isn't told
 pub right-still : {J S : Type 0} (b : Behavior J) (st : S → List (LocalAction J) → Type 0) (e : Engine S) (old new : Book) (given : Event)
     → ((es : List (LocalAction J)) → IsExecution b es → lives es ≡ true → HasNoWork b es → KeepsNothingBack b es) → Rests b st e old → Gave old new given → is_event given ≡ false → IsRight b new
-right-still b st e old new given keeps r gave none = right-same b old new (engine-right b st e old keeps r) (gave.history ∙ ap (λ v. told (if v then entry.Given given ∷ [] else []) old.history) none ∙ told-nothing old.history) gave.offered (λ s. gave.strand_aside s ∙ ap (λ v. if v then true else old.strand_aside s) (not-arrived given s none))
+right-still b st e old new given keeps r gave none =
+    right-same b old new (engine-right b st e old keeps r)
+    (gave.history ∙ ap (λ v. told (if v then entry.Given given ∷ [] else []) old.history) none ∙ told-nothing old.history) gave.offered (λ s. gave.strand_aside s ∙ ap (λ v. if v then true else old.strand_aside s) (not-arrived given s none)) (λ x. gave.has_ended x ∙ not-ended given x none (old.has_ended x))
 
 pub stop-only : (e : Event) → is_stop e ≡ true → e ≡ event.Stop
 stop-only event.Stop h = refl

@@ -1,34 +1,31 @@
 -- How turns begin: a thread runs, a place is offered, a write is answered.
 use Rattle.engine.specs.declared.engine.Ending.TheVariants as stop
-use Rattle.std.proofs.Common.{◌≡◌, ◌⊎◌, ℕ, zero, suc, ◌+◌, ◌-◌, ◌%◌, ◌<◌, ◌≤◌, Bool, true, false, not, ◌||◌, ◌&&◌, ◌==◌, List, [], ◌∷◌, ◌++◌, take, drop, length, Option, Some, None, if◌then◌else◌, refl, sym, ap, subst, ◌∙◌, append_assoc, append-nil, inl, inr, arith, length-take}
+use Rattle.std.proofs.Common.{◌≡◌, ℕ, ◌<◌, ◌≤◌, Bool, true, false, ◌==◌, List, [], ◌∷◌, ◌++◌, drop, Some, None, if◌then◌else◌, refl, sym, ap, subst, ◌∙◌, append_assoc, append-nil, inl, inr, arith}
 use Rattle.std.proofs.lemmas.Bool.{eqb-true, cases_lt}
-use Rattle.std.proofs.lemmas.List.{take-append-drop}
 use Rattle.resty_base.specs.declared.names.Id.TheVariants as id
 use Rattle.resty_base.specs.declared.names.StrandId.{StrandId}
 use Rattle.resty_base.specs.declared.names.StrandId.TheVariants as strand
-use Rattle.resty_world.specs.declared.entry.Entry.{Entry}
-use Rattle.resty_world.specs.declared.entry.Entry.TheVariants as entry
-use Rattle.resty_world.specs.Book.{Book, KeepsIds, told}
+use Rattle.resty_world.specs.Book.{Book, told}
 use Rattle.resty_world.specs.Ids.{same_strand}
 use Rattle.strand_contract.specs.declared.turns.Place.{Place}
 use Rattle.strand_contract.specs.declared.turns.Place.TheVariants as place
 use Rattle.strand_contract.specs.declared.turns.Act.{Act}
 use Rattle.strand_contract.specs.declared.turns.Seen.{Seen}
 use Rattle.strand_contract.specs.declared.turns.Seen.TheVariants as seen
-use Rattle.strand_contract.specs.Actions.{Action, LocalAction, Did, GlobalAction, Of, Ran, Offered, Put, Later, Lost}
+use Rattle.strand_contract.specs.Actions.{Action, LocalAction, Did, GlobalAction, Of, Ran, Offered}
 use Rattle.strand_contract.specs.Behaviors.{Behavior}
-use Rattle.strand_contract.specs.Alone.{lives, moment, is_open, has_ended, todo, carried, left_by, waiting, run_by, to_offer, offers, offered_by, armed, due, offering, going_on, begun_offer, in_offers, is_stopping, piece, queued, taken, is_some_left, Enabled, IsExecution, IsBetween, IsPrefixOf, IsOfferedAt}
+use Rattle.strand_contract.specs.Alone.{lives, moment, is_open, has_ended, todo, waiting, to_offer, offers, armed, begun_offer, in_offers, is_stopping}
 use Rattle.strand_contract.specs.Executions.{projection, external, offered_lengths}
 use Rattle.strand_contract.specs.Laws.{action_of, is_still, IsLastAct}
-use Rattle.strand_contract.specs.Order.{IsSubsequence, none, keep, skip, with_strand, only, readied, run_of, offer_of, all_readied, all_run, all_placed, all_offered, offers_last, NoneUnderWay, NoPlaceInLine, NoThreadInLine, IsFirstWaiting, HasThreads, HasPlaces}
+use Rattle.strand_contract.specs.Order.{IsSubsequence, none, keep, skip, with_strand, only, readied, run_of, offer_of, all_readied, all_run, all_placed, all_offered, NoneUnderWay, NoPlaceInLine, NoThreadInLine, IsFirstWaiting, HasThreads, HasPlaces}
 use Rattle.engine.specs.declared.engine.Seat.{Seat}
 use Rattle.engine.specs.Right.{Tells}
-use Rattle.engine.specs.Standing.{Held, is_to_end, Share, share_of, Said, said_of, Fit, Common, Around, Near, Busy, Turn, Standing, Falls, IsOffer}
-use Rattle.engine.proofs.Lists.{by_test, clash, same-true, strand-true, sub-more, sub-through, sub-front, sub-without, tells-more, tells-same}
+use Rattle.engine.specs.Standing.{Held, is_to_end, Around, Busy, Turn, Standing, Falls, IsOffer}
+use Rattle.engine.proofs.Lists.{by_test, clash, same-true, sub-more, sub-through, sub-without}
 use Rattle.engine.proofs.Marks.{projection-same, touches, fit-same, SameHeld, SameBook, book-same, MayCome, common-next, around-next, Begins, near-begins}
-use Rattle.engine.proofs.Acts.{lines-still, near-falls, around-queues}
+use Rattle.engine.proofs.Acts.{queues-still}
 
--- where one comes after some that are left out of a list, it stands in it, before those behind it
+-- where one comes after some that are left out of a list, it stands in it, before those that come after it
 pub record Splits {A : Type 0} (x : A) (ys zs : List A) : Type 0 where
   pub before : List A
   pub after : List A
@@ -105,6 +102,7 @@ module _ {J S : Type 0} (b : Behavior J) (st : S → List (LocalAction J) → Ty
         closed = λ t ne gone. g.closed t gone;
         shut = λ t ne gone q. g.shut t gone q;
         aside = λ s ne. g.aside s;
+        forgotten = λ t ne gone. g.forgotten t gone;
         out = seats (strand.Conn c) ∙ ap (λ v. if v then None else h.seats (strand.Conn c)) (same-true c);
         arrived = lives-arrived book live g.common.unborn;
         alive = live;
@@ -163,7 +161,8 @@ module _ {J S : Type 0} (b : Behavior J) (st : S → List (LocalAction J) → Ty
         execution = (a.common.alone (strand.Conn c), may.enabled);
         near = near-begins b st c ms asks z go o' h' book'
             (around-next b st c ms z true true o o' h h' threads (h'.run_queue ++ with_strand (strand.Conn c) (readied (b.acts (Did z ∷ es)))) offer_queue (h'.offer_queue ++ with_strand (strand.Conn c) (offers (b.acts (Did z ∷ es)))) book book' a sh sb out live there client socks aside born
-            (rw sh.now (common-next b st c ms z threads (h'.run_queue ++ with_strand (strand.Conn c) (readied (b.acts (Did z ∷ es)))) offer_queue (h'.offer_queue ++ with_strand (strand.Conn c) (offers (b.acts (Did z ∷ es)))) h.now h.connections h'.connections book book' a.common may born (omega (arith, arrivals)) (λ n. sb.sockets n ∙ a.common.no_socket n) (sb.asides a.common.asides) told offers_told
+            (rw sh.now (common-next b st c ms z threads (h'.run_queue ++ with_strand (strand.Conn c) (readied (b.acts (Did z ∷ es)))) offer_queue (h'.offer_queue ++ with_strand (strand.Conn c) (offers (b.acts (Did z ∷ es)))) h.now h.connections h'.connections
+            book book' a.common may born (omega (arith, arrivals)) (λ n. sb.sockets n ∙ a.common.no_socket n) (sb.asides a.common.asides) told offers_told
             (turn-queues (strand.Conn c) (all_run ms) h'.run_queue (all_readied b ms) (run_of z) (readied (b.acts (Did z ∷ es))) runs)
             (turn-queues (strand.Conn c) (all_offered ms) h'.offer_queue (all_placed b ms) (offer_of z) (offers (b.acts (Did z ∷ es))) list))))
             begins;
@@ -212,7 +211,7 @@ module _ {J S : Type 0} (b : Behavior J) (st : S → List (LocalAction J) → Ty
       waits (strand.Conn t) xs w after r = rw (w.1, (g.each t w.0).offered, now) (only-sub (strand.Conn t) (keep {x = (strand.Conn c, q)} r))
       waits (strand.Job n) xs w after r = absurd (no-job n ms (g.common.jobless n) w.0)
 
-  -- the front of a line is of a strand that has no seat
+  -- the front of a queue is of a strand that has no seat
   pub skip-run : (h' : Held S) (s : StrandId) (k : ℕ) (rest : List (StrandId × ℕ)) → h.run_queue ≡ (s, k) ∷ rest → h.seats s ≡ None
       → ((t : StrandId) → h'.seats t ≡ (if same_strand t s then None else h.seats t)) → h'.run_queue ≡ rest → h'.offer_queue ≡ h.offer_queue → h'.in_offers ≡ h.in_offers → h'.now ≡ h.now → h'.connections ≡ h.connections → h'.ending ≡ h.ending
       → Standing b st h' book ms
@@ -227,6 +226,7 @@ module _ {J S : Type 0} (b : Behavior J) (st : S → List (LocalAction J) → Ty
     closed = g.closed;
     shut = g.shut;
     aside = g.aside;
+    forgotten = g.forgotten;
     flip_to_runs = λ run on. offer_queue ∙ g.flip_to_runs (sym phase ∙ run) on;
     flip_to_offers = λ offer off. absurd (let e : (s, k) ∷ rest ≡ [] = sym front ∙ g.flip_to_offers (sym phase ∙ offer) off in cc);
     common = record {
@@ -267,6 +267,7 @@ module _ {J S : Type 0} (b : Behavior J) (st : S → List (LocalAction J) → Ty
     closed = g.closed;
     shut = g.shut;
     aside = g.aside;
+    forgotten = g.forgotten;
     flip_to_runs = λ run on. absurd (let e : (s, q) ∷ rest ≡ [] = sym front ∙ g.flip_to_runs (sym phase ∙ run) on in cc);
     flip_to_offers = λ offer off. run_queue ∙ g.flip_to_offers (sym phase ∙ offer) off;
     common = record {
@@ -304,7 +305,7 @@ module _ {J S : Type 0} (b : Behavior J) (st : S → List (LocalAction J) → Ty
       let live : lives es ≡ true = seat-lives b st c ms h book x g here in
       let mine = g.each c live in
       let fits = seat-fits b st c ms h book x g here in
-      let line : waiting b es ≡ k ∷ only (strand.Conn c) rest = mine.threads ∙ ap (only (strand.Conn c)) front ∙ ap (λ v. if v then k ∷ only (strand.Conn c) rest else only (strand.Conn c) rest) (same-true c) in
+      let ahead : waiting b es ≡ k ∷ only (strand.Conn c) rest = mine.threads ∙ ap (only (strand.Conn c)) front ∙ ap (λ v. if v then k ∷ only (strand.Conn c) rest else only (strand.Conn c) rest) (same-true c) in
       let out : h'.seats (strand.Conn c) ≡ None = seats (strand.Conn c) ∙ ap (λ v. if v then None else h.seats (strand.Conn c)) (same-true c) in
       let a = around-leave b st c ms h h' rest h.offer_queue book x g here seats
       (λ t ne. ap (only (strand.Conn t)) run_queue ∙ sym (ap (only (strand.Conn t)) front ∙ ap (λ v. if v then k ∷ only (strand.Conn t) rest else only (strand.Conn t) rest) ne)) (λ t ne. ap (only (strand.Conn t)) offer_queue) phase now count (λ t ne alive. ap (λ o. is_to_end o t) ends)
@@ -312,7 +313,7 @@ module _ {J S : Type 0} (b : Behavior J) (st : S → List (LocalAction J) → Ty
       turn-next b st c ms asks (seen.Run k) x.strand false x.is_open x.is_open h' h' rest h.offer_queue book book a fits.0 (mine.moment ∙ sym now)
       (record { seats = λ t ne. refl; run_queue = λ t ne. refl; offer_queue = λ t ne. refl; in_offers = refl; now = refl; ends = λ t ne. refl }) (book-same c book) out
       (record {
-        enabled = (record { living = live; no_act = mine.no_act; no_offer = mine.no_offer }, (only (strand.Conn c) rest, sym line), (λ on. mine.offered ∙ (mine.runs_first running on)), (rw mine.no_deadline refl), (mine.stopping ∙ ap (λ o. is_to_end o c) no_end));
+        enabled = (record { living = live; no_act = mine.no_act; no_offer = mine.no_offer }, (only (strand.Conn c) rest, sym ahead), (λ on. mine.offered ∙ (mine.runs_first running on)), (rw mine.no_deadline refl), (mine.stopping ∙ ap (λ o. is_to_end o c) no_end));
         begins = g.common.begins;
         given = (g.common.given, λ e. absurd (let w : false ≡ true = e in cc));
         kept = (g.common.kept, λ e. absurd (let w : false ≡ true = e in cc));
@@ -324,7 +325,7 @@ module _ {J S : Type 0} (b : Behavior J) (st : S → List (LocalAction J) → Ty
       (record {
         done = mine.no_act;
         no_use = refl;
-        threads = ap (drop 1) line ∙ sym (ap (only (strand.Conn c)) run_queue);
+        threads = ap (drop 1) ahead ∙ sym (ap (only (strand.Conn c)) run_queue);
         offered = mine.offered ∙ sym (ap (only (strand.Conn c)) offer_queue);
         deadlines = mine.no_deadline;
         kind = sym (phase ∙ running);
@@ -348,7 +349,7 @@ module _ {J S : Type 0} (b : Behavior J) (st : S → List (LocalAction J) → Ty
       let mine = g.each c live in
       let fits = seat-fits b st c ms h book x g here in
       let none : b.acts (Did z ∷ es) ≡ [] = quiet (Did z) es refl in
-      let line : to_offer b es ≡ q ∷ only (strand.Conn c) rest = mine.offered ∙ ap (only (strand.Conn c)) front ∙ ap (λ v. if v then q ∷ only (strand.Conn c) rest else only (strand.Conn c) rest) (same-true c) in
+      let ahead : to_offer b es ≡ q ∷ only (strand.Conn c) rest = mine.offered ∙ ap (only (strand.Conn c)) front ∙ ap (λ v. if v then q ∷ only (strand.Conn c) rest else only (strand.Conn c) rest) (same-true c) in
       let out : h'.seats (strand.Conn c) ≡ None = seats (strand.Conn c) ∙ ap (λ v. if v then None else h.seats (strand.Conn c)) (same-true c) in
       let a = around-leave b st c ms h h' h.run_queue rest book x g here seats
       (λ t ne. ap (only (strand.Conn t)) run_queue) (λ t ne. ap (only (strand.Conn t)) offer_queue ∙ sym (ap (only (strand.Conn t)) front ∙ ap (λ v. if v then q ∷ only (strand.Conn t) rest else only (strand.Conn t) rest) ne)) phase now count (λ t ne alive. ap (λ o. is_to_end o t) ends)
@@ -357,7 +358,7 @@ module _ {J S : Type 0} (b : Behavior J) (st : S → List (LocalAction J) → Ty
       (record { seats = λ t ne. refl; run_queue = λ t ne. refl; offer_queue = λ t ne. refl; in_offers = refl; now = refl; ends = λ t ne. refl }) (book-same c book) out live (sym fits.1) (mine.client ∙ sym fits.1) mine.no_socket (g.aside (strand.Conn c) ∙ live) a.arrived
       (common-next b st c ms z h.run_queue h'.run_queue rest h'.offer_queue h'.now h'.connections h'.connections book book a.common
       (record {
-        enabled = (record { living = live; no_act = mine.no_act; no_offer = mine.no_offer }, (only (strand.Conn c) rest, sym line), (λ off. mine.threads ∙ (mine.offers_first running off)), (rw mine.no_deadline refl), (mine.stopping ∙ ap (λ o. is_to_end o c) no_end));
+        enabled = (record { living = live; no_act = mine.no_act; no_offer = mine.no_offer }, (only (strand.Conn c) rest, sym ahead), (λ off. mine.threads ∙ (mine.offers_first running off)), (rw mine.no_deadline refl), (mine.stopping ∙ ap (λ o. is_to_end o c) no_end));
         begins = g.common.begins;
         given = (g.common.given, λ e. absurd (let w : false ≡ true = e in cc));
         kept = (g.common.kept, λ e. absurd (let w : false ≡ true = e in cc));
@@ -365,7 +366,7 @@ module _ {J S : Type 0} (b : Behavior J) (st : S → List (LocalAction J) → Ty
         turns = (g.common.turns, between, (λ off. no-thread (g.flip_to_offers running off)), first-offer c q rest front);
         counts = g.common.count ∙ sym count;
       }) a.arrived (omega arith) g.common.no_socket g.common.asides g.common.told g.common.offers_told
-      (rw run_queue (lines-still (strand.Conn c) (all_run ms) h.run_queue (all_readied b ms) [] (readied (b.acts (Did z ∷ es))) refl (ap readied none) g.common.runs))
+      (rw run_queue (queues-still (strand.Conn c) (all_run ms) h.run_queue (all_readied b ms) [] (readied (b.acts (Did z ∷ es))) refl (ap readied none) g.common.runs))
       (rw offer_queue (offered-next (all_offered ms) (strand.Conn c, q) rest (all_placed b ms) (with_strand (strand.Conn c) (offers (b.acts (Did z ∷ es)))) (ap (with_strand (strand.Conn c)) (ap offers none)) (rw front at g.common.offered))))
     where
       offered-next : (xs : List (StrandId × Place)) (e : StrandId × Place) (l ys more : List (StrandId × Place)) → more ≡ [] → IsSubsequence (xs ++ e ∷ l) ys → IsSubsequence (xs ++ e ∷ [] ++ l) (ys ++ more)
@@ -381,7 +382,7 @@ module _ {J S : Type 0} (b : Behavior J) (st : S → List (LocalAction J) → Ty
     touched = touches c (Offered q) None ms;
   }
 
-  -- the client's line is offered
+  -- the client's connection is offered
   pub busy-offered : (still : (y : S) (a : LocalAction J) (es : List (LocalAction J)) → is_still a ≡ true → st y es → st y (a ∷ es)) (quiet : (a : LocalAction J) (es : List (LocalAction J)) → is_still a ≡ true → b.acts (a ∷ es) ≡ []) (c : ℕ) (rest : List (StrandId × Place)) (x : Seat S) (h' : Held S)
       → h.offer_queue ≡ (strand.Conn c, place.Client) ∷ rest → h.seats (strand.Conn c) ≡ Some x → h.in_offers ≡ true → h.ending ≡ stop.Over
       → ((t : StrandId) → h'.seats t ≡ (if same_strand t (strand.Conn c) then None else h.seats t)) → h'.offer_queue ≡ rest → h'.run_queue ≡ h.run_queue → h'.in_offers ≡ h.in_offers → h'.now ≡ h.now → h'.connections ≡ h.connections → h'.ending ≡ h.ending
@@ -394,14 +395,14 @@ module _ {J S : Type 0} (b : Behavior J) (st : S → List (LocalAction J) → Ty
       let fits = seat-fits b st c ms h book x g here in
       let none : b.acts (Did z ∷ es) ≡ [] = quiet (Did z) es refl in
       let own : projection (strand.Conn c) (Of (strand.Conn c) z None ∷ ms) ≡ Did z ∷ es = projection-same c z None ms in
-      let line : to_offer b es ≡ place.Client ∷ only (strand.Conn c) rest = mine.offered ∙ ap (only (strand.Conn c)) front ∙ ap (λ v. if v then place.Client ∷ only (strand.Conn c) rest else only (strand.Conn c) rest) (same-true c) in
+      let ahead : to_offer b es ≡ place.Client ∷ only (strand.Conn c) rest = mine.offered ∙ ap (only (strand.Conn c)) front ∙ ap (λ v. if v then place.Client ∷ only (strand.Conn c) rest else only (strand.Conn c) rest) (same-true c) in
       record {
         near = record {
           around = rw (append-nil, append-nil) (offer-around quiet c place.Client rest x h' front here running no_end seats offer_queue run_queue phase now count ends);
           to_do = ap (todo b) own ∙ (rw (none, mine.no_act) refl);
           last_act = tt;
           threads = sym (ap (waiting b) own ∙ (rw none (mine.threads ∙ sym (ap (only (strand.Conn c)) run_queue))));
-          offered = append-nil _ ∙ sym (ap (to_offer b) own ∙ (rw (none, line) (append-nil _ ∙ sym (ap (only (strand.Conn c)) offer_queue))));
+          offered = append-nil _ ∙ sym (ap (to_offer b) own ∙ (rw (none, ahead) (append-nil _ ∙ sym (ap (only (strand.Conn c)) offer_queue))));
           deadlines = sym (ap (armed b) own ∙ (rw (none, mine.no_deadline) refl));
           kind = ap in_offers own ∙ sym (phase ∙ running);
           offer = subst (λ (fs : List (LocalAction J)). IsOffer true x.is_open (begun_offer fs)) (sym own) refl;

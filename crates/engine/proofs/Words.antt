@@ -1,33 +1,26 @@
 -- What every living strand is told, and Stop, which ends them in the order of their beginning.
 use Rattle.engine.specs.declared.engine.Ending.{Ending}
 use Rattle.engine.specs.declared.engine.Ending.TheVariants as stop
-use Rattle.std.proofs.Common.{◌≡◌, ◌⊎◌, ℕ, ◌+◌, ◌-◌, ◌^◌, ◌<◌, ◌≤◌, nat_lt, max, Bool, true, false, ◌||◌, ◌==◌, List, [], ◌∷◌, ◌++◌, Option, Some, None, if◌then◌else◌, refl, sym, ap, subst, ◌∙◌, append_assoc, append-nil, inl, inr, arith}
+use Rattle.std.proofs.Common.{◌≡◌, ◌⊎◌, ℕ, ◌<◌, ◌≤◌, nat_lt, max, Bool, true, false, ◌==◌, List, [], ◌∷◌, Option, Some, None, if◌then◌else◌, refl, sym, ap, subst, ◌∙◌, append-nil, inl, inr, arith}
 use Rattle.std.proofs.lemmas.Bool.{eqb-true, cases_lt}
 use Rattle.std.proofs.lemmas.Bool.Decides.{nat_tests}
-use Rattle.resty_base.specs.declared.names.Id.{Id}
 use Rattle.resty_base.specs.declared.names.Id.TheVariants as id
 use Rattle.resty_base.specs.declared.names.StrandId.{StrandId}
 use Rattle.resty_base.specs.declared.names.StrandId.TheVariants as strand
-use Rattle.resty_world.specs.declared.entry.Entry.TheVariants as entry
-use Rattle.resty_world.specs.declared.event.Event.TheVariants as event
 use Rattle.resty_world.specs.Book.{Book, KeepsIds, told}
 use Rattle.resty_world.specs.Ids.{same_strand}
-use Rattle.strand_contract.specs.declared.turns.Place.{Place}
-use Rattle.strand_contract.specs.declared.turns.Place.TheVariants as place
-use Rattle.strand_contract.specs.declared.turns.Act.{Act}
 use Rattle.strand_contract.specs.declared.turns.Seen.TheVariants as seen
-use Rattle.strand_contract.specs.Actions.{Word, Moment, Stop, Action, LocalAction, Told, Did, GlobalAction, Of, Everyone, TurnedAway, IdleGave, IdleClosed, Began, Halted}
+use Rattle.strand_contract.specs.Actions.{Word, Moment, Stop, Action, LocalAction, Told, GlobalAction, Of, Everyone, TurnedAway, IdleGave, IdleClosed, Began, Halted}
 use Rattle.strand_contract.specs.Behaviors.{Behavior}
-use Rattle.strand_contract.specs.Alone.{lives, moment, is_open, has_ended, todo, waiting, to_offer, armed, offering, in_offers, is_stopping, IsExecution, HasNoWork, KeepsNothingBack}
-use Rattle.strand_contract.specs.Executions.{projection, external, offered_lengths, present, open_connections, BeginsRight, has_begun, word_entry}
+use Rattle.strand_contract.specs.Alone.{lives, moment, is_open, is_stopping, IsExecution, HasNoWork, KeepsNothingBack}
+use Rattle.strand_contract.specs.Executions.{projection, external, offered_lengths, present, BeginsRight, has_begun, word_entry}
 use Rattle.strand_contract.specs.Laws.{IsLastAct, is_still}
 use Rattle.strand_contract.specs.Order.{only, begun_before, IsFirstToEnd}
 use Rattle.engine.specs.declared.engine.Seat.{Seat}
-use Rattle.engine.specs.Right.{Tells}
 use Rattle.engine.specs.Slots.{is_after}
-use Rattle.engine.specs.Standing.{Held, is_to_end, Share, share_of, Said, said_of, Fit, Standing, Turn}
+use Rattle.engine.specs.Standing.{Held, is_to_end, said_of, Fit, Standing, Turn}
 use Rattle.engine.proofs.Lists.{by_test, clash, same-true, tells-more, tells-same}
-use Rattle.engine.proofs.Marks.{fit-same, SameBook, book-same, same-keeps, MayCome}
+use Rattle.engine.proofs.Marks.{fit-same, book-same, same-keeps}
 use Rattle.engine.proofs.Turns.{seat-lives, seat-fits, around-leave, turn-next, no-job, between}
 use Rattle.engine.proofs.Events.{at-rest, none-holds}
 
@@ -100,11 +93,13 @@ module _ {J S : Type 0} (b : Behavior J) (st : S → List (LocalAction J) → Ty
       (λ off. off) in
       record {
         each = λ t on. by_test (lives (projection (strand.Conn t) ms))
-            (λ live. fit-same (phase ∙ running) now (ap (λ o. is_to_end o t) ends) (heard (lives (projection (strand.Conn t) ms)) w (projection (strand.Conn t) ms) live) refl (ap (only (strand.Conn t)) (runs_same ∙ run_queue)) (ap (only (strand.Conn t)) (offers_same ∙ offer_queue)) (ids.is_open (id.Conn t)) (ids.has_ended (id.Conn t)) (fit-told t (h'.seats (strand.Conn t)) (seats (strand.Conn t)) live))
+            (λ live. fit-same (phase ∙ running) now (ap (λ o. is_to_end o t) ends) (heard (lives (projection (strand.Conn t) ms)) w (projection (strand.Conn t) ms) live) refl
+            (ap (only (strand.Conn t)) (runs_same ∙ run_queue)) (ap (only (strand.Conn t)) (offers_same ∙ offer_queue)) (ids.is_open (id.Conn t)) (ids.has_ended (id.Conn t)) (fit-told t (h'.seats (strand.Conn t)) (seats (strand.Conn t)) live))
             (λ gone. clash on (ap lives (unheard (lives (projection (strand.Conn t) ms)) w (projection (strand.Conn t) ms) gone) ∙ gone));
         dead = λ t gone. seats (strand.Conn t) ∙ g.dead t (lived t gone);
         closed = λ t gone. ids.is_open (id.Conn t) ∙ g.closed t (lived t gone);
         shut = λ t gone q. ap (is_open q) (unheard (lives (projection (strand.Conn t) ms)) w (projection (strand.Conn t) ms) (lived t gone)) ∙ g.shut t (lived t gone) q;
+        forgotten = λ t gone. ids.has_ended (id.Conn t) ∙ g.forgotten t (lived t gone);
         aside = λ s. ids.strand_aside s ∙ g.aside s ∙ sym (by_test (lives (projection s ms)) (λ live. ap lives (heard (lives (projection s ms)) w (projection s ms) live)) (λ gone. ap lives (unheard (lives (projection s ms)) w (projection s ms) gone)));
         flip_to_runs = λ run on. absurd (let e : false ≡ true = on in cc);
         flip_to_offers = λ offer off. runs_same ∙ run_queue;
@@ -165,6 +160,7 @@ module _ {J S : Type 0} (b : Behavior J) (st : S → List (LocalAction J) → Ty
     closed = g.closed;
     shut = g.shut;
     aside = g.aside;
+    forgotten = g.forgotten;
     flip_to_runs = g.flip_to_runs;
     flip_to_offers = g.flip_to_offers;
     common = g.common;

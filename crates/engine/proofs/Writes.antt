@@ -1,25 +1,24 @@
--- What a write to a client's line is answered.
-use Rattle.std.proofs.Common.{◌≡◌, ℕ, zero, suc, ◌+◌, ◌-◌, ◌%◌, ◌<◌, ◌≤◌, Bool, true, false, List, [], ◌∷◌, ◌++◌, take, drop, length, Option, Some, None, if◌then◌else◌, refl, sym, ap, ◌∙◌, append-nil, arith, length-take}
+-- What a write to a client's connection is answered.
+use Rattle.std.proofs.Common.{◌≡◌, ℕ, zero, suc, ◌-◌, ◌%◌, ◌<◌, ◌≤◌, Bool, true, false, List, [], ◌∷◌, take, drop, length, Option, Some, None, if◌then◌else◌, refl, sym, ◌∙◌, append-nil, arith, length-take}
 use Rattle.std.proofs.lemmas.List.{take-append-drop}
 use Rattle.resty_base.specs.declared.names.Id.TheVariants as id
 use Rattle.resty_base.specs.declared.names.StrandId.TheVariants as strand
-use Rattle.resty_world.specs.declared.entry.Entry.{Entry}
 use Rattle.resty_world.specs.declared.entry.Entry.TheVariants as entry
 use Rattle.resty_world.specs.Book.{Book, KeepsIds, told}
 use Rattle.strand_contract.specs.declared.turns.Place.{Place}
 use Rattle.strand_contract.specs.declared.turns.Place.TheVariants as place
 use Rattle.strand_contract.specs.declared.turns.Seen.{Seen}
 use Rattle.strand_contract.specs.declared.turns.Seen.TheVariants as seen
-use Rattle.strand_contract.specs.Actions.{Action, LocalAction, Did, GlobalAction, Of, Put, Later, Lost}
+use Rattle.strand_contract.specs.Actions.{LocalAction, Did, GlobalAction, Of}
 use Rattle.strand_contract.specs.Behaviors.{Behavior}
-use Rattle.strand_contract.specs.Alone.{lives, moment, is_open, has_ended, todo, left_by, waiting, run_by, to_offer, offered_by, armed, offering, going_on, begun_offer, in_offers, is_stopping, piece, queued, taken, is_some_left, Enabled, IsOfferedAt, IsPrefixOf}
-use Rattle.strand_contract.specs.Executions.{projection, external, offered_lengths, open_connections}
+use Rattle.strand_contract.specs.Alone.{lives, moment, is_open, has_ended, left_by, waiting, run_by, to_offer, offered_by, offering, going_on, begun_offer, in_offers, is_stopping, piece, queued, taken, is_some_left, IsOfferedAt}
+use Rattle.strand_contract.specs.Executions.{projection, external, offered_lengths}
 use Rattle.strand_contract.specs.Laws.{action_of, IsLastAct}
-use Rattle.strand_contract.specs.Order.{run_of, offer_of, all_run, all_readied, all_offered, all_placed, offers_last}
+use Rattle.strand_contract.specs.Order.{run_of, offer_of, offers_last}
 use Rattle.engine.specs.Right.{Tells}
 use Rattle.engine.specs.Standing.{Held, Busy, Turn, IsOffer}
 use Rattle.engine.proofs.Lists.{by_test, clash, tells-more}
-use Rattle.engine.proofs.Marks.{SameBook, same-keeps, MayCome, held-same, Begins}
+use Rattle.engine.proofs.Marks.{same-keeps, MayCome, held-same}
 use Rattle.engine.proofs.Turns.{turn-next}
 
 some-left : (q : List ℕ) → 0 < length q → is_some_left q ≡ true
@@ -35,7 +34,7 @@ piece-queued b q es h = let n = length-take (16_384 - taken q es % 16_384) (queu
 pub queued-open : {J : Type 0} (b : Behavior J) (q : Place) (es : List (LocalAction J)) → 0 < length (queued b q es) → is_open q es ≡ true
 queued-open b q es h = by_test (is_open q es) (λ on. on) (λ off. absurd (let n : 0 < length (if false then drop (taken q es) (b.sent q es) else []) = rw off at h in omega arith))
 
--- a line of which something is queued is being offered
+-- a connection to which something is still to be sent is being offered
 pub is-offered : {J : Type 0} (b : Behavior J) (es : List (LocalAction J)) (o : Bool) → 0 < length (piece b place.Client es) → is_open place.Client es ≡ o → IsOffer true o (begun_offer es) → offering b es ≡ Some place.Client
 is-offered b es o some here h =
     let left : 0 < length (queued b place.Client es) = piece-queued b place.Client es some in
@@ -46,7 +45,7 @@ is-offered b es o some here h =
     by_place (Some place.Client) k on left = rw left refl
     by_place (Some (place.Sock j)) k on left = absurd k
 
--- a line of which nothing is queued isn't
+-- one to which nothing is to be sent isn't
 pub is-not-offered : {J : Type 0} (b : Behavior J) (es : List (LocalAction J)) (go o : Bool) → piece b place.Client es ≡ [] → IsOffer go o (begun_offer es) → offering b es ≡ None
 is-not-offered b es go o nil h = by_place (begun_offer es) h
   where
@@ -83,7 +82,7 @@ module _ {J S : Type 0} (b : Behavior J) (st : S → List (LocalAction J) → Ty
       → Tells book'.history (external b (Of (strand.Conn c) (action_of b (projection (strand.Conn c) ms) given) None ∷ ms))
       → Tells book'.offered (offered_lengths b (Of (strand.Conn c) (action_of b (projection (strand.Conn c) ms) given) None ∷ ms))
       → Turn b st c x given go o h book' ms
-  answered given go may live opens no_use no_run no_offer line list kind offer time stop more last told offers_told =
+  answered given go may live opens no_use no_run no_offer threads list kind offer time stop more last told offers_told =
       let a = y.near.around in
       turn-next b st c ms asks given x go o o h h _ _ book book' a y.stands y.near.moment (held-same c h)
       (same-keeps c ids) a.out may
@@ -92,7 +91,7 @@ module _ {J S : Type 0} (b : Behavior J) (st : S → List (LocalAction J) → Ty
       (record {
         done = y.near.to_do;
         no_use = no_use;
-        threads = line ∙ sym y.near.threads;
+        threads = threads ∙ sym y.near.threads;
         offered = list ∙ sym y.near.offered ∙ append-nil _;
         deadlines = sym y.near.deadlines;
         kind = kind ∙ y.near.kind;

@@ -1,5 +1,5 @@
 -- What the engine stands for, and what its calls take and give.
-use Rattle.std.specs.Prelude.{◌≡◌, ℕ, ◌+◌, Bool, true, false, List, [], ◌∷◌, length, Option, Some, None, IfSome}
+use Rattle.std.specs.Prelude.{◌≡◌, ℕ, ◌+◌, Bool, true, false, List, [], length, Option, Some, None, IfSome}
 use Rattle.std.specs.Option.{option_map}
 use Rattle.resty_base.specs.Counting.{Rose}
 use Rattle.resty_base.specs.declared.names.Id.{Id}
@@ -74,7 +74,7 @@ module _ {J S : Type 0} (b : Behavior J) (st : S → List (LocalAction J) → Ty
   abbrev pub IsCarried : ℕ → Seat S → List (Act J) → Bool → Engine S → Book → Carried → Type 0
   IsCarried c seat rest go e book carried.Done = IsBusy c seat rest go e book
   IsCarried c seat rest go e book carried.Over = Stands e book
-  IsCarried c seat rest go e book carried.Wanting = IsFalling c seat.is_open e book
+  IsCarried c seat rest go e book carried.Refused = IsFalling c seat.is_open e book
 
 -- the same turns go on: threads run, or places are offered, and the same strands are still to be ended
 abbrev pub KeepsPhase : {S : Type 0} → Engine S → Engine S → Type 0

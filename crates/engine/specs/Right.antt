@@ -1,8 +1,10 @@
--- What a world that was served tells.
+-- What a world that was served reports.
 use Rattle.std.specs.Prelude.{◌≡◌, ◌⊎◌, ℕ, false, List, [], ◌∷◌, length, Option, Some, None, IfSome}
 use Rattle.resty_base.specs.Counting.{Rose}
 use Rattle.resty_base.specs.declared.names.Id.{Id}
+use Rattle.resty_base.specs.declared.names.Id.TheVariants as id
 use Rattle.resty_base.specs.declared.names.StrandId.{StrandId}
+use Rattle.resty_base.specs.declared.names.StrandId.TheVariants as strand
 use Rattle.resty_world.specs.declared.entry.Entry.{Entry}
 use Rattle.resty_world.specs.declared.entry.Entry.TheVariants as entry
 use Rattle.resty_world.specs.declared.event.Event.{Event}
@@ -17,7 +19,7 @@ use Rattle.strand_contract.specs.Order.{IsOrdered}
 use Rattle.engine.specs.declared.server.Ended.{Ended}
 use Rattle.engine.specs.declared.server.Ended.TheVariants as ended
 
--- what is told is this
+-- what is reported is this, where it is reported
 abbrev pub Tells : {A : Type 0} → Option (List A) → List A → Type 0
 Tells None xs = Unit {0}
 Tells (Some told) xs = told ≡ xs
@@ -29,10 +31,11 @@ pub record IsFresh (book : Book) : Type 0 where
   pub arrivals : book.arrivals ≡ 0
   pub dials : book.dials ≡ 0
   pub none_open : (x : Id) → book.is_open x ≡ false
+  pub none_ended : (x : Id) → book.has_ended x ≡ false
   pub none_aside : (s : StrandId) → book.strand_aside s ≡ false
 
 -- the world's history is that of one execution, which is lawful, kept, plain and ordered; room is set aside for the strands
--- that live, and for no other
+-- that live, and for no other, and of no other connection it is kept whether it ended
 pub record IsRight {J : Type 0} (b : Behavior J) (book : Book) : Type 0 where
   pub execution : List (GlobalAction J)
   pub history : Tells book.history (external b execution)
@@ -42,6 +45,7 @@ pub record IsRight {J : Type 0} (b : Behavior J) (book : Book) : Type 0 where
   pub plain : IsPlain b execution
   pub ordered : IsOrdered b execution
   pub aside : (s : StrandId) → book.strand_aside s ≡ lives (projection s execution)
+  pub forgotten : (c : ℕ) → lives (projection (strand.Conn c) execution) ≡ false → book.has_ended (id.Conn c) ≡ false
 
 -- the events that were given, the newest first
 abbrev pub events_of : List Entry → List Event
@@ -73,7 +77,7 @@ HasFailedLog (e ∷ h) = HasFailedLog h
 abbrev pub IsFaulted : List Entry → Type 0
 IsFaulted h = HasNoStop (events_of h) ⊎ HasFailedLog h
 
--- how serving ends: by Stop, once all events are given, by a fault, at a bad line, or for want of memory
+-- how serving ends: by Stop, once all events are given, by a fault, at a bad line, or out of memory
 abbrev pub EndsBy : ℕ → Book → Book → Ended → Type 0
 EndsBy events old new ended.Stopped = IfSome new.history IsStopped × (new.faults ≡ old.faults)
 EndsBy events old new (ended.Spent n) = (n ≡ events) × IfSome new.history (IsSpent events) × (new.faults ≡ old.faults)

@@ -1,5 +1,5 @@
 -- What the engine holds, against an execution.
-use Rattle.std.specs.Prelude.{◌≡◌, ℕ, ◌+◌, ◌<◌, ◌≤◌, Bool, true, false, ◌==◌, List, [], ◌∷◌, ◌++◌, Option, Some, None}
+use Rattle.std.specs.Prelude.{◌≡◌, ℕ, ◌<◌, ◌≤◌, Bool, true, false, ◌==◌, List, [], ◌∷◌, ◌++◌, Option, Some, None}
 use Rattle.resty_base.specs.declared.names.Id.{Id}
 use Rattle.resty_base.specs.declared.names.Id.TheVariants as id
 use Rattle.resty_base.specs.declared.names.StrandId.{StrandId}
@@ -10,12 +10,15 @@ use Rattle.strand_contract.specs.declared.turns.Place.{Place}
 use Rattle.strand_contract.specs.declared.turns.Place.TheVariants as place
 use Rattle.strand_contract.specs.declared.turns.Act.{Act}
 use Rattle.strand_contract.specs.declared.turns.Seen.{Seen}
-use Rattle.strand_contract.specs.Actions.{Action, LocalAction, Did, GlobalAction, Of}
+use Rattle.strand_contract.specs.Actions.{LocalAction, Did, GlobalAction, Of}
 use Rattle.strand_contract.specs.Behaviors.{Behavior}
-use Rattle.strand_contract.specs.Alone.{lives, moment, is_open, has_ended, todo, carried, waiting, lined_up, to_offer, offers, armed, armed_by, offering, begun_offer, in_offers, is_stopping, IsExecution}
-use Rattle.strand_contract.specs.Executions.{projection, external, offered_lengths, present, open_connections, BeginsRight, IsGivenAtRest, HeldNothingBack, IsPlain}
+use Rattle.strand_contract.specs.Alone.{lives, moment, is_open, has_ended, todo, carried, waiting, lined_up, to_offer, offers, armed, armed_by, offering}
+use Rattle.strand_contract.specs.Alone.{begun_offer, in_offers, is_stopping, IsExecution}
+use Rattle.strand_contract.specs.Executions.{projection, external, offered_lengths, present, open_connections, BeginsRight, IsGivenAtRest, HeldNothingBack}
+use Rattle.strand_contract.specs.Executions.{IsPlain}
 use Rattle.strand_contract.specs.Laws.{action_of, IsLastAct}
-use Rattle.strand_contract.specs.Order.{IsSubsequence, with_strand, only, readied, all_readied, all_run, all_placed, all_offered, offers_last, was_touched, TurnsInOrder}
+use Rattle.strand_contract.specs.Order.{IsSubsequence, with_strand, only, readied, all_readied, all_run, all_placed, all_offered, offers_last, was_touched}
+use Rattle.strand_contract.specs.Order.{TurnsInOrder}
 use Rattle.engine.specs.declared.engine.Ending.{Ending}
 use Rattle.engine.specs.declared.engine.Ending.TheVariants as stop
 use Rattle.engine.specs.declared.engine.Seat.{Seat}
@@ -67,33 +70,13 @@ pub record Said : Type 0 where
 abbrev pub said_of : ℕ → Book → Said
 said_of c book = record { is_open = book.is_open (id.Conn c); has_ended = book.has_ended (id.Conn c) }
 
--- a strand that lives, and what is held and told of it
-pub record Fit {J S : Type 0} (b : Behavior J) (st : S → List (LocalAction J) → Type 0) (own : Share S) (said : Said) (es : List (LocalAction J)) : Type 0 where
-  pub held : (x : Seat S) × (own.seat ≡ Some x) × st x.strand es × (x.is_open ≡ said.is_open)
-  pub no_act : todo b es ≡ []
-  pub threads : waiting b es ≡ own.threads
-  pub offered : to_offer b es ≡ own.places
-  pub no_offer : offering b es ≡ None
-  -- while threads run, a strand whose newest turn was an offer has no place in the queue, and the other way round
-  pub runs_first : own.in_offers ≡ false → in_offers es ≡ true → own.places ≡ []
-  pub offers_first : own.in_offers ≡ true → in_offers es ≡ false → own.threads ≡ []
-  pub moment : moment es ≡ own.now
-  pub no_deadline : armed b es ≡ []
-  pub no_socket : (k : ℕ) → is_open (place.Sock k) es ≡ false
-  pub stopping : is_stopping es ≡ own.to_end
-  pub client : is_open place.Client es ≡ said.is_open
-  pub no_more : has_ended place.Client es ≡ said.has_ended
-
--- the connection's strand fits, if it lives
-abbrev pub Fits : {J S : Type 0} → Behavior J → (S → List (LocalAction J) → Type 0) → Held S → Book → List (GlobalAction J) → ℕ → Type 0
-Fits b st h book ms c = lives (projection (strand.Conn c) ms) ≡ true → Fit b st (share_of c h) (said_of c book) (projection (strand.Conn c) ms)
-
 -- room is set aside for the closing of each id that is open
 abbrev pub HasAsides : Book → Type 0
 HasAsides book = (x : Id) → book.is_open x ≡ true → book.id_aside x ≡ true
 
 -- what doesn't speak of one strand. `next_runs` and `next_offers` are the turns that are to come
-pub record Common {J : Type 0} (b : Behavior J) (next_runs : List (StrandId × ℕ)) (next_offers : List (StrandId × Place)) (now connections : ℕ) (book : Book) (ms : List (GlobalAction J)) : Type 0 where
+pub record Common {J : Type 0} (b : Behavior J) (next_runs : List (StrandId × ℕ)) (next_offers : List (StrandId × Place)) (now connections : ℕ)
+    (book : Book) (ms : List (GlobalAction J)) : Type 0 where
   pub alone : (s : StrandId) → IsExecution b (projection s ms)
   pub begins : BeginsRight ms
   pub given : IsGivenAtRest b ms
@@ -111,72 +94,112 @@ pub record Common {J : Type 0} (b : Behavior J) (next_runs : List (StrandId × �
   pub count : open_connections ms ≡ connections
   pub present : present ms ≡ now
 
--- between two turns
-pub record Standing {J S : Type 0} (b : Behavior J) (st : S → List (LocalAction J) → Type 0) (h : Held S) (book : Book) (ms : List (GlobalAction J)) : Type 0 where
-  pub each : (t : ℕ) → Fits b st h book ms t
-  pub dead : (t : ℕ) → lives (projection (strand.Conn t) ms) ≡ false → h.seats (strand.Conn t) ≡ None
-  pub closed : (t : ℕ) → lives (projection (strand.Conn t) ms) ≡ false → book.is_open (id.Conn t) ≡ false
-  pub shut : (t : ℕ) → lives (projection (strand.Conn t) ms) ≡ false → (q : Place) → is_open q (projection (strand.Conn t) ms) ≡ false
-  -- room is set aside for the strands that live, and for no other
-  pub aside : (s : StrandId) → book.strand_aside s ≡ lives (projection s ms)
-  pub flip_to_runs : h.in_offers ≡ false → offers_last ms ≡ true → h.offer_queue ≡ []
-  pub flip_to_offers : h.in_offers ≡ true → offers_last ms ≡ false → h.run_queue ≡ []
-  pub common : Common b h.run_queue h.offer_queue h.now h.connections book ms
-
--- within a turn of the connection c's strand, which is out of its seat: what is known of the others. `al` says whether it lives, `opened`
--- whether its connection is open
-pub record Around {J S : Type 0} (b : Behavior J) (st : S → List (LocalAction J) → Type 0) (c : ℕ) (al opened : Bool) (h : Held S) (next_runs : List (StrandId × ℕ)) (next_offers : List (StrandId × Place)) (book : Book) (ms : List (GlobalAction J)) : Type 0 where
-  pub each : (t : ℕ) → (t == c) ≡ false → Fits b st h book ms t
-  pub dead : (t : ℕ) → (t == c) ≡ false → lives (projection (strand.Conn t) ms) ≡ false → h.seats (strand.Conn t) ≡ None
-  pub closed : (t : ℕ) → (t == c) ≡ false → lives (projection (strand.Conn t) ms) ≡ false → book.is_open (id.Conn t) ≡ false
-  pub shut : (t : ℕ) → (t == c) ≡ false → lives (projection (strand.Conn t) ms) ≡ false → (q : Place) → is_open q (projection (strand.Conn t) ms) ≡ false
-  pub aside : (s : StrandId) → same_strand s (strand.Conn c) ≡ false → book.strand_aside s ≡ lives (projection s ms)
-  pub out : h.seats (strand.Conn c) ≡ None
-  pub arrived : c ≤ book.arrivals
-  pub alive : lives (projection (strand.Conn c) ms) ≡ al
-  pub connection : book.is_open (id.Conn c) ≡ opened
-  pub client : is_open place.Client (projection (strand.Conn c) ms) ≡ opened
-  pub no_socket : (k : ℕ) → is_open (place.Sock k) (projection (strand.Conn c) ms) ≡ false
-  pub own_aside : book.strand_aside (strand.Conn c) ≡ al
-  pub common : Common b next_runs next_offers h.now h.connections book ms
-
 -- whether an offer of the client's connection goes on: `go` says that it may, `opened` that the connection is open
 abbrev pub IsOffer : Bool → Bool → Option Place → Type 0
 IsOffer go opened None = go ≡ true → opened ≡ false
 IsOffer go opened (Some place.Client) = go ≡ true
 IsOffer go opened (Some (place.Sock k)) = ⊥
 
--- within a turn of c's strand: these acts are still to be carried out
-pub record Near {J S : Type 0} (b : Behavior J) (st : S → List (LocalAction J) → Type 0) (c : ℕ) (acts : List (Act J)) (go opened : Bool) (h : Held S) (book : Book) (ms : List (GlobalAction J)) : Type 0 where
-  pub around : Around b st c true opened h (h.run_queue ++ with_strand (strand.Conn c) (readied acts)) (h.offer_queue ++ with_strand (strand.Conn c) (offers acts)) book ms
-  pub to_do : todo b (projection (strand.Conn c) ms) ≡ carried acts
-  pub last_act : IsLastAct acts
-  pub threads : lined_up acts (only (strand.Conn c) h.run_queue) ≡ waiting b (projection (strand.Conn c) ms)
-  pub offered : only (strand.Conn c) h.offer_queue ++ offers acts ≡ to_offer b (projection (strand.Conn c) ms)
-  pub deadlines : armed_by acts [] ≡ armed b (projection (strand.Conn c) ms)
-  pub kind : in_offers (projection (strand.Conn c) ms) ≡ h.in_offers
-  pub offer : IsOffer go opened (begun_offer (projection (strand.Conn c) ms))
-  pub moment : moment (projection (strand.Conn c) ms) ≡ h.now
-  pub stopping : is_stopping (projection (strand.Conn c) ms) ≡ false
-  pub no_more : has_ended place.Client (projection (strand.Conn c) ms) ≡ book.has_ended (id.Conn c)
-  pub not_to_end : is_to_end h.ending c ≡ false
-  pub last : offers_last ms ≡ h.in_offers
-  pub touched : was_touched (strand.Conn c) ms ≡ true
+-- the queues, with the threads and places of acts of c's strand that are still to be carried out
+abbrev pub runs_with : {J S : Type 0} → ℕ → List (Act J) → Held S → List (StrandId × ℕ)
+runs_with c acts h = h.run_queue ++ with_strand (strand.Conn c) (readied acts)
 
--- the same, and the strand stands for what happened to it
-pub record Busy {J S : Type 0} (b : Behavior J) (st : S → List (LocalAction J) → Type 0) (c : ℕ) (x : S) (acts : List (Act J)) (go opened : Bool) (h : Held S) (book : Book) (ms : List (GlobalAction J)) : Type 0 where
-  pub near : Near b st c acts go opened h book ms
-  pub stands : st x (projection (strand.Conn c) ms)
+abbrev pub offers_with : {J S : Type 0} → ℕ → List (Act J) → Held S → List (StrandId × Place)
+offers_with c acts h = h.offer_queue ++ with_strand (strand.Conn c) (offers acts)
 
--- c's strand is out of its seat, and is to be given up
-pub record Falls {J S : Type 0} (b : Behavior J) (st : S → List (LocalAction J) → Type 0) (c : ℕ) (opened : Bool) (h : Held S) (book : Book) (ms : List (GlobalAction J)) : Type 0 where
-  pub around : Around b st c true opened h h.run_queue h.offer_queue book ms
-  pub last : offers_last ms ≡ h.in_offers
-  pub touched : was_touched (strand.Conn c) ms ≡ true
+-- what happened to c's strand, and to all, once it is shown something
+abbrev pub local_turn : {J : Type 0} → Behavior J → ℕ → Seen → List (GlobalAction J) → List (LocalAction J)
+local_turn b c seen ms = Did (action_of b (projection (strand.Conn c) ms) seen) ∷ projection (strand.Conn c) ms
 
--- c's strand, out of its seat, is to be shown something: it stands for what happened before, and the turn may come
-pub record Turn {J S : Type 0} (b : Behavior J) (st : S → List (LocalAction J) → Type 0) (c : ℕ) (x : S) (seen : Seen) (go opened : Bool) (h : Held S) (book : Book) (ms : List (GlobalAction J)) : Type 0 where
-  pub stands : st x (projection (strand.Conn c) ms)
-  pub moment : moment (projection (strand.Conn c) ms) ≡ h.now
-  pub execution : IsExecution b (Did (action_of b (projection (strand.Conn c) ms) seen) ∷ projection (strand.Conn c) ms)
-  pub near : Near b st c (b.acts (Did (action_of b (projection (strand.Conn c) ms) seen) ∷ projection (strand.Conn c) ms)) go opened h book (Of (strand.Conn c) (action_of b (projection (strand.Conn c) ms) seen) None ∷ ms)
+abbrev pub global_turn : {J : Type 0} → Behavior J → ℕ → Seen → List (GlobalAction J) → List (GlobalAction J)
+global_turn b c seen ms = Of (strand.Conn c) (action_of b (projection (strand.Conn c) ms) seen) None ∷ ms
+
+-- what follows is of strands that do as `b` says; `st` says of which execution of its own a strand may be
+module _ {J S : Type 0} (b : Behavior J) (st : S → List (LocalAction J) → Type 0) where
+  -- a strand that lives, what is held of it, and what is said of its connection
+  pub record Fit (own : Share S) (said : Said) (es : List (LocalAction J)) : Type 0 where
+    pub held : (x : Seat S) × (own.seat ≡ Some x) × st x.strand es × (x.is_open ≡ said.is_open)
+    pub no_act : todo b es ≡ []
+    pub threads : waiting b es ≡ own.threads
+    pub offered : to_offer b es ≡ own.places
+    pub no_offer : offering b es ≡ None
+    -- while threads run, a strand whose newest turn was an offer has no place in the queue, and the other way round
+    pub runs_first : own.in_offers ≡ false → in_offers es ≡ true → own.places ≡ []
+    pub offers_first : own.in_offers ≡ true → in_offers es ≡ false → own.threads ≡ []
+    pub moment : moment es ≡ own.now
+    pub no_deadline : armed b es ≡ []
+    pub no_socket : (k : ℕ) → is_open (place.Sock k) es ≡ false
+    pub stopping : is_stopping es ≡ own.to_end
+    pub client : is_open place.Client es ≡ said.is_open
+    pub no_more : has_ended place.Client es ≡ said.has_ended
+
+  -- the connection's strand fits, if it lives
+  abbrev pub Fits : Held S → Book → List (GlobalAction J) → ℕ → Type 0
+  Fits h book ms c = lives (projection (strand.Conn c) ms) ≡ true → Fit (share_of c h) (said_of c book) (projection (strand.Conn c) ms)
+
+  -- between two turns
+  pub record Standing (h : Held S) (book : Book) (ms : List (GlobalAction J)) : Type 0 where
+    pub each : (t : ℕ) → Fits h book ms t
+    pub dead : (t : ℕ) → lives (projection (strand.Conn t) ms) ≡ false → h.seats (strand.Conn t) ≡ None
+    pub closed : (t : ℕ) → lives (projection (strand.Conn t) ms) ≡ false → book.is_open (id.Conn t) ≡ false
+    pub shut : (t : ℕ) → lives (projection (strand.Conn t) ms) ≡ false → (q : Place) → is_open q (projection (strand.Conn t) ms) ≡ false
+    -- room is set aside for the strands that live, and for no other; of others no end is kept
+    pub aside : (s : StrandId) → book.strand_aside s ≡ lives (projection s ms)
+    pub forgotten : (t : ℕ) → lives (projection (strand.Conn t) ms) ≡ false → book.has_ended (id.Conn t) ≡ false
+    pub flip_to_runs : h.in_offers ≡ false → offers_last ms ≡ true → h.offer_queue ≡ []
+    pub flip_to_offers : h.in_offers ≡ true → offers_last ms ≡ false → h.run_queue ≡ []
+    pub common : Common b h.run_queue h.offer_queue h.now h.connections book ms
+
+  -- within a turn of the connection c's strand, which is out of its seat: what is known of the others. `al` says whether it lives,
+  -- `opened` whether its connection is open
+  pub record Around (c : ℕ) (al opened : Bool) (h : Held S) (next_runs : List (StrandId × ℕ)) (next_offers : List (StrandId × Place))
+      (book : Book) (ms : List (GlobalAction J)) : Type 0 where
+    pub each : (t : ℕ) → (t == c) ≡ false → Fits h book ms t
+    pub dead : (t : ℕ) → (t == c) ≡ false → lives (projection (strand.Conn t) ms) ≡ false → h.seats (strand.Conn t) ≡ None
+    pub closed : (t : ℕ) → (t == c) ≡ false → lives (projection (strand.Conn t) ms) ≡ false → book.is_open (id.Conn t) ≡ false
+    pub shut : (t : ℕ) → (t == c) ≡ false → lives (projection (strand.Conn t) ms) ≡ false → (q : Place) → is_open q (projection (strand.Conn t) ms) ≡ false
+    pub aside : (s : StrandId) → same_strand s (strand.Conn c) ≡ false → book.strand_aside s ≡ lives (projection s ms)
+    pub forgotten : (t : ℕ) → (t == c) ≡ false → lives (projection (strand.Conn t) ms) ≡ false → book.has_ended (id.Conn t) ≡ false
+    pub out : h.seats (strand.Conn c) ≡ None
+    pub arrived : c ≤ book.arrivals
+    pub alive : lives (projection (strand.Conn c) ms) ≡ al
+    pub connection : book.is_open (id.Conn c) ≡ opened
+    pub client : is_open place.Client (projection (strand.Conn c) ms) ≡ opened
+    pub no_socket : (k : ℕ) → is_open (place.Sock k) (projection (strand.Conn c) ms) ≡ false
+    pub own_aside : book.strand_aside (strand.Conn c) ≡ al
+    pub common : Common b next_runs next_offers h.now h.connections book ms
+
+  -- within a turn of c's strand: these acts are still to be carried out
+  pub record Near (c : ℕ) (acts : List (Act J)) (go opened : Bool) (h : Held S) (book : Book) (ms : List (GlobalAction J)) : Type 0 where
+    pub around : Around c true opened h (runs_with c acts h) (offers_with c acts h) book ms
+    pub to_do : todo b (projection (strand.Conn c) ms) ≡ carried acts
+    pub last_act : IsLastAct acts
+    pub threads : lined_up acts (only (strand.Conn c) h.run_queue) ≡ waiting b (projection (strand.Conn c) ms)
+    pub offered : only (strand.Conn c) h.offer_queue ++ offers acts ≡ to_offer b (projection (strand.Conn c) ms)
+    pub deadlines : armed_by acts [] ≡ armed b (projection (strand.Conn c) ms)
+    pub kind : in_offers (projection (strand.Conn c) ms) ≡ h.in_offers
+    pub offer : IsOffer go opened (begun_offer (projection (strand.Conn c) ms))
+    pub moment : moment (projection (strand.Conn c) ms) ≡ h.now
+    pub stopping : is_stopping (projection (strand.Conn c) ms) ≡ false
+    pub no_more : has_ended place.Client (projection (strand.Conn c) ms) ≡ book.has_ended (id.Conn c)
+    pub not_to_end : is_to_end h.ending c ≡ false
+    pub last : offers_last ms ≡ h.in_offers
+    pub touched : was_touched (strand.Conn c) ms ≡ true
+
+  -- the same, and the strand stands for what happened to it
+  pub record Busy (c : ℕ) (x : S) (acts : List (Act J)) (go opened : Bool) (h : Held S) (book : Book) (ms : List (GlobalAction J)) : Type 0 where
+    pub near : Near c acts go opened h book ms
+    pub stands : st x (projection (strand.Conn c) ms)
+
+  -- c's strand is out of its seat, and is to be given up
+  pub record Falls (c : ℕ) (opened : Bool) (h : Held S) (book : Book) (ms : List (GlobalAction J)) : Type 0 where
+    pub around : Around c true opened h h.run_queue h.offer_queue book ms
+    pub last : offers_last ms ≡ h.in_offers
+    pub touched : was_touched (strand.Conn c) ms ≡ true
+
+  -- c's strand, out of its seat, is to be shown something: it stands for what happened before, and the turn may come
+  pub record Turn (c : ℕ) (x : S) (seen : Seen) (go opened : Bool) (h : Held S) (book : Book) (ms : List (GlobalAction J)) : Type 0 where
+    pub stands : st x (projection (strand.Conn c) ms)
+    pub moment : moment (projection (strand.Conn c) ms) ≡ h.now
+    pub execution : IsExecution b (local_turn b c seen ms)
+    pub near : Near c (b.acts (local_turn b c seen ms)) go opened h book (global_turn b c seen ms)

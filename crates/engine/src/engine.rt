@@ -51,7 +51,7 @@ pub(crate) enum Carried {
     /// The strand's life is over.
     Over,
     /// It couldn't be, and the strand is to be given up.
-    Wanting,
+    Refused,
 }
 
 /// What a step came to.
@@ -134,14 +134,14 @@ impl<S: StrandContract> Engine<S> {
                 .push_back((StrandId::Conn(connection), thread))
             {
                 Ok(()) => Carried::Done,
-                Err(_) => Carried::Wanting,
+                Err(_) => Carried::Refused,
             },
             Act::Offer(place) => match self
                 .offer_queue
                 .push_back((StrandId::Conn(connection), place))
             {
                 Ok(()) => Carried::Done,
-                Err(_) => Carried::Wanting,
+                Err(_) => Carried::Refused,
             },
             Act::HangUp(place) => match place {
                 Place::Client => {
@@ -150,7 +150,7 @@ impl<S: StrandContract> Engine<S> {
                     self.connections = self.connections.saturating_sub(1);
                     Carried::Done
                 }
-                Place::Sock(_) => Carried::Wanting,
+                Place::Sock(_) => Carried::Refused,
             },
             Act::Log(line) => match world.write_log(
                 self.alloc,
@@ -162,14 +162,14 @@ impl<S: StrandContract> Engine<S> {
                     self.log_failed = true;
                     Carried::Done
                 }
-                Logged::Memory => Carried::Wanting,
+                Logged::Memory => Carried::Refused,
             },
             Act::Gone => {
                 world.forget(StrandId::Conn(connection));
                 Carried::Over
             }
             // There are no deadlines, sockets, dictionaries, pools and timers yet.
-            _ => Carried::Wanting,
+            _ => Carried::Refused,
         }
     }
 
@@ -194,7 +194,7 @@ impl<S: StrandContract> Engine<S> {
             match self.carry_out(connection, &mut seat, act, world) {
                 Carried::Done => {}
                 Carried::Over => return None,
-                Carried::Wanting => {
+                Carried::Refused => {
                     self.give_up(connection, seat.is_open, world);
                     return None;
                 }

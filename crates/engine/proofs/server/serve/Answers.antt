@@ -1,11 +1,11 @@
-use Rattle.std.proofs.Common.{◌≡◌, ◌+◌, ◌≤◌, true, false, None, [], ◌∷◌, if◌then◌else◌, refl, sym, ap, subst, ◌∙◌, arith, rules}
+use Rattle.std.proofs.Common.{◌≡◌, true, false, [], ◌∷◌, if◌then◌else◌, refl, sym, ap, subst, ◌∙◌, arith, rules}
 use Rattle.resty_world.specs.declared.entry.Entry.TheVariants as entry
 use Rattle.resty_world.specs.declared.event.Event.{Event}
 use Rattle.resty_world.specs.declared.event.Event.TheVariants as event
 use Rattle.resty_world.specs.Book.{told}
 use Rattle.resty_world.specs.Given.{Gave, is_event, is_fault}
 use Rattle.engine.specs.Stepping.{is_stop}
-use Rattle.engine.proofs.Serving.{engine-right, right-still, event-or, stopped, stop-only, spent, fresh-spent, faulted, unwritten, fault-free}
+use Rattle.engine.proofs.Serving.{engine-right, right-still, event-or, stopped, stop-only, spent, fresh-spent, unwritten, fault-free}
 use Rattle.engine.proofs.server.serve.Goals as goal
 
 pub loop-given-init : goal.loop-given-init

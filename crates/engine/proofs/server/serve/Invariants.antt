@@ -1,4 +1,4 @@
-use Rattle.std.proofs.Common.{◌≡◌, ◌≤◌, ◌-◌, ℕ, IfSome}
+use Rattle.std.proofs.Common.{◌≡◌, ◌≤◌, ◌-◌, IfSome}
 use Rattle.engine.specs.Engine.{Rests}
 use Rattle.engine.specs.Right.{IsSpent}
 use Rattle.engine.proofs.server.serve.Given as goal

@@ -1,10 +1,9 @@
-use Rattle.std.proofs.Common.{◌≡◌, ◌<◌, ◌≤◌, ◌+◌, ◌==◌, ℕ, true, false, None, ◌∷◌, refl, ap, sym, ◌∙◌, if◌then◌else◌, arith}
+use Rattle.std.proofs.Common.{◌<◌, ◌≤◌, None, ◌∷◌, refl, arith}
 use Rattle.resty_base.specs.declared.names.Id.TheVariants as id
 use Rattle.resty_base.specs.declared.names.StrandId.TheVariants as strand
 use Rattle.strand_contract.specs.declared.turns.Start.TheVariants as start
 use Rattle.strand_contract.specs.Actions.{Of, Began, TurnedAway}
-use Rattle.engine.proofs.Lists.{same-true}
-use Rattle.engine.proofs.Arrivals.{falls-begun, busy-begun, stands-turned-away}
+use Rattle.engine.proofs.Arrivals.{falls-begun, busy-begun, stands-turned}
 use Rattle.engine.proofs.Seats.{done-of}
 use Rattle.engine.proofs.Going.{goes-joins, goes-work, turned-work, closed-work, forgot-work}
 use Rattle.engine.proofs.engine.Engine.arrive.Goals as goal
@@ -16,7 +15,7 @@ returns-then-from-self-clause-standing g c =
     let k = c.args.connection in
     let full : (g.S.StrandContract.behavior c.args.site.now).connections ≤ c.args.self.now.connections = omega (arith) in (
       TurnedAway k ∷ r.0,
-      stands-turned-away _ _ r.0 _ c.requires.0 r.1 r.2.0 r.2.1 r.2.2 r.2.3 (g.met.S.StrandContract.keeps c.args.site.now) k gave.fit (g.W.World.book c.args.world.now) _ _ _ _ gave full c.note.ensures.notes c.hang_up.ensures.hangs_up c.forget.ensures.forgets,
+      stands-turned _ _ r.0 _ c.requires.0 r.1 r.2.0 r.2.1 r.2.2 r.2.3 (g.met.S.StrandContract.keeps c.args.site.now) k gave.fit (g.W.World.book c.args.world.now) _ _ _ _ gave full c.note.ensures.notes c.hang_up.ensures.hangs_up c.forget.ensures.forgets,
     )
 
 pub returns-then-from-self-clause-works : goal.returns-then-from-self-clause-works

@@ -1,4 +1,4 @@
-use Rattle.std.proofs.Common.{◌≡◌, [], ◌∷◌, ◌+◌, ◌≤◌, length, refl, ap, ◌∙◌, arith}
+use Rattle.std.proofs.Common.{◌≡◌, [], ◌∷◌, length, refl, ap, ◌∙◌, arith}
 use Rattle.std.proofs.lemmas.Grind.{common_steps}
 use Rattle.engine.proofs.Going.{goes-stays, goes-joins}
 use Rattle.engine.proofs.engine.Engine.carry.Goals as goal
@@ -25,7 +25,7 @@ give_up-requires g c =
     let now : c.loop-act.acts.items ≡ c.in-Some.act ∷ c.pop_front.new.self.items = c.in-Some.ensures.items in
     let i = c.loop-act.invariant in
     let y = i.busy i.site i.begun in
-    (i.site, c.in-Wanting.ensures.carried i.site c.pop_front.new.self.items c.args.going (y.0, rw now at y.1))
+    (i.site, c.in-Refused.ensures.carried i.site c.pop_front.new.self.items c.args.going (y.0, rw now at y.1))
 
 pub loop-act-preserved : goal.loop-act-preserved
 loop-act-preserved g c =
@@ -49,16 +49,16 @@ returns-in-Over-clause-lives g c = λ site begun.
 pub returns-in-Over-clause-works : goal.returns-in-Over-clause-works
 returns-in-Over-clause-works g c = goes-joins g.W.World.same g.W.World.book _ _ _ _ _ _ (g.met.W.World.joins _ _ _) c.loop-act.invariant.works c.in-Over.ensures.works
 
-pub returns-in-Wanting-clause-lives : goal.returns-in-Wanting-clause-lives
-returns-in-Wanting-clause-lives g c = λ site begun.
+pub returns-in-Refused-clause-lives : goal.returns-in-Refused-clause-lives
+returns-in-Refused-clause-lives g c = λ site begun.
     let now : c.loop-act.acts.items ≡ c.in-Some.act ∷ c.pop_front.new.self.items = c.in-Some.ensures.items in
     let y = c.loop-act.invariant.busy site begun in
-    c.give_up.ensures.standing site (c.in-Wanting.ensures.carried site c.pop_front.new.self.items c.args.going (y.0, rw now at y.1))
+    c.give_up.ensures.standing site (c.in-Refused.ensures.carried site c.pop_front.new.self.items c.args.going (y.0, rw now at y.1))
 
-pub returns-in-Wanting-clause-works : goal.returns-in-Wanting-clause-works
-returns-in-Wanting-clause-works g c =
+pub returns-in-Refused-clause-works : goal.returns-in-Refused-clause-works
+returns-in-Refused-clause-works g c =
     goes-joins g.W.World.same g.W.World.book _ _ _ _ _ _ (g.met.W.World.joins _ _ _)
-    (goes-joins g.W.World.same g.W.World.book _ _ _ _ _ _ (g.met.W.World.joins _ _ _) c.loop-act.invariant.works c.in-Wanting.ensures.works) c.give_up.ensures.works
+    (goes-joins g.W.World.same g.W.World.book _ _ _ _ _ _ (g.met.W.World.joins _ _ _) c.loop-act.invariant.works c.in-Refused.ensures.works) c.give_up.ensures.works
 
 pub returns-clause-lives : goal.returns-clause-lives
 returns-clause-lives g c = λ site begun.

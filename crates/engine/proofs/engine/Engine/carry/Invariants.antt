@@ -1,4 +1,4 @@
-use Rattle.std.proofs.Common.{◌≡◌, ◌+◌, ◌≤◌, List, length}
+use Rattle.std.proofs.Common.{◌+◌, ◌≤◌, length}
 use Rattle.engine.specs.Engine.{IsBusy, KeepsPhase, work, Works}
 use Rattle.engine.proofs.engine.Engine.carry.Given as goal
 

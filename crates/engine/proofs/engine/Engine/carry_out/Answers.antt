@@ -1,11 +1,11 @@
-use Rattle.std.proofs.Common.{◌≡◌, ◌∙◌, true, false, None, List, [], ◌∷◌, ◌++◌, refl, rules}
+use Rattle.std.proofs.Common.{◌≡◌, ◌∙◌, true, false, None, [], ◌∷◌, ◌++◌, refl, rules}
 use Rattle.resty_base.specs.declared.names.StrandId.TheVariants as strand
 use Rattle.resty_world.specs.declared.answers.Logged.TheVariants as logged
 use Rattle.strand_contract.specs.declared.turns.Place.TheVariants as place
 use Rattle.strand_contract.specs.Actions.{Of, Closed, Logged, Gone}
 use Rattle.engine.proofs.Lists.{told-nothing}
 use Rattle.engine.proofs.Acts.{busy-ready, busy-offer, busy-closed, busy-logged, standing-gone, near-falls, falls-kept, client-open, nothing-open, gone-closed}
-use Rattle.engine.proofs.Going.{goes-work, closed-work, forgot-work}
+use Rattle.engine.proofs.Going.{forgot-work}
 use Rattle.engine.proofs.engine.Engine.carry_out.Goals as goal
 
 pub returns-in-Ok-clause-carried : goal.returns-in-Ok-clause-carried

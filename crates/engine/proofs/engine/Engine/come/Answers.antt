@@ -1,9 +1,5 @@
-use Rattle.std.proofs.Common.{◌≡◌, true, false, None, Some, refl, sym, ap, subst, ◌∙◌}
-use Rattle.resty_base.specs.declared.names.Id.{Id}
-use Rattle.resty_base.specs.declared.names.Id.TheVariants as id
-use Rattle.resty_base.specs.declared.names.StrandId.TheVariants as strand
-use Rattle.engine.proofs.Lists.{clash}
-use Rattle.engine.proofs.Events.{turn-shown, shown-open, open-seated}
+use Rattle.std.proofs.Common.{Some, refl, sym, ap, ◌∙◌}
+use Rattle.engine.proofs.Events.{turn-shown}
 use Rattle.engine.proofs.engine.Engine.come.Goals as goal
 
 pub take_turn-requires : goal.take_turn-requires

@@ -1,4 +1,4 @@
-use Rattle.std.proofs.Common.{◌≡◌, ◌+◌, ◌≤◌, List, [], true}
+use Rattle.std.proofs.Common.{◌+◌, ◌≤◌, [], true}
 use Rattle.engine.specs.Engine.{IsBusy, KeepsPhase, work, Works}
 use Rattle.engine.proofs.engine.Engine.offer.Given as goal
 

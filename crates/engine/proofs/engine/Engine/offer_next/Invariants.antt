@@ -1,4 +1,4 @@
-use Rattle.std.proofs.Common.{◌≡◌, ◌≤◌, true, length, None}
+use Rattle.std.proofs.Common.{◌≡◌, ◌≤◌, true, length}
 use Rattle.engine.specs.declared.engine.Ending.TheVariants as stop
 use Rattle.engine.specs.Engine.{Stands, work, Works}
 use Rattle.engine.proofs.engine.Engine.offer_next.Given as goal

@@ -1,4 +1,4 @@
-use Rattle.std.proofs.Common.{◌≡◌, true, false, refl, sym, ◌∙◌}
+use Rattle.std.proofs.Common.{refl, sym, ◌∙◌}
 use Rattle.engine.specs.Engine.{Logs}
 use Rattle.engine.proofs.Going.{goes-joins}
 use Rattle.engine.proofs.engine.Engine.step.Goals as goal
