@@ -112,7 +112,7 @@ impl Replay {
     }
 
     /// For how many entries room is set aside.
-    fn set_aside(&self) -> usize
+    pub fn set_aside(&self) -> usize
         ensures count { result ≡ rooms self.now.open_count self.now.aside self.now.spare }
         ensures within { result ≤ self.now.history.room }
     {

@@ -271,3 +271,22 @@ fn bytes_come_while_the_connection_is_open(rt: HostRuntime) -> Result<(), Fail> 
     assert!(rt; has_history(alloc, &world, text)?);
     Ok(())
 }
+
+#[test]
+fn a_world_keeps_room_for_what_is_alive(rt: HostRuntime) -> Result<(), Fail> {
+    let alloc = rt.alloc();
+    let mut world = Replay::new(alloc, schedule_of(alloc, b"arrive c1\nstop\n")?);
+    match world.next_event(alloc, None) {
+        Event::Arrive(number) => {
+            let connection = Id::Conn(number);
+            assert_eq!(&rt; world.set_aside(), 2);
+            world.wants(connection, false);
+            world.hang_up(connection);
+            assert_eq!(&rt; world.set_aside(), 1);
+            world.forget(StrandId::Conn(number));
+            assert_eq!(&rt; world.set_aside(), 0);
+        }
+        _ => assert!(&rt; false),
+    }
+    Ok(())
+}
