@@ -1,4 +1,3 @@
-pub mod Ascii
 pub mod Characters
 pub mod Readings
 pub mod Pieces

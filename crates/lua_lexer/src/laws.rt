@@ -1,3 +1,5 @@
+//! Laws of the tokens of a text: functions that do nothing, each with its law as its contract.
+
 ghost use Rattle.std.specs.Prelude.{ℕ, List};
 ghost use Rattle.lua_lexer.specs.Balance.{Balances};
 ghost use Rattle.lua_lexer.specs.Laws.{HasOneReading};

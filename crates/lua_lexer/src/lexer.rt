@@ -1,3 +1,5 @@
+//! The tokens of a text, one piece after another.
+
 ghost use Rattle.std.specs.Prelude.{◌≡◌, ◌≢◌, ◌≤◌, ◌<◌, ◌+◌, ◌^◌, ◌++◌, Ok, Err, OnOk, IfOk, IfErr, length};
 ghost use Rattle.lua_lexer.specs.Comments.{comment_size};
 ghost use Rattle.lua_lexer.specs.Tokens.{comment, piece, token_of, tokens_of, lexed};
@@ -6,7 +8,7 @@ ghost use Rattle.lua_lexer.specs.Pieces.{IsPieceOf};
 ghost use Rattle.lua_lexer.specs.Readings.{Gives};
 
 use crate::brackets::opens;
-use crate::characters::{behind, blanks, front, is_blank, is_word_start, line_ends};
+use crate::characters::{blanks, is_blank, is_word_start, line_ends};
 use crate::comments::{comment_size, is_comment};
 use crate::numerals::numeral;
 use crate::signs::longest_sign;
@@ -14,6 +16,7 @@ use crate::strings::{is_quote, long_string, short_string};
 use crate::tokens::{Piece, TokenKind};
 use crate::words::name_or_word;
 use crate::{LexFault, Token};
+use resty_base::{bytes_after, first_bytes};
 use std::alloc::Global;
 
 /// The length of the longest text that is read.
@@ -96,15 +99,15 @@ fn tokens_of(alloc: Global, text: &[u8], line: u32) -> Result<Vec<Token>, LexFau
     while !rest.is_empty() {
         let Piece { kind, size } = piece(alloc, rest, line)?;
         push_token(&mut tokens, kind, line, start, start + size)?;
-        line += line_ends(front(rest, size));
-        rest = behind(rest, size);
+        line += line_ends(first_bytes(rest, size));
+        rest = bytes_after(rest, size);
         start += size;
     }
     Ok(tokens)
 }
 
 /// The tokens of a text that begins on the line `line`. A fault is the first that is met; `TooLong` comes before all
-/// others, with the line that was passed in. `Memory` is the want of memory.
+/// others, with the line that was passed in. `Memory` is out of memory.
 #[tactic(auto, unfolding(crate::specs::Tokens::lexed))]
 pub fn lex(alloc: Global, text: &[u8], line: u32) -> Result<Vec<Token>, LexFault>
     requires { line ≤ 4_293_918_719 }
