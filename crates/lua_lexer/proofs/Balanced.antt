@@ -1,6 +1,6 @@
 -- Up to a block's end the braces of the tokens balance.
 use Rattle.std.proofs.Common.{◌≡◌, ℕ, zero, suc, ◌+◌, ◌-◌, ◌<◌, ◌≤◌, Bool, true, false, cond, List, [], ◌∷◌, ◌++◌, length, get_or, drop, take, Option, Some, None, Result, Ok, Err, ◌⊎◌, inl, inr, ⊎_elim, refl, ap, sym, subst, ◌∙◌, arith, lit<, eqb, length-drop, length-take-le, take-append-drop}
-use Rattle.std.specs.Prelude.{◌==◌, ◌&&◌, not, option_map, option_and_then, ok_or}
+use Rattle.std.specs.Prelude.{◌==◌, ◌&&◌, not, option_map, option_and_then, ok_or, slice_range}
 use Rattle.std.specs.List.{prefix_len}
 use Rattle.std.specs.Char.{is_ascii_digit}
 use Rattle.std.proofs.lemmas.Bool.{eqb-true, eq-eqb}
@@ -22,9 +22,9 @@ use Rattle.lua_lexer.specs.Strings.{is_quote, short_string, long_string}
 use Rattle.lua_lexer.specs.Numerals.{numeral}
 use Rattle.lua_lexer.specs.Words.{name_or_word}
 use Rattle.lua_lexer.specs.Signs.{sign_of_one, sign_of_two, sign_or, sign_piece, short_sign, longest_sign}
-use Rattle.lua_lexer.specs.Tokens.{skipped_piece, comment, piece, token_of, tokens_after}
+use Rattle.lua_lexer.specs.Tokens.{skipped_piece, comment, piece, token_of, tokens_after, tokens_of}
 use Rattle.lua_lexer.specs.Blocks.{stretch, depth_after, closing_after, block_end_of}
-use Rattle.lua_lexer.specs.Balance.{braces_after, braces_of, Balances}
+use Rattle.lua_lexer.specs.Balance.{braces_after, braces_of}
 use Rattle.lua_lexer.proofs.Fronts.{with_front}
 use Rattle.lua_lexer.proofs.Prefixes.{in_range, both, comment_same, opens_same, inside_same}
 use Rattle.lua_lexer.proofs.Braces.{closing_here, closing_step}
@@ -531,7 +531,8 @@ split_there : (xs : List ℕ) (m : ℕ) → m < length xs → get_or xs m 0 ≡ 
 split_there xs m within is =
     ap (λ rest. take m xs ++ rest) (ap (λ b. b ∷ drop (m + 1) xs) (sym is) ∙ sym (drop_more xs m 0 within)) ∙ take-append-drop m xs
 
-pub balances : (line : ℕ) (text : List ℕ) (from : ℕ) → Balances line text from
+pub balances : (line : ℕ) (text : List ℕ) (from index : ℕ) (tokens : List Token) → block_end_of text from ≡ Some index
+    → tokens_of line (slice_range text from index) ≡ Ok tokens → braces_of 0 tokens ≡ Some 0
 unfolding block_end_of
 balances line text from index tokens ends reads =
     let xs = drop from text in

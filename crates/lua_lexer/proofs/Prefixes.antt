@@ -123,7 +123,7 @@ line_end_same [] zs some = absurd (omega arith)
 line_end_same (d ∷ []) zs some = refl
 line_end_same (d ∷ e ∷ es) zs some = refl
 
-line_end_within : (cs : List ℕ) → line_end cs ≤ length cs
+pub line_end_within : (cs : List ℕ) → line_end cs ≤ length cs
 unfolding line_end
 line_end_within [] = omega arith
 line_end_within (d ∷ []) = by (is_line_byte d)

@@ -323,7 +323,7 @@ long_case (Some len) ys fault found reads =
     (len, refl, subst (λ f. IsBare f (long_size ys len)) (ok_same (long_string_of ys len) found reads) (record { sized = refl; plain = λ depth. refl }))
 long_case None ys fault found reads = absurd (err_ok fault found reads)
 
-bracket_first : (ys : List ℕ) → opens ys ≡ true → get_or ys 0 0 ≡ 91
+pub bracket_first : (ys : List ℕ) → opens ys ≡ true → get_or ys 0 0 ≡ 91
 unfolding is_bracket
 bracket_first ys is = eqb-true (get_or ys 0 0) 91 (both _ _ is).0
 

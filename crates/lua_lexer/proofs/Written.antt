@@ -106,11 +106,11 @@ run_none : (p : ℕ → Bool) (text : List ℕ) → p (get_or text 0 0) ≡ fals
 run_none p [] stops = refl
 run_none p (c ∷ cs) stops = rw stops refl
 
-piece_word : (line : ℕ) (text : List ℕ) → is_word_start (get_or text 0 0) ≡ true → piece line text ≡ Ok (name_or_word text)
+pub piece_word : (line : ℕ) (text : List ℕ) → is_word_start (get_or text 0 0) ≡ true → piece line text ≡ Ok (name_or_word text)
 unfolding piece
 piece_word line text starts = rw (word_start_not_blank (get_or text 0 0) starts, starts) refl
 
-piece_digit : (line : ℕ) (text : List ℕ) → is_ascii_digit (get_or text 0 0) ≡ true → piece line text ≡ numeral line text
+pub piece_digit : (line : ℕ) (text : List ℕ) → is_ascii_digit (get_or text 0 0) ≡ true → piece line text ≡ numeral line text
 unfolding piece
 piece_digit line text digit =
     rw (digit_not_blank (get_or text 0 0) digit, digit_not_word_start (get_or text 0 0) digit, digit) refl
@@ -136,7 +136,7 @@ digits_run : (ds : List ℕ) → AllDigits 10 ds → prefix_len is_ascii_digit d
 digits_run [] all = refl
 digits_run (c ∷ cs) all = rw (digit_of_value c all.0) (omega (arith, digits_run cs all.1))
 
-digit_not_x : (c : ℕ) → is_ascii_digit c ≡ true → (c == 120) ≡ false
+pub digit_not_x : (c : ℕ) → is_ascii_digit c ≡ true → (c == 120) ≡ false
 digit_not_x c digit = grind (arith, nat_tests)
 
 second_not_x : (ds rest : List ℕ) → 0 < length ds → AllDigits 10 ds → (get_or (ds ++ 32 ∷ rest) 1 0 == 120) ≡ false
@@ -148,7 +148,7 @@ and_false : (b : Bool) → (b && false) ≡ false
 and_false true = refl
 and_false false = refl
 
-numeral_decimal : (line : ℕ) (text : List ℕ) → (get_or text 1 0 == 120) ≡ false → numeral line text ≡ decimal line text
+pub numeral_decimal : (line : ℕ) (text : List ℕ) → (get_or text 1 0 == 120) ≡ false → numeral line text ≡ decimal line text
 unfolding numeral
 numeral_decimal line text other = rw (other, and_false (get_or text 0 0 == 48)) refl
 

@@ -1,10 +1,10 @@
 -- Braces among tokens.
-use Rattle.std.specs.Prelude.{◌≡◌, ℕ, ◌+◌, ◌-◌, ◌==◌, List, [], ◌∷◌, slice_range, Option, Some, None, Ok, option_and_then, if◌then◌else◌}
+use Rattle.std.specs.Prelude.{◌≡◌, ℕ, ◌+◌, ◌-◌, ◌==◌, List, [], ◌∷◌, slice_range, Option, Some, None, option_and_then, if◌then◌else◌}
 use Rattle.lua_lexer.specs.declared.signs.Sign.TheVariants.{OpenBrace, CloseBrace}
 use Rattle.lua_lexer.specs.declared.tokens.Token.{Token}
 use Rattle.lua_lexer.specs.declared.tokens.TokenKind.{TokenKind}
 use Rattle.lua_lexer.specs.declared.tokens.TokenKind.TheVariants.{Sign as SignKind}
-use Rattle.lua_lexer.specs.Tokens.{tokens_of}
+use Rattle.lua_lexer.specs.Lexical.{Lexes}
 use Rattle.lua_lexer.specs.Blocks.{block_end_of}
 
 -- how many braces are open after a token; None where it closes one and none is open
@@ -21,5 +21,5 @@ braces_of depth (token ∷ tokens) = option_and_then (λ after. braces_of after 
 -- where the inside of a block has tokens, it closes each brace that it opens, and no other
 abbrev pub Balances : ℕ → List ℕ → ℕ → Type 0
 Balances line text from =
-    (index : ℕ) (tokens : List Token) → block_end_of text from ≡ Some index → tokens_of line (slice_range text from index) ≡ Ok tokens
+    (index : ℕ) (tokens : List Token) → block_end_of text from ≡ Some index → Lexes line 0 (slice_range text from index) tokens
     → braces_of 0 tokens ≡ Some 0

@@ -1,4 +1,4 @@
--- The tokens of a Lua text (Lua 5.1 manual, 2.1): at each index the longest piece, which is blanks, a comment or a token.
+-- The tokens of a Lua text, computed: at each index the longest piece, which is blanks, a comment or a token (`Lexical`).
 use Rattle.std.specs.Prelude.{ℕ, zero, suc, ◌+◌, ◌-◌, nat_lt, List, [], ◌∷◌, ◌++◌, take, length, slice_index, Option, Some, None, Result, Ok, Err, option_map}
 use Rattle.std.specs.Prelude.{ok_or, if◌then◌else◌}
 use Rattle.std.specs.List.{prefix_len}
