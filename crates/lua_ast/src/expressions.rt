@@ -1,3 +1,5 @@
+//! Expressions.
+
 use resty_base::{Bytes, Whole};
 use std::rc::Rc;
 
@@ -19,20 +21,20 @@ pub enum ExprKind {
     False,
     Number(Whole),
     Text(Bytes),
-    /// The arguments behind the parameters, `...`.
+    /// The arguments after the parameters, `...`.
     Vararg,
     /// A closure of the function with this number in the program.
     Function(u32),
     /// The local variable in this slot of the running function.
     Slot(u8),
-    /// The variable at this place among the captures of the running function.
+    /// The variable at this index among the captures of the running function.
     Captured(u8),
     Global(Bytes),
     /// A table and a key.
     Index(Rc<Expr>, Rc<Expr>),
     /// A function and its arguments.
     Call(Rc<Expr>, Rc<Vec<Expr>>),
-    /// An object, the name of its method, and the arguments behind the object.
+    /// An object, the name of its method, and the arguments after the object.
     Method(Rc<Expr>, Bytes, Rc<Vec<Expr>>),
     Unary(UnOp, Rc<Expr>),
     Binary(BinOp, Rc<Expr>, Rc<Expr>),

@@ -1,3 +1,5 @@
+//! How high an expression is.
+
 ghost use Rattle.std.specs.Prelude.{◌≡◌, ◌+◌, ◌^◌, ◌-◌, min};
 ghost use Rattle.lua_ast.specs.Height.{height_of, highest_of, highest_item_of};
 

@@ -1,3 +1,5 @@
+//! Programs, their functions, and what these capture.
+
 use crate::Stmt;
 use resty_base::ByteLists;
 use std::rc::Rc;
@@ -13,7 +15,7 @@ pub struct Program {
 /// A function. Its parameters are its first slots.
 #[derive(Drop)]
 pub struct Function {
-    /// The place of its file in `files`.
+    /// The index of its file in `files`.
     pub file: u32,
     /// How many parameters it has, apart from `...`.
     pub params: u8,
@@ -21,18 +23,18 @@ pub struct Function {
     pub vararg: bool,
     /// How many slots its parameters and locals take at most at once.
     pub slots: u8,
-    /// The variables of the function around it that it or a function within it uses.
+    /// The variables of the enclosing function that it or a function within it uses.
     pub captures: Vec<Capture>,
     pub body: Rc<Vec<Stmt>>,
     /// The line of its word `function`; of a chunk, that of its first token.
     pub line: u32,
 }
 
-/// A variable of the function around a closure's function.
+/// A variable of the function that encloses a closure's function.
 #[derive(Clone, Copy, Debug, PartialEq, Eq)]
 pub enum Capture {
     /// In this slot of that function.
     Slot(u8),
-    /// At this place among that function's own captures.
+    /// At this index among that function's own captures.
     Outer(u8),
 }

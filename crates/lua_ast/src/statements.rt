@@ -1,3 +1,5 @@
+//! Statements.
+
 use crate::Expr;
 use std::rc::Rc;
 

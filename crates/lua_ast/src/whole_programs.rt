@@ -1,3 +1,5 @@
+//! Whether each number in a program names something that is there.
+
 ghost use Rattle.std.specs.Prelude.{◌≡◌, ◌<◌, ◌≤◌, ◌↔◌, IsTrue, IfSome, length};
 ghost use Rattle.std.specs.List.{All};
 ghost use Rattle.lua_ast.specs.WholeProgram.{HasVariable, HasInner, IsWholeExpr, IsWholeItem, IsWholeStmt, IsWholeArm, IsWholeFunction, IsWholeProgram};
@@ -229,7 +231,7 @@ fn is_whole_function(program: &Program, f: &Function) -> bool
 
 /// Whether each number in the program names something that is there: the file of each function; each slot and each
 /// capture, in the function that names it; each function of which a closure is made, whose captures are variables of the
-/// function around it. Also that the parameters of each function have slots.
+/// enclosing function. Also that the parameters of each function have slots.
 pub fn is_whole(program: &Program) -> bool
     ensures { IsTrue result ↔ IsWholeProgram program.now }
 {

@@ -12,3 +12,11 @@ pub mod Written
 pub mod Prefixes
 pub mod Walks
 pub mod Balanced
+pub mod Runs
+pub mod PieceReadings
+pub mod WordPieces
+pub mod NumeralPieces
+pub mod SignPieces
+pub mod BracketPieces
+pub mod StringPieces
+pub mod Lexes

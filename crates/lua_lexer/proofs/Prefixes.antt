@@ -8,9 +8,9 @@ use Rattle.std.proofs.lemmas.List.Sums.{prefix_len-le-length}
 use Rattle.lua_lexer.specs.Characters.{is_line_byte, line_end}
 use Rattle.lua_lexer.specs.Brackets.{level_of, is_bracket, opens, closes, before_closing, inside_len, long_size}
 use Rattle.lua_lexer.specs.Comments.{is_comment}
-use Rattle.lua_lexer.specs.Strings.{taken_along, body_behind}
+use Rattle.lua_lexer.specs.Strings.{taken_along, body_after}
 
--- one byte, at the latest the one behind the text
+-- one byte, at the latest the one after the text
 look : (b : ℕ) → (125 == b) ≡ false → (0 == b) ≡ false → (ys zs : List ℕ) (i : ℕ) → i ≤ length ys
     → (get_or (ys ++ 125 ∷ zs) i 0 == b) ≡ (get_or ys i 0 == b)
 look b brace none [] zs zero within = brace ∙ sym none
@@ -123,7 +123,7 @@ line_end_same [] zs some = absurd (omega arith)
 line_end_same (d ∷ []) zs some = refl
 line_end_same (d ∷ e ∷ es) zs some = refl
 
-line_end_within : (cs : List ℕ) → line_end cs ≤ length cs
+pub line_end_within : (cs : List ℕ) → line_end cs ≤ length cs
 unfolding line_end
 line_end_within [] = omega arith
 line_end_within (d ∷ []) = by (is_line_byte d)
@@ -152,23 +152,23 @@ none_there : (quote : ℕ) → 0 < quote → (0 == quote) ≡ true → ⊥
 none_there quote some same = let none = eqb-true 0 quote same in omega (arith, none)
 
 -- a short string that is closed within the text
-pub body_same : (quote k : ℕ) (ys zs : List ℕ) → 0 < quote → (get_or ys (body_behind quote k ys) 0 == quote) ≡ true
-    → body_behind quote k (ys ++ 125 ∷ zs) ≡ body_behind quote k ys
-unfolding body_behind
+pub body_same : (quote k : ℕ) (ys zs : List ℕ) → 0 < quote → (get_or ys (body_after quote k ys) 0 == quote) ≡ true
+    → body_after quote k (ys ++ 125 ∷ zs) ≡ body_after quote k ys
+unfolding body_after
 body_same quote zero [] zs some closed = absurd (none_there quote some closed)
 body_same quote (suc k) [] zs some closed = absurd (none_there quote some closed)
 body_same quote (suc k) (c ∷ cs) zs some closed =
-    ap (λ n. n + 1) (body_same quote k cs zs some (sym (ap (λ d. d == quote) (get_next c (body_behind quote k cs) cs)) ∙ closed))
+    ap (λ n. n + 1) (body_same quote k cs zs some (sym (ap (λ d. d == quote) (get_next c (body_after quote k cs) cs)) ∙ closed))
 body_same quote zero (c ∷ []) zs some closed = by (c == quote || is_line_byte c) closed
   where
     by : (b : Bool) → (get_or (c ∷ []) (cond b 0 1) 0 == quote) ≡ true
-        → cond b 0 (body_behind quote (taken_along c (125 ∷ zs)) (125 ∷ zs) + 1) ≡ cond b 0 1
+        → cond b 0 (body_after quote (taken_along c (125 ∷ zs)) (125 ∷ zs) + 1) ≡ cond b 0 1
     by true at = refl
     by false at = absurd (none_there quote some at)
 body_same quote zero (c ∷ d ∷ ds) zs some closed =
     let same = taken_same c (d ∷ ds) zs (omega arith) in
     let more = body_same quote (taken_along c (d ∷ ds)) (d ∷ ds) zs some in
-    rw same (by (c == quote || is_line_byte c) (body_behind quote (taken_along c (d ∷ ds)) (d ∷ ds ++ 125 ∷ zs)) (body_behind quote (taken_along c (d ∷ ds)) (d ∷ ds)) closed more)
+    rw same (by (c == quote || is_line_byte c) (body_after quote (taken_along c (d ∷ ds)) (d ∷ ds ++ 125 ∷ zs)) (body_after quote (taken_along c (d ∷ ds)) (d ∷ ds)) closed more)
   where
     by : (b : Bool) (there here : ℕ) → (get_or (c ∷ d ∷ ds) (cond b 0 (here + 1)) 0 == quote) ≡ true
         → ((get_or (d ∷ ds) here 0 == quote) ≡ true → there ≡ here) → cond b 0 (there + 1) ≡ cond b 0 (here + 1)

@@ -7,7 +7,7 @@ use Rattle.std.proofs.Math.Seq.{take-append_seam, get_or-append_seam}
 use Rattle.std.proofs.lemmas.Bool.Decides.{nat_tests}
 use Rattle.std.proofs.lemmas.Str.{digit_value_digit}
 use Rattle.lua_lexer.specs.Characters.{is_line_byte, line_end, line_ends}
-use Rattle.lua_lexer.specs.Strings.{taken_along, body_behind, digits_escape, escape, first_element, decoded_behind, short_string}
+use Rattle.lua_lexer.specs.Strings.{taken_along, body_after, digits_escape, escape, first_element, decoded_after, short_string}
 use Rattle.lua_lexer.specs.Tokens.{piece}
 use Rattle.lua_lexer.specs.Writing.{escaped, AreBytes}
 use Rattle.lua_lexer.specs.declared.tokens.TokenKind.TheVariants.{Text}
@@ -35,17 +35,17 @@ module _ {c : ℕ} (digit : IsDigit c) where
   value_of : digit_value c + 48 ≡ c
   value_of = digit_value_digit c (digit.least, digit.greatest)
 
--- behind a backslash a digit is taken along, alone
+-- after a backslash a digit is taken along, alone
 one_taken : (c : ℕ) (rest : List ℕ) → IsDigit c → taken_along 92 (c ∷ rest) ≡ 1
 unfolding taken_along line_end
 one_taken c rest digit = rw (no_line_byte digit) (omega arith)
 
-body_digit : (c : ℕ) (rest : List ℕ) → IsDigit c → body_behind 34 0 (c ∷ rest) ≡ body_behind 34 0 rest + 1
-unfolding body_behind taken_along
+body_digit : (c : ℕ) (rest : List ℕ) → IsDigit c → body_after 34 0 (c ∷ rest) ≡ body_after 34 0 rest + 1
+unfolding body_after taken_along
 body_digit c rest digit = rw (no_quote digit, no_line_byte digit, no_backslash digit) refl
 
-body_backslash : (c : ℕ) (rest : List ℕ) → IsDigit c → body_behind 34 0 (92 ∷ c ∷ rest) ≡ body_behind 34 0 rest + 2
-unfolding body_behind
+body_backslash : (c : ℕ) (rest : List ℕ) → IsDigit c → body_after 34 0 (92 ∷ c ∷ rest) ≡ body_after 34 0 rest + 2
+unfolding body_after
 body_backslash c rest digit = rw (one_taken c rest digit) (omega arith)
 
 hundreds : (byte : ℕ) → byte < 256 → IsDigit (48 + byte / 100)
@@ -57,8 +57,8 @@ tens byte = record { least = omega arith; greatest = omega arith }
 ones : (byte : ℕ) → IsDigit (48 + byte % 10)
 ones byte = record { least = omega arith; greatest = omega arith }
 
-body_escaped : (bytes tail : List ℕ) → AreBytes bytes → body_behind 34 0 (flat_map escaped bytes ++ 34 ∷ tail) ≡ length (flat_map escaped bytes)
-unfolding body_behind
+body_escaped : (bytes tail : List ℕ) → AreBytes bytes → body_after 34 0 (flat_map escaped bytes ++ 34 ∷ tail) ≡ length (flat_map escaped bytes)
+unfolding body_after
 body_escaped [] tail all = refl
 body_escaped (b ∷ bs) tail all =
     let more = body_escaped bs tail all.1 in
@@ -94,8 +94,8 @@ element_read line a b c byte rest first second third value small =
 digits_of_byte : (byte : ℕ) → byte < 256 → digits_value 10 ((48 + byte / 100) ∷ (48 + byte / 10 % 10) ∷ (48 + byte % 10) ∷ []) ≡ byte
 digits_of_byte byte small = omega (arith, value_of (hundreds byte small), value_of (tens byte), value_of (ones byte))
 
-decoded_escaped : (line : ℕ) (bytes : List ℕ) → AreBytes bytes → decoded_behind 0 line (flat_map escaped bytes) ≡ Ok bytes
-unfolding decoded_behind
+decoded_escaped : (line : ℕ) (bytes : List ℕ) → AreBytes bytes → decoded_after 0 line (flat_map escaped bytes) ≡ Ok bytes
+unfolding decoded_after
 decoded_escaped line [] all = refl
 decoded_escaped line (b ∷ bs) all =
     let rest = flat_map escaped bs in
@@ -105,7 +105,7 @@ decoded_escaped line (b ∷ bs) all =
     decoded_step line text (record { byte = b; size = 4 }) (omega arith) read (lit< tt)
     ∙ ap (with_front (b ∷ [])) (decoded_escaped later bs all.1)
 
-quoted : (line : ℕ) (body bytes tail : List ℕ) → body_behind 34 0 (body ++ 34 ∷ tail) ≡ length body → decoded_behind 0 line body ≡ Ok bytes
+quoted : (line : ℕ) (body bytes tail : List ℕ) → body_after 34 0 (body ++ 34 ∷ tail) ≡ length body → decoded_after 0 line body ≡ Ok bytes
     → short_string line (34 ∷ (body ++ 34 ∷ tail)) ≡ Ok (record { kind = Some (Text bytes); size = length body + 2 })
 unfolding short_string
 quoted line body bytes tail size reads =

@@ -1,4 +1,4 @@
--- Tokens that stand one behind the other, and before a line and a place.
+-- Tokens that stand one after the other, and before a line and an index.
 use Rattle.std.proofs.Common.{◌≡◌, ℕ, ◌+◌, ◌<◌, ◌≤◌, List, [], ◌∷◌, ◌++◌, Option, Some, None, arith}
 use Rattle.std.proofs.lemmas.List.{append-nil}
 use Rattle.lua_lexer.specs.Order.{AreInOrder}
@@ -7,34 +7,34 @@ use Rattle.lua_lexer.specs.declared.tokens.Token.{Token}
 use Rattle.lua_lexer.specs.declared.tokens.TokenKind.{TokenKind}
 
 abbrev pub StandBefore : ℕ → ℕ → List Token → ℕ → ℕ → Type 0
-StandBefore line place [] line' place' = (line ≤ line') × (place ≤ place')
-StandBefore line place (token ∷ tokens) line' place' =
-    (line ≤ token.line) × (place ≤ token.start) × (token.start < token.end) × StandBefore token.line token.end tokens line' place'
+StandBefore line index [] line' index' = (line ≤ line') × (index ≤ index')
+StandBefore line index (token ∷ tokens) line' index' =
+    (line ≤ token.line) × (index ≤ token.start) × (token.start < token.end) × StandBefore token.line token.end tokens line' index'
 
-stand_later : (line place : ℕ) (tokens : List Token) (line' place' more size : ℕ) → StandBefore line place tokens line' place'
-    → StandBefore line place tokens (line' + more) (place' + size)
-stand_later line place [] line' place' more size was = (omega (arith, was.0), omega (arith, was.1))
-stand_later line place (token ∷ tokens) line' place' more size was =
-    (was.0, was.1, was.2, stand_later token.line token.end tokens line' place' more size was.3)
+stand_later : (line index : ℕ) (tokens : List Token) (line' index' more size : ℕ) → StandBefore line index tokens line' index'
+    → StandBefore line index tokens (line' + more) (index' + size)
+stand_later line index [] line' index' more size was = (omega (arith, was.0), omega (arith, was.1))
+stand_later line index (token ∷ tokens) line' index' more size was =
+    (was.0, was.1, was.2, stand_later token.line token.end tokens line' index' more size was.3)
 
-stand_push : (line place : ℕ) (tokens : List Token) (line' place' more size : ℕ) (kind : TokenKind)
-    → StandBefore line place tokens line' place' → 0 < size
-    → StandBefore line place (tokens ++ token_of line' place' (Some kind) (place' + size)) (line' + more) (place' + size)
-stand_push line place [] line' place' more size kind was some = (was.0, was.1, omega arith, (omega arith, omega arith))
-stand_push line place (token ∷ tokens) line' place' more size kind was some =
-    (was.0, was.1, was.2, stand_push token.line token.end tokens line' place' more size kind was.3 some)
+stand_push : (line index : ℕ) (tokens : List Token) (line' index' more size : ℕ) (kind : TokenKind)
+    → StandBefore line index tokens line' index' → 0 < size
+    → StandBefore line index (tokens ++ token_of line' index' (Some kind) (index' + size)) (line' + more) (index' + size)
+stand_push line index [] line' index' more size kind was some = (was.0, was.1, omega arith, (omega arith, omega arith))
+stand_push line index (token ∷ tokens) line' index' more size kind was some =
+    (was.0, was.1, was.2, stand_push token.line token.end tokens line' index' more size kind was.3 some)
 
 -- an iteration of the listing
-pub stand_after : (line place : ℕ) (tokens pushed : List Token) (line' place' more size : ℕ) (kind : Option TokenKind)
-    → StandBefore line place tokens line' place' → 0 < size → pushed ≡ tokens ++ token_of line' place' kind (place' + size)
-    → StandBefore line place pushed (line' + more) (place' + size)
-stand_after line place tokens pushed line' place' more size (Some kind) was some pushes =
-    rw pushes (stand_push line place tokens line' place' more size kind was some)
-stand_after line place tokens pushed line' place' more size None was some pushes =
-    rw (pushes, append-nil) (stand_later line place tokens line' place' more size was)
+pub stand_after : (line index : ℕ) (tokens pushed : List Token) (line' index' more size : ℕ) (kind : Option TokenKind)
+    → StandBefore line index tokens line' index' → 0 < size → pushed ≡ tokens ++ token_of line' index' kind (index' + size)
+    → StandBefore line index pushed (line' + more) (index' + size)
+stand_after line index tokens pushed line' index' more size (Some kind) was some pushes =
+    rw pushes (stand_push line index tokens line' index' more size kind was some)
+stand_after line index tokens pushed line' index' more size None was some pushes =
+    rw (pushes, append-nil) (stand_later line index tokens line' index' more size was)
 
-pub stand_in_order : (line place : ℕ) (tokens : List Token) (line' place' end : ℕ) → StandBefore line place tokens line' place' → place' ≤ end
-    → AreInOrder line place tokens end
-stand_in_order line place [] line' place' end was within = omega (arith, was.1)
-stand_in_order line place (token ∷ tokens) line' place' end was within =
-    (was.0, was.1, was.2, stand_in_order token.line token.end tokens line' place' end was.3 within)
+pub stand_in_order : (line index : ℕ) (tokens : List Token) (line' index' end : ℕ) → StandBefore line index tokens line' index' → index' ≤ end
+    → AreInOrder line index tokens end
+stand_in_order line index [] line' index' end was within = omega (arith, was.1)
+stand_in_order line index (token ∷ tokens) line' index' end was within =
+    (was.0, was.1, was.2, stand_in_order token.line token.end tokens line' index' end was.3 within)

@@ -27,14 +27,14 @@ use Rattle.lua_lexer.specs.Brackets.{level_of, is_bracket}
 use Rattle.lua_lexer.specs.Comments.{is_comment}
 use Rattle.lua_lexer.specs.Signs.{sign_of_one, sign_of_two, short_sign, longest_sign}
 use Rattle.lua_lexer.specs.Words.{spelling, words, word_of, kind_of_word, name_or_word}
-use Rattle.lua_lexer.specs.Tokens.{piece, skipped_piece, tokens_behind}
+use Rattle.lua_lexer.specs.Tokens.{piece, skipped_piece, tokens_after}
 use Rattle.lua_lexer.specs.Writing.{sign_bytes, written, written_out, IsName, IsKind, AreKinds, kinds_of}
 use Rattle.lua_lexer.proofs.Fronts.{with_front}
 use Rattle.lua_lexer.proofs.Listing.{tokens_step}
 use Rattle.lua_lexer.proofs.Quoted.{text_piece}
 use Rattle.lua_lexer.proofs.Classes.{word_start_not_blank, digit_not_blank, digit_not_word_start}
 
--- a token with a blank behind it is a piece
+-- a token with a blank after it is a piece
 abbrev IsPiece : TokenKind → List ℕ → Type 0
 IsPiece kind bytes = (line : ℕ) (rest : List ℕ) → piece line (bytes ++ 32 ∷ rest) ≡ Ok (record { kind = Some kind; size = length bytes })
 
@@ -106,11 +106,11 @@ run_none : (p : ℕ → Bool) (text : List ℕ) → p (get_or text 0 0) ≡ fals
 run_none p [] stops = refl
 run_none p (c ∷ cs) stops = rw stops refl
 
-piece_word : (line : ℕ) (text : List ℕ) → is_word_start (get_or text 0 0) ≡ true → piece line text ≡ Ok (name_or_word text)
+pub piece_word : (line : ℕ) (text : List ℕ) → is_word_start (get_or text 0 0) ≡ true → piece line text ≡ Ok (name_or_word text)
 unfolding piece
 piece_word line text starts = rw (word_start_not_blank (get_or text 0 0) starts, starts) refl
 
-piece_digit : (line : ℕ) (text : List ℕ) → is_ascii_digit (get_or text 0 0) ≡ true → piece line text ≡ numeral line text
+pub piece_digit : (line : ℕ) (text : List ℕ) → is_ascii_digit (get_or text 0 0) ≡ true → piece line text ≡ numeral line text
 unfolding piece
 piece_digit line text digit =
     rw (digit_not_blank (get_or text 0 0) digit, digit_not_word_start (get_or text 0 0) digit, digit) refl
@@ -136,7 +136,7 @@ digits_run : (ds : List ℕ) → AllDigits 10 ds → prefix_len is_ascii_digit d
 digits_run [] all = refl
 digits_run (c ∷ cs) all = rw (digit_of_value c all.0) (omega (arith, digits_run cs all.1))
 
-digit_not_x : (c : ℕ) → is_ascii_digit c ≡ true → (c == 120) ≡ false
+pub digit_not_x : (c : ℕ) → is_ascii_digit c ≡ true → (c == 120) ≡ false
 digit_not_x c digit = grind (arith, nat_tests)
 
 second_not_x : (ds rest : List ℕ) → 0 < length ds → AllDigits 10 ds → (get_or (ds ++ 32 ∷ rest) 1 0 == 120) ≡ false
@@ -148,7 +148,7 @@ and_false : (b : Bool) → (b && false) ≡ false
 and_false true = refl
 and_false false = refl
 
-numeral_decimal : (line : ℕ) (text : List ℕ) → (get_or text 1 0 == 120) ≡ false → numeral line text ≡ decimal line text
+pub numeral_decimal : (line : ℕ) (text : List ℕ) → (get_or text 1 0 == 120) ≡ false → numeral line text ≡ decimal line text
 unfolding numeral
 numeral_decimal line text other = rw (other, and_false (get_or text 0 0 == 48)) refl
 
@@ -221,8 +221,8 @@ no_blank (kind ∷ kinds) are =
     run_none is_blank text (token_not_blank 0 _ text kind (piece_of kind are.0 0 (written_out kinds)))
 
 pub reads_back : (kinds : List TokenKind) → AreKinds kinds → (line start : ℕ)
-    → (tokens : List Token) × (tokens_behind 0 line start (written_out kinds) ≡ Ok tokens) × (kinds_of tokens ≡ kinds)
-unfolding written_out tokens_behind
+    → (tokens : List Token) × (tokens_after 0 line start (written_out kinds) ≡ Ok tokens) × (kinds_of tokens ≡ kinds)
+unfolding written_out tokens_after
 reads_back [] are line start = ([], refl, refl)
 reads_back (kind ∷ kinds) are line start =
     let bytes = written kind in
@@ -238,7 +238,7 @@ reads_back (kind ∷ kinds) are line start =
     let second = tokens_step later (start + size) (32 ∷ rest) (skipped_piece 1) (omega arith) (blank_piece later rest (no_blank kinds are.1)) (lit< tt) in
     let more = reads_back kinds are.1 after (start + size + 1) in (
       token ∷ more.0,
-      first ∙ ap (λ left. with_front (token ∷ []) (tokens_behind 0 later (start + size) left)) (drop-append_seam bytes (32 ∷ rest))
+      first ∙ ap (λ left. with_front (token ∷ []) (tokens_after 0 later (start + size) left)) (drop-append_seam bytes (32 ∷ rest))
           ∙ ap (with_front (token ∷ [])) (second ∙ ap (with_front []) more.1),
       ap (λ others. kind ∷ others) more.2,
     )

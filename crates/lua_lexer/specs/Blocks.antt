@@ -1,9 +1,10 @@
 -- Where a block of Lua in braces ends.
-use Rattle.std.specs.Prelude.{ℕ, zero, suc, ◌+◌, ◌-◌, ◌&&◌, ◌==◌, List, [], ◌∷◌, drop, slice_index, Option, Some, None, option_map, option_and_then, if◌then◌else◌}
+use Rattle.std.specs.Prelude.{ℕ, zero, suc, ◌+◌, ◌-◌, ◌&&◌, ◌==◌, List, [], ◌∷◌, drop, slice_index, Option, Some, None, option_map, option_and_then}
+use Rattle.std.specs.Prelude.{if◌then◌else◌}
 use Rattle.lua_lexer.specs.Brackets.{opens, inside_len, long_size}
 use Rattle.lua_lexer.specs.Comments.{is_comment, comment_size}
 use Rattle.lua_lexer.specs.Strings.{is_quote, body_len}
-use Rattle.lua_lexer.specs.Ascii.{open_brace, close_brace}
+use Rattle.resty_base.specs.Ascii.{open_brace, close_brace}
 
 -- how many bytes the short string at the front has, where it is closed
 unfoldable pub short_string_size : List ℕ → Option ℕ
@@ -20,19 +21,19 @@ stretch text =
     else if opens text then option_map (λ inside. long_size text inside) (inside_len text)
     else Some 1
 
--- how many braces are open behind a byte
-abbrev pub depth_behind : ℕ → ℕ → ℕ
-depth_behind depth c = if c == open_brace then depth + 1 else if c == close_brace then depth - 1 else depth
+-- how many braces are open after a byte
+abbrev pub depth_after : ℕ → ℕ → ℕ
+depth_after depth c = if c == open_brace then depth + 1 else if c == close_brace then depth - 1 else depth
 
--- the place of the brace that closes a block with so many more open braces, behind the first so many bytes of what
--- stands at a place
-unfoldable pub closing_behind : ℕ → ℕ → ℕ → List ℕ → Option ℕ
-closing_behind skipped depth place [] = None
-closing_behind (suc skipped) depth place (c ∷ cs) = closing_behind skipped depth (place + 1) cs
-closing_behind zero depth place (c ∷ cs) =
-    if c == close_brace && depth == 0 then Some place
-    else option_and_then (λ size. closing_behind (size - 1) (depth_behind depth c) (place + 1) cs) (stretch (c ∷ cs))
+-- the index of the brace that closes a block with so many more open braces, after the first so many bytes of what
+-- stands at an index
+unfoldable pub closing_after : ℕ → ℕ → ℕ → List ℕ → Option ℕ
+closing_after skipped depth index [] = None
+closing_after (suc skipped) depth index (c ∷ cs) = closing_after skipped depth (index + 1) cs
+closing_after zero depth index (c ∷ cs) =
+    if c == close_brace && depth == 0 then Some index
+    else option_and_then (λ size. closing_after (size - 1) (depth_after depth c) (index + 1) cs) (stretch (c ∷ cs))
 
--- the place of the brace that closes the block whose inside begins at a place
+-- the index of the brace that closes the block whose inside begins at an index
 unfoldable pub block_end_of : List ℕ → ℕ → Option ℕ
-block_end_of text from = closing_behind 0 0 from (drop from text)
+block_end_of text from = closing_after 0 0 from (drop from text)

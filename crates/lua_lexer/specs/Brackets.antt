@@ -1,9 +1,9 @@
 -- Long brackets (Lua 5.1 manual, 2.1): `[`, as many `=` as the level says, `[`; and so with `]`.
 use Rattle.std.specs.Prelude.{ℕ, ◌+◌, ◌*◌, Bool, ◌&&◌, ◌==◌, List, [], ◌∷◌, drop, slice_index, Option, Some, None, option_map, if◌then◌else◌}
 use Rattle.std.specs.List.{prefix_len}
-use Rattle.lua_lexer.specs.Ascii.{equals, open_bracket, close_bracket}
+use Rattle.resty_base.specs.Ascii.{equals, open_bracket, close_bracket}
 
--- how many `=` stand behind the first byte
+-- how many `=` stand after the first byte
 unfoldable pub level_of : List ℕ → ℕ
 level_of text = prefix_len (λ c. c == equals) (drop 1 text)
 
@@ -24,13 +24,13 @@ unfoldable pub before_closing : ℕ → List ℕ → Option ℕ
 before_closing level [] = None
 before_closing level (c ∷ cs) = if closes level (c ∷ cs) then Some 0 else option_map (λ n. n + 1) (before_closing level cs)
 
--- what stands behind the opening bracket at the front
-abbrev pub behind_opening : List ℕ → List ℕ
-behind_opening text = drop (level_of text + 2) text
+-- what stands after the opening bracket at the front
+abbrev pub after_opening : List ℕ → List ℕ
+after_opening text = drop (level_of text + 2) text
 
 -- how many bytes stand between the brackets of which the first opens at the front
 unfoldable pub inside_len : List ℕ → Option ℕ
-inside_len text = before_closing (level_of text) (behind_opening text)
+inside_len text = before_closing (level_of text) (after_opening text)
 
 -- how many bytes the brackets and what is inside have together
 abbrev pub long_size : List ℕ → ℕ → ℕ

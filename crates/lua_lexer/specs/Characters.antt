@@ -2,7 +2,7 @@
 use Rattle.std.specs.Prelude.{ℕ, zero, suc, ◌+◌, ◌-◌, Bool, not, ◌&&◌, ◌||◌, ◌==◌, List, [], ◌∷◌, slice_index, if◌then◌else◌}
 use Rattle.std.specs.Char.{is_ascii_alphabetic, is_ascii_digit}
 use Rattle.std.specs.Int.{is_in_range}
-use Rattle.lua_lexer.specs.Ascii.{line_feed, carriage_return, space, underscore}
+use Rattle.resty_base.specs.Ascii.{line_feed, carriage_return, space, underscore}
 
 -- a line feed or a carriage return
 abbrev pub is_line_byte : ℕ → Bool
@@ -27,22 +27,22 @@ line_end text =
     let second = slice_index text 1 in
     if is_line_byte first then (if is_line_byte second && not (first == second) then 2 else 1) else 0
 
--- how many line ends there are behind the first so many bytes
-unfoldable pub line_ends_behind : ℕ → List ℕ → ℕ
-line_ends_behind skipped [] = 0
-line_ends_behind (suc skipped) (c ∷ cs) = line_ends_behind skipped cs
-line_ends_behind zero (c ∷ cs) = (if is_line_byte c then 1 else 0) + line_ends_behind (line_end (c ∷ cs) - 1) cs
+-- how many line ends there are after the first so many bytes
+unfoldable pub line_ends_after : ℕ → List ℕ → ℕ
+line_ends_after skipped [] = 0
+line_ends_after (suc skipped) (c ∷ cs) = line_ends_after skipped cs
+line_ends_after zero (c ∷ cs) = (if is_line_byte c then 1 else 0) + line_ends_after (line_end (c ∷ cs) - 1) cs
 
 -- how many line ends there are
 abbrev pub line_ends : List ℕ → ℕ
-line_ends text = line_ends_behind 0 text
+line_ends text = line_ends_after 0 text
 
--- the bytes behind the first so many, with one LF for each line end
-unfoldable pub unified_behind : ℕ → List ℕ → List ℕ
-unified_behind skipped [] = []
-unified_behind (suc skipped) (c ∷ cs) = unified_behind skipped cs
-unified_behind zero (c ∷ cs) = (if is_line_byte c then line_feed else c) ∷ unified_behind (line_end (c ∷ cs) - 1) cs
+-- the bytes after the first so many, with one LF for each line end
+unfoldable pub unified_after : ℕ → List ℕ → List ℕ
+unified_after skipped [] = []
+unified_after (suc skipped) (c ∷ cs) = unified_after skipped cs
+unified_after zero (c ∷ cs) = (if is_line_byte c then line_feed else c) ∷ unified_after (line_end (c ∷ cs) - 1) cs
 
 -- the bytes, with one LF for each line end
 abbrev pub unified : List ℕ → List ℕ
-unified text = unified_behind 0 text
+unified text = unified_after 0 text

@@ -8,7 +8,7 @@ use Rattle.lua_lexer.specs.declared.tokens.LexFault.TheVariants.{BadByte, Fracti
 use Rattle.lua_lexer.specs.declared.tokens.TokenKind.TheVariants.{Number}
 use Rattle.lua_lexer.specs.declared.tokens.Piece.{Piece}
 use Rattle.lua_lexer.specs.Characters.{is_word_byte}
-use Rattle.lua_lexer.specs.Ascii.{dot, digit_zero, upper_e, letter_e, letter_x}
+use Rattle.resty_base.specs.Ascii.{dot, digit_zero, upper_e, letter_e, letter_x}
 
 -- a number as a piece of that size
 abbrev pub number_piece : ℕ → ℤ → Piece
@@ -31,7 +31,7 @@ decimal line text =
     else if is_word_byte next then Err (BadByte line)
     else number_of line (take size text)
 
--- the longest run of hexadecimal digits behind `0x`, at least one; no other letter may follow
+-- the longest run of hexadecimal digits after `0x`, at least one; no other letter may follow
 unfoldable pub hexadecimal : ℕ → List ℕ → Result Piece LexFault
 hexadecimal line text =
     let digits = prefix_len is_ascii_hexdigit (drop 2 text) in

@@ -4,12 +4,12 @@ use Rattle.lua_lexer.specs.declared.tokens.LexFault.{LexFault}
 use Rattle.lua_lexer.specs.declared.tokens.LexFault.TheVariants.{BadByte, OpenString, OpenComment, BadEscape, Fraction, Range, TooLong, Memory}
 use Rattle.lua_lexer.specs.declared.tokens.Token.{Token}
 
--- from a line and a place on the tokens stand one behind the other, each with at least one byte, and none reaches past
+-- from a line and an index on the tokens stand one after the other, each with at least one byte, and none reaches past
 -- the end
 abbrev pub AreInOrder : ℕ → ℕ → List Token → ℕ → Type 0
-AreInOrder line place [] end = place ≤ end
-AreInOrder line place (token ∷ tokens) end =
-    (line ≤ token.line) × (place ≤ token.start) × (token.start < token.end) × AreInOrder token.line token.end tokens end
+AreInOrder line index [] end = index ≤ end
+AreInOrder line index (token ∷ tokens) end =
+    (line ≤ token.line) × (index ≤ token.start) × (token.start < token.end) × AreInOrder token.line token.end tokens end
 
 -- the line of a fault
 abbrev pub line_of : LexFault → Option ℕ

@@ -1,4 +1,4 @@
--- What a reader that may want memory says of a function on lists.
+-- What a reader that may run out of memory says of a function on lists.
 use Rattle.std.specs.Prelude.{◌≡◌, ◌≢◌, Result, Ok, Err}
 use Rattle.lua_lexer.specs.declared.tokens.LexFault.{LexFault}
 use Rattle.lua_lexer.specs.declared.tokens.LexFault.TheVariants.{Memory}

@@ -6,8 +6,11 @@ use Rattle.lua_lexer.specs.declared.tokens.LexFault.TheVariants.{BadByte, Fracti
 use Rattle.lua_lexer.specs.declared.tokens.TokenKind.TheVariants.{Sign as SignKind}
 use Rattle.lua_lexer.specs.declared.tokens.Piece.{Piece}
 use Rattle.lua_lexer.specs.declared.signs.Sign.{Sign}
-use Rattle.lua_lexer.specs.declared.signs.Sign.TheVariants.{Plus, Minus, Star, Slash, Percent, Caret, Hash, Equal, NotEqual, LessEqual, GreaterEqual, Less, Greater, Assign, OpenParenthesis, CloseParenthesis, OpenBrace, CloseBrace, OpenBracket, CloseBracket, Semicolon, Colon, Comma, Dot, Concat, Ellipsis}
-use Rattle.lua_lexer.specs.Ascii.{hash, percent, open_parenthesis, close_parenthesis, star, plus, comma, dash, dot, slash, colon, semicolon, less, equals, greater, open_bracket, close_bracket, caret, open_brace, close_brace, tilde}
+use Rattle.lua_lexer.specs.declared.signs.Sign.TheVariants.{Plus, Minus, Star, Slash, Percent, Caret, Hash, Equal, NotEqual, LessEqual, GreaterEqual, Less}
+use Rattle.lua_lexer.specs.declared.signs.Sign.TheVariants.{Greater, Assign, OpenParenthesis, CloseParenthesis, OpenBrace, CloseBrace, OpenBracket}
+use Rattle.lua_lexer.specs.declared.signs.Sign.TheVariants.{CloseBracket, Semicolon, Colon, Comma, Dot, Concat, Ellipsis}
+use Rattle.resty_base.specs.Ascii.{hash, percent, open_parenthesis, close_parenthesis, star, plus, comma, dash, dot, slash, colon, semicolon, less, equals}
+use Rattle.resty_base.specs.Ascii.{greater, open_bracket, close_bracket, caret, open_brace, close_brace, tilde}
 
 -- the sign that a byte is
 unfoldable pub sign_of_one : ℕ → Option Sign
@@ -40,7 +43,7 @@ short_sign line text =
     if slice_index text 0 == dot && is_ascii_digit (slice_index text 1) then Err (Fraction line)
     else ok_or (option_map (λ sign. sign_piece sign 1) (sign_of_one (slice_index text 0))) (BadByte line)
 
--- the sign of two bytes where there is one, and else what was read in its place
+-- the sign of two bytes where there is one, and else what was read in its stead
 abbrev pub sign_or : Option Sign → Result Piece LexFault → Result Piece LexFault
 sign_or (Some sign) otherwise = Ok (sign_piece sign 2)
 sign_or None otherwise = otherwise

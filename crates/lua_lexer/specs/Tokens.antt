@@ -1,5 +1,6 @@
--- The tokens of a Lua text (Lua 5.1 manual, 2.1): at each place the longest piece, which is blanks, a comment or a token.
-use Rattle.std.specs.Prelude.{ℕ, zero, suc, ◌+◌, ◌-◌, nat_lt, List, [], ◌∷◌, ◌++◌, take, length, slice_index, Option, Some, None, Result, Ok, Err, option_map, ok_or, if◌then◌else◌}
+-- The tokens of a Lua text, computed: at each index the longest piece, which is blanks, a comment or a token (`Lexical`).
+use Rattle.std.specs.Prelude.{ℕ, zero, suc, ◌+◌, ◌-◌, nat_lt, List, [], ◌∷◌, ◌++◌, take, length, slice_index, Option, Some, None, Result, Ok, Err, option_map}
+use Rattle.std.specs.Prelude.{ok_or, if◌then◌else◌}
 use Rattle.std.specs.List.{prefix_len}
 use Rattle.std.specs.Char.{is_ascii_digit}
 use Rattle.lua_lexer.specs.declared.tokens.LexFault.{LexFault}
@@ -41,18 +42,18 @@ abbrev pub token_of : ℕ → ℕ → Option TokenKind → ℕ → List Token
 token_of line start (Some kind) end = record { kind = kind; line = line; start = start; end = end } ∷ []
 token_of line start None end = []
 
--- the tokens behind the first so many bytes of what stands at a place and on a line
-unfoldable pub tokens_behind : ℕ → ℕ → ℕ → List ℕ → Result (List Token) LexFault
-tokens_behind skipped line start [] = Ok []
-tokens_behind (suc skipped) line start (c ∷ cs) = tokens_behind skipped line (start + 1) cs
-tokens_behind zero line start (c ∷ cs) =
+-- the tokens after the first so many bytes of what stands at an index and on a line
+unfoldable pub tokens_after : ℕ → ℕ → ℕ → List ℕ → Result (List Token) LexFault
+tokens_after skipped line start [] = Ok []
+tokens_after (suc skipped) line start (c ∷ cs) = tokens_after skipped line (start + 1) cs
+tokens_after zero line start (c ∷ cs) =
     piece line (c ∷ cs)
-    >>= (λ found. tokens_behind (found.size - 1) (line + line_ends (take found.size (c ∷ cs))) (start + 1) cs
+    >>= (λ found. tokens_after (found.size - 1) (line + line_ends (take found.size (c ∷ cs))) (start + 1) cs
     >>= (λ more. Ok (token_of line start found.kind (start + found.size) ++ more)))
 
 -- the tokens of a text that begins on that line, or the first fault in it, however long it is
 abbrev pub tokens_of : ℕ → List ℕ → Result (List Token) LexFault
-tokens_of line text = tokens_behind 0 line 0 text
+tokens_of line text = tokens_after 0 line 0 text
 
 -- the same, within the limit on the length
 unfoldable pub lexed : ℕ → List ℕ → Result (List Token) LexFault

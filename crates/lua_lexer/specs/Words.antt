@@ -2,7 +2,8 @@
 use Rattle.std.specs.Prelude.{ℕ, List, [], ◌∷◌, take, Option, Some, codes, find, bytes_eq, option_map, unwrap_or}
 use Rattle.std.specs.List.{prefix_len}
 use Rattle.lua_lexer.specs.declared.words.Word.{Word}
-use Rattle.lua_lexer.specs.declared.words.Word.TheVariants.{And, Break, Do, Else, ElseIf, End, False, For, Function, If, In, Local, Nil, Not, Or, Repeat, Return, Then, True, Until, While}
+use Rattle.lua_lexer.specs.declared.words.Word.TheVariants.{And, Break, Do, Else, ElseIf, End, False, For, Function, If, In, Local, Nil, Not, Or, Repeat}
+use Rattle.lua_lexer.specs.declared.words.Word.TheVariants.{Return, Then, True, Until, While}
 use Rattle.lua_lexer.specs.declared.tokens.TokenKind.{TokenKind}
 use Rattle.lua_lexer.specs.declared.tokens.TokenKind.TheVariants.{Name, Word as WordKind}
 use Rattle.lua_lexer.specs.declared.tokens.Piece.{Piece}

@@ -1,15 +1,17 @@
 -- Tokens written with single blanks.
-use Rattle.std.specs.Prelude.{◌≡◌, ℕ, ◌+◌, ◌/◌, ◌%◌, ◌<◌, ◌≤◌, true, List, [], ◌∷◌, ◌++◌, map, length, slice_index, pos, nat_abs, None, Ok, codes, decimal, flat_map}
+use Rattle.std.specs.Prelude.{◌≡◌, ℕ, ◌+◌, ◌/◌, ◌%◌, ◌<◌, ◌≤◌, true, List, [], ◌∷◌, ◌++◌, map, length, slice_index, pos, nat_abs, None, codes, decimal}
+use Rattle.std.specs.Prelude.{flat_map}
 use Rattle.std.specs.List.{prefix_len}
 use Rattle.lua_lexer.specs.declared.signs.Sign.{Sign}
-use Rattle.lua_lexer.specs.declared.signs.Sign.TheVariants.{Plus, Minus, Star, Slash, Percent, Caret, Hash, Equal, NotEqual, LessEqual, GreaterEqual, Less, Greater, Assign, OpenParenthesis, CloseParenthesis, OpenBrace, CloseBrace, OpenBracket, CloseBracket, Semicolon, Colon, Comma, Dot, Concat, Ellipsis}
+use Rattle.lua_lexer.specs.declared.signs.Sign.TheVariants.{Plus, Minus, Star, Slash, Percent, Caret, Hash, Equal, NotEqual, LessEqual, GreaterEqual, Less}
+use Rattle.lua_lexer.specs.declared.signs.Sign.TheVariants.{Greater, Assign, OpenParenthesis, CloseParenthesis, OpenBrace, CloseBrace, OpenBracket}
+use Rattle.lua_lexer.specs.declared.signs.Sign.TheVariants.{CloseBracket, Semicolon, Colon, Comma, Dot, Concat, Ellipsis}
 use Rattle.lua_lexer.specs.declared.tokens.Token.{Token}
 use Rattle.lua_lexer.specs.declared.tokens.TokenKind.{TokenKind}
 use Rattle.lua_lexer.specs.declared.tokens.TokenKind.TheVariants.{Name, Text, Number, Word as WordKind, Sign as SignKind}
 use Rattle.lua_lexer.specs.Characters.{is_word_start, is_word_byte}
 use Rattle.lua_lexer.specs.Words.{spelling, word_of}
-use Rattle.lua_lexer.specs.Tokens.{tokens_of}
-use Rattle.lua_lexer.specs.Ascii.{space, double_quote, digit_zero, backslash}
+use Rattle.resty_base.specs.Ascii.{space, double_quote, digit_zero, backslash}
 
 -- how a sign is written
 unfoldable pub sign_bytes : Sign → List ℕ
@@ -52,7 +54,7 @@ written (Number number) = decimal (nat_abs number)
 written (WordKind word) = spelling word
 written (SignKind sign) = sign_bytes sign
 
--- the tokens, with a blank behind each
+-- the tokens, with a blank after each
 unfoldable pub written_out : List TokenKind → List ℕ
 written_out [] = []
 written_out (kind ∷ kinds) = written kind ++ space ∷ written_out kinds
@@ -83,7 +85,3 @@ AreKinds (kind ∷ kinds) = IsKind kind × AreKinds kinds
 -- the kinds of the tokens
 abbrev pub kinds_of : List Token → List TokenKind
 kinds_of tokens = map (λ token. token.kind) tokens
-
--- the written tokens have, as a text of any length, tokens of the same kinds
-abbrev pub ReadsBack : ℕ → List TokenKind → Type 0
-ReadsBack line kinds = (tokens : List Token) × (tokens_of line (written_out kinds) ≡ Ok tokens) × (kinds_of tokens ≡ kinds)

@@ -1,9 +1,11 @@
+//! Long brackets: where one opens, and where it closes.
+
 ghost use Rattle.std.specs.Prelude.{◌≡◌, ◌≤◌, ◌<◌, ◌+◌, ◌==◌, IfSome, IsTrue, length};
 ghost use Rattle.std.specs.List.{prefix_len};
-ghost use Rattle.lua_lexer.specs.Ascii.{equals};
+ghost use Rattle.resty_base.specs.Ascii.{equals};
 ghost use Rattle.lua_lexer.specs.Brackets.{level_of, is_bracket, opens, closes, before_closing, inside_len, long_size};
 
-use crate::characters::{behind, byte_at};
+use resty_base::{byte_at, bytes_after};
 
 /// How many `=` stand at the front.
 fn equals_signs(text: &[u8]) -> usize
@@ -13,7 +15,7 @@ fn equals_signs(text: &[u8]) -> usize
     text.iter().take_while(|byte| **byte == b'=').count()
 }
 
-/// How many `=` stand behind the first byte.
+/// How many `=` stand after the first byte.
 #[tactic(auto, unfolding(crate::specs::Brackets::level_of))]
 pub(crate) fn level_of(text: &[u8]) -> usize
     ensures value { result ≡ level_of text.now }
@@ -22,7 +24,7 @@ pub(crate) fn level_of(text: &[u8]) -> usize
     if text.is_empty() {
         return 0;
     }
-    equals_signs(behind(text, 1))
+    equals_signs(bytes_after(text, 1))
 }
 
 /// A long bracket of this byte stands at the front.
@@ -63,7 +65,7 @@ fn before_closing(text: &[u8], level: usize) -> Option<usize>
         if closes(rest, level) {
             return Some(text.len() - rest.len());
         }
-        rest = behind(rest, 1);
+        rest = bytes_after(rest, 1);
     }
     None
 }
@@ -76,5 +78,5 @@ pub(crate) fn inside_len(text: &[u8]) -> Option<usize>
     ensures within { IfSome result (λ len. long_size text.now len ≤ length text.now) }
 {
     let level = level_of(text);
-    before_closing(behind(text, level + 2), level)
+    before_closing(bytes_after(text, level + 2), level)
 }

@@ -1,36 +1,15 @@
+//! The classes of bytes, runs of them, and line ends.
+
 ghost use Rattle.std.specs.Prelude.{◌≡◌, ◌≤◌, ◌<◌, ◌^◌, List, ℕ, IfOk, length, slice_index, take, drop, not, if◌then◌else◌};
 ghost use Rattle.std.specs.List.{prefix_len};
 ghost use Rattle.std.specs.Char.{is_ascii_digit, is_ascii_hexdigit};
-ghost use Rattle.lua_lexer.specs.Ascii.{line_feed};
+ghost use Rattle.resty_base.specs.Ascii.{line_feed};
 ghost use Rattle.lua_lexer.specs.Characters.{is_line_byte, is_blank, is_word_start, is_word_byte, line_end, line_ends, unified};
 ghost use Rattle.lua_lexer.specs.Readings.{Gives};
 
 use crate::LexFault;
+use resty_base::{byte_at, bytes_after};
 use std::alloc::Global;
-
-/// The byte at a place, 0 at the end and behind it.
-pub(crate) fn byte_at(text: &[u8], place: usize) -> u8
-    ensures value { result ≡ slice_index text.now place }
-    ensures within { 0 < result → place < length text.now }
-{
-    if place < text.len() { text[place] } else { 0 }
-}
-
-/// The first `size` bytes.
-pub(crate) fn front(text: &[u8], size: usize) -> &[u8]
-    requires { size ≤ length text.now }
-    ensures { result.now ≡ take size text.now }
-{
-    &text[..size]
-}
-
-/// The bytes behind the first `size`.
-pub(crate) fn behind(text: &[u8], size: usize) -> &[u8]
-    requires { size ≤ length text.now }
-    ensures { result.now ≡ drop size text.now }
-{
-    &text[size..]
-}
 
 pub(crate) fn is_line_byte(byte: u8) -> bool
     ensures { result ≡ is_line_byte byte }
@@ -126,7 +105,7 @@ pub(crate) fn line_ends(text: &[u8]) -> u32
     let mut rest = text;
     while !rest.is_empty() {
         count += u32::from(is_line_byte(rest[0]));
-        rest = behind(rest, line_end(rest).max(1));
+        rest = bytes_after(rest, line_end(rest).max(1));
     }
     count
 }
@@ -147,7 +126,7 @@ pub(crate) fn unified(alloc: Global, text: &[u8]) -> Result<Vec<u8>, LexFault>
     let mut rest = text;
     while !rest.is_empty() {
         bytes.push(unified_byte(rest[0]))?;
-        rest = behind(rest, line_end(rest).max(1));
+        rest = bytes_after(rest, line_end(rest).max(1));
     }
     Ok(bytes)
 }

@@ -1,8 +1,11 @@
+//! Comments, short and long.
+
 ghost use Rattle.std.specs.Prelude.{◌≡◌, ◌≤◌, ◌<◌, ◌+◌, IfSome, IsTrue, length};
 ghost use Rattle.lua_lexer.specs.Comments.{is_comment, comment_size};
 
 use crate::brackets::{inside_len, level_of, opens};
-use crate::characters::{behind, byte_at, line_len};
+use crate::characters::line_len;
+use resty_base::{byte_at, bytes_after};
 
 /// A comment begins at the front.
 #[tactic(auto, unfolding(crate::specs::Comments::is_comment))]
@@ -20,7 +23,7 @@ pub(crate) fn comment_size(text: &[u8]) -> Option<usize>
     ensures value { result ≡ comment_size text.now }
     ensures within { IfSome result (λ size. (0 < size) × (size ≤ length text.now)) }
 {
-    let inside = behind(text, 2);
+    let inside = bytes_after(text, 2);
     if opens(inside) {
         let len = inside_len(inside)?;
         Some(len + 2 * (level_of(inside) + 2) + 2)

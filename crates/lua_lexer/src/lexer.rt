@@ -1,12 +1,15 @@
-ghost use Rattle.std.specs.Prelude.{◌≡◌, ◌≢◌, ◌≤◌, ◌<◌, ◌+◌, ◌^◌, ◌++◌, Ok, Err, OnOk, IfOk, IfErr, length};
+//! The tokens of a text, one piece after another.
+
+ghost use Rattle.std.specs.Prelude.{◌≡◌, ◌≢◌, ◌≤◌, ◌<◌, ◌+◌, ◌^◌, ◌++◌, OnOk, IfOk, IfErr, length};
 ghost use Rattle.lua_lexer.specs.Comments.{comment_size};
-ghost use Rattle.lua_lexer.specs.Tokens.{comment, piece, token_of, tokens_of, lexed};
+ghost use Rattle.lua_lexer.specs.Lexical.{HasTokens, HasFault};
+ghost use Rattle.lua_lexer.specs.Tokens.{comment, piece, token_of, tokens_of};
 ghost use Rattle.lua_lexer.specs.Order.{AreInOrder};
 ghost use Rattle.lua_lexer.specs.Pieces.{IsPieceOf};
 ghost use Rattle.lua_lexer.specs.Readings.{Gives};
 
 use crate::brackets::opens;
-use crate::characters::{behind, blanks, front, is_blank, is_word_start, line_ends};
+use crate::characters::{blanks, is_blank, is_word_start, line_ends};
 use crate::comments::{comment_size, is_comment};
 use crate::numerals::numeral;
 use crate::signs::longest_sign;
@@ -14,6 +17,7 @@ use crate::strings::{is_quote, long_string, short_string};
 use crate::tokens::{Piece, TokenKind};
 use crate::words::name_or_word;
 use crate::{LexFault, Token};
+use resty_base::{bytes_after, first_bytes};
 use std::alloc::Global;
 
 /// The length of the longest text that is read.
@@ -96,21 +100,21 @@ fn tokens_of(alloc: Global, text: &[u8], line: u32) -> Result<Vec<Token>, LexFau
     while !rest.is_empty() {
         let Piece { kind, size } = piece(alloc, rest, line)?;
         push_token(&mut tokens, kind, line, start, start + size)?;
-        line += line_ends(front(rest, size));
-        rest = behind(rest, size);
+        line += line_ends(first_bytes(rest, size));
+        rest = bytes_after(rest, size);
         start += size;
     }
     Ok(tokens)
 }
 
-/// The tokens of a text that begins on the line `line`. A fault is the first that is met; `TooLong` comes before all
-/// others, with the line that was passed in. `Memory` is the want of memory.
-#[tactic(auto, unfolding(crate::specs::Tokens::lexed))]
+/// The tokens of a text that begins on the line `line`, by the lexical rules (Lua 5.1 manual, 2.1). A fault is the first
+/// that is met; `TooLong` comes before all others, with the line that was passed in. `Memory` is out of memory.
+#[tactic(auto, using(crate::proofs::Lexes::tokens_by_rules, crate::proofs::Lexes::fault_by_rules, crate::proofs::Lexes::too_long))]
 pub fn lex(alloc: Global, text: &[u8], line: u32) -> Result<Vec<Token>, LexFault>
     requires { line ≤ 4_293_918_719 }
-    ensures tokens { IfOk result (λ tokens. lexed line text.now ≡ Ok tokens.items) }
+    ensures tokens { IfOk result (λ tokens. HasTokens line text.now tokens.items) }
     ensures order { IfOk result (λ tokens. AreInOrder line 0 tokens.items (length text.now)) }
-    ensures fault { IfErr result (λ fault. fault ≢ LexFault.Memory → lexed line text.now ≡ Err fault) }
+    ensures fault { IfErr result (λ fault. fault ≢ LexFault.Memory → HasFault line text.now fault) }
 {
     if text.len() > LONGEST {
         return Err(LexFault::TooLong(line));

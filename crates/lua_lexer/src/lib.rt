@@ -14,7 +14,7 @@ mod tokens;
 mod words;
 
 pub use blocks::block_end;
-pub use laws::{blocks_balance, one_reading, written_tokens_are_read};
+pub use laws::{blocks_balance, one_reading, reading_is_lexed, written_tokens_are_read};
 pub use lexer::lex;
 pub use signs::Sign;
 pub use tokens::{LexFault, Token, TokenKind};

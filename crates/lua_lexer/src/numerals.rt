@@ -1,11 +1,14 @@
+//! Numerals, decimal and hexadecimal.
+
 ghost use Rattle.std.specs.Prelude.{◌≡◌, ◌≤◌, IfOk, IsTrue, length, slice_index};
 ghost use Rattle.std.specs.Char.{is_ascii_digit};
 ghost use Rattle.lua_lexer.specs.Numerals.{number_of, decimal, hexadecimal, numeral, is_fraction_mark};
 ghost use Rattle.lua_lexer.specs.Pieces.{IsPieceOf};
 
 use crate::LexFault;
-use crate::characters::{behind, byte_at, digits, front, hex_digits, is_word_byte};
+use crate::characters::{digits, hex_digits, is_word_byte};
 use crate::tokens::{Piece, TokenKind};
+use resty_base::{byte_at, bytes_after, first_bytes};
 
 /// The number that a whole numeral writes.
 #[tactic(auto, unfolding(crate::specs::Numerals::number_of))]
@@ -42,7 +45,7 @@ fn decimal(text: &[u8], line: u32) -> Result<Piece, LexFault>
     } else if is_word_byte(next) {
         Err(LexFault::BadByte(line))
     } else {
-        number_of(front(text, size), line)
+        number_of(first_bytes(text, size), line)
     }
 }
 
@@ -52,12 +55,12 @@ fn hexadecimal(text: &[u8], line: u32) -> Result<Piece, LexFault>
     ensures value { result ≡ hexadecimal line text.now }
     ensures within { IfOk result (IsPieceOf text.now) }
 {
-    let digits = hex_digits(behind(text, 2));
+    let digits = hex_digits(bytes_after(text, 2));
     let size = digits + 2;
     if digits == 0 || is_word_byte(byte_at(text, size)) {
         return Err(LexFault::BadByte(line));
     }
-    number_of(front(text, size), line)
+    number_of(first_bytes(text, size), line)
 }
 
 /// The numeral at the front.

@@ -1,10 +1,12 @@
+//! Signs: the tokens that are no name, keyword, string or numeral.
+
 ghost use Rattle.std.specs.Prelude.{◌≡◌, ◌≤◌, ◌<◌, IsSome, IfOk, length};
 ghost use Rattle.lua_lexer.specs.Signs.{sign_of_one, sign_of_two, short_sign, longest_sign};
 ghost use Rattle.lua_lexer.specs.Pieces.{IsPieceOf};
 
 use crate::LexFault;
-use crate::characters::byte_at;
 use crate::tokens::{Piece, TokenKind};
+use resty_base::byte_at;
 
 /// A token that is no name, keyword, string or numeral.
 #[derive(Clone, Copy, Debug, PartialEq, Eq)]

@@ -1,19 +1,20 @@
+//! Literal strings, in quotes and in long brackets.
+
 ghost use Rattle.std.specs.Prelude.{◌≡◌, ◌≤◌, ◌<◌, ◌+◌, ◌^◌, ◌==◌, ◌||◌, Ok, IfOk, IfSome, IsTrue, length, slice_index};
 ghost use Rattle.std.specs.Char.{is_ascii_digit};
 ghost use Rattle.lua_lexer.specs.Characters.{is_line_byte, line_ends};
 ghost use Rattle.lua_lexer.specs.Brackets.{level_of};
-ghost use Rattle.lua_lexer.specs.Strings.{is_quote, taken_along, body_len, escaped_byte, digits_escape, escape, first_element, decoded, short_string, long_string};
+ghost use Rattle.lua_lexer.specs.Strings.{is_quote, taken_along, body_len, escaped_byte, digits_escape, escape, first_element, decoded, short_string};
+ghost use Rattle.lua_lexer.specs.Strings.{long_string};
 ghost use Rattle.lua_lexer.specs.Readings.{Gives};
 ghost use Rattle.lua_lexer.specs.Pieces.{IsPieceOf};
 
 use crate::LexFault;
 use crate::brackets::{inside_len, level_of};
-use crate::characters::{
-    behind, byte_at, digits, front, is_line_byte, line_end, line_ends, unified,
-};
+use crate::characters::{digits, is_line_byte, line_end, line_ends, unified};
 use crate::tokens::{Piece, TokenKind};
 use lua_numbers::number_of;
-use resty_base::Bytes;
+use resty_base::{Bytes, byte_at, bytes_after, first_bytes};
 use std::alloc::Global;
 
 /// A byte of a short string, and how many bytes write it.
@@ -29,14 +30,14 @@ pub(crate) fn is_quote(byte: u8) -> bool
     byte == b'"' || byte == b'\''
 }
 
-/// How many bytes behind a byte of a short string belong to it: behind a backslash the next byte or a line end.
+/// How many bytes after a byte of a short string belong to it: after a backslash the next byte or a line end.
 #[tactic(auto, unfolding(crate::specs::Strings::taken_along))]
-fn taken_along(byte: u8, behind: &[u8]) -> usize
-    ensures value { result ≡ taken_along byte behind.now }
-    ensures within { result ≤ length behind.now }
+fn taken_along(byte: u8, after: &[u8]) -> usize
+    ensures value { result ≡ taken_along byte after.now }
+    ensures within { result ≤ length after.now }
 {
     if byte == b'\\' {
-        line_end(behind).max(1).min(behind.len())
+        line_end(after).max(1).min(after.len())
     } else {
         0
     }
@@ -60,13 +61,13 @@ pub(crate) fn body_len(text: &[u8], quote: u8) -> usize
         if ends_body(byte, quote) {
             return text.len() - rest.len();
         }
-        let inside = behind(rest, 1);
-        rest = behind(inside, taken_along(byte, inside));
+        let inside = bytes_after(rest, 1);
+        rest = bytes_after(inside, taken_along(byte, inside));
     }
     text.len()
 }
 
-/// What the letter, backslash or quote behind a backslash stands for.
+/// What the letter, backslash or quote after a backslash stands for.
 #[tactic(auto, unfolding(crate::specs::Strings::escaped_byte))]
 fn escaped_byte(byte: u8) -> Option<u8>
     ensures { result ≡ escaped_byte byte }
@@ -91,8 +92,8 @@ fn digits_escape(text: &[u8]) -> Option<Element>
     ensures value { result ≡ digits_escape text.now }
     ensures within { IfSome result (λ escaped. escaped.size ≤ length text.now) }
 {
-    let size = digits(front(text, text.len().min(3)));
-    let number = number_of(front(text, size))?.get();
+    let size = digits(first_bytes(text, text.len().min(3)));
+    let number = number_of(first_bytes(text, size))?.get();
     if number <= 255 {
         Some(Element {
             byte: number as u8,
@@ -103,7 +104,7 @@ fn digits_escape(text: &[u8]) -> Option<Element>
     }
 }
 
-/// The byte that stands behind a backslash.
+/// The byte that stands after a backslash.
 #[tactic(auto, unfolding(crate::specs::Strings::escape))]
 fn escape(text: &[u8]) -> Option<Element>
     requires { 0 < length text.now }
@@ -137,7 +138,7 @@ fn first_element(text: &[u8], line: u32) -> Result<Element, LexFault>
             size: 1,
         });
     }
-    match escape(behind(text, 1)) {
+    match escape(bytes_after(text, 1)) {
         Some(escaped) => Ok(Element {
             byte: escaped.byte,
             size: escaped.size + 1,
@@ -157,8 +158,8 @@ fn decoded(alloc: Global, body: &[u8], line: u32) -> Result<Vec<u8>, LexFault>
     while !rest.is_empty() {
         let first = first_element(rest, line)?;
         bytes.push(first.byte)?;
-        line += line_ends(front(rest, first.size));
-        rest = behind(rest, first.size);
+        line += line_ends(first_bytes(rest, first.size));
+        rest = bytes_after(rest, first.size);
     }
     Ok(bytes)
 }
@@ -173,9 +174,9 @@ pub(crate) fn short_string(alloc: Global, text: &[u8], line: u32) -> Result<Piec
     ensures within { IfOk result (IsPieceOf text.now) }
 {
     let quote = text[0];
-    let inside = behind(text, 1);
+    let inside = bytes_after(text, 1);
     let len = body_len(inside, quote);
-    let bytes = decoded(alloc, front(inside, len), line)?;
+    let bytes = decoded(alloc, first_bytes(inside, len), line)?;
     if byte_at(inside, len) != quote {
         return Err(LexFault::OpenString(line));
     }
@@ -197,8 +198,8 @@ pub(crate) fn long_string(alloc: Global, text: &[u8], line: u32) -> Result<Piece
         return Err(LexFault::OpenString(line));
     };
     let bracket = level_of(text) + 2;
-    let inside = front(behind(text, bracket), len);
-    let content = unified(alloc, behind(inside, line_end(inside)))?;
+    let inside = first_bytes(bytes_after(text, bracket), len);
+    let content = unified(alloc, bytes_after(inside, line_end(inside)))?;
     let kind = Some(TokenKind::Text(Bytes::from_vec(content)?));
     Ok(Piece {
         kind,

@@ -1,3 +1,5 @@
+//! Tokens, pieces and the faults of a text.
+
 use crate::{Sign, Word};
 use resty_base::{Bytes, Whole};
 use std::alloc::{AllocError, AllocFailed};
@@ -13,7 +15,7 @@ pub enum TokenKind {
     Sign(Sign),
 }
 
-/// A token, with the line on which it begins and the places of its first byte and of the byte behind it.
+/// A token, with the line on which it begins and the index of its first byte and that of the byte after it.
 #[derive(Debug, PartialEq, Eq, Drop)]
 pub struct Token {
     pub kind: TokenKind,
@@ -22,7 +24,7 @@ pub struct Token {
     pub end: usize,
 }
 
-/// Why a text is no list of tokens, with the line of the place; a string or a comment that isn't closed has the line
+/// Why a text is no list of tokens, with its line; a string or a comment that isn't closed has the line
 /// where it opened. `Display` writes the variant's name alone.
 #[derive(Clone, Copy, Debug, PartialEq, Eq, Error)]
 pub enum LexFault {
@@ -45,7 +47,7 @@ pub enum LexFault {
     /// The text has more than 1,048,576 bytes.
     #[error("TooLong")]
     TooLong(u32),
-    /// Want of memory.
+    /// Out of memory.
     #[error("Memory")]
     Memory,
 }
@@ -54,7 +56,7 @@ impl LexFault {
     ghost use Rattle.std.specs.Prelude.{◌≡◌};
     ghost use Rattle.lua_lexer.specs.Order.{line_of};
 
-    /// The line of the fault; there is none for the want of memory.
+    /// The line of the fault; out of memory has none.
     pub fn line(self) -> Option<u32>
         ensures { result ≡ line_of self }
     {

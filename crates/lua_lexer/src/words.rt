@@ -1,3 +1,5 @@
+//! Names and keywords.
+
 ghost use Rattle.std.specs.Prelude.{◌≡◌, ◌≤◌, ◌<◌, Ok, IfOk, IsTrue, length, slice_index};
 ghost use Rattle.lua_lexer.specs.Characters.{is_word_start};
 ghost use Rattle.lua_lexer.specs.Words.{spelling, words, word_of, kind_of_word, name_or_word};
@@ -5,9 +7,9 @@ ghost use Rattle.lua_lexer.specs.Pieces.{IsPieceOf};
 ghost use Rattle.lua_lexer.specs.Readings.{Gives};
 
 use crate::LexFault;
-use crate::characters::{front, word_bytes};
+use crate::characters::word_bytes;
 use crate::tokens::{Piece, TokenKind};
-use resty_base::Bytes;
+use resty_base::{Bytes, first_bytes};
 use std::alloc::Global;
 
 /// A keyword.
@@ -118,6 +120,6 @@ pub(crate) fn name_or_word(alloc: Global, text: &[u8]) -> Result<Piece, LexFault
     ensures within { IfOk result (IsPieceOf text.now) }
 {
     let size = word_bytes(text);
-    let kind = Some(kind_of_word(alloc, front(text, size))?);
+    let kind = Some(kind_of_word(alloc, first_bytes(text, size))?);
     Ok(Piece { kind, size })
 }

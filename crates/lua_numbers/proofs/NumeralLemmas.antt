@@ -22,7 +22,7 @@ passes base ds i value digit one inside e d h =
     let now : digits_value base (take (i + 1) ds) ≡ value * base + digit = rw (e, d) more in
     beyond base ds (omega arith)
 
--- one more digit behind the first ones
+-- one more digit after the first ones
 pub value_more : (base : ℕ) (ds : List ℕ) (i value digit : ℕ) → i < length ds → value ≡ digits_value base (take i ds) → digit ≡ digit_value (get_or ds i 0) →
     value * base + digit ≡ digits_value base (take (i + 1) ds)
 value_more base ds i value digit inside e d = rw (e, d) (sym (digits_value_more base ds i inside))

@@ -13,7 +13,7 @@ use Rattle.std.proofs.lemmas.Str.Parse.{digit_from_value}
 use Rattle.std.proofs.lemmas.Bool.Decides.{nat_tests}
 use Rattle.std.proofs.lemmas.Int.{ints}
 use Rattle.resty_base.specs.WholeNumber.{IsWhole}
-use Rattle.lua_numbers.specs.NumberText.{is_blank, behind_blanks, before_blanks, numeral_in, natural_in, integer_in, number_in}
+use Rattle.lua_numbers.specs.NumberText.{is_blank, after_blanks, before_blanks, numeral_in, natural_in, integer_in, number_in}
 
 -- ---- no blank stands at an end
 
@@ -21,9 +21,9 @@ use Rattle.lua_numbers.specs.NumberText.{is_blank, behind_blanks, before_blanks,
 abbrev is_seen : ℕ → Bool
 is_seen c = not (is_blank c)
 
-behind_seen : (text : List ℕ) → list_all is_seen text ≡ true → behind_blanks text ≡ text
-behind_seen [] h = refl
-behind_seen (c ∷ cs) h = grind (arith, nat_tests)
+after_seen : (text : List ℕ) → list_all is_seen text ≡ true → after_blanks text ≡ text
+after_seen [] h = refl
+after_seen (c ∷ cs) h = grind (arith, nat_tests)
 
 seen-append : (s t : List ℕ) → list_all is_seen s ≡ true → list_all is_seen t ≡ true → list_all is_seen (s ++ t) ≡ true
 seen-append [] t h k = k
@@ -39,9 +39,9 @@ seen-reverse (c ∷ cs) h =
     let e : reverse (c ∷ cs) ≡ reverse cs ++ (c ∷ []) = reverse-append (c ∷ []) cs in
     rw e (seen-append (reverse cs) (c ∷ []) f (grind arith))
 
-pub unblanked : (text : List ℕ) → list_all is_seen text ≡ true → before_blanks (behind_blanks text) ≡ text
+pub unblanked : (text : List ℕ) → list_all is_seen text ≡ true → before_blanks (after_blanks text) ≡ text
 unblanked text h =
-    ap before_blanks (behind_seen text h) ∙ ap reverse (behind_seen (reverse text) (seen-reverse text h)) ∙ reverse-reverse text
+    ap before_blanks (after_seen text h) ∙ ap reverse (after_seen (reverse text) (seen-reverse text h)) ∙ reverse-reverse text
 
 -- ---- decimal digits
 

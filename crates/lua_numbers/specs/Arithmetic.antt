@@ -1,4 +1,4 @@
--- Whole arithmetic, on integers (Lua 5.1 Reference Manual, 2.5.1, with whole numbers in a range in the place of floats).
+-- Whole arithmetic, on integers (Lua 5.1 Reference Manual, 2.5.1, with whole numbers in a range instead of floats).
 use Rattle.std.specs.Prelude.{ℕ, zero, suc, ℤ, pos, negsuc, ◌-ℤ◌, ◌*ℤ◌, neg_ℤ, unsigned_abs, nat_le, if◌then◌else◌, Result, Ok, Err}
 use Rattle.std.specs.Ordering.{int_eq}
 use Rattle.std.specs.Int.{int_div_euclid}

@@ -1,5 +1,6 @@
 -- Numbers as text (Lua 5.1 Reference Manual, 2.1 and 2.2.1, with whole numbers alone).
-use Rattle.std.specs.Prelude.{ℕ, Bool, ◌&&◌, ◌||◌, ◌==◌, nat_eq, nat_lt, nat_le, if◌then◌else◌, List, [], ◌∷◌, reverse, drop, length, codes, ℤ, pos, neg_ℤ, Option, Some, None}
+use Rattle.std.specs.Prelude.{ℕ, Bool, ◌&&◌, ◌||◌, ◌==◌, nat_eq, nat_lt, nat_le, if◌then◌else◌, List, [], ◌∷◌, reverse, drop, length, codes, ℤ, pos, neg_ℤ}
+use Rattle.std.specs.Prelude.{Option, Some, None}
 use Rattle.std.specs.Option.{option_map}
 use Rattle.std.specs.List.{list_all, starts_with}
 use Rattle.std.specs.Int.{is_in_range}
@@ -10,14 +11,14 @@ use Rattle.std.specs.Str.Parse.{digits_value}
 abbrev pub is_blank : ℕ → Bool
 is_blank c = c == 32 || is_in_range 9 13 c
 
--- the text behind the blanks at its start
-abbrev pub behind_blanks : List ℕ → List ℕ
-behind_blanks [] = []
-behind_blanks (c ∷ cs) = if is_blank c then behind_blanks cs else c ∷ cs
+-- the text after the blanks at its start
+abbrev pub after_blanks : List ℕ → List ℕ
+after_blanks [] = []
+after_blanks (c ∷ cs) = if is_blank c then after_blanks cs else c ∷ cs
 
 -- the text before the blanks at its end
 abbrev pub before_blanks : List ℕ → List ℕ
-before_blanks text = reverse (behind_blanks (reverse text))
+before_blanks text = reverse (after_blanks (reverse text))
 
 -- the number that one digit or more write in a base, where it is at most 99,999,999,999,999
 abbrev pub numeral_in : ℕ → List ℕ → Option ℤ
@@ -26,7 +27,7 @@ numeral_in base digits =
     && nat_le (digits_value base digits) 99_999_999_999_999
     then Some (pos (digits_value base digits)) else None
 
--- the number that decimal digits, or hexadecimal ones behind `0x`, write
+-- the number that decimal digits, or hexadecimal ones after `0x`, write
 abbrev pub natural_in : List ℕ → Option ℤ
 natural_in text =
     if starts_with nat_eq text (codes "0x") then numeral_in 16 (drop 2 text) else numeral_in 10 text
@@ -38,4 +39,4 @@ integer_in text =
 
 -- the number that a text writes, with or without blanks at its ends; none where it writes no number
 abbrev pub number_in : List ℕ → Option ℤ
-number_in text = integer_in (before_blanks (behind_blanks text))
+number_in text = integer_in (before_blanks (after_blanks text))

@@ -1,3 +1,5 @@
+//! Whole arithmetic with its faults.
+
 ghost use Rattle.std.specs.Prelude.{◌≡◌, ◌≢◌, pos, ◌+ℤ◌, ◌-ℤ◌, ◌*ℤ◌, ◌≤ℤ◌, ◌<ℤ◌, neg_ℤ, ℤ, IfOk};
 ghost use Rattle.resty_base.specs.WholeNumber.{IsWhole};
 ghost use Rattle.lua_numbers.specs.Arithmetic.{within_range, quotient_of, remainder_of, floor_quotient};

@@ -1,3 +1,5 @@
+//! The faults of arithmetic.
+
 use thiserror::Error;
 
 /// Why an arithmetic operation has no result.

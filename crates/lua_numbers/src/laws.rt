@@ -1,3 +1,5 @@
+//! Laws of numbers as text: functions that do nothing, each with its law as its contract.
+
 ghost use Rattle.std.specs.Prelude.{◌≡◌, ℕ, ℤ, List};
 ghost use Rattle.std.specs.Fmt.{signed_decimal};
 ghost use Rattle.std.specs.Str.Parse.{IsNumeral};

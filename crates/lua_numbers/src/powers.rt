@@ -1,3 +1,5 @@
+//! Powers.
+
 ghost use Rattle.std.specs.Prelude.{◌≡◌, ℤ, pos};
 ghost use Rattle.lua_numbers.specs.Arithmetic.{within_range, power, power_of, quotient_of};
 

@@ -1,6 +1,8 @@
+//! Numbers as text, and the numbers that texts write.
+
 ghost use Rattle.std.specs.Prelude.{◌≡◌, ◌≤◌, IfOk};
 ghost use Rattle.std.specs.Fmt.{signed_decimal};
-ghost use Rattle.lua_numbers.specs.NumberText.{is_blank, behind_blanks, before_blanks, numeral_in, natural_in, number_in};
+ghost use Rattle.lua_numbers.specs.NumberText.{is_blank, after_blanks, before_blanks, numeral_in, natural_in, number_in};
 
 use crate::neg;
 use itoa::Buffer;
@@ -10,7 +12,7 @@ use std::alloc::{AllocError, Global};
 /// The greatest number that a text writes.
 const GREATEST: u64 = 99_999_999_999_999;
 
-/// The number in decimal digits, behind a `-` where it is negative.
+/// The number in decimal digits, after a `-` where it is negative.
 pub fn text_of(alloc: Global, n: Whole) -> Result<Bytes, AllocError>
     ensures { IfOk result (λ text. text ≡ signed_decimal n) }
 {
@@ -18,19 +20,19 @@ pub fn text_of(alloc: Global, n: Whole) -> Result<Bytes, AllocError>
     Bytes::copy_from_slice(alloc, buffer.format(n.get()).as_bytes())
 }
 
-/// The number that a text writes: blanks, an optional `-`, decimal digits or hexadecimal ones behind `0x`, blanks
+/// The number that a text writes: blanks, an optional `-`, decimal digits or hexadecimal ones after `0x`, blanks
 /// (Lua 5.1 Reference Manual, 2.1 and 2.2.1). A number beyond 99,999,999,999,999 either way is none.
 pub fn number_of(text: &[u8]) -> Option<Whole>
     ensures { result ≡ number_in text.now }
 {
-    let numeral = before_blanks(behind_blanks(text));
+    let numeral = before_blanks(after_blanks(text));
     match numeral.strip_prefix(b"-") {
         Some(natural) => Some(neg(natural_of(natural)?)),
         None => natural_of(numeral),
     }
 }
 
-/// Decimal digits, or hexadecimal ones behind `0x`.
+/// Decimal digits, or hexadecimal ones after `0x`.
 fn natural_of(text: &[u8]) -> Option<Whole>
     ensures { result ≡ natural_in text.now }
 {
@@ -64,16 +66,16 @@ fn is_blank(byte: u8) -> bool
     matches!(byte, b' ' | b'\t'..=b'\r')
 }
 
-/// The text behind the blanks at its start.
-fn behind_blanks(text: &[u8]) -> &[u8]
-    ensures { result.now ≡ behind_blanks text.now }
+/// The text after the blanks at its start.
+fn after_blanks(text: &[u8]) -> &[u8]
+    ensures { result.now ≡ after_blanks text.now }
 {
     let mut rest = text;
-    while let [first, behind @ ..] = rest {
+    while let [first, after @ ..] = rest {
         if !is_blank(*first) {
             break;
         }
-        rest = behind;
+        rest = after;
     }
     rest
 }

@@ -6,7 +6,7 @@ pub returns-then-from-text-clause-value : goal.returns-then-from-text-clause-val
 returns-then-from-text-clause-value c = block_past _ _ (search rules)
 
 pub loop-rest-init : goal.loop-rest-init
-loop-rest-init c = search_begins _ _ _ (search rules) c.behind-rest.ensures
+loop-rest-init c = search_begins _ _ _ (search rules) c.bytes_after-rest.ensures
 
 pub returns-then-closes_block-clause-value : goal.returns-then-closes_block-clause-value
 returns-then-closes_block-clause-value c =
@@ -24,7 +24,7 @@ returns-in_err-size-clause-value c =
 
 pub loop-rest-preserved : goal.loop-rest-preserved
 loop-rest-preserved c =
-    search_step _ _ _ _ _ _ _ _ (search rules) (sym c.closes_block.ensures ∙ c.if-closes_block.false) c.loop-rest.invariant c.in_ok-size.ensures.value c.in_ok-size.ensures.within c.depth_behind-depth.ensures c.behind-rest-in-loop-rest.ensures
+    search_step _ _ _ _ _ _ _ _ (search rules) (sym c.closes_block.ensures ∙ c.if-closes_block.false) c.loop-rest.invariant c.in_ok-size.ensures.value c.in_ok-size.ensures.within c.depth_after-depth.ensures c.bytes_after-rest-in-loop-rest.ensures
 
 pub returns-clause-value : goal.returns-clause-value
 returns-clause-value c = sym (closing_none _ _ _ (search rules)) ∙ c.loop-rest.invariant.same

@@ -13,7 +13,7 @@ pub loop-rest-preserved : goal.loop-rest-preserved
 loop-rest-preserved c =
     let was = c.loop-rest.invariant in
     let within = c.in_ok-kind.ensures.within in
-    let kept = tokens_kept _ _ _ _ _ _ _ _ _ _ _ _ (search rules) (was.0, was.1, was.2) c.in_ok-kind.ensures.value within c.in_ok-push_token.ensures.ok (c.line_ends-line.ensures.value, c.line_ends-line.ensures.within) c.front.ensures c.behind-rest.ensures in
+    let kept = tokens_kept _ _ _ _ _ _ _ _ _ _ _ _ (search rules) (was.0, was.1, was.2) c.in_ok-kind.ensures.value within c.in_ok-push_token.ensures.ok (c.line_ends-line.ensures.value, c.line_ends-line.ensures.within) c.first_bytes.ensures c.bytes_after-rest.ensures in
     (kept.0, kept.1, kept.2, stand_after _ _ _ _ _ _ _ _ _ was.3 within.some c.in_ok-push_token.ensures.ok)
 
 pub returns-clause-value : goal.returns-clause-value

@@ -8,7 +8,7 @@ returns-then-ends_body-clause-value c =
 
 pub loop-rest-preserved : goal.loop-rest-preserved
 loop-rest-preserved c =
-    body_kept _ _ _ _ _ _ _ (search rules) (sym c.ends_body.ensures ∙ c.if-ends_body.false) c.loop-rest.invariant c.behind-inside.ensures c.taken_along.ensures.value c.behind-rest.ensures
+    body_kept _ _ _ _ _ _ _ (search rules) (sym c.ends_body.ensures ∙ c.if-ends_body.false) c.loop-rest.invariant c.bytes_after-inside.ensures c.taken_along.ensures.value c.bytes_after-rest.ensures
 
 pub returns-clause-value : goal.returns-clause-value
 returns-clause-value c = body_whole _ _ _ _ c.loop-rest.invariant (search rules)

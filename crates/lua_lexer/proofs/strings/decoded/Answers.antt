@@ -11,7 +11,7 @@ returns-in_err-first c =
 
 pub loop-rest-preserved : goal.loop-rest-preserved
 loop-rest-preserved c =
-    decoded_kept _ _ _ _ _ _ _ _ _ _ (search rules) c.loop-rest.invariant c.in_ok-first.ensures.value c.in_ok-first.ensures.within (chosen _ _ _ _ c.push.ensures.items (ap is_ok c.in_ok-push.was)) (c.line_ends-line.ensures.value, c.line_ends-line.ensures.within) c.front.ensures c.behind-rest.ensures
+    decoded_kept _ _ _ _ _ _ _ _ _ _ (search rules) c.loop-rest.invariant c.in_ok-first.ensures.value c.in_ok-first.ensures.within (chosen _ _ _ _ c.push.ensures.items (ap is_ok c.in_ok-push.was)) (c.line_ends-line.ensures.value, c.line_ends-line.ensures.within) c.first_bytes.ensures c.bytes_after-rest.ensures
 
 pub returns : goal.returns
 returns c = decoded_whole _ _ _ _ c.loop-rest.invariant.0 (search rules)
