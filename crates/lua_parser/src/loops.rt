@@ -5,7 +5,6 @@ ghost use Rattle.lua_lexer.specs.declared.signs.Sign.TheVariants.{Assign, Comma}
 ghost use Rattle.lua_lexer.specs.declared.words.Word.TheVariants.{For, Repeat, While};
 ghost use Rattle.lua_grammar.specs.Tree.{NameList};
 ghost use Rattle.lua_grammar.specs.Resolution.{names_of};
-ghost use Rattle.lua_grammar.specs.Scopes.{in_scope};
 ghost use Rattle.lua_parser_base.specs.States.{state, Advances, AdvancesOrStays, IfErrWhere, CanDeclare};
 ghost use Rattle.lua_parser_base.specs.Next.{IsNext, IsAhead, IsNotNext};
 ghost use Rattle.lua_parser_base.specs.ReadsStatements.{ReadsStat, ReadsLoop, ReadsStep, before_for};

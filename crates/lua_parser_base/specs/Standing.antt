@@ -1,6 +1,6 @@
 -- What may stand where: at a state of the text a block, a statement, an expression, a name and so on, with a nesting that
 -- says how many constructs are open and what is allowed there. All that was read before is valid, and within the limits.
-use Rattle.std.specs.Prelude.{◌≡◌, ◌≤◌, ◌<◌, ◌+◌, ◌⊎◌, ℕ, Bool, true, false, List, [], ◌∷◌, length, Option}
+use Rattle.std.specs.Prelude.{◌≡◌, ◌≤◌, ◌<◌, ◌+◌, ◌⊎◌, ℕ, Bool, false, List, [], ◌∷◌, length, Option}
 use Rattle.lua_ast.specs.declared.expressions.Expr.{Expr}
 use Rattle.lua_ast.specs.declared.expressions.UnOp.{UnOp}
 use Rattle.lua_ast.specs.declared.programs.Function.{Function}
