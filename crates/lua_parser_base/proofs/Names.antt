@@ -54,9 +54,9 @@ no_parameters before s p names vararg next = record {
   ends = close_ahead s.left next;
 }
 
-pub only_rest : (before : List Bytes) (s t : State) (p : Parameters) (line : ℕ) → Takes (SignKind Ellipsis) line s t → p.names.items ≡ before →
+pub only_vararg : (before : List Bytes) (s t : State) (p : Parameters) (line : ℕ) → Takes (SignKind Ellipsis) line s t → p.names.items ≡ before →
     p.vararg ≡ true → ReadsParameters before s p t
-only_rest before s t p line taken names vararg = record {
+only_vararg before s t p line taken names vararg = record {
   tree = tree.only_rest line;
   printed = taken.printed;
   scope = taken.scope;
