@@ -55,7 +55,7 @@ return_kind kind is not = cc
 
 pub return_next : (left : List Lexeme) → begins_of (first_kind left) ≡ begins.Last → (Begin (IsKind (Word word.Break)) left → ⊥) → Begin (IsKind (Word word.Return)) left
 return_next [] is not = cc
-return_next (first ∷ behind) is not = return_kind first.kind is not
+return_next (first ∷ after) is not = return_kind first.kind is not
 
 pub block_end : (kind : TokenKind) → begins_of kind ≡ begins.Nothing → IsBlockEnd kind
 block_end (Word word.End) is = tt
@@ -65,7 +65,7 @@ block_end (Word word.Until) is = tt
 block_end (Word word.If) is = cc
 block_end kind is = cc
 
--- what may stand behind `return` alone
+-- what may stand after `return` alone
 return_end : (kind : TokenKind) → IsBlockEnd kind → IsReturnEnd kind
 return_end (Sign sign.Semicolon) h = tt
 return_end kind h = h
@@ -75,7 +75,7 @@ nothing_returned kind is = return_end kind (block_end kind is)
 
 pub semicolon_next : (left : List Lexeme) → Begin (IsKind (Sign sign.Semicolon)) left → IsReturnEnd (first_kind left)
 semicolon_next [] next = absurd next
-semicolon_next (first ∷ behind) next = subst IsReturnEnd (sym next) tt
+semicolon_next (first ∷ after) next = subst IsReturnEnd (sym next) tt
 
 no_return_end : (kind : TokenKind) → (begins_of kind ≡ begins.Nothing → ⊥) → (IsKind (Sign sign.Semicolon) kind → ⊥) → IsReturnEnd kind → ⊥
 no_return_end (Sign sign.Semicolon) x y h = y refl
@@ -87,7 +87,7 @@ no_return_end kind x y h = h
 
 pub values_next : (left : List Lexeme) → (begins_of (first_kind left) ≡ begins.Nothing → ⊥) → (Begin (IsKind (Sign sign.Semicolon)) left → ⊥) → IsReturnEnd (first_kind left) → ⊥
 values_next [] x y h = x refl
-values_next (first ∷ behind) x y h = no_return_end first.kind x y h
+values_next (first ∷ after) x y h = no_return_end first.kind x y h
 
 -- a statement that begins with no word begins with a prefix
 pub prefix_begins : (b : Begins) → IsStatement b → (b ≡ begins.If → ⊥) → (b ≡ begins.While → ⊥) → (b ≡ begins.Do → ⊥) → (b ≡ begins.For → ⊥) → (b ≡ begins.Repeat → ⊥) →

@@ -14,7 +14,7 @@ use Rattle.lua_parser_base.specs.declared.cursor.Parser.{Parser}
 use Rattle.lua_parser_base.specs.declared.faults.ParseFault.{ParseFault}
 use Rattle.lua_parser_base.specs.declared.functions.Begun.{Begun}
 use Rattle.lua_parser_base.specs.declared.functions.Parameters.{Parameters}
-use Rattle.lua_parser_base.specs.declared.places.Place.{Place}
+use Rattle.lua_parser_base.specs.declared.nesting.Nesting.{Nesting}
 use Rattle.lua_parser_base.specs.Functions.{Enters}
 use Rattle.lua_parser_base.specs.Next.{IsLocals, OnLocals}
 use Rattle.lua_parser_base.specs.ReadsNames.{ReadsNames, ReadsParameters}
@@ -37,13 +37,13 @@ local_there tokens z p q line n fault few full same taken =
     (subst (λ z. OnLocals (200 ≤ in_scope z) fault) taken.scope full) same taken
 
 -- values declare no locals
-pub value_keeps : (at : Place) (s t : State) (e : Expr) → ReadsValue at s e t → in_scope t.scope ≡ in_scope s.scope
+pub value_keeps : (at : Nesting) (s t : State) (e : Expr) → ReadsValue at s e t → in_scope t.scope ≡ in_scope s.scope
 value_keeps at s t e read = in_scope_kept s.scope t.scope (exp_keeps read.tree s.scope e t.scope read.resolved)
 
-pub values_keep : (at : Place) (s t : State) (es : List Expr) → ReadsValues at s es t → in_scope t.scope ≡ in_scope s.scope
+pub values_keep : (at : Nesting) (s t : State) (es : List Expr) → ReadsValues at s es t → in_scope t.scope ≡ in_scope s.scope
 values_keep at s t es read = in_scope_kept s.scope t.scope (list_keeps read.tree s.scope es t.scope read.resolved)
 
-pub step_keeps : (at : Place) (s t : State) (by : Option Expr) → ReadsStep at s by t → in_scope t.scope ≡ in_scope s.scope
+pub step_keeps : (at : Nesting) (s t : State) (by : Option Expr) → ReadsStep at s by t → in_scope t.scope ≡ in_scope s.scope
 step_keeps at s t (Some e) (c, m, taken, read) = value_keeps at m t e read ∙ ap in_scope taken.scope
 step_keeps at s t None same = ap (λ z. in_scope z.scope) same
 
@@ -51,39 +51,39 @@ few_at : (tokens : List Token) (p : Parser) (n : ℕ) → in_scope (state tokens
 unfolding state
 few_at tokens p n few = few
 
--- there is a place for each name that is declared with values
-pub few_declared : (at : Place) (count : ℕ) (tokens : List Token) (s m : State) (p : Parser) (names : List Bytes) (values : Option (Vec Expr Global)) → count ≡ in_scope s.scope →
+-- each name that is declared with values has a slot
+pub few_declared : (at : Nesting) (count : ℕ) (tokens : List Token) (s m : State) (p : Parser) (names : List Bytes) (values : Option (Vec Expr Global)) → count ≡ in_scope s.scope →
     ReadsNames [] s names m → ReadsInitial at m values (state tokens p) → count + length names ≤ 200 → in_scope (scope_of p) + length names ≤ 200
 few_declared at count tokens s m p names values is read given few =
     few_at tokens p (length names)
     (let kept : in_scope (state tokens p).scope ≡ in_scope s.scope = initial_keeps at m (state tokens p) values given ∙ ap in_scope read.scope in omega (arith, kept, is, few))
 
 -- for the variables of a loop over numbers, and over other values
-pub few_in_range : (at : Place) (n : ℕ) (equals_kind comma_kind : TokenKind) (s a b c d t : State) (q x : ℕ) (from to : Expr) (by : Option Expr) → in_scope s.scope + n ≤ 200 → Takes equals_kind q s a → ReadsValue at a from b →
+pub few_in_range : (at : Nesting) (n : ℕ) (equals_kind comma_kind : TokenKind) (s a b c d t : State) (q x : ℕ) (from to : Expr) (by : Option Expr) → in_scope s.scope + n ≤ 200 → Takes equals_kind q s a → ReadsValue at a from b →
     Takes comma_kind x b c → ReadsValue at c to d → ReadsStep at d by t → in_scope t.scope + n ≤ 200
 few_in_range at n equals_kind comma_kind s a b c d t q x from to by few equals first comma second step =
     let kept : in_scope t.scope ≡ in_scope s.scope = step_keeps at d t by step ∙ value_keeps at c d to second ∙ ap in_scope comma.scope ∙ value_keeps at a b from first ∙ ap in_scope equals.scope in
     omega (arith, kept, few)
 
-pub few_in_list : (at : Place) (n : ℕ) (kind : TokenKind) (s a t : State) (i : ℕ) (es : List Expr) → in_scope s.scope + n ≤ 200 → Takes kind i s a → ReadsValues at a es t → in_scope t.scope + n ≤ 200
+pub few_in_list : (at : Nesting) (n : ℕ) (kind : TokenKind) (s a t : State) (i : ℕ) (es : List Expr) → in_scope s.scope + n ≤ 200 → Takes kind i s a → ReadsValues at a es t → in_scope t.scope + n ≤ 200
 few_in_list at n kind s a t i es few taken read =
     let kept : in_scope t.scope ≡ in_scope s.scope = values_keep at a t es read ∙ ap in_scope taken.scope in
     omega (arith, kept, few)
 
--- behind `do`
+-- after `do`
 pub few_in_loop : (tokens : List Token) (p q : Parser) (kind : TokenKind) (n d : ℕ) → in_scope (state tokens p).scope + n ≤ 200 → Takes kind d (state tokens p) (state tokens q) → in_scope (scope_of q) + n ≤ 200
 few_in_loop tokens p q kind n d few taken = few_at tokens q n (subst (λ z. in_scope z + n ≤ 200) (sym taken.scope) few)
 
--- behind the names of a loop
-pub few_behind : (count n : ℕ) (s t : State) (names : List Bytes) → count ≡ in_scope s.scope → ReadsNames [] s names t → count + n ≤ 200 → in_scope t.scope + n ≤ 200
-few_behind count n s t names is read few =
+-- after the names of a loop
+pub few_after : (count n : ℕ) (s t : State) (names : List Bytes) → count ≡ in_scope s.scope → ReadsNames [] s names t → count + n ≤ 200 → in_scope t.scope + n ≤ 200
+few_after count n s t names is read few =
     let kept : in_scope t.scope ≡ in_scope s.scope = ap in_scope read.scope in
     omega (arith, kept, is, few)
 
--- behind the parameters of a function its block stands
-pub function_stands : {start : State} {at : Place} {first : List Bytes} {p : Parameters} {begun : Begun} {line o e : ℕ} {s a b c d : State} → Enters p line begun c.scope d.scope → d.left ≡ c.left →
+-- after the parameters of a function its block stands
+pub function_stands : {start : State} {at : Nesting} {first : List Bytes} {p : Parameters} {begun : Begun} {line o e : ℕ} {s a b c d : State} → Enters p line begun c.scope d.scope → d.left ≡ c.left →
     Stands start (standing.body at first) s → Takes (SignKind OpenParenthesis) o s a → ReadsParameters first a p b → Takes (SignKind CloseParenthesis) e b c →
-    Stands start (standing.function_block at begun.rest) d
+    Stands start (standing.function_block at begun.vararg) d
 function_stands {start = start} {at = at} {d = d} enters left stands opens read closes =
-    subst (λ rest. Stands start (standing.function_block at rest) d) (sym enters.rest)
+    subst (λ vararg. Stands start (standing.function_block at vararg) d) (sym enters.vararg)
     (standing.of_function enters.kept stands opens read closes (record { left = left; scope = enters.scope }))

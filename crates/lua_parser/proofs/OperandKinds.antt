@@ -40,10 +40,10 @@ false_kind (Word word.False) is = refl
 false_kind (Sign sign.Dot) is = cc
 false_kind kind is = cc
 
-pub rest_kind : (kind : TokenKind) → operand_of kind ≡ operand.Rest → kind ≡ Sign sign.Ellipsis
-rest_kind (Sign sign.Ellipsis) is = refl
-rest_kind (Word word.Nil) is = cc
-rest_kind kind is = cc
+pub vararg_kind : (kind : TokenKind) → operand_of kind ≡ operand.Vararg → kind ≡ Sign sign.Ellipsis
+vararg_kind (Sign sign.Ellipsis) is = refl
+vararg_kind (Word word.Nil) is = cc
+vararg_kind kind is = cc
 
 number_kind : (kind : TokenKind) → operand_of kind ≡ operand.Number → IsNumber kind
 number_kind (Number n) is = tt
@@ -59,13 +59,13 @@ text_kind kind is = cc
 
 pub number_next : (left : List Lexeme) → operand_of (first_kind left) ≡ operand.Number → Begin IsNumber left
 number_next [] is = cc
-number_next (first ∷ behind) is = number_kind first.kind is
+number_next (first ∷ after) is = number_kind first.kind is
 
 pub text_next : (left : List Lexeme) → operand_of (first_kind left) ≡ operand.Text → Begin IsText left
 text_next [] is = cc
-text_next (first ∷ behind) is = text_kind first.kind is
+text_next (first ∷ after) is = text_kind first.kind is
 
 -- what the reader sees next is next, but for `end`
 pub next_of : (kind : TokenKind) (left : List Lexeme) → (Word word.End ≡ kind → ⊥) → first_kind left ≡ kind → Begin (IsKind kind) left
 next_of kind [] other is = absurd (other is)
-next_of kind (first ∷ behind) other is = is
+next_of kind (first ∷ after) other is = is

@@ -12,10 +12,10 @@ use Rattle.lua_parser_base.specs.Next.{line_or}
 use Rattle.lua_parser_base.specs.States.{State, last_line}
 use Rattle.lua_parser_base.specs.Standing.{IsBeginning, Within}
 
--- tokens that begin as those do, whatever stands behind the first; none where those are none
+-- tokens that begin as those do, whatever stands after the first; none where those are none
 abbrev pub BeginAs : List Lexeme → List Lexeme → Type 0
 BeginAs [] xs = xs ≡ []
-BeginAs (first ∷ behind) xs = (rest : List Lexeme) × (xs ≡ first ∷ rest)
+BeginAs (first ∷ after) xs = (others : List Lexeme) × (xs ≡ first ∷ others)
 
 -- No chunk, whatever its limits, is read from tokens that begin with those up to one on that line; or, where the text ends
 -- too soon, with the last token on that line, from all of them. Some chunk is read from tokens that begin with those before it,
@@ -24,9 +24,9 @@ pub record IsUnfit (tokens : List Token) (line : ℕ) : Type 0 where
   pub before : List Lexeme
   pub left : List Lexeme
   pub all : lexemes tokens ≡ before ++ left
-  pub told : line ≡ line_or (last_line (lexemes tokens)) left
+  pub reported : line ≡ line_or (last_line (lexemes tokens)) left
   pub stuck : (xs : List Lexeme) → BeginAs left xs → (b : Block) → read (before ++ xs) ≡ chunk b → ⊥
-  pub goes_on : (rest : List Lexeme) × (b : Block) × (read (before ++ rest) ≡ chunk b)
+  pub goes_on : (others : List Lexeme) × (b : Block) × (read (before ++ others) ≡ chunk b)
   pub start : State
   pub stop : State
   pub begins : IsBeginning tokens start

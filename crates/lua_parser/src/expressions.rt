@@ -1,10 +1,11 @@
-ghost use Rattle.std.specs.Prelude.{◌≡◌, ◌≤◌, ℕ, min, IfOk, IfErr, IfNone, OnOk};
+//! Expressions: operands, and the operators before and between them.
+ghost use Rattle.std.specs.Prelude.{◌≤◌, ℕ, min, IfOk, IfErr, IfNone, OnOk};
 ghost use Rattle.lua_grammar.specs.Operators.{kind_of, left_level, level};
 ghost use Rattle.lua_grammar.specs.declared.operators.Operator.{Operator};
-ghost use Rattle.lua_parser_base.specs.States.{state, Advances, IfAdvances, SkipsOperator};
+ghost use Rattle.lua_parser_base.specs.States.{state, Advances, IfAdvances, SkipsOperator, IfErrWhere};
 ghost use Rattle.lua_parser_base.specs.Reads.{ReadsExp};
-ghost use Rattle.lua_parser_base.specs.Next.{IsNext, ahead};
-ghost use Rattle.lua_parser_base.specs.Kinds.{IsUnary, operand_of};
+ghost use Rattle.lua_parser_base.specs.Next.{IsNext, ahead, IsAhead};
+ghost use Rattle.lua_parser_base.specs.Kinds.{OperandBegins, UnaryBegins};
 ghost use Rattle.lua_lexer.specs.declared.tokens.TokenKind.TheVariants.{Word as WordKind};
 ghost use Rattle.lua_lexer.specs.declared.words.Word.TheVariants.{Function};
 ghost use Rattle.lua_grammar.specs.Stopping.{EndsAt};
@@ -18,18 +19,18 @@ use lua_ast::ExprKind;
 use lua_grammar::{left_level, level, operator_of, right_level};
 use lua_lexer::{Token, Word};
 use lua_parser_base::{
-    Built, Infix, Operand, ParseFault, Parser, Place, Prefix, binary, leaf, unary,
+    Built, Infix, Nesting, Operand, ParseFault, Parser, Prefix, binary, leaf, unary,
 };
 use std::alloc::Global;
 
-/// Reads a binary operator where it is the next token and may stand behind an expression of the level `left` in one of
+/// Reads a binary operator where it is the next token and may stand after an expression of the level `left` in one of
 /// at least the level `lowest`.
 fn skip_operator(parser: &mut Parser, tokens: &[Token], left: u8, lowest: u8) -> Option<Infix>
     ensures skips { SkipsOperator left lowest result (state tokens.now parser.old) (state tokens.now parser.new) }
     ensures missing { IfNone result ((op : Operator) → IsNext (kind_of op) (state tokens.now parser.old) → lowest ≤ level op → left_level op ≤ left → ⊥) }
     ensures forward { IfAdvances result tokens.now parser.old parser.new }
 {
-    let token = tokens.get(parser.place)?;
+    let token = tokens.get(parser.index)?;
     let op = operator_of(&token.kind)?;
     if lowest <= level(op) && left_level(op) <= left {
         parser.advance(tokens, token);
@@ -41,13 +42,14 @@ fn skip_operator(parser: &mut Parser, tokens: &[Token], left: u8, lowest: u8) ->
     None
 }
 
+/// exp ::= exp binop exp
 /// Reads an expression of at least that level of precedence, as long as it goes. A unary operator may begin it anyway.
 #[cycle(descent)]
 pub(crate) fn expression(
     parser: &mut Parser,
     alloc: Global,
     tokens: &[Token],
-    at: Place,
+    at: Nesting,
     lowest: u8,
 ) -> Result<Built, ParseFault>
     ensures reads { IfOk result (λ b. ReadsExp at (state tokens.now parser.old) b (state tokens.now parser.new)) }
@@ -67,13 +69,14 @@ pub(crate) fn expression(
     Ok(left)
 }
 
+/// exp ::= nil | false | true | Number | String | `...´ | function | prefixexp | tableconstructor | unop exp
 /// Reads an expression without a binary operator, but for one within a unary operand.
 #[cycle(descent)]
 fn operand(
     parser: &mut Parser,
     alloc: Global,
     tokens: &[Token],
-    at: Place,
+    at: Nesting,
 ) -> Result<Built, ParseFault>
     ensures reads { IfOk result (λ b. ReadsExp at (state tokens.now parser.old) b (state tokens.now parser.new)) }
     ensures level { IfOk result (λ b. 7 ≤ b.level) }
@@ -90,22 +93,22 @@ fn operand(
         Operand::False => parser.falsity(tokens, at),
         Operand::Number => parser.number(tokens, at),
         Operand::Text => parser.text(tokens, at),
-        Operand::Rest => parser.rest(tokens, at),
+        Operand::Vararg => parser.vararg(tokens, at),
         Operand::Prefix => prefix_operand(parser, alloc, tokens, at),
     }
 }
 
-/// Reads a unary operator with its operand.
+/// exp ::= unop exp
 #[cycle(descent)]
 fn unary_operand(
     parser: &mut Parser,
     alloc: Global,
     tokens: &[Token],
-    at: Place,
+    at: Nesting,
 ) -> Result<Built, ParseFault>
     ensures reads { IfOk result (λ b. ReadsExp at (state tokens.now parser.old) b (state tokens.now parser.new)) }
     ensures level { IfOk result (λ b. 7 ≤ b.level) }
-    ensures refuses { IsUnary (ahead (state tokens.now parser.old)) → IfErr result (RefusesExp at (state tokens.now parser.old) (state tokens.now parser.new)) }
+    ensures refuses { IfErrWhere UnaryBegins result (RefusesExp at) tokens.now parser.old parser.new }
     ensures order { (m : ℕ) → IfErr result (FirstFault (Standing.here (Standing.exp m) at) (state tokens.now parser.old) (state tokens.now parser.new)) }
     ensures forward { OnOk result (Advances tokens.now parser.old parser.new) }
 {
@@ -115,17 +118,17 @@ fn unary_operand(
     unary(alloc, prefixed.op, prefixed.line, operand)
 }
 
-/// Reads a function without a name.
+/// function ::= function funcbody
 #[cycle(descent)]
 fn closure(
     parser: &mut Parser,
     alloc: Global,
     tokens: &[Token],
-    at: Place,
+    at: Nesting,
 ) -> Result<Built, ParseFault>
     ensures reads { IfOk result (λ b. ReadsExp at (state tokens.now parser.old) b (state tokens.now parser.new)) }
     ensures level { IfOk result (λ b. 7 ≤ b.level) }
-    ensures refuses { ahead (state tokens.now parser.old) ≡ WordKind Function → IfErr result (RefusesExp at (state tokens.now parser.old) (state tokens.now parser.new)) }
+    ensures refuses { IfErrWhere (IsAhead (WordKind Function)) result (RefusesExp at) tokens.now parser.old parser.new }
     ensures order { (m : ℕ) → IfErr result (FirstFault (Standing.here (Standing.exp m) at) (state tokens.now parser.old) (state tokens.now parser.new)) }
     ensures forward { OnOk result (Advances tokens.now parser.old parser.new) }
 {
@@ -134,17 +137,17 @@ fn closure(
     Ok(leaf(line, ExprKind::Function(number)))
 }
 
-/// Reads a prefix that is an operand.
+/// exp ::= prefixexp
 #[cycle(descent)]
 fn prefix_operand(
     parser: &mut Parser,
     alloc: Global,
     tokens: &[Token],
-    at: Place,
+    at: Nesting,
 ) -> Result<Built, ParseFault>
     ensures reads { IfOk result (λ b. ReadsExp at (state tokens.now parser.old) b (state tokens.now parser.new)) }
     ensures level { IfOk result (λ b. 7 ≤ b.level) }
-    ensures refuses { operand_of (ahead (state tokens.now parser.old)) ≡ Operand.Prefix → IfErr result (RefusesExp at (state tokens.now parser.old) (state tokens.now parser.new)) }
+    ensures refuses { IfErrWhere (OperandBegins Operand.Prefix) result (RefusesExp at) tokens.now parser.old parser.new }
     ensures order { (m : ℕ) → IfErr result (FirstFault (Standing.here (Standing.exp m) at) (state tokens.now parser.old) (state tokens.now parser.new)) }
     ensures forward { OnOk result (Advances tokens.now parser.old parser.new) }
 {

@@ -1,13 +1,13 @@
-ghost use Rattle.std.specs.Prelude.{◌≡◌, ◌≤◌, ◌+◌, length, IfErr, IfNone, IfOk, OnOk};
+//! Loops: `while`, `repeat`, and both kinds of `for`.
+ghost use Rattle.std.specs.Prelude.{◌≡◌, IfErr, IfNone, IfOk, OnOk};
 ghost use Rattle.lua_lexer.specs.declared.tokens.TokenKind.TheVariants.{Sign as SignKind, Word as WordKind};
 ghost use Rattle.lua_lexer.specs.declared.signs.Sign.TheVariants.{Assign, Comma};
 ghost use Rattle.lua_lexer.specs.declared.words.Word.TheVariants.{For, Repeat, While};
 ghost use Rattle.lua_grammar.specs.Tree.{NameList};
 ghost use Rattle.lua_grammar.specs.Resolution.{names_of};
-ghost use Rattle.lua_grammar.specs.Scopes.{in_scope};
-ghost use Rattle.lua_parser_base.specs.States.{state, Advances, AdvancesOrStays};
-ghost use Rattle.lua_parser_base.specs.Next.{IsNext, ahead};
-ghost use Rattle.lua_parser_base.specs.ReadsStatements.{ReadsStat, ReadsLoop, ReadsStep, behind_for};
+ghost use Rattle.lua_parser_base.specs.States.{state, Advances, AdvancesOrStays, IfErrWhere, CanDeclare};
+ghost use Rattle.lua_parser_base.specs.Next.{IsNext, IsAhead, IsNotNext};
+ghost use Rattle.lua_parser_base.specs.ReadsStatements.{ReadsStat, ReadsLoop, ReadsStep, before_for};
 ghost use Rattle.lua_parser_base.specs.StatementRefusals.{RefusesFor, RefusesLoop, RefusesStat, RefusesStep};
 ghost use Rattle.lua_parser_base.specs.Standing.{FirstFault};
 ghost use Rattle.lua_parser_base.specs.Standing as Standing;
@@ -16,20 +16,22 @@ use crate::statements::{block, scoped, value, values};
 use lua_ast::{Expr, Stmt};
 use lua_lexer::{Sign, Token, Word};
 use lua_parser_base::{
-    LoopBlock, ParseFault, Parser, Place, Range, generic_for, numeric_for, repeat_node, while_node,
+    LoopBlock, Nesting, ParseFault, Parser, Range, generic_for, numeric_for, repeat_node,
+    while_node,
 };
 use resty_base::Bytes;
 use std::alloc::Global;
 
+/// stat ::= while exp do block end
 #[cycle(descent)]
 pub(crate) fn while_loop(
     parser: &mut Parser,
     alloc: Global,
     tokens: &[Token],
-    at: Place,
+    at: Nesting,
 ) -> Result<Stmt, ParseFault>
     ensures reads { IfOk result (λ out. ReadsStat at (state tokens.now parser.old) out (state tokens.now parser.new)) }
-    ensures refuses { ahead (state tokens.now parser.old) ≡ WordKind While → IfErr result (RefusesStat at (state tokens.now parser.old) (state tokens.now parser.new)) }
+    ensures refuses { IfErrWhere (IsAhead (WordKind While)) result (RefusesStat at) tokens.now parser.old parser.new }
     ensures order { IfErr result (FirstFault (Standing.statement at) (state tokens.now parser.old) (state tokens.now parser.new)) }
     ensures forward { OnOk result (Advances tokens.now parser.old parser.new) }
 {
@@ -41,15 +43,16 @@ pub(crate) fn while_loop(
     while_node(alloc, line, test, body)
 }
 
+/// stat ::= repeat block until exp
 #[cycle(descent)]
 pub(crate) fn repeat_loop(
     parser: &mut Parser,
     alloc: Global,
     tokens: &[Token],
-    at: Place,
+    at: Nesting,
 ) -> Result<Stmt, ParseFault>
     ensures reads { IfOk result (λ out. ReadsStat at (state tokens.now parser.old) out (state tokens.now parser.new)) }
-    ensures refuses { ahead (state tokens.now parser.old) ≡ WordKind Repeat → IfErr result (RefusesStat at (state tokens.now parser.old) (state tokens.now parser.new)) }
+    ensures refuses { IfErrWhere (IsAhead (WordKind Repeat)) result (RefusesStat at) tokens.now parser.old parser.new }
     ensures order { IfErr result (FirstFault (Standing.statement at) (state tokens.now parser.old) (state tokens.now parser.new)) }
     ensures forward { OnOk result (Advances tokens.now parser.old parser.new) }
 {
@@ -63,16 +66,16 @@ pub(crate) fn repeat_loop(
     repeat_node(alloc, line, body, test)
 }
 
-/// Reads either loop that begins with `for`.
+/// stat ::= for Name `=´ exp `,´ exp [`,´ exp] do block end | for namelist in explist do block end
 #[cycle(descent)]
 pub(crate) fn for_loop(
     parser: &mut Parser,
     alloc: Global,
     tokens: &[Token],
-    at: Place,
+    at: Nesting,
 ) -> Result<Stmt, ParseFault>
     ensures reads { IfOk result (λ out. ReadsStat at (state tokens.now parser.old) out (state tokens.now parser.new)) }
-    ensures refuses { ahead (state tokens.now parser.old) ≡ WordKind For → IfErr result (RefusesStat at (state tokens.now parser.old) (state tokens.now parser.new)) }
+    ensures refuses { IfErrWhere (IsAhead (WordKind For)) result (RefusesStat at) tokens.now parser.old parser.new }
     ensures order { IfErr result (FirstFault (Standing.statement at) (state tokens.now parser.old) (state tokens.now parser.new)) }
     ensures forward { OnOk result (Advances tokens.now parser.old parser.new) }
 {
@@ -85,20 +88,21 @@ pub(crate) fn for_loop(
     list_loop(parser, alloc, tokens, at, names, line)
 }
 
-/// Reads a loop over numbers from its `=` on. Its `for` is on that line.
+/// stat ::= for Name `=´ exp `,´ exp [`,´ exp] do block end
+/// Reads it from its `=` on. Its `for` is on that line.
 #[cycle(descent)]
 fn range_loop(
     parser: &mut Parser,
     alloc: Global,
     tokens: &[Token],
-    at: Place,
+    at: Nesting,
     names: Vec<Bytes>,
     line: u32,
 ) -> Result<Stmt, ParseFault>
     ensures reads { IfOk result (λ out. (list : NameList) → names.items ≡ names_of list
-        → ReadsStat at (behind_for line list (state tokens.now parser.old)) out (state tokens.now parser.new)) }
-    ensures refuses { IsNext (SignKind Assign) (state tokens.now parser.old) → IfErr result (RefusesFor at names.items (state tokens.now parser.old) (state tokens.now parser.new)) }
-    ensures order { in_scope (state tokens.now parser.old).scope + length names.items ≤ 200 → IfErr result (FirstFault (Standing.for_tail at names.items) (state tokens.now parser.old) (state tokens.now parser.new)) }
+        → ReadsStat at (before_for line list (state tokens.now parser.old)) out (state tokens.now parser.new)) }
+    ensures refuses { IfErrWhere (IsNext (SignKind Assign)) result (RefusesFor at names.items) tokens.now parser.old parser.new }
+    ensures order { IfErrWhere (CanDeclare names.items) result (FirstFault (Standing.for_tail at names.items)) tokens.now parser.old parser.new }
     ensures forward { OnOk result (Advances tokens.now parser.old parser.new) }
 {
     if names.len() != 1 {
@@ -113,13 +117,14 @@ fn range_loop(
     numeric_for(alloc, line, Range { from, to, step }, block)
 }
 
-/// Reads a comma and a value where they stand next.
+/// [`,´ exp]
+/// Reads them where they stand next.
 #[cycle(descent)]
 fn step(
     parser: &mut Parser,
     alloc: Global,
     tokens: &[Token],
-    at: Place,
+    at: Nesting,
 ) -> Result<Option<Expr>, ParseFault>
     ensures reads { IfOk result (λ step. ReadsStep at (state tokens.now parser.old) step (state tokens.now parser.new)) }
     ensures stops { IfOk result (λ step. IfNone step (IsNext (SignKind Comma) (state tokens.now parser.old) → ⊥)) }
@@ -135,20 +140,21 @@ fn step(
     Ok(Some(step))
 }
 
-/// Reads a loop over the values of a function from its `in` on. Its `for` is on that line.
+/// stat ::= for namelist in explist do block end
+/// Reads it from its `in` on. Its `for` is on that line.
 #[cycle(descent)]
 fn list_loop(
     parser: &mut Parser,
     alloc: Global,
     tokens: &[Token],
-    at: Place,
+    at: Nesting,
     names: Vec<Bytes>,
     line: u32,
 ) -> Result<Stmt, ParseFault>
     ensures reads { IfOk result (λ out. (list : NameList) → names.items ≡ names_of list
-        → ReadsStat at (behind_for line list (state tokens.now parser.old)) out (state tokens.now parser.new)) }
-    ensures refuses { (IsNext (SignKind Assign) (state tokens.now parser.old) → ⊥) → IfErr result (RefusesFor at names.items (state tokens.now parser.old) (state tokens.now parser.new)) }
-    ensures order { in_scope (state tokens.now parser.old).scope + length names.items ≤ 200 → IfErr result (FirstFault (Standing.for_tail at names.items) (state tokens.now parser.old) (state tokens.now parser.new)) }
+        → ReadsStat at (before_for line list (state tokens.now parser.old)) out (state tokens.now parser.new)) }
+    ensures refuses { IfErrWhere (IsNotNext (SignKind Assign)) result (RefusesFor at names.items) tokens.now parser.old parser.new }
+    ensures order { IfErrWhere (CanDeclare names.items) result (FirstFault (Standing.for_tail at names.items)) tokens.now parser.old parser.new }
     ensures forward { OnOk result (Advances tokens.now parser.old parser.new) }
 {
     parser.take_word(tokens, Word::In)?;
@@ -157,19 +163,20 @@ fn list_loop(
     generic_for(alloc, line, values, block)
 }
 
-/// Reads `do`, the block of a loop, which sees the loop's variables, and `end`.
+/// do block end
+/// The block sees the loop's variables.
 #[cycle(descent)]
 fn loop_block(
     parser: &mut Parser,
     alloc: Global,
     tokens: &[Token],
-    at: Place,
+    at: Nesting,
     names: Vec<Bytes>,
     line: u32,
 ) -> Result<LoopBlock, ParseFault>
     ensures reads { IfOk result (λ block. ReadsLoop at names.items (state tokens.now parser.old) block (state tokens.now parser.new)) }
     ensures refuses { IfErr result (RefusesLoop at names.items (state tokens.now parser.old) (state tokens.now parser.new)) }
-    ensures order { in_scope (state tokens.now parser.old).scope + length names.items ≤ 200 → IfErr result (FirstFault (Standing.loop at names.items) (state tokens.now parser.old) (state tokens.now parser.new)) }
+    ensures order { IfErrWhere (CanDeclare names.items) result (FirstFault (Standing.loop at names.items)) tokens.now parser.old parser.new }
     ensures forward { OnOk result (Advances tokens.now parser.old parser.new) }
 {
     parser.take_word(tokens, Word::Do)?;

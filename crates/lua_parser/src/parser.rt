@@ -1,3 +1,4 @@
+//! The program of a whole text, whose tokens are a chunk.
 ghost use Rattle.std.specs.Prelude.{◌≡◌, IfErr, IfOk};
 ghost use Rattle.lua_ast.specs.declared.programs.Program.{Program};
 ghost use Rattle.lua_ast.specs.WholeProgram.{IsWholeProgram};
@@ -10,7 +11,7 @@ use crate::statements::block;
 use lua_ast::Program;
 use lua_grammar::a_program_is_whole;
 use lua_lexer::Token;
-use lua_parser_base::{ParseFault, Parser, Place};
+use lua_parser_base::{Nesting, ParseFault, Parser};
 use resty_base::{ByteLists, Bytes};
 use std::alloc::Global;
 
@@ -24,8 +25,8 @@ pub fn parse(alloc: Global, tokens: &[Token]) -> Result<Program, ParseFault>
     ensures complete { IfErr result (λ fault. (fault ≡ ParseFault.Memory → ⊥) → (program : Program) → IsProgramOf tokens.now program → ⊥) }
 {
     let mut parser = Parser::new(alloc)?;
-    let body = block(&mut parser, alloc, tokens, Place::outermost())?;
-    if parser.place < tokens.len() {
+    let body = block(&mut parser, alloc, tokens, Nesting::outermost())?;
+    if parser.index < tokens.len() {
         return Err(parser.unfit(tokens));
     }
     let functions = parser.into_functions(alloc, body, first_line(tokens))?;

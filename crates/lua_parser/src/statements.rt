@@ -1,17 +1,20 @@
+//! Blocks, the statements that are no loops, and the bodies of functions.
 ghost use Rattle.std.specs.Prelude.{◌≡◌, ◌≤◌, ◌∷◌, [], ℕ, IfErr, IfNone, IfOk, OnOk, vec_len};
-ghost use Rattle.lua_parser_base.specs.States.{State, state, Advances, AdvancesOrStays};
+ghost use Rattle.lua_parser_base.specs.States.{State, state, Advances, AdvancesOrStays, IfErrWhere};
 ghost use Rattle.lua_parser_base.specs.Reads.{ReadsBody};
-ghost use Rattle.lua_parser_base.specs.ReadsStatements.{ReadsBlock, ReadsScoped, ReadsStat, ReadsLast, ReadsValue, ReadsValues, ReadsArm, ReadsArms, ReadsFuncName, ReadsVars, ReadsMoreVars, ReadsTarget, ReadsInitial, behind_function, behind_local};
+ghost use Rattle.lua_parser_base.specs.ReadsStatements.{ReadsBlock, ReadsScoped, ReadsStat, ReadsLast, ReadsValue, ReadsValues, ReadsArm, ReadsArms};
+ghost use Rattle.lua_parser_base.specs.ReadsStatements.{ReadsFuncName, ReadsVars, ReadsMoreVars, ReadsTarget, ReadsInitial, before_function, before_local};
 ghost use Rattle.lua_lexer.specs.declared.tokens.TokenKind.TheVariants.{Sign as SignKind};
 ghost use Rattle.lua_lexer.specs.declared.tokens.TokenKind.TheVariants.{Word as WordKind};
 ghost use Rattle.lua_lexer.specs.declared.signs.Sign.TheVariants.{Assign, Colon, Comma};
 ghost use Rattle.lua_lexer.specs.declared.words.Word.TheVariants.{Do, ElseIf, Function, If, Local};
-ghost use Rattle.lua_parser_base.specs.Next.{IsNext, ahead};
-ghost use Rattle.lua_parser_base.specs.Kinds.{IsStatement, begins_of};
+ghost use Rattle.lua_parser_base.specs.Next.{IsNext, ahead, IsAhead, IsNotNext};
+ghost use Rattle.lua_parser_base.specs.Kinds.{IsStatement, begins_of, StatementBegins};
 ghost use Rattle.lua_parser_base.specs.Refusals.{RefusesBody};
-ghost use Rattle.lua_parser_base.specs.Standing.{FirstFault};
+ghost use Rattle.lua_parser_base.specs.Standing.{FirstFault, FirstFaultOfAssignment, FirstFaultOfTargets};
 ghost use Rattle.lua_parser_base.specs.Standing as Standing;
-ghost use Rattle.lua_parser_base.specs.StatementRefusals.{RefusesArm, RefusesArms, RefusesAssignment, RefusesBlock, RefusesInitial, RefusesLast, RefusesLocal, RefusesMethod, RefusesScoped, RefusesStat, RefusesTarget, RefusesValue, RefusesValues};
+ghost use Rattle.lua_parser_base.specs.StatementRefusals.{RefusesArm, RefusesArms, RefusesAssignment, RefusesBlock, RefusesInitial, RefusesLast, RefusesLocal};
+ghost use Rattle.lua_parser_base.specs.StatementRefusals.{RefusesMethod, RefusesScoped, RefusesStat, RefusesTarget, RefusesValue, RefusesValues};
 
 use crate::expressions::expression;
 use crate::loops::{for_loop, repeat_loop, while_loop};
@@ -19,20 +22,21 @@ use crate::suffixes::{expressions, prefix};
 use lua_ast::{Arm, Expr, Stmt, StmtKind};
 use lua_lexer::{Sign, Token, Word};
 use lua_parser_base::{
-    Begins, Form, FunctionName, ParseFault, Parser, Place, Prefix, arm_node, assign_node, define,
+    Begins, Form, FunctionName, Nesting, ParseFault, Parser, Prefix, arm_node, assign_node, define,
     do_node, if_node, local_node, returned,
 };
 use resty_base::Bytes;
 use std::alloc::Global;
 
-/// Reads the parameters, the block and the `end` of a function, and answers its number. `first` are the parameters that
-/// stand before those. The word `function` is on that line.
+/// funcbody ::= `(´ [parlist] `)´ block end
+/// Reads it and returns the function's number. `first` are the parameters that stand before those. The word `function`
+/// is on that line.
 #[cycle(descent)]
 pub(crate) fn body(
     parser: &mut Parser,
     alloc: Global,
     tokens: &[Token],
-    at: Place,
+    at: Nesting,
     line: u32,
     first: Vec<Bytes>,
 ) -> Result<u32, ParseFault>
@@ -46,19 +50,20 @@ pub(crate) fn body(
     let parameters = parser.parameters(tokens, first)?;
     parser.take_sign(tokens, Sign::CloseParenthesis)?;
     let begun = parser.enter(alloc, parameters, line)?;
-    let inner = parser.deeper(tokens, at)?.of_function(begun.rest);
+    let inner = parser.deeper(tokens, at)?.of_function(begun.vararg);
     let block = block(parser, alloc, tokens, inner)?;
     parser.take_word(tokens, Word::End)?;
     parser.end(alloc, begun, block)
 }
 
+/// block ::= chunk
 /// Reads a block in one at `at`, and leaves the scope of its locals.
 #[cycle(descent)]
 pub(crate) fn scoped(
     parser: &mut Parser,
     alloc: Global,
     tokens: &[Token],
-    at: Place,
+    at: Nesting,
 ) -> Result<Vec<Stmt>, ParseFault>
     ensures reads { IfOk result (λ block. ReadsScoped at (state tokens.now parser.old) block.items (state tokens.now parser.new)) }
     ensures refuses { IfErr result (RefusesScoped at (state tokens.now parser.old) (state tokens.now parser.new)) }
@@ -72,13 +77,14 @@ pub(crate) fn scoped(
     Ok(block)
 }
 
+/// chunk ::= {stat [`;´]} [laststat [`;´]]
 /// Reads a block. Its locals stay in scope.
 #[cycle(descent)]
 pub(crate) fn block(
     parser: &mut Parser,
     alloc: Global,
     tokens: &[Token],
-    at: Place,
+    at: Nesting,
 ) -> Result<Vec<Stmt>, ParseFault>
     ensures reads { IfOk result (λ block. ReadsBlock at (state tokens.now parser.old) block.items (state tokens.now parser.new)) }
     ensures refuses { IfErr result (RefusesBlock at (state tokens.now parser.old) (state tokens.now parser.new)) }
@@ -104,11 +110,16 @@ pub(crate) fn block(
     }
 }
 
-/// Reads the last statement of a block.
+/// laststat ::= return [explist] | break
 #[cycle(descent)]
-fn last(parser: &mut Parser, alloc: Global, tokens: &[Token], at: Place) -> Result<Stmt, ParseFault>
+fn last(
+    parser: &mut Parser,
+    alloc: Global,
+    tokens: &[Token],
+    at: Nesting,
+) -> Result<Stmt, ParseFault>
     ensures reads { IfOk result (λ last. ReadsLast at (state tokens.now parser.old) last (state tokens.now parser.new)) }
-    ensures refuses { begins_of (ahead (state tokens.now parser.old)) ≡ Begins.Last → IfErr result (RefusesLast at (state tokens.now parser.old) (state tokens.now parser.new)) }
+    ensures refuses { IfErrWhere (StatementBegins Begins.Last) result (RefusesLast at) tokens.now parser.old parser.new }
     ensures order { IfErr result (FirstFault (Standing.statement at) (state tokens.now parser.old) (state tokens.now parser.new)) }
     ensures forward { OnOk result (Advances tokens.now parser.old parser.new) }
 {
@@ -123,17 +134,21 @@ fn last(parser: &mut Parser, alloc: Global, tokens: &[Token], at: Place) -> Resu
     returned(alloc, line, values)
 }
 
+/// stat ::= varlist `=´ explist | functioncall | do block end | while exp do block end | repeat block until exp
+///     | if exp then block {elseif exp then block} [else block] end | for Name `=´ exp `,´ exp [`,´ exp] do block end
+///     | for namelist in explist do block end | function funcname funcbody | local function Name funcbody | local namelist [`=´ explist]
 /// Reads a statement that begins so.
 #[cycle(descent)]
 fn statement(
     parser: &mut Parser,
     alloc: Global,
     tokens: &[Token],
-    at: Place,
+    at: Nesting,
     begins: Begins,
 ) -> Result<Stmt, ParseFault>
     ensures reads { IfOk result (λ out. ReadsStat at (state tokens.now parser.old) out (state tokens.now parser.new)) }
-    ensures refuses { begins ≡ begins_of (ahead (state tokens.now parser.old)) → IsStatement begins → IfErr result (RefusesStat at (state tokens.now parser.old) (state tokens.now parser.new)) }
+    ensures refuses { begins ≡ begins_of (ahead (state tokens.now parser.old)) → IsStatement begins
+        → IfErr result (RefusesStat at (state tokens.now parser.old) (state tokens.now parser.new)) }
     ensures order { IfErr result (FirstFault (Standing.statement at) (state tokens.now parser.old) (state tokens.now parser.new)) }
     ensures forward { OnOk result (Advances tokens.now parser.old parser.new) }
 {
@@ -149,13 +164,14 @@ fn statement(
     }
 }
 
+/// exp
 /// Reads an expression of a statement in a block at `at`.
 #[cycle(descent)]
 pub(crate) fn value(
     parser: &mut Parser,
     alloc: Global,
     tokens: &[Token],
-    at: Place,
+    at: Nesting,
 ) -> Result<Expr, ParseFault>
     ensures reads { IfOk result (λ e. ReadsValue at (state tokens.now parser.old) e (state tokens.now parser.new)) }
     ensures refuses { IfErr result (RefusesValue at (state tokens.now parser.old) (state tokens.now parser.new)) }
@@ -167,13 +183,14 @@ pub(crate) fn value(
     Ok(built.into_expr())
 }
 
+/// explist ::= {exp `,´} exp
 /// Reads expressions of a statement in a block at `at`.
 #[cycle(descent)]
 pub(crate) fn values(
     parser: &mut Parser,
     alloc: Global,
     tokens: &[Token],
-    at: Place,
+    at: Nesting,
 ) -> Result<Vec<Expr>, ParseFault>
     ensures reads { IfOk result (λ es. ReadsValues at (state tokens.now parser.old) es.items (state tokens.now parser.new)) }
     ensures refuses { IfErr result (RefusesValues at (state tokens.now parser.old) (state tokens.now parser.new)) }
@@ -185,9 +202,9 @@ pub(crate) fn values(
     Ok(values.into_exprs())
 }
 
-/// Reads a test, `then` and a block.
+/// exp then block
 #[cycle(descent)]
-fn arm(parser: &mut Parser, alloc: Global, tokens: &[Token], at: Place) -> Result<Arm, ParseFault>
+fn arm(parser: &mut Parser, alloc: Global, tokens: &[Token], at: Nesting) -> Result<Arm, ParseFault>
     ensures reads { IfOk result (λ arm. ReadsArm at (state tokens.now parser.old) arm (state tokens.now parser.new)) }
     ensures refuses { IfErr result (RefusesArm at (state tokens.now parser.old) (state tokens.now parser.new)) }
     ensures order { IfErr result (FirstFault (Standing.arm at) (state tokens.now parser.old) (state tokens.now parser.new)) }
@@ -199,13 +216,14 @@ fn arm(parser: &mut Parser, alloc: Global, tokens: &[Token], at: Place) -> Resul
     arm_node(alloc, test, body)
 }
 
-/// Reads the arms of an `if` behind its word.
+/// exp then block {elseif exp then block}
+/// Reads the arms of an `if` after its word.
 #[cycle(descent)]
 fn arms(
     parser: &mut Parser,
     alloc: Global,
     tokens: &[Token],
-    at: Place,
+    at: Nesting,
 ) -> Result<Vec<Arm>, ParseFault>
     ensures reads { IfOk result (λ arms. (line : ℕ) → ReadsArms at line (state tokens.now parser.old) arms.items (state tokens.now parser.new)) }
     ensures stops { OnOk result (IsNext (WordKind ElseIf) (state tokens.now parser.new) → ⊥) }
@@ -223,15 +241,16 @@ fn arms(
     Ok(arms)
 }
 
+/// stat ::= if exp then block {elseif exp then block} [else block] end
 #[cycle(descent)]
 fn if_statement(
     parser: &mut Parser,
     alloc: Global,
     tokens: &[Token],
-    at: Place,
+    at: Nesting,
 ) -> Result<Stmt, ParseFault>
     ensures reads { IfOk result (λ out. ReadsStat at (state tokens.now parser.old) out (state tokens.now parser.new)) }
-    ensures refuses { ahead (state tokens.now parser.old) ≡ WordKind If → IfErr result (RefusesStat at (state tokens.now parser.old) (state tokens.now parser.new)) }
+    ensures refuses { IfErrWhere (IsAhead (WordKind If)) result (RefusesStat at) tokens.now parser.old parser.new }
     ensures order { IfErr result (FirstFault (Standing.statement at) (state tokens.now parser.old) (state tokens.now parser.new)) }
     ensures forward { OnOk result (Advances tokens.now parser.old parser.new) }
 {
@@ -247,15 +266,16 @@ fn if_statement(
     if_node(alloc, line, arms, Vec::new(alloc))
 }
 
+/// stat ::= do block end
 #[cycle(descent)]
 fn do_block(
     parser: &mut Parser,
     alloc: Global,
     tokens: &[Token],
-    at: Place,
+    at: Nesting,
 ) -> Result<Stmt, ParseFault>
     ensures reads { IfOk result (λ out. ReadsStat at (state tokens.now parser.old) out (state tokens.now parser.new)) }
-    ensures refuses { ahead (state tokens.now parser.old) ≡ WordKind Do → IfErr result (RefusesStat at (state tokens.now parser.old) (state tokens.now parser.new)) }
+    ensures refuses { IfErrWhere (IsAhead (WordKind Do)) result (RefusesStat at) tokens.now parser.old parser.new }
     ensures order { IfErr result (FirstFault (Standing.statement at) (state tokens.now parser.old) (state tokens.now parser.new)) }
     ensures forward { OnOk result (Advances tokens.now parser.old parser.new) }
 {
@@ -265,16 +285,17 @@ fn do_block(
     do_node(alloc, line, body)
 }
 
-/// Reads `function name.name:name body end`, which is an assignment.
+/// stat ::= function funcname funcbody
+/// It is an assignment.
 #[cycle(descent)]
 fn function_statement(
     parser: &mut Parser,
     alloc: Global,
     tokens: &[Token],
-    at: Place,
+    at: Nesting,
 ) -> Result<Stmt, ParseFault>
     ensures reads { IfOk result (λ out. ReadsStat at (state tokens.now parser.old) out (state tokens.now parser.new)) }
-    ensures refuses { ahead (state tokens.now parser.old) ≡ WordKind Function → IfErr result (RefusesStat at (state tokens.now parser.old) (state tokens.now parser.new)) }
+    ensures refuses { IfErrWhere (IsAhead (WordKind Function)) result (RefusesStat at) tokens.now parser.old parser.new }
     ensures order { IfErr result (FirstFault (Standing.statement at) (state tokens.now parser.old) (state tokens.now parser.new)) }
     ensures forward { OnOk result (Advances tokens.now parser.old parser.new) }
 {
@@ -287,19 +308,20 @@ fn function_statement(
     define(alloc, line, name.target, number)
 }
 
-/// Reads the rest of the statement of a method from its `:` on. Its `function` is on that line.
+/// stat ::= function funcname funcbody, where funcname ends with `:´ Name
+/// Reads it from its `:` on. Its `function` is on that line.
 #[cycle(descent)]
 fn method_statement(
     parser: &mut Parser,
     alloc: Global,
     tokens: &[Token],
-    at: Place,
+    at: Nesting,
     line: u32,
     object: FunctionName,
 ) -> Result<Stmt, ParseFault>
     ensures reads { IfOk result (λ out. (s : State) → ReadsFuncName s object (state tokens.now parser.old)
-        → ReadsStat at (behind_function line s) out (state tokens.now parser.new)) }
-    ensures refuses { IsNext (SignKind Colon) (state tokens.now parser.old) → IfErr result (RefusesMethod at line object (state tokens.now parser.old) (state tokens.now parser.new)) }
+        → ReadsStat at (before_function line s) out (state tokens.now parser.new)) }
+    ensures refuses { IfErrWhere (IsNext (SignKind Colon)) result (RefusesMethod at line object) tokens.now parser.old parser.new }
     ensures order { IfErr result (FirstFault (Standing.function_tail at object) (state tokens.now parser.old) (state tokens.now parser.new)) }
     ensures forward { OnOk result (Advances tokens.now parser.old parser.new) }
 {
@@ -309,16 +331,16 @@ fn method_statement(
     define(alloc, line, name.target, number)
 }
 
-/// Reads `local function name body end` or `local names = values`.
+/// stat ::= local function Name funcbody | local namelist [`=´ explist]
 #[cycle(descent)]
 fn local_statement(
     parser: &mut Parser,
     alloc: Global,
     tokens: &[Token],
-    at: Place,
+    at: Nesting,
 ) -> Result<Stmt, ParseFault>
     ensures reads { IfOk result (λ out. ReadsStat at (state tokens.now parser.old) out (state tokens.now parser.new)) }
-    ensures refuses { ahead (state tokens.now parser.old) ≡ WordKind Local → IfErr result (RefusesStat at (state tokens.now parser.old) (state tokens.now parser.new)) }
+    ensures refuses { IfErrWhere (IsAhead (WordKind Local)) result (RefusesStat at) tokens.now parser.old parser.new }
     ensures order { IfErr result (FirstFault (Standing.statement at) (state tokens.now parser.old) (state tokens.now parser.new)) }
     ensures forward { OnOk result (Advances tokens.now parser.old parser.new) }
 {
@@ -329,17 +351,18 @@ fn local_statement(
     local_names(parser, alloc, tokens, at, line)
 }
 
-/// Reads `function name body end` behind a `local` on that line. The body sees the name.
+/// stat ::= local function Name funcbody
+/// Reads it after its `local`, which is on that line. The body sees the name.
 #[cycle(descent)]
 fn local_function(
     parser: &mut Parser,
     alloc: Global,
     tokens: &[Token],
-    at: Place,
+    at: Nesting,
     line: u32,
 ) -> Result<Stmt, ParseFault>
-    ensures reads { IfOk result (λ out. ReadsStat at (behind_local line (state tokens.now parser.old)) out (state tokens.now parser.new)) }
-    ensures refuses { IsNext (WordKind Function) (state tokens.now parser.old) → IfErr result (RefusesLocal at (state tokens.now parser.old) (state tokens.now parser.new)) }
+    ensures reads { IfOk result (λ out. ReadsStat at (before_local line (state tokens.now parser.old)) out (state tokens.now parser.new)) }
+    ensures refuses { IfErrWhere (IsNext (WordKind Function)) result (RefusesLocal at) tokens.now parser.old parser.new }
     ensures order { IfErr result (FirstFault (Standing.local at) (state tokens.now parser.old) (state tokens.now parser.new)) }
     ensures forward { OnOk result (Advances tokens.now parser.old parser.new) }
 {
@@ -353,17 +376,18 @@ fn local_function(
     })
 }
 
-/// Reads names and the values that they get behind a `local` on that line.
+/// stat ::= local namelist [`=´ explist]
+/// Reads it after its `local`, which is on that line.
 #[cycle(descent)]
 fn local_names(
     parser: &mut Parser,
     alloc: Global,
     tokens: &[Token],
-    at: Place,
+    at: Nesting,
     line: u32,
 ) -> Result<Stmt, ParseFault>
-    ensures reads { IfOk result (λ out. ReadsStat at (behind_local line (state tokens.now parser.old)) out (state tokens.now parser.new)) }
-    ensures refuses { (IsNext (WordKind Function) (state tokens.now parser.old) → ⊥) → IfErr result (RefusesLocal at (state tokens.now parser.old) (state tokens.now parser.new)) }
+    ensures reads { IfOk result (λ out. ReadsStat at (before_local line (state tokens.now parser.old)) out (state tokens.now parser.new)) }
+    ensures refuses { IfErrWhere (IsNotNext (WordKind Function)) result (RefusesLocal at) tokens.now parser.old parser.new }
     ensures order { IfErr result (FirstFault (Standing.local at) (state tokens.now parser.old) (state tokens.now parser.new)) }
     ensures forward { OnOk result (Advances tokens.now parser.old parser.new) }
 {
@@ -374,13 +398,14 @@ fn local_names(
     local_node(alloc, line, slots, values)
 }
 
-/// Reads `=` and values where they stand next.
+/// [`=´ explist]
+/// Reads them where they stand next.
 #[cycle(descent)]
 fn initial(
     parser: &mut Parser,
     alloc: Global,
     tokens: &[Token],
-    at: Place,
+    at: Nesting,
 ) -> Result<Option<Vec<Expr>>, ParseFault>
     ensures reads { IfOk result (λ values. ReadsInitial at (state tokens.now parser.old) values (state tokens.now parser.new)) }
     ensures missing { IfOk result (λ values. IfNone values (IsNext (SignKind Assign) (state tokens.now parser.old) → ⊥)) }
@@ -396,16 +421,16 @@ fn initial(
     Ok(Some(values))
 }
 
-/// Reads an assignment or a call.
+/// stat ::= varlist `=´ explist | functioncall
 #[cycle(descent)]
 fn prefix_statement(
     parser: &mut Parser,
     alloc: Global,
     tokens: &[Token],
-    at: Place,
+    at: Nesting,
 ) -> Result<Stmt, ParseFault>
     ensures reads { IfOk result (λ out. ReadsStat at (state tokens.now parser.old) out (state tokens.now parser.new)) }
-    ensures refuses { begins_of (ahead (state tokens.now parser.old)) ≡ Begins.Prefix → IfErr result (RefusesStat at (state tokens.now parser.old) (state tokens.now parser.new)) }
+    ensures refuses { IfErrWhere (StatementBegins Begins.Prefix) result (RefusesStat at) tokens.now parser.old parser.new }
     ensures order { IfErr result (FirstFault (Standing.statement at) (state tokens.now parser.old) (state tokens.now parser.new)) }
     ensures forward { OnOk result (Advances tokens.now parser.old parser.new) }
 {
@@ -421,20 +446,21 @@ fn prefix_statement(
     }
 }
 
-/// Reads the rest of an assignment behind its first target. It begins on that line.
+/// stat ::= varlist `=´ explist
+/// Reads it after its first target. It begins on that line.
 #[cycle(descent)]
 fn assignment(
     parser: &mut Parser,
     alloc: Global,
     tokens: &[Token],
-    at: Place,
+    at: Nesting,
     line: u32,
     first: Expr,
 ) -> Result<Stmt, ParseFault>
     ensures reads { IfOk result (λ out. (s : State) → ReadsVars at line s (first ∷ []) (state tokens.now parser.old)
         → ReadsStat at s out (state tokens.now parser.new)) }
     ensures refuses { IfErr result (RefusesAssignment at first (state tokens.now parser.old) (state tokens.now parser.new)) }
-    ensures order { IfErr result (λ fault. (s : State) → ReadsVars at line s (first ∷ []) (state tokens.now parser.old) → FirstFault (Standing.statement at) s (state tokens.now parser.new) fault) }
+    ensures order { IfErr result (FirstFaultOfAssignment at line first (state tokens.now parser.old) (state tokens.now parser.new)) }
     ensures forward { OnOk result (Advances tokens.now parser.old parser.new) }
 {
     let targets = targets(parser, alloc, tokens, at, first)?;
@@ -443,20 +469,21 @@ fn assignment(
     assign_node(alloc, line, targets, values)
 }
 
-/// Reads the targets of an assignment behind the first.
+/// varlist ::= var {`,´ var}
+/// Reads it after the first.
 #[cycle(descent)]
 fn targets(
     parser: &mut Parser,
     alloc: Global,
     tokens: &[Token],
-    at: Place,
+    at: Nesting,
     first: Expr,
 ) -> Result<Vec<Expr>, ParseFault>
     ensures reads { IfOk result (λ targets. (line : ℕ) (s : State) (read : ReadsVars at line s (first ∷ []) (state tokens.now parser.old))
         → ReadsMoreVars at line s read.tree targets.items (state tokens.now parser.old) (state tokens.now parser.new)) }
     ensures stops { OnOk result (IsNext (SignKind Comma) (state tokens.now parser.new) → ⊥) }
     ensures refuses { IfErr result (RefusesAssignment at first (state tokens.now parser.old) (state tokens.now parser.new)) }
-    ensures order { IfErr result (λ fault. (line : ℕ) (s : State) → ReadsVars at line s (first ∷ []) (state tokens.now parser.old) → FirstFault (Standing.statement at) s (state tokens.now parser.new) fault) }
+    ensures order { IfErr result (FirstFaultOfTargets at first (state tokens.now parser.old) (state tokens.now parser.new)) }
     ensures forward { OnOk result (AdvancesOrStays tokens.now parser.old parser.new) }
 {
     let mut targets = vec![in alloc; first]?;
@@ -468,13 +495,13 @@ fn targets(
     Ok(targets)
 }
 
-/// Reads a variable that is assigned to.
+/// var ::= Name | prefixexp `[´ exp `]´ | prefixexp `.´ Name
 #[cycle(descent)]
 fn target(
     parser: &mut Parser,
     alloc: Global,
     tokens: &[Token],
-    at: Place,
+    at: Nesting,
 ) -> Result<Expr, ParseFault>
     ensures reads { IfOk result (λ e. ReadsTarget at (state tokens.now parser.old) e (state tokens.now parser.new)) }
     ensures refuses { IfErr result (RefusesTarget at (state tokens.now parser.old) (state tokens.now parser.new)) }

@@ -1,30 +1,32 @@
+//! Prefixes with their indexes and calls, arguments, and table constructors.
 ghost use Rattle.std.specs.Prelude.{IfOk, IfErr, OnOk};
 ghost use Rattle.lua_lexer.specs.declared.tokens.TokenKind.TheVariants.{Sign as SignKind};
 ghost use Rattle.lua_lexer.specs.declared.signs.Sign.TheVariants.{Colon, OpenBrace, OpenBracket};
-ghost use Rattle.lua_parser_base.specs.States.{State, state, Advances, Stops};
+ghost use Rattle.lua_parser_base.specs.States.{state, Advances, Stops, IfErrWhere};
 ghost use Rattle.lua_parser_base.specs.Reads.{ReadsPrefix, Extends, ReadsArgs, ReadsList, ReadsTable, ReadsField};
-ghost use Rattle.lua_parser_base.specs.Next.{Begin, IsNext, ahead};
-ghost use Rattle.lua_parser_base.specs.Kinds.{BeginNamed, IsSuffix};
+ghost use Rattle.lua_parser_base.specs.Next.{IsNext, ahead};
+ghost use Rattle.lua_parser_base.specs.Kinds.{SuffixBegins, NamedFieldBegins};
 ghost use Rattle.lua_grammar.specs.Stopping.{IsNoComma};
 ghost use Rattle.lua_parser_base.specs.Refusals.{RefusesArgs, RefusesField, RefusesList, RefusesPrefix, RefusesSuffix, RefusesTable};
-ghost use Rattle.lua_parser_base.specs.Standing.{FirstFault};
+ghost use Rattle.lua_parser_base.specs.Standing.{FirstFault, FirstFaultOfPrefix};
 ghost use Rattle.lua_parser_base.specs.Standing as Standing;
 
 use crate::expressions::expression;
 use lua_lexer::{Sign, Token};
 use lua_parser_base::{
-    Built, Item, Items, ParseFault, Parser, Place, Prefix, Suffix, Values, called, indexed,
+    Built, Item, Items, Nesting, ParseFault, Parser, Prefix, Suffix, Values, called, indexed,
     method_called, paren,
 };
 use std::alloc::Global;
 
+/// prefixexp ::= var | functioncall | `(´ exp `)´
 /// Reads a prefix with all that belongs to it. Expressions in it are parts of one at `at`.
 #[cycle(descent)]
 pub(crate) fn prefix(
     parser: &mut Parser,
     alloc: Global,
     tokens: &[Token],
-    at: Place,
+    at: Nesting,
 ) -> Result<Prefix, ParseFault>
     ensures reads { IfOk result (λ p. ReadsPrefix at (state tokens.now parser.old) p (state tokens.now parser.new)) }
     ensures stops { OnOk result (Stops (state tokens.now parser.new)) }
@@ -44,13 +46,14 @@ pub(crate) fn prefix(
     Ok(prefix)
 }
 
+/// prefixexp ::= Name | `(´ exp `)´
 /// Reads a name or an expression in parentheses.
 #[cycle(descent)]
 fn primary(
     parser: &mut Parser,
     alloc: Global,
     tokens: &[Token],
-    at: Place,
+    at: Nesting,
 ) -> Result<Prefix, ParseFault>
     ensures reads { IfOk result (λ p. ReadsPrefix at (state tokens.now parser.old) p (state tokens.now parser.new)) }
     ensures refuses { IfErr result (RefusesPrefix at (state tokens.now parser.old) (state tokens.now parser.new)) }
@@ -67,18 +70,19 @@ fn primary(
     paren(alloc, built, open)
 }
 
-/// Reads `[key]` behind a prefix.
+/// var ::= prefixexp `[´ exp `]´
+/// Reads `[key]` after a prefix.
 #[cycle(descent)]
 fn item(
     parser: &mut Parser,
     alloc: Global,
     tokens: &[Token],
-    at: Place,
+    at: Nesting,
     object: Prefix,
 ) -> Result<Prefix, ParseFault>
     ensures reads { IfOk result (λ p. Extends at object (state tokens.now parser.old) p (state tokens.now parser.new)) }
-    ensures refuses { IsNext (SignKind OpenBracket) (state tokens.now parser.old) → IfErr result (RefusesSuffix at object (state tokens.now parser.old) (state tokens.now parser.new)) }
-    ensures order { IfErr result (λ fault. (s : State) → ReadsPrefix at s object (state tokens.now parser.old) → FirstFault (Standing.prefix at) s (state tokens.now parser.new) fault) }
+    ensures refuses { IfErrWhere (IsNext (SignKind OpenBracket)) result (RefusesSuffix at object) tokens.now parser.old parser.new }
+    ensures order { IfErr result (FirstFaultOfPrefix at object (state tokens.now parser.old) (state tokens.now parser.new)) }
     ensures forward { OnOk result (Advances tokens.now parser.old parser.new) }
 {
     let open = parser.take_sign(tokens, Sign::OpenBracket)?;
@@ -89,18 +93,19 @@ fn item(
     indexed(alloc, object, open, key)
 }
 
-/// Reads arguments behind a prefix.
+/// functioncall ::= prefixexp args
+/// Reads arguments after a prefix.
 #[cycle(descent)]
 fn call(
     parser: &mut Parser,
     alloc: Global,
     tokens: &[Token],
-    at: Place,
+    at: Nesting,
     callee: Prefix,
 ) -> Result<Prefix, ParseFault>
     ensures reads { IfOk result (λ p. Extends at callee (state tokens.now parser.old) p (state tokens.now parser.new)) }
-    ensures refuses { Begin (IsSuffix Suffix.Arguments) (state tokens.now parser.old).left → IfErr result (RefusesSuffix at callee (state tokens.now parser.old) (state tokens.now parser.new)) }
-    ensures order { Begin (IsSuffix Suffix.Arguments) (state tokens.now parser.old).left → IfErr result (λ fault. (s : State) → ReadsPrefix at s callee (state tokens.now parser.old) → FirstFault (Standing.prefix at) s (state tokens.now parser.new) fault) }
+    ensures refuses { IfErrWhere (SuffixBegins Suffix.Arguments) result (RefusesSuffix at callee) tokens.now parser.old parser.new }
+    ensures order { IfErrWhere (SuffixBegins Suffix.Arguments) result (FirstFaultOfPrefix at callee) tokens.now parser.old parser.new }
     ensures forward { OnOk result (Advances tokens.now parser.old parser.new) }
 {
     let line = parser.arguments_line(tokens)?;
@@ -109,18 +114,19 @@ fn call(
     called(alloc, callee, line, values)
 }
 
-/// Reads `:name` and arguments behind a prefix.
+/// functioncall ::= prefixexp `:´ Name args
+/// Reads `:name` and arguments after a prefix.
 #[cycle(descent)]
 fn method(
     parser: &mut Parser,
     alloc: Global,
     tokens: &[Token],
-    at: Place,
+    at: Nesting,
     object: Prefix,
 ) -> Result<Prefix, ParseFault>
     ensures reads { IfOk result (λ p. Extends at object (state tokens.now parser.old) p (state tokens.now parser.new)) }
-    ensures refuses { IsNext (SignKind Colon) (state tokens.now parser.old) → IfErr result (RefusesSuffix at object (state tokens.now parser.old) (state tokens.now parser.new)) }
-    ensures order { IfErr result (λ fault. (s : State) → ReadsPrefix at s object (state tokens.now parser.old) → FirstFault (Standing.prefix at) s (state tokens.now parser.new) fault) }
+    ensures refuses { IfErrWhere (IsNext (SignKind Colon)) result (RefusesSuffix at object) tokens.now parser.old parser.new }
+    ensures order { IfErr result (FirstFaultOfPrefix at object (state tokens.now parser.old) (state tokens.now parser.new)) }
     ensures forward { OnOk result (Advances tokens.now parser.old parser.new) }
 {
     let colon = parser.take_sign(tokens, Sign::Colon)?;
@@ -131,13 +137,14 @@ fn method(
     method_called(alloc, object, named.name, line, values)
 }
 
+/// args ::= `(´ [explist] `)´ | tableconstructor | String
 /// Reads arguments. Expressions among them are parts of one at `at`.
 #[cycle(descent)]
 fn arguments(
     parser: &mut Parser,
     alloc: Global,
     tokens: &[Token],
-    at: Place,
+    at: Nesting,
 ) -> Result<Values, ParseFault>
     ensures reads { IfOk result (λ values. ReadsArgs at (state tokens.now parser.old) values (state tokens.now parser.new)) }
     ensures refuses { IfErr result (RefusesArgs at (state tokens.now parser.old) (state tokens.now parser.new)) }
@@ -164,13 +171,14 @@ fn arguments(
     Ok(values)
 }
 
+/// explist ::= {exp `,´} exp
 /// Reads expressions with commas between them, each at `at`.
 #[cycle(descent)]
 pub(crate) fn expressions(
     parser: &mut Parser,
     alloc: Global,
     tokens: &[Token],
-    at: Place,
+    at: Nesting,
 ) -> Result<Values, ParseFault>
     ensures reads { IfOk result (λ values. ReadsList at (state tokens.now parser.old) values (state tokens.now parser.new)) }
     ensures ends { OnOk result (IsNoComma (ahead (state tokens.now parser.new))) }
@@ -188,16 +196,16 @@ pub(crate) fn expressions(
     Ok(values)
 }
 
-/// Reads a table constructor.
+/// tableconstructor ::= `{´ [fieldlist] `}´, fieldlist ::= field {fieldsep field} [fieldsep]
 #[cycle(descent)]
 pub(crate) fn table(
     parser: &mut Parser,
     alloc: Global,
     tokens: &[Token],
-    at: Place,
+    at: Nesting,
 ) -> Result<Built, ParseFault>
     ensures reads { IfOk result (λ b. ReadsTable at (state tokens.now parser.old) b (state tokens.now parser.new)) }
-    ensures refuses { IsNext (SignKind OpenBrace) (state tokens.now parser.old) → IfErr result (RefusesTable at (state tokens.now parser.old) (state tokens.now parser.new)) }
+    ensures refuses { IfErrWhere (IsNext (SignKind OpenBrace)) result (RefusesTable at) tokens.now parser.old parser.new }
     ensures order { IfErr result (FirstFault (Standing.table at) (state tokens.now parser.old) (state tokens.now parser.new)) }
     ensures forward { OnOk result (Advances tokens.now parser.old parser.new) }
 {
@@ -217,13 +225,14 @@ pub(crate) fn table(
     items.into_table(alloc, open)
 }
 
+/// field ::= `[´ exp `]´ `=´ exp | Name `=´ exp | exp
 /// Reads an item of a table constructor, with expressions at `at`.
 #[cycle(descent)]
 fn field(
     parser: &mut Parser,
     alloc: Global,
     tokens: &[Token],
-    at: Place,
+    at: Nesting,
 ) -> Result<Item, ParseFault>
     ensures reads { IfOk result (λ item. ReadsField at (state tokens.now parser.old) item (state tokens.now parser.new)) }
     ensures refuses { IfErr result (RefusesField at (state tokens.now parser.old) (state tokens.now parser.new)) }
@@ -240,16 +249,16 @@ fn field(
     Ok(Item::value(value))
 }
 
-/// Reads `[key] = value`.
+/// field ::= `[´ exp `]´ `=´ exp
 #[cycle(descent)]
 fn keyed_field(
     parser: &mut Parser,
     alloc: Global,
     tokens: &[Token],
-    at: Place,
+    at: Nesting,
 ) -> Result<Item, ParseFault>
     ensures reads { IfOk result (λ item. ReadsField at (state tokens.now parser.old) item (state tokens.now parser.new)) }
-    ensures refuses { IsNext (SignKind OpenBracket) (state tokens.now parser.old) → IfErr result (RefusesField at (state tokens.now parser.old) (state tokens.now parser.new)) }
+    ensures refuses { IfErrWhere (IsNext (SignKind OpenBracket)) result (RefusesField at) tokens.now parser.old parser.new }
     ensures order { IfErr result (FirstFault (Standing.here Standing.field at) (state tokens.now parser.old) (state tokens.now parser.new)) }
     ensures forward { OnOk result (Advances tokens.now parser.old parser.new) }
 {
@@ -261,17 +270,17 @@ fn keyed_field(
     Ok(Item::pair(key, value))
 }
 
-/// Reads `name = value`.
+/// field ::= Name `=´ exp
 #[cycle(descent)]
 fn named_field(
     parser: &mut Parser,
     alloc: Global,
     tokens: &[Token],
-    at: Place,
+    at: Nesting,
 ) -> Result<Item, ParseFault>
     ensures reads { IfOk result (λ item. ReadsField at (state tokens.now parser.old) item (state tokens.now parser.new)) }
-    ensures refuses { BeginNamed (state tokens.now parser.old).left → IfErr result (RefusesField at (state tokens.now parser.old) (state tokens.now parser.new)) }
-    ensures order { BeginNamed (state tokens.now parser.old).left → IfErr result (FirstFault (Standing.here Standing.field at) (state tokens.now parser.old) (state tokens.now parser.new)) }
+    ensures refuses { IfErrWhere NamedFieldBegins result (RefusesField at) tokens.now parser.old parser.new }
+    ensures order { IfErrWhere NamedFieldBegins result (FirstFault (Standing.here Standing.field at)) tokens.now parser.old parser.new }
     ensures forward { OnOk result (Advances tokens.now parser.old parser.new) }
 {
     let named = parser.take_name(tokens)?;

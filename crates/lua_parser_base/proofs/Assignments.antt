@@ -16,17 +16,17 @@ use Rattle.lua_grammar.specs.Validity.{IsValid, IsValidPrefix, IsVariable, IsCal
 use Rattle.lua_grammar.specs.Scopes.{declare, in_scope, slots_from}
 use Rattle.lua_grammar.specs.Resolution.{Resolves, ResolvesPrefix, ResolvesName, ResolvesFuncName, ResolvesList, ResolvesVars, ResolvesBody, statement, prefix_line, names_of, self_name}
 use Rattle.lua_grammar.specs.Grammar.{first_line}
-use Rattle.lua_parser_base.specs.declared.places.Place.{Place}
+use Rattle.lua_parser_base.specs.declared.nesting.Nesting.{Nesting}
 use Rattle.lua_parser_base.specs.declared.nodes.Prefix.{Prefix}
 use Rattle.lua_parser_base.specs.declared.nodes.Form.TheVariants.{Variable, Call}
 use Rattle.lua_parser_base.specs.declared.statement_nodes.FunctionName.{FunctionName}
 use Rattle.lua_grammar.specs.Stopping.{IsNoAssign, IsNoComma, LastStops}
 use Rattle.lua_parser_base.specs.States.{State, Takes, Stops}
 use Rattle.lua_parser_base.specs.Next.{IsKind, IsNext, ahead, first_kind}
-use Rattle.lua_parser_base.specs.Places.{IsFresh}
+use Rattle.lua_parser_base.specs.Nesting.{IsFresh}
 use Rattle.lua_parser_base.specs.Reads.{ReadsPrefix, ReadsBody, form_of}
 use Rattle.lua_parser_base.specs.ReadsNames.{ReadsNames}
-use Rattle.lua_parser_base.specs.ReadsStatements.{ReadsStat, ReadsValues, ReadsTarget, ReadsVars, ReadsMoreVars, ReadsFuncName, ReadsMember, ReadsInitial, behind_function, behind_local}
+use Rattle.lua_parser_base.specs.ReadsStatements.{ReadsStat, ReadsValues, ReadsTarget, ReadsVars, ReadsMoreVars, ReadsFuncName, ReadsMember, ReadsInitial, before_function, before_local}
 use Rattle.lua_parser_base.specs.StatementNodes.{IsAssign, IsLocal, Defines}
 use Rattle.lua_parser_base.proofs.Productions.{apart_there}
 use Rattle.lua_parser_base.proofs.Scoping.{Turns, stops_still}
@@ -35,14 +35,14 @@ use Rattle.lua_parser_base.proofs.Moving.{not_first}
 use Rattle.lua_parser_base.proofs.Names.{no_comma_ahead}
 
 -- a prefix begins with its first token
-first_of : (p : PrefixExp) (behind : List Lexeme) → first_line (print_prefixexp p behind) ≡ prefix_line p
+first_of : (p : PrefixExp) (after : List Lexeme) → first_line (print_prefixexp p after) ≡ prefix_line p
 unfolding print_exp
-first_of (tree.variable l n) behind = refl
-first_of (tree.paren o e c) behind = refl
-first_of (tree.item p o e c) behind = first_of p _
-first_of (tree.member p d l n) behind = first_of p _
-first_of (tree.call p a) behind = first_of p _
-first_of (tree.method p c l n a) behind = first_of p _
+first_of (tree.variable l n) after = refl
+first_of (tree.paren o e c) after = refl
+first_of (tree.item p o e c) after = first_of p _
+first_of (tree.member p d l n) after = first_of p _
+first_of (tree.call p a) after = first_of p _
+first_of (tree.method p c l n a) after = first_of p _
 
 is_call : (p : PrefixExp) → form_of p ≡ Call → IsCall p
 is_call (tree.variable l n) is = cc
@@ -60,7 +60,7 @@ is_variable (tree.member p d l n) is = tt
 is_variable (tree.call p a) is = cc
 is_variable (tree.method p c l n a) is = cc
 
-pub call_read : (at free : Place) (s t : State) (p : Prefix) (line : ℕ) (out : Stmt) → IsFresh at free → ReadsPrefix free s p t → Stops t → p.form ≡ Call →
+pub call_read : (at free : Nesting) (s t : State) (p : Prefix) (line : ℕ) (out : Stmt) → IsFresh at free → ReadsPrefix free s p t → Stops t → p.form ≡ Call →
     line ≡ first_line s.left → out ≡ statement line (stmt.Call p.expr) → ReadsStat at s out t
 unfolding print_exp levels IsValid Resolves
 call_read at free s t p line out fresh r stops form first is =
@@ -68,26 +68,26 @@ call_read at free s t p line out fresh r stops form first is =
     record {
       tree = tree.call_statement r.tree;
       printed = r.printed;
-      valid = (subst (λ rest. IsValidPrefix rest r.tree) fresh.rest r.valid, is_call r.tree (r.form ∙ form));
+      valid = (subst (λ vararg. IsValidPrefix vararg r.tree) fresh.vararg r.valid, is_call r.tree (r.form ∙ form));
       deep = let d = r.deep in let e = fresh.depth in omega (arith, d, e);
       resolved = (p.expr, r.resolved, is ∙ ap (λ l. statement l (stmt.Call p.expr)) begins);
       stops = λ _. stops;
       ends = apart_there t stops;
     }
 
-pub target_read : (at free : Place) (s t : State) (p : Prefix) (e : Expr) → IsFresh at free → ReadsPrefix free s p t → Stops t → p.form ≡ Variable → e ≡ p.expr →
+pub target_read : (at free : Nesting) (s t : State) (p : Prefix) (e : Expr) → IsFresh at free → ReadsPrefix free s p t → Stops t → p.form ≡ Variable → e ≡ p.expr →
     ReadsTarget at s e t
 target_read at free s t p e fresh r stops form is = record {
   tree = r.tree;
   printed = r.printed;
-  valid = subst (λ rest. IsValidPrefix rest r.tree) fresh.rest r.valid;
+  valid = subst (λ vararg. IsValidPrefix vararg r.tree) fresh.vararg r.valid;
   variable = is_variable r.tree (r.form ∙ form);
   deep = let d = r.deep in let e = fresh.depth in omega (arith, d, e);
   resolved = subst (λ x. ResolvesPrefix r.tree s.scope x t.scope) (sym is) r.resolved;
   ends = apart_there t stops;
 }
 
-pub vars_one : (at : Place) (line : ℕ) (s t : State) (e : Expr) (out : List Expr) → ReadsTarget at s e t → line ≡ first_line s.left → out ≡ e ∷ [] →
+pub vars_one : (at : Nesting) (line : ℕ) (s t : State) (e : Expr) (out : List Expr) → ReadsTarget at s e t → line ≡ first_line s.left → out ≡ e ∷ [] →
     ReadsVars at line s out t
 unfolding print_exp levels IsValid Resolves
 vars_one at line s t e out r first is = record {
@@ -100,7 +100,7 @@ vars_one at line s t e out r first is = record {
   ends = r.ends;
 }
 
-pub assign_read : (at : Place) (line : ℕ) (s m n t : State) (targets es : List Expr) (equals : ℕ) (out : Stmt) → ReadsVars at line s targets m →
+pub assign_read : (at : Nesting) (line : ℕ) (s m n t : State) (targets es : List Expr) (equals : ℕ) (out : Stmt) → ReadsVars at line s targets m →
     Takes (SignKind Assign) equals m n → ReadsValues at n es t → IsAssign line targets es out → ReadsStat at s out t
 unfolding print_exp levels IsValid Resolves
 assign_read at line s m n t targets es equals out rs taken r is =
@@ -115,14 +115,14 @@ assign_read at line s m n t targets es equals out rs taken r is =
       ends = (r.ends, r.last);
     }
 
--- the rest of an assignment behind its first target
-pub assign_behind : (at : Place) (line : ℕ) (a m n t : State) (first targets es : List Expr) (equals : ℕ) →
+-- the rest of an assignment after its first target
+pub assign_after : (at : Nesting) (line : ℕ) (a m n t : State) (first targets es : List Expr) (equals : ℕ) →
     ((l : ℕ) (s : State) (r : ReadsVars at l s first a) → ReadsMoreVars at l s r.tree targets a m) → Takes (SignKind Assign) equals m n → ReadsValues at n es t →
     (out : Stmt) → IsAssign line targets es out → (s : State) → ReadsVars at line s first a → ReadsStat at s out t
-assign_behind at line a m n t first targets es equals more taken r out is s rs =
+assign_after at line a m n t first targets es equals more taken r out is s rs =
     assign_read at line s m n t targets es equals out (more line s rs).whole taken r is
 
-pub first_assigned : (at : Place) (line : ℕ) (s m t : State) (first : List Expr) → ReadsVars at line s first m → (out : Stmt) →
+pub first_assigned : (at : Nesting) (line : ℕ) (s m t : State) (first : List Expr) → ReadsVars at line s first m → (out : Stmt) →
     ((z : State) → ReadsVars at line z first m → ReadsStat at z out t) → ReadsStat at s out t
 first_assigned at line s m t first r out reads = reads s r
 
@@ -155,7 +155,7 @@ name_member s m t object whole r step =
       low = step.low;
     }
 
-pub function_read : (at : Place) (s a b t : State) (line number : ℕ) (name : FunctionName) (out : Stmt) → Takes (WordKind Function) line s a →
+pub function_read : (at : Nesting) (s a b t : State) (line number : ℕ) (name : FunctionName) (out : Stmt) → Takes (WordKind Function) line s a →
     ReadsFuncName a name b → ReadsBody at line [] b number t → Defines line name.target number out → ReadsStat at s out t
 unfolding print_exp levels IsValid Resolves
 function_read at s a b t line number name out taken r body is = record {
@@ -168,9 +168,9 @@ function_read at s a b t line number name out taken r body is = record {
   ends = tt;
 }
 
-pub method_read : (at : Place) (a b t : State) (line number : ℕ) (first : List Bytes) (object whole : FunctionName) → ReadsMember Colon object a whole b →
+pub method_read : (at : Nesting) (a b t : State) (line number : ℕ) (first : List Bytes) (object whole : FunctionName) → ReadsMember Colon object a whole b →
     first ≡ self_name ∷ [] → ReadsBody at line first b number t → (out : Stmt) → Defines line whole.target number out → (s : State) → ReadsFuncName s object a →
-    ReadsStat at (behind_function line s) out t
+    ReadsStat at (before_function line s) out t
 unfolding print_exp levels IsValid Resolves
 method_read at a b t line number first object whole step own body out is s r =
     let inner : ResolvesFuncName r.tree s.scope step.built.object.value a.scope = subst (λ e. ResolvesFuncName r.tree s.scope e a.scope) (sym step.built.same) r.resolved in
@@ -197,17 +197,17 @@ method_read at a b t line number first object whole step own body out is s r =
       ends = tt;
     }
 
-pub function_from : (at : Place) (s m t : State) (line : ℕ) (out : Stmt) → Takes (WordKind Function) line s m → ReadsStat at (behind_function line m) out t → ReadsStat at s out t
-function_from at s m t line out taken r = stat_from at s (behind_function line m) t out taken.printed taken.scope r
+pub function_from : (at : Nesting) (s m t : State) (line : ℕ) (out : Stmt) → Takes (WordKind Function) line s m → ReadsStat at (before_function line m) out t → ReadsStat at s out t
+function_from at s m t line out taken r = stat_from at s (before_function line m) t out taken.printed taken.scope r
 
-pub local_from : (at : Place) (s m t : State) (line : ℕ) (out : Stmt) → Takes (WordKind Local) line s m → ReadsStat at (behind_local line m) out t → ReadsStat at s out t
-local_from at s m t line out taken r = stat_from at s (behind_local line m) t out taken.printed taken.scope r
+pub local_from : (at : Nesting) (s m t : State) (line : ℕ) (out : Stmt) → Takes (WordKind Local) line s m → ReadsStat at (before_local line m) out t → ReadsStat at s out t
+local_from at s m t line out taken r = stat_from at s (before_local line m) t out taken.printed taken.scope r
 
-pub local_function_read : (at : Place) (s a b c t : State) (line word name_at slot number : ℕ) (name : Bytes) (out : Stmt) → Takes (WordKind Function) word s a →
+pub local_function_read : (at : Nesting) (s a b c t : State) (line word name_at slot number : ℕ) (name : Bytes) (out : Stmt) → Takes (WordKind Function) word s a →
     Takes (NameKind name) name_at a b → Turns (declare (name ∷ []) b.scope) b c → ReadsBody at word [] c number t → slot ≡ in_scope b.scope →
-    out ≡ statement line (stmt.LocalFunction slot number) → ReadsStat at (behind_local line s) out t
+    out ≡ statement line (stmt.LocalFunction slot number) → ReadsStat at (before_local line s) out t
 unfolding print_exp levels IsValid Resolves
-local_function_read at s a b c t line word name_at slot number name out taken named turn body place is =
+local_function_read at s a b c t line word name_at slot number name out taken named turn body index is =
     let same : b.scope ≡ s.scope = named.scope ∙ taken.scope in
     record {
       tree = tree.local_function line word name_at name body.tree;
@@ -217,17 +217,17 @@ local_function_read at s a b c t line word name_at slot number name out taken na
       resolved = (
         number,
         subst (λ z. ResolvesBody [] word body.tree z number t.scope) (turn.scope ∙ ap (declare (name ∷ [])) same) body.resolved,
-        is ∙ ap (λ k. statement line (stmt.LocalFunction k number)) (place ∙ ap in_scope same),
+        is ∙ ap (λ k. statement line (stmt.LocalFunction k number)) (index ∙ ap in_scope same),
       );
       stops = λ ends. absurd ends;
       ends = tt;
     }
 
-pub local_read : (at : Place) (s a b t : State) (line : ℕ) (names : List Bytes) (values : Option (Vec Expr Global)) (slots : List ℕ) (out : Stmt) → ReadsNames [] s names a →
+pub local_read : (at : Nesting) (s a b t : State) (line : ℕ) (names : List Bytes) (values : Option (Vec Expr Global)) (slots : List ℕ) (out : Stmt) → ReadsNames [] s names a →
     ReadsInitial at a values b → Turns (declare names b.scope) b t → slots ≡ slots_from (in_scope b.scope) names → IsLocal line slots values out →
-    (IsNext (SignKind Comma) a → ⊥) → IfNone values (IsNext (SignKind Assign) a → ⊥) → ReadsStat at (behind_local line s) out t
+    (IsNext (SignKind Comma) a → ⊥) → IfNone values (IsNext (SignKind Assign) a → ⊥) → ReadsStat at (before_local line s) out t
 unfolding print_exp levels IsValid Resolves
-local_read at s a b t line names (Some es) slots out r (equals, m, taken, rv) turn places is last none =
+local_read at s a b t line names (Some es) slots out r (equals, m, taken, rv) turn numbered is last none =
     let first : ResolvesList rv.tree m.scope is.given.value.items b.scope = subst (λ x. ResolvesList rv.tree m.scope x b.scope) (sym is.same_given) rv.resolved in
     let from : ResolvesList rv.tree s.scope is.given.value.items b.scope = subst (λ z. ResolvesList rv.tree z is.given.value.items b.scope) (taken.scope ∙ r.scope) first in
     record {
@@ -235,18 +235,18 @@ local_read at s a b t line names (Some es) slots out r (equals, m, taken, rv) tu
       printed = ap (a_word Local line) (r.printed ∙ ap (print_names r.tree) (taken.printed ∙ ap (a_sign Assign equals) (rv.printed ∙ ap (print_explist rv.tree) (sym turn.left))));
       valid = rv.valid;
       deep = rv.deep;
-      resolved = (is.places, is.given, b.scope, from, is.same_places ∙ (places ∙ ap (slots_from (in_scope b.scope)) r.listed), turn.scope ∙ ap (λ ns. declare ns b.scope) r.listed, is.built);
+      resolved = (is.list, is.given, b.scope, from, is.same_slots ∙ (numbered ∙ ap (slots_from (in_scope b.scope)) r.listed), turn.scope ∙ ap (λ ns. declare ns b.scope) r.listed, is.built);
       stops = λ ends. stops_still b t turn.left (rv.stops ends);
       ends = subst (λ left. LastStops rv.tree (a_kind (first_kind left) 1 []) × IsNoComma (first_kind left)) (sym turn.left) (rv.ends, rv.last);
     }
-local_read at s a b t line names None slots out r same turn places is last none =
+local_read at s a b t line names None slots out r same turn numbered is last none =
     let before : b.scope ≡ s.scope = ap (λ z. z.scope) same ∙ r.scope in
     record {
       tree = tree.local line r.tree;
       printed = ap (a_word Local line) (r.printed ∙ ap (print_names r.tree) (ap (λ z. z.left) (sym same) ∙ sym turn.left));
       valid = tt;
       deep = let d = at.deep in omega (arith, d);
-      resolved = (is.places, is.given, is.same_places ∙ (places ∙ (ap (slots_from (in_scope b.scope)) r.listed ∙ ap (λ z. slots_from (in_scope z) (names_of r.tree)) before)), is.same_given, turn.scope ∙ (ap (λ ns. declare ns b.scope) r.listed ∙ ap (declare (names_of r.tree)) before), is.built);
+      resolved = (is.list, is.given, is.same_slots ∙ (numbered ∙ (ap (slots_from (in_scope b.scope)) r.listed ∙ ap (λ z. slots_from (in_scope z) (names_of r.tree)) before)), is.same_given, turn.scope ∙ (ap (λ ns. declare ns b.scope) r.listed ∙ ap (declare (names_of r.tree)) before), is.built);
       stops = λ ends. absurd ends;
       ends = subst (λ left. IsNoComma (first_kind left) × IsNoAssign (first_kind left)) (sym (turn.left ∙ ap (λ z. z.left) same)) (no_comma_ahead a last, no_assign_ahead a none);
     }

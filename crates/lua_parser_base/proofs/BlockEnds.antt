@@ -1,4 +1,4 @@
--- What stands behind a statement or a block.
+-- What stands after a statement or a block.
 use Rattle.std.proofs.Common.{List, [], ◌∷◌, refl}
 use Rattle.lua_lexer.specs.declared.tokens.TokenKind.{TokenKind}
 use Rattle.lua_lexer.specs.declared.tokens.TokenKind.TheVariants.{Sign}
@@ -9,7 +9,7 @@ use Rattle.lua_grammar.specs.Printing.{Lexeme, a_kind}
 use Rattle.lua_grammar.specs.Stopping.{IsNoSemicolon, Stops, LastStops, StatStops, StatsStop, LastStatStops, BlockStops, ArmsStop}
 use Rattle.lua_parser_base.specs.Next.{Begin, IsKind, first_kind}
 use Rattle.lua_parser_base.specs.Readers.{GoOn}
-use Rattle.lua_parser_base.proofs.Printed.{go_behind}
+use Rattle.lua_parser_base.proofs.Printed.{go_after}
 
 -- only the kind of the next token matters
 exp_alike : (e : Exp) (kind : TokenKind) (l m : Line) (xs ys : List Lexeme) → Stops e (a_kind kind l xs) → Stops e (a_kind kind m ys)
@@ -50,19 +50,19 @@ arms_alike (tree.if_arm i t h b) kind l m xs ys stops = block_alike b kind l m x
 arms_alike (tree.elseif_arm those i t h b) kind l m xs ys stops = block_alike b kind l m xs ys stops
 
 pub stat_on : (s : Stat) (left xs : List Lexeme) → GoOn left xs → StatStops s (a_kind (first_kind left) 1 []) → StatStops s xs
-stat_on s left xs h stops = go_behind (StatStops s) (λ kind l ys. stat_alike s kind 1 l [] ys) left xs h stops
+stat_on s left xs h stops = go_after (StatStops s) (λ kind l ys. stat_alike s kind 1 l [] ys) left xs h stops
 
 pub last_stat_on : (s : LastStat) (left xs : List Lexeme) → GoOn left xs → LastStatStops s (a_kind (first_kind left) 1 []) → LastStatStops s xs
-last_stat_on s left xs h stops = go_behind (LastStatStops s) (λ kind l ys. last_stat_alike s kind 1 l [] ys) left xs h stops
+last_stat_on s left xs h stops = go_after (LastStatStops s) (λ kind l ys. last_stat_alike s kind 1 l [] ys) left xs h stops
 
 pub stats_on : (ss : Stats) (left xs : List Lexeme) → GoOn left xs → StatsStop ss (a_kind (first_kind left) 1 []) → StatsStop ss xs
-stats_on ss left xs h stops = go_behind (StatsStop ss) (λ kind l ys. stats_alike ss kind 1 l [] ys) left xs h stops
+stats_on ss left xs h stops = go_after (StatsStop ss) (λ kind l ys. stats_alike ss kind 1 l [] ys) left xs h stops
 
 pub block_on : (b : Block) (left xs : List Lexeme) → GoOn left xs → BlockStops b (a_kind (first_kind left) 1 []) → BlockStops b xs
-block_on b left xs h stops = go_behind (BlockStops b) (λ kind l ys. block_alike b kind 1 l [] ys) left xs h stops
+block_on b left xs h stops = go_after (BlockStops b) (λ kind l ys. block_alike b kind 1 l [] ys) left xs h stops
 
 pub arms_on : (arms : Arms) (left xs : List Lexeme) → GoOn left xs → ArmsStop arms (a_kind (first_kind left) 1 []) → ArmsStop arms xs
-arms_on arms left xs h stops = go_behind (ArmsStop arms) (λ kind l ys. arms_alike arms kind 1 l [] ys) left xs h stops
+arms_on arms left xs h stops = go_after (ArmsStop arms) (λ kind l ys. arms_alike arms kind 1 l [] ys) left xs h stops
 
 -- where no `;` is next
 other_kind : (kind : TokenKind) → (IsKind (Sign sign.Semicolon) kind → ⊥) → IsNoSemicolon kind
@@ -71,4 +71,4 @@ other_kind kind h = tt
 
 pub no_semicolon : (left : List Lexeme) → (Begin (IsKind (Sign sign.Semicolon)) left → ⊥) → IsNoSemicolon (first_kind left)
 no_semicolon [] h = tt
-no_semicolon (first ∷ behind) h = other_kind first.kind h
+no_semicolon (first ∷ after) h = other_kind first.kind h

@@ -13,12 +13,12 @@ use Rattle.lua_grammar.specs.Stopping.{IsReturnEnd}
 use Rattle.lua_grammar.proofs.DeadParts.{dead_block}
 use Rattle.lua_parser_base.specs.declared.faults.ParseFault.{ParseFault}
 use Rattle.lua_parser_base.specs.declared.faults.ParseFault.TheVariants.{BreakOutside}
-use Rattle.lua_parser_base.specs.declared.places.Place.{Place}
+use Rattle.lua_parser_base.specs.declared.nesting.Nesting.{Nesting}
 use Rattle.lua_parser_base.specs.declared.beginnings.Begins.TheVariants as begins
 use Rattle.lua_parser_base.specs.States.{State, Takes}
 use Rattle.lua_parser_base.specs.Next.{IsTooDeep, ahead}
 use Rattle.lua_parser_base.specs.Kinds.{IsStatement, begins_of}
-use Rattle.lua_parser_base.specs.Places.{IsWithin}
+use Rattle.lua_parser_base.specs.Nesting.{IsWithin}
 use Rattle.lua_parser_base.specs.ReadsStatements.{ReadsStats}
 use Rattle.lua_parser_base.specs.Fits.{FitsBlock, FitsLast, FitsScoped, FitsStat, FitsStats, FitsValues}
 use Rattle.lua_parser_base.specs.Readers.{Moves}
@@ -31,20 +31,20 @@ use Rattle.lua_parser_base.proofs.Refusing.{too_deep}
 
 -- ---- a block within one
 
-pub scoped_too_deep : (at : Place) (s : State) (fault : ParseFault) → IsTooDeep at s fault → RefusesScoped at s s fault
+pub scoped_too_deep : (at : Nesting) (s : State) (fault : ParseFault) → IsTooDeep at s fault → RefusesScoped at s s fault
 scoped_too_deep at s fault none = λ k not suppose.
     too_deep fault _ at (block k) s none suppose (λ l b is. not (tree.statements tree.no_stats) l b is) (λ full those.
     dead_block k (λ b. those b (λ f. let d = f.deep in let n = block_deep b in omega (arith, d, n, full)))) tt
 
-pub scoped_refused : (at inner : Place) (s t : State) (fault : ParseFault) → IsWithin at inner → RefusesBlock inner s t fault → RefusesScoped at s t fault
+pub scoped_refused : (at inner : Nesting) (s t : State) (fault : ParseFault) → IsWithin at inner → RefusesBlock inner s t fault → RefusesScoped at s t fault
 scoped_refused at inner s t fault part refuses = λ k not suppose.
     refuses k (supposes_on fault {P = Unless (FitsScoped at s.scope.around) k} {Q = Unless (FitsBlock inner s.scope.around) k}
     (λ those b unfit. those b (λ f. unfit (scoped_fits at inner s.scope.around b part f))) suppose)
 
 -- ---- statements of a block
 
-over_stats : (at : Place) (k : Block → Reader) (s m : State) (out : List Stmt) (r : ReadsStats at s out m) → Moves (block k) s (more_stats r.tree k) m
-over_stats at k s m out r = stats_moves r.tree at.rest at.in_loop k s m r.printed r.valid r.ends
+over_stats : (at : Nesting) (k : Block → Reader) (s m : State) (out : List Stmt) (r : ReadsStats at s out m) → Moves (block k) s (more_stats r.tree k) m
+over_stats at k s m out r = stats_moves r.tree at.vararg at.in_loop k s m r.printed r.valid r.ends
 
 begins_last : (ss : Stats) (k : Block → Reader) (kind : TokenKind) (l : Line) → begins_of kind ≡ begins.Last →
     feed (more_stats ss k) kind l ≡ last (last_statement ss k) kind l
@@ -53,12 +53,12 @@ begins_last ss k (Word word.Break) l is = refl
 begins_last ss k (Word word.If) l is = cc
 begins_last ss k kind l is = cc
 
-last_supposes : (at : Place) (k : Block → Reader) (s m : State) (out : List Stmt) (r : ReadsStats at s out m) → Unless (FitsBlock at s.scope.around) k →
+last_supposes : (at : Nesting) (k : Block → Reader) (s m : State) (out : List Stmt) (r : ReadsStats at s out m) → Unless (FitsBlock at s.scope.around) k →
     Unless (FitsLast at m.scope.around) (last_statement r.tree k)
 last_supposes at k s m out r those = λ l unfit x.
     those (tree.with_last r.tree l x) (λ f. unfit (last_fits at s.scope.around r.tree l x s.scope m.scope out f refl r.resolved))
 
-pub last_refused : (at : Place) (s m t : State) (out : List Stmt) (fault : ParseFault) → ReadsStats at s out m → begins_of (ahead m) ≡ begins.Last → RefusesLast at m t fault →
+pub last_refused : (at : Nesting) (s m t : State) (out : List Stmt) (fault : ParseFault) → ReadsStats at s out m → begins_of (ahead m) ≡ begins.Last → RefusesLast at m t fault →
     RefusesBlock at s t fault
 last_refused at s m t out fault r next refuses = λ k suppose.
     refused_on (over_stats at k s m out r)
@@ -75,7 +75,7 @@ begins_stat ss k (Word word.ElseIf) l is = absurd is
 begins_stat ss k (Word word.Until) l is = absurd is
 begins_stat ss k kind l is = refl
 
-stat_supposes : (at : Place) (k : Block → Reader) (s m : State) (out : List Stmt) (r : ReadsStats at s out m) → Unless (FitsBlock at s.scope.around) k →
+stat_supposes : (at : Nesting) (k : Block → Reader) (s m : State) (out : List Stmt) (r : ReadsStats at s out m) → Unless (FitsBlock at s.scope.around) k →
     Unless (FitsStat at m.scope.around) (next_statement r.tree k)
 stat_supposes at k s m out r those = λ st unfit x whole from.
     let not : FitsStats at s.scope.around whole → ⊥ =
@@ -87,7 +87,7 @@ stat_supposes at k s m out r those = λ st unfit x whole from.
 waits : (ss : Stats) (k : Block → Reader) (st : Stat) (b : Block) → next_statement ss k st ≡ chunk b → ⊥
 waits ss k st b is = cc
 
-pub stat_refused : (at : Place) (s m t : State) (out : List Stmt) (fault : ParseFault) → ReadsStats at s out m → IsStatement (begins_of (ahead m)) → RefusesStat at m t fault →
+pub stat_refused : (at : Nesting) (s m t : State) (out : List Stmt) (fault : ParseFault) → ReadsStats at s out m → IsStatement (begins_of (ahead m)) → RefusesStat at m t fault →
     RefusesBlock at s t fault
 stat_refused at s m t out fault r next refuses = λ k suppose.
     refused_on (over_stats at k s m out r)
@@ -105,12 +105,12 @@ begins_values r k (Word word.ElseIf) l h = absurd (h tt)
 begins_values r k (Word word.Until) l h = absurd (h tt)
 begins_values r k kind l h = refl
 
-returned_supposes : (at : Place) (k : LastStat → Reader) (line : Line) (s m : State) → Takes (Word word.Return) line s m → Unless (FitsLast at s.scope.around) k →
+returned_supposes : (at : Nesting) (k : LastStat → Reader) (line : Line) (s m : State) → Takes (Word word.Return) line s m → Unless (FitsLast at s.scope.around) k →
     Unless (FitsValues at m.scope.around) (λ es. k (tree.return_values line es))
 returned_supposes at k line s m taken those = λ es unfit.
     those (tree.return_values line es) (λ f. unfit (subst (λ z. FitsValues at z.around es) (sym taken.scope) (returned_fit at s.scope.around line es f)))
 
-pub returned_refused : (at : Place) (line : Line) (s m t : State) (fault : ParseFault) → Takes (Word word.Return) line s m → (IsReturnEnd (ahead m) → ⊥) → RefusesValues at m t fault →
+pub returned_refused : (at : Nesting) (line : Line) (s m t : State) (fault : ParseFault) → Takes (Word word.Return) line s m → (IsReturnEnd (ahead m) → ⊥) → RefusesValues at m t fault →
     RefusesLast at s t fault
 returned_refused at line s m t fault taken next refuses = λ k suppose.
     refused_on (by_token (token (last k)) (Word word.Return) line s m taken)
@@ -118,9 +118,9 @@ returned_refused at line s m t fault taken next refuses = λ k suppose.
     (refuses (λ es. k (tree.return_values line es)) (supposes_on fault (returned_supposes at k line s m taken) suppose)))
 
 -- a `break` outside any loop
-pub break_refused : (at : Place) (line told : Line) (s m : State) → Takes (Word word.Break) line s m → (at.in_loop ≡ true → ⊥) → RefusesLast at s m (BreakOutside told)
-break_refused at line told s m taken outside = λ k suppose.
+pub break_refused : (at : Nesting) (line reported : Line) (s m : State) → Takes (Word word.Break) line s m → (at.in_loop ≡ true → ⊥) → RefusesLast at s m (BreakOutside reported)
+break_refused at line reported s m taken outside = λ k suppose.
     refused_on (by_token (token (last k)) (Word word.Break) line s m taken) (record {
-      sticks = dead_stuck (BreakOutside told) (k (tree.break_ line)) m (λ b c. c) (suppose (tree.break_ line) (λ f. outside (break_inside at s.scope.around line f))) tt;
-      tells = tt;
+      sticks = dead_stuck (BreakOutside reported) (k (tree.break_ line)) m (λ b c. c) (suppose (tree.break_ line) (λ f. outside (break_inside at s.scope.around line f))) tt;
+      reports = tt;
     })

@@ -8,28 +8,28 @@ use Rattle.lua_parser_base.specs.declared.faults.ParseFault.{ParseFault}
 use Rattle.lua_parser_base.specs.declared.faults.ParseFault.TheVariants.{Upvalues, Memory}
 use Rattle.lua_parser_base.specs.Next.{OnUpvalues}
 
--- the functions around one have few captures where all have
-few_handed : (name : Bytes) (f : Frame) (found : Option Capture) (around : List Frame) → Few (handed name f found around).1 → Few around
+-- the functions that enclose one have few captures where all have
+few_handed : (name : Bytes) (f : Frame) (found : Option Capture) (enclosing : List Frame) → Few (handed name f found enclosing).1 → Few enclosing
 unfolding Few
-few_handed name f None around few = few.1
-few_handed name f (Some variable) around few = few.1
+few_handed name f None enclosing few = few.1
+few_handed name f (Some variable) enclosing few = few.1
 
-pub few_further : (name : Bytes) (f : Frame) (around : List Frame) → own name f ≡ None → Few (look name (f ∷ around)).1 → Few (look name around).1
+pub few_further : (name : Bytes) (f : Frame) (enclosing : List Frame) → own name f ≡ None → Few (look name (f ∷ enclosing)).1 → Few (look name enclosing).1
 unfolding look
-few_further name f around none few = few_handed name f (look name around).0 (look name around).1 (rw none at few)
+few_further name f enclosing none few = few_handed name f (look name enclosing).0 (look name enclosing).1 (rw none at few)
 
 -- one capture more than a function may have
-pub crowded_frame : (name : Bytes) (f : Frame) (around behind : List Frame) (variable : Capture) → own name f ≡ None → look name around ≡ (Some variable, behind) → 60 ≤ length f.captures →
-    Few (look name (f ∷ around)).1 → ⊥
+pub crowded_frame : (name : Bytes) (f : Frame) (enclosing after : List Frame) (variable : Capture) → own name f ≡ None → look name enclosing ≡ (Some variable, after) → 60 ≤ length f.captures →
+    Few (look name (f ∷ enclosing)).1 → ⊥
 unfolding look Few
-crowded_frame name f around behind variable none further full few =
+crowded_frame name f enclosing after variable none further full few =
     let few-frame = (rw (none, further) at few).0 in
     let most = few-frame.captures in
     let more = length-append f.captures (record { name = name; variable = variable } ∷ []) in
     omega (arith, most, more, full)
 
 pub upvalues_on : (line : ℕ) {P Q : Type 0} (fault : ParseFault) → (P → Q) → OnUpvalues line P fault → OnUpvalues line Q fault
-upvalues_on line (Upvalues told) f h = (f h.0, h.1)
+upvalues_on line (Upvalues reported) f h = (f h.0, h.1)
 upvalues_on line Memory f h = tt
 upvalues_on line other f h = absurd h
 

@@ -13,17 +13,17 @@ use Rattle.lua_grammar.specs.Levels.{levels}
 use Rattle.lua_grammar.specs.Validity.{IsValid, IsValidBlock}
 use Rattle.lua_grammar.specs.Scopes.{declare, in_scope, leave, slots_from}
 use Rattle.lua_grammar.specs.Resolution.{Resolves, ResolvesList, Opens, ResolvesStat, Shared, statement, names_of}
-use Rattle.lua_parser_base.specs.declared.places.Place.{Place}
+use Rattle.lua_parser_base.specs.declared.nesting.Nesting.{Nesting}
 use Rattle.lua_parser_base.specs.declared.statement_nodes.LoopBlock.{LoopBlock}
 use Rattle.lua_parser_base.specs.States.{State, Takes}
-use Rattle.lua_parser_base.specs.Places.{IsWithin, IsLooped}
+use Rattle.lua_parser_base.specs.Nesting.{IsWithin, IsLooped}
 use Rattle.lua_parser_base.specs.ReadsNames.{ReadsNames}
-use Rattle.lua_parser_base.specs.ReadsStatements.{ReadsBlock, ReadsStat, ReadsValue, ReadsValues, ReadsLoop, ReadsStep, behind_for}
+use Rattle.lua_parser_base.specs.ReadsStatements.{ReadsBlock, ReadsStat, ReadsValue, ReadsValues, ReadsLoop, ReadsStep, before_for}
 use Rattle.lua_parser_base.specs.StatementNodes.{IsNumericFor, IsGenericFor, Begins}
 use Rattle.lua_parser_base.proofs.Scoping.{Turns}
 
 -- a statement that was read from a state with the same tokens and the same scope
-pub stat_from : (at : Place) (s m t : State) (out : Stmt) → s.left ≡ m.left → m.scope ≡ s.scope → ReadsStat at m out t → ReadsStat at s out t
+pub stat_from : (at : Nesting) (s m t : State) (out : Stmt) → s.left ≡ m.left → m.scope ≡ s.scope → ReadsStat at m out t → ReadsStat at s out t
 stat_from at s m t out left scope r = record {
   tree = r.tree;
   printed = left ∙ r.printed;
@@ -34,7 +34,7 @@ stat_from at s m t out left scope r = record {
   ends = r.ends;
 }
 
-pub loop_read : (at loop inner : Place) (s a b c d t : State) (line ends : ℕ) (names : List Bytes) (block : LoopBlock) → Takes (WordKind Do) line s a →
+pub loop_read : (at loop inner : Nesting) (s a b c d t : State) (line ends : ℕ) (names : List Bytes) (block : LoopBlock) → Takes (WordKind Do) line s a →
     Turns (declare names a.scope) a b → block.slots.items ≡ slots_from (in_scope a.scope) names → IsLooped at loop → IsWithin loop inner →
     ReadsBlock inner b block.body.items c → Turns (leave a.scope c.scope) c d → Takes (WordKind EndWord) ends d t → ReadsLoop at names s block t
 loop_read at loop inner s a b c d t line ends names block taken declares slots looped part r turn close =
@@ -43,9 +43,9 @@ loop_read at loop inner s a b c d t line ends names block taken declares slots l
       do_at = line;
       tree = r.tree;
       end_at = ends;
-      behind = c.scope;
+      after = c.scope;
       printed = taken.printed ∙ ap (a_word Do line) (sym declares.left ∙ (r.printed ∙ ap (print_block r.tree) (sym turn.left ∙ close.printed)));
-      valid = subst (λ l. IsValidBlock at.rest l r.tree) (part.in_loop ∙ looped.in_loop) (subst (λ rest. IsValidBlock rest inner.in_loop r.tree) (part.rest ∙ looped.rest) r.valid);
+      valid = subst (λ l. IsValidBlock at.vararg l r.tree) (part.in_loop ∙ looped.in_loop) (subst (λ vararg. IsValidBlock vararg inner.in_loop r.tree) (part.vararg ∙ looped.vararg) r.valid);
       deep = let d = r.deep in let e = part.depth in let f = looped.depth in omega (arith, d, e, f);
       opened = subst (λ z. Opens r.tree z block.body.items c.scope) begun r.resolved;
       scope = close.scope ∙ (turn.scope ∙ ap (λ z. leave z c.scope) taken.scope);
@@ -76,10 +76,10 @@ two_names (tree.next_name names c l x) n is =
     let three : length ((names_of names ++ x ∷ []) ++ n ∷ []) ≡ 1 = is in
     omega (arith, one, two, three)
 
-range_one : (at : Place) (s a b c d f t : State) (line name_at equals comma : ℕ) (name : Bytes) (from to : Expr) (step : Option Expr) (block : LoopBlock) (out : Stmt) →
+range_one : (at : Nesting) (s a b c d f t : State) (line name_at equals comma : ℕ) (name : Bytes) (from to : Expr) (step : Option Expr) (block : LoopBlock) (out : Stmt) →
     Takes (SignKind Assign) equals s a → ReadsValue at a from b → Takes (SignKind Comma) comma b c → ReadsValue at c to d → ReadsStep at d step f →
     ReadsLoop at (name ∷ []) f block t → IsNumericFor line (record { from = from; to = to; step = step }) block out →
-    ReadsStat at (behind_for line (tree.first_name name_at name) s) out t
+    ReadsStat at (before_for line (tree.first_name name_at name) s) out t
 unfolding print_exp levels IsValid Resolves slots_from
 range_one at s a b c d f t line name_at equals comma name from to (Some e) block out assign rf between rt (second, m, taken, re) rl is =
     let slot : is.slot ≡ in_scope f.scope = subst (Begins is.slot) rl.slots is.first in
@@ -90,7 +90,7 @@ range_one at s a b c d f t line name_at equals comma name from to (Some e) block
     let two : Resolves rt.tree b.scope is.to.value d.scope = subst (λ z. Resolves rt.tree z is.to.value d.scope) between.scope last in
     let more : Resolves re.tree m.scope step.0.value f.scope = subst (λ x. Resolves re.tree m.scope x f.scope) (sym step.2) re.resolved in
     let three : Resolves re.tree d.scope step.0.value f.scope = subst (λ z. Resolves re.tree z step.0.value f.scope) taken.scope more in
-    let run : Opens rl.tree (declare (name ∷ []) f.scope) is.run.value.items rl.behind = subst (λ l. Opens rl.tree (declare (name ∷ []) f.scope) l rl.behind) (sym is.same_run) rl.opened in
+    let run : Opens rl.tree (declare (name ∷ []) f.scope) is.run.value.items rl.after = subst (λ l. Opens rl.tree (declare (name ∷ []) f.scope) l rl.after) (sym is.same_run) rl.opened in
     record {
       tree = tree.for_steps line name_at name equals rf.tree comma rt.tree second re.tree rl.do_at rl.tree rl.end_at;
       printed = ap (λ left. a_word For line (a_name name_at name left)) (assign.printed ∙ ap (a_sign Assign equals) (rf.printed ∙ ap (print_exp rf.tree) (between.printed ∙ ap (a_sign Comma comma)
@@ -105,7 +105,7 @@ range_one at s a b c d f t line name_at equals comma name from to (Some e) block
         b.scope,
         d.scope,
         f.scope,
-        rl.behind,
+        rl.after,
         one,
         two,
         three,
@@ -124,7 +124,7 @@ range_one at s a b c d f t line name_at equals comma name from to None block out
     let last : Resolves rt.tree c.scope is.to.value d.scope = subst (λ x. Resolves rt.tree c.scope x d.scope) (sym is.same_to) rt.resolved in
     let near : Resolves rt.tree b.scope is.to.value d.scope = subst (λ z. Resolves rt.tree z is.to.value d.scope) between.scope last in
     let two : Resolves rt.tree b.scope is.to.value f.scope = subst (λ z. Resolves rt.tree b.scope is.to.value z.scope) (sym same) near in
-    let run : Opens rl.tree (declare (name ∷ []) f.scope) is.run.value.items rl.behind = subst (λ l. Opens rl.tree (declare (name ∷ []) f.scope) l rl.behind) (sym is.same_run) rl.opened in
+    let run : Opens rl.tree (declare (name ∷ []) f.scope) is.run.value.items rl.after = subst (λ l. Opens rl.tree (declare (name ∷ []) f.scope) l rl.after) (sym is.same_run) rl.opened in
     record {
       tree = tree.for_range line name_at name equals rf.tree comma rt.tree rl.do_at rl.tree rl.end_at;
       printed = ap (λ left. a_word For line (a_name name_at name left)) (assign.printed ∙ ap (a_sign Assign equals) (rf.printed ∙ ap (print_exp rf.tree) (between.printed ∙ ap (a_sign Comma comma)
@@ -137,7 +137,7 @@ range_one at s a b c d f t line name_at equals comma name from to None block out
         is.run,
         b.scope,
         f.scope,
-        rl.behind,
+        rl.after,
         one,
         two,
         run,
@@ -148,23 +148,23 @@ range_one at s a b c d f t line name_at equals comma name from to None block out
       ends = tt;
     }
 
-pub range_read : (at : Place) (s a b c d f t : State) (line equals comma : ℕ) (names : List Bytes) (from to : Expr) (step : Option Expr) (block : LoopBlock) →
+pub range_read : (at : Nesting) (s a b c d f t : State) (line equals comma : ℕ) (names : List Bytes) (from to : Expr) (step : Option Expr) (block : LoopBlock) →
     length names ≡ 1 → Takes (SignKind Assign) equals s a → ReadsValue at a from b → Takes (SignKind Comma) comma b c → ReadsValue at c to d →
     ReadsStep at d step f → ReadsLoop at names f block t → (out : Stmt) → IsNumericFor line (record { from = from; to = to; step = step }) block out →
-    (list : NameList) → names ≡ names_of list → ReadsStat at (behind_for line list s) out t
+    (list : NameList) → names ≡ names_of list → ReadsStat at (before_for line list s) out t
 range_read at s a b c d f t line equals comma names from to step block one assign rf between rt rs rl out is (tree.first_name l n) are =
     range_one at s a b c d f t line l equals comma n from to step block out assign rf between rt rs (subst (λ ns. ReadsLoop at ns f block t) are rl) is
 range_read at s a b c d f t line equals comma names from to step block one assign rf between rt rs rl out is (tree.next_name others c' l n) are =
     absurd (two_names others n (ap length (sym are) ∙ one))
 
-pub list_read : (at : Place) (s a b t : State) (line word : ℕ) (names : List Bytes) (es : List Expr) (block : LoopBlock) → Takes (WordKind In) word s a →
+pub list_read : (at : Nesting) (s a b t : State) (line word : ℕ) (names : List Bytes) (es : List Expr) (block : LoopBlock) → Takes (WordKind In) word s a →
     ReadsValues at a es b → ReadsLoop at names b block t → (out : Stmt) → IsGenericFor line es block out → (list : NameList) → names ≡ names_of list →
-    ReadsStat at (behind_for line list s) out t
+    ReadsStat at (before_for line list s) out t
 unfolding print_exp levels IsValid Resolves
 list_read at s a b t line word names es block taken rv rl out is list are =
     let first : ResolvesList rv.tree a.scope is.given.value.items b.scope = subst (λ x. ResolvesList rv.tree a.scope x b.scope) (sym is.same_given) rv.resolved in
     let one : ResolvesList rv.tree s.scope is.given.value.items b.scope = subst (λ z. ResolvesList rv.tree z is.given.value.items b.scope) taken.scope first in
-    let body : Opens rl.tree (declare names b.scope) is.run.value.items rl.behind = subst (λ l. Opens rl.tree (declare names b.scope) l rl.behind) (sym is.same_run) rl.opened in
+    let body : Opens rl.tree (declare names b.scope) is.run.value.items rl.after = subst (λ l. Opens rl.tree (declare names b.scope) l rl.after) (sym is.same_run) rl.opened in
     record {
       tree = tree.for_in line list word rv.tree rl.do_at rl.tree rl.end_at;
       printed = ap (λ left. a_word For line (print_names list left)) (taken.printed ∙ ap (a_word In word) (rv.printed ∙ ap (print_explist rv.tree) rl.printed));
@@ -175,10 +175,10 @@ list_read at s a b t line word names es block taken rv rl out is list are =
         is.given,
         is.run,
         b.scope,
-        rl.behind,
+        rl.after,
         one,
         is.same_slots ∙ (rl.slots ∙ ap (slots_from (in_scope b.scope)) are),
-        subst (λ ns. Opens rl.tree (declare ns b.scope) is.run.value.items rl.behind) are body,
+        subst (λ ns. Opens rl.tree (declare ns b.scope) is.run.value.items rl.after) are body,
         rl.scope,
         is.built,
       );
@@ -186,7 +186,7 @@ list_read at s a b t line word names es block taken rv rl out is list are =
       ends = tt;
     }
 
-pub for_read : (at : Place) (s a b t : State) (line : ℕ) (names : List Bytes) (out : Stmt) → Takes (WordKind For) line s a → ReadsNames [] a names b →
-    ((list : NameList) → names ≡ names_of list → ReadsStat at (behind_for line list b) out t) → ReadsStat at s out t
+pub for_read : (at : Nesting) (s a b t : State) (line : ℕ) (names : List Bytes) (out : Stmt) → Takes (WordKind For) line s a → ReadsNames [] a names b →
+    ((list : NameList) → names ≡ names_of list → ReadsStat at (before_for line list b) out t) → ReadsStat at s out t
 for_read at s a b t line names out taken r reads =
-    stat_from at s (behind_for line r.tree b) t out (taken.printed ∙ ap (a_word For line) r.printed) (r.scope ∙ taken.scope) (reads r.tree r.listed)
+    stat_from at s (before_for line r.tree b) t out (taken.printed ∙ ap (a_word For line) r.printed) (r.scope ∙ taken.scope) (reads r.tree r.listed)

@@ -1,4 +1,4 @@
--- What stands behind a field that is a name alone.
+-- What stands after a field that is a name alone.
 use Rattle.std.proofs.Common.{◌≡◌, List, [], ◌∷◌, sym, subst, refl}
 use Rattle.lua_lexer.specs.declared.tokens.TokenKind.{TokenKind}
 use Rattle.lua_lexer.specs.declared.tokens.TokenKind.TheVariants.{Name, Sign}
@@ -14,11 +14,11 @@ no_assign : (kind : TokenKind) → (kind ≡ Sign sign.Assign → ⊥) → IsNoA
 no_assign (Sign sign.Assign) h = absurd (h refl)
 no_assign kind h = tt
 
-behind_lone : (first : Lexeme) (behind : List Lexeme) → IsName first.kind → (BeginNamed (first ∷ behind) → ⊥) → IsNoAssign (first_kind behind)
-behind_lone first [] name not = tt
-behind_lone first (next ∷ behind) name not = no_assign next.kind (λ is. not (name, is))
+after_lone : (first : Lexeme) (after : List Lexeme) → IsName first.kind → (BeginNamed (first ∷ after) → ⊥) → IsNoAssign (first_kind after)
+after_lone first [] name not = tt
+after_lone first (next ∷ after) name not = no_assign next.kind (λ is. not (name, is))
 
-pub lone_ends : (e : Exp) (left behind : List Lexeme) → left ≡ print_exp e behind → (BeginNamed left → ⊥) → IsLone e → IsNoAssign (first_kind behind)
+pub lone_ends : (e : Exp) (left after : List Lexeme) → left ≡ print_exp e after → (BeginNamed left → ⊥) → IsLone e → IsNoAssign (first_kind after)
 unfolding print_exp
-lone_ends (tree.prefix (tree.variable l n)) left behind printed not lone = behind_lone (record { kind = Name n; line = l }) behind tt (λ named. not (subst BeginNamed (sym printed) named))
-lone_ends e left behind printed not lone = absurd lone
+lone_ends (tree.prefix (tree.variable l n)) left after printed not lone = after_lone (record { kind = Name n; line = l }) after tt (λ named. not (subst BeginNamed (sym printed) named))
+lone_ends e left after printed not lone = absurd lone

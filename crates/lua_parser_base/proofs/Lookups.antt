@@ -11,7 +11,7 @@ use Rattle.lua_parser_base.specs.declared.frames.Frame.{Frame as KeptFrame}
 use Rattle.lua_parser_base.specs.declared.frames.Captured.{Captured as KeptCapture}
 use Rattle.lua_parser_base.specs.Frames.{captured_of, frame_of}
 
--- one more name behind the others
+-- one more name after the others
 pub one_more : (name : Bytes) (xs : List Bytes) (x : Bytes) →
     last_place name (xs ++ x ∷ []) ≡ (if bytes_eq x name then Some (length xs) else last_place name xs)
 unfolding last_place
@@ -30,7 +30,7 @@ unfolding last_place
 within name [] = tt
 within name (x ∷ xs) = rw (add-one (length xs)) at (within_later (last_place name xs) (bytes_eq x name) (length xs) (within name xs))
 
--- one more step of a search for the last place
+-- one more step of a search for the last index
 pub searched : (name : Bytes) (xs : List Bytes) (i : ℕ) (x d : Bytes) (was now : Option ℕ) (b : Bool) → i < length xs → x ≡ get_or xs i d →
     was ≡ last_place name (take i xs) → b ≡ bytes_eq x name → now ≡ (if b then Some i else was) → now ≡ last_place name (take (i + 1) xs)
 searched name xs i x d was now b inside at before test is =
@@ -42,28 +42,28 @@ searched name xs i x d was now b inside at before test is =
 -- the names of the captures, as they are kept and as the grammar sees them
 names_same : (cs : List KeptCapture) → map (λ c. c.name) (map captured_of cs) ≡ map (λ c. c.name) cs
 names_same [] = refl
-names_same (c ∷ cs) = ap (λ rest. c.name ∷ rest) (names_same cs)
+names_same (c ∷ cs) = ap (λ cs. c.name ∷ cs) (names_same cs)
 
 pub own_is : (name : Bytes) (f : KeptFrame) (m k : Option ℕ) → m ≡ last_place name f.locals.items →
     k ≡ last_place name (map (λ c. c.name) f.captures.items) → local_or m k ≡ own name (frame_of f)
 unfolding own
 own_is name f m k p q = rw (p, q, names_same f.captures.items) refl
 
-pub look_own : (name : Bytes) (f : Frame) (around : List Frame) (v : Capture) → own name f ≡ Some v →
-    look name (f ∷ around) ≡ (Some v, f ∷ around)
+pub look_own : (name : Bytes) (f : Frame) (enclosing : List Frame) (v : Capture) → own name f ≡ Some v →
+    look name (f ∷ enclosing) ≡ (Some v, f ∷ enclosing)
 unfolding look
-look_own name f around v e = rw e refl
+look_own name f enclosing v e = rw e refl
 
-pub look_none : (name : Bytes) (f : Frame) (around behind : List Frame) → own name f ≡ None → look name around ≡ (None, behind) →
-    look name (f ∷ around) ≡ (None, f ∷ behind)
+pub look_none : (name : Bytes) (f : Frame) (enclosing after : List Frame) → own name f ≡ None → look name enclosing ≡ (None, after) →
+    look name (f ∷ enclosing) ≡ (None, f ∷ after)
 unfolding look
-look_none name f around behind e further = rw (e, further) refl
+look_none name f enclosing after e further = rw (e, further) refl
 
-pub look_some : (name : Bytes) (f g : Frame) (around behind : List Frame) (v : Capture) → own name f ≡ None → look name around ≡ (Some v, behind) →
+pub look_some : (name : Bytes) (f g : Frame) (enclosing after : List Frame) (v : Capture) → own name f ≡ None → look name enclosing ≡ (Some v, after) →
     g.locals ≡ f.locals → g.slots ≡ f.slots → g.captures ≡ f.captures ++ record { name = name; variable = v } ∷ [] →
-    look name (f ∷ around) ≡ (Some (Outer (length f.captures)), g ∷ behind)
+    look name (f ∷ enclosing) ≡ (Some (Outer (length f.captures)), g ∷ after)
 unfolding look
-look_some name f g around behind v e further locals slots captures =
+look_some name f g enclosing after v e further locals slots captures =
     let same : g ≡ record f { captures = f.captures ++ record { name = name; variable = v } ∷ [] } = rw (locals, slots, captures) refl in
     rw (same, e, further) refl
 
@@ -94,7 +94,7 @@ pub names_taken : (cs : List KeptCapture) (i : ℕ) → map (λ c. c.name) (take
 names_taken [] zero = refl
 names_taken [] (suc i) = refl
 names_taken (c ∷ cs) zero = refl
-names_taken (c ∷ cs) (suc i) = ap (λ rest. c.name ∷ rest) (names_taken cs i)
+names_taken (c ∷ cs) (suc i) = ap (λ cs. c.name ∷ cs) (names_taken cs i)
 
 pub none_of : {A : Type 0} (o : Option A) → ((x : A) → o ≡ Some x → ⊥) → o ≡ None
 none_of (Some x) h = absurd (h x refl)
@@ -107,9 +107,9 @@ empty_of (x ∷ xs) e = absurd (omega (arith, e))
 -- the variables of the captures, as they are kept and as the grammar sees them
 pub variables_same : (cs : List KeptCapture) → map (λ c. c.variable) (map captured_of cs) ≡ map (λ c. c.variable) cs
 variables_same [] = refl
-variables_same (c ∷ cs) = ap (λ rest. c.variable ∷ rest) (variables_same cs)
+variables_same (c ∷ cs) = ap (λ cs. c.variable ∷ cs) (variables_same cs)
 
--- one more name that is declared behind others
+-- one more name that is declared after others
 pub slots_more : (n : ℕ) (xs : List Bytes) (x : Bytes) → slots_from n (xs ++ x ∷ []) ≡ slots_from n xs ++ (n + length xs) ∷ []
 unfolding slots_from
 slots_more n [] x = rw (add-zero n) refl

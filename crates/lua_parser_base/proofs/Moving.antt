@@ -18,20 +18,20 @@ use Rattle.lua_grammar.proofs.Dead.{dead_reads_no_chunk}
 use Rattle.lua_parser_base.specs.Readers.{Counts, GoOn, GoOnWith, Moves, Sticks, Refuses, Supposes, WaitsWith}
 use Rattle.lua_grammar.specs.Grammar.{IsChunk}
 
--- what goes on as the tokens behind others do goes on as they all do
+-- what goes on as the tokens after others do goes on as they all do
 pub goes_on : (read left xs : List Lexeme) → GoOn left xs → GoOn (read ++ left) (read ++ xs)
 goes_on [] left xs h = h
 goes_on (first ∷ read) left xs h = (read ++ xs, refl)
 
 go_on : (left : List Lexeme) → GoOn left (left ++ a_word End 1 [])
 go_on [] = refl
-go_on (first ∷ behind) = (behind ++ a_word End 1 [], refl)
+go_on (first ∷ after) = (after ++ a_word End 1 [], refl)
 
 pub go_on_with : (fault : ParseFault) (left xs : List Lexeme) → GoOnWith fault left xs → GoOn left xs
 go_on_with (At line) left xs h = h
 go_on_with other left xs h = subst (GoOn left) (sym h) (go_on left)
 
--- behind what was read before and what is read now, where it waits behind that alone
+-- after what was read before and what is read now, where it waits after that alone
 waits_on : {r q : Reader} {s m : State} (f : Moves r s q m) (read left : List Lexeme) → m.left ≡ read ++ left → IsWaiting (run q read) → IsWaiting (run r (f.read ++ read))
 waits_on {r = r} f [] left printed waits = subst (λ xs. IsWaiting (run r xs)) (sym (append-nil f.read)) (f.waits waits)
 waits_on {m = m} f (first ∷ read) left printed waits =
@@ -68,7 +68,7 @@ stuck_on {fault = fault} {r = r} {q = q} {s = s} {m = m} {t = t} f g = record {
 }
 
 pub refused_on : {fault : ParseFault} {r q : Reader} {s m t : State} → Moves r s q m → Refuses fault q m t → Refuses fault r s t
-refused_on f g = record { sticks = stuck_on f g.sticks; tells = g.tells }
+refused_on f g = record { sticks = stuck_on f g.sticks; reports = g.reports }
 
 -- by a token
 pub by_token : (r : Reader) (kind : TokenKind) (line : ℕ) (s t : State) → Takes kind line s t → Moves r s (feed r kind line) t
@@ -99,7 +99,7 @@ no_chunk : (xs : List Lexeme) (b : Block) → run failed xs ≡ chunk b → ⊥
 no_chunk xs b is = let e : failed ≡ chunk b = sym (stays_failed xs) ∙ is in cc
 
 -- the next token leads the reader to no chunk
-stuck_first : (r : Reader) (left xs : List Lexeme) (b : Block) → ((line : ℕ) (rest : List Lexeme) → run (feed r (first_kind left) line) rest ≡ chunk b → ⊥) → GoOn left xs → run r xs ≡ chunk b → ⊥
+stuck_first : (r : Reader) (left xs : List Lexeme) (b : Block) → ((line : ℕ) (others : List Lexeme) → run (feed r (first_kind left) line) others ≡ chunk b → ⊥) → GoOn left xs → run r xs ≡ chunk b → ⊥
 stuck_first r [] xs b none h is = none 1 [] (rw h at is)
 stuck_first r (first ∷ left) xs b none h is = none first.line h.0 (rw h.1 at is)
 
@@ -111,7 +111,7 @@ pub fails : (fault : ParseFault) (r : Reader) (s : State) → ((line : ℕ) → 
 fails fault r s none waits = record {
   read = [];
   printed = refl;
-  stuck = λ xs h b is counts. stuck_first r s.left xs b (λ line rest end. no_chunk rest b (sym (ap (λ q. run q rest) (none line)) ∙ end)) (go_on_with fault s.left xs h) is;
+  stuck = λ xs h b is counts. stuck_first r s.left xs b (λ line others end. no_chunk others b (sym (ap (λ q. run q others) (none line)) ∙ end)) (go_on_with fault s.left xs h) is;
   waits = with_any fault r waits;
 }
 
@@ -143,7 +143,7 @@ pub not_first : (kind : TokenKind) (left : List Lexeme) → (WordKind End ≡ ki
 not_first kind [] other missing = other
 not_first kind (first ∷ left) other missing = missing
 
--- what waits behind a token waited before it
+-- what waits after a token waited before it
 pub waits_before : (r : Reader) (kind : TokenKind) (line : ℕ) → IsWaiting (feed r kind line) → IsWaiting r
 waits_before failed kind line waits = waits
 waits_before (chunk b) kind line waits = waits

@@ -33,7 +33,7 @@ names_more before s xs m n ys t line r comma next = record {
 
 close_ahead : (left : List Lexeme) → Begin (IsKind (SignKind CloseParenthesis)) left → first_kind left ≡ SignKind CloseParenthesis
 close_ahead [] next = absurd next
-close_ahead (first ∷ behind) next = next
+close_ahead (first ∷ after) next = next
 
 no_comma : (kind : TokenKind) → (IsKind (SignKind Comma) kind → ⊥) → IsNoComma kind
 no_comma (SignKind Comma) not = not refl
@@ -43,46 +43,46 @@ no_comma other not = tt
 pub no_comma_ahead : (s : State) → (IsNext (SignKind Comma) s → ⊥) → IsNoComma (ahead s)
 no_comma_ahead s not = no_comma (ahead s) (not_first (SignKind Comma) s.left (λ is. cc) not)
 
-pub no_parameters : (before : List Bytes) (s : State) (p : Parameters) → p.names.items ≡ before → p.rest ≡ false → IsNext (SignKind CloseParenthesis) s →
+pub no_parameters : (before : List Bytes) (s : State) (p : Parameters) → p.names.items ≡ before → p.vararg ≡ false → IsNext (SignKind CloseParenthesis) s →
     ReadsParameters before s p s
-no_parameters before s p names rest next = record {
+no_parameters before s p names vararg next = record {
   tree = tree.no_params;
   printed = refl;
   scope = refl;
   listed = names ∙ sym (append-nil before);
-  rest = rest;
+  vararg = vararg;
   ends = close_ahead s.left next;
 }
 
-pub only_rest : (before : List Bytes) (s t : State) (p : Parameters) (line : ℕ) → Takes (SignKind Ellipsis) line s t → p.names.items ≡ before →
-    p.rest ≡ true → ReadsParameters before s p t
-only_rest before s t p line taken names rest = record {
+pub only_vararg : (before : List Bytes) (s t : State) (p : Parameters) (line : ℕ) → Takes (SignKind Ellipsis) line s t → p.names.items ≡ before →
+    p.vararg ≡ true → ReadsParameters before s p t
+only_vararg before s t p line taken names vararg = record {
   tree = tree.only_rest line;
   printed = taken.printed;
   scope = taken.scope;
   listed = names ∙ sym (append-nil before);
-  rest = rest;
+  vararg = vararg;
   ends = tt;
 }
 
-pub only_names : (before : List Bytes) (s t : State) (p : Parameters) → ReadsNames before s p.names.items t → p.rest ≡ false → (IsNext (SignKind Comma) t → ⊥) →
+pub only_names : (before : List Bytes) (s t : State) (p : Parameters) → ReadsNames before s p.names.items t → p.vararg ≡ false → (IsNext (SignKind Comma) t → ⊥) →
     ReadsParameters before s p t
-only_names before s t p r rest last = record {
+only_names before s t p r vararg last = record {
   tree = tree.names r.tree;
   printed = r.printed;
   scope = r.scope;
   listed = r.listed;
-  rest = rest;
+  vararg = vararg;
   ends = no_comma_ahead t last;
 }
 
-pub names_then_rest : (before : List Bytes) (s m n t : State) (p : Parameters) (comma line : ℕ) → ReadsNames before s p.names.items m →
-    Takes (SignKind Comma) comma m n → Takes (SignKind Ellipsis) line n t → p.rest ≡ true → ReadsParameters before s p t
-names_then_rest before s m n t p comma line r taken dots rest = record {
+pub names_then_vararg : (before : List Bytes) (s m n t : State) (p : Parameters) (comma line : ℕ) → ReadsNames before s p.names.items m →
+    Takes (SignKind Comma) comma m n → Takes (SignKind Ellipsis) line n t → p.vararg ≡ true → ReadsParameters before s p t
+names_then_vararg before s m n t p comma line r taken dots vararg = record {
   tree = tree.names_and_rest r.tree comma line;
   printed = r.printed ∙ ap (print_names r.tree) (taken.printed ∙ ap (a_sign Comma comma) dots.printed);
   scope = dots.scope ∙ (taken.scope ∙ r.scope);
   listed = r.listed;
-  rest = rest;
+  vararg = vararg;
   ends = tt;
 }

@@ -21,4 +21,4 @@ frames_few (f ∷ fs) = (frame_few f, frames_few fs)
 
 pub few_there : (tokens : List Token) (p : Parser) → Few (state tokens p).scope.around
 unfolding state Few
-few_there tokens p = (frame_few p.frame, frames_few (reverse p.around.items))
+few_there tokens p = (frame_few p.frame, frames_few (reverse p.enclosing.items))

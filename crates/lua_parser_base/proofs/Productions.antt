@@ -16,7 +16,7 @@ use Rattle.lua_grammar.specs.Printing.{Lexeme, lexemes, a_kind, print_exp, print
 use Rattle.lua_grammar.specs.Levels.{levels, height, prefix_height}
 use Rattle.lua_grammar.specs.Validity.{IsValid}
 use Rattle.lua_grammar.specs.Resolution.{Resolves, ResolvesPrefix, ResolvesName, ResolvesBody}
-use Rattle.lua_parser_base.specs.declared.places.Place.{Place}
+use Rattle.lua_parser_base.specs.declared.nesting.Nesting.{Nesting}
 use Rattle.lua_parser_base.specs.declared.nodes.Built.{Built}
 use Rattle.lua_parser_base.specs.declared.nodes.Prefix.{Prefix}
 use Rattle.lua_parser_base.specs.declared.nodes.Values.{Values}
@@ -27,7 +27,7 @@ use Rattle.lua_parser_base.specs.declared.operators.Infix.{Infix}
 use Rattle.lua_parser_base.specs.States.{State, state, Takes, Advances, SkipsOperator, GoesOn, Stops, scope_of}
 use Rattle.lua_grammar.specs.Stopping.{EndsAt, IsApart}
 use Rattle.lua_parser_base.specs.Next.{ahead, first_kind}
-use Rattle.lua_parser_base.specs.Places.{IsPart}
+use Rattle.lua_parser_base.specs.Nesting.{IsPart}
 use Rattle.lua_parser_base.specs.Nodes.{leaf, IsUnary, IsBinary, IsParen, IsAlone, AddsValue}
 use Rattle.lua_parser_base.specs.Reads.{ReadsExp, ReadsPrefix, ReadsList, ReadsTable, ReadsBody}
 
@@ -64,7 +64,7 @@ pub operator_none : (found : Option Infix) (left lowest : ℕ) (s t : State) →
 operator_none (Some x) left lowest s t skips none = absurd (none x refl)
 operator_none None left lowest s t skips none = skips
 
-pub binary_read : (at inner : Place) (s m n t : State) (a b r : Built) (op : Operator) (line : ℕ) →
+pub binary_read : (at inner : Nesting) (s m n t : State) (a b r : Built) (op : Operator) (line : ℕ) →
     ReadsExp at s a m → Takes (kind_of op) line m n → IsPart at inner → ReadsExp inner n b t → EndsAt (right_level op) (ahead t) →
     left_level op ≤ a.level → right_level op ≤ b.level → a.height < at.room → IsBinary a op line b r → ReadsExp at s r t
 unfolding print_exp levels height IsValid Resolves
@@ -77,7 +77,7 @@ binary_read at inner s m n t a b r op line ra taken part rb tight left right bel
     let tall : height whole ≡ r.height = rw (ra.high, rb.high) (sym high) in
     let low : r.height ≤ at.room = omega (arith, high, room, inside, below) in
     let limit : r.height ≤ 4_000 = let most = at.low in omega (arith, low, most) in
-    let ends : IsValid at.rest rb.tree = subst (λ rest. IsValid rest rb.tree) part.rest rb.valid in
+    let ends : IsValid at.vararg rb.tree = subst (λ vararg. IsValid vararg rb.tree) part.vararg rb.valid in
     let first : Resolves ra.tree s.scope is.left.value m.scope = subst (λ e. Resolves ra.tree s.scope e m.scope) (sym is.same_left) ra.resolved in
     let then : Resolves rb.tree n.scope is.right.value t.scope = subst (λ e. Resolves rb.tree n.scope e t.scope) (sym is.same_right) rb.resolved in
     let second : Resolves rb.tree m.scope is.right.value t.scope = subst (λ z. Resolves rb.tree z is.right.value t.scope) taken.scope then in
@@ -94,7 +94,7 @@ binary_read at inner s m n t a b r op line ra taken part rb tight left right bel
       ends = (tight, rb.ends);
     }
 
-pub unary_read : (at inner : Place) (s m t : State) (b r : Built) (op : UnOp) (line : ℕ) →
+pub unary_read : (at inner : Nesting) (s m t : State) (b r : Built) (op : UnOp) (line : ℕ) →
     Takes (kind_of_unary op) line s m → IsPart at inner → ReadsExp inner m b t → EndsAt 7 (ahead t) → 7 ≤ b.level → IsUnary op line b r → ReadsExp at s r t
 unfolding print_exp levels height IsValid Resolves
 unary_read at inner s m t b r op line taken part rb apart tight is =
@@ -106,7 +106,7 @@ unary_read at inner s m t b r op line taken part rb apart tight is =
     let tall : height whole ≡ r.height = rw rb.high (sym high) in
     let low : r.height ≤ at.room = omega (arith, high, room, inside) in
     let limit : r.height ≤ 4_000 = let most = at.low in omega (arith, low, most) in
-    let ends : IsValid at.rest rb.tree = subst (λ rest. IsValid rest rb.tree) part.rest rb.valid in
+    let ends : IsValid at.vararg rb.tree = subst (λ vararg. IsValid vararg rb.tree) part.vararg rb.valid in
     let first : Resolves rb.tree m.scope is.operand.value t.scope = subst (λ e. Resolves rb.tree m.scope e t.scope) (sym is.same) rb.resolved in
     let from : Resolves rb.tree s.scope is.operand.value t.scope = subst (λ z. Resolves rb.tree z is.operand.value t.scope) taken.scope first in
     record {
@@ -125,10 +125,10 @@ unary_read at inner s m t b r op line taken part rb apart tight is =
 pub unary_tight : (op : UnOp) (line : ℕ) (a b : Built) → IsUnary op line a b → 7 ≤ b.level
 unary_tight op line a b is = let own = is.own in omega (arith, own)
 
-pub table_tight : (at : Place) (s t : State) (b : Built) → ReadsTable at s b t → 7 ≤ b.level
+pub table_tight : (at : Nesting) (s t : State) (b : Built) → ReadsTable at s b t → 7 ≤ b.level
 table_tight at s t b read = let own = read.own in omega (arith, own)
 
-pub closure_read : (at : Place) (s m t : State) (line number : ℕ) (before : List Bytes) (r : Built) → Takes (WordKind FunctionWord) line s m →
+pub closure_read : (at : Nesting) (s m t : State) (line number : ℕ) (before : List Bytes) (r : Built) → Takes (WordKind FunctionWord) line s m →
     ReadsBody at line before m number t → before ≡ [] → r ≡ leaf line (kind.Function number) → ReadsExp at s r t
 unfolding print_exp levels height IsValid Resolves
 closure_read at s m t line number before r taken rb none is =
@@ -147,7 +147,7 @@ closure_read at s m t line number before r taken rb none is =
       ends = tt;
     })
 
-pub nil_read : (at : Place) (s t : State) (line : ℕ) (r : Built) → Takes (WordKind Nil) line s t → r ≡ leaf line (kind.Nil) → ReadsExp at s r t
+pub nil_read : (at : Nesting) (s t : State) (line : ℕ) (r : Built) → Takes (WordKind Nil) line s t → r ≡ leaf line (kind.Nil) → ReadsExp at s r t
 unfolding print_exp levels height IsValid Resolves
 nil_read at s t line r taken is = rw is (record {
   tree = tree.nil line;
@@ -162,7 +162,7 @@ nil_read at s t line r taken is = rw is (record {
   ends = tt;
 })
 
-pub true_read : (at : Place) (s t : State) (line : ℕ) (r : Built) → Takes (WordKind True) line s t → r ≡ leaf line (kind.True) → ReadsExp at s r t
+pub true_read : (at : Nesting) (s t : State) (line : ℕ) (r : Built) → Takes (WordKind True) line s t → r ≡ leaf line (kind.True) → ReadsExp at s r t
 unfolding print_exp levels height IsValid Resolves
 true_read at s t line r taken is = rw is (record {
   tree = tree.true_ line;
@@ -177,7 +177,7 @@ true_read at s t line r taken is = rw is (record {
   ends = tt;
 })
 
-pub false_read : (at : Place) (s t : State) (line : ℕ) (r : Built) → Takes (WordKind False) line s t → r ≡ leaf line (kind.False) → ReadsExp at s r t
+pub false_read : (at : Nesting) (s t : State) (line : ℕ) (r : Built) → Takes (WordKind False) line s t → r ≡ leaf line (kind.False) → ReadsExp at s r t
 unfolding print_exp levels height IsValid Resolves
 false_read at s t line r taken is = rw is (record {
   tree = tree.false_ line;
@@ -192,7 +192,7 @@ false_read at s t line r taken is = rw is (record {
   ends = tt;
 })
 
-pub number_read : (at : Place) (s t : State) (line : ℕ) (n : ℤ) (r : Built) → Takes (NumberKind n) line s t → r ≡ leaf line (kind.Number n) → ReadsExp at s r t
+pub number_read : (at : Nesting) (s t : State) (line : ℕ) (n : ℤ) (r : Built) → Takes (NumberKind n) line s t → r ≡ leaf line (kind.Number n) → ReadsExp at s r t
 unfolding print_exp levels height IsValid Resolves
 number_read at s t line n r taken is = rw is (record {
   tree = tree.number line n;
@@ -207,7 +207,7 @@ number_read at s t line n r taken is = rw is (record {
   ends = tt;
 })
 
-pub text_read : (at : Place) (s t : State) (line : ℕ) (bytes : Bytes) (r : Built) → Takes (TextKind bytes) line s t → r ≡ leaf line (kind.Text bytes) → ReadsExp at s r t
+pub text_read : (at : Nesting) (s t : State) (line : ℕ) (bytes : Bytes) (r : Built) → Takes (TextKind bytes) line s t → r ≡ leaf line (kind.Text bytes) → ReadsExp at s r t
 unfolding print_exp levels height IsValid Resolves
 text_read at s t line bytes r taken is = rw is (record {
   tree = tree.string line bytes;
@@ -222,12 +222,12 @@ text_read at s t line bytes r taken is = rw is (record {
   ends = tt;
 })
 
-pub dots_read : (at : Place) (s t : State) (line : ℕ) (r : Built) → Takes (SignKind Ellipsis) line s t → at.rest ≡ true → r ≡ leaf line (kind.Vararg) → ReadsExp at s r t
+pub dots_read : (at : Nesting) (s t : State) (line : ℕ) (r : Built) → Takes (SignKind Ellipsis) line s t → at.vararg ≡ true → r ≡ leaf line (kind.Vararg) → ReadsExp at s r t
 unfolding print_exp levels height IsValid Resolves
-dots_read at s t line r taken rest is = rw is (record {
+dots_read at s t line r taken vararg is = rw is (record {
   tree = tree.dots line;
   printed = taken.printed;
-  valid = rest;
+  valid = vararg;
   deep = let d = at.deep in omega (arith, d);
   resolved = (refl, taken.scope);
   high = refl;
@@ -246,14 +246,14 @@ apart_kind (SignKind OpenBrace) h = absurd (h tt)
 apart_kind (SignKind OpenParenthesis) h = absurd (h tt)
 apart_kind kind h = tt
 
-apart_first : (left : List Lexeme) → ((next : Lexeme) (behind : List Lexeme) → left ≡ next ∷ behind → GoesOn next.kind → ⊥) → IsApart (first_kind left)
+apart_first : (left : List Lexeme) → ((next : Lexeme) (after : List Lexeme) → left ≡ next ∷ after → GoesOn next.kind → ⊥) → IsApart (first_kind left)
 apart_first [] h = tt
-apart_first (first ∷ behind) h = apart_kind first.kind (h first behind refl)
+apart_first (first ∷ after) h = apart_kind first.kind (h first after refl)
 
 pub apart_there : (t : State) → Stops t → IsApart (ahead t)
 apart_there t stops = apart_first t.left stops
 
-pub prefix_exp : (at : Place) (s t : State) (p : Prefix) (r : Built) → ReadsPrefix at s p t → Stops t → r.expr ≡ p.expr → r.height ≡ p.height → r.level ≡ 9 →
+pub prefix_exp : (at : Nesting) (s t : State) (p : Prefix) (r : Built) → ReadsPrefix at s p t → Stops t → r.expr ≡ p.expr → r.height ≡ p.height → r.level ≡ 9 →
     ReadsExp at s r t
 unfolding print_exp levels height IsValid Resolves
 prefix_exp at s t p r rp stops is high own = record {
@@ -269,7 +269,7 @@ prefix_exp at s t p r rp stops is high own = record {
   ends = apart_there t stops;
 }
 
-pub table_exp : (at : Place) (s t : State) (b : Built) → ReadsTable at s b t → ReadsExp at s b t
+pub table_exp : (at : Nesting) (s t : State) (b : Built) → ReadsTable at s b t → ReadsExp at s b t
 unfolding print_exp levels height IsValid Resolves
 table_exp at s t b rt = record {
   tree = tree.table rt.tree;
@@ -284,7 +284,7 @@ table_exp at s t b rt = record {
   ends = tt;
 }
 
-pub list_one : (at : Place) (s t : State) (b : Built) (v : Values) → ReadsExp at s b t → EndsAt 1 (ahead t) → IsAlone b v → ReadsList at s v t
+pub list_one : (at : Nesting) (s t : State) (b : Built) (v : Values) → ReadsExp at s b t → EndsAt 1 (ahead t) → IsAlone b v → ReadsList at s v t
 unfolding print_exp levels height IsValid Resolves
 list_one at s t b v rb apart is = record {
   tree = tree.one rb.tree;
@@ -298,7 +298,7 @@ list_one at s t b v rb apart is = record {
   ends = (rb.ends, apart);
 }
 
-pub list_more : (at : Place) (s m n t : State) (v w : Values) (b : Built) (line : ℕ) → ReadsList at s v m → Takes (SignKind Comma) line m n →
+pub list_more : (at : Nesting) (s m n t : State) (v w : Values) (b : Built) (line : ℕ) → ReadsList at s v m → Takes (SignKind Comma) line m n →
     ReadsExp at n b t → EndsAt 1 (ahead t) → AddsValue v b w → ReadsList at s w t
 unfolding print_exp levels height IsValid Resolves
 list_more at s m n t v w b line rv taken rb apart is =
@@ -315,7 +315,7 @@ list_more at s m n t v w b line rv taken rb apart is =
       ends = (rb.ends, apart);
     }
 
-pub paren_read : (at inner : Place) (s m n t : State) (b : Built) (r : Prefix) (opens closes : ℕ) →
+pub paren_read : (at inner : Nesting) (s m n t : State) (b : Built) (r : Prefix) (opens closes : ℕ) →
     Takes (SignKind OpenParenthesis) opens s m → IsPart at inner → ReadsExp inner m b n → Takes (SignKind CloseParenthesis) closes n t →
     IsParen b opens r → ReadsPrefix at s r t
 unfolding print_exp levels height IsValid Resolves
@@ -328,29 +328,29 @@ paren_read at inner s m n t b r opens closes taken part rb close is =
     let tall : prefix_height whole ≡ r.height = rw rb.high (sym high) in
     let low : r.height ≤ at.room = omega (arith, high, room, inside) in
     let limit : r.height ≤ 4_000 = let most = at.low in omega (arith, low, most) in
-    let within : IsValid at.rest rb.tree = subst (λ rest. IsValid rest rb.tree) part.rest rb.valid in
+    let within : IsValid at.vararg rb.tree = subst (λ vararg. IsValid vararg rb.tree) part.vararg rb.valid in
     let first : Resolves rb.tree m.scope is.inner.value n.scope = subst (λ e. Resolves rb.tree m.scope e n.scope) (sym is.same) rb.resolved in
     let from : Resolves rb.tree s.scope is.inner.value n.scope = subst (λ z. Resolves rb.tree z is.inner.value n.scope) taken.scope first in
-    let behind : Resolves rb.tree s.scope is.inner.value t.scope = subst (λ z. Resolves rb.tree s.scope is.inner.value z) (sym close.scope) from in
+    let after : Resolves rb.tree s.scope is.inner.value t.scope = subst (λ z. Resolves rb.tree s.scope is.inner.value z) (sym close.scope) from in
     record {
       tree = whole;
       printed = taken.printed ∙ ap (a_kind (SignKind OpenParenthesis) opens) (rb.printed ∙ ap (print_exp rb.tree) close.printed);
       valid = (within, rw tall limit);
       deep = let e = rb.deep in let f = part.depth in omega (arith, e, f);
-      resolved = (is.inner, behind, is.built);
+      resolved = (is.inner, after, is.built);
       high = tall;
       low = low;
       form = sym is.form;
       ends = sym close.last;
     }
 
-pub name_read : (at : Place) (tokens : List Token) (p q u : Parser) (r : Prefix) (line : ℕ) (name : Bytes) →
-    Takes (NameKind name) line (state tokens p) (state tokens q) → u.place ≡ q.place → u.line ≡ q.line →
+pub name_read : (at : Nesting) (tokens : List Token) (p q u : Parser) (r : Prefix) (line : ℕ) (name : Bytes) →
+    Takes (NameKind name) line (state tokens p) (state tokens q) → u.index ≡ q.index → u.line ≡ q.line →
     ResolvesName line name (scope_of q) r.expr (scope_of u) → r.height ≡ 1 → r.form ≡ Variable → ReadsPrefix at (state tokens p) r (state tokens u)
 unfolding state print_exp levels height IsValid Resolves
-name_read at tokens p q u r line name taken place last named high form = record {
+name_read at tokens p q u r line name taken index last named high form = record {
   tree = tree.variable line name;
-  printed = taken.printed ∙ ap (λ n. a_kind (NameKind name) line (lexemes (drop n tokens))) (sym place);
+  printed = taken.printed ∙ ap (λ n. a_kind (NameKind name) line (lexemes (drop n tokens))) (sym index);
   valid = tt;
   deep = let d = at.deep in omega (arith, d);
   resolved = subst (λ z. ResolvesName line name z r.expr (scope_of u)) taken.scope named;

@@ -11,19 +11,19 @@ use Rattle.lua_grammar.specs.Reading.{feed}
 use Rattle.lua_grammar.specs.Dead.{IsDead}
 use Rattle.lua_parser_base.specs.declared.faults.ParseFault.{ParseFault}
 use Rattle.lua_parser_base.specs.declared.faults.ParseFault.TheVariants.{At, Depth, Memory}
-use Rattle.lua_parser_base.specs.declared.places.Place.{Place}
+use Rattle.lua_parser_base.specs.declared.nesting.Nesting.{Nesting}
 use Rattle.lua_parser_base.specs.States.{State}
 use Rattle.lua_parser_base.specs.Next.{Begin, IsKind, IsName, Ends, IsTooDeep, HasNoPart, IsTooHigh, Misses, OnAt, first_kind, line_or}
 use Rattle.lua_parser_base.specs.Readers.{Refuses, Supposes}
 use Rattle.lua_parser_base.proofs.Moving.{dead_stuck, ends_stuck, fails}
 
-told_at_end : (s : State) (line : ℕ) → Ends s line → line ≡ line_or s.final s.left
-told_at_end s line e = rw e.nothing e.told
+reported_at_end : (s : State) (line : ℕ) → Ends s line → line ≡ line_or s.final s.left
+reported_at_end s line e = rw e.nothing e.reported
 
 -- ---- at the end of the text
 
 pub at_end : (r : Reader) (s : State) (line : ℕ) → Ends s line → ((l : ℕ) (b : Block) → feed r (Word word.End) l ≡ chunk b → ⊥) → IsWaiting r → Refuses (At line) r s s
-at_end r s line e not waits = record { sticks = ends_stuck (At line) r s e.nothing not waits; tells = told_at_end s line e }
+at_end r s line e not waits = record { sticks = ends_stuck (At line) r s e.nothing not waits; reports = reported_at_end s line e }
 
 no_chunk_fails : (q : Reader) (b : Block) → q ≡ failed → q ≡ chunk b → ⊥
 no_chunk_fails q b is other = let e : failed ≡ chunk b = sym is ∙ other in cc
@@ -43,21 +43,21 @@ ended other X r s e h not waits = absurd e
 
 -- in a dead state
 pub limited : (line : ℕ) (r : Reader) (s : State) → IsDead r → Refuses (Depth line) r s s
-limited line r s dead = record { sticks = dead_stuck (Depth line) r s (λ b c. c) dead tt; tells = tt }
+limited line r s dead = record { sticks = dead_stuck (Depth line) r s (λ b c. c) dead tt; reports = tt }
 
-pub too_deep : (fault : ParseFault) (P : Type 0) (at : Place) (r : Reader) (s : State) → IsTooDeep at s fault → Supposes fault P →
+pub too_deep : (fault : ParseFault) (P : Type 0) (at : Nesting) (r : Reader) (s : State) → IsTooDeep at s fault → Supposes fault P →
     ((l : ℕ) (b : Block) → feed r (Word word.End) l ≡ chunk b → ⊥) → (200 ≤ at.depth → P → IsDead r) → IsWaiting r → Refuses fault r s s
 too_deep (At line) X at r s e h not dead waits = at_end r s line e not waits
 too_deep (Depth line) X at r s e h not dead waits = limited line r s (dead e.0 h)
 too_deep other X at r s e h not dead waits = absurd e
 
-pub no_part : (fault : ParseFault) (P : Type 0) (at : Place) (r : Reader) (s : State) → HasNoPart at s fault → Supposes fault P →
+pub no_part : (fault : ParseFault) (P : Type 0) (at : Nesting) (r : Reader) (s : State) → HasNoPart at s fault → Supposes fault P →
     ((l : ℕ) (b : Block) → feed r (Word word.End) l ≡ chunk b → ⊥) → ((200 ≤ at.depth) ⊎ (at.room ≤ 1) → P → IsDead r) → IsWaiting r → Refuses fault r s s
 no_part (At line) X at r s e h not dead waits = at_end r s line e not waits
 no_part (Depth line) X at r s e h not dead waits = limited line r s (dead e.0 h)
 no_part other X at r s e h not dead waits = absurd e
 
-pub too_high : (there : ℕ) (fault : ParseFault) (P : Type 0) (at : Place) (height : ℕ) (r : Reader) (s : State) → IsTooHigh at height there fault → Supposes fault P →
+pub too_high : (there : ℕ) (fault : ParseFault) (P : Type 0) (at : Nesting) (height : ℕ) (r : Reader) (s : State) → IsTooHigh at height there fault → Supposes fault P →
     (at.room ≤ height → P → IsDead r) → Refuses fault r s s
 too_high there (Depth line) X at height r s e h dead = limited line r s (dead e.0 h)
 too_high there other X at height r s e h dead = absurd e
@@ -72,7 +72,7 @@ missing_fails r P (first ∷ left) missing end none l = none first.kind l missin
 pub missed_at : (r : Reader) (P : TokenKind → Type 0) (s t : State) (line : ℕ) → Misses P s t line → (P (Word word.End) → ⊥) →
     ((kind : TokenKind) (l : Line) → (P kind → ⊥) → feed r kind l ≡ failed) → IsWaiting r → Refuses (At line) r s t
 missed_at r P s t line m end none waits =
-    subst (λ z. Refuses (At line) r s z) (sym m.same) (record { sticks = fails (At line) r s (missing_fails r P s.left m.missing end none) waits; tells = m.told })
+    subst (λ z. Refuses (At line) r s z) (sym m.same) (record { sticks = fails (At line) r s (missing_fails r P s.left m.missing end none) waits; reports = m.reported })
 
 pub missed : (fault : ParseFault) (X : Type 0) (r : Reader) (P : TokenKind → Type 0) (s t : State) → OnAt (Misses P s t) fault → Supposes fault X → (P (Word word.End) → ⊥) →
     ((kind : TokenKind) (l : Line) → (P kind → ⊥) → feed r kind l ≡ failed) → IsWaiting r → Refuses fault r s t
@@ -83,7 +83,7 @@ missed other X r P s t m h end none waits = absurd m
 -- the same where it can't be missing
 kind_missed : (P : TokenKind → Type 0) (left : List Lexeme) → (P (Word word.End) → ⊥) → P (first_kind left) → (Begin P left → ⊥) → ⊥
 kind_missed P [] end h missing = end h
-kind_missed P (first ∷ behind) end h missing = missing h
+kind_missed P (first ∷ after) end h missing = missing h
 
 pub never_missed : (fault : ParseFault) (X : Type 0) (r : Reader) (P : TokenKind → Type 0) (s t : State) → OnAt (Misses P s t) fault → Supposes fault X → Begin P s.left → Refuses fault r s t
 never_missed (At line) X r P s t m h next = absurd (m.missing next)
@@ -161,14 +161,14 @@ end_fails k kind l h = refl
 
 end_missing : (k : Line → Reader) (s : State) (left : List Lexeme) (line : ℕ) → s.left ≡ left → (Begin (IsKind (Word word.End)) left → ⊥) → line ≡ line_or s.final s.left →
     ((l : Line) (b : Block) → k l ≡ chunk b → ⊥) → Refuses (At line) (token (end_ k)) s s
-end_missing k s [] line is missing told not = record { sticks = ends_stuck (At line) (token (end_ k)) s is not tt; tells = told }
-end_missing k s (first ∷ left) line is missing told not = record {
+end_missing k s [] line is missing reported not = record { sticks = ends_stuck (At line) (token (end_ k)) s is not tt; reports = reported }
+end_missing k s (first ∷ left) line is missing reported not = record {
   sticks = fails (At line) (token (end_ k)) s (λ l. rw is (end_fails k first.kind l missing)) tt;
-  tells = told;
+  reports = reported;
 }
 
 end_missed : (k : Line → Reader) (s t : State) (line : ℕ) → Misses (IsKind (Word word.End)) s t line → ((l : Line) (b : Block) → k l ≡ chunk b → ⊥) → Refuses (At line) (token (end_ k)) s t
-end_missed k s t line m not = subst (λ z. Refuses (At line) (token (end_ k)) s z) (sym m.same) (end_missing k s s.left line refl m.missing m.told not)
+end_missed k s t line m not = subst (λ z. Refuses (At line) (token (end_ k)) s z) (sym m.same) (end_missing k s s.left line refl m.missing m.reported not)
 
 pub no_end : (fault : ParseFault) (X : Type 0) (k : Line → Reader) (s t : State) → OnAt (Misses (IsKind (Word word.End)) s t) fault → Supposes fault X →
     ((l : Line) (b : Block) → k l ≡ chunk b → ⊥) → Refuses fault (token (end_ k)) s t

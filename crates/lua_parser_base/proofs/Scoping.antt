@@ -19,12 +19,12 @@ pub record Turns (z : Scope) (s t : State) : Type 0 where
 
 -- a prefix doesn't go on where the same tokens are left
 pub stops_still : (s t : State) → t.left ≡ s.left → Stops s → Stops t
-stops_still s t left stops = λ next behind is. stops next behind (sym left ∙ is)
+stops_still s t left stops = λ next after is. stops next after (sym left ∙ is)
 
-pub turned : (tokens : List Token) (p q : Parser) (z : Scope) → q.place ≡ p.place → q.line ≡ p.line → scope_of q ≡ z →
+pub turned : (tokens : List Token) (p q : Parser) (z : Scope) → q.index ≡ p.index → q.line ≡ p.line → scope_of q ≡ z →
     Turns z (state tokens p) (state tokens q)
 unfolding state
-turned tokens p q z place line scope = record { left = ap (λ n. lexemes (drop n tokens)) place; last = line; scope = scope }
+turned tokens p q z index line scope = record { left = ap (λ n. lexemes (drop n tokens)) index; last = line; scope = scope }
 
 pub scope_is : (tokens : List Token) (p : Parser) → (state tokens p).scope ≡ scope_of p
 unfolding state
@@ -32,19 +32,19 @@ scope_is tokens p = refl
 
 -- the locals are left that were declared since `o`
 pub left_since : (tokens : List Token) (o p q : Parser) (count : ℕ) → count ≡ in_scope (scope_of o) →
-    ((before : Scope) → in_scope before ≡ count → scope_of q ≡ leave before (scope_of p)) → q.place ≡ p.place → q.line ≡ p.line →
+    ((before : Scope) → in_scope before ≡ count → scope_of q ≡ leave before (scope_of p)) → q.index ≡ p.index → q.line ≡ p.line →
     Turns (leave (state tokens o).scope (state tokens p).scope) (state tokens p) (state tokens q)
 unfolding state
-left_since tokens o p q count is leaves place line = record {
-  left = ap (λ n. lexemes (drop n tokens)) place;
+left_since tokens o p q count is leaves index line = record {
+  left = ap (λ n. lexemes (drop n tokens)) index;
   last = line;
   scope = leaves (scope_of o) (sym is);
 }
 
-pub declared : (tokens : List Token) (p q : Parser) (names : List Bytes) → scope_of q ≡ declare names (scope_of p) → q.place ≡ p.place → q.line ≡ p.line →
+pub declared : (tokens : List Token) (p q : Parser) (names : List Bytes) → scope_of q ≡ declare names (scope_of p) → q.index ≡ p.index → q.line ≡ p.line →
     Turns (declare names (state tokens p).scope) (state tokens p) (state tokens q)
 unfolding state
-declared tokens p q names scope place line = record { left = ap (λ n. lexemes (drop n tokens)) place; last = line; scope = scope }
+declared tokens p q names scope index line = record { left = ap (λ n. lexemes (drop n tokens)) index; last = line; scope = scope }
 
 pub slot_state : (tokens : List Token) (p : Parser) (n : ℕ) → n ≡ in_scope (scope_of p) → n ≡ in_scope (state tokens p).scope
 unfolding state

@@ -5,17 +5,17 @@ use Rattle.lua_grammar.specs.Printing.{lexemes}
 use Rattle.lua_parser_base.specs.declared.cursor.Parser.{Parser}
 use Rattle.lua_parser_base.specs.States.{state, Takes}
 
-pub first_left : (tokens : List Token) (place : ℕ) (token : Token) → slice_get tokens place ≡ Some token →
-    drop place tokens ≡ token ∷ drop (suc place) tokens
-first_left [] place token is = absurd (grind arith)
+pub first_left : (tokens : List Token) (index : ℕ) (token : Token) → slice_get tokens index ≡ Some token →
+    drop index tokens ≡ token ∷ drop (suc index) tokens
+first_left [] index token is = absurd (grind arith)
 first_left (x ∷ xs) zero token is = grind arith
 first_left (x ∷ xs) (suc n) token is = first_left xs n token (grind arith)
 
-pub taken : (tokens : List Token) (p q : Parser) (token : Token) → slice_get tokens p.place ≡ Some token →
-    q ≡ record p { place = p.place + 1; line = token.line } → Takes token.kind token.line (state tokens p) (state tokens q)
+pub taken : (tokens : List Token) (p q : Parser) (token : Token) → slice_get tokens p.index ≡ Some token →
+    q ≡ record p { index = p.index + 1; line = token.line } → Takes token.kind token.line (state tokens p) (state tokens q)
 unfolding state
 taken tokens p q token is e = rw e (record {
-  printed = rw (add-one) (ap lexemes (first_left tokens p.place token is));
+  printed = rw (add-one) (ap lexemes (first_left tokens p.index token is));
   last = refl;
   scope = refl;
 })

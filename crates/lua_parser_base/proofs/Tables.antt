@@ -11,7 +11,7 @@ use Rattle.lua_grammar.specs.Printing.{a_kind, print_exp, print_fields, print_fi
 use Rattle.lua_grammar.specs.Levels.{levels, height, table_height}
 use Rattle.lua_grammar.specs.Validity.{IsValid, IsValidField}
 use Rattle.lua_grammar.specs.Resolution.{Resolves, ResolvesFields, ResolvesField}
-use Rattle.lua_parser_base.specs.declared.places.Place.{Place}
+use Rattle.lua_parser_base.specs.declared.nesting.Nesting.{Nesting}
 use Rattle.lua_parser_base.specs.declared.nodes.Built.{Built}
 use Rattle.lua_parser_base.specs.declared.nodes.Item.{Item}
 use Rattle.lua_parser_base.specs.declared.nodes.Items.{Items}
@@ -21,7 +21,7 @@ use Rattle.lua_parser_base.specs.States.{State, Takes, TakesSeparator}
 use Rattle.lua_grammar.specs.Stopping.{EndsAt}
 use Rattle.lua_parser_base.specs.Kinds.{BeginNamed}
 use Rattle.lua_parser_base.specs.Next.{ahead}
-use Rattle.lua_parser_base.specs.Places.{IsPart}
+use Rattle.lua_parser_base.specs.Nesting.{IsPart}
 use Rattle.lua_parser_base.specs.Nodes.{leaf, IsTable, AddsItem, AreNone}
 use Rattle.lua_parser_base.specs.Reads.{ReadsExp, ReadsTable, ReadsFields, ReadsField}
 
@@ -31,7 +31,7 @@ comma_taken s t line taken = record { separator = tree.comma line; printed = tak
 pub semicolon_taken : (s t : State) (line : ℕ) → Takes (SignKind Semicolon) line s t → TakesSeparator s t
 semicolon_taken s t line taken = record { separator = tree.semicolon line; printed = taken.printed; scope = taken.scope }
 
-pub no_fields_read : (at : Place) (s : State) (v : Items) → AreNone v → ReadsFields at s v s
+pub no_fields_read : (at : Nesting) (s : State) (v : Items) → AreNone v → ReadsFields at s v s
 unfolding print_exp levels height IsValid Resolves
 no_fields_read at s v is = record {
   tree = tree.no_fields;
@@ -43,11 +43,11 @@ no_fields_read at s v is = record {
   low = let h = is.height in let r = at.roomy in omega (arith, h, r);
 }
 
-pub more_fields_read : (at inner : Place) (s m n t : State) (v w : Items) (i : Item) → ReadsFields at s v m → IsPart at inner →
+pub more_fields_read : (at inner : Nesting) (s m n t : State) (v w : Items) (i : Item) → ReadsFields at s v m → IsPart at inner →
     ReadsField inner m i n → TakesSeparator n t → AddsItem v i w → ReadsFields at s w t
 unfolding print_exp levels height IsValid Resolves
 more_fields_read at inner s m n t v w i rv part ri taken is =
-    let valid : IsValidField at.rest ri.tree = subst (λ rest. IsValidField rest ri.tree) part.rest ri.valid in
+    let valid : IsValidField at.vararg ri.tree = subst (λ vararg. IsValidField vararg ri.tree) part.vararg ri.valid in
     let next : ResolvesField ri.tree m.scope i.item t.scope = subst (λ z. ResolvesField ri.tree m.scope i.item z) (sym taken.scope) ri.resolved in
     record {
       tree = tree.more_fields rv.tree ri.tree taken.separator;
@@ -59,7 +59,7 @@ more_fields_read at inner s m n t v w i rv part ri taken is =
       low = let d = rv.low in let e = ri.low in let f = part.room in let h = is.height in omega (arith, d, e, f, h);
     }
 
-pub separated_read : (at : Place) (s m n t : State) (v : Items) (r : Built) (opens closes : ℕ) → Takes (SignKind OpenBrace) opens s m →
+pub separated_read : (at : Nesting) (s m n t : State) (v : Items) (r : Built) (opens closes : ℕ) → Takes (SignKind OpenBrace) opens s m →
     ReadsFields at m v n → Takes (SignKind CloseBrace) closes n t → IsTable v opens r → ReadsTable at s r t
 unfolding print_exp levels height IsValid Resolves
 separated_read at s m n t v r opens closes taken rv close is =
@@ -73,20 +73,20 @@ separated_read at s m n t v r opens closes taken rv close is =
     let limit : r.height ≤ 4_000 = omega (arith, low, most) in
     let listed : ResolvesFields rv.tree m.scope is.list.value.items n.scope = subst (λ es. ResolvesFields rv.tree m.scope es n.scope) (sym is.same) rv.resolved in
     let from : ResolvesFields rv.tree s.scope is.list.value.items n.scope = subst (λ z. ResolvesFields rv.tree z is.list.value.items n.scope) taken.scope listed in
-    let behind : ResolvesFields rv.tree s.scope is.list.value.items t.scope = subst (λ z. ResolvesFields rv.tree s.scope is.list.value.items z) (sym close.scope) from in
+    let after : ResolvesFields rv.tree s.scope is.list.value.items t.scope = subst (λ z. ResolvesFields rv.tree s.scope is.list.value.items z) (sym close.scope) from in
     record {
       tree = whole;
       printed = taken.printed ∙ ap (a_kind (SignKind OpenBrace) opens) (rv.printed ∙ ap (print_fields rv.tree) close.printed);
       valid = (rv.valid, rw tall limit);
       deep = rv.deep;
-      resolved = (is.list, behind, is.built);
+      resolved = (is.list, after, is.built);
       high = tall;
       low = low;
       ends = sym close.last;
       own = is.own;
     }
 
-pub ending_read : (at inner : Place) (s m n k t : State) (v w : Items) (i : Item) (r : Built) (opens closes : ℕ) → Takes (SignKind OpenBrace) opens s m →
+pub ending_read : (at inner : Nesting) (s m n k t : State) (v w : Items) (i : Item) (r : Built) (opens closes : ℕ) → Takes (SignKind OpenBrace) opens s m →
     ReadsFields at m v n → IsPart at inner → ReadsField inner n i k → AddsItem v i w → Takes (SignKind CloseBrace) closes k t → IsTable w opens r →
     ReadsTable at s r t
 unfolding print_exp levels height IsValid Resolves
@@ -102,22 +102,22 @@ ending_read at inner s m n k t v w i r opens closes taken rv part ri more close 
     let tall : table_height whole ≡ r.height = rw (rv.high, ri.high, sym added) (sym high) in
     let low : r.height ≤ at.room = omega (arith, high, inside, last, room, added) in
     let limit : r.height ≤ 4_000 = omega (arith, low, most) in
-    let valid : IsValidField at.rest ri.tree = subst (λ rest. IsValidField rest ri.tree) part.rest ri.valid in
+    let valid : IsValidField at.vararg ri.tree = subst (λ vararg. IsValidField vararg ri.tree) part.vararg ri.valid in
     let from : ResolvesFields rv.tree s.scope v.items.items n.scope = subst (λ z. ResolvesFields rv.tree z v.items.items n.scope) taken.scope rv.resolved in
-    let behind : ResolvesField ri.tree n.scope i.item t.scope = subst (λ z. ResolvesField ri.tree n.scope i.item z) (sym close.scope) ri.resolved in
+    let after : ResolvesField ri.tree n.scope i.item t.scope = subst (λ z. ResolvesField ri.tree n.scope i.item z) (sym close.scope) ri.resolved in
     record {
       tree = whole;
       printed = taken.printed ∙ ap (a_kind (SignKind OpenBrace) opens) (rv.printed ∙ ap (print_fields rv.tree) (ri.printed ∙ ap (print_field ri.tree) close.printed));
       valid = (rv.valid, valid, rw tall limit);
       deep = let d = rv.deep in let e = ri.deep in let f = part.depth in omega (arith, d, e, f);
-      resolved = (is.list, v.items.items, i.item, n.scope, from, behind, is.same ∙ more.items, is.built);
+      resolved = (is.list, v.items.items, i.item, n.scope, from, after, is.same ∙ more.items, is.built);
       high = tall;
       low = low;
       ends = sym close.last;
       own = is.own;
     }
 
-pub keyed_read : (at : Place) (s m n k l t : State) (a b : Built) (i : Item) (opens closes equals : ℕ) → Takes (SignKind OpenBracket) opens s m →
+pub keyed_read : (at : Nesting) (s m n k l t : State) (a b : Built) (i : Item) (opens closes equals : ℕ) → Takes (SignKind OpenBracket) opens s m →
     ReadsExp at m a n → Takes (SignKind CloseBracket) closes n k → Takes (SignKind Assign) equals k l → ReadsExp at l b t →
     EndsAt 1 (ahead t) → i.item ≡ tableitem.Pair a.expr b.expr → i.height ≡ max a.height b.height → ReadsField at s i t
 unfolding print_exp levels height IsValid Resolves
@@ -136,7 +136,7 @@ keyed_read at s m n k l t a b i opens closes equals taken ra close assign rb apa
       ends = (rb.ends, apart);
     }
 
-pub named_read : (at : Place) (s m n t : State) (a b : Built) (i : Item) (line equals : ℕ) (name : Bytes) → Takes (NameKind name) line s m →
+pub named_read : (at : Nesting) (s m n t : State) (a b : Built) (i : Item) (line equals : ℕ) (name : Bytes) → Takes (NameKind name) line s m →
     a ≡ leaf line (kind.Text name) → Takes (SignKind Assign) equals m n → ReadsExp at n b t → EndsAt 1 (ahead t) → i.item ≡ tableitem.Pair a.expr b.expr →
     i.height ≡ max a.height b.height → ReadsField at s i t
 unfolding print_exp levels height IsValid Resolves
@@ -156,7 +156,7 @@ named_read at s m n t a b i line equals name taken key assign rb apart is high =
       ends = (rb.ends, apart);
     }
 
-pub plain_read : (at : Place) (s t : State) (b : Built) (i : Item) → ReadsExp at s b t → EndsAt 1 (ahead t) → (BeginNamed s.left → ⊥) → i.item ≡ tableitem.Item b.expr → i.height ≡ b.height →
+pub plain_read : (at : Nesting) (s t : State) (b : Built) (i : Item) → ReadsExp at s b t → EndsAt 1 (ahead t) → (BeginNamed s.left → ⊥) → i.item ≡ tableitem.Item b.expr → i.height ≡ b.height →
     ReadsField at s i t
 unfolding print_exp levels height IsValid Resolves
 plain_read at s t b i rb apart unnamed is high = record {

@@ -13,4 +13,4 @@ frame_of f = record { locals = f.locals.items; captures = map captured_of f.capt
 
 -- the innermost first
 abbrev pub frames_of : Vec KeptFrame Global → List Frame
-frames_of around = map frame_of (reverse around.items)
+frames_of enclosing = map frame_of (reverse enclosing.items)

@@ -14,11 +14,11 @@ pub record Enters (p : Parameters) (word : Line) (begun : Begun) (s t : Scope) :
   pub scope : t ≡ enter p.names.items kept s
   pub number : begun.number ≡ length s.functions
   pub params : begun.params ≡ length p.names.items
-  pub rest : begun.rest ≡ p.rest
+  pub vararg : begun.vararg ≡ p.vararg
   pub line : begun.line ≡ word
 
 -- a function that began so ends with those statements
 pub record Ends (begun : Begun) (statements : List Stmt) (s : Scope) (which : ℕ) (t : Scope) : Type 0 where
   pub number : which ≡ begun.number
   pub ends : (names : List Bytes) (before : Scope) → begun.params ≡ length names → begun.number ≡ length before.functions
-      → EndsFunction begun.line names begun.rest statements before s t
+      → EndsFunction begun.line names begun.vararg statements before s t

@@ -11,7 +11,8 @@ use Rattle.lua_parser_base.specs.declared.beginnings.Begins.{Begins}
 use Rattle.lua_parser_base.specs.declared.beginnings.Begins.TheVariants as begins
 use Rattle.lua_parser_base.specs.declared.suffixes.Suffix.{Suffix}
 use Rattle.lua_parser_base.specs.declared.suffixes.Suffix.TheVariants as suffix
-use Rattle.lua_parser_base.specs.Next.{IsName}
+use Rattle.lua_parser_base.specs.States.{State}
+use Rattle.lua_parser_base.specs.Next.{Begin, IsName, ahead}
 
 -- an operand
 abbrev pub operand_of : TokenKind → Operand
@@ -25,8 +26,11 @@ operand_of (WordKind word.True) = operand.True
 operand_of (WordKind word.False) = operand.False
 operand_of (NumberKind n) = operand.Number
 operand_of (TextKind bytes) = operand.Text
-operand_of (SignKind sign.Ellipsis) = operand.Rest
+operand_of (SignKind sign.Ellipsis) = operand.Vararg
 operand_of other = operand.Prefix
+
+abbrev pub OperandBegins : Operand → State → Type 0
+OperandBegins kind s = operand_of (ahead s) ≡ kind
 
 -- a unary operator
 abbrev pub IsUnary : TokenKind → Type 0
@@ -34,6 +38,9 @@ IsUnary (WordKind word.Not) = Unit {0}
 IsUnary (SignKind sign.Hash) = Unit {0}
 IsUnary (SignKind sign.Minus) = Unit {0}
 IsUnary other = ⊥
+
+abbrev pub UnaryBegins : State → Type 0
+UnaryBegins s = IsUnary (ahead s)
 
 -- a statement, or the end of a block
 abbrev pub begins_of : TokenKind → Begins
@@ -52,10 +59,16 @@ begins_of (WordKind word.ElseIf) = begins.Nothing
 begins_of (WordKind word.Until) = begins.Nothing
 begins_of other = begins.Prefix
 
+abbrev pub StatementBegins : Begins → State → Type 0
+StatementBegins kind s = begins_of (ahead s) ≡ kind
+
 -- a name and `=` stand at the beginning
 abbrev pub BeginNamed : List Lexeme → Type 0
-BeginNamed (name ∷ equals ∷ behind) = IsName name.kind × (equals.kind ≡ SignKind sign.Assign)
+BeginNamed (name ∷ equals ∷ after) = IsName name.kind × (equals.kind ≡ SignKind sign.Assign)
 BeginNamed other = ⊥
+
+abbrev pub NamedFieldBegins : State → Type 0
+NamedFieldBegins s = BeginNamed s.left
 
 -- what a prefix goes on with
 abbrev pub IsSuffix : Suffix → TokenKind → Type 0
@@ -67,7 +80,10 @@ IsSuffix suffix.Arguments (SignKind sign.OpenBrace) = Unit {0}
 IsSuffix suffix.Arguments (TextKind bytes) = Unit {0}
 IsSuffix suffix.Arguments other = ⊥
 
--- it stands behind a field
+abbrev pub SuffixBegins : Suffix → State → Type 0
+SuffixBegins suffix s = Begin (IsSuffix suffix) s.left
+
+-- it stands after a field
 abbrev pub IsSeparator : TokenKind → Type 0
 IsSeparator (SignKind sign.Comma) = Unit {0}
 IsSeparator (SignKind sign.Semicolon) = Unit {0}

@@ -6,14 +6,14 @@ use Rattle.lua_lexer.specs.declared.words.Word.TheVariants.{End}
 use Rattle.lua_lexer.specs.declared.signs.Sign.{Sign}
 use Rattle.lua_lexer.specs.declared.signs.Sign.TheVariants.{OpenParenthesis}
 use Rattle.lua_grammar.specs.Printing.{Lexeme, a_sign}
-use Rattle.lua_parser_base.specs.declared.places.Place.{Place}
+use Rattle.lua_parser_base.specs.declared.nesting.Nesting.{Nesting}
 use Rattle.lua_parser_base.specs.declared.faults.ParseFault.{ParseFault}
 use Rattle.lua_parser_base.specs.declared.faults.ParseFault.TheVariants.{At, Depth, Locals, Upvalues, Ambiguous, Memory}
 use Rattle.lua_parser_base.specs.States.{State, Takes}
 
 abbrev pub Begin : (TokenKind → Type 0) → List Lexeme → Type 0
 Begin P [] = ⊥
-Begin P (first ∷ behind) = P first.kind
+Begin P (first ∷ after) = P first.kind
 
 abbrev pub IsKind : TokenKind → TokenKind → Type 0
 IsKind kind next = next ≡ kind
@@ -34,26 +34,32 @@ IsNumber other = ⊥
 abbrev pub IsNext : TokenKind → State → Type 0
 IsNext kind s = Begin (IsKind kind) s.left
 
+abbrev pub IsNotNext : TokenKind → State → Type 0
+IsNotNext kind s = IsNext kind s → ⊥
+
 -- the kind of the first token, that of `end` where there is none
 abbrev pub first_kind : List Lexeme → TokenKind
 first_kind [] = WordKind End
-first_kind (first ∷ behind) = first.kind
+first_kind (first ∷ after) = first.kind
 
--- what the reader sees next: an `end` stands behind the text
+-- what the reader sees next: an `end` follows the text
 abbrev pub ahead : State → TokenKind
 ahead s = first_kind s.left
+
+abbrev pub IsAhead : TokenKind → State → Type 0
+IsAhead kind s = ahead s ≡ kind
 
 -- the line of the next token, and that of the last one at the end of the text
 abbrev pub line_or : ℕ → List Lexeme → ℕ
 line_or final [] = final
-line_or final (first ∷ behind) = first.line
+line_or final (first ∷ after) = first.line
 
 -- the next token is on that line
 abbrev pub IsOnLine : ℕ → List Lexeme → Type 0
 IsOnLine line [] = ⊥
-IsOnLine line (first ∷ behind) = line ≡ first.line
+IsOnLine line (first ∷ after) = line ≡ first.line
 
--- the fault is `At`, of which that is said, or want of memory
+-- the fault is `At`, of which that is said, or out of memory
 abbrev pub OnAt : (ℕ → Type 0) → ParseFault → Type 0
 OnAt P (At line) = P line
 OnAt P Memory = Unit {0}
@@ -67,12 +73,12 @@ OnLocals P other = ⊥
 
 -- the limit of locals has that line
 abbrev pub IsLocals : ℕ → ParseFault → Type 0
-IsLocals line (Locals told) = told ≡ line
+IsLocals line (Locals reported) = reported ≡ line
 IsLocals line Memory = Unit {0}
 IsLocals line other = ⊥
 
 abbrev pub OnUpvalues : ℕ → Type 0 → ParseFault → Type 0
-OnUpvalues line P (Upvalues told) = P × (told ≡ line)
+OnUpvalues line P (Upvalues reported) = P × (reported ≡ line)
 OnUpvalues line P Memory = Unit {0}
 OnUpvalues line P other = ⊥
 
@@ -82,35 +88,35 @@ IsMemory fault = fault ≡ Memory
 -- no token is left
 pub record Ends (s : State) (line : ℕ) : Type 0 where
   pub nothing : s.left ≡ []
-  pub told : line ≡ s.final
+  pub reported : line ≡ s.final
 
 -- no such token is next, and nothing was read
 pub record Misses (P : TokenKind → Type 0) (s t : State) (line : ℕ) : Type 0 where
   pub same : t ≡ s
   pub missing : Begin P s.left → ⊥
-  pub told : line ≡ line_or s.final s.left
+  pub reported : line ≡ line_or s.final s.left
 
 -- As many constructs are open as may be. Where a token is left, that is a fault of depth.
-abbrev pub IsTooDeep : Place → State → ParseFault → Type 0
+abbrev pub IsTooDeep : Nesting → State → ParseFault → Type 0
 IsTooDeep at s (At line) = Ends s line
 IsTooDeep at s (Depth line) = (200 ≤ at.depth) × IsOnLine line s.left
 IsTooDeep at s other = ⊥
 
 -- the same of a part of an expression, for which there may be no room either
-abbrev pub HasNoPart : Place → State → ParseFault → Type 0
+abbrev pub HasNoPart : Nesting → State → ParseFault → Type 0
 HasNoPart at s (At line) = Ends s line
 HasNoPart at s (Depth line) = ((200 ≤ at.depth) ⊎ (at.room ≤ 1)) × IsOnLine line s.left
 HasNoPart at s other = ⊥
 
 -- an expression of that height has no room in a higher one, which the token on that line makes it a part of
-abbrev pub IsTooHigh : Place → ℕ → ℕ → ParseFault → Type 0
-IsTooHigh at height line (Depth told) = (at.room ≤ height) × (told ≡ line)
+abbrev pub IsTooHigh : Nesting → ℕ → ℕ → ParseFault → Type 0
+IsTooHigh at height line (Depth reported) = (at.room ≤ height) × (reported ≡ line)
 IsTooHigh at height line other = ⊥
 
 -- arguments can't begin: no token is left, or `(` is on another line
 abbrev pub CannotOpen : State → ParseFault → Type 0
 CannotOpen s (At line) = Ends s line
-CannotOpen s (Ambiguous line) = (behind : List Lexeme) × (s.left ≡ a_sign OpenParenthesis line behind) × (line ≡ s.last → ⊥)
+CannotOpen s (Ambiguous line) = (after : List Lexeme) × (s.left ≡ a_sign OpenParenthesis line after) × (line ≡ s.last → ⊥)
 CannotOpen s other = ⊥
 
 -- the fault where one construct more isn't allowed
@@ -119,16 +125,17 @@ IsDepth s (At line) = Ends s line
 IsDepth s (Depth line) = IsOnLine line s.left
 IsDepth s other = ⊥
 
--- no name is next, or so many others stand before it that there is no place for one more
+-- no name is next, or so many others stand before it that one more can't be declared
 abbrev pub MissesName : ℕ → State → State → ParseFault → Type 0
 MissesName count s t (At line) = Misses IsName s t line
 MissesName count s t (Locals line) = (name : List ℕ) × Takes (NameKind name) line s t × (200 ≤ count)
 MissesName count s t Memory = Unit {0}
 MissesName count s t other = ⊥
 
--- that sign isn't next, or no name behind it, or what stands before it is too high already
+-- that sign isn't next, or no name after it, or what stands before it is too high already
 abbrev pub MissesMember : Sign → ℕ → State → State → ParseFault → Type 0
-MissesMember sign height s t (At line) = Misses (IsKind (SignKind sign)) s t line ⊎ ((m : State) × (at : ℕ) × Takes (SignKind sign) at s m × Misses IsName m t line × (height < 4_000))
+MissesMember sign height s t (At line) =
+    Misses (IsKind (SignKind sign)) s t line ⊎ ((m : State) × (at : ℕ) × Takes (SignKind sign) at s m × Misses IsName m t line × (height < 4_000))
 MissesMember sign height s t (Depth line) = Takes (SignKind sign) line s t × (4_000 ≤ height)
 MissesMember sign height s t Memory = Unit {0}
 MissesMember sign height s t other = ⊥

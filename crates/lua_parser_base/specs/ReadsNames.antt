@@ -13,31 +13,31 @@ use Rattle.lua_grammar.specs.Stopping.{IsNoComma}
 use Rattle.lua_parser_base.specs.States.{State, Takes}
 use Rattle.lua_parser_base.specs.Next.{ahead}
 
--- one name, which is put behind others
+-- one name, which is put after others
 pub record TakesName (before : List Bytes) (s : State) (names : List Bytes) (t : State) : Type 0 where
   pub line : Line
   pub name : Bytes
   pub taken : Takes (NameKind name) line s t
   pub listed : names ≡ before ++ name ∷ []
 
--- names with commas between them, which are put behind others
+-- names with commas between them, which are put after others
 pub record ReadsNames (before : List Bytes) (s : State) (names : List Bytes) (t : State) : Type 0 where
   pub tree : NameList
   pub printed : s.left ≡ print_names tree t.left
   pub scope : t.scope ≡ s.scope
   pub listed : names ≡ before ++ names_of tree
 
--- what stands behind parameters: `)` where there are none, and no comma behind the last name
+-- what stands after parameters: `)` where there are none, and no comma after the last name
 abbrev pub ParametersEnd : Params → TokenKind → Type 0
 ParametersEnd tree.no_params next = next ≡ SignKind CloseParenthesis
 ParametersEnd (tree.names ns) next = IsNoComma next
 ParametersEnd other next = Unit {0}
 
--- the parameters of a function, behind those that aren't named there
+-- the parameters of a function, after those that aren't named there
 pub record ReadsParameters (before : List Bytes) (s : State) (p : Parameters) (t : State) : Type 0 where
   pub tree : Params
   pub printed : s.left ≡ print_params tree t.left
   pub scope : t.scope ≡ s.scope
   pub listed : p.names.items ≡ before ++ names_of_params tree
-  pub rest : p.rest ≡ takes_rest tree
+  pub vararg : p.vararg ≡ takes_rest tree
   pub ends : ParametersEnd tree (ahead t)

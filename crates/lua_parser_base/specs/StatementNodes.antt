@@ -17,10 +17,10 @@ pub record IsArm (e : Expr) (statements : List Stmt) (arm : Arm) : Type 0 where
 
 pub record IsIf (line : Line) (arms : List Arm) (otherwise : List Stmt) (s : Stmt) : Type 0 where
   pub list : SharedList Arm
-  pub rest : SharedList Stmt
+  pub block : SharedList Stmt
   pub same_list : list.value.items ≡ arms
-  pub same_rest : rest.value.items ≡ otherwise
-  pub built : s ≡ statement line (stmt.If list rest)
+  pub same_block : block.value.items ≡ otherwise
+  pub built : s ≡ statement line (stmt.If list block)
 
 pub record IsWhile (line : Line) (test : Expr) (body : List Stmt) (s : Stmt) : Type 0 where
   pub test_node : Shared
@@ -74,11 +74,11 @@ given_of (Some values) = values.items
 given_of None = []
 
 pub record IsLocal (line : Line) (slots : List ℕ) (values : Option (Vec Expr Global)) (s : Stmt) : Type 0 where
-  pub places : SharedList ℕ
+  pub list : SharedList ℕ
   pub given : SharedList Expr
-  pub same_places : places.value.items ≡ slots
+  pub same_slots : list.value.items ≡ slots
   pub same_given : given.value.items ≡ given_of values
-  pub built : s ≡ statement line (stmt.Local places given)
+  pub built : s ≡ statement line (stmt.Local list given)
 
 pub record IsAssign (line : Line) (targets values : List Expr) (s : Stmt) : Type 0 where
   pub list : SharedList Expr

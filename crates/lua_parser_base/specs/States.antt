@@ -1,13 +1,13 @@
--- What is left of the tokens at a place, and what is known there.
-use Rattle.std.specs.Prelude.{◌≡◌, ℕ, ◌<◌, ◌≤◌, List, [], ◌∷◌, drop, length, Option, Some, None}
+-- What is left of the tokens, and what is known there.
+use Rattle.std.specs.Prelude.{◌≡◌, ℕ, ◌+◌, ◌<◌, ◌≤◌, List, [], ◌∷◌, drop, length, Option, Some, None, Result, IfErr}
 use Rattle.lua_lexer.specs.declared.tokens.Token.{Token}
 use Rattle.lua_lexer.specs.declared.tokens.TokenKind.{TokenKind}
 use Rattle.lua_lexer.specs.declared.tokens.TokenKind.TheVariants.{Text as TextKind, Sign as SignKind}
 use Rattle.lua_lexer.specs.declared.signs.Sign.TheVariants.{OpenParenthesis, OpenBrace, OpenBracket, Colon, Dot}
 use Rattle.lua_grammar.specs.Operators.{kind_of, level, left_level}
-use Rattle.lua_grammar.specs.Tree.{Separator}
+use Rattle.lua_grammar.specs.Tree.{Bytes, Separator}
 use Rattle.lua_grammar.specs.Printing.{Lexeme, lexemes, a_sign, print_separator}
-use Rattle.lua_grammar.specs.Scopes.{Scope}
+use Rattle.lua_grammar.specs.Scopes.{Scope, in_scope}
 use Rattle.lua_parser_base.specs.declared.cursor.Parser.{Parser}
 use Rattle.lua_parser_base.specs.declared.operators.Infix.{Infix}
 use Rattle.lua_parser_base.specs.Frames.{frame_of, frames_of}
@@ -16,7 +16,7 @@ use Rattle.lua_parser_base.specs.Frames.{frame_of, frames_of}
 abbrev pub last_line : List Lexeme → ℕ
 last_line [] = 1
 last_line (token ∷ []) = token.line
-last_line (token ∷ next ∷ behind) = last_line (next ∷ behind)
+last_line (token ∷ next ∷ after) = last_line (next ∷ after)
 
 -- the tokens that are left, the line of the token before them, that of the last token of the text, and the scope
 pub record State : Type 0 where
@@ -26,10 +26,18 @@ pub record State : Type 0 where
   pub scope : Scope
 
 abbrev pub scope_of : Parser → Scope
-scope_of p = record { functions = p.functions.items; around = frame_of p.frame ∷ frames_of p.around }
+scope_of p = record { functions = p.functions.items; around = frame_of p.frame ∷ frames_of p.enclosing }
 
 unfoldable pub state : List Token → Parser → State
-state tokens p = record { left = lexemes (drop p.place tokens); last = p.line; final = last_line (lexemes tokens); scope = scope_of p }
+state tokens p = record { left = lexemes (drop p.index tokens); last = p.line; final = last_line (lexemes tokens); scope = scope_of p }
+
+-- where that holds before, an error is one of that relation between the states before and after
+abbrev pub IfErrWhere : {A E : Type 0} → (State → Type 0) → Result A E → (State → State → E → Type 0) → List Token → Parser → Parser → Type 0
+IfErrWhere Before result R tokens p q = Before (state tokens p) → IfErr result (R (state tokens p) (state tokens q))
+
+-- so many more locals can be declared
+abbrev pub CanDeclare : List Bytes → State → Type 0
+CanDeclare names s = in_scope s.scope + length names ≤ 200
 
 -- a token of that kind and line stands between two states
 pub record Takes (kind : TokenKind) (line : ℕ) (s t : State) : Type 0 where
@@ -50,7 +58,7 @@ pub record TakesSeparator (s t : State) : Type 0 where
 
 -- where the next token is `(`, it is on the line of the last one
 abbrev pub OpensOnLine : State → Type 0
-OpensOnLine s = (line : ℕ) (behind : List Lexeme) → s.left ≡ a_sign OpenParenthesis line behind → line ≡ s.last
+OpensOnLine s = (line : ℕ) (after : List Lexeme) → s.left ≡ a_sign OpenParenthesis line after → line ≡ s.last
 
 -- the first token of what a prefix may go on with: an index, a method's name or arguments
 abbrev pub GoesOn : TokenKind → Type 0
@@ -64,9 +72,9 @@ GoesOn other = ⊥
 
 -- no prefix goes on with the next token
 abbrev pub Stops : State → Type 0
-Stops s = (next : Lexeme) (behind : List Lexeme) → s.left ≡ next ∷ behind → GoesOn next.kind → ⊥
+Stops s = (next : Lexeme) (after : List Lexeme) → s.left ≡ next ∷ after → GoesOn next.kind → ⊥
 
--- a binary operator that may stand behind an expression of the level `left` in one of at least the level `lowest`
+-- a binary operator that may follow an expression of the level `left` in one of at least the level `lowest`
 pub record TakesOperator (left lowest : ℕ) (found : Infix) (s t : State) : Type 0 where
   pub taken : Takes (kind_of found.op) found.line s t
   pub left_fits : left_level found.op ≤ left
@@ -78,8 +86,8 @@ SkipsOperator left lowest None s t = t ≡ s
 
 -- at least one token was read
 pub record Advances (tokens : List Token) (p q : Parser) : Type 0 where
-  pub forward : p.place < q.place
-  pub within : q.place ≤ length tokens
+  pub forward : p.index < q.index
+  pub within : q.index ≤ length tokens
 
 abbrev pub IfAdvances : {A : Type 0} → Option A → List Token → Parser → Parser → Type 0
 IfAdvances (Some found) tokens p q = Advances tokens p q
@@ -87,5 +95,5 @@ IfAdvances None tokens p q = q ≡ p
 
 -- the same, or none
 pub record AdvancesOrStays (tokens : List Token) (p q : Parser) : Type 0 where
-  pub forward : p.place ≤ q.place
-  pub within : p.place ≤ length tokens → q.place ≤ length tokens
+  pub forward : p.index ≤ q.index
+  pub within : p.index ≤ length tokens → q.index ≤ length tokens

@@ -1,5 +1,6 @@
+//! What a token begins in a block, the statement `break`, and the name of a function in a statement.
 ghost use Rattle.std.specs.Prelude.{◌≡◌, IfErr, IfOk, OnOk};
-ghost use Rattle.lua_parser_base.specs.States.{state, Advances};
+ghost use Rattle.lua_parser_base.specs.States.{state, Advances, IfErrWhere};
 ghost use Rattle.lua_parser_base.specs.ReadsStatements.{ReadsLast, ReadsFuncName, ReadsMember};
 ghost use Rattle.lua_lexer.specs.declared.tokens.TokenKind.TheVariants.{Sign as SignKind};
 ghost use Rattle.lua_lexer.specs.declared.tokens.TokenKind.TheVariants.{Word as WordKind};
@@ -7,15 +8,15 @@ ghost use Rattle.lua_lexer.specs.declared.signs.Sign.TheVariants.{Dot};
 ghost use Rattle.lua_lexer.specs.declared.words.Word.TheVariants.{Break};
 ghost use Rattle.lua_parser_base.specs.Next.{IsNext, MissesMember, ahead};
 ghost use Rattle.lua_parser_base.specs.Kinds.{begins_of};
-ghost use Rattle.lua_parser_base.specs.declared.places.Place.{Place};
+ghost use Rattle.lua_parser_base.specs.declared.nesting.Nesting.{Nesting};
 ghost use Rattle.lua_parser_base.specs.Standing.{FirstFault};
 ghost use Rattle.lua_parser_base.specs.Standing as Standing;
 ghost use Rattle.lua_parser_base.specs.StatementRefusals.{RefusesFuncName, RefusesLast};
 
 use crate::ParseFault;
 use crate::cursor::Parser;
+use crate::nesting::{HIGHEST, Nesting};
 use crate::nodes::member;
-use crate::places::{HIGHEST, Place};
 use crate::statement_nodes::FunctionName;
 use lua_ast::{Stmt, StmtKind};
 use lua_lexer::{Sign, Token, TokenKind, Word};
@@ -44,16 +45,17 @@ impl Parser {
     pub fn begins(&self, tokens: &[Token]) -> Begins
         ensures { result ≡ begins_of (ahead (state tokens.now self.now)) }
     {
-        match tokens.get(self.place) {
+        match tokens.get(self.index) {
             Some(token) => begins_of(&token.kind),
             None => Begins::Nothing,
         }
     }
 
-    /// Reads `break`, which has place in a loop alone.
-    pub fn break_statement(&mut self, tokens: &[Token], at: Place) -> Result<Stmt, ParseFault>
+    /// laststat ::= break
+    /// It stands in a loop alone.
+    pub fn break_statement(&mut self, tokens: &[Token], at: Nesting) -> Result<Stmt, ParseFault>
         ensures reads { IfOk result (λ last. ReadsLast at (state tokens.now self.old) last (state tokens.now self.new)) }
-        ensures refuses { IsNext (WordKind Break) (state tokens.now self.old) → IfErr result (RefusesLast at (state tokens.now self.old) (state tokens.now self.new)) }
+        ensures refuses { IfErrWhere (IsNext (WordKind Break)) result (RefusesLast at) tokens.now self.old self.new }
         ensures order { IfErr result (FirstFault (Standing.statement at) (state tokens.now self.old) (state tokens.now self.new)) }
         ensures forward { OnOk result (Advances tokens.now self.old self.new) }
     {
@@ -67,7 +69,8 @@ impl Parser {
         })
     }
 
-    /// Reads the name of a function in a statement, but for that of a method.
+    /// funcname ::= Name {`.´ Name} [`:´ Name]
+    /// Reads the name of a function in a statement up to the `:` of a method.
     pub fn function_name(
         &mut self,
         alloc: Global,
@@ -75,7 +78,7 @@ impl Parser {
     ) -> Result<FunctionName, ParseFault>
         ensures reads { IfOk result (λ name. ReadsFuncName (state tokens.now self.old) name (state tokens.now self.new)) }
         ensures stops { OnOk result (IsNext (SignKind Dot) (state tokens.now self.new) → ⊥) }
-        ensures refuses { (at : Place) → IfErr result (RefusesFuncName at (state tokens.now self.old) (state tokens.now self.new)) }
+        ensures refuses { (at : Nesting) → IfErr result (RefusesFuncName at (state tokens.now self.old) (state tokens.now self.new)) }
         ensures order { IfErr result (FirstFault (Standing.function_name) (state tokens.now self.old) (state tokens.now self.new)) }
         ensures forward { OnOk result (Advances tokens.now self.old self.new) }
     {
@@ -90,7 +93,7 @@ impl Parser {
         Ok(name)
     }
 
-    /// Reads that sign and a name behind the name of a function in a statement.
+    /// Reads that sign and a name after the name of a function in a statement.
     pub fn name_member(
         &mut self,
         alloc: Global,

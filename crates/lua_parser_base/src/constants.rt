@@ -1,6 +1,7 @@
+//! Operands of one token: `nil`, `true`, `false`, a number, a text and `...`.
 ghost use Rattle.std.specs.Prelude.{◌≤◌, ℕ, ℤ, List, IfOk, IfErr, OnOk};
 ghost use Rattle.lua_lexer.specs.declared.tokens.TokenKind.TheVariants.{Number as NumberKind, Sign as SignKind, Text as TextKind, Word as WordKind};
-ghost use Rattle.lua_parser_base.specs.States.{state, Takes, Advances};
+ghost use Rattle.lua_parser_base.specs.States.{state, Takes, Advances, IfErrWhere};
 ghost use Rattle.lua_parser_base.specs.Reads.{ReadsExp};
 ghost use Rattle.lua_parser_base.specs.Next.{Begin, IsMemory, IsNext, IsNumber, IsText, Misses, OnAt};
 ghost use Rattle.lua_parser_base.specs.Refusals.{RefusesExp};
@@ -11,8 +12,8 @@ ghost use Rattle.lua_parser_base.specs.Standing as Standing;
 
 use crate::ParseFault;
 use crate::cursor::Parser;
+use crate::nesting::Nesting;
 use crate::nodes::{Built, leaf};
-use crate::places::Place;
 use lua_ast::ExprKind;
 use lua_lexer::{Sign, Token, TokenKind, Word};
 use resty_base::Whole;
@@ -26,7 +27,7 @@ pub(crate) struct Numeral {
 
 impl Parser {
     /// Reads `nil`.
-    pub fn nil(&mut self, tokens: &[Token], at: Place) -> Result<Built, ParseFault>
+    pub fn nil(&mut self, tokens: &[Token], at: Nesting) -> Result<Built, ParseFault>
         ensures reads { IfOk result (λ b. ReadsExp at (state tokens.now self.old) b (state tokens.now self.new)) }
         ensures level { IfOk result (λ b. 7 ≤ b.level) }
         ensures takes { IfOk result (λ b. Takes (WordKind Nil) b.expr.line (state tokens.now self.old) (state tokens.now self.new)) }
@@ -38,7 +39,7 @@ impl Parser {
     }
 
     /// Reads `true`.
-    pub fn truth(&mut self, tokens: &[Token], at: Place) -> Result<Built, ParseFault>
+    pub fn truth(&mut self, tokens: &[Token], at: Nesting) -> Result<Built, ParseFault>
         ensures reads { IfOk result (λ b. ReadsExp at (state tokens.now self.old) b (state tokens.now self.new)) }
         ensures level { IfOk result (λ b. 7 ≤ b.level) }
         ensures takes { IfOk result (λ b. Takes (WordKind True) b.expr.line (state tokens.now self.old) (state tokens.now self.new)) }
@@ -50,7 +51,7 @@ impl Parser {
     }
 
     /// Reads `false`.
-    pub fn falsity(&mut self, tokens: &[Token], at: Place) -> Result<Built, ParseFault>
+    pub fn falsity(&mut self, tokens: &[Token], at: Nesting) -> Result<Built, ParseFault>
         ensures reads { IfOk result (λ b. ReadsExp at (state tokens.now self.old) b (state tokens.now self.new)) }
         ensures level { IfOk result (λ b. 7 ≤ b.level) }
         ensures takes { IfOk result (λ b. Takes (WordKind False) b.expr.line (state tokens.now self.old) (state tokens.now self.new)) }
@@ -62,7 +63,7 @@ impl Parser {
     }
 
     /// Reads a number.
-    pub fn number(&mut self, tokens: &[Token], at: Place) -> Result<Built, ParseFault>
+    pub fn number(&mut self, tokens: &[Token], at: Nesting) -> Result<Built, ParseFault>
         ensures reads { IfOk result (λ b. ReadsExp at (state tokens.now self.old) b (state tokens.now self.new)) }
         ensures level { IfOk result (λ b. 7 ≤ b.level) }
         ensures takes { IfOk result (λ b. (n : ℤ) × Takes (NumberKind n) b.expr.line (state tokens.now self.old) (state tokens.now self.new)) }
@@ -74,7 +75,7 @@ impl Parser {
     }
 
     /// Reads a text.
-    pub fn text(&mut self, tokens: &[Token], at: Place) -> Result<Built, ParseFault>
+    pub fn text(&mut self, tokens: &[Token], at: Nesting) -> Result<Built, ParseFault>
         ensures reads { IfOk result (λ b. ReadsExp at (state tokens.now self.old) b (state tokens.now self.new)) }
         ensures level { IfOk result (λ b. 7 ≤ b.level) }
         ensures takes { IfOk result (λ b. (bytes : List ℕ) × Takes (TextKind bytes) b.expr.line (state tokens.now self.old) (state tokens.now self.new)) }
@@ -86,15 +87,15 @@ impl Parser {
     }
 
     /// Reads `...`.
-    pub fn rest(&mut self, tokens: &[Token], at: Place) -> Result<Built, ParseFault>
+    pub fn vararg(&mut self, tokens: &[Token], at: Nesting) -> Result<Built, ParseFault>
         ensures reads { IfOk result (λ b. ReadsExp at (state tokens.now self.old) b (state tokens.now self.new)) }
         ensures level { IfOk result (λ b. 7 ≤ b.level) }
-        ensures refuses { IsNext (SignKind Ellipsis) (state tokens.now self.old) → IfErr result (RefusesExp at (state tokens.now self.old) (state tokens.now self.new)) }
+        ensures refuses { IfErrWhere (IsNext (SignKind Ellipsis)) result (RefusesExp at) tokens.now self.old self.new }
         ensures order { (m : ℕ) → IfErr result (FirstFault (Standing.here (Standing.exp m) at) (state tokens.now self.old) (state tokens.now self.new)) }
         ensures forward { OnOk result (Advances tokens.now self.old self.new) }
     {
         let line = self.take_sign(tokens, Sign::Ellipsis)?;
-        if at.rest {
+        if at.vararg {
             return Ok(leaf(line, ExprKind::Vararg));
         }
         Err(ParseFault::VarargOutside(line))
@@ -106,7 +107,7 @@ impl Parser {
         ensures misses { IfErr result (OnAt (Misses IsNumber (state tokens.now self.old) (state tokens.now self.new))) }
         ensures forward { OnOk result (Advances tokens.now self.old self.new) }
     {
-        let Some(token) = tokens.get(self.place) else {
+        let Some(token) = tokens.get(self.index) else {
             return Err(self.unfit(tokens));
         };
         match &token.kind {

@@ -1,14 +1,15 @@
+//! How far the tokens were read: what the next token is, how it is taken, and the fault where it is another than the wanted one.
 ghost use Rattle.std.specs.Prelude.{◌≡◌, ◌↔◌, IfOk, IfErr, IfNone, IsTrue, MatchResult, OnOk, slice_get, Some};
 ghost use Rattle.lua_lexer.specs.declared.tokens.TokenKind.TheVariants.{Name as NameKind, Text as TextKind, Word as WordKind, Sign as SignKind};
 ghost use Rattle.lua_grammar.specs.Grammar.{first_line};
 ghost use Rattle.lua_grammar.specs.Printing.{lexemes};
 ghost use Rattle.lua_parser_base.specs.States.{state, last_line, Takes, Skips, Advances, IfAdvances};
-ghost use Rattle.lua_parser_base.specs.Places.{IsWithin, IsPart};
+ghost use Rattle.lua_parser_base.specs.Nesting.{IsWithin, IsPart};
 ghost use Rattle.lua_parser_base.specs.Next.{Begin, Ends, HasNoPart, IsDepth, IsText, IsKind, IsName, IsNext, IsTooDeep, Misses, OnAt, line_or};
 
 use crate::ParseFault;
 use crate::frames::Frame;
-use crate::places::{DEEPEST, Place};
+use crate::nesting::{DEEPEST, Nesting};
 use lua_ast::Function;
 use lua_lexer::{Sign, Token, TokenKind, Word};
 use resty_base::Bytes;
@@ -24,15 +25,15 @@ pub struct Named {
 #[derive(Drop)]
 pub struct Parser {
     /// How many tokens were read.
-    pub place: usize,
+    pub index: usize,
     /// The line of the last token that was read.
     pub line: u32,
-    /// A place for each function whose word `function` was read.
+    /// One for each function whose word `function` was read.
     pub functions: Vec<Function>,
     /// The innermost function.
     pub frame: Frame,
-    /// The functions around it, the innermost last.
-    pub around: Vec<Frame>,
+    /// The functions that enclose it, the innermost last.
+    pub enclosing: Vec<Frame>,
 }
 
 impl Parser {
@@ -40,7 +41,7 @@ impl Parser {
     pub fn unfit(&self, tokens: &[Token]) -> ParseFault
         ensures { result ≡ ParseFault.At (line_or (last_line (lexemes tokens.now)) (state tokens.now self.now).left) }
     {
-        match tokens.get(self.place) {
+        match tokens.get(self.index) {
             Some(token) => ParseFault::At(token.line),
             None => ParseFault::At(last_line(tokens)),
         }
@@ -48,11 +49,11 @@ impl Parser {
 
     /// Reads the next token, which is that.
     pub fn advance(&mut self, tokens: &[Token], token: &Token)
-        requires { slice_get tokens.now self.old.place ≡ Some token.now }
+        requires { slice_get tokens.now self.old.index ≡ Some token.now }
         ensures takes { Takes token.now.kind token.now.line (state tokens.now self.old) (state tokens.now self.new) }
         ensures forward { Advances tokens.now self.old self.new }
     {
-        self.place += 1;
+        self.index += 1;
         self.line = token.line;
     }
 
@@ -60,7 +61,7 @@ impl Parser {
     pub fn at_word(&self, tokens: &[Token], word: Word) -> bool
         ensures { IsTrue result ↔ IsNext (WordKind word) (state tokens.now self.now) }
     {
-        match tokens.get(self.place) {
+        match tokens.get(self.index) {
             Some(token) => is_word(&token.kind, word),
             None => false,
         }
@@ -70,19 +71,19 @@ impl Parser {
     pub fn at_sign(&self, tokens: &[Token], sign: Sign) -> bool
         ensures { IsTrue result ↔ IsNext (SignKind sign) (state tokens.now self.now) }
     {
-        match tokens.get(self.place) {
+        match tokens.get(self.index) {
             Some(token) => is_sign(&token.kind, sign),
             None => false,
         }
     }
 
-    /// Reads that keyword where it is the next token, and answers its line.
+    /// Reads that keyword where it is the next token, and returns its line.
     pub(crate) fn skip_word(&mut self, tokens: &[Token], word: Word) -> Option<u32>
         ensures skips { Skips (WordKind word) result (state tokens.now self.old) (state tokens.now self.new) }
         ensures missing { IfNone result (IsNext (WordKind word) (state tokens.now self.old) → ⊥) }
         ensures forward { IfAdvances result tokens.now self.old self.new }
     {
-        let token = tokens.get(self.place)?;
+        let token = tokens.get(self.index)?;
         if is_word(&token.kind, word) {
             self.advance(tokens, token);
             return Some(token.line);
@@ -90,13 +91,13 @@ impl Parser {
         None
     }
 
-    /// Reads that sign where it is the next token, and answers its line.
+    /// Reads that sign where it is the next token, and returns its line.
     pub fn skip_sign(&mut self, tokens: &[Token], sign: Sign) -> Option<u32>
         ensures skips { Skips (SignKind sign) result (state tokens.now self.old) (state tokens.now self.new) }
         ensures missing { IfNone result (IsNext (SignKind sign) (state tokens.now self.old) → ⊥) }
         ensures forward { IfAdvances result tokens.now self.old self.new }
     {
-        let token = tokens.get(self.place)?;
+        let token = tokens.get(self.index)?;
         if is_sign(&token.kind, sign) {
             self.advance(tokens, token);
             return Some(token.line);
@@ -104,7 +105,7 @@ impl Parser {
         None
     }
 
-    /// Reads that keyword, and answers its line.
+    /// Reads that keyword, and returns its line.
     pub fn take_word(&mut self, tokens: &[Token], word: Word) -> Result<u32, ParseFault>
         ensures takes { IfOk result (λ line. Takes (WordKind word) line (state tokens.now self.old) (state tokens.now self.new)) }
         ensures misses { IfErr result (OnAt (Misses (IsKind (WordKind word)) (state tokens.now self.old) (state tokens.now self.new))) }
@@ -116,7 +117,7 @@ impl Parser {
         }
     }
 
-    /// Reads that sign, and answers its line.
+    /// Reads that sign, and returns its line.
     pub fn take_sign(&mut self, tokens: &[Token], sign: Sign) -> Result<u32, ParseFault>
         ensures takes { IfOk result (λ line. Takes (SignKind sign) line (state tokens.now self.old) (state tokens.now self.new)) }
         ensures misses { IfErr result (OnAt (Misses (IsKind (SignKind sign)) (state tokens.now self.old) (state tokens.now self.new))) }
@@ -134,7 +135,7 @@ impl Parser {
         ensures misses { IfErr result (OnAt (Misses IsName (state tokens.now self.old) (state tokens.now self.new))) }
         ensures forward { OnOk result (Advances tokens.now self.old self.new) }
     {
-        let Some(token) = tokens.get(self.place) else {
+        let Some(token) = tokens.get(self.index) else {
             return Err(self.unfit(tokens));
         };
         match &token.kind {
@@ -154,7 +155,7 @@ impl Parser {
     pub fn at_text(&self, tokens: &[Token]) -> bool
         ensures { IsTrue result ↔ Begin IsText (state tokens.now self.now).left }
     {
-        match tokens.get(self.place) {
+        match tokens.get(self.index) {
             Some(token) => is_text(&token.kind),
             None => false,
         }
@@ -166,7 +167,7 @@ impl Parser {
         ensures misses { IfErr result (OnAt (Misses IsText (state tokens.now self.old) (state tokens.now self.new))) }
         ensures forward { OnOk result (Advances tokens.now self.old self.new) }
     {
-        let Some(token) = tokens.get(self.place) else {
+        let Some(token) = tokens.get(self.index) else {
             return Err(self.unfit(tokens));
         };
         match &token.kind {
@@ -187,7 +188,7 @@ impl Parser {
         ensures line { IfOk result (λ line. line ≡ first_line (state tokens.now self.now).left) }
         ensures ended { IfErr result (OnAt (Ends (state tokens.now self.now))) }
     {
-        match tokens.get(self.place) {
+        match tokens.get(self.index) {
             Some(token) => Ok(self.line_of(tokens, token)),
             None => Err(self.unfit(tokens)),
         }
@@ -195,29 +196,29 @@ impl Parser {
 
     /// The line of that token, which is the next.
     fn line_of(&self, tokens: &[Token], token: &Token) -> u32
-        requires { slice_get tokens.now self.now.place ≡ Some token.now }
+        requires { slice_get tokens.now self.now.index ≡ Some token.now }
         ensures { result ≡ first_line (state tokens.now self.now).left }
     {
         token.line
     }
 
-    /// The place of a construct within one at `at`, as high as it may be.
-    pub fn deeper(&self, tokens: &[Token], at: Place) -> Result<Place, ParseFault>
+    /// The nesting of a construct within one at `at`, as high as it may be.
+    pub fn deeper(&self, tokens: &[Token], at: Nesting) -> Result<Nesting, ParseFault>
         ensures { MatchResult result (IsWithin at) (IsTooDeep at (state tokens.now self.now)) }
     {
         if at.depth < DEEPEST {
-            return Ok(Place {
+            return Ok(Nesting {
                 depth: at.depth + 1,
                 room: at.room,
-                rest: at.rest,
+                vararg: at.vararg,
                 in_loop: at.in_loop,
             });
         }
         Err(self.too_deep(tokens))
     }
 
-    /// The place of an expression that is a part of one at `at`.
-    pub fn part(&self, tokens: &[Token], at: Place) -> Result<Place, ParseFault>
+    /// The nesting of an expression that is a part of one at `at`.
+    pub fn part(&self, tokens: &[Token], at: Nesting) -> Result<Nesting, ParseFault>
         ensures { MatchResult result (IsPart at) (HasNoPart at (state tokens.now self.now)) }
     {
         let inner = self.deeper(tokens, at)?;
@@ -231,7 +232,7 @@ impl Parser {
     fn too_deep(&self, tokens: &[Token]) -> ParseFault
         ensures { IsDepth (state tokens.now self.now) result }
     {
-        match tokens.get(self.place) {
+        match tokens.get(self.index) {
             Some(token) => ParseFault::Depth(token.line),
             None => self.unfit(tokens),
         }

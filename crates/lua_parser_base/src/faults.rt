@@ -1,3 +1,4 @@
+//! Why tokens are no program.
 use std::alloc::{AllocError, AllocFailed};
 use thiserror::Error;
 
@@ -25,7 +26,7 @@ pub enum ParseFault {
     /// A `...` stands in a function that takes none.
     #[error("VarargOutside")]
     VarargOutside(u32),
-    /// Want of memory.
+    /// Out of memory.
     #[error("Memory")]
     Memory,
 }

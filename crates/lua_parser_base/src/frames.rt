@@ -1,9 +1,10 @@
+//! A function whose text is being read: its locals and its captures.
 ghost use Rattle.std.specs.Prelude.{◌≤◌, vec_len};
 
 use lua_ast::Capture;
 use resty_base::Bytes;
 
-/// A variable of the function around, and the name by which it was captured.
+/// A variable of the enclosing function, and the name by which it was captured.
 #[derive(Drop)]
 pub struct Captured {
     pub name: Bytes,

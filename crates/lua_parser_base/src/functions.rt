@@ -1,3 +1,4 @@
+//! Where a function begins and ends, lists of names and parameters, and the locals that are declared.
 ghost use Rattle.std.specs.Prelude.{◌≡◌, ◌≤◌, ◌<◌, ◌+◌, ◌∷◌, [], length, slice_set, true, IfErr, IfOk, MatchResult, OnOk, vec_len};
 ghost use Rattle.lua_grammar.specs.Grammar.{outside};
 ghost use Rattle.lua_grammar.specs.Limits.{Few};
@@ -25,7 +26,7 @@ use std::mem;
 #[derive(Drop)]
 pub struct Parameters {
     pub names: Vec<Bytes>,
-    pub rest: bool,
+    pub vararg: bool,
     ghost few: { vec_len names ≤ 200 },
 }
 
@@ -34,7 +35,7 @@ pub struct Parameters {
 pub struct Begun {
     pub number: u32,
     pub params: u8,
-    pub rest: bool,
+    pub vararg: bool,
     pub line: u32,
 }
 
@@ -48,17 +49,18 @@ impl Parser {
     pub(crate) fn variable(&mut self, named: Named) -> Result<Expr, ParseFault>
         ensures resolves { IfOk result (λ e. ResolvesName named.line named.name (scope_of self.old) e (scope_of self.new)) }
         ensures crowded { IfErr result (OnUpvalues named.line (Few (look named.name (scope_of self.old).around).1 → ⊥)) }
-        ensures place { self.new.place ≡ self.old.place }
+        ensures index { self.new.index ≡ self.old.index }
         ensures line { self.new.line ≡ self.old.line }
     {
         let Named { name, line } = named;
-        let found = look(&mut self.frame, &mut self.around, &name, line)?;
+        let found = look(&mut self.frame, &mut self.enclosing, &name, line)?;
         Ok(Expr {
             line,
             kind: variable_kind(name, found),
         })
     }
 
+    /// namelist ::= Name {`,´ Name}
     /// Reads a list of names, of which there may be as many as locals can be declared beside `taken` others.
     pub fn names(
         &mut self,
@@ -83,7 +85,7 @@ impl Parser {
         Ok(names)
     }
 
-    /// Reads a name and puts it behind others, of which there may be 200 with `taken` more.
+    /// Reads a name and puts it after others, of which there may be 200 with `taken` more.
     fn push_name(
         &mut self,
         tokens: &[Token],
@@ -104,7 +106,8 @@ impl Parser {
         Ok(())
     }
 
-    /// Reads the parameters of a function behind its `(`, after a first one that isn't named there, up to its `)`.
+    /// parlist ::= namelist [`,´ `...´] | `...´
+    /// Reads the parameters of a function from its `(` up to its `)`. `names` are those before them that aren't named there.
     pub fn parameters(
         &mut self,
         tokens: &[Token],
@@ -117,11 +120,17 @@ impl Parser {
         ensures forward { OnOk result (AdvancesOrStays tokens.now self.old self.new) }
     {
         if self.at_sign(tokens, Sign::CloseParenthesis) {
-            return Ok(Parameters { names, rest: false });
+            return Ok(Parameters {
+                names,
+                vararg: false,
+            });
         }
         if self.at_sign(tokens, Sign::Ellipsis) {
             self.take_sign(tokens, Sign::Ellipsis)?;
-            return Ok(Parameters { names, rest: true });
+            return Ok(Parameters {
+                names,
+                vararg: true,
+            });
         }
         let mut names = names;
         self.push_name(tokens, 0, &mut names)?;
@@ -129,11 +138,17 @@ impl Parser {
             self.take_sign(tokens, Sign::Comma)?;
             if self.at_sign(tokens, Sign::Ellipsis) {
                 self.take_sign(tokens, Sign::Ellipsis)?;
-                return Ok(Parameters { names, rest: true });
+                return Ok(Parameters {
+                    names,
+                    vararg: true,
+                });
             }
             self.push_name(tokens, 0, &mut names)?;
         }
-        Ok(Parameters { names, rest: false })
+        Ok(Parameters {
+            names,
+            vararg: false,
+        })
     }
 
     /// How many locals of the innermost function are in scope.
@@ -147,26 +162,26 @@ impl Parser {
     /// Leaves the scope of all locals but for the first so many.
     pub fn leave(&mut self, count: usize)
         ensures scope { (before : Scope) → in_scope before ≡ count → scope_of self.new ≡ leave before (scope_of self.old) }
-        ensures place { self.new.place ≡ self.old.place }
+        ensures index { self.new.index ≡ self.old.index }
         ensures line { self.new.line ≡ self.old.line }
     {
         self.frame.leave(count);
     }
 
-    /// Declares a local, and answers its slot.
+    /// Declares a local, and returns its slot.
     pub fn local(&mut self, named: Named) -> Result<u8, ParseFault>
         ensures slot { IfOk result (λ slot. slot ≡ in_scope (scope_of self.old)) }
         ensures crowded { IfErr result (OnLocals (200 ≤ in_scope (scope_of self.old))) }
-        ensures told { IfErr result (IsLocals named.line) }
+        ensures reported { IfErr result (IsLocals named.line) }
         ensures scope { OnOk result (scope_of self.new ≡ declare (named.name ∷ []) (scope_of self.old)) }
-        ensures place { self.new.place ≡ self.old.place }
+        ensures index { self.new.index ≡ self.old.index }
         ensures line { self.new.line ≡ self.old.line }
     {
         let Named { name, line } = named;
         self.frame.declare(name, line)
     }
 
-    /// Declares locals, and answers their slots.
+    /// Declares locals, and returns their slots.
     pub fn declare(
         &mut self,
         alloc: Global,
@@ -175,9 +190,9 @@ impl Parser {
     ) -> Result<Vec<u8>, ParseFault>
         ensures slots { IfOk result (λ slots. slots.items ≡ slots_from (in_scope (scope_of self.old)) names.items) }
         ensures crowded { IfErr result (OnLocals (200 < in_scope (scope_of self.old) + length names.items)) }
-        ensures told { IfErr result (IsLocals line) }
+        ensures reported { IfErr result (IsLocals line) }
         ensures scope { OnOk result (scope_of self.new ≡ declare names.items (scope_of self.old)) }
-        ensures place { self.new.place ≡ self.old.place }
+        ensures index { self.new.index ≡ self.old.index }
         ensures line { self.new.line ≡ self.old.line }
     {
         let mut slots = Vec::new(alloc);
@@ -190,20 +205,20 @@ impl Parser {
 
     /// Before the first token of a chunk.
     pub fn new(alloc: Global) -> Result<Parser, ParseFault>
-        ensures place { IfOk result (λ parser. parser.place ≡ 0) }
+        ensures index { IfOk result (λ parser. parser.index ≡ 0) }
         ensures scope { IfOk result (λ parser. (kept : Function) × (scope_of parser ≡ enter [] kept outside)) }
         ensures memory { IfErr result IsMemory }
     {
         Ok(Parser {
-            place: 0,
+            index: 0,
             line: 1,
             functions: vec![in alloc; empty_function(alloc, 1)?]?,
             frame: Frame::with_parameters(alloc, Vec::new(alloc)),
-            around: Vec::new(alloc),
+            enclosing: Vec::new(alloc),
         })
     }
 
-    /// The functions of the program behind the block of the chunk, which is the first of them. Its first token is on that line.
+    /// The functions of the program after the block of the chunk, which is the first of them. Its first token is on that line.
     pub fn into_functions(
         self,
         alloc: Global,
@@ -228,21 +243,21 @@ impl Parser {
     ) -> Result<Begun, ParseFault>
         ensures enters { IfOk result (λ begun. Enters parameters line begun (scope_of self.old) (scope_of self.new)) }
         ensures memory { IfErr result IsMemory }
-        ensures place { self.new.place ≡ self.old.place }
+        ensures index { self.new.index ≡ self.old.index }
         ensures line { self.new.line ≡ self.old.line }
     {
-        let Parameters { names, rest } = parameters;
+        let Parameters { names, vararg } = parameters;
         let Ok(number) = u32::try_from(self.functions.len()) else {
             return Err(ParseFault::Memory);
         };
         let params = names.len() as u8;
         self.functions.push(empty_function(alloc, line)?)?;
         let outer = mem::replace(&mut self.frame, Frame::with_parameters(alloc, names));
-        self.around.push(outer)?;
+        self.enclosing.push(outer)?;
         Ok(Begun {
             number,
             params,
-            rest,
+            vararg,
             line,
         })
     }
@@ -251,40 +266,40 @@ impl Parser {
     pub fn end(&mut self, alloc: Global, begun: Begun, body: Vec<Stmt>) -> Result<u32, ParseFault>
         ensures ends { IfOk result (λ number. Ends begun body.items (scope_of self.old) number (scope_of self.new)) }
         ensures memory { IfErr result IsMemory }
-        ensures place { self.new.place ≡ self.old.place }
+        ensures index { self.new.index ≡ self.old.index }
         ensures line { self.new.line ≡ self.old.line }
     {
         let function = whole_function(
             alloc,
             &self.frame,
             begun.params,
-            begun.rest,
+            begun.vararg,
             body,
             begun.line,
         )?;
         self.keep(begun.number as usize, function);
-        let Some(outer) = self.around.pop() else {
+        let Some(outer) = self.enclosing.pop() else {
             return Err(ParseFault::Memory);
         };
         self.frame = outer;
         Ok(begun.number)
     }
 
-    /// Puts a function in its place.
-    fn keep(&mut self, place: usize, function: Function)
-        ensures functions { self.new.functions.items ≡ slice_set self.old.functions.items place function }
+    /// Puts a function where its number says.
+    fn keep(&mut self, index: usize, function: Function)
+        ensures functions { self.new.functions.items ≡ slice_set self.old.functions.items index function }
         ensures frame { self.new.frame ≡ self.old.frame }
-        ensures around { self.new.around ≡ self.old.around }
-        ensures place { self.new.place ≡ self.old.place }
+        ensures enclosing { self.new.enclosing ≡ self.old.enclosing }
+        ensures index { self.new.index ≡ self.old.index }
         ensures line { self.new.line ≡ self.old.line }
     {
-        if let Some(kept) = self.functions.get_mut(place) {
+        if let Some(kept) = self.functions.get_mut(index) {
             *kept = function;
         }
     }
 }
 
-/// The functions, with the chunk in the first place.
+/// The functions, with the chunk as the first.
 fn with_chunk(functions: Vec<Function>, chunk: Function) -> Result<Vec<Function>, ParseFault>
     ensures { MatchResult result (λ whole. whole.items ≡ slice_set functions.items 0 chunk) IsMemory }
 {

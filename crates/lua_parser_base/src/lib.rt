@@ -1,5 +1,4 @@
-//! What the parser of Lua 5.1 stands on: where it is among the tokens, what single tokens are, the scopes of functions, and the
-//! nodes of the tree; and the definitions of what each production of the grammar reads and which fault comes first.
+//! What the parser of Lua 5.1 stands on: its position among the tokens, scopes, nodes, and the definitions of what is read and refused.
 #![tactic(auto)]
 
 mod beginnings;
@@ -8,9 +7,9 @@ mod cursor;
 mod faults;
 mod frames;
 mod functions;
+mod nesting;
 mod nodes;
 mod operators;
-mod places;
 mod scopes;
 mod statement_nodes;
 mod suffixes;
@@ -20,12 +19,12 @@ pub use cursor::{Named, Parser};
 pub use faults::ParseFault;
 pub use frames::{Captured, Frame};
 pub use functions::{Begun, Parameters};
+pub use nesting::Nesting;
 pub use nodes::{
     Built, Form, Item, Items, Prefix, Values, binary, called, indexed, leaf, method_called, paren,
     unary,
 };
 pub use operators::{Infix, Operand, Prefixed};
-pub use places::Place;
 pub use statement_nodes::{
     FunctionName, LoopBlock, Range, arm_node, assign_node, define, do_node, generic_for, if_node,
     local_node, numeric_for, repeat_node, returned, while_node,

@@ -1,7 +1,9 @@
+//! The nodes of expressions, each with its height.
 ghost use Rattle.std.specs.Prelude.{◌≡◌, max, MatchResult};
 ghost use Rattle.lua_ast.specs.declared.expressions.ExprKind as kind;
 ghost use Rattle.lua_grammar.specs.Resolution.{binary_kind};
-ghost use Rattle.lua_parser_base.specs.Nodes.{leaf, IsUnary, IsBinary, IsParen, IsIndexed, IsMember, IsCalled, IsMethodCalled, IsTable, IsAlone, IsNone, AddsValue, AddsItem, AreNone};
+ghost use Rattle.lua_parser_base.specs.Nodes.{leaf, IsUnary, IsBinary, IsParen, IsIndexed, IsMember, IsCalled, IsMethodCalled, IsTable, IsAlone, IsNone};
+ghost use Rattle.lua_parser_base.specs.Nodes.{AddsValue, AddsItem, AreNone};
 ghost use Rattle.lua_parser_base.specs.Next.{IsMemory};
 
 use crate::ParseFault;

@@ -1,3 +1,4 @@
+//! Which kind of operand a token begins, and unary operators.
 ghost use Rattle.std.specs.Prelude.{◌≡◌, IfOk, IfErr, MatchOption, OnOk};
 ghost use Rattle.lua_grammar.specs.Operators.{kind_of_unary};
 ghost use Rattle.lua_parser_base.specs.States.{state, Takes, Advances};
@@ -28,7 +29,7 @@ pub enum Operand {
     False,
     Number,
     Text,
-    Rest,
+    Vararg,
     Prefix,
 }
 
@@ -44,7 +45,7 @@ impl Parser {
     pub fn operand_ahead(&self, tokens: &[Token]) -> Operand
         ensures { result ≡ operand_of (ahead (state tokens.now self.now)) }
     {
-        match tokens.get(self.place) {
+        match tokens.get(self.index) {
             Some(token) => operand_of(&token.kind),
             None => Operand::Prefix,
         }
@@ -56,7 +57,7 @@ impl Parser {
         ensures misses { IfErr result (OnAt (Misses IsUnary (state tokens.now self.old) (state tokens.now self.new))) }
         ensures forward { OnOk result (Advances tokens.now self.old self.new) }
     {
-        let Some(token) = tokens.get(self.place) else {
+        let Some(token) = tokens.get(self.index) else {
             return Err(self.unfit(tokens));
         };
         let Some(op) = unary_of(&token.kind) else {
@@ -84,7 +85,7 @@ fn operand_of(kind: &TokenKind) -> Operand
         TokenKind::Word(Word::False) => Operand::False,
         TokenKind::Number(_) => Operand::Number,
         TokenKind::Text(_) => Operand::Text,
-        TokenKind::Sign(Sign::Ellipsis) => Operand::Rest,
+        TokenKind::Sign(Sign::Ellipsis) => Operand::Vararg,
         _ => Operand::Prefix,
     }
 }

@@ -1,3 +1,4 @@
+//! What a name stands for: a local, a capture or a global.
 ghost use Rattle.std.specs.Prelude.{◌≡◌, ℕ, List, ◌≤◌, ◌<◌, ◌∷◌, ◌++◌, [], map, take, length, IfOk, IfErr, IfSome, MatchResult, OnOk, vec_len};
 ghost use Rattle.lua_grammar.specs.Limits.{Few};
 ghost use Rattle.lua_grammar.specs.Resolution.{variable_kind, IsFunction};
@@ -35,26 +36,26 @@ impl Frame {
     /// The slot of the newest local of that name.
     fn local(&self, name: &[u8]) -> Option<usize>
         ensures value { result ≡ last_place name.now self.now.locals.items }
-        ensures within { IfSome result (λ place. place < vec_len self.now.locals) }
+        ensures within { IfSome result (λ slot. slot < vec_len self.now.locals) }
     {
         let mut found = None;
-        for (place, local) in self.locals.iter().enumerate() {
+        for (slot, local) in self.locals.iter().enumerate() {
             if local.as_slice() == name {
-                found = Some(place);
+                found = Some(slot);
             }
         }
         found
     }
 
-    /// The place of the capture of that name.
+    /// The index of the capture of that name.
     fn capture(&self, name: &[u8]) -> Option<usize>
         ensures value { result ≡ last_place name.now (map (λ c. c.name) self.now.captures.items) }
-        ensures within { IfSome result (λ place. place < vec_len self.now.captures) }
+        ensures within { IfSome result (λ index. index < vec_len self.now.captures) }
     {
         let mut found = None;
-        for (place, captured) in self.captures.iter().enumerate() {
+        for (index, captured) in self.captures.iter().enumerate() {
             if captured.name.as_slice() == name {
-                found = Some(place);
+                found = Some(index);
             }
         }
         found
@@ -68,28 +69,28 @@ impl Frame {
         if let Some(slot) = self.local(name) {
             return Some(Capture::Slot(slot as u8));
         }
-        let place = self.capture(name)?;
-        Some(Capture::Outer(place as u8))
+        let index = self.capture(name)?;
+        Some(Capture::Outer(index as u8))
     }
 
-    /// Captures a variable of the function around.
+    /// Captures a variable of the enclosing function.
     fn hand_in(&mut self, name: &Bytes, variable: Capture, line: u32) -> Result<Capture, ParseFault>
-        ensures place { IfOk result (λ found. found ≡ Capture.Outer (length self.old.captures.items)) }
+        ensures index { IfOk result (λ found. found ≡ Capture.Outer (length self.old.captures.items)) }
         ensures crowded { IfErr result (OnUpvalues line (60 ≤ length self.old.captures.items)) }
         ensures captures { OnOk result (map captured_of self.new.captures.items
             ≡ map captured_of self.old.captures.items ++ record { name = name.now; variable = variable } ∷ []) }
         ensures locals { OnOk result (self.new.locals ≡ self.old.locals) }
         ensures slots { OnOk result (self.new.slots ≡ self.old.slots) }
     {
-        let place = self.captures.len();
-        if place >= MOST_CAPTURES {
+        let index = self.captures.len();
+        if index >= MOST_CAPTURES {
             return Err(ParseFault::Upvalues(line));
         }
         self.captures.push(Captured {
             name: name.clone()?,
             variable,
         })?;
-        Ok(Capture::Outer(place as u8))
+        Ok(Capture::Outer(index as u8))
     }
 
     /// Leaves the scope of all locals but for the first so many.
@@ -99,12 +100,12 @@ impl Frame {
         self.locals.truncate(count);
     }
 
-    /// Declares a local, and answers its slot.
+    /// Declares a local, and returns its slot.
     pub(crate) fn declare(&mut self, name: Bytes, line: u32) -> Result<u8, ParseFault>
         ensures slot { IfOk result (λ slot. slot ≡ length self.old.locals.items) }
         ensures frame { OnOk result (frame_of self.new ≡ with_locals (name ∷ []) (frame_of self.old)) }
         ensures crowded { IfErr result (OnLocals (200 ≤ length self.old.locals.items)) }
-        ensures told { IfErr result (IsLocals line) }
+        ensures reported { IfErr result (IsLocals line) }
     {
         let slot = self.locals.len();
         if slot >= MOST_LOCALS {
@@ -116,25 +117,25 @@ impl Frame {
     }
 }
 
-/// The variable of that name that the function `frame` sees, with the functions around it, the innermost last. `line` is
-/// that of the name.
+/// The variable of that name that the function `frame` sees, with the functions that enclose it, the innermost last.
+/// `line` is that of the name.
 pub(crate) fn look(
     frame: &mut Frame,
-    around: &mut Vec<Frame>,
+    enclosing: &mut Vec<Frame>,
     name: &Bytes,
     line: u32,
 ) -> Result<Option<Capture>, ParseFault>
-    ensures { MatchResult result (λ found. look name.now (frame_of frame.old ∷ frames_of around.old) ≡ (found, frame_of frame.new ∷ frames_of around.new))
-        (OnUpvalues line (Few (look name.now (frame_of frame.old ∷ frames_of around.old)).1 → ⊥)) }
+    ensures { MatchResult result (λ found. look name.now (frame_of frame.old ∷ frames_of enclosing.old) ≡ (found, frame_of frame.new ∷ frames_of enclosing.new))
+        (OnUpvalues line (Few (look name.now (frame_of frame.old ∷ frames_of enclosing.old)).1 → ⊥)) }
 {
     if let Some(variable) = frame.own(name.as_slice()) {
         return Ok(Some(variable));
     }
-    let Some(mut outer) = around.pop() else {
+    let Some(mut outer) = enclosing.pop() else {
         return Ok(None);
     };
-    let found = look(&mut outer, around, name, line)?;
-    around.push(outer)?;
+    let found = look(&mut outer, enclosing, name, line)?;
+    enclosing.push(outer)?;
     match found {
         Some(variable) => Ok(Some(frame.hand_in(name, variable, line)?)),
         None => Ok(None),
@@ -147,7 +148,7 @@ pub(crate) fn variable_kind(name: Bytes, found: Option<Capture>) -> ExprKind
 {
     match found {
         Some(Capture::Slot(slot)) => ExprKind::Slot(slot),
-        Some(Capture::Outer(place)) => ExprKind::Captured(place),
+        Some(Capture::Outer(index)) => ExprKind::Captured(index),
         None => ExprKind::Global(name),
     }
 }

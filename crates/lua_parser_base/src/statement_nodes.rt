@@ -1,5 +1,7 @@
+//! The nodes of statements.
 ghost use Rattle.std.specs.Prelude.{◌≡◌, MatchResult, option_map};
-ghost use Rattle.lua_parser_base.specs.StatementNodes.{IsArm, IsIf, IsWhile, IsDo, IsRepeat, IsNumericFor, IsGenericFor, IsLocal, IsAssign, Defines, IsReturn, Begins, given_of};
+ghost use Rattle.lua_parser_base.specs.StatementNodes.{IsArm, IsIf, IsWhile, IsDo, IsRepeat, IsNumericFor, IsGenericFor, IsLocal, IsAssign, Defines, IsReturn};
+ghost use Rattle.lua_parser_base.specs.StatementNodes.{Begins, given_of};
 ghost use Rattle.lua_parser_base.specs.Next.{IsMemory};
 
 use crate::ParseFault;

@@ -1,23 +1,24 @@
+//! What a prefix goes on with, and the separators and names of fields.
 ghost use Rattle.std.specs.Prelude.{◌≡◌, ◌↔◌, Some, slice_get, IfOk, IfErr, IsTrue, MatchOption, OnOk};
 ghost use Rattle.lua_lexer.specs.declared.tokens.TokenKind.TheVariants.{Sign as SignKind};
 ghost use Rattle.lua_lexer.specs.declared.signs.Sign.TheVariants.{Dot, OpenParenthesis};
 ghost use Rattle.lua_grammar.specs.Grammar.{first_line};
-ghost use Rattle.lua_parser_base.specs.States.{State, state, Advances, TakesSeparator, OpensOnLine, GoesOn, Stops};
+ghost use Rattle.lua_parser_base.specs.States.{state, Advances, TakesSeparator, OpensOnLine, GoesOn, Stops, IfErrWhere};
 ghost use Rattle.lua_parser_base.specs.Reads.{ReadsPrefix, Extends};
-ghost use Rattle.lua_parser_base.specs.Next.{Begin, CannotOpen, IsKind, IsNext, Misses, OnAt};
+ghost use Rattle.lua_parser_base.specs.Next.{Begin, CannotOpen, IsKind, IsNext, Misses, OnAt, IsNotNext};
 ghost use Rattle.lua_parser_base.specs.Kinds.{BeginNamed, IsSeparator, IsSuffix};
 ghost use Rattle.lua_parser_base.specs.Refusals.{RefusesPrefix, RefusesSuffix};
-ghost use Rattle.lua_parser_base.specs.Standing.{FirstFault};
+ghost use Rattle.lua_parser_base.specs.Standing.{FirstFault, FirstFaultOfPrefix};
 ghost use Rattle.lua_parser_base.specs.Standing as Standing;
 
 use crate::ParseFault;
 use crate::cursor::{Parser, is_name, is_sign};
+use crate::nesting::Nesting;
 use crate::nodes::{Form, Prefix, member};
-use crate::places::Place;
 use lua_lexer::{Sign, Token, TokenKind};
 use std::alloc::Global;
 
-/// What may stand behind a prefix.
+/// What may follow a prefix.
 #[derive(Clone, Copy, PartialEq, Eq)]
 pub enum Suffix {
     Member,
@@ -27,20 +28,21 @@ pub enum Suffix {
 }
 
 impl Parser {
-    /// What stands behind a prefix, if it goes on.
+    /// What follows a prefix, if it goes on.
     pub fn suffix_ahead(&self, tokens: &[Token]) -> Option<Suffix>
         ensures { MatchOption result (Stops (state tokens.now self.now)) (λ suffix. Begin (IsSuffix suffix) (state tokens.now self.now).left) }
     {
-        let Some(token) = tokens.get(self.place) else {
+        let Some(token) = tokens.get(self.index) else {
             return None;
         };
         suffix_of(&token.kind)
     }
 
-    /// Reads a name. It has place wherever an expression has.
-    pub fn name(&mut self, tokens: &[Token], at: Place) -> Result<Prefix, ParseFault>
+    /// var ::= Name
+    /// It stands wherever an expression does.
+    pub fn name(&mut self, tokens: &[Token], at: Nesting) -> Result<Prefix, ParseFault>
         ensures reads { IfOk result (λ p. ReadsPrefix at (state tokens.now self.old) p (state tokens.now self.new)) }
-        ensures refuses { (IsNext (SignKind OpenParenthesis) (state tokens.now self.old) → ⊥) → IfErr result (RefusesPrefix at (state tokens.now self.old) (state tokens.now self.new)) }
+        ensures refuses { IfErrWhere (IsNotNext (SignKind OpenParenthesis)) result (RefusesPrefix at) tokens.now self.old self.new }
         ensures order { IfErr result (FirstFault (Standing.prefix at) (state tokens.now self.old) (state tokens.now self.new)) }
         ensures forward { OnOk result (Advances tokens.now self.old self.new) }
     {
@@ -52,17 +54,18 @@ impl Parser {
         })
     }
 
-    /// Reads `.name` behind a prefix.
+    /// var ::= prefixexp `.´ Name
+    /// Reads `.name` after a prefix.
     pub fn member(
         &mut self,
         alloc: Global,
         tokens: &[Token],
-        at: Place,
+        at: Nesting,
         object: Prefix,
     ) -> Result<Prefix, ParseFault>
         ensures reads { IfOk result (λ p. Extends at object (state tokens.now self.old) p (state tokens.now self.new)) }
-        ensures refuses { IsNext (SignKind Dot) (state tokens.now self.old) → IfErr result (RefusesSuffix at object (state tokens.now self.old) (state tokens.now self.new)) }
-        ensures order { IfErr result (λ fault. (s : State) → ReadsPrefix at s object (state tokens.now self.old) → FirstFault (Standing.prefix at) s (state tokens.now self.new) fault) }
+        ensures refuses { IfErrWhere (IsNext (SignKind Dot)) result (RefusesSuffix at object) tokens.now self.old self.new }
+        ensures order { IfErr result (FirstFaultOfPrefix at object (state tokens.now self.old) (state tokens.now self.new)) }
         ensures forward { OnOk result (Advances tokens.now self.old self.new) }
     {
         let dot = self.take_sign(tokens, Sign::Dot)?;
@@ -83,7 +86,7 @@ impl Parser {
         ensures same { OnOk result (OpensOnLine (state tokens.now self.now)) }
         ensures closed { IfErr result (CannotOpen (state tokens.now self.now)) }
     {
-        let Some(token) = tokens.get(self.place) else {
+        let Some(token) = tokens.get(self.index) else {
             return Err(self.unfit(tokens));
         };
         self.opening_line(tokens, token)
@@ -91,7 +94,7 @@ impl Parser {
 
     /// The line of that token, which is the next one; a `(` has to be on the line of the token before it.
     fn opening_line(&self, tokens: &[Token], token: &Token) -> Result<u32, ParseFault>
-        requires { slice_get tokens.now self.now.place ≡ Some token.now }
+        requires { slice_get tokens.now self.now.index ≡ Some token.now }
         ensures line { IfOk result (λ line. line ≡ first_line (state tokens.now self.now).left) }
         ensures same { OnOk result (OpensOnLine (state tokens.now self.now)) }
         ensures closed { IfErr result (CannotOpen (state tokens.now self.now)) }
@@ -105,7 +108,7 @@ impl Parser {
         Ok(token.line)
     }
 
-    /// Reads `,` or `;`.
+    /// fieldsep ::= `,´ | `;´
     #[tactic(auto, using(crate::proofs::Tables::comma_taken, crate::proofs::Tables::semicolon_taken))]
     pub fn take_separator(&mut self, tokens: &[Token]) -> Result<(), ParseFault>
         ensures takes { OnOk result (TakesSeparator (state tokens.now self.old) (state tokens.now self.new)) }
@@ -124,17 +127,17 @@ impl Parser {
     pub fn at_named_field(&self, tokens: &[Token]) -> bool
         ensures { IsTrue result ↔ BeginNamed (state tokens.now self.now).left }
     {
-        let Some(token) = tokens.get(self.place) else {
+        let Some(token) = tokens.get(self.index) else {
             return false;
         };
-        let Some(next) = tokens.get(self.place + 1) else {
+        let Some(next) = tokens.get(self.index + 1) else {
             return false;
         };
         is_name(&token.kind) && is_sign(&next.kind, Sign::Assign)
     }
 }
 
-/// What stands behind a prefix where a token goes on with it.
+/// What follows a prefix where a token goes on with it.
 fn suffix_of(kind: &TokenKind) -> Option<Suffix>
     ensures { MatchOption result (GoesOn kind.now → ⊥) (λ suffix. IsSuffix suffix kind.now) }
 {

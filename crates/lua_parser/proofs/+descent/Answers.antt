@@ -8,7 +8,7 @@ use Rattle.lua_lexer.specs.declared.signs.Sign.TheVariants.{Colon, CloseParenthe
 use Rattle.lua_lexer.specs.declared.tokens.TokenKind.TheVariants.{Word, Sign, Sign as SignKind}
 use Rattle.lua_parser_base.proofs.Arguments.{call_cannot_open, call_refused, call_too_high, method_cannot_open, method_no_name, method_refused, method_too_high, args_no_part, args_open, args_refused, no_args, table_arg_refused}
 use Rattle.lua_parser.proofs.ArmRefusals.{arm_block_refused, test_refused, then_refused, first_arm_refused, next_arm_refused, arms_refused, else_end_refused, else_refused, end_refused}
-use Rattle.lua_parser_base.proofs.Assignments.{function_from, function_read, method_read, local_from, local_function_read, local_read, call_read, first_assigned, target_read, vars_one, assign_behind}
+use Rattle.lua_parser_base.proofs.Assignments.{function_from, function_read, method_read, local_from, local_function_read, local_read, call_read, first_assigned, target_read, vars_one, assign_after}
 use Rattle.lua_parser.proofs.BlockKinds.{block_end, is_statement, nothing_returned, return_next, semicolon_next, values_next, do_kind, for_kind, function_kind, if_kind, local_kind, prefix_begins, repeat_kind, while_kind}
 use Rattle.lua_parser_base.proofs.BlockRefusals.{scoped_refused, scoped_too_deep, last_refused, stat_refused, returned_refused}
 use Rattle.lua_parser_base.proofs.Blocks.{arm_read, arms_more, arms_one, block_last, block_open, do_read, if_else_read, if_read, repeat_read, return_none_read, return_read, scoped_read, stats_more, stats_none, value_read, values_read, while_read}
@@ -17,7 +17,7 @@ use Rattle.lua_parser_base.proofs.Breaking.{args_ambiguous, ended_first, missing
 use Rattle.lua_parser_base.proofs.Calls.{ok_extends, item_read, called_read, method_called_read, no_args_read, args_read, table_arg_read, text_arg_read}
 use Rattle.lua_parser.proofs.Closures.{closure_refused}
 use Rattle.lua_parser.proofs.Constructors.{part_refused, field_refused, separator_refused}
-use Rattle.lua_parser.proofs.Declaring.{few_behind, few_declared, few_in_list, few_in_loop, few_in_range, function_stands, local_there}
+use Rattle.lua_parser.proofs.Declaring.{few_after, few_declared, few_in_list, few_in_loop, few_in_range, function_stands, local_there}
 use Rattle.lua_parser.proofs.Fields.{plain_refused, key_refused, bracket_refused, equals_refused, keyed_value_refused, name_never_missed, equals_never_missed, named_value_refused}
 use Rattle.lua_parser_base.proofs.ForLoops.{for_read, range_read, list_read, loop_read}
 use Rattle.lua_parser.proofs.FunctionBodies.{begins_body, body_block_refused, body_too_deep, body_unended, body_unopened, parameters_refused, parameters_unclosed}
@@ -28,7 +28,7 @@ use Rattle.lua_parser.proofs.LocalStatements.{local_refused, local_word, local_f
 use Rattle.lua_parser.proofs.LoopRefusals.{while_block_refused, while_do_refused, while_end_refused, while_test_refused, repeat_block_refused, repeat_test_refused, repeat_too_deep, until_refused, do_end_refused, do_refused}
 use Rattle.lua_parser_base.proofs.Next.{on_err, on_memory, on_want, untested}
 use Rattle.lua_parser_base.proofs.OpenFunctions.{few_there}
-use Rattle.lua_parser.proofs.OperandKinds.{unary_kind, closure_kind, table_kind, nil_kind, true_kind, false_kind, rest_kind, number_next, text_next, next_of}
+use Rattle.lua_parser.proofs.OperandKinds.{unary_kind, closure_kind, table_kind, nil_kind, true_kind, false_kind, vararg_kind, number_next, text_next, next_of}
 use Rattle.lua_parser.proofs.Operands.{exp_ends_there, right_refused, right_no_part, right_too_high, right_low, operand_refused, operand_no_part, prefix_refused, table_refused}
 use Rattle.lua_parser_base.proofs.Prefixes.{suffix_refused, paren_no_part, paren_open, paren_refused, item_no_part, item_open, item_refused, item_too_high}
 use Rattle.lua_parser_base.proofs.Productions.{advances_on, right_fits, operator_none, binary_read, unary_read, closure_read, prefix_exp, table_exp, unary_tight, table_tight, list_one, list_more, paren_read}
@@ -190,8 +190,8 @@ expressions::operand-returns-in-Number-clause-refuses t c = on_want _ c.number.r
 pub expressions::operand-returns-in-Text-clause-refuses : goal.expressions::operand-returns-in-Text-clause-refuses
 expressions::operand-returns-in-Text-clause-refuses t c = on_want _ c.text.result (λ m k none. absurd none) (c.text.ensures.surely (text_next _ (sym c.operand_ahead.ensures ∙ c.in-Text.is)))
 
-pub expressions::operand-returns-in-Rest-clause-refuses : goal.expressions::operand-returns-in-Rest-clause-refuses
-expressions::operand-returns-in-Rest-clause-refuses t c = c.rest.ensures.refuses (next_of (Sign sign.Ellipsis) _ (λ is. cc) (rest_kind _ (sym c.operand_ahead.ensures ∙ c.in-Rest.is)))
+pub expressions::operand-returns-in-Vararg-clause-refuses : goal.expressions::operand-returns-in-Vararg-clause-refuses
+expressions::operand-returns-in-Vararg-clause-refuses t c = c.vararg.ensures.refuses (next_of (Sign sign.Ellipsis) _ (λ is. cc) (vararg_kind _ (sym c.operand_ahead.ensures ∙ c.in-Vararg.is)))
 
 pub expressions::operand-returns-in-Prefix-clause-refuses : goal.expressions::operand-returns-in-Prefix-clause-refuses
 expressions::operand-returns-in-Prefix-clause-refuses t c = c.prefix_operand.ensures.refuses (sym c.operand_ahead.ensures ∙ c.in-Prefix.is)
@@ -433,7 +433,7 @@ suffixes::primary-returns-in_err-open-clause-order t c =
 pub suffixes::primary-returns-in_err-take_sign-clause-order : goal.suffixes::primary-returns-in_err-take_sign-clause-order
 suffixes::primary-returns-in_err-take_sign-clause-order t c =
     handed_on _ c.from_residual-in_err-take_sign.result _ c.from_residual-in_err-take_sign.ensures.1
-    (λ start stands. missing_first _ _ _ _ c.in_err-take_sign.ensures.misses start (standing.behind_exp (standing.as_part (standing.in_parentheses stands c.in_ok-open.ensures.takes) c.in_ok-inner.ensures) c.in_ok-built.ensures.reads))
+    (λ start stands. missing_first _ _ _ _ c.in_err-take_sign.ensures.misses start (standing.after_exp (standing.as_part (standing.in_parentheses stands c.in_ok-open.ensures.takes) c.in_ok-inner.ensures) c.in_ok-built.ensures.reads))
 
 pub suffixes::item-returns-clause-reads : goal.suffixes::item-returns-clause-reads
 suffixes::item-returns-clause-reads t c =
@@ -490,12 +490,12 @@ suffixes::item-returns-in_err-key-clause-order t c =
 pub suffixes::item-returns-in_err-open-clause-order : goal.suffixes::item-returns-in_err-open-clause-order
 suffixes::item-returns-in_err-open-clause-order t c =
     handed_on _ c.from_residual.result _ c.from_residual.ensures.1
-    (λ s read start stands. missing_first _ _ _ _ c.in_err-open.ensures.misses start (standing.behind_prefix stands read))
+    (λ s read start stands. missing_first _ _ _ _ c.in_err-open.ensures.misses start (standing.after_prefix stands read))
 
 pub suffixes::item-returns-in_err-take_sign-clause-order : goal.suffixes::item-returns-in_err-take_sign-clause-order
 suffixes::item-returns-in_err-take_sign-clause-order t c =
     handed_on _ c.from_residual-in_err-take_sign.result _ c.from_residual-in_err-take_sign.ensures.1
-    (λ s read start stands. missing_first _ _ _ _ c.in_err-take_sign.ensures.misses start (standing.behind_exp (standing.as_part (standing.key stands read c.in_ok-open.ensures.takes c.in_ok-above.ensures) c.in_ok-inner.ensures) c.in_ok-key.ensures.reads))
+    (λ s read start stands. missing_first _ _ _ _ c.in_err-take_sign.ensures.misses start (standing.after_exp (standing.as_part (standing.key stands read c.in_ok-open.ensures.takes c.in_ok-above.ensures) c.in_ok-inner.ensures) c.in_ok-key.ensures.reads))
 
 pub suffixes::call-returns-clause-reads : goal.suffixes::call-returns-clause-reads
 suffixes::call-returns-clause-reads t c =
@@ -528,7 +528,7 @@ suffixes::call-returns-in_err-line-clause-order t c =
 pub suffixes::call-returns-in_err-above-clause-order : goal.suffixes::call-returns-in_err-above-clause-order
 suffixes::call-returns-in_err-above-clause-order t c =
     λ next. handed_on _ c.from_residual-in_err-above.result _ c.from_residual-in_err-above.ensures.1
-    (λ s read. call_breaks c.args.at _ c.args.callee s _ (state c.args.tokens.now c.args.parser.now) _ (few_there _ _) next c.in_ok-line.ensures.line c.in_err-above.ensures read)
+    (λ s read. call_breaks c.args.at _ c.args.callee s _ (state c.args.tokens.now c.args.parser.now) _ (few_there _ _) next c.in_ok-line.ensures.line c.in_ok-line.ensures.same c.in_err-above.ensures read)
 
 pub suffixes::call-returns-in_err-values-clause-order : goal.suffixes::call-returns-in_err-values-clause-order
 suffixes::call-returns-in_err-values-clause-order t c =
@@ -586,12 +586,12 @@ suffixes::method-returns-in_err-values-clause-order t c =
 pub suffixes::method-returns-in_err-colon-clause-order : goal.suffixes::method-returns-in_err-colon-clause-order
 suffixes::method-returns-in_err-colon-clause-order t c =
     handed_on _ c.from_residual.result _ c.from_residual.ensures.1
-    (λ s read start stands. missing_first _ _ _ _ c.in_err-colon.ensures.misses start (standing.behind_prefix stands read))
+    (λ s read start stands. missing_first _ _ _ _ c.in_err-colon.ensures.misses start (standing.after_prefix stands read))
 
 pub suffixes::method-returns-in_err-named-clause-order : goal.suffixes::method-returns-in_err-named-clause-order
 suffixes::method-returns-in_err-named-clause-order t c =
     handed_on _ c.from_residual-in_err-named.result _ c.from_residual-in_err-named.ensures.1
-    (λ s read start stands. missing_first _ _ _ _ c.in_err-named.ensures.misses start (standing.behind_colon stands read c.in_ok-colon.ensures.takes c.in_ok-above.ensures))
+    (λ s read start stands. missing_first _ _ _ _ c.in_err-named.ensures.misses start (standing.after_colon stands read c.in_ok-colon.ensures.takes c.in_ok-above.ensures))
 
 pub suffixes::arguments-returns-then-at_sign-clause-reads : goal.suffixes::arguments-returns-then-at_sign-clause-reads
 suffixes::arguments-returns-then-at_sign-clause-reads t c =
@@ -673,7 +673,7 @@ pub suffixes::arguments-returns-in_err-take_sign-3-clause-order : goal.suffixes:
 suffixes::arguments-returns-in_err-take_sign-3-clause-order t c =
     let open_ = untested c.at_sign-2.result _ c.if-at_sign-2.false c.at_sign-2.ensures in
     handed_on _ c.from_residual-in_err-take_sign-3.result _ c.from_residual-in_err-take_sign-3.ensures.1
-    (λ start stands. missing_first _ _ _ _ c.in_err-take_sign-3.ensures.misses start (standing.behind_list (standing.as_part (standing.in_args stands c.in_ok-take_sign.ensures.takes open_) c.in_ok-inner.ensures) c.in_ok-values.ensures.reads))
+    (λ start stands. missing_first _ _ _ _ c.in_err-take_sign-3.ensures.misses start (standing.after_list (standing.as_part (standing.in_args stands c.in_ok-take_sign.ensures.takes open_) c.in_ok-inner.ensures) c.in_ok-values.ensures.reads))
 
 pub suffixes::expressions-loop-alloc-init : goal.suffixes::expressions-loop-alloc-init
 suffixes::expressions-loop-alloc-init t c = record {
@@ -717,7 +717,7 @@ suffixes::expressions-returns-in_err-next-clause-order t c =
 pub suffixes::expressions-returns-in_err-take_sign-clause-order : goal.suffixes::expressions-returns-in_err-take_sign-clause-order
 suffixes::expressions-returns-in_err-take_sign-clause-order t c =
     handed_on _ c.from_residual-in_err-take_sign.result _ c.from_residual-in_err-take_sign.ensures.1
-    (λ start stands. missing_first _ _ _ _ c.in_err-take_sign.ensures.misses start (standing.behind_list stands c.loop-alloc.invariant.reads))
+    (λ start stands. missing_first _ _ _ _ c.in_err-take_sign.ensures.misses start (standing.after_list stands c.loop-alloc.invariant.reads))
 
 pub suffixes::table-loop-at-init : goal.suffixes::table-loop-at-init
 suffixes::table-loop-at-init t c = record {
@@ -792,14 +792,14 @@ suffixes::table-returns-in_err-take_separator-clause-order t c =
     let before = c.loop-at.invariant.reads in
     let more = untested c.at_sign.result _ c.loop-at-test.true c.at_sign.ensures in
     handed_on _ c.from_residual-in_err-take_separator.result _ c.from_residual-in_err-take_separator.ensures.1
-    (λ start stands. missing_first _ _ _ _ c.in_err-take_separator.ensures.misses start (standing.behind_field (standing.as_part (standing.in_table stands before.1 before.2 more) c.in_ok-inner.ensures) c.in_ok-item.ensures.reads))
+    (λ start stands. missing_first _ _ _ _ c.in_err-take_separator.ensures.misses start (standing.after_field (standing.as_part (standing.in_table stands before.1 before.2 more) c.in_ok-inner.ensures) c.in_ok-item.ensures.reads))
 
 pub suffixes::table-returns-in_err-take_sign-clause-order : goal.suffixes::table-returns-in_err-take_sign-clause-order
 suffixes::table-returns-in_err-take_sign-clause-order t c =
     let before = c.loop-at.invariant.reads in
     let more = untested c.at_sign.result _ c.loop-at-test.true c.at_sign.ensures in
     handed_on _ c.from_residual-in_err-take_sign.result _ c.from_residual-in_err-take_sign.ensures.1
-    (λ start stands. missing_first _ _ _ _ c.in_err-take_sign.ensures.misses start (standing.behind_field (standing.as_part (standing.in_table stands before.1 before.2 more) c.in_ok-inner.ensures) c.in_ok-item.ensures.reads))
+    (λ start stands. missing_first _ _ _ _ c.in_err-take_sign.ensures.misses start (standing.after_field (standing.as_part (standing.in_table stands before.1 before.2 more) c.in_ok-inner.ensures) c.in_ok-item.ensures.reads))
 
 pub suffixes::field-returns-clause-reads : goal.suffixes::field-returns-clause-reads
 suffixes::field-returns-clause-reads t c =
@@ -868,12 +868,12 @@ suffixes::keyed_field-returns-in_err-take_sign-clause-order t c =
 pub suffixes::keyed_field-returns-in_err-take_sign-2-clause-order : goal.suffixes::keyed_field-returns-in_err-take_sign-2-clause-order
 suffixes::keyed_field-returns-in_err-take_sign-2-clause-order t c =
     handed_on _ c.from_residual-in_err-take_sign-2.result _ c.from_residual-in_err-take_sign-2.ensures.1
-    (λ start stands. missing_first _ _ _ _ c.in_err-take_sign-2.ensures.misses start (standing.behind_exp (standing.field_key stands c.in_ok-take_sign.ensures.takes) c.in_ok-key.ensures.reads))
+    (λ start stands. missing_first _ _ _ _ c.in_err-take_sign-2.ensures.misses start (standing.after_exp (standing.field_key stands c.in_ok-take_sign.ensures.takes) c.in_ok-key.ensures.reads))
 
 pub suffixes::keyed_field-returns-in_err-take_sign-3-clause-order : goal.suffixes::keyed_field-returns-in_err-take_sign-3-clause-order
 suffixes::keyed_field-returns-in_err-take_sign-3-clause-order t c =
     handed_on _ c.from_residual-in_err-take_sign-3.result _ c.from_residual-in_err-take_sign-3.ensures.1
-    (λ start stands. missing_first _ _ _ _ c.in_err-take_sign-3.ensures.misses start (standing.behind_key stands c.in_ok-take_sign.ensures.takes c.in_ok-key.ensures.reads c.in_ok-take_sign-2.ensures.takes))
+    (λ start stands. missing_first _ _ _ _ c.in_err-take_sign-3.ensures.misses start (standing.after_key stands c.in_ok-take_sign.ensures.takes c.in_ok-key.ensures.reads c.in_ok-take_sign-2.ensures.takes))
 
 pub suffixes::named_field-returns-clause-reads : goal.suffixes::named_field-returns-clause-reads
 suffixes::named_field-returns-clause-reads t c =
@@ -940,7 +940,7 @@ statements::arm-returns-in_err-body-clause-order t c =
 pub statements::arm-returns-in_err-take_word-clause-order : goal.statements::arm-returns-in_err-take_word-clause-order
 statements::arm-returns-in_err-take_word-clause-order t c =
     handed_on _ c.from_residual-in_err-take_word.result _ c.from_residual-in_err-take_word.ensures.1
-    (λ start stands. missing_first _ _ _ _ c.in_err-take_word.ensures.misses start (standing.behind_value (standing.arm_test stands) c.in_ok-test.ensures.reads))
+    (λ start stands. missing_first _ _ _ _ c.in_err-take_word.ensures.misses start (standing.after_value (standing.arm_test stands) c.in_ok-test.ensures.reads))
 
 pub statements::arms-loop-alloc-init : goal.statements::arms-loop-alloc-init
 statements::arms-loop-alloc-init t c =
@@ -984,11 +984,11 @@ statements::arms-returns-in_err-next-clause-order t c =
 pub statements::arms-returns-in_err-take_word-clause-order : goal.statements::arms-returns-in_err-take_word-clause-order
 statements::arms-returns-in_err-take_word-clause-order t c =
     handed_on _ c.from_residual-in_err-take_word.result _ c.from_residual-in_err-take_word.ensures.1
-    (λ start stands. missing_first _ _ _ _ c.in_err-take_word.ensures.misses start (standing.behind_arms stands (c.loop-alloc.invariant.reads 1)))
+    (λ start stands. missing_first _ _ _ _ c.in_err-take_word.ensures.misses start (standing.after_arms stands (c.loop-alloc.invariant.reads 1)))
 
 pub statements::assignment-returns-clause-reads : goal.statements::assignment-returns-clause-reads
 statements::assignment-returns-clause-reads t c =
-    on_node _ c.assign_node.ensures (assign_behind _ _ _ _ _ _ _ _ _ _ c.in_ok-targets.ensures.reads c.in_ok-take_sign.ensures.takes c.in_ok-values.ensures.reads)
+    on_node _ c.assign_node.ensures (assign_after _ _ _ _ _ _ _ _ _ _ c.in_ok-targets.ensures.reads c.in_ok-take_sign.ensures.takes c.in_ok-values.ensures.reads)
 
 pub statements::assignment-returns-in_err-take_sign-clause-refuses : goal.statements::assignment-returns-in_err-take_sign-clause-refuses
 statements::assignment-returns-in_err-take_sign-clause-refuses t c =
@@ -1015,7 +1015,7 @@ statements::assignment-returns-in_err-values-clause-order t c =
 pub statements::assignment-returns-in_err-take_sign-clause-order : goal.statements::assignment-returns-in_err-take_sign-clause-order
 statements::assignment-returns-in_err-take_sign-clause-order t c =
     handed_on _ c.from_residual-in_err-take_sign.result _ c.from_residual-in_err-take_sign.ensures.1
-    (λ s read start stands. missing_first _ _ _ _ c.in_err-take_sign.ensures.misses start (standing.behind_targets stands (c.in_ok-targets.ensures.reads c.args.line s read).whole))
+    (λ s read start stands. missing_first _ _ _ _ c.in_err-take_sign.ensures.misses start (standing.after_targets stands (c.in_ok-targets.ensures.reads c.args.line s read).whole))
 
 pub statements::block-loop-statements-init : goal.statements::block-loop-statements-init
 statements::block-loop-statements-init t c =
@@ -1066,8 +1066,8 @@ statements::block-returns-in_err-statement-in_default-clause-order t c =
 pub statements::body-returns-clause-reads : goal.statements::body-returns-clause-reads
 statements::body-returns-clause-reads t c =
     let opens = enters_state c.args.tokens.now c.take_sign-2.new.self c.enter.new.self _ _ _ c.in_ok-begun.ensures.enters in
-    let same = turned c.args.tokens.now c.take_sign-2.new.self c.enter.new.self _ c.in_ok-begun.ensures.place c.in_ok-begun.ensures.line refl in
-    let done = turned c.args.tokens.now c.take_word.new.self c.end.new.self _ c.end.ensures.place c.end.ensures.line refl in
+    let same = turned c.args.tokens.now c.take_sign-2.new.self c.enter.new.self _ c.in_ok-begun.ensures.index c.in_ok-begun.ensures.line refl in
+    let done = turned c.args.tokens.now c.take_word.new.self c.end.new.self _ c.end.ensures.index c.end.ensures.line refl in
     on_ok _ c.end.ensures.ends (λ number ends. body_read _ _ _ _ _ _ _ _ _ _ _ _ _ _ _ _ _ _ _ _ c.in_ok-take_sign.ensures.takes c.in_ok-parameters.ensures.reads c.in_ok-take_sign-2.ensures.takes opens same.left
     c.in_ok-deeper.ensures c.of_function-inner.ensures c.in_ok-block.ensures.reads c.in_ok-take_word.ensures.takes (ends_state c.args.tokens.now c.take_word.new.self c.end.new.self _ _ _ ends) done.left)
 
@@ -1091,7 +1091,7 @@ pub statements::body-returns-in_err-deeper-clause-refuses : goal.statements::bod
 statements::body-returns-in_err-deeper-clause-refuses t c =
     let h : IfErr c.from_residual-in_err-deeper.result (IsTooDeep c.args.at (state c.args.tokens.now c.enter.new.self)) = search rules in
     let opens = enters_state c.args.tokens.now c.take_sign-2.new.self c.enter.new.self _ _ _ c.in_ok-begun.ensures.enters in
-    let same = turned c.args.tokens.now c.take_sign-2.new.self c.enter.new.self _ c.in_ok-begun.ensures.place c.in_ok-begun.ensures.line refl in
+    let same = turned c.args.tokens.now c.take_sign-2.new.self c.enter.new.self _ c.in_ok-begun.ensures.index c.in_ok-begun.ensures.line refl in
     let begins = begins_body _ _ _ _ _ _ _ _ _ _ _ c.in_ok-take_sign.ensures.takes c.in_ok-parameters.ensures.reads c.in_ok-take_sign-2.ensures.takes opens same.left in
     on_err c.from_residual-in_err-deeper.result h (λ fault deep. body_too_deep c.args.at c.args.line c.args.first.items _ fault _ _ begins deep)
 
@@ -1099,7 +1099,7 @@ pub statements::body-returns-in_err-block-clause-refuses : goal.statements::body
 statements::body-returns-in_err-block-clause-refuses t c =
     let h : IfErr c.from_residual-in_err-block.result (RefusesBlock c.of_function-inner.result (state c.args.tokens.now c.enter.new.self) (state c.args.tokens.now c.block.new.parser)) = search rules in
     let opens = enters_state c.args.tokens.now c.take_sign-2.new.self c.enter.new.self _ _ _ c.in_ok-begun.ensures.enters in
-    let same = turned c.args.tokens.now c.take_sign-2.new.self c.enter.new.self _ c.in_ok-begun.ensures.place c.in_ok-begun.ensures.line refl in
+    let same = turned c.args.tokens.now c.take_sign-2.new.self c.enter.new.self _ c.in_ok-begun.ensures.index c.in_ok-begun.ensures.line refl in
     let begins = begins_body _ _ _ _ _ _ _ _ _ _ _ c.in_ok-take_sign.ensures.takes c.in_ok-parameters.ensures.reads c.in_ok-take_sign-2.ensures.takes opens same.left in
     on_err c.from_residual-in_err-block.result h (λ fault refuses.
     body_block_refused c.args.at c.in_ok-deeper.field-0 c.of_function-inner.result c.args.line c.args.first.items _ fault _ _ _ begins c.in_ok-deeper.ensures c.of_function-inner.ensures refuses)
@@ -1108,7 +1108,7 @@ pub statements::body-returns-in_err-take_word-clause-refuses : goal.statements::
 statements::body-returns-in_err-take_word-clause-refuses t c =
     let h : IfErr c.from_residual-in_err-take_word.result (OnAt (Misses (IsKind (Word word.End)) (state c.args.tokens.now c.block.new.parser) (state c.args.tokens.now c.take_word.new.self))) = search rules in
     let opens = enters_state c.args.tokens.now c.take_sign-2.new.self c.enter.new.self _ _ _ c.in_ok-begun.ensures.enters in
-    let same = turned c.args.tokens.now c.take_sign-2.new.self c.enter.new.self _ c.in_ok-begun.ensures.place c.in_ok-begun.ensures.line refl in
+    let same = turned c.args.tokens.now c.take_sign-2.new.self c.enter.new.self _ c.in_ok-begun.ensures.index c.in_ok-begun.ensures.line refl in
     let begins = begins_body _ _ _ _ _ _ _ _ _ _ _ c.in_ok-take_sign.ensures.takes c.in_ok-parameters.ensures.reads c.in_ok-take_sign-2.ensures.takes opens same.left in
     on_err c.from_residual-in_err-take_word.result h (λ fault missed.
     body_unended c.args.at c.of_function-inner.result c.args.line c.args.first.items _ fault _ _ _ _ _ begins c.in_ok-block.ensures.reads missed)
@@ -1124,14 +1124,14 @@ statements::body-returns-in_err-parameters-clause-order t c =
 pub statements::body-returns-in_err-deeper-clause-order : goal.statements::body-returns-in_err-deeper-clause-order
 statements::body-returns-in_err-deeper-clause-order t c =
     let opens = enters_state c.args.tokens.now c.take_sign-2.new.self c.enter.new.self _ _ _ c.in_ok-begun.ensures.enters in
-    let same = turned c.args.tokens.now c.take_sign-2.new.self c.enter.new.self _ c.in_ok-begun.ensures.place c.in_ok-begun.ensures.line refl in
+    let same = turned c.args.tokens.now c.take_sign-2.new.self c.enter.new.self _ c.in_ok-begun.ensures.index c.in_ok-begun.ensures.line refl in
     handed_on _ c.from_residual-in_err-deeper.result _ c.from_residual-in_err-deeper.ensures.1
     (λ start stands. function_breaks _ _ _ _ (few_there _ _) c.in_err-deeper.ensures start (function_stands opens same.left stands c.in_ok-take_sign.ensures.takes c.in_ok-parameters.ensures.reads c.in_ok-take_sign-2.ensures.takes))
 
 pub statements::body-returns-in_err-block-clause-order : goal.statements::body-returns-in_err-block-clause-order
 statements::body-returns-in_err-block-clause-order t c =
     let opens = enters_state c.args.tokens.now c.take_sign-2.new.self c.enter.new.self _ _ _ c.in_ok-begun.ensures.enters in
-    let same = turned c.args.tokens.now c.take_sign-2.new.self c.enter.new.self _ c.in_ok-begun.ensures.place c.in_ok-begun.ensures.line refl in
+    let same = turned c.args.tokens.now c.take_sign-2.new.self c.enter.new.self _ c.in_ok-begun.ensures.index c.in_ok-begun.ensures.line refl in
     handed_on _ c.from_residual-in_err-block.result _ c.from_residual-in_err-block.ensures.1
     (λ start stands. c.in_err-block.ensures.order start (standing.its_block (function_stands opens same.left stands c.in_ok-take_sign.ensures.takes c.in_ok-parameters.ensures.reads c.in_ok-take_sign-2.ensures.takes) c.in_ok-deeper.ensures c.of_function-inner.ensures))
 
@@ -1143,14 +1143,14 @@ statements::body-returns-in_err-take_sign-clause-order t c =
 pub statements::body-returns-in_err-take_sign-2-clause-order : goal.statements::body-returns-in_err-take_sign-2-clause-order
 statements::body-returns-in_err-take_sign-2-clause-order t c =
     handed_on _ c.from_residual-in_err-take_sign-2.result _ c.from_residual-in_err-take_sign-2.ensures.1
-    (λ start stands. missing_first _ _ _ _ c.in_err-take_sign-2.ensures.misses start (standing.behind_parameters (standing.of_parameters stands c.in_ok-take_sign.ensures.takes) c.in_ok-parameters.ensures.reads))
+    (λ start stands. missing_first _ _ _ _ c.in_err-take_sign-2.ensures.misses start (standing.after_parameters (standing.of_parameters stands c.in_ok-take_sign.ensures.takes) c.in_ok-parameters.ensures.reads))
 
 pub statements::body-returns-in_err-take_word-clause-order : goal.statements::body-returns-in_err-take_word-clause-order
 statements::body-returns-in_err-take_word-clause-order t c =
     let opens = enters_state c.args.tokens.now c.take_sign-2.new.self c.enter.new.self _ _ _ c.in_ok-begun.ensures.enters in
-    let same = turned c.args.tokens.now c.take_sign-2.new.self c.enter.new.self _ c.in_ok-begun.ensures.place c.in_ok-begun.ensures.line refl in
+    let same = turned c.args.tokens.now c.take_sign-2.new.self c.enter.new.self _ c.in_ok-begun.ensures.index c.in_ok-begun.ensures.line refl in
     handed_on _ c.from_residual-in_err-take_word.result _ c.from_residual-in_err-take_word.ensures.1
-    (λ start stands. missing_first _ _ _ _ c.in_err-take_word.ensures.misses start (standing.behind_block (standing.its_block (function_stands opens same.left stands c.in_ok-take_sign.ensures.takes c.in_ok-parameters.ensures.reads c.in_ok-take_sign-2.ensures.takes) c.in_ok-deeper.ensures c.of_function-inner.ensures) c.in_ok-block.ensures.reads))
+    (λ start stands. missing_first _ _ _ _ c.in_err-take_word.ensures.misses start (standing.after_block (standing.its_block (function_stands opens same.left stands c.in_ok-take_sign.ensures.takes c.in_ok-parameters.ensures.reads c.in_ok-take_sign-2.ensures.takes) c.in_ok-deeper.ensures c.of_function-inner.ensures) c.in_ok-block.ensures.reads))
 
 pub statements::do_block-returns-clause-reads : goal.statements::do_block-returns-clause-reads
 statements::do_block-returns-clause-reads t c =
@@ -1187,7 +1187,7 @@ statements::do_block-returns-in_err-line-clause-order t c =
 pub statements::do_block-returns-in_err-take_word-clause-order : goal.statements::do_block-returns-in_err-take_word-clause-order
 statements::do_block-returns-in_err-take_word-clause-order t c =
     handed_on _ c.from_residual-in_err-take_word.result _ c.from_residual-in_err-take_word.ensures.1
-    (λ start stands. missing_first _ _ _ _ c.in_err-take_word.ensures.misses start (standing.behind_inner_block (standing.do_block stands c.in_ok-line.ensures.takes) c.in_ok-body.ensures.reads))
+    (λ start stands. missing_first _ _ _ _ c.in_err-take_word.ensures.misses start (standing.after_inner_block (standing.do_block stands c.in_ok-line.ensures.takes) c.in_ok-body.ensures.reads))
 
 pub loops::for_loop-returns-clause-reads : goal.loops::for_loop-returns-clause-reads
 loops::for_loop-returns-clause-reads t c =
@@ -1224,14 +1224,14 @@ loops::for_loop-returns-in_err-names-clause-order t c =
 pub loops::for_loop-returns-then-at_sign-clause-order : goal.loops::for_loop-returns-then-at_sign-clause-order
 loops::for_loop-returns-then-at_sign-clause-order t c =
     let many : c.in_scope-count.result + length c.in_ok-names.names.items ≤ 200 = search (rules, arith) in
-    let few = few_behind c.in_scope-count.result _ _ _ _ (slot_state c.args.tokens.now c.take_word.new.self _ c.in_scope-count.ensures.value) c.in_ok-names.ensures.reads many in
-    on_err c.range_loop.result (c.range_loop.ensures.order few) (λ fault breaks start stands. breaks start (standing.behind_names stands c.in_ok-line.ensures.takes c.in_ok-names.ensures.reads few))
+    let few = few_after c.in_scope-count.result _ _ _ _ (slot_state c.args.tokens.now c.take_word.new.self _ c.in_scope-count.ensures.value) c.in_ok-names.ensures.reads many in
+    on_err c.range_loop.result (c.range_loop.ensures.order few) (λ fault breaks start stands. breaks start (standing.after_names stands c.in_ok-line.ensures.takes c.in_ok-names.ensures.reads few))
 
 pub loops::for_loop-returns-clause-order : goal.loops::for_loop-returns-clause-order
 loops::for_loop-returns-clause-order t c =
     let many : c.in_scope-count.result + length c.in_ok-names.names.items ≤ 200 = search (rules, arith) in
-    let few = few_behind c.in_scope-count.result _ _ _ _ (slot_state c.args.tokens.now c.take_word.new.self _ c.in_scope-count.ensures.value) c.in_ok-names.ensures.reads many in
-    on_err c.list_loop.result (c.list_loop.ensures.order few) (λ fault breaks start stands. breaks start (standing.behind_names stands c.in_ok-line.ensures.takes c.in_ok-names.ensures.reads few))
+    let few = few_after c.in_scope-count.result _ _ _ _ (slot_state c.args.tokens.now c.take_word.new.self _ c.in_scope-count.ensures.value) c.in_ok-names.ensures.reads many in
+    on_err c.list_loop.result (c.list_loop.ensures.order few) (λ fault breaks start stands. breaks start (standing.after_names stands c.in_ok-line.ensures.takes c.in_ok-names.ensures.reads few))
 
 pub loops::for_loop-returns-in_err-line-clause-order : goal.loops::for_loop-returns-in_err-line-clause-order
 loops::for_loop-returns-in_err-line-clause-order t c =
@@ -1277,12 +1277,12 @@ statements::function_statement-returns-in_err-name-clause-order t c =
 
 pub statements::function_statement-returns-then-at_sign-clause-order : goal.statements::function_statement-returns-then-at_sign-clause-order
 statements::function_statement-returns-then-at_sign-clause-order t c =
-    on_err c.method_statement.result c.method_statement.ensures.order (λ fault breaks start stands. breaks start (standing.behind_name stands c.in_ok-line.ensures.takes c.in_ok-name.ensures.reads))
+    on_err c.method_statement.result c.method_statement.ensures.order (λ fault breaks start stands. breaks start (standing.after_name stands c.in_ok-line.ensures.takes c.in_ok-name.ensures.reads))
 
 pub statements::function_statement-returns-in_err-number-clause-order : goal.statements::function_statement-returns-in_err-number-clause-order
 statements::function_statement-returns-in_err-number-clause-order t c =
     handed_on _ c.from_residual-in_err-number.result _ c.from_residual-in_err-number.ensures.1
-    (λ start stands. c.in_err-number.ensures.order start (subst (λ first. standing.Stands start (standing.body c.args.at first) (state c.args.tokens.now c.function_name.new.self)) (sym c.new.ensures.items) (standing.named_body (standing.behind_name stands c.in_ok-line.ensures.takes c.in_ok-name.ensures.reads))))
+    (λ start stands. c.in_err-number.ensures.order start (subst (λ first. standing.Stands start (standing.body c.args.at first) (state c.args.tokens.now c.function_name.new.self)) (sym c.new.ensures.items) (standing.named_body (standing.after_name stands c.in_ok-line.ensures.takes c.in_ok-name.ensures.reads))))
 
 pub statements::function_statement-returns-in_err-line-clause-order : goal.statements::function_statement-returns-in_err-line-clause-order
 statements::function_statement-returns-in_err-line-clause-order t c =
@@ -1346,17 +1346,17 @@ statements::if_statement-returns-in_err-line-clause-order t c =
 pub statements::if_statement-returns-in_err-take_word-clause-order : goal.statements::if_statement-returns-in_err-take_word-clause-order
 statements::if_statement-returns-in_err-take_word-clause-order t c =
     handed_on _ c.from_residual-in_err-take_word.result _ c.from_residual-in_err-take_word.ensures.1
-    (λ start stands. missing_first _ _ _ _ c.in_err-take_word.ensures.misses start (standing.behind_arms (standing.if_arms stands c.in_ok-line.ensures.takes) (c.in_ok-arms.ensures.reads 1)))
+    (λ start stands. missing_first _ _ _ _ c.in_err-take_word.ensures.misses start (standing.after_arms (standing.if_arms stands c.in_ok-line.ensures.takes) (c.in_ok-arms.ensures.reads 1)))
 
 pub statements::if_statement-returns-in_err-take_word-3-clause-order : goal.statements::if_statement-returns-in_err-take_word-3-clause-order
 statements::if_statement-returns-in_err-take_word-3-clause-order t c =
     handed_on _ c.from_residual-in_err-take_word-3.result _ c.from_residual-in_err-take_word-3.ensures.1
-    (λ start stands. missing_first _ _ _ _ c.in_err-take_word-3.ensures.misses start (standing.behind_arms (standing.if_arms stands c.in_ok-line.ensures.takes) (c.in_ok-arms.ensures.reads 1)))
+    (λ start stands. missing_first _ _ _ _ c.in_err-take_word-3.ensures.misses start (standing.after_arms (standing.if_arms stands c.in_ok-line.ensures.takes) (c.in_ok-arms.ensures.reads 1)))
 
 pub statements::if_statement-returns-in_err-take_word-2-clause-order : goal.statements::if_statement-returns-in_err-take_word-2-clause-order
 statements::if_statement-returns-in_err-take_word-2-clause-order t c =
     handed_on _ c.from_residual-in_err-take_word-2.result _ c.from_residual-in_err-take_word-2.ensures.1
-    (λ start stands. missing_first _ _ _ _ c.in_err-take_word-2.ensures.misses start (standing.behind_inner_block (standing.else_block stands c.in_ok-line.ensures.takes c.in_ok-arms.ensures.reads c.in_ok-take_word.ensures.takes) c.in_ok-otherwise.ensures.reads))
+    (λ start stands. missing_first _ _ _ _ c.in_err-take_word-2.ensures.misses start (standing.after_inner_block (standing.else_block stands c.in_ok-line.ensures.takes c.in_ok-arms.ensures.reads c.in_ok-take_word.ensures.takes) c.in_ok-otherwise.ensures.reads))
 
 pub statements::initial-returns-clause-reads : goal.statements::initial-returns-clause-reads
 statements::initial-returns-clause-reads t c =
@@ -1457,7 +1457,7 @@ loops::list_loop-returns-in_err-take_word-clause-order t c =
 
 pub statements::local_function-returns-clause-reads : goal.statements::local_function-returns-clause-reads
 statements::local_function-returns-clause-reads t c =
-    local_function_read _ _ _ _ _ _ _ _ _ _ _ _ _ c.in_ok-begins.ensures.takes c.in_ok-named.ensures.takes (declared c.args.tokens.now c.take_name.new.self c.local.new.self _ c.in_ok-slot.ensures.scope c.in_ok-slot.ensures.place c.in_ok-slot.ensures.line)
+    local_function_read _ _ _ _ _ _ _ _ _ _ _ _ _ c.in_ok-begins.ensures.takes c.in_ok-named.ensures.takes (declared c.args.tokens.now c.take_name.new.self c.local.new.self _ c.in_ok-slot.ensures.scope c.in_ok-slot.ensures.index c.in_ok-slot.ensures.line)
     (rw c.new.ensures.items at c.in_ok-number.ensures.reads) (slot_state c.args.tokens.now c.take_name.new.self _ c.in_ok-slot.ensures.slot) refl
 
 pub statements::local_function-returns-in_err-begins-clause-refuses : goal.statements::local_function-returns-in_err-begins-clause-refuses
@@ -1473,25 +1473,25 @@ statements::local_function-returns-in_err-named-clause-refuses t c = λ next.
 pub statements::local_function-returns-in_err-slot-clause-refuses : goal.statements::local_function-returns-in_err-slot-clause-refuses
 statements::local_function-returns-in_err-slot-clause-refuses t c = λ next.
     let h : IfErr c.from_residual-in_err-slot.result (OnLocals (200 ≤ in_scope (scope_of c.take_name.new.self))) = search rules in
-    let same = turned c.args.tokens.now c.take_name.new.self c.local.new.self _ c.local.ensures.place c.local.ensures.line refl in
+    let same = turned c.args.tokens.now c.take_name.new.self c.local.new.self _ c.local.ensures.index c.local.ensures.line refl in
     on_err c.from_residual-in_err-slot.result h (λ fault many.
     local_function_crowded c.args.at fault _ _ (state c.args.tokens.now c.take_name.new.self) _ _ _ c.in_ok-named.named.name c.in_ok-begins.ensures.takes c.in_ok-named.ensures.takes same.left (locals_state c.args.tokens.now c.take_name.new.self fault many))
 
 pub statements::local_function-returns-in_err-number-clause-refuses : goal.statements::local_function-returns-in_err-number-clause-refuses
 statements::local_function-returns-in_err-number-clause-refuses t c = λ next.
     let h : IfErr c.from_residual-in_err-number.result (RefusesBody c.args.at c.in_ok-begins.begins c.new.result.items (state c.args.tokens.now c.local.new.self) (state c.args.tokens.now c.body.new.parser)) = search rules in
-    let turn = declared c.args.tokens.now c.take_name.new.self c.local.new.self _ c.in_ok-slot.ensures.scope c.in_ok-slot.ensures.place c.in_ok-slot.ensures.line in
+    let turn = declared c.args.tokens.now c.take_name.new.self c.local.new.self _ c.in_ok-slot.ensures.scope c.in_ok-slot.ensures.index c.in_ok-slot.ensures.line in
     on_err c.from_residual-in_err-number.result h (λ fault refuses.
     local_body_refused c.args.at c.new.result.items fault _ _ _ _ _ _ _ c.in_ok-named.named.name c.in_ok-begins.ensures.takes c.in_ok-named.ensures.takes turn c.new.ensures.items refuses)
 
 pub statements::local_function-returns-in_err-slot-clause-order : goal.statements::local_function-returns-in_err-slot-clause-order
 statements::local_function-returns-in_err-slot-clause-order t c =
     handed_on _ c.from_residual-in_err-slot.result _ c.from_residual-in_err-slot.ensures.1
-    (λ start stands. local_there c.args.tokens.now (state c.args.tokens.now c.local.new.self) c.take_word.new.self c.take_name.new.self _ _ _ (few_there _ _) c.in_err-slot.ensures.crowded c.in_err-slot.ensures.told c.in_ok-named.ensures.takes start (standing.local_name stands c.in_ok-begins.ensures.takes))
+    (λ start stands. local_there c.args.tokens.now (state c.args.tokens.now c.local.new.self) c.take_word.new.self c.take_name.new.self _ _ _ (few_there _ _) c.in_err-slot.ensures.crowded c.in_err-slot.ensures.reported c.in_ok-named.ensures.takes start (standing.local_name stands c.in_ok-begins.ensures.takes))
 
 pub statements::local_function-returns-in_err-number-clause-order : goal.statements::local_function-returns-in_err-number-clause-order
 statements::local_function-returns-in_err-number-clause-order t c =
-    let turn = declared c.args.tokens.now c.take_name.new.self c.local.new.self _ c.in_ok-slot.ensures.scope c.in_ok-slot.ensures.place c.in_ok-slot.ensures.line in
+    let turn = declared c.args.tokens.now c.take_name.new.self c.local.new.self _ c.in_ok-slot.ensures.scope c.in_ok-slot.ensures.index c.in_ok-slot.ensures.line in
     handed_on _ c.from_residual-in_err-number.result _ c.from_residual-in_err-number.ensures.1
     (λ start stands. c.in_err-number.ensures.order start (subst (λ first. standing.Stands start (standing.body c.args.at first) (state c.args.tokens.now c.local.new.self)) (sym c.new.ensures.items) (standing.local_body stands c.in_ok-begins.ensures.takes c.in_ok-named.ensures.takes (record { left = turn.left; scope = turn.scope }))))
 
@@ -1508,7 +1508,7 @@ statements::local_function-returns-in_err-named-clause-order t c =
 pub statements::local_names-returns-clause-reads : goal.statements::local_names-returns-clause-reads
 statements::local_names-returns-clause-reads t c =
     on_node _ c.local_node.ensures (λ out is. local_read _ _ _ _ _ _ _ _ _ _ c.in_ok-names.ensures.reads c.in_ok-values.ensures.reads
-    (declared c.args.tokens.now c.initial.new.parser c.declare.new.self _ c.in_ok-slots.ensures.scope c.in_ok-slots.ensures.place c.in_ok-slots.ensures.line) (slots_state c.args.tokens.now c.initial.new.parser _ _ c.in_ok-slots.ensures.slots) is
+    (declared c.args.tokens.now c.initial.new.parser c.declare.new.self _ c.in_ok-slots.ensures.scope c.in_ok-slots.ensures.index c.in_ok-slots.ensures.line) (slots_state c.args.tokens.now c.initial.new.parser _ _ c.in_ok-slots.ensures.slots) is
     c.in_ok-names.ensures.stops c.in_ok-values.ensures.missing)
 
 pub statements::local_names-returns-in_err-names-clause-refuses : goal.statements::local_names-returns-in_err-names-clause-refuses
@@ -1542,7 +1542,7 @@ statements::local_names-returns-in_err-names-clause-order t c =
 pub statements::local_names-returns-in_err-values-clause-order : goal.statements::local_names-returns-in_err-values-clause-order
 statements::local_names-returns-in_err-values-clause-order t c =
     let many : c.in_scope-count.result + length c.in_ok-names.names.items ≤ 200 = search (rules, arith) in
-    let few = few_behind c.in_scope-count.result _ _ _ _ (slot_state c.args.tokens.now c.args.parser.now _ c.in_scope-count.ensures.value) c.in_ok-names.ensures.reads many in
+    let few = few_after c.in_scope-count.result _ _ _ _ (slot_state c.args.tokens.now c.args.parser.now _ c.in_scope-count.ensures.value) c.in_ok-names.ensures.reads many in
     handed_on _ c.from_residual-in_err-values.result _ c.from_residual-in_err-values.ensures.1
     (λ start stands. c.in_err-values.ensures.order start (standing.local_values stands c.in_ok-names.ensures.reads few))
 
@@ -1577,11 +1577,11 @@ statements::local_statement-returns-clause-refuses t c = λ next.
 
 pub statements::local_statement-returns-then-at_word-clause-order : goal.statements::local_statement-returns-then-at_word-clause-order
 statements::local_statement-returns-then-at_word-clause-order t c =
-    on_err c.local_function.result c.local_function.ensures.order (λ fault breaks start stands. breaks start (standing.behind_local stands c.in_ok-line.ensures.takes))
+    on_err c.local_function.result c.local_function.ensures.order (λ fault breaks start stands. breaks start (standing.after_local stands c.in_ok-line.ensures.takes))
 
 pub statements::local_statement-returns-clause-order : goal.statements::local_statement-returns-clause-order
 statements::local_statement-returns-clause-order t c =
-    on_err c.local_names.result c.local_names.ensures.order (λ fault breaks start stands. breaks start (standing.behind_local stands c.in_ok-line.ensures.takes))
+    on_err c.local_names.result c.local_names.ensures.order (λ fault breaks start stands. breaks start (standing.after_local stands c.in_ok-line.ensures.takes))
 
 pub statements::local_statement-returns-in_err-line-clause-order : goal.statements::local_statement-returns-in_err-line-clause-order
 statements::local_statement-returns-in_err-line-clause-order t c =
@@ -1590,9 +1590,9 @@ statements::local_statement-returns-in_err-line-clause-order t c =
 
 pub loops::loop_block-returns-clause-reads : goal.loops::loop_block-returns-clause-reads
 loops::loop_block-returns-clause-reads t c =
-    loop_read _ _ _ _ _ _ _ _ _ _ _ _ _ c.in_ok-take_word.ensures.takes (declared c.args.tokens.now c.take_word.new.self c.declare.new.self _ c.in_ok-slots.ensures.scope c.in_ok-slots.ensures.place c.in_ok-slots.ensures.line)
+    loop_read _ _ _ _ _ _ _ _ _ _ _ _ _ c.in_ok-take_word.ensures.takes (declared c.args.tokens.now c.take_word.new.self c.declare.new.self _ c.in_ok-slots.ensures.scope c.in_ok-slots.ensures.index c.in_ok-slots.ensures.line)
     (slots_state c.args.tokens.now c.take_word.new.self _ _ c.in_ok-slots.ensures.slots) c.looped.ensures c.in_ok-inner.ensures c.in_ok-body.ensures.reads
-    (left_since c.args.tokens.now c.take_word.new.self c.block.new.parser c.leave.new.self c.in_scope-count.result c.in_scope-count.ensures.value c.leave.ensures.scope c.leave.ensures.place c.leave.ensures.line) c.in_ok-take_word-2.ensures.takes
+    (left_since c.args.tokens.now c.take_word.new.self c.block.new.parser c.leave.new.self c.in_scope-count.result c.in_scope-count.ensures.value c.leave.ensures.scope c.leave.ensures.index c.leave.ensures.line) c.in_ok-take_word-2.ensures.takes
 
 pub loops::loop_block-returns-in_err-take_word-clause-refuses : goal.loops::loop_block-returns-in_err-take_word-clause-refuses
 loops::loop_block-returns-in_err-take_word-clause-refuses t c =
@@ -1604,29 +1604,29 @@ loops::loop_block-returns-in_err-slots-clause-refuses t c =
     let h : IfErr c.from_residual-in_err-slots.result (OnLocals (200 < in_scope (scope_of c.take_word.new.self) + length c.args.names.items)) = search rules in
     on_err c.from_residual-in_err-slots.result h (λ fault crowded.
     loop_crowded c.args.at c.args.names.items _ fault _ _ _ _ _ (innermost c.args.tokens.now c.args.parser.now) c.in_ok-take_word.ensures.takes
-    (unread c.args.tokens.now c.take_word.new.self c.declare.new.self c.in_err-slots.ensures.place) (crowded_there c.args.tokens.now c.take_word.new.self _ fault crowded))
+    (unread c.args.tokens.now c.take_word.new.self c.declare.new.self c.in_err-slots.ensures.index) (crowded_there c.args.tokens.now c.take_word.new.self _ fault crowded))
 
 pub loops::loop_block-returns-in_err-inner-clause-refuses : goal.loops::loop_block-returns-in_err-inner-clause-refuses
 loops::loop_block-returns-in_err-inner-clause-refuses t c =
     let h : IfErr c.from_residual-in_err-inner.result (IsTooDeep c.looped.result (state c.args.tokens.now c.declare.new.self)) = search rules in
     on_err c.from_residual-in_err-inner.result h (λ fault deep.
     loop_too_deep c.args.at c.looped.result c.args.names.items _ fault _ _ _ c.in_ok-take_word.ensures.takes
-    (unread c.args.tokens.now c.take_word.new.self c.declare.new.self c.in_ok-slots.ensures.place) c.looped.ensures deep)
+    (unread c.args.tokens.now c.take_word.new.self c.declare.new.self c.in_ok-slots.ensures.index) c.looped.ensures deep)
 
 pub loops::loop_block-returns-in_err-body-clause-refuses : goal.loops::loop_block-returns-in_err-body-clause-refuses
 loops::loop_block-returns-in_err-body-clause-refuses t c =
     let h : IfErr c.from_residual-in_err-body.result (RefusesBlock c.in_ok-inner.inner (state c.args.tokens.now c.declare.new.self) (state c.args.tokens.now c.block.new.parser)) = search rules in
     on_err c.from_residual-in_err-body.result h (λ fault refuses.
     loop_refused c.args.at c.looped.result c.in_ok-inner.inner c.args.names.items _ fault _ _ _ _ c.in_ok-take_word.ensures.takes
-    (declared c.args.tokens.now c.take_word.new.self c.declare.new.self _ c.in_ok-slots.ensures.scope c.in_ok-slots.ensures.place c.in_ok-slots.ensures.line) c.looped.ensures c.in_ok-inner.ensures refuses)
+    (declared c.args.tokens.now c.take_word.new.self c.declare.new.self _ c.in_ok-slots.ensures.scope c.in_ok-slots.ensures.index c.in_ok-slots.ensures.line) c.looped.ensures c.in_ok-inner.ensures refuses)
 
 pub loops::loop_block-returns-in_err-take_word-2-clause-refuses : goal.loops::loop_block-returns-in_err-take_word-2-clause-refuses
 loops::loop_block-returns-in_err-take_word-2-clause-refuses t c =
     let h : IfErr c.from_residual-in_err-take_word-2.result (OnAt (Misses (IsKind (Word word.End)) (state c.args.tokens.now c.leave.new.self) (state c.args.tokens.now c.take_word-2.new.self))) = search rules in
     on_err c.from_residual-in_err-take_word-2.result h (λ fault missing.
     loop_without_end c.args.at c.in_ok-inner.inner c.args.names.items _ fault _ _ _ _ _ _ _ c.in_ok-take_word.ensures.takes
-    (unread c.args.tokens.now c.take_word.new.self c.declare.new.self c.in_ok-slots.ensures.place) c.in_ok-body.ensures.reads
-    (unread c.args.tokens.now c.block.new.parser c.leave.new.self c.leave.ensures.place) missing)
+    (unread c.args.tokens.now c.take_word.new.self c.declare.new.self c.in_ok-slots.ensures.index) c.in_ok-body.ensures.reads
+    (unread c.args.tokens.now c.block.new.parser c.leave.new.self c.leave.ensures.index) missing)
 
 pub loops::loop_block-returns-in_err-slots-clause-order : goal.loops::loop_block-returns-in_err-slots-clause-order
 loops::loop_block-returns-in_err-slots-clause-order t c =
@@ -1635,13 +1635,13 @@ loops::loop_block-returns-in_err-slots-clause-order t c =
 
 pub loops::loop_block-returns-in_err-inner-clause-order : goal.loops::loop_block-returns-in_err-inner-clause-order
 loops::loop_block-returns-in_err-inner-clause-order t c =
-    λ few. let turn = declared c.args.tokens.now c.take_word.new.self c.declare.new.self _ c.in_ok-slots.ensures.scope c.in_ok-slots.ensures.place c.in_ok-slots.ensures.line in
+    λ few. let turn = declared c.args.tokens.now c.take_word.new.self c.declare.new.self _ c.in_ok-slots.ensures.scope c.in_ok-slots.ensures.index c.in_ok-slots.ensures.line in
     handed_on _ c.from_residual-in_err-inner.result _ c.from_residual-in_err-inner.ensures.1
     (λ start stands. deep_breaks _ _ _ _ (few_there _ _) c.in_err-inner.ensures start (standing.loop_block stands c.in_ok-take_word.ensures.takes (record { left = turn.left; scope = turn.scope }) c.looped.ensures))
 
 pub loops::loop_block-returns-in_err-body-clause-order : goal.loops::loop_block-returns-in_err-body-clause-order
 loops::loop_block-returns-in_err-body-clause-order t c =
-    λ few. let turn = declared c.args.tokens.now c.take_word.new.self c.declare.new.self _ c.in_ok-slots.ensures.scope c.in_ok-slots.ensures.place c.in_ok-slots.ensures.line in
+    λ few. let turn = declared c.args.tokens.now c.take_word.new.self c.declare.new.self _ c.in_ok-slots.ensures.scope c.in_ok-slots.ensures.index c.in_ok-slots.ensures.line in
     handed_on _ c.from_residual-in_err-body.result _ c.from_residual-in_err-body.ensures.1
     (λ start stands. c.in_err-body.ensures.order start (standing.inside (standing.loop_block stands c.in_ok-take_word.ensures.takes (record { left = turn.left; scope = turn.scope }) c.looped.ensures) c.in_ok-inner.ensures))
 
@@ -1652,10 +1652,10 @@ loops::loop_block-returns-in_err-take_word-clause-order t c =
 
 pub loops::loop_block-returns-in_err-take_word-2-clause-order : goal.loops::loop_block-returns-in_err-take_word-2-clause-order
 loops::loop_block-returns-in_err-take_word-2-clause-order t c =
-    λ few. let turn = declared c.args.tokens.now c.take_word.new.self c.declare.new.self _ c.in_ok-slots.ensures.scope c.in_ok-slots.ensures.place c.in_ok-slots.ensures.line in
-    let left = left_since c.args.tokens.now c.take_word.new.self c.block.new.parser c.leave.new.self c.in_scope-count.result c.in_scope-count.ensures.value c.leave.ensures.scope c.leave.ensures.place c.leave.ensures.line in
+    λ few. let turn = declared c.args.tokens.now c.take_word.new.self c.declare.new.self _ c.in_ok-slots.ensures.scope c.in_ok-slots.ensures.index c.in_ok-slots.ensures.line in
+    let left = left_since c.args.tokens.now c.take_word.new.self c.block.new.parser c.leave.new.self c.in_scope-count.result c.in_scope-count.ensures.value c.leave.ensures.scope c.leave.ensures.index c.leave.ensures.line in
     handed_on _ c.from_residual-in_err-take_word-2.result _ c.from_residual-in_err-take_word-2.ensures.1
-    (λ start stands. missing_first _ _ _ _ c.in_err-take_word-2.ensures.misses start (standing.behind_loop (state c.args.tokens.now c.take_word.new.self).scope (standing.behind_block (standing.inside (standing.loop_block stands c.in_ok-take_word.ensures.takes (record { left = turn.left; scope = turn.scope }) c.looped.ensures) c.in_ok-inner.ensures) c.in_ok-body.ensures.reads) left.left left.scope))
+    (λ start stands. missing_first _ _ _ _ c.in_err-take_word-2.ensures.misses start (standing.after_loop (state c.args.tokens.now c.take_word.new.self).scope (standing.after_block (standing.inside (standing.loop_block stands c.in_ok-take_word.ensures.takes (record { left = turn.left; scope = turn.scope }) c.looped.ensures) c.in_ok-inner.ensures) c.in_ok-body.ensures.reads) left.left left.scope))
 
 pub statements::method_statement-returns-clause-reads : goal.statements::method_statement-returns-clause-reads
 statements::method_statement-returns-clause-reads t c =
@@ -1739,7 +1739,7 @@ statements::prefix_statement-returns-in_err-line-clause-order t c =
 
 pub statements::prefix_statement-returns-in-Paren-clause-order : goal.statements::prefix_statement-returns-in-Paren-clause-order
 statements::prefix_statement-returns-in-Paren-clause-order t c =
-    subst (FirstFault (standing.statement c.args.at) (state c.args.tokens.now c.args.parser.now) (state c.args.tokens.now c.prefix.new.parser)) (sym c.unfit.ensures) (λ start stands. standing.behind_prefix (standing.first_prefix stands c.fresh.ensures) c.in_ok-expr.ensures.reads)
+    subst (FirstFault (standing.statement c.args.at) (state c.args.tokens.now c.args.parser.now) (state c.args.tokens.now c.prefix.new.parser)) (sym c.unfit.ensures) (λ start stands. standing.after_prefix (standing.first_prefix stands c.fresh.ensures) c.in_ok-expr.ensures.reads)
 
 pub loops::range_loop-returns-clause-reads : goal.loops::range_loop-returns-clause-reads
 loops::range_loop-returns-clause-reads t c =
@@ -1812,7 +1812,8 @@ pub loops::range_loop-returns-in_err-block-clause-order : goal.loops::range_loop
 loops::range_loop-returns-in_err-block-clause-order t c =
     λ few. let one : length c.args.names.items ≡ 1 = search rules in
     handed_on _ c.from_residual-in_err-block.result _ c.from_residual-in_err-block.ensures.1
-    (λ start stands. c.in_err-block.ensures.order (few_in_range c.args.at _ _ _ _ _ _ _ _ _ _ _ _ _ c.in_ok-step.step few c.in_ok-take_sign.ensures.takes c.in_ok-from.ensures.reads c.in_ok-take_sign-2.ensures.takes c.in_ok-to.ensures.reads c.in_ok-step.ensures.reads) start (standing.for_range c.in_ok-step.step stands one c.in_ok-take_sign.ensures.takes c.in_ok-from.ensures.reads c.in_ok-take_sign-2.ensures.takes c.in_ok-to.ensures.reads c.in_ok-step.ensures.reads))
+    (λ start stands. c.in_err-block.ensures.order (few_in_range c.args.at _ _ _ _ _ _ _ _ _ _ _ _ _ c.in_ok-step.step few c.in_ok-take_sign.ensures.takes c.in_ok-from.ensures.reads c.in_ok-take_sign-2.ensures.takes c.in_ok-to.ensures.reads c.in_ok-step.ensures.reads) start
+    (standing.for_range c.in_ok-step.step stands one c.in_ok-take_sign.ensures.takes c.in_ok-from.ensures.reads c.in_ok-take_sign-2.ensures.takes c.in_ok-to.ensures.reads c.in_ok-step.ensures.reads))
 
 pub loops::range_loop-returns-in_err-take_sign-clause-order : goal.loops::range_loop-returns-in_err-take_sign-clause-order
 loops::range_loop-returns-in_err-take_sign-clause-order t c =
@@ -1823,7 +1824,7 @@ pub loops::range_loop-returns-in_err-take_sign-2-clause-order : goal.loops::rang
 loops::range_loop-returns-in_err-take_sign-2-clause-order t c =
     λ few. let one : length c.args.names.items ≡ 1 = search rules in
     handed_on _ c.from_residual-in_err-take_sign-2.result _ c.from_residual-in_err-take_sign-2.ensures.1
-    (λ start stands. missing_first _ _ _ _ c.in_err-take_sign-2.ensures.misses start (standing.behind_value (standing.for_first stands one c.in_ok-take_sign.ensures.takes) c.in_ok-from.ensures.reads))
+    (λ start stands. missing_first _ _ _ _ c.in_err-take_sign-2.ensures.misses start (standing.after_value (standing.for_first stands one c.in_ok-take_sign.ensures.takes) c.in_ok-from.ensures.reads))
 
 pub loops::range_loop-returns-then-len-ne1-clause-order : goal.loops::range_loop-returns-then-len-ne1-clause-order
 loops::range_loop-returns-then-len-ne1-clause-order t c =
@@ -1832,7 +1833,7 @@ loops::range_loop-returns-then-len-ne1-clause-order t c =
 pub loops::repeat_loop-returns-clause-reads : goal.loops::repeat_loop-returns-clause-reads
 loops::repeat_loop-returns-clause-reads t c =
     on_node _ c.repeat_node.ensures (λ out is. repeat_read _ _ _ _ _ _ _ _ _ _ _ _ _ _ c.in_ok-line.ensures.takes c.looped.ensures c.in_ok-inner.ensures c.in_ok-body.ensures.reads c.in_ok-take_word.ensures.takes c.in_ok-test.ensures.reads
-    (left_since c.args.tokens.now c.take_word.new.self c.value.new.parser c.leave.new.self c.in_scope-count.result c.in_scope-count.ensures.value c.leave.ensures.scope c.leave.ensures.place c.leave.ensures.line) is)
+    (left_since c.args.tokens.now c.take_word.new.self c.value.new.parser c.leave.new.self c.in_scope-count.result c.in_scope-count.ensures.value c.leave.ensures.scope c.leave.ensures.index c.leave.ensures.line) is)
 
 pub loops::repeat_loop-returns-in_err-line-clause-refuses : goal.loops::repeat_loop-returns-in_err-line-clause-refuses
 loops::repeat_loop-returns-in_err-line-clause-refuses t c = λ next.
@@ -1885,12 +1886,12 @@ loops::repeat_loop-returns-in_err-line-clause-order t c =
 pub loops::repeat_loop-returns-in_err-take_word-clause-order : goal.loops::repeat_loop-returns-in_err-take_word-clause-order
 loops::repeat_loop-returns-in_err-take_word-clause-order t c =
     handed_on _ c.from_residual-in_err-take_word.result _ c.from_residual-in_err-take_word.ensures.1
-    (λ start stands. missing_first _ _ _ _ c.in_err-take_word.ensures.misses start (standing.behind_block (standing.inside (standing.repeat_block stands c.in_ok-line.ensures.takes c.looped.ensures) c.in_ok-inner.ensures) c.in_ok-body.ensures.reads))
+    (λ start stands. missing_first _ _ _ _ c.in_err-take_word.ensures.misses start (standing.after_block (standing.inside (standing.repeat_block stands c.in_ok-line.ensures.takes c.looped.ensures) c.in_ok-inner.ensures) c.in_ok-body.ensures.reads))
 
 pub statements::scoped-returns-clause-reads : goal.statements::scoped-returns-clause-reads
 statements::scoped-returns-clause-reads t c =
     scoped_read _ _ _ _ _ _ c.in_ok-inner.ensures c.in_ok-block.ensures.reads
-    (left_since c.args.tokens.now c.args.parser.now c.block.new.parser c.leave.new.self c.in_scope-count.result c.in_scope-count.ensures.value c.leave.ensures.scope c.leave.ensures.place c.leave.ensures.line)
+    (left_since c.args.tokens.now c.args.parser.now c.block.new.parser c.leave.new.self c.in_scope-count.result c.in_scope-count.ensures.value c.leave.ensures.scope c.leave.ensures.index c.leave.ensures.line)
 
 pub statements::scoped-returns-in_err-inner-clause-refuses : goal.statements::scoped-returns-in_err-inner-clause-refuses
 statements::scoped-returns-in_err-inner-clause-refuses t c =
@@ -1965,7 +1966,7 @@ statements::target-returns-in-Call t c =
       refuses = subst (RefusesTarget c.args.at (state c.args.tokens.now c.args.parser.now) (state c.args.tokens.now c.prefix.new.parser)) (sym c.unfit.ensures)
           (target_is_none c.args.at c.fresh.result c.args.tokens.now _ c.prefix.new.parser _ c.in_ok-expr.ensures.reads c.in_ok-expr.ensures.stops other);
       order = subst (FirstFault (standing.target c.args.at) (state c.args.tokens.now c.args.parser.now) (state c.args.tokens.now c.prefix.new.parser)) (sym c.unfit.ensures)
-          (λ start stands. standing.behind_prefix (standing.of_target stands c.fresh.ensures) c.in_ok-expr.ensures.reads);
+          (λ start stands. standing.after_prefix (standing.of_target stands c.fresh.ensures) c.in_ok-expr.ensures.reads);
       forward = tt;
     }
 
@@ -2003,7 +2004,7 @@ statements::targets-returns-in_err-next-clause-order t c =
 pub statements::targets-returns-in_err-take_sign-clause-order : goal.statements::targets-returns-in_err-take_sign-clause-order
 statements::targets-returns-in_err-take_sign-clause-order t c =
     handed_on _ c.from_residual-in_err-take_sign.result _ c.from_residual-in_err-take_sign.ensures.1
-    (λ line s read start stands. missing_first _ _ _ _ c.in_err-take_sign.ensures.misses start (standing.behind_targets stands (c.loop-alloc.invariant.reads line s read).whole))
+    (λ line s read start stands. missing_first _ _ _ _ c.in_err-take_sign.ensures.misses start (standing.after_targets stands (c.loop-alloc.invariant.reads line s read).whole))
 
 pub statements::value-returns-clause-reads : goal.statements::value-returns-clause-reads
 statements::value-returns-clause-reads t c =
@@ -2104,9 +2105,9 @@ loops::while_loop-returns-in_err-line-clause-order t c =
 pub loops::while_loop-returns-in_err-take_word-clause-order : goal.loops::while_loop-returns-in_err-take_word-clause-order
 loops::while_loop-returns-in_err-take_word-clause-order t c =
     handed_on _ c.from_residual-in_err-take_word.result _ c.from_residual-in_err-take_word.ensures.1
-    (λ start stands. missing_first _ _ _ _ c.in_err-take_word.ensures.misses start (standing.behind_value (standing.while_test stands c.in_ok-line.ensures.takes) c.in_ok-test.ensures.reads))
+    (λ start stands. missing_first _ _ _ _ c.in_err-take_word.ensures.misses start (standing.after_value (standing.while_test stands c.in_ok-line.ensures.takes) c.in_ok-test.ensures.reads))
 
 pub loops::while_loop-returns-in_err-take_word-2-clause-order : goal.loops::while_loop-returns-in_err-take_word-2-clause-order
 loops::while_loop-returns-in_err-take_word-2-clause-order t c =
     handed_on _ c.from_residual-in_err-take_word-2.result _ c.from_residual-in_err-take_word-2.ensures.1
-    (λ start stands. missing_first _ _ _ _ c.in_err-take_word-2.ensures.misses start (standing.behind_inner_block (standing.while_block stands c.in_ok-line.ensures.takes c.in_ok-test.ensures.reads c.in_ok-take_word.ensures.takes c.looped.ensures) c.in_ok-body.ensures.reads))
+    (λ start stands. missing_first _ _ _ _ c.in_err-take_word-2.ensures.misses start (standing.after_inner_block (standing.while_block stands c.in_ok-line.ensures.takes c.in_ok-test.ensures.reads c.in_ok-take_word.ensures.takes c.looped.ensures) c.in_ok-body.ensures.reads))

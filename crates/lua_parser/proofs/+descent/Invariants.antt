@@ -17,7 +17,7 @@ invariant-expressions::expression-loop-infix l = record {
 }
 
 abbrev pub decreases-expressions::expression-loop-infix : goal.decreases-expressions::expression-loop-infix
-decreases-expressions::expression-loop-infix l = length l.tokens - l.parser.place
+decreases-expressions::expression-loop-infix l = length l.tokens - l.parser.index
 
 abbrev pub decreases-expressions::operand : goal.decreases-expressions::operand
 decreases-expressions::operand l = (201 - l.at.depth) * 16 + 6
@@ -41,7 +41,7 @@ invariant-suffixes::prefix-loop-suffix l = record {
 }
 
 abbrev pub decreases-suffixes::prefix-loop-suffix : goal.decreases-suffixes::prefix-loop-suffix
-decreases-suffixes::prefix-loop-suffix l = length l.tokens - l.parser.place
+decreases-suffixes::prefix-loop-suffix l = length l.tokens - l.parser.index
 
 abbrev pub decreases-suffixes::primary : goal.decreases-suffixes::primary
 decreases-suffixes::primary l = (201 - l.at.depth) * 16 + 3
@@ -68,7 +68,7 @@ invariant-suffixes::expressions-loop-alloc l = record {
 }
 
 abbrev pub decreases-suffixes::expressions-loop-alloc : goal.decreases-suffixes::expressions-loop-alloc
-decreases-suffixes::expressions-loop-alloc l = length l.tokens - l.parser.place
+decreases-suffixes::expressions-loop-alloc l = length l.tokens - l.parser.index
 
 abbrev pub decreases-suffixes::table : goal.decreases-suffixes::table
 decreases-suffixes::table l = (201 - l.at.depth) * 16 + 1
@@ -80,7 +80,7 @@ invariant-suffixes::table-loop-at l = record {
 }
 
 abbrev pub decreases-suffixes::table-loop-at : goal.decreases-suffixes::table-loop-at
-decreases-suffixes::table-loop-at l = length l.tokens - l.parser.place
+decreases-suffixes::table-loop-at l = length l.tokens - l.parser.index
 
 abbrev pub decreases-suffixes::field : goal.decreases-suffixes::field
 decreases-suffixes::field l = (201 - l.at.depth) * 16 + 9
@@ -104,7 +104,7 @@ invariant-statements::arms-loop-alloc l = record {
 }
 
 abbrev pub decreases-statements::arms-loop-alloc : goal.decreases-statements::arms-loop-alloc
-decreases-statements::arms-loop-alloc l = length l.tokens - l.parser.place
+decreases-statements::arms-loop-alloc l = length l.tokens - l.parser.index
 
 abbrev pub decreases-statements::assignment : goal.decreases-statements::assignment
 decreases-statements::assignment l = (201 - l.at.depth) * 16 + 11
@@ -119,7 +119,7 @@ invariant-statements::block-loop-statements l = record {
 }
 
 abbrev pub decreases-statements::block-loop-statements : goal.decreases-statements::block-loop-statements
-decreases-statements::block-loop-statements l = length l.tokens - l.parser.place
+decreases-statements::block-loop-statements l = length l.tokens - l.parser.index
 
 abbrev pub decreases-statements::body : goal.decreases-statements::body
 decreases-statements::body l = (201 - l.at.depth) * 16 + 0
@@ -192,7 +192,7 @@ invariant-statements::targets-loop-alloc l = record {
 }
 
 abbrev pub decreases-statements::targets-loop-alloc : goal.decreases-statements::targets-loop-alloc
-decreases-statements::targets-loop-alloc l = length l.tokens - l.parser.place
+decreases-statements::targets-loop-alloc l = length l.tokens - l.parser.index
 
 abbrev pub decreases-statements::value : goal.decreases-statements::value
 decreases-statements::value l = (201 - l.at.depth) * 16 + 8

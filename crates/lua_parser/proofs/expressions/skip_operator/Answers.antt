@@ -17,7 +17,7 @@ returns-in_err-token-clause-missing c =
 
 pub returns-in_err-op-clause-missing : goal.returns-in_err-op-clause-missing
 returns-in_err-op-clause-missing c =
-    let next : slice_get c.args.tokens.now c.args.parser.now.place ≡ Some c.in_ok-token.token.now = slice_get_read _ _ _ _ refl c.in_ok-token.ensures.lookup.3.0 c.in_ok-token.ensures.lookup.1 in
+    let next : slice_get c.args.tokens.now c.args.parser.now.index ≡ Some c.in_ok-token.token.now = slice_get_read _ _ _ _ refl c.in_ok-token.ensures.lookup.3.0 c.in_ok-token.ensures.lookup.1 in
     let none : (op : Operator) → IsNext (kind_of op) (state c.args.tokens.now c.args.parser.now) → c.args.lowest ≤ level op → left_level op ≤ c.args.left → ⊥ =
     λ op is low fits. let found = c.in_err-op.ensures.none op (kind_next c.args.tokens.now c.args.parser.now c.in_ok-token.token.now _ next is) in cc
     in
@@ -28,7 +28,7 @@ advance-requires c = slice_get_read _ _ _ _ refl c.in_ok-token.ensures.lookup.3.
 
 pub returns-clause-missing : goal.returns-clause-missing
 returns-clause-missing c = λ op is low fits.
-    let next : slice_get c.args.tokens.now c.args.parser.now.place ≡ Some c.in_ok-token.token.now = slice_get_read _ _ _ _ refl c.in_ok-token.ensures.lookup.3.0 c.in_ok-token.ensures.lookup.1 in
+    let next : slice_get c.args.tokens.now c.args.parser.now.index ≡ Some c.in_ok-token.token.now = slice_get_read _ _ _ _ refl c.in_ok-token.ensures.lookup.3.0 c.in_ok-token.ensures.lookup.1 in
     let found = c.in_ok-op.ensures.none op (kind_next c.args.tokens.now c.args.parser.now c.in_ok-token.token.now _ next is) in
     let same : c.in_ok-op.op ≡ op = cc in
     let own : level c.in_ok-op.op ≡ level op = ap level same in

@@ -11,7 +11,7 @@ returns c =
     let outer = c.outermost.ensures in
     let whole = c.in_ok-functions.ensures.functions in
     let files : c.of.result ≡ [] ∷ [] = search rules in
-    let read = chunk_read _ _ _ _ _ _ _ _ _ c.in_ok-body.ensures.reads start.place start.scope.1 outer.depth outer.rest outer.in_loop c.if-parser-tokens.false c.first_line.ensures
+    let read = chunk_read _ _ _ _ _ _ _ _ _ c.in_ok-body.ensures.reads start.index start.scope.1 outer.depth outer.vararg outer.in_loop c.if-parser-tokens.false c.first_line.ensures
     whole.1 whole.2 files in
     record { program = read; whole = c.a_program_is_whole.ensures _ _ read; unfit = tt; limits = tt; complete = tt }
 
@@ -19,24 +19,24 @@ pub returns-in_err-body-clause-complete : goal.returns-in_err-body-clause-comple
 returns-in_err-body-clause-complete c =
     let start = c.in_ok-parser.ensures in
     let p = err_from_is_err_and c.from_residual-in_err-body.result c.from_residual-in_err-body.ensures.1 in
-    rw (p.1, p.2) (block_refused _ c.args.tokens.now _ _ _ c.in_err-body.field-0.0 c.outermost.ensures start.place start.scope.1 c.in_err-body.ensures.refuses)
+    rw (p.1, p.2) (block_refused _ c.args.tokens.now _ _ _ c.in_err-body.field-0.0 c.outermost.ensures start.index start.scope.1 c.in_err-body.ensures.refuses)
 
 pub returns-then-parser-tokens-clause-complete : goal.returns-then-parser-tokens-clause-complete
-returns-then-parser-tokens-clause-complete c = λ other. too_many_tokens _ c.args.tokens.now _ _ _ c.in_ok-parser.ensures.place c.in_ok-body.ensures.reads c.if-parser-tokens.true
+returns-then-parser-tokens-clause-complete c = λ other. too_many_tokens _ c.args.tokens.now _ _ _ c.in_ok-parser.ensures.index c.in_ok-body.ensures.reads c.if-parser-tokens.true
 
 pub returns-in_err-body-clause-unfit : goal.returns-in_err-body-clause-unfit
 returns-in_err-body-clause-unfit c =
     let start = c.in_ok-parser.ensures in
     let p = err_from_is_err_and c.from_residual-in_err-body.result c.from_residual-in_err-body.ensures.1 in
-    rw (p.1, p.2) (block_unfit _ c.args.tokens.now _ _ _ c.in_err-body.field-0.0 c.outermost.ensures start.place start.scope.1 c.in_err-body.ensures.refuses c.in_err-body.ensures.order)
+    rw (p.1, p.2) (block_unfit _ c.args.tokens.now _ _ _ c.in_err-body.field-0.0 c.outermost.ensures start.index start.scope.1 c.in_err-body.ensures.refuses c.in_err-body.ensures.order)
 
 pub returns-then-parser-tokens-clause-unfit : goal.returns-then-parser-tokens-clause-unfit
 returns-then-parser-tokens-clause-unfit c =
     let start = c.in_ok-parser.ensures in
-    token_unfit _ c.args.tokens.now _ _ _ _ _ c.outermost.ensures start.place start.scope.1 c.in_ok-body.ensures.reads c.if-parser-tokens.true c.unfit.ensures
+    token_unfit _ c.args.tokens.now _ _ _ _ _ c.outermost.ensures start.index start.scope.1 c.in_ok-body.ensures.reads c.if-parser-tokens.true c.unfit.ensures
 
 pub returns-in_err-body-clause-limits : goal.returns-in_err-body-clause-limits
 returns-in_err-body-clause-limits c =
     let start = c.in_ok-parser.ensures in
     let p = err_from_is_err_and c.from_residual-in_err-body.result c.from_residual-in_err-body.ensures.1 in
-    rw (p.1, p.2) (block_broken _ c.args.tokens.now _ (state c.args.tokens.now c.block.new.parser) _ c.in_err-body.field-0.0 c.outermost.ensures start.place start.scope.1 c.in_err-body.ensures.order)
+    rw (p.1, p.2) (block_broken _ c.args.tokens.now _ (state c.args.tokens.now c.block.new.parser) _ c.in_err-body.field-0.0 c.outermost.ensures start.index start.scope.1 c.in_err-body.ensures.order)

@@ -9,10 +9,10 @@ unfolding slots_from
 loop-name-init c = record {
   slots = search rules;
   frame = sym (locals_none (frame_of c.args.self.now.frame) (let h = c.args.self.now.frame.covered in grind arith));
-  place = refl;
+  index = refl;
   line = refl;
   functions = refl;
-  around = refl;
+  enclosing = refl;
 }
 
 pub loop-name-preserved : goal.loop-name-preserved
@@ -25,15 +25,15 @@ loop-name-preserved c =
     let longer = front_more xs i c.name-item.result c.name-item.result inside c.name-item.is in
     let framed : frame_of c.declare.new.self ≡ with_locals (c.name-item.result ∷ []) (with_locals (take i xs) (frame_of c.args.self.now.frame)) =
     (rw copy at c.in_ok-slot.ensures.frame) ∙ ap (with_locals (c.name-item.result ∷ [])) h.frame in
-    let place : c.in_ok-slot.slot ≡ length c.args.self.now.frame.locals.items + i =
+    let index : c.in_ok-slot.slot ≡ length c.args.self.now.frame.locals.items + i =
     let l : c.loop-name.self.frame.locals.items ≡ c.args.self.now.frame.locals.items ++ take i xs = ap (λ f. f.locals) h.frame in
     c.in_ok-slot.ensures.slot ∙ rw (l, length-append c.args.self.now.frame.locals.items (take i xs), front_length xs i inside) refl
     in
     record {
-      slots = rw (longer, slots_more (length c.args.self.now.frame.locals.items) (take i xs) c.name-item.result, front_length xs i inside, sym h.slots, sym place) c.in_ok-push.ensures.items;
+      slots = rw (longer, slots_more (length c.args.self.now.frame.locals.items) (take i xs) c.name-item.result, front_length xs i inside, sym h.slots, sym index) c.in_ok-push.ensures.items;
       frame = rw (longer, locals_more (take i xs) c.name-item.result (frame_of c.args.self.now.frame)) framed;
-      place = h.place;
+      index = h.index;
       line = h.line;
       functions = h.functions;
-      around = h.around;
+      enclosing = h.enclosing;
     }

@@ -7,8 +7,8 @@ abbrev pub invariant-loop-name : goal.invariant-loop-name
 invariant-loop-name l = record {
   slots : l.slots.items ≡ slots_from (length l.fn.self.frame.locals.items) (take l.name-index l.name-items);
   frame : frame_of l.self.frame ≡ with_locals (take l.name-index l.name-items) (frame_of l.fn.self.frame);
-  place : l.self.place ≡ l.fn.self.place;
+  index : l.self.index ≡ l.fn.self.index;
   line : l.self.line ≡ l.fn.self.line;
   functions : l.self.functions ≡ l.fn.self.functions;
-  around : l.self.around ≡ l.fn.self.around;
+  enclosing : l.self.enclosing ≡ l.fn.self.enclosing;
 }

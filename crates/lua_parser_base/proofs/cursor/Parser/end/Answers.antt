@@ -8,10 +8,10 @@ returns-clause-ends c = record {
   number = refl;
   ends = λ names before params number.
       let popped = rw c.in-Some.is at c.pop.ensures.items in
-      let split = rw c.keep.ensures.around at popped in (
+      let split = rw c.keep.ensures.enclosing at popped in (
         c.in_ok-function.function,
         frame_of c.args.self.now.frame,
-        frames_of c.args.self.now.around,
+        frames_of c.args.self.now.enclosing,
         refl,
         c.in_ok-function.ensures names (sym params),
         ended _ _ _ _ _ _ _ _ c.keep.ensures.functions number split,

@@ -8,9 +8,9 @@ returns-clause-enters c = record {
   scope =
       let frame = rw (← c.replace-outer.ensures.after) at c.with_parameters.ensures in
       let more = rw c.replace-outer.ensures.value at c.in_ok-push-2.ensures.items in
-      entered _ _ _ c.args.self.now.frame c.replace-outer.new.dest c.args.self.now.around.items c.push-2.new.self.items c.args.parameters.names.items c.in_ok-push.ensures.items frame more;
+      entered _ _ _ c.args.self.now.frame c.replace-outer.new.dest c.args.self.now.enclosing.items c.push-2.new.self.items c.args.parameters.names.items c.in_ok-push.ensures.items frame more;
   number = search rules;
   params = search rules;
-  rest = refl;
+  vararg = refl;
   line = refl;
 }

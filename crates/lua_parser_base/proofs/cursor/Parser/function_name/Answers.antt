@@ -19,7 +19,7 @@ pub loop-alloc-init : goal.loop-alloc-init
 loop-alloc-init c = record {
   forward = search rules;
   reads =
-      let same = turned c.args.tokens.now c.take_name.new.self c.variable.new.self _ c.in_ok-variable.ensures.place c.in_ok-variable.ensures.line refl in
+      let same = turned c.args.tokens.now c.take_name.new.self c.variable.new.self _ c.in_ok-variable.ensures.index c.in_ok-variable.ensures.line refl in
       name_root _ _ _ _ _ _ c.in_ok-named.ensures.takes same.left (name_state c.args.tokens.now c.take_name.new.self c.variable.new.self _ _ _ c.in_ok-variable.ensures.resolves) refl;
 }
 
@@ -37,7 +37,7 @@ returns-in_err-named-clause-refuses c = λ at.
 pub returns-in_err-variable-clause-refuses : goal.returns-in_err-variable-clause-refuses
 returns-in_err-variable-clause-refuses c = λ at.
     let h : IfErr c.from_residual-in_err-variable.result (OnUpvalues c.in_ok-named.named.line (Few (look c.in_ok-named.named.name (scope_of c.take_name.new.self).around).1 → ⊥)) = search rules in
-    let same = turned c.args.tokens.now c.take_name.new.self c.variable.new.self _ c.variable.ensures.place c.variable.ensures.line refl in
+    let same = turned c.args.tokens.now c.take_name.new.self c.variable.new.self _ c.variable.ensures.index c.variable.ensures.line refl in
     on_err c.from_residual-in_err-variable.result h (λ fault not.
     function_name_crowded at fault _ (state c.args.tokens.now c.take_name.new.self) _ _ c.in_ok-named.named.name c.in_ok-named.ensures.takes same.left (crowded_state _ c.args.tokens.now c.take_name.new.self c.in_ok-named.named.name fault not))
 

@@ -10,4 +10,4 @@ invariant-loop-alloc l = record {
 }
 
 abbrev pub decreases-loop-alloc : goal.decreases-loop-alloc
-decreases-loop-alloc l = length l.tokens - l.self.place
+decreases-loop-alloc l = length l.tokens - l.self.index

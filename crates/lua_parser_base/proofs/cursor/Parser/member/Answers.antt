@@ -49,9 +49,9 @@ returns-in_err-above-clause-order c =
 pub returns-in_err-dot-clause-order : goal.returns-in_err-dot-clause-order
 returns-in_err-dot-clause-order c =
     handed_on _ c.from_residual.result _ c.from_residual.ensures.1
-    (λ s read start stands. missing_first _ _ _ _ c.in_err-dot.ensures.misses start (standing.behind_prefix stands read))
+    (λ s read start stands. missing_first _ _ _ _ c.in_err-dot.ensures.misses start (standing.after_prefix stands read))
 
 pub returns-in_err-named-clause-order : goal.returns-in_err-named-clause-order
 returns-in_err-named-clause-order c =
     handed_on _ c.from_residual-in_err-named.result _ c.from_residual-in_err-named.ensures.1
-    (λ s read start stands. missing_first _ _ _ _ c.in_err-named.ensures.misses start (standing.behind_dot stands read c.in_ok-dot.ensures.takes c.in_ok-above.ensures))
+    (λ s read start stands. missing_first _ _ _ _ c.in_err-named.ensures.misses start (standing.after_dot stands read c.in_ok-dot.ensures.takes c.in_ok-above.ensures))

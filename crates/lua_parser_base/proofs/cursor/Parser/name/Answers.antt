@@ -16,7 +16,7 @@ use Rattle.lua_parser_base.proofs.cursor.Parser.name.Goals as goal
 pub returns-clause-reads : goal.returns-clause-reads
 returns-clause-reads c =
     let e = c.in_ok-variable.ensures in
-    name_read _ _ _ _ _ _ _ _ c.in_ok-named.ensures.takes e.place e.line e.resolves refl refl
+    name_read _ _ _ _ _ _ _ _ c.in_ok-named.ensures.takes e.index e.line e.resolves refl refl
 
 pub returns-in_err-named-clause-refuses : goal.returns-in_err-named-clause-refuses
 returns-in_err-named-clause-refuses c = λ not.
@@ -27,7 +27,7 @@ pub returns-in_err-variable-clause-refuses : goal.returns-in_err-variable-clause
 returns-in_err-variable-clause-refuses c = λ not.
     let h : IfErr c.from_residual-in_err-variable.result (OnUpvalues c.in_ok-named.named.line (Few (look c.in_ok-named.named.name (scope_of c.take_name.new.self).around).1 → ⊥)) = search rules in
     on_err c.from_residual-in_err-variable.result h (λ fault crowded.
-    variable_crowded c.args.at _ _ c.take_name.new.self c.variable.new.self _ _ fault c.in_ok-named.ensures.takes c.variable.ensures.place crowded)
+    variable_crowded c.args.at _ _ c.take_name.new.self c.variable.new.self _ _ fault c.in_ok-named.ensures.takes c.variable.ensures.index crowded)
 
 pub returns-in_err-variable-clause-order : goal.returns-in_err-variable-clause-order
 returns-in_err-variable-clause-order c =

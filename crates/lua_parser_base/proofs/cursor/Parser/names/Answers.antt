@@ -57,4 +57,4 @@ pub returns-in_err-take_sign-clause-order : goal.returns-in_err-take_sign-clause
 returns-in_err-take_sign-clause-order c =
     let few : c.args.taken + length c.loop-self.names.items ≤ 200 = search (rules, arith) in
     handed_on _ c.from_residual-in_err-take_sign.result _ c.from_residual-in_err-take_sign.ensures.1
-    (λ start stands. missing_first _ _ _ _ c.in_err-take_sign.ensures.misses start (standing.behind_names stands c.loop-self.invariant.reads few))
+    (λ start stands. missing_first _ _ _ _ c.in_err-take_sign.ensures.misses start (standing.after_names stands c.loop-self.invariant.reads few))

@@ -11,4 +11,4 @@ invariant-loop-self l = record {
 }
 
 abbrev pub decreases-loop-self : goal.decreases-loop-self
-decreases-loop-self l = length l.tokens - l.self.place
+decreases-loop-self l = length l.tokens - l.self.index

@@ -3,14 +3,14 @@ use Rattle.lua_parser_base.specs.States.{state}
 use Rattle.lua_parser_base.specs.Next.{MissesName}
 use Rattle.lua_parser_base.proofs.NameLists.{first_parameter_refused, next_parameter_refused}
 use Rattle.lua_parser_base.proofs.Next.{on_err, untested}
-use Rattle.lua_parser_base.proofs.Names.{no_parameters, only_rest, only_names, names_then_rest, names_one, names_more}
+use Rattle.lua_parser_base.proofs.Names.{no_parameters, only_vararg, only_names, names_then_vararg, names_one, names_more}
 use Rattle.lua_parser_base.proofs.Breaking.{name_breaks}
 use Rattle.lua_parser_base.specs.Standing as standing
 use Rattle.lua_parser_base.proofs.OpenFunctions.{few_there}
 use Rattle.lua_parser_base.proofs.cursor.Parser.parameters.Goals as goal
 
 pub returns-then-at_sign-2-clause-reads : goal.returns-then-at_sign-2-clause-reads
-returns-then-at_sign-2-clause-reads c = only_rest _ _ _ _ _ c.in_ok-take_sign.ensures.takes refl refl
+returns-then-at_sign-2-clause-reads c = only_vararg _ _ _ _ _ c.in_ok-take_sign.ensures.takes refl refl
 
 pub returns-then-at_sign-clause-reads : goal.returns-then-at_sign-clause-reads
 returns-then-at_sign-clause-reads c = no_parameters _ _ _ refl refl (c.at_sign.ensures.0 c.if-at_sign.true)
@@ -24,7 +24,7 @@ loop-self-init c = record {
 
 pub returns-then-at_sign-3-clause-reads : goal.returns-then-at_sign-3-clause-reads
 returns-then-at_sign-3-clause-reads c =
-    names_then_rest _ _ _ _ _ _ _ _ c.loop-self.invariant.reads c.in_ok-take_sign-2.ensures.takes c.in_ok-take_sign-3.ensures.takes refl
+    names_then_vararg _ _ _ _ _ _ _ _ c.loop-self.invariant.reads c.in_ok-take_sign-2.ensures.takes c.in_ok-take_sign-3.ensures.takes refl
 
 pub loop-self-preserved : goal.loop-self-preserved
 loop-self-preserved c = record {

@@ -11,5 +11,5 @@ advance-requires c = slice_get_read _ _ _ _ refl c.in_ok-token.ensures.lookup.3.
 
 pub returns-clause-missing : goal.returns-clause-missing
 returns-clause-missing c =
-    let next : slice_get c.args.tokens.now c.args.self.now.place ≡ Some c.in_ok-token.token.now = slice_get_read _ _ _ _ refl c.in_ok-token.ensures.lookup.3.0 c.in_ok-token.ensures.lookup.1 in
+    let next : slice_get c.args.tokens.now c.args.self.now.index ≡ Some c.in_ok-token.token.now = slice_get_read _ _ _ _ refl c.in_ok-token.ensures.lookup.3.0 c.in_ok-token.ensures.lookup.1 in
     not_next c.args.tokens.now c.args.self.now c.in_ok-token.token.now _ next (untested _ _ c.if-is_word.false c.is_word.ensures)

@@ -11,7 +11,7 @@ advance-requires c = slice_get_read _ _ _ _ refl c.in-Some.ensures.lookup.3.0 c.
 
 pub returns-in_default-kind : goal.returns-in_default-kind
 returns-in_default-kind c =
-    let next : slice_get c.args.tokens.now c.args.self.now.place ≡ Some c.in-Some.token.now = slice_get_read _ _ _ _ refl c.in-Some.ensures.lookup.3.0 c.in-Some.ensures.lookup.1 in
+    let next : slice_get c.args.tokens.now c.args.self.now.index ≡ Some c.in-Some.token.now = slice_get_read _ _ _ _ refl c.in-Some.ensures.lookup.3.0 c.in-Some.ensures.lookup.1 in
     record {
       takes = tt;
       misses = missed c.args.tokens.now c.args.self.now c.args.self.now _ _ refl (not_next c.args.tokens.now c.args.self.now c.in-Some.token.now _ next (no_text _ c.in_default-kind.not-Text)) c.unfit-in_default-kind.ensures;

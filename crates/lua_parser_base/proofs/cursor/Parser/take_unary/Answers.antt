@@ -8,7 +8,7 @@ returns-in_default-clause-misses c = missed c.args.tokens.now c.args.self.now c.
 
 pub returns-in_default-unary_of-clause-misses : goal.returns-in_default-unary_of-clause-misses
 returns-in_default-unary_of-clause-misses c =
-    let next : slice_get c.args.tokens.now c.args.self.now.place ≡ Some c.in-Some.token.now =
+    let next : slice_get c.args.tokens.now c.args.self.now.index ≡ Some c.in-Some.token.now =
     slice_get_read _ _ _ _ refl c.in-Some.ensures.lookup.3.0 c.in-Some.ensures.lookup.1 in
     missed c.args.tokens.now c.args.self.now c.args.self.now _ _ refl (not_next c.args.tokens.now c.args.self.now c.in-Some.token.now _ next c.in_default-unary_of.ensures) c.unfit-in_default-unary_of.ensures
 

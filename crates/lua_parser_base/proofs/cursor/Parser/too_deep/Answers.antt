@@ -9,6 +9,6 @@ returns-in-None c =
 
 pub returns-in-Some : goal.returns-in-Some
 returns-in-Some c =
-    let is : slice_get c.args.tokens.now c.args.self.now.place ≡ Some c.in-Some.token.now =
+    let is : slice_get c.args.tokens.now c.args.self.now.index ≡ Some c.in-Some.token.now =
     slice_get_read _ _ _ _ refl c.in-Some.ensures.lookup.3.0 c.in-Some.ensures.lookup.1 in
     on_next_line c.args.tokens.now c.args.self.now c.in-Some.token.now is

@@ -5,7 +5,7 @@ use Rattle.lua_parser_base.proofs.cursor.Parser.unfit.Goals as goal
 
 pub returns-in-Some : goal.returns-in-Some
 returns-in-Some c =
-    let next : slice_get c.args.tokens.now c.args.self.now.place ≡ Some c.in-Some.token.now = slice_get_read _ _ _ _ refl c.in-Some.ensures.lookup.3.0 c.in-Some.ensures.lookup.1 in
+    let next : slice_get c.args.tokens.now c.args.self.now.index ≡ Some c.in-Some.token.now = slice_get_read _ _ _ _ refl c.in-Some.ensures.lookup.3.0 c.in-Some.ensures.lookup.1 in
     line_of_next c.args.tokens.now c.args.self.now c.in-Some.token.now next
 
 pub returns-in-None : goal.returns-in-None

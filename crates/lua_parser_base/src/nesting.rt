@@ -1,89 +1,90 @@
+//! How constructs nest: how many are open, how high an expression may be, and whether `...` and `break` may stand.
 ghost use Rattle.std.specs.Prelude.{◌≤◌, ◌<◌, MatchResult};
 
 use crate::ParseFault;
 
-/// How many constructs may be open at a place, the chunk among them.
+/// How many constructs may be open at once, the chunk among them.
 pub(crate) const DEEPEST: u32 = 200;
 
 /// The greatest height of an expression.
 pub(crate) const HIGHEST: u32 = 4_000;
 
-/// Where a construct stands.
+/// How a construct is nested in others.
 #[derive(Clone, Copy)]
-pub struct Place {
+pub struct Nesting {
     /// The number of the construct among those that are open, from 1.
     pub depth: u32,
     /// How high an expression may be here.
     pub room: u32,
-    /// Whether the function around takes more arguments, as `...`.
-    pub rest: bool,
-    /// Whether a loop of that function is around.
+    /// Whether the enclosing function takes more arguments, as `...`.
+    pub vararg: bool,
+    /// Whether a loop of that function encloses it.
     pub in_loop: bool,
     ghost deep: { depth ≤ 200 },
     ghost roomy: { 1 ≤ room },
     ghost low: { room ≤ 4_000 },
 }
 
-impl Place {
+impl Nesting {
     ghost use Rattle.lua_parser_base.specs.Next.{IsTooHigh};
-    ghost use Rattle.lua_parser_base.specs.Places.{IsFresh, IsLooped, IsNarrower, IsOfFunction, IsOutermost};
+    ghost use Rattle.lua_parser_base.specs.Nesting.{IsFresh, IsLooped, IsNarrower, IsOfFunction, IsOutermost};
 
-    /// The place of the chunk's block.
-    pub fn outermost() -> Place
+    /// That of the chunk's block.
+    pub fn outermost() -> Nesting
         ensures { IsOutermost result }
     {
-        Place {
+        Nesting {
             depth: 1,
             room: HIGHEST,
-            rest: true,
+            vararg: true,
             in_loop: false,
         }
     }
 
-    /// The same place, in a loop.
-    pub fn looped(self) -> Place
+    /// The same, in a loop.
+    pub fn looped(self) -> Nesting
         ensures { IsLooped self result }
     {
-        Place {
+        Nesting {
             depth: self.depth,
             room: self.room,
-            rest: self.rest,
+            vararg: self.vararg,
             in_loop: true,
         }
     }
 
-    /// The place of the block of a function.
-    pub fn of_function(self, rest: bool) -> Place
-        ensures { IsOfFunction rest self result }
+    /// That of the block of a function.
+    pub fn of_function(self, vararg: bool) -> Nesting
+        ensures { IsOfFunction vararg self result }
     {
-        Place {
+        Nesting {
             depth: self.depth,
             room: HIGHEST,
-            rest,
+            vararg,
             in_loop: false,
         }
     }
 
-    /// The place of an expression that stands in no other.
-    pub fn fresh(self) -> Place
+    /// That of an expression that stands in no other.
+    pub fn fresh(self) -> Nesting
         ensures { IsFresh self result }
     {
-        Place {
+        Nesting {
             depth: self.depth,
             room: HIGHEST,
-            rest: self.rest,
+            vararg: self.vararg,
             in_loop: self.in_loop,
         }
     }
 
-    /// The same place, for an expression that is a part of one here.
-    pub fn narrower(self) -> Place
+    /// The same, for an expression that is a part of one here.
+    pub fn narrower(self) -> Nesting
         ensures { IsNarrower self result }
     {
-        Place {
+        Nesting {
             depth: self.depth,
             room: (self.room - 1).max(1),
-            rest: self.rest,
+            vararg: self.vararg,
             in_loop: self.in_loop,
         }
     }
