@@ -53,10 +53,11 @@ events_of [] = []
 events_of (entry.Given e ∷ h) = e ∷ events_of h
 events_of (e ∷ h) = events_of h
 
--- Stop was given last, or not at all
+-- Stop was given last
 abbrev pub IsStopped : List Entry → Type 0
 IsStopped h = (before : List Event) × (events_of h ≡ event.Stop ∷ before)
 
+-- Stop wasn't given
 abbrev pub HasNoStop : List Event → Type 0
 HasNoStop [] = Unit {0}
 HasNoStop (event.Stop ∷ es) = ⊥

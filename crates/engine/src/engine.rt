@@ -102,12 +102,13 @@ impl<S: StrandContract> Engine<S> {
         ensures works { Works W.same W.book self.old self.new world.old world.new }
         ensures kept { self.new ≡ record self.old { connections = self.new.connections } }
     {
-        let _ = world.note(Entry::Dropped(StrandId::Conn(connection)));
+        let who = StrandId::Conn(connection);
+        let _ = world.note(Entry::Dropped(who));
         if is_open {
             world.hang_up(Id::Conn(connection));
             self.connections = self.connections.saturating_sub(1);
         }
-        world.forget(StrandId::Conn(connection));
+        world.forget(who);
     }
 
     /// Carries out one act of a turn.
