@@ -15,7 +15,7 @@ use Rattle.lua_grammar.proofs.SameNodes.{zip_append, zip_none, variable_same}
 
 -- the same frames, and as many functions
 pub record Like (s s' : Scope) : Type 0 where
-  pub around : s.around ≡ s'.around
+  pub enclosing : s.enclosing ≡ s'.enclosing
   pub count : length s.functions ≡ length s'.functions
 
 -- from scopes to scopes: the functions that were added are the same, the frames are equal, and `A` holds of what was read
@@ -25,7 +25,7 @@ pub record Agree (s s' t t' : Scope) (A : Type 0) : Type 0 where
   pub grows : t.functions ≡ s.functions ++ new
   pub grows_too : t'.functions ≡ s'.functions ++ other
   pub same : AllZip SameFunction new other
-  pub around : t.around ≡ t'.around
+  pub enclosing : t.enclosing ≡ t'.enclosing
   pub holds : A
 
 pub told : {X : Type 0} (R : X → X → Type 0) {x y z w : X} → z ≡ x → w ≡ y → R x y → R z w
@@ -33,7 +33,7 @@ told R p q h = subst₂ R (sym p) (sym q) h
 
 pub after : {s s' t t' : Scope} {A : Type 0} → Like s s' → Agree s s' t t' A → Like t t'
 after {s = s} {s' = s'} {t = t} {t' = t'} like a = record {
-  around = a.around;
+  enclosing = a.enclosing;
   count =
       let e = length_all_zip SameFunction a.new a.other a.same in
       let p = ap length a.grows ∙ length-append s.functions a.new in
@@ -50,7 +50,7 @@ still {s = s} {s' = s'} like p q h = record {
   grows = ap (λ z. z.functions) p ∙ sym (append-nil s.functions);
   grows_too = ap (λ z. z.functions) q ∙ sym (append-nil s'.functions);
   same = zip_none SameFunction;
-  around = ap (λ z. z.around) p ∙ (like.around ∙ sym (ap (λ z. z.around) q));
+  enclosing = ap (λ z. z.enclosing) p ∙ (like.enclosing ∙ sym (ap (λ z. z.enclosing) q));
   holds = h;
 }
 
@@ -63,7 +63,7 @@ next {s = s} {s' = s'} like a go =
       grows = b.grows ∙ (ap (λ fs. fs ++ b.new) a.grows ∙ append_assoc s.functions a.new b.new);
       grows_too = b.grows_too ∙ (ap (λ fs. fs ++ b.other) a.grows_too ∙ append_assoc s'.functions a.other b.other);
       same = zip_append SameFunction a.new a.other b.new b.other a.same b.same;
-      around = b.around;
+      enclosing = b.enclosing;
       holds = b.holds;
     }
 
@@ -74,14 +74,14 @@ last a go = record {
   grows = a.grows;
   grows_too = a.grows_too;
   same = a.same;
-  around = a.around;
+  enclosing = a.enclosing;
   holds = go a.holds;
 }
 
 -- ---- scopes
 
 pub declared_like : (names : List Bytes) (s s' : Scope) → Like s s' → Like (declare names s) (declare names s')
-declared_like names s s' like = record { around = ap (λ fs. (declare names (record s { around = fs })).around) like.around; count = like.count }
+declared_like names s s' like = record { enclosing = ap (λ fs. (declare names (record s { enclosing = fs })).enclosing) like.enclosing; count = like.count }
 
 pub after_declare : {t t' : Scope} {A : Type 0} (names : List Bytes) (s s' : Scope) → Agree (declare names s) (declare names s') t t' A → Agree s s' t t' A
 after_declare names s s' a = record {
@@ -90,7 +90,7 @@ after_declare names s s' a = record {
   grows = a.grows;
   grows_too = a.grows_too;
   same = a.same;
-  around = a.around;
+  enclosing = a.enclosing;
   holds = a.holds;
 }
 
@@ -101,7 +101,7 @@ then_declare {s = s} {s' = s'} {t = t} {t' = t'} names m m' a p q = record {
   grows = ap (λ z. z.functions) p ∙ a.grows;
   grows_too = ap (λ z. z.functions) q ∙ a.grows_too;
   same = a.same;
-  around = ap (λ z. z.around) p ∙ (ap (λ fs. (declare names (record m { around = fs })).around) a.around ∙ sym (ap (λ z. z.around) q));
+  enclosing = ap (λ z. z.enclosing) p ∙ (ap (λ fs. (declare names (record m { enclosing = fs })).enclosing) a.enclosing ∙ sym (ap (λ z. z.enclosing) q));
   holds = a.holds;
 }
 
@@ -112,13 +112,13 @@ then_leave {s = s} {s' = s'} {t = t} {t' = t'} k k' m m' like a p q = record {
   grows = ap (λ z. z.functions) p ∙ a.grows;
   grows_too = ap (λ z. z.functions) q ∙ a.grows_too;
   same = a.same;
-  around = ap (λ z. z.around) p ∙ (ap (λ fs. (leave k (record m { around = fs })).around) a.around
-      ∙ (ap (λ fs. (leave (record k { around = fs }) m').around) like.around ∙ sym (ap (λ z. z.around) q)));
+  enclosing = ap (λ z. z.enclosing) p ∙ (ap (λ fs. (leave k (record m { enclosing = fs })).enclosing) a.enclosing
+      ∙ (ap (λ fs. (leave (record k { enclosing = fs }) m').enclosing) like.enclosing ∙ sym (ap (λ z. z.enclosing) q)));
   holds = a.holds;
 }
 
 pub same_place : (s s' : Scope) → Like s s' → in_scope s ≡ in_scope s'
-same_place s s' like = ap count_in like.around
+same_place s s' like = ap count_in like.enclosing
 
 pub same_slots : (names : List Bytes) (s s' : Scope) (xs ys : List ℕ) → Like s s' → xs ≡ slots_from (in_scope s) names → ys ≡ slots_from (in_scope s') names → xs ≡ ys
 same_slots names s s' xs ys like p q = p ∙ (ap (λ n. slots_from n names) (same_place s s' like) ∙ sym q)
@@ -131,8 +131,8 @@ name_agrees l n s s' e e' t t' r r' like = record {
   grows = ap (λ z. z.functions) r.scope ∙ sym (append-nil s.functions);
   grows_too = ap (λ z. z.functions) r'.scope ∙ sym (append-nil s'.functions);
   same = zip_none SameFunction;
-  around = ap (λ z. z.around) r.scope ∙ (ap (λ fs. (look n fs).1) like.around ∙ sym (ap (λ z. z.around) r'.scope));
-  holds = told SameExpr r.expr (r'.expr ∙ ap (λ fs. node l (variable_kind n (look n fs).0)) (sym like.around)) (variable_same l n (look n s.around).0);
+  enclosing = ap (λ z. z.enclosing) r.scope ∙ (ap (λ fs. (look n fs).1) like.enclosing ∙ sym (ap (λ z. z.enclosing) r'.scope));
+  holds = told SameExpr r.expr (r'.expr ∙ ap (λ fs. node l (variable_kind n (look n fs).0)) (sym like.enclosing)) (variable_same l n (look n s.enclosing).0);
 }
 
 -- ---- functions
@@ -155,7 +155,7 @@ function_same line names rest frame frame' out out' f f' is is' e h = record {
 
 pub entered_like : (names : List Bytes) (kept kept' : Function) (s s' : Scope) → Like s s' → Like (enter names kept s) (enter names kept' s')
 entered_like names kept kept' s s' like = record {
-  around = ap (λ fs. (enter names kept (record s { around = fs })).around) like.around;
+  enclosing = ap (λ fs. (enter names kept (record s { enclosing = fs })).enclosing) like.enclosing;
   count =
       let p = length-append s.functions (kept ∷ []) in
       let q = length-append s'.functions (kept' ∷ []) in
@@ -166,16 +166,16 @@ entered_like names kept kept' s s' like = record {
 pub ended_agrees : (line : ℕ) (names : List Bytes) (rest : _) (kept kept' : Function) (out out' : List Stmt) (s s' m m' t t' : Scope) → Like s s' →
     Agree (enter names kept s) (enter names kept' s') m m' (AllZip SameStmt out out') → EndsFunction line names rest out s m t →
     EndsFunction line names rest out' s' m' t' → Agree s s' t t' (length s.functions ≡ length s'.functions)
-ended_agrees line names rest kept kept' out out' s s' m m' t t' like a (f, frame, around, top, is, ended) (f', frame', around', top', is', ended') =
-    let tops : frame ∷ around ≡ frame' ∷ around' = sym top ∙ (a.around ∙ top') in
+ended_agrees line names rest kept kept' out out' s s' m m' t t' like a (f, frame, enclosing, top, is, ended) (f', frame', enclosing', top', is', ended') =
+    let tops : frame ∷ enclosing ≡ frame' ∷ enclosing' = sym top ∙ (a.enclosing ∙ top') in
     let frames : frame ≡ frame' = cc (tops) in
-    let arounds : around ≡ around' = cc (tops) in
+    let arounds : enclosing ≡ enclosing' = cc (tops) in
     record {
       new = f ∷ a.new;
       other = f' ∷ a.other;
       grows = ap (λ z. z.functions) ended ∙ (ap (λ fs. slice_set fs (length s.functions) f) a.grows ∙ placed s.functions a.new kept f);
       grows_too = ap (λ z. z.functions) ended' ∙ (ap (λ fs. slice_set fs (length s'.functions) f') a.grows_too ∙ placed s'.functions a.other kept' f');
       same = (function_same line names rest frame frame' out out' f f' is is' frames a.holds, a.same);
-      around = ap (λ z. z.around) ended ∙ (arounds ∙ sym (ap (λ z. z.around) ended'));
+      enclosing = ap (λ z. z.enclosing) ended ∙ (arounds ∙ sym (ap (λ z. z.enclosing) ended'));
       holds = like.count;
     }

@@ -34,8 +34,8 @@ names_before (tree.next_name ns c l n) = follows (names_before ns) (follows (sig
 pub params_before : (t : Params) → IsBefore (print_params t)
 params_before tree.no_params = nothing
 params_before (tree.names ns) = names_before ns
-params_before (tree.names_and_rest ns c l) = follows (names_before ns) (follows (sign Comma c) (sign Ellipsis l))
-params_before (tree.only_rest l) = sign Ellipsis l
+params_before (tree.names_and_vararg ns c l) = follows (names_before ns) (follows (sign Comma c) (sign Ellipsis l))
+params_before (tree.only_vararg l) = sign Ellipsis l
 
 pub funcname_before : (t : FuncName) → IsBefore (print_funcname t)
 funcname_before (tree.root_name l n) = token (Name n) l

@@ -28,14 +28,14 @@ name = codes "a"
 
 -- the scope after the local, and the frame of the inner function at its end
 before : Function → Scope
-before f = record { functions = f ∷ []; around = record { locals = name ∷ []; captures = []; slots = 1 } ∷ [] }
+before f = record { functions = f ∷ []; enclosing = record { locals = name ∷ []; captures = []; slots = 1 } ∷ [] }
 
 inner : Frame
 inner = record { locals = []; captures = record { name = name; variable = Slot 0 } ∷ []; slots = 0 }
 
 at_end : Function → Function → Scope
 unfolding before inner
-at_end f g = record { functions = f ∷ g ∷ []; around = inner ∷ (before f).around }
+at_end f g = record { functions = f ∷ g ∷ []; enclosing = inner ∷ (before f).enclosing }
 
 chunk_resolves : (program : Program) → IsProgramByHand program → ResolvesChunk 1 chunk program
 unfolding chunk name before inner at_end Resolves look own last_place slots_from
@@ -47,8 +47,8 @@ chunk_resolves program is =
     let first = statement 1 (stmt.Local c.targets c.values) in
     let second = statement 2 (stmt.Return c.returned) in
     let third = statement 2 (stmt.Return i.returned) in
-    let after : Scope = record { functions = f ∷ g ∷ []; around = (before f).around } in
-    let last : Scope = record { functions = f ∷ g ∷ []; around = [] } in
+    let after : Scope = record { functions = f ∷ g ∷ []; enclosing = (before f).enclosing } in
+    let last : Scope = record { functions = f ∷ g ∷ []; enclosing = [] } in
     let is_f : IsFunction 1 [] true (record { locals = name ∷ []; captures = []; slots = 1 }) (first ∷ second ∷ []) f = record {
       file = c.file;
       params = c.params;
@@ -106,7 +106,7 @@ chunk_resolves program is =
                   (i.returned, (node 2 (kind.Captured 0), read, i.the_returned), refl),
                   refl,
                 ),
-                (g, inner, (before f).around, refl, is_g, refl),
+                (g, inner, (before f).enclosing, refl, is_g, refl),
                 refl,
               ),
               refl,

@@ -7,7 +7,7 @@ use Rattle.lua_lexer.specs.declared.words.Word.TheVariants as word
 use Rattle.lua_grammar.specs.Tree.{Line, Bytes, NameList, Params, FuncName, Exp, PrefixExp, Args, ExpList, Table, Fields, Field, FuncBody, Block, Stats, Arms, VarList}
 use Rattle.lua_grammar.specs.Tree as tree
 use Rattle.lua_grammar.specs.Waiting.{Reader, token, more_exp, more_list, more_fields, name, close_parenthesis, close_bracket, equals, comma, do_, then_, end_, until_}
-use Rattle.lua_grammar.specs.Reading.{block, list, body_behind, params, body, begin_prefix, begin_exp, begin_list, args, begin_args, after_field, field, fields}
+use Rattle.lua_grammar.specs.Reading.{block, list, body_after, params, body, begin_prefix, begin_exp, begin_list, args, begin_args, after_field, field, fields}
 use Rattle.lua_grammar.specs.Dead.{ExpFrom, PrefixFrom, ListFrom, FieldsFrom, NamesFrom, FuncNameFrom, VarsFrom, ArmsFrom, StatsFrom, IsDead}
 
 -- ---- what goes on from a whole goes on from the first part of that
@@ -101,15 +101,15 @@ dead_list k dead = λ e whole from. dead whole
 pub dead_to_end : (k : Block → Line → Reader) → ((b : Block) (e : Line) → IsDead (k b e)) → IsDead (block (λ b. token (end_ (λ e. k b e))))
 dead_to_end k dead = dead_block (λ b. token (end_ (λ e. k b e))) (λ b. dead_end (k b) (dead b))
 
-pub dead_body_after : (o : Line) (k : FuncBody → Reader) → ((b : FuncBody) → IsDead (k b)) → (ps : Params) (c : Line) → IsDead (body_behind o k ps c)
+pub dead_body_after : (o : Line) (k : FuncBody → Reader) → ((b : FuncBody) → IsDead (k b)) → (ps : Params) (c : Line) → IsDead (body_after o k ps c)
 dead_body_after o k dead ps c = dead_to_end (λ b e. k (tree.function_body o ps c b e)) (λ b e. dead (tree.function_body o ps c b e))
 
 pub dead_params : (o : Line) (k : FuncBody → Reader) → ((b : FuncBody) → IsDead (k b)) → (kind : TokenKind) (l : Line) → IsDead (params o k kind l)
 dead_params o k dead (Sign sign.CloseParenthesis) c = dead_body_after o k dead tree.no_params c
-dead_params o k dead (Sign sign.Ellipsis) d = dead_close_parenthesis _ (dead_body_after o k dead (tree.only_rest d))
+dead_params o k dead (Sign sign.Ellipsis) d = dead_close_parenthesis _ (dead_body_after o k dead (tree.only_vararg d))
 dead_params o k dead (Name n) l = λ those from. (
   dead_close_parenthesis _ (dead_body_after o k dead (tree.names those)),
-  λ c d. dead_close_parenthesis _ (dead_body_after o k dead (tree.names_and_rest those c d)),
+  λ c d. dead_close_parenthesis _ (dead_body_after o k dead (tree.names_and_vararg those c d)),
 )
 dead_params o k dead other l = tt
 

@@ -26,11 +26,11 @@ few_went [] (g ∷ gs) p h = absurd p
 few_went (f ∷ fs) [] p h = absurd p
 
 -- before a statement or a block
-pub few_before : {s t : Scope} → Goes s t → Few t.around → Few s.around
-few_before {s = s} {t = t} h few = few_went s.around t.around h.frames few
+pub few_before : {s t : Scope} → Goes s t → Few t.enclosing → Few s.enclosing
+few_before {s = s} {t = t} h few = few_went s.enclosing t.enclosing h.frames few
 
 -- before an expression
-pub few_before_it : {s t : Scope} → Keeps s t → Few t.around → Few s.around
+pub few_before_it : {s t : Scope} → Keeps s t → Few t.enclosing → Few s.enclosing
 few_before_it h few = few_before (goes h) few
 
 few_on : (all : List Frame) (f : Frame) (fs : List Frame) → all ≡ f ∷ fs → IsFew f → Few fs → Few all
@@ -38,6 +38,6 @@ unfolding Few
 few_on all f fs e h few = subst Few (sym e) (h, few)
 
 -- at the end of a function's statements, where it ends
-pub few_inside : (line : Line) (names : List Bytes) (rest : _) (out : List Stmt) (s m t : Scope) → EndsFunction line names rest out s m t → Few t.around → Few m.around
-few_inside line names rest out s m t (f, frame, around, top, is, ended) few =
-    few_on m.around frame around top (record { locals = is.few_locals; captures = is.few_captures }) (subst (λ z. Few z.around) ended few)
+pub few_inside : (line : Line) (names : List Bytes) (rest : _) (out : List Stmt) (s m t : Scope) → EndsFunction line names rest out s m t → Few t.enclosing → Few m.enclosing
+few_inside line names rest out s m t (f, frame, enclosing, top, is, ended) few =
+    few_on m.enclosing frame enclosing top (record { locals = is.few_locals; captures = is.few_captures }) (subst (λ z. Few z.enclosing) ended few)

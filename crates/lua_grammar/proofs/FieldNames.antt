@@ -12,7 +12,7 @@ use Rattle.lua_grammar.specs.Operators.{kind_of}
 use Rattle.lua_grammar.specs.Tree.{Line, Bytes, Exp, PrefixExp, Args, Field}
 use Rattle.lua_grammar.specs.Tree as tree
 use Rattle.lua_grammar.specs.Printing.{Lexeme, a_kind, a_sign, a_name, print_exp, print_prefixexp, print_args, print_fields, print_field, print_funcbody}
-use Rattle.lua_grammar.specs.Stopping.{Behind, IsNoOperator, IsApart, IsNoAssign, IsLone, FieldStops}
+use Rattle.lua_grammar.specs.Stopping.{ComesNext, IsNoOperator, IsApart, IsNoAssign, IsLone, FieldStops}
 use Rattle.lua_grammar.specs.Waiting.{Reader}
 use Rattle.lua_grammar.specs.Reading.{feed, run}
 use Rattle.lua_grammar.proofs.Stopping.{stops, ends_in}
@@ -27,7 +27,7 @@ token_alike : (r other : Reader) (kind : TokenKind) (l : Line) (after : List Lex
     run (feed r kind l) after ≡ run (feed other kind l) after
 token_alike r other kind l after h k not = ap (λ r. run r after) (h.others kind l k not)
 
-name_alike : (r other : Reader) (n : Bytes) (l : Line) (after : List Lexeme) → AlikeButNamed r other → Behind IsNoAssign after →
+name_alike : (r other : Reader) (n : Bytes) (l : Line) (after : List Lexeme) → AlikeButNamed r other → ComesNext IsNoAssign after →
     run (feed r (Name n) l) after ≡ run (feed other (Name n) l) after
 name_alike r other n l [] h x = absurd x
 name_alike r other n l (next ∷ after) h x = ap (λ r. run r after) (h.name n l next.kind next.line x)
@@ -49,7 +49,7 @@ operator_is_no_assign (Plain Le) = tt
 operator_is_no_assign (Plain Gt) = tt
 operator_is_no_assign (Plain Ge) = tt
 
-args_begin : (a : Args) (after : List Lexeme) → Behind IsNoAssign (print_args a after)
+args_begin : (a : Args) (after : List Lexeme) → ComesNext IsNoAssign (print_args a after)
 unfolding print_args
 args_begin (tree.no_args o c) after = tt
 args_begin (tree.args o es c) after = tt
@@ -57,7 +57,7 @@ args_begin (tree.table_arg (tree.separated o fs c)) after = tt
 args_begin (tree.table_arg (tree.ending o fs f c)) after = tt
 args_begin (tree.string_arg l bytes) after = tt
 
-prefix_alike : (p : PrefixExp) (r other : Reader) (after : List Lexeme) → AlikeButNamed r other → (IsLone (tree.prefix p) → Behind IsNoAssign after) →
+prefix_alike : (p : PrefixExp) (r other : Reader) (after : List Lexeme) → AlikeButNamed r other → (IsLone (tree.prefix p) → ComesNext IsNoAssign after) →
     run r (print_prefixexp p after) ≡ run other (print_prefixexp p after)
 unfolding print_prefixexp
 prefix_alike (tree.variable l n) r other after h x = name_alike r other n l after h (x tt)
@@ -67,7 +67,7 @@ prefix_alike (tree.member p d l n) r other after h x = prefix_alike p r other (a
 prefix_alike (tree.call p a) r other after h x = prefix_alike p r other (print_args a after) h (λ lone. args_begin a after)
 prefix_alike (tree.method p c l n a) r other after h x = prefix_alike p r other (a_sign sign.Colon c (a_name l n (print_args a after))) h (λ lone. tt)
 
-pub exp_alike_but_named : (e : Exp) (r other : Reader) (after : List Lexeme) → AlikeButNamed r other → (IsLone e → Behind IsNoAssign after) →
+pub exp_alike_but_named : (e : Exp) (r other : Reader) (after : List Lexeme) → AlikeButNamed r other → (IsLone e → ComesNext IsNoAssign after) →
     run r (print_exp e after) ≡ run other (print_exp e after)
 unfolding print_exp
 exp_alike_but_named (tree.nil l) r other after h x = token_alike r other (Word word.Nil) l after h refl (λ n is. cc)
@@ -87,7 +87,7 @@ exp_alike_but_named (tree.unary unary.Length l e) r other after h x = token_alik
 exp_alike_but_named (tree.unary unary.Minus l e) r other after h x = token_alike r other (Sign sign.Minus) l (print_exp e after) h refl (λ n is. cc)
 
 -- no operator comes next, nothing that continues a prefix, and no `=`
-pub field_stops : (f : Field) (after : List Lexeme) → Behind IsNoOperator after → Behind IsApart after → Behind IsNoAssign after → FieldStops f after
+pub field_stops : (f : Field) (after : List Lexeme) → ComesNext IsNoOperator after → ComesNext IsApart after → ComesNext IsNoAssign after → FieldStops f after
 field_stops (tree.keyed o key c q e) after none apart assign = (stops e after none (λ h. apart), ends_in 1 after none)
 field_stops (tree.named l n q e) after none apart assign = (stops e after none (λ h. apart), ends_in 1 after none)
 field_stops (tree.plain e) after none apart assign = (stops e after none (λ h. apart), ends_in 1 after none, λ lone. assign)

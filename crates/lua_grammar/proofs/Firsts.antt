@@ -113,9 +113,9 @@ bare_frame = record { locals = []; captures = []; slots = 0 }
 
 empty_chunk : (program : Program) → ResolvesChunk 1 (tree.statements tree.no_stats) program → IsEmptyProgram program
 unfolding Resolves bare_frame
-empty_chunk program (kept, out, m, t, (no_out, same), (f, frame, around, top, is, ended), functions, files) =
-    let tops : Scope → Type 0 = λ x. x.around ≡ frame ∷ around in
-    let e : bare_frame ∷ [] ≡ frame ∷ around = subst tops same top in
+empty_chunk program (kept, out, m, t, (no_out, same), (f, frame, enclosing, top, is, ended), functions, files) =
+    let tops : Scope → Type 0 = λ x. x.enclosing ≡ frame ∷ enclosing in
+    let e : bare_frame ∷ [] ≡ frame ∷ enclosing = subst tops same top in
     let bare : frame ≡ bare_frame = cc in
     let listed : t.functions ≡ f ∷ [] = rw (ended, same) refl in
     let slots = rw bare at is.slots in

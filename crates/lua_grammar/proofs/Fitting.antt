@@ -1,4 +1,4 @@
--- In each function of a scope there is a slot for each local, and each capture is a variable of the function around it.
+-- In each function of a scope there is a slot for each local, and each capture is a variable of the function enclosing it.
 use Rattle.std.proofs.Common.{ℕ, suc, ◌<◌, ◌≤◌, List, map, [], ◌∷◌, ◌++◌, length, All, Option, Some, None, IfSome, subst, arith, if◌then◌else◌, true, false, le_refl}
 use Rattle.std.specs.List.{AllZip}
 use Rattle.std.specs.Str.{bytes_eq}

@@ -1,4 +1,4 @@
--- What a part of a tree may do to the functions around it: an expression keeps the locals of each, a statement those of all
+-- What a part of a tree may do to the functions enclosing it: an expression keeps the locals of each, a statement those of all
 -- but the innermost; slots and captures only grow.
 use Rattle.std.proofs.Common.{◌≡◌, ℕ, ◌≤◌, List, [], ◌∷◌, length, Option, Some, None, refl, sym, subst, arith, le_refl, ◌∙◌}
 use Rattle.std.specs.List.{AllZip}
@@ -19,7 +19,7 @@ pub record Steady (f g : Frame) : Type 0 where
 
 -- all frames keep their locals
 pub record Keeps (s t : Scope) : Type 0 where
-  pub frames : AllZip Steady s.around t.around
+  pub frames : AllZip Steady s.enclosing t.enclosing
 
 -- all but the innermost keep them
 unfoldable pub Went : List Frame → List Frame → Type 0
@@ -28,7 +28,7 @@ Went (f ∷ fs) (g ∷ gs) = Wider f g × AllZip Steady fs gs
 Went fs gs = ⊥
 
 pub record Goes (s t : Scope) : Type 0 where
-  pub frames : Went s.around t.around
+  pub frames : Went s.enclosing t.enclosing
 
 wider_refl : (f : Frame) → Wider f f
 wider_refl f = record { slots = le_refl f.slots; captures = le_refl (length f.captures) }
@@ -66,34 +66,34 @@ went_of [] (g ∷ gs) p = absurd p
 went_of (f ∷ fs) [] p = absurd p
 
 pub stays : {s t : Scope} → t ≡ s → Keeps s t
-stays {s = s} e = record { frames = subst (λ z. AllZip Steady s.around z.around) (sym e) (steady_refl s.around) }
+stays {s = s} e = record { frames = subst (λ z. AllZip Steady s.enclosing z.enclosing) (sym e) (steady_refl s.enclosing) }
 
 pub and_keeps : {s m t : Scope} → Keeps s m → Keeps m t → Keeps s t
-and_keeps {s = s} {m = m} {t = t} p q = record { frames = steady_trans s.around m.around t.around p.frames q.frames }
+and_keeps {s = s} {m = m} {t = t} p q = record { frames = steady_trans s.enclosing m.enclosing t.enclosing p.frames q.frames }
 
 pub goes : {s t : Scope} → Keeps s t → Goes s t
-goes {s = s} {t = t} p = record { frames = went_of s.around t.around p.frames }
+goes {s = s} {t = t} p = record { frames = went_of s.enclosing t.enclosing p.frames }
 
 pub and_goes : {s m t : Scope} → Goes s m → Goes m t → Goes s t
-and_goes {s = s} {m = m} {t = t} p q = record { frames = went_trans s.around m.around t.around p.frames q.frames }
+and_goes {s = s} {m = m} {t = t} p q = record { frames = went_trans s.enclosing m.enclosing t.enclosing p.frames q.frames }
 
 -- ---- names
 
-nearest_keeps : (name : Bytes) (f : Frame) (around : List Frame) (mine : Option Capture) (further : Option Capture × List Frame) →
-    AllZip Steady around further.1 → AllZip Steady (f ∷ around) (nearest name f around mine further).1
-nearest_keeps name f around (Some variable) further h = steady_refl (f ∷ around)
-nearest_keeps name f around None (None, others) h = (record { locals = refl; wider = wider_refl f }, h)
-nearest_keeps name f around None (Some variable, others) h =
+nearest_keeps : (name : Bytes) (f : Frame) (enclosing : List Frame) (mine : Option Capture) (further : Option Capture × List Frame) →
+    AllZip Steady enclosing further.1 → AllZip Steady (f ∷ enclosing) (nearest name f enclosing mine further).1
+nearest_keeps name f enclosing (Some variable) further h = steady_refl (f ∷ enclosing)
+nearest_keeps name f enclosing None (None, others) h = (record { locals = refl; wider = wider_refl f }, h)
+nearest_keeps name f enclosing None (Some variable, others) h =
     let e = length-append f.captures (record { name = name; variable = variable } ∷ []) in
     (record { locals = refl; wider = record { slots = le_refl f.slots; captures = omega (arith, e) } }, h)
 
-pub look_keeps : (name : Bytes) (around : List Frame) → AllZip Steady around (look name around).1
+pub look_keeps : (name : Bytes) (enclosing : List Frame) → AllZip Steady enclosing (look name enclosing).1
 unfolding look
 look_keeps name [] = steady_refl []
-look_keeps name (f ∷ around) = nearest_keeps name f around (own name f) (look name around) (look_keeps name around)
+look_keeps name (f ∷ enclosing) = nearest_keeps name f enclosing (own name f) (look name enclosing) (look_keeps name enclosing)
 
 pub name_keeps : {l : Line} {n : Bytes} {s t : Scope} {e : _} → ResolvesName l n s e t → Keeps s t
-name_keeps {n = n} {s = s} r = record { frames = subst (λ z. AllZip Steady s.around z.around) (sym r.scope) (look_keeps n s.around) }
+name_keeps {n = n} {s = s} r = record { frames = subst (λ z. AllZip Steady s.enclosing z.enclosing) (sym r.scope) (look_keeps n s.enclosing) }
 
 -- ---- locals
 
@@ -108,10 +108,10 @@ left_went count [] = tt
 left_went count (f ∷ fs) = (record { slots = le_refl f.slots; captures = le_refl (length f.captures) }, steady_refl fs)
 
 pub declare_goes : (names : List Bytes) (s : Scope) → Goes s (declare names s)
-declare_goes names s = record { frames = declared_went names s.around }
+declare_goes names s = record { frames = declared_went names s.enclosing }
 
 pub leave_goes : {t : Scope} (k m : Scope) → t ≡ leave k m → Goes m t
-leave_goes k m e = record { frames = subst (λ z. Went m.around z.around) (sym e) (left_went (in_scope k) m.around) }
+leave_goes k m e = record { frames = subst (λ z. Went m.enclosing z.enclosing) (sym e) (left_went (in_scope k) m.enclosing) }
 
 -- ---- functions
 
@@ -125,6 +125,6 @@ inner_wider f fs g gs all e h = let k = subst (Went (f ∷ fs)) e h in k.0
 
 pub ended_keeps : (line : Line) (names : List Bytes) (rest : _) (kept : Function) (out : _) (s m t : Scope) → Goes (enter names kept s) m →
     EndsFunction line names rest out s m t → Keeps s t
-ended_keeps line names rest kept out s m t h (f, frame, around, top, is, ended) = record {
-  frames = subst (λ z. AllZip Steady s.around z.around) (sym ended) (inner_kept _ s.around frame around m.around top h.frames);
+ended_keeps line names rest kept out s m t h (f, frame, enclosing, top, is, ended) = record {
+  frames = subst (λ z. AllZip Steady s.enclosing z.enclosing) (sym ended) (inner_kept _ s.enclosing frame enclosing m.enclosing top h.frames);
 }

@@ -1,4 +1,4 @@
--- What each part of a tree does to the functions around it.
+-- What each part of a tree does to the functions enclosing it.
 use Rattle.std.proofs.Common.{ℕ, List, [], ◌∷◌, ◌++◌}
 use Rattle.lua_ast.specs.declared.expressions.Expr.{Expr}
 use Rattle.lua_ast.specs.declared.expressions.TableItem.{TableItem}
@@ -6,7 +6,7 @@ use Rattle.lua_ast.specs.declared.statements.Stmt.{Stmt}
 use Rattle.lua_ast.specs.declared.statements.Arm.{Arm, out-Arm}
 use Rattle.lua_grammar.specs.Tree.{Line, Bytes, FuncName, Exp, PrefixExp, Args, ExpList, Table, Fields, Field, FuncBody, Block, Stats, Stat, Arms, LastStat, VarList}
 use Rattle.lua_grammar.specs.Tree as tree
-use Rattle.lua_grammar.specs.Validity.{takes_rest}
+use Rattle.lua_grammar.specs.Validity.{takes_vararg}
 use Rattle.lua_grammar.specs.Scopes.{Scope, declare, enter}
 use Rattle.lua_grammar.specs.Resolution.{ResolvesFuncName, Resolves, ResolvesPrefix, ResolvesArgs, ResolvesList, ResolvesTable, ResolvesFields, ResolvesField, ResolvesBody, Opens, ResolvesStats, ResolvesStat, ResolvesArms, ResolvesLast, ResolvesVars, names_of, names_of_params, self_name}
 use Rattle.lua_grammar.proofs.Frames.{Keeps, Goes, stays, and_keeps, goes, and_goes, name_keeps, declare_goes, leave_goes, ended_keeps}
@@ -65,7 +65,7 @@ mutual
   pub body_keeps : (before : List Bytes) (l : Line) (a : FuncBody) (s : Scope) (n : ℕ) (t : Scope) → ResolvesBody before l a s n t → Keeps s t
   body_keeps before l (tree.function_body o ps c b x) s n t (kept, out, m, p, ends, i) =
       let names = before ++ names_of_params ps in
-      ended_keeps l names (takes_rest ps) kept out s m t (block_goes b (enter names kept s) out m p) ends
+      ended_keeps l names (takes_vararg ps) kept out s m t (block_goes b (enter names kept s) out m p) ends
 
   pub block_goes : (a : Block) (s : Scope) (out : List Stmt) (t : Scope) → Opens a s out t → Goes s t
   block_goes (tree.statements ss) s out t p = stats_go ss s out t p

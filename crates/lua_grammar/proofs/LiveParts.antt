@@ -7,7 +7,7 @@ use Rattle.lua_lexer.specs.declared.words.Word.TheVariants as word
 use Rattle.lua_grammar.specs.Tree.{Line, Bytes, NameList, Params, Exp, PrefixExp, Args, ExpList, Table, Fields, Field, FuncBody, Block}
 use Rattle.lua_grammar.specs.Tree as tree
 use Rattle.lua_grammar.specs.Waiting.{Reader, token, more_exp, more_prefix, more_list, name, close_parenthesis, close_bracket, equals, comma, do_, then_, end_, until_}
-use Rattle.lua_grammar.specs.Reading.{block, list, body_behind, params, body, begin_prefix, begin_exp, begin_list, args, begin_args, after_field, field, fields}
+use Rattle.lua_grammar.specs.Reading.{block, list, body_after, params, body, begin_prefix, begin_exp, begin_list, args, begin_args, after_field, field, fields}
 use Rattle.lua_grammar.proofs.LiveStates.{CanGoOn, EndsExp, EndsList, EndsBlock, IsOpen, IsLive, IsLiveAt, IsLivePrefix, parenthesis_ends, bracket_ends, brace_ends, comma_ends, then_ends, parenthesis_ends_names, end_ends, until_ends, by_token, live_at_some, live_of_list, live_more_exp, live_more_list, live_more_stats, live_more_prefix, live_exp, live_prefix}
 
 -- ---- one token
@@ -90,21 +90,21 @@ live_list k live = live_exp 1 (λ e. more_list (tree.one e) k) (λ e. live_more_
 pub live_to_end : (k : Block → Line → Reader) → ((b : Block) (e : Line) → IsLive (k b e)) → IsLive (block (λ b. token (end_ (λ e. k b e))))
 live_to_end k live = live_block (λ b. token (end_ (λ e. k b e))) (λ b. live_end (k b) (live b))
 
-live_body_after : (o : Line) (k : FuncBody → Reader) → ((b : FuncBody) → IsLive (k b)) → (ps : Params) (c : Line) → IsLive (body_behind o k ps c)
+live_body_after : (o : Line) (k : FuncBody → Reader) → ((b : FuncBody) → IsLive (k b)) → (ps : Params) (c : Line) → IsLive (body_after o k ps c)
 live_body_after o k live ps c = live_to_end (λ b e. k (tree.function_body o ps c b e)) (λ b e. live (tree.function_body o ps c b e))
 
 -- parameters up to their `)`, and the body after them
 live_params_after : (o : Line) (k : FuncBody → Reader) → ((b : FuncBody) → IsLive (k b)) → (ps : Params)
-    → IsLiveAt EndsList (token (close_parenthesis (body_behind o k ps)))
-live_params_after o k live ps = live_close_parenthesis (body_behind o k ps) (live_body_after o k live ps)
+    → IsLiveAt EndsList (token (close_parenthesis (body_after o k ps)))
+live_params_after o k live ps = live_close_parenthesis (body_after o k ps) (live_body_after o k live ps)
 
 open_params : (o : Line) (k : FuncBody → Reader) → ((b : FuncBody) → IsLive (k b)) → (kind : TokenKind) (l : Line) → IsOpen (params o k kind l)
 open_params o k live (Sign sign.CloseParenthesis) c = (live_body_after o k live tree.no_params c).0
-open_params o k live (Sign sign.Ellipsis) d = (live_params_after o k live (tree.only_rest d)).0
+open_params o k live (Sign sign.Ellipsis) d = (live_params_after o k live (tree.only_vararg d)).0
 open_params o k live (Name n) l = λ those. (
   (live_params_after o k live (tree.names those)).0,
   (Sign sign.CloseParenthesis, parenthesis_ends_names, (live_body_after o k live (tree.names those) 1).1),
-  λ c d. (live_params_after o k live (tree.names_and_rest those c d)).0,
+  λ c d. (live_params_after o k live (tree.names_and_vararg those c d)).0,
 )
 open_params o k live other l = tt
 

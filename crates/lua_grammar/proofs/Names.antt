@@ -15,7 +15,7 @@ one_more name (y ∷ ys) x =
     rw (one_more name ys x) (elim (bytes_eq x name) as (λ b. later (if b then Some (length ys) else last_place name ys) (if bytes_eq y name then Some 0 else None)
     ≡ (if b then Some (length (y ∷ ys)) else later (last_place name ys) (if bytes_eq y name then Some 0 else None))) [ true ↦ rw (add-one (length ys)) refl | false ↦ refl ])
 
-pub newest : (name : Bytes) (f : Frame) (around : List Frame) →
-    look name (with_locals (name ∷ []) f ∷ around) ≡ (Some (Slot (length f.locals)), with_locals (name ∷ []) f ∷ around)
+pub newest : (name : Bytes) (f : Frame) (enclosing : List Frame) →
+    look name (with_locals (name ∷ []) f ∷ enclosing) ≡ (Some (Slot (length f.locals)), with_locals (name ∷ []) f ∷ enclosing)
 unfolding look own
-newest name f around = rw (one_more name f.locals name, (bytes_eq-Decides name name).1 refl) refl
+newest name f enclosing = rw (one_more name f.locals name, (bytes_eq-Decides name name).1 refl) refl

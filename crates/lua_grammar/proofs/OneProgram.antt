@@ -10,7 +10,7 @@ use Rattle.lua_ast.specs.SameProgram.{SameExpr, SameItem, SameStmt, SameArm, Sam
 use Rattle.lua_lexer.specs.declared.tokens.Token.{Token}
 use Rattle.lua_grammar.specs.Tree.{Line, Bytes, FuncName, Exp, PrefixExp, Args, ExpList, Table, Fields, Field, FuncBody, Block, Stats, Stat, Arms, LastStat, VarList}
 use Rattle.lua_grammar.specs.Tree as tree
-use Rattle.lua_grammar.specs.Validity.{takes_rest}
+use Rattle.lua_grammar.specs.Validity.{takes_vararg}
 use Rattle.lua_grammar.specs.Scopes.{Scope, declare, enter, in_scope}
 use Rattle.lua_grammar.specs.Resolution.{Index, ResolvesFuncName, Resolves, ResolvesPrefix, ResolvesArgs, ResolvesList, ResolvesTable, ResolvesFields, ResolvesField, ResolvesBody, Opens, ResolvesStats, ResolvesStat, ResolvesArms, ResolvesLast, ResolvesVars, Shared, args_line, vars_line, prefix_line, arms_line, names_of, names_of_params, self_name}
 use Rattle.lua_grammar.specs.Printing.{lexemes}
@@ -128,7 +128,7 @@ mutual
       let names = before ++ names_of_params ps in
       let near = entered_like names kept kept' s s' like in
       let inner = block_agrees b (enter names kept s) (enter names kept' s') out out' m m' p p' near in
-      last (ended_agrees l names (takes_rest ps) kept kept' out out' s s' m m' t t' like inner ends ends') λ h. i ∙ (h ∙ sym i')
+      last (ended_agrees l names (takes_vararg ps) kept kept' out out' s s' m m' t t' like inner ends ends') λ h. i ∙ (h ∙ sym i')
 
   block_agrees : (a : Block) (s s' : Scope) (out out' : List Stmt) (t t' : Scope) → Opens a s out t → Opens a s' out' t' → Like s s' →
       Agree s s' t t' (AllZip SameStmt out out')
@@ -243,7 +243,7 @@ mutual
 -- a chunk resolves to programs that are the same
 pub one_program : (line : Line) (chunk : Block) (p q : Program) → ResolvesChunk line chunk p → ResolvesChunk line chunk q → SameProgram p q
 one_program line chunk p q (kept, out, m, t, opens, ends, functions, files) (kept', out', m', t', opens', ends', functions', files') =
-    let alike : Like outside outside = record { around = refl; count = refl } in
+    let alike : Like outside outside = record { enclosing = refl; count = refl } in
     let inner = block_agrees chunk (enter [] kept outside) (enter [] kept' outside) out out' m m' opens opens' (entered_like [] kept kept' outside outside alike) in
     let a = ended_agrees line [] _ kept kept' out out' outside outside m m' t t' alike inner ends ends' in
     record {

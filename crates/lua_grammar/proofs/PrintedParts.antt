@@ -8,7 +8,7 @@ use Rattle.lua_grammar.specs.Tree.{Line, Bytes, Params, Exp, PrefixExp, Args, Ex
 use Rattle.lua_grammar.specs.Tree as tree
 use Rattle.lua_grammar.specs.Printing.{a_kind, a_word, a_sign, a_name, print_params, print_exp, print_prefixexp, print_args, print_explist, print_table, print_fields, print_field, print_funcbody, print_block}
 use Rattle.lua_grammar.specs.Waiting.{Reader, token, more_exp, more_prefix, more_list, name, close_parenthesis, close_bracket, equals, comma, do_, then_, end_, until_}
-use Rattle.lua_grammar.specs.Reading.{block, list, body_behind, params, body, begin_prefix, begin_exp, begin_list, args, begin_args, after_field, field, fields}
+use Rattle.lua_grammar.specs.Reading.{block, list, body_after, params, body, begin_prefix, begin_exp, begin_list, args, begin_args, after_field, field, fields}
 use Rattle.lua_grammar.proofs.PrintedStates.{Tokens, ◌∘◌, IsPrinted}
 
 -- ---- one token
@@ -76,7 +76,7 @@ printed_to_end k done printed =
 
 pub printed_body_after : (o : Line) (k : FuncBody → Reader) (done : Tokens) → ((b : FuncBody) → IsPrinted (done ∘ print_funcbody b) (k b))
     → (ps : Params) (c : Line)
-    → IsPrinted (done ∘ a_sign sign.OpenParenthesis o ∘ print_params ps ∘ a_sign sign.CloseParenthesis c) (body_behind o k ps c)
+    → IsPrinted (done ∘ a_sign sign.OpenParenthesis o ∘ print_params ps ∘ a_sign sign.CloseParenthesis c) (body_after o k ps c)
 unfolding print_exp
 printed_body_after o k done printed ps c =
     printed_to_end (λ b e. k (tree.function_body o ps c b e)) (done ∘ a_sign sign.OpenParenthesis o ∘ print_params ps ∘ a_sign sign.CloseParenthesis c)
@@ -85,19 +85,19 @@ printed_body_after o k done printed ps c =
 -- parameters up to their `)`
 printed_params_after : (o : Line) (k : FuncBody → Reader) (done : Tokens) → ((b : FuncBody) → IsPrinted (done ∘ print_funcbody b) (k b))
     → (ps : Params) (kind : TokenKind) (l : Line)
-    → IsPrinted (done ∘ a_sign sign.OpenParenthesis o ∘ print_params ps ∘ a_kind kind l) (close_parenthesis (body_behind o k ps) kind l)
+    → IsPrinted (done ∘ a_sign sign.OpenParenthesis o ∘ print_params ps ∘ a_kind kind l) (close_parenthesis (body_after o k ps) kind l)
 printed_params_after o k done printed ps =
-    printed_close_parenthesis (body_behind o k ps) (done ∘ a_sign sign.OpenParenthesis o ∘ print_params ps) (printed_body_after o k done printed ps)
+    printed_close_parenthesis (body_after o k ps) (done ∘ a_sign sign.OpenParenthesis o ∘ print_params ps) (printed_body_after o k done printed ps)
 
 pub printed_params : (o : Line) (k : FuncBody → Reader) (done : Tokens) → ((b : FuncBody) → IsPrinted (done ∘ print_funcbody b) (k b))
     → (kind : TokenKind) (l : Line) → IsPrinted (done ∘ a_sign sign.OpenParenthesis o ∘ a_kind kind l) (params o k kind l)
 printed_params o k done printed (Sign sign.CloseParenthesis) c = printed_body_after o k done printed tree.no_params c
-printed_params o k done printed (Sign sign.Ellipsis) d = printed_params_after o k done printed (tree.only_rest d)
+printed_params o k done printed (Sign sign.Ellipsis) d = printed_params_after o k done printed (tree.only_vararg d)
 printed_params o k done printed (Name n) l = (
   done ∘ a_sign sign.OpenParenthesis o,
   refl,
   λ those. printed_params_after o k done printed (tree.names those),
-  λ those c d. printed_params_after o k done printed (tree.names_and_rest those c d),
+  λ those c d. printed_params_after o k done printed (tree.names_and_vararg those c d),
 )
 printed_params o k done printed other l = tt
 

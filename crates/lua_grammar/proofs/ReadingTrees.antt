@@ -10,11 +10,11 @@ use Rattle.lua_grammar.specs.Operators.{kind_of, kind_of_unary, right_level}
 use Rattle.lua_grammar.specs.Tree.{Line, Bytes, NameList, Params, FuncName, End, Exp, PrefixExp, Args, ExpList, Table, Fields, Field, FuncBody, Block, Stats, Stat, Arms, LastStat, VarList}
 use Rattle.lua_grammar.specs.Tree as tree
 use Rattle.lua_grammar.specs.Printing.{Lexeme, a_kind, a_word, a_sign, print_names, print_params, print_funcname, print_end, print_exp, print_prefixexp, print_args, print_explist, print_table, print_fields, print_field, print_funcbody, print_block, print_stats, print_stat, print_arms, print_laststat, print_varlist}
-use Rattle.lua_grammar.specs.Validity.{takes_rest, IsValid, IsValidPrefix, IsValidArgs, AreValid, IsValidTable, AreValidFields, IsValidField, IsValidBody, IsValidBlock, AreValidStats, IsValidStat, AreValidArms, IsValidLast, AreValidVars, exp_level}
+use Rattle.lua_grammar.specs.Validity.{takes_vararg, IsValid, IsValidPrefix, IsValidArgs, AreValid, IsValidTable, AreValidFields, IsValidField, IsValidBody, IsValidBlock, AreValidStats, IsValidStat, AreValidArms, IsValidLast, AreValidVars, exp_level}
 use Rattle.lua_grammar.proofs.Grouping.{levels_of, within_left}
 use Rattle.lua_grammar.specs.Waiting.{Reader, token, exp, more_exp, more_prefix, more_list, more_fields, more_names, more_funcname, more_vars, more_arms, more_stats, after_return, close_parenthesis}
-use Rattle.lua_grammar.specs.Reading.{block, list, params, body_behind, args, begin_args, after_field, no_rest, next_statement, last_statement, assigns_or_calls, next_target, feed, run}
-use Rattle.lua_grammar.specs.Stopping.{Behind, IsNoAssign, FieldStops, IsApart, Stops, LastStops, EndStops, StatStops, StatsStop, LastStatStops, BlockStops, ArmsStop}
+use Rattle.lua_grammar.specs.Reading.{block, list, params, body_after, args, begin_args, after_field, no_rest, next_statement, last_statement, assigns_or_calls, next_target, feed, run}
+use Rattle.lua_grammar.specs.Stopping.{ComesNext, IsNoAssign, FieldStops, IsApart, Stops, LastStops, EndStops, StatStops, StatsStop, LastStatStops, BlockStops, ArmsStop}
 use Rattle.lua_grammar.proofs.Stopping.{stops, last_stops, names_end, stops_at, at_least_one, exp_goes_on, exp_ends, prefix_ends, list_ends, local_ends, calls, assigns, assigns_next, block_ends, statement_ends, return_ends}
 use Rattle.lua_grammar.proofs.Starts.{Alike, begins, list_alike, stat_follows, last_follows, stats_stop, block_stops, arms_stop}
 use Rattle.lua_grammar.proofs.FieldNames.{AlikeButNamed, exp_alike_but_named, field_stops}
@@ -27,11 +27,11 @@ names_read (tree.first_name l n) r k rest after h = ap (λ r. run r after) (h n 
 names_read (tree.next_name ns c l n) r k rest after h = names_read ns r k rest _ h
 
 pub params_read : (ps : Params) (o : Line) (k : FuncBody → Reader) (c : Line) (after : List Lexeme)
-    → run (token (params o k)) (print_params ps (a_sign sign.CloseParenthesis c after)) ≡ run (body_behind o k ps c) after
+    → run (token (params o k)) (print_params ps (a_sign sign.CloseParenthesis c after)) ≡ run (body_after o k ps c) after
 params_read tree.no_params o k c after = refl
 params_read (tree.names ns) o k c after = names_read ns _ _ _ _ (λ n l. refl)
-params_read (tree.names_and_rest ns d l) o k c after = names_read ns _ _ _ _ (λ n l. refl)
-params_read (tree.only_rest d) o k c after = refl
+params_read (tree.names_and_vararg ns d l) o k c after = names_read ns _ _ _ _ (λ n l. refl)
+params_read (tree.only_vararg d) o k c after = refl
 
 pub funcname_read : (f : FuncName) (r : Reader) (k : FuncName → Reader) (after : List Lexeme)
     → ((n : Bytes) (l : Line) → feed r (Name n) l ≡ more_funcname (tree.root_name l n) k) → run r (print_funcname f after) ≡ run (more_funcname f k) after
@@ -185,7 +185,7 @@ mutual
   body_read (tree.function_body o ps c b x) r k after h v =
       ap (λ r. run r (print_params ps (a_sign sign.CloseParenthesis c (print_block b (a_word word.End x after))))) (h o)
       ∙ params_read ps o k c _
-      ∙ block_read b (takes_rest ps) false _ (a_word word.End x after) v (block_stops b _ tt)
+      ∙ block_read b (takes_vararg ps) false _ (a_word word.End x after) v (block_stops b _ tt)
 
   pub block_read : (b : Block) (rest : Bool) (loop : Bool) (k : Block → Reader) (after : List Lexeme) → IsValidBlock rest loop b → BlockStops b after
       → run (block k) (print_block b after) ≡ run (k b) after
@@ -265,7 +265,7 @@ mutual
       ∙ block_read b rest loop _ after v.2 x
 
   pub vars_read : (vs : VarList) (rest : Bool) (r : Reader) (k : Stat → Reader) (after : List Lexeme) → BeginsPrefix r (assigns_or_calls k)
-      → AreValidVars rest vs → Behind IsApart after → run r (print_varlist vs after) ≡ run (more_vars vs k) after
+      → AreValidVars rest vs → ComesNext IsApart after → run r (print_varlist vs after) ≡ run (more_vars vs k) after
   vars_read (tree.one_var p) rest r k after b v a =
       prefix_read p rest r _ after b v.0 ∙ prefix_ends p _ after a ∙ ap (λ r. run r after) (assigns p k v.1)
   vars_read (tree.more_vars vs c p) rest r k after b v a =

@@ -6,39 +6,39 @@ use Rattle.lua_ast.specs.declared.statements.Stmt.{Stmt}
 use Rattle.lua_ast.specs.declared.statements.Arm.{Arm, out-Arm}
 use Rattle.lua_grammar.specs.Tree.{Line, Bytes, FuncName, Exp, PrefixExp, Args, ExpList, Table, Fields, Field, FuncBody, Block, Stats, Stat, Arms, LastStat, VarList}
 use Rattle.lua_grammar.specs.Tree as tree
-use Rattle.lua_grammar.specs.Validity.{takes_rest}
+use Rattle.lua_grammar.specs.Validity.{takes_vararg}
 use Rattle.lua_grammar.specs.Scopes.{Scope, look, declare, declare_in, leave, leave_in, count_in, enter}
 use Rattle.lua_grammar.specs.Resolution.{ResolvesName, EndsFunction, ResolvesFuncName, Resolves, ResolvesPrefix, ResolvesArgs, ResolvesList, ResolvesTable, ResolvesFields, ResolvesField, ResolvesBody, Opens, ResolvesStats, ResolvesStat, ResolvesArms, ResolvesLast, ResolvesVars, names_of, names_of_params, self_name}
 
 pub record Alike (s s' : Scope) : Type 0 where
-  pub around : s.around ≡ s'.around
+  pub enclosing : s.enclosing ≡ s'.enclosing
 
 still : {s s' t t' : Scope} → Alike s s' → t ≡ s → t' ≡ s' → Alike t t'
-still a p q = record { around = ap (λ z. z.around) p ∙ (a.around ∙ sym (ap (λ z. z.around) q)) }
+still a p q = record { enclosing = ap (λ z. z.enclosing) p ∙ (a.enclosing ∙ sym (ap (λ z. z.enclosing) q)) }
 
 name_alike : (l : Line) (n : Bytes) (s s' : Scope) (e e' : Expr) (t t' : Scope) → ResolvesName l n s e t → ResolvesName l n s' e' t' → Alike s s' → Alike t t'
 name_alike l n s s' e e' t t' r r' a = record {
-  around = ap (λ z. z.around) r.scope ∙ (ap (λ fs. (look n fs).1) a.around ∙ sym (ap (λ z. z.around) r'.scope));
+  enclosing = ap (λ z. z.enclosing) r.scope ∙ (ap (λ fs. (look n fs).1) a.enclosing ∙ sym (ap (λ z. z.enclosing) r'.scope));
 }
 
 declared : {m m' : Scope} (names : List Bytes) → Alike m m' → Alike (declare names m) (declare names m')
-declared names a = record { around = ap (declare_in names) a.around }
+declared names a = record { enclosing = ap (declare_in names) a.enclosing }
 
 left : {t t' : Scope} (k k' m m' : Scope) → t ≡ leave k m → t' ≡ leave k' m' → Alike k k' → Alike m m' → Alike t t'
 left k k' m m' p q a b = record {
-  around = ap (λ z. z.around) p ∙ (ap (leave_in (count_in k.around)) b.around
-      ∙ (ap (λ fs. leave_in (count_in fs) m'.around) a.around ∙ sym (ap (λ z. z.around) q)));
+  enclosing = ap (λ z. z.enclosing) p ∙ (ap (leave_in (count_in k.enclosing)) b.enclosing
+      ∙ (ap (λ fs. leave_in (count_in fs) m'.enclosing) a.enclosing ∙ sym (ap (λ z. z.enclosing) q)));
 }
 
 entered : (names : List Bytes) (kept kept' : _) (s s' : Scope) → Alike s s' → Alike (enter names kept s) (enter names kept' s')
-entered names kept kept' s s' a = record { around = ap (λ fs. (enter names kept (record s { around = fs })).around) a.around }
+entered names kept kept' s s' a = record { enclosing = ap (λ fs. (enter names kept (record s { enclosing = fs })).enclosing) a.enclosing }
 
 ended : (line : Line) (names : List Bytes) (rest : _) (out out' : List Stmt) (s s' m m' t t' : Scope) → EndsFunction line names rest out s m t →
     EndsFunction line names rest out' s' m' t' → Alike m m' → Alike t t'
-ended line names rest out out' s s' m m' t t' (f, frame, around, top, is, e) (f', frame', around', top', is', e') a =
-    let tops : frame ∷ around ≡ frame' ∷ around' = sym top ∙ (a.around ∙ top') in
-    let arounds : around ≡ around' = cc (tops) in
-    record { around = ap (λ z. z.around) e ∙ (arounds ∙ sym (ap (λ z. z.around) e')) }
+ended line names rest out out' s s' m m' t t' (f, frame, enclosing, top, is, e) (f', frame', enclosing', top', is', e') a =
+    let tops : frame ∷ enclosing ≡ frame' ∷ enclosing' = sym top ∙ (a.enclosing ∙ top') in
+    let arounds : enclosing ≡ enclosing' = cc (tops) in
+    record { enclosing = ap (λ z. z.enclosing) e ∙ (arounds ∙ sym (ap (λ z. z.enclosing) e')) }
 
 pub funcname_alike : (a : FuncName) (s s' : Scope) (e e' : Expr) (t t' : Scope) → ResolvesFuncName a s e t → ResolvesFuncName a s' e' t' → Alike s s' → Alike t t'
 funcname_alike (tree.root_name l n) s s' e e' t t' r r' z = name_alike l n s s' e e' t t' r r' z
@@ -105,7 +105,7 @@ mutual
       ResolvesBody before l a s' n' t' → Alike s s' → Alike t t'
   body_alike before l (tree.function_body o ps c b x) s s' n n' t t' (kept, out, m, p, ends, i) (kept', out', m', p', ends', i') z =
       let names = before ++ names_of_params ps in
-      ended l names (takes_rest ps) out out' s s' m m' t t' ends ends'
+      ended l names (takes_vararg ps) out out' s s' m m' t t' ends ends'
       (block_alike b (enter names kept s) (enter names kept' s') out out' m m' p p' (entered names kept kept' s s' z))
 
   pub block_alike : (a : Block) (s s' : Scope) (out out' : List Stmt) (t t' : Scope) → Opens a s out t → Opens a s' out' t' → Alike s s' → Alike t t'

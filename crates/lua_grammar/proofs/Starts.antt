@@ -11,7 +11,7 @@ use Rattle.lua_grammar.specs.Printing.{Lexeme, a_sign, print_exp, print_prefixex
 use Rattle.lua_grammar.specs.Validity.{MayFollow, StatEndsWithPrefix, BeginsWithParen, VarsBeginWithParen, StatBeginsWithParen}
 use Rattle.lua_grammar.specs.Waiting.{Reader}
 use Rattle.lua_grammar.specs.Reading.{feed, run}
-use Rattle.lua_grammar.specs.Stopping.{IsBlockEnd, IsReturnEnd, LastStatStops, BlockStops, ArmsStop, Behind, IsNoOperator, IsApart, IsNoComma, IsNoAssign, IsNoSemicolon, LastStops, StatStops, EndStops, StatsStop}
+use Rattle.lua_grammar.specs.Stopping.{IsBlockEnd, IsReturnEnd, LastStatStops, BlockStops, ArmsStop, ComesNext, IsNoOperator, IsApart, IsNoComma, IsNoAssign, IsNoSemicolon, LastStops, StatStops, EndStops, StatsStop}
 use Rattle.lua_grammar.proofs.Stopping.{last_stops, ends_in, stops, IsStart, IsNext, IsNoParen, weaker}
 
 -- ---- kinds of tokens
@@ -61,7 +61,7 @@ block_end_ends_return : (kind : TokenKind) → IsBlockEnd kind → IsReturnEnd k
 block_end_ends_return (Sign sign.Semicolon) h = tt
 block_end_ends_return kind h = h
 
-start_is_apart : (after : List Lexeme) → Behind IsStart after → Behind IsNoParen after → Behind IsApart after
+start_is_apart : (after : List Lexeme) → ComesNext IsStart after → ComesNext IsNoParen after → ComesNext IsApart after
 start_is_apart [] h k = h
 start_is_apart (first ∷ after) h k = at first.kind h k
   where
@@ -118,7 +118,7 @@ list_alike (tree.more es c e) r other after h = list_alike es r other _ h
 
 -- the first token begins a statement, and is `(` only where that is said
 abbrev Starts : Type 0 → List Lexeme → Type 0
-Starts paren xs = Behind IsStart xs × ((paren → ⊥) → Behind IsNoParen xs)
+Starts paren xs = ComesNext IsStart xs × ((paren → ⊥) → ComesNext IsNoParen xs)
 
 prefix_starts : (p : PrefixExp) (after : List Lexeme) → Starts (BeginsWithParen p) (print_prefixexp p after)
 unfolding print_prefixexp
@@ -147,7 +147,7 @@ stat_starts (tree.if_then arms x) after = arms_start arms _
 stat_starts (tree.if_else arms l b x) after = arms_start arms _
 stat_starts other after = (tt, λ h. tt)
 
-last_starts : (s : LastStat) (after : List Lexeme) → Behind IsStart (print_laststat s after) × Behind IsNoParen (print_laststat s after)
+last_starts : (s : LastStat) (after : List Lexeme) → ComesNext IsStart (print_laststat s after) × ComesNext IsNoParen (print_laststat s after)
 unfolding print_laststat
 last_starts (tree.return_none r) after = (tt, tt)
 last_starts (tree.return_values r es) after = (tt, tt)
@@ -155,8 +155,8 @@ last_starts (tree.break_ b) after = (tt, tt)
 
 -- what may stand after statements
 abbrev pub Follows : Stats → List Lexeme → Type 0
-Follows (tree.more_stats ss s tree.bare) after = Behind IsStart after × (StatEndsWithPrefix s → Behind IsNoParen after)
-Follows (tree.more_stats ss s (tree.closed l)) after = Behind IsStart after
+Follows (tree.more_stats ss s tree.bare) after = ComesNext IsStart after × (StatEndsWithPrefix s → ComesNext IsNoParen after)
+Follows (tree.more_stats ss s (tree.closed l)) after = ComesNext IsStart after
 Follows tree.no_stats after = Unit {0}
 
 pub stat_follows : (ss : Stats) (s : Stat) (after : List Lexeme) → MayFollow ss s → Follows ss (print_stat s after)
@@ -164,7 +164,7 @@ stat_follows tree.no_stats s after h = tt
 stat_follows (tree.more_stats ss before tree.bare) s after h = let starts = stat_starts s after in (starts.0, λ ends. starts.1 (h ends))
 stat_follows (tree.more_stats ss before (tree.closed l)) s after h = (stat_starts s after).0
 
-follows : (ss : Stats) (after : List Lexeme) → Behind IsStart after → Behind IsNoParen after → Follows ss after
+follows : (ss : Stats) (after : List Lexeme) → ComesNext IsStart after → ComesNext IsNoParen after → Follows ss after
 follows tree.no_stats after h k = tt
 follows (tree.more_stats ss s tree.bare) after h k = (h, λ ends. k)
 follows (tree.more_stats ss s (tree.closed l)) after h k = h
@@ -172,24 +172,24 @@ follows (tree.more_stats ss s (tree.closed l)) after h k = h
 pub last_follows : (ss : Stats) (s : LastStat) (after : List Lexeme) → Follows ss (print_laststat s after)
 last_follows ss s after = let starts = last_starts s after in follows ss _ starts.0 starts.1
 
-pub end_follows : (ss : Stats) (after : List Lexeme) → Behind IsBlockEnd after → Follows ss after
+pub end_follows : (ss : Stats) (after : List Lexeme) → ComesNext IsBlockEnd after → Follows ss after
 end_follows ss after h = follows ss after (weaker IsBlockEnd IsStart after block_end_starts h) (weaker IsBlockEnd IsNoParen after block_end_is_no_paren h)
 
 -- what stands after a statement, be it a `;` or another
 pub record IsAfter (s : Type 0) (xs : List Lexeme) : Type 0 where
-  pub next : Behind IsNext xs
-  pub apart : s → Behind IsApart xs
+  pub next : ComesNext IsNext xs
+  pub apart : s → ComesNext IsApart xs
 
 pub after_stat : (ss : Stats) (s : Stat) (x : End) (after : List Lexeme) → Follows (tree.more_stats ss s x) after → IsAfter (StatEndsWithPrefix s) (print_end x after)
 after_stat ss s tree.bare after h =
     record { next = weaker IsStart IsNext after start_is_next h.0; apart = λ ends. start_is_apart after h.0 (h.1 ends) }
 after_stat ss s (tree.closed l) after h = record { next = tt; apart = λ ends. tt }
 
-pub starts_after : (ss : Stats) (s : Stat) (x : End) (after : List Lexeme) → Follows (tree.more_stats ss s x) after → Behind IsStart after
+pub starts_after : (ss : Stats) (s : Stat) (x : End) (after : List Lexeme) → Follows (tree.more_stats ss s x) after → ComesNext IsStart after
 starts_after ss s tree.bare after h = h.0
 starts_after ss s (tree.closed l) after h = h
 
-pub after_last : (x : End) (after : List Lexeme) → Behind IsBlockEnd after → IsAfter (Unit {0}) (print_end x after)
+pub after_last : (x : End) (after : List Lexeme) → ComesNext IsBlockEnd after → IsAfter (Unit {0}) (print_end x after)
 after_last tree.bare after h =
     let starts = weaker IsBlockEnd IsStart after block_end_starts h in record {
       next = weaker IsStart IsNext after start_is_next starts;
@@ -197,7 +197,7 @@ after_last tree.bare after h =
     }
 after_last (tree.closed l) after h = record { next = tt; apart = λ ends. tt }
 
-pub return_ends_there : (x : End) (after : List Lexeme) → Behind IsBlockEnd after → Behind IsReturnEnd (print_end x after)
+pub return_ends_there : (x : End) (after : List Lexeme) → ComesNext IsBlockEnd after → ComesNext IsReturnEnd (print_end x after)
 return_ends_there tree.bare after h = weaker IsBlockEnd IsReturnEnd after block_end_ends_return h
 return_ends_there (tree.closed l) after h = tt
 
@@ -215,7 +215,7 @@ start_no_semicolon : (kind : TokenKind) → IsStart kind → IsNoSemicolon kind
 start_no_semicolon (Sign sign.Semicolon) h = absurd h
 start_no_semicolon kind h = tt
 
-none : (after : List Lexeme) → Behind IsNext after → Behind IsNoOperator after
+none : (after : List Lexeme) → ComesNext IsNext after → ComesNext IsNoOperator after
 none after h = weaker IsNext IsNoOperator after no_operator h
 
 pub stat_stops : (s : Stat) (after : List Lexeme) → IsAfter (StatEndsWithPrefix s) after → StatStops s after
@@ -226,7 +226,7 @@ stat_stops (tree.local l ns) after b = (weaker IsNext IsNoComma after next_no_co
 stat_stops (tree.local_values l ns q es) after b = (last_stops es after (none after b.next) b.apart, weaker IsNext IsNoComma after next_no_comma b.next)
 stat_stops other after b = tt
 
-end_stops : (x : End) (after : List Lexeme) → Behind IsStart after → EndStops x after
+end_stops : (x : End) (after : List Lexeme) → ComesNext IsStart after → EndStops x after
 end_stops tree.bare after h = weaker IsStart IsNoSemicolon after start_no_semicolon h
 end_stops (tree.closed l) after h = tt
 
@@ -235,24 +235,24 @@ stats_stop tree.no_stats after f = tt
 stats_stop (tree.more_stats ss s x) after f = (stat_stops s (print_end x after) (after_stat ss s x after f), end_stops x after (starts_after ss s x after f))
 
 -- after the last statement of a block
-pub last_ends : (x : End) (after : List Lexeme) → Behind IsBlockEnd after → EndStops x after
+pub last_ends : (x : End) (after : List Lexeme) → ComesNext IsBlockEnd after → EndStops x after
 last_ends x after h = end_stops x after (weaker IsBlockEnd IsStart after block_end_starts h)
 
-pub last_list : (es : ExpList) (x : End) (after : List Lexeme) → Behind IsBlockEnd after → LastStops es (print_end x after) × Behind IsNoComma (print_end x after)
+pub last_list : (es : ExpList) (x : End) (after : List Lexeme) → ComesNext IsBlockEnd after → LastStops es (print_end x after) × ComesNext IsNoComma (print_end x after)
 last_list es x after h =
     let b = after_last x after h in
     (last_stops es _ (none _ b.next) (λ ends. b.apart tt), weaker IsNext IsNoComma (print_end x after) next_no_comma b.next)
 
-last_stat_stops : (s : LastStat) (x : End) (after : List Lexeme) → Behind IsBlockEnd after → LastStatStops s (print_end x after)
+last_stat_stops : (s : LastStat) (x : End) (after : List Lexeme) → ComesNext IsBlockEnd after → LastStatStops s (print_end x after)
 last_stat_stops (tree.return_none r) x after h = return_ends_there x after h
 last_stat_stops (tree.return_values r es) x after h = last_list es x after h
 last_stat_stops (tree.break_ b) x after h = tt
 
 -- where a block ends
-pub block_stops : (b : Block) (after : List Lexeme) → Behind IsBlockEnd after → BlockStops b after
+pub block_stops : (b : Block) (after : List Lexeme) → ComesNext IsBlockEnd after → BlockStops b after
 block_stops (tree.statements ss) after h = (stats_stop ss after (end_follows ss after h), h)
 block_stops (tree.with_last ss s x) after h = (last_stat_stops s x after h, last_ends x after h)
 
-pub arms_stop : (arms : Arms) (after : List Lexeme) → Behind IsBlockEnd after → ArmsStop arms after
+pub arms_stop : (arms : Arms) (after : List Lexeme) → ComesNext IsBlockEnd after → ArmsStop arms after
 arms_stop (tree.if_arm i t h b) after e = block_stops b after e
 arms_stop (tree.elseif_arm those i t h b) after e = block_stops b after e

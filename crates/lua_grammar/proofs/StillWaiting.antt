@@ -1,4 +1,4 @@
--- Behind the tokens of a valid tree, whatever comes next, a reader of the tree waits for a token.
+-- ComesNext the tokens of a valid tree, whatever comes next, a reader of the tree waits for a token.
 use Rattle.std.proofs.Common.{◌≡◌, ℕ, ◌≤◌, Bool, true, [], refl, ap, sym, subst, ◌∙◌, arith}
 use Rattle.lua_lexer.specs.declared.signs.Sign.TheVariants as sign
 use Rattle.lua_lexer.specs.declared.words.Word.TheVariants as word

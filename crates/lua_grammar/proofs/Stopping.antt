@@ -14,7 +14,7 @@ use Rattle.lua_grammar.specs.Tree.{Line, NameList, End, Exp, PrefixExp, ExpList,
 use Rattle.lua_grammar.specs.Tree as tree
 use Rattle.lua_grammar.specs.Printing.{Lexeme, a_kind, print_end}
 use Rattle.lua_grammar.specs.Validity.{IsValid, IsCall, IsVariable, EndsWithPrefix, ListEndsWithPrefix, exp_level}
-use Rattle.lua_grammar.specs.Stopping.{Behind, EndsAt, IsBlockEnd, IsReturnEnd, IsNoOperator, IsApart, IsNoComma, IsNoAssign, IsNoSemicolon, Stops, LastStops, EndStops}
+use Rattle.lua_grammar.specs.Stopping.{ComesNext, EndsAt, IsBlockEnd, IsReturnEnd, IsNoOperator, IsApart, IsNoComma, IsNoAssign, IsNoSemicolon, Stops, LastStops, EndStops}
 use Rattle.lua_grammar.proofs.Grouping.{levels_of, below_right, within_right, below_unary, some_level, fits_right, fits_unary, bounds}
 use Rattle.lua_grammar.specs.Waiting.{Reader, exp, more_exp, more_prefix, more_list, more_names, more_vars, more_stats, after_statement, after_local, after_return, operator_of, above}
 use Rattle.lua_grammar.specs.Reading.{assigns_or_calls, next_target, feed, run}
@@ -98,12 +98,12 @@ stops_at rest (tree.unary op' l' e) op l after v h = (
 )
 stops_at rest other op l after v h = tt
 
-pub ends_in : (m : ℕ) (after : List Lexeme) → Behind IsNoOperator after → Behind (EndsAt m) after
+pub ends_in : (m : ℕ) (after : List Lexeme) → ComesNext IsNoOperator after → ComesNext (EndsAt m) after
 ends_in m [] h = h
 ends_in m (first ∷ after) h = h m
 
 -- no operator comes next, and nothing that continues a prefix, if that is at the end
-pub stops : (e : Exp) (after : List Lexeme) → Behind IsNoOperator after → (EndsWithPrefix e → Behind IsApart after) → Stops e after
+pub stops : (e : Exp) (after : List Lexeme) → ComesNext IsNoOperator after → (EndsWithPrefix e → ComesNext IsApart after) → Stops e after
 stops (tree.prefix p) after h k = k tt
 stops (tree.binary a op l b) after h k = (ends_in (right_level op) after h, stops b after h k)
 stops (tree.unary op l e) after h k = (ends_in 7 after h, stops e after h k)
@@ -118,11 +118,11 @@ at_least_one other = lit≤ tt
 
 -- two readers do the same with the first token
 pub by_first : (P : TokenKind → Type 0) (r other : Reader) (after : List Lexeme) → ((kind : TokenKind) (l : Line) → P kind → feed r kind l ≡ feed other kind l)
-    → Behind P after → run r after ≡ run other after
+    → ComesNext P after → run r after ≡ run other after
 by_first P r other [] same h = absurd h
 by_first P r other (first ∷ after) same h = ap (λ r. run r after) (same first.kind first.line h)
 
-pub weaker : (P Q : TokenKind → Type 0) (after : List Lexeme) → ((kind : TokenKind) → P kind → Q kind) → Behind P after → Behind Q after
+pub weaker : (P Q : TokenKind → Type 0) (after : List Lexeme) → ((kind : TokenKind) → P kind → Q kind) → ComesNext P after → ComesNext Q after
 weaker P Q [] f h = h
 weaker P Q (first ∷ after) f h = f first.kind h
 
@@ -130,10 +130,10 @@ pub exp_goes_on : (m : ℕ) (a : Exp) (op : Operator) (l : Line) (k : Exp → Re
     → feed (more_exp m a k) (kind_of op) l ≡ exp (right_level op) (λ b. more_exp m (tree.binary a op l b) k)
 exp_goes_on m a op l k h = rw (goes_on m op h, feed) refl
 
-pub exp_ends : (m : ℕ) (e : Exp) (k : Exp → Reader) (after : List Lexeme) → Behind (EndsAt m) after → run (more_exp m e k) after ≡ run (k e) after
+pub exp_ends : (m : ℕ) (e : Exp) (k : Exp → Reader) (after : List Lexeme) → ComesNext (EndsAt m) after → run (more_exp m e k) after ≡ run (k e) after
 exp_ends m e k after h = by_first (EndsAt m) _ _ after (λ kind l ends. rw (ends, feed) refl) h
 
-pub prefix_ends : (p : PrefixExp) (k : PrefixExp → Reader) (after : List Lexeme) → Behind IsApart after → run (more_prefix p k) after ≡ run (k p) after
+pub prefix_ends : (p : PrefixExp) (k : PrefixExp → Reader) (after : List Lexeme) → ComesNext IsApart after → run (more_prefix p k) after ≡ run (k p) after
 prefix_ends p k after h = by_first IsApart _ _ after at h
   where
     at : (kind : TokenKind) (l : Line) → IsApart kind → feed (more_prefix p k) kind l ≡ feed (k p) kind l
@@ -145,18 +145,18 @@ prefix_ends p k after h = by_first IsApart _ _ after at h
     at (Sign sign.OpenParenthesis) l h = absurd h
     at kind l h = refl
 
-pub last_stops : (es : ExpList) (after : List Lexeme) → Behind IsNoOperator after → (ListEndsWithPrefix es → Behind IsApart after) → LastStops es after
+pub last_stops : (es : ExpList) (after : List Lexeme) → ComesNext IsNoOperator after → (ListEndsWithPrefix es → ComesNext IsApart after) → LastStops es after
 last_stops (tree.one e) after h k = (stops e after h k, ends_in 1 after h)
 last_stops (tree.more es c e) after h k = (stops e after h k, ends_in 1 after h)
 
-pub list_ends : (es : ExpList) (k : ExpList → Reader) (after : List Lexeme) → Behind IsNoComma after → run (more_list es k) after ≡ run (k es) after
+pub list_ends : (es : ExpList) (k : ExpList → Reader) (after : List Lexeme) → ComesNext IsNoComma after → run (more_list es k) after ≡ run (k es) after
 list_ends es k after h = by_first IsNoComma _ _ after at h
   where
     at : (kind : TokenKind) (l : Line) → IsNoComma kind → feed (more_list es k) kind l ≡ feed (k es) kind l
     at (Sign sign.Comma) l h = absurd h
     at kind l h = refl
 
-pub names_end : (ns : NameList) (k : NameList → Reader) (rest : NameList → Line → Line → Reader) (after : List Lexeme) → Behind IsNoComma after
+pub names_end : (ns : NameList) (k : NameList → Reader) (rest : NameList → Line → Line → Reader) (after : List Lexeme) → ComesNext IsNoComma after
     → run (more_names ns k rest) after ≡ run (k ns) after
 names_end ns k rest after h = by_first IsNoComma _ _ after at h
   where
@@ -164,7 +164,7 @@ names_end ns k rest after h = by_first IsNoComma _ _ after at h
     at (Sign sign.Comma) l h = absurd h
     at kind l h = refl
 
-pub local_ends : (at_line : Line) (ns : NameList) (k : Stat → Reader) (after : List Lexeme) → Behind IsNoAssign after
+pub local_ends : (at_line : Line) (ns : NameList) (k : Stat → Reader) (after : List Lexeme) → ComesNext IsNoAssign after
     → run (after_local at_line ns k) after ≡ run (k (tree.local at_line ns)) after
 local_ends at_line ns k after h = by_first IsNoAssign _ _ after at h
   where
@@ -189,7 +189,7 @@ assigns_next (tree.item p o e q) vs c k h = refl
 assigns_next (tree.member p d l n) vs c k h = refl
 assigns_next p vs c k h = absurd h
 
-pub block_ends : (ss : Stats) (k : Block → Reader) (after : List Lexeme) → Behind IsBlockEnd after → run (more_stats ss k) after ≡ run (k (tree.statements ss)) after
+pub block_ends : (ss : Stats) (k : Block → Reader) (after : List Lexeme) → ComesNext IsBlockEnd after → run (more_stats ss k) after ≡ run (k (tree.statements ss)) after
 block_ends ss k after h = by_first IsBlockEnd _ _ after at h
   where
     at : (kind : TokenKind) (l : Line) → IsBlockEnd kind → feed (more_stats ss k) kind l ≡ feed (k (tree.statements ss)) kind l
@@ -207,7 +207,7 @@ statement_ends tree.bare k after h = by_first IsNoSemicolon _ _ after at h
     at (Sign sign.Semicolon) l h = absurd h
     at kind l h = refl
 
-pub return_ends : (r : Line) (k : LastStat → Reader) (after : List Lexeme) → Behind IsReturnEnd after
+pub return_ends : (r : Line) (k : LastStat → Reader) (after : List Lexeme) → ComesNext IsReturnEnd after
     → run (after_return r k) after ≡ run (k (tree.return_none r)) after
 return_ends r k after h = by_first IsReturnEnd _ _ after at h
   where

@@ -11,7 +11,7 @@ use Rattle.lua_ast.specs.declared.programs.Program.{Program}
 use Rattle.lua_ast.specs.WholeProgram.{HasInner, IsWholeExpr, IsWholeItem, IsWholeStmt, IsWholeArm, IsWholeFunction, IsWholeProgram}
 use Rattle.lua_grammar.specs.Tree.{Line, Bytes, FuncName, Exp, PrefixExp, Args, ExpList, Table, Fields, Field, FuncBody, Block, Stats, Stat, Arms, LastStat, VarList}
 use Rattle.lua_grammar.specs.Tree as tree
-use Rattle.lua_grammar.specs.Validity.{takes_rest}
+use Rattle.lua_grammar.specs.Validity.{takes_vararg}
 use Rattle.lua_grammar.specs.Scopes.{Captured, Frame, Scope, declare, enter, in_scope, slots_from}
 use Rattle.lua_grammar.specs.Resolution.{Index, ResolvesFuncName, Resolves, ResolvesPrefix, ResolvesArgs, ResolvesList, ResolvesTable, ResolvesFields, ResolvesField, ResolvesBody, Opens, ResolvesStats, ResolvesStat, ResolvesArms, ResolvesLast, ResolvesVars, Shared, args_line, arms_line, names_of, names_of_params, self_name}
 use Rattle.lua_grammar.specs.Grammar.{IsProgramOf, ResolvesChunk, outside}
@@ -35,7 +35,7 @@ appended_whole P xs before x e h = seen (All P) e (All-push P before x h.0 h.1)
 member_whole : (d l : Line) (n : Bytes) (x : Shared) (e : Expr) (all : List Function) (f : Function) → Index d x l n e → IsWholeExpr all f x.value → IsWholeExpr all f e
 member_whole d l n x e all f (key, k, i) h = seen (IsWholeExpr all f) i (h, seen (IsWholeExpr all f) k tt)
 
-funcname_whole : (a : FuncName) (s : Scope) (e : Expr) (t : Scope) → ResolvesFuncName a s e t → Fits s.around → Whole s t (λ all f. IsWholeExpr all f e)
+funcname_whole : (a : FuncName) (s : Scope) (e : Expr) (t : Scope) → ResolvesFuncName a s e t → Fits s.enclosing → Whole s t (λ all f. IsWholeExpr all f e)
 funcname_whole (tree.root_name l n) s e t r fit = name_whole l n s e t r fit
 funcname_whole (tree.name_member a d l n) s e t (x, p, i) fit = becomes (funcname_whole a s x.value t p fit) λ all f h. member_whole d l n x e all f i h
 
@@ -50,7 +50,7 @@ nothing_fits = tt
 mutual
   unfolding Resolves
 
-  exp_whole : (a : Exp) (s : Scope) (e : Expr) (t : Scope) → Resolves a s e t → Fits s.around → Whole s t (λ all f. IsWholeExpr all f e)
+  exp_whole : (a : Exp) (s : Scope) (e : Expr) (t : Scope) → Resolves a s e t → Fits s.enclosing → Whole s t (λ all f. IsWholeExpr all f e)
   exp_whole (tree.nil l) s e t (i, u) fit = still fit u λ all f. seen (IsWholeExpr all f) i tt
   exp_whole (tree.false_ l) s e t (i, u) fit = still fit u λ all f. seen (IsWholeExpr all f) i tt
   exp_whole (tree.true_ l) s e t (i, u) fit = still fit u λ all f. seen (IsWholeExpr all f) i tt
@@ -65,7 +65,7 @@ mutual
       seen (IsWholeExpr all f) i (binary_whole all f l op x y h.0 h.1)
   exp_whole (tree.unary op l b) s e t (x, p, i) fit = becomes (exp_whole b s x.value t p fit) λ all f h. seen (IsWholeExpr all f) i h
 
-  prefix_whole : (a : PrefixExp) (s : Scope) (e : Expr) (t : Scope) → ResolvesPrefix a s e t → Fits s.around → Whole s t (λ all f. IsWholeExpr all f e)
+  prefix_whole : (a : PrefixExp) (s : Scope) (e : Expr) (t : Scope) → ResolvesPrefix a s e t → Fits s.enclosing → Whole s t (λ all f. IsWholeExpr all f e)
   prefix_whole (tree.variable l n) s e t r fit = name_whole l n s e t r fit
   prefix_whole (tree.paren o b c) s e t (x, p, i) fit = becomes (exp_whole b s x.value t p fit) λ all f h. seen (IsWholeExpr all f) i h
   prefix_whole (tree.item a o b c) s e t (x, y, m, p, q, i) fit =
@@ -78,54 +78,54 @@ mutual
       becomes (also (prefix_whole a s x.value m p fit) λ fit. args_whole b m values.value.items t q fit) λ all f h.
       seen (IsWholeExpr all f) i (method_whole all f (args_line b) x n values h.0 h.1)
 
-  args_whole : (a : Args) (s : Scope) (es : List Expr) (t : Scope) → ResolvesArgs a s es t → Fits s.around → Whole s t (λ all f. All (IsWholeExpr all f) es)
+  args_whole : (a : Args) (s : Scope) (es : List Expr) (t : Scope) → ResolvesArgs a s es t → Fits s.enclosing → Whole s t (λ all f. All (IsWholeExpr all f) es)
   args_whole (tree.no_args o c) s es t (i, u) fit = still fit u λ all f. none_whole (IsWholeExpr all f) es i
   args_whole (tree.args o list c) s es t p fit = list_whole list s es t p fit
   args_whole (tree.table_arg a) s es t (e, p, i) fit = becomes (table_is_whole a s e t p fit) λ all f h. single_whole (IsWholeExpr all f) es e i h
   args_whole (tree.string_arg l n) s es t (i, u) fit = still fit u λ all f. single_whole (IsWholeExpr all f) es _ i tt
 
-  list_whole : (a : ExpList) (s : Scope) (es : List Expr) (t : Scope) → ResolvesList a s es t → Fits s.around → Whole s t (λ all f. All (IsWholeExpr all f) es)
+  list_whole : (a : ExpList) (s : Scope) (es : List Expr) (t : Scope) → ResolvesList a s es t → Fits s.enclosing → Whole s t (λ all f. All (IsWholeExpr all f) es)
   list_whole (tree.one b) s es t (e, p, i) fit = becomes (exp_whole b s e t p fit) λ all f h. single_whole (IsWholeExpr all f) es e i h
   list_whole (tree.more list c b) s es t (before, e, m, p, q, i) fit =
       becomes (also (list_whole list s before m p fit) λ fit. exp_whole b m e t q fit) λ all f h. appended_whole (IsWholeExpr all f) es before e i h
 
-  table_is_whole : (a : Table) (s : Scope) (e : Expr) (t : Scope) → ResolvesTable a s e t → Fits s.around → Whole s t (λ all f. IsWholeExpr all f e)
+  table_is_whole : (a : Table) (s : Scope) (e : Expr) (t : Scope) → ResolvesTable a s e t → Fits s.enclosing → Whole s t (λ all f. IsWholeExpr all f e)
   table_is_whole (tree.separated o fs c) s e t (items, p, i) fit =
       becomes (fields_whole fs s items.value.items t p fit) λ all f h. seen (IsWholeExpr all f) i (table_whole all f o items h)
   table_is_whole (tree.ending o fs g c) s e t (items, before, x, m, p, q, j, i) fit =
       becomes (also (fields_whole fs s before m p fit) λ fit. field_whole g m x t q fit) λ all f h.
       seen (IsWholeExpr all f) i (table_whole all f o items (appended_whole (IsWholeItem all f) items.value.items before x j h))
 
-  fields_whole : (a : Fields) (s : Scope) (xs : List TableItem) (t : Scope) → ResolvesFields a s xs t → Fits s.around →
+  fields_whole : (a : Fields) (s : Scope) (xs : List TableItem) (t : Scope) → ResolvesFields a s xs t → Fits s.enclosing →
       Whole s t (λ all f. All (IsWholeItem all f) xs)
   fields_whole tree.no_fields s xs t (i, u) fit = still fit u λ all f. none_whole (IsWholeItem all f) xs i
   fields_whole (tree.more_fields fs g c) s xs t (before, x, m, p, q, i) fit =
       becomes (also (fields_whole fs s before m p fit) λ fit. field_whole g m x t q fit) λ all f h. appended_whole (IsWholeItem all f) xs before x i h
 
-  field_whole : (a : Field) (s : Scope) (x : TableItem) (t : Scope) → ResolvesField a s x t → Fits s.around → Whole s t (λ all f. IsWholeItem all f x)
+  field_whole : (a : Field) (s : Scope) (x : TableItem) (t : Scope) → ResolvesField a s x t → Fits s.enclosing → Whole s t (λ all f. IsWholeItem all f x)
   field_whole (tree.keyed o a c q b) s x t (key, value, m, d, r, i) fit =
       becomes (also (exp_whole a s key m d fit) λ fit. exp_whole b m value t r fit) λ all f h. seen (IsWholeItem all f) i (h.0, h.1)
   field_whole (tree.named l n q b) s x t (value, r, i) fit = becomes (exp_whole b s value t r fit) λ all f h. seen (IsWholeItem all f) i (tt, h)
   field_whole (tree.plain b) s x t (value, r, i) fit = becomes (exp_whole b s value t r fit) λ all f h. seen (IsWholeItem all f) i h
 
-  body_whole : (before : List Bytes) (l : Line) (a : FuncBody) (s : Scope) (n : ℕ) (t : Scope) → ResolvesBody before l a s n t → Fits s.around →
+  body_whole : (before : List Bytes) (l : Line) (a : FuncBody) (s : Scope) (n : ℕ) (t : Scope) → ResolvesBody before l a s n t → Fits s.enclosing →
       Whole s t (λ all f. HasInner all f n)
   body_whole before l (tree.function_body o ps c b x) s n t (kept, out, m, p, ends, i) fit =
       let names = before ++ names_of_params ps in
-      becomes (ended_whole l names (takes_rest ps) kept out s m t (block_whole b (enter names kept s) out m p (entered_fits names s.around fit)) ends) λ all f h.
+      becomes (ended_whole l names (takes_vararg ps) kept out s m t (block_whole b (enter names kept s) out m p (entered_fits names s.enclosing fit)) ends) λ all f h.
       seen (HasInner all f) i h
 
-  block_whole : (a : Block) (s : Scope) (out : List Stmt) (t : Scope) → Opens a s out t → Fits s.around → Whole s t (λ all f. All (IsWholeStmt all f) out)
+  block_whole : (a : Block) (s : Scope) (out : List Stmt) (t : Scope) → Opens a s out t → Fits s.enclosing → Whole s t (λ all f. All (IsWholeStmt all f) out)
   block_whole (tree.statements ss) s out t p fit = stats_whole ss s out t p fit
   block_whole (tree.with_last ss l x) s out t (before, r, m, p, q, i) fit =
       becomes (also (stats_whole ss s before m p fit) λ fit. last_whole l m r t q fit) λ all f h. appended_whole (IsWholeStmt all f) out before r i h
 
-  stats_whole : (a : Stats) (s : Scope) (out : List Stmt) (t : Scope) → ResolvesStats a s out t → Fits s.around → Whole s t (λ all f. All (IsWholeStmt all f) out)
+  stats_whole : (a : Stats) (s : Scope) (out : List Stmt) (t : Scope) → ResolvesStats a s out t → Fits s.enclosing → Whole s t (λ all f. All (IsWholeStmt all f) out)
   stats_whole tree.no_stats s out t (i, u) fit = still fit u λ all f. none_whole (IsWholeStmt all f) out i
   stats_whole (tree.more_stats ss st x) s out t (before, r, m, p, q, i) fit =
       becomes (also (stats_whole ss s before m p fit) λ fit. stat_whole st m r t q fit) λ all f h. appended_whole (IsWholeStmt all f) out before r i h
 
-  stat_whole : (a : Stat) (s : Scope) (r : Stmt) (t : Scope) → ResolvesStat a s r t → Fits s.around → Whole s t (λ all f. IsWholeStmt all f r)
+  stat_whole : (a : Stat) (s : Scope) (r : Stmt) (t : Scope) → ResolvesStat a s r t → Fits s.enclosing → Whole s t (λ all f. IsWholeStmt all f r)
   stat_whole (tree.assign vs c es) s r t (xs, values, m, p, q, i) fit =
       becomes (also (vars_whole vs s xs.value.items m p fit) λ fit. list_whole es m values.value.items t q fit) λ all f h.
       seen (IsWholeStmt all f) i (h.0, h.1)
@@ -175,7 +175,7 @@ mutual
       becomes (also (list_whole es s values.value.items m p fit) λ fit. also (declares (names_of ns) m fit) λ fit. still fit u λ all f. tt {0}) λ all f h.
       seen (IsWholeStmt all f) i (seen (All (λ n. n < f.slots)) j h.1.0, h.0)
 
-  arms_whole : (a : Arms) (s : Scope) (list : List Arm) (t : Scope) → ResolvesArms a s list t → Fits s.around → Whole s t (λ all f. All (IsWholeArm all f) list)
+  arms_whole : (a : Arms) (s : Scope) (list : List Arm) (t : Scope) → ResolvesArms a s list t → Fits s.enclosing → Whole s t (λ all f. All (IsWholeArm all f) list)
   arms_whole (tree.if_arm i a h b) s list t (arm, m, k, p, q, u, j) fit =
       becomes (also (exp_whole a s (out-Arm arm).test m p fit) λ fit. also (block_whole b m (out-Arm arm).body.value.items k q fit) λ fit. leaves m k u fit) λ all f h.
       single_whole (IsWholeArm all f) list arm j (arm_whole all f arm h.0 h.1.0)
@@ -184,14 +184,14 @@ mutual
       also (block_whole b m (out-Arm arm).body.value.items k q fit) λ fit. leaves m k u fit) λ all f h.
       appended_whole (IsWholeArm all f) list before arm j (h.0, arm_whole all f arm h.1.0 h.1.1.0)
 
-  last_whole : (a : LastStat) (s : Scope) (r : Stmt) (t : Scope) → ResolvesLast a s r t → Fits s.around → Whole s t (λ all f. IsWholeStmt all f r)
+  last_whole : (a : LastStat) (s : Scope) (r : Stmt) (t : Scope) → ResolvesLast a s r t → Fits s.enclosing → Whole s t (λ all f. IsWholeStmt all f r)
   last_whole (tree.return_none l) s r t (values, v, i, u) fit =
       still fit u λ all f. seen (IsWholeStmt all f) i (none_whole (IsWholeExpr all f) values.value.items v)
   last_whole (tree.return_values l es) s r t (values, p, i) fit =
       becomes (list_whole es s values.value.items t p fit) λ all f h. seen (IsWholeStmt all f) i h
   last_whole (tree.break_ l) s r t (i, u) fit = still fit u λ all f. seen (IsWholeStmt all f) i tt
 
-  vars_whole : (a : VarList) (s : Scope) (es : List Expr) (t : Scope) → ResolvesVars a s es t → Fits s.around → Whole s t (λ all f. All (IsWholeExpr all f) es)
+  vars_whole : (a : VarList) (s : Scope) (es : List Expr) (t : Scope) → ResolvesVars a s es t → Fits s.enclosing → Whole s t (λ all f. All (IsWholeExpr all f) es)
   vars_whole (tree.one_var a) s es t (e, p, i) fit = becomes (prefix_whole a s e t p fit) λ all f h. single_whole (IsWholeExpr all f) es e i h
   vars_whole (tree.more_vars vs c a) s es t (before, e, m, p, q, i) fit =
       becomes (also (vars_whole vs s before m p fit) λ fit. prefix_whole a m e t q fit) λ all f h. appended_whole (IsWholeExpr all f) es before e i h
@@ -234,16 +234,16 @@ none_captured fs all frame e none fit =
     nothing_in frame.captures h.1
 
 begins : (line : Line) (chunk : Block) (program : Program) → ResolvesChunk line chunk program → BeginsWithChunk program
-begins line chunk program (kept, out, m, t, opens, (f, frame, around, top, is, ended), functions, files) =
+begins line chunk program (kept, out, m, t, opens, (f, frame, enclosing, top, is, ended), functions, files) =
     let a = block_whole chunk (enter [] kept outside) out m opens (entered_fits [] [] nothing_fits) in
-    let none = none_further _ frame around m.around top a.moves.frames in
+    let none = none_further _ frame enclosing m.enclosing top a.moves.frames in
     record {
       chunk = f;
       others = a.new;
       functions = functions ∙ (ap (λ z. z.functions) ended ∙ (ap (λ fs. slice_set fs 0 f) a.grows ∙ placed [] a.new kept f));
       params = is.params;
       vararg = is.vararg;
-      captures = is.captures ∙ ap (map (λ c. c.variable)) (none_captured around m.around frame top none a.fits);
+      captures = is.captures ∙ ap (map (λ c. c.variable)) (none_captured enclosing m.enclosing frame top none a.fits);
     }
 
 pub begins_with_chunk : (tokens : List Token) (program : Program) → IsProgramOf tokens program → BeginsWithChunk program

@@ -37,9 +37,9 @@ pub record Whole (s t : Scope) (P : List Function → Function → Type 0) : Typ
   pub new : List Function
   pub grows : t.functions ≡ s.functions ++ new
   pub moves : Goes s t
-  pub fits : Fits t.around
+  pub fits : Fits t.enclosing
   pub bodies : (all : List Function) → Stands (length s.functions) new all → All (IsWholeBody all) new
-  pub holds : (all : List Function) → Stands (length s.functions) new all → (f : Function) → Covers t.around f → P all f
+  pub holds : (all : List Function) → Stands (length s.functions) new all → (f : Function) → Covers t.enclosing f → P all f
 
 covers_none : (gs : List Frame) (f : Function) → Went [] gs → Covers gs f → ⊥
 unfolding Covers Went
@@ -77,7 +77,7 @@ second_stands count xs ys all old new c e s = record {
       omega (arith, p, q, d, c);
 }
 
-pub also : {s m t : Scope} {P Q : List Function → Function → Type 0} → Whole s m P → (Fits m.around → Whole m t Q) → Whole s t (λ all f. P all f × Q all f)
+pub also : {s m t : Scope} {P Q : List Function → Function → Type 0} → Whole s m P → (Fits m.enclosing → Whole m t Q) → Whole s t (λ all f. P all f × Q all f)
 also {s = s} {m = m} {t = t} a go =
     let b = go a.fits in
     record {
@@ -88,7 +88,7 @@ also {s = s} {m = m} {t = t} a go =
       bodies = λ all st. All-append (IsWholeBody all) a.new b.new (a.bodies all (first_stands _ a.new b.new all st))
           (b.bodies all (second_stands _ a.new b.new all s.functions m.functions refl a.grows st));
       holds = λ all st f c. (
-        a.holds all (first_stands _ a.new b.new all st) f (covers_back m.around t.around f b.moves.frames c),
+        a.holds all (first_stands _ a.new b.new all st) f (covers_back m.enclosing t.enclosing f b.moves.frames c),
         b.holds all (second_stands _ a.new b.new all s.functions m.functions refl a.grows st) f c,
       );
     }
@@ -105,8 +105,8 @@ becomes a go = record {
 
 -- ---- parts without functions
 
-quiet : {s t : Scope} {P : List Function → Function → Type 0} → t.functions ≡ s.functions → Goes s t → Fits t.around →
-    ((all : List Function) (f : Function) → Covers t.around f → P all f) → Whole s t P
+quiet : {s t : Scope} {P : List Function → Function → Type 0} → t.functions ≡ s.functions → Goes s t → Fits t.enclosing →
+    ((all : List Function) (f : Function) → Covers t.enclosing f → P all f) → Whole s t P
 quiet {s = s} e moves fit h = record {
   new = [];
   grows = e ∙ sym (append-nil s.functions);
@@ -116,12 +116,12 @@ quiet {s = s} e moves fit h = record {
   holds = λ all st f c. h all f c;
 }
 
-pub still : {s t : Scope} {P : List Function → Function → Type 0} → Fits s.around → t ≡ s → ((all : List Function) (f : Function) → P all f) → Whole s t P
-still fit e h = quiet (ap (λ z. z.functions) e) (goes (stays e)) (subst (λ z. Fits z.around) (sym e) fit) (λ all f c. h all f)
+pub still : {s t : Scope} {P : List Function → Function → Type 0} → Fits s.enclosing → t ≡ s → ((all : List Function) (f : Function) → P all f) → Whole s t P
+still fit e h = quiet (ap (λ z. z.functions) e) (goes (stays e)) (subst (λ z. Fits z.enclosing) (sym e) fit) (λ all f c. h all f)
 
-pub leaves : {t : Scope} (k m : Scope) → t ≡ leave k m → Fits m.around → Whole m t (λ all f. Unit {0})
+pub leaves : {t : Scope} (k m : Scope) → t ≡ leave k m → Fits m.enclosing → Whole m t (λ all f. Unit {0})
 leaves k m e fit =
-    quiet (ap (λ z. z.functions) e) (leave_goes k m e) (subst (λ z. Fits z.around) (sym e) (left_fits (in_scope k) m.around fit)) (λ all f c. tt)
+    quiet (ap (λ z. z.functions) e) (leave_goes k m e) (subst (λ z. Fits z.enclosing) (sym e) (left_fits (in_scope k) m.enclosing fit)) (λ all f c. tt)
 
 slots_below : (n top : ℕ) (names : List Bytes) → n + length names ≤ top → All (λ k. k < top) (slots_from n names)
 unfolding slots_from
@@ -133,8 +133,8 @@ unfolding Covers
 declared_slots names [] f c = absurd c
 declared_slots names (g ∷ gs) f c = slots_below (length g.locals) f.slots names (let h = c.0 in omega (arith, h))
 
-pub declares : (names : List Bytes) (m : Scope) → Fits m.around → Whole m (declare names m) (λ all f. All (λ k. k < f.slots) (slots_from (in_scope m) names))
-declares names m fit = quiet refl (declare_goes names m) (declared_fits names m.around fit) (λ all f c. declared_slots names m.around f c)
+pub declares : (names : List Bytes) (m : Scope) → Fits m.enclosing → Whole m (declare names m) (λ all f. All (λ k. k < f.slots) (slots_from (in_scope m) names))
+declares names m fit = quiet refl (declare_goes names m) (declared_fits names m.enclosing fit) (λ all f c. declared_slots names m.enclosing f c)
 
 -- ---- names
 
@@ -146,11 +146,11 @@ variable_whole l n (g ∷ gs) (Some (Slot k)) all f h c = let w = c.0 in omega (
 variable_whole l n (g ∷ gs) (Some (Outer k)) all f h c = let w = c.1 in omega (arith, w, h)
 variable_whole l n [] (Some v) all f h c = absurd c
 
-pub name_whole : (l : Line) (n : Bytes) (s : Scope) (e : Expr) (t : Scope) → ResolvesName l n s e t → Fits s.around → Whole s t (λ all f. IsWholeExpr all f e)
+pub name_whole : (l : Line) (n : Bytes) (s : Scope) (e : Expr) (t : Scope) → ResolvesName l n s e t → Fits s.enclosing → Whole s t (λ all f. IsWholeExpr all f e)
 name_whole l n s e t r fit =
-    quiet (ap (λ z. z.functions) r.scope) (goes (name_keeps r)) (subst (λ z. Fits z.around) (sym r.scope) (look_fits n s.around fit))
-    (λ all f c. seen (IsWholeExpr all f) r.expr (variable_whole l n (look n s.around).1 (look n s.around).0 all f (look_has n s.around fit)
-    (subst (λ z. Covers z.around f) r.scope c)))
+    quiet (ap (λ z. z.functions) r.scope) (goes (name_keeps r)) (subst (λ z. Fits z.enclosing) (sym r.scope) (look_fits n s.enclosing fit))
+    (λ all f c. seen (IsWholeExpr all f) r.expr (variable_whole l n (look n s.enclosing).1 (look n s.enclosing).0 all f (look_has n s.enclosing fit)
+    (subst (λ z. Covers z.enclosing f) r.scope c)))
 
 -- ---- functions
 
@@ -185,19 +185,19 @@ same_count xs kept g new all s = subst (λ n. Stands n new all) (length-append x
 pub ended_whole : (line : Line) (names : List Bytes) (rest : _) (kept : Function) (out : List Stmt) (s m t : Scope) →
     Whole (enter names kept s) m (λ all f. All (IsWholeStmt all f) out) → EndsFunction line names rest out s m t →
     Whole s t (λ all f. HasInner all f (length s.functions))
-ended_whole line names rest kept out s m t a (g, frame, around, top, is, ended) =
-    let parts = frame_fits m.around frame around top a.fits in
-    let wider = inner_wider (record { locals = names; captures = []; slots = length names }) s.around frame around m.around top a.moves.frames in
+ended_whole line names rest kept out s m t a (g, frame, enclosing, top, is, ended) =
+    let parts = frame_fits m.enclosing frame enclosing top a.fits in
+    let wider = inner_wider (record { locals = names; captures = []; slots = length names }) s.enclosing frame enclosing m.enclosing top a.moves.frames in
     let slots : frame.slots ≤ g.slots = let e = is.slots in omega (arith, e) in
     let captures : length frame.captures ≤ length g.captures.items = let e = ap length is.captures ∙ length-map frame.captures (λ c. c.variable) in omega (arith, e) in
-    let covered = frame_covered m.around frame around g top slots captures in
+    let covered = frame_covered m.enclosing frame enclosing g top slots captures in
     let inside = λ (all : List Function) (st : Stands (length s.functions) (g ∷ a.new) all).
     second_stands (length s.functions) (g ∷ []) a.new all s.functions (s.functions ++ g ∷ []) refl refl st in
     record {
       new = g ∷ a.new;
       grows = ap (λ z. z.functions) ended ∙ (ap (λ fs. slice_set fs (length s.functions) g) a.grows ∙ placed s.functions a.new kept g);
-      moves = goes (ended_keeps line names rest kept out s m t a.moves (g, frame, around, top, is, ended));
-      fits = subst (λ z. Fits z.around) (sym ended) parts.1;
+      moves = goes (ended_keeps line names rest kept out s m t a.moves (g, frame, enclosing, top, is, ended));
+      fits = subst (λ z. Fits z.enclosing) (sym ended) parts.1;
       bodies = λ all st. All-cons (IsWholeBody all) g a.new (record {
         file = is.file;
         params = let p = is.params in let q = is.slots in let w = wider.slots in omega (arith, p, q, w);
@@ -205,6 +205,6 @@ ended_whole line names rest kept out s m t a (g, frame, around, top, is, ended) 
       }) (a.bodies all (same_count s.functions kept g a.new all (inside all st)));
       holds = λ all st f c. inner_there (length s.functions) f g a.new all
           (seen (All (HasVariable f)) is.captures (All-map (HasVariable f) (λ z. z.variable) frame.captures
-          (All-weaker (λ z. HasIn around z.variable) (λ z. HasVariable f z.variable) (λ z h. has_covered around f z.variable (subst (λ z. Covers z.around f) ended c) h)
+          (All-weaker (λ z. HasIn enclosing z.variable) (λ z. HasVariable f z.variable) (λ z h. has_covered enclosing f z.variable (subst (λ z. Covers z.enclosing f) ended c) h)
           frame.captures parts.0))) st;
     }

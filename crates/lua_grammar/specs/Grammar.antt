@@ -18,7 +18,7 @@ first_line (first ∷ after) = first.line
 
 -- before the chunk, which is itself a function
 abbrev pub outside : Scope
-outside = record { functions = []; around = [] }
+outside = record { functions = []; enclosing = [] }
 
 -- the chunk is a function without parameters that takes more arguments, number 0 of a program of one file without a name
 abbrev pub ResolvesChunk : Line → Block → Program → Type 0

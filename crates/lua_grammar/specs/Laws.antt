@@ -130,8 +130,8 @@ pub record IsEmptyProgram (program : Program) : Type 0 where
 
 -- a name that was declared last is the local in the next slot, whatever it meant before, and nothing is captured for it
 abbrev pub IsSeen : Bytes → Frame → List Frame → Type 0
-IsSeen name f around =
-    let inner = with_locals (name ∷ []) f ∷ around in look name inner ≡ (Some (Slot (length f.locals)), inner)
+IsSeen name f enclosing =
+    let inner = with_locals (name ∷ []) f ∷ enclosing in look name inner ≡ (Some (Slot (length f.locals)), inner)
 
 -- `a = f` and `(g)()`, the `(` on that line, as one statement: it is that of a call
 abbrev pub one_call : Line → Block

@@ -45,8 +45,8 @@ print_names (tree.next_name names c l n) after = print_names names (a_sign Comma
 abbrev pub print_params : Params → List Lexeme → List Lexeme
 print_params tree.no_params after = after
 print_params (tree.names names) after = print_names names after
-print_params (tree.names_and_rest names c l) after = print_names names (a_sign Comma c (a_sign Ellipsis l after))
-print_params (tree.only_rest l) after = a_sign Ellipsis l after
+print_params (tree.names_and_vararg names c l) after = print_names names (a_sign Comma c (a_sign Ellipsis l after))
+print_params (tree.only_vararg l) after = a_sign Ellipsis l after
 
 abbrev pub print_funcname : FuncName → List Lexeme → List Lexeme
 print_funcname (tree.root_name l n) after = a_name l n after

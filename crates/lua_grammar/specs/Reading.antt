@@ -22,15 +22,15 @@ block k = more_stats tree.no_stats k
 abbrev pub list : (ExpList → Reader) → Reader
 list k = exp 1 (λ e. more_list (tree.one e) k)
 
-abbrev pub body_behind : Line → (FuncBody → Reader) → Params → Line → Reader
-body_behind o k ps c = block (λ b. token (end_ (λ e. k (tree.function_body o ps c b e))))
+abbrev pub body_after : Line → (FuncBody → Reader) → Params → Line → Reader
+body_after o k ps c = block (λ b. token (end_ (λ e. k (tree.function_body o ps c b e))))
 
 abbrev pub params : Line → (FuncBody → Reader) → TokenKind → Line → Reader
-params o k (Sign sign.CloseParenthesis) c = body_behind o k tree.no_params c
-params o k (Sign sign.Ellipsis) d = token (close_parenthesis (body_behind o k (tree.only_rest d)))
+params o k (Sign sign.CloseParenthesis) c = body_after o k tree.no_params c
+params o k (Sign sign.Ellipsis) d = token (close_parenthesis (body_after o k (tree.only_vararg d)))
 params o k (Name n) l =
-    more_names (tree.first_name l n) (λ ns. token (close_parenthesis (body_behind o k (tree.names ns))))
-    (λ ns c d. token (close_parenthesis (body_behind o k (tree.names_and_rest ns c d))))
+    more_names (tree.first_name l n) (λ ns. token (close_parenthesis (body_after o k (tree.names ns))))
+    (λ ns c d. token (close_parenthesis (body_after o k (tree.names_and_vararg ns c d))))
 params o k other l = failed
 
 abbrev pub body : (FuncBody → Reader) → TokenKind → Line → Reader

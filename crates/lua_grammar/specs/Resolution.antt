@@ -18,7 +18,7 @@ use Rattle.lua_ast.specs.declared.programs.Function.{Function}
 use Rattle.lua_grammar.specs.declared.operators.Operator.{Operator}
 use Rattle.lua_grammar.specs.declared.operators.Operator.TheVariants.{Or, And, Plain}
 use Rattle.lua_grammar.specs.Scopes.{Frame, Scope, look, declare, in_scope, slots_from, leave, enter}
-use Rattle.lua_grammar.specs.Validity.{takes_rest}
+use Rattle.lua_grammar.specs.Validity.{takes_vararg}
 use Rattle.lua_grammar.specs.Tree.{Line, Bytes, NameList, Params, FuncName, Exp, PrefixExp, Args, ExpList, Table, Fields, Field, FuncBody, Block, Stats, Stat}
 use Rattle.lua_grammar.specs.Tree.{Arms, LastStat, VarList}
 use Rattle.lua_grammar.specs.Tree as tree
@@ -43,8 +43,8 @@ names_of (tree.next_name names c l n) = names_of names ++ n ∷ []
 abbrev pub names_of_params : Params → List Bytes
 names_of_params tree.no_params = []
 names_of_params (tree.names names) = names_of names
-names_of_params (tree.names_and_rest names c l) = names_of names
-names_of_params (tree.only_rest l) = []
+names_of_params (tree.names_and_vararg names c l) = names_of names
+names_of_params (tree.only_vararg l) = []
 
 -- the line of the first token
 abbrev pub prefix_line : PrefixExp → Line
@@ -86,8 +86,8 @@ variable_kind name None = kind.Global name
 
 -- a name where it is read or written
 pub record ResolvesName (l : Line) (n : Bytes) (s : Scope) (e : Expr) (t : Scope) : Type 0 where
-  pub expr : e ≡ node l (variable_kind n (look n s.around).0)
-  pub scope : t ≡ record s { around = (look n s.around).1 }
+  pub expr : e ≡ node l (variable_kind n (look n s.enclosing).0)
+  pub scope : t ≡ record s { enclosing = (look n s.enclosing).1 }
 
 -- the function with these parameters and statements, of which `frame` is known at its end
 pub record IsFunction (line : Line) (names : List Bytes) (rest : Bool) (frame : Frame) (statements : List Stmt) (f : Function) : Type 0 where
@@ -105,9 +105,9 @@ pub record IsFunction (line : Line) (names : List Bytes) (rest : Bool) (frame : 
 -- the scope `u` after it is again that of the enclosing function.
 abbrev pub EndsFunction : Line → List Bytes → Bool → List Stmt → Scope → Scope → Scope → Type 0
 EndsFunction line names rest statements s t u =
-    (f : Function) × (frame : Frame) × (around : List Frame) × (t.around ≡ frame ∷ around)
+    (f : Function) × (frame : Frame) × (enclosing : List Frame) × (t.enclosing ≡ frame ∷ enclosing)
     × IsFunction line names rest frame statements f
-    × (u ≡ record { functions = slice_set t.functions (length s.functions) f; around = around })
+    × (u ≡ record { functions = slice_set t.functions (length s.functions) f; enclosing = enclosing })
 
 -- the name of the first parameter of a method
 abbrev pub self_name : Bytes
@@ -183,7 +183,7 @@ unfoldable mutual
   pub ResolvesBody : List Bytes → Line → FuncBody → Scope → ℕ → Scope → Type 0
   ResolvesBody before l (tree.function_body o ps c b x) s n t =
       (kept : Function) × (out : List Stmt) × (m : Scope) × Opens b (enter (before ++ names_of_params ps) kept s) out m
-      × EndsFunction l (before ++ names_of_params ps) (takes_rest ps) out s m t × (n ≡ length s.functions)
+      × EndsFunction l (before ++ names_of_params ps) (takes_vararg ps) out s m t × (n ≡ length s.functions)
 
   -- the statements of a block; the scope after them is that at its end, with its locals, which `leave` takes out of scope
   pub Opens : Block → Scope → List Stmt → Scope → Type 0

@@ -22,7 +22,7 @@ pub record Frame : Type 0 where
 -- functions that enclose it, the innermost first
 pub record Scope : Type 0 where
   pub functions : List Function
-  pub around : List Frame
+  pub enclosing : List Frame
 
 -- the index that was found in the rest of a list, one further on, or else the one here
 abbrev pub later : Option ℕ → Option ℕ → Option ℕ
@@ -45,20 +45,20 @@ own name f = local_or (last_place name f.locals) (last_place name (map (λ c. c.
 
 -- what was found in the functions that enclose `f` is a capture of `f` from now on
 abbrev pub handed : Bytes → Frame → Option Capture → List Frame → Option Capture × List Frame
-handed name f None around = (None, f ∷ around)
-handed name f (Some variable) around =
-    (Some (Outer (length f.captures)), record f { captures = f.captures ++ record { name = name; variable = variable } ∷ [] } ∷ around)
+handed name f None enclosing = (None, f ∷ enclosing)
+handed name f (Some variable) enclosing =
+    (Some (Outer (length f.captures)), record f { captures = f.captures ++ record { name = name; variable = variable } ∷ [] } ∷ enclosing)
 
 -- a variable of `f` itself comes before what was found further out
 abbrev pub nearest : Bytes → Frame → List Frame → Option Capture → Option Capture × List Frame → Option Capture × List Frame
-nearest name f around (Some variable) further = (Some variable, f ∷ around)
-nearest name f around None further = handed name f further.0 further.1
+nearest name f enclosing (Some variable) further = (Some variable, f ∷ enclosing)
+nearest name f enclosing None further = handed name f further.0 further.1
 
 -- Where a name is read or written, it is the nearest variable of that name, and each function on the way to it gets one more
 -- capture. Where no enclosing function has one, the name is a global, and nothing is captured.
 unfoldable pub look : Bytes → List Frame → Option Capture × List Frame
 look name [] = (None, [])
-look name (f ∷ around) = nearest name f around (own name f) (look name around)
+look name (f ∷ enclosing) = nearest name f enclosing (own name f) (look name enclosing)
 
 -- the names become locals of the innermost function, in the next slots
 abbrev pub with_locals : List Bytes → Frame → Frame
@@ -66,18 +66,18 @@ with_locals names f = record f { locals = f.locals ++ names; slots = max f.slots
 
 abbrev pub declare_in : List Bytes → List Frame → List Frame
 declare_in names [] = []
-declare_in names (f ∷ around) = with_locals names f ∷ around
+declare_in names (f ∷ enclosing) = with_locals names f ∷ enclosing
 
 abbrev pub declare : List Bytes → Scope → Scope
-declare names s = record s { around = declare_in names s.around }
+declare names s = record s { enclosing = declare_in names s.enclosing }
 
 -- how many locals of the innermost function are in scope
 abbrev pub count_in : List Frame → ℕ
 count_in [] = 0
-count_in (f ∷ around) = length f.locals
+count_in (f ∷ enclosing) = length f.locals
 
 abbrev pub in_scope : Scope → ℕ
-in_scope s = count_in s.around
+in_scope s = count_in s.enclosing
 
 -- the slots of names, from that one on
 unfoldable pub slots_from : ℕ → List Bytes → List ℕ
@@ -87,14 +87,14 @@ slots_from slot (name ∷ names) = slot ∷ slots_from (slot + 1) names
 -- after a block that was entered with so many locals, those that it declared are out of scope
 abbrev pub leave_in : ℕ → List Frame → List Frame
 leave_in count [] = []
-leave_in count (f ∷ around) = record f { locals = take count f.locals } ∷ around
+leave_in count (f ∷ enclosing) = record f { locals = take count f.locals } ∷ enclosing
 
 abbrev pub leave : Scope → Scope → Scope
-leave before after = record after { around = leave_in (in_scope before) after.around }
+leave before after = record after { enclosing = leave_in (in_scope before) after.enclosing }
 
 -- a function begins, with its parameters as its first locals: until it ends, `kept` is its entry among the functions
 abbrev pub enter : List Bytes → Function → Scope → Scope
 enter names kept s = record {
   functions = s.functions ++ kept ∷ [];
-  around = record { locals = names; captures = []; slots = length names } ∷ s.around;
+  enclosing = record { locals = names; captures = []; slots = length names } ∷ s.enclosing;
 }

@@ -11,9 +11,9 @@ use Rattle.lua_grammar.specs.Printing.{Lexeme, print_end}
 use Rattle.lua_grammar.specs.Waiting.{operator_of, above}
 
 -- a token of that kind comes next
-abbrev pub Behind : (TokenKind → Type 0) → List Lexeme → Type 0
-Behind P [] = ⊥
-Behind P (first ∷ after) = P first.kind
+abbrev pub ComesNext : (TokenKind → Type 0) → List Lexeme → Type 0
+ComesNext P [] = ⊥
+ComesNext P (first ∷ after) = P first.kind
 
 -- no operator of that level or a higher one
 abbrev pub EndsAt : ℕ → TokenKind → Type 0
@@ -61,15 +61,15 @@ IsReturnEnd kind = IsBlockEnd kind
 
 -- an expression, unless it is an operator after the whole of it
 abbrev pub Stops : Exp → List Lexeme → Type 0
-Stops (tree.prefix p) after = Behind IsApart after
-Stops (tree.binary a op l b) after = Behind (EndsAt (right_level op)) after × Stops b after
-Stops (tree.unary op l e) after = Behind (EndsAt 7) after × Stops e after
+Stops (tree.prefix p) after = ComesNext IsApart after
+Stops (tree.binary a op l b) after = ComesNext (EndsAt (right_level op)) after × Stops b after
+Stops (tree.unary op l e) after = ComesNext (EndsAt 7) after × Stops e after
 Stops other after = Unit {0}
 
 -- the last of a list of expressions, not even as an operator
 abbrev pub LastStops : ExpList → List Lexeme → Type 0
-LastStops (tree.one e) after = Stops e after × Behind (EndsAt 1) after
-LastStops (tree.more es c e) after = Stops e after × Behind (EndsAt 1) after
+LastStops (tree.one e) after = Stops e after × ComesNext (EndsAt 1) after
+LastStops (tree.more es c e) after = Stops e after × ComesNext (EndsAt 1) after
 
 -- a name alone: with `=` after it, it would be that of a field
 abbrev pub IsLone : Exp → Type 0
@@ -78,21 +78,21 @@ IsLone other = ⊥
 
 -- a field
 abbrev pub FieldStops : Field → List Lexeme → Type 0
-FieldStops (tree.keyed o k c q e) after = Stops e after × Behind (EndsAt 1) after
-FieldStops (tree.named l n q e) after = Stops e after × Behind (EndsAt 1) after
-FieldStops (tree.plain e) after = Stops e after × Behind (EndsAt 1) after × (IsLone e → Behind IsNoAssign after)
+FieldStops (tree.keyed o k c q e) after = Stops e after × ComesNext (EndsAt 1) after
+FieldStops (tree.named l n q e) after = Stops e after × ComesNext (EndsAt 1) after
+FieldStops (tree.plain e) after = Stops e after × ComesNext (EndsAt 1) after × (IsLone e → ComesNext IsNoAssign after)
 
 -- a statement
 abbrev pub StatStops : Stat → List Lexeme → Type 0
-StatStops (tree.assign vs q es) after = LastStops es after × Behind IsNoComma after
-StatStops (tree.call_statement p) after = Behind IsApart after
-StatStops (tree.repeat_loop r b u t) after = Stops t after × Behind (EndsAt 1) after
-StatStops (tree.local l ns) after = Behind IsNoComma after × Behind IsNoAssign after
-StatStops (tree.local_values l ns q es) after = LastStops es after × Behind IsNoComma after
+StatStops (tree.assign vs q es) after = LastStops es after × ComesNext IsNoComma after
+StatStops (tree.call_statement p) after = ComesNext IsApart after
+StatStops (tree.repeat_loop r b u t) after = Stops t after × ComesNext (EndsAt 1) after
+StatStops (tree.local l ns) after = ComesNext IsNoComma after × ComesNext IsNoAssign after
+StatStops (tree.local_values l ns q es) after = LastStops es after × ComesNext IsNoComma after
 StatStops other after = Unit {0}
 
 abbrev pub EndStops : End → List Lexeme → Type 0
-EndStops tree.bare after = Behind IsNoSemicolon after
+EndStops tree.bare after = ComesNext IsNoSemicolon after
 EndStops (tree.closed l) after = Unit {0}
 
 abbrev pub StatsStop : Stats → List Lexeme → Type 0
@@ -101,13 +101,13 @@ StatsStop (tree.more_stats ss s x) after = StatStops s (print_end x after) × En
 
 -- the last statement of a block
 abbrev pub LastStatStops : LastStat → List Lexeme → Type 0
-LastStatStops (tree.return_none r) after = Behind IsReturnEnd after
-LastStatStops (tree.return_values r es) after = LastStops es after × Behind IsNoComma after
+LastStatStops (tree.return_none r) after = ComesNext IsReturnEnd after
+LastStatStops (tree.return_values r es) after = LastStops es after × ComesNext IsNoComma after
 LastStatStops (tree.break_ b) after = Unit {0}
 
 -- a block
 abbrev pub BlockStops : Block → List Lexeme → Type 0
-BlockStops (tree.statements ss) after = StatsStop ss after × Behind IsBlockEnd after
+BlockStops (tree.statements ss) after = StatsStop ss after × ComesNext IsBlockEnd after
 BlockStops (tree.with_last ss s x) after = LastStatStops s (print_end x after) × EndStops x after
 
 -- the last block of the arms of an `if`

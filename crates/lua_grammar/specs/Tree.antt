@@ -22,8 +22,8 @@ pub data NameList : Type 0 where
 pub data Params : Type 0 where
   no_params : Params
   names : NameList → Params
-  names_and_rest : NameList → (comma : Line) → (dots : Line) → Params
-  only_rest : (dots : Line) → Params
+  names_and_vararg : NameList → (comma : Line) → (dots : Line) → Params
+  only_vararg : (dots : Line) → Params
 
 -- Name {`.´ Name}: funcname ::= Name {`.´ Name} [`:´ Name], without the part from `:´ on, which makes it a method
 pub data FuncName : Type 0 where

@@ -98,11 +98,11 @@ abbrev pub IsLow : ℕ → Type 0
 IsLow h = h ≤ 4_000
 
 -- whether parameters end with `...`
-abbrev pub takes_rest : Params → Bool
-takes_rest tree.no_params = false
-takes_rest (tree.names ns) = false
-takes_rest (tree.names_and_rest ns c l) = true
-takes_rest (tree.only_rest l) = true
+abbrev pub takes_vararg : Params → Bool
+takes_vararg tree.no_params = false
+takes_vararg (tree.names ns) = false
+takes_vararg (tree.names_and_vararg ns c l) = true
+takes_vararg (tree.only_vararg l) = true
 
 -- What is valid depends on the function that it is in: `rest` says whether that takes more arguments, as `...`, and `loop`
 -- whether a block or a statement is inside a loop of that function.
@@ -150,7 +150,7 @@ unfoldable mutual
   IsValidField rest (tree.plain e) = IsValid rest e
 
   pub IsValidBody : FuncBody → Type 0
-  IsValidBody (tree.function_body o ps c b e) = IsValidBlock (takes_rest ps) false b
+  IsValidBody (tree.function_body o ps c b e) = IsValidBlock (takes_vararg ps) false b
 
   pub IsValidBlock : Bool → Bool → Block → Type 0
   IsValidBlock rest loop (tree.statements ss) = AreValidStats rest loop ss

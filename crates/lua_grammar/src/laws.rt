@@ -51,7 +51,7 @@ pub fn the_empty_text_is_the_empty_chunk()
 
 /// A local is seen from its declaration on, before all other variables of its name.
 pub fn a_new_local_is_seen()
-    ensures { (name : List ℕ) (f : Frame) (around : List Frame) → IsSeen name f around }
+    ensures { (name : List ℕ) (f : Frame) (enclosing : List Frame) → IsSeen name f enclosing }
 {}
 
 /// Tokens have at most one tree: two valid chunks of the same kinds of tokens on the same lines are the same.

@@ -34,12 +34,12 @@ use Rattle.lua_parser_base.proofs.Refusing.{no_end, no_then}
 
 -- each arm that doesn't fit leads to a dead state
 abbrev UnlessArm : Nesting → State → (Exp → Line → Block → Reader) → Type 0
-UnlessArm at s k = (e : Exp) (h : Line) (x : Block) → (FitsArms at s.scope.around (tree.if_arm h e h x) → ⊥) → IsDead (k e h x)
+UnlessArm at s k = (e : Exp) (h : Line) (x : Block) → (FitsArms at s.scope.enclosing (tree.if_arm h e h x) → ⊥) → IsDead (k e h x)
 
 test_supposes : (at : Nesting) (k : Exp → Line → Block → Reader) (s : State) → UnlessArm at s k →
-    Unless (FitsValue at s.scope.around) (λ e. token (then_ (λ h. block (λ x. k e h x))))
+    Unless (FitsValue at s.scope.enclosing) (λ e. token (then_ (λ h. block (λ x. k e h x))))
 test_supposes at k s those = λ e unfit.
-    dead_then (λ h. block (λ x. k e h x)) (λ h. dead_block (λ x. k e h x) (λ x. those e h x (λ f. unfit (test_fits at s.scope.around h e h x f))))
+    dead_then (λ h. block (λ x. k e h x)) (λ h. dead_block (λ x. k e h x) (λ x. those e h x (λ f. unfit (test_fits at s.scope.enclosing h e h x f))))
 
 pub test_refused : (at : Nesting) (s t : State) (fault : ParseFault) → RefusesValue at s t fault → RefusesArm at s t fault
 test_refused at s t fault refuses = λ k not suppose.
@@ -55,10 +55,10 @@ then_refused at s m t e fault r missed = λ k not suppose.
     refused_on (over_test at k s m e r) (no_then fault _ (λ h. block (λ x. k r.tree h x)) m t missed suppose)
 
 arm_block_supposes : (at : Nesting) (k : Exp → Line → Block → Reader) (line : Line) (s m n : State) (e : Expr) (r : ReadsValue at s e m) → Takes (WordKind Then) line m n →
-    UnlessArm at s k → Unless (FitsScoped at n.scope.around) (λ x. k r.tree line x)
+    UnlessArm at s k → Unless (FitsScoped at n.scope.enclosing) (λ x. k r.tree line x)
 arm_block_supposes at k line s m n e r taken those = λ x unfit.
-    those r.tree line x (λ f. unfit (subst (λ z. FitsScoped at z.around x) (sym taken.scope)
-    (arm_block_fits at s.scope.around line r.tree line x s.scope m.scope e f refl r.resolved)))
+    those r.tree line x (λ f. unfit (subst (λ z. FitsScoped at z.enclosing x) (sym taken.scope)
+    (arm_block_fits at s.scope.enclosing line r.tree line x s.scope m.scope e f refl r.resolved)))
 
 pub arm_block_refused : (at : Nesting) (line : Line) (s m n t : State) (e : Expr) (fault : ParseFault) → ReadsValue at s e m → Takes (WordKind Then) line m n → RefusesScoped at n t fault →
     RefusesArm at s t fault
@@ -69,15 +69,15 @@ arm_block_refused at line s m n t e fault r taken refuses = λ k not suppose.
 -- ---- arms
 
 -- arms that don't fit lead to a dead state
-dead_arms : (at : Nesting) (k : Stat → Reader) (s : State) (first : Arms) → Unless (FitsStat at s.scope.around) k → (FitsArms at s.scope.around first → ⊥) → IsDead (more_arms first k)
+dead_arms : (at : Nesting) (k : Stat → Reader) (s : State) (first : Arms) → Unless (FitsStat at s.scope.enclosing) k → (FitsArms at s.scope.enclosing first → ⊥) → IsDead (more_arms first k)
 dead_arms at k s first those unfit = λ whole from.
-    let not : FitsArms at s.scope.around whole → ⊥ = λ f. unfit (first_arms_fit at s.scope.around first whole from f) in (
-      λ e. those (tree.if_then whole e) (λ f. not (arms_fit at s.scope.around whole e f)),
-      λ l b e. those (tree.if_else whole l b e) (λ f. not (arms_before_else_fit at s.scope.around whole l b e f)),
+    let not : FitsArms at s.scope.enclosing whole → ⊥ = λ f. unfit (first_arms_fit at s.scope.enclosing first whole from f) in (
+      λ e. those (tree.if_then whole e) (λ f. not (arms_fit at s.scope.enclosing whole e f)),
+      λ l b e. those (tree.if_else whole l b e) (λ f. not (arms_before_else_fit at s.scope.enclosing whole l b e f)),
     )
 
-first_supposes : (at : Nesting) (i : Line) (k : Stat → Reader) (s : State) → Unless (FitsStat at s.scope.around) k → UnlessArm at s (λ e h b. more_arms (tree.if_arm i e h b) k)
-first_supposes at i k s those = λ e h x unfit. dead_arms at k s (tree.if_arm i e h x) those (λ f. unfit (arm_fits at s.scope.around i h e h x f))
+first_supposes : (at : Nesting) (i : Line) (k : Stat → Reader) (s : State) → Unless (FitsStat at s.scope.enclosing) k → UnlessArm at s (λ e h b. more_arms (tree.if_arm i e h b) k)
+first_supposes at i k s those = λ e h x unfit. dead_arms at k s (tree.if_arm i e h x) those (λ f. unfit (arm_fits at s.scope.enclosing i h e h x f))
 
 pub first_arm_refused : (at : Nesting) (s t : State) (fault : ParseFault) → RefusesArm at s t fault → RefusesArms at s t fault
 first_arm_refused at s t fault refuses = λ i k never suppose.
@@ -89,10 +89,10 @@ over_arms : (at : Nesting) (i : Line) (k : Stat → Reader) (s m : State) (out :
 over_arms at i k s m out r = arms_moves r.tree at.vararg at.in_loop i k s m r.printed r.begins r.valid r.ends
 
 next_supposes : (at : Nesting) (i line : Line) (k : Stat → Reader) (s m n : State) (out : List Arm) (r : ReadsArms at i s out m) → Takes (WordKind ElseIf) line m n →
-    Unless (FitsStat at s.scope.around) k → UnlessArm at n (λ e h b. more_arms (tree.elseif_arm r.tree line e h b) k)
+    Unless (FitsStat at s.scope.enclosing) k → UnlessArm at n (λ e h b. more_arms (tree.elseif_arm r.tree line e h b) k)
 next_supposes at i line k s m n out r taken those = λ e h x unfit.
-    dead_arms at k s (tree.elseif_arm r.tree line e h x) those (λ f. unfit (subst (λ z. FitsArms at z.around (tree.if_arm h e h x)) (sym taken.scope)
-    (next_arm_fits at s.scope.around r.tree line h e h x s.scope m.scope out f refl r.resolved)))
+    dead_arms at k s (tree.elseif_arm r.tree line e h x) those (λ f. unfit (subst (λ z. FitsArms at z.enclosing (tree.if_arm h e h x)) (sym taken.scope)
+    (next_arm_fits at s.scope.enclosing r.tree line h e h x s.scope m.scope out f refl r.resolved)))
 
 pub next_arm_refused : (at : Nesting) (line : Line) (s m n t : State) (out : List Arm) (fault : ParseFault) → ((i : ℕ) → ReadsArms at i s out m) → Takes (WordKind ElseIf) line m n →
     RefusesArm at n t fault → RefusesArms at s t fault
@@ -110,7 +110,7 @@ over_if k line s a taken = by_token (token (statement k)) (WordKind If) line s a
 
 pub arms_refused : (at : Nesting) (line : Line) (s a t : State) (fault : ParseFault) → Takes (WordKind If) line s a → RefusesArms at a t fault → RefusesStat at s t fault
 arms_refused at line s a t fault taken refuses = λ k never suppose.
-    refused_on (over_if k line s a taken) (refuses line k never (subst (λ z. Supposes fault (Unless (FitsStat at z.around) k)) (sym taken.scope) suppose))
+    refused_on (over_if k line s a taken) (refuses line k never (subst (λ z. Supposes fault (Unless (FitsStat at z.enclosing) k)) (sym taken.scope) suppose))
 
 over_else : (at : Nesting) (k : Stat → Reader) (line word : Line) (s a b c : State) (arms : List Arm) → Takes (WordKind If) line s a → (r : ReadsArms at line a arms b) →
     Takes (WordKind Else) word b c → Moves (token (statement k)) s (block (λ x. token (end_ (λ e. k (tree.if_else r.tree word x e))))) c
@@ -118,11 +118,11 @@ over_else at k line word s a b c arms taken r between =
     on (over_if k line s a taken) (on (over_arms at line k a b arms r) (by_token (more_arms r.tree k) (WordKind Else) word b c between))
 
 else_supposes : (at : Nesting) (k : Stat → Reader) (line word : Line) (s a b c : State) (arms : List Arm) → Takes (WordKind If) line s a → (r : ReadsArms at line a arms b) →
-    Takes (WordKind Else) word b c → Unless (FitsStat at s.scope.around) k → Unless (FitsScoped at c.scope.around) (λ x. token (end_ (λ e. k (tree.if_else r.tree word x e))))
+    Takes (WordKind Else) word b c → Unless (FitsStat at s.scope.enclosing) k → Unless (FitsScoped at c.scope.enclosing) (λ x. token (end_ (λ e. k (tree.if_else r.tree word x e))))
 else_supposes at k line word s a b c arms taken r between those = λ x unfit.
     dead_end (λ e. k (tree.if_else r.tree word x e)) (λ e. those (tree.if_else r.tree word x e) (λ f.
-    unfit (subst (λ z. FitsScoped at z.around x) (sym between.scope)
-    (else_fits at s.scope.around r.tree word x e a.scope b.scope arms f (ap (λ z. z.around) taken.scope) r.resolved))))
+    unfit (subst (λ z. FitsScoped at z.enclosing x) (sym between.scope)
+    (else_fits at s.scope.enclosing r.tree word x e a.scope b.scope arms f (ap (λ z. z.enclosing) taken.scope) r.resolved))))
 
 pub else_refused : (at : Nesting) (line word : Line) (s a b c t : State) (arms : List Arm) (fault : ParseFault) → Takes (WordKind If) line s a →
     ((l : ℕ) → ReadsArms at l a arms b) → Takes (WordKind Else) word b c → RefusesScoped at c t fault → RefusesStat at s t fault

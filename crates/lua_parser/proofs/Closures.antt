@@ -42,4 +42,4 @@ closure_refused at line first fault s a t taken none refuses = λ m k h.
     let k' : FuncBody → Reader = λ b. more_exp m (tree.function line b) k in
     refused_on (by_token (exp m k) (Word word.Function) line s a taken)
     (body_refuses k' (λ b. waits m (tree.function line b) k)
-    (supposes_on fault (λ suppose. subst (λ z. Unless (FitsBody at line [] z.around) k') (sym taken.scope) (body_supposes at s.scope.around m k line suppose)) h))
+    (supposes_on fault (λ suppose. subst (λ z. Unless (FitsBody at line [] z.enclosing) k') (sym taken.scope) (body_supposes at s.scope.enclosing m k line suppose)) h))

@@ -91,11 +91,11 @@ ending_fits at enclosing o fs f c x t =
 
 -- in the functions as they are after the fields before it
 last_field_fits : (at inner : Nesting) (enclosing : List Frame) (fs : Fields) (f : Field) (x : Separator) (s m : Scope) (out : List TableItem) →
-    FitsFields at enclosing (tree.more_fields fs f x) → s.around ≡ enclosing → ResolvesFields fs s out m → IsPart at inner → FitsField inner m.around f
+    FitsFields at enclosing (tree.more_fields fs f x) → s.enclosing ≡ enclosing → ResolvesFields fs s out m → IsPart at inner → FitsField inner m.enclosing f
 unfolding levels height IsValid Resolves
 last_field_fits at inner enclosing fs f x s m out all here r part =
     let (before, i, k, p, q, is) = all.resolvable.resolved in
-    let same : k.around ≡ m.around = (fields_alike fs all.resolvable.before s before out k m p r (record { around = all.resolvable.same ∙ sym here })).around in
+    let same : k.enclosing ≡ m.enclosing = (fields_alike fs all.resolvable.before s before out k m p r (record { enclosing = all.resolvable.same ∙ sym here })).enclosing in
     record {
       valid = subst (λ vararg. IsValidField vararg f) (sym part.vararg) all.valid.1;
       deep = let d = all.deep in let n = part.depth in omega (arith, d, n);
@@ -178,13 +178,13 @@ part_refused at o fault s a b v read taken unclosed none = λ r k begins h.
     let next = after_field o read.tree k in
     refused_on (on (over_fields at r k o s a b v read begins taken) (to_field o read.tree k b unclosed))
     (no_part fault _ at (token (field next)) b none h (ends_failed (token (field next)) (λ l. refl)) (λ full suppose.
-    dead_field next (λ f. after_dead at s.scope.around o read.tree f k suppose (λ x. no_room at s.scope.around read.tree f x full))) tt)
+    dead_field next (λ f. after_dead at s.scope.enclosing o read.tree f k suppose (λ x. no_room at s.scope.enclosing read.tree f x full))) tt)
 
 field_supposes : (at inner : Nesting) (o : ℕ) (k : Table → Reader) (s a b : State) (v : Items) (read : ReadsFields at a v b) → a.scope ≡ s.scope → IsPart at inner →
-    Unless (FitsTable at s.scope.around) k → Unless (FitsField inner b.scope.around) (λ f. token (after_field o read.tree k f))
+    Unless (FitsTable at s.scope.enclosing) k → Unless (FitsField inner b.scope.enclosing) (λ f. token (after_field o read.tree k f))
 field_supposes at inner o k s a b v read same part suppose = λ f not.
-    after_dead at s.scope.around o read.tree f k suppose (λ x all.
-    not (last_field_fits at inner s.scope.around read.tree f x s.scope b.scope v.items.items all refl
+    after_dead at s.scope.enclosing o read.tree f k suppose (λ x all.
+    not (last_field_fits at inner s.scope.enclosing read.tree f x s.scope b.scope v.items.items all refl
     (subst (λ z. ResolvesFields read.tree z v.items.items b.scope) same read.resolved) part))
 
 pub field_refused : (at inner : Nesting) (o : ℕ) (fault : ParseFault) (s a b t : State) (v : Items) → ReadsFields at a v b → Takes (Sign sign.OpenBrace) o s a → IsPart at inner →

@@ -29,7 +29,7 @@ use Rattle.lua_parser.proofs.LocalStatements.{in_scope_kept, initial_keeps}
 few_in_frame : (p : Parser) → in_scope (scope_of p) ≤ 200
 few_in_frame p = let few = p.frame.few_locals in omega (arith, few)
 
-pub local_there : (tokens : List Token) (z : State) (p q : Parser) (line : ℕ) (n : Bytes) (fault : ParseFault) → Few (state tokens p).scope.around → OnLocals (200 ≤ in_scope (scope_of q)) fault → IsLocals line fault →
+pub local_there : (tokens : List Token) (z : State) (p q : Parser) (line : ℕ) (n : Bytes) (fault : ParseFault) → Few (state tokens p).scope.enclosing → OnLocals (200 ≤ in_scope (scope_of q)) fault → IsLocals line fault →
     Takes (NameKind n) line (state tokens p) (state tokens q) → FirstFault (standing.name (in_scope (state tokens p).scope)) (state tokens p) z fault
 unfolding state
 local_there tokens z p q line n fault few full same taken =

@@ -51,11 +51,11 @@ key_fits at enclosing o key c q e f =
 
 -- in the functions as they are after the key
 keyed_value_fits : (at : Nesting) (enclosing : List Frame) (o : Line) (key : Exp) (c q : Line) (e : Exp) (s m : Scope) (out : Expr) → FitsField at enclosing (tree.keyed o key c q e) →
-    s.around ≡ enclosing → Resolves key s out m → FitsExp at m.around e
+    s.enclosing ≡ enclosing → Resolves key s out m → FitsExp at m.enclosing e
 unfolding levels height IsValid Resolves
 keyed_value_fits at enclosing o key c q e s m out f here r =
     let (x, y, n, p, after, is) = f.resolvable.resolved in
-    let same : n.around ≡ m.around = (exp_alike key f.resolvable.before s x out n m p r (record { around = f.resolvable.same ∙ sym here })).around in
+    let same : n.enclosing ≡ m.enclosing = (exp_alike key f.resolvable.before s x out n m p r (record { enclosing = f.resolvable.same ∙ sym here })).enclosing in
     record {
       valid = f.valid.1;
       deep = let d = f.deep in omega (arith, d);
@@ -109,7 +109,7 @@ pub key_refused : (at : Nesting) (o : ℕ) (fault : ParseFault) (s a t : State) 
 key_refused at o fault s a t taken refuses = λ p fs k h.
     let next : Next = after_field p fs k in
     refused_on (by_token (token (field next)) (Sign sign.OpenBracket) o s a taken)
-    (refuses (after_key next o) (supposes_on fault (λ suppose. subst (λ z. Unless (FitsExp at z.around) (after_key next o)) (sym taken.scope) (key_supposes at s.scope.around next o suppose)) h))
+    (refuses (after_key next o) (supposes_on fault (λ suppose. subst (λ z. Unless (FitsExp at z.enclosing) (after_key next o)) (sym taken.scope) (key_supposes at s.scope.enclosing next o suppose)) h))
 
 over_key : (at : Nesting) (next : Next) (o : ℕ) (s a b : State) (key : Built) (r : ReadsExp at a key b) → Takes (Sign sign.OpenBracket) o s a → EndsAt 1 (ahead b) →
     Moves (token (field next)) s (after_key next o r.tree) b
@@ -135,11 +135,11 @@ equals_refused at o c fault s a b d t key taken r ends close missed = λ p fs k 
     refused_on (over_bracket at next o c s a b d key r taken ends close) (no_equals fault _ (λ q. exp 1 (after_equals next o r.tree c q)) d t missed h)
 
 keyed_supposes : (at : Nesting) (next : Next) (o c q : Line) (s a b u : State) (key : Built) (r : ReadsExp at a key b) → a.scope ≡ s.scope → u.scope ≡ b.scope →
-    Unless (FitsField at s.scope.around) (λ f. token (next f)) → Unless (FitsExp at u.scope.around) (after_equals next o r.tree c q)
+    Unless (FitsField at s.scope.enclosing) (λ f. token (next f)) → Unless (FitsExp at u.scope.enclosing) (after_equals next o r.tree c q)
 keyed_supposes at next o c q s a b u key r before after suppose = λ e not.
     suppose (tree.keyed o r.tree c q e) (λ f.
-    not (subst (λ z. FitsExp at z.around e) (sym after)
-    (keyed_value_fits at s.scope.around o r.tree c q e a.scope b.scope key.expr f (ap (λ z. z.around) before) r.resolved)))
+    not (subst (λ z. FitsExp at z.enclosing e) (sym after)
+    (keyed_value_fits at s.scope.enclosing o r.tree c q e a.scope b.scope key.expr f (ap (λ z. z.enclosing) before) r.resolved)))
 
 pub keyed_value_refused : (at : Nesting) (o c q : ℕ) (fault : ParseFault) (s a b d u t : State) (key : Built) → Takes (Sign sign.OpenBracket) o s a → ReadsExp at a key b → EndsAt 1 (ahead b) →
     Takes (Sign sign.CloseBracket) c b d → Takes (Sign sign.Assign) q d u → RefusesFrom 1 at u t fault → RefusesField at s t fault
@@ -170,9 +170,9 @@ equals_never_missed at line n fault s a t next taken missed = λ o fs k h.
     refused_on (by_token r (Name n) line s a taken) (never_missed fault _ (feed r (Name n) line) (IsKind (Sign sign.Assign)) a t missed h equals_next)
 
 named_supposes : (at : Nesting) (next : Next) (l q : Line) (n : Bytes) (s u : State) → u.scope ≡ s.scope →
-    Unless (FitsField at s.scope.around) (λ f. token (next f)) → Unless (FitsExp at u.scope.around) (λ e. token (next (tree.named l n q e)))
+    Unless (FitsField at s.scope.enclosing) (λ f. token (next f)) → Unless (FitsExp at u.scope.enclosing) (λ e. token (next (tree.named l n q e)))
 named_supposes at next l q n s u same suppose = λ e not.
-    suppose (tree.named l n q e) (λ f. not (subst (λ z. FitsExp at z.around e) (sym same) (named_value_fits at s.scope.around l n q e f)))
+    suppose (tree.named l n q e) (λ f. not (subst (λ z. FitsExp at z.enclosing e) (sym same) (named_value_fits at s.scope.enclosing l n q e f)))
 
 pub named_value_refused : (at : Nesting) (line q : ℕ) (n : Bytes) (fault : ParseFault) (s a u t : State) → Takes (Name n) line s a → Takes (Sign sign.Assign) q a u →
     RefusesFrom 1 at u t fault → RefusesField at s t fault
@@ -316,7 +316,7 @@ plain_supposes at enclosing next suppose = λ e not. suppose (tree.plain e) (λ 
 pub plain_refused : (at : Nesting) (fault : ParseFault) (s t : State) → (IsNext (Sign sign.OpenBracket) s → ⊥) → (BeginNamed s.left → ⊥) → RefusesFrom 1 at s t fault → RefusesField at s t fault
 plain_refused at fault s t bracket named refuses = λ o fs k h.
     let next : Next = after_field o fs k in
-    let plain : Refuses fault (exp 1 (plainly next)) s t = refuses (plainly next) (supposes_on fault (plain_supposes at s.scope.around next) h) in
+    let plain : Refuses fault (exp 1 (plainly next)) s t = refuses (plainly next) (supposes_on fault (plain_supposes at s.scope.enclosing next) h) in
     let read = plain.sticks.read in
     let printed = plain.sticks.printed in
     record {

@@ -19,14 +19,14 @@ use Rattle.lua_parser_base.specs.Nesting.{IsLooped, IsWithin}
 use Rattle.lua_parser_base.specs.Fits.{FitsValue, FitsValues, FitsBlock, FitsLoop, FitsStat}
 
 -- the scopes before and after the values of a loop that is within the limits, and in its block
-loop_few : (names : List Bytes) (m k t : Scope) (b : Block) (out : List Stmt) → Opens b (declare names m) out k → t ≡ leave m k → Few t.around → Few (declare_in names m.around)
+loop_few : (names : List Bytes) (m k t : Scope) (b : Block) (out : List Stmt) → Opens b (declare names m) out k → t ≡ leave m k → Few t.enclosing → Few (declare_in names m.enclosing)
 loop_few names m k t b out opens left few = few_before (and_goes (block_goes b (declare names m) out k opens) (leave_goes m k left)) few
 
-before_loop : (names : List Bytes) (m : Scope) → Few (declare_in names m.around) → Few m.around
+before_loop : (names : List Bytes) (m : Scope) → Few (declare_in names m.enclosing) → Few m.enclosing
 before_loop names m few = few_before (declare_goes names m) few
 
-value_fits : (at : Nesting) (e : Exp) (s : Scope) (x : Expr) (t : Scope) (enclosing : List Frame) → IsValid at.vararg e → at.depth + levels e ≤ 200 → s.around ≡ enclosing → Resolves e s x t →
-    Few t.around → FitsValue at enclosing e
+value_fits : (at : Nesting) (e : Exp) (s : Scope) (x : Expr) (t : Scope) (enclosing : List Frame) → IsValid at.vararg e → at.depth + levels e ≤ 200 → s.enclosing ≡ enclosing → Resolves e s x t →
+    Few t.enclosing → FitsValue at enclosing e
 value_fits at e s x t enclosing valid deep same resolved few = record {
   valid = valid;
   deep = deep;
@@ -34,7 +34,7 @@ value_fits at e s x t enclosing valid deep same resolved few = record {
 }
 
 loop_fits : (at : Nesting) (names : List Bytes) (b : Block) (m k t : Scope) (out : List Stmt) (enclosing : List Frame) → IsValidBlock at.vararg true b → at.depth + block_levels b ≤ 200 →
-    m.around ≡ enclosing → Opens b (declare names m) out k → t ≡ leave m k → Few t.around → FitsLoop at names enclosing b
+    m.enclosing ≡ enclosing → Opens b (declare names m) out k → t ≡ leave m k → Few t.enclosing → FitsLoop at names enclosing b
 loop_fits at names b m k t out enclosing valid deep same opens left few = record {
   valid = valid;
   deep = deep;
@@ -52,22 +52,22 @@ range_from at enclosing f l n q a c b d body e w =
     value_fits at a w.resolvable.before from.value h enclosing w.valid.0 (let x = w.deep in omega (arith, x)) w.resolvable.same p (few_before_it (exp_keeps b h to.value m r) few)
 
 pub range_to : (at : Nesting) (enclosing : List Frame) (f l : Line) (n : Bytes) (q : Line) (a : Exp) (c : Line) (b : Exp) (d : Line) (body : Block) (e : Line) (s g : Scope) (x : Expr) →
-    s.around ≡ enclosing → Resolves a s x g → FitsStat at enclosing (tree.for_range f l n q a c b d body e) → FitsValue at g.around b
+    s.enclosing ≡ enclosing → Resolves a s x g → FitsStat at enclosing (tree.for_range f l n q a c b d body e) → FitsValue at g.enclosing b
 unfolding levels IsValid Resolves
 range_to at enclosing f l n q a c b d body e s g x here first w =
     let (from, to, run, h, m, k, p, r, o, u, i) = w.resolvable.resolved in
     let few = before_loop (n ∷ []) m (loop_few (n ∷ []) m k w.resolvable.after body run.value.items o u w.resolvable.few) in
-    let one = exp_alike a w.resolvable.before s from.value x h g p first (record { around = w.resolvable.same ∙ sym here }) in
-    value_fits at b h to.value m g.around w.valid.1 (let x = w.deep in omega (arith, x)) one.around r few
+    let one = exp_alike a w.resolvable.before s from.value x h g p first (record { enclosing = w.resolvable.same ∙ sym here }) in
+    value_fits at b h to.value m g.enclosing w.valid.1 (let x = w.deep in omega (arith, x)) one.enclosing r few
 
 pub range_block : (at : Nesting) (enclosing : List Frame) (f l : Line) (n : Bytes) (q : Line) (a : Exp) (c : Line) (b : Exp) (d : Line) (body : Block) (e : Line) (s g j : Scope) (x y : Expr) →
-    s.around ≡ enclosing → Resolves a s x g → Resolves b g y j → FitsStat at enclosing (tree.for_range f l n q a c b d body e) → FitsLoop at (n ∷ []) j.around body
+    s.enclosing ≡ enclosing → Resolves a s x g → Resolves b g y j → FitsStat at enclosing (tree.for_range f l n q a c b d body e) → FitsLoop at (n ∷ []) j.enclosing body
 unfolding levels IsValid Resolves
 range_block at enclosing f l n q a c b d body e s g j x y here first second w =
     let (from, to, run, h, m, k, p, r, o, u, i) = w.resolvable.resolved in
-    let one = exp_alike a w.resolvable.before s from.value x h g p first (record { around = w.resolvable.same ∙ sym here }) in
+    let one = exp_alike a w.resolvable.before s from.value x h g p first (record { enclosing = w.resolvable.same ∙ sym here }) in
     let two = exp_alike b h g to.value y m j r second one in
-    loop_fits at (n ∷ []) body m k w.resolvable.after run.value.items j.around w.valid.2 (let x = w.deep in omega (arith, x)) two.around o u w.resolvable.few
+    loop_fits at (n ∷ []) body m k w.resolvable.after run.value.items j.enclosing w.valid.2 (let x = w.deep in omega (arith, x)) two.enclosing o u w.resolvable.few
 
 -- ---- `for name = from, to, step do block end`
 
@@ -81,33 +81,33 @@ steps_from at enclosing f l n q a c b z v d body e w =
     (few_before_it (and_keeps (exp_keeps b g to.value h r) (exp_keeps v h step.value m t)) few)
 
 pub steps_to : (at : Nesting) (enclosing : List Frame) (f l : Line) (n : Bytes) (q : Line) (a : Exp) (c : Line) (b : Exp) (z : Line) (v : Exp) (d : Line) (body : Block) (e : Line) (s j : Scope) (x : Expr) →
-    s.around ≡ enclosing → Resolves a s x j → FitsStat at enclosing (tree.for_steps f l n q a c b z v d body e) → FitsValue at j.around b
+    s.enclosing ≡ enclosing → Resolves a s x j → FitsStat at enclosing (tree.for_steps f l n q a c b z v d body e) → FitsValue at j.enclosing b
 unfolding levels IsValid Resolves
 steps_to at enclosing f l n q a c b z v d body e s j x here first w =
     let (from, to, step, run, g, h, m, k, p, r, t, o, u, i) = w.resolvable.resolved in
     let few = before_loop (n ∷ []) m (loop_few (n ∷ []) m k w.resolvable.after body run.value.items o u w.resolvable.few) in
-    let one = exp_alike a w.resolvable.before s from.value x g j p first (record { around = w.resolvable.same ∙ sym here }) in
-    value_fits at b g to.value h j.around w.valid.1 (let x = w.deep in omega (arith, x)) one.around r (few_before_it (exp_keeps v h step.value m t) few)
+    let one = exp_alike a w.resolvable.before s from.value x g j p first (record { enclosing = w.resolvable.same ∙ sym here }) in
+    value_fits at b g to.value h j.enclosing w.valid.1 (let x = w.deep in omega (arith, x)) one.enclosing r (few_before_it (exp_keeps v h step.value m t) few)
 
 pub steps_step : (at : Nesting) (enclosing : List Frame) (f l : Line) (n : Bytes) (q : Line) (a : Exp) (c : Line) (b : Exp) (z : Line) (v : Exp) (d : Line) (body : Block) (e : Line) (s i j : Scope) (x y : Expr) →
-    s.around ≡ enclosing → Resolves a s x i → Resolves b i y j → FitsStat at enclosing (tree.for_steps f l n q a c b z v d body e) → FitsValue at j.around v
+    s.enclosing ≡ enclosing → Resolves a s x i → Resolves b i y j → FitsStat at enclosing (tree.for_steps f l n q a c b z v d body e) → FitsValue at j.enclosing v
 unfolding levels IsValid Resolves
 steps_step at enclosing f l n q a c b z v d body e s i j x y here first second w =
     let (from, to, step, run, g, h, m, k, p, r, t, o, u, is) = w.resolvable.resolved in
     let few = before_loop (n ∷ []) m (loop_few (n ∷ []) m k w.resolvable.after body run.value.items o u w.resolvable.few) in
-    let one = exp_alike a w.resolvable.before s from.value x g i p first (record { around = w.resolvable.same ∙ sym here }) in
+    let one = exp_alike a w.resolvable.before s from.value x g i p first (record { enclosing = w.resolvable.same ∙ sym here }) in
     let two = exp_alike b g i to.value y h j r second one in
-    value_fits at v h step.value m j.around w.valid.2 (let x = w.deep in omega (arith, x)) two.around t few
+    value_fits at v h step.value m j.enclosing w.valid.2 (let x = w.deep in omega (arith, x)) two.enclosing t few
 
 pub steps_block : (at : Nesting) (enclosing : List Frame) (f l : Line) (n : Bytes) (q : Line) (a : Exp) (c : Line) (b : Exp) (z : Line) (v : Exp) (d : Line) (body : Block) (e : Line) (s i j y : Scope) (x x' x'' : Expr) →
-    s.around ≡ enclosing → Resolves a s x i → Resolves b i x' j → Resolves v j x'' y → FitsStat at enclosing (tree.for_steps f l n q a c b z v d body e) → FitsLoop at (n ∷ []) y.around body
+    s.enclosing ≡ enclosing → Resolves a s x i → Resolves b i x' j → Resolves v j x'' y → FitsStat at enclosing (tree.for_steps f l n q a c b z v d body e) → FitsLoop at (n ∷ []) y.enclosing body
 unfolding levels IsValid Resolves
 steps_block at enclosing f l n q a c b z v d body e s i j y x x' x'' here first second third w =
     let (from, to, step, run, g, h, m, k, p, r, t, o, u, is) = w.resolvable.resolved in
-    let one = exp_alike a w.resolvable.before s from.value x g i p first (record { around = w.resolvable.same ∙ sym here }) in
+    let one = exp_alike a w.resolvable.before s from.value x g i p first (record { enclosing = w.resolvable.same ∙ sym here }) in
     let two = exp_alike b g i to.value x' h j r second one in
     let three = exp_alike v h j step.value x'' m y t third two in
-    loop_fits at (n ∷ []) body m k w.resolvable.after run.value.items y.around w.valid.3 (let x = w.deep in omega (arith, x)) three.around o u w.resolvable.few
+    loop_fits at (n ∷ []) body m k w.resolvable.after run.value.items y.enclosing w.valid.3 (let x = w.deep in omega (arith, x)) three.enclosing o u w.resolvable.few
 
 -- ---- `for names in values do block end`
 
@@ -124,12 +124,12 @@ list_values at enclosing f ns i es d body e w =
     }
 
 pub list_block : (at : Nesting) (enclosing : List Frame) (f : Line) (ns : NameList) (i : Line) (es : ExpList) (d : Line) (body : Block) (e : Line) (s g : Scope) (xs : List Expr) →
-    s.around ≡ enclosing → ResolvesList es s xs g → FitsStat at enclosing (tree.for_in f ns i es d body e) → FitsLoop at (names_of ns) g.around body
+    s.enclosing ≡ enclosing → ResolvesList es s xs g → FitsStat at enclosing (tree.for_in f ns i es d body e) → FitsLoop at (names_of ns) g.enclosing body
 unfolding levels IsValid Resolves
 list_block at enclosing f ns i es d body e s g xs here first w =
     let (slots, values, run, m, k, p, j, o, u, is) = w.resolvable.resolved in
-    let one = list_alike es w.resolvable.before s values.value.items xs m g p first (record { around = w.resolvable.same ∙ sym here }) in
-    loop_fits at (names_of ns) body m k w.resolvable.after run.value.items g.around w.valid.1 (let x = w.deep in omega (arith, x)) one.around o u w.resolvable.few
+    let one = list_alike es w.resolvable.before s values.value.items xs m g p first (record { enclosing = w.resolvable.same ∙ sym here }) in
+    loop_fits at (names_of ns) body m k w.resolvable.after run.value.items g.enclosing w.valid.1 (let x = w.deep in omega (arith, x)) one.enclosing o u w.resolvable.few
 
 -- ---- the block
 
@@ -161,7 +161,7 @@ few_names names (f ∷ fs) (g ∷ gs) h others is p few =
     omega (arith, same, slots)
 
 steady_still : (fs : List Frame) → AllZip Steady fs fs
-steady_still fs = (stays {s = record { functions = []; around = fs }} refl).frames
+steady_still fs = (stays {s = record { functions = []; enclosing = fs }} refl).frames
 
 -- where the block of a loop would have too many locals
 pub crowded_block : (at : Nesting) (names : List Bytes) (enclosing : List Frame) (f : Frame) (others : List Frame) (b : Block) → enclosing ≡ f ∷ others →
@@ -186,21 +186,21 @@ crowded_loop at ns enclosing f others (tree.for_range g l n q a c b d body e) of
     let (from, to, run, h, m, k, p, r, o, u, i) = w.resolvable.resolved in
     let few = loop_few (n ∷ []) m k w.resolvable.after body run.value.items o u w.resolvable.few in
     let kept = (and_keeps (exp_keeps a w.resolvable.before from.value h p) (exp_keeps b h to.value m r)).frames in
-    let all = few_names (n ∷ []) enclosing m.around f others is (subst (λ z. AllZip Steady z m.around) w.resolvable.same kept) few in
+    let all = few_names (n ∷ []) enclosing m.enclosing f others is (subst (λ z. AllZip Steady z m.enclosing) w.resolvable.same kept) few in
     let one : length (names_of ns) ≡ length (n ∷ []) = ap (λ z. length (names_of z)) of in
     omega (arith, crowded, all, one)
 crowded_loop at ns enclosing f others (tree.for_steps x l n q a c b z v d body e) of is crowded w =
     let (from, to, step, run, g, h, m, k, p, r, t, o, u, i) = w.resolvable.resolved in
     let few = loop_few (n ∷ []) m k w.resolvable.after body run.value.items o u w.resolvable.few in
     let kept = (and_keeps (exp_keeps a w.resolvable.before from.value g p) (and_keeps (exp_keeps b g to.value h r) (exp_keeps v h step.value m t))).frames in
-    let all = few_names (n ∷ []) enclosing m.around f others is (subst (λ z. AllZip Steady z m.around) w.resolvable.same kept) few in
+    let all = few_names (n ∷ []) enclosing m.enclosing f others is (subst (λ z. AllZip Steady z m.enclosing) w.resolvable.same kept) few in
     let one : length (names_of ns) ≡ length (n ∷ []) = ap (λ z. length (names_of z)) of in
     omega (arith, crowded, all, one)
 crowded_loop at ns enclosing f others (tree.for_in x those i es d body e) of is crowded w =
     let (slots, values, run, m, k, p, j, o, u, built) = w.resolvable.resolved in
     let few = loop_few (names_of those) m k w.resolvable.after body run.value.items o u w.resolvable.few in
     let kept = (list_keeps es w.resolvable.before values.value.items m p).frames in
-    let all = few_names (names_of those) enclosing m.around f others is (subst (λ z. AllZip Steady z m.around) w.resolvable.same kept) few in
+    let all = few_names (names_of those) enclosing m.enclosing f others is (subst (λ z. AllZip Steady z m.enclosing) w.resolvable.same kept) few in
     let one : length (names_of ns) ≡ length (names_of those) = ap (λ z. length (names_of z)) of in
     omega (arith, crowded, all, one)
 crowded_loop at ns enclosing f others other of is crowded w = absurd of

@@ -8,9 +8,9 @@ use Rattle.lua_ast.specs.declared.statements.Stmt.{Stmt}
 use Rattle.lua_grammar.specs.Tree.{Line, Bytes, Params, FuncBody, Block}
 use Rattle.lua_grammar.specs.Tree as tree
 use Rattle.lua_grammar.specs.Levels.{levels, block_levels}
-use Rattle.lua_grammar.specs.Validity.{IsValid, IsValidBlock, takes_rest}
+use Rattle.lua_grammar.specs.Validity.{IsValid, IsValidBlock, takes_vararg}
 use Rattle.lua_grammar.specs.Waiting.{Reader, failed, token, end_}
-use Rattle.lua_grammar.specs.Reading.{body, body_behind}
+use Rattle.lua_grammar.specs.Reading.{body, body_after}
 use Rattle.lua_grammar.specs.Scopes.{Frame, enter}
 use Rattle.lua_grammar.specs.Limits.{Few}
 use Rattle.lua_grammar.specs.Resolution.{Resolves, names_of_params}
@@ -49,12 +49,12 @@ few_parameters at line first enclosing o ps c b e f =
     let (kept, out, m, p, ends, i) = f.resolvable.resolved in
     let names = first ++ names_of_params ps in
     let s = f.resolvable.before in
-    let inside : Few m.around = few_inside line names (takes_rest ps) out s m f.resolvable.after ends f.resolvable.few in
-    let begun : Few (enter names kept s).around = few_before (block_goes b (enter names kept s) out m p) inside in
+    let inside : Few m.enclosing = few_inside line names (takes_vararg ps) out s m f.resolvable.after ends f.resolvable.few in
+    let begun : Few (enter names kept s).enclosing = few_before (block_goes b (enter names kept s) out m p) inside in
     begun.0.locals
 
 body_block_fits : (at within inner : Nesting) (line : Line) (first : List Bytes) (enclosing those : List Frame) (vararg : Bool) (o : Line) (ps : Params) (c : Line) (b : Block) (e : Line) →
-    FitsBody at line first enclosing (tree.function_body o ps c b e) → IsWithin at within → vararg ≡ takes_rest ps → IsOfFunction vararg within inner →
+    FitsBody at line first enclosing (tree.function_body o ps c b e) → IsWithin at within → vararg ≡ takes_vararg ps → IsOfFunction vararg within inner →
     those ≡ inner_frame (first ++ names_of_params ps) ∷ enclosing → FitsBlock inner those b
 unfolding levels IsValid Resolves
 body_block_fits at within inner line first enclosing those vararg o ps c b e f part takes function same =
@@ -70,7 +70,7 @@ body_block_fits at within inner line first enclosing those vararg o ps c b e f p
         after = m;
         same = ap (λ fs. inner_frame names ∷ fs) f.resolvable.same ∙ sym same;
         resolved = p;
-        few = few_inside line names (takes_rest ps) out s m f.resolvable.after ends f.resolvable.few;
+        few = few_inside line names (takes_vararg ps) out s m f.resolvable.after ends f.resolvable.few;
       };
     }
 
@@ -99,14 +99,14 @@ pub parameters_refused : (at : Nesting) (line : Line) (first : List Bytes) (faul
 parameters_refused at line first fault s a t o opening refuses = λ k never suppose.
     refused_on (by_token (token (body k)) (SignKind OpenParenthesis) o s a opening)
     (refuses o k (supposes_on fault (λ suppose ps c b e many.
-    suppose (tree.function_body o ps c b e) (λ f. let few = few_parameters at line first s.scope.around o ps c b e f in omega (arith, few, many))) suppose))
+    suppose (tree.function_body o ps c b e) (λ f. let few = few_parameters at line first s.scope.enclosing o ps c b e f in omega (arith, few, many))) suppose))
 
 pub parameters_unclosed : (at : Nesting) (line : Line) (first : List Bytes) (fault : ParseFault) (s a b t : State) (o : ℕ) (p : Parameters) → Takes (SignKind OpenParenthesis) o s a →
     ReadsParameters first a p b → OnAt (Misses (IsKind (SignKind CloseParenthesis)) b t) fault → RefusesBody at line first s t fault
 parameters_unclosed at line first (At l) s a b t o p opening read m = λ k never suppose.
     refused_on (on (by_token (token (body k)) (SignKind OpenParenthesis) o s a opening)
     (parameters_moved read.tree o k a b read.printed read.ends (not_first (SignKind CloseParenthesis) b.left (λ is. cc) m.missing)))
-    (no_close_parenthesis (At l) (Unit {0}) (body_behind o k read.tree) b t m suppose)
+    (no_close_parenthesis (At l) (Unit {0}) (body_after o k read.tree) b t m suppose)
 parameters_unclosed at line first Memory s a b t o p opening read m = λ k never suppose. absurd suppose
 parameters_unclosed at line first other s a b t o p opening read m = absurd m
 
@@ -117,9 +117,9 @@ pub record BeginsBody (first : List Bytes) (vararg : Bool) (s d : State) : Type 
   pub opens : Line
   pub tree : Params
   pub close : Line
-  pub moves : (k : FuncBody → Reader) → Moves (token (body k)) s (body_behind opens k tree close) d
-  pub takes : vararg ≡ takes_rest tree
-  pub around : d.scope.around ≡ inner_frame (first ++ names_of_params tree) ∷ s.scope.around
+  pub moves : (k : FuncBody → Reader) → Moves (token (body k)) s (body_after opens k tree close) d
+  pub takes : vararg ≡ takes_vararg tree
+  pub enclosing : d.scope.enclosing ≡ inner_frame (first ++ names_of_params tree) ∷ s.scope.enclosing
 
 pub begins_body : (first : List Bytes) (line : Line) (s a b c d : State) (o close : ℕ) (p : Parameters) (begun : Begun) → Takes (SignKind OpenParenthesis) o s a →
     ReadsParameters first a p b → Takes (SignKind CloseParenthesis) close b c → Enters p line begun c.scope d.scope → d.left ≡ c.left → BeginsBody first begun.vararg s d
@@ -130,18 +130,18 @@ begins_body first line s a b c d o close p begun opening read closing enters sam
   moves = λ k.
       moved same (on (by_token (token (body k)) (SignKind OpenParenthesis) o s a opening) (over_parameters_and_close read.tree o k a b c close read.printed closing));
   takes = enters.vararg ∙ read.vararg;
-  around =
+  enclosing =
       let scope : c.scope ≡ s.scope = closing.scope ∙ (read.scope ∙ opening.scope) in
-      ap (λ z. z.around) enters.scope ∙ (ap (λ z. inner_frame p.names.items ∷ z.around) scope ∙ ap (λ ns. inner_frame ns ∷ s.scope.around) read.listed);
+      ap (λ z. z.enclosing) enters.scope ∙ (ap (λ z. inner_frame p.names.items ∷ z.enclosing) scope ∙ ap (λ ns. inner_frame ns ∷ s.scope.enclosing) read.listed);
 }
 
 pub body_too_deep : (at : Nesting) (line : Line) (first : List Bytes) (vararg : Bool) (fault : ParseFault) (s d : State) → BeginsBody first vararg s d → IsTooDeep at d fault →
     RefusesBody at line first s d fault
 body_too_deep at line first vararg fault s d begins deep = λ k never suppose.
     refused_on (begins.moves k)
-    (too_deep fault _ at (body_behind begins.opens k begins.tree begins.close) d deep suppose (λ l b is. never _ b is) (λ full suppose.
+    (too_deep fault _ at (body_after begins.opens k begins.tree begins.close) d deep suppose (λ l b is. never _ b is) (λ full suppose.
     dead_to_end (λ b e. k (tree.function_body begins.opens begins.tree begins.close b e)) (λ b e.
-    suppose (tree.function_body begins.opens begins.tree begins.close b e) (deep_body at line first s.scope.around begins.opens begins.tree begins.close b e full))) tt)
+    suppose (tree.function_body begins.opens begins.tree begins.close b e) (deep_body at line first s.scope.enclosing begins.opens begins.tree begins.close b e full))) tt)
 
 pub body_block_refused : (at within inner : Nesting) (line : Line) (first : List Bytes) (vararg : Bool) (fault : ParseFault) (s d t : State) → BeginsBody first vararg s d →
     IsWithin at within → IsOfFunction vararg within inner → RefusesBlock inner d t fault → RefusesBody at line first s t fault
@@ -150,7 +150,7 @@ body_block_refused at within inner line first vararg fault s d t begins part fun
     (refuses (λ b. token (end_ (λ e. k (tree.function_body begins.opens begins.tree begins.close b e)))) (supposes_on fault (λ suppose b not.
     dead_end (λ e. k (tree.function_body begins.opens begins.tree begins.close b e)) (λ e.
     suppose (tree.function_body begins.opens begins.tree begins.close b e) (λ f.
-    not (body_block_fits at within inner line first s.scope.around d.scope.around vararg begins.opens begins.tree begins.close b e f part begins.takes function begins.around)))) suppose))
+    not (body_block_fits at within inner line first s.scope.enclosing d.scope.enclosing vararg begins.opens begins.tree begins.close b e f part begins.takes function begins.enclosing)))) suppose))
 
 pub body_unended : (at inner : Nesting) (line : Line) (first : List Bytes) (vararg : Bool) (fault : ParseFault) (s d e t : State) (out : List Stmt) → BeginsBody first vararg s d →
     ReadsBlock inner d out e → OnAt (Misses (IsKind (WordKind End)) e t) fault → RefusesBody at line first s t fault

@@ -56,11 +56,11 @@ first_list_fits at enclosing first whole (ListFrom.more es c e from) f = first_l
 
 -- in the functions as they are after the expressions before it
 last_fits : (at : Nesting) (enclosing : List Frame) (es : ExpList) (c : Line) (e : Exp) (s m : Scope) (out : List Expr) → FitsList at enclosing (tree.more es c e) →
-    s.around ≡ enclosing → ResolvesList es s out m → FitsExp at m.around e
+    s.enclosing ≡ enclosing → ResolvesList es s out m → FitsExp at m.enclosing e
 unfolding levels height IsValid Resolves
 last_fits at enclosing es c e s m out f here r =
     let (before, x, k, p, q, is) = f.resolvable.resolved in
-    let same : k.around ≡ m.around = (list_alike es f.resolvable.before s before out k m p r (record { around = f.resolvable.same ∙ sym here })).around in
+    let same : k.enclosing ≡ m.enclosing = (list_alike es f.resolvable.before s before out k m p r (record { enclosing = f.resolvable.same ∙ sym here })).enclosing in
     record {
       valid = f.valid.1;
       deep = let d = f.deep in omega (arith, d);
@@ -75,7 +75,7 @@ first_supposes at enclosing k suppose = λ e not whole from.
     suppose whole (λ f. not (one_fits at enclosing e (first_list_fits at enclosing (tree.one e) whole from f)))
 
 pub first_refused : (at : Nesting) (s t : State) (fault : ParseFault) → RefusesFrom 1 at s t fault → RefusesList at s t fault
-first_refused at s t fault refuses = λ k h. refuses (λ e. more_list (tree.one e) k) (supposes_on fault (first_supposes at s.scope.around k) h)
+first_refused at s t fault refuses = λ k h. refuses (λ e. more_list (tree.one e) k) (supposes_on fault (first_supposes at s.scope.enclosing k) h)
 
 -- over a list and the comma after it
 over_comma : (at : Nesting) (k : ExpList → Reader) (line : ℕ) (s a b : State) (v : Values) (r : ReadsList at s v a) → Takes (Sign sign.Comma) line a b →
@@ -83,11 +83,11 @@ over_comma : (at : Nesting) (k : ExpList → Reader) (line : ℕ) (s a b : State
 over_comma at k line s a b v r taken = on (list_moves r.tree at.vararg k s a r.printed r.valid r.ends) (by_token (more_list r.tree k) (Sign sign.Comma) line a b taken)
 
 next_supposes : (at : Nesting) (k : ExpList → Reader) (line : ℕ) (s a b : State) (v : Values) (r : ReadsList at s v a) → Takes (Sign sign.Comma) line a b →
-    Unless (FitsList at s.scope.around) k → Unless (FitsExp at b.scope.around) (λ e. more_list (tree.more r.tree line e) k)
+    Unless (FitsList at s.scope.enclosing) k → Unless (FitsExp at b.scope.enclosing) (λ e. more_list (tree.more r.tree line e) k)
 next_supposes at k line s a b v r taken suppose = λ e not whole from.
     suppose whole (λ f.
-    not (subst (λ z. FitsExp at z.around e) (sym taken.scope)
-    (last_fits at s.scope.around r.tree line e s.scope a.scope v.exprs.items (first_list_fits at s.scope.around (tree.more r.tree line e) whole from f) refl r.resolved)))
+    not (subst (λ z. FitsExp at z.enclosing e) (sym taken.scope)
+    (last_fits at s.scope.enclosing r.tree line e s.scope a.scope v.exprs.items (first_list_fits at s.scope.enclosing (tree.more r.tree line e) whole from f) refl r.resolved)))
 
 pub next_refused : (at : Nesting) (line : ℕ) (fault : ParseFault) (s a b t : State) (v : Values) → ReadsList at s v a → Takes (Sign sign.Comma) line a b →
     RefusesFrom 1 at b t fault → RefusesList at s t fault

@@ -57,17 +57,17 @@ count_kept [] (g ∷ gs) h = absurd h
 count_kept (f ∷ fs) [] h = absurd h
 
 pub in_scope_kept : (s t : Scope) → Keeps s t → in_scope t ≡ in_scope s
-in_scope_kept s t k = count_kept s.around t.around k.frames
+in_scope_kept s t k = count_kept s.enclosing t.enclosing k.frames
 
 -- in a function
 pub record IsInside (s : State) : Type 0 where
   pub frame : Frame
   pub others : List Frame
-  pub around : s.scope.around ≡ frame ∷ others
+  pub enclosing : s.scope.enclosing ≡ frame ∷ others
 
 pub inside : (tokens : List Token) (p : Parser) → IsInside (state tokens p)
 unfolding state
-inside tokens p = record { frame = _; others = _; around = refl }
+inside tokens p = record { frame = _; others = _; enclosing = refl }
 
 -- ---- what a statement that fits says of its parts
 
@@ -95,7 +95,7 @@ unfolding Resolves
 locals_few at enclosing l ns fits =
     let (slots, values, j, v, u, i) = fits.resolvable.resolved in
     let r = fits.resolvable in
-    subst (λ fs. Few (declare_in (names_of ns) fs)) r.same (subst (λ z. Few z.around) u r.few)
+    subst (λ fs. Few (declare_in (names_of ns) fs)) r.same (subst (λ z. Few z.enclosing) u r.few)
 
 initial_fits : (at : Nesting) (enclosing : List Frame) (l : Line) (ns : NameList) (q : Line) (es : ExpList) → FitsStat at enclosing (tree.local_values l ns q es) → FitsValues at enclosing es
 unfolding levels IsValid Resolves
@@ -111,7 +111,7 @@ initial_fits at enclosing l ns q es fits =
         after = m;
         same = r.same;
         resolved = p;
-        few = few_before (declare_goes (names_of ns) m) (subst (λ z. Few z.around) u r.few);
+        few = few_before (declare_goes (names_of ns) m) (subst (λ z. Few z.enclosing) u r.few);
       };
     }
 
@@ -125,13 +125,13 @@ few_on names fs (g ∷ gs) f others is kept few =
     let e : length g.locals ≡ length f.locals = ap length k.0.locals in
     omega (arith, h, e)
 
-values_few : (at : Nesting) (l : Line) (ns : NameList) (q : Line) (es : ExpList) (s : State) (inner : IsInside s) → FitsStat at s.scope.around (tree.local_values l ns q es) →
+values_few : (at : Nesting) (l : Line) (ns : NameList) (q : Line) (es : ExpList) (s : State) (inner : IsInside s) → FitsStat at s.scope.enclosing (tree.local_values l ns q es) →
     length inner.frame.locals + length (names_of ns) ≤ 200
 unfolding Resolves
 values_few at l ns q es s inner fits =
     let (slots, values, m, p, j, u, i) = fits.resolvable.resolved in
     let r = fits.resolvable in
-    few_on (names_of ns) r.before.around m.around inner.frame inner.others (r.same ∙ inner.around) (list_keeps es r.before values.value.items m p).frames (subst (λ z. Few z.around) u r.few)
+    few_on (names_of ns) r.before.enclosing m.enclosing inner.frame inner.others (r.same ∙ inner.enclosing) (list_keeps es r.before values.value.items m p).frames (subst (λ z. Few z.enclosing) u r.few)
 
 -- ---- a local function
 
@@ -154,18 +154,18 @@ local_function_crowded at (Locals line) s a b t w m n taken named same many = λ
     refused_on (moved same (on (by_token (token (local_ l k)) (WordKind Function) w s a taken) (by_token (after_word l w k) (NameKind n) m a b named)))
     (too_many line (after_local_name l w m n k) t (dead_body (λ x. k (tree.local_function l w m n x)) (λ x.
     suppose (tree.local_function l w m n x) (λ fits.
-    crowded_local n s.scope.around (subst (λ z. 200 ≤ in_scope z) (named.scope ∙ taken.scope) many) (local_function_few at s.scope.around l w m n x fits)))))
+    crowded_local n s.scope.enclosing (subst (λ z. 200 ≤ in_scope z) (named.scope ∙ taken.scope) many) (local_function_few at s.scope.enclosing l w m n x fits)))))
 local_function_crowded at Memory s a b t w m n taken named same many = λ l k never suppose. absurd suppose
 local_function_crowded at other s a b t w m n taken named same many = absurd many
 
 pub local_body_refused : (at : Nesting) (first : List Bytes) (fault : ParseFault) (s a b d t : State) (w m : ℕ) (n : Bytes) → Takes (WordKind Function) w s a → Takes (NameKind n) m a b →
     Turns (declare (n ∷ []) b.scope) b d → first ≡ [] → RefusesBody at w first d t fault → RefusesLocal at s t fault
 local_body_refused at first fault s a b d t w m n taken named turn own refuses = λ l k never suppose.
-    let enclosing : d.scope.around ≡ declare_in (n ∷ []) s.scope.around = ap (λ z. z.around) turn.scope ∙ ap (λ z. declare_in (n ∷ []) z.around) (named.scope ∙ taken.scope) in
+    let enclosing : d.scope.enclosing ≡ declare_in (n ∷ []) s.scope.enclosing = ap (λ z. z.enclosing) turn.scope ∙ ap (λ z. declare_in (n ∷ []) z.enclosing) (named.scope ∙ taken.scope) in
     refused_on (moved turn.left (on (by_token (token (local_ l k)) (WordKind Function) w s a taken) (by_token (after_word l w k) (NameKind n) m a b named)))
     (refuses (λ x. k (tree.local_function l w m n x)) (λ x z is. never _ z is) (supposes_on fault (λ suppose x not.
     suppose (tree.local_function l w m n x) (λ fits.
-    not (subst (λ names. FitsBody at w names d.scope.around x) (sym own) (local_body_fits at s.scope.around d.scope.around l w m n x fits enclosing)))) suppose))
+    not (subst (λ names. FitsBody at w names d.scope.enclosing x) (sym own) (local_body_fits at s.scope.enclosing d.scope.enclosing l w m n x fits enclosing)))) suppose))
 
 -- ---- locals
 
@@ -177,12 +177,12 @@ local_fails l k kind m word name = refl
 pub local_names_refused : (at : Nesting) (taken : ℕ) (fault : ParseFault) (s t : State) → IsInside s → taken ≡ in_scope s.scope → (IsNext (WordKind Function) s → ⊥) →
     RefusesNames taken s t fault → RefusesLocal at s t fault
 local_names_refused at taken fault s t inner count plain refuses = λ l k never suppose.
-    let all : taken ≡ length inner.frame.locals = count ∙ ap count_in inner.around in
+    let all : taken ≡ length inner.frame.locals = count ∙ ap count_in inner.enclosing in
     refuses (token (local_ l k)) (λ ns. after_local l ns k) (λ n m. refl)
     (λ m none. local_fails l k (ahead s) m (not_first (WordKind Function) s.left (λ is. cc) plain) none)
     (supposes_on fault (λ suppose ns many. (
       suppose (tree.local l ns) (λ fits.
-          let few = few_declared (names_of ns) inner.frame inner.others (subst (λ fs. Few (declare_in (names_of ns) fs)) inner.around (locals_few at s.scope.around l ns fits)) in
+          let few = few_declared (names_of ns) inner.frame inner.others (subst (λ fs. Few (declare_in (names_of ns) fs)) inner.enclosing (locals_few at s.scope.enclosing l ns fits)) in
           omega (arith, few, many, all)),
       λ q es. suppose (tree.local_values l ns q es) (λ fits. let few = values_few at l ns q es s inner fits in omega (arith, few, many, all)),
     )) suppose)
@@ -193,7 +193,7 @@ local_values_refused at fault s m t names read last refuses = λ l k never suppo
     refused_on (names_ended read.tree (token (local_ l k)) (λ ns. after_local l ns k) no_rest s m read.printed (λ n m. refl) (no_comma_ahead m last))
     (refuses l read.tree k (supposes_on fault (λ suppose q es not.
     suppose (tree.local_values l read.tree q es) (λ fits.
-    not (subst (λ z. FitsValues at z.around es) (sym read.scope) (initial_fits at s.scope.around l read.tree q es fits)))) suppose))
+    not (subst (λ z. FitsValues at z.enclosing es) (sym read.scope) (initial_fits at s.scope.enclosing l read.tree q es fits)))) suppose))
 
 -- values declare no locals
 pub initial_keeps : (at : Nesting) (m b : State) (values : Option (Vec Expr Global)) → ReadsInitial at m values b → in_scope b.scope ≡ in_scope m.scope
@@ -215,7 +215,7 @@ pub initial_refused : (at : Nesting) (fault : ParseFault) (s a t : State) (q : �
 initial_refused at fault s a t q taken refuses = λ l ns k suppose.
     refused_on (by_token (after_local l ns k) (SignKind Assign) q s a taken)
     (refuses (λ es. k (tree.local_values l ns q es)) (supposes_on fault (λ suppose es not.
-    suppose q es (λ fits. not (subst (λ z. FitsValues at z.around es) (sym taken.scope) fits))) suppose))
+    suppose q es (λ fits. not (subst (λ z. FitsValues at z.enclosing es) (sym taken.scope) fits))) suppose))
 
 -- ---- the statement
 

@@ -33,11 +33,11 @@ over_do : (k : Stat → Reader) (line : Line) (s a : State) → Takes (WordKind 
     Moves (token (statement k)) s (block (λ x. token (end_ (λ e. k (tree.do_block line x e))))) a
 over_do k line s a taken = by_token (token (statement k)) (WordKind Do) line s a taken
 
-do_supposes : (at : Nesting) (k : Stat → Reader) (line : Line) (s a : State) → Takes (WordKind Do) line s a → Unless (FitsStat at s.scope.around) k →
-    Unless (FitsScoped at a.scope.around) (λ x. token (end_ (λ e. k (tree.do_block line x e))))
+do_supposes : (at : Nesting) (k : Stat → Reader) (line : Line) (s a : State) → Takes (WordKind Do) line s a → Unless (FitsStat at s.scope.enclosing) k →
+    Unless (FitsScoped at a.scope.enclosing) (λ x. token (end_ (λ e. k (tree.do_block line x e))))
 do_supposes at k line s a taken those = λ x unfit.
     dead_end (λ e. k (tree.do_block line x e)) (λ e. those (tree.do_block line x e) (λ f.
-    unfit (subst (λ z. FitsScoped at z.around x) (sym taken.scope) (do_fits at s.scope.around line x e f))))
+    unfit (subst (λ z. FitsScoped at z.enclosing x) (sym taken.scope) (do_fits at s.scope.enclosing line x e f))))
 
 pub do_refused : (at : Nesting) (line : Line) (s a t : State) (fault : ParseFault) → Takes (WordKind Do) line s a → RefusesScoped at a t fault → RefusesStat at s t fault
 do_refused at line s a t fault taken refuses = λ k never suppose.
@@ -58,11 +58,11 @@ over_while : (k : Stat → Reader) (line : Line) (s a : State) → Takes (WordKi
     Moves (token (statement k)) s (exp 1 (λ t. token (loop_body (λ d x e. k (tree.while_loop line t d x e))))) a
 over_while k line s a taken = by_token (token (statement k)) (WordKind While) line s a taken
 
-while_test_supposes : (at : Nesting) (k : Stat → Reader) (line : Line) (s a : State) → Takes (WordKind While) line s a → Unless (FitsStat at s.scope.around) k →
-    Unless (FitsValue at a.scope.around) (λ t. token (loop_body (λ d x e. k (tree.while_loop line t d x e))))
+while_test_supposes : (at : Nesting) (k : Stat → Reader) (line : Line) (s a : State) → Takes (WordKind While) line s a → Unless (FitsStat at s.scope.enclosing) k →
+    Unless (FitsValue at a.scope.enclosing) (λ t. token (loop_body (λ d x e. k (tree.while_loop line t d x e))))
 while_test_supposes at k line s a taken those = λ t unfit.
     dead_loop_body (λ d x e. k (tree.while_loop line t d x e)) (λ d x e. those (tree.while_loop line t d x e) (λ f.
-    unfit (subst (λ z. FitsValue at z.around t) (sym taken.scope) (while_test_fits at s.scope.around line t d x e f))))
+    unfit (subst (λ z. FitsValue at z.enclosing t) (sym taken.scope) (while_test_fits at s.scope.enclosing line t d x e f))))
 
 pub while_test_refused : (at : Nesting) (line : Line) (s a t : State) (fault : ParseFault) → Takes (WordKind While) line s a → RefusesValue at a t fault → RefusesStat at s t fault
 while_test_refused at line s a t fault taken refuses = λ k never suppose.
@@ -87,12 +87,12 @@ over_while_do at k line word s a b c e taken r between =
     (by_token (token (do_ (λ d. block (λ x. token (end_ (λ e. k (tree.while_loop line r.tree d x e))))))) (WordKind Do) word b c between)
 
 while_block_supposes : (at loop : Nesting) (k : Stat → Reader) (line word : Line) (s a b c : State) (e : Expr) → Takes (WordKind While) line s a → (r : ReadsValue at a e b) →
-    Takes (WordKind Do) word b c → IsLooped at loop → Unless (FitsStat at s.scope.around) k →
-    Unless (FitsScoped loop c.scope.around) (λ x. token (end_ (λ e. k (tree.while_loop line r.tree word x e))))
+    Takes (WordKind Do) word b c → IsLooped at loop → Unless (FitsStat at s.scope.enclosing) k →
+    Unless (FitsScoped loop c.scope.enclosing) (λ x. token (end_ (λ e. k (tree.while_loop line r.tree word x e))))
 while_block_supposes at loop k line word s a b c e taken r between looped those = λ x unfit.
     dead_end (λ e. k (tree.while_loop line r.tree word x e)) (λ z. those (tree.while_loop line r.tree word x z) (λ f.
-    unfit (subst (λ z. FitsScoped loop z.around x) (sym between.scope)
-    (while_block_fits at loop s.scope.around line r.tree word x z a.scope b.scope e looped f (ap (λ z. z.around) taken.scope) r.resolved))))
+    unfit (subst (λ z. FitsScoped loop z.enclosing x) (sym between.scope)
+    (while_block_fits at loop s.scope.enclosing line r.tree word x z a.scope b.scope e looped f (ap (λ z. z.enclosing) taken.scope) r.resolved))))
 
 pub while_block_refused : (at loop : Nesting) (line word : Line) (s a b c t : State) (e : Expr) (fault : ParseFault) → Takes (WordKind While) line s a → ReadsValue at a e b →
     Takes (WordKind Do) word b c → IsLooped at loop → RefusesScoped loop c t fault → RefusesStat at s t fault
@@ -122,13 +122,13 @@ repeat_too_deep at loop line s a fault taken looped none = λ k never suppose.
     (too_deep fault _ loop r a none suppose (ends_failed r (λ l. refl)) (λ full those.
     dead_block (λ x. token (until_ (λ u. exp 1 (λ t. k (tree.repeat_loop line x u t))))) (λ x.
     dead_until (λ u. exp 1 (λ t. k (tree.repeat_loop line x u t))) (λ u t. those (tree.repeat_loop line x u t) (λ f.
-    deep_repeat at s.scope.around line x u t (let y = looped.depth in omega (arith, full, y)) f)))) tt)
+    deep_repeat at s.scope.enclosing line x u t (let y = looped.depth in omega (arith, full, y)) f)))) tt)
 
 repeat_block_supposes : (at loop inner : Nesting) (k : Stat → Reader) (line : Line) (s a : State) → Takes (WordKind Repeat) line s a → IsLooped at loop → IsWithin loop inner →
-    Unless (FitsStat at s.scope.around) k → Unless (FitsBlock inner a.scope.around) (λ x. token (until_ (λ u. exp 1 (λ t. k (tree.repeat_loop line x u t)))))
+    Unless (FitsStat at s.scope.enclosing) k → Unless (FitsBlock inner a.scope.enclosing) (λ x. token (until_ (λ u. exp 1 (λ t. k (tree.repeat_loop line x u t)))))
 repeat_block_supposes at loop inner k line s a taken looped part those = λ x unfit.
     dead_until (λ u. exp 1 (λ t. k (tree.repeat_loop line x u t))) (λ u t. those (tree.repeat_loop line x u t) (λ f.
-    unfit (subst (λ z. FitsBlock inner z.around x) (sym taken.scope) (repeat_block_fits at loop inner s.scope.around line x u t looped part f))))
+    unfit (subst (λ z. FitsBlock inner z.enclosing x) (sym taken.scope) (repeat_block_fits at loop inner s.scope.enclosing line x u t looped part f))))
 
 pub repeat_block_refused : (at loop inner : Nesting) (line : Line) (s a t : State) (fault : ParseFault) → Takes (WordKind Repeat) line s a → IsLooped at loop → IsWithin loop inner →
     RefusesBlock inner a t fault → RefusesStat at s t fault
@@ -148,12 +148,12 @@ until_refused at inner line s a b t out fault taken r missed = λ k never suppos
     refused_on (over_repeat_block inner k line s a b out taken r) (no_until fault _ (λ u. exp 1 (λ t. k (tree.repeat_loop line r.tree u t))) b t missed suppose)
 
 repeat_test_supposes : (at inner : Nesting) (k : Stat → Reader) (line word : Line) (s a b c : State) (out : List Stmt) → Takes (WordKind Repeat) line s a →
-    (r : ReadsBlock inner a out b) → Takes (WordKind Until) word b c → Unless (FitsStat at s.scope.around) k →
-    Unless (FitsValue at c.scope.around) (λ t. k (tree.repeat_loop line r.tree word t))
+    (r : ReadsBlock inner a out b) → Takes (WordKind Until) word b c → Unless (FitsStat at s.scope.enclosing) k →
+    Unless (FitsValue at c.scope.enclosing) (λ t. k (tree.repeat_loop line r.tree word t))
 repeat_test_supposes at inner k line word s a b c out taken r between those = λ t unfit.
     those (tree.repeat_loop line r.tree word t) (λ f.
-    unfit (subst (λ z. FitsValue at z.around t) (sym between.scope)
-    (repeat_test_fits at s.scope.around line r.tree word t a.scope b.scope out f (ap (λ z. z.around) taken.scope) r.resolved)))
+    unfit (subst (λ z. FitsValue at z.enclosing t) (sym between.scope)
+    (repeat_test_fits at s.scope.enclosing line r.tree word t a.scope b.scope out f (ap (λ z. z.enclosing) taken.scope) r.resolved)))
 
 pub repeat_test_refused : (at inner : Nesting) (line word : Line) (s a b c t : State) (out : List Stmt) (fault : ParseFault) → Takes (WordKind Repeat) line s a → ReadsBlock inner a out b →
     Takes (WordKind Until) word b c → RefusesValue at c t fault → RefusesStat at s t fault

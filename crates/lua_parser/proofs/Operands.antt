@@ -47,32 +47,32 @@ over_operator at m k op line s a b left r high taken low =
 
 -- what a whole supposes, its right operand may suppose
 right_supposes : (at inner : Nesting) (m : ℕ) (k : Exp → Reader) (op : Operator) (line : ℕ) (s a b : State) (left : Built) (r : ReadsExp at s left a) →
-    Takes (kind_of op) line a b → IsPart at inner → Unless (FitsExp at s.scope.around) k → Unless (FitsExp inner b.scope.around) (λ e. more_exp m (tree.binary r.tree op line e) k)
+    Takes (kind_of op) line a b → IsPart at inner → Unless (FitsExp at s.scope.enclosing) k → Unless (FitsExp inner b.scope.enclosing) (λ e. more_exp m (tree.binary r.tree op line e) k)
 right_supposes at inner m k op line s a b left r taken part suppose = λ e not whole from.
     suppose whole (λ f.
-    not (subst (λ z. FitsExp inner z.around e) (sym taken.scope)
-    (right_operand_fits at inner s.scope.around r.tree e op line s.scope a.scope left.expr (first_exp_fits at s.scope.around _ whole from f) refl r.resolved part)))
+    not (subst (λ z. FitsExp inner z.enclosing e) (sym taken.scope)
+    (right_operand_fits at inner s.scope.enclosing r.tree e op line s.scope a.scope left.expr (first_exp_fits at s.scope.enclosing _ whole from f) refl r.resolved part)))
 
 -- refused in the right operand, where it can't begin, and where what stands before it is too high
 pub right_refused : (at inner : Nesting) (m : ℕ) (k : Exp → Reader) (op : Operator) (line : ℕ) (fault : ParseFault) (s a b t : State) (left : Built) → ReadsExp at s left a → m ≤ left.level →
-    Takes (kind_of op) line a b → m ≤ level op → IsPart at inner → Supposes fault (Unless (FitsExp at s.scope.around) k) → RefusesFrom (right_level op) inner b t fault → Refuses fault (exp m k) s t
+    Takes (kind_of op) line a b → m ≤ level op → IsPart at inner → Supposes fault (Unless (FitsExp at s.scope.enclosing) k) → RefusesFrom (right_level op) inner b t fault → Refuses fault (exp m k) s t
 right_refused at inner m k op line fault s a b t left r high taken low part h refuses =
     refused_on (over_operator at m k op line s a b left r high taken low) (refuses _ (supposes_on fault (right_supposes at inner m k op line s a b left r taken part) h))
 
 pub right_no_part : (at : Nesting) (m : ℕ) (k : Exp → Reader) (op : Operator) (line : ℕ) (fault : ParseFault) (s a b : State) (left : Built) → ReadsExp at s left a → m ≤ left.level →
-    Takes (kind_of op) line a b → m ≤ level op → Supposes fault (Unless (FitsExp at s.scope.around) k) → HasNoPart at b fault → Refuses fault (exp m k) s b
+    Takes (kind_of op) line a b → m ≤ level op → Supposes fault (Unless (FitsExp at s.scope.enclosing) k) → HasNoPart at b fault → Refuses fault (exp m k) s b
 right_no_part at m k op line fault s a b left r high taken low h none =
     refused_on (over_operator at m k op line s a b left r high taken low)
     (no_part fault _ at (exp (right_level op) (λ e. more_exp m (tree.binary r.tree op line e) k)) b none h
     (ends_failed (exp (right_level op) (λ e. more_exp m (tree.binary r.tree op line e) k)) (λ l. refl)) (λ full suppose e whole from.
-    suppose whole (λ f. deep_operand at s.scope.around r.tree e op line full (first_exp_fits at s.scope.around _ whole from f))) tt)
+    suppose whole (λ f. deep_operand at s.scope.enclosing r.tree e op line full (first_exp_fits at s.scope.enclosing _ whole from f))) tt)
 
 pub right_too_high : (at : Nesting) (m : ℕ) (k : Exp → Reader) (op : Operator) (line : ℕ) (fault : ParseFault) (s a b : State) (left : Built) → ReadsExp at s left a → m ≤ left.level →
-    Takes (kind_of op) line a b → m ≤ level op → Supposes fault (Unless (FitsExp at s.scope.around) k) → IsTooHigh at left.height line fault → Refuses fault (exp m k) s b
+    Takes (kind_of op) line a b → m ≤ level op → Supposes fault (Unless (FitsExp at s.scope.enclosing) k) → IsTooHigh at left.height line fault → Refuses fault (exp m k) s b
 right_too_high at m k op line fault s a b left r high taken low h none =
     refused_on (over_operator at m k op line s a b left r high taken low)
     (too_high _ fault _ at left.height (exp (right_level op) (λ e. more_exp m (tree.binary r.tree op line e) k)) b none h (λ full suppose e whole from.
-    suppose whole (λ f. high_operand at s.scope.around r.tree e op line left.height r.high full (first_exp_fits at s.scope.around _ whole from f))))
+    suppose whole (λ f. high_operand at s.scope.enclosing r.tree e op line left.height r.high full (first_exp_fits at s.scope.enclosing _ whole from f))))
 
 pub right_low : (op : Operator) → right_level op ≤ 7
 right_low op = highest_right _ _ _ (levels_of op)
@@ -98,22 +98,22 @@ pub over_unary : (m : ℕ) (k : Exp → Reader) (op : UnOp) (line : ℕ) (s a : 
 over_unary m k op line s a taken = subst (λ q. Moves (exp m k) s q a) (unary_begins op m line k) (by_token (exp m k) (kind_of_unary op) line s a taken)
 
 operand_supposes : (at inner : Nesting) (m : ℕ) (k : Exp → Reader) (op : UnOp) (line : ℕ) (s a : State) → Takes (kind_of_unary op) line s a → IsPart at inner →
-    Unless (FitsExp at s.scope.around) k → Unless (FitsExp inner a.scope.around) (λ e. more_exp m (tree.unary op line e) k)
+    Unless (FitsExp at s.scope.enclosing) k → Unless (FitsExp inner a.scope.enclosing) (λ e. more_exp m (tree.unary op line e) k)
 operand_supposes at inner m k op line s a taken part suppose = λ e not whole from.
     suppose whole (λ f.
-    not (subst (λ z. FitsExp inner z.around e) (sym taken.scope) (operand_fits at inner s.scope.around op line e (first_exp_fits at s.scope.around _ whole from f) part)))
+    not (subst (λ z. FitsExp inner z.enclosing e) (sym taken.scope) (operand_fits at inner s.scope.enclosing op line e (first_exp_fits at s.scope.enclosing _ whole from f) part)))
 
 pub operand_refused : (at inner : Nesting) (m : ℕ) (k : Exp → Reader) (op : UnOp) (line : ℕ) (fault : ParseFault) (s a t : State) → Takes (kind_of_unary op) line s a → IsPart at inner →
-    Supposes fault (Unless (FitsExp at s.scope.around) k) → (7 ≤ 7 → RefusesFrom 7 inner a t fault) → Refuses fault (exp m k) s t
+    Supposes fault (Unless (FitsExp at s.scope.enclosing) k) → (7 ≤ 7 → RefusesFrom 7 inner a t fault) → Refuses fault (exp m k) s t
 operand_refused at inner m k op line fault s a t taken part h refuses =
     refused_on (over_unary m k op line s a taken) (refuses (lit≤ tt) _ (supposes_on fault (operand_supposes at inner m k op line s a taken part) h))
 
 pub operand_no_part : (at : Nesting) (m : ℕ) (k : Exp → Reader) (op : UnOp) (line : ℕ) (fault : ParseFault) (s a : State) → Takes (kind_of_unary op) line s a →
-    Supposes fault (Unless (FitsExp at s.scope.around) k) → HasNoPart at a fault → Refuses fault (exp m k) s a
+    Supposes fault (Unless (FitsExp at s.scope.enclosing) k) → HasNoPart at a fault → Refuses fault (exp m k) s a
 operand_no_part at m k op line fault s a taken h none =
     refused_on (over_unary m k op line s a taken)
     (no_part fault _ at (exp 7 (λ e. more_exp m (tree.unary op line e) k)) a none h (ends_failed (exp 7 (λ e. more_exp m (tree.unary op line e) k)) (λ l. refl)) (λ full suppose e whole from.
-    suppose whole (λ f. deep_unary at s.scope.around op line e full (first_exp_fits at s.scope.around _ whole from f))) tt)
+    suppose whole (λ f. deep_unary at s.scope.enclosing op line e full (first_exp_fits at s.scope.enclosing _ whole from f))) tt)
 
 -- what begins no other operand begins a prefix, or nothing
 prefix_begins : (m : ℕ) (k : Exp → Reader) (kind : TokenKind) (l : ℕ) → operand_of kind ≡ operand.Prefix →
@@ -139,11 +139,11 @@ prefix_supposes at enclosing m k suppose = λ p not whole from. suppose whole (�
 pub prefix_refused : (at : Nesting) (s t : State) (fault : ParseFault) → operand_of (ahead s) ≡ operand.Prefix → RefusesPrefix at s t fault → RefusesExp at s t fault
 prefix_refused at s t fault next refuses = λ m k h.
     refused_on (stays (exp m k) (token (begin_prefix (λ p. more_exp m (tree.prefix p) k))) s (λ l. prefix_begins m k (ahead s) l next) tt)
-    (refuses (λ p. more_exp m (tree.prefix p) k) (supposes_on fault (prefix_supposes at s.scope.around m k) h))
+    (refuses (λ p. more_exp m (tree.prefix p) k) (supposes_on fault (prefix_supposes at s.scope.enclosing m k) h))
 
 -- a table constructor alone
 table_supposes : (at : Nesting) (enclosing : List Frame) (m : ℕ) (k : Exp → Reader) → Unless (FitsExp at enclosing) k → Unless (FitsTable at enclosing) (λ t. more_exp m (tree.table t) k)
 table_supposes at enclosing m k suppose = λ t not whole from. suppose whole (λ f. not (table_alone_fits at enclosing t (first_exp_fits at enclosing _ whole from f)))
 
 pub table_refused : (at : Nesting) (s t : State) (fault : ParseFault) → RefusesTable at s t fault → RefusesExp at s t fault
-table_refused at s t fault refuses = λ m k h. refuses (exp m k) (λ t. more_exp m (tree.table t) k) (λ o. refl) (supposes_on fault (table_supposes at s.scope.around m k) h)
+table_refused at s t fault refuses = λ m k h. refuses (exp m k) (λ t. more_exp m (tree.table t) k) (λ o. refl) (supposes_on fault (table_supposes at s.scope.enclosing m k) h)

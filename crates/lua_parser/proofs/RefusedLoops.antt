@@ -46,7 +46,7 @@ pub step_refused : (at : Nesting) (line : ℕ) (fault : ParseFault) (s a t : Sta
 step_refused at line fault s a t taken refuses = λ f l n q from c to k suppose.
     refused_on (by_token (token (for_limit f l n q from c to k)) (Sign sign.Comma) line s a taken)
     (refuses (λ step. token (loop_body (λ d b e. k (tree.for_steps f l n q from c to line step d b e)))) (supposes_on fault (λ dead e not.
-    dead line e (λ fits. not (subst (λ z. FitsValue at z.around e) (sym taken.scope) fits))) suppose))
+    dead line e (λ fits. not (subst (λ z. FitsValue at z.enclosing e) (sym taken.scope) fits))) suppose))
 
 -- ---- the block of a loop
 
@@ -67,23 +67,23 @@ UnlessLoop at names enclosing k = (d e : Line) (x : Block) → (FitsLoop at name
 
 pub loop_without_do : (at : Nesting) (names : List Bytes) (fault : ParseFault) (s t : State) → OnAt (Misses (IsKind (Word word.Do)) s t) fault → RefusesLoop at names s t fault
 loop_without_do at names fault s t missing = λ k never suppose.
-    no_do fault (UnlessLoop at names s.scope.around k) (λ d. block (λ b. token (end_ (λ e. k d b e)))) s t missing suppose
+    no_do fault (UnlessLoop at names s.scope.enclosing k) (λ d. block (λ b. token (end_ (λ e. k d b e)))) s t missing suppose
 
-pub loop_crowded : (at : Nesting) (names : List Bytes) (line : ℕ) (fault : ParseFault) (f : Frame) (others : List Frame) (s a b : State) → s.scope.around ≡ f ∷ others →
+pub loop_crowded : (at : Nesting) (names : List Bytes) (line : ℕ) (fault : ParseFault) (f : Frame) (others : List Frame) (s a b : State) → s.scope.enclosing ≡ f ∷ others →
     Takes (Word word.Do) line s a → b.left ≡ a.left → OnLocals (200 < in_scope a.scope + length names) fault → RefusesLoop at names s b fault
 loop_crowded at names line fault f others s a b is taken left full = λ k never suppose.
     refused_on (over_do k line s a b taken left)
-    (too_many_locals fault _ (UnlessLoop at names s.scope.around k) (block (λ x. token (end_ (λ e. k line x e)))) b full suppose (λ crowded dead.
+    (too_many_locals fault _ (UnlessLoop at names s.scope.enclosing k) (block (λ x. token (end_ (λ e. k line x e)))) b full suppose (λ crowded dead.
     dead_to_end (k line) (λ x e. dead line e x (λ fits.
-    crowded_block at names s.scope.around f others x is (subst (λ z. 200 < in_scope z + length names) taken.scope crowded) fits))))
+    crowded_block at names s.scope.enclosing f others x is (subst (λ z. 200 < in_scope z + length names) taken.scope crowded) fits))))
 
 pub loop_too_deep : (at loop : Nesting) (names : List Bytes) (line : ℕ) (fault : ParseFault) (s a b : State) → Takes (Word word.Do) line s a → b.left ≡ a.left → IsLooped at loop →
     IsTooDeep loop b fault → RefusesLoop at names s b fault
 loop_too_deep at loop names line fault s a b taken left looped deep = λ k never suppose.
     refused_on (over_do k line s a b taken left)
-    (too_deep fault (UnlessLoop at names s.scope.around k) loop (block (λ x. token (end_ (λ e. k line x e)))) b deep suppose
+    (too_deep fault (UnlessLoop at names s.scope.enclosing k) loop (block (λ x. token (end_ (λ e. k line x e)))) b deep suppose
     (λ l x is. never line l (tree.statements tree.no_stats) x is) (λ full dead.
-    dead_to_end (k line) (λ x e. dead line e x (λ fits. deep_loop at loop names s.scope.around x looped full fits))) tt)
+    dead_to_end (k line) (λ x e. dead line e x (λ fits. deep_loop at loop names s.scope.enclosing x looped full fits))) tt)
 
 pub loop_refused : (at loop inner : Nesting) (names : List Bytes) (line : ℕ) (fault : ParseFault) (s a b t : State) → Takes (Word word.Do) line s a → Turns (declare names a.scope) a b →
     IsLooped at loop → IsWithin loop inner → RefusesBlock inner b t fault → RefusesLoop at names s t fault
@@ -92,13 +92,13 @@ loop_refused at loop inner names line fault s a b t taken turn looped part refus
     refused_on (over_do k line s a b taken turn.left)
     (refuses (λ x. token (end_ (λ e. k line x e))) (supposes_on fault (λ dead x not.
     dead_end (k line x) (λ e. dead line e x (λ fits.
-    not (subst (λ z. FitsBlock inner z.around x) (sym same) (loop_block_fits at loop inner names s.scope.around x looped part fits))))) suppose))
+    not (subst (λ z. FitsBlock inner z.enclosing x) (sym same) (loop_block_fits at loop inner names s.scope.enclosing x looped part fits))))) suppose))
 
 pub loop_without_end : (at inner : Nesting) (names : List Bytes) (line : ℕ) (fault : ParseFault) (out : List Stmt) (s a b c d t : State) → Takes (Word word.Do) line s a → b.left ≡ a.left →
     ReadsBlock inner b out c → d.left ≡ c.left → OnAt (Misses (IsKind (Word word.End)) d t) fault → RefusesLoop at names s t fault
 loop_without_end at inner names line fault out s a b c d t taken left r same missing = λ k never suppose.
     refused_on (on (over_do k line s a b taken left) (moved same (block_ended inner b c out r (λ x. token (end_ (λ e. k line x e))))))
-    (no_end fault (UnlessLoop at names s.scope.around k) (k line r.tree) d t missing suppose (λ l x is. never line l r.tree x is))
+    (no_end fault (UnlessLoop at names s.scope.enclosing k) (k line r.tree) d t missing suppose (λ l x is. never line l r.tree x is))
 
 -- ---- what a parser says of its state
 
@@ -107,7 +107,7 @@ pub unread : (tokens : List Token) (p q : Parser) → q.index ≡ p.index → (s
 unfolding state
 unread tokens p q index = ap (λ n. lexemes (drop n tokens)) index
 
-pub innermost : (tokens : List Token) (p : Parser) → (state tokens p).scope.around ≡ frame_of p.frame ∷ frames_of p.enclosing
+pub innermost : (tokens : List Token) (p : Parser) → (state tokens p).scope.enclosing ≡ frame_of p.frame ∷ frames_of p.enclosing
 unfolding state
 innermost tokens p = refl
 
@@ -179,17 +179,17 @@ pub range_from_refused : (at : Nesting) (f l : Line) (n : Bytes) (q : ℕ) (faul
 range_from_refused at f l n q fault s a t taken refuses k never suppose =
     refused_on (over_assign f l n k q s a taken)
     (refuses (λ from. token (comma (λ c. exp 1 (λ to. token (for_limit f l n q from c to k))))) (supposes_on fault (λ dead from not.
-    let none : FitsValue at s.scope.around from → ⊥ = λ fits. not (subst (λ z. FitsValue at z.around from) (sym taken.scope) fits) in
+    let none : FitsValue at s.scope.enclosing from → ⊥ = λ fits. not (subst (λ z. FitsValue at z.enclosing from) (sym taken.scope) fits) in
     dead_comma (λ c. exp 1 (λ to. token (for_limit f l n q from c to k))) (λ c to.
     dead_limit f l n q from c to k
-    (λ d b e. dead (tree.for_range f l n q from c to d b e) (λ w. none (range_from at s.scope.around f l n q from c to d b e w)))
-    (λ m step d b e. dead (tree.for_steps f l n q from c to m step d b e) (λ w. none (steps_from at s.scope.around f l n q from c to m step d b e w))))) suppose))
+    (λ d b e. dead (tree.for_range f l n q from c to d b e) (λ w. none (range_from at s.scope.enclosing f l n q from c to d b e w)))
+    (λ m step d b e. dead (tree.for_steps f l n q from c to m step d b e) (λ w. none (steps_from at s.scope.enclosing f l n q from c to m step d b e w))))) suppose))
 
 pub range_without_comma : (at : Nesting) (f l : Line) (n : Bytes) (q : ℕ) (fault : ParseFault) (from : Expr) (s a b t : State) → Takes (Sign sign.Assign) q s a → ReadsValue at a from b →
     OnAt (Misses (IsKind (Sign sign.Comma)) b t) fault → RefusesRange at f l n s t fault
 range_without_comma at f l n q fault from s a b t taken r missing k never suppose =
     refused_on (over_from at f l n k q from s a b taken r)
-    (no_comma fault (Unless (FitsStat at s.scope.around) k) (λ c. exp 1 (λ to. token (for_limit f l n q r.tree c to k))) b t missing suppose)
+    (no_comma fault (Unless (FitsStat at s.scope.enclosing) k) (λ c. exp 1 (λ to. token (for_limit f l n q r.tree c to k))) b t missing suppose)
 
 pub range_to_refused : (at : Nesting) (f l : Line) (n : Bytes) (q c : ℕ) (fault : ParseFault) (from : Expr) (s a b d t : State) → Takes (Sign sign.Assign) q s a → ReadsValue at a from b →
     Takes (Sign sign.Comma) c b d → RefusesValue at d t fault → RefusesRange at f l n s t fault
@@ -197,10 +197,10 @@ range_to_refused at f l n q c fault from s a b d t taken r between refuses k nev
     let first : Resolves r.tree s.scope from b.scope = subst (λ z. Resolves r.tree z from b.scope) taken.scope r.resolved in
     refused_on (over_comma at f l n k q c from s a b d taken r between)
     (refuses (λ to. token (for_limit f l n q r.tree c to k)) (supposes_on fault (λ dead to not.
-    let none : FitsValue at b.scope.around to → ⊥ = λ fits. not (subst (λ z. FitsValue at z.around to) (sym between.scope) fits) in
+    let none : FitsValue at b.scope.enclosing to → ⊥ = λ fits. not (subst (λ z. FitsValue at z.enclosing to) (sym between.scope) fits) in
     dead_limit f l n q r.tree c to k
-    (λ x y e. dead (tree.for_range f l n q r.tree c to x y e) (λ w. none (range_to at s.scope.around f l n q r.tree c to x y e s.scope b.scope from refl first w)))
-    (λ m step x y e. dead (tree.for_steps f l n q r.tree c to m step x y e) (λ w. none (steps_to at s.scope.around f l n q r.tree c to m step x y e s.scope b.scope from refl first w)))) suppose))
+    (λ x y e. dead (tree.for_range f l n q r.tree c to x y e) (λ w. none (range_to at s.scope.enclosing f l n q r.tree c to x y e s.scope b.scope from refl first w)))
+    (λ m step x y e. dead (tree.for_steps f l n q r.tree c to m step x y e) (λ w. none (steps_to at s.scope.enclosing f l n q r.tree c to m step x y e s.scope b.scope from refl first w)))) suppose))
 
 pub range_step_refused : (at : Nesting) (f l : Line) (n : Bytes) (q c : ℕ) (fault : ParseFault) (from to : Expr) (s a b d g t : State) → Takes (Sign sign.Assign) q s a → ReadsValue at a from b →
     Takes (Sign sign.Comma) c b d → ReadsValue at d to g → RefusesStep at g t fault → RefusesRange at f l n s t fault
@@ -211,7 +211,7 @@ range_step_refused at f l n q c fault from to s a b d g t taken r between v refu
     (refuses f l n q r.tree c v.tree k (supposes_on fault (λ dead m step not.
     dead_loop_body (λ x y e. k (tree.for_steps f l n q r.tree c v.tree m step x y e)) (λ x y e.
     dead (tree.for_steps f l n q r.tree c v.tree m step x y e) (λ w.
-    not (steps_step at s.scope.around f l n q r.tree c v.tree m step x y e s.scope b.scope g.scope from to refl first second w)))) suppose))
+    not (steps_step at s.scope.enclosing f l n q r.tree c v.tree m step x y e s.scope b.scope g.scope from to refl first second w)))) suppose))
 
 -- after the values: another one, or none
 limit_ends : (f l : Line) (n : Bytes) (q : Line) (from : Exp) (c : Line) (to : Exp) (k : Stat → Reader) (kind : TokenKind) (m : Line) → (IsKind (Sign sign.Comma) kind → ⊥) →
@@ -230,7 +230,7 @@ range_block_refused at f l n q c fault from to (Some e) s a b d g h t taken r be
     (value_ended at u h e w (λ step. token (loop_body (λ x y z. k (tree.for_steps f l n q r.tree c v.tree m step x y z))))))
     (refuses (λ x y z. k (tree.for_steps f l n q r.tree c v.tree m w.tree x y z)) (λ x z y o is. never (tree.for_steps f l n q r.tree c v.tree m w.tree x y z) o is) (supposes_on fault (λ dead x z y not.
     dead (tree.for_steps f l n q r.tree c v.tree m w.tree x y z) (λ fits.
-    not (steps_block at s.scope.around f l n q r.tree c v.tree m w.tree x y z s.scope b.scope g.scope h.scope from to e refl first second third fits))) suppose))
+    not (steps_block at s.scope.enclosing f l n q r.tree c v.tree m w.tree x y z s.scope b.scope g.scope h.scope from to e refl first second third fits))) suppose))
 range_block_refused at f l n q c fault from to None s a b d g h t taken r between v same ends refuses k never suppose =
     let first : Resolves r.tree s.scope from b.scope = subst (λ z. Resolves r.tree z from b.scope) taken.scope r.resolved in
     let second : Resolves v.tree b.scope to g.scope = subst (λ z. Resolves v.tree z to g.scope) between.scope v.resolved in
@@ -240,7 +240,7 @@ range_block_refused at f l n q c fault from to None s a b d g h t taken r betwee
     (subst (λ z. RefusesLoop at (n ∷ []) z t fault) same refuses (λ x y z. k (tree.for_range f l n q r.tree c v.tree x y z)) (λ x z y o is. never (tree.for_range f l n q r.tree c v.tree x y z) o is)
     (supposes_on fault (λ dead x z y not.
     dead (tree.for_range f l n q r.tree c v.tree x y z) (λ fits.
-    not (range_block at s.scope.around f l n q r.tree c v.tree x y z s.scope b.scope g.scope from to refl first second fits))) suppose))
+    not (range_block at s.scope.enclosing f l n q r.tree c v.tree x y z s.scope b.scope g.scope from to refl first second fits))) suppose))
 
 -- ---- a loop over the values of a function
 
@@ -270,7 +270,7 @@ list_refused at names i fault s a t taken refuses f ns are k never suppose =
     refused_on (over_in f k ns i s a taken)
     (refuses (λ es. token (loop_body (λ d b e. k (tree.for_in f ns i es d b e)))) (supposes_on fault (λ dead es not.
     dead_loop_body (λ d b e. k (tree.for_in f ns i es d b e)) (λ d b e. dead (tree.for_in f ns i es d b e) (λ w.
-    not (subst (λ z. FitsValues at z.around es) (sym taken.scope) (list_values at s.scope.around f ns i es d b e w))))) suppose))
+    not (subst (λ z. FitsValues at z.enclosing es) (sym taken.scope) (list_values at s.scope.enclosing f ns i es d b e w))))) suppose))
 
 pub list_block_refused : (at : Nesting) (names : List Bytes) (word_at : ℕ) (fault : ParseFault) (xs : List Expr) (s a b t : State) → Takes (Word word.In) word_at s a → ReadsValues at a xs b →
     RefusesLoop at names b t fault → RefusesFor at names s t fault
@@ -279,7 +279,7 @@ list_block_refused at names i fault xs s a b t taken r refuses f ns are k never 
     refused_on (on (over_in f k ns i s a taken) (values_ended at a b xs r (λ es. token (loop_body (λ d x e. k (tree.for_in f ns i es d x e))))))
     (refuses (λ d x e. k (tree.for_in f ns i r.tree d x e)) (λ d e x o is. never (tree.for_in f ns i r.tree d x e) o is) (supposes_on fault (λ dead d e x not.
     dead (tree.for_in f ns i r.tree d x e) (λ w.
-    not (subst (λ z. FitsLoop at z b.scope.around x) (sym are) (list_block at s.scope.around f ns i r.tree d x e s.scope b.scope xs refl first w)))) suppose))
+    not (subst (λ z. FitsLoop at z b.scope.enclosing x) (sym are) (list_block at s.scope.enclosing f ns i r.tree d x e s.scope b.scope xs refl first w)))) suppose))
 
 -- ---- either loop
 
@@ -297,13 +297,13 @@ for_fails : (f : Line) (k : Stat → Reader) (kind : TokenKind) (l : Line) → (
 for_fails f k (Name n) l other = absurd (other tt)
 for_fails f k kind l other = refl
 
-pub for_names_refused : (at : Nesting) (line taken_slots : ℕ) (fault : ParseFault) (first : Frame) (others : List Frame) (s a t : State) → s.scope.around ≡ first ∷ others →
+pub for_names_refused : (at : Nesting) (line taken_slots : ℕ) (fault : ParseFault) (first : Frame) (others : List Frame) (s a t : State) → s.scope.enclosing ≡ first ∷ others →
     Takes (Word word.For) line s a → taken_slots ≡ in_scope a.scope → RefusesNames taken_slots a t fault → RefusesStat at s t fault
 for_names_refused at f count fault first others s a t is taken counted refuses = λ k never suppose.
     refused_on (over_for k f s a taken)
     (refuses (token (for_ f k)) (λ ns. token (for_tail f k ns)) (λ n l. refl) (λ l other. for_fails f k (ahead a) l other) (supposes_on fault (λ dead ns crowded.
     dead_tail f k ns (λ x of. dead x (λ fits.
-    crowded_loop at ns s.scope.around first others x of is (subst (λ z. 200 < z + length (names_of ns)) (counted ∙ ap in_scope taken.scope) crowded) fits))) suppose))
+    crowded_loop at ns s.scope.enclosing first others x of is (subst (λ z. 200 < z + length (names_of ns)) (counted ∙ ap in_scope taken.scope) crowded) fits))) suppose))
 
 pub for_tail_refused : (at : Nesting) (line : ℕ) (names : List Bytes) (fault : ParseFault) (s a b t : State) → Takes (Word word.For) line s a → ReadsNames [] a names b →
     (IsNext (Sign sign.Comma) b → ⊥) → RefusesFor at names b t fault → RefusesStat at s t fault
@@ -311,4 +311,4 @@ for_tail_refused at f names fault s a b t taken r ends refuses = λ k never supp
     let same : b.scope ≡ s.scope = r.scope ∙ taken.scope in
     refused_on (on (over_for k f s a taken)
     (names_ended r.tree (token (for_ f k)) (λ ns. token (for_tail f k ns)) no_rest a b r.printed (λ n l. refl) (no_comma_ahead b ends)))
-    (refuses f r.tree r.listed k never (subst (λ z. Supposes fault (Unless (FitsStat at z.around) k)) (sym same) suppose))
+    (refuses f r.tree r.listed k never (subst (λ z. Supposes fault (Unless (FitsStat at z.enclosing) k)) (sym same) suppose))

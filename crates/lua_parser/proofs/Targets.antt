@@ -73,16 +73,16 @@ vars_fit at enclosing vs q es f =
       resolvable = record { before = f.resolvable.before; out = targets.value.items; after = m; same = f.resolvable.same; resolved = p; few = few_before_it (list_keeps es m values.value.items f.resolvable.after r) f.resolvable.few };
     }
 
-values_fit : (at : Nesting) (enclosing : List Frame) (vs : VarList) (q : Line) (es : ExpList) (s t : Scope) (xs : List Expr) → s.around ≡ enclosing → ResolvesVars vs s xs t →
-    FitsStat at enclosing (tree.assign vs q es) → FitsValues at t.around es
+values_fit : (at : Nesting) (enclosing : List Frame) (vs : VarList) (q : Line) (es : ExpList) (s t : Scope) (xs : List Expr) → s.enclosing ≡ enclosing → ResolvesVars vs s xs t →
+    FitsStat at enclosing (tree.assign vs q es) → FitsValues at t.enclosing es
 unfolding levels IsValid Resolves
 values_fit at enclosing vs q es s t xs here first f =
     let (targets, values, m, p, r, i) = f.resolvable.resolved in
-    let one = vars_alike vs f.resolvable.before s targets.value.items xs m t p first (record { around = f.resolvable.same ∙ sym here }) in
+    let one = vars_alike vs f.resolvable.before s targets.value.items xs m t p first (record { enclosing = f.resolvable.same ∙ sym here }) in
     record {
       valid = f.valid.1;
       deep = let d = f.deep in omega (arith, d);
-      resolvable = record { before = m; out = values.value.items; after = f.resolvable.after; same = one.around; resolved = r; few = f.resolvable.few };
+      resolvable = record { before = m; out = values.value.items; after = f.resolvable.after; same = one.enclosing; resolved = r; few = f.resolvable.few };
     }
 
 before_vars : (at : Nesting) (enclosing : List Frame) (vs : VarList) (c : Line) (p : PrefixExp) → FitsVars at enclosing (tree.more_vars vs c p) → FitsVars at enclosing vs
@@ -110,17 +110,17 @@ one_target_fits at enclosing p f =
       resolvable = record { before = f.resolvable.before; out = e; after = f.resolvable.after; same = f.resolvable.same; resolved = r; few = f.resolvable.few };
     }
 
-target_fits : (at : Nesting) (enclosing : List Frame) (vs : VarList) (c : Line) (p : PrefixExp) (s t : Scope) (xs : List Expr) → s.around ≡ enclosing → ResolvesVars vs s xs t →
-    FitsVars at enclosing (tree.more_vars vs c p) → FitsTarget at t.around p
+target_fits : (at : Nesting) (enclosing : List Frame) (vs : VarList) (c : Line) (p : PrefixExp) (s t : Scope) (xs : List Expr) → s.enclosing ≡ enclosing → ResolvesVars vs s xs t →
+    FitsVars at enclosing (tree.more_vars vs c p) → FitsTarget at t.enclosing p
 unfolding levels IsValid Resolves
 target_fits at enclosing vs c p s t xs here first f =
     let (before, e, m, r, w, i) = f.resolvable.resolved in
-    let one = vars_alike vs f.resolvable.before s before xs m t r first (record { around = f.resolvable.same ∙ sym here }) in
+    let one = vars_alike vs f.resolvable.before s before xs m t r first (record { enclosing = f.resolvable.same ∙ sym here }) in
     record {
       valid = f.valid.1;
       variable = f.valid.2;
       deep = let d = f.deep in omega (arith, d);
-      resolvable = record { before = m; out = e; after = f.resolvable.after; same = one.around; resolved = w; few = f.resolvable.few };
+      resolvable = record { before = m; out = e; after = f.resolvable.after; same = one.enclosing; resolved = w; few = f.resolvable.few };
     }
 
 call_fits : (at free : Nesting) (enclosing : List Frame) (p : PrefixExp) → IsFresh at free → FitsStat at enclosing (tree.call_statement p) → FitsPrefix free enclosing p
@@ -145,7 +145,7 @@ dead_target vs c k other dead = tt
 pub target_refused : (at free : Nesting) (fault : ParseFault) (s t : State) → IsFresh at free → RefusesPrefix free s t fault → RefusesTarget at s t fault
 target_refused at free fault s t fresh refuses = λ vs c k suppose.
     refuses (next_target vs c k) (supposes_on fault (λ dead p not.
-    dead_target vs c k p (λ variable. dead p (λ f. not (fresh_prefix at free s.scope.around p fresh f)))) suppose)
+    dead_target vs c k p (λ variable. dead p (λ f. not (fresh_prefix at free s.scope.enclosing p fresh f)))) suppose)
 
 -- a prefix alone, after which the reader fails
 prefix_fails_there : (p : PrefixExp) (k : PrefixExp → Reader) (kind : TokenKind) (l : Line) → IsApart kind → k p ≡ failed → feed (more_prefix p k) kind l ≡ failed
@@ -210,9 +210,9 @@ next_target_refused at first before comma fault z m n t reads taken refuses = λ
     refused_on (on (more.moves k) (by_token (more_vars more.whole.tree k) (Sign sign.Comma) comma m n taken))
     (refuses more.whole.tree comma k (supposes_on fault (λ dead p not those from q es.
     dead (tree.assign those q es) (λ f.
-    not (subst (λ x. FitsTarget at x.around p) (sym taken.scope)
-    (target_fits at s.scope.around more.whole.tree comma p s.scope m.scope before refl more.whole.resolved
-    (first_vars_fit at s.scope.around (tree.more_vars more.whole.tree comma p) those from (vars_fit at s.scope.around those q es f)))))) suppose))
+    not (subst (λ x. FitsTarget at x.enclosing p) (sym taken.scope)
+    (target_fits at s.scope.enclosing more.whole.tree comma p s.scope m.scope before refl more.whole.resolved
+    (first_vars_fit at s.scope.enclosing (tree.more_vars more.whole.tree comma p) those from (vars_fit at s.scope.enclosing those q es f)))))) suppose))
 
 -- ---- after the targets
 
@@ -242,7 +242,7 @@ assigned_refused at first targets equals fault z m n t reads taken refuses = λ 
     refused_on (on (more.moves k) (by_token (more_vars more.whole.tree k) (Sign sign.Assign) equals m n taken))
     (refuses (λ es. k (tree.assign more.whole.tree equals es)) (supposes_on fault (λ dead es not.
     dead (tree.assign more.whole.tree equals es) (λ f.
-    not (subst (λ x. FitsValues at x.around es) (sym taken.scope) (values_fit at s.scope.around more.whole.tree equals es s.scope m.scope targets refl more.whole.resolved f)))) suppose))
+    not (subst (λ x. FitsValues at x.enclosing es) (sym taken.scope) (values_fit at s.scope.enclosing more.whole.tree equals es s.scope m.scope targets refl more.whole.resolved f)))) suppose))
 
 -- ---- a statement that begins with a prefix
 
@@ -276,9 +276,9 @@ first_target_refused at free fault s t is fresh refuses = λ k never suppose.
     refused_on (begins_there k s is) (refuses (assigns_or_calls k) (supposes_on fault (λ dead p not.
     dead_prefix k p (λ variable those from q es.
     dead (tree.assign those q es) (λ f.
-    not (fresh_prefix at free s.scope.around p fresh (one_target_fits at s.scope.around p
-    (first_vars_fit at s.scope.around (tree.one_var p) those from (vars_fit at s.scope.around those q es f))))))
-    (λ call. dead (tree.call_statement p) (λ f. not (call_fits at free s.scope.around p fresh f)))) suppose))
+    not (fresh_prefix at free s.scope.enclosing p fresh (one_target_fits at s.scope.enclosing p
+    (first_vars_fit at s.scope.enclosing (tree.one_var p) those from (vars_fit at s.scope.enclosing those q es f))))))
+    (λ call. dead (tree.call_statement p) (λ f. not (call_fits at free s.scope.enclosing p fresh f)))) suppose))
 
 assigns : (k : Stat → Reader) (p : PrefixExp) → form_of p ≡ Variable → assigns_or_calls k p ≡ more_vars (tree.one_var p) k
 assigns k (tree.variable l n) is = refl

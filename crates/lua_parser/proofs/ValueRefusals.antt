@@ -26,8 +26,8 @@ value_too_deep at free s fault fresh none = λ k suppose.
 
 pub value_refused : (at free inner : Nesting) (s t : State) (fault : ParseFault) → IsFresh at free → IsWithin free inner → RefusesFrom 1 inner s t fault → RefusesValue at s t fault
 value_refused at free inner s t fault fresh part refuses = λ k suppose.
-    refuses k (supposes_on fault {P = Unless (FitsValue at s.scope.around) k} {Q = Unless (FitsExp inner s.scope.around) k}
-    (λ those e not. those e (λ f. not (value_fits at free inner s.scope.around e fresh part f))) suppose)
+    refuses k (supposes_on fault {P = Unless (FitsValue at s.scope.enclosing) k} {Q = Unless (FitsExp inner s.scope.enclosing) k}
+    (λ those e not. those e (λ f. not (value_fits at free inner s.scope.enclosing e fresh part f))) suppose)
 
 list_deep : (es : ExpList) → 1 ≤ list_levels es
 unfolding levels
@@ -41,5 +41,5 @@ values_too_deep at free s fault fresh none = λ k suppose.
 
 pub values_refused : (at free inner : Nesting) (s t : State) (fault : ParseFault) → IsFresh at free → IsWithin free inner → RefusesList inner s t fault → RefusesValues at s t fault
 values_refused at free inner s t fault fresh part refuses = λ k suppose.
-    refuses k (supposes_on fault {P = Unless (FitsValues at s.scope.around) k} {Q = Unless (FitsList inner s.scope.around) k}
-    (λ those es not. those es (λ f. not (values_fit at free inner s.scope.around es fresh part f))) suppose)
+    refuses k (supposes_on fault {P = Unless (FitsValues at s.scope.enclosing) k} {Q = Unless (FitsList inner s.scope.enclosing) k}
+    (λ those es not. those es (λ f. not (values_fit at free inner s.scope.enclosing es fresh part f))) suppose)

@@ -1,4 +1,4 @@
--- Where a fault other than want of memory was found, the tokens are no program.
+-- Where a fault other than out of memory was found, the tokens are no program.
 use Rattle.std.proofs.Common.{◌≡◌, ◌<◌, ℕ, true, false, List, [], ◌∷◌, ◌++◌, drop, length, refl, sym, ap, subst, arith, ◌∙◌, append_assoc, zero, suc}
 use Rattle.std.specs.List.{AllZip}
 use Rattle.lua_ast.specs.declared.programs.Function.{Function}
@@ -60,10 +60,10 @@ begin_on [] xs h = rw h refl
 begin_on (first ∷ after) xs h = (h.0 ++ a_word End 1 [], ap (λ ys. ys ++ a_word End 1 []) h.1)
 
 -- a chunk fits
-chunk_fits : (at : Nesting) (kept : Function) (s : State) (b : Block) → IsOutermost at → s.scope ≡ enter [] kept outside → IsChunk b → FitsBlock at s.scope.around b
+chunk_fits : (at : Nesting) (kept : Function) (s : State) (b : Block) → IsOutermost at → s.scope ≡ enter [] kept outside → IsChunk b → FitsBlock at s.scope.enclosing b
 chunk_fits at kept s b outer begun is =
     let (first, out, m, t, opens, ends, functions, files) = is.resolved in
-    let few = none_around t.around (ended_keeps is.line [] true first out outside m t (block_goes b (enter [] first outside) out m opens) ends).frames in
+    let few = none_around t.enclosing (ended_keeps is.line [] true first out outside m t (block_goes b (enter [] first outside) out m opens) ends).frames in
     record {
       valid = subst (λ l. IsValidBlock at.vararg l b) (sym outer.in_loop) (subst (λ vararg. IsValidBlock vararg false b) (sym outer.vararg) is.valid);
       deep = let d = is.shallow in let n = outer.depth in omega (arith, d, n);
@@ -71,7 +71,7 @@ chunk_fits at kept s b outer begun is =
         before = enter [] first outside;
         out = out;
         after = m;
-        same = ap (λ z. z.around) (sym begun);
+        same = ap (λ z. z.enclosing) (sym begun);
         resolved = opens;
         few = few_inside is.line [] true out outside m t ends few;
       };

@@ -31,7 +31,7 @@ pub record IsUnfit (tokens : List Token) (line : ℕ) : Type 0 where
   pub stop : State
   pub begins : IsBeginning tokens start
   pub within : Within start stop
-  pub few : Few stop.scope.around
+  pub few : Few stop.scope.enclosing
   pub there : stop.left ≡ left
 
 -- of the fault `At` that is said

@@ -38,8 +38,8 @@ use Rattle.lua_parser_base.proofs.PrefixFitting.{ambiguous_call, ambiguous_metho
 
 -- ---- a table constructor
 
-table_supposes : (at inner : Nesting) (s : State) (k : Args → Reader) → IsNarrower at inner → Unless (FitsArgs at s.scope.around) k → Unless (FitsTable inner s.scope.around) (λ t. k (tree.table_arg t))
-table_supposes at inner s k narrow suppose = λ t not. suppose (tree.table_arg t) (λ f. not (table_arg_fits at inner s.scope.around t f narrow))
+table_supposes : (at inner : Nesting) (s : State) (k : Args → Reader) → IsNarrower at inner → Unless (FitsArgs at s.scope.enclosing) k → Unless (FitsTable inner s.scope.enclosing) (λ t. k (tree.table_arg t))
+table_supposes at inner s k narrow suppose = λ t not. suppose (tree.table_arg t) (λ f. not (table_arg_fits at inner s.scope.enclosing t f narrow))
 
 pub table_arg_refused : (at inner : Nesting) (s t : State) (fault : ParseFault) → IsNarrower at inner → RefusesTable inner s t fault → RefusesArgs at s t fault
 table_arg_refused at inner s t fault narrow refuses = λ k h.
@@ -95,13 +95,13 @@ pub args_no_part : (at : Nesting) (s m : State) (line : ℕ) (fault : ParseFault
 args_no_part at s m line fault taken not none = λ k h.
     refused_on (over_open k s m line taken not)
     (no_part fault _ at (list (after_list k line)) m none h (ends_failed (list (after_list k line)) (λ l. refl)) (λ full suppose.
-    dead_list (after_list k line) (λ es. dead_close_parenthesis _ (λ c. suppose (tree.args line es c) (λ f. deep_args at s.scope.around line es c full f)))) tt)
+    dead_list (after_list k line) (λ es. dead_close_parenthesis _ (λ c. suppose (tree.args line es c) (λ f. deep_args at s.scope.enclosing line es c full f)))) tt)
 
-list_supposes : (at inner : Nesting) (s m : State) (line : ℕ) (k : Args → Reader) → m.scope ≡ s.scope → IsPart at inner → Unless (FitsArgs at s.scope.around) k →
-    Unless (FitsList inner m.scope.around) (after_list k line)
+list_supposes : (at inner : Nesting) (s m : State) (line : ℕ) (k : Args → Reader) → m.scope ≡ s.scope → IsPart at inner → Unless (FitsArgs at s.scope.enclosing) k →
+    Unless (FitsList inner m.scope.enclosing) (after_list k line)
 list_supposes at inner s m line k same part suppose = λ es not.
     dead_close_parenthesis _ (λ c. suppose (tree.args line es c) (λ f.
-    not (subst (λ z. FitsList inner z.around es) (sym same) (args_list_fits at inner s.scope.around line es c f part))))
+    not (subst (λ z. FitsList inner z.enclosing es) (sym same) (args_list_fits at inner s.scope.enclosing line es c f part))))
 
 pub args_refused : (at inner : Nesting) (s m t : State) (line : ℕ) (fault : ParseFault) → Takes (Sign sign.OpenParenthesis) line s m → (IsNext (Sign sign.CloseParenthesis) m → ⊥) →
     IsPart at inner → RefusesList inner m t fault → RefusesArgs at s t fault
@@ -169,8 +169,8 @@ pub call_cannot_open : (at : Nesting) (m : State) (p : Prefix) (fault : ParseFau
 call_cannot_open at m p fault next closed = λ s read k h.
     refused_on (over_callee read.tree k m next)
     (cannot_open fault _ (token (begin_args (λ a. more_prefix (tree.call read.tree a) k))) (λ a. more_prefix (tree.call read.tree a) k) m (λ l. refl) (λ l. refl) closed h (λ suppose o other. (
-      λ c whole from. suppose whole (λ f. ambiguous_call at s.scope.around read.tree (tree.no_args o c) (λ same. other (same ∙ read.ends)) (first_prefix_fits at s.scope.around _ whole from f)),
-      λ es c whole from. suppose whole (λ f. ambiguous_call at s.scope.around read.tree (tree.args o es c) (λ same. other (same ∙ read.ends)) (first_prefix_fits at s.scope.around _ whole from f)),
+      λ c whole from. suppose whole (λ f. ambiguous_call at s.scope.enclosing read.tree (tree.no_args o c) (λ same. other (same ∙ read.ends)) (first_prefix_fits at s.scope.enclosing _ whole from f)),
+      λ es c whole from. suppose whole (λ f. ambiguous_call at s.scope.enclosing read.tree (tree.args o es c) (λ same. other (same ∙ read.ends)) (first_prefix_fits at s.scope.enclosing _ whole from f)),
     )) tt)
 
 pub call_too_high : (line : ℕ) (at : Nesting) (m : State) (p : Prefix) (fault : ParseFault) → Begin (IsSuffix Arguments) m.left → IsTooHigh at p.height line fault → RefusesSuffix at p m m fault
@@ -178,13 +178,13 @@ call_too_high line at m p fault next high = λ s read k h.
     refused_on (over_callee read.tree k m next)
     (too_high _ fault _ at p.height (token (begin_args (λ a. more_prefix (tree.call read.tree a) k))) m high h (λ full suppose.
     dead_begin_args (λ a. more_prefix (tree.call read.tree a) k) (λ a whole from. suppose whole (λ f.
-    high_call at s.scope.around read.tree a p.height read.high full (first_prefix_fits at s.scope.around _ whole from f)))))
+    high_call at s.scope.enclosing read.tree a p.height read.high full (first_prefix_fits at s.scope.enclosing _ whole from f)))))
 
-call_supposes : (at : Nesting) (s m : State) (p : Prefix) (read : ReadsPrefix at s p m) (k : PrefixExp → Reader) → Unless (FitsPrefix at s.scope.around) k →
-    Unless (FitsArgs at m.scope.around) (λ a. more_prefix (tree.call read.tree a) k)
+call_supposes : (at : Nesting) (s m : State) (p : Prefix) (read : ReadsPrefix at s p m) (k : PrefixExp → Reader) → Unless (FitsPrefix at s.scope.enclosing) k →
+    Unless (FitsArgs at m.scope.enclosing) (λ a. more_prefix (tree.call read.tree a) k)
 call_supposes at s m p read k suppose = λ a not whole from.
     suppose whole (λ f.
-    not (call_args_fit at s.scope.around read.tree a s.scope m.scope p.expr (first_prefix_fits at s.scope.around _ whole from f) refl read.resolved))
+    not (call_args_fit at s.scope.enclosing read.tree a s.scope m.scope p.expr (first_prefix_fits at s.scope.enclosing _ whole from f) refl read.resolved))
 
 pub call_refused : (at : Nesting) (m t : State) (p : Prefix) (fault : ParseFault) → Begin (IsSuffix Arguments) m.left → RefusesArgs at m t fault → RefusesSuffix at p m t fault
 call_refused at m t p fault next refuses = λ s read k h.
@@ -198,7 +198,7 @@ method_too_high at m n p line fault taken high = λ s read k h.
     refused_on (by_token (more_prefix read.tree k) (Sign sign.Colon) line m n taken)
     (too_high _ fault _ at p.height (token (name (λ l x. token (begin_args (λ a. more_prefix (tree.method read.tree line l x a) k))))) n high h (λ full suppose.
     dead_name _ (λ l x. dead_begin_args (λ a. more_prefix (tree.method read.tree line l x a) k) (λ a whole from. suppose whole (λ f.
-    high_method at s.scope.around read.tree line l x a p.height read.high full (first_prefix_fits at s.scope.around _ whole from f))))))
+    high_method at s.scope.enclosing read.tree line l x a p.height read.high full (first_prefix_fits at s.scope.enclosing _ whole from f))))))
 
 pub method_no_name : (at : Nesting) (m n t : State) (p : Prefix) (line : ℕ) (fault : ParseFault) → Takes (Sign sign.Colon) line m n → OnAt (Misses IsName n t) fault → RefusesSuffix at p m t fault
 method_no_name at m n t p line fault taken missing = λ s read k h.
@@ -216,16 +216,16 @@ pub method_cannot_open : (at : Nesting) (m n o : State) (p : Prefix) (line there
 method_cannot_open at m n o p line there x fault taken named closed = λ s read k h.
     refused_on (over_method read.tree k m n o line there x taken named)
     (cannot_open fault _ (token (begin_args (λ a. more_prefix (tree.method read.tree line there x a) k))) (λ a. more_prefix (tree.method read.tree line there x a) k) o (λ l. refl) (λ l. refl) closed h (λ suppose q other. (
-      λ c whole from. suppose whole (λ f. ambiguous_method at s.scope.around read.tree line there x (tree.no_args q c) (λ same. other (same ∙ sym named.last)) (first_prefix_fits at s.scope.around _ whole from f)),
-      λ es c whole from. suppose whole (λ f. ambiguous_method at s.scope.around read.tree line there x (tree.args q es c) (λ same. other (same ∙ sym named.last)) (first_prefix_fits at s.scope.around _ whole from f)),
+      λ c whole from. suppose whole (λ f. ambiguous_method at s.scope.enclosing read.tree line there x (tree.no_args q c) (λ same. other (same ∙ sym named.last)) (first_prefix_fits at s.scope.enclosing _ whole from f)),
+      λ es c whole from. suppose whole (λ f. ambiguous_method at s.scope.enclosing read.tree line there x (tree.args q es c) (λ same. other (same ∙ sym named.last)) (first_prefix_fits at s.scope.enclosing _ whole from f)),
     )) tt)
 
 method_supposes : (at : Nesting) (s m o : State) (p : Prefix) (line there : ℕ) (x : List ℕ) (read : ReadsPrefix at s p m) (k : PrefixExp → Reader) → o.scope ≡ m.scope →
-    Unless (FitsPrefix at s.scope.around) k → Unless (FitsArgs at o.scope.around) (λ a. more_prefix (tree.method read.tree line there x a) k)
+    Unless (FitsPrefix at s.scope.enclosing) k → Unless (FitsArgs at o.scope.enclosing) (λ a. more_prefix (tree.method read.tree line there x a) k)
 method_supposes at s m o p line there x read k same suppose = λ a not whole from.
     suppose whole (λ f.
-    not (subst (λ z. FitsArgs at z.around a) (sym same)
-    (method_args_fit at s.scope.around read.tree line there x a s.scope m.scope p.expr (first_prefix_fits at s.scope.around _ whole from f) refl read.resolved)))
+    not (subst (λ z. FitsArgs at z.enclosing a) (sym same)
+    (method_args_fit at s.scope.enclosing read.tree line there x a s.scope m.scope p.expr (first_prefix_fits at s.scope.enclosing _ whole from f) refl read.resolved)))
 
 pub method_refused : (at : Nesting) (m n o t : State) (p : Prefix) (line there : ℕ) (x : List ℕ) (fault : ParseFault) → Takes (Sign sign.Colon) line m n → Takes (Name x) there n o →
     RefusesArgs at o t fault → RefusesSuffix at p m t fault

@@ -38,8 +38,8 @@ scoped_too_deep at s fault none = λ k not suppose.
 
 pub scoped_refused : (at inner : Nesting) (s t : State) (fault : ParseFault) → IsWithin at inner → RefusesBlock inner s t fault → RefusesScoped at s t fault
 scoped_refused at inner s t fault part refuses = λ k not suppose.
-    refuses k (supposes_on fault {P = Unless (FitsScoped at s.scope.around) k} {Q = Unless (FitsBlock inner s.scope.around) k}
-    (λ those b unfit. those b (λ f. unfit (scoped_fits at inner s.scope.around b part f))) suppose)
+    refuses k (supposes_on fault {P = Unless (FitsScoped at s.scope.enclosing) k} {Q = Unless (FitsBlock inner s.scope.enclosing) k}
+    (λ those b unfit. those b (λ f. unfit (scoped_fits at inner s.scope.enclosing b part f))) suppose)
 
 -- ---- statements of a block
 
@@ -53,10 +53,10 @@ begins_last ss k (Word word.Break) l is = refl
 begins_last ss k (Word word.If) l is = cc
 begins_last ss k kind l is = cc
 
-last_supposes : (at : Nesting) (k : Block → Reader) (s m : State) (out : List Stmt) (r : ReadsStats at s out m) → Unless (FitsBlock at s.scope.around) k →
-    Unless (FitsLast at m.scope.around) (last_statement r.tree k)
+last_supposes : (at : Nesting) (k : Block → Reader) (s m : State) (out : List Stmt) (r : ReadsStats at s out m) → Unless (FitsBlock at s.scope.enclosing) k →
+    Unless (FitsLast at m.scope.enclosing) (last_statement r.tree k)
 last_supposes at k s m out r those = λ l unfit x.
-    those (tree.with_last r.tree l x) (λ f. unfit (last_fits at s.scope.around r.tree l x s.scope m.scope out f refl r.resolved))
+    those (tree.with_last r.tree l x) (λ f. unfit (last_fits at s.scope.enclosing r.tree l x s.scope m.scope out f refl r.resolved))
 
 pub last_refused : (at : Nesting) (s m t : State) (out : List Stmt) (fault : ParseFault) → ReadsStats at s out m → begins_of (ahead m) ≡ begins.Last → RefusesLast at m t fault →
     RefusesBlock at s t fault
@@ -75,13 +75,13 @@ begins_stat ss k (Word word.ElseIf) l is = absurd is
 begins_stat ss k (Word word.Until) l is = absurd is
 begins_stat ss k kind l is = refl
 
-stat_supposes : (at : Nesting) (k : Block → Reader) (s m : State) (out : List Stmt) (r : ReadsStats at s out m) → Unless (FitsBlock at s.scope.around) k →
-    Unless (FitsStat at m.scope.around) (next_statement r.tree k)
+stat_supposes : (at : Nesting) (k : Block → Reader) (s m : State) (out : List Stmt) (r : ReadsStats at s out m) → Unless (FitsBlock at s.scope.enclosing) k →
+    Unless (FitsStat at m.scope.enclosing) (next_statement r.tree k)
 stat_supposes at k s m out r those = λ st unfit x whole from.
-    let not : FitsStats at s.scope.around whole → ⊥ =
-    λ f. unfit (stat_fits at s.scope.around r.tree st x s.scope m.scope out (first_stats_fit at s.scope.around _ whole from f) refl r.resolved) in (
-      those (tree.statements whole) (λ f. not (stats_fit at s.scope.around whole f)),
-      λ l y. those (tree.with_last whole l y) (λ f. not (stats_before_last_fit at s.scope.around whole l y f)),
+    let not : FitsStats at s.scope.enclosing whole → ⊥ =
+    λ f. unfit (stat_fits at s.scope.enclosing r.tree st x s.scope m.scope out (first_stats_fit at s.scope.enclosing _ whole from f) refl r.resolved) in (
+      those (tree.statements whole) (λ f. not (stats_fit at s.scope.enclosing whole f)),
+      λ l y. those (tree.with_last whole l y) (λ f. not (stats_before_last_fit at s.scope.enclosing whole l y f)),
     )
 
 waits : (ss : Stats) (k : Block → Reader) (st : Stat) (b : Block) → next_statement ss k st ≡ chunk b → ⊥
@@ -105,10 +105,10 @@ begins_values r k (Word word.ElseIf) l h = absurd (h tt)
 begins_values r k (Word word.Until) l h = absurd (h tt)
 begins_values r k kind l h = refl
 
-returned_supposes : (at : Nesting) (k : LastStat → Reader) (line : Line) (s m : State) → Takes (Word word.Return) line s m → Unless (FitsLast at s.scope.around) k →
-    Unless (FitsValues at m.scope.around) (λ es. k (tree.return_values line es))
+returned_supposes : (at : Nesting) (k : LastStat → Reader) (line : Line) (s m : State) → Takes (Word word.Return) line s m → Unless (FitsLast at s.scope.enclosing) k →
+    Unless (FitsValues at m.scope.enclosing) (λ es. k (tree.return_values line es))
 returned_supposes at k line s m taken those = λ es unfit.
-    those (tree.return_values line es) (λ f. unfit (subst (λ z. FitsValues at z.around es) (sym taken.scope) (returned_fit at s.scope.around line es f)))
+    those (tree.return_values line es) (λ f. unfit (subst (λ z. FitsValues at z.enclosing es) (sym taken.scope) (returned_fit at s.scope.enclosing line es f)))
 
 pub returned_refused : (at : Nesting) (line : Line) (s m t : State) (fault : ParseFault) → Takes (Word word.Return) line s m → (IsReturnEnd (ahead m) → ⊥) → RefusesValues at m t fault →
     RefusesLast at s t fault
@@ -121,6 +121,6 @@ returned_refused at line s m t fault taken next refuses = λ k suppose.
 pub break_refused : (at : Nesting) (line reported : Line) (s m : State) → Takes (Word word.Break) line s m → (at.in_loop ≡ true → ⊥) → RefusesLast at s m (BreakOutside reported)
 break_refused at line reported s m taken outside = λ k suppose.
     refused_on (by_token (token (last k)) (Word word.Break) line s m taken) (record {
-      sticks = dead_stuck (BreakOutside reported) (k (tree.break_ line)) m (λ b c. c) (suppose (tree.break_ line) (λ f. outside (break_inside at s.scope.around line f))) tt;
+      sticks = dead_stuck (BreakOutside reported) (k (tree.break_ line)) m (λ b c. c) (suppose (tree.break_ line) (λ f. outside (break_inside at s.scope.enclosing line f))) tt;
       reports = tt;
     })

@@ -11,7 +11,7 @@ use Rattle.lua_grammar.specs.Tree.{Bytes}
 use Rattle.lua_grammar.specs.Tree as tree
 use Rattle.lua_grammar.specs.Printing.{lexemes, a_sign, a_word, print_exp, print_block, print_params}
 use Rattle.lua_grammar.specs.Levels.{levels}
-use Rattle.lua_grammar.specs.Validity.{IsValid, IsValidBlock, takes_rest}
+use Rattle.lua_grammar.specs.Validity.{IsValid, IsValidBlock, takes_vararg}
 use Rattle.lua_grammar.specs.Scopes.{Scope, enter}
 use Rattle.lua_grammar.specs.Resolution.{Resolves, Opens, EndsFunction, IsFunction, names_of_params}
 use Rattle.lua_grammar.specs.Grammar.{first_line, outside, IsProgramOf}
@@ -30,7 +30,7 @@ use Rattle.lua_parser_base.specs.Functions.{Enters, Ends}
 use Rattle.lua_parser_base.proofs.Lookups.{frames_pushed}
 
 abbrev pub scope_with : List Function → KeptFrame → List KeptFrame → Scope
-scope_with fs frame enclosing = record { functions = fs; around = frame_of frame ∷ map frame_of (reverse enclosing) }
+scope_with fs frame enclosing = record { functions = fs; enclosing = frame_of frame ∷ map frame_of (reverse enclosing) }
 
 pub entered : (fs gs : List Function) (kept : Function) (old new : KeptFrame) (enclosing later : List KeptFrame) (names : List Bytes) → gs ≡ fs ++ kept ∷ [] →
     frame_of new ≡ record { locals = names; captures = []; slots = length names } → later ≡ enclosing ++ old ∷ [] →
@@ -38,7 +38,7 @@ pub entered : (fs gs : List Function) (kept : Function) (old new : KeptFrame) (e
 entered fs gs kept old new enclosing later names fun frame more = rw (fun, frame, more, frames_pushed enclosing old) refl
 
 pub ended : (fs gs : List Function) (f : Function) (n m : ℕ) (outer : KeptFrame) (others whole : List KeptFrame) → gs ≡ slice_set fs n f → n ≡ m →
-    whole ≡ others ++ outer ∷ [] → scope_with gs outer others ≡ record { functions = slice_set fs m f; around = map frame_of (reverse whole) }
+    whole ≡ others ++ outer ∷ [] → scope_with gs outer others ≡ record { functions = slice_set fs m f; enclosing = map frame_of (reverse whole) }
 ended fs gs f n m outer others whole set same split = rw (set, same, split, frames_pushed others outer) refl
 
 pub enters_state : (tokens : List Token) (p q : Parser) (parameters : Parameters) (line : ℕ) (begun : Begun) → Enters parameters line begun (scope_of p) (scope_of q) →
@@ -59,7 +59,7 @@ unfolding print_exp levels IsValid Resolves
 body_read at within inner s a b c d e f t line opens closes ends number before p begun out opening rp closing enters same part function rb end_ done left =
     let names : List Bytes = before ++ names_of_params rp.tree in
     let scope : c.scope ≡ s.scope = closing.scope ∙ (rp.scope ∙ opening.scope) in
-    let vararg : begun.vararg ≡ takes_rest rp.tree = enters.vararg ∙ rp.vararg in
+    let vararg : begun.vararg ≡ takes_vararg rp.tree = enters.vararg ∙ rp.vararg in
     let listed : p.names.items ≡ names = rp.listed in
     let starts : d.scope ≡ enter names enters.kept s.scope = enters.scope ∙ (ap (λ ns. enter ns enters.kept c.scope) listed ∙ ap (enter names enters.kept) scope) in
     let finish : EndsFunction begun.line names begun.vararg out s.scope f.scope t.scope =
@@ -69,14 +69,14 @@ body_read at within inner s a b c d e f t line opens closes ends number before p
     record {
       tree = tree.function_body opens rp.tree closes rb.tree ends;
       printed = opening.printed ∙ ap (a_sign OpenParenthesis opens) (rp.printed ∙ ap (print_params rp.tree) (closing.printed ∙ ap (a_sign CloseParenthesis closes) (sym same ∙ (rb.printed ∙ ap (print_block rb.tree) (end_.printed ∙ ap (a_word EndWord ends) (sym left))))));
-      valid = subst (λ l. IsValidBlock (takes_rest rp.tree) l rb.tree) function.in_loop (subst (λ r. IsValidBlock r inner.in_loop rb.tree) (function.vararg ∙ vararg) rb.valid);
+      valid = subst (λ l. IsValidBlock (takes_vararg rp.tree) l rb.tree) function.in_loop (subst (λ r. IsValidBlock r inner.in_loop rb.tree) (function.vararg ∙ vararg) rb.valid);
       deep = let x = rb.deep in let y = part.depth in let z = function.depth in omega (arith, x, y, z);
       resolved = (
         enters.kept,
         out,
         f.scope,
         opened,
-        subst (λ l. EndsFunction l names (takes_rest rp.tree) out s.scope f.scope t.scope) enters.line (subst (λ r. EndsFunction begun.line names r out s.scope f.scope t.scope) vararg finish),
+        subst (λ l. EndsFunction l names (takes_vararg rp.tree) out s.scope f.scope t.scope) enters.line (subst (λ r. EndsFunction begun.line names r out s.scope f.scope t.scope) vararg finish),
         done.number ∙ (enters.number ∙ ap (λ z. length z.functions) scope),
       );
     }
@@ -112,7 +112,7 @@ chunk_read tokens p q at line kept chunk out program r start begun depth vararg 
           kept,
           out,
           scope_of q,
-          record { functions = slice_set q.functions.items 0 chunk; around = frames_of q.enclosing },
+          record { functions = slice_set q.functions.items 0 chunk; enclosing = frames_of q.enclosing },
           opened,
           (chunk, frame_of q.frame, frames_of q.enclosing, refl, whole, refl),
           functions,

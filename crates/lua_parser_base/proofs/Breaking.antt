@@ -28,24 +28,24 @@ use Rattle.lua_parser_base.specs.Standing as standing
 
 -- ---- constructs
 
-pub deep_breaks : (c : Construct) (at : Nesting) (s : State) (fault : ParseFault) → Few s.scope.around → IsTooDeep at s fault → FirstFault (standing.within c at) s s fault
+pub deep_breaks : (c : Construct) (at : Nesting) (s : State) (fault : ParseFault) → Few s.scope.enclosing → IsTooDeep at s fault → FirstFault (standing.within c at) s s fault
 deep_breaks c at s (At line) few deep = λ start stands. standing.before_it stands
 deep_breaks c at s (Depth line) few deep = λ start stands. standing.too_deep stands deep.0 deep.1 few
 deep_breaks c at s other few deep = absurd deep
 
-pub part_breaks : (c : Construct) (at : Nesting) (s : State) (fault : ParseFault) → Few s.scope.around → HasNoPart at s fault → FirstFault (standing.part c at) s s fault
+pub part_breaks : (c : Construct) (at : Nesting) (s : State) (fault : ParseFault) → Few s.scope.enclosing → HasNoPart at s fault → FirstFault (standing.part c at) s s fault
 part_breaks c at s (At line) few none = λ start stands. standing.before_it stands
 part_breaks c at s (Depth line) few none = λ start stands. standing.part_too_deep stands none.0 none.1 few
 part_breaks c at s other few none = absurd none
 
-pub function_breaks : (vararg : Bool) (at : Nesting) (s : State) (fault : ParseFault) → Few s.scope.around → IsTooDeep at s fault → FirstFault (standing.function_block at vararg) s s fault
+pub function_breaks : (vararg : Bool) (at : Nesting) (s : State) (fault : ParseFault) → Few s.scope.enclosing → IsTooDeep at s fault → FirstFault (standing.function_block at vararg) s s fault
 function_breaks vararg at s (At line) few deep = λ start stands. standing.before_it stands
 function_breaks vararg at s (Depth line) few deep = λ start stands. standing.function_too_deep stands deep.0 deep.1 few
 function_breaks vararg at s other few deep = absurd deep
 
 -- ---- names
 
-pub name_breaks : (others : ℕ) (s t : State) (fault : ParseFault) → Few s.scope.around → others ≤ 200 → MissesName others s t fault → FirstFault (standing.name others) s t fault
+pub name_breaks : (others : ℕ) (s t : State) (fault : ParseFault) → Few s.scope.enclosing → others ≤ 200 → MissesName others s t fault → FirstFault (standing.name others) s t fault
 name_breaks others s t (At line) few low misses = λ start stands. subst (Within start) (sym misses.same) (standing.before_it stands)
 name_breaks others s t (Locals line) few low misses = λ start stands.
     let full = misses.2 in
@@ -53,7 +53,7 @@ name_breaks others s t (Locals line) few low misses = λ start stands.
 name_breaks others s t Memory few low misses = λ start stands. tt
 name_breaks others s t other few low misses = absurd misses
 
-pub local_breaks : (others line : ℕ) (n : Bytes) (s t z : State) (fault : ParseFault) → Few s.scope.around → others ≤ 200 → OnLocals (200 ≤ others) fault → IsLocals line fault → Takes (NameKind n) line s t →
+pub local_breaks : (others line : ℕ) (n : Bytes) (s t z : State) (fault : ParseFault) → Few s.scope.enclosing → others ≤ 200 → OnLocals (200 ≤ others) fault → IsLocals line fault → Takes (NameKind n) line s t →
     FirstFault (standing.name others) s z fault
 local_breaks others line n s t z (Locals reported) few low full same taken = λ start stands. standing.too_many_locals stands (subst (λ l. Takes (NameKind n) l s t) (sym same) taken) (omega (arith, low, full)) few
 local_breaks others line n s t z Memory few low full same taken = λ start stands. tt
@@ -65,47 +65,47 @@ counted_before start z count (Locals line) full few = let no : count < count = o
 counted_before start z count Memory full few = tt
 counted_before start z count other full few = absurd full
 
-captures_break : (at : Nesting) (line : ℕ) (n : Bytes) (s m z : State) (fault : ParseFault) → Few s.scope.around → OnUpvalues line (Few (look n m.scope.around).1 → ⊥) fault → Takes (NameKind n) line s m →
+captures_break : (at : Nesting) (line : ℕ) (n : Bytes) (s m z : State) (fault : ParseFault) → Few s.scope.enclosing → OnUpvalues line (Few (look n m.scope.enclosing).1 → ⊥) fault → Takes (NameKind n) line s m →
     FirstFault (standing.prefix at) s z fault
 captures_break at line n s m z (Upvalues reported) few many taken = λ start stands.
-    standing.too_many_captures stands (subst (λ l. Takes (NameKind n) l s m) (sym many.1) taken) (subst (λ z. Few (look n z.around).1 → ⊥) taken.scope many.0) few
+    standing.too_many_captures stands (subst (λ l. Takes (NameKind n) l s m) (sym many.1) taken) (subst (λ z. Few (look n z.enclosing).1 → ⊥) taken.scope many.0) few
 captures_break at line n s m z Memory few many taken = λ start stands. tt
 captures_break at line n s m z other few many taken = absurd many
 
-pub variable_breaks : (at : Nesting) (line : ℕ) (n : Bytes) (tokens : List Token) (s z : State) (p : Parser) (fault : ParseFault) → Few s.scope.around → OnUpvalues line (Few (look n (scope_of p).around).1 → ⊥) fault →
+pub variable_breaks : (at : Nesting) (line : ℕ) (n : Bytes) (tokens : List Token) (s z : State) (p : Parser) (fault : ParseFault) → Few s.scope.enclosing → OnUpvalues line (Few (look n (scope_of p).enclosing).1 → ⊥) fault →
     Takes (NameKind n) line s (state tokens p) → FirstFault (standing.prefix at) s z fault
 unfolding state
 variable_breaks at line n tokens s z p fault few many taken = captures_break at line n s (state tokens p) z fault few many taken
 
-function_captures_break : (line : ℕ) (n : Bytes) (s m z : State) (fault : ParseFault) → Few s.scope.around → OnUpvalues line (Few (look n m.scope.around).1 → ⊥) fault → Takes (NameKind n) line s m →
+function_captures_break : (line : ℕ) (n : Bytes) (s m z : State) (fault : ParseFault) → Few s.scope.enclosing → OnUpvalues line (Few (look n m.scope.enclosing).1 → ⊥) fault → Takes (NameKind n) line s m →
     FirstFault standing.function_name s z fault
 function_captures_break line n s m z (Upvalues reported) few many taken = λ start stands.
-    standing.function_captures stands (subst (λ l. Takes (NameKind n) l s m) (sym many.1) taken) (subst (λ z. Few (look n z.around).1 → ⊥) taken.scope many.0) few
+    standing.function_captures stands (subst (λ l. Takes (NameKind n) l s m) (sym many.1) taken) (subst (λ z. Few (look n z.enclosing).1 → ⊥) taken.scope many.0) few
 function_captures_break line n s m z Memory few many taken = λ start stands. tt
 function_captures_break line n s m z other few many taken = absurd many
 
-pub function_variable_breaks : (line : ℕ) (n : Bytes) (tokens : List Token) (s z : State) (p : Parser) (fault : ParseFault) → Few s.scope.around → OnUpvalues line (Few (look n (scope_of p).around).1 → ⊥) fault →
+pub function_variable_breaks : (line : ℕ) (n : Bytes) (tokens : List Token) (s z : State) (p : Parser) (fault : ParseFault) → Few s.scope.enclosing → OnUpvalues line (Few (look n (scope_of p).enclosing).1 → ⊥) fault →
     Takes (NameKind n) line s (state tokens p) → FirstFault standing.function_name s z fault
 unfolding state
 function_variable_breaks line n tokens s z p fault few many taken = function_captures_break line n s (state tokens p) z fault few many taken
 
 -- ---- heights
 
-pub member_breaks : (f : FunctionName) (s m t : State) (fault : ParseFault) → Few m.scope.around → ReadsFuncName s f m → MissesMember Dot f.height m t fault → FirstFault standing.function_name s t fault
+pub member_breaks : (f : FunctionName) (s m t : State) (fault : ParseFault) → Few m.scope.enclosing → ReadsFuncName s f m → MissesMember Dot f.height m t fault → FirstFault standing.function_name s t fault
 member_breaks f s m t (At line) few read (inl miss) = λ start stands. subst (Within start) (sym miss.same) (standing.after_function_name stands read)
 member_breaks f s m t (At line) few read (inr (mid, l, taken, miss, low)) = λ start stands. subst (Within start) (sym miss.same) (standing.after_name_dot stands read taken low)
 member_breaks f s m t (Depth line) few read misses = λ start stands. standing.name_too_high stands read misses.0 misses.1 few
 member_breaks f s m t Memory few read misses = λ start stands. tt
 member_breaks f s m t other few read misses = absurd misses
 
-pub method_breaks : (at : Nesting) (f : FunctionName) (s t : State) (fault : ParseFault) → Few s.scope.around → MissesMember Colon f.height s t fault → FirstFault (standing.function_tail at f) s t fault
+pub method_breaks : (at : Nesting) (f : FunctionName) (s t : State) (fault : ParseFault) → Few s.scope.enclosing → MissesMember Colon f.height s t fault → FirstFault (standing.function_tail at f) s t fault
 method_breaks at f s t (At line) few (inl miss) = λ start stands. subst (Within start) (sym miss.same) (standing.before_it stands)
 method_breaks at f s t (At line) few (inr (mid, l, taken, miss, low)) = λ start stands. subst (Within start) (sym miss.same) (standing.after_name_colon stands taken low)
 method_breaks at f s t (Depth line) few misses = λ start stands. standing.method_too_high stands misses.0 misses.1 few
 method_breaks at f s t Memory few misses = λ start stands. tt
 method_breaks at f s t other few misses = absurd misses
 
-pub operator_breaks : (at : Nesting) (m : ℕ) (left : Built) (found : Infix) (s a b z : State) (fault : ParseFault) → Few a.scope.around → ReadsExp at s left a → TakesOperator left.level m found a b →
+pub operator_breaks : (at : Nesting) (m : ℕ) (left : Built) (found : Infix) (s a b z : State) (fault : ParseFault) → Few a.scope.enclosing → ReadsExp at s left a → TakesOperator left.level m found a b →
     IsTooHigh at left.height found.line fault → FirstFault (standing.here (standing.exp m) at) s z fault
 operator_breaks at m left found s a b z (Depth reported) few read taken high = λ start stands.
     subst (λ l. Breaks start (Depth l)) (sym high.1) (standing.operator_too_high stands read taken high.0 few)
@@ -140,7 +140,7 @@ opens_nothing other is same = absurd is
 none_opens : (kind : TokenKind) (line : ℕ) (a b : State) → GoesOnInside kind → Takes kind line a b → OpensOnLine a
 none_opens kind line a b is taken = λ l after left. absurd (opens_nothing kind is (ap first_kind (sym taken.printed ∙ left)))
 
-pub suffix_breaks : (kind : TokenKind) (at : Nesting) (line : ℕ) (p : Prefix) (s a b z : State) (fault : ParseFault) → Few a.scope.around → GoesOnInside kind → Takes kind line a b → IsTooHigh at p.height line fault →
+pub suffix_breaks : (kind : TokenKind) (at : Nesting) (line : ℕ) (p : Prefix) (s a b z : State) (fault : ParseFault) → Few a.scope.enclosing → GoesOnInside kind → Takes kind line a b → IsTooHigh at p.height line fault →
     ReadsPrefix at s p a → FirstFault (standing.prefix at) s z fault
 suffix_breaks kind at line p s a b z (Depth reported) few goes taken high read = λ start stands.
     standing.prefix_too_high stands read (next_goes_on kind line a b taken (inside_goes_on kind goes)) (none_opens kind line a b goes taken) (next_line kind line reported a b taken high.1) high.0 few
@@ -161,19 +161,19 @@ args_go_on : (left : List Lexeme) → Begin (IsSuffix Arguments) left → Begin 
 args_go_on [] next = absurd next
 args_go_on (x ∷ xs) next = kind_goes_on x.kind next
 
-pub call_breaks : (at : Nesting) (line : ℕ) (p : Prefix) (s a z : State) (fault : ParseFault) → Few a.scope.around → Begin (IsSuffix Arguments) a.left → line ≡ first_line a.left → OpensOnLine a →
+pub call_breaks : (at : Nesting) (line : ℕ) (p : Prefix) (s a z : State) (fault : ParseFault) → Few a.scope.enclosing → Begin (IsSuffix Arguments) a.left → line ≡ first_line a.left → OpensOnLine a →
     IsTooHigh at p.height line fault →
     ReadsPrefix at s p a → FirstFault (standing.prefix at) s z fault
 call_breaks at line p s a z (Depth reported) few next first opens high read = λ start stands.
     standing.prefix_too_high stands read (args_go_on a.left next) opens (args_line line reported a.left next first high.1) high.0 few
 call_breaks at line p s a z other few next first opens high read = absurd high
 
-pub call_ambiguous : (at : Nesting) (p : Prefix) (s a : State) (fault : ParseFault) → Few a.scope.around → CannotOpen a fault → ReadsPrefix at s p a → FirstFault (standing.prefix at) s a fault
+pub call_ambiguous : (at : Nesting) (p : Prefix) (s a : State) (fault : ParseFault) → Few a.scope.enclosing → CannotOpen a fault → ReadsPrefix at s p a → FirstFault (standing.prefix at) s a fault
 call_ambiguous at p s a (At line) few cannot read = λ start stands. standing.after_prefix stands read
 call_ambiguous at p s a (Ambiguous line) few cannot read = λ start stands. standing.call_on_other_line stands read cannot.1 cannot.2 few
 call_ambiguous at p s a other few cannot read = absurd cannot
 
-pub args_ambiguous : (at : Nesting) (s : State) (fault : ParseFault) → Few s.scope.around → CannotOpen s fault → FirstFault (standing.args at) s s fault
+pub args_ambiguous : (at : Nesting) (s : State) (fault : ParseFault) → Few s.scope.enclosing → CannotOpen s fault → FirstFault (standing.args at) s s fault
 args_ambiguous at s (At line) few cannot = λ start stands. standing.before_it stands
 args_ambiguous at s (Ambiguous line) few cannot = λ start stands. standing.args_on_other_line stands cannot.1 cannot.2 few
 args_ambiguous at s other few cannot = absurd cannot

@@ -30,11 +30,11 @@ left_operand_fits at enclosing a b op l f =
     }
 
 pub right_operand_fits : (at inner : Nesting) (enclosing : List Frame) (a b : Exp) (op : Operator) (l : Line) (s m : Scope) (e : Expr) → FitsExp at enclosing (tree.binary a op l b) →
-    s.around ≡ enclosing → Resolves a s e m → IsPart at inner → FitsExp inner m.around b
+    s.enclosing ≡ enclosing → Resolves a s e m → IsPart at inner → FitsExp inner m.enclosing b
 unfolding levels height IsValid Resolves
 right_operand_fits at inner enclosing a b op l s m e f here r part =
     let (x, y, k, p, q, i) = f.resolvable.resolved in
-    let same : k.around ≡ m.around = (exp_alike a f.resolvable.before s x.value e k m p r (record { around = f.resolvable.same ∙ sym here })).around in
+    let same : k.enclosing ≡ m.enclosing = (exp_alike a f.resolvable.before s x.value e k m p r (record { enclosing = f.resolvable.same ∙ sym here })).enclosing in
     record {
       valid = subst (λ vararg. IsValid vararg b) (sym part.vararg) f.valid.1;
       deep = let d = f.deep in let n = part.depth in omega (arith, d, n);

@@ -110,12 +110,12 @@ stats_before_last_fit at enclosing ss s x f =
     }
 
 pub last_fits : (at : Nesting) (enclosing : List Frame) (ss : Stats) (st : LastStat) (x : End) (s m : Scope) (out : List Stmt) → FitsBlock at enclosing (tree.with_last ss st x) →
-    s.around ≡ enclosing → ResolvesStats ss s out m → FitsLast at m.around st
+    s.enclosing ≡ enclosing → ResolvesStats ss s out m → FitsLast at m.enclosing st
 unfolding levels IsValid Resolves
 last_fits at enclosing ss st x s m out f here resolved =
     let r = f.resolvable in
     let (before, last, k, p, q, i) = r.resolved in
-    let same : k.around ≡ m.around = (stats_alike ss r.before s before out k m p resolved (record { around = r.same ∙ sym here })).around in
+    let same : k.enclosing ≡ m.enclosing = (stats_alike ss r.before s before out k m p resolved (record { enclosing = r.same ∙ sym here })).enclosing in
     record {
       valid = f.valid.1;
       deep = let d = f.deep in omega (arith, d);
@@ -138,12 +138,12 @@ first_stats_fit at enclosing first whole StatsFrom.alone f = f
 first_stats_fit at enclosing first whole (StatsFrom.more ss s x from) f = first_stats_fit at enclosing first ss from (earlier_stats_fit at enclosing ss s x f)
 
 pub stat_fits : (at : Nesting) (enclosing : List Frame) (ss : Stats) (st : Stat) (x : End) (s m : Scope) (out : List Stmt) → FitsStats at enclosing (tree.more_stats ss st x) →
-    s.around ≡ enclosing → ResolvesStats ss s out m → FitsStat at m.around st
+    s.enclosing ≡ enclosing → ResolvesStats ss s out m → FitsStat at m.enclosing st
 unfolding levels IsValid Resolves
 stat_fits at enclosing ss st x s m out f here resolved =
     let r = f.resolvable in
     let (before, last, k, p, q, i) = r.resolved in
-    let same : k.around ≡ m.around = (stats_alike ss r.before s before out k m p resolved (record { around = r.same ∙ sym here })).around in
+    let same : k.enclosing ≡ m.enclosing = (stats_alike ss r.before s before out k m p resolved (record { enclosing = r.same ∙ sym here })).enclosing in
     record {
       valid = f.valid.1;
       deep = let d = f.deep in omega (arith, d);
@@ -188,12 +188,12 @@ test_fits at enclosing i t h b f =
     }
 
 pub arm_block_fits : (at : Nesting) (enclosing : List Frame) (i : Line) (t : Exp) (h : Line) (b : Block) (s n : Scope) (e : Expr) → FitsArms at enclosing (tree.if_arm i t h b) →
-    s.around ≡ enclosing → Resolves t s e n → FitsScoped at n.around b
+    s.enclosing ≡ enclosing → Resolves t s e n → FitsScoped at n.enclosing b
 unfolding levels IsValid Resolves
 arm_block_fits at enclosing i t h b s n e f here resolved =
     let r = f.resolvable in
     let (arm, m, k, p, q, u, j) = r.resolved in
-    let same : m.around ≡ n.around = (exp_alike t r.before s (out-Arm arm).test e m n p resolved (record { around = r.same ∙ sym here })).around in
+    let same : m.enclosing ≡ n.enclosing = (exp_alike t r.before s (out-Arm arm).test e m n p resolved (record { enclosing = r.same ∙ sym here })).enclosing in
     record {
       valid = f.valid.1;
       deep = let d = f.deep in omega (arith, d);
@@ -235,12 +235,12 @@ first_arms_fit at enclosing first whole ArmsFrom.alone f = f
 first_arms_fit at enclosing first whole (ArmsFrom.more those i t h b from) f = first_arms_fit at enclosing first those from (earlier_arms_fit at enclosing those i t h b f)
 
 pub next_arm_fits : (at : Nesting) (enclosing : List Frame) (those : Arms) (i l : Line) (t : Exp) (h : Line) (b : Block) (s n : Scope) (out : List Arm) →
-    FitsArms at enclosing (tree.elseif_arm those i t h b) → s.around ≡ enclosing → ResolvesArms those s out n → FitsArms at n.around (tree.if_arm l t h b)
+    FitsArms at enclosing (tree.elseif_arm those i t h b) → s.enclosing ≡ enclosing → ResolvesArms those s out n → FitsArms at n.enclosing (tree.if_arm l t h b)
 unfolding levels IsValid Resolves
 next_arm_fits at enclosing those i l t h b s n out f here resolved =
     let r = f.resolvable in
     let (before, arm, g, m, k, v, p, q, u, j) = r.resolved in
-    let same : g.around ≡ n.around = (arms_alike those r.before s before out g n v resolved (record { around = r.same ∙ sym here })).around in
+    let same : g.enclosing ≡ n.enclosing = (arms_alike those r.before s before out g n v resolved (record { enclosing = r.same ∙ sym here })).enclosing in
     record {
       valid = (f.valid.1, f.valid.2);
       deep = let d = f.deep in omega (arith, d);
@@ -277,12 +277,12 @@ arms_before_else_fit at enclosing those l b e f =
     }
 
 pub else_fits : (at : Nesting) (enclosing : List Frame) (those : Arms) (l : Line) (b : Block) (e : Line) (s n : Scope) (out : List Arm) → FitsStat at enclosing (tree.if_else those l b e) →
-    s.around ≡ enclosing → ResolvesArms those s out n → FitsScoped at n.around b
+    s.enclosing ≡ enclosing → ResolvesArms those s out n → FitsScoped at n.enclosing b
 unfolding levels IsValid Resolves
 else_fits at enclosing those l b e s n out f here resolved =
     let r = f.resolvable in
     let (list, otherwise, m, k, p, q, u, i) = r.resolved in
-    let same : m.around ≡ n.around = (arms_alike those r.before s list.value.items out m n p resolved (record { around = r.same ∙ sym here })).around in
+    let same : m.enclosing ≡ n.enclosing = (arms_alike those r.before s list.value.items out m n p resolved (record { enclosing = r.same ∙ sym here })).enclosing in
     record {
       valid = f.valid.1;
       deep = let d = f.deep in omega (arith, d);
@@ -321,12 +321,12 @@ while_test_fits at enclosing w t d b e f =
     }
 
 pub while_block_fits : (at loop : Nesting) (enclosing : List Frame) (w : Line) (t : Exp) (d : Line) (b : Block) (e : Line) (s n : Scope) (x : Expr) → IsLooped at loop →
-    FitsStat at enclosing (tree.while_loop w t d b e) → s.around ≡ enclosing → Resolves t s x n → FitsScoped loop n.around b
+    FitsStat at enclosing (tree.while_loop w t d b e) → s.enclosing ≡ enclosing → Resolves t s x n → FitsScoped loop n.enclosing b
 unfolding levels IsValid Resolves
 while_block_fits at loop enclosing w t d b e s n x looped f here resolved =
     let r = f.resolvable in
     let (test, run, m, k, p, q, u, i) = r.resolved in
-    let same : m.around ≡ n.around = (exp_alike t r.before s test.value x m n p resolved (record { around = r.same ∙ sym here })).around in
+    let same : m.enclosing ≡ n.enclosing = (exp_alike t r.before s test.value x m n p resolved (record { enclosing = r.same ∙ sym here })).enclosing in
     record {
       valid = subst (λ l. IsValidBlock loop.vararg l b) (sym looped.in_loop) (subst (λ vararg. IsValidBlock vararg true b) (sym looped.vararg) f.valid.1);
       deep = let d = f.deep in let y = looped.depth in omega (arith, d, y);
@@ -353,12 +353,12 @@ repeat_block_fits at loop inner enclosing l b u t looped part f =
     }
 
 pub repeat_test_fits : (at : Nesting) (enclosing : List Frame) (l : Line) (b : Block) (u : Line) (t : Exp) (s n : Scope) (out : List Stmt) → FitsStat at enclosing (tree.repeat_loop l b u t) →
-    s.around ≡ enclosing → Opens b s out n → FitsValue at n.around t
+    s.enclosing ≡ enclosing → Opens b s out n → FitsValue at n.enclosing t
 unfolding levels IsValid Resolves
 repeat_test_fits at enclosing l b u t s n out f here resolved =
     let r = f.resolvable in
     let (test, run, m, k, p, q, z, i) = r.resolved in
-    let same : m.around ≡ n.around = (block_alike b r.before s run.value.items out m n p resolved (record { around = r.same ∙ sym here })).around in
+    let same : m.enclosing ≡ n.enclosing = (block_alike b r.before s run.value.items out m n p resolved (record { enclosing = r.same ∙ sym here })).enclosing in
     record {
       valid = f.valid.1;
       deep = let d = f.deep in omega (arith, d);

@@ -55,7 +55,7 @@ method_name_fits at enclosing f g c l n b fits =
     record { before = r.before; out = object.value; after = m; same = r.same; resolved = p; few = few_before_it (body_keeps (self_name ∷ []) f b m number r.after q) r.few }
 
 function_body_fits : (at : Nesting) (enclosing : List Frame) (f : Line) (g : FuncName) (b : FuncBody) (s t : Scope) (e : Expr) →
-    FitsStat at enclosing (tree.function_statement f g b) → s.around ≡ enclosing → ResolvesFuncName g s e t → FitsBody at f [] t.around b
+    FitsStat at enclosing (tree.function_statement f g b) → s.enclosing ≡ enclosing → ResolvesFuncName g s e t → FitsBody at f [] t.enclosing b
 unfolding levels IsValid Resolves
 function_body_fits at enclosing f g b s t e fits here named =
     let (xs, values, target, n, m, p, q, j, v, i) = fits.resolvable.resolved in
@@ -67,14 +67,14 @@ function_body_fits at enclosing f g b s t e fits here named =
         before = m;
         out = n;
         after = r.after;
-        same = (funcname_alike g r.before s target e m t p named (record { around = r.same ∙ sym here })).around;
+        same = (funcname_alike g r.before s target e m t p named (record { enclosing = r.same ∙ sym here })).enclosing;
         resolved = q;
         few = r.few;
       };
     }
 
 method_body_fits : (at : Nesting) (enclosing : List Frame) (f : Line) (g : FuncName) (c l : Line) (name : Bytes) (b : FuncBody) (s t : Scope) (e : Expr) →
-    FitsStat at enclosing (tree.method_statement f g c l name b) → s.around ≡ enclosing → ResolvesFuncName g s e t → FitsBody at f (self_name ∷ []) t.around b
+    FitsStat at enclosing (tree.method_statement f g c l name b) → s.enclosing ≡ enclosing → ResolvesFuncName g s e t → FitsBody at f (self_name ∷ []) t.enclosing b
 unfolding levels IsValid Resolves
 method_body_fits at enclosing f g c l name b s t e fits here named =
     let (xs, values, object, target, n, m, p, o, q, j, v, i) = fits.resolvable.resolved in
@@ -86,7 +86,7 @@ method_body_fits at enclosing f g c l name b s t e fits here named =
         before = m;
         out = n;
         after = r.after;
-        same = (funcname_alike g r.before s object.value e m t p named (record { around = r.same ∙ sym here })).around;
+        same = (funcname_alike g r.before s object.value e m t p named (record { enclosing = r.same ∙ sym here })).enclosing;
         resolved = q;
         few = r.few;
       };
@@ -116,7 +116,7 @@ crowded_name : (l : Line) (n : Bytes) (whole : FuncName) (enclosing : List Frame
     IsResolvable ResolvesFuncName enclosing whole → ⊥
 crowded_name l n whole enclosing from not r =
     let (d, named) = first_name_resolves (tree.root_name l n) whole from r.before r.out r.after r.resolved in
-    not (subst Few (ap (λ z. z.around) named.scope ∙ ap (λ fs. (look n fs).1) r.same) r.few)
+    not (subst Few (ap (λ z. z.enclosing) named.scope ∙ ap (λ fs. (look n fs).1) r.same) r.few)
 
 dead_tail : (f : Line) (k : Stat → Reader) (g : FuncName) → ((b : FuncBody) → IsDead (k (tree.function_statement f g b))) →
     ((c l : Line) (n : Bytes) (b : FuncBody) → IsDead (k (tree.method_statement f g c l n b))) → (kind : TokenKind) (l : Line) → IsDead (function_tail f k g kind l)
@@ -139,14 +139,14 @@ pub function_unnamed : (at : Nesting) (fault : ParseFault) (s t : State) → OnA
 function_unnamed at fault s t m = λ f k suppose. missed fault _ (token (function_ f k)) IsName s t m suppose (λ is. is) (function_fails f k) tt
 
 pub function_name_crowded : (at : Nesting) (fault : ParseFault) (s m t : State) (l : ℕ) (n : Bytes) → Takes (NameKind n) l s m → t.left ≡ m.left →
-    OnUpvalues l (Few (look n m.scope.around).1 → ⊥) fault → RefusesFuncName at s t fault
+    OnUpvalues l (Few (look n m.scope.enclosing).1 → ⊥) fault → RefusesFuncName at s t fault
 function_name_crowded at (Upvalues line) s m t l n taken same not = λ f k suppose.
     refused_on (moved same (by_token (token (function_ f k)) (NameKind n) l s m taken))
     (too_many_captures line (more_funcname (tree.root_name l n) (after_name f k)) t (λ whole from.
-    let crowded = crowded_name l n whole s.scope.around from (subst (λ z. Few (look n z.around).1 → ⊥) taken.scope not.0) in
+    let crowded = crowded_name l n whole s.scope.enclosing from (subst (λ z. Few (look n z.enclosing).1 → ⊥) taken.scope not.0) in
     dead_tail f k whole
-    (λ b. suppose (tree.function_statement f whole b) (λ fits. crowded (function_name_fits at s.scope.around f whole b fits)))
-    (λ c d e b. suppose (tree.method_statement f whole c d e b) (λ fits. crowded (method_name_fits at s.scope.around f whole c d e b fits)))))
+    (λ b. suppose (tree.function_statement f whole b) (λ fits. crowded (function_name_fits at s.scope.enclosing f whole b fits)))
+    (λ c d e b. suppose (tree.method_statement f whole c d e b) (λ fits. crowded (method_name_fits at s.scope.enclosing f whole c d e b fits)))))
 function_name_crowded at Memory s m t l n taken same not = λ f k suppose. absurd suppose
 function_name_crowded at other s m t l n taken same not = absurd not
 
@@ -162,8 +162,8 @@ function_member_missed at (Depth d) s m t object read next (taken, high) = λ f 
     let more = higher_name (tree.name_member read.tree d l n) whole from in
     let own = read.high in
     dead_tail f k whole
-    (λ b. suppose (tree.function_statement f whole b) (λ fits. let low = function_name_low at s.scope.around f whole b fits in omega (arith, more, own, low, high)))
-    (λ c d e b. suppose (tree.method_statement f whole c d e b) (λ fits. let low = method_name_low at s.scope.around f whole c d e b fits in omega (arith, more, own, low, high))))))
+    (λ b. suppose (tree.function_statement f whole b) (λ fits. let low = function_name_low at s.scope.enclosing f whole b fits in omega (arith, more, own, low, high)))
+    (λ c d e b. suppose (tree.method_statement f whole c d e b) (λ fits. let low = method_name_low at s.scope.enclosing f whole c d e b fits in omega (arith, more, own, low, high))))))
 function_member_missed at Memory s m t object read next miss = λ f k suppose. absurd suppose
 function_member_missed at other s m t object read next miss = absurd miss
 
@@ -180,7 +180,7 @@ method_unnamed at line (Depth c) m t object next (taken, high) = λ s read k nev
     (limited c (token (name (λ l n. token (body (λ b. k (tree.method_statement line read.tree c l n b)))))) t (dead_name (λ l n. token (body (λ b. k (tree.method_statement line read.tree c l n b)))) (λ l n.
     dead_body (λ b. k (tree.method_statement line read.tree c l n b)) (λ b.
     suppose (tree.method_statement line read.tree c l n b) (λ fits.
-    let low = method_name_low at s.scope.around line read.tree c l n b fits in
+    let low = method_name_low at s.scope.enclosing line read.tree c l n b fits in
     let own = read.high in
     omega (arith, own, low, high))))))
 method_unnamed at line Memory m t object next miss = λ s read k never suppose. absurd suppose
@@ -194,8 +194,8 @@ method_body_refused at line first fault m b t object whole step own refuses = λ
     (by_token (token (name (λ l n. token (body (λ x. k (tree.method_statement line read.tree step.line l n x)))))) (NameKind step.name) step.name_at step.middle b step.named))
     (refuses (λ x. k (tree.method_statement line read.tree step.line step.name_at step.name x)) (λ x z is. never _ z is) (supposes_on fault (λ suppose x not.
     suppose (tree.method_statement line read.tree step.line step.name_at step.name x) (λ fits.
-    not (subst (λ z. FitsBody at line first z.around x) (sym scope) (subst (λ names. FitsBody at line names m.scope.around x) (sym own)
-    (method_body_fits at s.scope.around line read.tree step.line step.name_at step.name x s.scope m.scope object.target fits refl read.resolved))))) suppose))
+    not (subst (λ z. FitsBody at line first z.enclosing x) (sym scope) (subst (λ names. FitsBody at line names m.scope.enclosing x) (sym own)
+    (method_body_fits at s.scope.enclosing line read.tree step.line step.name_at step.name x s.scope m.scope object.target fits refl read.resolved))))) suppose))
 
 -- ---- the statement
 
@@ -203,7 +203,7 @@ pub function_word : (at : Nesting) (fault : ParseFault) (s t : State) → ahead 
 function_word at fault s t next m = λ k never suppose. never_missed_ahead fault _ (token (statement k)) (IsKind (WordKind Function)) s t m suppose (λ is. cc) next
 
 pub statement_after : (at : Nesting) (fault : ParseFault) (k : Stat → Reader) (s a : State) → a.scope ≡ s.scope → UnlessStat at s fault k → UnlessStat at a fault k
-statement_after at fault k s a scope suppose = supposes_on fault (λ h x not. h x (λ fits. not (subst (λ z. FitsStat at z.around x) (sym scope) fits))) suppose
+statement_after at fault k s a scope suppose = supposes_on fault (λ h x not. h x (λ fits. not (subst (λ z. FitsStat at z.enclosing x) (sym scope) fits))) suppose
 
 pub function_name_refused : (at : Nesting) (fault : ParseFault) (s a t : State) (line : ℕ) → Takes (WordKind Function) line s a → RefusesFuncName at a t fault → RefusesStat at s t fault
 function_name_refused at fault s a t line taken refuses = λ k never suppose.
@@ -238,10 +238,10 @@ function_body_refused at first fault s a b t line object taken read last plain o
     (stays (after_name line k read.tree) (token (body (λ x. k (tree.function_statement line read.tree x)))) b (λ l. no_method line k read.tree (ahead b) l (not_first (SignKind Colon) b.left (λ is. cc) plain)) tt))
     (refuses (λ x. k (tree.function_statement line read.tree x)) (λ x z is. never _ z is) (supposes_on fault (λ suppose x not.
     suppose (tree.function_statement line read.tree x) (λ fits.
-    not (subst (λ names. FitsBody at line names b.scope.around x) (sym own)
-    (function_body_fits at s.scope.around line read.tree x a.scope b.scope object.target fits (ap (λ z. z.around) taken.scope) read.resolved)))) suppose))
+    not (subst (λ names. FitsBody at line names b.scope.enclosing x) (sym own)
+    (function_body_fits at s.scope.enclosing line read.tree x a.scope b.scope object.target fits (ap (λ z. z.enclosing) taken.scope) read.resolved)))) suppose))
 
-pub crowded_state : (line : ℕ) (tokens : List Token) (p : Parser) (n : Bytes) (fault : ParseFault) → OnUpvalues line (Few (look n (scope_of p).around).1 → ⊥) fault →
-    OnUpvalues line (Few (look n (state tokens p).scope.around).1 → ⊥) fault
+pub crowded_state : (line : ℕ) (tokens : List Token) (p : Parser) (n : Bytes) (fault : ParseFault) → OnUpvalues line (Few (look n (scope_of p).enclosing).1 → ⊥) fault →
+    OnUpvalues line (Few (look n (state tokens p).scope.enclosing).1 → ⊥) fault
 unfolding state
 crowded_state line tokens p n fault h = h

@@ -7,10 +7,10 @@ use Rattle.lua_grammar.specs.Tree.{Line, Bytes, NameList, Params, FuncBody, Bloc
 use Rattle.lua_grammar.specs.Tree as tree
 use Rattle.lua_grammar.specs.Printing.{Lexeme, a_sign, print_names, print_params}
 use Rattle.lua_grammar.specs.Waiting.{Reader, IsWaiting, failed, token, more_names, close_parenthesis}
-use Rattle.lua_grammar.specs.Reading.{params, body_behind, next_name, no_rest, feed, run}
+use Rattle.lua_grammar.specs.Reading.{params, body_after, next_name, no_rest, feed, run}
 use Rattle.lua_grammar.specs.Resolution.{names_of, names_of_params}
 use Rattle.lua_grammar.specs.Dead.{IsDead, NamesFrom}
-use Rattle.lua_grammar.specs.Stopping.{Behind, IsNoComma}
+use Rattle.lua_grammar.specs.Stopping.{ComesNext, IsNoComma}
 use Rattle.lua_grammar.proofs.Before.{names_before, params_before}
 use Rattle.lua_grammar.proofs.Stopping.{names_end}
 use Rattle.lua_grammar.proofs.DeadParts.{dead_close_parenthesis, dead_to_end}
@@ -104,10 +104,10 @@ params_fail_there o k (first ∷ after) l name close dots = params_fails o k fir
 
 -- after names
 abbrev close_names : Line → (FuncBody → Reader) → NameList → Reader
-close_names o k ns = token (close_parenthesis (body_behind o k (tree.names ns)))
+close_names o k ns = token (close_parenthesis (body_after o k (tree.names ns)))
 
 abbrev close_vararg : Line → (FuncBody → Reader) → NameList → Line → Line → Reader
-close_vararg o k ns c d = token (close_parenthesis (body_behind o k (tree.names_and_rest ns c d)))
+close_vararg o k ns c d = token (close_parenthesis (body_after o k (tree.names_and_vararg ns c d)))
 
 next_param_fails : (ns : NameList) (c : Line) (o : Line) (k : FuncBody → Reader) (kind : TokenKind) (l : Line) → (IsName kind → ⊥) → (IsKind (SignKind Ellipsis) kind → ⊥) →
     next_name ns c (close_names o k) (close_vararg o k) kind l ≡ failed
@@ -125,9 +125,9 @@ abbrev Crowded : List Bytes → Line → (FuncBody → Reader) → Type 0
 Crowded first o k = (ps : Params) (c : Line) (b : Block) (e : Line) → 200 < length (first ++ names_of_params ps) → IsDead (k (tree.function_body o ps c b e))
 
 dead_close : (first : List Bytes) (o : Line) (k : FuncBody → Reader) (ps : Params) → Crowded first o k → 200 < length (first ++ names_of_params ps) →
-    (kind : TokenKind) (l : Line) → IsDead (close_parenthesis (body_behind o k ps) kind l)
+    (kind : TokenKind) (l : Line) → IsDead (close_parenthesis (body_after o k ps) kind l)
 dead_close first o k ps crowded many =
-    dead_close_parenthesis (body_behind o k ps) (λ c. dead_to_end (λ b e. k (tree.function_body o ps c b e)) (λ b e. crowded ps c b e many))
+    dead_close_parenthesis (body_after o k ps) (λ c. dead_to_end (λ b e. k (tree.function_body o ps c b e)) (λ b e. crowded ps c b e many))
 
 dead_names : (first : List Bytes) (o : Line) (k : FuncBody → Reader) (ns : NameList) → Crowded first o k → 200 < length first + length (names_of ns) →
     IsDead (more_names ns (close_names o k) (close_vararg o k))
@@ -135,7 +135,7 @@ dead_names first o k ns crowded many those from =
     let long = names_longer ns those from in
     let all = length-append first (names_of those) in (
       dead_close first o k (tree.names those) crowded (omega (arith, long, all, many)),
-      λ c d. dead_close first o k (tree.names_and_rest those c d) crowded (omega (arith, long, all, many)),
+      λ c d. dead_close first o k (tree.names_and_vararg those c d) crowded (omega (arith, long, all, many)),
     )
 
 pub first_parameter_refused : (first : List Bytes) (count : ℕ) (fault : ParseFault) (s t : State) → (IsNext (SignKind CloseParenthesis) s → ⊥) → (IsNext (SignKind Ellipsis) s → ⊥) →
@@ -171,26 +171,26 @@ next_parameter_refused first count Memory s m n t names c read comma dots same m
 next_parameter_refused first count other s m n t names c read comma dots same missing = absurd missing
 
 -- over parameters, up to their `)`
-close_names_run : (ns : NameList) (o : Line) (k : FuncBody → Reader) (xs : List Lexeme) → Behind IsNoComma xs →
+close_names_run : (ns : NameList) (o : Line) (k : FuncBody → Reader) (xs : List Lexeme) → ComesNext IsNoComma xs →
     run (token (params o k)) (print_names ns xs) ≡ run (close_names o k ns) xs
 close_names_run ns o k xs last = names_read ns _ (close_names o k) (close_vararg o k) xs (λ b l. refl) ∙ names_end ns (close_names o k) (close_vararg o k) xs last
 
 pub parameters_moved : (ps : Params) (o : Line) (k : FuncBody → Reader) (s t : State) → s.left ≡ print_params ps t.left → ParametersEnd ps (ahead t) →
-    (ahead t ≡ SignKind CloseParenthesis → ⊥) → Moves (token (params o k)) s (token (close_parenthesis (body_behind o k ps))) t
+    (ahead t ≡ SignKind CloseParenthesis → ⊥) → Moves (token (params o k)) s (token (close_parenthesis (body_after o k ps))) t
 parameters_moved tree.no_params o k s t printed ends not = absurd (not ends)
 parameters_moved (tree.names ns) o k s t printed ends not =
     over (print_names ns) _ _ s t (names_before ns) printed (λ xs h. close_names_run ns o k xs (after_on IsNoComma t.left xs h ends))
     (λ w. waits_as _ (more_names ns (close_names o k) (close_vararg o k)) (names_read ns _ (close_names o k) (close_vararg o k) [] (λ b l. refl)) tt)
-parameters_moved (tree.names_and_rest ns c d) o k s t printed ends not =
-    over (print_params (tree.names_and_rest ns c d)) _ _ s t (params_before (tree.names_and_rest ns c d)) printed (λ xs h.
+parameters_moved (tree.names_and_vararg ns c d) o k s t printed ends not =
+    over (print_params (tree.names_and_vararg ns c d)) _ _ s t (params_before (tree.names_and_vararg ns c d)) printed (λ xs h.
     names_read ns _ (close_names o k) (close_vararg o k) _ (λ b l. refl))
     (λ w. waits_as _ (close_vararg o k ns c d) (names_read ns _ (close_names o k) (close_vararg o k) (a_sign Comma c (a_sign Ellipsis d [])) (λ b l. refl)) tt)
-parameters_moved (tree.only_rest d) o k s t printed ends not =
-    over (print_params (tree.only_rest d)) _ _ s t (params_before (tree.only_rest d)) printed (λ xs h. refl) (λ w. tt)
+parameters_moved (tree.only_vararg d) o k s t printed ends not =
+    over (print_params (tree.only_vararg d)) _ _ s t (params_before (tree.only_vararg d)) printed (λ xs h. refl) (λ w. tt)
 
 -- over parameters and their `)`
 pub over_parameters_and_close : (ps : Params) (o : Line) (k : FuncBody → Reader) (s m t : State) (c : ℕ) → s.left ≡ print_params ps m.left →
-    Takes (SignKind CloseParenthesis) c m t → Moves (token (params o k)) s (body_behind o k ps c) t
+    Takes (SignKind CloseParenthesis) c m t → Moves (token (params o k)) s (body_after o k ps c) t
 over_parameters_and_close ps o k s m t c printed close =
     over (λ xs. print_params ps (a_sign CloseParenthesis c xs)) _ _ s t (record { splits = λ xs ys. (params_before ps).splits (a_sign CloseParenthesis c xs) ys })
-    (printed ∙ ap (print_params ps) close.printed) (λ xs h. params_read ps o k c xs) (λ w. waits_as _ (body_behind o k ps c) (params_read ps o k c []) tt)
+    (printed ∙ ap (print_params ps) close.printed) (λ xs h. params_read ps o k c xs) (λ w. waits_as _ (body_after o k ps c) (params_read ps o k c []) tt)

@@ -57,7 +57,7 @@ no_parameters before s p names vararg next = record {
 pub only_vararg : (before : List Bytes) (s t : State) (p : Parameters) (line : ℕ) → Takes (SignKind Ellipsis) line s t → p.names.items ≡ before →
     p.vararg ≡ true → ReadsParameters before s p t
 only_vararg before s t p line taken names vararg = record {
-  tree = tree.only_rest line;
+  tree = tree.only_vararg line;
   printed = taken.printed;
   scope = taken.scope;
   listed = names ∙ sym (append-nil before);
@@ -79,7 +79,7 @@ only_names before s t p r vararg last = record {
 pub names_then_vararg : (before : List Bytes) (s m n t : State) (p : Parameters) (comma line : ℕ) → ReadsNames before s p.names.items m →
     Takes (SignKind Comma) comma m n → Takes (SignKind Ellipsis) line n t → p.vararg ≡ true → ReadsParameters before s p t
 names_then_vararg before s m n t p comma line r taken dots vararg = record {
-  tree = tree.names_and_rest r.tree comma line;
+  tree = tree.names_and_vararg r.tree comma line;
   printed = r.printed ∙ ap (print_names r.tree) (taken.printed ∙ ap (a_sign Comma comma) dots.printed);
   scope = dots.scope ∙ (taken.scope ∙ r.scope);
   listed = r.listed;

@@ -164,7 +164,7 @@ pub on_err : {A : Type 0} {P Q : ParseFault → Type 0} (r : Result A ParseFault
 on_err (Ok x) h f = tt
 on_err (Err fault) h f = f fault h
 
--- what fails for want of memory alone
+-- what fails as memory ran out alone
 pub on_memory : {A : Type 0} (P : A → Type 0) (Q : ParseFault → Type 0) (r : Result A ParseFault) → Q Memory → MatchResult r P IsMemory → IfErr r Q
 on_memory P Q (Ok x) q h = tt
 on_memory P Q (Err fault) q h = subst Q (sym h) q

@@ -19,6 +19,6 @@ unfolding Few
 frames_few [] = tt
 frames_few (f ∷ fs) = (frame_few f, frames_few fs)
 
-pub few_there : (tokens : List Token) (p : Parser) → Few (state tokens p).scope.around
+pub few_there : (tokens : List Token) (p : Parser) → Few (state tokens p).scope.enclosing
 unfolding state Few
 few_there tokens p = (frame_few p.frame, frames_few (reverse p.enclosing.items))

@@ -76,7 +76,7 @@ pub variable_few : (at : Nesting) (enclosing : List Frame) (l : Line) (n : Bytes
 unfolding Resolves
 variable_few at enclosing l n f =
     let r = f.resolvable in
-    subst (λ fs. Few (look n fs).1) r.same (subst (λ z. Few z.around) r.resolved.scope r.few)
+    subst (λ fs. Few (look n fs).1) r.same (subst (λ z. Few z.enclosing) r.resolved.scope r.few)
 
 pub paren_inner_fits : (at inner : Nesting) (enclosing : List Frame) (o : Line) (e : Exp) (c : Line) → FitsPrefix at enclosing (tree.paren o e c) → IsPart at inner → FitsExp inner enclosing e
 unfolding levels height IsValid Resolves
@@ -90,11 +90,11 @@ paren_inner_fits at inner enclosing o e c f part =
     }
 
 pub item_key_fits : (at inner : Nesting) (enclosing : List Frame) (p : PrefixExp) (o : Line) (key : Exp) (c : Line) (s m : Scope) (e : Expr) → FitsPrefix at enclosing (tree.item p o key c) →
-    s.around ≡ enclosing → ResolvesPrefix p s e m → IsPart at inner → FitsExp inner m.around key
+    s.enclosing ≡ enclosing → ResolvesPrefix p s e m → IsPart at inner → FitsExp inner m.enclosing key
 unfolding levels height IsValid Resolves
 item_key_fits at inner enclosing p o key c s m e f here r part =
     let (x, y, k, q, j, i) = f.resolvable.resolved in
-    let same : k.around ≡ m.around = (prefix_alike p f.resolvable.before s x.value e k m q r (record { around = f.resolvable.same ∙ sym here })).around in
+    let same : k.enclosing ≡ m.enclosing = (prefix_alike p f.resolvable.before s x.value e k m q r (record { enclosing = f.resolvable.same ∙ sym here })).enclosing in
     record {
       valid = subst (λ vararg. IsValid vararg key) (sym part.vararg) f.valid.1;
       deep = let d = f.deep in let n = part.depth in omega (arith, d, n);
@@ -103,11 +103,11 @@ item_key_fits at inner enclosing p o key c s m e f here r part =
     }
 
 pub call_args_fit : (at : Nesting) (enclosing : List Frame) (p : PrefixExp) (a : Args) (s m : Scope) (e : Expr) → FitsPrefix at enclosing (tree.call p a) →
-    s.around ≡ enclosing → ResolvesPrefix p s e m → FitsArgs at m.around a
+    s.enclosing ≡ enclosing → ResolvesPrefix p s e m → FitsArgs at m.enclosing a
 unfolding levels height IsValid Resolves
 call_args_fit at enclosing p a s m e f here r =
     let (x, values, k, q, j, i) = f.resolvable.resolved in
-    let same : k.around ≡ m.around = (prefix_alike p f.resolvable.before s x.value e k m q r (record { around = f.resolvable.same ∙ sym here })).around in
+    let same : k.enclosing ≡ m.enclosing = (prefix_alike p f.resolvable.before s x.value e k m q r (record { enclosing = f.resolvable.same ∙ sym here })).enclosing in
     record {
       valid = f.valid.1;
       deep = let d = f.deep in omega (arith, d);
@@ -116,11 +116,11 @@ call_args_fit at enclosing p a s m e f here r =
     }
 
 pub method_args_fit : (at : Nesting) (enclosing : List Frame) (p : PrefixExp) (c l : Line) (n : Bytes) (a : Args) (s m : Scope) (e : Expr) → FitsPrefix at enclosing (tree.method p c l n a) →
-    s.around ≡ enclosing → ResolvesPrefix p s e m → FitsArgs at m.around a
+    s.enclosing ≡ enclosing → ResolvesPrefix p s e m → FitsArgs at m.enclosing a
 unfolding levels height IsValid Resolves
 method_args_fit at enclosing p c l n a s m e f here r =
     let (x, values, k, q, j, i) = f.resolvable.resolved in
-    let same : k.around ≡ m.around = (prefix_alike p f.resolvable.before s x.value e k m q r (record { around = f.resolvable.same ∙ sym here })).around in
+    let same : k.enclosing ≡ m.enclosing = (prefix_alike p f.resolvable.before s x.value e k m q r (record { enclosing = f.resolvable.same ∙ sym here })).enclosing in
     record {
       valid = f.valid.1;
       deep = let d = f.deep in omega (arith, d);

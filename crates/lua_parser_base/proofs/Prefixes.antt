@@ -79,14 +79,14 @@ crowded Memory there C X r s t same c h dead = absurd h
 crowded other there C X r s t same c h dead = absurd c
 
 name_crowded : (at : Nesting) (s m t : State) (line : ℕ) (n : List ℕ) (fault : ParseFault) → Takes (Name n) line s m → t.left ≡ m.left →
-    OnUpvalues line (Few (look n m.scope.around).1 → ⊥) fault → RefusesPrefix at s t fault
+    OnUpvalues line (Few (look n m.scope.enclosing).1 → ⊥) fault → RefusesPrefix at s t fault
 name_crowded at s m t line n fault taken same c = λ k h.
     refused_on (by_token (token (begin_prefix k)) (Name n) line s m taken)
     (crowded fault line _ _ (more_prefix (tree.variable line n) k) m t same c h (λ many suppose whole from.
-    suppose whole (λ f. many (subst (λ z. Few (look n z.around).1) (sym taken.scope) (variable_few at s.scope.around line n (first_prefix_fits at s.scope.around _ whole from f))))))
+    suppose whole (λ f. many (subst (λ z. Few (look n z.enclosing).1) (sym taken.scope) (variable_few at s.scope.enclosing line n (first_prefix_fits at s.scope.enclosing _ whole from f))))))
 
 pub variable_crowded : (at : Nesting) (s : State) (tokens : List Token) (p q : Parser) (line : ℕ) (n : List ℕ) (fault : ParseFault) → Takes (Name n) line s (state tokens p) →
-    q.index ≡ p.index → OnUpvalues line (Few (look n (scope_of p).around).1 → ⊥) fault → RefusesPrefix at s (state tokens q) fault
+    q.index ≡ p.index → OnUpvalues line (Few (look n (scope_of p).enclosing).1 → ⊥) fault → RefusesPrefix at s (state tokens q) fault
 unfolding state
 variable_crowded at s tokens p q line n fault taken same c = name_crowded at s (state tokens p) (state tokens q) line n fault taken (ap (λ index. lexemes (drop index tokens)) same) c
 
@@ -97,13 +97,13 @@ paren_no_part at s m line fault taken none = λ k h.
     refused_on (by_token (token (begin_prefix k)) (Sign sign.OpenParenthesis) line s m taken)
     (no_part fault _ at (exp 1 (λ e. token (close_parenthesis (λ c. more_prefix (tree.paren line e c) k)))) m none h
     (ends_failed (exp 1 (λ e. token (close_parenthesis (λ c. more_prefix (tree.paren line e c) k)))) (λ l. refl)) (λ full suppose e.
-    dead_close_parenthesis _ (λ c whole from. suppose whole (λ f. deep_paren at s.scope.around line e c full (first_prefix_fits at s.scope.around _ whole from f)))) tt)
+    dead_close_parenthesis _ (λ c whole from. suppose whole (λ f. deep_paren at s.scope.enclosing line e c full (first_prefix_fits at s.scope.enclosing _ whole from f)))) tt)
 
-paren_supposes : (at inner : Nesting) (s m : State) (line : ℕ) (k : PrefixExp → Reader) → m.scope ≡ s.scope → IsPart at inner → Unless (FitsPrefix at s.scope.around) k →
-    Unless (FitsExp inner m.scope.around) (λ e. token (close_parenthesis (λ c. more_prefix (tree.paren line e c) k)))
+paren_supposes : (at inner : Nesting) (s m : State) (line : ℕ) (k : PrefixExp → Reader) → m.scope ≡ s.scope → IsPart at inner → Unless (FitsPrefix at s.scope.enclosing) k →
+    Unless (FitsExp inner m.scope.enclosing) (λ e. token (close_parenthesis (λ c. more_prefix (tree.paren line e c) k)))
 paren_supposes at inner s m line k same part suppose = λ e not.
     dead_close_parenthesis _ (λ c whole from. suppose whole (λ f.
-    not (subst (λ z. FitsExp inner z.around e) (sym same) (paren_inner_fits at inner s.scope.around line e c (first_prefix_fits at s.scope.around _ whole from f) part))))
+    not (subst (λ z. FitsExp inner z.enclosing e) (sym same) (paren_inner_fits at inner s.scope.enclosing line e c (first_prefix_fits at s.scope.enclosing _ whole from f) part))))
 
 pub paren_refused : (at inner : Nesting) (s m t : State) (line : ℕ) (fault : ParseFault) → Takes (Sign sign.OpenParenthesis) line s m → IsPart at inner → RefusesFrom 1 inner m t fault →
     RefusesPrefix at s t fault
@@ -132,7 +132,7 @@ member_too_high at m n p line fault taken high = λ s read k h.
     refused_on (by_token (more_prefix read.tree k) (Sign sign.Dot) line m n taken)
     (too_high _ fault _ at p.height (token (name (λ l x. more_prefix (tree.member read.tree line l x) k))) n high h (λ full suppose.
     dead_name _ (λ l x whole from. suppose whole (λ f.
-    high_member at s.scope.around read.tree line l x p.height read.high full (first_prefix_fits at s.scope.around _ whole from f)))))
+    high_member at s.scope.enclosing read.tree line l x p.height read.high full (first_prefix_fits at s.scope.enclosing _ whole from f)))))
 
 pub member_no_name : (at : Nesting) (m n t : State) (p : Prefix) (line : ℕ) (fault : ParseFault) → Takes (Sign sign.Dot) line m n → OnAt (Misses IsName n t) fault → RefusesSuffix at p m t fault
 member_no_name at m n t p line fault taken missing = λ s read k h.
@@ -146,7 +146,7 @@ item_too_high at m n p line fault taken high = λ s read k h.
     refused_on (by_token (more_prefix read.tree k) (Sign sign.OpenBracket) line m n taken)
     (too_high _ fault _ at p.height (exp 1 (λ e. token (close_bracket (λ c. more_prefix (tree.item read.tree line e c) k)))) n high h (λ full suppose e.
     dead_close_bracket _ (λ c whole from. suppose whole (λ f.
-    high_item at s.scope.around read.tree line e c p.height read.high full (first_prefix_fits at s.scope.around _ whole from f)))))
+    high_item at s.scope.enclosing read.tree line e c p.height read.high full (first_prefix_fits at s.scope.enclosing _ whole from f)))))
 
 pub item_no_part : (at : Nesting) (m n : State) (p : Prefix) (line : ℕ) (fault : ParseFault) → Takes (Sign sign.OpenBracket) line m n → HasNoPart at n fault → RefusesSuffix at p m n fault
 item_no_part at m n p line fault taken none = λ s read k h.
@@ -154,14 +154,14 @@ item_no_part at m n p line fault taken none = λ s read k h.
     (no_part fault _ at (exp 1 (λ e. token (close_bracket (λ c. more_prefix (tree.item read.tree line e c) k)))) n none h
     (ends_failed (exp 1 (λ e. token (close_bracket (λ c. more_prefix (tree.item read.tree line e c) k)))) (λ l. refl)) (λ full suppose e.
     dead_close_bracket _ (λ c whole from. suppose whole (λ f.
-    deep_item at s.scope.around read.tree line e c full (first_prefix_fits at s.scope.around _ whole from f)))) tt)
+    deep_item at s.scope.enclosing read.tree line e c full (first_prefix_fits at s.scope.enclosing _ whole from f)))) tt)
 
 key_supposes : (at inner : Nesting) (s m n : State) (p : Prefix) (line : ℕ) (read : ReadsPrefix at s p m) (k : PrefixExp → Reader) → n.scope ≡ m.scope → IsPart at inner →
-    Unless (FitsPrefix at s.scope.around) k → Unless (FitsExp inner n.scope.around) (λ e. token (close_bracket (λ c. more_prefix (tree.item read.tree line e c) k)))
+    Unless (FitsPrefix at s.scope.enclosing) k → Unless (FitsExp inner n.scope.enclosing) (λ e. token (close_bracket (λ c. more_prefix (tree.item read.tree line e c) k)))
 key_supposes at inner s m n p line read k same part suppose = λ e not.
     dead_close_bracket _ (λ c whole from. suppose whole (λ f.
-    not (subst (λ z. FitsExp inner z.around e) (sym same)
-    (item_key_fits at inner s.scope.around read.tree line e c s.scope m.scope p.expr (first_prefix_fits at s.scope.around _ whole from f) refl read.resolved part))))
+    not (subst (λ z. FitsExp inner z.enclosing e) (sym same)
+    (item_key_fits at inner s.scope.enclosing read.tree line e c s.scope m.scope p.expr (first_prefix_fits at s.scope.enclosing _ whole from f) refl read.resolved part))))
 
 pub item_refused : (at inner : Nesting) (m n t : State) (p : Prefix) (line : ℕ) (fault : ParseFault) → Takes (Sign sign.OpenBracket) line m n → IsPart at inner → RefusesFrom 1 inner n t fault →
     RefusesSuffix at p m t fault

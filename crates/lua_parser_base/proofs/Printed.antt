@@ -8,7 +8,7 @@ use Rattle.lua_grammar.specs.Printing.{Lexeme, a_kind, print_names, print_funcna
 use Rattle.lua_grammar.specs.Validity.{IsValid, IsValidPrefix, IsValidArgs, AreValid, AreValidFields, IsValidBody, exp_level}
 use Rattle.lua_grammar.specs.Waiting.{Reader, IsWaiting, token, exp, more_exp, more_prefix, more_list, more_fields, more_names, more_funcname}
 use Rattle.lua_grammar.specs.Reading.{list, body, begin_prefix, begin_args, feed, run}
-use Rattle.lua_grammar.specs.Stopping.{Behind, EndsAt, IsApart, IsNoComma, Stops, LastStops}
+use Rattle.lua_grammar.specs.Stopping.{ComesNext, EndsAt, IsApart, IsNoComma, Stops, LastStops}
 use Rattle.lua_grammar.specs.Laws.{IsBefore}
 use Rattle.lua_grammar.proofs.Before.{names_before, funcname_before, exp_before, prefix_before, args_before, list_before, fields_before, body_before}
 use Rattle.lua_grammar.proofs.Stopping.{exp_ends, prefix_ends, list_ends, names_end}
@@ -24,8 +24,8 @@ pub go_after : (P : List Lexeme → Type 0) → ((kind : TokenKind) (l : Line) (
 go_after P same [] xs h p = rw h p
 go_after P same (first ∷ left) xs h p = rw h.1 (same first.kind first.line h.0 p)
 
-pub after_on : (P : TokenKind → Type 0) (left xs : List Lexeme) → GoOn left xs → P (first_kind left) → Behind P xs
-after_on P left xs h p = go_after (Behind P) (λ kind l ys p. p) left xs h p
+pub after_on : (P : TokenKind → Type 0) (left xs : List Lexeme) → GoOn left xs → P (first_kind left) → ComesNext P xs
+after_on P left xs h p = go_after (ComesNext P) (λ kind l ys p. p) left xs h p
 
 stops_same : (e : Exp) (kind : TokenKind) (l : Line) (ys : List Lexeme) → Stops e (a_kind kind 1 []) → Stops e (a_kind kind l ys)
 stops_same (tree.prefix p) kind l ys h = h

@@ -65,7 +65,7 @@ pub on_ok : {A E : Type 0} {P Q : A → Type 0} (r : Result A E) → IfOk r P �
 on_ok (Ok x) h f = f x h
 on_ok (Err e) h f = tt
 
--- the same of what fails for want of memory alone
+-- the same of what fails as memory ran out alone
 pub on_node : {A : Type 0} {P Q : A → Type 0} (r : Result A ParseFault) → MatchResult r P IsMemory → ((x : A) → P x → Q x) → IfOk r Q
 on_node (Ok x) h f = f x h
 on_node (Err fault) h f = tt

@@ -18,6 +18,6 @@ unfolding IsValid
 vararg_refused at s t line taken none = λ m k suppose.
     refused_on (by_token (exp m k) (Sign sign.Ellipsis) line s t taken) (record {
       sticks = dead_stuck (VarargOutside line) (more_exp m (tree.dots line) k) t (λ b c. c)
-          (λ whole from. suppose whole (λ f. false≢true (sym none ∙ (first_exp_fits at s.scope.around (tree.dots line) whole from f).valid))) tt;
+          (λ whole from. suppose whole (λ f. false≢true (sym none ∙ (first_exp_fits at s.scope.enclosing (tree.dots line) whole from f).valid))) tt;
       reports = tt;
     })

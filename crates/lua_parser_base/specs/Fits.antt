@@ -18,9 +18,9 @@ pub record IsResolvable {Tree Out : Type 0} (Resolved : Tree → Scope → Out �
   pub before : Scope
   pub out : Out
   pub after : Scope
-  pub same : before.around ≡ enclosing
+  pub same : before.enclosing ≡ enclosing
   pub resolved : Resolved tree before out after
-  pub few : Few after.around
+  pub few : Few after.enclosing
 
 -- ---- expressions
 

@@ -6,7 +6,7 @@ use Rattle.lua_lexer.specs.declared.signs.Sign.TheVariants.{CloseParenthesis}
 use Rattle.lua_grammar.specs.Tree.{Line, Bytes, NameList, Params}
 use Rattle.lua_grammar.specs.Tree as tree
 use Rattle.lua_grammar.specs.Printing.{print_names, print_params}
-use Rattle.lua_grammar.specs.Validity.{takes_rest}
+use Rattle.lua_grammar.specs.Validity.{takes_vararg}
 use Rattle.lua_grammar.specs.Resolution.{names_of, names_of_params}
 use Rattle.lua_parser_base.specs.declared.functions.Parameters.{Parameters}
 use Rattle.lua_grammar.specs.Stopping.{IsNoComma}
@@ -39,5 +39,5 @@ pub record ReadsParameters (before : List Bytes) (s : State) (p : Parameters) (t
   pub printed : s.left ≡ print_params tree t.left
   pub scope : t.scope ≡ s.scope
   pub listed : p.names.items ≡ before ++ names_of_params tree
-  pub vararg : p.vararg ≡ takes_rest tree
+  pub vararg : p.vararg ≡ takes_vararg tree
   pub ends : ParametersEnd tree (ahead t)

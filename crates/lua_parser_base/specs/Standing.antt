@@ -234,34 +234,34 @@ pub data Within (start : State) : State → Type 0 where
 -- the `break`; or the `...`. Before it each open function is within its limits.
 pub data Breaks (start : State) : ParseFault → Type 0 where
   too_deep : {c : Construct} {at : Nesting} {s : State} {line : Line} → Stands start (within c at) s
-      → 200 ≤ at.depth → IsOnLine line s.left → Few s.scope.around → Breaks start (Depth line)
+      → 200 ≤ at.depth → IsOnLine line s.left → Few s.scope.enclosing → Breaks start (Depth line)
   part_too_deep : {c : Construct} {at : Nesting} {s : State} {line : Line} → Stands start (part c at) s
-      → (200 ≤ at.depth) ⊎ (at.room ≤ 1) → IsOnLine line s.left → Few s.scope.around → Breaks start (Depth line)
+      → (200 ≤ at.depth) ⊎ (at.room ≤ 1) → IsOnLine line s.left → Few s.scope.enclosing → Breaks start (Depth line)
   function_too_deep : {at : Nesting} {vararg : Bool} {s : State} {line : Line} → Stands start (function_block at vararg) s
-      → 200 ≤ at.depth → IsOnLine line s.left → Few s.scope.around → Breaks start (Depth line)
+      → 200 ≤ at.depth → IsOnLine line s.left → Few s.scope.enclosing → Breaks start (Depth line)
   operator_too_high : {at : Nesting} {m : ℕ} {s a t : State} {left : Built} {found : Infix} → Stands start (here (exp m) at) s
-      → ReadsExp at s left a → TakesOperator left.level m found a t → at.room ≤ left.height → Few a.scope.around → Breaks start (Depth found.line)
+      → ReadsExp at s left a → TakesOperator left.level m found a t → at.room ≤ left.height → Few a.scope.enclosing → Breaks start (Depth found.line)
   prefix_too_high : {at : Nesting} {s a : State} {p : Prefix} {line : Line} → Stands start (prefix at) s
-      → ReadsPrefix at s p a → Begin GoesOn a.left → OpensOnLine a → IsOnLine line a.left → at.room ≤ p.height → Few a.scope.around
+      → ReadsPrefix at s p a → Begin GoesOn a.left → OpensOnLine a → IsOnLine line a.left → at.room ≤ p.height → Few a.scope.enclosing
       → Breaks start (Depth line)
   name_too_high : {s a t : State} {f : FunctionName} {line : Line} → Stands start function_name s
-      → ReadsFuncName s f a → Takes (SignKind sign.Dot) line a t → 4_000 ≤ f.height → Few a.scope.around → Breaks start (Depth line)
+      → ReadsFuncName s f a → Takes (SignKind sign.Dot) line a t → 4_000 ≤ f.height → Few a.scope.enclosing → Breaks start (Depth line)
   method_too_high : {at : Nesting} {s t : State} {object : FunctionName} {line : Line} → Stands start (function_tail at object) s
-      → Takes (SignKind sign.Colon) line s t → 4_000 ≤ object.height → Few s.scope.around → Breaks start (Depth line)
+      → Takes (SignKind sign.Colon) line s t → 4_000 ≤ object.height → Few s.scope.enclosing → Breaks start (Depth line)
   too_many_locals : {others : ℕ} {s t : State} {n : Bytes} {line : Line} → Stands start (name others) s
-      → Takes (NameKind n) line s t → others ≡ 200 → Few s.scope.around → Breaks start (Locals line)
+      → Takes (NameKind n) line s t → others ≡ 200 → Few s.scope.enclosing → Breaks start (Locals line)
   too_many_captures : {at : Nesting} {s t : State} {n : Bytes} {line : Line} → Stands start (prefix at) s
-      → Takes (NameKind n) line s t → (Few (look n s.scope.around).1 → ⊥) → Few s.scope.around → Breaks start (Upvalues line)
+      → Takes (NameKind n) line s t → (Few (look n s.scope.enclosing).1 → ⊥) → Few s.scope.enclosing → Breaks start (Upvalues line)
   function_captures : {s t : State} {n : Bytes} {line : Line} → Stands start function_name s
-      → Takes (NameKind n) line s t → (Few (look n s.scope.around).1 → ⊥) → Few s.scope.around → Breaks start (Upvalues line)
+      → Takes (NameKind n) line s t → (Few (look n s.scope.enclosing).1 → ⊥) → Few s.scope.enclosing → Breaks start (Upvalues line)
   call_on_other_line : {at : Nesting} {s a : State} {p : Prefix} {line : Line} {after : List Lexeme} → Stands start (prefix at) s
-      → ReadsPrefix at s p a → a.left ≡ a_sign sign.OpenParenthesis line after → (line ≡ a.last → ⊥) → Few a.scope.around → Breaks start (Ambiguous line)
+      → ReadsPrefix at s p a → a.left ≡ a_sign sign.OpenParenthesis line after → (line ≡ a.last → ⊥) → Few a.scope.enclosing → Breaks start (Ambiguous line)
   args_on_other_line : {at : Nesting} {s : State} {line : Line} {after : List Lexeme} → Stands start (args at) s
-      → s.left ≡ a_sign sign.OpenParenthesis line after → (line ≡ s.last → ⊥) → Few s.scope.around → Breaks start (Ambiguous line)
+      → s.left ≡ a_sign sign.OpenParenthesis line after → (line ≡ s.last → ⊥) → Few s.scope.enclosing → Breaks start (Ambiguous line)
   break_outside : {at : Nesting} {s t : State} {line : Line} → Stands start (statement at) s
-      → Takes (WordKind word.Break) line s t → at.in_loop ≡ false → Few s.scope.around → Breaks start (BreakOutside line)
+      → Takes (WordKind word.Break) line s t → at.in_loop ≡ false → Few s.scope.enclosing → Breaks start (BreakOutside line)
   vararg_outside : {at : Nesting} {m : ℕ} {s t : State} {line : Line} → Stands start (here (exp m) at) s
-      → Takes (SignKind sign.Ellipsis) line s t → at.vararg ≡ false → Few s.scope.around → Breaks start (VarargOutside line)
+      → Takes (SignKind sign.Ellipsis) line s t → at.vararg ≡ false → Few s.scope.enclosing → Breaks start (VarargOutside line)
 
 -- of a fault other than `At` and out of memory that is said
 abbrev pub OnLimit : (ParseFault → Type 0) → ParseFault → Type 0

@@ -22,25 +22,25 @@ use Rattle.lua_parser_base.specs.Refusals.{Unless}
 
 -- each statement that doesn't fit leads to a dead state
 abbrev pub UnlessStat : Nesting → State → ParseFault → (Stat → Reader) → Type 0
-UnlessStat at s fault k = Supposes fault (Unless (FitsStat at s.scope.around) k)
+UnlessStat at s fault k = Supposes fault (Unless (FitsStat at s.scope.enclosing) k)
 
 abbrev pub RefusesValue : Nesting → State → State → ParseFault → Type 0
-RefusesValue at s t fault = (k : Exp → Reader) → Supposes fault (Unless (FitsValue at s.scope.around) k) → Refuses fault (exp 1 k) s t
+RefusesValue at s t fault = (k : Exp → Reader) → Supposes fault (Unless (FitsValue at s.scope.enclosing) k) → Refuses fault (exp 1 k) s t
 
 abbrev pub RefusesValues : Nesting → State → State → ParseFault → Type 0
-RefusesValues at s t fault = (k : ExpList → Reader) → Supposes fault (Unless (FitsValues at s.scope.around) k) → Refuses fault (list k) s t
+RefusesValues at s t fault = (k : ExpList → Reader) → Supposes fault (Unless (FitsValues at s.scope.enclosing) k) → Refuses fault (list k) s t
 
 abbrev pub RefusesBlock : Nesting → State → State → ParseFault → Type 0
-RefusesBlock at s t fault = (k : Block → Reader) → Supposes fault (Unless (FitsBlock at s.scope.around) k) → Refuses fault (block k) s t
+RefusesBlock at s t fault = (k : Block → Reader) → Supposes fault (Unless (FitsBlock at s.scope.enclosing) k) → Refuses fault (block k) s t
 
 -- of a reader that gets to no chunk by the block and an `end`
 abbrev pub RefusesScoped : Nesting → State → State → ParseFault → Type 0
 RefusesScoped at s t fault =
     (k : Block → Reader) → ((x : Block) (l : Line) (b : Block) → feed (k x) (WordKind End) l ≡ chunk b → ⊥)
-    → Supposes fault (Unless (FitsScoped at s.scope.around) k) → Refuses fault (block k) s t
+    → Supposes fault (Unless (FitsScoped at s.scope.enclosing) k) → Refuses fault (block k) s t
 
 abbrev pub RefusesLast : Nesting → State → State → ParseFault → Type 0
-RefusesLast at s t fault = (k : LastStat → Reader) → Supposes fault (Unless (FitsLast at s.scope.around) k) → Refuses fault (token (last k)) s t
+RefusesLast at s t fault = (k : LastStat → Reader) → Supposes fault (Unless (FitsLast at s.scope.enclosing) k) → Refuses fault (token (last k)) s t
 
 abbrev pub RefusesStat : Nesting → State → State → ParseFault → Type 0
 RefusesStat at s t fault = (k : Stat → Reader) → NeverChunk k → UnlessStat at s fault k → Refuses fault (token (statement k)) s t
@@ -49,7 +49,8 @@ RefusesStat at s t fault = (k : Stat → Reader) → NeverChunk k → UnlessStat
 abbrev pub RefusesArm : Nesting → State → State → ParseFault → Type 0
 RefusesArm at s t fault =
     (k : Exp → Line → Block → Reader) → ((e : Exp) (h l : Line) (x b : Block) → feed (k e h x) (WordKind End) l ≡ chunk b → ⊥)
-    → Supposes fault ((e : Exp) (h : Line) (x : Block) → (FitsArms at s.scope.around (tree.if_arm h e h x) → ⊥) → IsDead (k e h x)) → Refuses fault (arm k) s t
+    → Supposes fault ((e : Exp) (h : Line) (x : Block) → (FitsArms at s.scope.enclosing (tree.if_arm h e h x) → ⊥) → IsDead (k e h x))
+    → Refuses fault (arm k) s t
 
 -- of the arms of an `if` after its word
 abbrev pub RefusesArms : Nesting → State → State → ParseFault → Type 0
@@ -74,7 +75,7 @@ RefusesLocal at s t fault = (l : Line) (k : Stat → Reader) → NeverChunk k �
 abbrev pub RefusesInitial : Nesting → State → State → ParseFault → Type 0
 RefusesInitial at s t fault =
     (l : Line) (ns : NameList) (k : Stat → Reader)
-    → Supposes fault ((q : Line) (es : ExpList) → (FitsValues at s.scope.around es → ⊥) → IsDead (k (tree.local_values l ns q es)))
+    → Supposes fault ((q : Line) (es : ExpList) → (FitsValues at s.scope.enclosing es → ⊥) → IsDead (k (tree.local_values l ns q es)))
     → Refuses fault (after_local l ns k) s t
 
 -- of names, of which there may be 200 with those; the reader waits for a name
@@ -101,7 +102,7 @@ RefusesFor at names s t fault =
 abbrev pub RefusesStep : Nesting → State → State → ParseFault → Type 0
 RefusesStep at s t fault =
     (f l : Line) (n : Bytes) (q : Line) (from : Exp) (c : Line) (to : Exp) (k : Stat → Reader)
-    → Supposes fault ((m : Line) (step : Exp) → (FitsValue at s.scope.around step → ⊥)
+    → Supposes fault ((m : Line) (step : Exp) → (FitsValue at s.scope.enclosing step → ⊥)
     → IsDead (token (loop_body (λ d b e. k (tree.for_steps f l n q from c to m step d b e)))))
     → Refuses fault (token (for_limit f l n q from c to k)) s t
 
@@ -109,7 +110,7 @@ RefusesStep at s t fault =
 abbrev pub RefusesLoop : Nesting → List Bytes → State → State → ParseFault → Type 0
 RefusesLoop at names s t fault =
     (k : Line → Block → Line → Reader) → ((d e : Line) (x b : Block) → k d x e ≡ chunk b → ⊥)
-    → Supposes fault ((d e : Line) (x : Block) → (FitsLoop at names s.scope.around x → ⊥) → IsDead (k d x e)) → Refuses fault (token (loop_body k)) s t
+    → Supposes fault ((d e : Line) (x : Block) → (FitsLoop at names s.scope.enclosing x → ⊥) → IsDead (k d x e)) → Refuses fault (token (loop_body k)) s t
 
 -- of an assignment after its first target, which was read up to there
 abbrev pub RefusesAssignment : Nesting → Expr → State → State → ParseFault → Type 0
@@ -119,5 +120,5 @@ RefusesAssignment at first m t fault =
 -- of one more target
 abbrev pub RefusesTarget : Nesting → State → State → ParseFault → Type 0
 RefusesTarget at s t fault =
-    (vs : VarList) (c : Line) (k : Stat → Reader) → Supposes fault (Unless (FitsTarget at s.scope.around) (λ p. more_vars (tree.more_vars vs c p) k))
+    (vs : VarList) (c : Line) (k : Stat → Reader) → Supposes fault (Unless (FitsTarget at s.scope.enclosing) (λ p. more_vars (tree.more_vars vs c p) k))
     → Refuses fault (token (begin_prefix (next_target vs c k))) s t

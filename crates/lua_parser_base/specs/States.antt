@@ -26,7 +26,7 @@ pub record State : Type 0 where
   pub scope : Scope
 
 abbrev pub scope_of : Parser → Scope
-scope_of p = record { functions = p.functions.items; around = frame_of p.frame ∷ frames_of p.enclosing }
+scope_of p = record { functions = p.functions.items; enclosing = frame_of p.frame ∷ frames_of p.enclosing }
 
 unfoldable pub state : List Token → Parser → State
 state tokens p = record { left = lexemes (drop p.index tokens); last = p.line; final = last_line (lexemes tokens); scope = scope_of p }

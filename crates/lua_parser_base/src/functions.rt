@@ -48,7 +48,7 @@ impl Parser {
     /// The expression that a name is.
     pub(crate) fn variable(&mut self, named: Named) -> Result<Expr, ParseFault>
         ensures resolves { IfOk result (λ e. ResolvesName named.line named.name (scope_of self.old) e (scope_of self.new)) }
-        ensures crowded { IfErr result (OnUpvalues named.line (Few (look named.name (scope_of self.old).around).1 → ⊥)) }
+        ensures crowded { IfErr result (OnUpvalues named.line (Few (look named.name (scope_of self.old).enclosing).1 → ⊥)) }
         ensures index { self.new.index ≡ self.old.index }
         ensures line { self.new.line ≡ self.old.line }
     {

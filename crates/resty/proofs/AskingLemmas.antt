@@ -1,4 +1,4 @@
--- How much of the request each connection sent, behind one line more.
+-- How much of the request each connection sent, after one line more.
 use Rattle.std.proofs.Common.{◌≡◌, ◌≢◌, ℕ, zero, suc, ◌+◌, ◌-◌, ◌<◌, ◌≤◌, true, false, cond, eqb, List, [], ◌∷◌, ◌++◌, length, take, drop, get_or, set, Some, slice_get, refl, sym, ap, subst, ◌∙◌, append-nil, append_assoc, length-append, length-take-le, nat_eq, inl, inr, arith, get_or-set_other}
 use Rattle.std.specs.Bool.{if◌then◌else◌}
 use Rattle.std.specs.Cmp.Lexicographic.{same_text, other_text}
@@ -80,7 +80,7 @@ goes_against sent request bytes test part =
     (take-append-drop sent request ∙ part.whole ∙ append_assoc (take sent request) bytes part.rest) in
     other_text bytes (take (length bytes) (drop sent request)) (sym test) (sym (take-append_seam bytes part.rest) ∙ ap (take (length bytes)) (sym left))
 
--- bytes that go on with the request, behind what was sent of it
+-- bytes that go on with the request, after what was sent of it
 pub goes_on : (s k : ℕ) (before bytes : List ℕ) → before ≡ take s the_request → s ≤ 18 → length bytes ≡ k → IsFirstPart (before ++ bytes) the_request
     → (before ++ bytes ≡ take (s + k) the_request) × (s + k ≤ 18)
 goes_on s k before bytes was small size part =

@@ -98,7 +98,7 @@ schedules_apart never-refused schedule-alone text bad good = elim bad.1 [
       let same = schedule-alone good.0 unserved.lines good.1.made unserved.read.made (sym good.1.whole ∙ unserved.read.whole) in
       let served = subst IsServed same good.2 in
       let first = unserved.first in
-      first.unserved (served.each first.place first.next first.here)
+      first.unserved (served.each first.index first.next first.here)
 ]
 
 abbrev ScheduleKind : FileMap → List ℕ → Kind → Type 0

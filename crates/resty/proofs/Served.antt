@@ -47,7 +47,7 @@ events-passed lines world tells served s =
     let all : AreEventLines world.course = subst AreEventLines (sym tells.course) (served-events lines served) in
     first-events (take world.passed world.course) (drop world.passed world.course) (subst AreEventLines (sym (take-append-drop world.passed world.course)) all)
 
--- the world fails only behind its last line, which is `stop`
+-- the world fails only after its last line, which is `stop`
 pub never_faulted : (lines : List SchedLine) (old world : Replay) → IsFresh lines (book_of old) → Tells lines world → IsServed lines
     → Rose old.faults world.faults → IsFaulted world.history.entries → ⊥
 never_faulted lines old world fresh tells served rose faulted =

@@ -33,7 +33,7 @@ pub record AsksOn (before : List SchedLine) (connection : ℕ) (bytes : List ℕ
   pub arrived : connection ≤ arrivals_in before
   pub asks : IsFirstPart (bytes_in connection before ++ bytes) the_request
 
--- an event that may come behind these lines: moments come before the first arrival
+-- an event that may come after these lines: moments come before the first arrival
 abbrev pub IsServedEvent : List SchedLine → Event → Type 0
 IsServedEvent before (event.Arrive k) = Unit {0}
 IsServedEvent before (event.Bytes (id.Conn c) bytes) = AsksOn before c bytes
@@ -52,12 +52,12 @@ pub record IsServed (lines : List SchedLine) : Type 0 where
 
 -- line n is the first that isn't of this form
 pub record IsUnservedAt (lines : List SchedLine) (n : ℕ) : Type 0 where
-  pub place : ℕ
-  pub numbered : n ≡ place + 1
+  pub index : ℕ
+  pub numbered : n ≡ index + 1
   pub next : SchedLine
-  pub here : slice_get lines place ≡ Some next
-  pub unserved : IsServedLine (take place lines) next → ⊥
-  pub before : (i : ℕ) (l : SchedLine) → i < place → slice_get lines i ≡ Some l → IsServedLine (take i lines) l
+  pub here : slice_get lines index ≡ Some next
+  pub unserved : IsServedLine (take index lines) next → ⊥
+  pub before : (i : ℕ) (l : SchedLine) → i < index → slice_get lines i ≡ Some l → IsServedLine (take i lines) l
 
 -- the text is that of a schedule, whose line n is the first that isn't of this form
 pub record IsUnserved (text : List ℕ) (n : ℕ) : Type 0 where

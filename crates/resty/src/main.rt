@@ -39,7 +39,7 @@ fn main(rt: HostRuntime) -> ExitCode {
     ExitCode::from(status.code())
 }
 
-/// The words behind the program's name; one that is no text is a fault.
+/// The words after the program's name; one that is no text is a fault.
 fn words_of(rt: &HostRuntime) -> io::Result<Vec<String>> {
     let mut words = env::args(rt)?;
     let _ = words.next();

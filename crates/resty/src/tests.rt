@@ -104,8 +104,9 @@ fn expect_read_fault(
 #[test]
 fn one_request_gets_its_reply(rt: HostRuntime) -> Result<(), Fail> {
     let schedule = "moment 1000\narrive c1\nbytes c1 \"GET / HTTP/1.0\\r\\n\\r\\n\"\nstop\n";
-    let history =
-        "moment 1000\narrive c1\nbytes c1 \"GET / HTTP/1.0\\r\\n\\r\\n\"\nput c1 \"HTTP/1.1 200 OK\\r\\nServer: resty\\r\\nDate: Thu, 01 Jan 1970 00:00:01 GMT\\r\\nContent-Type: text/plain\\r\\nConnection: close\\r\\n\\r\\nhi\\n\"\nclose c1\nstop\n";
+    let history = "moment 1000\narrive c1\nbytes c1 \"GET / HTTP/1.0\\r\\n\\r\\n\"\n\
+        put c1 \"HTTP/1.1 200 OK\\r\\nServer: resty\\r\\nDate: Thu, 01 Jan 1970 00:00:01 GMT\\r\\n\
+        Content-Type: text/plain\\r\\nConnection: close\\r\\n\\r\\nhi\\n\"\nclose c1\nstop\n";
     expect_history(&rt, rt.alloc(), CONF, schedule, history)
 }
 

@@ -18,7 +18,7 @@ returns-then-not-branch c =
     let unserved = c.in_ok-serves.ensures.no c.if-not-branch.true in
     let before = c.loop-at.invariant.served in
     rw (← c.as_slice-lines.ensures) (record {
-      place = c.loop-at.at;
+      index = c.loop-at.at;
       numbered = refl;
       next = c.index-lines-at.result;
       here = here;

@@ -36,7 +36,7 @@ returns-in_err-named-clause-refuses c = λ at.
 
 pub returns-in_err-variable-clause-refuses : goal.returns-in_err-variable-clause-refuses
 returns-in_err-variable-clause-refuses c = λ at.
-    let h : IfErr c.from_residual-in_err-variable.result (OnUpvalues c.in_ok-named.named.line (Few (look c.in_ok-named.named.name (scope_of c.take_name.new.self).around).1 → ⊥)) = search rules in
+    let h : IfErr c.from_residual-in_err-variable.result (OnUpvalues c.in_ok-named.named.line (Few (look c.in_ok-named.named.name (scope_of c.take_name.new.self).enclosing).1 → ⊥)) = search rules in
     let same = turned c.args.tokens.now c.take_name.new.self c.variable.new.self _ c.variable.ensures.index c.variable.ensures.line refl in
     on_err c.from_residual-in_err-variable.result h (λ fault not.
     function_name_crowded at fault _ (state c.args.tokens.now c.take_name.new.self) _ _ c.in_ok-named.named.name c.in_ok-named.ensures.takes same.left (crowded_state _ c.args.tokens.now c.take_name.new.self c.in_ok-named.named.name fault not))
@@ -49,7 +49,7 @@ returns-in_err-name-clause-refuses c = λ at.
 
 pub returns-in_err-variable-clause-order : goal.returns-in_err-variable-clause-order
 returns-in_err-variable-clause-order c =
-    let h : IfErr c.from_residual-in_err-variable.result (OnUpvalues c.in_ok-named.named.line (Few (look c.in_ok-named.named.name (scope_of c.take_name.new.self).around).1 → ⊥)) = search rules in
+    let h : IfErr c.from_residual-in_err-variable.result (OnUpvalues c.in_ok-named.named.line (Few (look c.in_ok-named.named.name (scope_of c.take_name.new.self).enclosing).1 → ⊥)) = search rules in
     on_err c.from_residual-in_err-variable.result h (λ fault many. function_variable_breaks _ _ c.args.tokens.now _ (state c.args.tokens.now c.variable.new.self) c.take_name.new.self fault (few_there _ _) many c.in_ok-named.ensures.takes)
 
 pub returns-in_err-name-clause-order : goal.returns-in_err-name-clause-order

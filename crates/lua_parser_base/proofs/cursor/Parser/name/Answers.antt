@@ -25,13 +25,13 @@ returns-in_err-named-clause-refuses c = λ not.
 
 pub returns-in_err-variable-clause-refuses : goal.returns-in_err-variable-clause-refuses
 returns-in_err-variable-clause-refuses c = λ not.
-    let h : IfErr c.from_residual-in_err-variable.result (OnUpvalues c.in_ok-named.named.line (Few (look c.in_ok-named.named.name (scope_of c.take_name.new.self).around).1 → ⊥)) = search rules in
+    let h : IfErr c.from_residual-in_err-variable.result (OnUpvalues c.in_ok-named.named.line (Few (look c.in_ok-named.named.name (scope_of c.take_name.new.self).enclosing).1 → ⊥)) = search rules in
     on_err c.from_residual-in_err-variable.result h (λ fault crowded.
     variable_crowded c.args.at _ _ c.take_name.new.self c.variable.new.self _ _ fault c.in_ok-named.ensures.takes c.variable.ensures.index crowded)
 
 pub returns-in_err-variable-clause-order : goal.returns-in_err-variable-clause-order
 returns-in_err-variable-clause-order c =
-    let h : IfErr c.from_residual-in_err-variable.result (OnUpvalues c.in_ok-named.named.line (Few (look c.in_ok-named.named.name (scope_of c.take_name.new.self).around).1 → ⊥)) = search rules in
+    let h : IfErr c.from_residual-in_err-variable.result (OnUpvalues c.in_ok-named.named.line (Few (look c.in_ok-named.named.name (scope_of c.take_name.new.self).enclosing).1 → ⊥)) = search rules in
     on_err c.from_residual-in_err-variable.result h (λ fault many. variable_breaks c.args.at _ _ c.args.tokens.now _ (state c.args.tokens.now c.variable.new.self) c.take_name.new.self fault (few_there _ _) many c.in_ok-named.ensures.takes)
 
 pub returns-in_err-named-clause-order : goal.returns-in_err-named-clause-order
