@@ -1,5 +1,5 @@
 -- Laws of replays that stand where they say, and of later ones.
-use Rattle.std.specs.Prelude.{◌≡◌, ◌≤◌, Some}
+use Rattle.std.specs.Prelude.{Some}
 use Rattle.std.proofs.Common.{◌∙◌, refl, sym, ap}
 use Rattle.std.proofs.Math.Nat.{le_refl, le_trans}
 use Rattle.schedule.specs.declared.replay.Replay.{Replay}

@@ -23,7 +23,7 @@ impl Model for Course {
 }
 
 impl Course {
-    ghost use Rattle.std.specs.Prelude.{◌≡◌, ◌<◌, ◌^◌, length, Some, IfSome, MatchOption, slice_get, take};
+    ghost use Rattle.std.specs.Prelude.{◌≡◌, ◌<◌, ◌^◌, length, Some, slice_get, take};
     ghost use Rattle.schedule_text.specs.Fitting.{IsSchedule, Fits};
     ghost use Rattle.schedule.specs.Steps.{begins_by_failing};
 

@@ -1,6 +1,6 @@
 //! The world in memory, and what it knows of the next line.
 
-ghost use Rattle.std.specs.Prelude.{◌≡◌, ℕ, ◌^◌, ◌<◌, ◌≤◌, length, take};
+ghost use Rattle.std.specs.Prelude.{◌≡◌, ◌^◌, ◌<◌, ◌≤◌, length, take};
 ghost use Rattle.schedule_text.specs.Lines.{arrivals_in};
 ghost use Rattle.schedule.specs.Aside.{rooms};
 ghost use Rattle.schedule.specs.Knowing.{Knows};

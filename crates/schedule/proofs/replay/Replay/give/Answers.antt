@@ -1,7 +1,8 @@
-use Rattle.std.proofs.Common.{subst, rules}
+use Rattle.std.proofs.Common.{subst}
 use Rattle.resty_world.specs.Given.{Gave}
 use Rattle.schedule.specs.ReplayBook.{book_of}
-use Rattle.schedule.proofs.Running.{gave-memory, gave-past}
+use Rattle.schedule.specs.ReplayLaws.{IsLater-joins}
+use Rattle.schedule.proofs.Running.{answered-on, gave-memory, gave-past}
 use Rattle.schedule.proofs.replay.Replay.give.Goals as goal
 
 pub returns-then-is_err-clause-gave : goal.returns-then-is_err-clause-gave
@@ -13,7 +14,9 @@ returns-clause-gave c =
     (gave-past c.make_ready.new.self c.pass_to.new.self c.give_next.new.self c.give_next.result c.pass_to.ensures.past c.give_next.ensures.gave)
 
 pub returns-clause-later : goal.returns-clause-later
-returns-clause-later c = search rules
+returns-clause-later c =
+    IsLater-joins c.args.self.now c.make_ready.new.self c.give_next.new.self c.make_ready.ensures.later
+    (answered-on c.make_ready.new.self c.pass_to.new.self c.give_next.new.self c.pass_to.ensures.past c.give_next.ensures.answered)
 
 pub returns-then-is_err-clause-later : goal.returns-then-is_err-clause-later
-returns-then-is_err-clause-later c = search rules
+returns-then-is_err-clause-later c = c.make_ready.ensures.later

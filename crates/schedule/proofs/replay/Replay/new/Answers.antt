@@ -1,5 +1,4 @@
-use Rattle.std.proofs.Common.{◌≡◌, [], refl, sym, ap, ◌∙◌, reverse, arith, rules}
-use Rattle.resty_base.specs.declared.names.Id.{Id}
+use Rattle.std.proofs.Common.{[], refl, sym, ap, reverse, rules}
 use Rattle.schedule.specs.Peers.{room_in, put_fails_in}
 use Rattle.schedule.proofs.replay.Replay.new.Goals as goal
 
