@@ -21,7 +21,7 @@ use Rattle.strand_contract.specs.Actions.{Action, LocalAction, Did, GlobalAction
 use Rattle.strand_contract.specs.Behaviors.{Behavior}
 use Rattle.strand_contract.specs.Alone.{lives, was_dropped, moment, is_open, has_ended, todo, carried, waiting, lined_up, to_offer, offers, armed, begun_offer, but, in_offers, is_stopping, is_before, IsExecution}
 use Rattle.strand_contract.specs.Executions.{projection, external, offered_lengths}
-use Rattle.strand_contract.specs.Laws.{is_still}
+use Rattle.strand_contract.specs.Calls.{is_still}
 use Rattle.strand_contract.specs.Order.{IsSubsequence, keep, with_strand, only, readied, all_readied, all_run, all_placed, all_offered, offers_last}
 use Rattle.engine.specs.Standing.{Held, HasAsides, Common, Around, Near, Busy, Falls, Standing, IsOffer}
 use Rattle.engine.proofs.Lists.{by_test, clash, same-true, sub-through, sub-front, only-same, only-other, tells-more, tells-same}

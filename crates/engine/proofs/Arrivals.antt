@@ -19,7 +19,7 @@ use Rattle.strand_contract.specs.Actions.{Action, LocalAction, Did, GlobalAction
 use Rattle.strand_contract.specs.Behaviors.{Behavior}
 use Rattle.strand_contract.specs.Alone.{lives, is_open, has_ended, offers, is_stopping, IsExecution, HasNoWork, KeepsNothingBack}
 use Rattle.strand_contract.specs.Executions.{projection, external, offered_lengths, has_begun}
-use Rattle.strand_contract.specs.Laws.{IsLastAct}
+use Rattle.strand_contract.specs.Calls.{IsLastAct}
 use Rattle.strand_contract.specs.Order.{with_strand, readied, all_run, all_readied, all_offered, all_placed}
 use Rattle.engine.specs.Standing.{Held, is_to_end, Around, Near, Busy, Falls, Standing}
 use Rattle.engine.proofs.Lists.{by_test, same-true, tells-more, tells-same}

@@ -19,7 +19,7 @@ use Rattle.strand_contract.specs.Actions.{LocalAction, Did, GlobalAction, Of}
 use Rattle.strand_contract.specs.Behaviors.{Behavior}
 use Rattle.strand_contract.specs.Alone.{lives, moment, is_open, has_ended, left_by, waiting, run_by, to_offer, offered_by, begun_offer, in_offers, is_stopping, IsExecution, HasNoWork, KeepsNothingBack, IsGivenAt}
 use Rattle.strand_contract.specs.Executions.{projection, external, offered_lengths, AllQuiescent, NoneHoldsBack}
-use Rattle.strand_contract.specs.Laws.{action_of, IsLastAct}
+use Rattle.strand_contract.specs.Calls.{action_of, IsLastAct}
 use Rattle.strand_contract.specs.Order.{only, run_of, offer_of, offers_last}
 use Rattle.engine.specs.declared.engine.Seat.{Seat}
 use Rattle.engine.specs.Engine.{shown}

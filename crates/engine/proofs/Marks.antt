@@ -20,7 +20,7 @@ use Rattle.strand_contract.specs.Actions.{Action, LocalAction, Did, GlobalAction
 use Rattle.strand_contract.specs.Behaviors.{Behavior}
 use Rattle.strand_contract.specs.Alone.{lives, moment, is_open, has_ended, todo, left_by, waiting, lined_up, run_by, to_offer, offers, offered_by, armed, armed_by, taken_by, begun_offer, in_offers, is_stopping, Enabled, IsExecution}
 use Rattle.strand_contract.specs.Executions.{projection, external, offered_lengths, open_connections, BeginsRight, IsGivenAtRest, HeldNothingBack, IsPlain}
-use Rattle.strand_contract.specs.Laws.{IsLastAct}
+use Rattle.strand_contract.specs.Calls.{IsLastAct}
 use Rattle.strand_contract.specs.Order.{IsSubsequence, with_strand, only, readied, all_readied, all_run, all_placed, all_offered, offers_last, was_touched, TurnsInOrder}
 use Rattle.engine.specs.declared.engine.Seat.{Seat}
 use Rattle.engine.specs.Right.{Tells}

@@ -16,7 +16,7 @@ use Rattle.strand_contract.specs.Actions.{Action, LocalAction, Did, GlobalAction
 use Rattle.strand_contract.specs.Behaviors.{Behavior}
 use Rattle.strand_contract.specs.Alone.{lives, moment, is_open, has_ended, todo, waiting, to_offer, offers, armed, begun_offer, in_offers, is_stopping}
 use Rattle.strand_contract.specs.Executions.{projection, external, offered_lengths}
-use Rattle.strand_contract.specs.Laws.{action_of, is_still, IsLastAct}
+use Rattle.strand_contract.specs.Calls.{action_of, is_still, IsLastAct}
 use Rattle.strand_contract.specs.Order.{IsSubsequence, none, keep, skip, with_strand, only, readied, run_of, offer_of, all_readied, all_run, all_placed, all_offered, NoneUnderWay, NoPlaceInLine, NoThreadInLine, IsFirstWaiting, HasThreads, HasPlaces}
 use Rattle.engine.specs.declared.engine.Seat.{Seat}
 use Rattle.engine.specs.Right.{Tells}

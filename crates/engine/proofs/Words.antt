@@ -14,7 +14,7 @@ use Rattle.strand_contract.specs.Actions.{Word, Moment, Stop, Action, LocalActio
 use Rattle.strand_contract.specs.Behaviors.{Behavior}
 use Rattle.strand_contract.specs.Alone.{lives, moment, is_open, is_stopping, IsExecution, HasNoWork, KeepsNothingBack}
 use Rattle.strand_contract.specs.Executions.{projection, external, offered_lengths, present, BeginsRight, has_begun, word_entry}
-use Rattle.strand_contract.specs.Laws.{IsLastAct, is_still}
+use Rattle.strand_contract.specs.Calls.{IsLastAct, is_still}
 use Rattle.strand_contract.specs.Order.{only, begun_before, IsFirstToEnd}
 use Rattle.engine.specs.declared.engine.Seat.{Seat}
 use Rattle.engine.specs.Slots.{is_after}

@@ -16,7 +16,7 @@ use Rattle.strand_contract.specs.Alone.{lives, moment, is_open, has_ended, todo,
 use Rattle.strand_contract.specs.Alone.{begun_offer, in_offers, is_stopping, IsExecution}
 use Rattle.strand_contract.specs.Executions.{projection, external, offered_lengths, present, open_connections, BeginsRight, IsGivenAtRest, HeldNothingBack}
 use Rattle.strand_contract.specs.Executions.{IsPlain}
-use Rattle.strand_contract.specs.Laws.{action_of, IsLastAct}
+use Rattle.strand_contract.specs.Calls.{action_of, IsLastAct}
 use Rattle.strand_contract.specs.Order.{IsSubsequence, with_strand, only, readied, all_readied, all_run, all_placed, all_offered, offers_last, was_touched}
 use Rattle.strand_contract.specs.Order.{TurnsInOrder}
 use Rattle.engine.specs.declared.engine.Ending.{Ending}

@@ -67,7 +67,7 @@ pub enum Stepped {
 
 impl<S: StrandContract> Engine<S> {
     ghost use Rattle.std.specs.Prelude.{◌≡◌, ◌<◌, ◌≤◌, ◌+◌, List, [], ◌∷◌, Bool, true, false, MatchOption, IfSome, length};
-    ghost use Rattle.strand_contract.specs.Laws.{is_own_turn};
+    ghost use Rattle.strand_contract.specs.Calls.{is_own_turn};
     ghost use Rattle.strand_contract.specs.declared.turns.Act.{Act};
     ghost use Rattle.resty_world.specs.Book.{Book};
     ghost use Rattle.resty_world.specs.Given.{Gave};

@@ -23,7 +23,8 @@ use Rattle.strand_contract.specs.Actions.{Moment, Stop, Action, Began, Came, End
 use Rattle.strand_contract.specs.Behaviors.{Behavior}
 use Rattle.strand_contract.specs.Alone.{lives, is_open, is_some_left, queued, going_on, begun_offer, offering, todo, Enabled, IsExecution}
 use Rattle.strand_contract.specs.Executions.{projection, id_at, entry_of, entries_of, external, IsPlain, BeginsRight, IsStartOf}
-use Rattle.strand_contract.specs.ClientOnly.{HasClientOnly, client-only, never, clash}
+use Rattle.strand_contract.specs.ClientOnly.{HasClientOnly}
+use Rattle.strand_contract.specs.ClientOnlyLaws.{client-only, never, clash}
 use Rattle.strand.specs.Literal.{literal_behavior}
 use Rattle.strand.specs.Laws.{client-only-acts}
 use Rattle.resty.proofs.Names.{by_test, same_strand-eq, strand-true}

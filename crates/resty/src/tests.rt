@@ -1,3 +1,5 @@
+//! Tests of the program, over files and sinks in memory.
+
 use super::*;
 use resty_base::{MemFiles, MemSink};
 use std::alloc::AllocError;

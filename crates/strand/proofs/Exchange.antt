@@ -8,7 +8,7 @@ use Rattle.strand_contract.specs.declared.turns.Start.TheVariants as start
 use Rattle.strand_contract.specs.declared.turns.Act.TheVariants as act
 use Rattle.strand_contract.specs.Actions.{Began, Came, Ran, Offered, Put, LocalAction, Did}
 use Rattle.strand_contract.specs.Alone.{is_open, piece, IsGivenAt, IsOfferedAt, IsExecution, IsQuiescent}
-use Rattle.strand_contract.specs.ClientOnly.{clash}
+use Rattle.strand_contract.specs.ClientOnlyLaws.{clash}
 use Rattle.strand.specs.declared.strand.NoJob.{NoJob}
 use Rattle.strand.specs.Dates.{date_of, year_of, month_of}
 use Rattle.strand.specs.Replies.{line_end, reply}

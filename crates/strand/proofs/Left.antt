@@ -5,9 +5,9 @@ use Rattle.strand_contract.specs.declared.turns.Place.TheVariants as place
 use Rattle.strand_contract.specs.declared.turns.Seen.{Seen}
 use Rattle.strand_contract.specs.declared.turns.Seen.TheVariants as seen
 use Rattle.strand_contract.specs.Actions.{LocalAction, Did, Put, Later, Lost, Ran, Halted}
-use Rattle.strand_contract.specs.Laws.{action_of, is_own_turn}
+use Rattle.strand_contract.specs.Calls.{action_of, is_own_turn}
 use Rattle.strand_contract.specs.Alone.{piece, IsExecution}
-use Rattle.strand_contract.specs.ClientOnly.{client-only, clash, none-due}
+use Rattle.strand_contract.specs.ClientOnlyLaws.{client-only, clash, none-due}
 use Rattle.strand_contract.specs.Mute.{end_acts}
 use Rattle.strand.specs.declared.strand.Stage.{Stage}
 use Rattle.strand.specs.declared.strand.Stage.TheVariants as stage

@@ -3,7 +3,7 @@ use Rattle.std.proofs.Common.{◌≡◌, ℕ, zero, suc, Bool, true, false, ◌|
 use Rattle.strand_contract.specs.declared.turns.Place.TheVariants as place
 use Rattle.strand_contract.specs.Actions.{Ran, LocalAction, Did}
 use Rattle.strand_contract.specs.Alone.{lives, todo, piece, taken, IsExecution}
-use Rattle.strand_contract.specs.ClientOnly.{clash}
+use Rattle.strand_contract.specs.ClientOnlyLaws.{clash}
 use Rattle.strand_contract.specs.Mute.{begins_client, is_client}
 use Rattle.strand.specs.Literal.{sent_to_client, literal_behavior}
 use Rattle.strand.specs.Turns.{next_piece, held_after}

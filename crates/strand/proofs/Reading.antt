@@ -3,7 +3,7 @@ use Rattle.std.proofs.Common.{◌≡◌, ℕ, ◌+◌, ◌-◌, ◌≤◌, Bool,
 use Rattle.std.specs.Prelude.{codes}
 use Rattle.std.proofs.Math.Seq.{drop-append_seam}
 use Rattle.std.proofs.lemmas.List.{take-append-drop, append_cancel_left}
-use Rattle.strand_contract.specs.ClientOnly.{clash}
+use Rattle.strand_contract.specs.ClientOnlyLaws.{clash}
 use Rattle.strand.specs.Configuration.{feed, quote, is_literal_byte, is_literal, all_literal, calls_text, second_line, body_of, IsAfterSecond}
 use Rattle.strand.specs.Reading.{literal_count}
 

@@ -12,7 +12,7 @@ use Rattle.strand_contract.specs.Actions.{Put, Later, Lost, Closed, Logged, Aske
 use Rattle.strand_contract.specs.Alone.{lives, is_open, was_put_off, taken, is_some_left, todo, left_by, carried, run_by}
 use Rattle.strand_contract.specs.Alone.{waiting, offered_by, to_offer, begun_offer, going_on, offering, IsExecution}
 use Rattle.strand_contract.specs.Alone.{IsFirstOpen, IsOfferedAt, IsGivenAt, IsBetween, HasNoWork, IsNextAct, KeepsNothingBack}
-use Rattle.strand_contract.specs.ClientOnly.{client-only, never, over, clash, none-due, first-of-none}
+use Rattle.strand_contract.specs.ClientOnlyLaws.{client-only, never, over, clash, none-due, first-of-none}
 use Rattle.strand_contract.specs.Mute.{is_client, end_acts, mute_acts}
 use Rattle.strand.specs.declared.strand.Stage.{Stage}
 use Rattle.strand.specs.declared.strand.Stage.TheVariants as stage

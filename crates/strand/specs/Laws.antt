@@ -6,8 +6,9 @@ use Rattle.strand_contract.specs.declared.turns.Place.TheVariants as place
 use Rattle.strand_contract.specs.declared.turns.Act.{Act}
 use Rattle.strand_contract.specs.declared.turns.Act.TheVariants as act
 use Rattle.strand_contract.specs.Actions.{Began, Came, Ended, Broke, TakesAgain, Put, Later, Lost, Ran, Halted, LocalAction, Did}
-use Rattle.strand_contract.specs.Laws.{is_still, IsLastAct}
-use Rattle.strand_contract.specs.ClientOnly.{IsClientOnly, clash}
+use Rattle.strand_contract.specs.Calls.{is_still, IsLastAct}
+use Rattle.strand_contract.specs.ClientOnly.{IsClientOnly}
+use Rattle.strand_contract.specs.ClientOnlyLaws.{clash}
 use Rattle.strand_contract.specs.Mute.{is_client, end_acts, mute_acts}
 use Rattle.strand_contract.specs.Alone.{is_some_left}
 use Rattle.strand_contract.specs.MuteLaws.{mute-quiet, mute-asks-last, mute-only}

@@ -3,7 +3,8 @@ pub mod Behaviors
 pub mod Alone
 pub mod Executions
 pub mod Order
-pub mod Laws
+pub mod Calls
 pub mod Mute
 pub mod ClientOnly
+pub mod ClientOnlyLaws
 pub mod MuteLaws

@@ -14,8 +14,9 @@ use Rattle.strand_contract.specs.Actions.{Action, Moment, Stop, LocalAction, Tol
 use Rattle.strand_contract.specs.Actions.{Put, Later, Lost, Closed, Logged, Asked, Took, Dialled, Kept, Timed, Dropped, Ran, Offered, Due, Halted, Gone}
 use Rattle.strand_contract.specs.Alone.{lives, is_open, taken, todo, carried, lined_up, offers, waiting, to_offer}
 use Rattle.strand_contract.specs.Alone.{queued, offering, going_on, begun_offer, IsExecution, IsFirstOpen, KeepsNothingBack, IsNextAct}
-use Rattle.strand_contract.specs.Laws.{action_of, answered, is_own_turn, is_still, IsLastAct}
-use Rattle.strand_contract.specs.ClientOnly.{IsClientOnly, client-only, never, over, clash, none-due, first-of-none, unasked}
+use Rattle.strand_contract.specs.Calls.{action_of, answered, is_own_turn, is_still, IsLastAct}
+use Rattle.strand_contract.specs.ClientOnly.{IsClientOnly}
+use Rattle.strand_contract.specs.ClientOnlyLaws.{client-only, never, over, clash, none-due, first-of-none, unasked}
 use Rattle.strand_contract.specs.Mute.{is_client, end_acts, mute_acts, mute_behavior, was_halted}
 
 pub mute-quiet : {J : Type 0} (a : LocalAction J) (es : List (LocalAction J)) → is_still a ≡ true → mute_acts (a ∷ es) ≡ []

@@ -12,7 +12,7 @@ pub trait StrandContract: Drop {
     ghost use Rattle.strand_contract.specs.Actions.{Action, Began, LocalAction, Did, Offered};
     ghost use Rattle.strand_contract.specs.Alone.{lives, moment, is_open, queued, piece, todo, IsExecution, HasNoWork, KeepsNothingBack};
     ghost use Rattle.strand_contract.specs.Behaviors.{Behavior};
-    ghost use Rattle.strand_contract.specs.Laws.{action_of, answered, is_own_turn, is_still, IsLastAct};
+    ghost use Rattle.strand_contract.specs.Calls.{action_of, answered, is_own_turn, is_still, IsLastAct};
 
     /// What all strands of one server share.
     type Site: Drop;

@@ -7,7 +7,8 @@ use Rattle.strand_contract.specs.Actions.{Began, Came, Ended, Broke, TakesAgain,
 use Rattle.strand_contract.specs.Behaviors.{Behavior}
 use Rattle.strand_contract.specs.Alone.{IsQuiescent, lives, was_dropped, is_open, todo, IsExecution}
 use Rattle.strand_contract.specs.Executions.{projection, IsLawful}
-use Rattle.strand_contract.specs.ClientOnly.{IsQuiet, IsOver, over}
+use Rattle.strand_contract.specs.ClientOnly.{IsQuiet, IsOver}
+use Rattle.strand_contract.specs.ClientOnlyLaws.{over}
 use Rattle.strand_laws.specs.Drops.{EndsByClosings, before_drop}
 use Rattle.strand_laws.specs.Inputs.{Input, gave}
 use Rattle.strand_laws.proofs.Alone.{beginning}

@@ -8,7 +8,7 @@ use Rattle.strand_contract.specs.declared.turns.Answer.TheVariants as answer
 use Rattle.strand_contract.specs.Actions.{Action, Began, Came, Ended, Broke, TakesAgain, Connected, Refused, Put, Later, Lost, Closed, Logged, Asked, Took, Dialled, Kept, Timed, Dropped, Ran, Offered, Due, Halted, Gone, LocalAction, Told, Did}
 use Rattle.strand_contract.specs.Behaviors.{Behavior}
 use Rattle.strand_contract.specs.Alone.{todo, piece, Enabled}
-use Rattle.strand_contract.specs.Laws.{action_of, answered}
+use Rattle.strand_contract.specs.Calls.{action_of, answered}
 use Rattle.strand_laws.specs.Inputs.{Input, Starts, Hears, Sees, Wrote, Learns, inputs_of, gave}
 use Rattle.strand_laws.proofs.OwnSteps.{clash, is_own}
 

@@ -1,7 +1,7 @@
 use Rattle.std.proofs.Common.{◌≡◌, ◌∙◌, ap, length, take, List, ℕ}
 use Rattle.std.proofs.lemmas.Slice.Eq.{bytes_eq-Decides}
 use Rattle.std.proofs.Math.Seq.{take-append_seam}
-use Rattle.strand_contract.specs.ClientOnly.{clash}
+use Rattle.strand_contract.specs.ClientOnlyLaws.{clash}
 use Rattle.strand.proofs.configuration.after.Goals as goal
 
 pub returns-else-eq : goal.returns-else-eq

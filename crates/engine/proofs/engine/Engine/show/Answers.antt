@@ -2,7 +2,7 @@ use Rattle.std.proofs.Common.{sym, None, ◌∷◌}
 use Rattle.resty_base.specs.declared.names.StrandId.TheVariants as strand
 use Rattle.strand_contract.specs.Actions.{Of}
 use Rattle.strand_contract.specs.Executions.{projection}
-use Rattle.strand_contract.specs.Laws.{action_of}
+use Rattle.strand_contract.specs.Calls.{action_of}
 use Rattle.engine.proofs.Acts.{near-falls}
 use Rattle.engine.proofs.Turns.{turn-busy}
 use Rattle.engine.proofs.engine.Engine.show.Goals as goal

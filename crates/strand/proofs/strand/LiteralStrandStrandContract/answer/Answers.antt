@@ -1,4 +1,4 @@
-use Rattle.strand_contract.specs.ClientOnly.{client-only, unasked}
+use Rattle.strand_contract.specs.ClientOnlyLaws.{client-only, unasked}
 use Rattle.strand.specs.Literal.{literal_behavior}
 use Rattle.strand.specs.Laws.{client-only-acts}
 use Rattle.strand.proofs.strand.LiteralStrandStrandContract.answer.Goals as goal
