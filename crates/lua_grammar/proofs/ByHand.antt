@@ -11,7 +11,7 @@ use Rattle.lua_grammar.specs.Printing.{lexemes, print_block}
 use Rattle.lua_grammar.specs.Levels.{levels}
 use Rattle.lua_grammar.specs.Validity.{IsValid}
 use Rattle.lua_ast.specs.declared.programs.Function.{Function}
-use Rattle.lua_grammar.specs.Scopes.{Frame, Scope, enter, look, own, last_place, slots_from}
+use Rattle.lua_grammar.specs.Scopes.{Frame, Scope, enter, look, own, last_index, slots_from}
 use Rattle.lua_grammar.specs.Resolution.{Resolves, ResolvesName, IsFunction, node, statement}
 use Rattle.lua_grammar.specs.Grammar.{IsProgramOf, ResolvesChunk, outside}
 use Rattle.lua_grammar.specs.Laws.{IsProgramByHand, tokens_by_hand}
@@ -38,7 +38,7 @@ unfolding before inner
 at_end f g = record { functions = f ∷ g ∷ []; enclosing = inner ∷ (before f).enclosing }
 
 chunk_resolves : (program : Program) → IsProgramByHand program → ResolvesChunk 1 chunk program
-unfolding chunk name before inner at_end Resolves look own last_place slots_from
+unfolding chunk name before inner at_end Resolves look own last_index slots_from
 chunk_resolves program is =
     let f = is.chunk in
     let g = is.inner in

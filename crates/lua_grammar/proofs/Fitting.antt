@@ -7,7 +7,7 @@ use Rattle.std.proofs.lemmas.List.Elements.{All-nil, All-push, All-weaker}
 use Rattle.lua_ast.specs.declared.programs.Capture.{Capture}
 use Rattle.lua_ast.specs.declared.programs.Capture.TheVariants.{Slot, Outer}
 use Rattle.lua_grammar.specs.Tree.{Bytes}
-use Rattle.lua_grammar.specs.Scopes.{Captured, Frame, last_place, later, local_or, own, nearest, look, declare_in, leave_in}
+use Rattle.lua_grammar.specs.Scopes.{Captured, Frame, last_index, later, local_or, own, nearest, look, declare_in, leave_in}
 use Rattle.lua_grammar.proofs.Frames.{Steady, look_keeps}
 
 -- the innermost function has that variable
@@ -32,27 +32,27 @@ captures_steady fs gs captures p all = All-weaker (λ c. HasIn fs c.variable) (�
 
 -- ---- places of names
 
-IsPlace : ℕ → Option ℕ → Type 0
-IsPlace count place = IfSome place (λ n. n < count)
+IsIndex : ℕ → Option ℕ → Type 0
+IsIndex count place = IfSome place (λ n. n < count)
 
-later_place : (count : ℕ) (after here : Option ℕ) → IsPlace count after → IsPlace (suc count) here → IsPlace (suc count) (later after here)
-unfolding IsPlace
-later_place count (Some n) here h k = omega arith
-later_place count None here h k = k
+later_index : (count : ℕ) (after here : Option ℕ) → IsIndex count after → IsIndex (suc count) here → IsIndex (suc count) (later after here)
+unfolding IsIndex
+later_index count (Some n) here h k = omega arith
+later_index count None here h k = k
 
-here_place : (count : ℕ) (b : _) → IsPlace (suc count) (if b then Some 0 else None)
-unfolding IsPlace
-here_place count true = omega arith
-here_place count false = tt
+here_index : (count : ℕ) (b : _) → IsIndex (suc count) (if b then Some 0 else None)
+unfolding IsIndex
+here_index count true = omega arith
+here_index count false = tt
 
-place_within : (name : Bytes) (xs : List Bytes) → IsPlace (length xs) (last_place name xs)
-unfolding last_place IsPlace
-place_within name [] = tt
-place_within name (x ∷ xs) = later_place (length xs) (last_place name xs) _ (place_within name xs) (here_place (length xs) (bytes_eq x name))
+index_within : (name : Bytes) (xs : List Bytes) → IsIndex (length xs) (last_index name xs)
+unfolding last_index IsIndex
+index_within name [] = tt
+index_within name (x ∷ xs) = later_index (length xs) (last_index name xs) _ (index_within name xs) (here_index (length xs) (bytes_eq x name))
 
-own_has : (f : Frame) (fs : List Frame) (slot place : Option ℕ) → length f.locals ≤ f.slots → IsPlace (length f.locals) slot → IsPlace (length f.captures) place →
+own_has : (f : Frame) (fs : List Frame) (slot place : Option ℕ) → length f.locals ≤ f.slots → IsIndex (length f.locals) slot → IsIndex (length f.captures) place →
     IfSome (local_or slot place) (HasIn (f ∷ fs))
-unfolding IsPlace HasIn
+unfolding IsIndex HasIn
 own_has f fs (Some n) place fit h k = omega arith
 own_has f fs None (Some n) fit h k = k
 own_has f fs None None fit h k = tt
@@ -61,8 +61,8 @@ mine_has : (name : Bytes) (f : Frame) (fs : List Frame) → length f.locals ≤ 
 unfolding own
 mine_has name f fs fit =
     let e = length-map f.captures (λ c. c.name) in
-    let places = subst (λ n. IsPlace n (last_place name (map (λ c. c.name) f.captures))) e (place_within name (map (λ c. c.name) f.captures)) in
-    own_has f fs (last_place name f.locals) (last_place name (map (λ c. c.name) f.captures)) fit (place_within name f.locals) places
+    let places = subst (λ n. IsIndex n (last_index name (map (λ c. c.name) f.captures))) e (index_within name (map (λ c. c.name) f.captures)) in
+    own_has f fs (last_index name f.locals) (last_index name (map (λ c. c.name) f.captures)) fit (index_within name f.locals) places
 
 -- ---- a name that is read
 

@@ -81,7 +81,7 @@ binary_kind (Plain op) a b = kind.Binary op a b
 -- a variable that was found, or else the global of that name
 abbrev pub variable_kind : Bytes → Option Capture → ExprKind
 variable_kind name (Some (Slot slot)) = kind.Slot slot
-variable_kind name (Some (Outer place)) = kind.Captured place
+variable_kind name (Some (Outer index)) = kind.Captured index
 variable_kind name None = kind.Global name
 
 -- a name where it is read or written

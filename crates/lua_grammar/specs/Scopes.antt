@@ -30,9 +30,9 @@ later (Some n) here = Some (n + 1)
 later None here = here
 
 -- the index of a name's last occurrence
-unfoldable pub last_place : Bytes → List Bytes → Option ℕ
-last_place name [] = None
-last_place name (x ∷ xs) = later (last_place name xs) (if bytes_eq x name then Some 0 else None)
+unfoldable pub last_index : Bytes → List Bytes → Option ℕ
+last_index name [] = None
+last_index name (x ∷ xs) = later (last_index name xs) (if bytes_eq x name then Some 0 else None)
 
 -- a local comes before a capture
 abbrev pub local_or : Option ℕ → Option ℕ → Option Capture
@@ -41,7 +41,7 @@ local_or None capture = option_map Outer capture
 
 -- the variable of that name that a function has without looking further out: its newest local, or else a capture
 unfoldable pub own : Bytes → Frame → Option Capture
-own name f = local_or (last_place name f.locals) (last_place name (map (λ c. c.name) f.captures))
+own name f = local_or (last_index name f.locals) (last_index name (map (λ c. c.name) f.captures))
 
 -- what was found in the functions that enclose `f` is a capture of `f` from now on
 abbrev pub handed : Bytes → Frame → Option Capture → List Frame → Option Capture × List Frame

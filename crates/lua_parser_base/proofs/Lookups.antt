@@ -6,33 +6,33 @@ use Rattle.std.specs.Str.{bytes_eq}
 use Rattle.lua_grammar.specs.Tree.{Bytes}
 use Rattle.lua_ast.specs.declared.programs.Capture.{Capture}
 use Rattle.lua_ast.specs.declared.programs.Capture.TheVariants.{Outer}
-use Rattle.lua_grammar.specs.Scopes.{Frame, last_place, later, local_or, own, look, slots_from, with_locals}
+use Rattle.lua_grammar.specs.Scopes.{Frame, last_index, later, local_or, own, look, slots_from, with_locals}
 use Rattle.lua_parser_base.specs.declared.frames.Frame.{Frame as KeptFrame}
 use Rattle.lua_parser_base.specs.declared.frames.Captured.{Captured as KeptCapture}
 use Rattle.lua_parser_base.specs.Frames.{captured_of, frame_of}
 
 -- one more name after the others
 pub one_more : (name : Bytes) (xs : List Bytes) (x : Bytes) →
-    last_place name (xs ++ x ∷ []) ≡ (if bytes_eq x name then Some (length xs) else last_place name xs)
-unfolding last_place
+    last_index name (xs ++ x ∷ []) ≡ (if bytes_eq x name then Some (length xs) else last_index name xs)
+unfolding last_index
 one_more name [] x = refl
 one_more name (y ∷ ys) x =
-    rw (one_more name ys x) (elim (bytes_eq x name) as (λ b. later (if b then Some (length ys) else last_place name ys) (if bytes_eq y name then Some 0 else None)
-    ≡ (if b then Some (length (y ∷ ys)) else later (last_place name ys) (if bytes_eq y name then Some 0 else None))) [ true ↦ rw (add-one (length ys)) refl | false ↦ refl ])
+    rw (one_more name ys x) (elim (bytes_eq x name) as (λ b. later (if b then Some (length ys) else last_index name ys) (if bytes_eq y name then Some 0 else None)
+    ≡ (if b then Some (length (y ∷ ys)) else later (last_index name ys) (if bytes_eq y name then Some 0 else None))) [ true ↦ rw (add-one (length ys)) refl | false ↦ refl ])
 
 within_later : (m : Option ℕ) (b : Bool) (n : ℕ) → IfSome m (λ k. k < n) → IfSome (later m (if b then Some 0 else None)) (λ k. k < n + 1)
 within_later (Some k) b n h = omega (arith, h)
 within_later None true n h = omega arith
 within_later None false n h = tt
 
-pub within : (name : Bytes) (xs : List Bytes) → IfSome (last_place name xs) (λ k. k < length xs)
-unfolding last_place
+pub within : (name : Bytes) (xs : List Bytes) → IfSome (last_index name xs) (λ k. k < length xs)
+unfolding last_index
 within name [] = tt
-within name (x ∷ xs) = rw (add-one (length xs)) at (within_later (last_place name xs) (bytes_eq x name) (length xs) (within name xs))
+within name (x ∷ xs) = rw (add-one (length xs)) at (within_later (last_index name xs) (bytes_eq x name) (length xs) (within name xs))
 
 -- one more step of a search for the last index
 pub searched : (name : Bytes) (xs : List Bytes) (i : ℕ) (x d : Bytes) (was now : Option ℕ) (b : Bool) → i < length xs → x ≡ get_or xs i d →
-    was ≡ last_place name (take i xs) → b ≡ bytes_eq x name → now ≡ (if b then Some i else was) → now ≡ last_place name (take (i + 1) xs)
+    was ≡ last_index name (take i xs) → b ≡ bytes_eq x name → now ≡ (if b then Some i else was) → now ≡ last_index name (take (i + 1) xs)
 searched name xs i x d was now b inside at before test is =
     let longer : take (i + 1) xs ≡ take i xs ++ x ∷ [] = rw (add-one i, at) (take-suc xs i d inside) in
     let more = one_more name (take i xs) x in
@@ -44,8 +44,8 @@ names_same : (cs : List KeptCapture) → map (λ c. c.name) (map captured_of cs)
 names_same [] = refl
 names_same (c ∷ cs) = ap (λ cs. c.name ∷ cs) (names_same cs)
 
-pub own_is : (name : Bytes) (f : KeptFrame) (m k : Option ℕ) → m ≡ last_place name f.locals.items →
-    k ≡ last_place name (map (λ c. c.name) f.captures.items) → local_or m k ≡ own name (frame_of f)
+pub own_is : (name : Bytes) (f : KeptFrame) (m k : Option ℕ) → m ≡ last_index name f.locals.items →
+    k ≡ last_index name (map (λ c. c.name) f.captures.items) → local_or m k ≡ own name (frame_of f)
 unfolding own
 own_is name f m k p q = rw (p, q, names_same f.captures.items) refl
 

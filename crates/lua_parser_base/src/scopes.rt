@@ -2,7 +2,7 @@
 ghost use Rattle.std.specs.Prelude.{◌≡◌, ℕ, List, ◌≤◌, ◌<◌, ◌∷◌, ◌++◌, [], map, take, length, IfOk, IfErr, IfSome, MatchResult, OnOk, vec_len};
 ghost use Rattle.lua_grammar.specs.Limits.{Few};
 ghost use Rattle.lua_grammar.specs.Resolution.{variable_kind, IsFunction};
-ghost use Rattle.lua_grammar.specs.Scopes.{last_place, own, look, with_locals};
+ghost use Rattle.lua_grammar.specs.Scopes.{last_index, own, look, with_locals};
 ghost use Rattle.lua_parser_base.specs.Frames.{captured_of, frame_of, frames_of};
 ghost use Rattle.lua_parser_base.specs.Next.{IsLocals, IsMemory, OnLocals, OnUpvalues};
 
@@ -35,7 +35,7 @@ impl Frame {
 
     /// The slot of the newest local of that name.
     fn local(&self, name: &[u8]) -> Option<usize>
-        ensures value { result ≡ last_place name.now self.now.locals.items }
+        ensures value { result ≡ last_index name.now self.now.locals.items }
         ensures within { IfSome result (λ slot. slot < vec_len self.now.locals) }
     {
         let mut found = None;
@@ -49,7 +49,7 @@ impl Frame {
 
     /// The index of the capture of that name.
     fn capture(&self, name: &[u8]) -> Option<usize>
-        ensures value { result ≡ last_place name.now (map (λ c. c.name) self.now.captures.items) }
+        ensures value { result ≡ last_index name.now (map (λ c. c.name) self.now.captures.items) }
         ensures within { IfSome result (λ index. index < vec_len self.now.captures) }
     {
         let mut found = None;

@@ -19,7 +19,7 @@ use Rattle.resty.proofs.Names.{by_test}
 use Rattle.resty.specs.Asking.{sent_by, Tracks}
 use Rattle.resty.specs.Form.{the_request, IsFirstPart, bytes_in, bytes_for, IsServedLine}
 
--- the lines up to a place, with the line there
+-- the lines up to an index, with the line there
 pub take-more : {A : Type 0} (xs : List A) (i : ℕ) (x : A) → slice_get xs i ≡ Some x → take (i + 1) xs ≡ take i xs ++ x ∷ []
 take-more xs i x here = take_more xs i x (slice_get_within xs i x here) ∙ ap (λ y. take i xs ++ y ∷ []) (get_or_from_slice_get xs i x x here)
 
@@ -135,8 +135,8 @@ tracks-bytes sent more lines at n bytes here numbered arrived part counted t =
     }
 
 -- the count of a connection that is numbered
-pub sent_by-place : (sent : List ℕ) (n : ℕ) → 0 < n → sent_by sent n ≡ get_or sent (n - 1) 0
-sent_by-place sent n numbered =
+pub sent_by-index : (sent : List ℕ) (n : ℕ) → 0 < n → sent_by sent n ≡ get_or sent (n - 1) 0
+sent_by-index sent n numbered =
     let positive : eqb n 0 ≡ false = by_test (eqb n 0) (λ z. let e = eqb-true n 0 z in absurd (omega arith)) (λ f. f) in
     rw positive refl
 

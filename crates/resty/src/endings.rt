@@ -3,7 +3,7 @@
 ghost use Rattle.std.specs.Prelude.{◌≡◌};
 ghost use Rattle.resty.specs.Ending.{code_of, status_of};
 
-/// How the program ended; its exit code is the place in this list, from 0.
+/// How the program ended; its exit code is the index in this list, from 0.
 #[derive(Clone, Copy, Debug, PartialEq, Eq)]
 pub enum Status {
     Done,

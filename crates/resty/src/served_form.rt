@@ -30,7 +30,7 @@ pub fn first_unserved(alloc: Global, schedule: &Schedule) -> Result<Option<u64>,
     Ok(None)
 }
 
-/// Whether the line at this place is of that form, after lines in which each connection sent so much.
+/// Whether the line at this index is of that form, after lines in which each connection sent so much.
 fn serves(
     sent: &mut Vec<usize>,
     line: &SchedLine,
@@ -87,12 +87,12 @@ fn asks_on(sent: &mut Vec<usize>, number: u64, bytes: &[u8]) -> bool
     if number > sent.len() as u64 {
         return false;
     }
-    let place = number as usize - 1;
-    let before = sent[place];
+    let index = number as usize - 1;
+    let before = sent[index];
     let request = REQUEST.as_slice();
     if !request[before..].starts_with(bytes) {
         return false;
     }
-    sent[place] = before + bytes.len();
+    sent[index] = before + bytes.len();
     true
 }

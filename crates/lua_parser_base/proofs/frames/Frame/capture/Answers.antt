@@ -1,12 +1,12 @@
 use Rattle.std.proofs.Common.{refl, rules, arith, sym, ap, length, take_all, map, get_or, ◌≡◌, ◌<◌, ◌∙◌, ◌+◌, ℕ, List}
-use Rattle.lua_grammar.specs.Scopes.{last_place}
+use Rattle.lua_grammar.specs.Scopes.{last_index}
 use Rattle.lua_parser_base.specs.declared.frames.Captured.{Captured}
 use Rattle.lua_parser_base.proofs.Lookups.{searched, within, below, names_length, names_taken, name_at}
 use Rattle.lua_parser_base.proofs.frames.Frame.capture.Goals.{then-eq, else-eq}
 use Rattle.lua_parser_base.proofs.frames.Frame.capture.Goals as goal
 
 pub loop-index-init : goal.loop-index-init
-unfolding last_place
+unfolding last_index
 loop-index-init c = refl
 
 pub loop-index-preserved : goal.loop-index-preserved
@@ -30,5 +30,5 @@ loop-index-preserved c =
 pub returns-clause-within : goal.returns-clause-within
 returns-clause-within c =
     let items = c.args.self.now.captures.items in
-    let all : c.loop-index.found ≡ last_place c.args.name.now (map (λ c. c.name) items) = search (rules, take_all) in
+    let all : c.loop-index.found ≡ last_index c.args.name.now (map (λ c. c.name) items) = search (rules, take_all) in
     rw all (below _ _ _ (names_length items ∙ grind arith) (within c.args.name.now (map (λ c. c.name) items)))

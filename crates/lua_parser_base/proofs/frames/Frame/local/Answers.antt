@@ -1,11 +1,11 @@
 use Rattle.std.proofs.Common.{refl, rules, arith, length, take_all, ◌≡◌, ◌<◌}
-use Rattle.lua_grammar.specs.Scopes.{last_place}
+use Rattle.lua_grammar.specs.Scopes.{last_index}
 use Rattle.lua_parser_base.proofs.Lookups.{searched, within, below}
 use Rattle.lua_parser_base.proofs.frames.Frame.local.Goals.{then-eq, else-eq}
 use Rattle.lua_parser_base.proofs.frames.Frame.local.Goals as goal
 
 pub loop-slot-init : goal.loop-slot-init
-unfolding last_place
+unfolding last_index
 loop-slot-init c = refl
 
 pub loop-slot-preserved : goal.loop-slot-preserved
@@ -22,5 +22,5 @@ loop-slot-preserved c =
 
 pub returns-clause-within : goal.returns-clause-within
 returns-clause-within c =
-    let all : c.loop-slot.found ≡ last_place c.args.name.now c.args.self.now.locals.items = search (rules, take_all) in
+    let all : c.loop-slot.found ≡ last_index c.args.name.now c.args.self.now.locals.items = search (rules, take_all) in
     rw all (below _ _ _ (grind arith) (within c.args.name.now c.args.self.now.locals.items))
