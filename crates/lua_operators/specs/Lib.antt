@@ -1,0 +1,13 @@
+pub mod Types
+pub mod TypeNames
+pub mod Conversions
+pub mod ArithmeticOperators
+pub mod Arithmetic
+pub mod Comparison
+pub mod Concatenation
+pub mod Events
+pub mod Faults
+pub mod OperandFaults
+pub mod NamedFaults
+pub mod Positions
+pub mod Laws
