@@ -1,11 +1,13 @@
--- What holds of the order of values (Lua 5.1 Reference Manual, 2.5.2).
+-- What holds of the order of values (Lua 5.1 Reference Manual, 2.5.2) and of types.
 use Rattle.std.specs.Prelude.{◌≡◌, ℕ, ◌<◌, true, not, ◌⊎◌, ◌↔◌, List, ◌∷◌, ◌++◌, ℤ}
 use Rattle.std.specs.Ordering.{nat_cmp, int_cmp}
 use Rattle.std.specs.Cmp.Lexicographic.{slice_cmp}
 use Rattle.lua_values.specs.declared.values.Value.TheVariants.{Truth, Text}
+use Rattle.lua_operators.specs.declared.types.LuaType.{LuaType}
 use Rattle.lua_operators.specs.declared.comparison.ComparisonOperator.TheVariants.{Less, LessOrEqual}
 use Rattle.lua_operators.specs.declared.outcome.Outcome.TheVariants.{Gives}
 use Rattle.lua_operators.specs.Comparison.{compared, holds}
+use Rattle.lua_operators.specs.OperandFaults.{same_type}
 
 -- the first text is all that both have in common, and the second goes on after it
 pub record GoesOn (common first second : List ℕ) : Type 0 where
@@ -36,3 +38,7 @@ LessIsBelow = (s t : List ℕ) → (compared Less (Text s) (Text t) ≡ Gives (T
 pub record OrEqualIsNotAbove : Type 0 where
   pub numbers : (m n : ℤ) → holds LessOrEqual (int_cmp m n) ≡ not (holds Less (int_cmp n m))
   pub texts : (s t : List ℕ) → holds LessOrEqual (slice_cmp nat_cmp s t) ≡ not (holds Less (slice_cmp nat_cmp t s))
+
+-- the test of types in the texts of faults is equality
+abbrev pub SameTypeIsEqual : Type 0
+SameTypeIsEqual = (a b : LuaType) → (same_type a b ≡ true) ↔ (a ≡ b)

@@ -32,7 +32,7 @@ operand_text deed found = codes "attempt to " ++ deed ++ codes " a " ++ type_nam
 
 abbrev pub compared_text : LuaType → LuaType → List ℕ
 compared_text first second =
-    if same_type first second then codes "attempt to compare " ++ codes "two " ++ type_name first ++ codes " values"
+    if same_type first second then codes "attempt to compare two " ++ type_name first ++ codes " values"
     else codes "attempt to compare " ++ type_name first ++ codes " with " ++ type_name second
 
 abbrev pub operand_fault_text : OperandFault → List ℕ

@@ -131,12 +131,12 @@ fn compared_text(alloc: Global, first: LuaType, second: LuaType) -> Result<Bytes
     ensures { IfOk result (λ text. text ≡ compared_text first second) }
 {
     let mut text = Vec::new(alloc);
-    text.extend_from_slice(b"attempt to compare ")?;
     if first == second {
-        text.extend_from_slice(b"two ")?;
+        text.extend_from_slice(b"attempt to compare two ")?;
         text.extend_from_slice(first.name())?;
         text.extend_from_slice(b" values")?;
     } else {
+        text.extend_from_slice(b"attempt to compare ")?;
         text.extend_from_slice(first.name())?;
         text.extend_from_slice(b" with ")?;
         text.extend_from_slice(second.name())?;

@@ -23,7 +23,7 @@ pub use faults::{
     Fault, OperandFault, argument_fault, arithmetic_fault, comparison_fault, concatenation_fault,
     module_fault, phase_fault,
 };
-pub use laws::{less_is_below, or_equal_is_not_above};
+pub use laws::{less_is_below, or_equal_is_not_above, same_type_is_equal};
 pub use outcome::Outcome;
 pub use positions::with_position;
 pub use types::{LuaType, is_truthy, type_of};
