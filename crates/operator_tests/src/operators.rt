@@ -202,18 +202,20 @@ fn holds(alloc: Global, line: &str) -> Result<bool, Fail> {
     gives(alloc, operator, a, b, want)
 }
 
-/// The results that the tables list for an operator and the value on its left.
-fn listed<'a>(operator: &str, a: &str) -> Option<&'a str> {
-    for line in TABLES.lines() {
-        if let Some((row, results)) = line.split_once(": ")
-            && let Some((sign, left)) = row.split_once(' ')
-            && sign == operator
-            && left == a
-        {
-            return Some(results);
+/// The results in a row of the tables, where it is the one of this operator and the value on its left.
+fn results_of<'a>(row: &'a str, operator: &str, a: &str) -> Option<&'a str> {
+    let after = row.strip_prefix(operator)?;
+    after.strip_prefix(' ')?.strip_prefix(a)?.strip_prefix(": ")
+}
+
+/// The results that the tables list for an operator and the value on its left, or nothing.
+fn listed(operator: &str, a: &str) -> &'static str {
+    for row in TABLES.lines() {
+        if let Some(results) = results_of(row, operator, a) {
+            return results;
         }
     }
-    None
+    ""
 }
 
 /// The first value on the right for which a row of the tables doesn't hold.
@@ -222,7 +224,7 @@ fn first_wrong_in_row(
     operator: &str,
     a: &str,
 ) -> Result<Option<&'static str>, Fail> {
-    let mut results = listed(operator, a).unwrap_or("").split(' ');
+    let mut results = listed(operator, a).split(' ');
     for b in EACH.split(' ') {
         let want = match results.next() {
             None | Some("") => "event",
