@@ -1,8 +1,8 @@
 -- Laws of texts split at a byte.
-use Rattle.std.proofs.Common.{◌≡◌, ◌≢◌, ℕ, ◌+◌, ◌<◌, ◌==◌, Bool, true, false, cond, List, [], ◌∷◌, ◌++◌, length, All, Option, None, Some, sym, refl, ap, ◌∙◌, ⊎_elim, arith}
-use Rattle.std.proofs.lemmas.Bool.{cond-true, cond-false, cases_eq, eq-eqb, ne_eqb}
+use Rattle.std.proofs.Common.{◌≡◌, ◌≢◌, ℕ, ◌+◌, ◌<◌, ◌==◌, true, false, cond, List, [], ◌∷◌, ◌++◌, length, All, Option, None, Some, refl, ap, ◌∙◌, arith}
+use Rattle.std.proofs.lemmas.Bool.{cond-true, cond-false, eq-eqb, ne_eqb}
 use Rattle.std.proofs.lemmas.List.Elements.{All-head, All-tail}
-use Rattle.http_base.specs.Splitting.{before, after, onto_first, split}
+use Rattle.http_base.specs.Splitting.{before, after, onto_first, split, later_pieces}
 
 -- a text without the separator
 pub before_none : (s : ℕ) (xs : List ℕ) → All (λ b. b ≢ s) xs → before s xs ≡ xs
@@ -46,11 +46,6 @@ left_after s (x ∷ xs) = elim (x == s) as (λ t. left (cond t (Some xs) (after 
   | true ↦ omega arith
   | false ↦ omega (arith, left_after s xs)
 ]
-
--- the pieces after the first, by what stands after the first separator
-abbrev pub later_pieces : ℕ → Option (List ℕ) → List (List ℕ)
-later_pieces s None = []
-later_pieces s (Some rest) = split s rest
 
 -- the first piece stands before the first separator
 pub split_first : (s : ℕ) (xs : List ℕ) → split s xs ≡ before s xs ∷ later_pieces s (after s xs)

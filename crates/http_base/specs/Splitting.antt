@@ -20,3 +20,8 @@ onto_first b (piece ∷ pieces) = (b ∷ piece) ∷ pieces
 abbrev pub split : ℕ → List ℕ → List (List ℕ)
 split separator [] = [] ∷ []
 split separator (b ∷ bytes) = if b == separator then [] ∷ split separator bytes else onto_first b (split separator bytes)
+
+-- the pieces of what stands after a separator, none where it isn't there
+abbrev pub later_pieces : ℕ → Option (List ℕ) → List (List ℕ)
+later_pieces separator None = []
+later_pieces separator (Some rest) = split separator rest

@@ -4,8 +4,8 @@ use Rattle.std.proofs.lemmas.List.{map-append}
 use Rattle.resty_base.specs.Ascii.{comma}
 use Rattle.http_base.specs.Elements as spec
 use Rattle.http_base.specs.Lent.{texts}
-use Rattle.http_base.specs.Splitting.{before, after, split}
-use Rattle.http_base.proofs.Pieces.{left_after, later_pieces, split_first}
+use Rattle.http_base.specs.Splitting.{before, after, split, later_pieces}
+use Rattle.http_base.proofs.Pieces.{left_after, split_first}
 use Rattle.http_base.proofs.lists.elements.Goals as goal
 
 -- one more element stands at the end

@@ -3,7 +3,8 @@ use Rattle.std.specs.Option.{option_copied}
 use Rattle.resty_base.specs.Ascii.{comma}
 use Rattle.http_base.specs.Elements as spec
 use Rattle.http_base.specs.Lent.{texts}
-use Rattle.http_base.proofs.Pieces.{left, later_pieces}
+use Rattle.http_base.specs.Splitting.{later_pieces}
+use Rattle.http_base.proofs.Pieces.{left}
 use Rattle.http_base.proofs.lists.elements.Given as goal
 
 abbrev pub invariant-loop-rest : goal.invariant-loop-rest

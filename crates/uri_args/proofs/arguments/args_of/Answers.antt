@@ -1,9 +1,9 @@
 use Rattle.std.proofs.Common.{◌≡◌, ◌≢◌, ℕ, true, false, ◌+◌, ◌<◌, ◌≤◌, ◌==◌, List, [], ◌∷◌, ◌++◌, length, take, map, filter, cond, sym, ap, ◌∙◌, append_assoc, arith, rules, length-append}
-use Rattle.std.proofs.lemmas.Bool.{cond-true, cond-false, ne_eqb, eq-eqb}
+use Rattle.std.proofs.lemmas.Bool.{cond-false, ne_eqb}
 use Rattle.std.proofs.lemmas.List.{take_all, take-append-le}
 use Rattle.std.proofs.lemmas.List.Elements.{filter-append}
-use Rattle.http_base.specs.Splitting.{before, after, split}
-use Rattle.http_base.proofs.Pieces.{left_after, later_pieces, split_first}
+use Rattle.http_base.specs.Splitting.{before, after, split, later_pieces}
+use Rattle.http_base.proofs.Pieces.{left_after, split_first}
 use Rattle.uri_args.specs.Arguments as spec
 use Rattle.uri_args.specs.declared.arguments.Pair.{Pair}
 use Rattle.uri_args.proofs.arguments.args_of.Goals.{else-max-gt0-via-then-max-gt0+else-len-max, else-max-gt0-via-else-max-gt0}

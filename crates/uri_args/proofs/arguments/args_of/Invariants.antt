@@ -1,6 +1,7 @@
 use Rattle.std.proofs.Common.{◌≡◌, ◌<◌, ◌++◌, length, map, filter}
 use Rattle.std.specs.Option.{option_copied}
-use Rattle.http_base.proofs.Pieces.{left, later_pieces}
+use Rattle.http_base.specs.Splitting.{later_pieces}
+use Rattle.http_base.proofs.Pieces.{left}
 use Rattle.uri_args.specs.Arguments as spec
 use Rattle.uri_args.proofs.arguments.args_of.Given as goal
 

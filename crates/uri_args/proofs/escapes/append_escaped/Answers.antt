@@ -1,4 +1,3 @@
-use Rattle.std.proofs.Common.{rules}
 use Rattle.uri_args.proofs.Escaping.{escape_is}
 use Rattle.uri_args.proofs.escapes.append_escaped.Goals as goal
 
