@@ -7,6 +7,9 @@ use http_base::{plain_host, split_once};
 use resty_base::{Bytes, bytes_after};
 use std::alloc::{AllocError, Global};
 
+/// How many bytes `http://` has.
+const SCHEME_LENGTH: usize = 7;
+
 /// What a target says: the path without escapes and dot segments, the arguments as they are written, and the host
 /// in lower case without its port, where the target has one.
 #[derive(Debug, PartialEq, Eq, Drop)]
@@ -21,7 +24,7 @@ pub fn target_of(alloc: Global, target: &[u8]) -> Result<Option<Target>, AllocEr
     ensures { IfOk result (λ found. found ≡ spec.target_of target.now) }
 {
     if target.starts_with(b"http://") {
-        absolute_target(alloc, bytes_after(target, 7))
+        absolute_target(alloc, bytes_after(target, SCHEME_LENGTH))
     } else {
         local_target(alloc, None, target)
     }
