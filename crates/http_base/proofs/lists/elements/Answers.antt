@@ -13,7 +13,7 @@ one_more : (list : List (Bor (List ℕ))) (element : Bor (List ℕ)) (text : Lis
 one_more list element text is = rw (map-append, append_assoc, is, split_first comma text) refl
 
 pub loop-rest-smaller : goal.loop-rest-smaller
-loop-rest-smaller c = rw (c.split_once.ensures.after, c.in-Some.is) (left_after comma c.in-Some.text.now)
+loop-rest-smaller c = rw (c.split_once.ensures.after, c.in-Some.is) (left_after _ c.in-Some.text.now)
 
 pub loop-rest-preserved : goal.loop-rest-preserved
 loop-rest-preserved c =
