@@ -1,0 +1,4 @@
+pub mod Escapes
+pub mod Arguments
+pub mod Paths
+pub mod Targets
