@@ -1,0 +1,6 @@
+pub mod Keys
+pub mod Items
+pub mod Dictionary
+pub mod Ranges
+pub mod Pool
+pub mod Timers
