@@ -1,0 +1,4 @@
+pub mod Numbers
+pub mod Indexed
+pub mod Soonest
+pub mod Threads
