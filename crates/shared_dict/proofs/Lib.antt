@@ -1,0 +1,5 @@
+pub mod Keys
+pub mod Puts
+pub mod Named
+pub mod Lasts
+pub mod Shelves

@@ -1,0 +1,2 @@
+pub mod Recency
+pub mod Named

@@ -1,0 +1,5 @@
+//! A shared dictionary: a zone of items that answers each call as the plain rules say.
+#![tactic(auto)]
+
+mod recent;
+mod shelf;
