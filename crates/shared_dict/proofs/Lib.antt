@@ -3,3 +3,5 @@ pub mod Puts
 pub mod Named
 pub mod Lasts
 pub mod Shelves
+pub mod Planning
+pub mod Sweeping

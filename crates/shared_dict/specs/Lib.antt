@@ -1,2 +1,4 @@
 pub mod Recency
 pub mod Named
+pub mod ZoneView
+pub mod Sweeping

@@ -2,10 +2,15 @@
 
 ghost use Rattle.std.specs.Prelude.{◌≡◌, ℕ, ◌-◌, [], length, find, slice_get, Option, option_copied, OnOk, OnErr};
 ghost use Rattle.plain_rules.specs.Items.{has_key, without, first, but_last};
-ghost use Rattle.shared_dict.specs.Named.{promoted_key, with_number_first, rotated, rotated_expiring};
+ghost use Rattle.std.specs.List.{IsDistinct};
+ghost use Rattle.std.specs.Map.{values_of};
+ghost use Rattle.plain_rules.specs.Keys.{same_key};
+ghost use Rattle.shared_dict.specs.Recency.{rest_of};
+ghost use Rattle.shared_dict.specs.Named.{keys_in, promoted_key, with_number_first, rotated, rotated_expiring};
 
 use crate::recent::Recent;
 use indexmap::IndexMap;
+use lru::Iter;
 use plain_rules::Item;
 use resty_base::{Bytes, Ms};
 use std::alloc::{AllocError, Global};
@@ -14,7 +19,7 @@ use std::marker::Model;
 /// Items of different keys, the most recent first. Each has a number, by which it is kept, and which its key leads to.
 #[derive(Drop)]
 pub(crate) struct Shelf {
-    pub(crate) recent: Recent,
+    recent: Recent,
     names: IndexMap<Bytes, u64>,
     last: u64,
 }
@@ -23,7 +28,11 @@ impl Model for Shelf {
     ghost use Rattle.std.specs.Prelude.{List};
     ghost use Rattle.std.specs.Map.{values_of};
     ghost use Rattle.plain_rules.specs.declared.items.Item.{Item};
-    ghost use Rattle.shared_dict.specs.Named.{IsNamed};
+    ghost use Rattle.std.specs.List.{IsDistinct};
+ghost use Rattle.std.specs.Map.{values_of};
+ghost use Rattle.plain_rules.specs.Keys.{same_key};
+ghost use Rattle.shared_dict.specs.Recency.{rest_of};
+ghost use Rattle.shared_dict.specs.Named.{keys_in, IsNamed};
 
     ghost Value = { List Item };
 
@@ -92,6 +101,22 @@ impl Shelf {
         };
         self.last = number;
         Ok(())
+    }
+
+    /// All items with their numbers, from the first to the last.
+    pub fn iter(&self) -> Option<Iter<'_, u64, Item>>
+        ensures items { values_of (rest_of result) ≡ self.now }
+        ensures distinct { IsDistinct same_key (keys_in (rest_of result)) }
+    {
+        let _last = self.last;
+        self.recent.iter()
+    }
+
+    /// How many items there are.
+    pub fn len(&self) -> usize
+        ensures { result ≡ length self.now }
+    {
+        self.recent.len()
     }
 
     /// The last item.
