@@ -7,7 +7,7 @@ ghost use Rattle.strand_contract.specs.declared.turns.Place.{Place};
 ghost use Rattle.strand_contract.specs.Actions.{Action, LocalAction, GlobalAction, Of};
 ghost use Rattle.strand_contract.specs.Alone.{is_open, was_dropped, IsExecution, IsQuiescent};
 ghost use Rattle.strand_contract.specs.Behaviors.{Behavior};
-ghost use Rattle.strand_contract.specs.ClientOnly.{IsQuiet};
+ghost use Rattle.strand_contract.specs.Laws.{IsQuiet};
 ghost use Rattle.strand_contract.specs.Executions.{projection, part, IsLawful};
 ghost use Rattle.strand_laws.specs.Inputs.{Input, gave};
 ghost use Rattle.strand_laws.specs.Drops.{EndsByClosings, before_drop};
@@ -32,7 +32,7 @@ pub fn a_beginning<J>()
 /// Two strands of one site, of two lawful executions, that weren't dropped and to which the same came from outside have
 /// the same part, whatever all others do.
 pub fn two_worlds<S: StrandContract>()
-    ensures { (site : S.Site) (ms ns : List (GlobalAction S.Job)) (s t : StrandId) → IsLawful (S.behavior site) ms → IsLawful (S.behavior site) ns
+    ensures { (site : S.Site) (ms ns : List (GlobalAction S.Job)) (s t : StrandId) → IsLawful (S.meaning site).behavior ms → IsLawful (S.meaning site).behavior ns
         → was_dropped (part s ms) ≡ false → was_dropped (part t ns) ≡ false → gave (part s ms) ≡ gave (part t ns) → part s ms ≡ part t ns }
 {}
 
