@@ -33,7 +33,8 @@ pub fn a_beginning<J>()
 /// Two strands of one site, of two lawful executions, that weren't dropped and to which the same came from outside have
 /// the same part, whatever all others do.
 pub fn two_worlds<S: StrandContract>()
-    ensures { (site : S.Site) (ms ns : List (GlobalAction S.Job)) (s t : StrandId) → IsLawful (S.meaning site).behavior ms → IsLawful (S.meaning site).behavior ns
+    ensures { (site : S.Site) (ms ns : List (GlobalAction S.Job)) (s t : StrandId)
+        → IsLawful (S.meaning site).behavior ms → IsLawful (S.meaning site).behavior ns
         → was_dropped (part s ms) ≡ false → was_dropped (part t ns) ≡ false → gave (part s ms) ≡ gave (part t ns) → part s ms ≡ part t ns }
 {}
 
