@@ -1,10 +1,11 @@
 -- What a plan's conditions need, by the form of a move.
 use Rattle.strand_contract.specs.Actions.{LocalAction}
 use Rattle.strand_contract.specs.Laws.{is_still, IsMild, IsEnding}
+use Rattle.strand_contract.specs.ClientOnly.{IsClientOnly}
 use Rattle.moves.specs.Ledgers.{Ledger, has, has_number, wants_offer, entered}
 use Rattle.moves.specs.Moves.{Move, Done, Line, Unline, Send, Arm, Cancel, HangUp, Log, Set, Look, Ask, End, State, with_sent, with_offer, with_thread, without_thread, with_deadline, without_deadline, hung_up, ending, act_if, perform}
 use Rattle.moves.specs.Plans.{Plan, move_of, stepped}
-use Rattle.moves.specs.Conditions.{NeverAsks, OnlyWakes, EndsLife}
+use Rattle.moves.specs.Conditions.{NeverAsks, OnlyWakes, OnlyServes, EndsLife}
 use Rattle.std.proofs.Common.{◌≡◌, ℕ, not, Bool, true, false, List, [], ◌∷◌, None, if◌then◌else◌, refl, ◌∙◌}
 use Rattle.strand_contract.specs.declared.turns.Place.{Place}
 use Rattle.strand_contract.specs.declared.turns.Act.{Act}
@@ -17,6 +18,14 @@ either P false x y p q = q
 wakes-if : {J : Type 0} (c : Bool) (a : Act J) (acts : List (Act J)) → (IsMild acts → IsMild (a ∷ acts)) → IsMild acts → IsMild (act_if c a acts)
 wakes-if true a acts f h = f h
 wakes-if false a acts f h = h
+
+serves-if : {J : Type 0} (c : Bool) (a : Act J) (acts : List (Act J)) → (IsClientOnly acts → IsClientOnly (a ∷ acts)) → IsClientOnly acts → IsClientOnly (act_if c a acts)
+serves-if true a acts f h = f h
+serves-if false a acts f h = h
+
+serves-end : (J : Type 0) (qs : List Place) → IsClientOnly (ending {J = J} qs)
+serves-end J [] = tt
+serves-end J (q ∷ qs) = serves-end J qs
 
 ends-if : {J : Type 0} (c : Bool) (a : Act J) (acts : List (Act J)) → (IsEnding acts → IsEnding (a ∷ acts)) → IsEnding acts → IsEnding (act_if c a acts)
 ends-if true a acts f h = f h
@@ -58,6 +67,20 @@ module _ {J S : Type 0} where
   only-wakes (Look go) b s h = only-wakes (go b s) b s (h b s)
   only-wakes (Ask q) b s h = absurd h
   only-wakes End b s h = wakes-end J b.opened
+
+  pub only-serves : (m : Move J S) (b : Ledger J) (s : S) → OnlyServes m → IsClientOnly (perform m b s).acts
+  only-serves Done b s h = tt
+  only-serves (Line k m) b s h = serves-if (not (has_number k b.line)) (act.Ready k) _ (λ w. w) (only-serves m (with_thread k b) s h)
+  only-serves (Unline k m) b s h = only-serves m (without_thread k b) s h
+  only-serves (Send q bytes m) b s h = let c = with_sent q bytes b in serves-if (wants_offer q c) (act.Offer q) _ (λ w. w) (only-serves m (with_offer q c) s h)
+  only-serves (Arm n at m) b s h = absurd h
+  only-serves (Cancel n m) b s h = absurd h
+  only-serves (HangUp q m) b s h = serves-if (has q b.opened) (act.HangUp q) _ (λ w. w) (only-serves m (hung_up q b) s h)
+  only-serves (Log line m) b s h = absurd h
+  only-serves (Set f m) b s h = only-serves m b (f s) h
+  only-serves (Look go) b s h = only-serves (go b s) b s (h b s)
+  only-serves (Ask x) b s h = absurd h
+  only-serves End b s h = serves-end J b.opened
 
   pub ends-life : (m : Move J S) (b : Ledger J) (s : S) → EndsLife m → IsEnding (perform m b s).acts
   ends-life Done b s h = absurd h

@@ -69,6 +69,21 @@ OnlyWakes {J} {S} (Look go) = (b : Ledger J) (s : S) → OnlyWakes (go b s)
 OnlyWakes (Ask x) = ⊥
 OnlyWakes End = Unit {0}
 
+-- none asks or arms, nor cancels or logs
+abbrev pub OnlyServes : {J S : Type 0} → Move J S → Type 0
+OnlyServes Done = Unit {0}
+OnlyServes (Line k m) = OnlyServes m
+OnlyServes (Unline k m) = OnlyServes m
+OnlyServes (Send q bytes m) = OnlyServes m
+OnlyServes (Arm n at m) = ⊥
+OnlyServes (Cancel n m) = ⊥
+OnlyServes (HangUp q m) = OnlyServes m
+OnlyServes (Log line m) = ⊥
+OnlyServes (Set f m) = OnlyServes m
+OnlyServes {J} {S} (Look go) = (b : Ledger J) (s : S) → OnlyServes (go b s)
+OnlyServes (Ask x) = ⊥
+OnlyServes End = Unit {0}
+
 -- the last ends the life, and the others take back, hang up and log
 abbrev pub EndsLife : {J S : Type 0} → Move J S → Type 0
 EndsLife Done = ⊥
