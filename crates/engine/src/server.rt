@@ -30,7 +30,7 @@ pub fn serve<S: StrandContract, W: World>(
     events: u64,
 ) -> Ended
     requires { IsFresh (W.book world.old) }
-    ensures right { IsRight (S.behavior site) (W.book world.new) }
+    ensures right { IsRight (S.meaning site).behavior (W.book world.new) }
     ensures ended { EndsBy events (W.book world.old) (W.book world.new) result }
     ensures same { W.same world.old world.new }
 {

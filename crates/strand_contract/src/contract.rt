@@ -6,9 +6,9 @@ use std::alloc::{AllocError, Global};
 
 /// One strand, by what it does and not by how it does it. Once it ran out of memory it may only be dropped.
 pub trait StrandContract: Drop {
-    ghost use Rattle.std.specs.Prelude.{◌≡◌, ◌<◌, ◌+◌, List, ℕ, ◌∷◌, IfOk, true, length};
+    ghost use Rattle.std.specs.Prelude.{◌≡◌, ◌<◌, ◌+◌, List, ℕ, ◌∷◌, IfOk, true, length, option_map};
     ghost use Rattle.strand_contract.specs.Actions.{LocalAction};
-    ghost use Rattle.strand_contract.specs.Behaviors.{Meaning};
+    ghost use Rattle.strand_contract.specs.Behaviors.{Meaning, name_at};
     ghost use Rattle.strand_contract.specs.Calls.{is_own_turn, Begins, MayBeShown, TakesTurn, MayBeAnswered, TakesAnswer, HasPiece};
     ghost use Rattle.strand_contract.specs.Laws.{is_still, IsQuiet, IsSilent, Grows, AsksLast, AsksFit, HangsUpOpen, LeavesNothingOpen, Keeps};
     ghost use Rattle.strand_contract.specs.Laws.{WakesQuietly, EndsAtStop};
@@ -33,14 +33,12 @@ pub trait StrandContract: Drop {
     fn zones(site: &Self::Site) -> u32
         ensures { result ≡ (meaning site.now).behavior.zones };
 
-    /// The name of the dictionary of that number.
-    fn zone_name(site: &Self::Site, zone: u32) -> &Bytes
-        requires { zone < (meaning site.now).behavior.zones }
-        ensures { result.now ≡ (meaning site.now).behavior.zone_name zone };
+    /// The name of the dictionary of that number; none where the site has no such dictionary.
+    fn zone_name(site: &Self::Site, zone: u32) -> Option<&Bytes>
+        ensures { option_map (λ name. name.now) result ≡ name_at (meaning site.now).behavior zone };
 
     /// Its size in bytes.
     fn zone_size(site: &Self::Site, zone: u32) -> u64
-        requires { zone < (meaning site.now).behavior.zones }
         ensures { result ≡ (meaning site.now).behavior.zone_size zone };
 
     /// Begins at the moment `now`.
