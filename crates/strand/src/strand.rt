@@ -214,16 +214,16 @@ impl StrandContract for LiteralStrand {
         0
     }
 
-    fn zone_name(site: &Site, zone: u32) -> &Bytes {
+    fn zone_name(site: &Site, zone: u32) -> Option<&Bytes> {
         let _ = site;
         let _ = zone;
-        unreachable!()
+        None
     }
 
     fn zone_size(site: &Site, zone: u32) -> u64 {
         let _ = site;
         let _ = zone;
-        unreachable!()
+        0
     }
 
     fn begin(
