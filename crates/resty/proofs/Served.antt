@@ -91,7 +91,7 @@ runs all-passed body lines world tells served stopped right =
     let all = all-passed lines world.passed world.history.entries (offered_lengths (literal_behavior body) right.execution) served.made first (stopped-newest world.history.entries stopped) in
     let told : IsTold lines world.history.entries (offered_lengths (literal_behavior body) right.execution) =
     subst (λ ls. IsTold ls world.history.entries (offered_lengths (literal_behavior body) right.execution)) all first in
-    let fit = history-fit body lines world.history.entries (offered_lengths (literal_behavior body) right.execution) right.execution served told right.history right.lawful.alone right.lawful.begins right.plain in
+    let fit = history-fit body lines world.history.entries (offered_lengths (literal_behavior body) right.execution) right.execution served told right.history right.lawful.alone right.lawful.begins right.plain right.ordered.turns in
     record {
       execution = right.execution;
       history = right.history;
