@@ -100,6 +100,7 @@ Logs faults true book = Rose faults book.faults × IfSome book.history HasFailed
 pub record Worked {V : Type 0} (same : V → V → Type 0) (book : V → Book) (old new : V) (failed_before failed : Bool) : Type 0 where
   pub later : same old new
   pub events : option_map events_of (book new).history ≡ option_map events_of (book old).history
+  pub port : (book new).port ≡ (book old).port
   pub logs : (faults : ℕ) → Logs faults failed_before (book old) → Logs faults failed (book new)
 
 -- the same for an engine that works

@@ -10,8 +10,7 @@ use Rattle.resty_world.specs.declared.entry.Entry.{Entry}
 use Rattle.resty_world.specs.declared.entry.Entry.TheVariants as entry
 use Rattle.resty_world.specs.declared.schedule_line.SchedLine.{SchedLine}
 use Rattle.resty.specs.Built.{IsBuilt}
-use Rattle.resty.specs.Form.{IsServed}
-use Rattle.resty.proofs.Story.{AreEventLines, AreToldEntries, entries-told, served-events}
+use Rattle.resty.proofs.Story.{AreEventLines, AreToldEntries, entries-told}
 use Rattle.schedule_text.specs.Accepted.{IsHistory}
 use Rattle.schedule_text.specs.Ranges.{IsBytes, IsEntry, IsOrdinal}
 use Rattle.schedule.specs.Told.{IsTold}
@@ -291,12 +290,12 @@ module _ {J : Type 0} where
       All-append IsFit (entries_of (literal_behavior body) m ms) (external (literal_behavior body) ms) (entries-fit body m ms f before) (all-fit body ms before)
 
   -- the history of an execution of a literal site that tells the lines of a schedule
-  pub history-fit : (body : List ℕ) (lines : List SchedLine) (h : List Entry) (offered : List ℕ) (ms : List (GlobalAction J)) → IsServed lines → IsTold lines h offered
+  pub history-fit : (body : List ℕ) (lines : List SchedLine) (h : List Entry) (offered : List ℕ) (ms : List (GlobalAction J)) → AreEventLines lines → IsTold lines h offered
       → h ≡ external (literal_behavior body) ms → ((s : StrandId) → IsExecution (literal_behavior body) (projection s ms)) → BeginsRight ms → IsPlain (literal_behavior body) ms → TurnsInOrder (literal_behavior body) ms → All IsBuilt h × IsHistory h
   history-fit body lines h offered ms whole told is alone begins plain turns = split h (subst (All IsFit) (sym is) (all-fit body ms (record {
     alone = alone;
     begins = begins;
     plain = plain;
     turns = turns;
-    told = subst AreToldEntries (told.steps_history ∙ is) (entries-told (lines ++ told.after) told.steps (subst AreEventLines (sym told.steps_lines) (served-events lines whole)) told.steps_right);
+    told = subst AreToldEntries (told.steps_history ∙ is) (entries-told (lines ++ told.after) told.steps (subst AreEventLines (sym told.steps_lines) whole) told.steps_right);
   })))

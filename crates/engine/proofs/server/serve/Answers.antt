@@ -14,6 +14,7 @@ loop-given-init g c = record {
   same = g.met.W.World.stays _;
   spent = fresh-spent _ c.requires.history;
   faults = refl;
+  port = refl;
   within = omega arith;
   bound = refl;
 }
@@ -37,6 +38,7 @@ returns-in-LogFailed g c =
     record {
       right = engine-right _ c.step.new.self (g.W.World.book c.step.new.world) (g.met.S.StrandContract.keeps c.args.site) s.rests;
       ended = (rw faults at s.stepped.0, unwritten _ s.stepped.1);
+      port = s.goes.port ∙ (gave.port ∙ i.port);
       same = g.met.W.World.joins _ _ _ (g.met.W.World.joins _ _ _ i.same c.next_event.ensures.same) s.goes.later;
     }
 
@@ -51,6 +53,7 @@ returns-in-Stopped g c =
     record {
       right = engine-right _ c.step.new.self (g.W.World.book c.step.new.world) (g.met.S.StrandContract.keeps c.args.site) s.rests;
       ended = (stopped _ _ _ stop.history s.goes.events, s.stepped.1 ∙ faults);
+      port = s.goes.port ∙ (gave.port ∙ i.port);
       same = g.met.W.World.joins _ _ _ (g.met.W.World.joins _ _ _ i.same c.next_event.ensures.same) s.goes.later;
     }
 
@@ -66,6 +69,7 @@ loop-given-preserved g c =
       same = g.met.W.World.joins _ _ _ (g.met.W.World.joins _ _ _ i.same c.next_event.ensures.same) s.goes.later;
       spent = spent c.loop-given.given _ _ _ c.in_default.event (ap is_stop (sym c.in_default.event-is) ∙ s.stepped.0) (gave.history ∙ ap (λ v. told (if v then entry.Given c.in_default.event ∷ [] else []) (g.W.World.book c.loop-given.world).history) kind.0) s.goes.events i.spent;
       faults = s.stepped.1 ∙ faults;
+      port = s.goes.port ∙ (gave.port ∙ i.port);
       within = let more = c.loop-given-test.true in omega (arith, more);
       bound = i.bound;
     }

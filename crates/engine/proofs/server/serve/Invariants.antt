@@ -9,6 +9,7 @@ invariant-loop-given g l = record {
   same : g.W.World.same l.fn.world l.world;
   spent : IfSome (g.W.World.book l.world).history (IsSpent l.given);
   faults : (g.W.World.book l.world).faults ≡ (g.W.World.book l.fn.world).faults;
+  port : (g.W.World.book l.world).port ≡ (g.W.World.book l.fn.world).port;
   within : l.given ≤ l.fn.events;
   bound : l.events ≡ l.fn.events;
 }

@@ -22,8 +22,8 @@ pub returns-then-from-self-clause-works : goal.returns-then-from-self-clause-wor
 returns-then-from-self-clause-works g c =
     goes-joins g.W.World.same g.W.World.book _ c.hang_up.new.self _ _ _ _ (g.met.W.World.joins _ _ _)
     (goes-joins g.W.World.same g.W.World.book _ c.note.new.self _ _ _ _ (g.met.W.World.joins _ _ _)
-    (goes-work g.W.World.same g.W.World.book _ _ _ _ c.note.ensures.same (turned-work c.args.connection) c.note.ensures.notes.history c.note.ensures.notes.counts.faults)
-    (goes-work g.W.World.same g.W.World.book _ _ _ _ c.hang_up.ensures.same (closed-work (id.Conn c.args.connection)) c.hang_up.ensures.hangs_up.history c.hang_up.ensures.hangs_up.counts.faults))
+    (goes-work g.W.World.same g.W.World.book _ _ _ _ c.note.ensures.same (turned-work c.args.connection) c.note.ensures.notes.history c.note.ensures.notes.counts.faults c.note.ensures.notes.course.port)
+    (goes-work g.W.World.same g.W.World.book _ _ _ _ c.hang_up.ensures.same (closed-work (id.Conn c.args.connection)) c.hang_up.ensures.hangs_up.history c.hang_up.ensures.hangs_up.counts.faults c.hang_up.ensures.hangs_up.course.port))
     (forgot-work g.W.World.same g.W.World.book _ _ _ (strand.Conn c.args.connection) c.forget.ensures.same c.forget.ensures.forgets)
 
 pub carry-requires : goal.carry-requires

@@ -25,12 +25,12 @@ returns-clause-standing g c = λ site f.
 
 pub returns-clause-works : goal.returns-clause-works
 returns-clause-works g c =
-    let noted = goes-work g.W.World.same g.W.World.book _ _ c.args.self.now.log_failed _ c.note.ensures.same (dropped-work (strand.Conn c.args.connection)) c.note.ensures.notes.history c.note.ensures.notes.counts.faults in
+    let noted = goes-work g.W.World.same g.W.World.book _ _ c.args.self.now.log_failed _ c.note.ensures.same (dropped-work (strand.Conn c.args.connection)) c.note.ensures.notes.history c.note.ensures.notes.counts.faults c.note.ensures.notes.course.port in
     let forgot = forgot-work g.W.World.same g.W.World.book _ _ c.args.self.now.log_failed (strand.Conn c.args.connection) c.forget.ensures.same c.forget.ensures.forgets in
     elim c.if-is_open.branch [
       | then-is_open w ↦ rw w.self-is (goes-joins g.W.World.same g.W.World.book _ w.hang_up.new.self _ _ _ _ (g.met.W.World.joins _ _ _)
           (goes-joins g.W.World.same g.W.World.book _ c.note.new.self _ _ _ _ (g.met.W.World.joins _ _ _) noted
-          (goes-work g.W.World.same g.W.World.book _ _ _ _ w.hang_up.ensures.same (closed-work (id.Conn c.args.connection)) w.hang_up.ensures.hangs_up.history w.hang_up.ensures.hangs_up.counts.faults))
+          (goes-work g.W.World.same g.W.World.book _ _ _ _ w.hang_up.ensures.same (closed-work (id.Conn c.args.connection)) w.hang_up.ensures.hangs_up.history w.hang_up.ensures.hangs_up.counts.faults w.hang_up.ensures.hangs_up.course.port))
           (rw w.world-is at forgot))
       | else-is_open w ↦ rw w.self-is (goes-joins g.W.World.same g.W.World.book _ c.note.new.self _ _ _ _ (g.met.W.World.joins _ _ _) noted (rw w.world-is at forgot))
     ]

@@ -42,25 +42,25 @@ returns-then-is_empty-clause-works g c = goes-joins g.W.World.same g.W.World.boo
 pub returns-in-None-clause-works : goal.returns-in-None-clause-works
 returns-in-None-clause-works g c =
     goes-joins g.W.World.same g.W.World.book _ _ _ _ _ _ (g.met.W.World.joins _ _ _)
-    (goes-put g.W.World.same g.W.World.book _ _ c.put_bytes.new.self _ _ (g.met.W.World.joins _ _ _) c.loop-piece.invariant.works (id.Conn c.args.connection) c.queued-piece.result.now (wrote.Took c.in-Took.count) c.in-Took.ensures.same c.in-Took.ensures.puts.history c.in-Took.ensures.puts.faults)
+    (goes-put g.W.World.same g.W.World.book _ _ c.put_bytes.new.self _ _ (g.met.W.World.joins _ _ _) c.loop-piece.invariant.works (id.Conn c.args.connection) c.queued-piece.result.now (wrote.Took c.in-Took.count) c.in-Took.ensures.same c.in-Took.ensures.puts.history c.in-Took.ensures.puts.faults c.in-Took.ensures.puts.course.port)
     c.show.ensures.works
 
 pub returns-in-Later-clause-works : goal.returns-in-Later-clause-works
 returns-in-Later-clause-works g c =
     goes-joins g.W.World.same g.W.World.book _ _ _ _ _ _ (g.met.W.World.joins _ _ _)
-    (goes-put g.W.World.same g.W.World.book _ _ c.put_bytes.new.self _ _ (g.met.W.World.joins _ _ _) c.loop-piece.invariant.works (id.Conn c.args.connection) c.queued-piece.result.now wrote.Later c.in-Later.ensures.same c.in-Later.ensures.puts.history c.in-Later.ensures.puts.faults)
+    (goes-put g.W.World.same g.W.World.book _ _ c.put_bytes.new.self _ _ (g.met.W.World.joins _ _ _) c.loop-piece.invariant.works (id.Conn c.args.connection) c.queued-piece.result.now wrote.Later c.in-Later.ensures.same c.in-Later.ensures.puts.history c.in-Later.ensures.puts.faults c.in-Later.ensures.puts.course.port)
     c.take_turn.ensures.works
 
 pub returns-in-Broken-clause-works : goal.returns-in-Broken-clause-works
 returns-in-Broken-clause-works g c =
     goes-joins g.W.World.same g.W.World.book _ _ _ _ _ _ (g.met.W.World.joins _ _ _)
-    (goes-put g.W.World.same g.W.World.book _ _ c.put_bytes.new.self _ _ (g.met.W.World.joins _ _ _) c.loop-piece.invariant.works (id.Conn c.args.connection) c.queued-piece.result.now wrote.Broken c.in-Broken.ensures.same c.in-Broken.ensures.puts.history c.in-Broken.ensures.puts.faults)
+    (goes-put g.W.World.same g.W.World.book _ _ c.put_bytes.new.self _ _ (g.met.W.World.joins _ _ _) c.loop-piece.invariant.works (id.Conn c.args.connection) c.queued-piece.result.now wrote.Broken c.in-Broken.ensures.same c.in-Broken.ensures.puts.history c.in-Broken.ensures.puts.faults c.in-Broken.ensures.puts.course.port)
     c.take_turn-in-Broken.ensures.works
 
 pub returns-in-Memory-clause-works : goal.returns-in-Memory-clause-works
 returns-in-Memory-clause-works g c =
     goes-joins g.W.World.same g.W.World.book _ _ _ _ _ _ (g.met.W.World.joins _ _ _)
-    (goes-put g.W.World.same g.W.World.book _ _ c.put_bytes.new.self _ _ (g.met.W.World.joins _ _ _) c.loop-piece.invariant.works (id.Conn c.args.connection) c.queued-piece.result.now wrote.Memory c.in-Memory.ensures.same c.in-Memory.ensures.puts.history c.in-Memory.ensures.puts.faults)
+    (goes-put g.W.World.same g.W.World.book _ _ c.put_bytes.new.self _ _ (g.met.W.World.joins _ _ _) c.loop-piece.invariant.works (id.Conn c.args.connection) c.queued-piece.result.now wrote.Memory c.in-Memory.ensures.same c.in-Memory.ensures.puts.history c.in-Memory.ensures.puts.faults c.in-Memory.ensures.puts.course.port)
     c.give_up.ensures.works
 
 pub returns-then-is_empty-clause-standing : goal.returns-then-is_empty-clause-standing
