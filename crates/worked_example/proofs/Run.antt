@@ -13,7 +13,7 @@ use Rattle.strand_contract.specs.declared.turns.Place.TheVariants as place
 use Rattle.strand_contract.specs.declared.turns.Start.TheVariants as start
 use Rattle.strand_contract.specs.declared.turns.Act.TheVariants as act
 use Rattle.strand_contract.specs.Actions.{Moment, Began, Bytes, Run, Offer, Put, Close, Gone, LocalAction, Did, GlobalAction, Everyone}
-use Rattle.strand_contract.specs.Alone.{lives, is_open, waiting, to_offer, HasNoWork, IsOfferedAt, IsBetween, IsExecution, IsQuiescent}
+use Rattle.strand_contract.specs.Alone.{lives, waiting, to_offer, HasNoWork, IsOfferedAt, IsBetween, IsExecution, IsQuiescent}
 use Rattle.strand_contract.specs.Executions.{projection, AllQuiescent, IsLawful, offered_lengths}
 use Rattle.strand_contract.specs.Order.{all_readied, all_placed, only, IsSubsequence, none, keep, IsOrdered, IsFirstWaiting, HasThreads, HasPlaces, TurnsInOrder, HasNoTurn, NoneUnderWay}
 use Rattle.schedule_text.specs.Ranges.{IsBytes}
