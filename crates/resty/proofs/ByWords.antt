@@ -1,11 +1,10 @@
 -- From what is said of a command to what is said of the words.
-use Rattle.std.proofs.Common.{◌≡◌, ℕ, ◌⊎◌, inl, inr, List, Result, Ok, Err, OnOk, OnErr, Option, Some, None, IfSome, refl, ap, sym, ◌∙◌}
+use Rattle.std.proofs.Common.{◌≡◌, ℕ, inl, inr, List, Result, Ok, Err, OnOk, OnErr, Option, Some, None, IfSome, refl, ap, sym, ◌∙◌}
 use Rattle.resty_base.specs.Accounts.{Account}
 use Rattle.resty_base.specs.Counting.{Rose}
-use Rattle.resty_base.specs.FileMap.{FileMap, FileAccount}
+use Rattle.resty_base.specs.FileMap.{FileMap}
 use Rattle.resty_base.specs.Taking.{TakesAll, TakesPart, Takes}
 use Rattle.resty_world.specs.Book.{Book}
-use Rattle.resty.specs.declared.command_line.Mode.{Mode}
 use Rattle.resty.specs.declared.endings.Named.TheVariants as named
 use Rattle.resty.specs.declared.endings.Ending.{Ending}
 use Rattle.resty.specs.declared.endings.Ending.TheVariants as ending
@@ -14,11 +13,9 @@ use Rattle.resty.specs.declared.endings.Status.TheVariants as status
 use Rattle.resty.specs.Due.{IsDue}
 use Rattle.resty.specs.Ending.{status_of}
 use Rattle.resty.specs.Ends.{AreOfOneStatus, IsStatusBy, IsJudged, IsComplete, IsDoneOr, FailedToRead, HasBadLine}
-use Rattle.resty.specs.Live.{Leaves}
 use Rattle.resty.specs.Outside.{Outside}
 use Rattle.resty.specs.Verdict.{Verdict, Usage, Missing, TooLong, NotBuilt, BadLine, Runs, Serves, IsOf, IsVerdict, ending_of}
 use Rattle.resty.specs.Words.{Command, Says, IsForm}
-use Rattle.resty.specs.Writing.{Writes}
 use Rattle.resty.proofs.Names.{weaker_some}
 
 -- a verdict of a command is one of the words that say it

@@ -1,6 +1,5 @@
 -- A world that was listened on, and then served.
-use Rattle.std.proofs.Common.{◌≡◌, ℕ, List, Some, sym, ◌∙◌}
-use Rattle.resty_base.specs.Counting.{Rose}
+use Rattle.std.proofs.Common.{◌≡◌, ℕ, List, ◌∙◌}
 use Rattle.resty_world.specs.Book.{Book}
 use Rattle.resty_world.specs.Contract.{Listens}
 use Rattle.resty_world.specs.declared.answers.Listened.TheVariants as listened

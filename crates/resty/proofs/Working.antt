@@ -1,5 +1,5 @@
 -- From what each step says to what is said of the work.
-use Rattle.std.proofs.Common.{◌≡◌, ◌≢◌, ◌≤◌, ℕ, Bool, true, false, inl, inr, List, length, Option, IfSome, refl, sym, ap, subst, ◌∙◌, arith}
+use Rattle.std.proofs.Common.{◌≡◌, ◌≢◌, ◌≤◌, ℕ, Bool, false, inl, inr, List, length, Option, IfSome, refl, sym, subst, ◌∙◌}
 use Rattle.std.proofs.Math.Nat.{le_trans}
 use Rattle.resty_base.specs.Accounts.{Account}
 use Rattle.resty_base.specs.FileMap.{FileMap, FileAccount}
@@ -18,7 +18,7 @@ use Rattle.resty.specs.declared.endings.Status.{Status}
 use Rattle.resty.specs.declared.endings.Status.TheVariants as status
 use Rattle.resty.specs.Due.{IsDue}
 use Rattle.resty.specs.Ending.{status_of}
-use Rattle.resty.specs.Live.{ServesTo, IsServedFor, LeavesServed, LeavesBy, Leaves}
+use Rattle.resty.specs.Live.{ServesTo, LeavesServed, LeavesBy}
 use Rattle.resty.specs.Outside.{Outside}
 use Rattle.resty.specs.Reading.{EndsReading, OfSchedule, ReadsWell}
 use Rattle.resty.specs.Run.{RunsTo}

@@ -5,7 +5,6 @@ use Rattle.resty_base.specs.Counting.{Rose}
 use Rattle.resty_base.specs.FileMap.{FileMap, FileAccount}
 use Rattle.resty_base.specs.Taking.{Takes}
 use Rattle.resty_world.specs.Given.{IsBadLine}
-use Rattle.resty_world.specs.declared.schedule_line.SchedLine.{SchedLine}
 use Rattle.resty.specs.declared.endings.Named.{Named}
 use Rattle.resty.specs.declared.endings.Ending.{Ending}
 use Rattle.resty.specs.declared.endings.Ending.TheVariants as ending
@@ -15,7 +14,7 @@ use Rattle.resty.specs.Due.{IsDue}
 use Rattle.resty.specs.Ending.{status_of, line_of}
 use Rattle.resty.specs.Outside.{Outside}
 use Rattle.resty.specs.Saying.{name_of}
-use Rattle.resty.specs.Verdict.{Verdict, Runs, Serves, IsVerdict, FailedAt, ending_of}
+use Rattle.resty.specs.Verdict.{Verdict, IsVerdict, FailedAt, ending_of}
 use Rattle.resty.specs.Words.{Command, Says, IsForm}
 
 -- the words are no command; or they are one, and the work on it ended as is due. The error output took the line that says so.

@@ -1,5 +1,5 @@
 -- What the words and the files decide.
-use Rattle.std.specs.Prelude.{◌≡◌, ℕ, ◌<◌, ◌≤◌, List, length, Some, None, IfSome}
+use Rattle.std.specs.Prelude.{◌≡◌, ℕ, ◌<◌, ◌≤◌, List, length, Some, None}
 use Rattle.resty_base.specs.Counting.{Rose}
 use Rattle.resty_base.specs.FileMap.{FileMap, FileAccount}
 use Rattle.resty_world.specs.declared.schedule_line.SchedLine.{SchedLine}

@@ -15,7 +15,7 @@ use Rattle.resty.specs.declared.endings.Status.TheVariants as status
 use Rattle.resty.specs.declared.endings.Ending.{Ending}
 use Rattle.resty.specs.declared.endings.Ending.TheVariants as ending
 use Rattle.resty.specs.Run.{RunsTo, has_dropped}
-use Rattle.resty.specs.Verdict.{Verdict, Runs, IsOf}
+use Rattle.resty.specs.Verdict.{Runs, IsOf}
 use Rattle.resty.specs.Words.{Command}
 
 -- the history of a run that a command asks for, whole or cut short; where the files report what they hold, these are what they hold

@@ -1,4 +1,4 @@
-use Rattle.std.proofs.Common.{rules, ◌≡◌, ◌∷◌, ap, map, string_bytes, codes}
+use Rattle.std.proofs.Common.{rules, ◌≡◌, ◌∷◌, codes}
 use Rattle.resty.specs.Words.{texts, mode_name}
 use Rattle.resty.proofs.Commands.{no_form}
 use Rattle.resty.proofs.command_line.command_of.Goals as goal

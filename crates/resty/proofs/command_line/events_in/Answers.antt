@@ -1,4 +1,4 @@
-use Rattle.std.proofs.Common.{rules, ◌≡◌, true, [], ◌∷◌, codes, map, string_bytes, ap, ◌∙◌}
+use Rattle.std.proofs.Common.{rules, ◌≡◌, true, [], ◌∷◌, codes, map, string_bytes, ap}
 use Rattle.resty.specs.Words.{texts}
 use Rattle.resty.proofs.Commands.{counted, no_items}
 use Rattle.resty.proofs.command_line.events_in.Goals as goal

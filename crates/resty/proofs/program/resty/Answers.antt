@@ -1,6 +1,6 @@
 use Rattle.std.proofs.Common.{refl, subst}
 use Rattle.resty.specs.declared.endings.Status.TheVariants as status
-use Rattle.resty.specs.Ends.{Ends, no_command, worked}
+use Rattle.resty.specs.Ends.{no_command, worked}
 use Rattle.resty.specs.Live.{Leaves}
 use Rattle.resty.specs.Outside.{outside}
 use Rattle.resty.specs.Saying.{said}

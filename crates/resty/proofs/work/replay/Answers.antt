@@ -1,7 +1,7 @@
 use Rattle.std.proofs.Common.{refl}
 use Rattle.resty.specs.Outside.{outside}
 use Rattle.resty.specs.Saying.{said}
-use Rattle.resty.proofs.Working.{schedule_works, run_works, works_before, runs_held}
+use Rattle.resty.proofs.Working.{schedule_works, run_works, runs_held}
 use Rattle.resty.proofs.work.replay.Goals as goal
 
 pub returns-in-Err : goal.returns-in-Err

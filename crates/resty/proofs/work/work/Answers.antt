@@ -1,5 +1,4 @@
-use Rattle.std.proofs.Common.{refl, ◌≡◌, subst, sym}
-use Rattle.resty.specs.declared.command_line.Mode.TheVariants as mode
+use Rattle.std.proofs.Common.{refl, subst, sym}
 use Rattle.resty.specs.Ending.{status_of}
 use Rattle.resty.specs.Live.{LeavesBy}
 use Rattle.resty.specs.Outside.{outside}
