@@ -1,6 +1,7 @@
 -- The plain dictionary: what each call of a shared dictionary answers, and the items that it leaves (lua-nginx-module,
 -- ngx.shared.DICT; that incr tells of evictions is a choice of this server).
-use Rattle.std.specs.Prelude.{ℕ, ◌+◌, ◌-◌, ◌==◌, nat_le, nat_lt, Bool, false, ◌&&◌, ℤ, pos, negsuc, ◌+ℤ◌, int_le, List, ◌∷◌, length, map, filter, take, Option, Some, None}
+use Rattle.std.specs.Prelude.{ℕ, ◌+◌, ◌-◌, ◌==◌, nat_le, nat_lt, Bool, false, ◌&&◌, ℤ, pos, negsuc, ◌+ℤ◌, int_le, List}
+use Rattle.std.specs.Prelude.{◌∷◌, length, map, filter, take, Option, Some, None}
 use Rattle.std.specs.Prelude.{if◌then◌else◌}
 use Rattle.resty_base.specs.declared.dictionary.DictValue.{DictValue}
 use Rattle.resty_base.specs.declared.dictionary.DictValue.TheVariants as value

@@ -4,3 +4,4 @@ pub mod Dictionary
 pub mod Ranges
 pub mod Pool
 pub mod Timers
+pub mod Laws

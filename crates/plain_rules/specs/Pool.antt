@@ -1,6 +1,7 @@
 -- The plain pool of idle sockets, the most recent first (lua-nginx-module, tcpsock:setkeepalive and tcpsock:connect).
 use Rattle.std.specs.Prelude.{ℕ, ◌+◌, ◌-◌, ◌==◌, min, max, nat_le, Bool, true, false, List, [], ◌∷◌, length, filter, slice_get, Option, Some, None, option_map}
-use Rattle.std.specs.Prelude.{if◌then◌else◌}
+use Rattle.std.specs.Prelude.{nat_eq, map, if◌then◌else◌}
+use Rattle.std.specs.List.{IsDistinct}
 use Rattle.resty_base.specs.declared.names.Ms.{Ms}
 use Rattle.plain_rules.specs.declared.sockets.Idle.{Idle}
 use Rattle.plain_rules.specs.Keys.{same_key}
@@ -18,6 +19,10 @@ first_of key pool = slice_get (of_key key pool) 0
 
 abbrev pub last_of : List ℕ → List Idle → Option ℕ
 last_of key pool = option_map (λ i. i.sock) (slice_get (of_key key pool) (count_of key pool - 1))
+
+-- each socket is idle once
+abbrev pub IsOnce : List Idle → Type 0
+IsOnce pool = IsDistinct nat_eq (map (λ i. i.sock) pool)
 
 -- a socket is idle, and the pool without it
 abbrev pub is_idle : ℕ → List Idle → Bool

@@ -3,7 +3,9 @@
 #![tactic(auto)]
 
 mod items;
+mod laws;
 mod sockets;
 
 pub use items::Item;
+pub use laws::{counts_used, stays_small, stays_within};
 pub use sockets::Idle;
