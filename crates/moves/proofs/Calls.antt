@@ -9,10 +9,10 @@ use Rattle.strand_contract.specs.ClientOnlyLaws.{over, clash}
 use Rattle.moves.specs.Questions.{Question, asking}
 use Rattle.moves.specs.Questions as question
 use Rattle.moves.specs.Ledgers.{Ledger, has, has_number, left_at, wants_offer, entered}
-use Rattle.moves.specs.Moves.{Move, Done, Line, Unline, Send, Arm, Cancel, HangUp, Set, Look, Ask, End, State, with_sent, with_offer, with_thread, without_thread, with_deadline, without_deadline, hung_up, ending, act_if, perform}
+use Rattle.moves.specs.Moves.{Move, Done, Unready, Send, Arm, Cancel, HangUp, Set, Look, Ask, End, State, with_sent, with_offer, with_thread, without_thread, with_deadline, without_deadline, hung_up, ending, act_if, perform}
 use Rattle.moves.specs.Moves as move
 use Rattle.moves.specs.Plans.{Plan, move_of, state_of, behavior_of}
-use Rattle.moves.specs.Conditions.{IsKept, IsPlan}
+use Rattle.moves.specs.Conditions.{IsServed, IsPlan}
 use Rattle.std.proofs.Common.{◌≡◌, ℕ, not, Bool, true, false, ◌||◌, List, [], ◌∷◌, ◌++◌, Some, None, drop, refl, sym, ap, ◌∙◌, subst, append-nil, inl, inr}
 use Rattle.strand_contract.specs.declared.turns.Place.{Place}
 use Rattle.strand_contract.specs.declared.turns.Act.{Act}
@@ -27,7 +27,7 @@ use Rattle.moves.proofs.Tidy.{IsTidyLedger, kept-tidy}
 
 -- a still action leaves all but the line of places and what is being offered
 pub record IsUntouched {J S : Type 0} (a b : State J S) : Type 0 where
-  pub line : b.ledger.line ≡ a.ledger.line
+  pub threads : b.ledger.threads ≡ a.ledger.threads
   pub armed : b.ledger.armed ≡ a.ledger.armed
   pub put_off : b.ledger.put_off ≡ a.ledger.put_off
   pub taken : b.ledger.taken ≡ a.ledger.taken
@@ -39,12 +39,12 @@ pub record IsUntouched {J S : Type 0} (a b : State J S) : Type 0 where
   pub inner : b.inner ≡ a.inner
 
 pub still-same : {J S : Type 0} (p : Plan J S) (a : LocalAction J) (es : List (LocalAction J)) → is_still a ≡ true → IsUntouched (state_of p es) (state_of p (a ∷ es))
-still-same p (Told w) es h = record { line = refl; armed = refl; put_off = refl; taken = refl; sent = refl; opened = refl; count = refl; asked = refl; ended = refl; inner = refl }
-still-same p (Did (Close q)) es h = record { line = refl; armed = refl; put_off = refl; taken = refl; sent = refl; opened = refl; count = refl; asked = refl; ended = refl; inner = refl }
-still-same p (Did (Log line done)) es h = record { line = refl; armed = refl; put_off = refl; taken = refl; sent = refl; opened = refl; count = refl; asked = refl; ended = refl; inner = refl }
-still-same p (Did (Offer q)) es h = record { line = refl; armed = refl; put_off = refl; taken = refl; sent = refl; opened = refl; count = refl; asked = refl; ended = refl; inner = refl }
-still-same p (Did Gone) es h = record { line = refl; armed = refl; put_off = refl; taken = refl; sent = refl; opened = refl; count = refl; asked = refl; ended = refl; inner = refl }
-still-same p (Did Dropped) es h = record { line = refl; armed = refl; put_off = refl; taken = refl; sent = refl; opened = refl; count = refl; asked = refl; ended = refl; inner = refl }
+still-same p (Told w) es h = record { threads = refl; armed = refl; put_off = refl; taken = refl; sent = refl; opened = refl; count = refl; asked = refl; ended = refl; inner = refl }
+still-same p (Did (Close q)) es h = record { threads = refl; armed = refl; put_off = refl; taken = refl; sent = refl; opened = refl; count = refl; asked = refl; ended = refl; inner = refl }
+still-same p (Did (Log line done)) es h = record { threads = refl; armed = refl; put_off = refl; taken = refl; sent = refl; opened = refl; count = refl; asked = refl; ended = refl; inner = refl }
+still-same p (Did (Offer q)) es h = record { threads = refl; armed = refl; put_off = refl; taken = refl; sent = refl; opened = refl; count = refl; asked = refl; ended = refl; inner = refl }
+still-same p (Did Gone) es h = record { threads = refl; armed = refl; put_off = refl; taken = refl; sent = refl; opened = refl; count = refl; asked = refl; ended = refl; inner = refl }
+still-same p (Did Dropped) es h = record { threads = refl; armed = refl; put_off = refl; taken = refl; sent = refl; opened = refl; count = refl; asked = refl; ended = refl; inner = refl }
 still-same p a es h = clash false h refl
 
 -- the last act is the end of a life
@@ -73,8 +73,8 @@ gone-end J (q ∷ qs) = gone-end J qs
 module _ {J S : Type 0} where
   performed-ended : (m : Move J S) (b : Ledger J) (s : S) → b.ended ≡ false → (perform m b s).state.ledger.ended ≡ true → IsLastGone (carried (perform m b s).acts)
   performed-ended Done b s e h = clash b.ended h e
-  performed-ended (Line k m) b s e h = gone-ready (not (has_number k b.line)) k _ (performed-ended m (with_thread k b) s e h)
-  performed-ended (Unline k m) b s e h = performed-ended m (without_thread k b) s e h
+  performed-ended (move.Ready k m) b s e h = gone-ready (not (has_number k b.threads)) k _ (performed-ended m (with_thread k b) s e h)
+  performed-ended (Unready k m) b s e h = performed-ended m (without_thread k b) s e h
   performed-ended (Send q bytes m) b s e h = let c = with_sent q bytes b in gone-offer (wants_offer q c) q _ (performed-ended m (with_offer q c) s e h)
   performed-ended (Arm n at m) b s e h = performed-ended m (with_deadline n at b) s e h
   performed-ended (Cancel n m) b s e h = performed-ended m (without_deadline n b) s e h
@@ -144,7 +144,7 @@ module _ {J S : Type 0} (p : Plan J S) (holds : State J S → Type 0) (may_ask :
 -- what is known where a call is made
 pub record IsCalled {J S : Type 0} (p : Plan J S) (holds : State J S → Type 0) (a : LocalAction J) (es : List (LocalAction J)) : Type 0 where
   pub comes : ComesTo p a es
-  pub kept : (q : Place) → IsKept q (state_of p es).ledger
+  pub served : (q : Place) → IsServed q (state_of p es).ledger
   pub tidy : IsTidyLedger (state_of p es).ledger
   pub going : (state_of p es).ledger.ended ≡ false
   pub undropped : was_dropped es ≡ false
@@ -157,11 +157,11 @@ module _ {J S : Type 0} (p : Plan J S) (holds : State J S → Type 0) (may_ask :
       let g = lived p holds may_ask plan es f.0 l in
       record {
         comes = comes p holds may_ask plan a es g f.1;
-        kept = g.kept;
+        served = g.served;
         tidy = kept-tidy p holds may_ask plan es f.0 (undropped es l f.0);
         going = between-ended p es (ended p holds may_ask plan es f.0) l t;
         undropped = undropped es l f.0;
-        settled = λ none q h k. subst (λ x. ((state_of p es).ledger.put_off q || (has q (state_of p es).ledger.places || x)) ≡ true) (none-begun p es q (is-idle p holds es g t) none h k) (g.kept q h k);
+        settled = λ none q h k. subst (λ x. ((state_of p es).ledger.put_off q || (has q (state_of p es).ledger.places || x)) ≡ true) (none-begun p es q (is-idle p holds es g t) none h k) (g.served q h k);
         inner = g.inner;
       }
     where

@@ -7,12 +7,12 @@ use Rattle.strand_contract.specs.Alone.{Enabled, IsExecution, HasNoWork, IsBetwe
 use Rattle.strand_contract.specs.Laws.{is_still, IsQuiet}
 use Rattle.strand_contract.specs.ClientOnlyLaws.{clash}
 use Rattle.moves.specs.Questions.{Question}
-use Rattle.moves.specs.Ledgers.{Ledger, has, is_place, left_at, is_lined, opened_by, count_by, entered}
+use Rattle.moves.specs.Ledgers.{Ledger, has, is_place, left_at, has_offer, opened_by, count_by, entered}
 use Rattle.moves.specs.Moves.{State}
 use Rattle.plain_rules.specs.Ranges.{MayAnswer}
 use Rattle.moves.specs.Plans.{Plan, move_of, stepped, state_of, behavior_of}
 use Rattle.moves.specs.Turns.{IsFree, IsFreeAt, IsTaking, Comes}
-use Rattle.moves.specs.Conditions.{IsKept, IsPlan}
+use Rattle.moves.specs.Conditions.{IsServed, IsPlan}
 use Rattle.std.proofs.Common.{◌≡◌, ℕ, zero, suc, ne_eqb, ◌+◌, Bool, true, false, ◌||◌, List, [], ◌∷◌, ◌++◌, Option, Some, None, drop, take, ◌%◌, ◌-◌, if◌then◌else◌, refl, sym, ap, ◌∙◌, subst, append-nil, arith, inl, inr}
 use Rattle.resty_base.specs.declared.names.Ms.{Ms}
 use Rattle.resty_base.specs.declared.dictionary.DictCall.{DictCall}
@@ -25,9 +25,9 @@ use Rattle.strand_contract.specs.declared.turns.Start.TheVariants as start
 use Rattle.strand_contract.specs.declared.turns.Act.{Act}
 use Rattle.strand_contract.specs.declared.turns.Act.TheVariants as act
 use Rattle.moves.proofs.Places.{shut, same-is, has-without, has-append, once-append, or-none}
-use Rattle.moves.proofs.Ledgers.{line-is, armed-is, places-is, taken-is, begun-is, count-is}
+use Rattle.moves.proofs.Ledgers.{threads-are, armed-are, places-are, taken-is, begun-is, count-is}
 use Rattle.moves.proofs.Opened.{Leads, IsNumbered, leads-same, leads-carried, stays-shut, performed-leads, performed-numbered, numbered-without}
-use Rattle.moves.proofs.Kept.{performed-kept, unshut}
+use Rattle.moves.proofs.Served.{performed-kept, unshut}
 
 pub quiet : {J S : Type 0} (p : Plan J S) → IsQuiet (behavior_of p)
 quiet p a es h = rw h refl
@@ -39,7 +39,7 @@ ComesTo p a es = Comes p (moment (a ∷ es)) a (state_of p es)
 -- what an execution and the ledger have in common
 pub record Agrees {J S : Type 0} (p : Plan J S) (holds : State J S → Type 0) (es : List (LocalAction J)) : Type 0 where
   pub leads : Leads (λ q. is_open q es) (todo (behavior_of p) es) (λ q. has q (state_of p es).ledger.opened) (state_of p es).ledger.asked
-  pub kept : (q : Place) → IsKept q (state_of p es).ledger
+  pub served : (q : Place) → IsServed q (state_of p es).ledger
   pub numbered : IsNumbered (state_of p es).ledger.opened (state_of p es).ledger.count (state_of p es).ledger.sent
   pub inner : holds (state_of p es)
 
@@ -93,7 +93,7 @@ record IsSameAt {J : Type 0} (q : Place) (b c : Ledger J) : Type 0 where
   later : c.put_off q ≡ b.put_off q
   lined : has q c.places ≡ has q b.places
 
-still-kept : {J : Type 0} (q : Place) (b c : Ledger J) → (has q b.opened ≡ true → is_some_left (left_at q b) ≡ true → is_place q b.begun ≡ false) → IsSameAt q b c → IsKept q b → IsKept q c
+still-kept : {J : Type 0} (q : Place) (b c : Ledger J) → (has q b.opened ≡ true → is_some_left (left_at q b) ≡ true → is_place q b.begun ≡ false) → IsSameAt q b c → IsServed q b → IsServed q c
 still-kept q b c none same kept h k =
     let o : has q b.opened ≡ true = sym same.opened ∙ h in
     let w : is_some_left (left_at q b) ≡ true = sym (ap (λ n. is_some_left (drop n (c.sent q))) same.taken_is ∙ ap (λ xs. is_some_left (drop (b.taken q) xs)) same.sent) ∙ k in
@@ -163,13 +163,13 @@ numbered-gain opened count sent n = record {
 }
 
 kept-gain : {J : Type 0} (q : Place) (b c : Ledger J) → IsNumbered b.opened b.count b.sent → c.opened ≡ b.opened ++ place.Sock b.count ∷ [] → c.sent q ≡ b.sent q → c.taken q ≡ b.taken q → c.put_off q ≡ b.put_off q → c.places ≡ b.places → c.begun ≡ b.begun
-    → IsKept q b → IsKept q c
+    → IsServed q b → IsServed q c
 kept-gain q b c n opened sent took off places begun kept h k = test (same_place q (place.Sock b.count)) refl
   where
     some : is_some_left (left_at q b) ≡ true
     some = sym (ap (λ n. is_some_left (drop n (c.sent q))) took ∙ ap (λ xs. is_some_left (drop (b.taken q) xs)) sent) ∙ k
 
-    test : (x : Bool) → same_place q (place.Sock b.count) ≡ x → (c.put_off q || is_lined q c) ≡ true
+    test : (x : Bool) → same_place q (place.Sock b.count) ≡ x → (c.put_off q || has_offer q c) ≡ true
     test true e = clash (is_some_left (left_at q b)) some
         (ap (λ xs. is_some_left (drop (b.taken q) xs)) (subst (λ r. b.sent r ≡ []) (sym (same-is q (place.Sock b.count) e)) (n.unsent b.count (omega arith))) ∙ ap is_some_left (no-more (b.taken q)))
     test false e = rw (off, places, begun) (kept (sym (has-append q (place.Sock b.count) b.opened ∙ ap (λ x. x || has q b.opened) e) ∙ sym (ap (has q) opened) ∙ h) some)
@@ -180,7 +180,7 @@ module _ {J S : Type 0} (p : Plan J S) (holds : State J S → Type 0) (may_ask :
       → left_by a (todo (behavior_of p) es) ≡ [] → (entered a (state_of p es).ledger).asked ≡ None
       → ((q : Place) → is_open q (a ∷ es) ≡ has q (entered a (state_of p es).ledger).opened)
       → IsNumbered (entered a (state_of p es).ledger).opened (entered a (state_of p es).ledger).count (state_of p es).ledger.sent
-      → ((q : Place) → IsKept q (state_of p (a ∷ es)).ledger) → ComesTo p a es → Agrees p holds (a ∷ es)
+      → ((q : Place) → IsServed q (state_of p (a ∷ es)).ledger) → ComesTo p a es → Agrees p holds (a ∷ es)
   step a es g none un opens numbered kept comes =
       let st = state_of p es in
       let m = move_of p (moment (a ∷ es)) a st in
@@ -188,13 +188,13 @@ module _ {J S : Type 0} (p : Plan J S) (holds : State J S → Type 0) (may_ask :
       record {
         leads = rw none (leads-same (λ q. has q (entered a st.ledger).opened) (λ q. is_open q (a ∷ es)) (carried r.acts) (λ q. has q r.state.ledger.opened) r.state.ledger.asked (λ q. sym (opens q))
             (leads-carried (λ q. has q (entered a st.ledger).opened) r.acts (λ q. has q r.state.ledger.opened) r.state.ledger.asked (performed-leads m (entered a st.ledger) st.inner numbered.once un)));
-        kept = kept;
+        served = kept;
         numbered = performed-numbered m (entered a st.ledger) st.inner numbered;
         inner = plan.stays (moment (a ∷ es)) a st g.inner comes;
       }
 
   -- what holds of a place as the turn begins holds after it
-  behind : (a : LocalAction J) (es : List (LocalAction J)) (q : Place) → IsKept q (entered a (state_of p es).ledger) → IsKept q (state_of p (a ∷ es)).ledger
+  behind : (a : LocalAction J) (es : List (LocalAction J)) (q : Place) → IsServed q (entered a (state_of p es).ledger) → IsServed q (state_of p (a ∷ es)).ledger
   behind a es q kept = let st = state_of p es in performed-kept q (move_of p (moment (a ∷ es)) a st) (entered a st.ledger) st.inner kept
 
   -- an action that begins a turn between two, and leaves all as it is
@@ -207,25 +207,25 @@ module _ {J S : Type 0} (p : Plan J S) (holds : State J S → Type 0) (may_ask :
       let b = (state_of p es).ledger in
       step a es g (ap (left_by a) none ∙ l) (un b.asked free.none_asked) (λ q. o q ∙ free.opens q ∙ ap (has q) (sym opened))
       (subst (λ n. IsNumbered (opened_by a b.count b.opened) n b.sent) (sym count) (subst (λ qs. IsNumbered qs b.count b.sent) (sym opened) g.numbered))
-      (λ q. behind a es q (still-kept q b (entered a b) (none-begun p es q free offer) (same q) (g.kept q))) comes
+      (λ q. behind a es q (still-kept q b (entered a b) (none-begun p es q free offer) (same q) (g.served q))) comes
 
   -- an action at one place
   splits : (a : LocalAction J) (es : List (LocalAction J)) (r : Place) → Agrees p holds es
-      → ((q : Place) → same_place q r ≡ true → IsKept q (state_of p (a ∷ es)).ledger)
+      → ((q : Place) → same_place q r ≡ true → IsServed q (state_of p (a ∷ es)).ledger)
       → ((q : Place) → same_place q r ≡ false → IsSameAt q (state_of p es).ledger (entered a (state_of p es).ledger))
       → ((q : Place) → same_place q r ≡ false → has q (state_of p es).ledger.opened ≡ true → is_some_left (left_at q (state_of p es).ledger) ≡ true → is_place q (state_of p es).ledger.begun ≡ false)
-      → (q : Place) → IsKept q (state_of p (a ∷ es)).ledger
+      → (q : Place) → IsServed q (state_of p (a ∷ es)).ledger
   splits a es r g here there none q = test (same_place q r) refl
     where
-      test : (c : Bool) → same_place q r ≡ c → IsKept q (state_of p (a ∷ es)).ledger
+      test : (c : Bool) → same_place q r ≡ c → IsServed q (state_of p (a ∷ es)).ledger
       test true e = here q e
-      test false e = behind a es q (still-kept q (state_of p es).ledger (entered a (state_of p es).ledger) (none q e) (there q e) (g.kept q))
+      test false e = behind a es q (still-kept q (state_of p es).ledger (entered a (state_of p es).ledger) (none q e) (there q e) (g.served q))
 
   -- an action at the place that is being offered
   at-offer : (a : LocalAction J) (es : List (LocalAction J)) (r : Place) → Agrees p holds es → IsIdle p es → IsTaking (state_of p es).ledger r
       → left_by a (todo (behavior_of p) es) ≡ [] → (entered a (state_of p es).ledger).asked ≡ None → ((q : Place) → is_open q (a ∷ es) ≡ is_open q es)
       → opened_by a (state_of p es).ledger.count (state_of p es).ledger.opened ≡ (state_of p es).ledger.opened → count_by a (state_of p es).ledger.count ≡ (state_of p es).ledger.count
-      → ((q : Place) → same_place q r ≡ true → IsKept q (state_of p (a ∷ es)).ledger)
+      → ((q : Place) → same_place q r ≡ true → IsServed q (state_of p (a ∷ es)).ledger)
       → ((q : Place) → same_place q r ≡ false → IsSameAt q (state_of p es).ledger (entered a (state_of p es).ledger))
       → ComesTo p a es → Agrees p holds (a ∷ es)
   at-offer a es r g free t none un o opened count here there comes =
@@ -235,7 +235,7 @@ module _ {J S : Type 0} (p : Plan J S) (holds : State J S → Type 0) (may_ask :
       (splits a es r g here there (λ q e h k. ap (is_place q) t.begun ∙ e)) comes
 
   free-of : (es : List (LocalAction J)) → Agrees p holds es → HasNoWork (behavior_of p) es → IsFree (state_of p es).ledger
-  free-of es g w = record { no_thread = sym (line-is p es) ∙ w.no_thread; no_place = sym (places-is p es) ∙ w.no_place; none_asked = (is-idle p holds es g w.no_act).none_asked }
+  free-of es g w = record { no_thread = sym (threads-are p es) ∙ w.no_thread; no_place = sym (places-are p es) ∙ w.no_place; none_asked = (is-idle p holds es g w.no_act).none_asked }
 
   given-open : (es : List (LocalAction J)) (q : Place) → Agrees p holds es → IsGivenAt (behavior_of p) es q → has q (state_of p es).ledger.opened ≡ true
   given-open es q g w = sym ((is-idle p holds es g w.idle.no_act).opens q) ∙ w.opened
@@ -258,7 +258,7 @@ module _ {J S : Type 0} (p : Plan J S) (holds : State J S → Type 0) (may_ask :
 
   lost : (es : List (LocalAction J)) (r : Place) → Agrees p holds es → IsOfferedAt (behavior_of p) es r → Agrees p holds (Did (Lost r) ∷ es)
   lost es r g w = at-offer (Did (Lost r)) es r g (is-idle p holds es g w.no_act) (taking-of es r g w) w.no_act refl (λ q. refl) refl refl
-      (λ q e. subst (λ x. IsKept x (state_of p (Did (Lost r) ∷ es)).ledger) (sym (same-is q r e)) (plan.lost (moment es) r (state_of p es) g.inner (taking-of es r g w)))
+      (λ q e. subst (λ x. IsServed x (state_of p (Did (Lost r) ∷ es)).ledger) (sym (same-is q r e)) (plan.lost (moment es) r (state_of p es) g.inner (taking-of es r g w)))
       (λ q e. record { opened = refl; sent = refl; taken_is = refl; later = rw e refl; lined = refl }) (taking-of es r g w)
 
   again : (es : List (LocalAction J)) (r : Place) → Agrees p holds es → IsGivenAt (behavior_of p) es r → Agrees p holds (Did (Ready r) ∷ es)
@@ -266,7 +266,7 @@ module _ {J S : Type 0} (p : Plan J S) (holds : State J S → Type 0) (may_ask :
       let free = is-idle p holds es g w.idle.no_act in
       step (Did (Ready r)) es g w.idle.no_act refl (λ q. free.opens q) g.numbered
       (splits (Did (Ready r)) es r g
-      (λ q e. subst (λ x. IsKept x (state_of p (Did (Ready r) ∷ es)).ledger) (sym (same-is q r e)) (plan.again (moment es) r (state_of p es) g.inner (free-at es r g w)))
+      (λ q e. subst (λ x. IsServed x (state_of p (Did (Ready r) ∷ es)).ledger) (sym (same-is q r e)) (plan.again (moment es) r (state_of p es) g.inner (free-at es r g w)))
       (λ q e. record { opened = refl; sent = refl; taken_is = refl; later = rw e refl; lined = refl })
       (λ q e. none-begun p es q free w.idle.no_offer)) (free-at es r g w)
 
@@ -283,9 +283,9 @@ module _ {J S : Type 0} (p : Plan J S) (holds : State J S → Type 0) (may_ask :
       → Leads (λ q. is_open q es) acts (λ q. has q (state_of p es).ledger.opened) (state_of p es).ledger.asked
   asked-of es g t = subst (λ acts. Leads (λ q. is_open q es) acts (λ q. has q (state_of p es).ledger.opened) (state_of p es).ledger.asked) t g.leads
 
-  close-kept : (es : List (LocalAction J)) (r q : Place) → Agrees p holds es → (same_place q r ≡ true → has q (state_of p es).ledger.opened ≡ false) → (c : Bool) → same_place q r ≡ c → IsKept q (state_of p (Did (Close r) ∷ es)).ledger
+  close-kept : (es : List (LocalAction J)) (r q : Place) → Agrees p holds es → (same_place q r ≡ true → has q (state_of p es).ledger.opened ≡ false) → (c : Bool) → same_place q r ≡ c → IsServed q (state_of p (Did (Close r) ∷ es)).ledger
   close-kept es r q g none true e h k = clash (has q (state_of p es).ledger.opened) h (none e)
-  close-kept es r q g none false e h k = rw (but-other q r (state_of p es).ledger.begun e) (g.kept q h k)
+  close-kept es r q g none false e h k = rw (but-other q r (state_of p es).ledger.begun e) (g.served q h k)
 
   close : (es : List (LocalAction J)) (r : Place) (rest : List (Act J)) → Agrees p holds es → todo (behavior_of p) es ≡ act.HangUp r ∷ rest → Agrees p holds (Did (Close r) ∷ es)
   close es r rest g t =
@@ -293,7 +293,7 @@ module _ {J S : Type 0} (p : Plan J S) (holds : State J S → Type 0) (may_ask :
       let h = asked-of es g t in
       record {
         leads = rw (t, append-nil rest) h.1;
-        kept = λ q. close-kept es r q g (λ e. stays-shut (shut r (λ q. is_open q es)) rest (λ q. has q b.opened) b.asked q h.1 (rw e refl)) (same_place q r) refl;
+        served = λ q. close-kept es r q g (λ e. stays-shut (shut r (λ q. is_open q es)) rest (λ q. has q b.opened) b.asked q h.1 (rw e refl)) (same_place q r) refl;
         numbered = g.numbered;
         inner = plan.stays (moment es) (Did (Close r)) (state_of p es) g.inner tt;
       }
@@ -304,7 +304,7 @@ module _ {J S : Type 0} (p : Plan J S) (holds : State J S → Type 0) (may_ask :
       let h = asked-of es g t in
       record {
         leads = rw (t, append-nil rest) h;
-        kept = g.kept;
+        served = g.served;
         numbered = g.numbered;
         inner = plan.stays (moment es) (Did (Log line done)) (state_of p es) g.inner tt;
       }
@@ -326,22 +326,22 @@ module _ {J S : Type 0} (p : Plan J S) (holds : State J S → Type 0) (may_ask :
       let b = (state_of p es).ledger in
       let h = asked-of es g t in
       step (Did (Dial host port true)) es g (rw t refl) refl (λ q. gain-opens es q (h.0 q)) (numbered-gain b.opened b.count b.sent g.numbered)
-      (λ q. behind (Did (Dial host port true)) es q (kept-gain q b (entered (Did (Dial host port true)) b) g.numbered refl refl refl refl refl refl (g.kept q))) h.2
+      (λ q. behind (Did (Dial host port true)) es q (kept-gain q b (entered (Did (Dial host port true)) b) g.numbered refl refl refl refl refl refl (g.served q))) h.2
   dialled es host port false g t =
       let b = (state_of p es).ledger in
       let h = asked-of es g t in
-      step (Did (Dial host port false)) es g (rw t refl) refl (λ q. h.0 q) g.numbered (λ q. behind (Did (Dial host port false)) es q (g.kept q)) h.2
+      step (Did (Dial host port false)) es g (rw t refl) refl (λ q. h.0 q) g.numbered (λ q. behind (Did (Dial host port false)) es q (g.served q)) h.2
 
   took : (es : List (LocalAction J)) (key : List ℕ) (uses : Option ℕ) → Agrees p holds es → todo (behavior_of p) es ≡ act.Take key ∷ [] → Agrees p holds (Did (Take key uses) ∷ es)
   took es key (Some uses) g t =
       let b = (state_of p es).ledger in
       let h = asked-of es g t in
       step (Did (Take key (Some uses))) es g (rw t refl) refl (λ q. gain-opens es q (h.0 q)) (numbered-gain b.opened b.count b.sent g.numbered)
-      (λ q. behind (Did (Take key (Some uses))) es q (kept-gain q b (entered (Did (Take key (Some uses))) b) g.numbered refl refl refl refl refl refl (g.kept q))) h.2
+      (λ q. behind (Did (Take key (Some uses))) es q (kept-gain q b (entered (Did (Take key (Some uses))) b) g.numbered refl refl refl refl refl refl (g.served q))) h.2
   took es key None g t =
       let b = (state_of p es).ledger in
       let h = asked-of es g t in
-      step (Did (Take key None)) es g (rw t refl) refl (λ q. h.0 q) g.numbered (λ q. behind (Did (Take key None)) es q (g.kept q)) h.2
+      step (Did (Take key None)) es g (rw t refl) refl (λ q. h.0 q) g.numbered (λ q. behind (Did (Take key None)) es q (g.served q)) h.2
 
   keep : (es : List (LocalAction J)) (k : ℕ) (key : List ℕ) (idle : Ms) (size : ℕ) → Agrees p holds es → todo (behavior_of p) es ≡ act.Keep k key idle size ∷ [] → Agrees p holds (Did (Keep k key idle size) ∷ es)
   keep es k key idle size g t =
@@ -350,25 +350,25 @@ module _ {J S : Type 0} (p : Plan J S) (holds : State J S → Type 0) (may_ask :
       step (Did (Keep k key idle size)) es g (rw t refl) refl
       (λ q. ap (λ x. if same_place q (place.Sock k) then false else x) (h.0 q) ∙ sym (has-without q (place.Sock k) b.opened))
       (numbered-without (place.Sock k) b.opened b.count b.sent g.numbered)
-      (λ q. behind (Did (Keep k key idle size)) es q (λ o w. g.kept q (unshut (same_place q (place.Sock k)) (has q b.opened) (sym (has-without q (place.Sock k) b.opened) ∙ o)) w))
+      (λ q. behind (Did (Keep k key idle size)) es q (λ o w. g.served q (unshut (same_place q (place.Sock k)) (has q b.opened) (sym (has-without q (place.Sock k) b.opened) ∙ o)) w))
       (h.2, sym (h.0 (place.Sock k)) ∙ h.3)
 
   dict : (es : List (LocalAction J)) (zone : ℕ) (call : DictCall) (answer : DictAnswer) → MayAnswer call answer → Agrees p holds es → todo (behavior_of p) es ≡ act.Dict zone call ∷ [] → Agrees p holds (Did (Dict zone call answer) ∷ es)
   dict es zone call answer may g t =
       let b = (state_of p es).ledger in
       let h = asked-of es g t in
-      step (Did (Dict zone call answer)) es g (rw t refl) refl (λ q. h.0 q) g.numbered (λ q. behind (Did (Dict zone call answer)) es q (g.kept q)) (h.2, may)
+      step (Did (Dict zone call answer)) es g (rw t refl) refl (λ q. h.0 q) g.numbered (λ q. behind (Did (Dict zone call answer)) es q (g.served q)) (h.2, may)
 
   timed : (es : List (LocalAction J)) (at : Ms) (answer : TimerAnswer) (job : J) → Agrees p holds es → todo (behavior_of p) es ≡ act.Timer at job ∷ [] → Agrees p holds (Did (Timer at answer) ∷ es)
   timed es at answer job g t =
       let b = (state_of p es).ledger in
       let h = asked-of es g t in
-      step (Did (Timer at answer)) es g (rw t refl) refl (λ q. h.0 q) g.numbered (λ q. behind (Did (Timer at answer)) es q (g.kept q)) (job, h.2)
+      step (Did (Timer at answer)) es g (rw t refl) refl (λ q. h.0 q) g.numbered (λ q. behind (Did (Timer at answer)) es q (g.served q)) (job, h.2)
 
   unborn : Agrees p holds []
   unborn = record {
     leads = (λ q. refl, refl);
-    kept = λ q h. absurd (let e : false ≡ true = h in cc);
+    served = λ q h. absurd (let e : false ≡ true = h in cc);
     numbered = record { once = tt; there = λ k h. refl; unsent = λ k h. refl };
     inner = plan.begins;
   }
@@ -411,9 +411,9 @@ module _ {J S : Type 0} (p : Plan J S) (holds : State J S → Type 0) (may_ask :
   comes (Did (Keep k key idle size)) es g f = let h = asked-of es g f.0 in (h.2, sym (h.0 (place.Sock k)) ∙ h.3)
   comes (Did (Timer at answer)) es g f = (f.0, (asked-of es g f.1).2)
   comes (Did Dropped) es g f = tt
-  comes (Did (Run k)) es g f = ((f.1.0, f.1.1 ∙ line-is p es), (is-idle p holds es g f.0.no_act).none_asked)
+  comes (Did (Run k)) es g f = ((f.1.0, f.1.1 ∙ threads-are p es), (is-idle p holds es g f.0.no_act).none_asked)
   comes (Did (Offer q)) es g f = tt
-  comes (Did (Due n)) es g f = record { at = f.2.0; first = sym (ap (due (moment es)) (armed-is p es)) ∙ f.2.1; none_asked = (is-idle p holds es g f.0.no_act).none_asked }
+  comes (Did (Due n)) es g f = record { at = f.2.0; first = sym (ap (due (moment es)) (armed-are p es)) ∙ f.2.1; none_asked = (is-idle p holds es g f.0.no_act).none_asked }
   comes (Did Halted) es g f = tt
   comes (Did Gone) es g f = tt
 
@@ -465,7 +465,7 @@ module _ {J S : Type 0} (p : Plan J S) (holds : State J S → Type 0) (may_ask :
       let g = agrees es f.0 d in
       calm _ es g f.1.0.no_act f.1.0.no_offer refl (λ x h. refl) (λ q. refl) refl refl (λ q. record { opened = refl; sent = refl; taken_is = refl; later = refl; lined = refl })
       (comes (Did (Run k)) es g f.1)
-  agrees (Did (Offer q) ∷ es) f d = offer es q f.1.1.0 (agrees es f.0 d) f.1.0 (sym (places-is p es) ∙ sym f.1.1.1)
+  agrees (Did (Offer q) ∷ es) f d = offer es q f.1.1.0 (agrees es f.0 d) f.1.0 (sym (places-are p es) ∙ sym f.1.1.1)
   agrees (Did (Due n) ∷ es) f d =
       let g = agrees es f.0 d in
       calm _ es g f.1.0.no_act f.1.0.no_offer refl (λ x h. refl) (λ q. refl) refl refl (λ q. record { opened = refl; sent = refl; taken_is = refl; later = refl; lined = refl })

@@ -3,9 +3,9 @@ use Rattle.strand_contract.specs.Actions.{LocalAction}
 use Rattle.strand_contract.specs.Laws.{is_still, IsMild, IsEnding}
 use Rattle.strand_contract.specs.ClientOnly.{IsClientOnly}
 use Rattle.moves.specs.Ledgers.{Ledger, has, has_number, wants_offer, entered}
-use Rattle.moves.specs.Moves.{Move, Done, Line, Unline, Send, Arm, Cancel, HangUp, Log, Set, Look, Ask, End, State, with_sent, with_offer, with_thread, without_thread, with_deadline, without_deadline, hung_up, ending, act_if, perform}
+use Rattle.moves.specs.Moves.{Move, Done, Ready, Unready, Send, Arm, Cancel, HangUp, Log, Set, Look, Ask, End, State, with_sent, with_offer, with_thread, without_thread, with_deadline, without_deadline, hung_up, ending, act_if, perform}
 use Rattle.moves.specs.Plans.{Plan, move_of, stepped}
-use Rattle.moves.specs.Conditions.{NeverAsks, OnlyWakes, OnlyServes, EndsLife}
+use Rattle.moves.specs.Conditions.{NeverAsks, OnlyWakes, OnlyQueues, EndsLife}
 use Rattle.std.proofs.Common.{◌≡◌, ℕ, not, Bool, true, false, List, [], ◌∷◌, None, if◌then◌else◌, refl, ◌∙◌}
 use Rattle.strand_contract.specs.declared.turns.Place.{Place}
 use Rattle.strand_contract.specs.declared.turns.Act.{Act}
@@ -19,13 +19,13 @@ wakes-if : {J : Type 0} (c : Bool) (a : Act J) (acts : List (Act J)) → (IsMild
 wakes-if true a acts f h = f h
 wakes-if false a acts f h = h
 
-serves-if : {J : Type 0} (c : Bool) (a : Act J) (acts : List (Act J)) → (IsClientOnly acts → IsClientOnly (a ∷ acts)) → IsClientOnly acts → IsClientOnly (act_if c a acts)
-serves-if true a acts f h = f h
-serves-if false a acts f h = h
+queues-if : {J : Type 0} (c : Bool) (a : Act J) (acts : List (Act J)) → (IsClientOnly acts → IsClientOnly (a ∷ acts)) → IsClientOnly acts → IsClientOnly (act_if c a acts)
+queues-if true a acts f h = f h
+queues-if false a acts f h = h
 
-serves-end : (J : Type 0) (qs : List Place) → IsClientOnly (ending {J = J} qs)
-serves-end J [] = tt
-serves-end J (q ∷ qs) = serves-end J qs
+queues-end : (J : Type 0) (qs : List Place) → IsClientOnly (ending {J = J} qs)
+queues-end J [] = tt
+queues-end J (q ∷ qs) = queues-end J qs
 
 ends-if : {J : Type 0} (c : Bool) (a : Act J) (acts : List (Act J)) → (IsEnding acts → IsEnding (a ∷ acts)) → IsEnding acts → IsEnding (act_if c a acts)
 ends-if true a acts f h = f h
@@ -42,8 +42,8 @@ ends-end J (q ∷ qs) = ends-end J qs
 module _ {J S : Type 0} where
   pub never-asks : (m : Move J S) (b : Ledger J) (s : S) → NeverAsks m → (perform m b s).state.ledger.asked ≡ b.asked
   never-asks Done b s h = refl
-  never-asks (Line k m) b s h = never-asks m (with_thread k b) s h
-  never-asks (Unline k m) b s h = never-asks m (without_thread k b) s h
+  never-asks (Ready k m) b s h = never-asks m (with_thread k b) s h
+  never-asks (Unready k m) b s h = never-asks m (without_thread k b) s h
   never-asks (Send q bytes m) b s h = let c = with_sent q bytes b in never-asks m (with_offer q c) s h
   never-asks (Arm n at m) b s h = never-asks m (with_deadline n at b) s h
   never-asks (Cancel n m) b s h = never-asks m (without_deadline n b) s h
@@ -56,8 +56,8 @@ module _ {J S : Type 0} where
 
   pub only-wakes : (m : Move J S) (b : Ledger J) (s : S) → OnlyWakes m → IsMild (perform m b s).acts
   only-wakes Done b s h = tt
-  only-wakes (Line k m) b s h = wakes-if (not (has_number k b.line)) (act.Ready k) _ (λ w. w) (only-wakes m (with_thread k b) s h)
-  only-wakes (Unline k m) b s h = only-wakes m (without_thread k b) s h
+  only-wakes (Ready k m) b s h = wakes-if (not (has_number k b.threads)) (act.Ready k) _ (λ w. w) (only-wakes m (with_thread k b) s h)
+  only-wakes (Unready k m) b s h = only-wakes m (without_thread k b) s h
   only-wakes (Send q bytes m) b s h = let c = with_sent q bytes b in wakes-if (wants_offer q c) (act.Offer q) _ (λ w. w) (only-wakes m (with_offer q c) s h)
   only-wakes (Arm n at m) b s h = absurd h
   only-wakes (Cancel n m) b s h = only-wakes m (without_deadline n b) s h
@@ -68,24 +68,24 @@ module _ {J S : Type 0} where
   only-wakes (Ask q) b s h = absurd h
   only-wakes End b s h = wakes-end J b.opened
 
-  pub only-serves : (m : Move J S) (b : Ledger J) (s : S) → OnlyServes m → IsClientOnly (perform m b s).acts
-  only-serves Done b s h = tt
-  only-serves (Line k m) b s h = serves-if (not (has_number k b.line)) (act.Ready k) _ (λ w. w) (only-serves m (with_thread k b) s h)
-  only-serves (Unline k m) b s h = only-serves m (without_thread k b) s h
-  only-serves (Send q bytes m) b s h = let c = with_sent q bytes b in serves-if (wants_offer q c) (act.Offer q) _ (λ w. w) (only-serves m (with_offer q c) s h)
-  only-serves (Arm n at m) b s h = absurd h
-  only-serves (Cancel n m) b s h = absurd h
-  only-serves (HangUp q m) b s h = serves-if (has q b.opened) (act.HangUp q) _ (λ w. w) (only-serves m (hung_up q b) s h)
-  only-serves (Log line m) b s h = absurd h
-  only-serves (Set f m) b s h = only-serves m b (f s) h
-  only-serves (Look go) b s h = only-serves (go b s) b s (h b s)
-  only-serves (Ask x) b s h = absurd h
-  only-serves End b s h = serves-end J b.opened
+  pub only-queues : (m : Move J S) (b : Ledger J) (s : S) → OnlyQueues m → IsClientOnly (perform m b s).acts
+  only-queues Done b s h = tt
+  only-queues (Ready k m) b s h = queues-if (not (has_number k b.threads)) (act.Ready k) _ (λ w. w) (only-queues m (with_thread k b) s h)
+  only-queues (Unready k m) b s h = only-queues m (without_thread k b) s h
+  only-queues (Send q bytes m) b s h = let c = with_sent q bytes b in queues-if (wants_offer q c) (act.Offer q) _ (λ w. w) (only-queues m (with_offer q c) s h)
+  only-queues (Arm n at m) b s h = absurd h
+  only-queues (Cancel n m) b s h = absurd h
+  only-queues (HangUp q m) b s h = queues-if (has q b.opened) (act.HangUp q) _ (λ w. w) (only-queues m (hung_up q b) s h)
+  only-queues (Log line m) b s h = absurd h
+  only-queues (Set f m) b s h = only-queues m b (f s) h
+  only-queues (Look go) b s h = only-queues (go b s) b s (h b s)
+  only-queues (Ask x) b s h = absurd h
+  only-queues End b s h = queues-end J b.opened
 
   pub ends-life : (m : Move J S) (b : Ledger J) (s : S) → EndsLife m → IsEnding (perform m b s).acts
   ends-life Done b s h = absurd h
-  ends-life (Line k m) b s h = absurd h
-  ends-life (Unline k m) b s h = ends-life m (without_thread k b) s h
+  ends-life (Ready k m) b s h = absurd h
+  ends-life (Unready k m) b s h = ends-life m (without_thread k b) s h
   ends-life (Send q bytes m) b s h = absurd h
   ends-life (Arm n at m) b s h = absurd h
   ends-life (Cancel n m) b s h = ends-life m (without_deadline n b) s h

@@ -4,7 +4,7 @@ use Rattle.strand_contract.specs.Alone.{moment}
 use Rattle.strand_contract.specs.Alone.{IsPrefixOf}
 use Rattle.strand_contract.specs.Laws.{Grows}
 use Rattle.moves.specs.Ledgers.{Ledger, has, entered}
-use Rattle.moves.specs.Moves.{Move, Done, Line, Unline, Send, Arm, Cancel, HangUp, Log, Set, Look, Ask, End, with_sent, with_offer, with_thread, without_thread, with_deadline, without_deadline, hung_up, perform}
+use Rattle.moves.specs.Moves.{Move, Done, Ready, Unready, Send, Arm, Cancel, HangUp, Log, Set, Look, Ask, End, with_sent, with_offer, with_thread, without_thread, with_deadline, without_deadline, hung_up, perform}
 use Rattle.moves.specs.Plans.{Plan, move_of, state_of, behavior_of}
 use Rattle.std.proofs.Common.{ℕ, Bool, true, false, ◌&&◌, List, [], ◌∷◌, ◌++◌, if◌then◌else◌, sym, ◌∙◌, append-nil, append_assoc}
 use Rattle.strand_contract.specs.declared.turns.Place.{Place}
@@ -19,8 +19,8 @@ prefix-sends false xs bytes ys h = h
 module _ {J S : Type 0} where
   pub performed-grows : (q : Place) (m : Move J S) (b : Ledger J) (s : S) → IsPrefixOf (b.sent q) ((perform m b s).state.ledger.sent q)
   performed-grows q Done b s = prefix-self (b.sent q)
-  performed-grows q (Line k m) b s = performed-grows q m (with_thread k b) s
-  performed-grows q (Unline k m) b s = performed-grows q m (without_thread k b) s
+  performed-grows q (Ready k m) b s = performed-grows q m (with_thread k b) s
+  performed-grows q (Unready k m) b s = performed-grows q m (without_thread k b) s
   performed-grows q (Send p bytes m) b s = let c = with_sent p bytes b in
       prefix-sends (has p b.opened && same_place q p) (b.sent q) bytes _ (performed-grows q m (with_offer p c) s)
   performed-grows q (Arm n at m) b s = performed-grows q m (with_deadline n at b) s

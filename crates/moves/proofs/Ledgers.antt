@@ -1,4 +1,4 @@
--- What is in line, to be offered and armed by the acts is what the ledger says.
+-- The queues, the deadlines and the counts that the contract reads off an execution are those of the ledger. Here b is a ledger, m a move, and s what is beside the ledger.
 use Rattle.strand_contract.specs.Actions.{LocalAction, Told, Did, same_place, Ready}
 use Rattle.strand_contract.specs.Actions.{Put, Later, Lost, Take, Dial, Offer}
 use Rattle.strand_contract.specs.Alone.{moment, waiting, armed, to_offer, taken, was_put_off, begun_offer, socket_count}
@@ -7,7 +7,8 @@ use Rattle.strand_contract.specs.Laws.{IsLastAct, AsksLast}
 use Rattle.moves.specs.Questions.{Question, asking_if}
 use Rattle.moves.specs.Questions as question
 use Rattle.moves.specs.Ledgers.{Ledger, has, has_number, wants_offer, begun_by, put_off_by, took_by, count_by, entered}
-use Rattle.moves.specs.Moves.{Move, Done, Line, Unline, Send, Arm, Cancel, HangUp, Log, Set, Look, Ask, End, added_if, with_sent, with_offer, with_thread, without_thread, with_deadline, without_deadline, hung_up, asked_of, ending, act_if, perform}
+use Rattle.moves.specs.Moves.{Move, Done, Unready, Send, Arm, Cancel, HangUp, Log, Set, Look, Ask, End, added_if, with_sent, with_offer, with_thread, without_thread, with_deadline, without_deadline, hung_up, asked_of, ending, act_if, perform}
+use Rattle.moves.specs.Moves as move
 use Rattle.moves.specs.Plans.{Plan, move_of, state_of, acts_of, behavior_of}
 use Rattle.std.proofs.Common.{◌≡◌, ℕ, ◌+◌, Bool, true, false, not, List, [], ◌∷◌, ◌++◌, Option, Some, None, if◌then◌else◌, refl, sym, ap, ◌∙◌, length}
 use Rattle.std.proofs.Common.{append-nil, append_assoc}
@@ -109,24 +110,24 @@ last-asks (Some (question.Keep k key idle size)) = refl
 last-asks (Some (question.Timer at job)) = refl
 
 module _ {J S : Type 0} where
-  pub line-agrees : (m : Move J S) (b : Ledger J) (s : S) → lined_up (perform m b s).acts b.line ≡ (perform m b s).state.ledger.line
-  line-agrees Done b s = refl
-  line-agrees (Line k m) b s = lined-ready (not (has_number k b.line)) k _ b.line ∙ line-agrees m (with_thread k b) s
-  line-agrees (Unline k m) b s = line-agrees m (without_thread k b) s
-  line-agrees (Send q bytes m) b s = let c = with_sent q bytes b in lined-offer (wants_offer q c) q _ b.line ∙ line-agrees m (with_offer q c) s
-  line-agrees (Arm n at m) b s = line-agrees m (with_deadline n at b) s
-  line-agrees (Cancel n m) b s = line-agrees m (without_deadline n b) s
-  line-agrees (HangUp q m) b s = lined-hang (has q b.opened) q _ b.line ∙ line-agrees m (hung_up q b) s
-  line-agrees (Log line m) b s = line-agrees m b s
-  line-agrees (Set f m) b s = line-agrees m b (f s)
-  line-agrees (Look go) b s = line-agrees (go b s) b s
-  line-agrees (Ask q) b s = lined-asks (asked_of q b) b.line
-  line-agrees End b s = lined-end _ b.opened b.line
+  pub threads-agree : (m : Move J S) (b : Ledger J) (s : S) → lined_up (perform m b s).acts b.threads ≡ (perform m b s).state.ledger.threads
+  threads-agree Done b s = refl
+  threads-agree (move.Ready k m) b s = lined-ready (not (has_number k b.threads)) k _ b.threads ∙ threads-agree m (with_thread k b) s
+  threads-agree (Unready k m) b s = threads-agree m (without_thread k b) s
+  threads-agree (Send q bytes m) b s = let c = with_sent q bytes b in lined-offer (wants_offer q c) q _ b.threads ∙ threads-agree m (with_offer q c) s
+  threads-agree (Arm n at m) b s = threads-agree m (with_deadline n at b) s
+  threads-agree (Cancel n m) b s = threads-agree m (without_deadline n b) s
+  threads-agree (HangUp q m) b s = lined-hang (has q b.opened) q _ b.threads ∙ threads-agree m (hung_up q b) s
+  threads-agree (Log line m) b s = threads-agree m b s
+  threads-agree (Set f m) b s = threads-agree m b (f s)
+  threads-agree (Look go) b s = threads-agree (go b s) b s
+  threads-agree (Ask q) b s = lined-asks (asked_of q b) b.threads
+  threads-agree End b s = lined-end _ b.opened b.threads
 
   pub armed-agrees : (m : Move J S) (b : Ledger J) (s : S) → armed_by (perform m b s).acts b.armed ≡ (perform m b s).state.ledger.armed
   armed-agrees Done b s = refl
-  armed-agrees (Line k m) b s = armed-ready (not (has_number k b.line)) k _ b.armed ∙ armed-agrees m (with_thread k b) s
-  armed-agrees (Unline k m) b s = armed-agrees m (without_thread k b) s
+  armed-agrees (move.Ready k m) b s = armed-ready (not (has_number k b.threads)) k _ b.armed ∙ armed-agrees m (with_thread k b) s
+  armed-agrees (Unready k m) b s = armed-agrees m (without_thread k b) s
   armed-agrees (Send q bytes m) b s = let c = with_sent q bytes b in armed-offer (wants_offer q c) q _ b.armed ∙ armed-agrees m (with_offer q c) s
   armed-agrees (Arm n at m) b s = armed-agrees m (with_deadline n at b) s
   armed-agrees (Cancel n m) b s = armed-agrees m (without_deadline n b) s
@@ -139,8 +140,8 @@ module _ {J S : Type 0} where
 
   pub last : (m : Move J S) (b : Ledger J) (s : S) → IsLastAct (perform m b s).acts
   last Done b s = tt
-  last (Line k m) b s = last-if (not (has_number k b.line)) (act.Ready k) _ (λ h. h) (last m (with_thread k b) s)
-  last (Unline k m) b s = last m (without_thread k b) s
+  last (move.Ready k m) b s = last-if (not (has_number k b.threads)) (act.Ready k) _ (λ h. h) (last m (with_thread k b) s)
+  last (Unready k m) b s = last m (without_thread k b) s
   last (Send q bytes m) b s = let c = with_sent q bytes b in last-if (wants_offer q c) (act.Offer q) _ (λ h. h) (last m (with_offer q c) s)
   last (Arm n at m) b s = last m (with_deadline n at b) s
   last (Cancel n m) b s = last m (without_deadline n b) s
@@ -153,8 +154,8 @@ module _ {J S : Type 0} where
 
   pub places-agree : (m : Move J S) (b : Ledger J) (s : S) → b.places ++ offers (perform m b s).acts ≡ (perform m b s).state.ledger.places
   places-agree Done b s = append-nil b.places
-  places-agree (Line k m) b s = ap (λ l. b.places ++ l) (offers-ready (not (has_number k b.line)) k _) ∙ places-agree m (with_thread k b) s
-  places-agree (Unline k m) b s = places-agree m (without_thread k b) s
+  places-agree (move.Ready k m) b s = ap (λ l. b.places ++ l) (offers-ready (not (has_number k b.threads)) k _) ∙ places-agree m (with_thread k b) s
+  places-agree (Unready k m) b s = places-agree m (without_thread k b) s
   places-agree (Send q bytes m) b s = let c = with_sent q bytes b in offers-offer (wants_offer q c) q _ b.places ∙ places-agree m (with_offer q c) s
   places-agree (Arm n at m) b s = places-agree m (with_deadline n at b) s
   places-agree (Cancel n m) b s = places-agree m (without_deadline n b) s
@@ -168,8 +169,8 @@ module _ {J S : Type 0} where
   -- no move changes what was taken, whose offer was begun, what was put off and how many sockets there were
   pub unmoved : (m : Move J S) (b : Ledger J) (s : S) → IsUnmoved b (perform m b s).state.ledger
   unmoved Done b s = (refl, refl, refl, refl)
-  unmoved (Line k m) b s = unmoved m (with_thread k b) s
-  unmoved (Unline k m) b s = unmoved m (without_thread k b) s
+  unmoved (move.Ready k m) b s = unmoved m (with_thread k b) s
+  unmoved (Unready k m) b s = unmoved m (without_thread k b) s
   unmoved (Send q bytes m) b s = unmoved m (with_offer q (with_sent q bytes b)) s
   unmoved (Arm n at m) b s = unmoved m (with_deadline n at b) s
   unmoved (Cancel n m) b s = unmoved m (without_deadline n b) s
@@ -181,23 +182,23 @@ module _ {J S : Type 0} where
   unmoved End b s = (refl, refl, refl, refl)
 
 -- so over an execution
-pub line-is : {J S : Type 0} (p : Plan J S) (es : List (LocalAction J)) → waiting (behavior_of p) es ≡ (state_of p es).ledger.line
-line-is p [] = refl
-line-is p (a ∷ es) =
+pub threads-are : {J S : Type 0} (p : Plan J S) (es : List (LocalAction J)) → waiting (behavior_of p) es ≡ (state_of p es).ledger.threads
+threads-are p [] = refl
+threads-are p (a ∷ es) =
     let st = state_of p es in
-    ap (λ l. lined_up (acts_of p (a ∷ es)) (run_by a l)) (line-is p es) ∙ line-agrees (move_of p (moment (a ∷ es)) a st) (entered a st.ledger) st.inner
+    ap (λ l. lined_up (acts_of p (a ∷ es)) (run_by a l)) (threads-are p es) ∙ threads-agree (move_of p (moment (a ∷ es)) a st) (entered a st.ledger) st.inner
 
-pub armed-is : {J S : Type 0} (p : Plan J S) (es : List (LocalAction J)) → armed (behavior_of p) es ≡ (state_of p es).ledger.armed
-armed-is p [] = refl
-armed-is p (a ∷ es) =
+pub armed-are : {J S : Type 0} (p : Plan J S) (es : List (LocalAction J)) → armed (behavior_of p) es ≡ (state_of p es).ledger.armed
+armed-are p [] = refl
+armed-are p (a ∷ es) =
     let st = state_of p es in
-    ap (λ l. armed_by (acts_of p (a ∷ es)) (taken_by a l)) (armed-is p es) ∙ armed-agrees (move_of p (moment (a ∷ es)) a st) (entered a st.ledger) st.inner
+    ap (λ l. armed_by (acts_of p (a ∷ es)) (taken_by a l)) (armed-are p es) ∙ armed-agrees (move_of p (moment (a ∷ es)) a st) (entered a st.ledger) st.inner
 
-pub places-is : {J S : Type 0} (p : Plan J S) (es : List (LocalAction J)) → to_offer (behavior_of p) es ≡ (state_of p es).ledger.places
-places-is p [] = refl
-places-is p (a ∷ es) =
+pub places-are : {J S : Type 0} (p : Plan J S) (es : List (LocalAction J)) → to_offer (behavior_of p) es ≡ (state_of p es).ledger.places
+places-are p [] = refl
+places-are p (a ∷ es) =
     let st = state_of p es in
-    ap (λ l. offered_by a l ++ offers (acts_of p (a ∷ es))) (places-is p es) ∙ places-agree (move_of p (moment (a ∷ es)) a st) (entered a st.ledger) st.inner
+    ap (λ l. offered_by a l ++ offers (acts_of p (a ∷ es))) (places-are p es) ∙ places-agree (move_of p (moment (a ∷ es)) a st) (entered a st.ledger) st.inner
 
 pub asks-last : {J S : Type 0} (p : Plan J S) → AsksLast (behavior_of p)
 asks-last p [] = tt

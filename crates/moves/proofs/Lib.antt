@@ -1,7 +1,7 @@
 pub mod Places
 pub mod Ledgers
 pub mod Opened
-pub mod Kept
+pub mod Served
 pub mod Executions
 pub mod Grows
 pub mod Forms
@@ -9,5 +9,5 @@ pub mod PlanLaws
 pub mod Tidy
 pub mod Once
 pub mod Calls
-pub mod OneLine
+pub mod ClientAlone
 pub mod Sleeping

@@ -1,15 +1,15 @@
--- A thread is in line once, and a deadline armed once.
+-- A thread is queued once, and a deadline armed once.
 use Rattle.strand_contract.specs.Actions.{LocalAction, Did}
 use Rattle.strand_contract.specs.Actions.{Run, Due}
 use Rattle.strand_contract.specs.Alone.{moment, waiting, armed}
 use Rattle.strand_contract.specs.Alone.{without, disarmed, run_by, taken_by}
 use Rattle.strand_contract.specs.ClientOnlyLaws.{clash}
 use Rattle.moves.specs.Ledgers.{Ledger, has_number, numbers, entered}
-use Rattle.moves.specs.Moves.{Move, Done, Line, Unline, Send, Arm, Cancel, HangUp, Set, Look, Ask, End, added_if, with_sent, with_offer, with_thread, without_thread, with_deadline, without_deadline, hung_up, perform}
+use Rattle.moves.specs.Moves.{Move, Done, Ready, Unready, Send, Arm, Cancel, HangUp, Set, Look, Ask, End, added_if, with_sent, with_offer, with_thread, without_thread, with_deadline, without_deadline, hung_up, perform}
 use Rattle.moves.specs.Moves as move
 use Rattle.moves.specs.Plans.{Plan, move_of, state_of, behavior_of}
 use Rattle.moves.specs.Tidiness.{NumbersOnce}
-use Rattle.moves.proofs.Ledgers.{line-is, armed-is}
+use Rattle.moves.proofs.Ledgers.{threads-are, armed-are}
 use Rattle.std.proofs.Common.{◌≡◌, ℕ, Bool, true, false, not, ◌||◌, ◌==◌, List, [], ◌∷◌, ◌++◌, drop, if◌then◌else◌, refl, sym, ap, subst, append-nil, eqb-true, eq-eqb}
 
 or-left : (c d : Bool) → (c || d) ≡ false → c ≡ false
@@ -96,10 +96,10 @@ once-armed n at ds o = subst NumbersOnce (sym (numbers-last n at (disarmed n ds)
     (once-last n (numbers (disarmed n ds)) (subst (λ js. has_number n js ≡ false) (sym (numbers-disarmed n ds)) (none-without n (numbers ds) o)) (once-disarmed n ds o))
 
 module _ {J S : Type 0} where
-  performed-threads : (m : Move J S) (b : Ledger J) (s : S) → NumbersOnce b.line → NumbersOnce (perform m b s).state.ledger.line
+  performed-threads : (m : Move J S) (b : Ledger J) (s : S) → NumbersOnce b.threads → NumbersOnce (perform m b s).state.ledger.threads
   performed-threads Done b s o = o
-  performed-threads (Line k m) b s o = performed-threads m (with_thread k b) s (once-added k b.line o)
-  performed-threads (Unline k m) b s o = performed-threads m (without_thread k b) s (once-without k b.line o)
+  performed-threads (Ready k m) b s o = performed-threads m (with_thread k b) s (once-added k b.threads o)
+  performed-threads (Unready k m) b s o = performed-threads m (without_thread k b) s (once-without k b.threads o)
   performed-threads (Send q bytes m) b s o = performed-threads m (with_offer q (with_sent q bytes b)) s o
   performed-threads (Arm n at m) b s o = performed-threads m (with_deadline n at b) s o
   performed-threads (Cancel n m) b s o = performed-threads m (without_deadline n b) s o
@@ -112,8 +112,8 @@ module _ {J S : Type 0} where
 
   performed-deadlines : (m : Move J S) (b : Ledger J) (s : S) → NumbersOnce (numbers b.armed) → NumbersOnce (numbers (perform m b s).state.ledger.armed)
   performed-deadlines Done b s o = o
-  performed-deadlines (Line k m) b s o = performed-deadlines m (with_thread k b) s o
-  performed-deadlines (Unline k m) b s o = performed-deadlines m (without_thread k b) s o
+  performed-deadlines (Ready k m) b s o = performed-deadlines m (with_thread k b) s o
+  performed-deadlines (Unready k m) b s o = performed-deadlines m (without_thread k b) s o
   performed-deadlines (Send q bytes m) b s o = performed-deadlines m (with_offer q (with_sent q bytes b)) s o
   performed-deadlines (Arm n at m) b s o = performed-deadlines m (with_deadline n at b) s (once-armed n at.0 b.armed o)
   performed-deadlines (Cancel n m) b s o = performed-deadlines m (without_deadline n b) s (once-disarmed n b.armed o)
@@ -132,16 +132,16 @@ taken-once : {J : Type 0} (a : LocalAction J) (ds : List (ℕ × ℕ)) → Numbe
 taken-once (Did (Due n)) ds o = once-disarmed n ds o
 taken-once a ds o = o
 
-threads : {J S : Type 0} (p : Plan J S) (es : List (LocalAction J)) → NumbersOnce (state_of p es).ledger.line
+threads : {J S : Type 0} (p : Plan J S) (es : List (LocalAction J)) → NumbersOnce (state_of p es).ledger.threads
 threads p [] = tt
-threads p (a ∷ es) = let st = state_of p es in performed-threads (move_of p (moment (a ∷ es)) a st) (entered a st.ledger) st.inner (run-once a st.ledger.line (threads p es))
+threads p (a ∷ es) = let st = state_of p es in performed-threads (move_of p (moment (a ∷ es)) a st) (entered a st.ledger) st.inner (run-once a st.ledger.threads (threads p es))
 
 deadlines : {J S : Type 0} (p : Plan J S) (es : List (LocalAction J)) → NumbersOnce (numbers (state_of p es).ledger.armed)
 deadlines p [] = tt
 deadlines p (a ∷ es) = let st = state_of p es in performed-deadlines (move_of p (moment (a ∷ es)) a st) (entered a st.ledger) st.inner (taken-once a st.ledger.armed (deadlines p es))
 
 pub threads-once : {J S : Type 0} (p : Plan J S) (es : List (LocalAction J)) → NumbersOnce (waiting (behavior_of p) es)
-threads-once p es = subst NumbersOnce (sym (line-is p es)) (threads p es)
+threads-once p es = subst NumbersOnce (sym (threads-are p es)) (threads p es)
 
 pub deadlines-once : {J S : Type 0} (p : Plan J S) (es : List (LocalAction J)) → NumbersOnce (numbers (armed (behavior_of p) es))
-deadlines-once p es = subst (λ ds. NumbersOnce (numbers ds)) (sym (armed-is p es)) (deadlines p es)
+deadlines-once p es = subst (λ ds. NumbersOnce (numbers ds)) (sym (armed-are p es)) (deadlines p es)

@@ -5,7 +5,7 @@ use Rattle.strand_contract.specs.Alone.{without_place}
 use Rattle.moves.specs.Questions.{Question, asking_if}
 use Rattle.moves.specs.Questions as question
 use Rattle.moves.specs.Ledgers.{Ledger, has, has_number, wants_offer}
-use Rattle.moves.specs.Moves.{Move, Done, Line, Unline, Send, Arm, Cancel, HangUp, Log, Set, Look, Ask, End, sends, with_sent, with_offer, with_thread, without_thread, with_deadline, without_deadline, hung_up, ending, act_if, perform}
+use Rattle.moves.specs.Moves.{Move, Done, Ready, Unready, Send, Arm, Cancel, HangUp, Log, Set, Look, Ask, End, sends, with_sent, with_offer, with_thread, without_thread, with_deadline, without_deadline, hung_up, ending, act_if, perform}
 use Rattle.moves.specs.Tidiness.{PlacesOnce}
 use Rattle.std.proofs.Common.{◌≡◌, ℕ, ◌≤◌, not, Bool, true, false, ◌&&◌, ◌||◌, List, [], ◌∷◌, ◌++◌, Option, Some, None, if◌then◌else◌, refl, sym, ap, ◌∙◌, subst}
 use Rattle.strand_contract.specs.declared.turns.Place.{Place}
@@ -130,8 +130,8 @@ module _ {J S : Type 0} where
   pub performed-leads : (m : Move J S) (b : Ledger J) (s : S) → PlacesOnce b.opened → b.asked ≡ None
       → Leads (λ q. has q b.opened) (perform m b s).acts (λ q. has q (perform m b s).state.ledger.opened) (perform m b s).state.ledger.asked
   performed-leads Done b s once none = (λ q. refl, none)
-  performed-leads (Line k m) b s once none = ready-if (not (has_number k b.line)) k _ _ _ _ (performed-leads m (with_thread k b) s once none)
-  performed-leads (Unline k m) b s once none = performed-leads m (without_thread k b) s once none
+  performed-leads (Ready k m) b s once none = ready-if (not (has_number k b.threads)) k _ _ _ _ (performed-leads m (with_thread k b) s once none)
+  performed-leads (Unready k m) b s once none = performed-leads m (without_thread k b) s once none
   performed-leads (Send q bytes m) b s once none =
       let c = with_sent q bytes b in offers-if (wants_offer q c) q _ _ _ _ (performed-leads m (with_offer q c) s once none)
   performed-leads (Arm n at m) b s once none = performed-leads m (with_deadline n at b) s once none
@@ -183,8 +183,8 @@ module _ {J S : Type 0} where
   pub performed-numbered : (m : Move J S) (b : Ledger J) (s : S) → IsNumbered b.opened b.count b.sent
       → let c = (perform m b s).state.ledger in IsNumbered c.opened c.count c.sent
   performed-numbered Done b s n = n
-  performed-numbered (Line k m) b s n = performed-numbered m (with_thread k b) s n
-  performed-numbered (Unline k m) b s n = performed-numbered m (without_thread k b) s n
+  performed-numbered (Ready k m) b s n = performed-numbered m (with_thread k b) s n
+  performed-numbered (Unready k m) b s n = performed-numbered m (without_thread k b) s n
   performed-numbered (Send q bytes m) b s n =
       let c = with_sent q bytes b in performed-numbered m (with_offer q c) s (numbered-sends q bytes b.opened b.count b.sent n)
   performed-numbered (Arm k at m) b s n = performed-numbered m (with_deadline k at b) s n

@@ -18,7 +18,7 @@ use Rattle.strand_contract.specs.declared.turns.Start.TheVariants as start
 use Rattle.strand_contract.specs.declared.turns.Act.{Act}
 use Rattle.strand_contract.specs.declared.turns.Act.TheVariants as act
 use Rattle.moves.proofs.Opened.{Leads}
-use Rattle.moves.proofs.Ledgers.{places-is, put-off-is, taken-is}
+use Rattle.moves.proofs.Ledgers.{places-are, put-off-is, taken-is}
 use Rattle.moves.proofs.Executions.{quiet, Agrees, agrees, comes, is-idle, IsIdle, queued-is, none-begun}
 
 filled : {A C : Type 0} (xs rest : List A) (x : A) → xs ≡ x ∷ rest → xs ≡ [] → C
@@ -101,7 +101,7 @@ module _ {J S : Type 0} (p : Plan J S) (holds : State J S → Type 0) (may_ask :
       let b = (state_of p es).ledger in
       let h : has q b.opened ≡ true = sym (free.opens q) ∙ o in
       inr (put-off (b.put_off q) (is_place q b.begun) (none-begun p es q free w.no_offer h e)
-      (subst (λ ps. (b.put_off q || (has q ps || is_place q b.begun)) ≡ true) (sym (places-is p es) ∙ w.no_place) (g.kept q h e)))
+      (subst (λ ps. (b.put_off q || (has q ps || is_place q b.begun)) ≡ true) (sym (places-are p es) ∙ w.no_place) (g.served q h e)))
   keeps-at es q g free w o false e = inl (queued-is p es q o ∙ none-left _ e)
 
   pub keeps : Keeps (behavior_of p)

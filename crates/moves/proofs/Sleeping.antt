@@ -5,13 +5,14 @@ use Rattle.strand_contract.specs.Alone.{is_some_left}
 use Rattle.strand_contract.specs.Laws.{is_still, IsEnding}
 use Rattle.moves.specs.Questions.{Question}
 use Rattle.moves.specs.Ledgers.{has_number, numbers, left_at, entered}
-use Rattle.moves.specs.Moves.{Move, Done, Line, Cancel, End, State, perform}
+use Rattle.moves.specs.Moves.{Move, Done, Cancel, End, State, perform}
+use Rattle.moves.specs.Moves as move
 use Rattle.moves.specs.Plans.{unborn_state, stepped}
 use Rattle.moves.specs.Conditions.{Fits, IsPlan}
 use Rattle.std.proofs.Common.{◌≡◌, ℕ, Bool, true, false, [], Option, Some, None, if◌then◌else◌, sym, subst, lit<}
 use Rattle.strand_contract.specs.declared.turns.Start.TheVariants as start
 use Rattle.moves.specs.Sleeper.{sleeper, sleeper_asks, SleeperHolds, idler}
-use Rattle.moves.proofs.Kept.{send-minds, hang-up-minds}
+use Rattle.moves.proofs.Served.{send-serves, hang-up-serves}
 use Rattle.moves.proofs.Forms.{either, only-wakes, ends-life}
 
 some-some : {A : Type 0} (x y : A) → Some x ≡ Some y → y ≡ x
@@ -40,11 +41,11 @@ pub sleeper-meets : (J : Type 0) → IsPlan {J = J} sleeper SleeperHolds sleeper
 sleeper-meets J = record {
   begins = λ x e. absurd (let g : None ≡ Some x = e in cc);
   stays = λ now a st h comes. stays now a st h;
-  lost = λ now q st h comes. hang-up-minds {S = ℕ} q Done (entered (Did (Lost q)) st.ledger) st.inner;
-  again = λ now q st h comes. send-minds {S = ℕ} q [] Done (entered (Did (Ready q)) st.ledger) st.inner;
+  lost = λ now q st h comes. hang-up-serves {S = ℕ} q Done (entered (Did (Lost q)) st.ledger) st.inner;
+  again = λ now q st h comes. send-serves {S = ℕ} q [] Done (entered (Did (Ready q)) st.ledger) st.inner;
   asks = λ st x h e. h x e;
   fits = λ x h. fits x h;
-  due = λ now n st h comes. only-wakes {S = ℕ} (Line 0 Done) (entered (Did (Due n)) st.ledger) st.inner tt;
+  due = λ now n st h comes. only-wakes {S = ℕ} (move.Ready 0 Done) (entered (Did (Due n)) st.ledger) st.inner tt;
   job = λ now at n premature job. tt;
   ends = λ now st h. let b = entered (Did Halted) st.ledger in
       either (λ (m : Move J ℕ). IsEnding (perform m b st.inner).acts) (has_number 2 (numbers st.ledger.armed)) (Cancel 2 End) End (ends-life {S = ℕ} (Cancel 2 End) b st.inner tt) (ends-life {S = ℕ} End b st.inner tt);

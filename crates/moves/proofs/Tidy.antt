@@ -1,4 +1,4 @@
--- A place in line is there once, and has something to give.
+-- A queued place is there once, and something of it is left.
 use Rattle.strand_contract.specs.Actions.{LocalAction, Told, Did, same_place, Ready}
 use Rattle.strand_contract.specs.Actions.{Put, Later, Lost, Close, Log, Dict, Take, Dial, Keep, Timer, Dropped, Offer}
 use Rattle.strand_contract.specs.Alone.{was_dropped, moment, taken, but, is_some_left}
@@ -6,17 +6,17 @@ use Rattle.strand_contract.specs.Alone.{IsExecution, IsPrefixOf}
 use Rattle.strand_contract.specs.ClientOnlyLaws.{clash}
 use Rattle.moves.specs.Questions.{Question}
 use Rattle.moves.specs.Ledgers.{Ledger, has, is_place, left_at, wants_offer, entered}
-use Rattle.moves.specs.Moves.{Move, Done, Line, Unline, Send, Arm, Cancel, HangUp, Set, Look, Ask, End, State, sends, with_sent, with_offer, with_thread, without_thread, with_deadline, without_deadline, hung_up, perform}
+use Rattle.moves.specs.Moves.{Move, Done, Unready, Send, Arm, Cancel, HangUp, Set, Look, Ask, End, State, sends, with_sent, with_offer, with_thread, without_thread, with_deadline, without_deadline, hung_up, perform}
 use Rattle.moves.specs.Moves as move
 use Rattle.moves.specs.Plans.{Plan, move_of, state_of, behavior_of}
 use Rattle.moves.specs.Turns.{IsTaking}
-use Rattle.moves.specs.Conditions.{IsKept, IsPlan}
+use Rattle.moves.specs.Conditions.{IsServed, IsPlan}
 use Rattle.moves.specs.Tidiness.{PlacesOnce, IsTidy}
 use Rattle.std.proofs.Common.{◌≡◌, ℕ, ◌+◌, ◌≤◌, Bool, true, false, not, ◌&&◌, ◌||◌, List, [], ◌∷◌, ◌++◌, Option, Some, None, take, drop, length, if◌then◌else◌, refl, sym, ap, ◌∙◌, subst, append-nil, arith, length-append, length-take, length-drop}
 use Rattle.std.proofs.lemmas.List.{drop-append-le}
 use Rattle.strand_contract.specs.declared.turns.Place.{Place}
 use Rattle.moves.proofs.Places.{same-self, same-is, has-append, once-append}
-use Rattle.moves.proofs.Ledgers.{places-is}
+use Rattle.moves.proofs.Ledgers.{places-are}
 use Rattle.moves.proofs.Executions.{agrees, comes}
 
 -- tidy, by what the ledger has of it
@@ -86,8 +86,8 @@ module _ {J S : Type 0} where
   pub performed-tidy : (m : Move J S) (b : Ledger J) (s : S) → IsTidyBy b.places b.begun b.put_off b.taken b.sent
       → let c = (perform m b s).state.ledger in IsTidyBy c.places c.begun c.put_off c.taken c.sent
   performed-tidy Done b s t = t
-  performed-tidy (Line k m) b s t = performed-tidy m (with_thread k b) s t
-  performed-tidy (Unline k m) b s t = performed-tidy m (without_thread k b) s t
+  performed-tidy (move.Ready k m) b s t = performed-tidy m (with_thread k b) s t
+  performed-tidy (Unready k m) b s t = performed-tidy m (without_thread k b) s t
   performed-tidy (Send q bytes m) b s t =
       let c = with_sent q bytes b in
       performed-tidy m (with_offer q c) s (offered-if q c (wants_offer q c) refl (grown (has q b.opened) q bytes b.places b.begun b.put_off b.taken b.sent t))
@@ -214,7 +214,7 @@ module _ {J S : Type 0} (p : Plan J S) (holds : State J S → Type 0) (may_ask :
   kept-tidy (Did (Later q) ∷ es) f d = turned (Did (Later q)) es (later-tidy (state_of p es).ledger q (kept-tidy es f.0 d) (comes p holds may_ask plan (Did (Later q)) es (agrees p holds may_ask plan es f.0 d) f.1))
   kept-tidy (Did (Lost q) ∷ es) f d = turned (Did (Lost q)) es (lost-tidy (state_of p es).ledger q (kept-tidy es f.0 d) (comes p holds may_ask plan (Did (Lost q)) es (agrees p holds may_ask plan es f.0 d) f.1))
   kept-tidy (Did (Ready q) ∷ es) f d = turned (Did (Ready q)) es (again-tidy (state_of p es).ledger q (kept-tidy es f.0 d))
-  kept-tidy (Did (Offer q) ∷ es) f d = turned (Did (Offer q)) es (offered-tidy (state_of p es).ledger q f.1.1.0 (sym (places-is p es) ∙ sym f.1.1.1) (kept-tidy es f.0 d))
+  kept-tidy (Did (Offer q) ∷ es) f d = turned (Did (Offer q)) es (offered-tidy (state_of p es).ledger q f.1.1.0 (sym (places-are p es) ∙ sym f.1.1.1) (kept-tidy es f.0 d))
   kept-tidy (Did (Close q) ∷ es) f d = turned (Did (Close q)) es (close-tidy (state_of p es).ledger q (kept-tidy es f.0 d))
   kept-tidy (Did (Log line done) ∷ es) f d = turned (Did (Log line done)) es (same-tidy (state_of p es).ledger (kept-tidy es f.0 d))
   kept-tidy (Did (Dict zone call answer) ∷ es) f d = turned (Did (Dict zone call answer)) es (same-tidy (state_of p es).ledger (kept-tidy es f.0 d))
@@ -237,7 +237,7 @@ left-behind t xs bytes l h = ap is_some_left (drop-append-le t xs bytes l) ∙ n
     none (y ∷ ys) h = clash true refl h
 
 -- an offer is asked for exactly where bytes come to an open place where nothing was left, that wasn't put off and whose offer isn't the turn's
-pub send-wants : {J : Type 0} (q : Place) (bytes : List ℕ) (b : Ledger J) → IsTidyLedger b → IsKept q b
+pub send-wants : {J : Type 0} (q : Place) (bytes : List ℕ) (b : Ledger J) → IsTidyLedger b → IsServed q b
     → wants_offer q (with_sent q bytes b) ≡ (has q b.opened && is_some_left bytes && not (is_some_left (left_at q b) || (b.put_off q || is_place q b.begun)))
 send-wants q bytes b t kept = test (has q b.opened) refl (is_some_left (left_at q b)) refl
   where

@@ -8,14 +8,15 @@ use Rattle.strand_contract.specs.Alone.{is_some_left}
 use Rattle.strand_contract.specs.Laws.{IsMild, IsEnding}
 use Rattle.moves.specs.Questions.{Question}
 use Rattle.moves.specs.Questions as question
-use Rattle.moves.specs.Ledgers.{Ledger, has, is_lined, left_at}
-use Rattle.moves.specs.Moves.{Move, Done, Line, Unline, Send, Arm, Cancel, HangUp, Log, Set, Look, Ask, End, State}
+use Rattle.moves.specs.Ledgers.{Ledger, has, has_offer, left_at}
+use Rattle.moves.specs.Moves.{Move, Done, Unready, Send, Arm, Cancel, HangUp, Log, Set, Look, Ask, End, State}
+use Rattle.moves.specs.Moves as move
 use Rattle.moves.specs.Plans.{Plan, unborn_state, stepped}
 use Rattle.moves.specs.Turns.{Comes}
 
--- where something of an open place is left, the place was put off, or its offer is in line or begun
-abbrev pub IsKept : {J : Type 0} → Place → Ledger J → Type 0
-IsKept q b = has q b.opened ≡ true → is_some_left (left_at q b) ≡ true → (b.put_off q || is_lined q b) ≡ true
+-- where something of an open place is left, the place was put off, or its offer is queued or begun
+abbrev pub IsServed : {J : Type 0} → Place → Ledger J → Type 0
+IsServed q b = has q b.opened ≡ true → is_some_left (left_at q b) ≡ true → (b.put_off q || has_offer q b) ≡ true
 
 -- the question fits: the dictionary is there and the call in range, and a socket is kept for 99,999,999,999 milliseconds at most
 abbrev pub Fits : {J S : Type 0} → Plan J S → Question J → Type 0
@@ -28,9 +29,9 @@ pub record IsPlan {J S : Type 0} (p : Plan J S) (holds : State J S → Type 0) (
   pub begins : holds (unborn_state p)
   pub stays : (now : ℕ) (a : LocalAction J) (st : State J S) → holds st → Comes p now a st → holds (stepped p now a st).state
   -- a place of which a write broke is hung up, or offered again
-  pub lost : (now : ℕ) (q : Place) (st : State J S) → holds st → Comes p now (Did (Lost q)) st → IsKept q (stepped p now (Did (Lost q)) st).state.ledger
+  pub lost : (now : ℕ) (q : Place) (st : State J S) → holds st → Comes p now (Did (Lost q)) st → IsServed q (stepped p now (Did (Lost q)) st).state.ledger
   -- and so is one that takes bytes again
-  pub again : (now : ℕ) (q : Place) (st : State J S) → holds st → Comes p now (Did (Ready q)) st → IsKept q (stepped p now (Did (Ready q)) st).state.ledger
+  pub again : (now : ℕ) (q : Place) (st : State J S) → holds st → Comes p now (Did (Ready q)) st → IsServed q (stepped p now (Did (Ready q)) st).state.ledger
   pub asks : (st : State J S) (x : Question J) → holds st → st.ledger.asked ≡ Some x → may_ask x
   pub fits : (x : Question J) → may_ask x → Fits p x
   -- a deadline that is taken, and a job that begins, only wake
@@ -42,8 +43,8 @@ pub record IsPlan {J S : Type 0} (p : Plan J S) (holds : State J S → Type 0) (
 -- moves by their form: none asks
 abbrev pub NeverAsks : {J S : Type 0} → Move J S → Type 0
 NeverAsks Done = Unit {0}
-NeverAsks (Line k m) = NeverAsks m
-NeverAsks (Unline k m) = NeverAsks m
+NeverAsks (move.Ready k m) = NeverAsks m
+NeverAsks (Unready k m) = NeverAsks m
 NeverAsks (Send q bytes m) = NeverAsks m
 NeverAsks (Arm n at m) = NeverAsks m
 NeverAsks (Cancel n m) = NeverAsks m
@@ -57,8 +58,8 @@ NeverAsks End = Unit {0}
 -- none asks or arms
 abbrev pub OnlyWakes : {J S : Type 0} → Move J S → Type 0
 OnlyWakes Done = Unit {0}
-OnlyWakes (Line k m) = OnlyWakes m
-OnlyWakes (Unline k m) = OnlyWakes m
+OnlyWakes (move.Ready k m) = OnlyWakes m
+OnlyWakes (Unready k m) = OnlyWakes m
 OnlyWakes (Send q bytes m) = OnlyWakes m
 OnlyWakes (Arm n at m) = ⊥
 OnlyWakes (Cancel n m) = OnlyWakes m
@@ -70,25 +71,25 @@ OnlyWakes (Ask x) = ⊥
 OnlyWakes End = Unit {0}
 
 -- none asks or arms, nor cancels or logs
-abbrev pub OnlyServes : {J S : Type 0} → Move J S → Type 0
-OnlyServes Done = Unit {0}
-OnlyServes (Line k m) = OnlyServes m
-OnlyServes (Unline k m) = OnlyServes m
-OnlyServes (Send q bytes m) = OnlyServes m
-OnlyServes (Arm n at m) = ⊥
-OnlyServes (Cancel n m) = ⊥
-OnlyServes (HangUp q m) = OnlyServes m
-OnlyServes (Log line m) = ⊥
-OnlyServes (Set f m) = OnlyServes m
-OnlyServes {J} {S} (Look go) = (b : Ledger J) (s : S) → OnlyServes (go b s)
-OnlyServes (Ask x) = ⊥
-OnlyServes End = Unit {0}
+abbrev pub OnlyQueues : {J S : Type 0} → Move J S → Type 0
+OnlyQueues Done = Unit {0}
+OnlyQueues (move.Ready k m) = OnlyQueues m
+OnlyQueues (Unready k m) = OnlyQueues m
+OnlyQueues (Send q bytes m) = OnlyQueues m
+OnlyQueues (Arm n at m) = ⊥
+OnlyQueues (Cancel n m) = ⊥
+OnlyQueues (HangUp q m) = OnlyQueues m
+OnlyQueues (Log line m) = ⊥
+OnlyQueues (Set f m) = OnlyQueues m
+OnlyQueues {J} {S} (Look go) = (b : Ledger J) (s : S) → OnlyQueues (go b s)
+OnlyQueues (Ask x) = ⊥
+OnlyQueues End = Unit {0}
 
 -- the last ends the life, and the others take back, hang up and log
 abbrev pub EndsLife : {J S : Type 0} → Move J S → Type 0
 EndsLife Done = ⊥
-EndsLife (Line k m) = ⊥
-EndsLife (Unline k m) = EndsLife m
+EndsLife (move.Ready k m) = ⊥
+EndsLife (Unready k m) = EndsLife m
 EndsLife (Send q bytes m) = ⊥
 EndsLife (Arm n at m) = ⊥
 EndsLife (Cancel n m) = EndsLife m

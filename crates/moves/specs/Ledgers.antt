@@ -9,8 +9,8 @@ use Rattle.strand_contract.specs.Laws.{is_still}
 use Rattle.moves.specs.Questions.{Question}
 
 pub record Ledger (J : Type 0) : Type 0 where
-  -- the threads in line, the armed deadlines with their moments, the places in line to be offered
-  pub line : List ℕ
+  -- the run queue, the armed deadlines with their moments, the offer queue
+  pub threads : List ℕ
   pub armed : List (ℕ × ℕ)
   pub places : List Place
   -- the place whose offer was begun
@@ -29,7 +29,7 @@ pub record Ledger (J : Type 0) : Type 0 where
 -- of a strand that hasn't begun
 abbrev pub empty_ledger : {J : Type 0} → Ledger J
 empty_ledger = record {
-  line = [];
+  threads = [];
   armed = [];
   places = [];
   begun = None;
@@ -65,13 +65,13 @@ is_place q (Some p) = same_place q p
 abbrev pub left_at : {J : Type 0} → Place → Ledger J → List ℕ
 left_at q b = drop (b.taken q) (b.sent q)
 
--- an offer of the place is in line or begun
-abbrev pub is_lined : {J : Type 0} → Place → Ledger J → Bool
-is_lined q b = has q b.places || is_place q b.begun
+-- an offer of the place is queued or begun
+abbrev pub has_offer : {J : Type 0} → Place → Ledger J → Bool
+has_offer q b = has q b.places || is_place q b.begun
 
--- something is left of the open place, which takes bytes, and no offer of it is in line or begun
+-- something is left of the open place, which takes bytes, and no offer of it is queued or begun
 abbrev pub wants_offer : {J : Type 0} → Place → Ledger J → Bool
-wants_offer q b = has q b.opened && is_some_left (left_at q b) && not (b.put_off q || is_lined q b)
+wants_offer q b = has q b.opened && is_some_left (left_at q b) && not (b.put_off q || has_offer q b)
 
 -- what an action does to the offer that was begun: another turn ends it, and so does the closing of its place
 abbrev pub begun_by : {J : Type 0} → LocalAction J → Option Place → Option Place
@@ -114,7 +114,7 @@ count_by a n = n
 -- the ledger as the turn of the action begins
 abbrev pub entered : {J : Type 0} → LocalAction J → Ledger J → Ledger J
 entered a b = record {
-  line = run_by a b.line;
+  threads = run_by a b.threads;
   armed = taken_by a b.armed;
   places = offered_by a b.places;
   begun = begun_by a b.begun;

@@ -14,9 +14,9 @@ use Rattle.moves.specs.Ledgers.{Ledger, has, has_number, wants_offer}
 -- the moves of a turn; S is what the strand keeps beside its ledger
 pub data Move (J S : Type 0) : Type 0 where
   Done : Move J S
-  -- a thread is put in line, where it isn't there yet, or taken out
-  Line : (k : ℕ) (then_ : Move J S) → Move J S
-  Unline : (k : ℕ) (then_ : Move J S) → Move J S
+  -- a thread is put into the run queue, where it isn't there yet, or taken out
+  Ready : (k : ℕ) (then_ : Move J S) → Move J S
+  Unready : (k : ℕ) (then_ : Move J S) → Move J S
   -- bytes are sent to a place, none where it isn't open; an offer is asked for where one is wanted
   Send : (q : Place) (bytes : List ℕ) (then_ : Move J S) → Move J S
   -- a deadline is armed for a moment, or cancelled
@@ -54,15 +54,15 @@ sends c q bytes sent p = if c && same_place p q then sent p ++ bytes else sent p
 abbrev pub with_sent : {J : Type 0} → Place → List ℕ → Ledger J → Ledger J
 with_sent q bytes b = record b { sent = sends (has q b.opened) q bytes b.sent }
 
--- and the place is put in line to be offered, where it wants that
+-- and the place is put into the offer queue, where it wants that
 abbrev pub with_offer : {J : Type 0} → Place → Ledger J → Ledger J
 with_offer q b = record b { places = added_if (wants_offer q b) q b.places }
 
 abbrev pub with_thread : {J : Type 0} → ℕ → Ledger J → Ledger J
-with_thread k b = record b { line = added_if (not (has_number k b.line)) k b.line }
+with_thread k b = record b { threads = added_if (not (has_number k b.threads)) k b.threads }
 
 abbrev pub without_thread : {J : Type 0} → ℕ → Ledger J → Ledger J
-without_thread k b = record b { line = without k b.line }
+without_thread k b = record b { threads = without k b.threads }
 
 -- armed again, a deadline counts as armed now
 abbrev pub with_deadline : {J : Type 0} → ℕ → Ms → Ledger J → Ledger J
@@ -100,8 +100,8 @@ after_act a r = record { state = r.state; acts = a ∷ r.acts }
 -- moves are performed on a ledger and what is beside it
 abbrev pub perform : {J S : Type 0} → Move J S → Ledger J → S → Performed J S
 perform Done b s = record { state = record { ledger = b; inner = s }; acts = [] }
-perform (Line k m) b s = after_act_if (not (has_number k b.line)) (act.Ready k) (perform m (with_thread k b) s)
-perform (Unline k m) b s = after_act (act.Unready k) (perform m (without_thread k b) s)
+perform (Ready k m) b s = after_act_if (not (has_number k b.threads)) (act.Ready k) (perform m (with_thread k b) s)
+perform (Unready k m) b s = after_act (act.Unready k) (perform m (without_thread k b) s)
 perform (Send q bytes m) b s = let c = with_sent q bytes b in after_act_if (wants_offer q c) (act.Offer q) (perform m (with_offer q c) s)
 perform (Arm n at m) b s = after_act (act.Arm n at) (perform m (with_deadline n at b) s)
 perform (Cancel n m) b s = after_act (act.Cancel n) (perform m (without_deadline n b) s)

@@ -8,12 +8,13 @@ use Rattle.strand_contract.specs.Alone.{is_some_left}
 use Rattle.moves.specs.Questions.{Question}
 use Rattle.moves.specs.Questions as question
 use Rattle.moves.specs.Ledgers.{Ledger, left_at, has_number, numbers}
-use Rattle.moves.specs.Moves.{Move, Done, Line, Send, Arm, Cancel, HangUp, Ask, End, State}
+use Rattle.moves.specs.Moves.{Move, Done, Send, Arm, Cancel, HangUp, Ask, End, State}
+use Rattle.moves.specs.Moves as move
 use Rattle.moves.specs.Plans.{Plan}
 
 abbrev pub sleeper_turn : {J : Type 0} → ℕ → LocalAction J → Ledger J → ℕ → Move J ℕ
 sleeper_turn now (Did (Began at (start.Client c))) b s = Arm 2 (record { 0 = now + 5 }) Done
-sleeper_turn now (Did (Due n)) b s = Line 0 Done
+sleeper_turn now (Did (Due n)) b s = move.Ready 0 Done
 sleeper_turn now (Did (Run k)) b s = Ask (question.Dict 0 dict.FlushAll)
 sleeper_turn now (Did (Dict zone call answer)) b s = Send place.Client (33 ∷ []) Done
 sleeper_turn now (Did (Ready q)) b s = Send q [] Done

@@ -1,4 +1,4 @@
--- What the ledger of any plan keeps: nothing is in line or armed twice, and a place in line has something to give.
+-- What the ledger of any plan keeps: nothing is queued or armed twice, and something of a queued place is left.
 use Rattle.std.specs.Prelude.{◌≡◌, ℕ, ◌≤◌, true, false, List, [], ◌∷◌, length}
 use Rattle.strand_contract.specs.declared.turns.Place.{Place}
 use Rattle.strand_contract.specs.Alone.{is_some_left}
@@ -13,7 +13,7 @@ abbrev pub PlacesOnce : List Place → Type 0
 PlacesOnce [] = Unit {0}
 PlacesOnce (q ∷ qs) = (has q qs ≡ false) × PlacesOnce qs
 
--- a place in line is there once, its offer wasn't begun, it wasn't put off, and something of it is left;
+-- a queued place is there once, its offer wasn't begun, it wasn't put off, and something of it is left;
 -- of no place more was taken than was sent, and one whose offer was begun isn't put off
 pub record IsTidy {J : Type 0} (b : Ledger J) : Type 0 where
   pub once : PlacesOnce b.places

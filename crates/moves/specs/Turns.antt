@@ -11,9 +11,9 @@ use Rattle.moves.specs.Ledgers.{Ledger, has, left_at}
 use Rattle.moves.specs.Moves.{State}
 use Rattle.moves.specs.Plans.{Plan, unborn_state}
 
--- at rest nothing is in line, and no question waits
+-- at rest both queues are empty, and no question waits
 pub record IsFree {J : Type 0} (b : Ledger J) : Type 0 where
-  pub no_thread : b.line ≡ []
+  pub no_thread : b.threads ≡ []
   pub no_place : b.places ≡ []
   pub none_asked : b.asked ≡ None
 
@@ -41,7 +41,7 @@ pub record IsDue {J : Type 0} (now : ℕ) (b : Ledger J) (n : ℕ) : Type 0 wher
   pub first : due now b.armed ≡ Some (n, at)
   pub none_asked : b.asked ≡ None
 
--- the action may come now: what is given is given at rest, a thread that runs is the first in line, and an answer is one to what was asked
+-- the action may come now: what is given is given at rest, a thread that runs is the first of its queue, and an answer is one to what was asked
 abbrev pub Comes : {J S : Type 0} → Plan J S → ℕ → LocalAction J → State J S → Type 0
 Comes p now (Did (Began at begin)) st = st ≡ unborn_state p
 Comes p now (Did (Bytes q bytes)) st = IsFreeAt st.ledger q × (0 < length bytes)
@@ -53,7 +53,7 @@ Comes p now (Did (Refused k)) st = IsFreeAt st.ledger (place.Sock k)
 Comes p now (Did (Put q bytes)) st = IsTaken st.ledger q bytes
 Comes p now (Did (Later q)) st = IsTaking st.ledger q
 Comes p now (Did (Lost q)) st = IsTaking st.ledger q
-Comes p now (Did (Run k)) st = IsPrefixOf (k ∷ []) st.ledger.line × (st.ledger.asked ≡ None)
+Comes p now (Did (Run k)) st = IsPrefixOf (k ∷ []) st.ledger.threads × (st.ledger.asked ≡ None)
 Comes p now (Did (Due n)) st = IsDue now st.ledger n
 Comes p now (Did (Dict zone call answer)) st = (st.ledger.asked ≡ Some (question.Dict zone call)) × MayAnswer call answer
 Comes p now (Did (Take key uses)) st = st.ledger.asked ≡ Some (question.Take key)

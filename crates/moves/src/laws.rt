@@ -35,7 +35,7 @@ pub trait Planned {
 
 /// The ledger agrees with the contract's definitions, whatever the plan.
 pub fn ledgers_agree<J, S>()
-    ensures line { (p : Plan J S) (es : List (LocalAction J)) → waiting (behavior_of p) es ≡ (state_of p es).ledger.line }
+    ensures threads { (p : Plan J S) (es : List (LocalAction J)) → waiting (behavior_of p) es ≡ (state_of p es).ledger.threads }
     ensures places { (p : Plan J S) (es : List (LocalAction J)) → to_offer (behavior_of p) es ≡ (state_of p es).ledger.places }
     ensures deadlines { (p : Plan J S) (es : List (LocalAction J)) → armed (behavior_of p) es ≡ (state_of p es).ledger.armed }
     ensures begun { (p : Plan J S) (es : List (LocalAction J)) → begun_offer es ≡ (state_of p es).ledger.begun }
@@ -44,7 +44,7 @@ pub fn ledgers_agree<J, S>()
     ensures count { (p : Plan J S) (es : List (LocalAction J)) → socket_count es ≡ (state_of p es).ledger.count }
 {}
 
-/// Laws that each plan keeps: those of the contract that need no condition, and that no thread is in line twice and no deadline armed twice.
+/// Laws that each plan keeps: those of the contract that need no condition, and that no thread is queued twice and no deadline armed twice.
 pub fn any_plan<J, S>()
     ensures quiet { (p : Plan J S) → IsQuiet (behavior_of p) }
     ensures silent { (p : Plan J S) → IsSilent (behavior_of p) }

@@ -11,12 +11,13 @@ use Rattle.strand_contract.specs.ClientOnlyLaws.{clash}
 use Rattle.strand_contract.specs.Actions.{Bytes, Ended, Broken, Ready, Put, Later, Lost, Run, Halted, LocalAction, Did}
 use Rattle.strand_contract.specs.Alone.{is_some_left, moment, piece, todo, lives, IsExecution}
 use Rattle.moves.specs.Ledgers.{Ledger, has, left_at, entered}
-use Rattle.moves.specs.Moves.{Done, Line, Set, End, ending, perform}
+use Rattle.moves.specs.Moves.{Done, Set, End, ending, perform}
+use Rattle.moves.specs.Moves as move
 use Rattle.moves.specs.Plans.{state_of}
 use Rattle.moves.proofs.Calls.{IsCalled, shown}
 use Rattle.moves.proofs.PlanLaws.{piece-is, undropped}
 use Rattle.moves.proofs.Executions.{quiet}
-use Rattle.moves.proofs.OneLine.{alone, is-client}
+use Rattle.moves.proofs.ClientAlone.{alone, is-client}
 use Rattle.moves.proofs.Tidy.{none-tidy, send-wants}
 use Rattle.strand.specs.declared.head.Head.TheVariants.{Empty}
 use Rattle.strand.specs.Requests.{is_whole}
@@ -47,9 +48,9 @@ ends-if : {J : Type 0} (c : Bool) (b : Ledger J) (s : List ℕ) → b.opened ≡
 ends-if true b s e = (refl, refl)
 ends-if {J = J} false b s e = (refl, ends-acts J b.opened (has place.Client b.opened) e)
 
-came-if : {J : Type 0} (bytes : List ℕ) (c : Bool) (b : Ledger J) (s : List ℕ) → becomes_whole bytes (held_of (record { ledger = b; inner = s })) ≡ c → (c ≡ true → b.line ≡ [])
-    → (came bytes (held_of (record { ledger = b; inner = s })) ≡ held_of (perform (Set (λ s. s ++ bytes) (if c then Line 0 Done else Done)) b s).state)
-    × (came_acts {J = J} bytes (held_of (record { ledger = b; inner = s })) ≡ (perform (Set (λ s. s ++ bytes) (if c then Line 0 Done else Done)) b s).acts)
+came-if : {J : Type 0} (bytes : List ℕ) (c : Bool) (b : Ledger J) (s : List ℕ) → becomes_whole bytes (held_of (record { ledger = b; inner = s })) ≡ c → (c ≡ true → b.threads ≡ [])
+    → (came bytes (held_of (record { ledger = b; inner = s })) ≡ held_of (perform (Set (λ s. s ++ bytes) (if c then move.Ready 0 Done else Done)) b s).state)
+    × (came_acts {J = J} bytes (held_of (record { ledger = b; inner = s })) ≡ (perform (Set (λ s. s ++ bytes) (if c then move.Ready 0 Done else Done)) b s).acts)
 came-if bytes true b s e none = (rw (e, after-append Empty s bytes, none refl) refl, rw (e, none refl) refl)
 came-if bytes false b s e none = (rw (e, after-append Empty s bytes) refl, rw e refl)
 
@@ -177,7 +178,7 @@ ran-turn body es k f =
     let made = reply body (moment es) in
     let wants = send-wants place.Client made b (none-tidy st.ledger called.tidy) (called.settled f.1.0.no_offer place.Client) in
     record {
-      held_is = rw (ran-line st.ledger.line called.inner.thread) (ap (λ xs. record (held_of st) { ready = false; sent = xs }) (some-sent (has place.Client st.ledger.opened) (st.ledger.sent place.Client) made));
+      held_is = rw (ran-line st.ledger.threads called.inner.thread) (ap (λ xs. record (held_of st) { ready = false; sent = xs }) (some-sent (has place.Client st.ledger.opened) (st.ledger.sent place.Client) made));
       acts_are = rw (wants, or-none (st.ledger.put_off place.Client)) refl;
     }
 

@@ -6,21 +6,22 @@ use Rattle.strand_contract.specs.Laws.{is_still}
 use Rattle.strand_contract.specs.ClientOnlyLaws.{clash}
 use Rattle.moves.specs.Questions.{Question}
 use Rattle.moves.specs.Ledgers.{Ledger, left_at, entered}
-use Rattle.moves.specs.Moves.{Move, Done, Line, Set, End, State, perform}
+use Rattle.moves.specs.Moves.{Move, Done, Set, End, State, perform}
+use Rattle.moves.specs.Moves as move
 use Rattle.moves.specs.Plans.{stepped}
 use Rattle.moves.specs.Conditions.{IsPlan}
-use Rattle.moves.proofs.Kept.{send-minds, end-minds}
+use Rattle.moves.proofs.Served.{send-serves, end-serves}
 use Rattle.moves.proofs.Forms.{either, ends-life}
 use Rattle.strand.specs.Requests.{is_whole}
 use Rattle.strand.specs.HeadLaws.{whole-stays}
 use Rattle.strand.specs.Literal.{literal_plan}
 
--- what it knows of itself: it waits for no answer and has no deadline, and its thread is in line at most once, for a whole request
+-- what it knows of itself: it waits for no answer and has no deadline, and its thread is queued at most once, for a whole request
 pub record IsWaiting {J : Type 0} (st : State J (List ℕ)) : Type 0 where
   pub none_asked : st.ledger.asked ≡ None
   pub none_armed : st.ledger.armed ≡ []
-  pub thread : (st.ledger.line ≡ []) ⊎ (st.ledger.line ≡ 0 ∷ [])
-  pub unready : is_whole st.inner ≡ false → st.ledger.line ≡ []
+  pub thread : (st.ledger.threads ≡ []) ⊎ (st.ledger.threads ≡ 0 ∷ [])
+  pub unready : is_whole st.inner ≡ false → st.ledger.threads ≡ []
 
 -- it asks nothing
 abbrev pub nothing : {J : Type 0} → Question J → Type 0
@@ -33,8 +34,8 @@ ran-line line h = elim h [
 ]
 
 came-waits : {J : Type 0} (came bytes : List ℕ) (b : Ledger J) (was is : Bool) → is_whole came ≡ was → is_whole (came ++ bytes) ≡ is
-    → b.asked ≡ None → b.armed ≡ [] → (b.line ≡ []) ⊎ (b.line ≡ 0 ∷ []) → (is_whole came ≡ false → b.line ≡ [])
-    → IsWaiting (perform (Set (λ came. came ++ bytes) (if not was && is then Line 0 Done else Done)) b came).state
+    → b.asked ≡ None → b.armed ≡ [] → (b.threads ≡ []) ⊎ (b.threads ≡ 0 ∷ []) → (is_whole came ≡ false → b.threads ≡ [])
+    → IsWaiting (perform (Set (λ came. came ++ bytes) (if not was && is then move.Ready 0 Done else Done)) b came).state
 came-waits came bytes b false true e f asked armed thread unready =
     record { none_asked = asked; none_armed = armed; thread = inr (rw (unready e) refl); unready = λ h. clash (is_whole (came ++ bytes)) f h }
 came-waits came bytes b false false e f asked armed thread unready =
@@ -43,7 +44,7 @@ came-waits came bytes b true is e f asked armed thread unready =
     record { none_asked = asked; none_armed = armed; thread = thread; unready = λ h. clash (is_whole (came ++ bytes)) (whole-stays came bytes e) h }
 
 same-waits : {J : Type 0} (b : Ledger J) (came : List ℕ) (m : Move J (List ℕ)) → ((m ≡ Done) ⊎ (m ≡ End))
-    → b.asked ≡ None → b.armed ≡ [] → (b.line ≡ []) ⊎ (b.line ≡ 0 ∷ []) → (is_whole came ≡ false → b.line ≡ []) → IsWaiting (perform m b came).state
+    → b.asked ≡ None → b.armed ≡ [] → (b.threads ≡ []) ⊎ (b.threads ≡ 0 ∷ []) → (is_whole came ≡ false → b.threads ≡ []) → IsWaiting (perform m b came).state
 same-waits b came m h asked armed thread unready = elim h [
   | inl e ↦ subst (λ m. IsWaiting (perform m b came).state) (sym e) (record { none_asked = asked; none_armed = armed; thread = thread; unready = unready })
   | inr e ↦ subst (λ m. IsWaiting (perform m b came).state) (sym e) (record { none_asked = asked; none_armed = armed; thread = thread; unready = unready })
@@ -65,7 +66,7 @@ stays body now (Did (Ended q)) st h =
     let b = entered (Did (Ended q)) st.ledger in
     same-waits b st.inner (if is_whole st.inner then Done else End) (done-or-end _ (is_whole st.inner)) refl h.none_armed h.thread h.unready
 stays body now (Did (Run k)) st h =
-    let e = ran-line st.ledger.line h.thread in
+    let e = ran-line st.ledger.threads h.thread in
     record { none_asked = refl; none_armed = h.none_armed; thread = inl e; unready = λ f. e }
 stays body now (Did (Due n)) st h = record { none_asked = refl; none_armed = ap (disarmed n) h.none_armed; thread = h.thread; unready = h.unready }
 stays body now a st h = record {
@@ -79,8 +80,8 @@ pub meets : (J : Type 0) (body : List ℕ) → IsPlan {J = J} (literal_plan body
 meets J body = record {
   begins = record { none_asked = refl; none_armed = refl; thread = inl refl; unready = λ h. refl };
   stays = λ now a st h comes. stays body now a st h;
-  lost = λ now q st h comes. end-minds {J = J} {S = List ℕ} q (entered (Did (Lost q)) st.ledger) st.inner;
-  again = λ now q st h comes. send-minds {S = List ℕ} q [] Done (entered (Did (Ready q)) st.ledger) st.inner;
+  lost = λ now q st h comes. end-serves {J = J} {S = List ℕ} q (entered (Did (Lost q)) st.ledger) st.inner;
+  again = λ now q st h comes. send-serves {S = List ℕ} q [] Done (entered (Did (Ready q)) st.ledger) st.inner;
   asks = λ st x h e. absurd (let f = sym h.none_asked ∙ e in cc);
   fits = λ x h. absurd h;
   due = λ now n st h comes. tt;

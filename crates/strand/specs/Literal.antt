@@ -5,16 +5,17 @@ use Rattle.strand_contract.specs.Actions.{LocalAction, Did, Bytes, Ended, Broken
 use Rattle.strand_contract.specs.Alone.{is_some_left}
 use Rattle.strand_contract.specs.Behaviors.{Behavior}
 use Rattle.moves.specs.Ledgers.{Ledger, left_at}
-use Rattle.moves.specs.Moves.{Move, Done, Line, Send, Set, End}
+use Rattle.moves.specs.Moves.{Move, Done, Send, Set, End}
+use Rattle.moves.specs.Moves as move
 use Rattle.moves.specs.Plans.{Plan, behavior_of}
 use Rattle.strand.specs.Requests.{is_whole}
 use Rattle.strand.specs.Replies.{reply}
 
--- Beside its ledger a strand keeps all bytes that came. A request that becomes whole puts a thread in line, the thread sends the
+-- Beside its ledger a strand keeps all bytes that came. A request that becomes whole readies a thread, the thread sends the
 -- reply, and once all is taken the life ends; so it does where the client sends no more before its request is whole, at a fault, and at Stop
 abbrev pub literal_turn : {J : Type 0} → List ℕ → ℕ → LocalAction J → Ledger J → List ℕ → Move J (List ℕ)
 literal_turn body now (Did (Bytes q bytes)) b came =
-    Set (λ came. came ++ bytes) (if not (is_whole came) && is_whole (came ++ bytes) then Line 0 Done else Done)
+    Set (λ came. came ++ bytes) (if not (is_whole came) && is_whole (came ++ bytes) then move.Ready 0 Done else Done)
 literal_turn body now (Did (Run k)) b came = Send place.Client (reply body now) Done
 literal_turn body now (Did (Put q bytes)) b came = if is_some_left (left_at q b) then Done else End
 literal_turn body now (Did (Ready q)) b came = Send q [] Done

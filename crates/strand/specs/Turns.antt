@@ -13,7 +13,7 @@ use Rattle.strand.specs.declared.head.Head.TheVariants as head
 use Rattle.strand.specs.Literal.{literal_plan}
 use Rattle.strand.specs.Scanning.{after_bytes, is_end}
 
--- whether its client's connection is open, how far the head has come, whether its thread is in line, whether the connection takes
+-- whether its client's connection is open, how far the head has come, whether its thread is queued, whether the connection takes
 -- none for now, whether its life was ended; all that was sent, and how much of it was taken
 pub record Held : Type 0 where
   pub open_ : Bool
@@ -29,7 +29,7 @@ abbrev pub held_of : {J : Type 0} → State J (List ℕ) → Held
 held_of st = record {
   open_ = has place.Client st.ledger.opened;
   head = after_bytes head.Empty st.inner;
-  ready = is_some_left st.ledger.line;
+  ready = is_some_left st.ledger.threads;
   off = st.ledger.put_off place.Client;
   over = st.ledger.ended;
   sent = st.ledger.sent place.Client;

@@ -1,14 +1,14 @@
-use Rattle.moves.proofs.Ledgers.{line-is, places-is, armed-is, begun-is, put-off-is, taken-is, count-is}
+use Rattle.moves.proofs.Ledgers.{threads-are, places-are, armed-are, begun-is, put-off-is, taken-is, count-is}
 use Rattle.moves.proofs.laws.ledgers_agree.Goals as goal
 
-pub returns-clause-line : goal.returns-clause-line
-returns-clause-line g c = line-is
+pub returns-clause-threads : goal.returns-clause-threads
+returns-clause-threads g c = threads-are
 
 pub returns-clause-places : goal.returns-clause-places
-returns-clause-places g c = places-is
+returns-clause-places g c = places-are
 
 pub returns-clause-deadlines : goal.returns-clause-deadlines
-returns-clause-deadlines g c = armed-is
+returns-clause-deadlines g c = armed-are
 
 pub returns-clause-begun : goal.returns-clause-begun
 returns-clause-begun g c = begun-is

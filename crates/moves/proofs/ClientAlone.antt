@@ -1,4 +1,4 @@
--- A plan that may ask nothing has its client's line alone.
+-- A plan that may ask nothing has its client's connection alone.
 use Rattle.strand_contract.specs.Actions.{LocalAction, Told, Did}
 use Rattle.strand_contract.specs.Actions.{Take, Dial, Dropped}
 use Rattle.strand_contract.specs.Alone.{was_dropped, moment}

@@ -1,9 +1,9 @@
--- What waits at an open place was put off, or an offer of it is in line or under way: no move spoils it.
+-- Where something of an open place is left, it was put off, or its offer is queued or begun: no move spoils that.
 use Rattle.strand_contract.specs.Actions.{same_place}
 use Rattle.strand_contract.specs.Alone.{is_some_left}
 use Rattle.moves.specs.Ledgers.{Ledger, has, is_place, left_at, wants_offer}
-use Rattle.moves.specs.Moves.{Move, Done, Line, Unline, Send, Arm, Cancel, HangUp, Log, Set, Look, Ask, End, sends, with_sent, with_offer, with_thread, without_thread, with_deadline, without_deadline, hung_up, perform}
-use Rattle.moves.specs.Conditions.{IsKept}
+use Rattle.moves.specs.Moves.{Move, Done, Ready, Unready, Send, Arm, Cancel, HangUp, Log, Set, Look, Ask, End, sends, with_sent, with_offer, with_thread, without_thread, with_deadline, without_deadline, hung_up, perform}
+use Rattle.moves.specs.Conditions.{IsServed}
 use Rattle.std.proofs.Common.{◌≡◌, ℕ, Bool, true, false, not, ◌&&◌, ◌||◌, List, [], ◌∷◌, ◌++◌, drop, if◌then◌else◌, refl, sym, ◌∙◌, subst}
 use Rattle.strand_contract.specs.declared.turns.Place.{Place}
 use Rattle.moves.proofs.Places.{same-self, same-is, has-without, has-append, has-more}
@@ -31,7 +31,7 @@ offered q places a g o s h k = rw (h, k) (test (a || (has q places || g)) refl)
         lined true h g e = refl
         lined false h g e = rw e refl
 
-pub offers-keep : {J : Type 0} (q : Place) (b : Ledger J) → IsKept q (with_offer q b)
+pub offers-keep : {J : Type 0} (q : Place) (b : Ledger J) → IsServed q (with_offer q b)
 offers-keep q b h k = offered q b.places (b.put_off q) (is_place q b.begun) (has q b.opened) (is_some_left (left_at q b)) h k
 
 unsaid : (c d : Bool) (xs bytes : List ℕ) → d ≡ false → (if c && d then xs ++ bytes else xs) ≡ xs
@@ -39,7 +39,7 @@ unsaid true true xs bytes h = absurd (let e : true ≡ false = h in cc)
 unsaid true false xs bytes h = refl
 unsaid false d xs bytes h = refl
 
-pub sends-keep : {J : Type 0} (q p : Place) (bytes : List ℕ) (b : Ledger J) → IsKept q b → let c = with_sent p bytes b in IsKept q (with_offer p c)
+pub sends-keep : {J : Type 0} (q p : Place) (bytes : List ℕ) (b : Ledger J) → IsServed q b → let c = with_sent p bytes b in IsServed q (with_offer p c)
 sends-keep q p bytes b kept h k = test (same_place q p) refl
   where
     goal : Place → Type 0
@@ -51,10 +51,10 @@ sends-keep q p bytes b kept h k = test (same_place q p) refl
         (kept h (subst (λ xs. is_some_left (drop (b.taken q) xs) ≡ true) (unsaid (has p b.opened) (same_place q p) (b.sent q) bytes e) k))
 
 module _ {J S : Type 0} where
-  pub performed-kept : (q : Place) (m : Move J S) (b : Ledger J) (s : S) → IsKept q b → IsKept q (perform m b s).state.ledger
+  pub performed-kept : (q : Place) (m : Move J S) (b : Ledger J) (s : S) → IsServed q b → IsServed q (perform m b s).state.ledger
   performed-kept q Done b s kept = kept
-  performed-kept q (Line k m) b s kept = performed-kept q m (with_thread k b) s kept
-  performed-kept q (Unline k m) b s kept = performed-kept q m (without_thread k b) s kept
+  performed-kept q (Ready k m) b s kept = performed-kept q m (with_thread k b) s kept
+  performed-kept q (Unready k m) b s kept = performed-kept q m (without_thread k b) s kept
   performed-kept q (Send p bytes m) b s kept = let c = with_sent p bytes b in performed-kept q m (with_offer p c) s (sends-keep q p bytes b kept)
   performed-kept q (Arm n at m) b s kept = performed-kept q m (with_deadline n at b) s kept
   performed-kept q (Cancel n m) b s kept = performed-kept q m (without_deadline n b) s kept
@@ -66,12 +66,12 @@ module _ {J S : Type 0} where
   performed-kept q End b s kept = λ h. absurd (let e : false ≡ true = h in cc)
 
   -- for the conditions of a plan: a turn that begins so keeps the place, whatever was
-  pub send-minds : (q : Place) (bytes : List ℕ) (m : Move J S) (b : Ledger J) (s : S) → IsKept q (perform (Send q bytes m) b s).state.ledger
-  send-minds q bytes m b s = let c = with_sent q bytes b in performed-kept q m (with_offer q c) s (offers-keep q c)
+  pub send-serves : (q : Place) (bytes : List ℕ) (m : Move J S) (b : Ledger J) (s : S) → IsServed q (perform (Send q bytes m) b s).state.ledger
+  send-serves q bytes m b s = let c = with_sent q bytes b in performed-kept q m (with_offer q c) s (offers-keep q c)
 
-  pub hang-up-minds : (q : Place) (m : Move J S) (b : Ledger J) (s : S) → IsKept q (perform (HangUp q m) b s).state.ledger
-  hang-up-minds q m b s = performed-kept q m (hung_up q b) s
+  pub hang-up-serves : (q : Place) (m : Move J S) (b : Ledger J) (s : S) → IsServed q (perform (HangUp q m) b s).state.ledger
+  hang-up-serves q m b s = performed-kept q m (hung_up q b) s
       (λ h. absurd (let e : false ≡ true = sym (rw (same-self q) refl) ∙ sym (has-without q q b.opened) ∙ h in cc))
 
-  pub end-minds : (q : Place) (b : Ledger J) (s : S) → IsKept q (perform {J = J} {S = S} End b s).state.ledger
-  end-minds q b s = λ h. absurd (let e : false ≡ true = h in cc)
+  pub end-serves : (q : Place) (b : Ledger J) (s : S) → IsServed q (perform {J = J} {S = S} End b s).state.ledger
+  end-serves q b s = λ h. absurd (let e : false ≡ true = h in cc)
