@@ -1,5 +1,5 @@
 -- One lemma for each act that is carried out, for the end of a turn, and for a strand that is given up.
-use Rattle.std.proofs.Common.{◌≡◌, ℕ, ◌-◌, Bool, true, false, ◌==◌, List, [], ◌∷◌, ◌++◌, Option, Some, None, if◌then◌else◌, refl, sym, ap, subst, ◌∙◌, append_assoc, append-nil, inl, inr, arith}
+use Rattle.std.proofs.Common.{◌≡◌, ℕ, ◌-◌, Bool, true, false, ◌||◌, ◌==◌, List, [], ◌∷◌, ◌++◌, Option, Some, None, if◌then◌else◌, refl, sym, ap, subst, ◌∙◌, append_assoc, append-nil, inl, inr, arith}
 use Rattle.std.proofs.lemmas.Bool.{eqb-true}
 use Rattle.resty_base.specs.declared.names.Id.{Id}
 use Rattle.resty_base.specs.declared.names.Id.TheVariants as id
@@ -17,15 +17,16 @@ use Rattle.strand_contract.specs.declared.turns.Place.{Place}
 use Rattle.strand_contract.specs.declared.turns.Place.TheVariants as place
 use Rattle.strand_contract.specs.declared.turns.Act.{Act}
 use Rattle.strand_contract.specs.declared.turns.Act.TheVariants as act
-use Rattle.strand_contract.specs.Actions.{Action, LocalAction, Did, GlobalAction, Of, Closed, Logged, Dropped, Gone}
+use Rattle.strand_contract.specs.Actions.{Action, LocalAction, Did, GlobalAction, Of, Close, Log, Dropped, Gone}
 use Rattle.strand_contract.specs.Behaviors.{Behavior}
-use Rattle.strand_contract.specs.Alone.{lives, was_dropped, moment, is_open, has_ended, todo, carried, waiting, lined_up, to_offer, offers, armed, begun_offer, but, in_offers, is_stopping, is_before, IsExecution}
+use Rattle.strand_contract.specs.Alone.{lives, was_dropped, moment, is_open, has_ended, todo, carried, waiting, lined_up, to_offer, offers, armed, begun_offer, but, in_offers, is_stopping, open_places, IsExecution, IsPrefixOf}
 use Rattle.strand_contract.specs.Executions.{projection, external, offered_lengths}
-use Rattle.strand_contract.specs.Calls.{is_still}
-use Rattle.strand_contract.specs.Order.{IsSubsequence, keep, with_strand, only, readied, all_readied, all_run, all_placed, all_offered, offers_last}
+use Rattle.strand_contract.specs.Laws.{is_still}
+use Rattle.strand_contract.specs.OpenPlaceLaws.{is_among, open-among, place-self, none-open}
+use Rattle.strand_contract.specs.Order.{IsSubsequence, keep, with_strand, only, readied, all_readied, all_run, all_placed, all_offered, offers_last, NoOtherUnderWay}
 use Rattle.engine.specs.Standing.{Held, HasAsides, Common, Around, Near, Busy, Falls, Standing, IsOffer}
 use Rattle.engine.proofs.Lists.{by_test, clash, same-true, sub-through, sub-front, only-same, only-other, tells-more, tells-same}
-use Rattle.engine.proofs.Marks.{projection-same, touches, fit-same, held-same, SameBook, same-keeps, same-hung, hung-closed, same-dropped, same-forgot, forgot-aside, forgot-ended, own-closed, common-next, around-next}
+use Rattle.engine.proofs.Marks.{projection-same, touches, fit-same, held-same, SameBook, same-keeps, same-hung, hung-closed, same-dropped, same-forgot, forgot-aside, forgot-ended, own-closed, has-arrived, common-next, around-next}
 
 pub sub-after : {A : Type 0} (xs : List A) {ys zs : List A} → IsSubsequence ys zs → IsSubsequence (xs ++ ys) (xs ++ zs)
 sub-after [] r = r
@@ -35,13 +36,18 @@ sub-after (x ∷ xs) r = keep (sub-after xs r)
 pub queues-still : {A : Type 0} (s : StrandId) (xs rl ys : List (StrandId × A)) (r u : List A) → r ≡ [] → u ≡ [] → IsSubsequence (xs ++ rl) ys → IsSubsequence (xs ++ with_strand s r ++ rl) (ys ++ with_strand s u)
 queues-still s xs rl ys r u er eu h = rw (er, eu) (simp append-nil h)
 
-not-before-client : (p : Place) → is_before p place.Client ≡ true → ⊥
-not-before-client place.Client h = absurd (let e : false ≡ true = h in cc)
-not-before-client (place.Sock k) h = absurd (let e : false ≡ true = h in cc)
+-- where no socket is open, the client's connection is the first open place, or there is none
+first-among : (ps : List Place) → is_among place.Client ps ≡ true → ((k : ℕ) → is_among (place.Sock k) ps ≡ false) → IsPrefixOf (place.Client ∷ []) ps
+first-among [] client socks = clash client refl
+first-among (place.Client ∷ ps) client socks = (ps, refl)
+first-among (place.Sock k ∷ ps) client socks = clash (ap (λ v. v || is_among (place.Sock k) ps) (place-self (place.Sock k))) (socks k)
 
-pub none-open : {J : Type 0} (es : List (LocalAction J)) → is_open place.Client es ≡ false → ((k : ℕ) → is_open (place.Sock k) es ≡ false) → (q : Place) → is_open q es ≡ false
-none-open es client socks place.Client = client
-none-open es client socks (place.Sock k) = socks k
+client-first : {J : Type 0} (es : List (LocalAction J)) → is_open place.Client es ≡ true → ((k : ℕ) → is_open (place.Sock k) es ≡ false) → IsPrefixOf (place.Client ∷ []) (open_places es)
+client-first es client socks = first-among (open_places es) (sym (open-among place.Client es) ∙ client) (λ k. sym (open-among (place.Sock k) es) ∙ socks k)
+
+all-shut : {J : Type 0} (es : List (LocalAction J)) → is_open place.Client es ≡ false → ((k : ℕ) → is_open (place.Sock k) es ≡ false) → (q : Place) → is_open q es ≡ false
+all-shut es client socks place.Client = client
+all-shut es client socks (place.Sock k) = socks k
 
 -- an offer isn't begun anew by a closing, nor goes on
 pub offer-closed : (go o : Bool) (p : Option Place) → IsOffer go o p → IsOffer go false (but place.Client p)
@@ -77,6 +83,7 @@ common-kept b runs offered now count book book' ms k entered socks asides arriva
   no_socket = λ n. socks n ∙ k.no_socket n;
   asides = asides k.asides;
   count = k.count;
+  arrived = k.arrived ∙ sym arrivals;
   present = k.present;
 }
 
@@ -92,7 +99,6 @@ module _ {J S : Type 0} (b : Behavior J) (st : S → List (LocalAction J) → Ty
     aside = a.aside;
     forgotten = a.forgotten;
     out = a.out;
-    arrived = a.arrived;
     alive = a.alive;
     connection = a.connection;
     client = a.client;
@@ -114,6 +120,7 @@ module _ {J S : Type 0} (b : Behavior J) (st : S → List (LocalAction J) → Ty
       no_socket = a.common.no_socket;
       asides = a.common.asides;
       count = a.common.count;
+      arrived = a.common.arrived;
       present = a.common.present;
     };
   }
@@ -139,7 +146,7 @@ module _ {J S : Type 0} (b : Behavior J) (st : S → List (LocalAction J) → Ty
         (λ e. subst (λ (i : ℕ). book.is_open (id.Conn i) ≡ false) (sym (eqb-true t c e)) a.connection)
         (λ ne. a.closed t ne gone);
     shut = λ t gone q. by_test (t == c)
-        (λ e. subst (λ (i : ℕ). is_open q (projection (strand.Conn i) ms) ≡ false) (sym (eqb-true t c e)) (none-open (projection (strand.Conn c) ms) a.client a.no_socket q))
+        (λ e. subst (λ (i : ℕ). is_open q (projection (strand.Conn i) ms) ≡ false) (sym (eqb-true t c e)) (all-shut (projection (strand.Conn c) ms) a.client a.no_socket q))
         (λ ne. a.shut t ne gone q);
     aside = aside-all c book ms a.aside (a.own_aside ∙ sym a.alive);
     forgotten = λ t gone. by_test (t == c)
@@ -163,7 +170,6 @@ module _ {J S : Type 0} (b : Behavior J) (st : S → List (LocalAction J) → Ty
         aside = λ s ne. same.strand_aside s ne ∙ a.aside s ne;
         forgotten = λ t ne gone. same.has_ended t ne ∙ a.forgotten t ne gone;
         out = a.out;
-        arrived = rw forgot.numbers.arrivals a.arrived;
         alive = a.alive;
         connection = forgot.is_open (id.Conn c) ∙ a.connection;
         client = a.client;
@@ -171,6 +177,18 @@ module _ {J S : Type 0} (b : Behavior J) (st : S → List (LocalAction J) → Ty
         own_aside = forgot-aside c forgot;
         common = common-kept b h.run_queue h.offer_queue h.now h.connections book book' ms a.common forgot.entered (λ n. same.sockets n) same.asides forgot.numbers.arrivals;
       }
+
+  -- no turn of another strand is under way
+  others-between : (o : Bool) (h : Held S) (threads : List (StrandId × ℕ)) (offer_queue : List (StrandId × Place)) (book : Book) (ms : List (GlobalAction J))
+      → Around b st c true o h threads offer_queue book ms → NoOtherUnderWay b (strand.Conn c) ms
+  others-between o h threads offer_queue book ms a (strand.Conn t) ne = record {
+    between = λ live. let f = a.each t ne live in record { living = live; no_act = f.no_act; no_offer = f.no_offer };
+    closed = λ off. none-open (projection (strand.Conn t) ms) (a.shut t ne off);
+  }
+  others-between o h threads offer_queue book ms a (strand.Job n) ne = record {
+    between = λ live. clash live (ap lives (a.common.jobless n));
+    closed = λ off. ap open_places (a.common.jobless n);
+  }
 
   module _ (quiet : (a : LocalAction J) (es : List (LocalAction J)) → is_still a ≡ true → b.acts (a ∷ es) ≡ []) where
     dropped : (o : Bool) (h : Held S) (book book1 : Book) (back : Option Entry) (ms : List (GlobalAction J)) → Falls b st c o h book ms
@@ -182,17 +200,17 @@ module _ {J S : Type 0} (b : Behavior J) (st : S → List (LocalAction J) → Ty
         let arrivals : book1.arrivals ≡ book.arrivals = noted.numbers.arrivals in
         let none : b.acts (Did Dropped ∷ projection (strand.Conn c) ms) ≡ [] = quiet (Did Dropped) (projection (strand.Conn c) ms) refl in
         around-next b st c ms Dropped true false o o h h h.run_queue h.run_queue h.offer_queue h.offer_queue book book1 a (held-same c h) same a.out refl (noted.is_open (id.Conn c) ∙ a.connection) a.client a.no_socket
-        (noted.strand_aside (strand.Conn c) ∙ ap (λ v. if v then false else book.strand_aside (strand.Conn c)) (same-true c)) (rw arrivals a.arrived)
+        (noted.strand_aside (strand.Conn c) ∙ ap (λ v. if v then false else book.strand_aside (strand.Conn c)) (same-true c))
         (common-next b st c ms Dropped h.run_queue h.run_queue h.offer_queue h.offer_queue h.now h.connections h.connections book book1 a.common
         (record {
-          enabled = a.alive;
+          enabled = inl a.alive;
           begins = a.common.begins;
           given = (a.common.given, λ e. absurd (let x : false ≡ true = e in cc));
           kept = (a.common.kept, λ e. absurd (let x : false ≡ true = e in cc));
           plain = a.common.plain;
-          turns = (a.common.turns, f.touched);
+          turns = (a.common.turns, others-between o h h.run_queue h.offer_queue book ms a, f.touched);
           counts = a.common.count;
-        }) (rw arrivals a.arrived) (omega (arith, arrivals)) (λ n. same.sockets n ∙ a.common.no_socket n) (same.asides a.common.asides)
+        }) (rw arrivals (has-arrived a)) (omega (arith, arrivals)) (λ n. same.sockets n ∙ a.common.no_socket n) (same.asides a.common.asides)
         (tells-more book.history book1.history (entry.Dropped (strand.Conn c) ∷ []) (external b ms) a.common.told noted.history)
         (tells-same book.offered book1.offered (offered_lengths b ms) a.common.offers_told noted.offered)
         (queues-still (strand.Conn c) (all_run ms) h.run_queue (all_readied b ms) [] (readied (b.acts (Did Dropped ∷ projection (strand.Conn c) ms))) refl (ap readied none) a.common.runs)
@@ -210,33 +228,33 @@ module _ {J S : Type 0} (b : Behavior J) (st : S → List (LocalAction J) → Ty
     pub fallen-open : (h h' : Held S) (book book1 book2 book3 : Book) (back : Option Entry) (ms : List (GlobalAction J)) → Falls b st c true h book ms
         → Notes (entry.Dropped (strand.Conn c)) back book book1 → HangsUp (id.Conn c) book1 book2 → Forgets (strand.Conn c) book2 book3
         → h' ≡ record h { connections = h.connections - 1 }
-        → Standing b st h' book3 (Of (strand.Conn c) (Closed place.Client) None ∷ Of (strand.Conn c) Dropped None ∷ ms)
+        → Standing b st h' book3 (Of (strand.Conn c) (Close place.Client) None ∷ Of (strand.Conn c) Dropped None ∷ ms)
     fallen-open h h' book book1 book2 book3 back ms f noted hung forgot held =
         let fell : List (GlobalAction J) = Of (strand.Conn c) Dropped None ∷ ms in
         let a : Around b st c false true h h.run_queue h.offer_queue book1 fell = dropped true h book book1 back ms f noted in
-        let none : b.acts (Did (Closed place.Client) ∷ projection (strand.Conn c) fell) ≡ [] = quiet (Did (Closed place.Client)) (projection (strand.Conn c) fell) refl in
+        let none : b.acts (Did (Close place.Client) ∷ projection (strand.Conn c) fell) ≡ [] = quiet (Did (Close place.Client)) (projection (strand.Conn c) fell) refl in
         let g : Held S = record h { connections = h.connections - 1 } in
         let same : SameBook c book1 book2 = same-hung c hung in
         let arrivals : book2.arrivals ≡ book1.arrivals = hung.numbers.arrivals in
-        let shut : Around b st c false false g g.run_queue g.offer_queue book2 (Of (strand.Conn c) (Closed place.Client) None ∷ fell) =
-        (around-next b st c fell (Closed place.Client) false false true false h g h.run_queue h.run_queue h.offer_queue h.offer_queue book1 book2 a
+        let shut : Around b st c false false g g.run_queue g.offer_queue book2 (Of (strand.Conn c) (Close place.Client) None ∷ fell) =
+        (around-next b st c fell (Close place.Client) false false true false h g h.run_queue h.run_queue h.offer_queue h.offer_queue book1 book2 a
         (record { seats = λ t ne. refl; run_queue = λ t ne. refl; offer_queue = λ t ne. refl; in_offers = refl; now = refl; ends = λ t ne. refl }) same a.out a.alive (hung-closed c hung) refl a.no_socket
-        (hung.strand_aside (strand.Conn c) ∙ a.own_aside) (rw arrivals a.arrived)
-        (common-next b st c fell (Closed place.Client) h.run_queue h.run_queue h.offer_queue h.offer_queue h.now h.connections (h.connections - 1) book1 book2 a.common
+        (hung.strand_aside (strand.Conn c) ∙ a.own_aside)
+        (common-next b st c fell (Close place.Client) h.run_queue h.run_queue h.offer_queue h.offer_queue h.now h.connections (h.connections - 1) book1 book2 a.common
         (record {
-          enabled = inr (record { dropped = ap was_dropped (projection-same c Dropped None ms); opened = a.client; first = λ p before. absurd (not-before-client p before) });
+          enabled = inr (ap was_dropped (projection-same c Dropped None ms), client-first (projection (strand.Conn c) fell) a.client a.no_socket);
           begins = a.common.begins;
           given = (a.common.given, λ e. absurd (let x : false ≡ true = e in cc));
           kept = (a.common.kept, λ e. absurd (let x : false ≡ true = e in cc));
           plain = a.common.plain;
           turns = a.common.turns;
           counts = ap (λ n. n - 1) a.common.count;
-        }) (rw arrivals a.arrived) (omega (arith, arrivals)) (λ n. same.sockets n ∙ a.common.no_socket n) (same.asides a.common.asides)
+        }) (rw (arrivals, noted.numbers.arrivals) (has-arrived f.around)) (omega (arith, arrivals)) (λ n. same.sockets n ∙ a.common.no_socket n) (same.asides a.common.asides)
         (tells-more book1.history book2.history (entry.Close (id.Conn c) ∷ []) (external b fell) a.common.told hung.history)
         (tells-same book1.offered book2.offered (offered_lengths b fell) a.common.offers_told hung.offered)
-        (queues-still (strand.Conn c) (all_run fell) h.run_queue (all_readied b fell) [] (readied (b.acts (Did (Closed place.Client) ∷ projection (strand.Conn c) fell))) refl (ap readied none) a.common.runs)
-        (queues-still (strand.Conn c) (all_offered fell) h.offer_queue (all_placed b fell) [] (offers (b.acts (Did (Closed place.Client) ∷ projection (strand.Conn c) fell))) refl (ap offers none) a.common.offered))) in
-        rw held (around-dead g book3 (Of (strand.Conn c) (Closed place.Client) None ∷ fell) (around-forgets g book2 book3 (Of (strand.Conn c) (Closed place.Client) None ∷ fell) shut forgot) (forgot-ended c forgot)
+        (queues-still (strand.Conn c) (all_run fell) h.run_queue (all_readied b fell) [] (readied (b.acts (Did (Close place.Client) ∷ projection (strand.Conn c) fell))) refl (ap readied none) a.common.runs)
+        (queues-still (strand.Conn c) (all_offered fell) h.offer_queue (all_placed b fell) [] (offers (b.acts (Did (Close place.Client) ∷ projection (strand.Conn c) fell))) refl (ap offers none) a.common.offered))) in
+        rw held (around-dead g book3 (Of (strand.Conn c) (Close place.Client) None ∷ fell) (around-forgets g book2 book3 (Of (strand.Conn c) (Close place.Client) None ∷ fell) shut forgot) (forgot-ended c forgot)
         (λ run on. clash on (f.last ∙ run)) (λ offer off. clash (f.last ∙ offer) off))
 
   -- a thread is put in the queue
@@ -252,7 +270,6 @@ module _ {J S : Type 0} (b : Behavior J) (st : S → List (LocalAction J) → Ty
         aside = y.near.around.aside;
         forgotten = y.near.around.forgotten;
         out = y.near.around.out;
-        arrived = y.near.around.arrived;
         alive = y.near.around.alive;
         connection = y.near.around.connection;
         client = y.near.around.client;
@@ -290,7 +307,6 @@ module _ {J S : Type 0} (b : Behavior J) (st : S → List (LocalAction J) → Ty
         aside = y.near.around.aside;
         forgotten = y.near.around.forgotten;
         out = y.near.around.out;
-        arrived = y.near.around.arrived;
         alive = y.near.around.alive;
         connection = y.near.around.connection;
         client = y.near.around.client;
@@ -325,7 +341,7 @@ log_entry-done s line logged.Done h = refl
 log_entry-done s line logged.Failed h = refl
 log_entry-done s line logged.Memory h = absurd (h refl)
 
-pub offer-logged : {J : Type 0} (line : List ℕ) (done : Bool) (es : List (LocalAction J)) (go o : Bool) → IsOffer go o (begun_offer es) → IsOffer go o (begun_offer (Did (Logged line done) ∷ es))
+pub offer-logged : {J : Type 0} (line : List ℕ) (done : Bool) (es : List (LocalAction J)) (go o : Bool) → IsOffer go o (begun_offer es) → IsOffer go o (begun_offer (Did (Log line done) ∷ es))
 offer-logged line done es go o h = h
 
 module _ {J S : Type 0} (b : Behavior J) (st : S → List (LocalAction J) → Type 0) (c : ℕ)
@@ -336,9 +352,9 @@ module _ {J S : Type 0} (b : Behavior J) (st : S → List (LocalAction J) → Ty
       → Busy b st c x (act.HangUp place.Client ∷ rest) go true h book ms
       → HangsUp (id.Conn c) book book'
       → h' ≡ record h { connections = h.connections - 1 }
-      → Busy b st c x rest go false h' book' (Of (strand.Conn c) (Closed place.Client) None ∷ ms)
+      → Busy b st c x rest go false h' book' (Of (strand.Conn c) (Close place.Client) None ∷ ms)
   busy-closed x rest go h h' book book' ms y hung held =
-      let z : Action J = Closed place.Client in
+      let z : Action J = Close place.Client in
       let es : List (LocalAction J) = projection (strand.Conn c) ms in
       let a = y.near.around in
       let none : b.acts (Did z ∷ es) ≡ [] = quiet (Did z) es refl in
@@ -350,7 +366,7 @@ module _ {J S : Type 0} (b : Behavior J) (st : S → List (LocalAction J) → Ty
         near = record {
           around = around-next b st c ms z true true true false h g _ (h.run_queue ++ with_strand (strand.Conn c) (readied rest)) _ (h.offer_queue ++ with_strand (strand.Conn c) (offers rest)) book book' a
               (record { seats = λ t ne. refl; run_queue = λ t ne. refl; offer_queue = λ t ne. refl; in_offers = refl; now = refl; ends = λ t ne. refl }) same a.out a.alive (hung-closed c hung) refl a.no_socket
-              (hung.strand_aside (strand.Conn c) ∙ a.own_aside) (rw arrivals a.arrived)
+              (hung.strand_aside (strand.Conn c) ∙ a.own_aside)
               (common-next b st c ms z _ (h.run_queue ++ with_strand (strand.Conn c) (readied rest)) _ (h.offer_queue ++ with_strand (strand.Conn c) (offers rest)) h.now h.connections (h.connections - 1) book book' a.common
               (record {
                 enabled = inl ((carried rest, y.near.to_do), a.client);
@@ -360,7 +376,7 @@ module _ {J S : Type 0} (b : Behavior J) (st : S → List (LocalAction J) → Ty
                 plain = a.common.plain;
                 turns = a.common.turns;
                 counts = ap (λ n. n - 1) a.common.count;
-              }) (rw arrivals a.arrived) (omega (arith, arrivals)) (λ n. same.sockets n ∙ a.common.no_socket n) (same.asides a.common.asides)
+              }) (rw arrivals (has-arrived a)) (omega (arith, arrivals)) (λ n. same.sockets n ∙ a.common.no_socket n) (same.asides a.common.asides)
               (tells-more book.history book'.history (entry.Close (id.Conn c) ∷ []) (external b ms) a.common.told hung.history)
               (tells-same book.offered book'.offered (offered_lengths b ms) a.common.offers_told hung.offered)
               (queues-still (strand.Conn c) (all_run ms) _ (all_readied b ms) [] (readied (b.acts (Did z ∷ es))) refl (ap readied none) a.common.runs)
@@ -386,10 +402,10 @@ module _ {J S : Type 0} (b : Behavior J) (st : S → List (LocalAction J) → Ty
   pub busy-logged : (x : S) (line : List ℕ) (r : LogAnswer) (rest : List (Act J)) (go o : Bool) (h : Held S) (book book' : Book) (ms : List (GlobalAction J))
       → Busy b st c x (act.Log line ∷ rest) go o h book ms
       → (r ≡ logged.Memory → ⊥) → Logs (strand.Conn c) line r book book'
-      → Busy b st c x rest go o h book' (Of (strand.Conn c) (Logged line (done_of r)) None ∷ ms)
+      → Busy b st c x rest go o h book' (Of (strand.Conn c) (Log line (done_of r)) None ∷ ms)
   busy-logged x line r rest go o h book book' ms y ok logs =
       let ids : KeepsIds book book' = logs.ids in
-      let z : Action J = Logged line (done_of r) in
+      let z : Action J = Log line (done_of r) in
       let es : List (LocalAction J) = projection (strand.Conn c) ms in
       let a = y.near.around in
       let none : b.acts (Did z ∷ es) ≡ [] = quiet (Did z) es refl in
@@ -398,7 +414,7 @@ module _ {J S : Type 0} (b : Behavior J) (st : S → List (LocalAction J) → Ty
         near = record {
           around = around-next b st c ms z true true o o h h _ (h.run_queue ++ with_strand (strand.Conn c) (readied rest)) _ (h.offer_queue ++ with_strand (strand.Conn c) (offers rest)) book book' a
               (held-same c h) (same-keeps c ids) a.out a.alive (ids.is_open (id.Conn c) ∙ a.connection) a.client a.no_socket
-              (ids.strand_aside (strand.Conn c) ∙ a.own_aside) (rw ids.arrivals a.arrived)
+              (ids.strand_aside (strand.Conn c) ∙ a.own_aside)
               (common-next b st c ms z _ (h.run_queue ++ with_strand (strand.Conn c) (readied rest)) _ (h.offer_queue ++ with_strand (strand.Conn c) (offers rest)) h.now h.connections h.connections book book' a.common
               (record {
                 enabled = (carried rest, y.near.to_do);
@@ -408,7 +424,7 @@ module _ {J S : Type 0} (b : Behavior J) (st : S → List (LocalAction J) → Ty
                 plain = a.common.plain;
                 turns = a.common.turns;
                 counts = a.common.count;
-              }) (rw ids.arrivals a.arrived) (omega (arith, ids.arrivals)) (λ n. ids.is_open (id.Sock n) ∙ a.common.no_socket n) ((same-keeps c ids).asides a.common.asides)
+              }) (rw ids.arrivals (has-arrived a)) (omega (arith, ids.arrivals)) (λ n. ids.is_open (id.Sock n) ∙ a.common.no_socket n) ((same-keeps c ids).asides a.common.asides)
               (tells-more book.history book'.history (entry.Log (strand.Conn c) line (done_of r) ∷ []) (external b ms) a.common.told (logs.history ∙ ap (λ e. told e book.history) (log_entry-done (strand.Conn c) line r ok)))
               (tells-same book.offered book'.offered (offered_lengths b ms) a.common.offers_told logs.offered)
               (queues-still (strand.Conn c) (all_run ms) _ (all_readied b ms) [] (readied (b.acts (Did z ∷ es))) refl (ap readied none) a.common.runs)
@@ -442,7 +458,7 @@ module _ {J S : Type 0} (b : Behavior J) (st : S → List (LocalAction J) → Ty
       let a = around-queues b st c true false h _ h.run_queue _ h.offer_queue book ms y.near.around (sub-front h.run_queue _) (sub-front h.offer_queue _) in
       around-dead b st c h book' (Of (strand.Conn c) Gone None ∷ ms)
       (around-next b st c ms Gone true false false false h h h.run_queue h.run_queue h.offer_queue h.offer_queue book book' a (held-same c h) same a.out refl (forgot.is_open (id.Conn c) ∙ a.connection) a.client a.no_socket
-      (forgot-aside c forgot) (rw arrivals a.arrived)
+      (forgot-aside c forgot)
       (common-next b st c ms Gone h.run_queue h.run_queue h.offer_queue h.offer_queue h.now h.connections h.connections book book' a.common
       (record {
         enabled = y.near.to_do ∙ ap (λ l. act.Gone ∷ carried l) y.near.last_act;
@@ -452,7 +468,7 @@ module _ {J S : Type 0} (b : Behavior J) (st : S → List (LocalAction J) → Ty
         plain = a.common.plain;
         turns = a.common.turns;
         counts = a.common.count;
-      }) (rw arrivals a.arrived) (omega (arith, arrivals)) (λ n. same.sockets n ∙ a.common.no_socket n) (same.asides a.common.asides)
+      }) (rw arrivals (has-arrived a)) (omega (arith, arrivals)) (λ n. same.sockets n ∙ a.common.no_socket n) (same.asides a.common.asides)
       (tells-same book.history book'.history (external b ms) a.common.told forgot.entered.history) (tells-same book.offered book'.offered (offered_lengths b ms) a.common.offers_told forgot.entered.offered)
       (queues-still (strand.Conn c) (all_run ms) h.run_queue (all_readied b ms) [] (readied (b.acts (Did Gone ∷ es))) refl (ap readied none) a.common.runs)
       (queues-still (strand.Conn c) (all_offered ms) h.offer_queue (all_placed b ms) [] (offers (b.acts (Did Gone ∷ es))) refl (ap offers none) a.common.offered)))
@@ -492,7 +508,6 @@ module _ {J S : Type 0} (b : Behavior J) (st : S → List (LocalAction J) → Ty
     aside = λ s ne. ids.strand_aside s ∙ a.aside s ne;
     forgotten = λ t ne gone. ids.has_ended (id.Conn t) ∙ a.forgotten t ne gone;
     out = a.out;
-    arrived = rw ids.arrivals a.arrived;
     alive = a.alive;
     connection = ids.is_open (id.Conn c) ∙ a.connection;
     client = a.client;

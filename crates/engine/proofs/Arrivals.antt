@@ -1,9 +1,8 @@
 -- Connections that arrive: a strand begins, or the connection is turned away.
 use Rattle.engine.specs.declared.engine.Ending.TheVariants as stop
-use Rattle.std.proofs.Common.{◌≡◌, ℕ, ◌+◌, ◌<◌, ◌≤◌, Bool, true, false, ◌||◌, ◌==◌, List, [], ◌∷◌, ◌++◌, Option, None, if◌then◌else◌, refl, sym, ap, subst, ◌∙◌, append-nil, inl, inr, arith}
-use Rattle.std.proofs.lemmas.Bool.{eqb-true, cases_lt}
+use Rattle.std.proofs.Common.{◌≡◌, ℕ, ◌+◌, ◌<◌, ◌≤◌, true, false, ◌==◌, List, [], ◌∷◌, ◌++◌, Option, None, if◌then◌else◌, refl, sym, ap, subst, ◌∙◌, append-nil, arith}
+use Rattle.std.proofs.lemmas.Bool.{eqb-true}
 use Rattle.resty_base.specs.declared.names.Id.TheVariants as id
-use Rattle.resty_base.specs.declared.names.StrandId.{StrandId}
 use Rattle.resty_base.specs.declared.names.StrandId.TheVariants as strand
 use Rattle.resty_world.specs.declared.entry.Entry.{Entry}
 use Rattle.resty_world.specs.declared.entry.Entry.TheVariants as entry
@@ -11,15 +10,14 @@ use Rattle.resty_world.specs.declared.event.Event.TheVariants as event
 use Rattle.resty_world.specs.Book.{Book}
 use Rattle.resty_world.specs.Contract.{HangsUp, Forgets, Notes}
 use Rattle.resty_world.specs.Given.{Gave}
-use Rattle.resty_world.specs.Ids.{same_strand}
 use Rattle.strand_contract.specs.declared.turns.Place.TheVariants as place
 use Rattle.strand_contract.specs.declared.turns.Start.TheVariants as start
 use Rattle.strand_contract.specs.declared.turns.Act.{Act}
-use Rattle.strand_contract.specs.Actions.{Action, LocalAction, Did, GlobalAction, Of, Everyone, TurnedAway, IdleGave, IdleClosed, Began}
+use Rattle.strand_contract.specs.Actions.{Action, LocalAction, Did, GlobalAction, Of, TurnedAway, Began}
 use Rattle.strand_contract.specs.Behaviors.{Behavior}
 use Rattle.strand_contract.specs.Alone.{lives, is_open, has_ended, offers, is_stopping, IsExecution, HasNoWork, KeepsNothingBack}
-use Rattle.strand_contract.specs.Executions.{projection, external, offered_lengths, has_begun}
-use Rattle.strand_contract.specs.Calls.{IsLastAct}
+use Rattle.strand_contract.specs.Executions.{projection, external, offered_lengths, arrived}
+use Rattle.strand_contract.specs.Laws.{IsLastAct}
 use Rattle.strand_contract.specs.Order.{with_strand, readied, all_run, all_readied, all_offered, all_placed}
 use Rattle.engine.specs.Standing.{Held, is_to_end, Around, Near, Busy, Falls, Standing}
 use Rattle.engine.proofs.Lists.{by_test, same-true, tells-more, tells-same}
@@ -29,35 +27,17 @@ use Rattle.engine.proofs.Lists.{sub-front}
 use Rattle.engine.proofs.Turns.{turn-queues}
 use Rattle.engine.proofs.Events.{at-rest, none-holds}
 
--- a strand that has begun has an execution of its own
-begun-more : {J : Type 0} (test : Bool) (x : LocalAction J) (es : List (LocalAction J)) (rest : Bool) → test || rest ≡ true → (rest ≡ true → es ≡ [] → ⊥) → (if test then x ∷ es else es) ≡ [] → ⊥
-begun-more true x es rest h more nil = let e : x ∷ es ≡ [] = nil in cc
-begun-more false x es rest h more nil = more h nil
-
-tail-more : {J : Type 0} (test : Bool) (x : LocalAction J) (es : List (LocalAction J)) → (es ≡ [] → ⊥) → (if test then x ∷ es else es) ≡ [] → ⊥
-tail-more true x es more nil = let e : x ∷ es ≡ [] = nil in cc
-tail-more false x es more nil = more nil
-
-pub begun-some : {J : Type 0} (s : StrandId) (ms : List (GlobalAction J)) → has_begun s ms ≡ true → projection s ms ≡ [] → ⊥
-begun-some s [] h nil = let e : false ≡ true = h in cc
-begun-some s (Of t (Began now begin) n ∷ ms) h nil = begun-more (same_strand s t) (Did (Began now begin)) (projection s ms) (has_begun s ms) h (begun-some s ms) nil
-begun-some s (Of t x n ∷ ms) h nil = tail-more (same_strand s t) (Did x) (projection s ms) (begun-some s ms h) nil
-begun-some s (Everyone w ∷ ms) h nil = tail-more (lives (projection s ms)) _ (projection s ms) (begun-some s ms h) nil
-begun-some s (TurnedAway c ∷ ms) h nil = begun-some s ms h nil
-begun-some s (IdleGave e ∷ ms) h nil = begun-some s ms h nil
-begun-some s (IdleClosed n ∷ ms) h nil = begun-some s ms h nil
-
 module _ {J S : Type 0} (b : Behavior J) (st : S → List (LocalAction J) → Type 0) (ms : List (GlobalAction J)) (h : Held S) (book : Book) (g : Standing b st h book ms) (run_queue : h.run_queue ≡ []) (offer_queue : h.offer_queue ≡ []) (running : h.in_offers ≡ false) (ending : h.ending ≡ stop.Over)
     (keeps : (es : List (LocalAction J)) → IsExecution b es → lives es ≡ true → HasNoWork b es → KeepsNothingBack b es) (c : ℕ) (new : c ≡ book.arrivals + 1) where
   unseen : projection (strand.Conn c) ms ≡ []
   unseen = g.common.unborn c (omega (arith, new))
 
-  -- whoever began before has a lower number
-  newest : (t : ℕ) → has_begun (strand.Conn t) ms ≡ true → t < c
-  newest t begun = elim (cases_lt book.arrivals t) [ inl past ↦ absurd (begun-some (strand.Conn t) ms begun (g.common.unborn t past)) | inr known ↦ omega (arith, new, known) ]
+  -- its number comes next
+  next : c ≡ arrived ms + 1
+  next = let known = g.common.arrived in omega (arith, new, known)
 
   -- what is known before the strand begins
-  around-unseen : Around b st c false false h h.run_queue h.offer_queue (record book { arrivals = c }) ms
+  around-unseen : Around b st c false false h h.run_queue h.offer_queue book ms
   around-unseen = record {
     each = λ t ne live. g.each t live;
     dead = λ t ne gone. g.dead t gone;
@@ -66,30 +46,12 @@ module _ {J S : Type 0} (b : Behavior J) (st : S → List (LocalAction J) → Ty
     aside = λ s ne. g.aside s;
     forgotten = λ t ne gone. g.forgotten t gone;
     out = g.dead c (ap lives unseen);
-    arrived = omega arith;
     alive = ap lives unseen;
     connection = g.closed c (ap lives unseen);
     client = ap (is_open place.Client) unseen;
     no_socket = λ k. ap (is_open (place.Sock k)) unseen;
     own_aside = g.aside (strand.Conn c) ∙ ap lives unseen;
-    common = record {
-      alone = g.common.alone;
-      begins = g.common.begins;
-      given = g.common.given;
-      kept = g.common.kept;
-      plain = g.common.plain;
-      runs = g.common.runs;
-      offered = g.common.offered;
-      turns = g.common.turns;
-      told = g.common.told;
-      offers_told = g.common.offers_told;
-      unborn = λ t past. g.common.unborn t (let after : c < t = past in omega (arith, new));
-      jobless = g.common.jobless;
-      no_socket = g.common.no_socket;
-      asides = g.common.asides;
-      count = g.common.count;
-      present = g.common.present;
-    };
+    common = g.common;
   }
 
   module _ (book' : Book) (gave : Gave book book' (event.Arrive c)) (h' : Held S) (room : h.connections < b.connections) (held : h' ≡ record h { connections = h.connections + 1 }) where
@@ -99,24 +61,23 @@ module _ {J S : Type 0} (b : Behavior J) (st : S → List (LocalAction J) → Ty
         let es : List (LocalAction J) = projection (strand.Conn c) ms in
         let k : Held S = record h { connections = h.connections + 1 } in
         let same : SameBook c book book' = same-arrived c gave in
-        rw held (around-next b st c ms z false true false true h k h.run_queue (h.run_queue ++ with_strand (strand.Conn c) (readied (b.acts (Did z ∷ es)))) h.offer_queue (h.offer_queue ++ with_strand (strand.Conn c) (offers (b.acts (Did z ∷ es)))) (record book { arrivals = c }) book' around-unseen
+        rw held (around-next b st c ms z false true false true h k h.run_queue (h.run_queue ++ with_strand (strand.Conn c) (readied (b.acts (Did z ∷ es)))) h.offer_queue (h.offer_queue ++ with_strand (strand.Conn c) (offers (b.acts (Did z ∷ es)))) book book' around-unseen
         (record { seats = λ t ne. refl; run_queue = λ t ne. refl; offer_queue = λ t ne. refl; in_offers = refl; now = refl; ends = λ t ne. refl })
-        (record { is_open = same.is_open; has_ended = same.has_ended; strand_aside = same.strand_aside; sockets = same.sockets; asides = same.asides })
+        same
         around-unseen.out refl
         (gave.is_open (id.Conn c) ∙ ap (λ v. if v then true else book.is_open (id.Conn c)) (same-true c)) refl (λ k. refl)
         (gave.strand_aside (strand.Conn c) ∙ ap (λ v. if v then true else book.strand_aside (strand.Conn c)) (same-true c))
-        (omega (arith, new, gave.arrivals))
-        (common-next b st c ms z h.run_queue (h.run_queue ++ with_strand (strand.Conn c) (readied (b.acts (Did z ∷ es)))) h.offer_queue (h.offer_queue ++ with_strand (strand.Conn c) (offers (b.acts (Did z ∷ es)))) h.now h.connections (h.connections + 1) (record book { arrivals = c }) book' around-unseen.common
+        (common-next b st c ms z h.run_queue (h.run_queue ++ with_strand (strand.Conn c) (readied (b.acts (Did z ∷ es)))) h.offer_queue (h.offer_queue ++ with_strand (strand.Conn c) (offers (b.acts (Did z ∷ es)))) h.now h.connections (h.connections + 1) book book' around-unseen.common
         (record {
           enabled = unseen;
-          begins = (g.common.begins, refl, sym g.common.present, newest);
+          begins = (g.common.begins, refl, sym g.common.present);
           given = (g.common.given, λ e. at-rest b st ms h book g run_queue offer_queue ending);
           kept = (g.common.kept, λ e. none-holds b st ms h book g run_queue offer_queue ending keeps);
-          plain = (g.common.plain, rw g.common.count room);
+          plain = (g.common.plain, next, rw g.common.count room);
           turns = g.common.turns;
           counts = ap (λ n. n + 1) g.common.count;
         })
-        (omega (arith, new, gave.arrivals)) (let later : c ≤ book'.arrivals = omega (arith, new, gave.arrivals) in later) (λ n. gave.is_open (id.Sock n) ∙ g.common.no_socket n) (same.asides g.common.asides)
+        (omega (arith, new, gave.arrivals)) gave.arrivals (λ n. gave.is_open (id.Sock n) ∙ g.common.no_socket n) (same.asides g.common.asides)
         (tells-more book.history book'.history (entry.Given (event.Arrive c) ∷ []) (external b ms) g.common.told gave.history)
         (tells-same book.offered book'.offered (offered_lengths b ms) g.common.offers_told gave.offered)
         (turn-queues b st c ms (strand.Conn c) (all_run ms) h.run_queue (all_readied b ms) [] (readied (b.acts (Did z ∷ es))) (rw append-nil g.common.runs))
@@ -181,7 +142,7 @@ module _ {J S : Type 0} (b : Behavior J) (st : S → List (LocalAction J) → Ty
           begins = g.common.begins;
           given = (g.common.given, λ e. at-rest b st ms h book g run_queue offer_queue ending);
           kept = (g.common.kept, λ e. none-holds b st ms h book g run_queue offer_queue ending keeps);
-          plain = (g.common.plain, rw g.common.count full);
+          plain = (g.common.plain, next, rw g.common.count full);
           runs = g.common.runs;
           offered = g.common.offered;
           turns = g.common.turns;
@@ -195,6 +156,7 @@ module _ {J S : Type 0} (b : Behavior J) (st : S → List (LocalAction J) → Ty
           no_socket = λ n. same.sockets n ∙ g.common.no_socket n;
           asides = same.asides g.common.asides;
           count = g.common.count;
+          arrived = let known = g.common.arrived in omega (arith, arrivals, gave.arrivals, known);
           present = g.common.present;
         };
       }

@@ -15,7 +15,7 @@ fresh-right b book fresh = record {
     alone = λ s. tt;
     begins = tt;
     given = tt;
-    rests = λ s. record { idle = λ on. absurd (let e : false ≡ true = on in cc); closed = λ off q. refl };
+    rests = λ s. record { idle = λ on. absurd (let e : false ≡ true = on in cc); closed = λ off. refl };
   };
   kept = (tt, λ s on. absurd (let e : false ≡ true = on in cc));
   plain = tt;

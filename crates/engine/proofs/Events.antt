@@ -1,6 +1,6 @@
 -- What a world gives where all strands are at rest: what is known of them there, and the turns that it begins.
 use Rattle.engine.specs.declared.engine.Ending.TheVariants as stop
-use Rattle.std.proofs.Common.{◌≡◌, ℕ, true, false, ◌==◌, List, [], ◌∷◌, Some, None, if◌then◌else◌, refl, sym, ap, subst, ◌∙◌, append-nil, arith}
+use Rattle.std.proofs.Common.{◌≡◌, ℕ, Bool, true, false, ◌==◌, List, [], ◌∷◌, Some, None, if◌then◌else◌, refl, sym, ap, subst, ◌∙◌, append-nil, arith}
 use Rattle.resty_base.specs.declared.names.Id.{Id}
 use Rattle.resty_base.specs.declared.names.Id.TheVariants as id
 use Rattle.resty_base.specs.declared.names.StrandId.{StrandId}
@@ -13,13 +13,16 @@ use Rattle.resty_world.specs.Given.{Gave}
 use Rattle.resty_world.specs.Ids.{same_strand}
 use Rattle.strand_contract.specs.declared.turns.Place.{Place}
 use Rattle.strand_contract.specs.declared.turns.Place.TheVariants as place
+use Rattle.strand_contract.specs.declared.turns.Start.TheVariants as start
 use Rattle.strand_contract.specs.declared.turns.Seen.{Seen}
 use Rattle.strand_contract.specs.declared.turns.Seen.TheVariants as seen
-use Rattle.strand_contract.specs.Actions.{LocalAction, Did, GlobalAction, Of}
+use Rattle.strand_contract.specs.Actions.{LocalAction, Told, Did, GlobalAction, Of, Everyone, TurnedAway, IdleGave, IdleClosed, Began, Halted}
 use Rattle.strand_contract.specs.Behaviors.{Behavior}
-use Rattle.strand_contract.specs.Alone.{lives, moment, is_open, has_ended, left_by, waiting, run_by, to_offer, offered_by, begun_offer, in_offers, is_stopping, IsExecution, HasNoWork, KeepsNothingBack, IsGivenAt}
-use Rattle.strand_contract.specs.Executions.{projection, external, offered_lengths, AllQuiescent, NoneHoldsBack}
-use Rattle.strand_contract.specs.Calls.{action_of, IsLastAct}
+use Rattle.strand_contract.specs.Alone.{lives, moment, is_open, open_places, has_ended, left_by, waiting, run_by, to_offer, offered_by, begun_offer, in_offers, is_stopping, winds_up_by, is_winding_up, IsExecution, HasNoWork, KeepsNothingBack, IsGivenAt}
+use Rattle.strand_contract.specs.Executions.{projection, external, offered_lengths, BeginsRight, AllQuiescent, NoneHoldsBack}
+use Rattle.strand_contract.specs.Calls.{action_of}
+use Rattle.strand_contract.specs.Laws.{IsLastAct}
+use Rattle.strand_contract.specs.OpenPlaceLaws.{none-open}
 use Rattle.strand_contract.specs.Order.{only, run_of, offer_of, offers_last}
 use Rattle.engine.specs.declared.engine.Seat.{Seat}
 use Rattle.engine.specs.Engine.{shown}
@@ -57,9 +60,27 @@ fresh-stands b st h book fresh seats run_queue offer_queue now count = record {
     no_socket = λ n. fresh.none_open (id.Sock n);
     asides = λ x on. clash on (fresh.none_open x);
     count = sym count;
+    arrived = sym fresh.arrivals;
     present = sym now;
   };
 }
+
+-- a connection's strand begins as its client, and so is never a job that Stop came before
+winds-by : {J : Type 0} (test : Bool) (a : LocalAction J) (es : List (LocalAction J)) → is_winding_up es ≡ false → winds_up_by a false ≡ false → is_winding_up (if test then a ∷ es else es) ≡ false
+winds-by true a es before none = ap (winds_up_by a) before ∙ none
+winds-by false a es before none = before
+
+pub never-winds : {J : Type 0} (c : ℕ) (ms : List (GlobalAction J)) → BeginsRight ms → is_winding_up (projection (strand.Conn c) ms) ≡ false
+never-winds c [] right = refl
+never-winds c (Of (strand.Conn t) (Began now (start.Client d)) n ∷ ms) right = winds-by (c == t) _ (projection (strand.Conn c) ms) (never-winds c ms right.0) refl
+never-winds c (Of (strand.Conn t) (Began now (start.Job j premature job)) n ∷ ms) right = absurd right.1
+never-winds c (Of (strand.Job t) (Began now begin) n ∷ ms) right = absurd right.1
+never-winds c (Of s Halted n ∷ ms) right = winds-by (same_strand (strand.Conn c) s) (Did Halted) (projection (strand.Conn c) ms) (never-winds c ms right) refl
+never-winds c (Of s x n ∷ ms) right = winds-by (same_strand (strand.Conn c) s) (Did x) (projection (strand.Conn c) ms) (never-winds c ms right) refl
+never-winds c (Everyone w ∷ ms) right = winds-by (lives (projection (strand.Conn c) ms)) (Told w) (projection (strand.Conn c) ms) (never-winds c ms right) refl
+never-winds c (TurnedAway d ∷ ms) right = never-winds c ms right
+never-winds c (IdleGave e ∷ ms) right = never-winds c ms right
+never-winds c (IdleClosed n ∷ ms) right = never-winds c ms right
 
 first-same : {A B : Type 0} (p q : A × B) → Some p ≡ Some q → p.0 ≡ q.0
 first-same p q e = cc
@@ -83,12 +104,13 @@ module _ {J S : Type 0} (b : Behavior J) (st : S → List (LocalAction J) → Ty
       no_thread = f.threads ∙ ap (only (strand.Conn t)) run_queue;
       no_place = f.offered ∙ ap (only (strand.Conn t)) offer_queue;
       no_offer = f.no_offer;
-      no_deadline = rw f.no_deadline refl;
+      no_deadline = λ waking. rw f.no_deadline refl;
       no_stop = f.stopping ∙ ap (λ o. is_to_end o t) ending;
+      no_end = never-winds t ms g.common.begins;
     };
-    closed = λ off q. g.shut t off q;
+    closed = λ off. none-open (projection (strand.Conn t) ms) (g.shut t off);
   }
-  at-rest (strand.Job n) = record { idle = λ live. absurd (no-job n ms (g.common.jobless n) live); closed = λ off q. ap (is_open q) (g.common.jobless n) }
+  at-rest (strand.Job n) = record { idle = λ live. absurd (no-job n ms (g.common.jobless n) live); closed = λ off. ap open_places (g.common.jobless n) }
 
   module _ (keeps : (es : List (LocalAction J)) → IsExecution b es → lives es ≡ true → HasNoWork b es → KeepsNothingBack b es) where
     pub none-holds : NoneHoldsBack b ms

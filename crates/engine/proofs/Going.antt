@@ -17,10 +17,10 @@ use Rattle.engine.proofs.Lists.{told-nothing}
 use Rattle.engine.specs.Engine.{Logs, Worked}
 
 pub goes-stays : {V : Type 0} (same : V → V → Type 0) (book : V → Book) (v : V) (f : Bool) → same v v → Worked same book v v f f
-goes-stays same book v f stays = record { later = stays; events = refl; logs = λ n h. h }
+goes-stays same book v f stays = record { later = stays; events = refl; port = refl; logs = λ n h. h }
 
 pub goes-joins : {V : Type 0} (same : V → V → Type 0) (book : V → Book) (u v w : V) (f g h : Bool) → (same u v → same v w → same u w) → Worked same book u v f g → Worked same book v w g h → Worked same book u w f h
-goes-joins same book u v w f g h joins a d = record { later = joins a.later d.later; events = d.events ∙ a.events; logs = λ n l. d.logs n (a.logs n l) }
+goes-joins same book u v w f g h joins a d = record { later = joins a.later d.later; events = d.events ∙ a.events; port = d.port ∙ a.port; logs = λ n l. d.logs n (a.logs n l) }
 
 -- no event is among the entries, and what was failed stays so
 pub record IsWork (es : List Entry) : Type 0 where
@@ -39,10 +39,11 @@ pub logs-more : (n : ℕ) (f : Bool) (old new : Book) (es : List Entry) → IsWo
 logs-more n false old new es w history faults l = faults ∙ l
 logs-more n true old new es w history faults l = (rw faults l.0, rw history (work-failed old.history es w l.1))
 
-pub goes-work : {V : Type 0} (same : V → V → Type 0) (book : V → Book) (u v : V) (f : Bool) (es : List Entry) → same u v → IsWork es → (book v).history ≡ told es (book u).history → (book v).faults ≡ (book u).faults → Worked same book u v f f
-goes-work same book u v f es later w history faults = record {
+pub goes-work : {V : Type 0} (same : V → V → Type 0) (book : V → Book) (u v : V) (f : Bool) (es : List Entry) → same u v → IsWork es → (book v).history ≡ told es (book u).history → (book v).faults ≡ (book u).faults → (book v).port ≡ (book u).port → Worked same book u v f f
+goes-work same book u v f es later w history faults port = record {
   later = later;
   events = ap (option_map events_of) history ∙ work-events (book u).history es w;
+  port = port;
   logs = λ n l. logs-more n f (book u) (book v) es w history faults l;
 }
 
@@ -71,16 +72,17 @@ turned-work c = record { events = λ h. refl; failed = λ h l. l }
 
 -- what went well, and a put after it
 pub goes-put : {V : Type 0} (same : V → V → Type 0) (book : V → Book) (u v w : V) (f g : Bool) → (same u v → same v w → same u w) → Worked same book u v f g
-    → (i : Id) (bytes : List ℕ) (r : Wrote) → same v w → (book w).history ≡ told (wrote_entry i bytes r) (book v).history → (book w).faults ≡ (book v).faults → Worked same book u w f g
-goes-put same book u v w f g joins before i bytes r later history faults =
-    goes-joins same book u v w f g g joins before (goes-work same book v w g (wrote_entry i bytes r) later (wrote-work i bytes r) history faults)
+    → (i : Id) (bytes : List ℕ) (r : Wrote) → same v w → (book w).history ≡ told (wrote_entry i bytes r) (book v).history → (book w).faults ≡ (book v).faults → (book w).port ≡ (book v).port → Worked same book u w f g
+goes-put same book u v w f g joins before i bytes r later history faults port =
+    goes-joins same book u v w f g g joins before (goes-work same book v w g (wrote_entry i bytes r) later (wrote-work i bytes r) history faults port)
 
 pub forgot-work : {V : Type 0} (same : V → V → Type 0) (book : V → Book) (u v : V) (f : Bool) (who : StrandId) → same u v → Forgets who (book u) (book v) → Worked same book u v f f
-forgot-work same book u v f who later forgot = goes-work same book u v f [] later nothing-work (forgot.entered.history ∙ sym (told-nothing (book u).history)) forgot.counts.faults
+forgot-work same book u v f who later forgot = goes-work same book u v f [] later nothing-work (forgot.entered.history ∙ sym (told-nothing (book u).history)) forgot.counts.faults forgot.course.port
 
 pub goes-same : {V : Type 0} (same : V → V → Type 0) (book : V → Book) (u v : V) (f : Bool) → same u v → book v ≡ book u → Worked same book u v f f
 goes-same same book u v f later e = record {
   later = later;
   events = ap (λ (k : Book). option_map events_of k.history) e;
+  port = ap (λ (k : Book). k.port) e;
   logs = λ n l. rw e l;
 }

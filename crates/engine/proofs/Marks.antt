@@ -1,6 +1,6 @@
 -- How an execution goes on, action by action, with one strand out of its seat.
-use Rattle.std.proofs.Common.{◌≡◌, ℕ, ◌<◌, ◌≤◌, Bool, true, false, not, ◌||◌, ◌&&◌, ◌==◌, List, [], ◌∷◌, ◌++◌, Option, None, if◌then◌else◌, refl, sym, ap, subst, ◌∙◌, arith}
-use Rattle.std.proofs.lemmas.Bool.{eqb-true}
+use Rattle.std.proofs.Common.{◌≡◌, ℕ, ◌+◌, ◌<◌, ◌≤◌, Bool, true, false, not, ◌||◌, ◌&&◌, ◌==◌, List, [], ◌∷◌, ◌++◌, Option, None, if◌then◌else◌, refl, sym, ap, subst, ◌∙◌, inl, inr, arith}
+use Rattle.std.proofs.lemmas.Bool.{eqb-true, cases_lt}
 use Rattle.std.proofs.lemmas.Bool.Decides.{nat_tests}
 use Rattle.resty_base.specs.declared.names.Id.{Id}
 use Rattle.resty_base.specs.declared.names.Id.TheVariants as id
@@ -19,13 +19,16 @@ use Rattle.strand_contract.specs.declared.turns.Place.TheVariants as place
 use Rattle.strand_contract.specs.Actions.{Action, LocalAction, Did, GlobalAction, Of, Due, is_given}
 use Rattle.strand_contract.specs.Behaviors.{Behavior}
 use Rattle.strand_contract.specs.Alone.{lives, moment, is_open, has_ended, todo, left_by, waiting, lined_up, run_by, to_offer, offers, offered_by, armed, armed_by, taken_by, begun_offer, in_offers, is_stopping, Enabled, IsExecution}
-use Rattle.strand_contract.specs.Executions.{projection, external, offered_lengths, open_connections, BeginsRight, IsGivenAtRest, HeldNothingBack, IsPlain}
-use Rattle.strand_contract.specs.Calls.{IsLastAct}
+use Rattle.strand_contract.specs.Executions.{projection, external, offered_lengths, arrived_by, open_connections, BeginsRight, IsGivenAtRest, HeldNothingBack, IsPlain}
+use Rattle.strand_contract.specs.declared.turns.Seen.{Seen}
+use Rattle.strand_contract.specs.declared.turns.Seen.TheVariants as seen
+use Rattle.strand_contract.specs.Calls.{action_of}
+use Rattle.strand_contract.specs.Laws.{IsLastAct}
 use Rattle.strand_contract.specs.Order.{IsSubsequence, with_strand, only, readied, all_readied, all_run, all_placed, all_offered, offers_last, was_touched, TurnsInOrder}
 use Rattle.engine.specs.declared.engine.Seat.{Seat}
 use Rattle.engine.specs.Right.{Tells}
 use Rattle.engine.specs.Standing.{Held, is_to_end, Fit, HasAsides, Common, Around, Near, IsOffer}
-use Rattle.engine.proofs.Lists.{same-true}
+use Rattle.engine.proofs.Lists.{clash, same-true}
 
 pub projection-same : {J : Type 0} (c : ℕ) (x : Action J) (n : Option ℕ) (ms : List (GlobalAction J)) → projection (strand.Conn c) (Of (strand.Conn c) x n ∷ ms) ≡ Did x ∷ projection (strand.Conn c) ms
 projection-same c x n ms = ap (λ b. if b then Did x ∷ projection (strand.Conn c) ms else projection (strand.Conn c) ms) (same-true c)
@@ -182,6 +185,26 @@ pub alone-all : {J : Type 0} (b : Behavior J) (c : ℕ) (x : Action J) (ms : Lis
 alone-all b c x ms before may (strand.Conn t) = alone-next b c t x ms (before (strand.Conn t)) may
 alone-all b c x ms before may (strand.Job n) = before (strand.Job n)
 
+-- a strand that lives has arrived
+pub has-arrived : {J S : Type 0} {b : Behavior J} {st : S → List (LocalAction J) → Type 0} {c : ℕ} {ms : List (GlobalAction J)} {o : Bool} {h : Held S} {threads : List (StrandId × ℕ)} {offer_queue : List (StrandId × Place)} {book : Book}
+    → Around b st c true o h threads offer_queue book ms → c ≤ book.arrivals
+has-arrived {c = c} {book = book} a = elim (cases_lt book.arrivals c) [ inl past ↦ clash a.alive (ap lives (a.common.unborn c past)) | inr come ↦ come ]
+
+-- what a strand is shown is no arrival
+pub arrives-none : {J : Type 0} (b : Behavior J) (s : StrandId) (es : List (LocalAction J)) (given : Seen) → arrived_by (Of s (action_of b es given) None) ≡ 0
+arrives-none b s es (seen.Bytes q bytes) = refl
+arrives-none b s es (seen.Ended q) = refl
+arrives-none b s es (seen.Broken q) = refl
+arrives-none b s es (seen.Ready q) = refl
+arrives-none b s es (seen.Took q n) = refl
+arrives-none b s es (seen.Later q) = refl
+arrives-none b s es (seen.Lost q) = refl
+arrives-none b s es (seen.Dialled k) = refl
+arrives-none b s es (seen.Refused k) = refl
+arrives-none b s es (seen.Due n) = refl
+arrives-none b s es (seen.Run k) = refl
+arrives-none b s es seen.Stop = refl
+
 taken-none : {J : Type 0} (a : LocalAction J) → taken_by a [] ≡ []
 taken-none (Did (Due n)) = refl
 taken-none a = refl
@@ -190,14 +213,14 @@ module _ {J S : Type 0} (b : Behavior J) (st : S → List (LocalAction J) → Ty
   -- one more action of the strand that is out
   pub common-next : (x : Action J) (threads threads' : List (StrandId × ℕ)) (offer_queue offer_queue' : List (StrandId × Place)) (now count count' : ℕ) (book book' : Book)
       → Common b threads offer_queue now count book ms → MayCome b c x ms count'
-      → c ≤ book'.arrivals → book.arrivals ≤ book'.arrivals
+      → c ≤ book'.arrivals → book'.arrivals ≡ book.arrivals + arrived_by (Of (strand.Conn c) x None)
       → ((n : ℕ) → book'.is_open (id.Sock n) ≡ false) → HasAsides book'
       → Tells book'.history (external b (Of (strand.Conn c) x None ∷ ms))
       → Tells book'.offered (offered_lengths b (Of (strand.Conn c) x None ∷ ms))
       → IsSubsequence (all_run (Of (strand.Conn c) x None ∷ ms) ++ threads') (all_readied b (Of (strand.Conn c) x None ∷ ms))
       → IsSubsequence (all_offered (Of (strand.Conn c) x None ∷ ms) ++ offer_queue') (all_placed b (Of (strand.Conn c) x None ∷ ms))
       → Common b threads' offer_queue' now count' book' (Of (strand.Conn c) x None ∷ ms)
-  common-next x threads threads' offer_queue offer_queue' now count count' book book' k may born more sockets asides told offers_told runs offered = record {
+  common-next x threads threads' offer_queue offer_queue' now count count' book book' k may born met sockets asides told offers_told runs offered = record {
     alone = alone-all b c x ms k.alone may.enabled;
     begins = may.begins;
     given = may.given;
@@ -208,11 +231,12 @@ module _ {J S : Type 0} (b : Behavior J) (st : S → List (LocalAction J) → Ty
     turns = may.turns;
     told = told;
     offers_told = offers_told;
-    unborn = λ t past. projection-other t c x None ms (differs c t book'.arrivals born past) ∙ k.unborn t (let before : book.arrivals ≤ book'.arrivals = more in omega arith);
+    unborn = λ t past. projection-other t c x None ms (differs c t book'.arrivals born past) ∙ k.unborn t (omega (arith, met, past));
     jobless = k.jobless;
     no_socket = sockets;
     asides = asides;
     count = may.counts;
+    arrived = rw met (ap (λ n. n + arrived_by (Of (strand.Conn c) x None)) k.arrived);
     present = k.present;
   }
 
@@ -225,10 +249,9 @@ module _ {J S : Type 0} (b : Behavior J) (st : S → List (LocalAction J) → Ty
       → is_open place.Client (Did x ∷ projection (strand.Conn c) ms) ≡ o'
       → ((k : ℕ) → is_open (place.Sock k) (Did x ∷ projection (strand.Conn c) ms) ≡ false)
       → book'.strand_aside (strand.Conn c) ≡ al'
-      → c ≤ book'.arrivals
       → Common b threads' offer_queue' h'.now h'.connections book' (Of (strand.Conn c) x None ∷ ms)
       → Around b st c al' o' h' threads' offer_queue' book' (Of (strand.Conn c) x None ∷ ms)
-  around-next x al al' o o' h h' threads threads' offer_queue offer_queue' book book' a sh sb out alive there client socks own_aside born common = record {
+  around-next x al al' o o' h h' threads threads' offer_queue offer_queue' book book' a sh sb out alive there client socks own_aside common = record {
     each = λ t ne live. let same = projection-other t c x None ms ne in
         fit-same sh.in_offers sh.now (sh.ends t ne) same (sh.seats t ne) (sh.run_queue t ne) (sh.offer_queue t ne) (sb.is_open t ne) (sb.has_ended t ne) (a.each t ne (sym (ap lives same) ∙ live));
     dead = λ t ne gone. sh.seats t ne ∙ a.dead t ne (sym (ap lives (projection-other t c x None ms ne)) ∙ gone);
@@ -237,7 +260,6 @@ module _ {J S : Type 0} (b : Behavior J) (st : S → List (LocalAction J) → Ty
     aside = λ s ne. sb.strand_aside s ne ∙ a.aside s ne ∙ sym (ap lives (projection-out s c x None ms ne));
     forgotten = λ t ne gone. sb.has_ended t ne ∙ a.forgotten t ne (sym (ap lives (projection-other t c x None ms ne)) ∙ gone);
     out = out;
-    arrived = born;
     alive = ap lives (projection-same c x None ms) ∙ alive;
     connection = there;
     client = ap (is_open place.Client) (projection-same c x None ms) ∙ client;

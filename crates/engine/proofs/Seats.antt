@@ -8,7 +8,7 @@ use Rattle.resty_world.specs.Ids.{same_strand}
 use Rattle.strand_contract.specs.declared.turns.Place.{Place}
 use Rattle.strand_contract.specs.declared.turns.Place.TheVariants as place
 use Rattle.strand_contract.specs.Actions.{LocalAction, GlobalAction}
-use Rattle.strand_contract.specs.Behaviors.{Behavior}
+use Rattle.strand_contract.specs.Behaviors.{Behavior, Meaning}
 use Rattle.strand_contract.specs.Alone.{lives, offering, going_on, begun_offer}
 use Rattle.strand_contract.specs.Executions.{projection}
 use Rattle.strand_contract.specs.Order.{only}
@@ -84,6 +84,7 @@ module _ {J S : Type 0} (b : Behavior J) (st : S → List (LocalAction J) → Ty
           no_socket = a.common.no_socket;
           asides = a.common.asides;
           count = a.common.count ∙ sym count;
+          arrived = a.common.arrived;
           present = a.common.present ∙ sym now;
         };
       }
@@ -102,7 +103,6 @@ module _ {J S : Type 0} (b : Behavior J) (st : S → List (LocalAction J) → Ty
       aside = f.around.aside;
       forgotten = f.around.forgotten;
       out = seats (strand.Conn c) ∙ f.around.out;
-      arrived = f.around.arrived;
       alive = f.around.alive;
       connection = f.around.connection;
       client = f.around.client;
@@ -124,8 +124,8 @@ module _ {J S : Type 0} (b : Behavior J) (st : S → List (LocalAction J) → Ty
       closes (Some (place.Sock j)) k = absurd k
 
 -- a turn in which no offer goes on is over
-pub done-of : {J S : Type 0} (b : Behavior J) (st : S → List (LocalAction J) → Type 0) (c : ℕ) (seat : Seat S) (e : Engine S) (book : Book) → IsBusy b st c seat [] false e book → IsDone b st c seat e book
-done-of b st c seat e book y = (false, y.0, y.1, no-offer b st c seat.is_open (projection (strand.Conn c) y.0) y.1.near.offer)
+pub done-of : {J S : Type 0} (m : Meaning S J) (c : ℕ) (seat : Seat S) (e : Engine S) (book : Book) → IsBusy m c seat [] false e book → IsDone m c seat e book
+done-of m c seat e book y = (false, y.0, y.1, no-offer m.behavior m.stands c seat.is_open (projection (strand.Conn c) y.0) y.1.near.offer)
 
 -- no place is in the queue: threads run
 pub to-runs : {J S : Type 0} (b : Behavior J) (st : S → List (LocalAction J) → Type 0) (h h' : Held S) (book : Book) (ms : List (GlobalAction J)) → Standing b st h book ms → h.offer_queue ≡ [] → h' ≡ record h { in_offers = false } → Standing b st h' book ms

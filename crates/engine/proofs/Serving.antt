@@ -11,9 +11,8 @@ use Rattle.resty_world.specs.declared.event.Event.{Event}
 use Rattle.resty_world.specs.declared.event.Event.TheVariants as event
 use Rattle.resty_world.specs.Book.{Book, told}
 use Rattle.resty_world.specs.Given.{is_event, is_fault, arrives, arrives_strand, ends, Gave}
-use Rattle.strand_contract.specs.Actions.{LocalAction}
-use Rattle.strand_contract.specs.Behaviors.{Behavior}
-use Rattle.strand_contract.specs.Alone.{lives, IsExecution, HasNoWork, KeepsNothingBack}
+use Rattle.strand_contract.specs.Behaviors.{Behavior, Meaning}
+use Rattle.strand_contract.specs.Laws.{Keeps}
 use Rattle.strand_contract.specs.Executions.{external, offered_lengths}
 use Rattle.engine.specs.declared.engine.Engine.{Engine}
 use Rattle.engine.specs.Stepping.{is_stop}
@@ -35,9 +34,8 @@ right-same b old new r history offers asides ended = record {
   forgotten = λ c off. ended (id.Conn c) ∙ r.forgotten c off;
 }
 
-pub engine-right : {J S : Type 0} (b : Behavior J) (st : S → List (LocalAction J) → Type 0) (e : Engine S) (book : Book)
-    → ((es : List (LocalAction J)) → IsExecution b es → lives es ≡ true → HasNoWork b es → KeepsNothingBack b es) → Rests b st e book → IsRight b book
-engine-right b st e book keeps r = rests-right b st r.0 _ book r.1 r.2.0 r.2.1 r.2.3 keeps
+pub engine-right : {J S : Type 0} (m : Meaning S J) (e : Engine S) (book : Book) → Keeps m.behavior → Rests m e book → IsRight m.behavior book
+engine-right m e book keeps r = rests-right m.behavior m.stands r.0 _ book r.1 r.2.0 r.2.1 r.2.3 keeps
 
 -- what is no event isn't an arrival
 not-arrived : (e : Event) (s : StrandId) → is_event e ≡ false → arrives_strand e s ≡ false
@@ -51,10 +49,9 @@ not-ended event.Memory x h ended = refl
 not-ended e x h ended = absurd (let w : true ≡ false = h in cc)
 
 -- what wasn't given isn't told
-pub right-still : {J S : Type 0} (b : Behavior J) (st : S → List (LocalAction J) → Type 0) (e : Engine S) (old new : Book) (given : Event)
-    → ((es : List (LocalAction J)) → IsExecution b es → lives es ≡ true → HasNoWork b es → KeepsNothingBack b es) → Rests b st e old → Gave old new given → is_event given ≡ false → IsRight b new
-right-still b st e old new given keeps r gave none =
-    right-same b old new (engine-right b st e old keeps r)
+pub right-still : {J S : Type 0} (m : Meaning S J) (e : Engine S) (old new : Book) (given : Event) → Keeps m.behavior → Rests m e old → Gave old new given → is_event given ≡ false → IsRight m.behavior new
+right-still m e old new given keeps r gave none =
+    right-same m.behavior old new (engine-right m e old keeps r)
     (gave.history ∙ ap (λ v. told (if v then entry.Given given ∷ [] else []) old.history) none ∙ told-nothing old.history) gave.offered (λ s. gave.strand_aside s ∙ ap (λ v. if v then true else old.strand_aside s) (not-arrived given s none)) (λ x. gave.has_ended x ∙ not-ended given x none (old.has_ended x))
 
 pub stop-only : (e : Event) → is_stop e ≡ true → e ≡ event.Stop

@@ -1,7 +1,7 @@
 -- How turns begin: a thread runs, a place is offered, a write is answered.
 use Rattle.engine.specs.declared.engine.Ending.TheVariants as stop
-use Rattle.std.proofs.Common.{◌≡◌, ℕ, ◌<◌, ◌≤◌, Bool, true, false, ◌==◌, List, [], ◌∷◌, ◌++◌, drop, Some, None, if◌then◌else◌, refl, sym, ap, subst, ◌∙◌, append_assoc, append-nil, inl, inr, arith}
-use Rattle.std.proofs.lemmas.Bool.{eqb-true, cases_lt}
+use Rattle.std.proofs.Common.{◌≡◌, ℕ, ◌≤◌, Bool, true, false, ◌==◌, List, [], ◌∷◌, ◌++◌, drop, Some, None, if◌then◌else◌, refl, sym, ap, subst, ◌∙◌, append_assoc, append-nil, arith}
+use Rattle.std.proofs.lemmas.Bool.{eqb-true}
 use Rattle.resty_base.specs.declared.names.Id.TheVariants as id
 use Rattle.resty_base.specs.declared.names.StrandId.{StrandId}
 use Rattle.resty_base.specs.declared.names.StrandId.TheVariants as strand
@@ -12,17 +12,19 @@ use Rattle.strand_contract.specs.declared.turns.Place.TheVariants as place
 use Rattle.strand_contract.specs.declared.turns.Act.{Act}
 use Rattle.strand_contract.specs.declared.turns.Seen.{Seen}
 use Rattle.strand_contract.specs.declared.turns.Seen.TheVariants as seen
-use Rattle.strand_contract.specs.Actions.{Action, LocalAction, Did, GlobalAction, Of, Ran, Offered}
+use Rattle.strand_contract.specs.Actions.{Action, LocalAction, Did, GlobalAction, Of, Run, Offer}
 use Rattle.strand_contract.specs.Behaviors.{Behavior}
-use Rattle.strand_contract.specs.Alone.{lives, moment, is_open, has_ended, todo, waiting, to_offer, offers, armed, begun_offer, in_offers, is_stopping}
+use Rattle.strand_contract.specs.OpenPlaceLaws.{none-open}
+use Rattle.strand_contract.specs.Alone.{lives, moment, is_open, open_places, has_ended, todo, waiting, to_offer, offers, armed, begun_offer, in_offers, is_stopping}
 use Rattle.strand_contract.specs.Executions.{projection, external, offered_lengths}
-use Rattle.strand_contract.specs.Calls.{action_of, is_still, IsLastAct}
+use Rattle.strand_contract.specs.Calls.{action_of}
+use Rattle.strand_contract.specs.Laws.{is_still, IsLastAct}
 use Rattle.strand_contract.specs.Order.{IsSubsequence, none, keep, skip, with_strand, only, readied, run_of, offer_of, all_readied, all_run, all_placed, all_offered, NoneUnderWay, NoPlaceInLine, NoThreadInLine, IsFirstWaiting, HasThreads, HasPlaces}
 use Rattle.engine.specs.declared.engine.Seat.{Seat}
 use Rattle.engine.specs.Right.{Tells}
 use Rattle.engine.specs.Standing.{Held, is_to_end, Around, Busy, Turn, Standing, Falls, IsOffer}
-use Rattle.engine.proofs.Lists.{by_test, clash, same-true, sub-more, sub-through, sub-without}
-use Rattle.engine.proofs.Marks.{projection-same, touches, fit-same, SameHeld, SameBook, book-same, MayCome, common-next, around-next, Begins, near-begins}
+use Rattle.engine.proofs.Lists.{by_test, same-true, sub-more, sub-through, sub-without}
+use Rattle.engine.proofs.Marks.{projection-same, touches, fit-same, SameHeld, SameBook, book-same, MayCome, has-arrived, arrives-none, common-next, around-next, Begins, near-begins}
 use Rattle.engine.proofs.Acts.{queues-still}
 
 -- where one comes after some that are left out of a list, it stands in it, before those that come after it
@@ -77,10 +79,6 @@ module _ {J S : Type 0} (b : Behavior J) (st : S → List (LocalAction J) → Ty
       let e : f.0 ≡ x = some-same f.0 x (sym f.1 ∙ here) in
       subst (λ (y : Seat S). st y.strand (projection (strand.Conn c) ms) × (y.is_open ≡ book.is_open (id.Conn c))) e (f.2, f.3)
 
-  -- a strand that lives has arrived
-  pub lives-arrived : (book : Book) → lives (projection (strand.Conn c) ms) ≡ true → ((t : ℕ) → book.arrivals < t → projection (strand.Conn t) ms ≡ []) → c ≤ book.arrivals
-  lives-arrived book live unborn = elim (cases_lt book.arrivals c) [ inl past ↦ clash live (ap lives (unborn c past)) | inr h ↦ h ]
-
   -- the strand leaves its seat
   pub around-leave : (h h' : Held S) (threads : List (StrandId × ℕ)) (offer_queue : List (StrandId × Place)) (book : Book) (x : Seat S)
       → Standing b st h book ms → h.seats (strand.Conn c) ≡ Some x
@@ -104,7 +102,6 @@ module _ {J S : Type 0} (b : Behavior J) (st : S → List (LocalAction J) → Ty
         aside = λ s ne. g.aside s;
         forgotten = λ t ne gone. g.forgotten t gone;
         out = seats (strand.Conn c) ∙ ap (λ v. if v then None else h.seats (strand.Conn c)) (same-true c);
-        arrived = lives-arrived book live g.common.unborn;
         alive = live;
         connection = sym fits.1;
         client = mine.client ∙ sym fits.1;
@@ -126,6 +123,7 @@ module _ {J S : Type 0} (b : Behavior J) (st : S → List (LocalAction J) → Ty
           no_socket = g.common.no_socket;
           asides = g.common.asides;
           count = g.common.count ∙ sym count;
+          arrived = g.common.arrived;
           present = g.common.present ∙ sym now;
         };
       }
@@ -154,15 +152,15 @@ module _ {J S : Type 0} (b : Behavior J) (st : S → List (LocalAction J) → Ty
   turn-next asks given x go o o' h h' threads offer_queue book book' a stands time sh sb out may live there client socks aside arrivals told offers_told runs list begins =
       let z : Action J = action_of b (projection (strand.Conn c) ms) given in
       let es : List (LocalAction J) = projection (strand.Conn c) ms in
-      let born : c ≤ book'.arrivals = rw arrivals a.arrived in
+      let born : c ≤ book'.arrivals = rw arrivals (has-arrived a) in
       record {
         stands = stands;
         moment = time;
         execution = (a.common.alone (strand.Conn c), may.enabled);
         near = near-begins b st c ms asks z go o' h' book'
-            (around-next b st c ms z true true o o' h h' threads (h'.run_queue ++ with_strand (strand.Conn c) (readied (b.acts (Did z ∷ es)))) offer_queue (h'.offer_queue ++ with_strand (strand.Conn c) (offers (b.acts (Did z ∷ es)))) book book' a sh sb out live there client socks aside born
+            (around-next b st c ms z true true o o' h h' threads (h'.run_queue ++ with_strand (strand.Conn c) (readied (b.acts (Did z ∷ es)))) offer_queue (h'.offer_queue ++ with_strand (strand.Conn c) (offers (b.acts (Did z ∷ es)))) book book' a sh sb out live there client socks aside
             (rw sh.now (common-next b st c ms z threads (h'.run_queue ++ with_strand (strand.Conn c) (readied (b.acts (Did z ∷ es)))) offer_queue (h'.offer_queue ++ with_strand (strand.Conn c) (offers (b.acts (Did z ∷ es)))) h.now h.connections h'.connections
-            book book' a.common may born (omega (arith, arrivals)) (λ n. sb.sockets n ∙ a.common.no_socket n) (sb.asides a.common.asides) told offers_told
+            book book' a.common may born (rw (arrives-none b (strand.Conn c) es given) (omega (arith, arrivals))) (λ n. sb.sockets n ∙ a.common.no_socket n) (sb.asides a.common.asides) told offers_told
             (turn-queues (strand.Conn c) (all_run ms) h'.run_queue (all_readied b ms) (run_of z) (readied (b.acts (Did z ∷ es))) runs)
             (turn-queues (strand.Conn c) (all_offered ms) h'.offer_queue (all_placed b ms) (offer_of z) (offers (b.acts (Did z ∷ es))) list))))
             begins;
@@ -182,8 +180,11 @@ no-job n ms nil live = absurd (let e : false ≡ true = sym (ap lives nil) ∙ l
 
 module _ {J S : Type 0} (b : Behavior J) (st : S → List (LocalAction J) → Type 0) (ms : List (GlobalAction J)) (h : Held S) (book : Book) (g : Standing b st h book ms) where
   pub between : NoneUnderWay b ms
-  between (strand.Conn t) live = record { living = live; no_act = (g.each t live).no_act; no_offer = (g.each t live).no_offer }
-  between (strand.Job n) live = absurd (no-job n ms (g.common.jobless n) live)
+  between (strand.Conn t) = record {
+    between = λ live. record { living = live; no_act = (g.each t live).no_act; no_offer = (g.each t live).no_offer };
+    closed = λ off. none-open (projection (strand.Conn t) ms) (g.shut t off);
+  }
+  between (strand.Job n) = record { between = λ live. absurd (no-job n ms (g.common.jobless n) live); closed = λ off. ap open_places (g.common.jobless n) }
 
   pub no-place : h.offer_queue ≡ [] → NoPlaceInLine b ms
   no-place nil (strand.Conn t) live = (g.each t live).offered ∙ ap (only (strand.Conn t)) nil
@@ -245,6 +246,7 @@ module _ {J S : Type 0} (b : Behavior J) (st : S → List (LocalAction J) → Ty
       no_socket = g.common.no_socket;
       asides = g.common.asides;
       count = g.common.count ∙ sym count;
+      arrived = g.common.arrived;
       present = g.common.present ∙ sym now;
     };
   }
@@ -286,6 +288,7 @@ module _ {J S : Type 0} (b : Behavior J) (st : S → List (LocalAction J) → Ty
       no_socket = g.common.no_socket;
       asides = g.common.asides;
       count = g.common.count ∙ sym count;
+      arrived = g.common.arrived;
       present = g.common.present ∙ sym now;
     };
   }
@@ -300,7 +303,7 @@ module _ {J S : Type 0} (b : Behavior J) (st : S → List (LocalAction J) → Ty
       → ((t : StrandId) → h'.seats t ≡ (if same_strand t (strand.Conn c) then None else h.seats t)) → h'.run_queue ≡ rest → h'.offer_queue ≡ h.offer_queue → h'.in_offers ≡ h.in_offers → h'.now ≡ h.now → h'.connections ≡ h.connections → h'.ending ≡ h.ending
       → Turn b st c x.strand (seen.Run k) false x.is_open h' book ms
   turn-run asks c k rest x h' front here running no_end seats run_queue offer_queue phase now count ends =
-      let z : Action J = Ran k in
+      let z : Action J = Run k in
       let es : List (LocalAction J) = projection (strand.Conn c) ms in
       let live : lives es ≡ true = seat-lives b st c ms h book x g here in
       let mine = g.each c live in
@@ -313,7 +316,7 @@ module _ {J S : Type 0} (b : Behavior J) (st : S → List (LocalAction J) → Ty
       turn-next b st c ms asks (seen.Run k) x.strand false x.is_open x.is_open h' h' rest h.offer_queue book book a fits.0 (mine.moment ∙ sym now)
       (record { seats = λ t ne. refl; run_queue = λ t ne. refl; offer_queue = λ t ne. refl; in_offers = refl; now = refl; ends = λ t ne. refl }) (book-same c book) out
       (record {
-        enabled = (record { living = live; no_act = mine.no_act; no_offer = mine.no_offer }, (only (strand.Conn c) rest, sym ahead), (λ on. mine.offered ∙ (mine.runs_first running on)), (rw mine.no_deadline refl), (mine.stopping ∙ ap (λ o. is_to_end o c) no_end));
+        enabled = (record { living = live; no_act = mine.no_act; no_offer = mine.no_offer }, (only (strand.Conn c) rest, sym ahead), (λ on. mine.offered ∙ (mine.runs_first running on)), (λ waking. rw mine.no_deadline refl), (mine.stopping ∙ ap (λ o. is_to_end o c) no_end));
         begins = g.common.begins;
         given = (g.common.given, λ e. absurd (let w : false ≡ true = e in cc));
         kept = (g.common.kept, λ e. absurd (let w : false ≡ true = e in cc));
@@ -341,9 +344,9 @@ module _ {J S : Type 0} (b : Behavior J) (st : S → List (LocalAction J) → Ty
   offer-around : (quiet : (a : LocalAction J) (es : List (LocalAction J)) → is_still a ≡ true → b.acts (a ∷ es) ≡ []) (c : ℕ) (q : Place) (rest : List (StrandId × Place)) (x : Seat S) (h' : Held S)
       → h.offer_queue ≡ (strand.Conn c, q) ∷ rest → h.seats (strand.Conn c) ≡ Some x → h.in_offers ≡ true → h.ending ≡ stop.Over
       → ((t : StrandId) → h'.seats t ≡ (if same_strand t (strand.Conn c) then None else h.seats t)) → h'.offer_queue ≡ rest → h'.run_queue ≡ h.run_queue → h'.in_offers ≡ h.in_offers → h'.now ≡ h.now → h'.connections ≡ h.connections → h'.ending ≡ h.ending
-      → Around b st c true x.is_open h' h'.run_queue h'.offer_queue book (Of (strand.Conn c) (Offered q) None ∷ ms)
+      → Around b st c true x.is_open h' h'.run_queue h'.offer_queue book (Of (strand.Conn c) (Offer q) None ∷ ms)
   offer-around quiet c q rest x h' front here running no_end seats offer_queue run_queue phase now count ends =
-      let z : Action J = Offered q in
+      let z : Action J = Offer q in
       let es : List (LocalAction J) = projection (strand.Conn c) ms in
       let live : lives es ≡ true = seat-lives b st c ms h book x g here in
       let mine = g.each c live in
@@ -355,17 +358,17 @@ module _ {J S : Type 0} (b : Behavior J) (st : S → List (LocalAction J) → Ty
       (λ t ne. ap (only (strand.Conn t)) run_queue) (λ t ne. ap (only (strand.Conn t)) offer_queue ∙ sym (ap (only (strand.Conn t)) front ∙ ap (λ v. if v then q ∷ only (strand.Conn t) rest else only (strand.Conn t) rest) ne)) phase now count (λ t ne alive. ap (λ o. is_to_end o t) ends)
       g.common.runs (sub-through (sub-without (all_offered ms) (strand.Conn c, q) rest) (rw front at g.common.offered)) in
       around-next b st c ms z true true x.is_open x.is_open h' h' h.run_queue h'.run_queue rest h'.offer_queue book book a
-      (record { seats = λ t ne. refl; run_queue = λ t ne. refl; offer_queue = λ t ne. refl; in_offers = refl; now = refl; ends = λ t ne. refl }) (book-same c book) out live (sym fits.1) (mine.client ∙ sym fits.1) mine.no_socket (g.aside (strand.Conn c) ∙ live) a.arrived
+      (record { seats = λ t ne. refl; run_queue = λ t ne. refl; offer_queue = λ t ne. refl; in_offers = refl; now = refl; ends = λ t ne. refl }) (book-same c book) out live (sym fits.1) (mine.client ∙ sym fits.1) mine.no_socket (g.aside (strand.Conn c) ∙ live)
       (common-next b st c ms z h.run_queue h'.run_queue rest h'.offer_queue h'.now h'.connections h'.connections book book a.common
       (record {
-        enabled = (record { living = live; no_act = mine.no_act; no_offer = mine.no_offer }, (only (strand.Conn c) rest, sym ahead), (λ off. mine.threads ∙ (mine.offers_first running off)), (rw mine.no_deadline refl), (mine.stopping ∙ ap (λ o. is_to_end o c) no_end));
+        enabled = (record { living = live; no_act = mine.no_act; no_offer = mine.no_offer }, (only (strand.Conn c) rest, sym ahead), (λ off. mine.threads ∙ (mine.offers_first running off)), (λ waking. rw mine.no_deadline refl), (mine.stopping ∙ ap (λ o. is_to_end o c) no_end));
         begins = g.common.begins;
         given = (g.common.given, λ e. absurd (let w : false ≡ true = e in cc));
         kept = (g.common.kept, λ e. absurd (let w : false ≡ true = e in cc));
         plain = g.common.plain;
         turns = (g.common.turns, between, (λ off. no-thread (g.flip_to_offers running off)), first-offer c q rest front);
         counts = g.common.count ∙ sym count;
-      }) a.arrived (omega arith) g.common.no_socket g.common.asides g.common.told g.common.offers_told
+      }) (has-arrived a) (omega arith) g.common.no_socket g.common.asides g.common.told g.common.offers_told
       (rw run_queue (queues-still (strand.Conn c) (all_run ms) h.run_queue (all_readied b ms) [] (readied (b.acts (Did z ∷ es))) refl (ap readied none) g.common.runs))
       (rw offer_queue (offered-next (all_offered ms) (strand.Conn c, q) rest (all_placed b ms) (with_strand (strand.Conn c) (offers (b.acts (Did z ∷ es)))) (ap (with_strand (strand.Conn c)) (ap offers none)) (rw front at g.common.offered))))
     where
@@ -375,20 +378,20 @@ module _ {J S : Type 0} (b : Behavior J) (st : S → List (LocalAction J) → Ty
   pub falls-offered : (quiet : (a : LocalAction J) (es : List (LocalAction J)) → is_still a ≡ true → b.acts (a ∷ es) ≡ []) (c : ℕ) (q : Place) (rest : List (StrandId × Place)) (x : Seat S) (h' : Held S)
       → h.offer_queue ≡ (strand.Conn c, q) ∷ rest → h.seats (strand.Conn c) ≡ Some x → h.in_offers ≡ true → h.ending ≡ stop.Over
       → ((t : StrandId) → h'.seats t ≡ (if same_strand t (strand.Conn c) then None else h.seats t)) → h'.offer_queue ≡ rest → h'.run_queue ≡ h.run_queue → h'.in_offers ≡ h.in_offers → h'.now ≡ h.now → h'.connections ≡ h.connections → h'.ending ≡ h.ending
-      → Falls b st c x.is_open h' book (Of (strand.Conn c) (Offered q) None ∷ ms)
+      → Falls b st c x.is_open h' book (Of (strand.Conn c) (Offer q) None ∷ ms)
   falls-offered quiet c q rest x h' front here running no_end seats offer_queue run_queue phase now count ends = record {
     around = offer-around quiet c q rest x h' front here running no_end seats offer_queue run_queue phase now count ends;
     last = sym (phase ∙ running);
-    touched = touches c (Offered q) None ms;
+    touched = touches c (Offer q) None ms;
   }
 
   -- the client's connection is offered
   pub busy-offered : (still : (y : S) (a : LocalAction J) (es : List (LocalAction J)) → is_still a ≡ true → st y es → st y (a ∷ es)) (quiet : (a : LocalAction J) (es : List (LocalAction J)) → is_still a ≡ true → b.acts (a ∷ es) ≡ []) (c : ℕ) (rest : List (StrandId × Place)) (x : Seat S) (h' : Held S)
       → h.offer_queue ≡ (strand.Conn c, place.Client) ∷ rest → h.seats (strand.Conn c) ≡ Some x → h.in_offers ≡ true → h.ending ≡ stop.Over
       → ((t : StrandId) → h'.seats t ≡ (if same_strand t (strand.Conn c) then None else h.seats t)) → h'.offer_queue ≡ rest → h'.run_queue ≡ h.run_queue → h'.in_offers ≡ h.in_offers → h'.now ≡ h.now → h'.connections ≡ h.connections → h'.ending ≡ h.ending
-      → Busy b st c x.strand [] true x.is_open h' book (Of (strand.Conn c) (Offered place.Client) None ∷ ms)
+      → Busy b st c x.strand [] true x.is_open h' book (Of (strand.Conn c) (Offer place.Client) None ∷ ms)
   busy-offered still quiet c rest x h' front here running no_end seats offer_queue run_queue phase now count ends =
-      let z : Action J = Offered place.Client in
+      let z : Action J = Offer place.Client in
       let es : List (LocalAction J) = projection (strand.Conn c) ms in
       let live : lives es ≡ true = seat-lives b st c ms h book x g here in
       let mine = g.each c live in

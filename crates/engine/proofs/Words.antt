@@ -1,7 +1,7 @@
 -- What every living strand is told, and Stop, which ends them in the order of their beginning.
 use Rattle.engine.specs.declared.engine.Ending.{Ending}
 use Rattle.engine.specs.declared.engine.Ending.TheVariants as stop
-use Rattle.std.proofs.Common.{◌≡◌, ◌⊎◌, ℕ, ◌<◌, ◌≤◌, nat_lt, max, Bool, true, false, ◌==◌, List, [], ◌∷◌, Option, Some, None, if◌then◌else◌, refl, sym, ap, subst, ◌∙◌, append-nil, inl, inr, arith}
+use Rattle.std.proofs.Common.{◌≡◌, ◌⊎◌, ℕ, ◌+◌, ◌||◌, ◌<◌, ◌≤◌, nat_lt, max, Bool, true, false, ◌==◌, List, [], ◌∷◌, Option, Some, None, if◌then◌else◌, refl, sym, ap, subst, ◌∙◌, append-nil, inl, inr, arith}
 use Rattle.std.proofs.lemmas.Bool.{eqb-true, cases_lt}
 use Rattle.std.proofs.lemmas.Bool.Decides.{nat_tests}
 use Rattle.resty_base.specs.declared.names.Id.TheVariants as id
@@ -10,12 +10,13 @@ use Rattle.resty_base.specs.declared.names.StrandId.TheVariants as strand
 use Rattle.resty_world.specs.Book.{Book, KeepsIds, told}
 use Rattle.resty_world.specs.Ids.{same_strand}
 use Rattle.strand_contract.specs.declared.turns.Seen.TheVariants as seen
-use Rattle.strand_contract.specs.Actions.{Word, Moment, Stop, Action, LocalAction, Told, GlobalAction, Of, Everyone, TurnedAway, IdleGave, IdleClosed, Began, Halted}
+use Rattle.strand_contract.specs.declared.turns.Start.TheVariants as start
+use Rattle.strand_contract.specs.Actions.{Word, Moment, Stop, Action, LocalAction, Told, GlobalAction, Of, Everyone, TurnedAway, IdleGave, IdleClosed, Began, Dict, Take, Dial, Keep, Timer, Halted}
 use Rattle.strand_contract.specs.Behaviors.{Behavior}
 use Rattle.strand_contract.specs.Alone.{lives, moment, is_open, is_stopping, IsExecution, HasNoWork, KeepsNothingBack}
-use Rattle.strand_contract.specs.Executions.{projection, external, offered_lengths, present, BeginsRight, has_begun, word_entry}
-use Rattle.strand_contract.specs.Calls.{IsLastAct, is_still}
-use Rattle.strand_contract.specs.Order.{only, begun_before, IsFirstToEnd}
+use Rattle.strand_contract.specs.Executions.{projection, external, offered_lengths, present, arrived, BeginsRight, IsPlain, word_entry}
+use Rattle.strand_contract.specs.Laws.{IsLastAct, is_still}
+use Rattle.strand_contract.specs.Order.{only, has_begun, begun_before, IsFirstToEnd}
 use Rattle.engine.specs.declared.engine.Seat.{Seat}
 use Rattle.engine.specs.Slots.{is_after}
 use Rattle.engine.specs.Standing.{Held, is_to_end, said_of, Fit, Standing, Turn}
@@ -119,22 +120,57 @@ module _ {J S : Type 0} (b : Behavior J) (st : S → List (LocalAction J) → Ty
           no_socket = λ n. ids.is_open (id.Sock n) ∙ g.common.no_socket n;
           asides = (same-keeps 0 ids).asides g.common.asides;
           count = g.common.count ∙ sym count;
+          arrived = let known = g.common.arrived in omega (arith, arrivals, known);
           present = present-told w ms ∙ ap (after_word w) g.common.present ∙ sym now;
         };
       }
 
+-- a connection that has begun has a number up to that of the newest that arrived
+number-of : (t c d : ℕ) (begun : Bool) (before : ℕ) → (t == c) || begun ≡ true → d ≡ c → d ≡ before + 1 → (begun ≡ true → t ≤ before) → t ≤ before + 1
+number-of t c d begun before on same number more = by_test (t == c)
+    (λ e. let is : t ≡ c = eqb-true t c e in omega (arith, is, same, number))
+    (λ ne. let less : t ≤ before = more (sym (ap (λ v. v || begun) ne) ∙ on) in omega (arith, less))
+
+no-more : (t n : ℕ) → t ≤ n → t ≤ n + 0
+no-more t n h = omega (arith, h)
+
+pub begun-number : {J : Type 0} (b : Behavior J) (t : ℕ) (ms : List (GlobalAction J)) → BeginsRight ms → IsPlain b ms → has_begun (strand.Conn t) ms ≡ true → t ≤ arrived ms
+begun-number b t [] right plain h = absurd (let e : false ≡ true = h in cc)
+begun-number b t (Of (strand.Conn r) (Began now (start.Client d)) n ∷ ms) right plain h =
+    number-of t r d (has_begun (strand.Conn t) ms) (arrived ms) h right.1 plain.1 (begun-number b t ms right.0 plain.0)
+begun-number b t (Of (strand.Conn r) (Began now (start.Job j premature job)) n ∷ ms) right plain h = absurd right.1
+begun-number b t (Of (strand.Job r) (Began now begin) n ∷ ms) right plain h = absurd right.1
+begun-number b t (Of s (Dict zone call given) n ∷ ms) right plain h = absurd plain
+begun-number b t (Of s (Take key uses) n ∷ ms) right plain h = absurd plain
+begun-number b t (Of s (Dial host port done) n ∷ ms) right plain h = absurd plain
+begun-number b t (Of s (Keep k key idle size) n ∷ ms) right plain h = absurd plain
+begun-number b t (Of s (Timer at given) n ∷ ms) right plain h = absurd plain
+begun-number b t (Of s x n ∷ ms) right plain h = no-more t (arrived ms) (begun-number b t ms right plain h)
+begun-number b t (Everyone w ∷ ms) right plain h = no-more t (arrived ms) (begun-number b t ms right plain h)
+begun-number b t (TurnedAway d ∷ ms) right plain h = let less : t ≤ arrived ms = begun-number b t ms right plain.0 h in omega (arith, less)
+begun-number b t (IdleGave e ∷ ms) right plain h = absurd plain
+begun-number b t (IdleClosed n ∷ ms) right plain h = absurd plain
+
 -- connections begin in the order of their numbers
-pub begun-order : {J : Type 0} (t c : ℕ) (ms : List (GlobalAction J)) → BeginsRight ms → begun_before (strand.Conn t) (strand.Conn c) ms ≡ true → t < c
-begun-order t c [] right h = absurd (let e : false ≡ true = h in cc)
-begun-order t c (Of (strand.Conn r) (Began now begin) n ∷ ms) right h = by_test (c == r)
-    (λ same. subst (λ (i : ℕ). t < i) (sym (eqb-true c r same)) (right.3 t (sym (ap (λ v. if v then has_begun (strand.Conn t) ms else begun_before (strand.Conn t) (strand.Conn c) ms) same) ∙ h)))
-    (λ ne. begun-order t c ms right.0 (sym (ap (λ v. if v then has_begun (strand.Conn t) ms else begun_before (strand.Conn t) (strand.Conn c) ms) ne) ∙ h))
-begun-order t c (Of (strand.Job r) (Began now begin) n ∷ ms) right h = begun-order t c ms right.0 h
-begun-order t c (Of s x n ∷ ms) right h = begun-order t c ms right h
-begun-order t c (Everyone w ∷ ms) right h = begun-order t c ms right h
-begun-order t c (TurnedAway d ∷ ms) right h = begun-order t c ms right h
-begun-order t c (IdleGave e ∷ ms) right h = begun-order t c ms right h
-begun-order t c (IdleClosed n ∷ ms) right h = begun-order t c ms right h
+pub begun-order : {J : Type 0} (b : Behavior J) (t c : ℕ) (ms : List (GlobalAction J)) → BeginsRight ms → IsPlain b ms → begun_before (strand.Conn t) (strand.Conn c) ms ≡ true → t < c
+begun-order b t c [] right plain h = absurd (let e : false ≡ true = h in cc)
+begun-order b t c (Of (strand.Conn r) (Began now (start.Client d)) n ∷ ms) right plain h = by_test (c == r)
+    (λ same. let is : c ≡ r = eqb-true c r same in
+    let less : t ≤ arrived ms = begun-number b t ms right.0 plain.0 (sym (ap (λ v. if v then has_begun (strand.Conn t) ms else begun_before (strand.Conn t) (strand.Conn c) ms) same) ∙ h) in
+    omega (arith, is, less, right.1, plain.1))
+    (λ ne. begun-order b t c ms right.0 plain.0 (sym (ap (λ v. if v then has_begun (strand.Conn t) ms else begun_before (strand.Conn t) (strand.Conn c) ms) ne) ∙ h))
+begun-order b t c (Of (strand.Conn r) (Began now (start.Job j premature job)) n ∷ ms) right plain h = absurd right.1
+begun-order b t c (Of (strand.Job r) (Began now begin) n ∷ ms) right plain h = absurd right.1
+begun-order b t c (Of s (Dict zone call given) n ∷ ms) right plain h = absurd plain
+begun-order b t c (Of s (Take key uses) n ∷ ms) right plain h = absurd plain
+begun-order b t c (Of s (Dial host port done) n ∷ ms) right plain h = absurd plain
+begun-order b t c (Of s (Keep k key idle size) n ∷ ms) right plain h = absurd plain
+begun-order b t c (Of s (Timer at given) n ∷ ms) right plain h = absurd plain
+begun-order b t c (Of s x n ∷ ms) right plain h = begun-order b t c ms right plain h
+begun-order b t c (Everyone w ∷ ms) right plain h = begun-order b t c ms right plain h
+begun-order b t c (TurnedAway d ∷ ms) right plain h = begun-order b t c ms right plain.0 h
+begun-order b t c (IdleGave e ∷ ms) right plain h = absurd plain
+begun-order b t c (IdleClosed n ∷ ms) right plain h = absurd plain
 
 -- whoever comes after c, comes after whom c comes after
 after-more : (last : Option ℕ) (c t : ℕ) → is_after last c ≡ true → c < t → is_after last t ≡ nat_lt c t
@@ -188,7 +224,7 @@ module _ {J S : Type 0} (b : Behavior J) (st : S → List (LocalAction J) → Ty
       turn-next b st c ms asks seen.Stop x.strand false x.is_open x.is_open h' h' h.run_queue h.offer_queue book book a fits.0 (mine.moment ∙ sym now)
       (record { seats = λ t ne. refl; run_queue = λ t ne. refl; offer_queue = λ t ne. refl; in_offers = refl; now = refl; ends = λ t ne. refl }) (book-same c book) out
       (record {
-        enabled = (record { living = live; no_act = mine.no_act; no_offer = mine.no_offer }, mine.stopping ∙ ap (λ o. is_to_end o c) ending ∙ after);
+        enabled = (record { living = live; no_act = mine.no_act; no_offer = mine.no_offer }, inl (mine.stopping ∙ ap (λ o. is_to_end o c) ending ∙ after));
         begins = g.common.begins;
         given = (g.common.given, λ e. absurd (let w : false ≡ true = e in cc));
         kept = (g.common.kept, λ e. absurd (let w : false ≡ true = e in cc));
@@ -213,5 +249,5 @@ module _ {J S : Type 0} (b : Behavior J) (st : S → List (LocalAction J) → Ty
       })
     where
       earlier : IsFirstToEnd (strand.Conn c) ms
-      earlier (strand.Conn t) before alive = (g.each t alive).stopping ∙ ap (λ o. is_to_end o t) ending ∙ by_test (is_after last t) (λ on. absurd (seated t alive (first t on (begun-order t c ms g.common.begins before)))) (λ off. off)
+      earlier (strand.Conn t) before alive = (g.each t alive).stopping ∙ ap (λ o. is_to_end o t) ending ∙ by_test (is_after last t) (λ on. absurd (seated t alive (first t on (begun-order b t c ms g.common.begins g.common.plain before)))) (λ off. off)
       earlier (strand.Job n) before alive = absurd (no-job n ms (g.common.jobless n) alive)

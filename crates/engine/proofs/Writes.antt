@@ -13,7 +13,8 @@ use Rattle.strand_contract.specs.Actions.{LocalAction, Did, GlobalAction, Of}
 use Rattle.strand_contract.specs.Behaviors.{Behavior}
 use Rattle.strand_contract.specs.Alone.{lives, moment, is_open, has_ended, left_by, waiting, run_by, to_offer, offered_by, offering, going_on, begun_offer, in_offers, is_stopping, piece, queued, taken, is_some_left, IsOfferedAt}
 use Rattle.strand_contract.specs.Executions.{projection, external, offered_lengths}
-use Rattle.strand_contract.specs.Calls.{action_of, IsLastAct}
+use Rattle.strand_contract.specs.Calls.{action_of}
+use Rattle.strand_contract.specs.Laws.{IsLastAct}
 use Rattle.strand_contract.specs.Order.{run_of, offer_of, offers_last}
 use Rattle.engine.specs.Right.{Tells}
 use Rattle.engine.specs.Standing.{Held, Busy, Turn, IsOffer}

@@ -12,9 +12,9 @@ use Rattle.strand_contract.specs.declared.turns.Act.{Act}
 use Rattle.strand_contract.specs.declared.turns.Place.TheVariants as place
 use Rattle.strand_contract.specs.declared.turns.Seen.{Seen}
 use Rattle.strand_contract.specs.declared.turns.Seen.TheVariants as seen
-use Rattle.strand_contract.specs.Actions.{LocalAction, GlobalAction}
+use Rattle.strand_contract.specs.Actions.{GlobalAction}
 use Rattle.strand_contract.specs.Alone.{offering}
-use Rattle.strand_contract.specs.Behaviors.{Behavior}
+use Rattle.strand_contract.specs.Behaviors.{Meaning}
 use Rattle.strand_contract.specs.Executions.{projection}
 use Rattle.engine.specs.declared.engine.Carried.{Carried}
 use Rattle.engine.specs.declared.engine.Carried.TheVariants as carried
@@ -40,14 +40,14 @@ view_of e = record {
 abbrev pub IsIdle : {S : Type 0} → Engine S → Type 0
 IsIdle e = (e.run_queue.items ≡ []) × (e.offer_queue.items ≡ []) × (e.in_offers ≡ false) × (e.ending ≡ stop.Over)
 
-module _ {J S : Type 0} (b : Behavior J) (st : S → List (LocalAction J) → Type 0) where
+module _ {J S : Type 0} (m : Meaning S J) where
   -- the engine stands for some execution
   abbrev pub Stands : Engine S → Book → Type 0
-  Stands e book = (ms : List (GlobalAction J)) × Standing b st (view_of e) book ms
+  Stands e book = (ms : List (GlobalAction J)) × Standing m.behavior m.stands (view_of e) book ms
 
   -- the same, where nothing is left to be done
   abbrev pub Rests : Engine S → Book → Type 0
-  Rests e book = (ms : List (GlobalAction J)) × Standing b st (view_of e) book ms × IsIdle e
+  Rests e book = (ms : List (GlobalAction J)) × Standing m.behavior m.stands (view_of e) book ms × IsIdle e
 
   -- the world gave this event at rest
   abbrev pub IsGiven : Engine S → Book → Event → Type 0
@@ -55,20 +55,20 @@ module _ {J S : Type 0} (b : Behavior J) (st : S → List (LocalAction J) → Ty
 
   -- connection c's strand, out of its seat, is to be shown something
   abbrev pub IsTurn : ℕ → Seat S → Seen → Bool → Engine S → Book → Type 0
-  IsTurn c seat shown go e book = (ms : List (GlobalAction J)) × Turn b st c seat.strand shown go seat.is_open (view_of e) book ms
+  IsTurn c seat shown go e book = (ms : List (GlobalAction J)) × Turn m.behavior m.stands c seat.strand shown go seat.is_open (view_of e) book ms
 
   -- within its turn: these acts are still to be carried out; `go` says whether an offer goes on after them
   abbrev pub IsBusy : ℕ → Seat S → List (Act J) → Bool → Engine S → Book → Type 0
-  IsBusy c seat acts go e book = (ms : List (GlobalAction J)) × Busy b st c seat.strand acts go seat.is_open (view_of e) book ms
+  IsBusy c seat acts go e book = (ms : List (GlobalAction J)) × Busy m.behavior m.stands c seat.strand acts go seat.is_open (view_of e) book ms
 
   -- its turn is over
   abbrev pub IsDone : ℕ → Seat S → Engine S → Book → Type 0
-  IsDone c seat e book = (go : Bool) × (ms : List (GlobalAction J)) × Busy b st c seat.strand [] go seat.is_open (view_of e) book ms
-      × (offering b (projection (strand.Conn c) ms) ≡ None)
+  IsDone c seat e book = (go : Bool) × (ms : List (GlobalAction J)) × Busy m.behavior m.stands c seat.strand [] go seat.is_open (view_of e) book ms
+      × (offering m.behavior (projection (strand.Conn c) ms) ≡ None)
 
   -- it is to be given up
   abbrev pub IsFalling : ℕ → Bool → Engine S → Book → Type 0
-  IsFalling c opened e book = (ms : List (GlobalAction J)) × Falls b st c opened (view_of e) book ms
+  IsFalling c opened e book = (ms : List (GlobalAction J)) × Falls m.behavior m.stands c opened (view_of e) book ms
 
   -- an act was carried out, and the rest is still to be
   abbrev pub IsCarried : ℕ → Seat S → List (Act J) → Bool → Engine S → Book → Carried → Type 0
@@ -100,6 +100,7 @@ Logs faults true book = Rose faults book.faults × IfSome book.history HasFailed
 pub record Worked {V : Type 0} (same : V → V → Type 0) (book : V → Book) (old new : V) (failed_before failed : Bool) : Type 0 where
   pub later : same old new
   pub events : option_map events_of (book new).history ≡ option_map events_of (book old).history
+  pub port : (book new).port ≡ (book old).port
   pub logs : (faults : ℕ) → Logs faults failed_before (book old) → Logs faults failed (book new)
 
 -- the same for an engine that works
@@ -115,5 +116,5 @@ shown (event.Ready i) = Some (i, seen.Ready place.Client)
 shown e = None
 
 -- the world gave an event at rest that is for this id
-abbrev pub IsShown : {J S : Type 0} → Behavior J → (S → List (LocalAction J) → Type 0) → Engine S → Book → Id → Seen → Type 0
-IsShown b st e book i s = (before : Book) × (given : Event) × Rests b st e before × Gave before book given × (shown given ≡ Some (i, s))
+abbrev pub IsShown : {J S : Type 0} → Meaning S J → Engine S → Book → Id → Seen → Type 0
+IsShown m e book i s = (before : Book) × (given : Event) × Rests m e before × Gave before book given × (shown given ≡ Some (i, s))

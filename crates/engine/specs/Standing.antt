@@ -1,5 +1,5 @@
 -- What the engine holds, against an execution.
-use Rattle.std.specs.Prelude.{◌≡◌, ℕ, ◌<◌, ◌≤◌, Bool, true, false, ◌==◌, List, [], ◌∷◌, ◌++◌, Option, Some, None}
+use Rattle.std.specs.Prelude.{◌≡◌, ℕ, ◌<◌, Bool, true, false, ◌==◌, List, [], ◌∷◌, ◌++◌, Option, Some, None}
 use Rattle.resty_base.specs.declared.names.Id.{Id}
 use Rattle.resty_base.specs.declared.names.Id.TheVariants as id
 use Rattle.resty_base.specs.declared.names.StrandId.{StrandId}
@@ -14,9 +14,10 @@ use Rattle.strand_contract.specs.Actions.{LocalAction, Did, GlobalAction, Of}
 use Rattle.strand_contract.specs.Behaviors.{Behavior}
 use Rattle.strand_contract.specs.Alone.{lives, moment, is_open, has_ended, todo, carried, waiting, lined_up, to_offer, offers, armed, armed_by, offering}
 use Rattle.strand_contract.specs.Alone.{begun_offer, in_offers, is_stopping, IsExecution}
-use Rattle.strand_contract.specs.Executions.{projection, external, offered_lengths, present, open_connections, BeginsRight, IsGivenAtRest, HeldNothingBack}
+use Rattle.strand_contract.specs.Executions.{projection, external, offered_lengths, present, arrived, open_connections, BeginsRight, IsGivenAtRest, HeldNothingBack}
 use Rattle.strand_contract.specs.Executions.{IsPlain}
-use Rattle.strand_contract.specs.Calls.{action_of, IsLastAct}
+use Rattle.strand_contract.specs.Calls.{action_of}
+use Rattle.strand_contract.specs.Laws.{IsLastAct}
 use Rattle.strand_contract.specs.Order.{IsSubsequence, with_strand, only, readied, all_readied, all_run, all_placed, all_offered, offers_last, was_touched}
 use Rattle.strand_contract.specs.Order.{TurnsInOrder}
 use Rattle.engine.specs.declared.engine.Ending.{Ending}
@@ -92,6 +93,7 @@ pub record Common {J : Type 0} (b : Behavior J) (next_runs : List (StrandId × �
   pub no_socket : (n : ℕ) → book.is_open (id.Sock n) ≡ false
   pub asides : HasAsides book
   pub count : open_connections ms ≡ connections
+  pub arrived : arrived ms ≡ book.arrivals
   pub present : present ms ≡ now
 
 -- whether an offer of the client's connection goes on: `go` says that it may, `opened` that the connection is open
@@ -161,7 +163,6 @@ module _ {J S : Type 0} (b : Behavior J) (st : S → List (LocalAction J) → Ty
     pub aside : (s : StrandId) → same_strand s (strand.Conn c) ≡ false → book.strand_aside s ≡ lives (projection s ms)
     pub forgotten : (t : ℕ) → (t == c) ≡ false → lives (projection (strand.Conn t) ms) ≡ false → book.has_ended (id.Conn t) ≡ false
     pub out : h.seats (strand.Conn c) ≡ None
-    pub arrived : c ≤ book.arrivals
     pub alive : lives (projection (strand.Conn c) ms) ≡ al
     pub connection : book.is_open (id.Conn c) ≡ opened
     pub client : is_open place.Client (projection (strand.Conn c) ms) ≡ opened

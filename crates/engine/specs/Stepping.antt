@@ -9,10 +9,11 @@ use Rattle.engine.specs.declared.engine.Stepped.{Stepped}
 use Rattle.engine.specs.declared.engine.Stepped.TheVariants as to
 use Rattle.engine.specs.Right.{events_of, HasFailedLog}
 
--- a world some calls later, of which no event was asked
+-- a world some calls later, of which no event was asked, and which listens where it listened
 pub record Goes {V : Type 0} (same : V → V → Type 0) (book : V → Book) (old new : V) : Type 0 where
   pub later : same old new
   pub events : option_map events_of (book new).history ≡ option_map events_of (book old).history
+  pub port : (book new).port ≡ (book old).port
 
 abbrev pub is_stop : Event → Bool
 is_stop event.Stop = true

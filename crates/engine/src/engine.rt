@@ -79,7 +79,7 @@ impl<S: StrandContract> Engine<S> {
 
     /// No strands, at the moment 0; takes no memory.
     pub fn new(alloc: Global) -> Engine<S>
-        ensures { (site : S.Site) (book : Book) → IsFresh book → Rests (S.behavior site) (S.stands site) result book }
+        ensures { (site : S.Site) (book : Book) → IsFresh book → Rests (S.meaning site) result book }
     {
         Engine {
             alloc,
@@ -96,9 +96,9 @@ impl<S: StrandContract> Engine<S> {
 
     /// Gives a strand up: notes that it was dropped, and closes its connection.
     fn give_up<W: World>(&mut self, connection: u64, is_open: bool, world: &mut W)
-        requires { (site : S.Site) × IsFalling (S.behavior site) (S.stands site) connection is_open self.old (W.book world.old) }
-        ensures standing { (site : S.Site) → IsFalling (S.behavior site) (S.stands site) connection is_open self.old (W.book world.old)
-            → Stands (S.behavior site) (S.stands site) self.new (W.book world.new) }
+        requires { (site : S.Site) × IsFalling (S.meaning site) connection is_open self.old (W.book world.old) }
+        ensures standing { (site : S.Site) → IsFalling (S.meaning site) connection is_open self.old (W.book world.old)
+            → Stands (S.meaning site) self.new (W.book world.new) }
         ensures works { Works W.same W.book self.old self.new world.old world.new }
         ensures kept { self.new ≡ record self.old { connections = self.new.connections } }
     {
@@ -120,10 +120,10 @@ impl<S: StrandContract> Engine<S> {
         world: &mut W,
     ) -> Carried
         requires { (site : S.Site) × (rest : List (Act S.Job)) × (go : Bool)
-            × IsBusy (S.behavior site) (S.stands site) connection seat.old (act ∷ rest) go self.old (W.book world.old) }
+            × IsBusy (S.meaning site) connection seat.old (act ∷ rest) go self.old (W.book world.old) }
         ensures carried { (site : S.Site) (rest : List (Act S.Job)) (go : Bool)
-            → IsBusy (S.behavior site) (S.stands site) connection seat.old (act ∷ rest) go self.old (W.book world.old)
-            → IsCarried (S.behavior site) (S.stands site) connection seat.new rest go self.new (W.book world.new) result }
+            → IsBusy (S.meaning site) connection seat.old (act ∷ rest) go self.old (W.book world.old)
+            → IsCarried (S.meaning site) connection seat.new rest go self.new (W.book world.new) result }
         ensures works { Works W.same W.book self.old self.new world.old world.new }
         ensures phase { KeepsPhase self.old self.new }
         ensures strand { seat.new.strand ≡ seat.old.strand }
@@ -183,10 +183,10 @@ impl<S: StrandContract> Engine<S> {
         going: bool,
         world: &mut W,
     ) -> Option<Seat<S>>
-        requires { (site : S.Site) × IsBusy (S.behavior site) (S.stands site) connection seat acts.items going self.old (W.book world.old) }
-        ensures lives { (site : S.Site) → IsBusy (S.behavior site) (S.stands site) connection seat acts.items going self.old (W.book world.old)
-            → MatchOption result (Stands (S.behavior site) (S.stands site) self.new (W.book world.new))
-            (λ next. IsBusy (S.behavior site) (S.stands site) connection next [] going self.new (W.book world.new)) }
+        requires { (site : S.Site) × IsBusy (S.meaning site) connection seat acts.items going self.old (W.book world.old) }
+        ensures lives { (site : S.Site) → IsBusy (S.meaning site) connection seat acts.items going self.old (W.book world.old)
+            → MatchOption result (Stands (S.meaning site) self.new (W.book world.new))
+            (λ next. IsBusy (S.meaning site) connection next [] going self.new (W.book world.new)) }
         ensures works { Works W.same W.book self.old self.new world.old world.new }
         ensures phase { KeepsPhase self.old self.new }
         ensures work { work S.left self.new + left_of S.left result ≤ work S.left self.old + S.left seat.strand + length acts.items }
@@ -214,9 +214,9 @@ impl<S: StrandContract> Engine<S> {
         going: bool,
         world: &mut W,
     ) -> Option<Seat<S>>
-        requires { IsTurn (S.behavior site.now) (S.stands site.now) connection seat seen going self.old (W.book world.old) }
-        ensures lives { MatchOption result (Stands (S.behavior site.now) (S.stands site.now) self.new (W.book world.new))
-            (λ next. IsBusy (S.behavior site.now) (S.stands site.now) connection next [] going self.new (W.book world.new)) }
+        requires { IsTurn (S.meaning site.now) connection seat seen going self.old (W.book world.old) }
+        ensures lives { MatchOption result (Stands (S.meaning site.now) self.new (W.book world.new))
+            (λ next. IsBusy (S.meaning site.now) connection next [] going self.new (W.book world.new)) }
         ensures works { Works W.same W.book self.old self.new world.old world.new }
         ensures phase { KeepsPhase self.old self.new }
         ensures work { is_own_turn seen ≡ true → work S.left self.new + left_of S.left result ≤ work S.left self.old + S.left seat.strand }
@@ -248,9 +248,9 @@ impl<S: StrandContract> Engine<S> {
 
     /// Gives a strand its seat again, once its turn is over.
     fn put_back<W: World>(&mut self, connection: u64, mut seat: Seat<S>, world: &mut W)
-        requires { (site : S.Site) × IsDone (S.behavior site) (S.stands site) connection seat self.old (W.book world.old) }
-        ensures standing { (site : S.Site) → IsDone (S.behavior site) (S.stands site) connection seat self.old (W.book world.old)
-            → Stands (S.behavior site) (S.stands site) self.new (W.book world.new) }
+        requires { (site : S.Site) × IsDone (S.meaning site) connection seat self.old (W.book world.old) }
+        ensures standing { (site : S.Site) → IsDone (S.meaning site) connection seat self.old (W.book world.old)
+            → Stands (S.meaning site) self.new (W.book world.new) }
         ensures works { Works W.same W.book self.old self.new world.old world.new }
         ensures phase { KeepsPhase self.old self.new }
         ensures work { work S.left self.new ≤ work S.left self.old + S.left seat.strand }
@@ -271,8 +271,8 @@ impl<S: StrandContract> Engine<S> {
         seen: Seen,
         world: &mut W,
     )
-        requires { IsTurn (S.behavior site.now) (S.stands site.now) connection seat seen false self.old (W.book world.old) }
-        ensures standing { Stands (S.behavior site.now) (S.stands site.now) self.new (W.book world.new) }
+        requires { IsTurn (S.meaning site.now) connection seat seen false self.old (W.book world.old) }
+        ensures standing { Stands (S.meaning site.now) self.new (W.book world.new) }
         ensures works { Works W.same W.book self.old self.new world.old world.new }
         ensures phase { KeepsPhase self.old self.new }
         ensures work { is_own_turn seen ≡ true → work S.left self.new ≤ work S.left self.old + S.left seat.strand }
@@ -284,10 +284,10 @@ impl<S: StrandContract> Engine<S> {
 
     /// Runs the first thread in the queue whose strand lives, and says whether there was one.
     fn run_next<W: World>(&mut self, site: &S::Site, world: &mut W) -> bool
-        requires standing { Stands (S.behavior site.now) (S.stands site.now) self.old (W.book world.old) }
+        requires standing { Stands (S.meaning site.now) self.old (W.book world.old) }
         requires in_offers { self.old.in_offers ≡ false }
         requires ending { self.old.ending ≡ Ending.Over }
-        ensures standing { Stands (S.behavior site.now) (S.stands site.now) self.new (W.book world.new) }
+        ensures standing { Stands (S.meaning site.now) self.new (W.book world.new) }
         ensures works { Works W.same W.book self.old self.new world.old world.new }
         ensures phase { KeepsPhase self.old self.new }
         ensures none { result ≡ false → self.new.run_queue.items ≡ [] }
@@ -308,8 +308,8 @@ impl<S: StrandContract> Engine<S> {
 
     /// Offers what the client is sent piece by piece, until nothing is left or it is put off.
     fn offer<W: World>(&mut self, site: &S::Site, connection: u64, mut seat: Seat<S>, world: &mut W)
-        requires { IsBusy (S.behavior site.now) (S.stands site.now) connection seat [] true self.old (W.book world.old) }
-        ensures standing { Stands (S.behavior site.now) (S.stands site.now) self.new (W.book world.new) }
+        requires { IsBusy (S.meaning site.now) connection seat [] true self.old (W.book world.old) }
+        ensures standing { Stands (S.meaning site.now) self.new (W.book world.new) }
         ensures works { Works W.same W.book self.old self.new world.old world.new }
         ensures phase { KeepsPhase self.old self.new }
         ensures work { work S.left self.new ≤ work S.left self.old + S.left seat.strand }
@@ -350,10 +350,10 @@ impl<S: StrandContract> Engine<S> {
 
     /// Offers the first place in the queue whose strand lives, and says whether there was one.
     fn offer_next<W: World>(&mut self, site: &S::Site, world: &mut W) -> bool
-        requires standing { Stands (S.behavior site.now) (S.stands site.now) self.old (W.book world.old) }
+        requires standing { Stands (S.meaning site.now) self.old (W.book world.old) }
         requires in_offers { self.old.in_offers ≡ true }
         requires ending { self.old.ending ≡ Ending.Over }
-        ensures standing { Stands (S.behavior site.now) (S.stands site.now) self.new (W.book world.new) }
+        ensures standing { Stands (S.meaning site.now) self.new (W.book world.new) }
         ensures works { Works W.same W.book self.old self.new world.old world.new }
         ensures phase { KeepsPhase self.old self.new }
         ensures none { result ≡ false → self.new.offer_queue.items ≡ [] }
@@ -381,9 +381,9 @@ impl<S: StrandContract> Engine<S> {
         seat: Seat<S>,
         world: &mut W,
     )
-        requires client { place ≡ Place.Client → IsBusy (S.behavior site.now) (S.stands site.now) connection seat [] true self.old (W.book world.old) }
-        requires falls { IsFalling (S.behavior site.now) (S.stands site.now) connection seat.is_open self.old (W.book world.old) }
-        ensures standing { Stands (S.behavior site.now) (S.stands site.now) self.new (W.book world.new) }
+        requires client { place ≡ Place.Client → IsBusy (S.meaning site.now) connection seat [] true self.old (W.book world.old) }
+        requires falls { IsFalling (S.meaning site.now) connection seat.is_open self.old (W.book world.old) }
+        ensures standing { Stands (S.meaning site.now) self.new (W.book world.new) }
         ensures works { Works W.same W.book self.old self.new world.old world.new }
         ensures phase { KeepsPhase self.old self.new }
         ensures work { work S.left self.new ≤ work S.left self.old + S.left seat.strand }
@@ -397,9 +397,9 @@ impl<S: StrandContract> Engine<S> {
 
     /// One turn, of a thread or of a place; false where both queues are empty.
     fn turn<W: World>(&mut self, site: &S::Site, world: &mut W) -> bool
-        requires standing { Stands (S.behavior site.now) (S.stands site.now) self.old (W.book world.old) }
+        requires standing { Stands (S.meaning site.now) self.old (W.book world.old) }
         requires ending { self.old.ending ≡ Ending.Over }
-        ensures standing { Stands (S.behavior site.now) (S.stands site.now) self.new (W.book world.new) }
+        ensures standing { Stands (S.meaning site.now) self.new (W.book world.new) }
         ensures works { Works W.same W.book self.old self.new world.old world.new }
         ensures ending { self.new.ending ≡ Ending.Over }
         ensures none { result ≡ false → (self.new.run_queue.items ≡ []) × (self.new.offer_queue.items ≡ []) }
@@ -422,9 +422,9 @@ impl<S: StrandContract> Engine<S> {
 
     /// All turns, until both queues are empty.
     fn settle<W: World>(&mut self, site: &S::Site, world: &mut W)
-        requires standing { Stands (S.behavior site.now) (S.stands site.now) self.old (W.book world.old) }
+        requires standing { Stands (S.meaning site.now) self.old (W.book world.old) }
         requires ending { self.old.ending ≡ Ending.Over }
-        ensures rests { Rests (S.behavior site.now) (S.stands site.now) self.new (W.book world.new) }
+        ensures rests { Rests (S.meaning site.now) self.new (W.book world.new) }
         ensures works { Works W.same W.book self.old self.new world.old world.new }
     {
         while self.turn(site, world) {}
@@ -433,8 +433,8 @@ impl<S: StrandContract> Engine<S> {
 
     /// A connection arrived: its strand begins, or it is turned away where as many are open as may be.
     fn arrive<W: World>(&mut self, site: &S::Site, connection: u64, world: &mut W)
-        requires { IsGiven (S.behavior site.now) (S.stands site.now) self.old (W.book world.old) (Event.Arrive connection) }
-        ensures standing { Stands (S.behavior site.now) (S.stands site.now) self.new (W.book world.new) }
+        requires { IsGiven (S.meaning site.now) self.old (W.book world.old) (Event.Arrive connection) }
+        ensures standing { Stands (S.meaning site.now) self.new (W.book world.new) }
         ensures works { Works W.same W.book self.old self.new world.old world.new }
         ensures ending { self.new.ending ≡ Ending.Over }
     {
@@ -462,8 +462,8 @@ impl<S: StrandContract> Engine<S> {
 
     /// Something was given at a connection: its strand's turn.
     fn come<W: World>(&mut self, site: &S::Site, id: Id, seen: Seen, world: &mut W)
-        requires { IsShown (S.behavior site.now) (S.stands site.now) self.old (W.book world.old) id seen }
-        ensures standing { Stands (S.behavior site.now) (S.stands site.now) self.new (W.book world.new) }
+        requires { IsShown (S.meaning site.now) self.old (W.book world.old) id seen }
+        ensures standing { Stands (S.meaning site.now) self.new (W.book world.new) }
         ensures works { Works W.same W.book self.old self.new world.old world.new }
         ensures ending { self.new.ending ≡ Ending.Over }
     {
@@ -476,10 +476,10 @@ impl<S: StrandContract> Engine<S> {
 
     /// Ends each strand that lives, in the order in which they began.
     fn end_all<W: World>(&mut self, site: &S::Site, world: &mut W)
-        requires standing { Stands (S.behavior site.now) (S.stands site.now) self.old (W.book world.old) }
+        requires standing { Stands (S.meaning site.now) self.old (W.book world.old) }
         requires in_offers { self.old.in_offers ≡ false }
         requires ending { self.old.ending ≡ Ending.After None }
-        ensures standing { Stands (S.behavior site.now) (S.stands site.now) self.new (W.book world.new) }
+        ensures standing { Stands (S.meaning site.now) self.new (W.book world.new) }
         ensures works { Works W.same W.book self.old self.new world.old world.new }
         ensures ending { self.new.ending ≡ Ending.Over }
     {
@@ -496,8 +496,8 @@ impl<S: StrandContract> Engine<S> {
 
     /// Takes what the world gave, up to the turns that follow, and says whether it was Stop.
     fn take<W: World>(&mut self, site: &S::Site, event: Event, world: &mut W) -> bool
-        requires { IsGiven (S.behavior site.now) (S.stands site.now) self.old (W.book world.old) event }
-        ensures standing { Stands (S.behavior site.now) (S.stands site.now) self.new (W.book world.new) }
+        requires { IsGiven (S.meaning site.now) self.old (W.book world.old) event }
+        ensures standing { Stands (S.meaning site.now) self.new (W.book world.new) }
         ensures works { Works W.same W.book self.old self.new world.old world.new }
         ensures ending { self.new.ending ≡ Ending.Over }
         ensures stops { result ≡ is_stop event }
@@ -527,8 +527,8 @@ impl<S: StrandContract> Engine<S> {
 
     /// Takes what the world gave, with all turns that follow.
     pub fn step<W: World>(&mut self, site: &S::Site, event: Event, world: &mut W) -> Stepped
-        requires { IsGiven (S.behavior site.now) (S.stands site.now) self.old (W.book world.old) event }
-        ensures rests { Rests (S.behavior site.now) (S.stands site.now) self.new (W.book world.new) }
+        requires { IsGiven (S.meaning site.now) self.old (W.book world.old) event }
+        ensures rests { Rests (S.meaning site.now) self.new (W.book world.new) }
         ensures goes { Goes W.same W.book world.old world.new }
         ensures stepped { Steps event (W.book world.old) (W.book world.new) result }
     {

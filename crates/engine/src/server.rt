@@ -1,5 +1,6 @@
 //! Serving a world: its events, one after another, until Stop or a fault.
 
+ghost use Rattle.std.specs.Prelude.{◌≡◌};
 ghost use Rattle.engine.specs.Right.{IsFresh, IsRight, EndsBy};
 
 use crate::{Engine, Stepped};
@@ -30,8 +31,9 @@ pub fn serve<S: StrandContract, W: World>(
     events: u64,
 ) -> Ended
     requires { IsFresh (W.book world.old) }
-    ensures right { IsRight (S.behavior site) (W.book world.new) }
+    ensures right { IsRight (S.meaning site).behavior (W.book world.new) }
     ensures ended { EndsBy events (W.book world.old) (W.book world.new) result }
+    ensures port { (W.book world.new).port ≡ (W.book world.old).port }
     ensures same { W.same world.old world.new }
 {
     let mut engine: Engine<S> = Engine::new(alloc);

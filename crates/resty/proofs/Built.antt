@@ -1,5 +1,5 @@
 -- A run of a literal site has a history of built entries alone, which are within their ranges.
-use Rattle.std.proofs.Common.{◌≡◌, ◌⊎◌, ℕ, Bool, true, false, inl, inr, List, [], ◌∷◌, ◌++◌, All, Option, Some, None, if◌then◌else◌, refl, sym, ap, subst, ◌∙◌}
+use Rattle.std.proofs.Common.{◌≡◌, ◌⊎◌, ℕ, Bool, true, false, not, ◌&&◌, ◌||◌, inl, inr, List, [], ◌∷◌, ◌++◌, All, Option, Some, None, if◌then◌else◌, refl, sym, ap, subst, ◌∙◌}
 use Rattle.std.proofs.lemmas.List.Elements.{All-append, All-cons, All-nil}
 use Rattle.resty_base.specs.declared.names.Id.TheVariants as id
 use Rattle.resty_base.specs.declared.names.StrandId.{StrandId}
@@ -10,8 +10,7 @@ use Rattle.resty_world.specs.declared.entry.Entry.{Entry}
 use Rattle.resty_world.specs.declared.entry.Entry.TheVariants as entry
 use Rattle.resty_world.specs.declared.schedule_line.SchedLine.{SchedLine}
 use Rattle.resty.specs.Built.{IsBuilt}
-use Rattle.resty.specs.Form.{IsServed}
-use Rattle.resty.proofs.Story.{AreEventLines, AreToldEntries, entries-told, served-events}
+use Rattle.resty.proofs.Story.{AreEventLines, AreToldEntries, entries-told}
 use Rattle.schedule_text.specs.Accepted.{IsHistory}
 use Rattle.schedule_text.specs.Ranges.{IsBytes, IsEntry, IsOrdinal}
 use Rattle.schedule.specs.Told.{IsTold}
@@ -19,10 +18,12 @@ use Rattle.strand_contract.specs.declared.turns.Place.{Place}
 use Rattle.strand_contract.specs.declared.turns.Place.TheVariants as place
 use Rattle.strand_contract.specs.declared.turns.Start.TheVariants as start
 use Rattle.strand_contract.specs.declared.turns.Act.{Act}
-use Rattle.strand_contract.specs.Actions.{Moment, Stop, Action, Began, Came, Ended, Broke, TakesAgain, Connected, Refused, Put, Later, Lost, Closed, Logged, Asked, Took, Dialled, Kept, Timed, Dropped, Ran, Offered, Due, Halted, Gone, LocalAction, Told, Did, GlobalAction, Of, Everyone, TurnedAway, IdleGave, IdleClosed}
+use Rattle.strand_contract.specs.Actions.{Moment, Stop, Action, Began, Bytes, Ended, Broken, Ready, Dialled, Refused, Put, Later, Lost, Close, Log, Dict, Take, Dial, Keep, Timer, Dropped, Run, Offer, Due, Halted, Gone, LocalAction, Told, Did, GlobalAction, Of, Everyone, TurnedAway, IdleGave, IdleClosed, is_given}
 use Rattle.strand_contract.specs.Behaviors.{Behavior}
 use Rattle.strand_contract.specs.Alone.{lives, is_open, is_some_left, queued, going_on, begun_offer, offering, todo, Enabled, IsExecution}
 use Rattle.strand_contract.specs.Executions.{projection, id_at, entry_of, entries_of, external, IsPlain, BeginsRight, IsStartOf}
+use Rattle.strand_contract.specs.Order.{was_touched, TurnsInOrder}
+use Rattle.strand_contract.specs.OpenPlaceLaws.{first-open}
 use Rattle.strand_contract.specs.ClientOnly.{HasClientOnly}
 use Rattle.strand_contract.specs.ClientOnlyLaws.{client-only, never, clash}
 use Rattle.strand.specs.Literal.{literal_behavior}
@@ -43,6 +44,7 @@ record Fine {J : Type 0} (body : List ℕ) (ms : List (GlobalAction J)) : Type 0
   alone : (s : StrandId) → IsExecution (literal_behavior body) (projection s ms)
   begins : BeginsRight ms
   plain : IsPlain (literal_behavior body) ms
+  turns : TurnsInOrder (literal_behavior body) ms
   told : AreToldEntries (external (literal_behavior body) ms)
 
 unlike : {C : Type 0} → false ≡ true → C
@@ -73,6 +75,10 @@ drop-fit : (s : StrandId) → IsNumbered s → IsFit (entry.Dropped s)
 drop-fit (strand.Conn c) known = (tt, known)
 drop-fit (strand.Job n) known = absurd known
 
+and-not : (c rest : Bool) → rest ≡ false → not c && rest ≡ false
+and-not true rest off = refl
+and-not false rest off = off
+
 module _ {J : Type 0} where
   tail-execution : (b : Behavior J) (c : Bool) (a : LocalAction J) (es : List (LocalAction J)) → IsExecution b (if c then a ∷ es else es) → IsExecution b es
   tail-execution b true a es f = f.0
@@ -93,57 +99,83 @@ module _ {J : Type 0} where
 
   plain-tail : (b : Behavior J) (m : GlobalAction J) (ms : List (GlobalAction J)) → IsPlain b (m ∷ ms) → IsPlain b ms
   plain-tail b (Of s (Began now (start.Client c)) n) ms f = f.0
-  plain-tail b (Of s (Asked zone call answer) n) ms f = absurd f
-  plain-tail b (Of s (Took key uses) n) ms f = absurd f
-  plain-tail b (Of s (Dialled host port done) n) ms f = absurd f
-  plain-tail b (Of s (Kept k key idle size) n) ms f = absurd f
-  plain-tail b (Of s (Timed at answer) n) ms f = absurd f
+  plain-tail b (Of s (Dict zone call answer) n) ms f = absurd f
+  plain-tail b (Of s (Take key uses) n) ms f = absurd f
+  plain-tail b (Of s (Dial host port done) n) ms f = absurd f
+  plain-tail b (Of s (Keep k key idle size) n) ms f = absurd f
+  plain-tail b (Of s (Timer at answer) n) ms f = absurd f
   plain-tail b (TurnedAway c) ms f = f.0
   plain-tail b (IdleGave e) ms f = absurd f
   plain-tail b (IdleClosed n) ms f = absurd f
   plain-tail b m ms f = f
+
+  turns-tail : (b : Behavior J) (m : GlobalAction J) (ms : List (GlobalAction J)) → TurnsInOrder b (m ∷ ms) → TurnsInOrder b ms
+  turns-tail b (Of s (Run k) n) ms t = t.0
+  turns-tail b (Of s (Offer q) n) ms t = t.0
+  turns-tail b (Of s (Due k) n) ms t = t.0
+  turns-tail b (Of s Halted n) ms t = t.0
+  turns-tail b (Of s Dropped n) ms t = t.0
+  turns-tail b m ms t = t
+
+  -- a strand to which nothing happened had no part in what the last event began
+  not-touched : (c : Bool) (a : LocalAction J) (es : List (LocalAction J)) (rest : Bool) → (if c then a ∷ es else es) ≡ [] → (es ≡ [] → rest ≡ false) → c || rest ≡ false
+  not-touched true a es rest none more = absurd (let no : a ∷ es ≡ [] = none in cc)
+  not-touched false a es rest none more = more none
+
+  untouched : (s : StrandId) (ms : List (GlobalAction J)) → projection s ms ≡ [] → was_touched s ms ≡ false
+  untouched s [] none = refl
+  untouched s (Of t x n ∷ ms) none = not-touched (same_strand s t) (Did x) (projection s ms) (not (is_given x) && was_touched s ms) none (λ before. and-not (is_given x) (was_touched s ms) (untouched s ms before))
+  untouched s (Everyone w ∷ ms) none = refl
+  untouched s (TurnedAway c ∷ ms) none = refl
+  untouched s (IdleGave e ∷ ms) none = refl
+  untouched s (IdleClosed n ∷ ms) none = untouched s ms none
+
+  -- so it isn't dropped
+  never-dropped : {C : Type 0} (body : List ℕ) (s : StrandId) (n : Option ℕ) (ms : List (GlobalAction J)) → Fine body (Of s Dropped n ∷ ms) → projection s ms ≡ [] → C
+  never-dropped body s n ms f none = clash (was_touched s ms) f.turns.2 (untouched s ms none)
 
   fine-tail : (body : List ℕ) (m : GlobalAction J) (ms : List (GlobalAction J)) → Fine body (m ∷ ms) → Fine body ms
   fine-tail body m ms f = record {
     alone = λ s. alone-tail (literal_behavior body) m ms s (f.alone s);
     begins = begins-tail m ms f.begins;
     plain = plain-tail (literal_behavior body) m ms f.plain;
+    turns = turns-tail (literal_behavior body) m ms f.turns;
     told = older (entries_of (literal_behavior body) m ms) (external (literal_behavior body) ms) f.told;
   }
 
-  no-job : {C : Type 0} (s : StrandId) (n : ℕ) (job : J) → IsStartOf s (start.Job n job) → C
-  no-job (strand.Conn k) n job same = absurd same
-  no-job (strand.Job k) n job same = absurd same
+  no-job : {C : Type 0} (s : StrandId) (n : ℕ) (premature : Bool) (job : J) → IsStartOf s (start.Job n premature job) → C
+  no-job (strand.Conn k) n premature job same = absurd same
+  no-job (strand.Job k) n premature job same = absurd same
 
   -- the first action of a strand is its beginning, which is an arrival
-  first-numbered : (body : List ℕ) (s : StrandId) (x : Action J) (n : Option ℕ) (ms : List (GlobalAction J)) → Fine body (Of s x n ∷ ms) → Enabled (literal_behavior body) [] (Did x) → IsNumbered s
-  first-numbered body s (Began now (start.Client c)) n ms f e = begun-numbered J s c f.begins.1 f.told.0.1
-  first-numbered body s (Began now (start.Job k job)) n ms f e = no-job s k job f.begins.1
-  first-numbered body s (Came q bytes) n ms f e = unlike e.0.living
-  first-numbered body s (Ended q) n ms f e = unlike e.living
-  first-numbered body s (Broke q) n ms f e = unlike e.living
-  first-numbered body s (TakesAgain q) n ms f e = unlike e.living
-  first-numbered body s (Connected k) n ms f e = unlike e.living
-  first-numbered body s (Refused k) n ms f e = unlike e.living
-  first-numbered body s (Put q bytes) n ms f e = unlike e.0.living
-  first-numbered body s (Later q) n ms f e = unlike e.living
-  first-numbered body s (Lost q) n ms f e = unlike e.living
-  first-numbered body s (Closed q) n ms f e = elim e [
+  first-numbered : (body : List ℕ) (s : StrandId) (x : Action J) (n : Option ℕ) (ms : List (GlobalAction J)) → Fine body (Of s x n ∷ ms) → projection s ms ≡ [] → Enabled (literal_behavior body) [] (Did x) → IsNumbered s
+  first-numbered body s Dropped n ms f none e = never-dropped body s n ms f none
+  first-numbered body s (Began now (start.Client c)) n ms f none e = begun-numbered J s c f.begins.1 f.told.0.1
+  first-numbered body s (Began now (start.Job k premature job)) n ms f none e = no-job s k premature job f.begins.1
+  first-numbered body s (Bytes q bytes) n ms f none e = unlike e.0.living
+  first-numbered body s (Ended q) n ms f none e = unlike e.living
+  first-numbered body s (Broken q) n ms f none e = unlike e.living
+  first-numbered body s (Ready q) n ms f none e = unlike e.living
+  first-numbered body s (Dialled k) n ms f none e = unlike e.living
+  first-numbered body s (Refused k) n ms f none e = unlike e.living
+  first-numbered body s (Put q bytes) n ms f none e = unlike e.0.living
+  first-numbered body s (Later q) n ms f none e = unlike e.living
+  first-numbered body s (Lost q) n ms f none e = unlike e.living
+  first-numbered body s (Close q) n ms f none e = elim e [
     | inl next ↦ unlike next.1
-    | inr first ↦ unlike first.dropped
+    | inr first ↦ unlike first.0
   ]
-  first-numbered body s (Logged text done) n ms f e = no-act _ e.0 e.1
-  first-numbered body s (Asked zone call answer) n ms f e = absurd f.plain
-  first-numbered body s (Took key uses) n ms f e = absurd f.plain
-  first-numbered body s (Dialled host port done) n ms f e = absurd f.plain
-  first-numbered body s (Kept k key idle size) n ms f e = absurd f.plain
-  first-numbered body s (Timed at answer) n ms f e = absurd f.plain
-  first-numbered body s Dropped n ms f e = unlike e
-  first-numbered body s (Ran k) n ms f e = unlike e.0.living
-  first-numbered body s (Offered q) n ms f e = unlike e.0.living
-  first-numbered body s (Due k) n ms f e = unlike e.0.living
-  first-numbered body s Halted n ms f e = unlike e.0.living
-  first-numbered body s Gone n ms f e = no-act _ [] e
+  first-numbered body s (Log text done) n ms f none e = no-act _ e.0 e.1
+  first-numbered body s (Dict zone call answer) n ms f none e = absurd f.plain
+  first-numbered body s (Take key uses) n ms f none e = absurd f.plain
+  first-numbered body s (Dial host port done) n ms f none e = absurd f.plain
+  first-numbered body s (Keep k key idle size) n ms f none e = absurd f.plain
+  first-numbered body s (Timer at answer) n ms f none e = absurd f.plain
+  first-numbered body s (Run k) n ms f none e = unlike e.0.living
+  first-numbered body s (Offer q) n ms f none e = unlike e.0.living
+  first-numbered body s (Due k) n ms f none e = unlike e.0.living
+  first-numbered body s Halted n ms f none e = unlike e.0.living
+  first-numbered body s Gone n ms f none e = no-act _ [] e
 
   -- a strand to which something happened is numbered
   numbered : (body : List ℕ) (s : StrandId) (ms : List (GlobalAction J)) → Fine body ms → (projection s ms ≡ []) ⊎ IsNumbered s
@@ -152,7 +184,7 @@ module _ {J : Type 0} where
     | inr known ↦ inr known
     | inl none ↦ by_test (same_strand s t)
         (λ same. inr (subst IsNumbered (sym (same_strand-eq s t same))
-        (first-numbered body t x n ms f (subst (λ es. Enabled (literal_behavior body) es (Did x)) none
+        (first-numbered body t x n ms f (subst (λ (u : StrandId). projection u ms ≡ []) (same_strand-eq s t same) none) (subst (λ es. Enabled (literal_behavior body) es (Did x)) none
         (head-enabled (literal_behavior body) (same_strand s t) (Did x) (projection s ms) same (f.alone s))))))
         (λ other. inl (ap (λ c. if c then Did x ∷ projection s ms else projection s ms) other ∙ none))
   ]
@@ -210,29 +242,32 @@ module _ {J : Type 0} where
   entry-fit : (body : List ℕ) (s : StrandId) (x : Action J) (n : Option ℕ) (ms : List (GlobalAction J)) → Fine body (Of s x n ∷ ms) → Fine body ms → Enabled (literal_behavior body) (projection s ms) (Did x)
       → All IsFit (entry_of (literal_behavior body) s x n ms)
   entry-fit body s (Began now (start.Client c)) n ms f g e = one (entry.Given (event.Arrive c)) f.told.0
-  entry-fit body s (Began now (start.Job k job)) n ms f g e = no-job s k job f.begins.1
-  entry-fit body s (Came q bytes) n ms f g e = one (entry.Given (event.Bytes (id_at s q ms) bytes)) f.told.0
+  entry-fit body s (Began now (start.Job k premature job)) n ms f g e = no-job s k premature job f.begins.1
+  entry-fit body s (Bytes q bytes) n ms f g e = one (entry.Given (event.Bytes (id_at s q ms) bytes)) f.told.0
   entry-fit body s (Ended q) n ms f g e = one (entry.Given (event.Ended (id_at s q ms))) f.told.0
-  entry-fit body s (Broke q) n ms f g e = one (entry.Given (event.Broken (id_at s q ms))) f.told.0
-  entry-fit body s (TakesAgain q) n ms f g e = one (entry.Given (event.Ready (id_at s q ms))) f.told.0
-  entry-fit body s (Connected k) n ms f g e = absurd f.told.0.0
+  entry-fit body s (Broken q) n ms f g e = one (entry.Given (event.Broken (id_at s q ms))) f.told.0
+  entry-fit body s (Ready q) n ms f g e = one (entry.Given (event.Ready (id_at s q ms))) f.told.0
+  entry-fit body s (Dialled k) n ms f g e = absurd f.told.0.0
   entry-fit body s (Refused k) n ms f g e = absurd f.told.0.0
   entry-fit body s (Put q bytes) n ms f g e =
       one (entry.Put (id_at s q ms) bytes) (put-fit s q bytes ms (living-numbered body s ms g e.0.living) (offered-client body (projection s ms) q (g.alone s) e.0.offered) f.told.0)
   entry-fit body s (Later q) n ms f g e = absurd f.told.0
   entry-fit body s (Lost q) n ms f g e = absurd f.told.0
-  entry-fit body s (Closed q) n ms f g e =
-      let opened : is_open q (projection s ms) ≡ true = elim e [ inl next ↦ next.1 | inr first ↦ first.opened ] in
+  entry-fit body s (Close q) n ms f g e =
+      let opened : is_open q (projection s ms) ≡ true = elim e [ inl next ↦ next.1 | inr first ↦ first-open q first.1.0 (projection s ms) first.1.1 ] in
       one (entry.Close (id_at s q ms)) (close-fit s q ms (open-numbered body s q ms g opened) (open-client body (projection s ms) q (g.alone s) opened))
-  entry-fit body s (Logged text done) n ms f g e = never (todo (literal_behavior body) (projection s ms)) _ (own body (projection s ms) (g.alone s)).to_do e.1 (λ none. absurd none)
-  entry-fit body s (Asked zone call answer) n ms f g e = absurd f.plain
-  entry-fit body s (Took key uses) n ms f g e = absurd f.plain
-  entry-fit body s (Dialled host port done) n ms f g e = absurd f.plain
-  entry-fit body s (Kept k key idle size) n ms f g e = absurd f.plain
-  entry-fit body s (Timed at answer) n ms f g e = absurd f.plain
-  entry-fit body s Dropped n ms f g e = one (entry.Dropped s) (drop-fit s (living-numbered body s ms g e))
-  entry-fit body s (Ran k) n ms f g e = All-nil IsFit
-  entry-fit body s (Offered q) n ms f g e = All-nil IsFit
+  entry-fit body s (Log text done) n ms f g e = never (todo (literal_behavior body) (projection s ms)) _ (own body (projection s ms) (g.alone s)).to_do e.1 (λ none. absurd none)
+  entry-fit body s (Dict zone call answer) n ms f g e = absurd f.plain
+  entry-fit body s (Take key uses) n ms f g e = absurd f.plain
+  entry-fit body s (Dial host port done) n ms f g e = absurd f.plain
+  entry-fit body s (Keep k key idle size) n ms f g e = absurd f.plain
+  entry-fit body s (Timer at answer) n ms f g e = absurd f.plain
+  entry-fit body s Dropped n ms f g e = one (entry.Dropped s) (drop-fit s (elim e [
+    | inl alive ↦ living-numbered body s ms g alive
+    | inr none ↦ never-dropped body s n ms f none
+  ]))
+  entry-fit body s (Run k) n ms f g e = All-nil IsFit
+  entry-fit body s (Offer q) n ms f g e = All-nil IsFit
   entry-fit body s (Due k) n ms f g e = All-nil IsFit
   entry-fit body s Halted n ms f g e = All-nil IsFit
   entry-fit body s Gone n ms f g e = All-nil IsFit
@@ -255,11 +290,12 @@ module _ {J : Type 0} where
       All-append IsFit (entries_of (literal_behavior body) m ms) (external (literal_behavior body) ms) (entries-fit body m ms f before) (all-fit body ms before)
 
   -- the history of an execution of a literal site that tells the lines of a schedule
-  pub history-fit : (body : List ℕ) (lines : List SchedLine) (h : List Entry) (offered : List ℕ) (ms : List (GlobalAction J)) → IsServed lines → IsTold lines h offered
-      → h ≡ external (literal_behavior body) ms → ((s : StrandId) → IsExecution (literal_behavior body) (projection s ms)) → BeginsRight ms → IsPlain (literal_behavior body) ms → All IsBuilt h × IsHistory h
-  history-fit body lines h offered ms whole told is alone begins plain = split h (subst (All IsFit) (sym is) (all-fit body ms (record {
+  pub history-fit : (body : List ℕ) (lines : List SchedLine) (h : List Entry) (offered : List ℕ) (ms : List (GlobalAction J)) → AreEventLines lines → IsTold lines h offered
+      → h ≡ external (literal_behavior body) ms → ((s : StrandId) → IsExecution (literal_behavior body) (projection s ms)) → BeginsRight ms → IsPlain (literal_behavior body) ms → TurnsInOrder (literal_behavior body) ms → All IsBuilt h × IsHistory h
+  history-fit body lines h offered ms whole told is alone begins plain turns = split h (subst (All IsFit) (sym is) (all-fit body ms (record {
     alone = alone;
     begins = begins;
     plain = plain;
-    told = subst AreToldEntries (told.steps_history ∙ is) (entries-told (lines ++ told.after) told.steps (subst AreEventLines (sym told.steps_lines) (served-events lines whole)) told.steps_right);
+    turns = turns;
+    told = subst AreToldEntries (told.steps_history ∙ is) (entries-told (lines ++ told.after) told.steps (subst AreEventLines (sym told.steps_lines) whole) told.steps_right);
   })))

@@ -1,5 +1,5 @@
 pub mod AskingLemmas
-pub mod Five
+pub mod Commands
 pub mod Names
 pub mod Lines
 pub mod Story
@@ -7,5 +7,6 @@ pub mod Built
 pub mod Served
 pub mod Due
 pub mod Working
+pub mod Listening
 pub mod ByWords
 pub mod OneStatus

@@ -12,8 +12,11 @@ use Rattle.resty.specs.declared.endings.Status.TheVariants as status
 use Rattle.resty.specs.Ending.{status_of}
 use Rattle.resty.specs.Ends.{AreOfOneStatus}
 use Rattle.resty.specs.Form.{IsServed, IsUnserved}
-use Rattle.resty.specs.Verdict.{Verdict, Usage, Missing, TooLong, NotBuilt, BadLine, Runs, Holds, HasSite, IsTooLong, IsOfFiles, IsVerdict, ending_of, most_of}
-use Rattle.resty.specs.Words.{Names, IsForm}
+use Rattle.resty.specs.Verdict.{Verdict, Usage, Missing, TooLong, NotBuilt, BadLine, Runs, Serves, Holds, HasSite, IsTooLong, IsOf, IsVerdict, ending_of, most_of}
+use Rattle.resty.specs.declared.command_line.Mode.{Mode}
+use Rattle.resty.specs.declared.command_line.Mode.TheVariants as mode
+use Rattle.resty.specs.Words.{Command, Says, IsForm}
+use Rattle.resty.proofs.Commands.{same_command}
 
 -- what a file is: missing, too long, refused, or accepted
 pub data Kind : Type 0 where
@@ -121,37 +124,36 @@ schedule_kind v = accepted_
 site_kind : (held : FileMap) (conf body : List ℕ) → HasSite held conf body → ConfKind held conf accepted_
 site_kind held conf body site = (site.text, site.holds, (body, site.accepted))
 
-conf_is : (conf schedule : List ℕ) (held : FileMap) (v : Verdict) → IsOfFiles conf schedule held v → ConfKind held conf (conf_kind v)
-conf_is conf schedule held Usage of = absurd of
-conf_is conf schedule held (Missing named.Conf) of = of
-conf_is conf schedule held (TooLong named.Conf) of = of
-conf_is conf schedule held (NotBuilt named.Conf n) of = (of.0, of.1, (n, of.2))
-conf_is conf schedule held (Missing named.Schedule) of = site_kind held conf of.0 of.1
-conf_is conf schedule held (TooLong named.Schedule) of = site_kind held conf of.0 of.1
-conf_is conf schedule held (NotBuilt named.Schedule n) of = site_kind held conf of.0 of.2
-conf_is conf schedule held (BadLine n) of = site_kind held conf of.0 of.2
-conf_is conf schedule held (Runs body lines) of = site_kind held conf body of.0
+conf_is : (c : Command) (held : FileMap) (v : Verdict) → IsOf c held v → ConfKind held c.conf (conf_kind v)
+conf_is c held Usage of = absurd of
+conf_is c held (Missing named.Conf) of = of
+conf_is c held (TooLong named.Conf) of = of
+conf_is c held (NotBuilt named.Conf n) of = (of.0, of.1, (n, of.2))
+conf_is c held (Missing named.Schedule) of = site_kind held c.conf of.1 of.2
+conf_is c held (TooLong named.Schedule) of = site_kind held c.conf of.1 of.2
+conf_is c held (NotBuilt named.Schedule n) of = site_kind held c.conf of.1 of.3
+conf_is c held (BadLine n) of = site_kind held c.conf of.1 of.3
+conf_is c held (Runs body lines) of = site_kind held c.conf body of.1
+conf_is c held (Serves body) of = site_kind held c.conf body of.1
 
-wrong_kind : {C : Type 0} (k : Kind) → k ≡ accepted_ → (k ≡ missing) ⊎ (k ≡ too_long) ⊎ (k ≡ refused) → C
-wrong_kind k here there = elim there [
-  | inl m ↦ absurd (let no : missing ≡ accepted_ = sym m ∙ here in cc)
-  | inr rest ↦ elim rest [
-    | inl t ↦ absurd (let no : too_long ≡ accepted_ = sym t ∙ here in cc)
-    | inr r ↦ absurd (let no : refused ≡ accepted_ = sym r ∙ here in cc)
-  ]
-]
+-- where the configuration is a site's, the schedule is of some kind, or none is read
+abbrev IsAfterSite : Command → FileMap → Kind → Type 0
+IsAfterSite c held k = ((c.mode ≡ mode.Replay) × ScheduleKind held c.schedule k) ⊎ ((c.mode ≡ mode.Serve) × (k ≡ accepted_))
 
-schedule_is : (conf schedule : List ℕ) (held : FileMap) (v : Verdict) → IsOfFiles conf schedule held v → conf_kind v ≡ accepted_
-    → ScheduleKind held schedule (schedule_kind v)
-schedule_is conf schedule held Usage of here = absurd of
-schedule_is conf schedule held (Missing named.Conf) of here = wrong_kind missing here (inl refl)
-schedule_is conf schedule held (TooLong named.Conf) of here = wrong_kind too_long here (inr (inl refl))
-schedule_is conf schedule held (NotBuilt named.Conf n) of here = wrong_kind refused here (inr (inr refl))
-schedule_is conf schedule held (Missing named.Schedule) of here = of.2
-schedule_is conf schedule held (TooLong named.Schedule) of here = of.2
-schedule_is conf schedule held (NotBuilt named.Schedule n) of here = (of.1, of.3, (n, inr of.4))
-schedule_is conf schedule held (BadLine n) of here = (of.1, of.3, (n, inl of.4))
-schedule_is conf schedule held (Runs body lines) of here = (of.1.text, of.1.holds, (lines, of.1.accepted, of.1.served))
+schedule_is : (c : Command) (held : FileMap) (v : Verdict) → IsOf c held v → conf_kind v ≡ accepted_ → IsAfterSite c held (schedule_kind v)
+schedule_is c held Usage of here = absurd of
+schedule_is c held (Missing named.Conf) of here = absurd (let no : missing ≡ accepted_ = here in cc)
+schedule_is c held (TooLong named.Conf) of here = absurd (let no : too_long ≡ accepted_ = here in cc)
+schedule_is c held (NotBuilt named.Conf n) of here = absurd (let no : refused ≡ accepted_ = here in cc)
+schedule_is c held (Missing named.Schedule) of here = inl (of.0, of.3)
+schedule_is c held (TooLong named.Schedule) of here = inl (of.0, of.3)
+schedule_is c held (NotBuilt named.Schedule n) of here = inl (of.0, (of.2, of.4, (n, inr of.5)))
+schedule_is c held (BadLine n) of here = inl (of.0, (of.2, of.4, (n, inl of.5)))
+schedule_is c held (Runs body lines) of here = inl (of.0, (of.2.text, of.2.holds, (lines, of.2.accepted, of.2.served)))
+schedule_is c held (Serves body) of here = inr (of.0, refl)
+
+one_mode : {C : Type 0} (m : Mode) → m ≡ mode.Replay → m ≡ mode.Serve → C
+one_mode m r s = absurd (let no : mode.Replay ≡ mode.Serve = sym r ∙ s in cc)
 
 -- the status by the two kinds
 abbrev kinds_status : Kind → Kind → Status
@@ -163,17 +165,17 @@ kinds_status accepted_ too_long = status.ReadFault
 kinds_status accepted_ refused = status.Schedule
 kinds_status accepted_ accepted_ = status.Done
 
-status_by : (conf schedule : List ℕ) (held : FileMap) (v : Verdict) → IsOfFiles conf schedule held v
-    → status_of (ending_of v) ≡ kinds_status (conf_kind v) (schedule_kind v)
-status_by conf schedule held Usage of = absurd of
-status_by conf schedule held (Missing named.Conf) of = refl
-status_by conf schedule held (TooLong named.Conf) of = refl
-status_by conf schedule held (NotBuilt named.Conf n) of = refl
-status_by conf schedule held (Missing named.Schedule) of = refl
-status_by conf schedule held (TooLong named.Schedule) of = refl
-status_by conf schedule held (NotBuilt named.Schedule n) of = refl
-status_by conf schedule held (BadLine n) of = refl
-status_by conf schedule held (Runs body lines) of = refl
+status_by : (c : Command) (held : FileMap) (v : Verdict) → IsOf c held v → status_of (ending_of v) ≡ kinds_status (conf_kind v) (schedule_kind v)
+status_by c held Usage of = absurd of
+status_by c held (Missing named.Conf) of = refl
+status_by c held (TooLong named.Conf) of = refl
+status_by c held (NotBuilt named.Conf n) of = refl
+status_by c held (Missing named.Schedule) of = refl
+status_by c held (TooLong named.Schedule) of = refl
+status_by c held (NotBuilt named.Schedule n) of = refl
+status_by c held (BadLine n) of = refl
+status_by c held (Runs body lines) of = refl
+status_by c held (Serves body) of = refl
 
 same_status : (k l a b : Kind) → k ≡ l → (k ≡ accepted_ → a ≡ b) → kinds_status k a ≡ kinds_status l b
 same_status missing l a b same second = rw (← same) refl
@@ -182,35 +184,35 @@ same_status refused l a b same second = rw (← same) refl
 same_status accepted_ l a b same second = rw (← same, second refl) refl
 
 module _ (no-fault : SitesHaveNoFault) (never-refused : SchedulesAreRead) (schedule-alone : SchedulesAreKnown) where
-  files_status : (conf schedule : List ℕ) (held : FileMap) (v w : Verdict) → IsOfFiles conf schedule held v → IsOfFiles conf schedule held w
-      → status_of (ending_of v) ≡ status_of (ending_of w)
-  files_status conf schedule held v w p q =
-      let confs = one_kind IsBadSite IsGoodSite (sites_apart no-fault) held conf (most_of named.Conf) (conf_kind v) (conf_kind w)
-      (conf_is conf schedule held v p) (conf_is conf schedule held w q) in
-      status_by conf schedule held v p
+  schedules_same : (c : Command) (held : FileMap) (k l : Kind) → IsAfterSite c held k → IsAfterSite c held l → k ≡ l
+  schedules_same c held k l p q = elim p [
+    | inl replay ↦ elim q [
+      | inl too ↦ one_kind IsBadSchedule IsGoodSchedule (schedules_apart never-refused schedule-alone) held c.schedule (most_of named.Schedule) k l replay.1 too.1
+      | inr serve ↦ one_mode c.mode replay.0 serve.0
+    ]
+    | inr serve ↦ elim q [
+      | inl replay ↦ one_mode c.mode replay.0 serve.0
+      | inr too ↦ serve.1 ∙ sym too.1
+    ]
+  ]
+
+  command_status : (c : Command) (held : FileMap) (v w : Verdict) → IsOf c held v → IsOf c held w → status_of (ending_of v) ≡ status_of (ending_of w)
+  command_status c held v w p q =
+      let confs = one_kind IsBadSite IsGoodSite (sites_apart no-fault) held c.conf (most_of named.Conf) (conf_kind v) (conf_kind w) (conf_is c held v p) (conf_is c held w q) in
+      status_by c held v p
       ∙ same_status (conf_kind v) (conf_kind w) (schedule_kind v) (schedule_kind w) confs
-      (λ here. one_kind IsBadSchedule IsGoodSchedule (schedules_apart never-refused schedule-alone) held schedule (most_of named.Schedule) (schedule_kind v) (schedule_kind w)
-      (schedule_is conf schedule held v p here) (schedule_is conf schedule held w q (sym confs ∙ here)))
-      ∙ sym (status_by conf schedule held w q)
+      (λ here. schedules_same c held (schedule_kind v) (schedule_kind w) (schedule_is c held v p here) (schedule_is c held w q (sym confs ∙ here)))
+      ∙ sym (status_by c held w q)
 
-  -- words are of one form
-  same_names : (words : List (List ℕ)) (a b c d : List ℕ) → Names words a b → Names words c d → (a ≡ c) × (b ≡ d)
-  same_names words a b c d p q = let both = sym p.form ∙ q.form in (cc, cc)
-
-  form_status : (words : List (List ℕ)) (held : FileMap) (v w : Verdict)
-      → (conf schedule : List ℕ) × Names words conf schedule × IsOfFiles conf schedule held v
-      → (conf schedule : List ℕ) × Names words conf schedule × IsOfFiles conf schedule held w
+  form_status : (words : List (List ℕ)) (held : FileMap) (v w : Verdict) → (c : Command) × Says words c × IsOf c held v → (c : Command) × Says words c × IsOf c held w
       → status_of (ending_of v) ≡ status_of (ending_of w)
-  form_status words held v w p q =
-      let same = same_names words p.0 p.1 q.0 q.1 p.2 q.2 in
-      files_status q.0 q.1 held v w
-      (subst (λ (x : List ℕ). IsOfFiles x q.1 held v) same.0 (subst (λ (y : List ℕ). IsOfFiles p.0 y held v) same.1 p.3)) q.3
+  form_status words held v w p q = command_status p.0 held v w p.2 (subst (λ (c : Command). IsOf c held w) (same_command words q.0 p.0 q.1 p.1) q.2)
 
   -- a verdict of words that are a form
-  has_form : (words : List (List ℕ)) (held : FileMap) (v : Verdict) → (conf schedule : List ℕ) × Names words conf schedule × IsOfFiles conf schedule held v → IsForm words
-  has_form words held v p = (p.0, p.1, p.2)
+  has_form : (words : List (List ℕ)) (held : FileMap) (v : Verdict) → (c : Command) × Says words c × IsOf c held v → IsForm words
+  has_form words held v p = (p.0, p.1)
 
-  after_form : (words : List (List ℕ)) (held : FileMap) (v w : Verdict) → (conf schedule : List ℕ) × Names words conf schedule × IsOfFiles conf schedule held v
+  after_form : (words : List (List ℕ)) (held : FileMap) (v w : Verdict) → (c : Command) × Says words c × IsOf c held v
       → IsVerdict words held w → status_of (ending_of v) ≡ status_of (ending_of w)
   after_form words held v Usage p q = absurd (q (has_form words held v p))
   after_form words held v (Missing x) p q = form_status words held v (Missing x) p q
@@ -218,6 +220,7 @@ module _ (no-fault : SitesHaveNoFault) (never-refused : SchedulesAreRead) (sched
   after_form words held v (NotBuilt x n) p q = form_status words held v (NotBuilt x n) p q
   after_form words held v (BadLine n) p q = form_status words held v (BadLine n) p q
   after_form words held v (Runs body lines) p q = form_status words held v (Runs body lines) p q
+  after_form words held v (Serves body) p q = form_status words held v (Serves body) p q
 
   pub one_status : AreOfOneStatus
   one_status words held Usage Usage p q = refl
@@ -226,8 +229,10 @@ module _ (no-fault : SitesHaveNoFault) (never-refused : SchedulesAreRead) (sched
   one_status words held Usage (NotBuilt x n) p q = absurd (p (has_form words held (NotBuilt x n) q))
   one_status words held Usage (BadLine n) p q = absurd (p (has_form words held (BadLine n) q))
   one_status words held Usage (Runs body lines) p q = absurd (p (has_form words held (Runs body lines) q))
+  one_status words held Usage (Serves body) p q = absurd (p (has_form words held (Serves body) q))
   one_status words held (Missing x) w p q = after_form words held (Missing x) w p q
   one_status words held (TooLong x) w p q = after_form words held (TooLong x) w p q
   one_status words held (NotBuilt x n) w p q = after_form words held (NotBuilt x n) w p q
   one_status words held (BadLine n) w p q = after_form words held (BadLine n) w p q
   one_status words held (Runs body lines) w p q = after_form words held (Runs body lines) w p q
+  one_status words held (Serves body) w p q = after_form words held (Serves body) w p q

@@ -15,7 +15,7 @@ use Rattle.strand_contract.specs.Executions.{offered_lengths}
 use Rattle.strand.specs.Literal.{literal_behavior}
 use Rattle.engine.specs.Right.{events_of, IsStopped, IsSpent, IsFaulted, IsRight}
 use Rattle.resty.specs.Form.{IsServed}
-use Rattle.resty.specs.Run.{IsRun}
+use Rattle.resty.specs.Run.{IsRun, IsWhole, IsCutShort}
 use Rattle.resty.proofs.Built.{history-fit}
 use Rattle.resty.proofs.Story.{AreEventLines, served-events, first-events, entries-told, no-failed-log, no-fault, no-failing-first, few-events, never-absent, stopped-newest}
 
@@ -30,16 +30,15 @@ tells lines old world fresh stands later = record {
   stands = later.stands stands;
 }
 
--- fewer events are given than there may be
-pub never_spent : (lines : List SchedLine) (world : Replay) → Tells lines world → length lines ≤ 67_108_864
-    → IsSpent 900_000_000_000_000_000 world.history.entries → ⊥
-never_spent lines world tells few spent =
+-- no more events are given than there are lines
+pub never_more : (lines : List SchedLine) (world : Replay) (events : ℕ) → Tells lines world → IsSpent events world.history.entries → events ≤ length lines
+never_more lines world events tells spent =
     let s = tells.stands in
     let most = few-events world.course s.steps s.right in
     let same = ap (λ h. length (events_of h)) s.history in
     let passed = ap length s.passed in
     let bound = ap length tells.course in
-    absurd (omega (arith, most, same, passed, bound, few, spent.count, length-take-le world.passed world.course, world.passed_lines))
+    omega (arith, most, same, passed, bound, spent.count, length-take-le world.passed world.course, world.passed_lines)
 
 -- the events of the lines that were passed
 events-passed : (lines : List SchedLine) (world : Replay) → Tells lines world → IsServed lines → (s : Stands world) → AreEventLines (take world.passed world.course)
@@ -75,12 +74,12 @@ abbrev AllPassed : Type 0
 AllPassed = (lines : List SchedLine) (passed : ℕ) (history : List Entry) (offered : List ℕ) → IsSchedule lines → IsTold (take passed lines) history offered
     → newest_given history ≡ Some event.Stop → take passed lines ≡ lines
 
--- where Stop was given, the history is that of a run of all the lines
-pub runs : {J : Type 0} → AllPassed → (body : List ℕ) (lines : List SchedLine) (world : Replay) → Tells lines world → IsServed lines
-    → IsStopped world.history.entries → IsRight {J = J} (literal_behavior body) (book_of world) → IsRun {J = J} (literal_behavior body) lines world.history.entries
-runs all-passed body lines world tells served stopped right =
+-- the history is that of a run of the lines that were passed
+pub passed_run : {J : Type 0} → (body : List ℕ) (lines : List SchedLine) (world : Replay) → Tells lines world → IsServed lines
+    → IsRight {J = J} (literal_behavior body) (book_of world) → IsRun {J = J} (literal_behavior body) (take world.passed lines) world.history.entries
+passed_run body lines world tells served right =
     let s = tells.stands in
-    let first : IsTold (take world.passed lines) world.history.entries (offered_lengths (literal_behavior body) right.execution) = record {
+    let told : IsTold (take world.passed lines) world.history.entries (offered_lengths (literal_behavior body) right.execution) = record {
       steps = s.steps;
       after = drop world.passed lines;
       steps_right = rw (take-append-drop world.passed lines, ← tells.course) s.right;
@@ -88,10 +87,8 @@ runs all-passed body lines world tells served stopped right =
       steps_history = s.history;
       steps_offers = s.offered ∙ right.offered;
     } in
-    let all = all-passed lines world.passed world.history.entries (offered_lengths (literal_behavior body) right.execution) served.made first (stopped-newest world.history.entries stopped) in
-    let told : IsTold lines world.history.entries (offered_lengths (literal_behavior body) right.execution) =
-    subst (λ ls. IsTold ls world.history.entries (offered_lengths (literal_behavior body) right.execution)) all first in
-    let fit = history-fit body lines world.history.entries (offered_lengths (literal_behavior body) right.execution) right.execution served told right.history right.lawful.alone right.lawful.begins right.plain in
+    let events : AreEventLines (take world.passed lines) = rw (← tells.course) (events-passed lines world tells served s) in
+    let fit = history-fit body (take world.passed lines) world.history.entries (offered_lengths (literal_behavior body) right.execution) right.execution events told right.history right.lawful.alone right.lawful.begins right.plain right.ordered.turns in
     record {
       execution = right.execution;
       history = right.history;
@@ -100,7 +97,21 @@ runs all-passed body lines world tells served stopped right =
       kept = right.kept;
       plain = right.plain;
       ordered = right.ordered;
-      stopped = stopped;
       built = fit.0;
       ranged = fit.1;
     }
+
+-- where Stop was given, it is a run of all the lines
+pub whole_run : {J : Type 0} → AllPassed → (body : List ℕ) (lines : List SchedLine) (world : Replay) → Tells lines world → IsServed lines
+    → IsStopped world.history.entries → IsRight {J = J} (literal_behavior body) (book_of world) → IsWhole {J = J} (literal_behavior body) lines world.history.entries
+whole_run {J} all-passed body lines world tells served stopped right =
+    let run = passed_run {J = J} body lines world tells served right in
+    let all = all-passed lines world.passed world.history.entries _ served.made run.told (stopped-newest world.history.entries stopped) in
+    (subst (λ ls. IsRun {J = J} (literal_behavior body) ls world.history.entries) all run, stopped)
+
+-- where the events were spent, it is cut short
+pub cut_short : {J : Type 0} → (body : List ℕ) (lines : List SchedLine) (events : ℕ) (world : Replay) → Tells lines world → IsServed lines
+    → IsSpent events world.history.entries → IsRight {J = J} (literal_behavior body) (book_of world)
+    → IsCutShort {J = J} (literal_behavior body) events lines world.history.entries
+cut_short {J} body lines events world tells served spent right =
+    (world.passed, passed_run {J = J} body lines world tells served right, spent, never_more lines world events tells spent)

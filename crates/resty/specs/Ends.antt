@@ -1,24 +1,27 @@
 -- How the program ends.
-use Rattle.std.specs.Prelude.{◌≡◌, ◌⊎◌, ℕ, List, IfSome}
+use Rattle.std.specs.Prelude.{◌≡◌, ◌⊎◌, ℕ, List, codes, IfSome}
 use Rattle.resty_base.specs.Accounts.{Account}
 use Rattle.resty_base.specs.Counting.{Rose}
 use Rattle.resty_base.specs.FileMap.{FileMap, FileAccount}
 use Rattle.resty_base.specs.Taking.{Takes}
-use Rattle.resty_world.specs.declared.schedule_line.SchedLine.{SchedLine}
+use Rattle.resty_world.specs.Given.{IsBadLine}
 use Rattle.resty.specs.declared.endings.Named.{Named}
 use Rattle.resty.specs.declared.endings.Ending.{Ending}
+use Rattle.resty.specs.declared.endings.Ending.TheVariants as ending
 use Rattle.resty.specs.declared.endings.Status.{Status}
 use Rattle.resty.specs.declared.endings.Status.TheVariants as status
+use Rattle.resty.specs.Due.{IsDue}
 use Rattle.resty.specs.Ending.{status_of, line_of}
-use Rattle.resty.specs.Verdict.{Verdict, Runs, IsVerdict, IsDue, FailedAt, ending_of}
-use Rattle.resty.specs.Words.{name_in}
+use Rattle.resty.specs.Outside.{Outside}
+use Rattle.resty.specs.Saying.{name_of}
+use Rattle.resty.specs.Verdict.{Verdict, IsVerdict, FailedAt, ending_of}
+use Rattle.resty.specs.Words.{Command, Says, IsForm}
 
--- by an ending that is due; the status is its status, and the error output took its line
-pub record Ends (words : List (List ℕ)) (files files' : FileAccount) (out out' err err' : Account) (status : Status) : Type 0 where
-  pub ending : Ending
-  pub is_status : status ≡ status_of ending
-  pub due : IsDue (IsVerdict words) (name_in words) files files' out out' ending
-  pub line : Takes (line_of (name_in words) ending) err err'
+-- the words are no command; or they are one, and the work on it ended as is due. The error output took the line that says so.
+pub data Ends (words : List (List ℕ)) (old new : Outside) (err err' : Account) (s : Status) : Type 0 where
+  no_command : ¬ (IsForm words) → s ≡ status.Usage → Takes (codes "resty: usage: resty MODE [options]\n") err err' → Ends words old new err err' s
+  worked : (c : Command) (e : Ending) → Says words c → s ≡ status_of e → IsDue c old new e → Takes (line_of (name_of c) e) err err'
+      → Ends words old new err err' s
 
 -- all verdicts of the same words and files are of one status
 abbrev pub AreOfOneStatus : Type 0
@@ -27,22 +30,34 @@ AreOfOneStatus = (words : List (List ℕ)) (files : FileMap) (v w : Verdict) →
 
 -- reading one of the files that the words name failed
 abbrev pub FailedToRead : List (List ℕ) → FileAccount → FileAccount → Type 0
-FailedToRead words files files' = (which : Named) × FailedAt (name_in words which) files files'
+FailedToRead words files files' = (c : Command) × (which : Named) × Says words c × FailedAt (name_of c which) files files'
 
--- The status that a verdict brings: its own; but memory may run out, reading may fail, and so may the writing of a run.
-abbrev pub IsStatusBy : List (List ℕ) → FileAccount → FileAccount → Account → Account → Verdict → Status → Type 0
-IsStatusBy words files files' out out' v status.Memory = Unit {0}
-IsStatusBy words files files' out out' v status.ReadFault = (status_of (ending_of v) ≡ status.ReadFault) ⊎ FailedToRead words files files'
-IsStatusBy words files files' out out' v status.WriteFault = (status_of (ending_of v) ≡ status.Done) × Rose out.faults out'.faults
-IsStatusBy words files files' out out' v s = status_of (ending_of v) ≡ s
+-- a line of the world is bad
+abbrev pub HasBadLine : Outside → Type 0
+HasBadLine new = (n : ℕ) × IsBadLine new.live n
+
+-- The status that a verdict brings: its own. But memory may run out, and reading may fail; where something runs or is served the
+-- writing or the world may fail, the world may have a bad line, and the events may be spent.
+abbrev pub IsStatusBy : List (List ℕ) → Outside → Outside → Verdict → Status → Type 0
+IsStatusBy words old new v status.Memory = Unit {0}
+IsStatusBy words old new v status.ReadFault = (status_of (ending_of v) ≡ status.ReadFault) ⊎ FailedToRead words old.files new.files
+IsStatusBy words old new v status.Schedule =
+    (status_of (ending_of v) ≡ status.Schedule) ⊎ ((status_of (ending_of v) ≡ status.Done) × HasBadLine new)
+IsStatusBy words old new v status.WriteFault = (status_of (ending_of v) ≡ status.Done) × Rose old.out.faults new.out.faults
+IsStatusBy words old new v status.WorldFault = (status_of (ending_of v) ≡ status.Done) × Rose old.live.faults new.live.faults
+IsStatusBy words old new v status.EventsSpent = status_of (ending_of v) ≡ status.Done
+IsStatusBy words old new v s = status_of (ending_of v) ≡ s
 
 -- where the files report what they hold, the status is one that their verdict brings
-abbrev pub IsJudged : List (List ℕ) → FileAccount → FileAccount → Account → Account → Status → Type 0
-IsJudged words files files' out out' s =
-    IfSome files.told (λ held. (v : Verdict) → IsVerdict words held v → IsStatusBy words files files' out out' v s)
+abbrev pub IsJudged : List (List ℕ) → Outside → Outside → Status → Type 0
+IsJudged words old new s = IfSome old.files.told (λ held. (v : Verdict) → IsVerdict words held v → IsStatusBy words old new v s)
 
--- where the files hold a run, and neither reading nor writing fails, it ends well, or memory ran out
-abbrev pub IsComplete : List (List ℕ) → FileAccount → FileAccount → Account → Account → Status → Type 0
-IsComplete words files files' out out' s =
-    IfSome files.told (λ held. (body : List ℕ) (lines : List SchedLine) → IsVerdict words held (Runs body lines)
-    → ¬ (FailedToRead words files files') → ¬ (Rose out.faults out'.faults) → (s ≡ status.Done) ⊎ (s ≡ status.Memory))
+-- the work was done, the events were spent, or memory ran out
+abbrev pub IsDoneOr : Status → Type 0
+IsDoneOr s = (s ≡ status.Done) ⊎ (s ≡ status.EventsSpent) ⊎ (s ≡ status.Memory)
+
+-- where the files hold what the words ask for, and nothing fails, the work was done, the events were spent, or memory ran out
+abbrev pub IsComplete : List (List ℕ) → Outside → Outside → Status → Type 0
+IsComplete words old new s =
+    IfSome old.files.told (λ held. (v : Verdict) → IsVerdict words held v → ending_of v ≡ ending.Done → ¬ (FailedToRead words old.files new.files)
+    → ¬ (Rose old.out.faults new.out.faults) → ¬ (Rose old.live.faults new.live.faults) → ¬ (HasBadLine new) → IsDoneOr s)

@@ -1,11 +1,16 @@
 pub mod Words
+pub mod Saying
 pub mod Form
+pub mod Outside
 pub mod Verdict
 pub mod Ending
+pub mod Due
 pub mod Ends
 pub mod Built
 pub mod Run
 pub mod Writing
 pub mod Serving
+pub mod Live
+pub mod Works
 pub mod Reading
 pub mod Asking

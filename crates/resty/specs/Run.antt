@@ -1,5 +1,5 @@
 -- The run of a schedule.
-use Rattle.std.specs.Prelude.{◌≡◌, Bool, true, false, List, All}
+use Rattle.std.specs.Prelude.{◌≡◌, ℕ, Bool, true, false, List, All, take, length, ◌≤◌}
 use Rattle.std.specs.List.{list_any}
 use Rattle.resty_world.specs.declared.entry.Entry.{Entry}
 use Rattle.resty_world.specs.declared.entry.Entry.TheVariants as entry
@@ -12,10 +12,10 @@ use Rattle.strand_contract.specs.Actions.{GlobalAction}
 use Rattle.strand_contract.specs.Behaviors.{Behavior}
 use Rattle.strand_contract.specs.Executions.{external, offered_lengths, IsLawful, IsKept, IsPlain}
 use Rattle.strand_contract.specs.Order.{IsOrdered}
-use Rattle.engine.specs.Right.{IsStopped}
+use Rattle.engine.specs.Right.{IsStopped, IsSpent}
 
--- The history of a run of these lines: it is that of one execution, which is lawful, kept, plain and ordered, it tells the
--- lines, and Stop was given last. Its entries are all built, and within the ranges of the text.
+-- The history of a run of these lines: it is that of one execution, which is lawful, kept, plain and ordered, and it tells the
+-- lines. Its entries are all built, and within the ranges of the text.
 pub record IsRun {J : Type 0} (b : Behavior J) (lines : List SchedLine) (h : List Entry) : Type 0 where
   pub execution : List (GlobalAction J)
   pub history : h ≡ external b execution
@@ -24,9 +24,21 @@ pub record IsRun {J : Type 0} (b : Behavior J) (lines : List SchedLine) (h : Lis
   pub kept : IsKept b execution
   pub plain : IsPlain b execution
   pub ordered : IsOrdered b execution
-  pub stopped : IsStopped h
   pub built : All IsBuilt h
   pub ranged : IsHistory h
+
+-- a run of all lines, the last of which was Stop
+abbrev pub IsWhole : {J : Type 0} → Behavior J → List SchedLine → List Entry → Type 0
+IsWhole b lines h = IsRun b lines h × IsStopped h
+
+-- a run of the first lines, in which so many events were given, none of which was Stop
+abbrev pub IsCutShort : {J : Type 0} → Behavior J → ℕ → List SchedLine → List Entry → Type 0
+IsCutShort b events lines h = (passed : ℕ) × IsRun b (take passed lines) h × IsSpent events h × (events ≤ length lines)
+
+-- the one or the other
+abbrev pub RunsTo : {J : Type 0} → Behavior J → ℕ → List SchedLine → Bool → List Entry → Type 0
+RunsTo b events lines true h = IsWhole b lines h
+RunsTo b events lines false h = IsCutShort b events lines h
 
 -- no other history has the text of this one
 abbrev pub IsKnownByItsText : List Entry → Type 0

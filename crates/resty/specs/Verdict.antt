@@ -1,7 +1,6 @@
 -- What the words and the files decide.
-use Rattle.std.specs.Prelude.{◌≡◌, ℕ, ◌<◌, ◌≤◌, List, length, Some, None, IfSome}
+use Rattle.std.specs.Prelude.{◌≡◌, ℕ, ◌<◌, ◌≤◌, List, length, Some, None}
 use Rattle.resty_base.specs.Counting.{Rose}
-use Rattle.resty_base.specs.Accounts.{Account}
 use Rattle.resty_base.specs.FileMap.{FileMap, FileAccount}
 use Rattle.resty_world.specs.declared.schedule_line.SchedLine.{SchedLine}
 use Rattle.schedule_text.specs.Accepted.{IsRead, IsRefusedAt}
@@ -11,7 +10,8 @@ use Rattle.resty.specs.declared.endings.Named.TheVariants as named
 use Rattle.resty.specs.declared.endings.Ending.{Ending}
 use Rattle.resty.specs.declared.endings.Ending.TheVariants as ending
 use Rattle.resty.specs.Form.{IsServed, IsUnserved}
-use Rattle.resty.specs.Words.{Names, IsForm}
+use Rattle.resty.specs.declared.command_line.Mode.TheVariants as mode
+use Rattle.resty.specs.Words.{Command, Says, IsForm}
 
 -- how many bytes a configuration and a schedule may have
 abbrev pub most_of : Named → ℕ
@@ -47,7 +47,7 @@ pub record HasSchedule (files : FileMap) (name : List ℕ) (lines : List SchedLi
   pub served : IsServed lines
 
 -- the words aren't a command; or a file is refused: it is missing or too long, or its line of that number is of no form that
--- is built, or is no line of a schedule; or a site and a schedule run
+-- is built, or is no line of a schedule; or a site and a schedule run; or a site is served
 pub data Verdict : Type 0 where
   Usage : Verdict
   Missing : Named → Verdict
@@ -55,28 +55,30 @@ pub data Verdict : Type 0 where
   NotBuilt : Named → ℕ → Verdict
   BadLine : ℕ → Verdict
   Runs : List ℕ → List SchedLine → Verdict
+  Serves : List ℕ → Verdict
 
--- the verdict of two files: the first refusal, where the configuration comes first
-abbrev pub IsOfFiles : List ℕ → List ℕ → FileMap → Verdict → Type 0
-IsOfFiles conf schedule files Usage = ⊥
-IsOfFiles conf schedule files (Missing named.Conf) = files conf ≡ None
-IsOfFiles conf schedule files (TooLong named.Conf) = IsTooLong files conf (most_of named.Conf)
-IsOfFiles conf schedule files (NotBuilt named.Conf n) = (text : List ℕ) × Holds files conf (most_of named.Conf) text × IsFaultAt text n
-IsOfFiles conf schedule files (Missing named.Schedule) = (body : List ℕ) × HasSite files conf body × (files schedule ≡ None)
-IsOfFiles conf schedule files (TooLong named.Schedule) =
-    (body : List ℕ) × HasSite files conf body × IsTooLong files schedule (most_of named.Schedule)
-IsOfFiles conf schedule files (NotBuilt named.Schedule n) =
-    (body text : List ℕ) × HasSite files conf body × Holds files schedule (most_of named.Schedule) text × IsUnserved text n
-IsOfFiles conf schedule files (BadLine n) =
-    (body text : List ℕ) × HasSite files conf body × Holds files schedule (most_of named.Schedule) text × IsRefusedAt text n
-IsOfFiles conf schedule files (Runs body lines) = HasSite files conf body × HasSchedule files schedule lines
+-- the verdict of a command on files: the first refusal, where the configuration comes first; only `replay` reads a schedule
+abbrev pub IsOf : Command → FileMap → Verdict → Type 0
+IsOf c files Usage = ⊥
+IsOf c files (Missing named.Conf) = files c.conf ≡ None
+IsOf c files (TooLong named.Conf) = IsTooLong files c.conf (most_of named.Conf)
+IsOf c files (NotBuilt named.Conf n) = (text : List ℕ) × Holds files c.conf (most_of named.Conf) text × IsFaultAt text n
+IsOf c files (Missing named.Schedule) = (c.mode ≡ mode.Replay) × (body : List ℕ) × HasSite files c.conf body × (files c.schedule ≡ None)
+IsOf c files (TooLong named.Schedule) =
+    (c.mode ≡ mode.Replay) × (body : List ℕ) × HasSite files c.conf body × IsTooLong files c.schedule (most_of named.Schedule)
+IsOf c files (NotBuilt named.Schedule n) =
+    (c.mode ≡ mode.Replay) × (body text : List ℕ) × HasSite files c.conf body × Holds files c.schedule (most_of named.Schedule) text × IsUnserved text n
+IsOf c files (BadLine n) =
+    (c.mode ≡ mode.Replay) × (body text : List ℕ) × HasSite files c.conf body × Holds files c.schedule (most_of named.Schedule) text × IsRefusedAt text n
+IsOf c files (Runs body lines) = (c.mode ≡ mode.Replay) × HasSite files c.conf body × HasSchedule files c.schedule lines
+IsOf c files (Serves body) = (c.mode ≡ mode.Serve) × HasSite files c.conf body
 
--- the verdict of the words and the files
+-- the verdict of words on files
 abbrev pub IsVerdict : List (List ℕ) → FileMap → Verdict → Type 0
 IsVerdict words files Usage = ¬ (IsForm words)
-IsVerdict words files v = (conf schedule : List ℕ) × Names words conf schedule × IsOfFiles conf schedule files v
+IsVerdict words files v = (c : Command) × Says words c × IsOf c files v
 
--- how the work ends by a verdict
+-- how the work ends by a verdict, unless something fails, memory runs out or the events are spent
 abbrev pub ending_of : Verdict → Ending
 ending_of Usage = ending.Usage
 ending_of (Missing which) = ending.Missing which
@@ -84,15 +86,4 @@ ending_of (TooLong which) = ending.TooLong which
 ending_of (NotBuilt which n) = ending.NotBuilt which n
 ending_of (BadLine n) = ending.BadLine n
 ending_of (Runs body lines) = ending.Done
-
--- Why the work ended so. A file can't be read only where reading that file failed, of a schedule only where the configuration
--- is a site's; the output can't be written only where writing failed; memory may run out at any time; else it is the verdict,
--- where the files report what they hold.
-abbrev pub IsDue : (FileMap → Verdict → Type 0) → (Named → List ℕ) → FileAccount → FileAccount → Account → Account → Ending → Type 0
-IsDue verdict names files files' out out' (ending.Unreadable named.Conf) = FailedAt (names named.Conf) files files'
-IsDue verdict names files files' out out' (ending.Unreadable named.Schedule) =
-    FailedAt (names named.Schedule) files files' × IfSome files.told (λ held. (body : List ℕ) × HasSite held (names named.Conf) body)
-IsDue verdict names files files' out out' ending.NotWritten =
-    Rose out.faults out'.faults × IfSome files.told (λ held. (body : List ℕ) × (lines : List SchedLine) × verdict held (Runs body lines))
-IsDue verdict names files files' out out' ending.Memory = Unit {0}
-IsDue verdict names files files' out out' e = IfSome files.told (λ held. (v : Verdict) × verdict held v × (e ≡ ending_of v))
+ending_of (Serves body) = ending.Done

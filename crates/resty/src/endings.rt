@@ -54,6 +54,12 @@ pub enum Ending {
     NotBuilt(Named, u64),
     /// This line of the schedule is no line of a schedule; lines are numbered from 1.
     BadLine(u64),
+    /// This line of the live world names an id that was never there.
+    NoSuchId(u64),
+    /// The live world failed.
+    WorldFault,
+    /// As many events as were asked for were given, and none of them was Stop.
+    EventsSpent,
     NotWritten,
     /// Memory ran out.
     Memory,
@@ -69,7 +75,11 @@ impl Ending {
             Ending::Usage => Status::Usage,
             Ending::Missing(_) | Ending::TooLong(_) | Ending::Unreadable(_) => Status::ReadFault,
             Ending::NotBuilt(Named::Conf, _) => Status::Conf,
-            Ending::NotBuilt(Named::Schedule, _) | Ending::BadLine(_) => Status::Schedule,
+            Ending::NotBuilt(Named::Schedule, _) | Ending::BadLine(_) | Ending::NoSuchId(_) => {
+                Status::Schedule
+            }
+            Ending::WorldFault => Status::WorldFault,
+            Ending::EventsSpent => Status::EventsSpent,
             Ending::NotWritten => Status::WriteFault,
             Ending::Memory => Status::Memory,
         }

@@ -1,6 +1,10 @@
 //! The program: its words, the files that they name, the run, and what it writes.
 #![tactic(auto)]
 
+ghost use Rattle.std.specs.Prelude.{IfOk};
+ghost use Rattle.engine.specs.Right.{IsFresh};
+ghost use Rattle.schedule.specs.ReplayBook.{book_of};
+
 mod command_line;
 mod endings;
 pub mod laws;
@@ -8,9 +12,10 @@ mod messages;
 mod program;
 mod reading;
 mod replaying;
-mod serve_and_write;
 mod served_form;
 pub mod server;
+mod serving;
+mod work;
 mod writing;
 
 pub use endings::Status;
@@ -58,7 +63,9 @@ fn run_words<E: Sink>(rt: &HostRuntime, words: &[String], err: &mut E) -> Status
 }
 
 /// A world in which nothing happens: there is no live one yet.
-fn no_world(alloc: Global) -> Result<Replay, SchedFault> {
+fn no_world(alloc: Global) -> Result<Replay, SchedFault>
+    ensures { IfOk result (λ world. IsFresh (book_of world)) }
+{
     Ok(Replay::new(alloc, schedule_of(alloc, b"stop\n")?))
 }
 

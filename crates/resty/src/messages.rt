@@ -3,40 +3,40 @@
 ghost use Rattle.std.specs.Prelude.{OnOk, OnErr, codes};
 ghost use Rattle.resty_base.specs.Taking.{TakesAll, TakesPart};
 ghost use Rattle.resty.specs.Ending.{line_of};
-ghost use Rattle.resty.specs.Words.{name_of};
+ghost use Rattle.resty.specs.Saying.{said, name_of};
 
-use crate::command_line::FileNames;
+use crate::command_line::Command;
 use crate::endings::{Ending, Named};
 use itoa::Buffer;
 use resty_base::{Sink, SinkFault, put_all, put_pieces};
 
-/// Puts the line that says how the work on these files ended.
+/// Puts the line that says how the work on a command ended.
 pub fn put_line<E: Sink>(
     err: &mut E,
-    names: &FileNames<'_>,
+    command: &Command<'_>,
     ending: Ending,
 ) -> Result<(), SinkFault>
-    ensures ok { OnOk result (TakesAll (line_of (name_of names.now.conf.now names.now.schedule.now) ending) (E.account err.old) (E.account err.new)) }
-    ensures err { OnErr result (TakesPart (line_of (name_of names.now.conf.now names.now.schedule.now) ending) (E.account err.old) (E.account err.new)) }
+    ensures ok { OnOk result (TakesAll (line_of (name_of (said command.now)) ending) (E.account err.old) (E.account err.new)) }
+    ensures err { OnErr result (TakesPart (line_of (name_of (said command.now)) ending) (E.account err.old) (E.account err.new)) }
 {
     let mut buffer = Buffer::new();
     match ending {
         Ending::Done => Ok(()),
         Ending::Usage => put_usage(err),
         Ending::Missing(which) => {
-            let name = names.name(which).as_bytes();
+            let name = command.name(which).as_bytes();
             put_pieces(err, &[b"resty: no file ", name, b"\n"])
         }
         Ending::TooLong(which) => {
-            let name = names.name(which).as_bytes();
+            let name = command.name(which).as_bytes();
             put_pieces(err, &[b"resty: ", name, b" is too long\n"])
         }
         Ending::Unreadable(which) => {
-            let name = names.name(which).as_bytes();
+            let name = command.name(which).as_bytes();
             put_pieces(err, &[b"resty: cannot read ", name, b"\n"])
         }
         Ending::NotBuilt(which, line) => {
-            let name = names.name(which).as_bytes();
+            let name = command.name(which).as_bytes();
             let line = buffer.format(line).as_bytes();
             put_pieces(
                 err,
@@ -44,7 +44,7 @@ pub fn put_line<E: Sink>(
             )
         }
         Ending::BadLine(line) => {
-            let name = names.name(Named::Schedule).as_bytes();
+            let name = command.name(Named::Schedule).as_bytes();
             let line = buffer.format(line).as_bytes();
             put_pieces(
                 err,
@@ -57,6 +57,16 @@ pub fn put_line<E: Sink>(
                 ],
             )
         }
+        Ending::NoSuchId(line) => {
+            let name = command.name(Named::Schedule).as_bytes();
+            let line = buffer.format(line).as_bytes();
+            put_pieces(
+                err,
+                &[b"resty: ", name, b": line ", line, b": no such id\n"],
+            )
+        }
+        Ending::WorldFault => put_all(err, b"resty: world fault\n"),
+        Ending::EventsSpent => put_all(err, b"resty: events spent\n"),
         Ending::NotWritten => put_all(err, b"resty: cannot write\n"),
         Ending::Memory => put_out_of_memory(err),
     }

@@ -2,11 +2,11 @@
 
 ghost use Rattle.std.specs.Prelude.{◌≡◌, ◌≤◌, IfSome, IfOk, IfErr, OnOk, length};
 ghost use Rattle.resty.specs.Form.{IsServed};
-ghost use Rattle.resty.specs.Reading.{IsUnread, EndsReading, OfConf, OfSchedule, ReadsWell};
-ghost use Rattle.resty.specs.Verdict.{Holds, HasSite, HasSchedule, most_of};
-ghost use Rattle.resty.specs.Words.{name_of};
+ghost use Rattle.resty.specs.Reading.{IsUnread, EndsReading, OfSchedule, ReadsWell};
+ghost use Rattle.resty.specs.Saying.{said, name_of};
+ghost use Rattle.resty.specs.Verdict.{Holds, HasSite, HasSchedule, IsOf, most_of};
 
-use crate::command_line::FileNames;
+use crate::command_line::{Command, Mode};
 use crate::endings::{Ending, Named};
 use crate::served_form::first_unserved;
 use resty_base::{Bytes, Fetched, Files};
@@ -18,16 +18,16 @@ use strand::{Site, SiteFault, literal_site};
 fn read_named<F: Files>(
     alloc: Global,
     files: &mut F,
-    names: &FileNames<'_>,
+    command: &Command<'_>,
     which: Named,
 ) -> Result<Bytes, Ending>
     ensures text { IfOk result (λ text. IfSome (F.account files.old).told
-        (λ held. Holds held (name_of names.now.conf.now names.now.schedule.now which) (most_of which) text)) }
+        (λ held. Holds held (name_of (said command.now) which) (most_of which) text)) }
     ensures within { IfOk result (λ text. length text ≤ most_of which) }
-    ensures unread { IfErr result (IsUnread (name_of names.now.conf.now names.now.schedule.now which) which (F.account files.old) (F.account files.new)) }
+    ensures unread { IfErr result (IsUnread (name_of (said command.now) which) which (F.account files.old) (F.account files.new)) }
     ensures well { OnOk result (ReadsWell (F.account files.old) (F.account files.new)) }
 {
-    match files.fetch(alloc, names.name(which), most_of(which)) {
+    match files.fetch(alloc, command.name(which), most_of(which)) {
         Fetched::Text(text) => Ok(text),
         Fetched::Missing => Err(Ending::Missing(which)),
         Fetched::TooLong => Err(Ending::TooLong(which)),
@@ -50,13 +50,13 @@ fn most_of(which: Named) -> usize
 pub fn read_site<F: Files>(
     alloc: Global,
     files: &mut F,
-    names: &FileNames<'_>,
+    command: &Command<'_>,
 ) -> Result<Site, Ending>
-    ensures site { IfOk result (λ site. IfSome (F.account files.old).told (λ held. HasSite held names.now.conf.now site)) }
-    ensures due { IfErr result (EndsReading (OfConf names.now.conf.now) names.now.conf.now Named.Conf (F.account files.old) (F.account files.new)) }
+    ensures site { IfOk result (λ site. IfSome (F.account files.old).told (λ held. HasSite held command.now.conf.now site)) }
+    ensures due { IfErr result (EndsReading (IsOf (said command.now)) command.now.conf.now Named.Conf (F.account files.old) (F.account files.new)) }
     ensures well { OnOk result (ReadsWell (F.account files.old) (F.account files.new)) }
 {
-    let text = match read_named(alloc, files, names, Named::Conf) {
+    let text = match read_named(alloc, files, command, Named::Conf) {
         Ok(text) => text,
         Err(ending) => return Err(ending),
     };
@@ -71,16 +71,17 @@ pub fn read_site<F: Files>(
 pub fn read_schedule<F: Files>(
     alloc: Global,
     files: &mut F,
-    names: &FileNames<'_>,
+    command: &Command<'_>,
 ) -> Result<Schedule, Ending>
-    ensures schedule { IfOk result (λ lines. IfSome (F.account files.old).told (λ held. HasSchedule held names.now.schedule.now lines)) }
+    requires { command.now.mode ≡ Mode.Replay }
+    ensures schedule { IfOk result (λ lines. IfSome (F.account files.old).told (λ held. HasSchedule held command.now.schedule.now lines)) }
     ensures served { IfOk result IsServed }
     ensures few { IfOk result (λ lines. length lines ≤ 67_108_864) }
-    ensures due { IfErr result (EndsReading (OfSchedule names.now.schedule.now) names.now.schedule.now Named.Schedule
+    ensures due { IfErr result (EndsReading (OfSchedule (said command.now)) command.now.schedule.now Named.Schedule
         (F.account files.old) (F.account files.new)) }
     ensures well { OnOk result (ReadsWell (F.account files.old) (F.account files.new)) }
 {
-    let text = match read_named(alloc, files, names, Named::Schedule) {
+    let text = match read_named(alloc, files, command, Named::Schedule) {
         Ok(text) => text,
         Err(ending) => return Err(ending),
     };

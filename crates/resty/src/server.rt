@@ -49,6 +49,7 @@ pub fn serve<W: World>(alloc: Global, site: Site, world: &mut W, events: u64) ->
     requires { IsFresh (W.book world.old) }
     ensures right { IsRight {J = NoJob} (literal_behavior site) (W.book world.new) }
     ensures ended { EndsBy events (W.book world.old) (W.book world.new) result }
+    ensures port { (W.book world.new).port ≡ (W.book world.old).port }
     ensures same { W.same world.old world.new }
 {
     engine::serve::<LiteralStrand, W>(alloc, site, world, events)

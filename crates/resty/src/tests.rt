@@ -1,4 +1,4 @@
-//! Tests of the program, over files and sinks in memory.
+//! Tests of the program, over files, sinks and a live world in memory.
 
 use super::*;
 use resty_base::{MemFiles, MemSink};
@@ -19,21 +19,42 @@ struct Ran {
     err: MemSink,
 }
 
-/// Calls the program with these words over these files and sinks.
-fn call(
+/// Calls the program with these words over these files, this schedule of the live world and these sinks.
+fn call_over(
     alloc: Global,
     words: &[&str],
     files: &mut MemFiles,
+    live: &mut Replay,
     mut out: MemSink,
     mut err: MemSink,
-) -> Result<Ran, Fail> {
+) -> Result<Ran, Fail>
+    requires { IsFresh (book_of live.old) }
+{
     let mut list = Vec::new(alloc);
     for word in words {
         list.push(String::from_str(alloc, *word)?)?;
     }
-    let mut live = no_world(alloc)?;
-    let status = resty(alloc, list.as_slice(), files, &mut live, &mut out, &mut err);
+    let status = resty(alloc, list.as_slice(), files, live, &mut out, &mut err);
     Ok(Ran { status, out, err })
+}
+
+/// A world that goes by this schedule.
+fn world_of(alloc: Global, schedule: &str) -> Result<Replay, SchedFault>
+    ensures { IfOk result (λ world. IsFresh (book_of world)) }
+{
+    Ok(Replay::new(alloc, schedule_of(alloc, schedule.as_bytes())?))
+}
+
+/// Calls the program with these words over these files and sinks, and a live world in which nothing happens.
+fn call(
+    alloc: Global,
+    words: &[&str],
+    files: &mut MemFiles,
+    out: MemSink,
+    err: MemSink,
+) -> Result<Ran, Fail> {
+    let mut live = world_of(alloc, "stop\n")?;
+    call_over(alloc, words, files, &mut live, out, err)
 }
 
 /// The files `t.conf` and `t.sched`.
@@ -235,7 +256,7 @@ fn a_failed_line_changes_no_status(rt: HostRuntime) -> Result<(), Fail> {
 
 #[test]
 fn words_that_are_no_command_are_usage(rt: HostRuntime) -> Result<(), Fail> {
-    let commands: [&[&str]; 9] = [
+    let commands: [&[&str]; 19] = [
         &[],
         &["--help"],
         &["replay"],
@@ -245,6 +266,22 @@ fn words_that_are_no_command_are_usage(rt: HostRuntime) -> Result<(), Fail> {
         &["replay", "--conf", "t.conf", "--schedule", "-t.sched"],
         &["replay", "--conf", "--", "--schedule", "t.sched"],
         &["replay", "--conf", "t.conf", "--schedule", "t.sched", "--"],
+        &["serve"],
+        &["serve", "--conf"],
+        &["serve", "--conf", "-"],
+        &["serve", "--conf=t.conf"],
+        &["serve", "--conf", "t.conf", "--schedule", "t.sched"],
+        &["serve", "--conf", "t.conf", "--events"],
+        &["serve", "--conf", "t.conf", "--events", "0"],
+        &["serve", "--conf", "t.conf", "--events", "01"],
+        &["serve", "--events", "1", "--conf", "t.conf"],
+        &[
+            "serve",
+            "--conf",
+            "t.conf",
+            "--events",
+            "1000000000000000000",
+        ],
     ];
     for words in commands {
         let mut files = files_of(rt.alloc(), CONF, "stop\n")?;
@@ -286,3 +323,4 @@ fn statuses_are_numbered_in_order(rt: HostRuntime) {
 
 mod connections;
 mod replies;
+mod serving;

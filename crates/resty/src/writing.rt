@@ -11,9 +11,14 @@ use resty_world::{Entry, History};
 use schedule::history_text;
 use std::alloc::Global;
 
-/// Writes the text of a history of which serving ended well.
-pub fn write_history<O: Sink>(alloc: Global, history: &History, out: &mut O) -> Ending
-    ensures { WritesHistory history.now.entries result (O.account out.old) (O.account out.new) }
+/// Writes the text of the history of a run that was served up to Stop, or of one that was cut short.
+pub fn write_history<O: Sink>(
+    alloc: Global,
+    is_whole: bool,
+    history: &History,
+    out: &mut O,
+) -> Ending
+    ensures { WritesHistory is_whole history.now.entries result (O.account out.old) (O.account out.new) }
 {
     let text = match history_text(alloc, history) {
         Ok(text) => text,
@@ -22,7 +27,9 @@ pub fn write_history<O: Sink>(alloc: Global, history: &History, out: &mut O) -> 
     if put_all(out, text.as_slice()).is_err() {
         return Ending::NotWritten;
     }
-    if drops_strand(history) {
+    if !is_whole {
+        Ending::EventsSpent
+    } else if drops_strand(history) {
         Ending::Memory
     } else {
         Ending::Done

@@ -2,7 +2,7 @@ pub mod Dates
 pub mod Exchange
 pub mod Left
 pub mod Lists
-pub mod Pieces
+pub mod Own
 pub mod Reading
 pub mod Sites
 pub mod Steps

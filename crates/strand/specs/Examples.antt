@@ -2,7 +2,7 @@
 use Rattle.std.specs.Prelude.{ℕ, List, [], ◌∷◌, ◌++◌, codes}
 use Rattle.strand_contract.specs.declared.turns.Place.TheVariants as place
 use Rattle.strand_contract.specs.declared.turns.Start.TheVariants as start
-use Rattle.strand_contract.specs.Actions.{Began, Came, Ran, Offered, Put, Closed, Gone, LocalAction, Did}
+use Rattle.strand_contract.specs.Actions.{Began, Bytes, Run, Offer, Put, Close, Gone, LocalAction, Did}
 use Rattle.strand.specs.declared.strand.NoJob.{NoJob}
 use Rattle.strand.specs.Replies.{line_end}
 
@@ -21,6 +21,6 @@ hi_reply =
 -- a client sends a request in two pieces, and takes the reply; the newest action comes first
 abbrev pub one_request : List (LocalAction NoJob)
 one_request =
-    Did Gone ∷ Did (Closed place.Client) ∷ Did (Put place.Client hi_reply) ∷ Did (Offered place.Client) ∷ Did (Ran 0)
-    ∷ Did (Came place.Client line_end) ∷ Did (Came place.Client (codes "GET / HTTP/1.0" ++ line_end))
+    Did Gone ∷ Did (Close place.Client) ∷ Did (Put place.Client hi_reply) ∷ Did (Offer place.Client) ∷ Did (Run 0)
+    ∷ Did (Bytes place.Client line_end) ∷ Did (Bytes place.Client (codes "GET / HTTP/1.0" ++ line_end))
     ∷ Did (Began 1_000 (start.Client 1)) ∷ []

@@ -3,7 +3,7 @@ use Rattle.std.proofs.Common.{◌≡◌, ℕ, Bool, true, false, ◌==◌, ◌&&
 use Rattle.strand.specs.declared.head.Head.{Head}
 use Rattle.strand.specs.declared.head.Head.TheVariants.{Empty, EmptyReturn, Line, LineEnd, LineEndReturn, Whole}
 use Rattle.strand.specs.Requests.{begins_feed, begins_empty_line, has_empty_line, is_whole}
-use Rattle.strand.specs.Turns.{after_byte, after_bytes, is_end}
+use Rattle.strand.specs.Scanning.{after_byte, after_bytes, is_end}
 
 -- whether the request is whole once these bytes come after the scanned ones
 abbrev whole_after : Head → List ℕ → Bool

@@ -7,9 +7,9 @@ pub mod Faults
 pub mod Examples
 pub mod Reading
 pub mod Pieces
+pub mod Scanning
 pub mod Turns
 pub mod Views
-pub mod Course
 pub mod HeadLaws
+pub mod ConditionLaws
 pub mod Laws
-pub mod CourseLaws

@@ -1,65 +1,40 @@
--- What the strands of a literal site do: each client gets one reply to its first request.
-use Rattle.std.specs.Prelude.{ℕ, Bool, true, not, ◌&&◌, List, [], ◌∷◌, ◌++◌, drop, if◌then◌else◌}
-use Rattle.strand_contract.specs.declared.turns.Place.{Place}
+-- What the strands of a literal site do: each client gets one reply to its first request, and its connection is closed.
+use Rattle.std.specs.Prelude.{ℕ, not, ◌&&◌, List, [], ◌++◌, if◌then◌else◌}
 use Rattle.strand_contract.specs.declared.turns.Place.TheVariants as place
-use Rattle.strand_contract.specs.declared.turns.Act.{Act}
-use Rattle.strand_contract.specs.declared.turns.Act.TheVariants as act
-use Rattle.strand_contract.specs.Actions.{Came, Ended, Broke, TakesAgain, Put, Lost, Ran, Halted, LocalAction, Did}
-use Rattle.strand_contract.specs.Alone.{moment, taken, is_some_left}
+use Rattle.strand_contract.specs.Actions.{LocalAction, Did, Bytes, Ended, Broken, Ready, Put, Lost, Run, Halted}
+use Rattle.strand_contract.specs.Alone.{is_some_left}
 use Rattle.strand_contract.specs.Behaviors.{Behavior}
-use Rattle.strand_contract.specs.Mute.{is_client, end_acts, mute_acts}
+use Rattle.moves.specs.Ledgers.{Ledger, left_at}
+use Rattle.moves.specs.Moves.{Move, Done, Send, Set, End}
+use Rattle.moves.specs.Moves as move
+use Rattle.moves.specs.Plans.{Plan, behavior_of}
 use Rattle.strand.specs.Requests.{is_whole}
 use Rattle.strand.specs.Replies.{reply}
 
--- all bytes that came from the client
-abbrev pub with_came : {J : Type 0} → LocalAction J → List ℕ → List ℕ
-with_came (Did (Came place.Client bytes)) before = before ++ bytes
-with_came a before = before
+-- Beside its ledger a strand keeps all bytes that came. A request that becomes whole readies a thread, the thread sends the
+-- reply, and once all is taken the life ends; so it does where the client sends no more before its request is whole, at a fault, and at Stop
+abbrev pub literal_turn : {J : Type 0} → List ℕ → ℕ → LocalAction J → Ledger J → List ℕ → Move J (List ℕ)
+literal_turn body now (Did (Bytes q bytes)) b came =
+    Set (λ came. came ++ bytes) (if not (is_whole came) && is_whole (came ++ bytes) then move.Ready 0 Done else Done)
+literal_turn body now (Did (Run k)) b came = Send place.Client (reply body now) Done
+literal_turn body now (Did (Put q bytes)) b came = if is_some_left (left_at q b) then Done else End
+literal_turn body now (Did (Ready q)) b came = Send q [] Done
+literal_turn body now (Did (Ended q)) b came = if is_whole came then Done else End
+literal_turn body now (Did (Broken q)) b came = End
+literal_turn body now (Did (Lost q)) b came = End
+literal_turn body now (Did Halted) b came = End
+literal_turn body now a b came = Done
 
-abbrev pub received : {J : Type 0} → List (LocalAction J) → List ℕ
-received [] = []
-received (a ∷ es) = with_came a (received es)
-
--- all that was sent to a client: a run makes the reply, at the moment at which it comes
-abbrev pub made_by : {J : Type 0} → LocalAction J → Bool → List ℕ → List ℕ → List ℕ
-made_by (Did (Ran k)) client made before = if client then made else before
-made_by a client made before = before
-
-abbrev pub sent_to_client : {J : Type 0} → List ℕ → List (LocalAction J) → List ℕ
-sent_to_client body [] = []
-sent_to_client body (a ∷ es) = made_by a (is_client es) (reply body (moment es)) (sent_to_client body es)
-
--- the rest of it that isn't taken yet
-abbrev pub unsent : {J : Type 0} → List ℕ → List (LocalAction J) → List ℕ
-unsent body es = drop (taken place.Client es) (sent_to_client body es)
-
--- the acts of a client's turn: a whole request readies a thread, its run offers the reply, and when that is taken the strand ends
-abbrev pub client_acts : {J : Type 0} → List ℕ → List (LocalAction J) → List (Act J)
-client_acts body (Did (Came place.Client bytes) ∷ es) =
-    if not (is_whole (received es)) && is_whole (received es ++ bytes) then act.Ready 0 ∷ [] else []
-client_acts body (Did (Ran k) ∷ es) = act.Offer place.Client ∷ []
-client_acts body (Did (Put place.Client bytes) ∷ es) =
-    if is_some_left (unsent body (Did (Put place.Client bytes) ∷ es)) then [] else end_acts true
-client_acts body (Did (TakesAgain place.Client) ∷ es) = if is_some_left (unsent body es) then act.Offer place.Client ∷ [] else []
-client_acts body (Did (Ended place.Client) ∷ es) = if is_whole (received es) then [] else end_acts true
-client_acts body (Did (Broke place.Client) ∷ es) = end_acts true
-client_acts body (Did (Lost place.Client) ∷ es) = end_acts true
-client_acts body (Did Halted ∷ es) = end_acts true
-client_acts body es = []
-
--- a job waits for Stop
-abbrev pub literal_acts : {J : Type 0} → List ℕ → List (LocalAction J) → List (Act J)
-literal_acts body es = if is_client es then client_acts body es else mute_acts es
-
-abbrev pub literal_sent : {J : Type 0} → List ℕ → Place → List (LocalAction J) → List ℕ
-literal_sent body place.Client es = sent_to_client body es
-literal_sent body (place.Sock k) es = []
-
--- of a site whose replies have this body
-abbrev pub literal_behavior : {J : Type 0} → List ℕ → Behavior J
-literal_behavior body = record {
-  acts = literal_acts body;
-  sent = literal_sent body;
+-- of a site whose replies have this body; it has no dictionary
+abbrev pub literal_plan : {J : Type 0} → List ℕ → Plan J (List ℕ)
+literal_plan body = record {
+  unborn = [];
+  turn = literal_turn body;
+  zones = 0;
   zone_name = λ n. [];
+  zone_size = λ n. 0;
   connections = 512;
 }
+
+abbrev pub literal_behavior : {J : Type 0} → List ℕ → Behavior J
+literal_behavior body = behavior_of (literal_plan body)

@@ -1,7 +1,7 @@
 //! The head of a request: how far it has come, byte by byte.
 
 ghost use Rattle.std.specs.Prelude.{◌≡◌, ◌==◌};
-ghost use Rattle.strand.specs.Turns.{after_byte, after_bytes, is_end};
+ghost use Rattle.strand.specs.Scanning.{after_byte, after_bytes, is_end};
 
 /// How far the head of a request has come.
 #[derive(Clone, Copy, Debug, PartialEq, Eq)]

@@ -1,6 +1,6 @@
 //! What is sent to a client, piece by piece.
 
-use std::alloc::Global;
+use std::alloc::{AllocError, Global};
 
 /// Bytes are sent to a client in pieces that end at multiples of this many bytes.
 const PIECE: usize = 16_384;
@@ -13,7 +13,7 @@ pub struct Outgoing {
 }
 
 impl Outgoing {
-    ghost use Rattle.std.specs.Prelude.{◌≡◌, ◌+◌, [], take, length, not};
+    ghost use Rattle.std.specs.Prelude.{◌≡◌, ◌+◌, ◌++◌, [], take, length, not, IfOk};
     ghost use Rattle.strand_contract.specs.Alone.{is_some_left};
     ghost use Rattle.strand.specs.Pieces.{untaken, first_piece};
 
@@ -27,12 +27,16 @@ impl Outgoing {
         }
     }
 
-    /// Makes these the bytes that are sent.
-    pub fn send(&mut self, bytes: Vec<u8>)
-        ensures bytes { self.new.bytes.items ≡ bytes.items }
+    /// Sends these after those that are there.
+    pub fn send(&mut self, bytes: Vec<u8>) -> Result<(), AllocError>
+        ensures bytes { IfOk result (λ done. self.new.bytes.items ≡ self.old.bytes.items ++ bytes.items) }
         ensures taken { self.new.taken ≡ self.old.taken }
     {
-        self.bytes = bytes;
+        if self.bytes.is_empty() {
+            self.bytes = bytes;
+            return Ok(());
+        }
+        self.bytes.extend_from_slice(bytes.as_slice())
     }
 
     /// The next piece.

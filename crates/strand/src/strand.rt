@@ -4,7 +4,7 @@ use crate::Site;
 use crate::head::Head;
 use crate::outgoing::Outgoing;
 use crate::replies::reply_at;
-use resty_base::Ms;
+use resty_base::{Bytes, Ms};
 use std::alloc::{AllocError, Global};
 use std::collections::VecDeque;
 use strand_contract::{Act, Acts, Answer, Place, Seen, Start, StrandContract};
@@ -13,35 +13,27 @@ use strand_contract::{Act, Acts, Answer, Place, Seen, Start, StrandContract};
 #[derive(Debug, Drop)]
 pub struct NoJob;
 
-/// What a strand waits for.
-#[derive(Clone, Copy, Debug, PartialEq, Eq)]
-enum Stage {
-    /// A whole request, or a job's end.
-    Waiting,
-    /// The run of the thread that makes the reply.
-    Ready,
-    /// That the client takes the reply, which is offered.
-    Offering,
-    /// That the client takes bytes again.
-    PutOff,
-    /// Nothing: its life ends.
-    Over,
-}
-
 /// A strand of a literal site: a client's sends one reply, and a job's waits for Stop.
 #[derive(Debug, Drop)]
 pub struct LiteralStrand {
-    is_client: bool,
+    /// Whether it has a client whose connection is open.
+    is_open: bool,
     head: Head,
-    stage: Stage,
+    /// The thread that makes the reply waits for its run.
+    is_ready: bool,
+    /// The client takes no bytes for now.
+    is_put_off: bool,
+    is_over: bool,
     outgoing: Outgoing,
 }
 
 impl LiteralStrand {
-    ghost use Rattle.std.specs.Prelude.{◌≡◌, ◌<◌, ◌^◌, ◌&&◌, not, [], IfOk, length, take};
+    ghost use Rattle.std.specs.Prelude.{◌≡◌, ◌<◌, ◌^◌, ◌&&◌, ◌||◌, true, false, not, [], if◌then◌else◌, IfOk, length, take};
+    ghost use Rattle.strand_contract.specs.Alone.{is_some_left};
     ghost use Rattle.strand.specs.Replies.{reply};
-    ghost use Rattle.strand.specs.Turns.{came, came_acts, offer_if, offer_acts, end_if, end_if_acts, ran, took};
-    ghost use Rattle.strand.specs.Turns.{took_acts, put_off, taken_again, next_piece, is_done, ended, is_end};
+    ghost use Rattle.strand.specs.Scanning.{is_end};
+    ghost use Rattle.strand.specs.Turns.{came, came_acts, offer_acts, end_if, end_if_acts, ran, ran_acts, sent_more};
+    ghost use Rattle.strand.specs.Turns.{took, took_acts, put_off, ready_acts, left_to_send, next_piece};
     ghost use Rattle.strand.specs.Views.{held};
 
     fn came(&mut self, alloc: Global, bytes: &[u8]) -> Result<Acts<NoJob>, AllocError>
@@ -50,19 +42,18 @@ impl LiteralStrand {
         let mut acts = VecDeque::new(alloc);
         let was_whole = self.head.is_whole();
         self.head = self.head.read(bytes);
-        if self.is_client && !was_whole && self.head.is_whole() {
-            self.stage = Stage::Ready;
+        if !was_whole && self.head.is_whole() {
+            self.is_ready = true;
             acts.push_back(Act::Ready(0))?;
         }
         Ok(acts)
     }
 
-    fn offer_if(&mut self, alloc: Global, offers: bool) -> Result<Acts<NoJob>, AllocError>
-        ensures { IfOk result (λ acts. (held self.new ≡ offer_if offers (held self.old)) × (acts.items ≡ offer_acts offers)) }
+    fn offer_if(&self, alloc: Global, offers: bool) -> Result<Acts<NoJob>, AllocError>
+        ensures { IfOk result (λ acts. acts.items ≡ offer_acts offers) }
     {
         let mut acts = VecDeque::new(alloc);
         if offers {
-            self.stage = Stage::Offering;
             acts.push_back(Act::Offer(Place::Client))?;
         }
         Ok(acts)
@@ -73,36 +64,39 @@ impl LiteralStrand {
     {
         let mut acts = VecDeque::new(alloc);
         if ends {
-            self.stage = Stage::Over;
-            if self.is_client {
+            if self.is_open {
                 acts.push_back(Act::HangUp(Place::Client))?;
             }
             acts.push_back(Act::Gone)?;
+            self.is_open = false;
+            self.is_over = true;
         }
         Ok(acts)
     }
 
+    /// The client sends no more.
     fn ended(&mut self, alloc: Global) -> Result<Acts<NoJob>, AllocError>
-        ensures { IfOk result (λ acts. (held self.new ≡ ended (held self.old))
-            × (acts.items ≡ end_if_acts ((held self.old).client && not (is_end (held self.old).head)) (held self.old))) }
+        ensures { IfOk result (λ acts. (held self.new ≡ end_if (not (is_end (held self.old).head)) (held self.old))
+            × (acts.items ≡ end_if_acts (not (is_end (held self.old).head)) (held self.old))) }
     {
-        let ends = self.is_client && !self.head.is_whole();
+        let ends = !self.head.is_whole();
         self.end_if(alloc, ends)
     }
 
     fn lost(&mut self, alloc: Global) -> Result<Acts<NoJob>, AllocError>
-        ensures { IfOk result (λ acts. (held self.new ≡ end_if (held self.old).client (held self.old))
-            × (acts.items ≡ end_if_acts (held self.old).client (held self.old))) }
+        ensures { IfOk result (λ acts. (held self.new ≡ end_if true (put_off false (held self.old)))
+            × (acts.items ≡ end_if_acts true (put_off false (held self.old)))) }
     {
-        let ends = self.is_client;
-        self.end_if(alloc, ends)
+        self.is_put_off = false;
+        self.end_if(alloc, true)
     }
 
-    fn taken_again(&mut self, alloc: Global) -> Result<Acts<NoJob>, AllocError>
-        ensures { IfOk result (λ acts. (held self.new ≡ taken_again (held self.old))
-            × (acts.items ≡ offer_acts ((held self.old).client && not (is_done (held self.old))))) }
+    /// The client takes bytes again.
+    fn ready(&mut self, alloc: Global) -> Result<Acts<NoJob>, AllocError>
+        ensures { IfOk result (λ acts. (held self.new ≡ put_off false (held self.old)) × (acts.items ≡ ready_acts (held self.old))) }
     {
-        let offers = self.is_client && !self.outgoing.is_done();
+        self.is_put_off = false;
+        let offers = self.is_open && !self.outgoing.is_done();
         self.offer_if(alloc, offers)
     }
 
@@ -111,69 +105,125 @@ impl LiteralStrand {
             IfOk result (λ acts. (held self.new ≡ took taken (held self.old)) × (acts.items ≡ took_acts taken (held self.old))) }
     {
         self.outgoing.take(count);
-        let ends = self.is_client && self.outgoing.is_done();
+        self.is_put_off = false;
+        let ends = self.outgoing.is_done();
         self.end_if(alloc, ends)
     }
 
     fn put_off(&mut self, alloc: Global) -> Result<Acts<NoJob>, AllocError>
-        ensures { IfOk result (λ acts. (held self.new ≡ put_off (held self.old)) × (acts.items ≡ [])) }
+        ensures { IfOk result (λ acts. (held self.new ≡ put_off true (held self.old)) × (acts.items ≡ [])) }
     {
-        if self.is_client {
-            self.stage = Stage::PutOff;
-        }
+        self.is_put_off = true;
         Ok(VecDeque::new(alloc))
+    }
+
+    /// Whether these bytes are to be offered: nothing waits before them, and the client takes bytes.
+    fn wants_offer(&self, bytes: &[u8]) -> bool
+        ensures { result ≡ ((held self.now).open_ && is_some_left bytes.now && not (is_some_left (left_to_send (held self.now)) || (held self.now).off)) }
+    {
+        self.is_open && !bytes.is_empty() && self.outgoing.is_done() && !self.is_put_off
+    }
+
+    /// Sends these to an open connection.
+    fn send(&mut self, alloc: Global, bytes: Vec<u8>) -> Result<Acts<NoJob>, AllocError>
+        ensures turn { IfOk result (λ acts. (held self.new ≡ sent_more bytes.items (held self.old)) × (acts.items ≡ ran_acts bytes.items (held self.old))) }
+        ensures bound { length self.new.outgoing.bytes.items < 2 ^ 64 }
+    {
+        let offers = self.wants_offer(bytes.as_slice());
+        if self.is_open {
+            self.outgoing.send(bytes)?;
+        }
+        self.offer_if(alloc, offers)
     }
 
     /// Makes the reply.
     fn run(&mut self, alloc: Global, site: &Site, now: Ms) -> Result<Acts<NoJob>, AllocError>
-        ensures turn { IfOk result (λ acts. (held self.new ≡ ran (reply site.now now.0) (held self.old)) × (acts.items ≡ offer_acts (held self.old).client)) }
+        ensures turn { IfOk result (λ acts. (held self.new ≡ ran (reply site.now now.0) (held self.old))
+            × (acts.items ≡ ran_acts (reply site.now now.0) (held self.old))) }
         ensures bound { length self.new.outgoing.bytes.items < 2 ^ 64 }
     {
-        if self.is_client {
-            let reply = reply_at(alloc, site.body(), now)?;
-            self.outgoing.send(reply);
+        self.is_ready = false;
+        let reply = reply_at(alloc, site.body(), now)?;
+        self.send(alloc, reply)
+    }
+
+    /// What is offered next.
+    fn piece(&self) -> &[u8]
+        ensures { result.now ≡ (if (held self.now).open_ then next_piece (held self.now) else []) }
+    {
+        if self.is_open {
+            self.outgoing.piece()
+        } else {
+            &[]
         }
-        let offers = self.is_client;
-        self.offer_if(alloc, offers)
     }
 }
 
 impl StrandContract for LiteralStrand {
     ghost use Rattle.std.specs.Prelude.{◌≡◌, List, ℕ, [], ◌∷◌, IfOk};
     ghost use Rattle.strand_contract.specs.Actions.{LocalAction, Did, Began};
-    ghost use Rattle.strand.specs.Literal.{literal_behavior};
+    ghost use Rattle.moves.proofs.Ledgers.{asks-last};
+    ghost use Rattle.moves.proofs.Grows.{grows};
+    ghost use Rattle.moves.proofs.PlanLaws.{silent, asks-fit, hangs-up-open, leaves-nothing-open, keeps, wakes-quietly, ends-at-stop};
+    ghost use Rattle.strand.specs.Literal.{literal_plan, literal_behavior};
     ghost use Rattle.strand.specs.Turns.{held_after, left_of};
-    ghost use Rattle.strand.specs.CourseLaws.{hangs-up-open, leaves-nothing-open, keeps};
-    ghost use Rattle.strand.specs.Laws.{still, quiet, silent, asks-last};
     ghost use Rattle.strand.specs.Views.{held};
+    ghost use Rattle.strand.specs.ConditionLaws.{IsWaiting, nothing, meets};
+    ghost use Rattle.strand.specs.Laws.{still, quiet};
 
     type Site = Site;
 
     type Job = NoJob;
 
-    ghost behavior = { λ site. literal_behavior site };
-
-    ghost stands = { λ site strand es. held strand ≡ held_after site es };
+    ghost meaning = { λ site. record {
+      behavior = literal_behavior site;
+      stands = λ strand es. held strand ≡ held_after site es;
+    } };
 
     ghost left = { λ strand. left_of (held strand) };
 
     ghost still = { λ site strand a es. still site (held strand) a es };
 
-    ghost quiet = { λ site a es. quiet site a es };
+    ghost quiet = { λ site. quiet site };
 
-    ghost silent = { λ site q a es. silent site q a es };
+    ghost silent = { λ site. silent (literal_plan site) };
 
-    ghost asks_last = { λ site es. asks-last site es };
+    ghost grows = { λ site. grows (literal_plan site) };
 
-    ghost hangs_up_open = { λ site es q rest. hangs-up-open site es q rest };
+    ghost asks_last = { λ site. asks-last (literal_plan site) };
 
-    ghost leaves_nothing_open = { λ site es q. leaves-nothing-open site es q };
+    ghost asks_fit = { λ site. asks-fit (literal_plan site) IsWaiting nothing (meets _ site) };
 
-    ghost keeps = { λ site es. keeps site es };
+    ghost hangs_up_open = { λ site. hangs-up-open (literal_plan site) IsWaiting nothing (meets _ site) };
+
+    ghost leaves_nothing_open = { λ site. leaves-nothing-open (literal_plan site) IsWaiting nothing (meets _ site) };
+
+    ghost keeps = { λ site. keeps (literal_plan site) IsWaiting nothing (meets _ site) };
+
+    ghost wakes_quietly = { λ site. wakes-quietly (literal_plan site) IsWaiting nothing (meets _ site) };
+
+    ghost ends_at_stop = { λ site. ends-at-stop (literal_plan site) IsWaiting nothing (meets _ site) };
 
     fn connections(site: &Site) -> u32 {
         let _ = site;
         512
+    }
+
+    fn zones(site: &Site) -> u32 {
+        let _ = site;
+        0
+    }
+
+    fn zone_name(site: &Site, zone: u32) -> Option<&Bytes> {
+        let _ = site;
+        let _ = zone;
+        None
+    }
+
+    fn zone_size(site: &Site, zone: u32) -> u64 {
+        let _ = site;
+        let _ = zone;
+        0
     }
 
     fn begin(
@@ -187,14 +237,16 @@ impl StrandContract for LiteralStrand {
     {
         let _ = site;
         let _ = now;
-        let is_client = match start {
+        let is_open = match start {
             Start::Client(_) => true,
-            Start::Job(_, _) => false,
+            Start::Job(_, _, _) => false,
         };
         let strand = LiteralStrand {
-            is_client,
+            is_open,
             head: Head::Empty,
-            stage: Stage::Waiting,
+            is_ready: false,
+            is_put_off: false,
+            is_over: false,
             outgoing: Outgoing::new(alloc),
         };
         Ok((strand, VecDeque::new(alloc)))
@@ -207,12 +259,12 @@ impl StrandContract for LiteralStrand {
         now: Ms,
         seen: Seen,
     ) -> Result<Acts<NoJob>, AllocError> {
-        // It has no sockets: only its client's connection is offered.
+        // It has no sockets: what it is shown is of its client's connection.
         match seen {
-            Seen::Bytes(Place::Client, bytes) => self.came(alloc, bytes.as_slice()),
-            Seen::Ended(Place::Client) => self.ended(alloc),
-            Seen::Broken(Place::Client) => self.lost(alloc),
-            Seen::Ready(Place::Client) => self.taken_again(alloc),
+            Seen::Bytes(_, bytes) => self.came(alloc, bytes.as_slice()),
+            Seen::Ended(_) => self.ended(alloc),
+            Seen::Broken(_) => self.end_if(alloc, true),
+            Seen::Ready(_) => self.ready(alloc),
             Seen::Took(_, count) => self.took(alloc, count),
             Seen::Later(_) => self.put_off(alloc),
             Seen::Lost(_) => self.lost(alloc),
@@ -239,7 +291,7 @@ impl StrandContract for LiteralStrand {
     fn queued(&self, site: &Site, place: Place) -> &[u8] {
         let _ = site;
         match place {
-            Place::Client => self.outgoing.piece(),
+            Place::Client => self.piece(),
             Place::Sock(_) => &[],
         }
     }

@@ -9,39 +9,40 @@ use Rattle.resty_world.specs.declared.event.Event.{Event}
 use Rattle.strand_contract.specs.declared.turns.Place.{Place}
 use Rattle.strand_contract.specs.declared.turns.Place.TheVariants as place
 use Rattle.strand_contract.specs.declared.turns.Start.{Start}
+use Rattle.strand_contract.specs.declared.turns.Start.TheVariants as start
 
 -- what all living strands are told
 pub data Word : Type 0 where
   Moment : (t : ℕ) → Word
   Stop : Word
 
--- what happens to one strand; J is what a job starts with
+-- what happens to one strand; J is what a job starts with. An action that leaves an entry in the history has that entry's name
 pub data Action (J : Type 0) : Type 0 where
   -- it begins, at a moment
   Began : (now : ℕ) (start : Start J) → Action J
   -- what is given at its places; sockets are numbered by its own count
-  Came : (at : Place) (bytes : List ℕ) → Action J
+  Bytes : (at : Place) (bytes : List ℕ) → Action J
   Ended : (at : Place) → Action J
-  Broke : (at : Place) → Action J
-  TakesAgain : (at : Place) → Action J
-  Connected : (sock : ℕ) → Action J
+  Broken : (at : Place) → Action J
+  Ready : (at : Place) → Action J
+  Dialled : (sock : ℕ) → Action J
   Refused : (sock : ℕ) → Action J
   -- what it does, with the answer
   Put : (at : Place) (bytes : List ℕ) → Action J
   Later : (at : Place) → Action J
   Lost : (at : Place) → Action J
-  Closed : (at : Place) → Action J
-  Logged : (line : List ℕ) (done : Bool) → Action J
-  Asked : (zone : ℕ) (call : DictCall) (answer : DictAnswer) → Action J
-  Took : (key : List ℕ) (uses : Option ℕ) → Action J
-  Dialled : (host : List ℕ) (port : ℕ) (done : Bool) → Action J
-  Kept : (sock : ℕ) (key : List ℕ) (idle : Ms) (size : ℕ) → Action J
-  Timed : (due : Ms) (answer : TimerAnswer) → Action J
-  -- it is given up: memory ran out
+  Close : (at : Place) → Action J
+  Log : (line : List ℕ) (done : Bool) → Action J
+  Dict : (zone : ℕ) (call : DictCall) (answer : DictAnswer) → Action J
+  Take : (key : List ℕ) (uses : Option ℕ) → Action J
+  Dial : (host : List ℕ) (port : ℕ) (done : Bool) → Action J
+  Keep : (sock : ℕ) (key : List ℕ) (idle : Ms) (size : ℕ) → Action J
+  Timer : (due : Ms) (answer : TimerAnswer) → Action J
+  -- it is given up, out of memory: while it lives, or in the place of its beginning
   Dropped : Action J
   -- internal, without an entry: a thread runs, an offer of a place begins, a deadline is taken, Stop ends it, its life is over
-  Ran : (thread : ℕ) → Action J
-  Offered : (at : Place) → Action J
+  Run : (thread : ℕ) → Action J
+  Offer : (at : Place) → Action J
   Due : (number : ℕ) → Action J
   Halted : Action J
   Gone : Action J
@@ -71,8 +72,8 @@ same_place (place.Sock k) place.Client = false
 
 -- actions that leave no entry
 abbrev pub is_internal : {J : Type 0} → Action J → Bool
-is_internal (Ran k) = true
-is_internal (Offered q) = true
+is_internal (Run k) = true
+is_internal (Offer q) = true
 is_internal (Due n) = true
 is_internal Halted = true
 is_internal Gone = true
@@ -81,18 +82,19 @@ is_internal x = false
 -- actions that begin a turn which is an event of the strand's own: something given, a deadline, the beginning, the end by Stop
 abbrev pub is_event : {J : Type 0} → Action J → Bool
 is_event (Began now start) = true
-is_event (Came q b) = true
+is_event (Bytes q b) = true
 is_event (Ended q) = true
-is_event (Broke q) = true
-is_event (TakesAgain q) = true
-is_event (Connected k) = true
+is_event (Broken q) = true
+is_event (Ready q) = true
+is_event (Dialled k) = true
 is_event (Refused k) = true
 is_event (Due n) = true
 is_event Halted = true
 is_event x = false
 
--- events that the world gives
+-- events that the world gives; a job's beginning isn't one
 abbrev pub is_given : {J : Type 0} → Action J → Bool
+is_given (Began now (start.Job j premature job)) = false
 is_given (Due n) = false
 is_given Halted = false
 is_given x = is_event x

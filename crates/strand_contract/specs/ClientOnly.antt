@@ -1,12 +1,11 @@
 -- Strands that have nothing but their client's connection: their acts queue turns, hang up and end a life.
-use Rattle.std.specs.Prelude.{◌≡◌, ℕ, true, false, List, [], ◌∷◌}
+use Rattle.std.specs.Prelude.{◌≡◌, ℕ, false, List, [], ◌∷◌}
 use Rattle.strand_contract.specs.declared.turns.Place.TheVariants as place
 use Rattle.strand_contract.specs.declared.turns.Act.{Act}
 use Rattle.strand_contract.specs.declared.turns.Act.TheVariants as act
 use Rattle.strand_contract.specs.Actions.{LocalAction}
 use Rattle.strand_contract.specs.Behaviors.{Behavior}
 use Rattle.strand_contract.specs.Alone.{lives, is_open, todo, armed}
-use Rattle.strand_contract.specs.Calls.{is_still}
 
 -- the acts queue turns, hang up and end a life, and no more
 abbrev pub IsClientOnly : {J : Type 0} → List (Act J) → Type 0
@@ -28,7 +27,3 @@ pub record HasClientOnly {J : Type 0} (b : Behavior J) (es : List (LocalAction J
 pub record IsOver {J : Type 0} (b : Behavior J) (es : List (LocalAction J)) : Type 0 where
   pub dead : lives es ≡ false
   pub no_act : todo b es ≡ []
-
--- what is no turn of the strand gives no acts
-abbrev pub IsQuiet : {J : Type 0} → Behavior J → Type 0
-IsQuiet {J} b = (a : LocalAction J) (es : List (LocalAction J)) → is_still a ≡ true → b.acts (a ∷ es) ≡ []

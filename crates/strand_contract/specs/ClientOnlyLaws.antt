@@ -6,12 +6,13 @@ use Rattle.strand_contract.specs.declared.turns.Start.TheVariants as start
 use Rattle.strand_contract.specs.declared.turns.Act.{Act}
 use Rattle.strand_contract.specs.declared.turns.Act.TheVariants as act
 use Rattle.strand_contract.specs.declared.turns.Answer.{Answer}
-use Rattle.strand_contract.specs.Actions.{Action, LocalAction, Told, Did, same_place, Began, Came, Ended, Broke, TakesAgain, Connected, Refused}
-use Rattle.strand_contract.specs.Actions.{Put, Later, Lost, Closed, Logged, Asked, Took, Dialled, Kept, Timed, Dropped, Ran, Offered, Due, Halted, Gone}
+use Rattle.strand_contract.specs.Actions.{Action, LocalAction, Told, Did, same_place, Began, Bytes, Ended, Broken, Ready, Dialled, Refused}
+use Rattle.strand_contract.specs.Actions.{Put, Later, Lost, Close, Log, Dict, Take, Dial, Keep, Timer, Dropped, Run, Offer, Due, Halted, Gone}
 use Rattle.strand_contract.specs.Behaviors.{Behavior}
 use Rattle.strand_contract.specs.Alone.{lives, was_dropped, is_open, moment, todo, left_by, carried, armed, armed_by, taken_by, due, IsExecution}
-use Rattle.strand_contract.specs.Calls.{answered, is_still}
-use Rattle.strand_contract.specs.ClientOnly.{IsClientOnly, HasClientOnly, IsOver, IsQuiet}
+use Rattle.strand_contract.specs.Calls.{answered}
+use Rattle.strand_contract.specs.Laws.{is_still, IsQuiet}
+use Rattle.strand_contract.specs.ClientOnly.{IsClientOnly, HasClientOnly, IsOver}
 
 only-append : (J : Type 0) (xs ys : List (Act J)) → IsClientOnly xs → IsClientOnly ys → IsClientOnly (xs ++ ys)
 only-append J [] ys p q = q
@@ -41,13 +42,13 @@ only-drop J (act.Gone ∷ xs) p = p
 only-drop J (a ∷ xs) p = absurd p
 
 only-left_by : (J : Type 0) (a : LocalAction J) (acts : List (Act J)) → IsClientOnly acts → IsClientOnly (left_by a acts)
-only-left_by J (Did (Closed q)) acts p = only-drop J acts p
-only-left_by J (Did (Logged line done)) acts p = only-drop J acts p
-only-left_by J (Did (Asked zone call answer)) acts p = only-drop J acts p
-only-left_by J (Did (Took key uses)) acts p = only-drop J acts p
-only-left_by J (Did (Dialled host port done)) acts p = only-drop J acts p
-only-left_by J (Did (Kept k key idle size)) acts p = only-drop J acts p
-only-left_by J (Did (Timed at answer)) acts p = only-drop J acts p
+only-left_by J (Did (Close q)) acts p = only-drop J acts p
+only-left_by J (Did (Log line done)) acts p = only-drop J acts p
+only-left_by J (Did (Dict zone call answer)) acts p = only-drop J acts p
+only-left_by J (Did (Take key uses)) acts p = only-drop J acts p
+only-left_by J (Did (Dial host port done)) acts p = only-drop J acts p
+only-left_by J (Did (Keep k key idle size)) acts p = only-drop J acts p
+only-left_by J (Did (Timer at answer)) acts p = only-drop J acts p
 only-left_by J (Did Gone) acts p = only-drop J acts p
 only-left_by J (Did Dropped) acts p = tt
 only-left_by J a acts p = p
@@ -76,10 +77,10 @@ closed-stays false c h = h
 no-socket : {J : Type 0} (b : Behavior J) (a : LocalAction J) (es : List (LocalAction J)) (k : ℕ) → IsExecution b (a ∷ es) → IsClientOnly (todo b es)
     → is_open (place.Sock k) es ≡ false → is_open (place.Sock k) (a ∷ es) ≡ false
 no-socket b (Did (Began now (start.Client c))) es k f p h = refl
-no-socket b (Did (Dialled host port true)) es k f p h = never _ _ p f.1 (λ w. absurd w)
-no-socket b (Did (Took key (Some uses))) es k f p h = never _ _ p f.1 (λ w. absurd w)
-no-socket b (Did (Closed q)) es k f p h = closed-stays (same_place (place.Sock k) q) _ h
-no-socket b (Did (Kept j key idle size)) es k f p h = never _ _ p f.1 (λ w. absurd w)
+no-socket b (Did (Dial host port true)) es k f p h = never _ _ p f.1 (λ w. absurd w)
+no-socket b (Did (Take key (Some uses))) es k f p h = never _ _ p f.1 (λ w. absurd w)
+no-socket b (Did (Close q)) es k f p h = closed-stays (same_place (place.Sock k) q) _ h
+no-socket b (Did (Keep j key idle size)) es k f p h = never _ _ p f.1.0 (λ w. absurd w)
 no-socket b a es k f p h = h
 
 -- what the acts of all turns are, the whole execution keeps to
@@ -109,27 +110,27 @@ pub over : {J : Type 0} (b : Behavior J) → IsQuiet b → (es : List (LocalActi
 over b quiet [] f h = clash false h refl
 over b quiet (Told w ∷ es) f h = clash (lives es) f.1.0 (over b quiet es f.0 h).dead
 over b quiet (Did (Began now begin) ∷ es) f h = clash (was_dropped es) h (ap was_dropped f.1)
-over b quiet (Did (Came q bytes) ∷ es) f h = clash (lives es) f.1.0.living (over b quiet es f.0 h).dead
+over b quiet (Did (Bytes q bytes) ∷ es) f h = clash (lives es) f.1.0.living (over b quiet es f.0 h).dead
 over b quiet (Did (Ended q) ∷ es) f h = clash (lives es) f.1.living (over b quiet es f.0 h).dead
-over b quiet (Did (Broke q) ∷ es) f h = clash (lives es) f.1.living (over b quiet es f.0 h).dead
-over b quiet (Did (TakesAgain q) ∷ es) f h = clash (lives es) f.1.living (over b quiet es f.0 h).dead
-over b quiet (Did (Connected k) ∷ es) f h = clash (lives es) f.1.living (over b quiet es f.0 h).dead
+over b quiet (Did (Broken q) ∷ es) f h = clash (lives es) f.1.living (over b quiet es f.0 h).dead
+over b quiet (Did (Ready q) ∷ es) f h = clash (lives es) f.1.living (over b quiet es f.0 h).dead
+over b quiet (Did (Dialled k) ∷ es) f h = clash (lives es) f.1.living (over b quiet es f.0 h).dead
 over b quiet (Did (Refused k) ∷ es) f h = clash (lives es) f.1.living (over b quiet es f.0 h).dead
 over b quiet (Did (Put q bytes) ∷ es) f h = clash (lives es) f.1.0.living (over b quiet es f.0 h).dead
 over b quiet (Did (Later q) ∷ es) f h = clash (lives es) f.1.living (over b quiet es f.0 h).dead
 over b quiet (Did (Lost q) ∷ es) f h = clash (lives es) f.1.living (over b quiet es f.0 h).dead
-over b quiet (Did (Closed q) ∷ es) f h =
+over b quiet (Did (Close q) ∷ es) f h =
     let before : IsOver b es = over b quiet es f.0 h in
-    record { dead = before.dead; no_act = still-over b (Did (Closed q)) es quiet refl refl before.no_act }
-over b quiet (Did (Logged line done) ∷ es) f h = differs _ f.1.0 _ f.1.1 (over b quiet es f.0 h).no_act
-over b quiet (Did (Asked zone call answer) ∷ es) f h = differs _ _ _ f.1 (over b quiet es f.0 h).no_act
-over b quiet (Did (Took key uses) ∷ es) f h = differs _ _ _ f.1 (over b quiet es f.0 h).no_act
-over b quiet (Did (Dialled host port done) ∷ es) f h = differs _ _ _ f.1 (over b quiet es f.0 h).no_act
-over b quiet (Did (Kept k key idle size) ∷ es) f h = differs _ _ _ f.1 (over b quiet es f.0 h).no_act
-over b quiet (Did (Timed at answer) ∷ es) f h = differs _ _ _ f.1.1 (over b quiet es f.0 h).no_act
+    record { dead = before.dead; no_act = still-over b (Did (Close q)) es quiet refl refl before.no_act }
+over b quiet (Did (Log line done) ∷ es) f h = differs _ f.1.0 _ f.1.1 (over b quiet es f.0 h).no_act
+over b quiet (Did (Dict zone call answer) ∷ es) f h = differs _ _ _ f.1.0 (over b quiet es f.0 h).no_act
+over b quiet (Did (Take key uses) ∷ es) f h = differs _ _ _ f.1 (over b quiet es f.0 h).no_act
+over b quiet (Did (Dial host port done) ∷ es) f h = differs _ _ _ f.1 (over b quiet es f.0 h).no_act
+over b quiet (Did (Keep k key idle size) ∷ es) f h = differs _ _ _ f.1.0 (over b quiet es f.0 h).no_act
+over b quiet (Did (Timer at answer) ∷ es) f h = differs _ _ _ f.1.1 (over b quiet es f.0 h).no_act
 over b quiet (Did Dropped ∷ es) f h = record { dead = refl; no_act = rw (quiet (Did Dropped) es refl) refl }
-over b quiet (Did (Ran k) ∷ es) f h = clash (lives es) f.1.0.living (over b quiet es f.0 h).dead
-over b quiet (Did (Offered q) ∷ es) f h = clash (lives es) f.1.0.living (over b quiet es f.0 h).dead
+over b quiet (Did (Run k) ∷ es) f h = clash (lives es) f.1.0.living (over b quiet es f.0 h).dead
+over b quiet (Did (Offer q) ∷ es) f h = clash (lives es) f.1.0.living (over b quiet es f.0 h).dead
 over b quiet (Did (Due n) ∷ es) f h = clash (lives es) f.1.0.living (over b quiet es f.0 h).dead
 over b quiet (Did Halted ∷ es) f h = clash (lives es) f.1.0.living (over b quiet es f.0 h).dead
 over b quiet (Did Gone ∷ es) f h = differs _ _ _ f.1 (over b quiet es f.0 h).no_act

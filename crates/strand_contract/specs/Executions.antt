@@ -1,6 +1,6 @@
 -- Executions of all strands: what one strand sees of them, the history that they leave, and what makes them lawful.
 -- Here ms is an execution of all strands, s a strand, and n the world's number of a socket that an action gains.
-use Rattle.std.specs.Prelude.{◌≡◌, ℕ, ◌+◌, ◌-◌, ◌<◌, ◌≤◌, max, Bool, true, false, ◌||◌}
+use Rattle.std.specs.Prelude.{◌≡◌, ℕ, ◌+◌, ◌-◌, ◌<◌, ◌≤◌, max, Bool, true, false}
 use Rattle.std.specs.Prelude.{List, [], ◌∷◌, ◌++◌, Option, Some, None, slice_index, length, if◌then◌else◌}
 use Rattle.resty_base.specs.declared.names.Id.{Id}
 use Rattle.resty_base.specs.declared.names.Id.TheVariants as id
@@ -16,8 +16,8 @@ use Rattle.strand_contract.specs.declared.turns.Start.{Start}
 use Rattle.strand_contract.specs.declared.turns.Start.TheVariants as start
 use Rattle.strand_contract.specs.Actions.{Word, Moment, Stop, Action, LocalAction, Told, Did, GlobalAction}
 use Rattle.strand_contract.specs.Actions.{Of, Everyone, TurnedAway, IdleGave, IdleClosed, is_given, is_internal}
-use Rattle.strand_contract.specs.Actions.{Began, Came, Ended, Broke, TakesAgain, Connected, Refused}
-use Rattle.strand_contract.specs.Actions.{Put, Later, Lost, Closed, Logged, Asked, Took, Dialled, Kept, Timed, Dropped}
+use Rattle.strand_contract.specs.Actions.{Began, Bytes, Ended, Broken, Ready, Dialled, Refused}
+use Rattle.strand_contract.specs.Actions.{Put, Later, Lost, Close, Log, Dict, Take, Dial, Keep, Timer, Dropped}
 use Rattle.strand_contract.specs.Behaviors.{Behavior}
 use Rattle.strand_contract.specs.Alone.{lives, piece, IsExecution, IsQuiescent, KeepsNothingBack}
 
@@ -40,8 +40,8 @@ part s ms = without_internal (projection s ms)
 
 -- the world's number of the socket that an action gains
 abbrev pub gained : {J : Type 0} → Action J → Option ℕ → List ℕ
-gained (Dialled host port true) (Some n) = n ∷ []
-gained (Took key (Some uses)) (Some n) = n ∷ []
+gained (Dial host port true) (Some n) = n ∷ []
+gained (Take key (Some uses)) (Some n) = n ∷ []
 gained x n = []
 
 -- the world's numbers of the sockets that a strand got, in order
@@ -59,7 +59,7 @@ id_at s (place.Sock k) ms = id.Sock (slice_index (sockets s ms) k)
 -- the entry that a strand's beginning leaves
 abbrev pub start_entry : {J : Type 0} → Start J → Entry
 start_entry (start.Client c) = entry.Given (event.Arrive c)
-start_entry (start.Job n job) = entry.Start n
+start_entry (start.Job n premature job) = entry.Start n
 
 -- the world's number and the uses of a socket that was taken
 abbrev pub found : Option ℕ → Option ℕ → Option (ℕ × ℕ)
@@ -69,22 +69,22 @@ found n uses = None
 -- the entry of an action of a strand, where it leaves one
 abbrev pub entry_of : {J : Type 0} → Behavior J → StrandId → Action J → Option ℕ → List (GlobalAction J) → List Entry
 entry_of b s (Began now begin) n ms = start_entry begin ∷ []
-entry_of b s (Came q bytes) n ms = entry.Given (event.Bytes (id_at s q ms) bytes) ∷ []
+entry_of b s (Bytes q bytes) n ms = entry.Given (event.Bytes (id_at s q ms) bytes) ∷ []
 entry_of b s (Ended q) n ms = entry.Given (event.Ended (id_at s q ms)) ∷ []
-entry_of b s (Broke q) n ms = entry.Given (event.Broken (id_at s q ms)) ∷ []
-entry_of b s (TakesAgain q) n ms = entry.Given (event.Ready (id_at s q ms)) ∷ []
-entry_of b s (Connected k) n ms = entry.Given (event.Dialled (slice_index (sockets s ms) k)) ∷ []
+entry_of b s (Broken q) n ms = entry.Given (event.Broken (id_at s q ms)) ∷ []
+entry_of b s (Ready q) n ms = entry.Given (event.Ready (id_at s q ms)) ∷ []
+entry_of b s (Dialled k) n ms = entry.Given (event.Dialled (slice_index (sockets s ms) k)) ∷ []
 entry_of b s (Refused k) n ms = entry.Given (event.Refused (slice_index (sockets s ms) k)) ∷ []
 entry_of b s (Put q bytes) n ms = entry.Put (id_at s q ms) bytes ∷ []
 entry_of b s (Later q) n ms = entry.Later (id_at s q ms) ∷ []
 entry_of b s (Lost q) n ms = entry.Lost (id_at s q ms) ∷ []
-entry_of b s (Closed q) n ms = entry.Close (id_at s q ms) ∷ []
-entry_of b s (Logged line done) n ms = entry.Log s line done ∷ []
-entry_of b s (Asked zone call answer) n ms = entry.Dict s (b.zone_name zone) call answer ∷ []
-entry_of b s (Took key uses) n ms = entry.Take s key (found n uses) ∷ []
-entry_of b s (Dialled host port done) n ms = entry.Dial s host port n ∷ []
-entry_of b s (Kept k key idle size) n ms = entry.Keep s (slice_index (sockets s ms) k) key idle size n ∷ []
-entry_of b s (Timed at answer) n ms = entry.Timer s at answer ∷ []
+entry_of b s (Close q) n ms = entry.Close (id_at s q ms) ∷ []
+entry_of b s (Log line done) n ms = entry.Log s line done ∷ []
+entry_of b s (Dict zone call answer) n ms = entry.Dict s (b.zone_name zone) call answer ∷ []
+entry_of b s (Take key uses) n ms = entry.Take s key (found n uses) ∷ []
+entry_of b s (Dial host port done) n ms = entry.Dial s host port n ∷ []
+entry_of b s (Keep k key idle size) n ms = entry.Keep s (slice_index (sockets s ms) k) key idle size n ∷ []
+entry_of b s (Timer at answer) n ms = entry.Timer s at answer ∷ []
 entry_of b s Dropped n ms = entry.Dropped s ∷ []
 entry_of b s x n ms = []
 
@@ -145,21 +145,10 @@ abbrev pub IsStartOf : {J : Type 0} → StrandId → Start J → Type 0
 IsStartOf (strand.Conn k) (start.Client c) = c ≡ k
 IsStartOf s begin = ⊥
 
--- the strand has begun
-abbrev pub has_begun : {J : Type 0} → StrandId → List (GlobalAction J) → Bool
-has_begun s [] = false
-has_begun s (Of t (Began now begin) n ∷ ms) = same_strand s t || has_begun s ms
-has_begun s (m ∷ ms) = has_begun s ms
-
--- connections are numbered in the order of their arrival
-abbrev pub IsNewest : {J : Type 0} → StrandId → List (GlobalAction J) → Type 0
-IsNewest (strand.Conn c) ms = (t : ℕ) → has_begun (strand.Conn t) ms ≡ true → t < c
-IsNewest (strand.Job n) ms = Unit {0}
-
 -- each strand begins with its own start, at the present moment
 abbrev pub BeginsRight : {J : Type 0} → List (GlobalAction J) → Type 0
 BeginsRight [] = Unit {0}
-BeginsRight (Of s (Began now begin) n ∷ ms) = BeginsRight ms × IsStartOf s begin × (now ≡ present ms) × IsNewest s ms
+BeginsRight (Of s (Began now begin) n ∷ ms) = BeginsRight ms × IsStartOf s begin × (now ≡ present ms)
 BeginsRight (m ∷ ms) = BeginsRight ms
 
 -- each strand does what it would do alone, from its own start and moment; at each given event and at the end all are at rest
@@ -184,19 +173,30 @@ IsKept b ms = HeldNothingBack b ms × NoneHoldsBack b ms
 abbrev pub open_connections : {J : Type 0} → List (GlobalAction J) → ℕ
 open_connections [] = 0
 open_connections (Of s (Began now (start.Client c)) n ∷ ms) = open_connections ms + 1
-open_connections (Of s (Closed place.Client) n ∷ ms) = open_connections ms - 1
+open_connections (Of s (Close place.Client) n ∷ ms) = open_connections ms - 1
 open_connections (m ∷ ms) = open_connections ms
 
--- a connection is turned away exactly where as many are open as may be. (There is no dictionary, pool or timer yet.)
+-- how many connections arrived
+abbrev pub arrived_by : {J : Type 0} → GlobalAction J → ℕ
+arrived_by (Of s (Began now (start.Client c)) n) = 1
+arrived_by (TurnedAway c) = 1
+arrived_by m = 0
+
+abbrev pub arrived : {J : Type 0} → List (GlobalAction J) → ℕ
+arrived [] = 0
+arrived (m ∷ ms) = arrived ms + arrived_by m
+
+-- connections are numbered as they arrive, and turned away exactly where as many are open as may be.
+-- (There is no dictionary, pool or timer yet.)
 abbrev pub IsPlain : {J : Type 0} → Behavior J → List (GlobalAction J) → Type 0
 IsPlain b [] = Unit {0}
-IsPlain b (Of s (Began now (start.Client c)) n ∷ ms) = IsPlain b ms × (open_connections ms < b.connections)
-IsPlain b (TurnedAway c ∷ ms) = IsPlain b ms × (b.connections ≤ open_connections ms)
-IsPlain b (Of s (Asked zone call answer) n ∷ ms) = ⊥
-IsPlain b (Of s (Took key uses) n ∷ ms) = ⊥
-IsPlain b (Of s (Dialled host port done) n ∷ ms) = ⊥
-IsPlain b (Of s (Kept k key idle size) n ∷ ms) = ⊥
-IsPlain b (Of s (Timed at answer) n ∷ ms) = ⊥
+IsPlain b (Of s (Began now (start.Client c)) n ∷ ms) = IsPlain b ms × (c ≡ arrived ms + 1) × (open_connections ms < b.connections)
+IsPlain b (TurnedAway c ∷ ms) = IsPlain b ms × (c ≡ arrived ms + 1) × (b.connections ≤ open_connections ms)
+IsPlain b (Of s (Dict zone call answer) n ∷ ms) = ⊥
+IsPlain b (Of s (Take key uses) n ∷ ms) = ⊥
+IsPlain b (Of s (Dial host port done) n ∷ ms) = ⊥
+IsPlain b (Of s (Keep k key idle size) n ∷ ms) = ⊥
+IsPlain b (Of s (Timer at answer) n ∷ ms) = ⊥
 IsPlain b (IdleGave e ∷ ms) = ⊥
 IsPlain b (IdleClosed n ∷ ms) = ⊥
 IsPlain b (m ∷ ms) = IsPlain b ms

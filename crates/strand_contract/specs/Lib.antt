@@ -1,10 +1,12 @@
 pub mod Actions
 pub mod Behaviors
 pub mod Alone
+pub mod Calls
+pub mod Laws
 pub mod Executions
 pub mod Order
-pub mod Calls
 pub mod Mute
+pub mod OpenPlaceLaws
 pub mod ClientOnly
 pub mod ClientOnlyLaws
 pub mod MuteLaws

@@ -30,7 +30,7 @@ mute_acts (a ∷ es) = []
 
 -- it sends nothing
 abbrev pub mute_behavior : {J : Type 0} → Behavior J
-mute_behavior = record { acts = mute_acts; sent = λ q es. []; zone_name = λ n. []; connections = 512 }
+mute_behavior = record { acts = mute_acts; sent = λ q es. []; zones = 0; zone_name = λ n. []; zone_size = λ n. 0; connections = 512 }
 
 -- the action is the end by Stop; and it has come
 abbrev pub is_halt : {J : Type 0} → LocalAction J → Bool

@@ -10,11 +10,12 @@ use Rattle.strand_contract.specs.declared.turns.Act.TheVariants as act
 use Rattle.strand_contract.specs.declared.turns.Answer.{Answer}
 use Rattle.strand_contract.specs.declared.turns.Seen.{Seen}
 use Rattle.strand_contract.specs.declared.turns.Seen.TheVariants as seen
-use Rattle.strand_contract.specs.Actions.{Action, Moment, Stop, LocalAction, Told, Did, Began, Came, Ended, Broke, TakesAgain, Connected, Refused}
-use Rattle.strand_contract.specs.Actions.{Put, Later, Lost, Closed, Logged, Asked, Took, Dialled, Kept, Timed, Dropped, Ran, Offered, Due, Halted, Gone}
+use Rattle.strand_contract.specs.Actions.{Action, Moment, Stop, LocalAction, Told, Did, Began, Bytes, Ended, Broken, Ready, Dialled, Refused}
+use Rattle.strand_contract.specs.Actions.{Put, Later, Lost, Close, Log, Dict, Take, Dial, Keep, Timer, Dropped, Run, Offer, Due, Halted, Gone}
 use Rattle.strand_contract.specs.Alone.{lives, is_open, taken, todo, carried, lined_up, offers, waiting, to_offer}
 use Rattle.strand_contract.specs.Alone.{queued, offering, going_on, begun_offer, IsExecution, IsFirstOpen, KeepsNothingBack, IsNextAct}
-use Rattle.strand_contract.specs.Calls.{action_of, answered, is_own_turn, is_still, IsLastAct}
+use Rattle.strand_contract.specs.Calls.{action_of, answered, is_own_turn}
+use Rattle.strand_contract.specs.Laws.{is_still, is_waking_turn, IsLastAct, IsMild, IsEnding, IsAskedRight}
 use Rattle.strand_contract.specs.ClientOnly.{IsClientOnly}
 use Rattle.strand_contract.specs.ClientOnlyLaws.{client-only, never, over, clash, none-due, first-of-none, unasked}
 use Rattle.strand_contract.specs.Mute.{is_client, end_acts, mute_acts, mute_behavior, was_halted}
@@ -127,7 +128,7 @@ begun now (start.Client c) es e g = record {
   before = λ p q. refl;
   after = λ p q r. clash (was_halted es) p (ap was_halted e);
 }
-begun now (start.Job n job) es e g = record {
+begun now (start.Job n premature job) es e g = record {
   to_do = inl (no-line _ (ap (todo mute_behavior) e));
   no_thread = g.no_thread;
   no_place = no-line _ g.no_place;
@@ -180,7 +181,7 @@ hung acts rest q live opened stopped t e = elim t [
 
 closed : {J : Type 0} (es : List (LocalAction J)) (q : Place) → Course es
     → (IsNextAct mute_behavior es (act.HangUp q) × (is_open q es ≡ true)) ⊎ IsFirstOpen es q
-    → IsExecution (mute_behavior {J = J}) es → Course (Did (Closed q) ∷ es)
+    → IsExecution (mute_behavior {J = J}) es → Course (Did (Close q) ∷ es)
 closed es q g f execution = elim f [
   | inl w ↦ (let h = hung _ w.0.0 q _ _ _ g.to_do w.0.1 in record {
     to_do = inr (inr (rw h.1 refl, h.2, rw h.0 refl, h.4));
@@ -189,7 +190,7 @@ closed es q g f execution = elim f [
     before = λ p r. clash (was_halted es) h.4 p;
     after = λ p r s. absurd (let k : act.Gone ∷ [] ≡ [] = rw h.1 at s in cc);
   })
-  | inr w ↦ (let h = over mute_behavior mute-quiet es execution w.dropped in gone _ es g (rw h.no_act refl) refl refl h.dead)
+  | inr w ↦ (let h = over mute_behavior mute-quiet es execution w.0 in gone _ es g (rw h.no_act refl) refl refl h.dead)
 ]
 
 pub course : {J : Type 0} (es : List (LocalAction J)) → IsExecution mute_behavior es → Course es
@@ -197,26 +198,26 @@ course [] f = record { to_do = inl refl; no_thread = refl; no_place = refl; befo
 course (Told (Moment t) ∷ es) f = same _ es (course es f.0) f.1.1.no_act f.1.0 refl refl refl refl refl refl refl
 course (Told Stop ∷ es) f = same _ es (course es f.0) f.1.1.no_act f.1.0 refl refl refl refl refl refl refl
 course (Did (Began now begin) ∷ es) f = begun now begin es f.1 (course es f.0)
-course (Did (Came q bytes) ∷ es) f = same _ es (course es f.0) f.1.0.idle.no_act f.1.0.living refl refl refl refl refl refl refl
+course (Did (Bytes q bytes) ∷ es) f = same _ es (course es f.0) f.1.0.idle.no_act f.1.0.living refl refl refl refl refl refl refl
 course (Did (Ended q) ∷ es) f = same _ es (course es f.0) f.1.idle.no_act f.1.living refl refl refl refl refl refl refl
-course (Did (Broke q) ∷ es) f = same _ es (course es f.0) f.1.idle.no_act f.1.living refl refl refl refl refl refl refl
-course (Did (TakesAgain q) ∷ es) f = same _ es (course es f.0) f.1.idle.no_act f.1.living refl refl refl refl refl refl refl
-course (Did (Connected k) ∷ es) f = same _ es (course es f.0) f.1.idle.no_act f.1.living refl refl refl refl refl refl refl
+course (Did (Broken q) ∷ es) f = same _ es (course es f.0) f.1.idle.no_act f.1.living refl refl refl refl refl refl refl
+course (Did (Ready q) ∷ es) f = same _ es (course es f.0) f.1.idle.no_act f.1.living refl refl refl refl refl refl refl
+course (Did (Dialled k) ∷ es) f = same _ es (course es f.0) f.1.idle.no_act f.1.living refl refl refl refl refl refl refl
 course (Did (Refused k) ∷ es) f = same _ es (course es f.0) f.1.idle.no_act f.1.living refl refl refl refl refl refl refl
 course (Did (Put q bytes) ∷ es) f = never-offers es q f.1.0.offered
 course (Did (Later q) ∷ es) f = never-offers es q f.1.offered
 course (Did (Lost q) ∷ es) f = never-offers es q f.1.offered
-course (Did (Closed q) ∷ es) f = closed es q (course es f.0) f.1 f.0
-course (Did (Logged line done) ∷ es) f = never _ _ (client-only mute_behavior mute-only es f.0).to_do f.1.1 (λ w. absurd w)
-course (Did (Asked zone call answer) ∷ es) f = never _ _ (client-only mute_behavior mute-only es f.0).to_do f.1 (λ w. absurd w)
-course (Did (Took key uses) ∷ es) f = never _ _ (client-only mute_behavior mute-only es f.0).to_do f.1 (λ w. absurd w)
-course (Did (Dialled host port done) ∷ es) f = never _ _ (client-only mute_behavior mute-only es f.0).to_do f.1 (λ w. absurd w)
-course (Did (Kept k key idle size) ∷ es) f = never _ _ (client-only mute_behavior mute-only es f.0).to_do f.1 (λ w. absurd w)
-course (Did (Timed at answer) ∷ es) f = never _ _ (client-only mute_behavior mute-only es f.0).to_do f.1.1 (λ w. absurd w)
+course (Did (Close q) ∷ es) f = closed es q (course es f.0) f.1 f.0
+course (Did (Log line done) ∷ es) f = never _ _ (client-only mute_behavior mute-only es f.0).to_do f.1.1 (λ w. absurd w)
+course (Did (Dict zone call answer) ∷ es) f = never _ _ (client-only mute_behavior mute-only es f.0).to_do f.1.0 (λ w. absurd w)
+course (Did (Take key uses) ∷ es) f = never _ _ (client-only mute_behavior mute-only es f.0).to_do f.1 (λ w. absurd w)
+course (Did (Dial host port done) ∷ es) f = never _ _ (client-only mute_behavior mute-only es f.0).to_do f.1 (λ w. absurd w)
+course (Did (Keep k key idle size) ∷ es) f = never _ _ (client-only mute_behavior mute-only es f.0).to_do f.1.0 (λ w. absurd w)
+course (Did (Timer at answer) ∷ es) f = never _ _ (client-only mute_behavior mute-only es f.0).to_do f.1.1 (λ w. absurd w)
 course (Did Dropped ∷ es) f = gone _ es (course es f.0) refl refl refl refl
-course (Did (Ran k) ∷ es) f = first-of-none _ _ k f.1.1.1 (course es f.0).no_thread
-course (Did (Offered q) ∷ es) f = first-of-none _ _ q f.1.1.1 (course es f.0).no_place
-course (Did (Due n) ∷ es) f = none-due mute_behavior es _ (client-only mute_behavior mute-only es f.0) f.1.1.1
+course (Did (Run k) ∷ es) f = first-of-none _ _ k f.1.1.1 (course es f.0).no_thread
+course (Did (Offer q) ∷ es) f = first-of-none _ _ q f.1.1.1 (course es f.0).no_place
+course (Did (Due n) ∷ es) f = none-due mute_behavior es _ (client-only mute_behavior mute-only es f.0) f.1.2.1
 course (Did Halted ∷ es) f = halted es (course es f.0) f.1.0.living f.1.0.no_act
 course (Did Gone ∷ es) f = gone _ es (course es f.0) (rw f.1 refl) refl refl refl
 
@@ -251,7 +252,7 @@ pub mute-turns : {J : Type 0} (es : List (LocalAction J)) (shown : Seen) → is_
 mute-turns es (seen.Took q n) h f = never-offers es q f.1.0.offered
 mute-turns es (seen.Later q) h f = never-offers es q f.1.offered
 mute-turns es (seen.Lost q) h f = never-offers es q f.1.offered
-mute-turns es (seen.Due n) h f = none-due mute_behavior es _ (client-only mute_behavior mute-only es f.0) f.1.1.1
+mute-turns es (seen.Due n) h f = none-due mute_behavior es _ (client-only mute_behavior mute-only es f.0) f.1.2.1
 mute-turns es (seen.Run k) h f = first-of-none _ _ k f.1.1.1 (course es f.0).no_thread
 mute-turns es seen.Stop h f = (refl, unhalted es (course es f.0) f.1.0.living f.1.0.no_act)
 mute-turns es other h f = clash false h refl
@@ -261,3 +262,23 @@ pub mute-left : {J : Type 0} (acts : List (Act J)) (client was is : Bool) → wa
     → (if is then 0 else 3) + length acts < (if was then 0 else 3)
 mute-left acts true was is p q e = rw (p, q, e) (lit< tt)
 mute-left acts false was is p q e = rw (p, q, e) (lit< tt)
+
+pub mute-asks-fit : {J : Type 0} (es : List (LocalAction J)) → IsExecution mute_behavior es → IsAskedRight mute_behavior es (todo mute_behavior es)
+mute-asks-fit {J = J} es f = fits (todo mute_behavior es) (client-only mute_behavior mute-only es f).to_do
+  where
+    fits : (acts : List (Act J)) → IsClientOnly acts → IsAskedRight mute_behavior es acts
+    fits [] only = tt
+    fits (act.Dict zone call ∷ acts) only = absurd only
+    fits (act.Keep k key idle size ∷ acts) only = absurd only
+    fits (a ∷ acts) only = tt
+
+pub mute-wakes : {J : Type 0} (a : LocalAction J) (es : List (LocalAction J)) → is_waking_turn a ≡ true → IsMild (mute_acts (a ∷ es))
+mute-wakes (Did Halted) es h = clash false h refl
+mute-wakes a es h = tt
+
+pub mute-ends : {J : Type 0} (es : List (LocalAction J)) → IsEnding (mute_acts (Did Halted ∷ es))
+mute-ends {J = J} es = ends (is_client es)
+  where
+    ends : (b : Bool) → IsEnding (end_acts {J = J} b)
+    ends true = refl
+    ends false = refl

@@ -5,10 +5,10 @@ use Rattle.resty_world.specs.Ids.{same_strand}
 use Rattle.strand_contract.specs.declared.turns.Place.{Place}
 use Rattle.strand_contract.specs.declared.turns.Act.{Act}
 use Rattle.strand_contract.specs.declared.turns.Act.TheVariants as act
-use Rattle.strand_contract.specs.Actions.{Action, Began, Dropped, Ran, Offered, Due, Halted, Did, GlobalAction, Of, is_event, is_given}
+use Rattle.strand_contract.specs.Actions.{Action, Began, Dropped, Run, Offer, Due, Halted, LocalAction, Did, GlobalAction, Of, is_event, is_given}
 use Rattle.strand_contract.specs.Behaviors.{Behavior}
-use Rattle.strand_contract.specs.Alone.{lives, is_stopping, waiting, to_offer, offers, IsBetween}
-use Rattle.strand_contract.specs.Executions.{projection, has_given, has_begun}
+use Rattle.strand_contract.specs.Alone.{lives, is_stopping, open_places, waiting, to_offer, offers, IsBetween}
+use Rattle.strand_contract.specs.Executions.{projection, has_given}
 
 -- xs is ys with some left out, in the same order
 pub data IsSubsequence {A : Type 0} : List A → List A → Type 0 where
@@ -32,7 +32,7 @@ readied (act.Ready k ∷ acts) = k ∷ readied acts
 readied (a ∷ acts) = readied acts
 
 abbrev pub run_of : {J : Type 0} → Action J → List ℕ
-run_of (Ran k) = k ∷ []
+run_of (Run k) = k ∷ []
 run_of x = []
 
 abbrev pub all_readied : {J : Type 0} → Behavior J → List (GlobalAction J) → List (StrandId × ℕ)
@@ -47,7 +47,7 @@ all_run (m ∷ ms) = all_run ms
 
 -- the places that acts put into the offer queue, and those whose offer begins, the oldest first
 abbrev pub offer_of : {J : Type 0} → Action J → List Place
-offer_of (Offered q) = q ∷ []
+offer_of (Offer q) = q ∷ []
 offer_of x = []
 
 abbrev pub all_placed : {J : Type 0} → Behavior J → List (GlobalAction J) → List (StrandId × Place)
@@ -60,6 +60,12 @@ all_offered [] = []
 all_offered (Of s x n ∷ ms) = all_offered ms ++ with_strand s (offer_of x)
 all_offered (m ∷ ms) = all_offered ms
 
+-- the strand has begun
+abbrev pub has_begun : {J : Type 0} → StrandId → List (GlobalAction J) → Bool
+has_begun s [] = false
+has_begun s (Of t (Began now begin) n ∷ ms) = same_strand s t || has_begun s ms
+has_begun s (m ∷ ms) = has_begun s ms
+
 -- the one strand began before the other
 abbrev pub begun_before : {J : Type 0} → StrandId → StrandId → List (GlobalAction J) → Bool
 begun_before t s [] = false
@@ -68,11 +74,11 @@ begun_before t s (m ∷ ms) = begun_before t s ms
 
 -- the action begins an offer, or runs a thread
 abbrev pub is_offer : {J : Type 0} → Action J → Bool
-is_offer (Offered q) = true
+is_offer (Offer q) = true
 is_offer x = false
 
 abbrev pub is_run : {J : Type 0} → Action J → Bool
-is_run (Ran k) = true
+is_run (Run k) = true
 is_run x = false
 
 -- the newest turn of all is an offer
@@ -87,10 +93,19 @@ was_touched s [] = false
 was_touched s (Of t x n ∷ ms) = same_strand s t || (not (is_given x) && was_touched s ms)
 was_touched s (m ∷ ms) = not (has_given m) && was_touched s ms
 
--- no turn of a living strand is under way; no living strand has a place, or a thread, in its queue
-abbrev pub NoneUnderWay : {J : Type 0} → Behavior J → List (GlobalAction J) → Type 0
-NoneUnderWay b ms = (s : StrandId) → lives (projection s ms) ≡ true → IsBetween b (projection s ms)
+-- no turn of the strand is under way: while it lives it is between two turns, and once its life is over nothing of it is open
+pub record HasNoTurn {J : Type 0} (b : Behavior J) (es : List (LocalAction J)) : Type 0 where
+  pub between : lives es ≡ true → IsBetween b es
+  pub closed : lives es ≡ false → open_places es ≡ []
 
+-- no turn is under way; and none of another strand than s
+abbrev pub NoneUnderWay : {J : Type 0} → Behavior J → List (GlobalAction J) → Type 0
+NoneUnderWay b ms = (t : StrandId) → HasNoTurn b (projection t ms)
+
+abbrev pub NoOtherUnderWay : {J : Type 0} → Behavior J → StrandId → List (GlobalAction J) → Type 0
+NoOtherUnderWay b s ms = (t : StrandId) → same_strand t s ≡ false → HasNoTurn b (projection t ms)
+
+-- no living strand has a place, or a thread, in its queue
 abbrev pub NoPlaceInLine : {J : Type 0} → Behavior J → List (GlobalAction J) → Type 0
 NoPlaceInLine b ms = (s : StrandId) → lives (projection s ms) ≡ true → to_offer b (projection s ms) ≡ []
 
@@ -115,20 +130,21 @@ HasPlaces b ms t xs = (lives (projection t ms) ≡ true) × (xs ≡ to_offer b (
 abbrev pub IsFirstToEnd : {J : Type 0} → StrandId → List (GlobalAction J) → Type 0
 IsFirstToEnd s ms = (t : StrandId) → begun_before t s ms ≡ true → lives (projection t ms) ≡ true → is_stopping (projection t ms) ≡ false
 
--- Turns don't interleave. After offers a thread runs only where no place is left in an offer queue, and after runs and events a
--- place is offered only where no thread is left in a run queue; each is the first that waits. Stop ends strands in the order of
--- their beginning. A strand is dropped at an event of its own
+-- Turns don't interleave, and what a dropped strand leaves open is closed before any other turn. After offers a thread runs only
+-- where no place is left in an offer queue, and after runs and events a place is offered only where no thread is left in a run
+-- queue; each is the first that waits. Stop ends strands in the order of their beginning. A strand is dropped at an event of its
+-- own, and while no turn of another is under way
 abbrev pub TurnsInOrder : {J : Type 0} → Behavior J → List (GlobalAction J) → Type 0
 TurnsInOrder b [] = Unit {0}
-TurnsInOrder b (Of s (Ran k) n ∷ ms) =
+TurnsInOrder b (Of s (Run k) n ∷ ms) =
     TurnsInOrder b ms × NoneUnderWay b ms × (offers_last ms ≡ true → NoPlaceInLine b ms)
     × IsFirstWaiting (all_readied b ms) (HasThreads b ms) s k
-TurnsInOrder b (Of s (Offered q) n ∷ ms) =
+TurnsInOrder b (Of s (Offer q) n ∷ ms) =
     TurnsInOrder b ms × NoneUnderWay b ms × (offers_last ms ≡ false → NoThreadInLine b ms)
     × IsFirstWaiting (all_placed b ms) (HasPlaces b ms) s q
 TurnsInOrder b (Of s (Due at) n ∷ ms) = TurnsInOrder b ms × NoneUnderWay b ms
 TurnsInOrder b (Of s Halted n ∷ ms) = TurnsInOrder b ms × NoneUnderWay b ms × IsFirstToEnd s ms
-TurnsInOrder b (Of s Dropped n ∷ ms) = TurnsInOrder b ms × (was_touched s ms ≡ true)
+TurnsInOrder b (Of s Dropped n ∷ ms) = TurnsInOrder b ms × NoOtherUnderWay b s ms × (was_touched s ms ≡ true)
 TurnsInOrder b (m ∷ ms) = TurnsInOrder b ms
 
 -- The turns are in order: threads run in the order in which they were queued, and places are offered likewise.

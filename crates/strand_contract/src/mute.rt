@@ -1,7 +1,7 @@
 //! A strand that does nothing, and waits for Stop: it meets the contract, so the contract's clauses can be met.
 
 use crate::{Act, Acts, Answer, Place, Seen, Start, StrandContract};
-use resty_base::Ms;
+use resty_base::{Bytes, Ms};
 use std::alloc::{AllocError, Global};
 use std::collections::VecDeque;
 
@@ -44,15 +44,17 @@ impl StrandContract for Mute {
     ghost use Rattle.std.specs.Prelude.{◌≡◌, List, [], ◌∷◌, IfOk, refl, if◌then◌else◌};
     ghost use Rattle.strand_contract.specs.Actions.{LocalAction, Did, Began};
     ghost use Rattle.strand_contract.specs.Mute.{is_client, was_halted, mute_behavior};
-    ghost use Rattle.strand_contract.specs.MuteLaws.{mute-still, mute-quiet, mute-asks-last, mute-hangs-up, mute-leaves, mute-keeps};
+    ghost use Rattle.strand_contract.specs.MuteLaws.{mute-still, mute-quiet, mute-asks-last, mute-asks-fit, mute-hangs-up, mute-leaves, mute-keeps};
+    ghost use Rattle.strand_contract.specs.MuteLaws.{mute-wakes, mute-ends};
 
     type Site = MuteSite;
 
     type Job = NoJob;
 
-    ghost behavior = { λ site. mute_behavior };
-
-    ghost stands = { λ site strand es. (strand.is_client ≡ is_client es) × (strand.is_over ≡ was_halted es) };
+    ghost meaning = { λ site. record {
+      behavior = mute_behavior;
+      stands = λ strand es. (strand.is_client ≡ is_client es) × (strand.is_over ≡ was_halted es);
+    } };
 
     ghost left = { λ strand. if strand.is_over then 0 else 3 };
 
@@ -62,7 +64,11 @@ impl StrandContract for Mute {
 
     ghost silent = { λ site q a es h. refl };
 
+    ghost grows = { λ site q a es execution. ([], refl) };
+
     ghost asks_last = { λ site es. mute-asks-last es };
+
+    ghost asks_fit = { λ site es. mute-asks-fit es };
 
     ghost hangs_up_open = { λ site es q rest. mute-hangs-up es q rest };
 
@@ -70,9 +76,30 @@ impl StrandContract for Mute {
 
     ghost keeps = { λ site es execution lives rests. mute-keeps es };
 
+    ghost wakes_quietly = { λ site a es execution. mute-wakes a es };
+
+    ghost ends_at_stop = { λ site es execution. mute-ends es };
+
     fn connections(site: &MuteSite) -> u32 {
         let _ = site;
         512
+    }
+
+    fn zones(site: &MuteSite) -> u32 {
+        let _ = site;
+        0
+    }
+
+    fn zone_name(site: &MuteSite, zone: u32) -> Option<&Bytes> {
+        let _ = site;
+        let _ = zone;
+        None
+    }
+
+    fn zone_size(site: &MuteSite, zone: u32) -> u64 {
+        let _ = site;
+        let _ = zone;
+        0
     }
 
     fn begin(
@@ -88,7 +115,7 @@ impl StrandContract for Mute {
         let _ = now;
         let is_client = match start {
             Start::Client(_) => true,
-            Start::Job(_, _) => false,
+            Start::Job(_, _, _) => false,
         };
         let strand = Mute {
             is_client,

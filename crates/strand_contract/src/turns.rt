@@ -4,11 +4,12 @@ use resty_base::{Boxed, Bytes, DictAnswer, DictCall, Ms};
 use resty_world::TimerAnswer;
 use std::collections::VecDeque;
 
-/// How a strand begins: as the client of a connection's number, or as a timer job of a number.
+/// How a strand begins: as the client of a connection's number; or as a timer job of a number, whether that is premature
+/// (it starts after Stop), and what it starts with.
 #[derive(Debug, Drop)]
 pub enum Start<J> {
     Client(u64),
-    Job(u64, J),
+    Job(u64, bool, J),
 }
 
 /// A strand's client connection, or one of its sockets, by the strand's own count from 0.

@@ -3,7 +3,7 @@ use Rattle.std.proofs.Common.{◌≡◌, ◌⊎◌, inl, inr, ℕ, zero, suc, �
 use Rattle.strand_contract.specs.Actions.{Dropped, LocalAction, Did}
 use Rattle.strand_contract.specs.Behaviors.{Behavior}
 use Rattle.strand_contract.specs.Alone.{was_dropped, IsExecution, IsQuiescent}
-use Rattle.strand_contract.specs.ClientOnly.{IsQuiet}
+use Rattle.strand_contract.specs.Laws.{IsQuiet}
 use Rattle.strand_laws.specs.Inputs.{Input, inputs_of, gave}
 use Rattle.strand_laws.proofs.OwnSteps.{clash, by_test, is_own, tail-whole, own-is, IsStill, still-given, still-at-rest}
 use Rattle.strand_laws.proofs.Given.{Means, means, same-action, gave-own}

@@ -3,12 +3,14 @@ use Rattle.std.proofs.Common.{◌≡◌, inl, inr, true, false, List, [], ◌∷
 use Rattle.resty_base.specs.declared.names.StrandId.{StrandId}
 use Rattle.strand_contract.specs.declared.turns.Place.{Place}
 use Rattle.strand_contract.specs.declared.turns.Act.{Act}
-use Rattle.strand_contract.specs.Actions.{Began, Came, Ended, Broke, TakesAgain, Connected, Refused, Put, Later, Lost, Closed, Logged, Asked, Took, Dialled, Kept, Timed, Dropped, Ran, Offered, Due, Halted, Gone, LocalAction, Told, Did, GlobalAction}
+use Rattle.strand_contract.specs.Actions.{Began, Bytes, Ended, Broken, Ready, Dialled, Refused, Put, Later, Lost, Close, Log, Dict, Take, Dial, Keep, Timer, Dropped, Run, Offer, Due, Halted, Gone, LocalAction, Told, Did, GlobalAction}
 use Rattle.strand_contract.specs.Behaviors.{Behavior}
 use Rattle.strand_contract.specs.Alone.{IsQuiescent, lives, was_dropped, is_open, todo, IsExecution}
 use Rattle.strand_contract.specs.Executions.{projection, IsLawful}
-use Rattle.strand_contract.specs.ClientOnly.{IsQuiet, IsOver}
+use Rattle.strand_contract.specs.ClientOnly.{IsOver}
+use Rattle.strand_contract.specs.Laws.{IsQuiet}
 use Rattle.strand_contract.specs.ClientOnlyLaws.{over}
+use Rattle.strand_contract.specs.OpenPlaceLaws.{first-open, no-place-open}
 use Rattle.strand_laws.specs.Drops.{EndsByClosings, before_drop}
 use Rattle.strand_laws.specs.Inputs.{Input, gave}
 use Rattle.strand_laws.proofs.Alone.{beginning}
@@ -23,28 +25,28 @@ module _ {J : Type 0} where
   closings b [] quiet f w = clash w refl
   closings b (Told x ∷ es) quiet f w = clash f.1.0 (over b quiet es f.0 w).dead
   closings b (Did (Began now begin) ∷ es) quiet f w = clash w (ap was_dropped f.1)
-  closings b (Did (Came q bytes) ∷ es) quiet f w = clash f.1.0.living (over b quiet es f.0 w).dead
+  closings b (Did (Bytes q bytes) ∷ es) quiet f w = clash f.1.0.living (over b quiet es f.0 w).dead
   closings b (Did (Ended q) ∷ es) quiet f w = clash f.1.living (over b quiet es f.0 w).dead
-  closings b (Did (Broke q) ∷ es) quiet f w = clash f.1.living (over b quiet es f.0 w).dead
-  closings b (Did (TakesAgain q) ∷ es) quiet f w = clash f.1.living (over b quiet es f.0 w).dead
-  closings b (Did (Connected k) ∷ es) quiet f w = clash f.1.living (over b quiet es f.0 w).dead
+  closings b (Did (Broken q) ∷ es) quiet f w = clash f.1.living (over b quiet es f.0 w).dead
+  closings b (Did (Ready q) ∷ es) quiet f w = clash f.1.living (over b quiet es f.0 w).dead
+  closings b (Did (Dialled k) ∷ es) quiet f w = clash f.1.living (over b quiet es f.0 w).dead
   closings b (Did (Refused k) ∷ es) quiet f w = clash f.1.living (over b quiet es f.0 w).dead
   closings b (Did (Put q bytes) ∷ es) quiet f w = clash f.1.0.living (over b quiet es f.0 w).dead
   closings b (Did (Later q) ∷ es) quiet f w = clash f.1.living (over b quiet es f.0 w).dead
   closings b (Did (Lost q) ∷ es) quiet f w = clash f.1.living (over b quiet es f.0 w).dead
-  closings b (Did (Closed q) ∷ es) quiet f w = elim f.1 [
+  closings b (Did (Close q) ∷ es) quiet f w = elim f.1 [
     | inl next ↦ some-acts b es _ _ (over b quiet es f.0 w) next.0.1
-    | inr first ↦ (first.opened, closings b es quiet f.0 w)
+    | inr first ↦ (first-open q first.1.0 es first.1.1, closings b es quiet f.0 w)
   ]
-  closings b (Did (Logged line done) ∷ es) quiet f w = some-acts b es _ _ (over b quiet es f.0 w) f.1.1
-  closings b (Did (Asked zone call answer) ∷ es) quiet f w = some-acts b es _ _ (over b quiet es f.0 w) f.1
-  closings b (Did (Took key uses) ∷ es) quiet f w = some-acts b es _ _ (over b quiet es f.0 w) f.1
-  closings b (Did (Dialled host port done) ∷ es) quiet f w = some-acts b es _ _ (over b quiet es f.0 w) f.1
-  closings b (Did (Kept k key idle size) ∷ es) quiet f w = some-acts b es _ _ (over b quiet es f.0 w) f.1
-  closings b (Did (Timed at answer) ∷ es) quiet f w = some-acts b es _ _ (over b quiet es f.0 w) f.1.1
+  closings b (Did (Log line done) ∷ es) quiet f w = some-acts b es _ _ (over b quiet es f.0 w) f.1.1
+  closings b (Did (Dict zone call answer) ∷ es) quiet f w = some-acts b es _ _ (over b quiet es f.0 w) f.1.0
+  closings b (Did (Take key uses) ∷ es) quiet f w = some-acts b es _ _ (over b quiet es f.0 w) f.1
+  closings b (Did (Dial host port done) ∷ es) quiet f w = some-acts b es _ _ (over b quiet es f.0 w) f.1
+  closings b (Did (Keep k key idle size) ∷ es) quiet f w = some-acts b es _ _ (over b quiet es f.0 w) f.1.0
+  closings b (Did (Timer at answer) ∷ es) quiet f w = some-acts b es _ _ (over b quiet es f.0 w) f.1.1
   closings b (Did Dropped ∷ es) quiet f w = f.1
-  closings b (Did (Ran k) ∷ es) quiet f w = clash f.1.0.living (over b quiet es f.0 w).dead
-  closings b (Did (Offered q) ∷ es) quiet f w = clash f.1.0.living (over b quiet es f.0 w).dead
+  closings b (Did (Run k) ∷ es) quiet f w = clash f.1.0.living (over b quiet es f.0 w).dead
+  closings b (Did (Offer q) ∷ es) quiet f w = clash f.1.0.living (over b quiet es f.0 w).dead
   closings b (Did (Due n) ∷ es) quiet f w = clash f.1.0.living (over b quiet es f.0 w).dead
   closings b (Did Halted ∷ es) quiet f w = clash f.1.0.living (over b quiet es f.0 w).dead
   closings b (Did Gone ∷ es) quiet f w = some-acts b es _ _ (over b quiet es f.0 w) f.1
@@ -58,7 +60,7 @@ module _ {J : Type 0} where
 
   -- and all of them are in the end
   pub closed : (b : Behavior J) (s : StrandId) (q : Place) (ms : List (GlobalAction J)) → IsLawful b ms → was_dropped (projection s ms) ≡ true → is_open q (projection s ms) ≡ false
-  closed b s q ms lawful w = (lawful.rests s).closed (fallen b (projection s ms) (lawful.alone s) w) q
+  closed b s q ms lawful w = no-place-open q (projection s ms) ((lawful.rests s).closed (fallen b (projection s ms) (lawful.alone s) w))
 
   -- before it was dropped it had done what it does alone
   alone-before : (b : Behavior J) (es : List (LocalAction J)) → IsExecution b es → IsExecution b (before_drop es)
@@ -68,13 +70,13 @@ module _ {J : Type 0} where
 
   lived-before : (b : Behavior J) (es : List (LocalAction J)) → IsExecution b es → was_dropped es ≡ true → was_dropped (before_drop es) ≡ false
   lived-before b [] f w = refl
-  lived-before b (Did Dropped ∷ es) f w = by_test (was_dropped es) (λ on. clash f.1 (fallen b es f.0 on)) (λ off. off)
+  lived-before b (Did Dropped ∷ es) f w = by_test (was_dropped es) (λ on. elim f.1 [ inl live ↦ clash live (fallen b es f.0 on) | inr none ↦ clash on (ap was_dropped none) ]) (λ off. off)
   lived-before b (a ∷ es) f w = lived-before b es f.0 w
 
   gave-before : (es : List (LocalAction J)) → EndsByClosings es → gave es ≡ gave (before_drop es)
   gave-before [] h = refl
   gave-before (Did Dropped ∷ es) h = refl
-  gave-before (Did (Closed q) ∷ es) h = gave-before es h.1
+  gave-before (Did (Close q) ∷ es) h = gave-before es h.1
   gave-before (a ∷ es) h = absurd h
 
   pub before : (b : Behavior J) (es fs : List (LocalAction J)) (more : List (Input J)) → IsQuiet b → IsExecution b es → IsExecution b fs → was_dropped es ≡ true → was_dropped fs ≡ false

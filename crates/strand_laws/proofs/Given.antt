@@ -5,7 +5,7 @@ use Rattle.strand_contract.specs.declared.turns.Act.{Act}
 use Rattle.strand_contract.specs.declared.turns.Act.TheVariants as act
 use Rattle.strand_contract.specs.declared.turns.Seen.TheVariants as seen
 use Rattle.strand_contract.specs.declared.turns.Answer.TheVariants as answer
-use Rattle.strand_contract.specs.Actions.{Action, Began, Came, Ended, Broke, TakesAgain, Connected, Refused, Put, Later, Lost, Closed, Logged, Asked, Took, Dialled, Kept, Timed, Dropped, Ran, Offered, Due, Halted, Gone, LocalAction, Told, Did}
+use Rattle.strand_contract.specs.Actions.{Action, Began, Bytes, Ended, Broken, Ready, Dialled, Refused, Put, Later, Lost, Close, Log, Dict, Take, Dial, Keep, Timer, Dropped, Run, Offer, Due, Halted, Gone, LocalAction, Told, Did}
 use Rattle.strand_contract.specs.Behaviors.{Behavior}
 use Rattle.strand_contract.specs.Alone.{todo, piece, Enabled}
 use Rattle.strand_contract.specs.Calls.{action_of, answered}
@@ -18,7 +18,7 @@ taken-first xs rest ys e = ap (take (length xs)) (sym e) ∙ take-append_seam xs
 module _ {J : Type 0} where
   -- the action that an input means
   abbrev written : List (Act J) → Bool → Option (LocalAction J)
-  written (act.Log line ∷ acts) done = Some (Did (Logged line done))
+  written (act.Log line ∷ acts) done = Some (Did (Log line done))
   written acts done = None
 
   abbrev did : Option (Action J) → Option (LocalAction J)
@@ -40,11 +40,11 @@ module _ {J : Type 0} where
   pub means : (b : Behavior J) (es : List (LocalAction J)) (a : LocalAction J) → Enabled b es a → is_own a ≡ false → (a ≡ Did Dropped → ⊥) → Means b es a
   means b es (Told w) may own whole = record { input = Hears w; is = refl; means = refl }
   means b es (Did (Began now begin)) may own whole = record { input = Starts now begin; is = refl; means = refl }
-  means b es (Did (Came q bytes)) may own whole = record { input = Sees (seen.Bytes q bytes); is = refl; means = refl }
+  means b es (Did (Bytes q bytes)) may own whole = record { input = Sees (seen.Bytes q bytes); is = refl; means = refl }
   means b es (Did (Ended q)) may own whole = record { input = Sees (seen.Ended q); is = refl; means = refl }
-  means b es (Did (Broke q)) may own whole = record { input = Sees (seen.Broken q); is = refl; means = refl }
-  means b es (Did (TakesAgain q)) may own whole = record { input = Sees (seen.Ready q); is = refl; means = refl }
-  means b es (Did (Connected k)) may own whole = record { input = Sees (seen.Dialled k); is = refl; means = refl }
+  means b es (Did (Broken q)) may own whole = record { input = Sees (seen.Broken q); is = refl; means = refl }
+  means b es (Did (Ready q)) may own whole = record { input = Sees (seen.Ready q); is = refl; means = refl }
+  means b es (Did (Dialled k)) may own whole = record { input = Sees (seen.Dialled k); is = refl; means = refl }
   means b es (Did (Refused k)) may own whole = record { input = Sees (seen.Refused k); is = refl; means = refl }
   means b es (Did (Put q bytes)) may own whole = record {
     input = Sees (seen.Took q (length bytes));
@@ -53,16 +53,16 @@ module _ {J : Type 0} where
   }
   means b es (Did (Later q)) may own whole = record { input = Sees (seen.Later q); is = refl; means = refl }
   means b es (Did (Lost q)) may own whole = record { input = Sees (seen.Lost q); is = refl; means = refl }
-  means b es (Did (Logged line done)) may own whole = record { input = Wrote done; is = refl; means = rw may.1 refl }
-  means b es (Did (Asked zone call given)) may own whole = record { input = Learns (answer.Dict given); is = refl; means = rw may refl }
-  means b es (Did (Took key uses)) may own whole = record { input = Learns (answer.Took uses); is = refl; means = rw may refl }
-  means b es (Did (Dialled host port done)) may own whole = record { input = Learns (answer.Dialled done); is = refl; means = rw may refl }
-  means b es (Did (Kept k key idle size)) may own whole = record { input = Learns answer.Kept; is = refl; means = rw may refl }
-  means b es (Did (Timed at given)) may own whole = record { input = Learns (answer.Timer given); is = refl; means = rw may.1 refl }
+  means b es (Did (Log line done)) may own whole = record { input = Wrote done; is = refl; means = rw may.1 refl }
+  means b es (Did (Dict zone call given)) may own whole = record { input = Learns (answer.Dict given); is = refl; means = rw may.0 refl }
+  means b es (Did (Take key uses)) may own whole = record { input = Learns (answer.Took uses); is = refl; means = rw may refl }
+  means b es (Did (Dial host port done)) may own whole = record { input = Learns (answer.Dialled done); is = refl; means = rw may refl }
+  means b es (Did (Keep k key idle size)) may own whole = record { input = Learns answer.Kept; is = refl; means = rw may.0 refl }
+  means b es (Did (Timer at given)) may own whole = record { input = Learns (answer.Timer given); is = refl; means = rw may.1 refl }
   means b es (Did Dropped) may own whole = absurd (whole refl)
-  means b es (Did (Closed q)) may own whole = clash refl own
-  means b es (Did (Ran k)) may own whole = clash refl own
-  means b es (Did (Offered q)) may own whole = clash refl own
+  means b es (Did (Close q)) may own whole = clash refl own
+  means b es (Did (Run k)) may own whole = clash refl own
+  means b es (Did (Offer q)) may own whole = clash refl own
   means b es (Did (Due n)) may own whole = clash refl own
   means b es (Did Halted) may own whole = clash refl own
   means b es (Did Gone) may own whole = clash refl own
@@ -76,9 +76,9 @@ module _ {J : Type 0} where
       cc
 
   pub gave-own : (a : LocalAction J) (es : List (LocalAction J)) → is_own a ≡ true → gave (a ∷ es) ≡ gave es
-  gave-own (Did (Closed q)) es own = refl
-  gave-own (Did (Ran k)) es own = refl
-  gave-own (Did (Offered q)) es own = refl
+  gave-own (Did (Close q)) es own = refl
+  gave-own (Did (Run k)) es own = refl
+  gave-own (Did (Offer q)) es own = refl
   gave-own (Did (Due n)) es own = refl
   gave-own (Did Halted) es own = refl
   gave-own (Did Gone) es own = refl

@@ -3,3 +3,5 @@ mod Drops
 mod Given
 pub mod OwnSteps
 pub mod Worlds
+mod SmallExecutions
+mod Taken

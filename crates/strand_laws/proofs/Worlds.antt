@@ -1,11 +1,11 @@
 -- A part shows what came from outside, and is determined by it.
 use Rattle.std.proofs.Common.{◌≡◌, false, List, [], ◌∷◌, ◌++◌, refl, ap, sym, ◌∙◌}
 use Rattle.resty_base.specs.declared.names.StrandId.{StrandId}
-use Rattle.strand_contract.specs.Actions.{Dropped, Ran, Offered, Due, Halted, Gone, LocalAction, Told, Did, GlobalAction}
+use Rattle.strand_contract.specs.Actions.{Dropped, Run, Offer, Due, Halted, Gone, LocalAction, Told, Did, GlobalAction}
 use Rattle.strand_contract.specs.Behaviors.{Behavior}
 use Rattle.strand_contract.specs.Alone.{was_dropped}
 use Rattle.strand_contract.specs.Executions.{projection, part, without_internal, IsLawful}
-use Rattle.strand_contract.specs.ClientOnly.{IsQuiet}
+use Rattle.strand_contract.specs.Laws.{IsQuiet}
 use Rattle.strand_laws.specs.Inputs.{inputs_of, gave}
 use Rattle.strand_laws.proofs.Alone.{one-at-rest}
 
@@ -13,8 +13,8 @@ module _ {J : Type 0} where
   pub gave-shown : (es : List (LocalAction J)) → gave (without_internal es) ≡ gave es
   gave-shown [] = refl
   gave-shown (Told w ∷ es) = ap (λ l. inputs_of {J = J} (Told w) ++ l) (gave-shown es)
-  gave-shown (Did (Ran k) ∷ es) = gave-shown es
-  gave-shown (Did (Offered q) ∷ es) = gave-shown es
+  gave-shown (Did (Run k) ∷ es) = gave-shown es
+  gave-shown (Did (Offer q) ∷ es) = gave-shown es
   gave-shown (Did (Due n) ∷ es) = gave-shown es
   gave-shown (Did Halted ∷ es) = gave-shown es
   gave-shown (Did Gone ∷ es) = gave-shown es

@@ -1,2 +1,4 @@
 pub mod Inputs
 pub mod Drops
+pub mod Taken
+pub mod Examples

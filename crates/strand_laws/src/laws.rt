@@ -5,12 +5,13 @@ ghost use Rattle.resty_base.specs.declared.names.StrandId.{StrandId};
 ghost use Rattle.resty_world.specs.Ids.{same_strand};
 ghost use Rattle.strand_contract.specs.declared.turns.Place.{Place};
 ghost use Rattle.strand_contract.specs.Actions.{Action, LocalAction, GlobalAction, Of};
-ghost use Rattle.strand_contract.specs.Alone.{is_open, was_dropped, IsExecution, IsQuiescent};
+ghost use Rattle.strand_contract.specs.Alone.{lives, is_open, was_dropped, was_put_off, IsExecution, IsQuiescent, IsPrefixOf};
 ghost use Rattle.strand_contract.specs.Behaviors.{Behavior};
-ghost use Rattle.strand_contract.specs.ClientOnly.{IsQuiet};
+ghost use Rattle.strand_contract.specs.Laws.{IsQuiet, Grows, Keeps};
 ghost use Rattle.strand_contract.specs.Executions.{projection, part, IsLawful};
 ghost use Rattle.strand_laws.specs.Inputs.{Input, gave};
 ghost use Rattle.strand_laws.specs.Drops.{EndsByClosings, before_drop};
+ghost use Rattle.strand_laws.specs.Taken.{took};
 
 use strand_contract::StrandContract;
 
@@ -32,7 +33,8 @@ pub fn a_beginning<J>()
 /// Two strands of one site, of two lawful executions, that weren't dropped and to which the same came from outside have
 /// the same part, whatever all others do.
 pub fn two_worlds<S: StrandContract>()
-    ensures { (site : S.Site) (ms ns : List (GlobalAction S.Job)) (s t : StrandId) → IsLawful (S.behavior site) ms → IsLawful (S.behavior site) ns
+    ensures { (site : S.Site) (ms ns : List (GlobalAction S.Job)) (s t : StrandId)
+        → IsLawful (S.meaning site).behavior ms → IsLawful (S.meaning site).behavior ns
         → was_dropped (part s ms) ≡ false → was_dropped (part t ns) ≡ false → gave (part s ms) ≡ gave (part t ns) → part s ms ≡ part t ns }
 {}
 
@@ -47,4 +49,12 @@ pub fn a_dropped_strand<J>()
     ensures closings { (b : Behavior J) (es : List (LocalAction J)) → IsQuiet b → IsExecution b es → was_dropped es ≡ true → EndsByClosings es }
     ensures closed { (b : Behavior J) (s : StrandId) (q : Place) (ms : List (GlobalAction J)) → IsLawful b ms → was_dropped (projection s ms) ≡ true
         → is_open q (projection s ms) ≡ false }
+{}
+
+/// What a place took, joined, is the first part of what was sent to it; and all of it where the place is open, the strand at
+/// rest, and the place's last write wasn't put off.
+pub fn what_was_taken<J>()
+    ensures first { (b : Behavior J) (q : Place) (es : List (LocalAction J)) → Grows b → IsExecution b es → IsPrefixOf (took q es) (b.sent q es) }
+    ensures all { (b : Behavior J) (q : Place) (es : List (LocalAction J)) → Grows b → Keeps b → IsExecution b es → lives es ≡ true → IsQuiescent b es
+        → is_open q es ≡ true → was_put_off q es ≡ false → took q es ≡ b.sent q es }
 {}

@@ -5,7 +5,7 @@ use Rattle.resty_world.specs.declared.event.Event.TheVariants as event
 use Rattle.resty_world.specs.declared.entry.Entry.{Entry}
 use Rattle.resty_world.specs.declared.entry.Entry.TheVariants as entry
 use Rattle.resty_world.specs.Ids.{same_strand}
-use Rattle.strand_contract.specs.Actions.{Moment, Action, Dropped, Ran, Offered, Due, Halted, Gone, LocalAction, Told, Did, GlobalAction, Of, Everyone, TurnedAway, IdleGave, IdleClosed, is_internal, is_given}
+use Rattle.strand_contract.specs.Actions.{Moment, Action, Dropped, Run, Offer, Due, Halted, Gone, LocalAction, Told, Did, GlobalAction, Of, Everyone, TurnedAway, IdleGave, IdleClosed, is_internal, is_given}
 use Rattle.strand_contract.specs.Behaviors.{Behavior}
 use Rattle.strand_contract.specs.Alone.{lives, HasNoWork, Enabled, IsExecution}
 use Rattle.strand_contract.specs.Executions.{projection, external, IsLawful, IsPlain}
@@ -27,8 +27,8 @@ passes c given touched h g = rw (h, g) refl
 
 module _ {J : Type 0} where
   turns-tail : (b : Behavior J) (m : GlobalAction J) (ms : List (GlobalAction J)) → TurnsInOrder b (m ∷ ms) → TurnsInOrder b ms
-  turns-tail b (Of s (Ran k) n) ms t = t.0
-  turns-tail b (Of s (Offered q) n) ms t = t.0
+  turns-tail b (Of s (Run k) n) ms t = t.0
+  turns-tail b (Of s (Offer q) n) ms t = t.0
   turns-tail b (Of s (Due k) n) ms t = t.0
   turns-tail b (Of s Halted n) ms t = t.0
   turns-tail b (Of s Dropped n) ms t = t.0
@@ -43,16 +43,16 @@ module _ {J : Type 0} where
   turns-below b (m ∷ above) ms t = turns-below b above ms (turns-tail b m (above ++ ms) t)
 
   own-internal : (x : Action J) → is_internal x ≡ true → is_own (Did x) ≡ true
-  own-internal (Ran k) h = refl
-  own-internal (Offered q) h = refl
+  own-internal (Run k) h = refl
+  own-internal (Offer q) h = refl
   own-internal (Due k) h = refl
   own-internal Halted h = refl
   own-internal Gone h = refl
   own-internal x h = clash h refl
 
   ungiven : (x : Action J) → is_internal x ≡ true → is_given x ≡ false
-  ungiven (Ran k) h = refl
-  ungiven (Offered q) h = refl
+  ungiven (Run k) h = refl
+  ungiven (Offer q) h = refl
   ungiven (Due k) h = refl
   ungiven Halted h = refl
   ungiven Gone h = refl
@@ -86,7 +86,7 @@ abbrev told : List (LocalAction NoJob)
 told = Told (Moment 2_000) ∷ begun
 
 told-idle : HasNoWork behavior told
-told-idle = record { no_act = refl; no_thread = refl; no_place = refl; no_offer = refl; no_deadline = refl; no_stop = refl }
+told-idle = record { no_act = refl; no_thread = refl; no_place = refl; no_offer = refl; no_deadline = λ waking. refl; no_stop = refl; no_end = refl }
 
 still-told : IsStill behavior told
 still-told = still-none behavior (quiet hi) told (is-begun, (refl, idle)) refl (none-at-rest behavior told told-idle)
@@ -121,4 +121,4 @@ unordered ms lawful plain ordered is =
     let d = drops behavior r.top r.older l.plain r.left in
     let turns : TurnsInOrder behavior q.older = turns-tail behavior q.top q.older (turns-at p.older _ _ q (turns-tail behavior p.top p.older (turns-at ms _ _ p ordered.turns))) in
     let touched : TurnsInOrder behavior (Of client Dropped d.0 ∷ r.older) = subst (λ m. TurnsInOrder behavior (m ∷ r.older)) d.1 (turns-at q.older _ _ r turns) in
-    clash touched.1 (not-his r.older (fine-tail behavior r.top r.older l) r.rest)
+    clash touched.2 (not-his r.older (fine-tail behavior r.top r.older l) r.rest)

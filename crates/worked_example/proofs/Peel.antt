@@ -6,7 +6,7 @@ use Rattle.resty_world.specs.declared.entry.Entry.{Entry}
 use Rattle.resty_world.specs.declared.entry.Entry.TheVariants as entry
 use Rattle.resty_world.specs.Ids.{same_strand}
 use Rattle.strand_contract.specs.declared.turns.Start.TheVariants as start
-use Rattle.strand_contract.specs.Actions.{Moment, Stop, Action, Began, Asked, Took, Dialled, Kept, Timed, Ran, Offered, Due, Halted, Gone, LocalAction, Told, Did, GlobalAction, Of, Everyone, TurnedAway, IdleGave, IdleClosed, is_internal}
+use Rattle.strand_contract.specs.Actions.{Moment, Stop, Action, Began, Dict, Take, Dial, Keep, Timer, Run, Offer, Due, Halted, Gone, LocalAction, Told, Did, GlobalAction, Of, Everyone, TurnedAway, IdleGave, IdleClosed, is_internal}
 use Rattle.strand_contract.specs.Behaviors.{Behavior}
 use Rattle.strand_contract.specs.Alone.{lives, IsExecution}
 use Rattle.strand_contract.specs.Executions.{projection, part, without_internal, entry_of, word_entry, entries_of, external, present, IsPlain, BeginsRight, IsGivenAtRest}
@@ -64,12 +64,12 @@ module _ {J : Type 0} where
 
   pub plain-tail : (b : Behavior J) (m : GlobalAction J) (ms : List (GlobalAction J)) → IsPlain b (m ∷ ms) → IsPlain b ms
   plain-tail b (Of s (Began now (start.Client c)) n) ms f = f.0
-  plain-tail b (Of s (Began now (start.Job k job)) n) ms f = f
-  plain-tail b (Of s (Asked zone call answer) n) ms f = absurd f
-  plain-tail b (Of s (Took key uses) n) ms f = absurd f
-  plain-tail b (Of s (Dialled host port done) n) ms f = absurd f
-  plain-tail b (Of s (Kept k key idle size) n) ms f = absurd f
-  plain-tail b (Of s (Timed at answer) n) ms f = absurd f
+  plain-tail b (Of s (Began now (start.Job k premature job)) n) ms f = f
+  plain-tail b (Of s (Dict zone call answer) n) ms f = absurd f
+  plain-tail b (Of s (Take key uses) n) ms f = absurd f
+  plain-tail b (Of s (Dial host port done) n) ms f = absurd f
+  plain-tail b (Of s (Keep k key idle size) n) ms f = absurd f
+  plain-tail b (Of s (Timer at answer) n) ms f = absurd f
   plain-tail b (Of s x n) ms f = f
   plain-tail b (Everyone w) ms f = f
   plain-tail b (TurnedAway c) ms f = f.0
@@ -90,16 +90,16 @@ module _ {J : Type 0} where
 
   -- an action that isn't internal leaves one entry
   pub no-entry : (b : Behavior J) (s : StrandId) (x : Action J) (n : Option ℕ) (ms : List (GlobalAction J)) → is_internal x ≡ true → entry_of b s x n ms ≡ []
-  no-entry b s (Ran k) n ms h = refl
-  no-entry b s (Offered q) n ms h = refl
+  no-entry b s (Run k) n ms h = refl
+  no-entry b s (Offer q) n ms h = refl
   no-entry b s (Due k) n ms h = refl
   no-entry b s Halted n ms h = refl
   no-entry b s Gone n ms h = refl
   no-entry b s x n ms h = clash h refl
 
   pub an-entry : (b : Behavior J) (s : StrandId) (x : Action J) (n : Option ℕ) (ms : List (GlobalAction J)) → is_internal x ≡ false → (e : Entry) × (entry_of b s x n ms ≡ e ∷ [])
-  an-entry b s (Ran k) n ms h = clash refl h
-  an-entry b s (Offered q) n ms h = clash refl h
+  an-entry b s (Run k) n ms h = clash refl h
+  an-entry b s (Offer q) n ms h = clash refl h
   an-entry b s (Due k) n ms h = clash refl h
   an-entry b s Halted n ms h = clash refl h
   an-entry b s Gone n ms h = clash refl h

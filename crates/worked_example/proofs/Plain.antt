@@ -6,7 +6,7 @@ use Rattle.resty_world.specs.declared.entry.Entry.{Entry}
 use Rattle.resty_world.specs.declared.entry.Entry.TheVariants as entry
 use Rattle.strand_contract.specs.declared.turns.Place.TheVariants as place
 use Rattle.strand_contract.specs.declared.turns.Start.TheVariants as start
-use Rattle.strand_contract.specs.Actions.{Moment, Stop, Action, Began, Closed, GlobalAction, Of, Everyone, TurnedAway, IdleGave, IdleClosed, is_internal}
+use Rattle.strand_contract.specs.Actions.{Moment, Stop, Action, Began, Close, GlobalAction, Of, Everyone, TurnedAway, IdleGave, IdleClosed, is_internal}
 use Rattle.strand_contract.specs.Behaviors.{Behavior}
 use Rattle.strand_contract.specs.Executions.{entry_of, entries_of, external, open_connections, IsPlain}
 use Rattle.strand_laws.proofs.OwnSteps.{by_test}
@@ -35,7 +35,7 @@ module _ {J : Type 0} where
   none-open : (b : Behavior J) (ms : List (GlobalAction J)) → NoArrival (external b ms) → open_connections ms ≡ 0
   none-open b [] a = refl
   none-open b (Of s (Began now (start.Client c)) n ∷ ms) a = absurd a
-  none-open b (Of s (Closed place.Client) n ∷ ms) a = ap (λ k. k - 1) (none-open b ms (arrival-rest (entry_of b s (Closed place.Client) n ms) (external b ms) a))
+  none-open b (Of s (Close place.Client) n ∷ ms) a = ap (λ k. k - 1) (none-open b ms (arrival-rest (entry_of b s (Close place.Client) n ms) (external b ms) a))
   none-open b (Of s x n ∷ ms) a = none-open b ms (arrival-rest (entry_of b s x n ms) (external b ms) a)
   none-open b (Everyone w ∷ ms) a = none-open b ms (arrival-rest (entries_of b (Everyone w) ms) (external b ms) a)
   none-open b (TurnedAway c ∷ ms) a = absurd a
@@ -58,7 +58,7 @@ module _ {J : Type 0} where
     where
       of-strand : (x : Action J) → entry_of b s x n ms ≡ entry.Turned c ∷ [] → ⊥
       of-strand (Began now (start.Client k)) f = cc
-      of-strand (Began now (start.Job k job)) f = cc
+      of-strand (Began now (start.Job k premature job)) f = cc
       of-strand x f = cc
   never-newest b (Everyone Stop ∷ ms) c h e = cc
   never-newest b (Everyone (Moment t) ∷ ms) c h e = cc
@@ -80,7 +80,7 @@ room (Everyone (Moment t) ∷ ms) p e = cc
 room (TurnedAway c ∷ ms) p e =
     let tail : external (literal_behavior hi) ms ≡ entry.Given at_second_1 ∷ [] = cc in
     let none : open_connections ms ≡ 0 = none-open (literal_behavior hi) ms (subst NoArrival (sym tail) tt) in
-    let many : 512 ≤ open_connections ms = p.1 in
+    let many : 512 ≤ open_connections ms = p.2 in
     omega arith
 room (IdleGave g ∷ ms) p e = p
 room (IdleClosed n ∷ ms) p e = p

@@ -12,10 +12,10 @@ use Rattle.strand_contract.specs.declared.turns.Place.{Place}
 use Rattle.strand_contract.specs.declared.turns.Place.TheVariants as place
 use Rattle.strand_contract.specs.declared.turns.Start.TheVariants as start
 use Rattle.strand_contract.specs.declared.turns.Act.TheVariants as act
-use Rattle.strand_contract.specs.Actions.{Moment, Began, Came, Ran, Offered, Put, Closed, Gone, LocalAction, Did, GlobalAction, Everyone}
-use Rattle.strand_contract.specs.Alone.{lives, is_open, waiting, to_offer, HasNoWork, IsOfferedAt, IsBetween, IsExecution, IsQuiescent}
+use Rattle.strand_contract.specs.Actions.{Moment, Began, Bytes, Run, Offer, Put, Close, Gone, LocalAction, Did, GlobalAction, Everyone}
+use Rattle.strand_contract.specs.Alone.{lives, waiting, to_offer, HasNoWork, IsOfferedAt, IsBetween, IsExecution, IsQuiescent}
 use Rattle.strand_contract.specs.Executions.{projection, AllQuiescent, IsLawful, offered_lengths}
-use Rattle.strand_contract.specs.Order.{all_readied, all_placed, only, IsSubsequence, none, keep, IsOrdered, IsFirstWaiting, HasThreads, HasPlaces, TurnsInOrder, NoneUnderWay}
+use Rattle.strand_contract.specs.Order.{all_readied, all_placed, only, IsSubsequence, none, keep, IsOrdered, IsFirstWaiting, HasThreads, HasPlaces, TurnsInOrder, HasNoTurn, NoneUnderWay}
 use Rattle.schedule_text.specs.Ranges.{IsBytes}
 use Rattle.schedule.specs.Steps.{Passed, Answered}
 use Rattle.schedule.specs.Told.{IsTold}
@@ -33,28 +33,28 @@ abbrev pub begun : List (LocalAction NoJob)
 begun = Did (Began 1_000 (start.Client 1)) ∷ []
 
 abbrev pub came : List (LocalAction NoJob)
-came = Did (Came place.Client request) ∷ begun
+came = Did (Bytes place.Client request) ∷ begun
 
 abbrev pub offered : List (LocalAction NoJob)
-offered = Did (Offered place.Client) ∷ Did (Ran 0) ∷ came
+offered = Did (Offer place.Client) ∷ Did (Run 0) ∷ came
 
 abbrev pub served : List (LocalAction NoJob)
-served = Did Gone ∷ Did (Closed place.Client) ∷ Did (Put place.Client hi_reply) ∷ offered
+served = Did Gone ∷ Did (Close place.Client) ∷ Did (Put place.Client hi_reply) ∷ offered
 
 pub idle : HasNoWork (literal_behavior hi) begun
-idle = record { no_act = refl; no_thread = refl; no_place = refl; no_offer = refl; no_deadline = refl; no_stop = refl }
+idle = record { no_act = refl; no_thread = refl; no_place = refl; no_offer = refl; no_deadline = λ waking. refl; no_stop = refl; no_end = refl }
 
 between-came : IsBetween (literal_behavior hi) came
 between-came = record { living = refl; no_act = refl; no_offer = refl }
 
-between-ran : IsBetween (literal_behavior hi) (Did (Ran 0) ∷ came)
+between-ran : IsBetween (literal_behavior hi) (Did (Run 0) ∷ came)
 between-ran = record { living = refl; no_act = refl; no_offer = refl }
 
 comes : IsExecution (literal_behavior hi) came
 comes = ((tt, refl), (record { living = refl; idle = idle; opened = refl }, refl, lit< tt))
 
 pub is-offered : IsExecution (literal_behavior hi) offered
-is-offered = ((comes, (between-came, ([], refl), (λ h. refl), refl, refl)), (between-ran, ([], refl), (λ h. refl), refl, refl))
+is-offered = ((comes, (between-came, ([], refl), (λ h. refl), (λ waking. refl), refl)), (between-ran, ([], refl), (λ h. refl), (λ waking. refl), refl))
 
 pub offered-at : IsOfferedAt (literal_behavior hi) offered place.Client
 offered-at = record { living = refl; no_act = refl; offered = refl }
@@ -65,17 +65,13 @@ is-served = (((is-offered, (offered-at, lit< tt, ([], refl))), inl ((act.Gone �
 
 -- it is at rest before it begins, until the request comes, and in the end
 rests-none : IsQuiescent {J = NoJob} (literal_behavior hi) []
-rests-none = record { idle = λ h. clash h refl; closed = λ h q. refl }
+rests-none = record { idle = λ h. clash h refl; closed = λ h. refl }
 
 pub rests-begun : IsQuiescent (literal_behavior hi) begun
 rests-begun = record { idle = λ h. idle; closed = λ h. clash refl h }
 
 pub rests-served : IsQuiescent (literal_behavior hi) served
-rests-served = record { idle = λ h. clash h refl; closed = λ h. shut }
-  where
-    shut : (q : Place) → is_open q served ≡ false
-    shut place.Client = refl
-    shut (place.Sock k) = refl
+rests-served = record { idle = λ h. clash h refl; closed = λ h. refl }
 
 -- what all see, step by step
 abbrev at_second_1 : List (GlobalAction NoJob)
@@ -85,13 +81,13 @@ abbrev all_begun : List (GlobalAction NoJob)
 all_begun = of_client (Began 1_000 (start.Client 1)) ∷ at_second_1
 
 abbrev all_came : List (GlobalAction NoJob)
-all_came = of_client (Came place.Client request) ∷ all_begun
+all_came = of_client (Bytes place.Client request) ∷ all_begun
 
 abbrev all_ran : List (GlobalAction NoJob)
-all_ran = of_client (Ran 0) ∷ all_came
+all_ran = of_client (Run 0) ∷ all_came
 
 abbrev all_served : List (GlobalAction NoJob)
-all_served = of_client Gone ∷ of_client (Closed place.Client) ∷ of_client (Put place.Client hi_reply) ∷ of_client (Offered place.Client) ∷ all_ran
+all_served = of_client Gone ∷ of_client (Close place.Client) ∷ of_client (Put place.Client hi_reply) ∷ of_client (Offer place.Client) ∷ all_ran
 
 quiescent : (ms : List (GlobalAction NoJob)) → IsAlone ms → IsQuiescent (literal_behavior hi) (projection client ms) → AllQuiescent (literal_behavior hi) ms
 quiescent ms alone his = of-all (IsQuiescent (literal_behavior hi)) ms alone his rests-none
@@ -115,14 +111,15 @@ internal h = clash h refl
 pub lawful : IsLawful (literal_behavior hi) exchange
 lawful = record {
   alone = of-all (IsExecution (literal_behavior hi)) exchange alone-served is-served tt;
-  begins = (tt, refl, refl, λ t h. internal h);
+  begins = (tt, refl, refl);
   given = (((((((((tt, λ h. quiescent [] tt rests-none), λ h. quiescent at_second_1 tt rests-none), λ h. quiescent all_begun alone-begun rests-begun), internal), internal), internal), internal), internal), λ h. quiescent all_served alone-served rests-served);
   rests = quiescent exchange alone-served rests-served;
 }
 
 -- no turn of anyone is under way
 between : (ms : List (GlobalAction NoJob)) → IsAlone ms → IsBetween (literal_behavior hi) (projection client ms) → NoneUnderWay (literal_behavior hi) ms
-between ms alone his = of-all (λ es. lives es ≡ true → IsBetween (literal_behavior hi) es) ms alone (λ h. his) (λ h. clash h refl)
+between ms alone his =
+    of-all (HasNoTurn (literal_behavior hi)) ms alone (record { between = λ h. his; closed = λ off. clash his.living off }) (record { between = λ h. clash h refl; closed = λ off. refl })
 
 threads : IsFirstWaiting (all_readied (literal_behavior hi) all_came) (HasThreads (literal_behavior hi) all_came) client 0
 threads = record { before = []; after = []; here = refl; first = λ t xs w. only-his t xs w }

@@ -6,7 +6,7 @@ use Rattle.resty_world.specs.declared.entry.Entry.{Entry}
 use Rattle.resty_world.specs.declared.entry.Entry.TheVariants as entry
 use Rattle.strand_contract.specs.declared.turns.Place.TheVariants as place
 use Rattle.strand_contract.specs.declared.turns.Start.TheVariants as start
-use Rattle.strand_contract.specs.Actions.{Moment, Began, Came, Put, Closed, LocalAction, Did, GlobalAction, Of, Everyone}
+use Rattle.strand_contract.specs.Actions.{Moment, Began, Bytes, Put, Close, LocalAction, Did, GlobalAction, Of, Everyone}
 use Rattle.strand_contract.specs.Behaviors.{Behavior}
 use Rattle.strand_contract.specs.Alone.{was_dropped, IsExecution, IsQuiescent}
 use Rattle.strand_contract.specs.Executions.{projection, part, without_internal, external, present, AllQuiescent, IsLawful, IsPlain}
@@ -65,7 +65,7 @@ came-part ms f is =
     let p : Peeled behavior ms (entry.Given question) (entry.Given arrival ∷ entry.Given at_second_1 ∷ []) = peel behavior ms (entry.Given question) (entry.Given arrival ∷ entry.Given at_second_1 ∷ []) f.plain tt is in
     let g : Fine behavior (p.top ∷ p.older) = fine-at ms _ _ p f in
     let t = asks behavior p.top p.older request g.plain p.left in
-    part-at ms _ _ p (Of client (Came place.Client request) t.0) t.1 ∙ ap (λ l. Did (Came place.Client request) ∷ l) (begun-part p.older (fine-tail behavior p.top p.older g) p.rest)
+    part-at ms _ _ p (Of client (Bytes place.Client request) t.0) t.1 ∙ ap (λ l. Did (Bytes place.Client request) ∷ l) (begun-part p.older (fine-tail behavior p.top p.older g) p.rest)
 
 put-part : (bytes : List ℕ) (ms : List Global) → Fine behavior ms → external behavior ms ≡ entry.Put (id.Conn 1) bytes ∷ asked → part client ms ≡ Did (Put place.Client bytes) ∷ came
 put-part bytes ms f is =
@@ -75,12 +75,12 @@ put-part bytes ms f is =
     part-at ms _ _ p (Of client (Put place.Client bytes) t.0) t.1 ∙ ap (λ l. Did (Put place.Client bytes) ∷ l) (came-part p.older (fine-tail behavior p.top p.older g) p.rest)
 
 closed-part : (bytes : List ℕ) (ms : List Global) → Fine behavior ms → external behavior ms ≡ entry.Close (id.Conn 1) ∷ entry.Put (id.Conn 1) bytes ∷ asked
-    → part client ms ≡ Did (Closed place.Client) ∷ Did (Put place.Client bytes) ∷ came
+    → part client ms ≡ Did (Close place.Client) ∷ Did (Put place.Client bytes) ∷ came
 closed-part bytes ms f is =
     let p : Peeled behavior ms (entry.Close (id.Conn 1)) (entry.Put (id.Conn 1) bytes ∷ asked) = peel behavior ms (entry.Close (id.Conn 1)) (entry.Put (id.Conn 1) bytes ∷ asked) f.plain tt is in
     let g : Fine behavior (p.top ∷ p.older) = fine-at ms _ _ p f in
     let t = closes behavior p.top p.older g.plain p.left in
-    part-at ms _ _ p (Of client (Closed place.Client) t.0) t.1 ∙ ap (λ l. Did (Closed place.Client) ∷ l) (put-part bytes p.older (fine-tail behavior p.top p.older g) p.rest)
+    part-at ms _ _ p (Of client (Close place.Client) t.0) t.1 ∙ ap (λ l. Did (Close place.Client) ∷ l) (put-part bytes p.older (fine-tail behavior p.top p.older g) p.rest)
 
 -- at Stop all were at rest
 pub record Before (h : List Entry) : Type 0 where
@@ -125,7 +125,7 @@ pub no-byte_lost : HasNoExecution byte_lost
 no-byte_lost ms lawful plain is =
     let w : Before _ = at-stop ms _ (fine ms lawful plain) tt is in
     let seen = closed-part (take 118 hi_reply) w.ms w.fine w.history in
-    let e : Did (Closed place.Client) ∷ Did (Put place.Client (take 118 hi_reply)) ∷ came ≡ without_internal short = sym seen ∙ ap without_internal (same _ w _ short seen refl is-short refl short-goes-on refl) in
+    let e : Did (Close place.Client) ∷ Did (Put place.Client (take 118 hi_reply)) ∷ came ≡ without_internal short = sym seen ∙ ap without_internal (same _ w _ short seen refl is-short refl short-goes-on refl) in
     absurd (cc)
 
 pub no-put_after_stop : HasNoExecution put_after_stop
@@ -139,7 +139,7 @@ no-put_after_stop ms lawful plain is =
     absurd (cc)
 
 abbrev put_in : List (LocalAction NoJob) → List ℕ
-put_in (Did (Closed q) ∷ Did (Put p bytes) ∷ es) = bytes
+put_in (Did (Close q) ∷ Did (Put p bytes) ∷ es) = bytes
 put_in es = []
 
 late-differs : reply hi 2_000 ≡ hi_reply → ⊥
@@ -151,7 +151,7 @@ unfolding date_of year_of month_of
 no-date_late ms lawful plain is =
     let w : Before _ = at-stop ms _ (fine ms lawful plain) tt is in
     let seen = closed-part (reply hi 2_000) w.ms w.fine w.history in
-    let e : Did (Closed place.Client) ∷ Did (Put place.Client (reply hi 2_000)) ∷ came ≡ without_internal served = sym seen ∙ ap without_internal (same _ w _ served seen refl is-served refl still-served refl) in
+    let e : Did (Close place.Client) ∷ Did (Put place.Client (reply hi 2_000)) ∷ came ≡ without_internal served = sym seen ∙ ap without_internal (same _ w _ served seen refl is-served refl still-served refl) in
     late-differs (ap put_in e)
 
 pub no-no_close : HasNoExecution no_close

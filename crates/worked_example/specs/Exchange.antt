@@ -10,7 +10,7 @@ use Rattle.resty_world.specs.declared.schedule_line.SchedLine.{SchedLine}
 use Rattle.resty_world.specs.declared.schedule_line.SchedLine.TheVariants as line
 use Rattle.strand_contract.specs.declared.turns.Place.TheVariants as place
 use Rattle.strand_contract.specs.declared.turns.Start.TheVariants as start
-use Rattle.strand_contract.specs.Actions.{Moment, Stop, Action, Began, Came, Ran, Offered, Put, Closed, Gone, GlobalAction, Of, Everyone}
+use Rattle.strand_contract.specs.Actions.{Moment, Stop, Action, Began, Bytes, Run, Offer, Put, Close, Gone, GlobalAction, Of, Everyone}
 use Rattle.strand.specs.declared.strand.NoJob.{NoJob}
 use Rattle.strand.specs.Examples.{hi_reply}
 
@@ -45,6 +45,6 @@ of_client x = Of (strand.Conn 1) x None
 
 abbrev pub exchange : List (GlobalAction NoJob)
 exchange =
-    Everyone Stop ∷ of_client Gone ∷ of_client (Closed place.Client) ∷ of_client (Put place.Client hi_reply)
-    ∷ of_client (Offered place.Client) ∷ of_client (Ran 0) ∷ of_client (Came place.Client request)
+    Everyone Stop ∷ of_client Gone ∷ of_client (Close place.Client) ∷ of_client (Put place.Client hi_reply)
+    ∷ of_client (Offer place.Client) ∷ of_client (Run 0) ∷ of_client (Bytes place.Client request)
     ∷ of_client (Began 1_000 (start.Client 1)) ∷ Everyone (Moment 1_000) ∷ []

@@ -5,10 +5,11 @@ use Rattle.engine.proofs.server.serve.Given as goal
 
 abbrev pub invariant-loop-given : goal.invariant-loop-given
 invariant-loop-given g l = record {
-  rests : Rests (g.S.StrandContract.behavior l.site) (g.S.StrandContract.stands l.site) l.engine (g.W.World.book l.world);
+  rests : Rests (g.S.StrandContract.meaning l.site) l.engine (g.W.World.book l.world);
   same : g.W.World.same l.fn.world l.world;
   spent : IfSome (g.W.World.book l.world).history (IsSpent l.given);
   faults : (g.W.World.book l.world).faults ≡ (g.W.World.book l.fn.world).faults;
+  port : (g.W.World.book l.world).port ≡ (g.W.World.book l.fn.world).port;
   within : l.given ≤ l.fn.events;
   bound : l.events ≡ l.fn.events;
 }

@@ -1,5 +1,5 @@
-use Rattle.std.proofs.Common.{◌∙◌}
-use Rattle.resty.proofs.Lines.{bad_line}
+use Rattle.std.proofs.Common.{codes, ◌∙◌}
+use Rattle.resty.proofs.Lines.{numbered_line}
 use Rattle.resty.proofs.messages.put_line.Goals as goal
 
 pub returns-in-Missing-clause-ok : goal.returns-in-Missing-clause-ok
@@ -20,10 +20,22 @@ pub returns-in-BadLine-clause-ok : goal.returns-in-BadLine-clause-ok
 returns-in-BadLine-clause-ok g c =
     let name = c.as_bytes-name-in-BadLine.ensures.value ∙ c.name-in-BadLine.ensures in
     let number = c.as_bytes-line-in-BadLine.ensures.value ∙ c.format-in-BadLine.ensures.text in
-    rw (c.in-BadLine.is, bad_line c.args.names.now.conf.now c.args.names.now.schedule.now c.in-BadLine.line _ _ name number) c.put_pieces-in-BadLine.ensures.ok
+    rw (c.in-BadLine.is, numbered_line c.args.command.now.schedule.now c.in-BadLine.line (codes ": not a schedule line\n") _ _ name number) c.put_pieces-in-BadLine.ensures.ok
 
 pub returns-in-BadLine-clause-err : goal.returns-in-BadLine-clause-err
 returns-in-BadLine-clause-err g c =
     let name = c.as_bytes-name-in-BadLine.ensures.value ∙ c.name-in-BadLine.ensures in
     let number = c.as_bytes-line-in-BadLine.ensures.value ∙ c.format-in-BadLine.ensures.text in
-    rw (c.in-BadLine.is, bad_line c.args.names.now.conf.now c.args.names.now.schedule.now c.in-BadLine.line _ _ name number) c.put_pieces-in-BadLine.ensures.err
+    rw (c.in-BadLine.is, numbered_line c.args.command.now.schedule.now c.in-BadLine.line (codes ": not a schedule line\n") _ _ name number) c.put_pieces-in-BadLine.ensures.err
+
+pub returns-in-NoSuchId-clause-ok : goal.returns-in-NoSuchId-clause-ok
+returns-in-NoSuchId-clause-ok g c =
+    let name = c.as_bytes-name-in-NoSuchId.ensures.value ∙ c.name-in-NoSuchId.ensures in
+    let number = c.as_bytes-line-in-NoSuchId.ensures.value ∙ c.format-in-NoSuchId.ensures.text in
+    rw (c.in-NoSuchId.is, numbered_line c.args.command.now.schedule.now c.in-NoSuchId.line (codes ": no such id\n") _ _ name number) c.put_pieces-in-NoSuchId.ensures.ok
+
+pub returns-in-NoSuchId-clause-err : goal.returns-in-NoSuchId-clause-err
+returns-in-NoSuchId-clause-err g c =
+    let name = c.as_bytes-name-in-NoSuchId.ensures.value ∙ c.name-in-NoSuchId.ensures in
+    let number = c.as_bytes-line-in-NoSuchId.ensures.value ∙ c.format-in-NoSuchId.ensures.text in
+    rw (c.in-NoSuchId.is, numbered_line c.args.command.now.schedule.now c.in-NoSuchId.line (codes ": no such id\n") _ _ name number) c.put_pieces-in-NoSuchId.ensures.err

@@ -2,7 +2,7 @@ use Rattle.std.proofs.Common.{◌≡◌, ◌∙◌, true, false, None, [], ◌�
 use Rattle.resty_base.specs.declared.names.StrandId.TheVariants as strand
 use Rattle.resty_world.specs.declared.answers.Logged.TheVariants as logged
 use Rattle.strand_contract.specs.declared.turns.Place.TheVariants as place
-use Rattle.strand_contract.specs.Actions.{Of, Closed, Logged, Gone}
+use Rattle.strand_contract.specs.Actions.{Of, Close, Log, Gone}
 use Rattle.engine.proofs.Lists.{told-nothing}
 use Rattle.engine.proofs.Acts.{busy-ready, busy-offer, busy-closed, busy-logged, standing-gone, near-falls, falls-kept, client-open, nothing-open, gone-closed}
 use Rattle.engine.proofs.Going.{forgot-work}
@@ -31,7 +31,7 @@ returns-in-Client-clause-carried g c = λ site rest go y.
     let k = c.args.connection in
     let z = rw (c.in-HangUp.is, c.in-Client.is) at y.1 in
     let on : c.args.seat.now.is_open ≡ true = client-open _ _ k (g.met.S.StrandContract.hangs_up_open site) _ rest go _ _ _ y.0 z in (
-      Of (strand.Conn k) (Closed place.Client) None ∷ y.0,
+      Of (strand.Conn k) (Close place.Client) None ∷ y.0,
       busy-closed _ _ k (g.met.S.StrandContract.still site) (g.met.S.StrandContract.quiet site) _ rest go _ _ (g.W.World.book c.args.world.now) (g.W.World.book c.hang_up.new.self) y.0 (rw on at z) c.hang_up.ensures.hangs_up (rw c.saturating_sub-self.ensures refl),
     )
 
@@ -43,7 +43,7 @@ pub returns-in-Done-clause-carried : goal.returns-in-Done-clause-carried
 returns-in-Done-clause-carried g c = λ site rest go y.
     let line = c.as_slice.ensures in
     let logs = rw line at c.in-Done.ensures.logs in (
-      Of (strand.Conn c.args.connection) (Logged c.in-Log.line true) None ∷ y.0,
+      Of (strand.Conn c.args.connection) (Log c.in-Log.line true) None ∷ y.0,
       busy-logged _ _ c.args.connection (g.met.S.StrandContract.still site) (g.met.S.StrandContract.quiet site) _ c.in-Log.line logged.Done rest go _ _ _ (g.W.World.book c.write_log.new.self) y.0 (rw c.in-Log.is at y.1) (λ e. cc) logs,
     )
 
@@ -51,7 +51,7 @@ pub returns-in-Failed-clause-carried : goal.returns-in-Failed-clause-carried
 returns-in-Failed-clause-carried g c = λ site rest go y.
     let line = c.as_slice.ensures in
     let logs = rw line at c.in-Failed.ensures.logs in (
-      Of (strand.Conn c.args.connection) (Logged c.in-Log.line false) None ∷ y.0,
+      Of (strand.Conn c.args.connection) (Log c.in-Log.line false) None ∷ y.0,
       busy-logged _ _ c.args.connection (g.met.S.StrandContract.still site) (g.met.S.StrandContract.quiet site) _ c.in-Log.line logged.Failed rest go _ _ _ (g.W.World.book c.write_log.new.self) y.0 (rw c.in-Log.is at y.1) (λ e. cc) logs,
     )
 

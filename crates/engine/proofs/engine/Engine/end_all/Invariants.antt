@@ -10,7 +10,7 @@ after (Some c) = 2 ^ 64 - 1 - c
 
 abbrev pub invariant-loop-connection : goal.invariant-loop-connection
 invariant-loop-connection g l = record {
-  standing : Stands (g.S.StrandContract.behavior l.site) (g.S.StrandContract.stands l.site) l.self (g.W.World.book l.world);
+  standing : Stands (g.S.StrandContract.meaning l.site) l.self (g.W.World.book l.world);
   works : Works g.W.World.same g.W.World.book l.fn.self l.self l.fn.world l.world;
   in_offers : l.self.in_offers ≡ false;
   ending : l.self.ending ≡ stop.After l.last;

@@ -16,7 +16,7 @@ pub show-requires : goal.show-requires
 show-requires g c =
     let ms = c.loop-piece.invariant.busy.0 in
     let y = c.loop-piece.invariant.busy.1 in
-    let now : c.queued-piece.result.now ≡ piece (g.S.StrandContract.behavior c.args.site.now) place.Client (projection (strand.Conn c.args.connection) ms) = c.queued-piece.ensures (projection (strand.Conn c.args.connection) ms) y.stands (y.near.around.common.alone (strand.Conn c.args.connection)) y.near.around.alive y.near.to_do in
+    let now : c.queued-piece.result.now ≡ piece (g.S.StrandContract.meaning c.args.site.now).behavior place.Client (projection (strand.Conn c.args.connection) ms) = c.queued-piece.ensures (projection (strand.Conn c.args.connection) ms) y.stands (y.near.around.common.alone (strand.Conn c.args.connection)) y.near.around.alive y.near.to_do in
     let fits = rw now at c.in-Took.ensures.puts.piece in
     (ms, turn-put _ _ (g.met.S.StrandContract.asks_last c.args.site.now) c.args.connection _ _ _ _ (g.W.World.book c.put_bytes.new.self) ms y c.in-Took.ensures.puts.ids c.in-Took.count fits.0 fits.1 (rw now at c.in-Took.ensures.puts.history) (rw now at c.in-Took.ensures.puts.offered))
 
@@ -24,7 +24,7 @@ pub take_turn-requires : goal.take_turn-requires
 take_turn-requires g c =
     let ms = c.loop-piece.invariant.busy.0 in
     let y = c.loop-piece.invariant.busy.1 in
-    let now : c.queued-piece.result.now ≡ piece (g.S.StrandContract.behavior c.args.site.now) place.Client (projection (strand.Conn c.args.connection) ms) = c.queued-piece.ensures (projection (strand.Conn c.args.connection) ms) y.stands (y.near.around.common.alone (strand.Conn c.args.connection)) y.near.around.alive y.near.to_do in
+    let now : c.queued-piece.result.now ≡ piece (g.S.StrandContract.meaning c.args.site.now).behavior place.Client (projection (strand.Conn c.args.connection) ms) = c.queued-piece.ensures (projection (strand.Conn c.args.connection) ms) y.stands (y.near.around.common.alone (strand.Conn c.args.connection)) y.near.around.alive y.near.to_do in
     let some : 0 < length c.queued-piece.result.now = grind (arith, common_steps) in
     (ms, turn-later _ _ (g.met.S.StrandContract.asks_last c.args.site.now) c.args.connection _ _ _ _ (g.W.World.book c.put_bytes.new.self) ms y c.in-Later.ensures.puts.ids (rw now at some) c.in-Later.ensures.puts.history (rw now at c.in-Later.ensures.puts.offered))
 
@@ -32,7 +32,7 @@ pub take_turn-requires-in-Broken : goal.take_turn-requires-in-Broken
 take_turn-requires-in-Broken g c =
     let ms = c.loop-piece.invariant.busy.0 in
     let y = c.loop-piece.invariant.busy.1 in
-    let now : c.queued-piece.result.now ≡ piece (g.S.StrandContract.behavior c.args.site.now) place.Client (projection (strand.Conn c.args.connection) ms) = c.queued-piece.ensures (projection (strand.Conn c.args.connection) ms) y.stands (y.near.around.common.alone (strand.Conn c.args.connection)) y.near.around.alive y.near.to_do in
+    let now : c.queued-piece.result.now ≡ piece (g.S.StrandContract.meaning c.args.site.now).behavior place.Client (projection (strand.Conn c.args.connection) ms) = c.queued-piece.ensures (projection (strand.Conn c.args.connection) ms) y.stands (y.near.around.common.alone (strand.Conn c.args.connection)) y.near.around.alive y.near.to_do in
     let some : 0 < length c.queued-piece.result.now = grind (arith, common_steps) in
     (ms, turn-lost _ _ (g.met.S.StrandContract.asks_last c.args.site.now) c.args.connection _ _ _ _ (g.W.World.book c.put_bytes.new.self) ms y c.in-Broken.ensures.puts.ids (rw now at some) c.in-Broken.ensures.puts.history c.in-Broken.ensures.puts.offered)
 
@@ -42,25 +42,25 @@ returns-then-is_empty-clause-works g c = goes-joins g.W.World.same g.W.World.boo
 pub returns-in-None-clause-works : goal.returns-in-None-clause-works
 returns-in-None-clause-works g c =
     goes-joins g.W.World.same g.W.World.book _ _ _ _ _ _ (g.met.W.World.joins _ _ _)
-    (goes-put g.W.World.same g.W.World.book _ _ c.put_bytes.new.self _ _ (g.met.W.World.joins _ _ _) c.loop-piece.invariant.works (id.Conn c.args.connection) c.queued-piece.result.now (wrote.Took c.in-Took.count) c.in-Took.ensures.same c.in-Took.ensures.puts.history c.in-Took.ensures.puts.faults)
+    (goes-put g.W.World.same g.W.World.book _ _ c.put_bytes.new.self _ _ (g.met.W.World.joins _ _ _) c.loop-piece.invariant.works (id.Conn c.args.connection) c.queued-piece.result.now (wrote.Took c.in-Took.count) c.in-Took.ensures.same c.in-Took.ensures.puts.history c.in-Took.ensures.puts.faults c.in-Took.ensures.puts.course.port)
     c.show.ensures.works
 
 pub returns-in-Later-clause-works : goal.returns-in-Later-clause-works
 returns-in-Later-clause-works g c =
     goes-joins g.W.World.same g.W.World.book _ _ _ _ _ _ (g.met.W.World.joins _ _ _)
-    (goes-put g.W.World.same g.W.World.book _ _ c.put_bytes.new.self _ _ (g.met.W.World.joins _ _ _) c.loop-piece.invariant.works (id.Conn c.args.connection) c.queued-piece.result.now wrote.Later c.in-Later.ensures.same c.in-Later.ensures.puts.history c.in-Later.ensures.puts.faults)
+    (goes-put g.W.World.same g.W.World.book _ _ c.put_bytes.new.self _ _ (g.met.W.World.joins _ _ _) c.loop-piece.invariant.works (id.Conn c.args.connection) c.queued-piece.result.now wrote.Later c.in-Later.ensures.same c.in-Later.ensures.puts.history c.in-Later.ensures.puts.faults c.in-Later.ensures.puts.course.port)
     c.take_turn.ensures.works
 
 pub returns-in-Broken-clause-works : goal.returns-in-Broken-clause-works
 returns-in-Broken-clause-works g c =
     goes-joins g.W.World.same g.W.World.book _ _ _ _ _ _ (g.met.W.World.joins _ _ _)
-    (goes-put g.W.World.same g.W.World.book _ _ c.put_bytes.new.self _ _ (g.met.W.World.joins _ _ _) c.loop-piece.invariant.works (id.Conn c.args.connection) c.queued-piece.result.now wrote.Broken c.in-Broken.ensures.same c.in-Broken.ensures.puts.history c.in-Broken.ensures.puts.faults)
+    (goes-put g.W.World.same g.W.World.book _ _ c.put_bytes.new.self _ _ (g.met.W.World.joins _ _ _) c.loop-piece.invariant.works (id.Conn c.args.connection) c.queued-piece.result.now wrote.Broken c.in-Broken.ensures.same c.in-Broken.ensures.puts.history c.in-Broken.ensures.puts.faults c.in-Broken.ensures.puts.course.port)
     c.take_turn-in-Broken.ensures.works
 
 pub returns-in-Memory-clause-works : goal.returns-in-Memory-clause-works
 returns-in-Memory-clause-works g c =
     goes-joins g.W.World.same g.W.World.book _ _ _ _ _ _ (g.met.W.World.joins _ _ _)
-    (goes-put g.W.World.same g.W.World.book _ _ c.put_bytes.new.self _ _ (g.met.W.World.joins _ _ _) c.loop-piece.invariant.works (id.Conn c.args.connection) c.queued-piece.result.now wrote.Memory c.in-Memory.ensures.same c.in-Memory.ensures.puts.history c.in-Memory.ensures.puts.faults)
+    (goes-put g.W.World.same g.W.World.book _ _ c.put_bytes.new.self _ _ (g.met.W.World.joins _ _ _) c.loop-piece.invariant.works (id.Conn c.args.connection) c.queued-piece.result.now wrote.Memory c.in-Memory.ensures.same c.in-Memory.ensures.puts.history c.in-Memory.ensures.puts.faults c.in-Memory.ensures.puts.course.port)
     c.give_up.ensures.works
 
 pub returns-then-is_empty-clause-standing : goal.returns-then-is_empty-clause-standing
@@ -68,9 +68,9 @@ returns-then-is_empty-clause-standing g c =
     let ms = c.loop-piece.invariant.busy.0 in
     let y = c.loop-piece.invariant.busy.1 in
     let k = c.args.connection in
-    let now : c.queued-piece.result.now ≡ piece (g.S.StrandContract.behavior c.args.site.now) place.Client (projection (strand.Conn k) ms) = c.queued-piece.ensures (projection (strand.Conn k) ms) y.stands (y.near.around.common.alone (strand.Conn k)) y.near.around.alive y.near.to_do in
+    let now : c.queued-piece.result.now ≡ piece (g.S.StrandContract.meaning c.args.site.now).behavior place.Client (projection (strand.Conn k) ms) = c.queued-piece.ensures (projection (strand.Conn k) ms) y.stands (y.near.around.common.alone (strand.Conn k)) y.near.around.alive y.near.to_do in
     let nil : c.queued-piece.result.now ≡ [] = grind (arith, common_steps) in
-    c.put_back.ensures.standing c.args.site.now (true, ms, y, is-not-offered (g.S.StrandContract.behavior c.args.site.now) (projection (strand.Conn k) ms) true c.loop-piece.seat.is_open (sym now ∙ nil) y.near.offer)
+    c.put_back.ensures.standing c.args.site.now (true, ms, y, is-not-offered (g.S.StrandContract.meaning c.args.site.now).behavior (projection (strand.Conn k) ms) true c.loop-piece.seat.is_open (sym now ∙ nil) y.near.offer)
 
 pub returns-in-Memory-clause-standing : goal.returns-in-Memory-clause-standing
 returns-in-Memory-clause-standing g c =

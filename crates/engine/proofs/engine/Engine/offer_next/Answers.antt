@@ -3,7 +3,7 @@ use Rattle.resty_base.specs.declared.names.StrandId.{StrandId}
 use Rattle.resty_base.specs.declared.names.StrandId.TheVariants as strand
 use Rattle.resty_world.specs.Ids.{same_strand}
 use Rattle.strand_contract.specs.declared.turns.Place.TheVariants as place
-use Rattle.strand_contract.specs.Actions.{Of, Offered}
+use Rattle.strand_contract.specs.Actions.{Of, Offer}
 use Rattle.engine.specs.Slots.{slot_at}
 use Rattle.engine.specs.Engine.{seat_left}
 use Rattle.engine.proofs.Turns.{busy-offered, falls-offered, skip-offer}
@@ -16,7 +16,7 @@ offer_place-requires-clause-client g c = λ client.
     let now : c.loop-who.self.offer_queue.items ≡ (c.in-Some.who, c.in-Some.place) ∷ c.pop_front.new.self.items = c.in-Some.ensures.items in
     let front : c.loop-who.self.offer_queue.items ≡ (strand.Conn k, place.Client) ∷ c.pop_front.new.self.items = now ∙ ap (λ w. (w, c.in-Some.place) ∷ c.pop_front.new.self.items) c.in-Conn.is ∙ ap (λ p. (strand.Conn k, p) ∷ c.pop_front.new.self.items) client in
     let here : slot_at c.loop-who.self.seats (strand.Conn k) ≡ Some c.in-Some-take_out.seat = subst (λ (w : StrandId). slot_at c.loop-who.self.seats w ≡ Some c.in-Some-take_out.seat) c.in-Conn.is (sym c.in-Some-take_out.ensures.value) in (
-      Of (strand.Conn k) (Offered place.Client) None ∷ ms,
+      Of (strand.Conn k) (Offer place.Client) None ∷ ms,
       busy-offered _ _ ms _ _ c.loop-who.invariant.standing.1 (g.met.S.StrandContract.still c.args.site.now) (g.met.S.StrandContract.quiet c.args.site.now) k c.pop_front.new.self.items c.in-Some-take_out.seat _ front here c.loop-who.invariant.in_offers c.loop-who.invariant.ending
           (λ s. subst (λ (w : StrandId). slot_at c.take_out.new.self s ≡ (if same_strand s w then None else slot_at c.loop-who.self.seats s)) c.in-Conn.is (c.take_out.ensures.rest s)) refl refl refl refl refl refl,
     )
@@ -28,7 +28,7 @@ offer_place-requires-clause-falls g c =
     let now : c.loop-who.self.offer_queue.items ≡ (c.in-Some.who, c.in-Some.place) ∷ c.pop_front.new.self.items = c.in-Some.ensures.items in
     let front : c.loop-who.self.offer_queue.items ≡ (strand.Conn k, c.in-Some.place) ∷ c.pop_front.new.self.items = now ∙ ap (λ w. (w, c.in-Some.place) ∷ c.pop_front.new.self.items) c.in-Conn.is in
     let here : slot_at c.loop-who.self.seats (strand.Conn k) ≡ Some c.in-Some-take_out.seat = subst (λ (w : StrandId). slot_at c.loop-who.self.seats w ≡ Some c.in-Some-take_out.seat) c.in-Conn.is (sym c.in-Some-take_out.ensures.value) in (
-      Of (strand.Conn k) (Offered c.in-Some.place) None ∷ ms,
+      Of (strand.Conn k) (Offer c.in-Some.place) None ∷ ms,
       falls-offered _ _ ms _ _ c.loop-who.invariant.standing.1 (g.met.S.StrandContract.quiet c.args.site.now) k c.in-Some.place c.pop_front.new.self.items c.in-Some-take_out.seat _ front here c.loop-who.invariant.in_offers c.loop-who.invariant.ending
           (λ s. subst (λ (w : StrandId). slot_at c.take_out.new.self s ≡ (if same_strand s w then None else slot_at c.loop-who.self.seats s)) c.in-Conn.is (c.take_out.ensures.rest s)) refl refl refl refl refl refl,
     )

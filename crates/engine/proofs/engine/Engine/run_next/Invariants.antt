@@ -5,7 +5,7 @@ use Rattle.engine.proofs.engine.Engine.run_next.Given as goal
 
 abbrev pub invariant-loop-who : goal.invariant-loop-who
 invariant-loop-who g l = record {
-  standing : Stands (g.S.StrandContract.behavior l.site) (g.S.StrandContract.stands l.site) l.self (g.W.World.book l.world);
+  standing : Stands (g.S.StrandContract.meaning l.site) l.self (g.W.World.book l.world);
   works : Works g.W.World.same g.W.World.book l.fn.self l.self l.fn.world l.world;
   in_offers : l.self.in_offers ≡ false;
   ending : l.self.ending ≡ stop.Over;

@@ -14,7 +14,7 @@ carry-requires g c =
     let turn = c.in-Ok.ensures.turn (projection (strand.Conn c.args.connection) ms) t.stands (sym t.moment) t.execution in (
       c.args.site.now,
       (
-        Of (strand.Conn c.args.connection) (action_of (g.S.StrandContract.behavior c.args.site.now) (projection (strand.Conn c.args.connection) ms) c.args.seen) None ∷ ms,
+        Of (strand.Conn c.args.connection) (action_of (g.S.StrandContract.meaning c.args.site.now).behavior (projection (strand.Conn c.args.connection) ms) c.args.seen) None ∷ ms,
         turn-busy _ _ c.args.connection ms c.args.seen c.args.seat.strand _ _ c.args.going c.args.seat.is_open _ _ t turn.0 turn.1,
       ),
     )
@@ -25,7 +25,7 @@ give_up-requires g c =
     let t = c.requires.1 in (
       c.args.site.now,
       (
-        Of (strand.Conn c.args.connection) (action_of (g.S.StrandContract.behavior c.args.site.now) (projection (strand.Conn c.args.connection) ms) c.args.seen) None ∷ ms,
+        Of (strand.Conn c.args.connection) (action_of (g.S.StrandContract.meaning c.args.site.now).behavior (projection (strand.Conn c.args.connection) ms) c.args.seen) None ∷ ms,
         near-falls _ _ c.args.connection _ c.args.going _ _ _ _ t.near,
       ),
     )
@@ -36,7 +36,7 @@ returns-in-Ok-clause-lives g c =
     let t = c.requires.1 in
     let turn = c.in-Ok.ensures.turn (projection (strand.Conn c.args.connection) ms) t.stands (sym t.moment) t.execution in
     c.carry.ensures.lives c.args.site.now (
-      Of (strand.Conn c.args.connection) (action_of (g.S.StrandContract.behavior c.args.site.now) (projection (strand.Conn c.args.connection) ms) c.args.seen) None ∷ ms,
+      Of (strand.Conn c.args.connection) (action_of (g.S.StrandContract.meaning c.args.site.now).behavior (projection (strand.Conn c.args.connection) ms) c.args.seen) None ∷ ms,
       turn-busy _ _ c.args.connection ms c.args.seen c.args.seat.strand _ _ c.args.going c.args.seat.is_open _ _ t turn.0 turn.1,
     )
 
@@ -45,6 +45,6 @@ returns-in-Err-clause-lives g c =
     let ms = c.requires.0 in
     let t = c.requires.1 in
     c.give_up.ensures.standing c.args.site.now (
-      Of (strand.Conn c.args.connection) (action_of (g.S.StrandContract.behavior c.args.site.now) (projection (strand.Conn c.args.connection) ms) c.args.seen) None ∷ ms,
+      Of (strand.Conn c.args.connection) (action_of (g.S.StrandContract.meaning c.args.site.now).behavior (projection (strand.Conn c.args.connection) ms) c.args.seen) None ∷ ms,
       near-falls _ _ c.args.connection _ c.args.going _ _ _ _ t.near,
     )

@@ -1,5 +1,5 @@
 use Rattle.std.proofs.Common.{◌≡◌, drop}
-use Rattle.strand.specs.Turns.{after_bytes}
+use Rattle.strand.specs.Scanning.{after_bytes}
 use Rattle.strand.proofs.head.Head.read.Given as goal
 
 abbrev pub invariant-loop-byte : goal.invariant-loop-byte

@@ -1,0 +1,13 @@
+pub mod Places
+pub mod Ledgers
+pub mod Opened
+pub mod Served
+pub mod Executions
+pub mod Grows
+pub mod Forms
+pub mod PlanLaws
+pub mod Tidy
+pub mod Once
+pub mod Calls
+pub mod ClientAlone
+pub mod Sleeping

@@ -1,5 +1,0 @@
-use Rattle.std.proofs.Common.{rules}
-use Rattle.strand.proofs.strand.LiteralStrand.put_off.Goals as goal
-
-pub returns : goal.returns
-returns c = search rules
