@@ -4,6 +4,7 @@ pub mod Border
 pub mod Heap
 pub mod StoreCalls
 pub mod Fits
+pub mod NativeNumbers
 pub mod NativeCalls
 pub mod Freezable
 pub mod FreezableLends
