@@ -24,3 +24,5 @@ pub mod Nodes
 pub mod Life
 pub mod Over
 pub mod Laws
+pub mod Trees
+pub mod Rows

@@ -6,9 +6,11 @@
 mod laws;
 mod positions;
 mod resumes;
+mod rows;
 mod slots;
 
 pub use laws::{depth_never_shows, evaluator_evaluates, only_evaluator, works_in_order};
 pub use positions::Position;
 pub use resumes::Resumed;
+pub use rows::{spoiled_rows, worked_rows};
 pub use slots::Slot;
