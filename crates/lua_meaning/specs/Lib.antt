@@ -24,5 +24,6 @@ pub mod Nodes
 pub mod Life
 pub mod Over
 pub mod Laws
+pub mod DirectEquations
 pub mod Trees
 pub mod Rows

@@ -4,7 +4,7 @@ use Rattle.std.specs.Prelude.{ℕ, true, false, List, [], ◌∷◌, codes}
 use Rattle.lua_values.specs.declared.values.Value.{Value}
 use Rattle.lua_values.specs.declared.values.Value.TheVariants.{Truth}
 use Rattle.lua_operators.specs.NamedFaults.{argument_text}
-use Rattle.lua_meaning.specs.Works.{Caller, Places, Slots, Sign, Values, Return, Break, Failed, Work, End}
+use Rattle.lua_meaning.specs.Works.{Caller, Places, Slots, Sign, Values, Return, Break, Failed, Work}
 use Rattle.lua_meaning.specs.Setting.{Setting}
 use Rattle.lua_meaning.specs.Positions.{raise}
 use Rattle.lua_meaning.specs.Signs.{first, give}
@@ -15,28 +15,28 @@ abbrev pub raise_missing : Setting → List Caller → ℕ → List ℕ → Slot
 raise_missing S callers number name s = raise S callers (argument_text number name (codes "value") (codes "no value")) s
 
 -- true and the values of a call, or false and its fault
-abbrev pub protected : Slots → Sign → Work
-protected s (Values vs) = give (Truth true ∷ vs) s
-protected s (Return vs) = give (Truth true ∷ vs) s
-protected s Break = give (Truth true ∷ []) s
-protected s (Failed v) = give (Truth false ∷ v ∷ []) s
+abbrev pub protected : Sign → List Value
+protected (Values vs) = Truth true ∷ vs
+protected (Return vs) = Truth true ∷ vs
+protected Break = Truth true ∷ []
+protected (Failed v) = Truth false ∷ v ∷ []
 
 -- `pcall(f, ..)`
 abbrev pub pcall_work : Setting → List Value → List Caller → Slots → Work
 pcall_work S [] callers s = raise_missing S callers 1 (codes "pcall") s
-pcall_work S (f ∷ args) callers s = call_at (calling callers false) f args (protected s)
+pcall_work S (f ∷ args) callers s = call_at (calling callers false) f args (λ sign. give (protected sign) s)
 
 -- false and the first value of a handler, or the handler's own fault
-abbrev pub handled_fault : Slots → Sign → Work
-handled_fault s (Values vs) = give (Truth false ∷ first vs ∷ []) s
-handled_fault s (Return vs) = give (Truth false ∷ first vs ∷ []) s
-handled_fault s Break = give (Truth false ∷ first [] ∷ []) s
-handled_fault s (Failed v) = give (Truth false ∷ v ∷ []) s
+abbrev pub handled_fault : Sign → List Value
+handled_fault (Values vs) = Truth false ∷ first vs ∷ []
+handled_fault (Return vs) = Truth false ∷ first vs ∷ []
+handled_fault Break = Truth false ∷ first [] ∷ []
+handled_fault (Failed v) = Truth false ∷ v ∷ []
 
 -- true and the values of a call, or what the handler makes of its fault once the call is over
 abbrev pub protected_by : Value → List Caller → Slots → Sign → Work
-protected_by by callers s (Failed v) = call_at (calling callers false) by (v ∷ []) (handled_fault s)
-protected_by by callers s sign = protected s sign
+protected_by by callers s (Failed v) = call_at (calling callers false) by (v ∷ []) (λ sign. give (handled_fault sign) s)
+protected_by by callers s sign = give (protected sign) s
 
 -- `xpcall(f, handler)`
 abbrev pub xpcall_work : Setting → List Value → List Caller → Slots → Work

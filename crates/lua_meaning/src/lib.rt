@@ -3,12 +3,14 @@
 //! and laws.
 #![tactic(auto)]
 
+mod equations;
 mod laws;
 mod positions;
 mod resumes;
 mod rows;
 mod slots;
 
+pub use equations::direct_equations;
 pub use laws::{depth_never_shows, evaluator_evaluates, only_evaluator, works_in_order};
 pub use positions::Position;
 pub use resumes::Resumed;
