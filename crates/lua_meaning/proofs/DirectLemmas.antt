@@ -1,24 +1,15 @@
 -- The equations in direct style, from the evaluator's law.
-use Rattle.std.specs.Prelude.{◌≡◌, ℕ, ◌+◌, ◌/◌, ◌<◌, nat_lt, Bool, true, false, List, [], ◌∷◌, length, Option, Some, slice_get, if◌then◌else◌, refl}
-use Rattle.std.proofs.Common.{sym, ◌∙◌, ap, arith}
+use Rattle.std.specs.Prelude.{◌≡◌, ℕ, ◌+◌, ◌<◌, nat_lt, Bool, true, false, List, [], ◌∷◌, length, Option, Some, slice_get, if◌then◌else◌, refl}
+use Rattle.std.proofs.Common.{◌∙◌, ap}
 use Rattle.std.proofs.lemmas.Bool.{lt-ltb}
-use Rattle.std.specs.declared.rc.Rc.{Rc}
-use Rattle.std.specs.declared.vec.Vec.{Vec}
-use Rattle.std.specs.declared.alloc.Global.{Global}
-use Rattle.lua_ast.specs.declared.expressions.BinOp.{BinOp}
 use Rattle.lua_ast.specs.declared.expressions.Expr.{Expr}
-use Rattle.lua_ast.specs.declared.expressions.ExprKind.{ExprKind, out-ExprKind}
-use Rattle.lua_ast.specs.declared.expressions.ExprKind.TheOpen as e
 use Rattle.lua_ast.specs.declared.statements.Stmt.{Stmt}
-use Rattle.lua_ast.specs.declared.statements.StmtKind.{out-StmtKind}
-use Rattle.lua_ast.specs.declared.statements.StmtKind.TheOpen as st
 use Rattle.lua_ast.specs.declared.programs.Function.{Function}
 use Rattle.lua_values.specs.declared.values.Value.{Value}
 use Rattle.lua_values.specs.declared.values.Value.TheVariants.{Nil, Table, Closure, Native}
 use Rattle.lua_values.specs.Heap.{Heap, ClosureView, step_limit}
-use Rattle.lua_values.specs.Values.{is_nil}
 use Rattle.lua_operators.specs.Types.{is_truthy}
-use Rattle.lua_meaning.specs.Works.{Places, Slots, AValue, AnExpr, AStmt, ATurn, ACall, AnIndex, Sign, Values, Return, Break, Failed, Work, End, Eval, and_then}
+use Rattle.lua_meaning.specs.Works.{Places, Slots, AValue, AnExpr, AStmt, ATurn, ACall, AnIndex, Values, Return, Break, Failed, Work, End, and_then}
 use Rattle.lua_meaning.specs.Evaluator.{State, Ending, Ended, Parked, Spent, Evaluator, after, counted, do_work}
 use Rattle.lua_meaning.specs.Setting.{Setting}
 use Rattle.lua_meaning.specs.Positions.{callers_at, raise_fault}
@@ -27,7 +18,7 @@ use Rattle.lua_operators.specs.declared.faults.Fault.TheVariants.{StackOverflow}
 use Rattle.lua_operators.specs.declared.events.Event.TheVariants.{Index}
 use Rattle.lua_meaning.specs.Metatables.{handler}
 use Rattle.lua_meaning.specs.Indexing.{raw_value, index_without, index_by}
-use Rattle.lua_meaning.specs.Calls.{calling, call_end, returned, function_end, around_callee, inside, slots_from, most_callers, call, tail_call, call_closure, run, call_for_one}
+use Rattle.lua_meaning.specs.Calls.{function_end, around_callee, inside, slots_from, most_callers, call, tail_call, call_closure, run, call_for_one}
 use Rattle.lua_meaning.specs.Blocks.{block}
 use Rattle.lua_meaning.specs.Loops.{after_body, while_work, again}
 use Rattle.lua_meaning.specs.Operators.{binary_work}
@@ -126,7 +117,7 @@ closure-work S c closure f args q s w there function few =
     ap (λ (o : Option ClosureView). do_work (eval S) (call_closure S o args q s) w) there
     ∙ ap (λ (o : Option Function). do_work (eval S) (run S closure.function o closure.cells args q s) w) function
     ∙ ap (λ (t : Bool). do_work (eval S) (if t then and_then (block f.body.value.items (inside closure.function f closure.cells args (around_callee q)) (slots_from f.slots 0 f.params args)) (λ sign s'. End (function_end sign) s) else raise_fault S q.around StackOverflow s) w)
-        (lt-ltb (length (around_callee q)) most_callers few)
+    (lt-ltb (length (around_callee q)) most_callers few)
     ∙ work-then (eval S) (block f.body.value.items (inside closure.function f closure.cells args (around_callee q)) (slots_from f.slots 0 f.params args)) (λ sign s2. End (function_end sign) s) w
 
 pub closure_call-is : (S : Setting) → ClosureCallIs S

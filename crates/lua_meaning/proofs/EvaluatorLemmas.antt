@@ -1,9 +1,9 @@
 -- The evaluator's law: a node gives what its work gives, whatever the depth. And works compose.
-use Rattle.std.specs.Prelude.{◌≡◌, ℕ, zero, suc, ◌+◌, ◌-◌, ◌*◌, ◌≤◌, ◌<◌, List, [], ◌∷◌, ◌++◌, length, nat_lt, if◌then◌else◌, Bool, true, false, refl, Option}
+use Rattle.std.specs.Prelude.{◌≡◌, ℕ, zero, suc, ◌+◌, ◌≤◌, List, [], ◌∷◌, nat_lt, if◌then◌else◌, Bool, true, false, refl, Option}
 use Rattle.std.proofs.Common.{sym, ◌∙◌, ap, arith}
-use borrow.Author.Tests.{ltb-true, ltb-false}
+use borrow.Author.Tests.{ltb-true}
 use Rattle.lua_values.specs.declared.values.Value.{Value}
-use Rattle.lua_values.specs.Heap.{Heap, StoreView, step_limit}
+use Rattle.lua_values.specs.Heap.{StoreView, step_limit}
 use Rattle.lua_meaning.specs.declared.positions.Position.{Position}
 use Rattle.lua_meaning.specs.declared.resumes.Resumed.{Resumed}
 use Rattle.lua_meaning.specs.Works.{Places, Node, Sign, Slots, Work, End, Eval, Outside, Look, Write, Count, and_then}

@@ -1,8 +1,7 @@
 -- Evaluating step by step: each lemma goes from a node to its work, or from work to what is left of it.
 use Rattle.std.specs.Prelude.{◌≡◌, ℕ, ◌+◌, nat_lt, Bool, true, false, List, refl, if◌then◌else◌}
-use Rattle.std.proofs.Common.{sym, ◌∙◌, ap}
-use Rattle.lua_values.specs.declared.values.Value.{Value}
-use Rattle.lua_values.specs.Heap.{Heap, StoreView, step_limit}
+use Rattle.std.proofs.Common.{◌∙◌, ap}
+use Rattle.lua_values.specs.Heap.{Heap, step_limit}
 use Rattle.lua_ast.specs.declared.expressions.Expr.{Expr}
 use Rattle.lua_ast.specs.declared.expressions.ExprKind.{ExprKind, out-ExprKind}
 use Rattle.lua_ast.specs.declared.expressions.ExprKind.TheOpen.{ExprKind-F}
@@ -50,8 +49,10 @@ stepped n w = record w { store = record { heap = w.store.heap; steps = w.store.s
 -- a node counts a step and does its work
 pub node : {S : Setting} {n : Node} {p : Places} {s : Slots} {w : State} {o : Ending} → nat_lt (w.store.steps + 1) step_limit ≡ true
     → Does S (work_of S n p s) (stepped 1 w) o → Comes S n p s w o
-node {S} {n} {p} {s} {w} few h = record { is =
-    eval-law (work_of S) n p s w ∙ ap (λ (t : Bool). if t then do_work (eval S) (work_of S n p s) (stepped 1 w) else Spent) few ∙ h.is }
+node {S} {n} {p} {s} {w} few h = record {
+  is =
+      eval-law (work_of S) n p s w ∙ ap (λ (t : Bool). if t then do_work (eval S) (work_of S n p s) (stepped 1 w) else Spent) few ∙ h.is;
+}
 
 pub stmt : {S : Setting} {st : Stmt} {k : StmtKind-F StmtKind Arm Stmt} {p : Places} {s : Slots} {w : State} {o : Ending}
     → out-StmtKind st.kind ≡ k → nat_lt (w.store.steps + 1) step_limit ≡ true

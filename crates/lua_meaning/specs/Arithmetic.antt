@@ -1,8 +1,7 @@
 -- Arithmetic (Lua 5.1 Reference Manual, 2.5.1), with the handlers of metatables (2.8).
-use Rattle.std.specs.Prelude.{ℕ, List, [], ◌∷◌, if◌then◌else◌}
+use Rattle.std.specs.Prelude.{List, [], ◌∷◌, if◌then◌else◌}
 use Rattle.lua_values.specs.declared.values.Value.{Value}
 use Rattle.lua_values.specs.Values.{is_nil}
-use Rattle.lua_numbers.specs.declared.faults.NumFault.{NumFault}
 use Rattle.lua_operators.specs.declared.arithmetic.ArithmeticOperator.{ArithmeticOperator}
 use Rattle.lua_operators.specs.declared.faults.Fault.TheVariants.{Number}
 use Rattle.lua_operators.specs.declared.faults.OperandFault.{OperandFault}

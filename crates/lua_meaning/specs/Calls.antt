@@ -10,8 +10,8 @@ use Rattle.lua_operators.specs.Types.{type_of}
 use Rattle.lua_meaning.specs.declared.slots.Slot.TheVariants.{Plain}
 use Rattle.lua_meaning.specs.Works.{Caller, Places, Slots, ACall, Sign, Values, Return, Break, Failed, Work, End, Eval, and_then}
 use Rattle.lua_meaning.specs.Setting.{Setting}
-use Rattle.lua_meaning.specs.Positions.{callers_at, raise_fault, raise_operand}
-use Rattle.lua_meaning.specs.Signs.{first, or_nil, on_values, give_one}
+use Rattle.lua_meaning.specs.Positions.{raise_fault, raise_operand}
+use Rattle.lua_meaning.specs.Signs.{first, or_nil, on_values}
 use Rattle.lua_meaning.specs.Blocks.{block}
 
 -- the place of a call among these callers
@@ -85,7 +85,8 @@ abbrev pub run : Setting → ℕ → Option Function → List ℕ → List Value
 run S number None cells args q s = raise_operand S q.around (operand.Call (type_of Nil)) s
 run S number (Some f) cells args q s =
     if nat_lt (length (around_callee q)) most_callers
-    then and_then (block f.body.value.items (inside number f cells args (around_callee q)) (slots_from f.slots 0 f.params args)) (λ sign s'. End (function_end sign) s)
+    then and_then (block f.body.value.items (inside number f cells args (around_callee q)) (slots_from f.slots 0 f.params args))
+    (λ sign s'. End (function_end sign) s)
     else raise_fault S q.around StackOverflow s
 
 -- a call of a closure, if there is one

@@ -13,7 +13,6 @@ use Rattle.lua_meaning.specs.declared.slots.Slot.TheVariants.{Plain, Shared}
 use Rattle.lua_meaning.specs.Works.{Caller, Places, Slots, Work, Look, Write}
 use Rattle.lua_meaning.specs.Setting.{Setting}
 use Rattle.lua_meaning.specs.Positions.{callers_at}
-use Rattle.lua_meaning.specs.Signs.{give}
 use Rattle.lua_meaning.specs.Variables.{table_fault, unless_refused, in_slot, in_cell}
 
 -- the cell of a slot that is shared

@@ -1,5 +1,5 @@
 -- Comparison (Lua 5.1 Reference Manual, 2.5.2), with the handlers of metatables (2.8).
-use Rattle.std.specs.Prelude.{ℕ, ◌+◌, ◌/◌, Bool, true, false, not, List, [], ◌∷◌, length, if◌then◌else◌}
+use Rattle.std.specs.Prelude.{◌+◌, ◌/◌, Bool, true, false, not, List, [], ◌∷◌, length, if◌then◌else◌}
 use Rattle.lua_values.specs.declared.values.Value.{Value}
 use Rattle.lua_values.specs.declared.values.Value.TheVariants.{Truth, Text}
 use Rattle.lua_values.specs.Values.{is_nil}

@@ -1,5 +1,5 @@
 -- The evaluator in direct style: what a construct comes to, as an equation on evaluations without works. These are laws.
-use Rattle.std.specs.Prelude.{◌≡◌, ℕ, ◌/◌, ◌<◌, Bool, true, false, List, [], ◌∷◌, length, Option, Some, slice_get, if◌then◌else◌}
+use Rattle.std.specs.Prelude.{◌≡◌, ℕ, ◌/◌, ◌<◌, true, false, List, [], ◌∷◌, length, Some, slice_get, if◌then◌else◌}
 use Rattle.std.specs.declared.rc.Rc.{Rc}
 use Rattle.std.specs.declared.vec.Vec.{Vec}
 use Rattle.std.specs.declared.alloc.Global.{Global}
@@ -13,11 +13,11 @@ use Rattle.lua_ast.specs.declared.statements.StmtKind.TheOpen as st
 use Rattle.lua_ast.specs.declared.programs.Function.{Function}
 use Rattle.lua_values.specs.declared.values.Value.{Value}
 use Rattle.lua_values.specs.declared.values.Value.TheVariants.{Table, Closure, Native}
-use Rattle.lua_values.specs.Heap.{Heap, ClosureView}
+use Rattle.lua_values.specs.Heap.{ClosureView}
 use Rattle.lua_values.specs.Values.{is_nil}
 use Rattle.lua_operators.specs.declared.events.Event.TheVariants.{Index}
 use Rattle.lua_operators.specs.Types.{is_truthy}
-use Rattle.lua_meaning.specs.Works.{Places, Slots, AValue, AnExpr, AStmt, ATurn, ACall, AnIndex, Sign, Values, Return, Break, Failed}
+use Rattle.lua_meaning.specs.Works.{Places, Slots, AValue, AnExpr, AStmt, ATurn, ACall, AnIndex, Values, Break}
 use Rattle.lua_meaning.specs.Evaluator.{State, Ending, Ended, Parked, Spent, after, counted, do_work}
 use Rattle.lua_meaning.specs.Setting.{Setting}
 use Rattle.lua_meaning.specs.Positions.{callers_at}
@@ -79,17 +79,20 @@ CallIs S = (x : Expr) (f : Rc Expr Global) (args : Rc (Vec Expr Global) Global) 
 
 -- `return f(args)`: the same, but the call is a tail call, with which the function returns
 abbrev pub ReturnCallIs : Setting → Type 0
-ReturnCallIs S = (r : Stmt) (x : Expr) (xs : Rc (Vec Expr Global) Global) (f : Rc Expr Global) (args : Rc (Vec Expr Global) Global) (p : Places) (s : Slots) (w : State)
+ReturnCallIs S =
+    (r : Stmt) (x : Expr) (xs : Rc (Vec Expr Global) Global) (f : Rc Expr Global) (args : Rc (Vec Expr Global) Global) (p : Places) (s : Slots) (w : State)
     → out-StmtKind r.kind ≡ st.Return xs → xs.value.items ≡ x ∷ [] → out-ExprKind x.kind ≡ e.Call f args
-    → eval S (AStmt r) p s w ≡ counted 1 w (λ w0. counted 1 w0 (λ w1. with_values (eval S (AValue f.value) p s w1) (λ fs s2 w2. with_values (eval_list S args.value.items p s2 w2)
+    → eval S (AStmt r) p s w ≡ counted 1 w (λ w0. counted 1 w0 (λ w1. with_values (eval S (AValue f.value) p s w1)
+    (λ fs s2 w2. with_values (eval_list S args.value.items p s2 w2)
     (λ vs s3 w3. after (eval S (ACall (first fs) vs) (calling (callers_at p x.line) true) [] w3) (λ sign s4 w4. Ended (returned (call_end sign)) s3 w4)))))
 
 -- the call of a closure: its function's block, in new variables, among the callers that are left
 abbrev pub ClosureCallIs : Setting → Type 0
 ClosureCallIs S = (c : ℕ) (closure : ClosureView) (f : Function) (args : List Value) (q : Places) (s : Slots) (w : State)
     → slice_get w.store.heap.closures c ≡ Some closure → slice_get S.program.functions.items closure.function ≡ Some f → length (around_callee q) < most_callers
-    → eval S (ACall (Closure c) args) q s w ≡ counted 1 w (λ w1. after (eval_block S f.body.value.items (inside closure.function f closure.cells args (around_callee q))
-    (slots_from f.slots 0 f.params args) w1) (λ sign s2 w2. Ended (function_end sign) s w2))
+    → eval S (ACall (Closure c) args) q s w ≡ counted 1 w (λ w1. after
+    (eval_block S f.body.value.items (inside closure.function f closure.cells args (around_callee q)) (slots_from f.slots 0 f.params args) w1)
+    (λ sign s2 w2. Ended (function_end sign) s w2))
 
 -- so a tail call of a closure has one caller less around it
 abbrev pub TailCallGivesUp : Type 0

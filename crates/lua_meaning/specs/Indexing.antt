@@ -1,7 +1,7 @@
 -- `t[k]` and `t[k] = x` (Lua 5.1 Reference Manual, 2.3 and, for `__index` and `__newindex`, 2.8).
 use Rattle.std.specs.Prelude.{ℕ, Bool, true, false, List, [], ◌∷◌, if◌then◌else◌}
 use Rattle.lua_values.specs.declared.values.Value.{Value}
-use Rattle.lua_values.specs.declared.values.Value.TheVariants.{Nil, Table, Text}
+use Rattle.lua_values.specs.declared.values.Value.TheVariants.{Nil, Table}
 use Rattle.lua_values.specs.Heap.{Heap}
 use Rattle.lua_values.specs.Values.{is_nil}
 use Rattle.lua_values.specs.Pairs.{value_at}
@@ -9,13 +9,13 @@ use Rattle.lua_values.specs.StoreCalls.{pairs_of, set_cause, with_pair}
 use Rattle.lua_operators.specs.declared.events.Event.TheVariants.{Index, NewIndex}
 use Rattle.lua_operators.specs.declared.faults.OperandFault.TheVariants as operand
 use Rattle.lua_operators.specs.Types.{type_of}
-use Rattle.lua_meaning.specs.Works.{Caller, Places, Slots, AnIndex, AStore, Sign, Work, End, Eval, Look, Write}
+use Rattle.lua_meaning.specs.Works.{Caller, Places, Slots, AnIndex, AStore, Work, End, Eval, Look, Write}
 use Rattle.lua_meaning.specs.Setting.{Setting}
 use Rattle.lua_meaning.specs.Positions.{callers_at, raise_operand}
-use Rattle.lua_meaning.specs.Signs.{give, give_one, on_values}
+use Rattle.lua_meaning.specs.Signs.{give, give_one}
 use Rattle.lua_meaning.specs.Variables.{table_fault, unless_refused}
 use Rattle.lua_meaning.specs.Metatables.{handler, is_function}
-use Rattle.lua_meaning.specs.Calls.{calling, call_at, call_for_one}
+use Rattle.lua_meaning.specs.Calls.{call_for_one}
 
 -- what a value has at a key by itself; only a table has anything
 abbrev pub raw_value : Heap → Value → Value → Value

@@ -24,4 +24,5 @@ DepthNeverShows =
 -- work after work is done in order: what the first ended as is what the second goes on with
 abbrev pub WorksInOrder : Type 0
 WorksInOrder =
-    (ev : Evaluator) (q : Work) (next : Sign → Slots → Work) (w : State) → do_work ev (and_then q next) w ≡ after (do_work ev q w) (λ sign s w'. do_work ev (next sign s) w')
+    (ev : Evaluator) (q : Work) (next : Sign → Slots → Work) (w : State)
+    → do_work ev (and_then q next) w ≡ after (do_work ev q w) (λ sign s w'. do_work ev (next sign s) w')

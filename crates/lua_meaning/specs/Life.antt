@@ -4,7 +4,7 @@ use Rattle.lua_values.specs.declared.values.Value.{Value}
 use Rattle.lua_values.specs.Heap.{StoreView}
 use Rattle.lua_meaning.specs.declared.positions.Position.{Position}
 use Rattle.lua_meaning.specs.Works.{Sign, Values, Return, Break, Failed, ACall}
-use Rattle.lua_meaning.specs.Evaluator.{Resume, State, Ending, Ended, Parked, Spent}
+use Rattle.lua_meaning.specs.Evaluator.{Resume, Ending, Ended, Parked, Spent}
 use Rattle.lua_meaning.specs.Setting.{Setting}
 use Rattle.lua_meaning.specs.Calls.{calling}
 use Rattle.lua_meaning.specs.Nodes.{eval}

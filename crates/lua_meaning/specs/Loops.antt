@@ -1,9 +1,8 @@
 -- Loops (Lua 5.1 Reference Manual, 2.4.4 and 2.4.5). A run of a loop's body is a node, so it counts a step.
-use Rattle.std.specs.Prelude.{ℕ, Bool, false, List, [], ◌∷◌, drop, slice_set, ℤ, pos, Option, Some, None, Result, Ok, Err, if◌then◌else◌}
+use Rattle.std.specs.Prelude.{ℕ, Bool, false, List, [], ◌∷◌, slice_set, ℤ, pos, Option, Some, None, Result, Ok, Err, if◌then◌else◌}
 use Rattle.std.specs.Ordering.{int_eq, int_cmp, is_lt, is_le}
 use Rattle.lua_ast.specs.declared.expressions.Expr.{Expr}
 use Rattle.lua_ast.specs.declared.statements.Stmt.{Stmt}
-use Rattle.lua_numbers.specs.Arithmetic.{within_range}
 use Rattle.lua_numbers.specs.declared.faults.NumFault.{NumFault}
 use Rattle.lua_values.specs.declared.values.Value.{Value}
 use Rattle.lua_values.specs.declared.values.Value.TheVariants as value_of

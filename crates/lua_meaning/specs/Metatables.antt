@@ -1,5 +1,5 @@
 -- Metatables (Lua 5.1 Reference Manual, 2.8): of a table its own, and of a text or an object that of its kind.
-use Rattle.std.specs.Prelude.{ℕ, Bool, true, false, List, [], ◌∷◌, Option, Some, None, if◌then◌else◌}
+use Rattle.std.specs.Prelude.{ℕ, Bool, Option, Some, None, if◌then◌else◌}
 use Rattle.lua_values.specs.declared.values.Value.{Value}
 use Rattle.lua_values.specs.declared.values.Value.TheVariants as value
 use Rattle.lua_values.specs.declared.kinds.TypeKind.TheVariants as kind
@@ -8,7 +8,6 @@ use Rattle.lua_values.specs.Values.{is_nil, same}
 use Rattle.lua_values.specs.Pairs.{value_at}
 use Rattle.lua_values.specs.StoreCalls.{table_of, pairs_of, type_metatable_of}
 use Rattle.lua_operators.specs.declared.events.Event.{Event}
-use Rattle.lua_operators.specs.declared.types.LuaType.{LuaType}
 use Rattle.lua_operators.specs.declared.types.LuaType.TheVariants.{Function}
 use Rattle.lua_operators.specs.Events.{key_of}
 use Rattle.lua_operators.specs.Types.{type_of}

@@ -16,10 +16,10 @@ use Rattle.lua_operators.specs.TypeNames.{type_name}
 use Rattle.lua_operators.specs.Types.{type_of, is_truthy}
 use Rattle.lua_meaning.specs.declared.resumes.Resumed.{Resumed}
 use Rattle.lua_meaning.specs.declared.resumes.Resumed.TheVariants as resumed
-use Rattle.lua_meaning.specs.Works.{Caller, Places, Slots, Failed, Work, End, Outside, Look, Write, Count}
+use Rattle.lua_meaning.specs.Works.{Caller, Slots, Failed, Work, End, Outside, Look, Write, Count}
 use Rattle.lua_meaning.specs.Setting.{Setting}
-use Rattle.lua_meaning.specs.Positions.{position_of, positioned, raise, raise_fault, raise_operand}
-use Rattle.lua_meaning.specs.Signs.{first, or_nil, give, give_one}
+use Rattle.lua_meaning.specs.Positions.{position_of, raise, raise_fault, raise_operand}
+use Rattle.lua_meaning.specs.Signs.{first, give, give_one}
 use Rattle.lua_meaning.specs.Metatables.{handler}
 use Rattle.lua_meaning.specs.Concatenation.{text_length, with_text}
 use Rattle.lua_meaning.specs.Calls.{call_for_one}

@@ -1,5 +1,5 @@
 -- What each node of Lua means, and the evaluator of Lua.
-use Rattle.std.specs.Prelude.{ℕ, List, [], ◌∷◌, slice_get, if◌then◌else◌}
+use Rattle.std.specs.Prelude.{List, ◌∷◌, slice_get, if◌then◌else◌}
 use Rattle.lua_ast.specs.declared.expressions.ExprKind.{out-ExprKind}
 use Rattle.lua_ast.specs.declared.statements.StmtKind.{out-StmtKind}
 use Rattle.lua_values.specs.declared.values.Value.{Value}

@@ -1,5 +1,5 @@
 -- The operators that evaluate all of their operands (Lua 5.1 Reference Manual, 2.5.1 to 2.5.6).
-use Rattle.std.specs.Prelude.{ℕ, Bool, true, false, not, List, [], ◌∷◌, ℤ, pos, length, Result, Ok, Err}
+use Rattle.std.specs.Prelude.{true, false, not, List, pos, length}
 use Rattle.lua_ast.specs.declared.expressions.BinOp.{BinOp}
 use Rattle.lua_ast.specs.declared.expressions.BinOp.TheVariants as binary
 use Rattle.lua_ast.specs.declared.expressions.UnOp.{UnOp}

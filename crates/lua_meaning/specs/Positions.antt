@@ -1,6 +1,6 @@
 -- Positions, and faults with their texts. The position of a fault is that of the innermost running Lua function whose file
 -- has a name.
-use Rattle.std.specs.Prelude.{ℕ, Bool, true, false, List, [], ◌∷◌, ◌++◌, Option, Some, None, slice_get, unwrap_or, option_and_then, if◌then◌else◌}
+use Rattle.std.specs.Prelude.{ℕ, Bool, true, false, List, [], ◌∷◌, ◌++◌, Option, Some, None, slice_get, unwrap_or, if◌then◌else◌}
 use Rattle.std.specs.Option.{option_map}
 use Rattle.lua_ast.specs.declared.programs.Function.{Function}
 use Rattle.lua_values.specs.declared.values.Value.{Value}
@@ -11,7 +11,7 @@ use Rattle.lua_operators.specs.Faults.{fault_text}
 use Rattle.lua_operators.specs.OperandFaults.{operand_fault_text}
 use Rattle.lua_operators.specs.Positions.{position}
 use Rattle.lua_meaning.specs.declared.positions.Position.{Position}
-use Rattle.lua_meaning.specs.Works.{Caller, Places, Slots, Sign, Failed, Work, End}
+use Rattle.lua_meaning.specs.Works.{Caller, Places, Slots, Failed, Work, End}
 use Rattle.lua_meaning.specs.Setting.{Setting}
 
 -- the Lua functions that run at a place, of which the innermost is at this line

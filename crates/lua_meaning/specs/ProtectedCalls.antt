@@ -4,7 +4,7 @@ use Rattle.std.specs.Prelude.{ℕ, true, false, List, [], ◌∷◌, codes}
 use Rattle.lua_values.specs.declared.values.Value.{Value}
 use Rattle.lua_values.specs.declared.values.Value.TheVariants.{Truth}
 use Rattle.lua_operators.specs.NamedFaults.{argument_text}
-use Rattle.lua_meaning.specs.Works.{Caller, Places, Slots, Sign, Values, Return, Break, Failed, Work}
+use Rattle.lua_meaning.specs.Works.{Caller, Slots, Sign, Values, Return, Break, Failed, Work}
 use Rattle.lua_meaning.specs.Setting.{Setting}
 use Rattle.lua_meaning.specs.Positions.{raise}
 use Rattle.lua_meaning.specs.Signs.{first, give}

@@ -12,7 +12,6 @@ use Rattle.lua_values.specs.NativeCalls.{Meaning}
 use Rattle.lua_values.specs.Heap.{StoreView}
 use Rattle.lua_values.specs.StoreCalls.{new_store, with_closure}
 use Rattle.lua_meaning.specs.declared.resumes.Resumed.TheVariants as resumed
-use Rattle.lua_meaning.specs.Evaluator.{Resume}
 use Rattle.lua_meaning.specs.Setting.{Setting}
 use Rattle.lua_meaning.specs.Life.{Outcome, Done, Failure, Asks, OutOfSteps, Unbegun, life}
 use Rattle.lua_meaning.specs.Trees as tree
@@ -67,7 +66,8 @@ loop = chunk 1 (tree.three (tree.locals (tree.one 0) (tree.one (tree.number (pos
 
 -- `if nil then return 1 elseif 2 then return 3 end`
 abbrev pub branches : Vec Function Global
-branches = chunk 0 (tree.one (tree.if_else_if tree.nil (tree.returns (tree.one (tree.number (pos 1)))) (tree.number (pos 2)) (tree.returns (tree.one (tree.number (pos 3))))))
+branches = chunk 0 (tree.one (tree.if_else_if tree.nil (tree.returns (tree.one (tree.number (pos 1))))
+    (tree.number (pos 2)) (tree.returns (tree.one (tree.number (pos 3))))))
 
 -- `local function f(n) if n == 0 then return 0 end return f(n - 1) end return f(3)`
 abbrev pub tail_calls : Vec Function Global

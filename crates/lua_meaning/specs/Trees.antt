@@ -1,6 +1,6 @@
 -- Trees of small programs, written by hand. All of their nodes are at line 1 of the file `t.conf`.
 use denote.RawPtr.{null_ptr}
-use Rattle.std.specs.Prelude.{ℕ, ℤ, false, List, [], ◌∷◌, codes, refl}
+use Rattle.std.specs.Prelude.{ℕ, ℤ, false, [], ◌∷◌, codes, refl}
 use Rattle.std.proofs.Common.{lit<, lit≤}
 use Rattle.std.specs.declared.rc.Rc.{Rc}
 use Rattle.std.specs.declared.vec.Vec.{Vec}
@@ -19,7 +19,7 @@ use Rattle.lua_ast.specs.declared.programs.Program.{Program}
 
 -- where all of it is kept, which nothing depends on
 abbrev pub memory : Global
-memory = record { memory = record { seal = record { } } }
+memory = record { memory = record { seal = record {} } }
 
 abbrev pub shared : {T : Type 0} → T → Rc T Global
 shared item = record { ptr = null_ptr; value = item }

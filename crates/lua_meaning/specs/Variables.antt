@@ -1,5 +1,5 @@
 -- Local variables, those that closures share (Lua 5.1 Reference Manual, 2.6), and the faults of writes that a store refuses.
-use Rattle.std.specs.Prelude.{ℕ, List, [], ◌∷◌, drop, Option, Some, None, slice_get, slice_set}
+use Rattle.std.specs.Prelude.{ℕ, List, [], ◌∷◌, drop, Option, Some, None, slice_set}
 use Rattle.lua_values.specs.declared.values.Value.{Value}
 use Rattle.lua_values.specs.declared.values.Value.TheVariants.{Nil}
 use Rattle.lua_values.specs.declared.faults.StoreFault.{StoreFault}

@@ -1,5 +1,4 @@
-use Rattle.std.proofs.Common.{◌≡◌, ℕ, List, [], ◌∷◌, length, ap, sym, ◌∙◌, arith, pos, codes}
-use Rattle.lua_values.specs.declared.values.Value.{Value}
+use Rattle.std.proofs.Common.{◌≡◌, ℕ, [], ◌∷◌, length, ap, sym, ◌∙◌, arith, pos, codes}
 use Rattle.lua_values.specs.declared.values.Value.TheVariants.{Number, Text}
 use Rattle.lua_values.specs.NativeCalls.{Leaves}
 use Rattle.lua_meaning.specs.Rows.{Row, Gives, Fails, Other}
