@@ -207,6 +207,16 @@ add_steps 18446744073709551615
 steps = 1000000
 clear_steps
 steps = 0
+count 999999 = true
+count 0 = true
+count 1 = false
+steps = 1000000
+count 0 = false
+count 18446744073709551615 = false
+clear_steps
+count 1000000 = false
+clear_steps
+steps = 0
 set_globals 3
 globals = 3";
 

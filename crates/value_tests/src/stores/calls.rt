@@ -236,7 +236,13 @@ fn counted(store: &Store, name: &str, answer: &str) -> Result<bool, Fail> {
     }
 }
 
-/// The other calls, all but one of which give nothing.
+/// Whether a call that counts steps says so.
+fn goes_on_below(store: &mut Store, steps: &str, answer: &str) -> Result<bool, Fail> {
+    let below = store.count(count(steps)?);
+    Ok(if below { "true" } else { "false" } == answer)
+}
+
+/// The other calls, all but two of which give nothing.
 fn counts(
     store: &mut Store,
     name: &str,
@@ -245,6 +251,7 @@ fn counts(
 ) -> Result<bool, Fail> {
     match name {
         "add_units" => return Ok(said(store.add_units(count(word(call)?)?)) == answer),
+        "count" => return goes_on_below(store, word(call)?, answer),
         "add_steps" => store.add_steps(count(word(call)?)?),
         "clear_steps" => store.clear_steps(),
         "set_globals" => store.set_globals(id(word(call)?)?),
