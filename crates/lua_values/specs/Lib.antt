@@ -2,6 +2,7 @@ pub mod Values
 pub mod Pairs
 pub mod Border
 pub mod Heap
+pub mod Shifts
 pub mod StoreCalls
 pub mod Fits
 pub mod NativeNumbers
