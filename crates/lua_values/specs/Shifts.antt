@@ -1,5 +1,5 @@
 -- The values at the numbers from one to another, of which each moves one number up or down.
-use Rattle.std.specs.Prelude.{◌≡◌, ℕ, zero, suc, ◌+◌, ◌-◌, ◌<◌, ◌≤◌, List, if◌then◌else◌}
+use Rattle.std.specs.Prelude.{ℕ, zero, suc, ◌+◌, ◌-◌, ◌<◌, ◌≤◌, Bool, List, if◌then◌else◌}
 use Rattle.lua_values.specs.declared.values.Value.{Value}
 use Rattle.lua_values.specs.declared.shifts.Shift.{Shift}
 use Rattle.lua_values.specs.Values.{number}
@@ -10,6 +10,9 @@ pub record IsShift (shift : Shift) : Type 0 where
   pub later : 1 ≤ shift.from
   pub some : shift.from ≤ shift.to
   pub few : shift.to < 99_999_999_999_999
+
+abbrev pub shift_of : ℕ → ℕ → Bool → Shift
+shift_of from to up = record { from = from; to = to; up = up }
 
 -- how many values move
 abbrev pub moves : Shift → ℕ

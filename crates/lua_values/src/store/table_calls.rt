@@ -5,7 +5,7 @@ ghost use Rattle.std.specs.Option.{option_map};
 ghost use Rattle.std.specs.Map.Iter.{deref_pair};
 ghost use Rattle.lua_values.specs.Pairs.{value_at, needs_entry, next_pair};
 ghost use Rattle.lua_values.specs.Border.{border_of};
-ghost use Rattle.lua_values.specs.Shifts.{IsShift};
+ghost use Rattle.lua_values.specs.Shifts.{IsShift, shift_of};
 ghost use Rattle.lua_values.specs.StoreCalls as calls;
 
 use super::{Store, TABLE_UNITS, UNIT_LIMIT};
@@ -117,9 +117,9 @@ impl Store {
     pub fn shift(&mut self, t: u32, from: u64, to: u64, up: bool) -> Result<(), StoreFault>
         requires later { 1 ≤ from }
         requires few { to < 99_999_999_999_999 }
-        ensures done { OnOk result (self.new ≡ record { heap = calls.with_shift self.old.heap t (record { from = from; to = to; up = up }); steps = self.old.steps }) }
-        ensures allowed { OnOk result (calls.shift_cause self.old.heap t (record { from = from; to = to; up = up }) ≡ None) }
-        ensures cause { IfErr result (calls.IsCause (calls.shift_cause self.old.heap t (record { from = from; to = to; up = up }))) }
+        ensures done { OnOk result (self.new ≡ record { heap = calls.with_shift self.old.heap t (shift_of from to up); steps = self.old.steps }) }
+        ensures allowed { OnOk result (calls.shift_cause self.old.heap t (shift_of from to up) ≡ None) }
+        ensures cause { IfErr result (calls.IsCause (calls.shift_cause self.old.heap t (shift_of from to up))) }
         ensures kept { OnErr result (self.new ≡ self.old) }
     {
         if to < from {

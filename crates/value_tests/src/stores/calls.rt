@@ -73,12 +73,26 @@ fn gives(
     let name = word(call)?;
     match name {
         "get" | "next" | "walk" | "border" | "metatable" => reads(alloc, store, name, call, answer),
+        "shift" => Ok(said(shifts(store, call)?) == answer),
         "set" | "set_metatable" | "set_cell" => writes(alloc, store, name, call, answer),
         "make_table" | "make_cell" | "make_closure" => makes(alloc, store, name, call, answer),
         "cell" | "closure" | "type_metatable" => looks_up(alloc, store, name, call, answer),
         "units" | "steps" | "globals" => counted(store, name, answer),
         _ => counts(store, name, call, answer),
     }
+}
+
+/// Moves values: a table, the first number and the last, and `up` or `down`.
+fn shifts(
+    store: &mut Store,
+    call: &mut SplitWhitespace<'_>,
+) -> Result<Result<(), StoreFault>, Fail> {
+    let t = id(word(call)?)?;
+    let (from, to) = (count(word(call)?)?, count(word(call)?)?);
+    if from == 0 || to >= 99_999_999_999_999 {
+        return Err("these are no numbers of a table")?;
+    }
+    Ok(store.shift(t, from, to, word(call)? == "up"))
 }
 
 /// The calls that read a table.
