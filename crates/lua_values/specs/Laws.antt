@@ -52,6 +52,7 @@ pub record ReadsFit : Type 0 where
   pub closure : (heap : Heap) (c : ℕ) → FitsItself heap → IfSome (slice_get heap.closures c) (λ closure. FitCells heap closure.cells)
   pub type_metatable : (heap : Heap) (kind : TypeKind) → FitsItself heap → FitsMeta heap (calls.type_metatable_of heap.metatables kind)
 
--- two lawful libraries are one
+-- two libraries that are lawful below one bound are so as one
 abbrev pub BothAreLawful : Type 0
-BothAreLawful = (m n : ℕ) (first second : Meaning) → IsLawful m first → IsLawful n second → IsLawful (m + n) (both m first second)
+BothAreLawful =
+    (bound m n : ℕ) (first second : Meaning) → IsLawful bound m first → IsLawful bound n second → IsLawful bound (m + n) (both m first second)

@@ -2,8 +2,10 @@ pub mod Values
 pub mod Pairs
 pub mod Border
 pub mod Heap
+pub mod Shifts
 pub mod StoreCalls
 pub mod Fits
+pub mod NativeNumbers
 pub mod NativeCalls
 pub mod Freezable
 pub mod FreezableLends

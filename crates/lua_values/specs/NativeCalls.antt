@@ -6,6 +6,7 @@ use Rattle.lua_values.specs.declared.natives.NativeOut.{NativeOut}
 use Rattle.lua_values.specs.declared.natives.NativeOut.TheVariants.{Values, Fault, Outside, Memory}
 use Rattle.lua_values.specs.Heap.{Heap, StoreView, step_limit}
 use Rattle.lua_values.specs.Fits.{Fits, FitsItself, IsNoShorter}
+use Rattle.lua_values.specs.NativeNumbers.{NamesBelow, HeapNamesBelow}
 
 -- what a call means: it gives values or faults with a value, and leaves a heap, or it leaves its answer to the outside;
 -- each with a count of steps
@@ -55,13 +56,27 @@ pub record KeepsFrozen (old new : Heap) : Type 0 where
   pub closures : take old.base.closures new.closures ≡ take old.base.closures old.closures
   pub no_shorter : IsNoShorter old new
 
--- the heap that a call leaves keeps what is frozen, fits itself, and fits what the call gives
-abbrev pub LeavesFitting : Heap → NativeResult → Type 0
-LeavesFitting old (Gives values heap steps) = KeepsFrozen old heap × FitsItself heap × All (Fits heap) values
-LeavesFitting old (Faults value heap steps) = KeepsFrozen old heap × FitsItself heap × Fits heap value
-LeavesFitting old (Leaves steps) = Unit {0}
+-- what a call leaves of a heap: it keeps what is frozen and has the same closures, fits itself, and names only natives
+-- below the bound
+pub record LeavesHeap (bound : ℕ) (old new : Heap) : Type 0 where
+  pub frozen : KeepsFrozen old new
+  pub closures : new.closures ≡ old.closures
+  pub fits : FitsItself new
+  pub natives : HeapNamesBelow bound new
 
--- The law of a library: each of its numbers leaves a heap so.
-abbrev pub IsLawful : ℕ → Meaning → Type 0
-IsLawful count meaning =
-    (number : ℕ) (args : List Value) (heap : Heap) → number < count → FitsItself heap → All (Fits heap) args → LeavesFitting heap (meaning number args heap)
+-- the value fits the heap, and if it is a native, it is one below the bound
+abbrev pub IsKnown : ℕ → Heap → Value → Type 0
+IsKnown bound heap value = Fits heap value × NamesBelow bound value
+
+-- what a call leaves of the heap, and that its answer is known there
+abbrev pub LeavesLawfully : ℕ → Heap → NativeResult → Type 0
+LeavesLawfully bound old (Gives values heap steps) = LeavesHeap bound old heap × All (IsKnown bound heap) values
+LeavesLawfully bound old (Faults value heap steps) = LeavesHeap bound old heap × IsKnown bound heap value
+LeavesLawfully bound old (Leaves steps) = Unit {0}
+
+-- The law of a library, where a program may call the natives below the bound: each of the library's numbers leaves a heap
+-- so, if the heap and the arguments were so. It makes no closure, and adds no native from the bound on.
+abbrev pub IsLawful : ℕ → ℕ → Meaning → Type 0
+IsLawful bound count meaning =
+    (number : ℕ) (args : List Value) (heap : Heap) → number < count → FitsItself heap → HeapNamesBelow bound heap → All (IsKnown bound heap) args
+    → LeavesLawfully bound heap (meaning number args heap)

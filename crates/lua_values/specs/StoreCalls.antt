@@ -12,6 +12,8 @@ use Rattle.lua_values.specs.declared.faults.StoreFault.{StoreFault}
 use Rattle.lua_values.specs.declared.faults.StoreFault.TheVariants.{Full, Frozen, BadKey, Memory}
 use Rattle.lua_values.specs.Values.{is_nil}
 use Rattle.lua_values.specs.Pairs.{with_value, needs_entry}
+use Rattle.lua_values.specs.declared.shifts.Shift.{Shift}
+use Rattle.lua_values.specs.Shifts.{shifted, new_entries}
 use Rattle.lua_values.specs.Heap.{Heap, TableView, StoreView, unit_limit}
 
 -- the pairs and the metatable of a table
@@ -59,6 +61,26 @@ with_pair heap t key value = record heap {
   tables = slice_set heap.tables t (record (table_of heap t) { pairs = with_value (pairs_of heap t) key value });
   units = heap.units + (if takes_entry heap t key value then 32 else 0);
 }
+
+-- the values at some numbers of a table, each moved by one; each new entry takes 32 units
+abbrev pub shift_entries : Heap → ℕ → Shift → ℕ
+shift_entries heap t shift = if nat_lt t (length heap.tables) then new_entries (pairs_of heap t) shift else 0
+
+abbrev pub with_shift : Heap → ℕ → Shift → Heap
+with_shift heap t shift =
+    if nat_lt shift.to shift.from then heap
+    else record heap {
+      tables = slice_set heap.tables t (record (table_of heap t) { pairs = shifted (pairs_of heap t) shift });
+      units = heap.units + 32 * shift_entries heap t shift;
+    }
+
+-- why values aren't moved
+abbrev pub shift_cause : Heap → ℕ → Shift → Option StoreFault
+shift_cause heap t shift =
+    if nat_lt shift.to shift.from then None
+    else if nat_lt t heap.base.tables then Some Frozen
+    else if is_full heap (32 * shift_entries heap t shift) then Some Full
+    else None
 
 abbrev pub with_metatable : Heap → ℕ → Option ℕ → Heap
 with_metatable heap t meta = record heap { tables = slice_set heap.tables t (record (table_of heap t) { meta = meta }) }

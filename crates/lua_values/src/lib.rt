@@ -10,6 +10,7 @@ mod freezable;
 mod kinds;
 mod laws;
 mod natives;
+mod shifts;
 mod store;
 mod tables;
 mod values;
@@ -20,5 +21,6 @@ pub use laws::{
     border_is_least, both_are_lawful, reads_fit, same_is_equal, still_fits, writes_keep_fitting,
 };
 pub use natives::{Both, NativeOut, Natives};
+pub use shifts::Shift;
 pub use store::Store;
 pub use values::{ObjectKind, Value, Values};

@@ -1,6 +1,6 @@
 //! The store: its tables, cells and closures, and its counts of steps and units.
 
-ghost use Rattle.std.specs.Prelude.{◌≡◌, ◌+◌, ◌≤◌, min, OnOk, OnErr, IfOk, IfErr};
+ghost use Rattle.std.specs.Prelude.{◌≡◌, ◌+◌, ◌≤◌, nat_lt, min, OnOk, OnErr, IfOk, IfErr};
 ghost use Rattle.lua_values.specs.Heap.{step_limit, unit_limit};
 ghost use Rattle.lua_values.specs.StoreCalls as calls;
 
@@ -132,6 +132,21 @@ impl Store {
             self.steps += n;
         } else {
             self.steps = STEP_LIMIT;
+        }
+    }
+
+    /// Counts n steps more, to at most 1,000,000, and says whether they stay below that.
+    pub fn count(&mut self, n: u64) -> bool
+        ensures counted { self.new ≡ record { heap = self.old.heap; steps = min step_limit (self.old.steps + n) } }
+        ensures below { result ≡ nat_lt (self.old.steps + n) step_limit }
+    {
+        let left = STEP_LIMIT - self.steps;
+        if n < left {
+            self.steps += n;
+            true
+        } else {
+            self.steps = STEP_LIMIT;
+            false
         }
     }
 

@@ -9,9 +9,10 @@ ghost use Rattle.lua_values.specs.Pairs.{value_at, has_entry, needs_entry, with_
 ghost use Rattle.lua_values.specs.Values.{same, is_nil, number};
 ghost use Rattle.lua_values.specs.TableFlags.{IsHoleOf, IsInOrder};
 ghost use Rattle.lua_values.specs.Border.{border_of};
+ghost use Rattle.lua_values.specs.Shifts.{IsShift, moves, place, moved, shifted, new_entries};
 
-use crate::Value;
 use crate::flags::Flags;
+use crate::{Shift, Value};
 use indexmap::IndexMap;
 use resty_base::Whole;
 use std::alloc::{AllocError, Global};
@@ -138,6 +139,56 @@ impl Table {
         self.holes
             .set(index, is_hole(&self.pairs, in_order, number));
         Ok(())
+    }
+
+    /// The value at a key, nil where it has no entry.
+    fn taken(&self, key: &Value) -> Result<Value, AllocError>
+        ensures { IfOk result (λ value. value ≡ value_at self.now.pairs key.now) }
+    {
+        match self.get(key) {
+            Some(value) => value.clone(),
+            None => Ok(Value::Nil),
+        }
+    }
+
+    /// How many new entries a shift takes.
+    pub fn new_entries(&self, shift: Shift) -> u64
+        requires { IsShift shift }
+        ensures entries { result ≡ new_entries self.now.pairs shift }
+        ensures few { result ≤ moves shift }
+    {
+        let mut count = 0;
+        for i in 0..shift.moves() {
+            if self.needs_entry_at(shift, i) {
+                count += 1;
+            }
+        }
+        count
+    }
+
+    /// Whether the i-th number of a shift needs a new entry for the value that it gets.
+    fn needs_entry_at(&self, shift: Shift, i: u64) -> bool
+        requires shift { IsShift shift }
+        requires within { i < moves shift }
+        ensures { result ≡ needs_entry self.now.pairs (number (place shift i)) (moved self.now.pairs shift i) }
+    {
+        match self.get(&shift.key(i + 1)) {
+            Some(value) => self.needs_entry(&shift.key(i), value),
+            None => false,
+        }
+    }
+
+    /// The table once the values of a shift have moved.
+    pub fn shifted(&self, shift: Shift) -> Result<Table, AllocError>
+        requires { IsShift shift }
+        ensures { IfOk result (λ table. table ≡ record { pairs = shifted self.now.pairs shift; meta = self.now.meta }) }
+    {
+        let mut table = self.clone()?;
+        for i in 0..shift.moves() {
+            let value = self.taken(&shift.key(i + 1))?;
+            table.put(shift.key(i), value)?;
+        }
+        Ok(table)
     }
 
     /// The pair that comes next after a key, and for nil the first.

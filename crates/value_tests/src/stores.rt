@@ -207,6 +207,16 @@ add_steps 18446744073709551615
 steps = 1000000
 clear_steps
 steps = 0
+count 999999 = true
+count 0 = true
+count 1 = false
+steps = 1000000
+count 0 = false
+count 18446744073709551615 = false
+clear_steps
+count 1000000 = false
+clear_steps
+steps = 0
 set_globals 3
 globals = 3";
 
@@ -308,6 +318,48 @@ set 2 null nil = frozen
 set 3 null nil = frozen
 make_table = 4";
 
+/// Values that move by one number: up and down, within entries that are there, to new ones and past holes; none, in no table,
+/// above the units, and in a frozen table.
+const SHIFTS: &str = "\
+set 0 1 'a = ok
+set 0 2 'b = ok
+set 0 3 'c = ok
+shift 0 1 3 up = ok
+walk 0 = 'a 'a 'b 'c
+units = 160
+shift 0 2 4 down = ok
+walk 0 = 'a 'b 'c 'c
+set 0 4 nil = ok
+shift 0 1 3 up = ok
+walk 0 = 'a 'a 'b 'c
+border 0 = 4
+units = 160
+shift 0 3 2 up = ok
+shift 0 1 1 down = ok
+get 0 0 = 'a
+units = 192
+make_table = 1
+set 1 1 'x = ok
+set 1 3 'z = ok
+shift 1 1 3 up = ok
+get 1 1 = 'x
+get 1 2 = 'x
+get 1 3 = nil
+get 1 4 = 'z
+next 1 1 = 4 'z
+next 1 4 = 2 'x
+border 1 = 2
+units = 352
+shift 9 1 3 up = ok
+add_units 1048193 = ok
+shift 1 4 4 up = full
+get 1 5 = nil
+shift 1 1 1 up = ok
+units = 1048545
+freeze
+shift 0 1 2 up = frozen
+shift 0 2 1 up = ok";
+
 #[test]
 fn scripts_give_their_answers(rt: HostRuntime) -> Result<(), Fail> {
     for script in [
@@ -317,6 +369,7 @@ fn scripts_give_their_answers(rt: HostRuntime) -> Result<(), Fail> {
         BORDERS,
         FAULTS,
         COUNTS,
+        SHIFTS,
         CYCLES,
         COPY,
         COPIES,

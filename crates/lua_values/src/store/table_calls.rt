@@ -1,15 +1,16 @@
 //! The calls of a store on tables.
 
-ghost use Rattle.std.specs.Prelude.{◌≡◌, ◌≢◌, ◌<◌, ◌≤◌, true, false, None, Some, Err, length, OnOk, OnErr, IfOk, IfErr};
+ghost use Rattle.std.specs.Prelude.{◌≡◌, ◌≢◌, ◌<◌, ◌≤◌, ◌*◌, true, false, None, Some, Err, length, OnOk, OnErr, IfOk, IfErr};
 ghost use Rattle.std.specs.Option.{option_map};
 ghost use Rattle.std.specs.Map.Iter.{deref_pair};
 ghost use Rattle.lua_values.specs.Pairs.{value_at, needs_entry, next_pair};
 ghost use Rattle.lua_values.specs.Border.{border_of};
+ghost use Rattle.lua_values.specs.Shifts.{IsShift, shift_of};
 ghost use Rattle.lua_values.specs.StoreCalls as calls;
 
 use super::{Store, TABLE_UNITS, UNIT_LIMIT};
 use crate::tables::Table;
-use crate::{StoreFault, Value};
+use crate::{Shift, StoreFault, Value};
 
 /// The units of a new entry in a table.
 const ENTRY_UNITS: u64 = 32;
@@ -108,6 +109,50 @@ impl Store {
         }
         self.tables.item_mut(index).put(key, value)?;
         self.units += ENTRY_UNITS;
+        Ok(())
+    }
+
+    /// Moves the values at the numbers `from` to `to` of a table, each one number up or down: what `set` of each, one after the
+    /// other, would do, the greatest first where they go up, and the least first where they go down. A refusal leaves the store.
+    pub fn shift(&mut self, t: u32, from: u64, to: u64, up: bool) -> Result<(), StoreFault>
+        requires later { 1 ≤ from }
+        requires few { to < 99_999_999_999_999 }
+        ensures done { OnOk result (self.new ≡ record { heap = calls.with_shift self.old.heap t (shift_of from to up); steps = self.old.steps }) }
+        ensures allowed { OnOk result (calls.shift_cause self.old.heap t (shift_of from to up) ≡ None) }
+        ensures cause { IfErr result (calls.IsCause (calls.shift_cause self.old.heap t (shift_of from to up))) }
+        ensures kept { OnErr result (self.new ≡ self.old) }
+    {
+        if to < from {
+            return Ok(());
+        }
+        if (t as usize) < self.tables.frozen() {
+            return Err(StoreFault::Frozen);
+        }
+        if (t as usize) >= self.tables.len() {
+            return Ok(());
+        }
+        self.shift_values(t as usize, Shift { from, to, up })
+    }
+
+    /// The same of a table that is there and isn't frozen.
+    #[tactic(auto, using(crate::proofs::FreezableLemmas::set_same_item))]
+    fn shift_values(&mut self, index: usize, shift: Shift) -> Result<(), StoreFault>
+        requires shift { IsShift shift }
+        requires there { index < length self.old.heap.tables }
+        requires unfrozen { self.old.heap.base.tables ≤ index }
+        ensures done { OnOk result (self.new ≡ record { heap = calls.with_shift self.old.heap index shift; steps = self.old.steps }) }
+        ensures allowed { OnOk result (calls.full_cause self.old.heap (32 * calls.shift_entries self.old.heap index shift) ≡ None) }
+        ensures cause { IfErr result (calls.IsCause (calls.full_cause self.old.heap (32 * calls.shift_entries self.old.heap index shift))) }
+        ensures kept { OnErr result (self.new ≡ self.old) }
+    {
+        let table = self.tables.item_mut(index);
+        let entries = table.new_entries(shift) * ENTRY_UNITS;
+        if entries > UNIT_LIMIT - self.units {
+            return Err(StoreFault::Full);
+        }
+        let moved = table.shifted(shift)?;
+        *table = moved;
+        self.units += entries;
         Ok(())
     }
 

@@ -73,12 +73,26 @@ fn gives(
     let name = word(call)?;
     match name {
         "get" | "next" | "walk" | "border" | "metatable" => reads(alloc, store, name, call, answer),
+        "shift" => Ok(said(shifts(store, call)?) == answer),
         "set" | "set_metatable" | "set_cell" => writes(alloc, store, name, call, answer),
         "make_table" | "make_cell" | "make_closure" => makes(alloc, store, name, call, answer),
         "cell" | "closure" | "type_metatable" => looks_up(alloc, store, name, call, answer),
         "units" | "steps" | "globals" => counted(store, name, answer),
         _ => counts(store, name, call, answer),
     }
+}
+
+/// Moves values: a table, the first number and the last, and `up` or `down`.
+fn shifts(
+    store: &mut Store,
+    call: &mut SplitWhitespace<'_>,
+) -> Result<Result<(), StoreFault>, Fail> {
+    let t = id(word(call)?)?;
+    let (from, to) = (count(word(call)?)?, count(word(call)?)?);
+    if from == 0 || to >= 99_999_999_999_999 {
+        return Err("these are no numbers of a table")?;
+    }
+    Ok(store.shift(t, from, to, word(call)? == "up"))
 }
 
 /// The calls that read a table.
@@ -236,7 +250,13 @@ fn counted(store: &Store, name: &str, answer: &str) -> Result<bool, Fail> {
     }
 }
 
-/// The other calls, all but one of which give nothing.
+/// Whether a call that counts steps says so.
+fn goes_on_below(store: &mut Store, steps: &str, answer: &str) -> Result<bool, Fail> {
+    let below = store.count(count(steps)?);
+    Ok(if below { "true" } else { "false" } == answer)
+}
+
+/// The other calls, all but two of which give nothing.
 fn counts(
     store: &mut Store,
     name: &str,
@@ -245,6 +265,7 @@ fn counts(
 ) -> Result<bool, Fail> {
     match name {
         "add_units" => return Ok(said(store.add_units(count(word(call)?)?)) == answer),
+        "count" => return goes_on_below(store, word(call)?, answer),
         "add_steps" => store.add_steps(count(word(call)?)?),
         "clear_steps" => store.clear_steps(),
         "set_globals" => store.set_globals(id(word(call)?)?),

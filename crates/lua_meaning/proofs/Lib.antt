@@ -1,0 +1,4 @@
+pub mod EvaluatorLemmas
+pub mod Running
+pub mod RowLemmas
+pub mod DirectLemmas

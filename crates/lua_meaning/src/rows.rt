@@ -1,0 +1,13 @@
+//! Worked rows as laws: what small programs come to, by the definitions alone.
+
+ghost use Rattle.lua_meaning.specs.Rows.{WorkedRows, SpoiledRows};
+
+/// What six small programs come to, with their steps and units.
+pub fn worked_rows()
+    ensures { WorkedRows }
+{}
+
+/// A step too few, the operands in the other order, or a fault without its position is no row.
+pub fn spoiled_rows()
+    ensures { SpoiledRows }
+{}
