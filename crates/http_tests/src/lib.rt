@@ -4,4 +4,6 @@
 #[cfg(test)]
 mod base;
 #[cfg(test)]
+mod replies;
+#[cfg(test)]
 mod targets;

@@ -32,7 +32,7 @@ fn bytes_are_unescaped(rt: HostRuntime) -> Result<(), Fail> {
         (b"%0g%00", b"%0g\x00"),
         (b"%", b"%"),
     ] {
-        let bytes = unescape(rt.alloc(), text)?;
+        let bytes = unescape(rt.alloc(), &Bytes::from_static(text))?;
         assert_eq!(rt; bytes.as_slice(), expected);
     }
     Ok(())
@@ -58,6 +58,7 @@ fn each_byte_has_one_escape(rt: HostRuntime) -> Result<(), Fail> {
             unescape(rt.alloc(), &escaped)?.as_slice(),
             [byte].as_slice()
         );
+        let long = Bytes::copy_from_slice(rt.alloc(), &long)?;
         assert_eq!(rt; unescape(rt.alloc(), &long)?.as_slice(), [byte].as_slice());
     }
     Ok(())
@@ -100,7 +101,7 @@ fn arguments_are_read(rt: HostRuntime) -> Result<(), Fail> {
         (b"a=%26&b=%zz", 0, b"[a:&][b:%zz]"),
         (b"a?b=c#d&", 0, b"[a?b:c#d]"),
     ] {
-        let pairs = args_of(rt.alloc(), text, max)?;
+        let pairs = args_of(rt.alloc(), &Bytes::from_static(text), max)?;
         let found = written(rt.alloc(), &pairs)?;
         assert_eq!(rt; found.as_slice(), expected);
     }
@@ -171,7 +172,9 @@ fn targets_are_read(rt: HostRuntime) -> Result<(), Fail> {
         (b"http://:80/x", b"/x", b"", Some(b"")),
         (b"http://u@h//", b"/", b"", Some(b"u@h")),
     ] {
-        let target = target_of(rt.alloc(), text)?.ok_or("a target is refused")?;
+        let target = target_of(rt.alloc(), &Bytes::from_static(text))?.ok_or(
+            "a target is refused",
+        )?;
         assert_eq!(rt; target.path.as_slice(), path);
         assert_eq!(rt; target.args.as_slice(), args);
         let found = match &target.host {
@@ -203,7 +206,7 @@ fn other_targets_are_refused(rt: HostRuntime) -> Result<(), Fail> {
         b"HTTP://h/",
         b"https://h/",
     ] {
-        assert!(rt; target_of(rt.alloc(), text)?.is_none());
+        assert!(rt; target_of(rt.alloc(), &Bytes::from_static(text))?.is_none());
     }
     Ok(())
 }

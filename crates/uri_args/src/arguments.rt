@@ -3,8 +3,8 @@ ghost use Rattle.std.specs.Prelude.{◌≡◌, ◌++◌, ◌∷◌, [], filter, 
 ghost use Rattle.uri_args.specs.Arguments as spec;
 
 use crate::escapes::append_escaped;
+use crate::shared::{shared, split_shared};
 use crate::unescape;
-use http_base::split_once;
 use resty_base::Bytes;
 use std::alloc::{AllocError, Global};
 
@@ -15,15 +15,15 @@ pub struct Pair {
     pub value: Option<Bytes>,
 }
 
-/// The first `max` arguments that have a name, or all of them where `max` is 0.
-pub fn args_of(alloc: Global, text: &[u8], max: u32) -> Result<Vec<Pair>, AllocError>
+/// The first `max` arguments that have a name, or all of them where `max` is 0. What has no escape shares the text.
+pub fn args_of(alloc: Global, text: &Bytes, max: u32) -> Result<Vec<Pair>, AllocError>
     ensures { IfOk result (λ pairs. pairs.items ≡ spec.args_of text.now max) }
 {
     let mut pairs = Vec::new(alloc);
-    let mut rest = Some(text);
+    let mut rest = Some(shared(text)?);
     while let Some(more) = rest {
-        let (piece, after) = split_once(more, b'&');
-        let pair = pair_of(alloc, piece)?;
+        let (piece, after) = split_shared(&more, b'&')?;
+        let pair = pair_of(alloc, &piece)?;
         push_named(&mut pairs, pair)?;
         if max > 0 && pairs.len() == max as usize {
             return Ok(pairs);
@@ -44,13 +44,13 @@ fn push_named(pairs: &mut Vec<Pair>, pair: Pair) -> Result<(), AllocError>
 }
 
 /// What the text between two `&` says.
-fn pair_of(alloc: Global, piece: &[u8]) -> Result<Pair, AllocError>
+fn pair_of(alloc: Global, piece: &Bytes) -> Result<Pair, AllocError>
     ensures { IfOk result (λ pair. pair ≡ spec.pair_of piece.now) }
 {
-    let (name, after) = split_once(piece, b'=');
-    let name = unescape(alloc, name)?;
+    let (name, after) = split_shared(piece, b'=')?;
+    let name = unescape(alloc, &name)?;
     let value = match after {
-        Some(value) => Some(unescape(alloc, value)?),
+        Some(value) => Some(unescape(alloc, &value)?),
         None => None,
     };
     Ok(Pair { name, value })

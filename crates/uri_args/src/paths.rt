@@ -1,26 +1,26 @@
 //! Paths without escapes and dot segments (RFC 3986, 2.1 and 5.2.4).
-ghost use Rattle.std.specs.Prelude.{◌≡◌, ◌++◌, [], IfOk, OnOk, None, Some, if◌then◌else◌, option_copied};
+ghost use Rattle.std.specs.Prelude.{◌≡◌, ◌++◌, [], IfOk, OnOk, None, Some, if◌then◌else◌, not, option_copied};
 ghost use Rattle.std.specs.Option.{option_map};
 ghost use Rattle.resty_base.specs.Ascii.{slash};
 ghost use Rattle.http_base.specs.Lent.{texts};
-ghost use Rattle.http_base.specs.Splitting.{later_pieces};
+ghost use Rattle.http_base.specs.Splitting.{later_pieces, split};
 ghost use Rattle.uri_args.specs.Paths as spec;
+ghost use Rattle.uri_args.specs.Plain as plain;
 
+use crate::escapes::decoded;
 use http_base::split_once;
-use percent_encoding::percent_decode;
 use resty_base::Bytes;
 use std::alloc::{AllocError, Global};
 
-/// The path for which the escaped one stands, None where it is refused.
-pub(crate) fn path_of(alloc: Global, escaped: &[u8]) -> Result<Option<Bytes>, AllocError>
+/// The path for which the escaped one stands, None where it is refused. One that says the same is shared.
+pub fn path_of(alloc: Global, escaped: &Bytes) -> Result<Option<Bytes>, AllocError>
     ensures { IfOk result (λ path. path ≡ spec.path_of escaped.now) }
 {
     if !is_well_escaped(escaped) {
         return Ok(None);
     }
-    let mut path = Vec::new(alloc);
-    percent_decode(escaped).append_to(&mut path)?;
-    resolved_path(alloc, &path)
+    let path = decoded(alloc, escaped)?;
+    resolved_path(alloc, path)
 }
 
 /// Whether each `%` has two hex digits after it.
@@ -48,16 +48,51 @@ fn begins_with_digits(text: &[u8]) -> bool
 }
 
 /// The path without dot segments, None where it has a zero byte or goes above the root.
-fn resolved_path(alloc: Global, path: &[u8]) -> Result<Option<Bytes>, AllocError>
-    ensures { IfOk result (λ resolved. resolved ≡ spec.resolved_path path.now) }
+fn resolved_path(alloc: Global, path: Bytes) -> Result<Option<Bytes>, AllocError>
+    ensures { IfOk result (λ resolved. resolved ≡ spec.resolved_path path) }
 {
     if path.contains(&0) {
         return Ok(None);
     }
-    match resolved(alloc, path)? {
+    if is_plain(&path) {
+        return Ok(Some(path));
+    }
+    match resolved(alloc, &path)? {
         Some(kept) => Ok(Some(joined(alloc, &kept)?)),
         None => Ok(None),
     }
+}
+
+/// Whether the path begins with `/` and keeps all its segments as they are.
+fn is_plain(path: &[u8]) -> bool
+    ensures { result ≡ plain.is_plain path.now }
+{
+    match path {
+        [b'/', rest @ ..] => keeps_all(rest),
+        _ => false,
+    }
+}
+
+/// Whether each of the segments is kept, where the last one may be empty.
+fn keeps_all(path: &[u8]) -> bool
+    ensures { result ≡ plain.keeps_all (split slash path.now) }
+{
+    let mut rest = Some(path);
+    while let Some(more) = rest {
+        let (segment, after) = split_once(more, b'/');
+        if !is_kept(segment, after.is_none()) {
+            return false;
+        }
+        rest = after;
+    }
+    true
+}
+
+/// Whether the segment is kept as it is.
+fn is_kept(segment: &[u8], is_last: bool) -> bool
+    ensures { result ≡ (if is_last then plain.is_kept_last segment.now else not (spec.is_passed segment.now)) }
+{
+    !is_passed(segment) || (is_last && segment.is_empty())
 }
 
 /// The path's segments without dot segments, None where a `..` has none before it.

@@ -2,9 +2,10 @@
 ghost use Rattle.std.specs.Prelude.{◌≡◌, IfOk};
 ghost use Rattle.uri_args.specs.Targets as spec;
 
-use crate::paths::path_of;
+use crate::path_of;
+use crate::shared::{shared_after, split_shared};
 use http_base::{plain_host, split_once};
-use resty_base::{Bytes, bytes_after};
+use resty_base::Bytes;
 use std::alloc::{AllocError, Global};
 
 /// How many bytes `http://` has.
@@ -19,19 +20,20 @@ pub struct Target {
     pub host: Option<Bytes>,
 }
 
-/// What the target says, None where it is refused.
-pub fn target_of(alloc: Global, target: &[u8]) -> Result<Option<Target>, AllocError>
+/// What the target says, None where it is refused. The arguments, and a path that is written plainly, share the target.
+pub fn target_of(alloc: Global, target: &Bytes) -> Result<Option<Target>, AllocError>
     ensures { IfOk result (λ found. found ≡ spec.target_of target.now) }
 {
     if target.starts_with(b"http://") {
-        absolute_target(alloc, bytes_after(target, SCHEME_LENGTH))
+        let rest = shared_after(target, SCHEME_LENGTH)?;
+        absolute_target(alloc, &rest)
     } else {
         local_target(alloc, None, target)
     }
 }
 
 /// What an absolute target says, by what stands after its `http://`.
-fn absolute_target(alloc: Global, rest: &[u8]) -> Result<Option<Target>, AllocError>
+fn absolute_target(alloc: Global, rest: &Bytes) -> Result<Option<Target>, AllocError>
     ensures { IfOk result (λ found. found ≡ spec.absolute_target rest.now) }
 {
     let (authority, _) = split_once(rest, b'/');
@@ -39,26 +41,27 @@ fn absolute_target(alloc: Global, rest: &[u8]) -> Result<Option<Target>, AllocEr
         return Ok(None);
     }
     let host = plain_host(alloc, authority)?;
-    local_target(alloc, Some(host), bytes_after(rest, authority.len()))
+    let local = shared_after(rest, authority.len())?;
+    local_target(alloc, Some(host), &local)
 }
 
 /// What a target from its path on says, on this host.
 fn local_target(
     alloc: Global,
     host: Option<Bytes>,
-    local: &[u8],
+    local: &Bytes,
 ) -> Result<Option<Target>, AllocError>
     ensures { IfOk result (λ found. found ≡ spec.local_target host local.now) }
 {
     if !begins_with_slash(local) {
         return Ok(None);
     }
-    let (escaped, after) = split_once(local, b'?');
-    let Some(path) = path_of(alloc, escaped)? else {
+    let (escaped, after) = split_shared(local, b'?')?;
+    let Some(path) = path_of(alloc, &escaped)? else {
         return Ok(None);
     };
     let args = match after {
-        Some(args) => Bytes::copy_from_slice(alloc, args)?,
+        Some(args) => args,
         None => Bytes::new(),
     };
     Ok(Some(Target { path, args, host }))

@@ -26,8 +26,11 @@ enough : (max : ℕ) (list more all : List Pair) → list ++ more ≡ all → 0 
 enough max list more all is some full =
     sym (cond-false _ _ _ (ne_eqb max 0 (λ none. omega arith)) ∙ ap (take max) (sym is) ∙ take-append-le max list more (omega arith) ∙ take_all max list (omega arith))
 
+pub loop-rest-smaller-else-max-gt0 : goal.loop-rest-smaller-else-max-gt0
+loop-rest-smaller-else-max-gt0 c = rw (c.in_ok-piece.ensures.after, c.in-Some.is) (left_after 38 c.in-Some.more)
+
 pub loop-rest-smaller : goal.loop-rest-smaller
-loop-rest-smaller c = rw (c.split_once.ensures.after, c.in-Some.is) (left_after 38 c.in-Some.more.now)
+loop-rest-smaller c = rw (c.in_ok-piece.ensures.after, c.in-Some.is) (left_after 38 c.in-Some.more)
 
 -- at most one is read of a piece
 grown : (list : List Pair) (pair : Pair) → length (list ++ filter spec.is_named (pair ∷ [])) ≤ length list + 1
@@ -44,19 +47,36 @@ pub returns-then-len-max : goal.returns-then-len-max
 returns-then-len-max c =
     let new = c.push_named.new.pairs.items in
     let list = c.loop-rest.pairs.items in
-    let text = c.in-Some.more.now in
-    let pushed = pushed_is list new c.in_ok-pair.pair c.split_once.result.0.now text c.in_ok-push_named.ensures c.in_ok-pair.ensures c.split_once.ensures.before in
+    let text = c.in-Some.more in
+    let pushed = pushed_is list new c.in_ok-pair.pair c.in_ok-piece.piece text c.in_ok-push_named.ensures c.in_ok-pair.ensures c.in_ok-piece.ensures.before in
     let is : new ++ named (later_pieces 38 (after 38 text)) ≡ spec.named_args c.args.text.now = rw pushed (one_more list text ∙ (rw c.in-Some.is at c.loop-rest.invariant.found)) in
     enough c.args.max new (named (later_pieces 38 (after 38 text))) (spec.named_args c.args.text.now) is c.if-max-gt0.true (search rules)
+
+pub loop-rest-preserved-else-max-gt0 : goal.loop-rest-preserved-else-max-gt0
+loop-rest-preserved-else-max-gt0 c =
+    let new = c.push_named.new.pairs.items in
+    let list = c.loop-rest.pairs.items in
+    let text = c.in-Some.more in
+    let pushed = pushed_is list new c.in_ok-pair.pair c.in_ok-piece.piece text c.in_ok-push_named.ensures c.in_ok-pair.ensures c.in_ok-piece.ensures.before in
+    record {
+      found = rw (pushed, c.in_ok-piece.ensures.after) (one_more list text ∙ (rw c.in-Some.is at c.loop-rest.invariant.found));
+      room = λ some. elim c.else-max-gt0.branch [
+        | else-max-gt0-via-then-max-gt0+else-len-max w ↦
+            let size : length new ≤ length list + 1 = rw c.in_ok-push_named.ensures (grown list c.in_ok-pair.pair) in
+            let other : length new ≢ c.args.max = search (rules, w.len.ensures, w.if-len-max.false) in
+            omega (arith, size, other, c.loop-rest.invariant.room some)
+        | else-max-gt0-via-else-max-gt0 w ↦ absurd (omega (arith, some, w.if-max-gt0.false))
+      ];
+    }
 
 pub loop-rest-preserved : goal.loop-rest-preserved
 loop-rest-preserved c =
     let new = c.push_named.new.pairs.items in
     let list = c.loop-rest.pairs.items in
-    let text = c.in-Some.more.now in
-    let pushed = pushed_is list new c.in_ok-pair.pair c.split_once.result.0.now text c.in_ok-push_named.ensures c.in_ok-pair.ensures c.split_once.ensures.before in
+    let text = c.in-Some.more in
+    let pushed = pushed_is list new c.in_ok-pair.pair c.in_ok-piece.piece text c.in_ok-push_named.ensures c.in_ok-pair.ensures c.in_ok-piece.ensures.before in
     record {
-      found = rw (pushed, c.split_once.ensures.after) (one_more list text ∙ (rw c.in-Some.is at c.loop-rest.invariant.found));
+      found = rw (pushed, c.in_ok-piece.ensures.after) (one_more list text ∙ (rw c.in-Some.is at c.loop-rest.invariant.found));
       room = λ some. elim c.else-max-gt0.branch [
         | else-max-gt0-via-then-max-gt0+else-len-max w ↦
             let size : length new ≤ length list + 1 = rw c.in_ok-push_named.ensures (grown list c.in_ok-pair.pair) in

@@ -1,5 +1,4 @@
 use Rattle.std.proofs.Common.{◌≡◌, ◌<◌, ◌++◌, length, map, filter}
-use Rattle.std.specs.Option.{option_copied}
 use Rattle.http_base.specs.Splitting.{later_pieces}
 use Rattle.http_base.proofs.Pieces.{left}
 use Rattle.uri_args.specs.Arguments as spec
@@ -7,9 +6,9 @@ use Rattle.uri_args.proofs.arguments.args_of.Given as goal
 
 abbrev pub invariant-loop-rest : goal.invariant-loop-rest
 invariant-loop-rest l = record {
-  found : l.pairs.items ++ filter spec.is_named (map spec.pair_of (later_pieces spec.ampersand (option_copied l.rest))) ≡ spec.named_args l.text;
+  found : l.pairs.items ++ filter spec.is_named (map spec.pair_of (later_pieces spec.ampersand l.rest)) ≡ spec.named_args l.text;
   room : 0 < l.max → length l.pairs.items < l.max;
 }
 
 abbrev pub decreases-loop-rest : goal.decreases-loop-rest
-decreases-loop-rest l = left (option_copied l.rest)
+decreases-loop-rest l = left l.rest
