@@ -47,7 +47,7 @@ pub enum Effect {
     Dictionary(Bytes, u64),
     Location(LocationKind),
     /// The number of a block of Lua.
-    Block(u32),
+    Block(usize),
 }
 
 /// The only word, None where there are more or none.

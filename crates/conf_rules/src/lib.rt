@@ -11,3 +11,4 @@ pub use directives::{
 };
 pub use effects::{Effect, LocationKind, effect_of};
 pub use values::{number_of, size_of, time_of};
+pub use words::word;

@@ -12,7 +12,7 @@ const DEFAULT_LEVEL: u8 = 4;
 const ADDRESS_LENGTH: usize = 10;
 
 /// The word at an index, empty where there is none.
-pub(crate) fn word(words: &[Bytes], index: usize) -> &[u8]
+pub fn word(words: &[Bytes], index: usize) -> &[u8]
     ensures { result.now ≡ spec.word words.now index }
 {
     match words.get(index) {
