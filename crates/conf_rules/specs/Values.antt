@@ -35,7 +35,11 @@ scaled number factor most = if nat_le (number * factor) most then Some (number *
 
 -- how many bytes the unit of a size has
 abbrev pub size_unit : List ℕ → Option ℕ
-size_unit unit = if length unit == 0 then Some 1 else if bytes_eq unit (codes "k") then Some 1024 else if bytes_eq unit (codes "m") then Some 1_048_576 else None
+size_unit unit =
+    if length unit == 0 then Some 1
+    else if bytes_eq unit (codes "k") then Some 1024
+    else if bytes_eq unit (codes "m") then Some 1_048_576
+    else None
 
 -- how many milliseconds the unit of a time has
 abbrev pub time_unit : List ℕ → Option ℕ
