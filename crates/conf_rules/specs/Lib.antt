@@ -1,0 +1,4 @@
+pub mod Directives
+pub mod Values
+pub mod Words
+pub mod Effects
