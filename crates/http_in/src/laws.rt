@@ -1,0 +1,16 @@
+//! Laws of the definitions.
+
+ghost use Rattle.std.specs.Prelude.{◌≡◌, ◌≢◌, ℕ, ◌++◌, List};
+ghost use Rattle.http_in.specs.declared.heads.HeadRead.{HeadRead};
+ghost use Rattle.http_in.specs.declared.heads.HeadRead.TheVariants.{More};
+ghost use Rattle.http_in.specs.Heads.{Reads};
+
+/// The bytes of a connection have one answer.
+pub fn heads_have_one_answer()
+    ensures { (bytes : List ℕ) (x y : HeadRead) → Reads bytes x → Reads bytes y → x ≡ y }
+{}
+
+/// The answer stays whatever follows, unless it is More.
+pub fn answers_to_heads_stay()
+    ensures { (bytes more : List ℕ) (x : HeadRead) → x ≢ More → Reads bytes x → Reads (bytes ++ more) x }
+{}

@@ -1,0 +1,14 @@
+//! Heads of requests, however their bytes are cut (RFC 9112, sections 2, 3, 5, 6 and 9.3).
+#![tactic(auto)]
+
+mod framing;
+mod heads;
+mod laws;
+mod lines;
+mod options;
+mod scan;
+
+pub use framing::BodyKind;
+pub use heads::{Head, HeadRead, head_in, head_of};
+pub use laws::{answers_to_heads_stay, heads_have_one_answer};
+pub use scan::HeadScan;

@@ -1,0 +1,5 @@
+//! Tests of heads and bodies of requests, by their public calls.
+#![tactic(auto)]
+
+#[cfg(test)]
+mod heads;
