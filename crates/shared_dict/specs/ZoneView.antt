@@ -25,6 +25,10 @@ pub record ZoneView : Type 0 where
 abbrev pub after : ZoneView → ℕ → DictCall → ZoneView
 after zone now c = record zone { items = (dict zone.size c now zone.items).1 }
 
+-- the zone after an item was stored
+abbrev pub after_store : ZoneView → Item → ZoneView
+after_store zone item = record zone { items = (store zone.size item zone.items).1 }
+
 -- a text
 abbrev pub is_text : DictValue → Bool
 is_text (value.Text t) = true

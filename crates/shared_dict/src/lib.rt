@@ -6,3 +6,6 @@ mod recent;
 mod shelf;
 mod sizes;
 mod sweeps;
+mod zone;
+
+pub use zone::Zone;
