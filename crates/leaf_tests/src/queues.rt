@@ -1,0 +1,173 @@
+//! Tests of the run queue and of deadlines; the last compares deadlines with a plain list over calls of a fixed generator.
+use resty_base::{Ms, StrandId};
+use std::alloc::AllocError;
+use std::test::Fail;
+use wakes::{Deadlines, RunQueue, Whose};
+
+#[test]
+fn the_first_of_the_same_threads_leaves(rt: HostRuntime) -> Result<(), Fail> {
+    let mut queue = RunQueue::new(rt.alloc());
+    queue.reserve(5)?;
+    let (c, t) = (StrandId::Conn(1), StrandId::Job(1));
+    assert!(rt; queue.pop().is_none());
+    queue.push(c, 0);
+    queue.push(t, 0);
+    queue.push(c, 1);
+    queue.push(t, 0);
+    queue.push(c, 2);
+    queue.remove(t, 0);
+    queue.remove(t, 7);
+    assert_eq!(rt; queue.pop(), Some((c, 0)));
+    assert_eq!(rt; queue.pop(), Some((c, 1)));
+    assert_eq!(rt; queue.pop(), Some((t, 0)));
+    queue.remove(c, 2);
+    assert_eq!(rt; queue.pop(), None);
+    Ok(())
+}
+
+#[test]
+fn deadlines_come_by_moment_and_then_by_number(rt: HostRuntime) -> Result<(), Fail> {
+    let mut deadlines = Deadlines::new(rt.alloc());
+    assert_eq!(rt; deadlines.earliest(), None);
+    assert_eq!(rt; deadlines.arm(Ms(5), Whose::Job(1))?, 1);
+    assert_eq!(rt; deadlines.arm(Ms(3), Whose::Job(2))?, 2);
+    assert_eq!(rt; deadlines.arm(Ms(3), Whose::Idle(3))?, 3);
+    assert_eq!(rt;
+        deadlines.arm(Ms(9), Whose::Strand(StrandId::Conn(1), 0))?,
+        4
+    );
+    assert_eq!(rt; deadlines.earliest(), Some(Ms(3)));
+    assert_eq!(rt; deadlines.due(Ms(2)), None);
+    assert_eq!(rt; deadlines.due(Ms(3)), Some(Whose::Job(2)));
+    assert_eq!(rt; deadlines.due(Ms(4)), Some(Whose::Idle(3)));
+    assert_eq!(rt; deadlines.due(Ms(4)), None);
+    deadlines.cancel(1);
+    assert_eq!(rt; deadlines.arm(Ms(9), Whose::Job(1))?, 5);
+    assert_eq!(rt;
+        deadlines.due(Ms(9)),
+        Some(Whose::Strand(StrandId::Conn(1), 0))
+    );
+    deadlines.cancel(77);
+    assert_eq!(rt; deadlines.earliest(), Some(Ms(9)));
+    deadlines.cancel(5);
+    assert_eq!(rt; deadlines.due(Ms(100)), None);
+    assert_eq!(rt; deadlines.earliest(), None);
+    Ok(())
+}
+
+/// A deadline of the plain list.
+#[derive(Clone, Copy, Drop)]
+struct Plain {
+    number: u64,
+    at: u64,
+}
+
+/// The index of the plain deadline that comes first.
+fn first_of(list: &Vec<Plain>) -> Option<usize> {
+    let mut first: Option<usize> = None;
+    let mut least = u64::MAX;
+    for (index, plain) in list.iter().enumerate() {
+        if first.is_none() || plain.at < least {
+            first = Some(index);
+            least = plain.at;
+        }
+    }
+    first
+}
+
+/// The index of the plain deadline of a number.
+fn index_of(list: &Vec<Plain>, number: u64) -> Option<usize> {
+    for (index, plain) in list.iter().enumerate() {
+        if plain.number == number {
+            return Some(index);
+        }
+    }
+    None
+}
+
+/// The next number of the fixed generator.
+fn draw(x: u64) -> u64 {
+    48_271_u64.wrapping_mul(x) % 2_147_483_647
+}
+
+/// Takes out the plain deadline that is due, and returns its number.
+fn plain_due(list: &mut Vec<Plain>, now: u64) -> Option<u64> {
+    let index = first_of(list)?;
+    let plain = *list.get(index)?;
+    if now < plain.at {
+        return None;
+    }
+    let _removed = take_out(list, index);
+    Some(plain.number)
+}
+
+fn take_out(list: &mut Vec<Plain>, index: usize) -> bool {
+    if index < list.len() {
+        let _plain = list.remove(index);
+        return true;
+    }
+    false
+}
+
+/// Whose number it is; the deadlines of the comparison are those of jobs of their own number.
+fn number_of(whose: Option<Whose>) -> Option<u64> {
+    match whose {
+        Some(Whose::Job(number)) => Some(number),
+        _ => None,
+    }
+}
+
+/// One call of both; whether they agree.
+fn agrees(
+    deadlines: &mut Deadlines,
+    list: &mut Vec<Plain>,
+    x: u64,
+    count: u64,
+) -> Result<bool, AllocError> {
+    match x % 4 {
+        0 | 1 => {
+            if !deadlines.has_number() {
+                return Ok(false);
+            }
+            let at = x / 4 % 50;
+            let number = deadlines.arm(Ms(at), Whose::Job(count))?;
+            list.push(Plain { number: count, at })?;
+            Ok(number == count)
+        }
+        2 => {
+            let number = x / 4 % 600;
+            deadlines.cancel(number);
+            if let Some(index) = index_of(list, number) {
+                let _removed = take_out(list, index);
+            }
+            Ok(true)
+        }
+        _ => {
+            let now = x / 4 % 60;
+            let due = number_of(deadlines.due(Ms(now)));
+            Ok(due == plain_due(list, now))
+        }
+    }
+}
+
+#[test]
+fn deadlines_are_those_of_a_plain_list(rt: HostRuntime) -> Result<(), Fail> {
+    let alloc = rt.alloc();
+    let mut deadlines = Deadlines::new(alloc);
+    let mut list: Vec<Plain> = Vec::new(alloc);
+    let mut x = 1;
+    let mut count = 1;
+    for _ in 0..2_000_u32 {
+        x = draw(x);
+        let agree = agrees(&mut deadlines, &mut list, x, count)?;
+        assert!(rt; agree);
+        if x % 4 < 2 && count < u64::MAX {
+            count += 1;
+        }
+        let first = first_of(&list)
+            .and_then(|index| list.get(index))
+            .map(|plain| plain.at);
+        assert_eq!(rt; deadlines.earliest().map(|at| at.0), first);
+    }
+    Ok(())
+}

@@ -1,4 +1,0 @@
-pub mod Recency
-pub mod Named
-pub mod ZoneView
-pub mod Sweeping
