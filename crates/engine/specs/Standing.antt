@@ -14,7 +14,8 @@ use Rattle.strand_contract.specs.Actions.{LocalAction, Did, GlobalAction, Of}
 use Rattle.strand_contract.specs.Behaviors.{Behavior}
 use Rattle.strand_contract.specs.Alone.{lives, moment, is_open, has_ended, todo, carried, waiting, lined_up, to_offer, offers, armed, armed_by, offering}
 use Rattle.strand_contract.specs.Alone.{begun_offer, in_offers, is_stopping, IsExecution}
-use Rattle.strand_contract.specs.Executions.{projection, external, offered_lengths, present, arrived, open_connections, BeginsRight, IsGivenAtRest, HeldNothingBack}
+use Rattle.strand_contract.specs.Executions.{projection, external, offered_lengths, present, arrived, open_connections, BeginsRight}
+use Rattle.strand_contract.specs.Executions.{IsGivenAtRest, HeldNothingBack}
 use Rattle.strand_contract.specs.Executions.{IsPlain}
 use Rattle.strand_contract.specs.Calls.{action_of}
 use Rattle.strand_contract.specs.Laws.{IsLastAct}

@@ -48,7 +48,8 @@ among-without q p [] = none (same_place q p)
     none false = refl
 among-without q p (r ∷ ps) = put (same_place p r) refl (same_place q p) refl (same_place q r) refl (among-without q p ps)
   where
-    put : (d : Bool) → same_place p r ≡ d → (c : Bool) → same_place q p ≡ c → (e : Bool) → same_place q r ≡ e → is_among q (without_place p ps) ≡ (if c then false else is_among q ps)
+    put : (d : Bool) → same_place p r ≡ d → (c : Bool) → same_place q p ≡ c → (e : Bool) → same_place q r ≡ e
+        → is_among q (without_place p ps) ≡ (if c then false else is_among q ps)
         → is_among q (if d then without_place p ps else r ∷ without_place p ps) ≡ (if c then false else (e || is_among q ps))
     put true h true i e j ih = ih
     put true h false i true j ih = clash (same_place q p) (subst (λ (x : Place). same_place q x ≡ true) (sym (same-place p r h)) j) i
@@ -64,10 +65,13 @@ pub open-among : {J : Type 0} (q : Place) (es : List (LocalAction J)) → is_ope
 open-among q [] = refl
 open-among q (Told w ∷ es) = open-among q es
 open-among q (Did (Began now (start.Client c)) ∷ es) = sym (or-false (same_place q place.Client))
-open-among q (Did (Dial host port true) ∷ es) = ap (λ c. same_place q (place.Sock (socket_count es)) || c) (open-among q es) ∙ sym (among-end q (place.Sock (socket_count es)) (open_places es))
-open-among q (Did (Take key (Some uses)) ∷ es) = ap (λ c. same_place q (place.Sock (socket_count es)) || c) (open-among q es) ∙ sym (among-end q (place.Sock (socket_count es)) (open_places es))
+open-among q (Did (Dial host port true) ∷ es) =
+    ap (λ c. same_place q (place.Sock (socket_count es)) || c) (open-among q es) ∙ sym (among-end q (place.Sock (socket_count es)) (open_places es))
+open-among q (Did (Take key (Some uses)) ∷ es) =
+    ap (λ c. same_place q (place.Sock (socket_count es)) || c) (open-among q es) ∙ sym (among-end q (place.Sock (socket_count es)) (open_places es))
 open-among q (Did (Close p) ∷ es) = ap (λ c. if same_place q p then false else c) (open-among q es) ∙ sym (among-without q p (open_places es))
-open-among q (Did (Keep k key idle size) ∷ es) = ap (λ c. if same_place q (place.Sock k) then false else c) (open-among q es) ∙ sym (among-without q (place.Sock k) (open_places es))
+open-among q (Did (Keep k key idle size) ∷ es) =
+    ap (λ c. if same_place q (place.Sock k) then false else c) (open-among q es) ∙ sym (among-without q (place.Sock k) (open_places es))
 open-among q (Did x ∷ es) = open-among q es
 
 none-among : (ps : List Place) → ((q : Place) → is_among q ps ≡ false) → ps ≡ []
