@@ -1,0 +1,2 @@
+pub mod SameDates
+pub mod Grouping
