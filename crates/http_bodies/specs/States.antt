@@ -7,7 +7,8 @@ use Rattle.httparse.specs.Grammar.{is_ows}
 use Rattle.http_bodies.specs.declared.states.DataOf.{DataOf}
 use Rattle.http_bodies.specs.declared.states.DataOf.TheVariants as part
 use Rattle.http_bodies.specs.declared.states.BodyState.{BodyState}
-use Rattle.http_bodies.specs.declared.states.BodyState.TheVariants.{Data, Digits, Blanks, Extension, Return, DataEnd, DataReturn, Trailers, TrailersReturn, TrailersLine, Whole, Refused}
+use Rattle.http_bodies.specs.declared.states.BodyState.TheVariants.{Data, Digits, Blanks, Extension, Return, DataEnd}
+use Rattle.http_bodies.specs.declared.states.BodyState.TheVariants.{DataReturn, Trailers, TrailersReturn, TrailersLine, Whole, Refused}
 
 -- the most bytes that a chunk line may have, and all trailers together, their ends counted
 abbrev pub line_limit : ℕ
@@ -33,7 +34,9 @@ after_data more of = if nat_lt 0 more then Data (more - 1) of else data_end of
 -- after the digits of a size: blanks, an extension, or the end of the line
 abbrev pub after_blanks : ℕ → ℕ → ℕ → BodyState
 after_blanks size used b =
-    within used (λ n. if is_ows b then Blanks size n else (if b == semicolon then Extension size n else (if b == carriage_return then Return size n else Refused 400)))
+    within used
+    (λ n. if is_ows b then Blanks size n
+    else (if b == semicolon then Extension size n else (if b == carriage_return then Return size n else Refused 400)))
 
 -- a further digit: at most 16 of them
 abbrev pub after_digit : ℕ → ℕ → ℕ → BodyState
