@@ -1,5 +1,6 @@
 -- The lines of a head, and the version that its first line ends with (RFC 9112, sections 2.3 and 3).
-use Rattle.std.specs.Prelude.{ℕ, ◌-◌, Bool, true, false, not, ◌==◌, ◌&&◌, ◌||◌, List, [], ◌∷◌, length, take, drop, filter, slice_index, codes, nat_eq, if◌then◌else◌}
+use Rattle.std.specs.Prelude.{ℕ, ◌-◌, Bool, true, false, not, ◌==◌, ◌&&◌, ◌||◌, List}
+use Rattle.std.specs.Prelude.{[], ◌∷◌, length, take, drop, filter, slice_index, codes, nat_eq, if◌then◌else◌}
 use Rattle.std.specs.List.{starts_with, ends_with}
 use Rattle.std.specs.Char.{is_ascii_digit}
 use Rattle.resty_base.specs.Ascii.{line_feed, carriage_return, dot}

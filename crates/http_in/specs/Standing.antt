@@ -13,7 +13,12 @@ pair_at bytes at = record { name = span_bytes bytes at.name; value = span_bytes 
 
 -- the parts that stand there
 abbrev pub parts_at : List ℕ → RequestSpans → List HeaderSpan → Parts
-parts_at bytes at spans = record { method = span_bytes bytes at.method; target = span_bytes bytes at.path; minor = at.version; fields = map (pair_at bytes) spans }
+parts_at bytes at spans = record {
+  method = span_bytes bytes at.method;
+  target = span_bytes bytes at.path;
+  minor = at.version;
+  fields = map (pair_at bytes) spans;
+}
 
 -- the bytes are a head, and its parts stand there
 pub record StandAt (bytes : List ℕ) (at : RequestSpans) (spans : List HeaderSpan) : Type 0 where
