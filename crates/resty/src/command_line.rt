@@ -157,7 +157,8 @@ fn schedule_in(has_schedule: bool, words: &[String]) -> Option<Valued<'_>>
 
 /// How many events are asked for by the last words.
 fn events_in(counts_events: bool, words: &[String]) -> Option<u64>
-    ensures { MatchOption result ((count : ℕ) → ¬ (AsksEvents counts_events count (texts words.now))) (λ count. AsksEvents counts_events count (texts words.now)) }
+    ensures { MatchOption result ((count : ℕ) → ¬ (AsksEvents counts_events count (texts words.now)))
+        (λ count. AsksEvents counts_events count (texts words.now)) }
 {
     let Some((option, rest)) = words.split_first() else {
         return Some(ALL_EVENTS);

@@ -1,10 +1,6 @@
 //! The program: its words, the files that they name, the run, and what it writes.
 #![tactic(auto)]
 
-ghost use Rattle.std.specs.Prelude.{IfOk};
-ghost use Rattle.engine.specs.Right.{IsFresh};
-ghost use Rattle.schedule.specs.ReplayBook.{book_of};
-
 mod command_line;
 mod endings;
 pub mod laws;
@@ -19,11 +15,10 @@ mod work;
 mod writing;
 
 pub use endings::Status;
+use live_world::Live;
 use messages::{put_out_of_memory, put_usage};
 pub use program::resty;
 use resty_base::{DiskFiles, Sink, StdSink};
-use schedule::{Replay, SchedFault, schedule_of};
-use std::alloc::Global;
 use std::env;
 use std::io::{self, ErrorKind};
 use std::process::ExitCode;
@@ -51,22 +46,12 @@ fn words_of(rt: &HostRuntime) -> io::Result<Vec<String>> {
     Ok(words.collect(rt.alloc())?)
 }
 
-/// Does what the words say with the files of the system.
+/// Does what the words say with the files, the sockets and the clock of the system. Log lines go to the standard error.
 fn run_words<E: Sink>(rt: &HostRuntime, words: &[String], err: &mut E) -> Status {
-    let Ok(mut live) = no_world(rt.alloc()) else {
-        let _ = put_out_of_memory(err);
-        return Status::Memory;
-    };
+    let mut live = Live::new(rt.alloc(), rt, rt.stderr());
     let mut files = DiskFiles::new(rt);
     let mut out = StdSink::new(rt.stdout());
     resty(rt.alloc(), words, &mut files, &mut live, &mut out, err)
-}
-
-/// A world in which nothing happens: there is no live one yet.
-fn no_world(alloc: Global) -> Result<Replay, SchedFault>
-    ensures { IfOk result (λ world. IsFresh (book_of world)) }
-{
-    Ok(Replay::new(alloc, schedule_of(alloc, b"stop\n")?))
 }
 
 #[cfg(test)]

@@ -1,8 +1,13 @@
 //! Tests of the program, over files, sinks and a live world in memory.
 
+ghost use Rattle.std.specs.Prelude.{IfOk};
+ghost use Rattle.engine.specs.Right.{IsFresh};
+ghost use Rattle.schedule.specs.ReplayBook.{book_of};
+
 use super::*;
 use resty_base::{MemFiles, MemSink};
-use std::alloc::AllocError;
+use schedule::{Replay, SchedFault, schedule_of};
+use std::alloc::{AllocError, Global};
 use std::process::Abort;
 use std::test::Fail;
 

@@ -1,0 +1,199 @@
+//! The live world.
+
+ghost use Rattle.std.specs.Prelude.{◌≡◌, length};
+ghost use Rattle.resty_world.specs.Calls.{IsPiece};
+ghost use Rattle.live_world.specs.Accounts.{book_of, IsNew};
+
+use crate::accounts::{Accounts, LAST_MOMENT};
+use crate::sockets::{Failure, Next, Sockets};
+use crate::stream::Seen;
+use mio::net::TcpStream;
+use resty_base::{Id, Ms};
+use resty_world::{Event, Wrote};
+use std::alloc::Global;
+use std::io::Write;
+use std::net::{Ipv4Addr, Net, SocketAddr};
+use std::time::Clock;
+
+/// A world of loopback sockets, the clock of the system, and a log. It reports no history, and keeps something of the ids that are
+/// open and of the strands that live alone.
+///
+/// It never gives Stop: whoever runs it ends it from outside, or by a number of events.
+#[derive(Drop)]
+pub struct Live<'a, R: Net + Clock, W: Write> {
+    pub(crate) rt: &'a R,
+    pub(crate) log: W,
+    pub(crate) accounts: Accounts,
+    pub(crate) sockets: Option<Sockets>,
+    /// The last moment that was given, in milliseconds since 1970.
+    pub(crate) moment: u64,
+}
+
+/// The token under which the poll reports an id; that of a number past half of all is none.
+pub fn token_of(id: Id) -> Option<usize> {
+    match id {
+        Id::Conn(number) => usize::try_from(number.checked_mul(2)?).ok(),
+        Id::Sock(number) => usize::try_from(number.checked_mul(2)?.checked_add(1)?).ok(),
+    }
+}
+
+/// The id of a token.
+fn id_of(token: usize) -> Id {
+    let number = token as u64 / 2;
+    if token % 2 == 0 {
+        Id::Conn(number)
+    } else {
+        Id::Sock(number)
+    }
+}
+
+/// The event that a look at an id gives.
+fn event_of(id: Id, seen: Seen) -> Option<Event> {
+    match seen {
+        Seen::Nothing => None,
+        Seen::Bytes(bytes) => Some(Event::Bytes(id, bytes)),
+        Seen::Ended => Some(Event::Ended(id)),
+        Seen::Broken => Some(Event::Broken(id)),
+        Seen::Ready => Some(Event::Ready(id)),
+        Seen::Connected => match id {
+            Id::Sock(number) => Some(Event::Dialled(number)),
+            Id::Conn(_) => None,
+        },
+        Seen::Refused => match id {
+            Id::Sock(number) => Some(Event::Refused(number)),
+            Id::Conn(_) => None,
+        },
+    }
+}
+
+impl<'a, R: Net + Clock, W: Write> Live<'a, R, W> {
+    /// A world at which nothing has happened; takes no memory.
+    pub fn new(alloc: Global, rt: &'a R, log: W) -> Live<'a, R, W>
+        ensures { IsNew (book_of result.accounts) }
+    {
+        Live {
+            rt,
+            log,
+            accounts: Accounts::new(alloc),
+            sockets: None,
+            moment: 0,
+        }
+    }
+
+    /// The port that it listens on, where that is known; for a world that was asked to listen on port 0.
+    pub fn port(&self) -> Option<u16> {
+        match &self.sockets {
+            Some(sockets) => sockets.port().ok(),
+            None => None,
+        }
+    }
+
+    /// Whether the connection or the socket is open.
+    pub fn is_open(&self, id: Id) -> bool
+        ensures { result ≡ (book_of self.now.accounts).is_open id }
+    {
+        self.accounts.standings.at(id).is_open
+    }
+
+    /// The moment by the clock, which doesn't fall: a clock that was set back stands still.
+    pub(crate) fn now(&self) -> u64 {
+        let Ok(since) = self.rt.since_1970() else {
+            return self.moment;
+        };
+        let millis = since
+            .as_secs()
+            .saturating_mul(1_000)
+            .saturating_add(u64::from(since.subsec_millis()));
+        millis.min(LAST_MOMENT).max(self.moment)
+    }
+
+    /// What comes next: an event, or nothing, and then it is to be called again.
+    pub(crate) fn turn(&mut self, alloc: Global, until: Option<Ms>) -> Option<Event>
+        ensures { book_of self.new.accounts ≡ book_of self.old.accounts }
+    {
+        let now = self.now();
+        match until {
+            Some(until) if until.0 <= now => return Some(self.moment_at(now)),
+            _ => {}
+        }
+        let Some(sockets) = &mut self.sockets else {
+            return Some(Event::Fault);
+        };
+        if !sockets.has_next() {
+            return ask(sockets, now, until);
+        }
+        if now > self.moment {
+            return Some(self.moment_at(now));
+        }
+        match sockets.next(alloc, now) {
+            Next::Nothing => None,
+            Next::Arrived(socket) => self.arrival(socket),
+            Next::Seen(token, seen) => event_of(id_of(token), seen),
+        }
+    }
+
+    /// Dials a host and a port under the next socket's token.
+    pub(crate) fn dial_next(&mut self, host: [u8; 4], port: u16) -> Result<(), Failure>
+        ensures { self.new.accounts ≡ self.old.accounts }
+    {
+        let next = Id::Sock(self.accounts.dials.saturating_add(1));
+        match (&mut self.sockets, token_of(next)) {
+            (Some(sockets), Some(token)) => {
+                sockets.dial(
+                    self.rt,
+                    token,
+                    SocketAddr::from((Ipv4Addr::from(host), port)),
+                )
+            }
+            _ => Err(Failure::Failed),
+        }
+    }
+
+    /// Writes a first part of the bytes.
+    pub(crate) fn write(&mut self, id: Id, bytes: &[u8]) -> Wrote
+        ensures accounts { self.new.accounts ≡ self.old.accounts }
+        ensures piece { IsPiece (length bytes.now) result }
+    {
+        match (&mut self.sockets, token_of(id)) {
+            (Some(sockets), Some(token)) => within(sockets.write(token, bytes), bytes.len()),
+            _ => Wrote::Broken,
+        }
+    }
+
+    /// The moment is given.
+    fn moment_at(&mut self, now: u64) -> Event
+        ensures { self.new.accounts ≡ self.old.accounts }
+    {
+        self.moment = now;
+        Event::Moment(Ms(now))
+    }
+
+    /// A connection that arrives; without memory for it, or where it can't be polled, it is closed unseen.
+    fn arrival(&mut self, socket: TcpStream) -> Option<Event>
+        ensures { book_of self.new.accounts ≡ book_of self.old.accounts }
+    {
+        let number = self.accounts.reserve()?;
+        let token = token_of(Id::Conn(number))?;
+        let sockets = self.sockets.as_mut()?;
+        sockets.keep(token, socket).ok()?;
+        Some(Event::Arrive(number))
+    }
+}
+
+/// Asks the poll; a poll that fails is a fault.
+fn ask(sockets: &mut Sockets, now: u64, until: Option<Ms>) -> Option<Event> {
+    match sockets.ask(now, until.map(|at| at.0)) {
+        Ok(()) => None,
+        Err(_) => Some(Event::Fault),
+    }
+}
+
+/// The answer, which is of at least one byte and of no more than there are.
+fn within(answer: Wrote, bytes: usize) -> Wrote
+    ensures { IsPiece bytes result }
+{
+    match answer {
+        Wrote::Took(count) if count == 0 || count > bytes => Wrote::Broken,
+        answer => answer,
+    }
+}
