@@ -1,4 +1,5 @@
 pub mod EvaluatorLemmas
 pub mod Running
 pub mod RowLemmas
+pub mod ParkedRowLemmas
 pub mod DirectLemmas

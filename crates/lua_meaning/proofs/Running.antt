@@ -1,7 +1,7 @@
 -- Evaluating step by step: each lemma goes from a node to its work, or from work to what is left of it.
 use Rattle.std.specs.Prelude.{◌≡◌, ℕ, ◌+◌, nat_lt, Bool, true, false, List, refl, if◌then◌else◌}
 use Rattle.std.proofs.Common.{◌∙◌, ap}
-use Rattle.lua_values.specs.Heap.{Heap, step_limit}
+use Rattle.lua_values.specs.Heap.{Heap, StoreView, step_limit}
 use Rattle.lua_ast.specs.declared.expressions.Expr.{Expr}
 use Rattle.lua_ast.specs.declared.expressions.ExprKind.{ExprKind, out-ExprKind}
 use Rattle.lua_ast.specs.declared.expressions.ExprKind.TheOpen.{ExprKind-F}
@@ -12,8 +12,8 @@ use Rattle.lua_ast.specs.declared.statements.Arm as arm
 use Rattle.lua_ast.specs.declared.statements.Stmt.{Stmt}
 use Rattle.lua_ast.specs.declared.statements.StmtKind.{StmtKind, out-StmtKind}
 use Rattle.lua_ast.specs.declared.statements.StmtKind.TheOpen.{StmtKind-F}
-use Rattle.lua_meaning.specs.Works.{Node, AValue, AnExpr, AStmt, Places, Slots, Sign, Work, End, Eval, Look, Write, Count}
-use Rattle.lua_meaning.specs.Evaluator.{State, Ending, Ended, Spent, after, do_work}
+use Rattle.lua_meaning.specs.Works.{Node, AValue, AnExpr, AStmt, Places, Slots, Sign, Work, End, Eval, Outside, Look, Write, Count}
+use Rattle.lua_meaning.specs.Evaluator.{Resume, State, Ending, Ended, Parked, Spent, after, do_work}
 use Rattle.lua_meaning.specs.Setting.{Setting}
 use Rattle.lua_meaning.specs.Expressions.{expr_work, value_work}
 use Rattle.lua_meaning.specs.Statements.{stmt_work, return_one, if_work}
@@ -27,9 +27,13 @@ use Rattle.lua_meaning.specs.Blocks.{block}
 use Rattle.std.specs.declared.vec.Vec.{Vec}
 use Rattle.std.specs.declared.alloc.Global.{Global}
 use Rattle.lua_values.specs.NativeCalls.{Meaning}
+use Rattle.lua_values.specs.declared.values.Value.{Value}
 use Rattle.lua_values.specs.declared.values.Value.TheVariants.{Closure}
 use Rattle.lua_ast.specs.declared.programs.Function.{Function}
 use Rattle.lua_meaning.specs.Works.{ACall}
+use Rattle.std.specs.Prelude.{Option}
+use Rattle.lua_meaning.specs.declared.positions.Position.{Position}
+use Rattle.lua_meaning.specs.declared.resumes.Resumed.{Resumed}
 use Rattle.lua_meaning.specs.Calls.{calling}
 use Rattle.lua_meaning.specs.Life.{outcome_of}
 use Rattle.lua_meaning.specs.Rows.{row, row_of, start, setting_of}
@@ -87,6 +91,22 @@ write h = record { is = h.is }
 pub count : {S : Setting} {n : ℕ} {go : Work} {w : State} {o : Ending} → nat_lt (w.store.steps + n) step_limit ≡ true
     → Does S go (stepped n w) o → Does S (Count n go) w o
 count {S} {n} {go} {w} few h = record { is = ap (λ (t : Bool). if t then do_work (eval S) go (stepped n w) else Spent) few ∙ h.is }
+
+-- a call of the host that is left to the outside parks the thread, or goes on with the next resume
+pub park : {S : Setting} {number : ℕ} {args : List Value} {position : Option Position} {go : Resumed → Work} {store : StoreView} {store' : StoreView}
+    → store ≡ store' → Does S (Outside number args position go) (record { store = store; resumes = [] }) (Parked number args position store')
+park {S} {number} {args} {position} e = record { is = ap (λ (x : StoreView). Parked number args position x) e }
+
+pub resume : {S : Setting} {number : ℕ} {args : List Value} {position : Option Position} {go : Resumed → Work} {store : StoreView} {r : Resume} {rs : List Resume} {o : Ending}
+    → nat_lt r.store.steps step_limit ≡ true → Does S (go r.answer) (record { store = r.store; resumes = rs }) o
+    → Does S (Outside number args position go) (record { store = store; resumes = r ∷ rs }) o
+resume {S} {number} {args} {position} {go} {store} {r} {rs} few h =
+    record { is = ap (λ (t : Bool). if t then do_work (eval S) (go r.answer) (record { store = r.store; resumes = rs }) else Spent) few ∙ h.is }
+
+-- where a node parks, so does the work that begins with it
+pub parks : {S : Setting} {n : Node} {p : Places} {s : Slots} {go : Sign → Slots → Work} {w : State} {number : ℕ} {args : List Value} {position : Option Position} {store : StoreView}
+    → Comes S n p s w (Parked number args position store) → Does S (Eval n p s go) w (Parked number args position store)
+parks {S} {n} {p} {s} {go} h = record { is = ap (λ (x : Ending). after x (λ sign' s'' w''. do_work (eval S) (go sign' s'') w'')) h.is }
 
 pub end : {S : Setting} {sign : Sign} {s : Slots} {w : State} → Does S (End sign s) w (Ended sign s w)
 end = record { is = refl }

@@ -27,3 +27,4 @@ pub mod Laws
 pub mod DirectEquations
 pub mod Trees
 pub mod Rows
+pub mod ParkedRows

@@ -81,6 +81,33 @@ tail_calls = tree.two
 abbrev pub remainder : Vec Function Global
 remainder = chunk 0 (tree.one (tree.returns (tree.one (tree.binary Mod (tree.number (pos 1)) (tree.number (pos 0))))))
 
+-- `local n = 0 for i = 1, 3 do n = n + i end return n`
+abbrev pub counting : Vec Function Global
+counting = chunk 2 (tree.three (tree.locals (tree.one 0) (tree.one (tree.number (pos 0))))
+    (tree.for_do 1 (tree.number (pos 1)) (tree.number (pos 3)) (tree.assign_one (tree.slot 0) (tree.binary Add (tree.slot 0) (tree.slot 1))))
+    (tree.returns (tree.one (tree.slot 0))))
+
+-- `local function f(...) return (...), ... end return f(1, 2)`
+abbrev pub varargs : Vec Function Global
+varargs = tree.two
+    (tree.function 0 1 tree.none (tree.two (tree.local_function 0 1)
+    (tree.returns (tree.one (tree.call (tree.slot 0) (tree.two (tree.number (pos 1)) (tree.number (pos 2))))))))
+    (tree.vararg_function (tree.one (tree.returns (tree.two (tree.paren tree.vararg) tree.vararg))))
+
+-- `local i, t = 1, {} i, t[i] = 2, 3 return i, t[1], t[2]`
+abbrev pub assignments : Vec Function Global
+assignments = chunk 2 (tree.three (tree.locals (tree.two 0 1) (tree.two (tree.number (pos 1)) tree.empty_table))
+    (tree.assigns (tree.two (tree.slot 0) (tree.index (tree.slot 1) (tree.slot 0))) (tree.two (tree.number (pos 2)) (tree.number (pos 3))))
+    (tree.returns (tree.three (tree.slot 0) (tree.index (tree.slot 1) (tree.number (pos 1))) (tree.index (tree.slot 1) (tree.number (pos 2))))))
+
+-- `local x = 1 local function f() x = x + 1 return x end return f(), x`
+abbrev pub captures : Vec Function Global
+captures = tree.two
+    (tree.function 0 2 tree.none (tree.three (tree.locals (tree.one 0) (tree.one (tree.number (pos 1)))) (tree.local_function 1 1)
+    (tree.returns (tree.two (tree.call (tree.slot 1) tree.none) (tree.slot 0)))))
+    (tree.function 0 0 (tree.one (capture.Slot 0)) (tree.two
+    (tree.assign_one (tree.captured 0) (tree.binary Add (tree.captured 0) (tree.number (pos 1)))) (tree.returns (tree.one (tree.captured 0)))))
+
 -- each with its steps and units
 pub record WorkedRows : Type 0 where
   pub sum : IsRow sum (Gives (Number (pos 3) ∷ []) 5 0)
@@ -89,6 +116,10 @@ pub record WorkedRows : Type 0 where
   pub branches : IsRow branches (Gives (Number (pos 3) ∷ []) 6 0)
   pub tail_calls : IsRow tail_calls (Gives (Number (pos 0) ∷ []) 46 56)
   pub remainder : IsRow remainder (Fails (Text (codes "t.conf:1: attempt to divide by zero")) 5 0)
+  pub counting : IsRow counting (Gives (Number (pos 6) ∷ []) 26 0)
+  pub varargs : IsRow varargs (Gives (Number (pos 1) ∷ Number (pos 1) ∷ Number (pos 2) ∷ []) 15 32)
+  pub assignments : IsRow assignments (Gives (Number (pos 2) ∷ Number (pos 3) ∷ Nil ∷ []) 19 64)
+  pub captures : IsRow captures (Gives (Number (pos 2) ∷ Number (pos 2) ∷ []) 16 56)
 
 -- And these are no rows: a step too few, the operands in the other order, and a fault without its position.
 pub record SpoiledRows : Type 0 where

@@ -1,6 +1,6 @@
 -- Trees of small programs, written by hand. All of their nodes are at line 1 of the file `t.conf`.
 use denote.RawPtr.{null_ptr}
-use Rattle.std.specs.Prelude.{ℕ, ℤ, false, [], ◌∷◌, codes, refl}
+use Rattle.std.specs.Prelude.{ℕ, ℤ, false, [], ◌∷◌, codes, refl, List, None, true}
 use Rattle.std.proofs.Common.{lit<, lit≤}
 use Rattle.std.specs.declared.rc.Rc.{Rc}
 use Rattle.std.specs.declared.vec.Vec.{Vec}
@@ -56,6 +56,25 @@ captured i = expr (e.Captured i)
 abbrev pub nil : Expr
 nil = expr e.Nil
 
+abbrev pub vararg : Expr
+vararg = expr e.Vararg
+
+abbrev pub paren : Expr → Expr
+paren x = expr (e.Paren (shared x))
+
+abbrev pub index : Expr → Expr → Expr
+index t key = expr (e.Index (shared t) (shared key))
+
+abbrev pub global : List ℕ → Expr
+global name = expr (e.Global name)
+
+-- `function() .. end`, of the function of this number
+abbrev pub closure : ℕ → Expr
+closure n = expr (e.Function n)
+
+abbrev pub empty_table : Expr
+empty_table = expr (e.Table (shared none))
+
 abbrev pub binary : BinOp → Expr → Expr → Expr
 binary operator a b = expr (e.Binary operator (shared a) (shared b))
 
@@ -74,6 +93,13 @@ local_function i n = stmt (s.LocalFunction i n)
 abbrev pub assign_one : Expr → Expr → Stmt
 assign_one target x = stmt (s.Assign (shared (one target)) (shared (one x)))
 
+abbrev pub assigns : Vec Expr Global → Vec Expr Global → Stmt
+assigns targets values = stmt (s.Assign (shared targets) (shared values))
+
+-- `FUNCTION(ARGUMENTS)`
+abbrev pub call : Expr → Vec Expr Global → Expr
+call f args = expr (e.Call (shared f) (shared args))
+
 -- `FUNCTION(ARGUMENT)`
 abbrev pub call_one : Expr → Expr → Expr
 call_one f x = expr (e.Call (shared f) (shared (one x)))
@@ -88,6 +114,10 @@ if_then test st = stmt (s.If (shared (one (arm test st))) (shared none))
 abbrev pub if_else_if : Expr → Stmt → Expr → Stmt → Stmt
 if_else_if test st other next = stmt (s.If (shared (two (arm test st) (arm other next))) (shared none))
 
+-- `for NAME = FROM, TO do STATEMENT end`, in a slot
+abbrev pub for_do : ℕ → Expr → Expr → Stmt → Stmt
+for_do i from to st = stmt (s.NumericFor i (shared from) (shared to) None (shared (one st)))
+
 -- `while TEST do STATEMENT end`
 abbrev pub while_do : Expr → Stmt → Stmt
 while_do test st = stmt (s.While (shared test) (shared (one st)))
@@ -96,6 +126,10 @@ while_do test st = stmt (s.While (shared test) (shared (one st)))
 abbrev pub function : ℕ → ℕ → Vec Capture Global → Vec Stmt Global → Function
 function params slots captures body =
     record { file = 0; params = params; vararg = false; slots = slots; captures = captures; body = shared body; line = 1 }
+
+-- a function with `...` alone
+abbrev pub vararg_function : Vec Stmt Global → Function
+vararg_function body = record (function 0 0 none body) { vararg = true }
 
 abbrev pub program : Vec Function Global → Program
 program functions = record { files = codes "t.conf" ∷ []; functions = functions }

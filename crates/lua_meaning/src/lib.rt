@@ -14,5 +14,5 @@ pub use equations::direct_equations;
 pub use laws::{depth_never_shows, evaluator_evaluates, only_evaluator, works_in_order};
 pub use positions::Position;
 pub use resumes::Resumed;
-pub use rows::{spoiled_rows, worked_rows};
+pub use rows::{parked_row, spoiled_rows, worked_rows};
 pub use slots::Slot;
