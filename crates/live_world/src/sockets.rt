@@ -242,14 +242,12 @@ impl Sockets {
 
     /// Keeps a connection that arrived under this token, and looks at it in its turn. Without memory, or where it can't be polled, it is closed.
     pub fn keep(&mut self, token: usize, socket: TcpStream) -> Result<(), Failure> {
-        let _ = socket.set_nodelay(true);
         self.add(token, Stream::accepted(socket))
     }
 
     /// Dials a host and a port under this token.
     pub fn dial(&mut self, net: &impl Net, token: usize, at: SocketAddr) -> Result<(), Failure> {
         let socket = TcpStream::connect(net, at)?;
-        let _ = socket.set_nodelay(true);
         self.add(token, Stream::dialled(socket))
     }
 

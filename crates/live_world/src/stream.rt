@@ -44,6 +44,10 @@ pub struct Stream {
     is_put_off: bool,
     /// It takes bytes again.
     can_write: bool,
+    /// Something was written to it.
+    has_written: bool,
+    /// The system sends small pieces at once.
+    is_prompt: bool,
 }
 
 impl Stream {
@@ -59,6 +63,8 @@ impl Stream {
             has_ended: false,
             is_put_off: false,
             can_write: true,
+            has_written: false,
+            is_prompt: false,
         }
     }
 
@@ -159,8 +165,19 @@ impl Stream {
         Seen::Broken
     }
 
+    /// From the second write on the system is to send small pieces at once. The first it sends at once in any case, and many
+    /// connections have no other.
+    fn be_prompt(&mut self) {
+        if self.has_written && !self.is_prompt {
+            self.is_prompt = true;
+            let _ = self.socket.set_nodelay(true);
+        }
+        self.has_written = true;
+    }
+
     /// Writes a first part of the bytes.
     pub fn write(&mut self, bytes: &[u8]) -> Wrote {
+        self.be_prompt();
         for _ in 0..TRIES {
             match self.socket.write(bytes) {
                 Ok(0) => return Wrote::Broken,
