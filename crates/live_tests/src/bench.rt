@@ -4,7 +4,7 @@ ghost use Rattle.std.specs.Prelude.{◌≡◌, true};
 
 use live_world::Live;
 use resty_base::{Id, Ms, StrandId};
-use resty_world::{Event, Listened, World, Wrote};
+use resty_world::{Dial, Event, Listened, World, Wrote};
 use std::alloc::Global;
 use std::io::{self, ErrorKind, Read, Write};
 use std::net::{Ipv4Addr, Net, SocketAddr, TcpStream};
@@ -97,6 +97,12 @@ impl<'a, R: Net + Clock> Bench<'a, R> {
             return Wrote::Broken;
         }
         self.live.put_bytes(self.alloc, id, bytes)
+    }
+
+    /// Dials a port of the loopback address, for the first connection.
+    pub fn dial(&mut self, port: u16) -> Dial {
+        self.live
+            .dial(self.alloc, StrandId::Conn(1), [127, 0, 0, 1], port)
     }
 
     /// Hangs up an id that is open.

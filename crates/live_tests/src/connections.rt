@@ -2,9 +2,9 @@
 
 use crate::bench::{Bench, client, expect, read_some, send};
 use resty_base::{Bytes, Id};
-use resty_world::Event;
+use resty_world::{Dial, Event};
 use std::io::Write;
-use std::net::Shutdown;
+use std::net::{Ipv4Addr, Shutdown, SocketAddr, TcpListener};
 use std::test::Fail;
 
 #[test]
@@ -114,6 +114,21 @@ fn a_reset_is_a_break(rt: HostRuntime) -> Result<(), Fail> {
     drop(peer);
     expect(&rt, bench.next()?, Event::Broken(Id::Conn(1)));
     bench.finish(1);
+    Ok(())
+}
+
+#[test]
+fn a_socket_is_dialled_or_refused(rt: HostRuntime) -> Result<(), Fail> {
+    let mut bench = Bench::new(&rt, rt.alloc())?;
+    let peer = TcpListener::bind(&rt, SocketAddr::from((Ipv4Addr::LOCALHOST, 0)))?;
+    let port = peer.local_addr()?.port();
+    assert!(rt; bench.dial(port) == Dial::Started(1));
+    expect(&rt, bench.next()?, Event::Dialled(1));
+    bench.hang_up(Id::Sock(1));
+    drop(peer);
+    assert!(rt; bench.dial(port) == Dial::Started(2));
+    expect(&rt, bench.next()?, Event::Refused(2));
+    bench.hang_up(Id::Sock(2));
     Ok(())
 }
 

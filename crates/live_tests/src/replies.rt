@@ -1,7 +1,7 @@
 //! Long replies.
 
 use crate::bench::{Bench, client, read_some};
-use resty_base::Id;
+use resty_base::{Bytes, Id};
 use resty_world::{Event, Wrote};
 use std::alloc::Global;
 use std::net::TcpStream;
@@ -70,6 +70,20 @@ fn a_long_reply_reaches_a_client_that_reads_slowly(rt: HostRuntime) -> Result<()
         }
     }
     assert!(rt; put == LONG && read == LONG);
+    Ok(())
+}
+
+#[test]
+fn bytes_come_while_a_write_is_put_off(rt: HostRuntime) -> Result<(), Fail> {
+    let mut bench = Bench::new(&rt, rt.alloc())?;
+    let mut peer = client(&rt, bench.at)?;
+    assert_eq!(rt; bench.arrival()?, 1);
+    let piece = long_piece(rt.alloc())?;
+    let (_, put_off) = put_pieces(&mut bench, piece.as_slice(), usize::MAX)?;
+    assert!(rt; put_off);
+    std::io::Write::write_all(&mut peer, b"x")?;
+    let due = Bytes::copy_from_slice(rt.alloc(), b"x")?;
+    assert!(rt; bench.next()? == Event::Bytes(Id::Conn(1), due));
     Ok(())
 }
 

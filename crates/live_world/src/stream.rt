@@ -98,9 +98,14 @@ impl Stream {
 
     /// Whether a look at it may give something.
     pub fn is_ready(&self) -> bool {
-        if self.is_connecting || self.is_put_off {
+        if self.is_connecting {
             return self.can_write;
         }
+        self.is_put_off && self.can_write || self.has_bytes()
+    }
+
+    /// Whether a read may give something that is wanted.
+    fn has_bytes(&self) -> bool {
         self.can_read && self.is_wanted && !self.has_ended
     }
 
@@ -113,7 +118,7 @@ impl Stream {
             self.is_put_off = false;
             return Seen::Ready;
         }
-        if self.can_read && self.is_wanted && !self.has_ended {
+        if self.has_bytes() {
             return self.look_at_bytes(alloc, buffer);
         }
         Seen::Nothing
@@ -129,7 +134,8 @@ impl Stream {
                 self.can_read = true;
                 Seen::Connected
             }
-            _ => Seen::Refused,
+            (Ok(Some(fault)), _) if fault.kind() == ErrorKind::ConnectionRefused => Seen::Refused,
+            _ => self.break_off(),
         }
     }
 
