@@ -33,7 +33,7 @@ impl ChunkStart {
     }
 }
 
-/// The beginning of a chunk of so many bytes; behind these bytes it ends by CR LF.
+/// The beginning of a chunk of so many bytes; after these bytes it ends by CR LF.
 pub fn chunk_start(length: usize) -> ChunkStart
     ensures { result ≡ chunks.chunk_start length }
 {

@@ -1,4 +1,4 @@
-//! Replies of HTTP/1.1 and to HTTP/1.0: heads with their dates, chunks, and the replies that the server makes itself.
+//! Replies to requests of HTTP/1.1 and 1.0: heads with their dates, chunks, and the replies that the server makes itself.
 #![tactic(auto)]
 
 mod bodies;
