@@ -1,3 +1,4 @@
 pub mod States
 pub mod Records
 pub mod Bodies
+pub mod Runs

@@ -3,8 +3,10 @@
 ghost use Rattle.std.specs.Prelude.{◌≡◌, ◌≢◌, List, [], take, length, IfOk, OnErr};
 ghost use Rattle.http_bodies.specs.Bodies.{begun, begun_state, body_at, after_bytes, used, answer_at};
 
+use crate::runs::{after_run, run_length};
 use crate::states::{BodyState, DataOf};
 use http_in::BodyKind;
+use resty_base::{bytes_after, first_bytes};
 use std::alloc::{AllocError, Global};
 use std::marker::Model;
 
@@ -112,15 +114,24 @@ fn read(
     ensures kept { OnErr result (take (length content.old.items) content.new.items ≡ content.old.items) }
 {
     let mut state = state;
-    for (index, byte) in piece.iter().enumerate() {
+    let mut rest = piece;
+    while let [byte, others @ ..] = rest {
         if state.is_settled() {
-            return Ok((state, index));
+            return Ok((state, piece.len() - rest.len()));
         }
-        let room = max.saturating_sub(content.len() as u64);
-        if state.takes_data() {
-            content.push(*byte)?;
+        match state {
+            BodyState::Data(more, of) => {
+                let count = run_length(more, rest.len());
+                let data = first_bytes(rest, count);
+                content.extend_from_slice(data)?;
+                state = after_run(more, of, rest.len());
+                rest = bytes_after(rest, count);
+            }
+            _ => {
+                state = state.after(max.saturating_sub(content.len() as u64), *byte);
+                rest = others;
+            }
         }
-        state = state.after(room, *byte);
     }
     Ok((state, piece.len()))
 }

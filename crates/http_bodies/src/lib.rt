@@ -3,6 +3,7 @@
 
 mod bodies;
 mod laws;
+mod runs;
 mod states;
 
 pub use bodies::{BodyIn, BodyRead};

@@ -68,13 +68,6 @@ impl BodyState {
         }
     }
 
-    /// Whether the next byte is one of the content.
-    pub(crate) fn takes_data(self) -> bool
-        ensures { result ≡ spec.takes_data self }
-    {
-        matches!(self, BodyState::Data(_, _))
-    }
-
     /// Whether the body is whole or refused.
     pub(crate) fn is_settled(self) -> bool
         ensures { result ≡ spec.is_settled self }
@@ -97,8 +90,16 @@ fn after_data(more: u64, of: DataOf) -> BodyState
     ensures { result ≡ spec.after_data more of }
 {
     if more > 0 {
-        return BodyState::Data(more - 1, of);
+        BodyState::Data(more - 1, of)
+    } else {
+        data_end(of)
     }
+}
+
+/// After the last byte of data.
+pub(crate) fn data_end(of: DataOf) -> BodyState
+    ensures { result ≡ spec.data_end of }
+{
     match of {
         DataOf::Body => BodyState::Whole,
         DataOf::Chunk => BodyState::DataEnd,
