@@ -202,59 +202,46 @@ fn bodies_are_framed(rt: HostRuntime) -> Result<(), Fail> {
     Ok(())
 }
 
-/// So many times these bytes.
-fn repeated(alloc: Global, bytes: &[u8], count: usize) -> Result<Vec<u8>, AllocError> {
-    let mut all = Vec::new(alloc);
+/// A text with these bytes so many times between two others.
+fn with_repeated(
+    alloc: Global,
+    front: &[u8],
+    bytes: &[u8],
+    count: usize,
+    back: &[u8],
+) -> Result<Vec<u8>, AllocError> {
+    let mut all = Vec::from_slice(alloc, front)?;
     for _ in 0..count {
         all.extend_from_slice(bytes)?;
     }
+    all.extend_from_slice(back)?;
     Ok(all)
 }
 
 #[test]
 fn heads_have_limits(rt: HostRuntime) -> Result<(), Fail> {
     let alloc = rt.alloc();
-    for (parts, expected) in [
+    let other_version = b"GET / HTTP/2.0\r\n".as_slice();
+    let long_line = b"GET / HTTP/1.1\r\nHost: a\r\nX:".as_slice();
+    for (front, bytes, count, back, expected) in [
         (
-            [b"".as_slice(), &repeated(alloc, b"\r\n", 8_192)?, b""],
+            b"".as_slice(),
+            b"\r\n".as_slice(),
+            8_192,
+            b"".as_slice(),
             "431",
         ),
-        ([b"", &repeated(alloc, b"\r\n", 8_191)?, b"\r"], "More"),
-        (
-            [A, &repeated(alloc, b"X: y\r\n", 99)?, b"\r\n"],
-            "621 Nothing keep",
-        ),
-        ([A, &repeated(alloc, b"X: y\r\n", 100)?, b"\r\n"], "431"),
-        (
-            [
-                b"GET / HTTP/2.0\r\n",
-                &repeated(alloc, b"X: y\r\n", 101)?,
-                b"\r\n",
-            ],
-            "431",
-        ),
+        (b"", b"\r\n", 8_191, b"\r", "More"),
+        (A, b"X: y\r\n", 99, b"\r\n", "621 Nothing keep"),
+        (A, b"X: y\r\n", 100, b"\r\n", "431"),
+        (other_version, b"X: y\r\n", 101, b"\r\n", "431"),
+        (long_line, b"a", 16_352, b"\r\n\r\n", "16383 Nothing keep"),
+        (long_line, b"a", 16_353, b"\r\n\r\n", "16384 Nothing keep"),
+        (long_line, b"a", 16_354, b"\r\n\r\n", "431"),
     ] {
-        let bytes = joined(alloc, &parts)?;
-        assert_eq!(rt;
-            in_words(alloc, &head_of(alloc, &bytes))?.as_str(),
-            expected
-        );
-        assert_eq!(rt; end_by_bytes(&bytes), end_by_pieces(&[&bytes]));
-    }
-    for (count, expected) in [
-        (16_352, "16383 Nothing keep"),
-        (16_353, "16384 Nothing keep"),
-        (16_354, "431"),
-    ] {
-        let bytes = joined(
-            alloc,
-            &[A, b"X:", &repeated(alloc, b"a", count)?, b"\r\n\r\n"],
-        )?;
-        assert_eq!(rt;
-            in_words(alloc, &head_of(alloc, &bytes))?.as_str(),
-            expected
-        );
-        assert_eq!(rt; end_by_bytes(&bytes), end_by_pieces(&[&bytes]));
+        let head = with_repeated(alloc, front, bytes, count, back)?;
+        assert_eq!(rt; in_words(alloc, &head_of(alloc, &head))?.as_str(), expected);
+        assert_eq!(rt; end_by_bytes(&head), end_by_pieces(&[&head]));
     }
     Ok(())
 }
