@@ -5,3 +5,4 @@ mod FreezableLemmas
 mod PairLemmas
 mod EntryLemmas
 mod TableLemmas
+mod ShiftLemmas

@@ -1,9 +1,9 @@
 -- The values at the numbers from one to another, of which each moves one number up or down.
-use Rattle.std.specs.Prelude.{ℕ, zero, suc, ◌+◌, ◌-◌, ◌<◌, ◌≤◌, Bool, List, if◌then◌else◌}
+use Rattle.std.specs.Prelude.{◌≡◌, ℕ, zero, suc, ◌+◌, ◌-◌, ◌<◌, ◌≤◌, Bool, true, List, if◌then◌else◌}
 use Rattle.lua_values.specs.declared.values.Value.{Value}
 use Rattle.lua_values.specs.declared.shifts.Shift.{Shift}
 use Rattle.lua_values.specs.Values.{number}
-use Rattle.lua_values.specs.Pairs.{value_at, with_value, needs_entry}
+use Rattle.lua_values.specs.Pairs.{value_at, has_entry, with_value, needs_entry}
 
 -- there is such a number, and all that are written are numbers of Lua, none of them below 0
 pub record IsShift (shift : Shift) : Type 0 where
@@ -26,6 +26,10 @@ place shift i = if shift.up then shift.to + 1 - i else shift.from - 1 + i
 -- the value that the i-th number gets: the one that the next had before
 abbrev pub moved : List (Value × Value) → Shift → ℕ → Value
 moved ps shift i = value_at ps (number (place shift (i + 1)))
+
+-- each number whose value moves has an entry
+abbrev pub HasSources : List (Value × Value) → Shift → Type 0
+HasSources ps shift = (i : ℕ) → i < moves shift → has_entry ps (number (place shift (i + 1))) ≡ true
 
 -- the pairs once the first n numbers are written
 abbrev pub shifted_first : List (Value × Value) → Shift → ℕ → List (Value × Value)

@@ -9,7 +9,7 @@ ghost use Rattle.lua_values.specs.Pairs.{value_at, has_entry, needs_entry, with_
 ghost use Rattle.lua_values.specs.Values.{same, is_nil, number};
 ghost use Rattle.lua_values.specs.TableFlags.{IsHoleOf, IsInOrder};
 ghost use Rattle.lua_values.specs.Border.{border_of};
-ghost use Rattle.lua_values.specs.Shifts.{IsShift, moves, place, moved, shifted, new_entries};
+ghost use Rattle.lua_values.specs.Shifts.{IsShift, HasSources, moves, place, moved, shifted, entries_first, new_entries};
 
 use crate::flags::Flags;
 use crate::{Shift, Value};
@@ -17,6 +17,7 @@ use indexmap::IndexMap;
 use resty_base::Whole;
 use std::alloc::{AllocError, Global};
 use std::marker::Model;
+use std::mem;
 
 /// A table: its pairs in the order in which the keys were set first, those of value nil included, and its metatable.
 /// Beside the pairs stand the flags of those whose value isn't nil, and of the numbers, up to that of pairs, at which
@@ -91,7 +92,7 @@ impl Table {
     {
         match index_of(&self.pairs, self.in_order, &key) {
             Some(index) => {
-                self.write(index, &key, value);
+                self.replace(index, &key, value);
                 Ok(())
             }
             None => {
@@ -104,16 +105,18 @@ impl Table {
         }
     }
 
-    /// Sets the value at a key whose index is given; takes no memory.
-    fn write(&mut self, index: usize, key: &Value, value: Value)
+    /// Sets the value at a key whose index is given, and gives the one that was there; takes no memory.
+    fn replace(&mut self, index: usize, key: &Value, value: Value) -> Value
         requires { position (same key.now) (keys_of self.old.pairs) ≡ Some index }
-        ensures { self.new ≡ record { pairs = with_value self.old.pairs key.now value; meta = self.old.meta } }
+        ensures done { self.new ≡ record { pairs = with_value self.old.pairs key.now value; meta = self.old.meta } }
+        ensures before { result ≡ value_at self.old.pairs key.now }
     {
         let hole = hole_of(key, self.pairs.len());
         let nil = value.is_nil();
-        self.pairs[index] = value;
+        let before = mem::replace(&mut self.pairs[index], value);
         self.live.set(index, !nil);
         self.holes.set_at(hole, nil);
+        before
     }
 
     /// Puts a new key last, with a value that isn't nil.
@@ -158,12 +161,33 @@ impl Table {
         ensures few { result ≤ moves shift }
     {
         let mut count = 0;
-        for i in 0..shift.moves() {
+        for i in 0..self.may_need_entry(shift) {
             if self.needs_entry_at(shift, i) {
                 count += 1;
             }
         }
         count
+    }
+
+    /// How many of the numbers of a shift, from the first on, may need a new entry; the others have theirs.
+    fn may_need_entry(&self, shift: Shift) -> u64
+        requires { IsShift shift }
+        ensures entries { entries_first self.now.pairs shift result ≡ new_entries self.now.pairs shift }
+        ensures few { result ≤ moves shift }
+    {
+        if self.has_sources(shift) {
+            1
+        } else {
+            shift.moves()
+        }
+    }
+
+    /// Whether the values that move are known to stand in entries whose indices need no look-up.
+    fn has_sources(&self, shift: Shift) -> bool
+        requires { IsShift shift }
+        ensures { result ≡ true → HasSources self.now.pairs shift }
+    {
+        shift.to <= self.in_order as u64
     }
 
     /// Whether the i-th number of a shift needs a new entry for the value that it gets.
@@ -178,8 +202,45 @@ impl Table {
         }
     }
 
+    /// Moves the values of a shift.
+    pub fn shift(&mut self, shift: Shift) -> Result<(), AllocError>
+        requires { IsShift shift }
+        ensures done { OnOk result (self.new ≡ record { pairs = shifted self.old.pairs shift; meta = self.old.meta }) }
+        ensures kept { OnErr result (self.new ≡ self.old) }
+    {
+        if self.has_sources(shift) {
+            self.shift_in_place(shift)
+        } else {
+            *self = self.shifted(shift)?;
+            Ok(())
+        }
+    }
+
+    /// The same where all values that move stand in entries. What may need memory comes first: the value at the last number
+    /// stays there and needs a copy, and the first number that is written may need an entry. Then each of the others goes
+    /// into the entry from which the one before it was taken.
+    fn shift_in_place(&mut self, shift: Shift) -> Result<(), AllocError>
+        requires shift { IsShift shift }
+        requires sources { HasSources self.old.pairs shift }
+        ensures done { OnOk result (self.new ≡ record { pairs = shifted self.old.pairs shift; meta = self.old.meta }) }
+        ensures kept { OnErr result (self.new ≡ self.old) }
+    {
+        let moves = shift.moves();
+        let mut carried = self.taken(&shift.key(moves))?;
+        let first = self.taken(&shift.key(1))?;
+        self.put(shift.key(0), first)?;
+        for written in 1..moves {
+            let key = shift.key(moves - written);
+            match index_of(&self.pairs, self.in_order, &key) {
+                Some(index) => carried = self.replace(index, &key, carried),
+                None => unreachable!(),
+            }
+        }
+        Ok(())
+    }
+
     /// The table once the values of a shift have moved.
-    pub fn shifted(&self, shift: Shift) -> Result<Table, AllocError>
+    fn shifted(&self, shift: Shift) -> Result<Table, AllocError>
         requires { IsShift shift }
         ensures { IfOk result (λ table. table ≡ record { pairs = shifted self.now.pairs shift; meta = self.now.meta }) }
     {

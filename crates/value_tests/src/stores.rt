@@ -1,10 +1,12 @@
 //! Tests of the store: scripts of calls with their answers.
 
 mod calls;
+mod shifts;
 mod values;
 
 use calls::first_wrong;
 use lua_values::*;
+use shifts::{TABLES, is_as_set_of_each};
 use std::alloc::Global;
 use std::test::Fail;
 
@@ -375,6 +377,17 @@ fn scripts_give_their_answers(rt: HostRuntime) -> Result<(), Fail> {
         COPIES,
     ] {
         assert_eq!(rt; first_wrong(rt.alloc(), script)?, None);
+    }
+    Ok(())
+}
+
+#[test]
+fn shifts_are_sets_of_each_value(rt: HostRuntime) -> Result<(), Fail> {
+    for pairs in TABLES {
+        for (from, to, up) in shifts::SHIFTS {
+            let as_set = is_as_set_of_each(rt.alloc(), pairs, Shift { from, to, up })?;
+            assert_eq!(rt; (pairs, from, to, up, as_set), (pairs, from, to, up, true));
+        }
     }
     Ok(())
 }

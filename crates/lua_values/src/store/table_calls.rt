@@ -150,8 +150,7 @@ impl Store {
         if entries > UNIT_LIMIT - self.units {
             return Err(StoreFault::Full);
         }
-        let moved = table.shifted(shift)?;
-        *table = moved;
+        table.shift(shift)?;
         self.units += entries;
         Ok(())
     }

@@ -1,4 +1,4 @@
-use Rattle.std.proofs.Common.{◌≡◌, ◌+◌, refl, sym, ap, ◌∙◌, add-one}
+use Rattle.std.proofs.Common.{ap, ◌∙◌, add-one}
 use Rattle.lua_values.specs.declared.values.Value.{Value}
 use Rattle.lua_values.specs.Heap.{TableView}
 use Rattle.lua_values.specs.Values.{number}

@@ -1,4 +1,4 @@
-use Rattle.std.proofs.Common.{◌≡◌, sym}
+use Rattle.std.proofs.Common.{sym}
 use Rattle.lua_values.proofs.PairLemmas.{nil-absent}
 use Rattle.lua_values.proofs.tables.Table.taken.Goals as goal
 
