@@ -1,5 +1,5 @@
 -- The scanner ends where the head does, and where a head ends stays whatever follows.
-use Rattle.std.specs.Prelude.{Bool, true, false, ◌==◌, ◌||◌, ◌&&◌, Option, Some, None, option_map, suc, if◌then◌else◌}
+use Rattle.std.specs.Prelude.{Bool, true, false, ◌==◌, ◌||◌, ◌&&◌, Option, Some, None, option_map, is_some, suc, if◌then◌else◌}
 use Rattle.std.proofs.Common.{◌≡◌, ℕ, ◌<◌, ◌≤◌, List, [], ◌∷◌, ◌++◌, ◌+◌, length, take, drop, refl, sym, ap, ◌∙◌, arith}
 use Rattle.std.specs.Bool.{then_some}
 use Rattle.std.proofs.lemmas.List.{take-append-drop, length-take-le, drop_all}
@@ -200,7 +200,29 @@ end_is_later scan [] m h e = absurd (ended_none (has_ended scan) m h e)
 end_is_later scan (y ∷ ys) m h e =
     let found = suc-some (end_from (after_byte scan y) ys) m (not_yet (has_ended scan) (option_map suc (end_from (after_byte scan y) ys)) (Some m) h e) in omega (arith, found.1.1)
 
+-- the scanner has ended where the end is among the bytes
+pub has_ended-is : (scan : HeadScan) (bs : List ℕ) → has_ended (after_bytes scan bs) ≡ is_some (end_from scan bs)
+has_ended-is Empty [] = refl
+has_ended-is EmptyReturn [] = refl
+has_ended-is Line [] = refl
+has_ended-is LineEnd [] = refl
+has_ended-is LineEndReturn [] = refl
+has_ended-is Whole [] = refl
+has_ended-is scan (b ∷ bs) = test (has_ended scan) refl (has_ended-is (after_byte scan b) bs)
+  where
+    next : (o : Option ℕ) → is_some o ≡ is_some (option_map suc o)
+    next None = refl
+    next (Some n) = refl
+
+    test : (h : Bool) → has_ended scan ≡ h → has_ended (after_bytes (after_byte scan b) bs) ≡ is_some (end_from (after_byte scan b) bs)
+        → has_ended (after_bytes (after_byte scan b) bs) ≡ is_some (if h then Some 0 else option_map suc (end_from (after_byte scan b) bs))
+    test true is ih = ap has_ended (after_bytes-ended scan (b ∷ bs) is) ∙ is
+    test false is ih = ih ∙ next (end_from (after_byte scan b) bs)
+
 -- ---- where heads end
+
+pub scan_of-ended : (bs : List ℕ) → has_ended (scan_of bs) ≡ is_some (head_end bs)
+scan_of-ended bs = has_ended-is Empty bs ∙ ap is_some (sym (head_end-is bs))
 
 pub head_end-append_some : (xs ys : List ℕ) (n : ℕ) → head_end xs ≡ Some n → head_end (xs ++ ys) ≡ Some n
 head_end-append_some xs ys n e = head_end-is (xs ++ ys) ∙ end_from-append_some Empty xs ys n (sym (head_end-is xs) ∙ e)
@@ -233,15 +255,12 @@ head_end-take xs n e = from (head_end (take n xs)) refl
 
 -- ---- what reading a piece says
 
-pub joined-given : (scan : HeadScan) (taken piece : List ℕ) → scan ≡ scan_of taken → after_bytes scan piece ≡ scan_of (taken ++ piece)
-joined-given scan taken piece e = ap (λ s. after_bytes s piece) e ∙ sym (after_bytes-append Empty taken piece)
-
 pub joined-found : (scan : HeadScan) (taken piece : List ℕ) (o : Option ℕ) → scan ≡ scan_of taken → head_end taken ≡ None → o ≡ end_from scan piece
     → head_end (taken ++ piece) ≡ later (length taken) o
 joined-found scan taken piece o e none is = head_end-append_none taken piece none ∙ ap (later (length taken)) (ap (λ s. end_from s piece) (sym e) ∙ sym is)
 
-pub ended-given : (scan : HeadScan) (rest : List ℕ) (all : HeadScan) → after_bytes scan rest ≡ all → has_ended scan ≡ true → scan ≡ all
-ended-given scan rest all moved h = sym (after_bytes-ended scan rest h) ∙ moved
+pub ended-moved : (scan : HeadScan) (rest : List ℕ) (all : HeadScan) → after_bytes scan rest ≡ all → has_ended scan ≡ true → scan ≡ all
+ended-moved scan rest all moved h = sym (after_bytes-ended scan rest h) ∙ moved
 
 end_from-ended : (scan : HeadScan) (rest : List ℕ) → has_ended scan ≡ true → end_from scan rest ≡ Some 0
 end_from-ended scan [] h = rw h refl
@@ -250,8 +269,8 @@ end_from-ended scan (b ∷ bs) h = rw h refl
 pub ended-found : (i : ℕ) (scan : HeadScan) (rest : List ℕ) (all : Option ℕ) → later i (end_from scan rest) ≡ all → has_ended scan ≡ true → Some i ≡ all
 ended-found i scan rest all found h = ap Some (omega arith) ∙ ap (later i) (sym (end_from-ended scan rest h)) ∙ found
 
-pub over-given : (i : ℕ) (scan : HeadScan) (piece : List ℕ) (all : HeadScan) → length piece ≤ i → after_bytes scan (drop i piece) ≡ all → scan ≡ all
-over-given i scan piece all past moved = ap (after_bytes scan) (sym (drop_all i piece past)) ∙ moved
+pub over-moved : (i : ℕ) (scan : HeadScan) (piece : List ℕ) (all : HeadScan) → length piece ≤ i → after_bytes scan (drop i piece) ≡ all → scan ≡ all
+over-moved i scan piece all past moved = ap (after_bytes scan) (sym (drop_all i piece past)) ∙ moved
 
 pub over-found : (i : ℕ) (scan : HeadScan) (piece : List ℕ) (all r : Option ℕ) → length piece ≤ i → i ≤ length piece → later i (end_from scan (drop i piece)) ≡ all
     → r ≡ then_some (has_ended scan) (length piece) → r ≡ all

@@ -4,6 +4,12 @@ ghost use Rattle.std.specs.Prelude.{◌≡◌, ◌≢◌, ℕ, ◌++◌, List};
 ghost use Rattle.http_in.specs.declared.heads.HeadRead.{HeadRead};
 ghost use Rattle.http_in.specs.declared.heads.HeadRead.TheVariants.{More};
 ghost use Rattle.http_in.specs.Heads.{Reads};
+ghost use Rattle.http_in.specs.Scanning.{after_bytes, scan_of};
+
+/// A head is scanned piece by piece as its bytes joined.
+pub fn pieces_are_scanned_as_their_bytes_joined()
+    ensures { (xs ys : List ℕ) → after_bytes (scan_of xs) ys ≡ scan_of (xs ++ ys) }
+{}
 
 /// The bytes of a connection have one answer.
 pub fn heads_have_one_answer()

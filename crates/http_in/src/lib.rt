@@ -10,5 +10,7 @@ mod scan;
 
 pub use framing::BodyKind;
 pub use heads::{Head, HeadRead, head_in, head_of};
-pub use laws::{answers_to_heads_stay, heads_have_one_answer};
+pub use laws::{
+    answers_to_heads_stay, heads_have_one_answer, pieces_are_scanned_as_their_bytes_joined,
+};
 pub use scan::HeadScan;

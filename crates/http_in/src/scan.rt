@@ -2,7 +2,7 @@
 
 ghost use Rattle.std.specs.Prelude.{◌≡◌, ℕ, ◌+◌, ◌++◌, List, [], length, None, option_map};
 ghost use Rattle.http_in.specs.Ends.{head_end};
-ghost use Rattle.http_in.specs.Scanning.{after_byte, scan_of, has_ended};
+ghost use Rattle.http_in.specs.Scanning.{after_byte, after_bytes, scan_of, has_ended};
 
 const LF: u8 = b'\n';
 
@@ -35,7 +35,7 @@ impl HeadScan {
 
     /// Reads a further piece, and returns how many bytes of it belong to the head, where it ends there.
     pub fn read(&mut self, piece: &[u8]) -> Option<usize>
-        ensures given { (taken : List ℕ) → self.old ≡ scan_of taken → self.new ≡ scan_of (taken ++ piece.now) }
+        ensures moved { self.new ≡ after_bytes self.old piece.now }
         ensures found { (taken : List ℕ) → self.old ≡ scan_of taken → head_end taken ≡ None
             → head_end (taken ++ piece.now) ≡ option_map (λ n. length taken + n) result }
     {
@@ -62,7 +62,8 @@ impl HeadScan {
         }
     }
 
-    fn has_ended(self) -> bool
+    /// Whether the end of the head came.
+    pub fn has_ended(self) -> bool
         ensures { result ≡ has_ended self }
     {
         matches!(self, HeadScan::Whole)

@@ -96,7 +96,20 @@ pub fn reply(
     ensures { IfOk result (λ bytes. bytes ≡ replies.reply head.now framing pieces.now now.0) }
 {
     let mut bytes = Vec::new(alloc);
-    put_head(&mut bytes, head, now)?;
-    put_body(&mut bytes, framing, pieces)?;
+    put_reply(&mut bytes, head, framing, pieces, now)?;
     Ok(Bytes::from_vec(bytes)?)
+}
+
+/// Puts that reply after what `out` holds.
+pub fn put_reply(
+    out: &mut Vec<u8>,
+    head: &ReplyHead,
+    framing: Framing,
+    pieces: &[Bytes],
+    now: Ms,
+) -> Result<(), AllocError>
+    ensures { OnOk result (out.new.items ≡ out.old.items ++ replies.reply head.now framing pieces.now now.0) }
+{
+    put_head(out, head, now)?;
+    put_body(out, framing, pieces)
 }

@@ -1,7 +1,10 @@
 -- A request and its reply are an execution.
 use Rattle.std.proofs.Common.{◌<◌, ℕ, false, List, [], ◌∷◌, ◌++◌, length, take, drop, suc, refl, inl, lit<, arith}
 use Rattle.std.proofs.lemmas.List.{take-append-drop}
+use Rattle.std.specs.Fmt.{digits}
 use Rattle.std.specs.Prelude.{codes}
+use Rattle.http_reply.specs.Dates.{date_of, year_of, month_of}
+use Rattle.http_reply.specs.Lines.{line_end}
 use Rattle.strand_contract.specs.declared.turns.Place.TheVariants as place
 use Rattle.strand_contract.specs.declared.turns.Start.TheVariants as start
 use Rattle.strand_contract.specs.declared.turns.Act.TheVariants as act
@@ -9,8 +12,7 @@ use Rattle.strand_contract.specs.Actions.{Began, Bytes, Run, Offer, Put, LocalAc
 use Rattle.strand_contract.specs.Alone.{piece, IsGivenAt, IsOfferedAt, IsExecution, IsQuiescent}
 use Rattle.strand_contract.specs.ClientOnlyLaws.{clash}
 use Rattle.strand.specs.declared.strand.NoJob.{NoJob}
-use Rattle.strand.specs.Dates.{date_of, year_of, month_of}
-use Rattle.strand.specs.Replies.{line_end, reply}
+use Rattle.strand.specs.Replies.{reply}
 use Rattle.strand.specs.Literal.{literal_behavior}
 use Rattle.strand.specs.Examples.{hi, one_request}
 
@@ -54,7 +56,7 @@ pub offered-at : (body : List ℕ) → IsOfferedAt (literal_behavior body) reply
 offered-at body = record { living = refl; no_act = refl; offered = refl }
 
 pub exchange : IsExecution (literal_behavior hi) one_request
-unfolding date_of year_of month_of
+unfolding digits date_of year_of month_of
 exchange = (((reply-is-offered hi, (offered-at hi, lit< tt, ([], refl))), inl ((act.Gone ∷ [], refl), refl)), refl)
 
 pub rests : IsQuiescent (literal_behavior hi) one_request

@@ -12,9 +12,9 @@ pub less : {A : Type 0} (h h' k : Held) (acts gave : List A) → h' ≡ k → ac
 less h h' k acts gave p q l = rw (p, q) l
 
 few : (J : Type 0) (h : Held) → length (end_acts {J = J} h) ≤ 2
-few J h = either h.open_
+few J h = either h.opened
   where
-    either : (c : Bool) → length (end_acts {J = J} (record h { open_ = c })) ≤ 2
+    either : (c : Bool) → length (end_acts {J = J} (record h { opened = c })) ≤ 2
     either true = omega arith
     either false = omega arith
 
@@ -46,7 +46,7 @@ one-act J true = omega arith
 one-act J false = omega arith
 
 pub left-ran : (J : Type 0) (h : Held) (made : List ℕ) → h.over ≡ false → h.ready ≡ true → length (ran made h).sent < 2 ^ 64 → left_of (ran made h) + length (ran_acts {J = J} made h) < left_of h
-left-ran J h made going ready bound = rw (going, ready) (test h.open_ bound)
+left-ran J h made going ready bound = rw (going, ready) (test h.opened bound)
   where
     test : (c : Bool) → length (if c then h.sent ++ made else h.sent) < 2 ^ 64
         → 0 + length (drop h.taken (if c then h.sent ++ made else h.sent)) + (if h.off then 4 else 5) + length (offer_acts {J = J} (c && is_some_left made && not (is_some_left (left_to_send h) || h.off)))

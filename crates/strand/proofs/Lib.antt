@@ -1,4 +1,3 @@
-pub mod Dates
 pub mod Exchange
 pub mod Left
 pub mod Lists
@@ -6,4 +5,3 @@ pub mod Own
 pub mod Reading
 pub mod Sites
 pub mod Steps
-pub mod Texts

@@ -19,11 +19,12 @@ use Rattle.moves.proofs.PlanLaws.{piece-is, undropped}
 use Rattle.moves.proofs.Executions.{quiet}
 use Rattle.moves.proofs.ClientAlone.{alone, is-client}
 use Rattle.moves.proofs.Tidy.{none-tidy, send-wants}
-use Rattle.strand.specs.declared.head.Head.TheVariants.{Empty}
+use Rattle.http_in.specs.declared.scan.HeadScan.TheVariants.{Empty}
+use Rattle.http_in.specs.Scanning.{after_bytes, scan_of, has_ended}
+use Rattle.http_in.proofs.Scans.{after_bytes-append}
 use Rattle.strand.specs.Requests.{is_whole}
 use Rattle.strand.specs.Replies.{reply}
-use Rattle.strand.specs.Scanning.{after_bytes, is_end}
-use Rattle.strand.specs.HeadLaws.{whole-is, after-append}
+use Rattle.strand.specs.HeadLaws.{whole-is}
 use Rattle.strand.specs.Literal.{literal_plan, literal_behavior}
 use Rattle.strand.specs.ConditionLaws.{IsWaiting, nothing, meets, ran-line}
 use Rattle.strand.specs.Turns.{Held, held_of, held_after, came, came_acts, end_if, end_if_acts, ran, ran_acts, sent_more, took, took_acts, put_off, ready_acts, next_piece, becomes_whole}
@@ -51,11 +52,11 @@ ends-if {J = J} false b s e = (refl, ends-acts J b.opened (has place.Client b.op
 came-if : {J : Type 0} (bytes : List ℕ) (c : Bool) (b : Ledger J) (s : List ℕ) → becomes_whole bytes (held_of (record { ledger = b; inner = s })) ≡ c → (c ≡ true → b.threads ≡ [])
     → (came bytes (held_of (record { ledger = b; inner = s })) ≡ held_of (perform (Set (λ s. s ++ bytes) (if c then move.Ready 0 Done else Done)) b s).state)
     × (came_acts {J = J} bytes (held_of (record { ledger = b; inner = s })) ≡ (perform (Set (λ s. s ++ bytes) (if c then move.Ready 0 Done else Done)) b s).acts)
-came-if bytes true b s e none = (rw (e, after-append Empty s bytes, none refl) refl, rw (e, none refl) refl)
-came-if bytes false b s e none = (rw (e, after-append Empty s bytes) refl, rw e refl)
+came-if bytes true b s e none = (rw (e, after_bytes-append Empty s bytes, none refl) refl, rw (e, none refl) refl)
+came-if bytes false b s e none = (rw (e, after_bytes-append Empty s bytes) refl, rw e refl)
 
-becomes : (bytes s : List ℕ) → (not (is_end (after_bytes Empty s)) && is_end (after_bytes (after_bytes Empty s) bytes)) ≡ (not (is_whole s) && is_whole (s ++ bytes))
-becomes bytes s = rw (← after-append, whole-is s, whole-is (s ++ bytes)) refl
+becomes : (bytes s : List ℕ) → (not (has_ended (scan_of s)) && has_ended (after_bytes (scan_of s) bytes)) ≡ (not (is_whole s) && is_whole (s ++ bytes))
+becomes bytes s = rw (← after_bytes-append, whole-is s, whole-is (s ++ bytes)) refl
 
 one-line : {J : Type 0} (body : List ℕ) (es : List (LocalAction J)) (a : LocalAction J) → IsCalled (literal_plan body) IsWaiting a es → IsExecution (literal_behavior body) es
     → let b = (state_of (literal_plan body) es).ledger in b.opened ≡ (if has place.Client b.opened then place.Client ∷ [] else [])
@@ -75,7 +76,7 @@ came-turn body es q bytes f =
     record { held_is = r.0; acts_are = r.1 }
 
 pub ended-turn : {J : Type 0} (body : List ℕ) (es : List (LocalAction J)) (q : Place) → IsExecution (literal_behavior body) (Did (Ended q) ∷ es)
-    → Turns body (Did (Ended q)) es (λ h. end_if (not (is_end h.head)) h) (λ h. end_if_acts (not (is_end h.head)) h)
+    → Turns body (Did (Ended q)) es (λ h. end_if (not (has_ended h.head)) h) (λ h. end_if_acts (not (has_ended h.head)) h)
 ended-turn body es q f =
     let st = state_of (literal_plan body) es in
     let k = shown (literal_plan body) IsWaiting nothing (meets _ body) (seen.Ended q) es f in
@@ -96,7 +97,7 @@ halted-turn body es f =
     let r = ends-if false (entered (Did Halted) st.ledger) st.inner (one-line body es _ k f.0) in
     record { held_is = r.0; acts_are = r.1 }
 
--- the place that put_off bytes is the client's line
+-- a place that is open is the client's connection
 pub at-client : {J : Type 0} (body : List ℕ) (es : List (LocalAction J)) (a : LocalAction J) (q : Place) → IsCalled (literal_plan body) IsWaiting a es → IsExecution (literal_behavior body) es
     → has q (state_of (literal_plan body) es).ledger.opened ≡ true → q ≡ place.Client
 at-client body es a q k f h = is-client (state_of (literal_plan body) es).ledger.opened q (one-line body es a k f) h
@@ -192,7 +193,7 @@ take-if n false xs = take-none n
 
 -- what is offered next
 pub piece-there : {J : Type 0} (body : List ℕ) (es : List (LocalAction J)) → IsExecution (literal_behavior body) es → lives es ≡ true → todo (literal_behavior body) es ≡ []
-    → (let h = held_after body es in if h.open_ then next_piece h else []) ≡ piece (literal_behavior body) place.Client es
+    → (let h = held_after body es in if h.opened then next_piece h else []) ≡ piece (literal_behavior body) place.Client es
 piece-there body es f l t =
     let b = (state_of (literal_plan body) es).ledger in
     sym (piece-is (literal_plan body) IsWaiting nothing (meets _ body) es place.Client f l t ∙ take-if (16_384 - b.taken place.Client % 16_384) (has place.Client b.opened) (left_at place.Client b))

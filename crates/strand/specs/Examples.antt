@@ -1,10 +1,10 @@
 -- A request and its reply, written out.
 use Rattle.std.specs.Prelude.{ℕ, List, [], ◌∷◌, ◌++◌, codes}
+use Rattle.http_reply.specs.Lines.{line_end}
 use Rattle.strand_contract.specs.declared.turns.Place.TheVariants as place
 use Rattle.strand_contract.specs.declared.turns.Start.TheVariants as start
 use Rattle.strand_contract.specs.Actions.{Began, Bytes, Run, Offer, Put, Close, Gone, LocalAction, Did}
 use Rattle.strand.specs.declared.strand.NoJob.{NoJob}
-use Rattle.strand.specs.Replies.{line_end}
 
 -- the body of `ngx.say("hi")`
 abbrev pub hi : List ℕ

@@ -1,5 +1,4 @@
 pub mod Requests
-pub mod Dates
 pub mod Replies
 pub mod Literal
 pub mod Configuration
@@ -7,7 +6,6 @@ pub mod Faults
 pub mod Examples
 pub mod Reading
 pub mod Pieces
-pub mod Scanning
 pub mod Turns
 pub mod Views
 pub mod HeadLaws

@@ -1,19 +1,21 @@
--- The reply to a request of HTTP/1.0: it has no length, and ends by closing.
-use Rattle.std.specs.Prelude.{ℕ, List, [], ◌∷◌, ◌++◌, codes}
-use Rattle.strand.specs.Dates.{date_text}
+-- The reply of a literal site: it has no length, and ends where the connection closes.
+use Rattle.std.specs.Prelude.{ℕ, false, List, [], ◌∷◌, codes, None, Some}
+use Rattle.http_reply.specs.declared.ends.Framing.TheVariants.{UntilClose}
+use Rattle.http_reply.specs.declared.heads.ReplyHead.{ReplyHead}
+use Rattle.http_reply.specs.Replies as http
 
-abbrev pub line_end : List ℕ
-line_end = 13 ∷ 10 ∷ []
+-- text of a length that isn't told, after which the connection closes
+abbrev pub literal_head : ReplyHead
+literal_head = record {
+  status = 200;
+  server = codes "resty";
+  content_type = Some (codes "text/plain");
+  length = None;
+  chunked = false;
+  keep = false;
+  others = [];
+}
 
--- the head of a reply with this date
-abbrev pub reply_head : List ℕ → List ℕ
-reply_head date =
-    codes "HTTP/1.1 200 OK" ++ line_end
-    ++ (codes "Server: resty" ++ line_end)
-    ++ (codes "Date: " ++ date ++ line_end)
-    ++ (codes "Content-Type: text/plain" ++ line_end)
-    ++ (codes "Connection: close" ++ line_end) ++ line_end
-
--- the reply that is made at a moment
+-- the reply with this body that is made at a moment
 abbrev pub reply : List ℕ → ℕ → List ℕ
-reply body now = reply_head (date_text now) ++ body
+reply body now = http.reply literal_head UntilClose (body ∷ []) now

@@ -8,16 +8,15 @@ use Rattle.strand_contract.specs.Alone.{is_some_left}
 use Rattle.moves.specs.Ledgers.{has}
 use Rattle.moves.specs.Moves.{State}
 use Rattle.moves.specs.Plans.{state_of}
-use Rattle.strand.specs.declared.head.Head.{Head}
-use Rattle.strand.specs.declared.head.Head.TheVariants as head
+use Rattle.http_in.specs.declared.scan.HeadScan.{HeadScan}
+use Rattle.http_in.specs.Scanning.{after_bytes, scan_of, has_ended}
 use Rattle.strand.specs.Literal.{literal_plan}
-use Rattle.strand.specs.Scanning.{after_bytes, is_end}
 
 -- whether its client's connection is open, how far the head has come, whether its thread is queued, whether the connection takes
 -- none for now, whether its life was ended; all that was sent, and how much of it was taken
 pub record Held : Type 0 where
-  pub open_ : Bool
-  pub head : Head
+  pub opened : Bool
+  pub head : HeadScan
   pub ready : Bool
   pub off : Bool
   pub over : Bool
@@ -27,8 +26,8 @@ pub record Held : Type 0 where
 -- of a state of the plan, and after what happened to a strand
 abbrev pub held_of : {J : Type 0} → State J (List ℕ) → Held
 held_of st = record {
-  open_ = has place.Client st.ledger.opened;
-  head = after_bytes head.Empty st.inner;
+  opened = has place.Client st.ledger.opened;
+  head = scan_of st.inner;
   ready = is_some_left st.ledger.threads;
   off = st.ledger.put_off place.Client;
   over = st.ledger.ended;
@@ -48,7 +47,7 @@ next_piece h = take (16_384 - h.taken % 16_384) (left_to_send h)
 
 -- these bytes make the head of the request whole
 abbrev pub becomes_whole : List ℕ → Held → Bool
-becomes_whole bytes h = not (is_end h.head) && is_end (after_bytes h.head bytes)
+becomes_whole bytes h = not (has_ended h.head) && has_ended (after_bytes h.head bytes)
 
 abbrev pub came : List ℕ → Held → Held
 came bytes h = record h { head = after_bytes h.head bytes; ready = becomes_whole bytes h || h.ready }
@@ -62,10 +61,10 @@ offer_acts offers = if offers then act.Offer place.Client ∷ [] else []
 
 -- it ends
 abbrev pub ended : Held → Held
-ended h = record h { open_ = false; over = true }
+ended h = record h { opened = false; over = true }
 
 abbrev pub end_acts : {J : Type 0} → Held → List (Act J)
-end_acts h = if h.open_ then act.HangUp place.Client ∷ act.Gone ∷ [] else act.Gone ∷ []
+end_acts h = if h.opened then act.HangUp place.Client ∷ act.Gone ∷ [] else act.Gone ∷ []
 
 -- it ends where the test is true
 abbrev pub end_if : Bool → Held → Held
@@ -76,13 +75,13 @@ end_if_acts ends h = if ends then end_acts h else []
 
 -- more is sent, to an open connection
 abbrev pub sent_more : List ℕ → Held → Held
-sent_more made h = record h { sent = if h.open_ then h.sent ++ made else h.sent }
+sent_more made h = record h { sent = if h.opened then h.sent ++ made else h.sent }
 
 abbrev pub ran : List ℕ → Held → Held
 ran made h = record (sent_more made h) { ready = false }
 
 abbrev pub ran_acts : {J : Type 0} → List ℕ → Held → List (Act J)
-ran_acts made h = offer_acts (h.open_ && is_some_left made && not (is_some_left (left_to_send h) || h.off))
+ran_acts made h = offer_acts (h.opened && is_some_left made && not (is_some_left (left_to_send h) || h.off))
 
 -- so many bytes were taken
 abbrev pub count_taken : ℕ → Held → Held
@@ -102,7 +101,7 @@ abbrev pub put_off : Bool → Held → Held
 put_off off h = record h { off = off }
 
 abbrev pub ready_acts : {J : Type 0} → Held → List (Act J)
-ready_acts h = offer_acts (h.open_ && is_some_left (left_to_send h))
+ready_acts h = offer_acts (h.opened && is_some_left (left_to_send h))
 
 -- how much is left to be done
 abbrev pub left_of : Held → ℕ

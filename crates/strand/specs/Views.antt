@@ -4,7 +4,7 @@ use Rattle.strand.specs.Turns.{Held}
 
 abbrev pub held : LiteralStrand → Held
 held strand = record {
-  open_ = strand.is_open;
+  opened = strand.is_open;
   head = strand.head;
   ready = strand.is_ready;
   off = strand.is_put_off;

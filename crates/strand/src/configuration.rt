@@ -6,6 +6,7 @@ ghost use Rattle.strand.specs.Faults.{IsSiteFault};
 ghost use Rattle.strand.specs.Reading.{literal_count};
 
 use crate::{Site, SiteFault};
+use resty_base::Bytes;
 use std::alloc::{AllocError, Global};
 
 const FIRST_LINE: &[u8] = b"http { server { listen 8080;\n";
@@ -53,7 +54,10 @@ pub fn literal_site(alloc: Global, text: &[u8]) -> Result<Site, SiteFault>
     if !rest.is_empty() {
         return Err(SiteFault::NotYet(4));
     }
-    Ok(Site::of(body))
+    match Bytes::from_vec(body) {
+        Ok(body) => Ok(Site::of(body)),
+        Err(_) => Err(SiteFault::Memory),
+    }
 }
 
 /// What comes after the second line, if the text begins with one. Its literals go into the body.

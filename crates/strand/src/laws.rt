@@ -1,19 +1,13 @@
 //! Laws of the definitions, each the contract of a function that does nothing.
 
-ghost use Rattle.std.specs.Prelude.{◌≡◌, ℕ, ◌<◌, true, false, List, [], ◌∷◌, ◌++◌, codes};
-ghost use Rattle.httpdate.specs.Valid.{IsValid, parts_secs};
+ghost use Rattle.std.specs.Prelude.{◌≡◌, ℕ, true, false, List, [], ◌∷◌, ◌++◌, codes};
+ghost use Rattle.http_reply.specs.Lines.{line_end};
 ghost use Rattle.strand_contract.specs.Alone.{IsExecution, IsQuiescent};
 ghost use Rattle.strand.specs.Configuration.{conf_text, IsSite, IsFaultAt};
-ghost use Rattle.strand.specs.Dates.{date_of};
 ghost use Rattle.strand.specs.Examples.{hi, hi_reply, one_request};
 ghost use Rattle.strand.specs.Literal.{literal_behavior};
-ghost use Rattle.strand.specs.Replies.{line_end, reply};
+ghost use Rattle.strand.specs.Replies.{reply};
 ghost use Rattle.strand.specs.Requests.{is_whole};
-
-/// The date of a second is one of the calendar, and the one that has this second.
-pub fn dates()
-    ensures { (secs : ℕ) → secs < 253_402_300_800 → IsValid (date_of secs) × (parts_secs (date_of secs) ≡ secs) }
-{}
 
 /// The reply that is made one second after the beginning of 1970.
 pub fn reply_at_second_1()

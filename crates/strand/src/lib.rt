@@ -2,7 +2,6 @@
 #![tactic(auto)]
 
 mod configuration;
-mod head;
 pub mod laws;
 mod outgoing;
 mod replies;

@@ -1,12 +1,13 @@
 //! The site of a literal configuration, and why a text has none.
 
+use resty_base::Bytes;
 use std::marker::Model;
 use thiserror::Error;
 
 /// What the strands of a literal configuration stand on. Contracts see the body of the replies.
 #[derive(Debug, Drop)]
 pub struct Site {
-    body: Vec<u8>,
+    body: Bytes,
 }
 
 /// Why there is no site.
@@ -24,21 +25,21 @@ impl Model for Site {
 
     ghost Value = { List ℕ };
 
-    ghost view = { λ site. site.body.items };
+    ghost view = { λ site. site.body };
 }
 
 impl Site {
     ghost use Rattle.std.specs.Prelude.{◌≡◌};
 
-    pub(crate) fn of(body: Vec<u8>) -> Site
-        ensures { result ≡ body.items }
+    pub(crate) fn of(body: Bytes) -> Site
+        ensures { result ≡ body }
     {
         Site { body }
     }
 
-    pub(crate) fn body(&self) -> &[u8]
+    pub(crate) fn body(&self) -> &Bytes
         ensures { result.now ≡ self.now }
     {
-        self.body.as_slice()
+        &self.body
     }
 }

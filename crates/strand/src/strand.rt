@@ -1,9 +1,9 @@
 //! The strand of a literal site: it meets the contract with a behavior of its own.
 
 use crate::Site;
-use crate::head::Head;
 use crate::outgoing::Outgoing;
 use crate::replies::reply_at;
+use http_in::HeadScan;
 use resty_base::{Bytes, Ms};
 use std::alloc::{AllocError, Global};
 use std::collections::VecDeque;
@@ -18,7 +18,7 @@ pub struct NoJob;
 pub struct LiteralStrand {
     /// Whether it has a client whose connection is open.
     is_open: bool,
-    head: Head,
+    head: HeadScan,
     /// The thread that makes the reply waits for its run.
     is_ready: bool,
     /// The client takes no bytes for now.
@@ -29,9 +29,9 @@ pub struct LiteralStrand {
 
 impl LiteralStrand {
     ghost use Rattle.std.specs.Prelude.{◌≡◌, ◌<◌, ◌^◌, ◌&&◌, ◌||◌, true, false, not, [], if◌then◌else◌, IfOk, length, take};
+    ghost use Rattle.http_in.specs.Scanning.{has_ended};
     ghost use Rattle.strand_contract.specs.Alone.{is_some_left};
     ghost use Rattle.strand.specs.Replies.{reply};
-    ghost use Rattle.strand.specs.Scanning.{is_end};
     ghost use Rattle.strand.specs.Turns.{came, came_acts, offer_acts, end_if, end_if_acts, ran, ran_acts, sent_more};
     ghost use Rattle.strand.specs.Turns.{took, took_acts, put_off, ready_acts, left_to_send, next_piece};
     ghost use Rattle.strand.specs.Views.{held};
@@ -40,9 +40,9 @@ impl LiteralStrand {
         ensures { IfOk result (λ acts. (held self.new ≡ came bytes.now (held self.old)) × (acts.items ≡ came_acts bytes.now (held self.old))) }
     {
         let mut acts = VecDeque::new(alloc);
-        let was_whole = self.head.is_whole();
-        self.head = self.head.read(bytes);
-        if !was_whole && self.head.is_whole() {
+        let had_ended = self.head.has_ended();
+        self.head.read(bytes);
+        if !had_ended && self.head.has_ended() {
             self.is_ready = true;
             acts.push_back(Act::Ready(0))?;
         }
@@ -76,10 +76,10 @@ impl LiteralStrand {
 
     /// The client sends no more.
     fn ended(&mut self, alloc: Global) -> Result<Acts<NoJob>, AllocError>
-        ensures { IfOk result (λ acts. (held self.new ≡ end_if (not (is_end (held self.old).head)) (held self.old))
-            × (acts.items ≡ end_if_acts (not (is_end (held self.old).head)) (held self.old))) }
+        ensures { IfOk result (λ acts. (held self.new ≡ end_if (not (has_ended (held self.old).head)) (held self.old))
+            × (acts.items ≡ end_if_acts (not (has_ended (held self.old).head)) (held self.old))) }
     {
-        let ends = !self.head.is_whole();
+        let ends = !self.head.has_ended();
         self.end_if(alloc, ends)
     }
 
@@ -119,7 +119,7 @@ impl LiteralStrand {
 
     /// Whether these bytes are to be offered: nothing waits before them, and the client takes bytes.
     fn wants_offer(&self, bytes: &[u8]) -> bool
-        ensures { result ≡ ((held self.now).open_ && is_some_left bytes.now && not (is_some_left (left_to_send (held self.now)) || (held self.now).off)) }
+        ensures { result ≡ ((held self.now).opened && is_some_left bytes.now && not (is_some_left (left_to_send (held self.now)) || (held self.now).off)) }
     {
         self.is_open && !bytes.is_empty() && self.outgoing.is_done() && !self.is_put_off
     }
@@ -149,7 +149,7 @@ impl LiteralStrand {
 
     /// What is offered next.
     fn piece(&self) -> &[u8]
-        ensures { result.now ≡ (if (held self.now).open_ then next_piece (held self.now) else []) }
+        ensures { result.now ≡ (if (held self.now).opened then next_piece (held self.now) else []) }
     {
         if self.is_open {
             self.outgoing.piece()
@@ -243,7 +243,7 @@ impl StrandContract for LiteralStrand {
         };
         let strand = LiteralStrand {
             is_open,
-            head: Head::Empty,
+            head: HeadScan::new(),
             is_ready: false,
             is_put_off: false,
             is_over: false,
@@ -298,7 +298,7 @@ impl StrandContract for LiteralStrand {
 
     fn wants(&self, place: Place) -> bool {
         match place {
-            Place::Client => !self.head.is_whole(),
+            Place::Client => !self.head.has_ended(),
             Place::Sock(_) => false,
         }
     }

@@ -2,6 +2,7 @@
 use Rattle.std.proofs.Common.{◌≡◌, inl, ℕ, true, false, nat_lt, List, [], ◌∷◌, length, get_or, refl, sym, ap, subst, lit<}
 use Rattle.std.proofs.lemmas.Bool.{ltb-true}
 use Rattle.std.proofs.lemmas.List.Sums.{AllPass-from_list_all}
+use Rattle.std.specs.Fmt.{digits}
 use Rattle.resty_base.specs.declared.names.Id.TheVariants as id
 use Rattle.resty_base.specs.declared.names.StrandId.{StrandId}
 use Rattle.resty_world.specs.declared.event.Event.TheVariants as event
@@ -20,7 +21,7 @@ use Rattle.schedule_text.specs.Ranges.{IsBytes}
 use Rattle.schedule.specs.Steps.{Passed, Answered}
 use Rattle.schedule.specs.Told.{IsTold}
 use Rattle.strand.specs.declared.strand.NoJob.{NoJob}
-use Rattle.strand.specs.Dates.{date_of, year_of, month_of}
+use Rattle.http_reply.specs.Dates.{date_of, year_of, month_of}
 use Rattle.strand.specs.Examples.{hi, hi_reply}
 use Rattle.strand.specs.Literal.{literal_behavior}
 use Rattle.worked_example.specs.Exchange.{request, arrives, asks, lines, history, of_client, exchange}
@@ -60,7 +61,7 @@ pub offered-at : IsOfferedAt (literal_behavior hi) offered place.Client
 offered-at = record { living = refl; no_act = refl; offered = refl }
 
 pub is-served : IsExecution (literal_behavior hi) served
-unfolding date_of year_of month_of
+unfolding digits date_of year_of month_of
 is-served = (((is-offered, (offered-at, lit< tt, ([], refl))), inl ((act.Gone ∷ [], refl), refl)), refl)
 
 -- it is at rest before it begins, until the request comes, and in the end
@@ -141,7 +142,7 @@ runs-first : TurnsInOrder (literal_behavior hi) all_ran
 runs-first = (tt, between all_came alone-came between-came, internal, threads)
 
 pub ordered : IsOrdered (literal_behavior hi) exchange
-unfolding date_of year_of month_of
+unfolding digits date_of year_of month_of
 ordered = record {
   runs = keep none;
   offered = keep none;
@@ -158,7 +159,7 @@ reply-bytes : IsBytes hi_reply
 reply-bytes k d within = ltb-true (get_or hi_reply k d) 256 (AllPass-from_list_all (λ b. nat_lt b 256) hi_reply refl k d within)
 
 pub told : IsTold lines history (offered_lengths (literal_behavior hi) exchange)
-unfolding date_of year_of month_of
+unfolding digits date_of year_of month_of
 told = record {
   steps =
       Passed (line.Given event.Stop) ∷ Answered (entry.Close (id.Conn 1)) 0 ∷ Answered (entry.Put (id.Conn 1) hi_reply) (length hi_reply)

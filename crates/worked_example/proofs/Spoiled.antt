@@ -1,5 +1,6 @@
 -- The spoiled histories are of no execution.
 use Rattle.std.proofs.Common.{◌≡◌, ℕ, false, List, [], ◌∷◌, Some, None, max, take, get_or, refl, sym, ap, subst, ◌∙◌, lit<, arith}
+use Rattle.std.specs.Fmt.{digits}
 use Rattle.resty_base.specs.declared.names.Id.TheVariants as id
 use Rattle.resty_world.specs.declared.event.Event.TheVariants as event
 use Rattle.resty_world.specs.declared.entry.Entry.{Entry}
@@ -15,7 +16,7 @@ use Rattle.strand_laws.proofs.OwnSteps.{IsStill, still-offered, still-at-rest}
 use Rattle.strand_laws.proofs.Alone.{one}
 use Rattle.strand_laws.proofs.Worlds.{gave-shown, dropped-shown}
 use Rattle.strand.specs.declared.strand.NoJob.{NoJob}
-use Rattle.strand.specs.Dates.{date_of, year_of, month_of}
+use Rattle.http_reply.specs.Dates.{date_of, year_of, month_of}
 use Rattle.strand.specs.Examples.{hi, hi_reply}
 use Rattle.strand.specs.Laws.{quiet}
 use Rattle.strand.specs.Literal.{literal_behavior}
@@ -114,11 +115,11 @@ abbrev short : List (LocalAction NoJob)
 short = Did (Put place.Client (take 118 hi_reply)) ∷ offered
 
 is-short : IsExecution behavior short
-unfolding date_of year_of month_of
+unfolding digits date_of year_of month_of
 is-short = (is-offered, (offered-at, lit< tt, (10 ∷ [], refl)))
 
 short-goes-on : IsStill behavior short
-unfolding date_of year_of month_of
+unfolding digits date_of year_of month_of
 short-goes-on = still-offered behavior (quiet hi) short place.Client is-short refl refl refl
 
 pub no-byte_lost : HasNoExecution byte_lost
@@ -143,11 +144,11 @@ put_in (Did (Close q) ∷ Did (Put p bytes) ∷ es) = bytes
 put_in es = []
 
 late-differs : reply hi 2_000 ≡ hi_reply → ⊥
-unfolding date_of year_of month_of
+unfolding digits date_of year_of month_of
 late-differs e = let digit : ◌≡◌ {A = ℕ} 50 49 = ap (λ l. get_or l 62 0) e in absurd (omega arith)
 
 pub no-date_late : HasNoExecution date_late
-unfolding date_of year_of month_of
+unfolding digits date_of year_of month_of
 no-date_late ms lawful plain is =
     let w : Before _ = at-stop ms _ (fine ms lawful plain) tt is in
     let seen = closed-part (reply hi 2_000) w.ms w.fine w.history in

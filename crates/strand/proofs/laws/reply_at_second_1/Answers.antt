@@ -1,7 +1,8 @@
 use Rattle.std.proofs.Common.{refl}
-use Rattle.strand.specs.Dates.{date_of, year_of, month_of}
+use Rattle.std.specs.Fmt.{digits}
+use Rattle.http_reply.specs.Dates.{date_of, year_of, month_of}
 use Rattle.strand.proofs.laws.reply_at_second_1.Goals as goal
 
 pub returns : goal.returns
-unfolding date_of year_of month_of
+unfolding digits date_of year_of month_of
 returns c = refl

@@ -1,19 +1,19 @@
 use Rattle.std.proofs.Common.{length, drop, Some, Bool, ap, sym, ◌∙◌}
 use Rattle.std.specs.Bool.{then_some}
 use Rattle.http_in.specs.Scanning.{after_bytes}
-use Rattle.http_in.proofs.Scans.{end_from, joined-given, joined-found, ended-given, ended-found, over-given, over-found}
+use Rattle.http_in.proofs.Scans.{end_from, joined-found, ended-moved, ended-found, over-moved, over-found}
 use Rattle.http_in.proofs.scan.HeadScan.read.Goals as goal
 
-pub returns-then-has_ended-clause-given : goal.returns-then-has_ended-clause-given
-returns-then-has_ended-clause-given c = λ taken e. ended-given c.loop-index.self (drop c.loop-index.index c.args.piece.now) (after_bytes c.args.self.now c.args.piece.now) c.loop-index.invariant.moved (sym c.has_ended.ensures ∙ c.if-has_ended.true) ∙ joined-given c.args.self.now taken c.args.piece.now e
+pub returns-then-has_ended-clause-moved : goal.returns-then-has_ended-clause-moved
+returns-then-has_ended-clause-moved c = ended-moved c.loop-index.self (drop c.loop-index.index c.args.piece.now) (after_bytes c.args.self.now c.args.piece.now) c.loop-index.invariant.moved (sym c.has_ended.ensures ∙ c.if-has_ended.true)
 
 pub returns-then-has_ended-clause-found : goal.returns-then-has_ended-clause-found
 returns-then-has_ended-clause-found c = λ taken e none.
     joined-found c.args.self.now taken c.args.piece.now (Some c.loop-index.index) e none
     (ended-found c.loop-index.index c.loop-index.self (drop c.loop-index.index c.args.piece.now) (end_from c.args.self.now c.args.piece.now) c.loop-index.invariant.found (sym c.has_ended.ensures ∙ c.if-has_ended.true))
 
-pub returns-clause-given : goal.returns-clause-given
-returns-clause-given c = λ taken e. over-given c.loop-index.index c.loop-index.self c.args.piece.now (after_bytes c.args.self.now c.args.piece.now) c.loop-index-test.false c.loop-index.invariant.moved ∙ joined-given c.args.self.now taken c.args.piece.now e
+pub returns-clause-moved : goal.returns-clause-moved
+returns-clause-moved c = over-moved c.loop-index.index c.loop-index.self c.args.piece.now (after_bytes c.args.self.now c.args.piece.now) c.loop-index-test.false c.loop-index.invariant.moved
 
 pub returns-clause-found : goal.returns-clause-found
 returns-clause-found c = λ taken e none.

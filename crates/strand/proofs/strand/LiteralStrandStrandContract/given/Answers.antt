@@ -1,6 +1,6 @@
 use Rattle.std.proofs.Common.{◌<◌, ◌^◌, ap, subst, [], true, false, not, length, take}
+use Rattle.http_in.specs.Scanning.{has_ended}
 use Rattle.strand.specs.Replies.{reply}
-use Rattle.strand.specs.Scanning.{is_end}
 use Rattle.strand.specs.Turns.{Held, came, came_acts, end_if, end_if_acts, took, took_acts, put_off, ready_acts, next_piece}
 use Rattle.strand.specs.Views.{held}
 use Rattle.strand.proofs.Left.{if-ok, less}
@@ -18,7 +18,7 @@ returns-in-Bytes-clause-turn c = if-ok c.came.result _ _ c.came.ensures (λ v e 
 pub returns-in-Ended-clause-turn : goal.returns-in-Ended-clause-turn
 returns-in-Ended-clause-turn c = if-ok c.ended.result _ _ c.ended.ensures (λ v e es stands now execution.
     let turn = ended-turn c.args.site.now es c.in-Ended.field-0 (rw c.in-Ended.is at execution) in
-    rw c.in-Ended.is (follows c.args.site.now _ es (λ h. end_if (not (is_end h.head)) h) (λ h. end_if_acts (not (is_end h.head)) h) _ _ _ stands e.0 e.1 turn))
+    rw c.in-Ended.is (follows c.args.site.now _ es (λ h. end_if (not (has_ended h.head)) h) (λ h. end_if_acts (not (has_ended h.head)) h) _ _ _ stands e.0 e.1 turn))
 
 pub returns-in-Broken-clause-turn : goal.returns-in-Broken-clause-turn
 returns-in-Broken-clause-turn c = if-ok c.end_if.result _ _ c.end_if.ensures (λ v e es stands now execution.

@@ -1,2 +1,0 @@
-pub mod SameDates
-pub mod Grouping
