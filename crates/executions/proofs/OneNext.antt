@@ -24,6 +24,7 @@ use Rattle.executions.specs.Lawful.{AllAtRest, IsStartOf, BeginsRight}
 use Rattle.executions.specs.Plain.{IsPlainAt, IsPlainBy, taken_number}
 use Rattle.executions.specs.NextActions.{Next, Does, Writes, Asks, act_of, acts_on, closes_on, offers_on, starts, starts_as, turns, in_line, winds_up, runs_else}
 use Rattle.executions.specs.NextActions.{offers_else, due_else, job_else, closes_else, ends_else, next_in, next_for, next, IsAnswer, is_drop}
+use Rattle.executions.specs.Beginnings.{IsBeginning}
 use Rattle.executions.proofs.Strands.{clash, by_test, none-that, way-acts, way-offer, way-open, GoesOn, Comes, before, enabled, kind, only-one, found}
 use Rattle.executions.proofs.Strands.{acts-live, dropped-dead, rest-way}
 
@@ -185,3 +186,8 @@ module _ {J : Type 0} (b : Behavior J) (quiet : IsQuiet b) where
   one-next (IdleGave e) ms g begins plain drop = asks (IdleGave e) ms (g.given.1 refl) refl
   one-next (IdleClosed n) ms g begins plain drop =
       off-way (IdleClosed n) ms g.turns.1.0 (close-in ms (phase ms) n g.turns.1.1)
+
+  -- a beginning without its newest action
+  pub older : (m : GlobalAction J) (ms : List (GlobalAction J)) → IsBeginning b (m ∷ ms) → IsBeginning b ms
+  older m ms r = let g = before b quiet m ms (record { alone = r.alone; given = r.given; turns = r.ordered }) in
+      record { alone = g.alone; begins = r.begins.0; given = r.given.0; plain = r.plain.0; ordered = r.ordered.0 }
