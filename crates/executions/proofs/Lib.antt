@@ -4,3 +4,4 @@ pub mod OwnOffers
 pub mod OwnAgenda
 pub mod Holders
 pub mod OneNext
+pub mod InTurn

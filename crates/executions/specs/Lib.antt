@@ -14,3 +14,4 @@ pub mod Counts
 pub mod Beginnings
 pub mod NextActions
 pub mod OwnDeadlines
+pub mod Subsequences

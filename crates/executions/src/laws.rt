@@ -16,6 +16,8 @@ ghost use Rattle.plain_rules.specs.Pool.{is_idle};
 ghost use Rattle.executions.specs.Strands.{is_under_way};
 ghost use Rattle.executions.specs.NextActions.{next, is_drop, IsAnswer};
 ghost use Rattle.executions.specs.Beginnings.{IsBeginning};
+ghost use Rattle.executions.specs.Ordered.{IsOrdered};
+ghost use Rattle.executions.specs.Subsequences.{IsSubsequence, all_run, all_readied, all_offered, all_placed};
 
 /// One strand's turn is under way at a time.
 pub fn one_turn<J>()
@@ -40,4 +42,10 @@ pub fn own_lines<J>()
     ensures threads { (b : Behavior J) (s : StrandId) (ms : List (GlobalAction J)) → IsQuiet b → IsExecution b (projection s ms) → lives (projection s ms) ≡ true → only s (run_queue b ms) ≡ waiting b (projection s ms) }
     ensures places { (b : Behavior J) (s : StrandId) (ms : List (GlobalAction J)) → IsQuiet b → IsExecution b (projection s ms) → lives (projection s ms) ≡ true → only s (offer_queue b ms) ≡ to_offer b (projection s ms) }
     ensures deadlines { (b : Behavior J) (s : StrandId) (ms : List (GlobalAction J)) → IsQuiet b → IsExecution b (projection s ms) → lives (projection s ms) ≡ true → deadlines s (agenda b ms) ≡ armed b (projection s ms) }
+{}
+
+/// What had its turn is a subsequence of what was put in line: threads that ran, and places whose offer began.
+pub fn in_turn<J>()
+    ensures threads { (b : Behavior J) (ms : List (GlobalAction J)) → IsOrdered b ms → IsSubsequence (all_run ms) (all_readied b ms) }
+    ensures places { (b : Behavior J) (ms : List (GlobalAction J)) → IsOrdered b ms → IsSubsequence (all_offered ms) (all_placed b ms) }
 {}
