@@ -162,7 +162,9 @@ abbrev pub none_is_due : {J : Type 0} → Behavior J → List (LocalAction J) �
 none_is_due b es = not (is_waking es) || none (due (moment es) (armed b es))
 
 abbrev pub has_no_work : {J : Type 0} → Behavior J → List (LocalAction J) → Bool
-has_no_work b es = empty (todo b es) && empty (waiting b es) && empty (to_offer b es) && none (offering b es) && none_is_due b es && not (is_stopping es) && not (is_winding_up es)
+has_no_work b es =
+    empty (todo b es) && empty (waiting b es) && empty (to_offer b es) && none (offering b es) && none_is_due b es && not (is_stopping es)
+    && not (is_winding_up es)
 
 abbrev pub is_quiescent : {J : Type 0} → Behavior J → List (LocalAction J) → Bool
 is_quiescent b es = if lives es then has_no_work b es else empty (open_places es)
@@ -206,8 +208,10 @@ enabled b es (Did (Lost q)) = is_offered_at b es q
 enabled b es (Did (Close q)) = (does_next (Close q) (todo b es) && is_open q es) || (was_dropped es && first_place q (open_places es))
 enabled b es (Did (Keep k key idle size)) = does_next (Keep k key idle size) (todo b es) && is_open (place.Sock k) es
 enabled b es (Did Dropped) = lives es || empty es
-enabled b es (Did (Run k)) = is_between b es && first_is k (waiting b es) && (not (in_offers es) || empty (to_offer b es)) && none_is_due b es && not (is_stopping es)
-enabled b es (Did (Offer q)) = is_between b es && first_place q (to_offer b es) && (in_offers es || empty (waiting b es)) && none_is_due b es && not (is_stopping es)
+enabled b es (Did (Run k)) =
+    is_between b es && first_is k (waiting b es) && (not (in_offers es) || empty (to_offer b es)) && none_is_due b es && not (is_stopping es)
+enabled b es (Did (Offer q)) =
+    is_between b es && first_place q (to_offer b es) && (in_offers es || empty (waiting b es)) && none_is_due b es && not (is_stopping es)
 enabled b es (Did (Due n)) = is_between b es && is_waking es && is_due n (due (moment es) (armed b es))
 enabled b es (Did Halted) = is_between b es && (is_stopping es || (is_winding_up es && empty (waiting b es) && empty (to_offer b es)))
 enabled b es (Did x) = does_next x (todo b es)
@@ -333,11 +337,13 @@ is_stopping_phase Stopping = true
 is_stopping_phase p = false
 
 abbrev pub may_turn_at : {J : Type 0} → Behavior J → StrandId → Action J → List (GlobalAction J) → Bool
-may_turn_at b s (Run k) ms = none (under_way b ms) && has_settled b ms && (not (offers_last ms) || empty (offer_queue b ms)) && front_thread s k (run_queue b ms)
+may_turn_at b s (Run k) ms =
+    none (under_way b ms) && has_settled b ms && (not (offers_last ms) || empty (offer_queue b ms)) && front_thread s k (run_queue b ms)
 may_turn_at b s (Offer q) ms = none (under_way b ms) && has_settled b ms && (offers_last ms || empty (run_queue b ms)) && front_place s q (offer_queue b ms)
 may_turn_at b s (Due k) ms = none (under_way b ms) && is_waking_phase (phase ms) && is_whose (OfStrand s k) (next_due b ms)
 may_turn_at b s (Began now (start.Job j premature job)) ms = may_start b j ms
-may_turn_at b s Halted ms = none (under_way b ms) && ((is_stopping_phase (phase ms) && is_strand s (next_to_stop ms)) || (nothing_waits b ms && is_strand s (next_to_wind_up ms)))
+may_turn_at b s Halted ms =
+    none (under_way b ms) && ((is_stopping_phase (phase ms) && is_strand s (next_to_stop ms)) || (nothing_waits b ms && is_strand s (next_to_wind_up ms)))
 may_turn_at b s Dropped ms = may_drop (lives (projection s ms)) b s ms
 may_turn_at b s x ms = true
 

@@ -132,7 +132,8 @@ unarmed wait = []
 
 abbrev pub begins : (ℕ → List Op) → Start ℕ → ℕ → State × List (Act ℕ)
 begins jobs (start.Client c) now = (record unborn { now = now; wait = Asking; client = true }, [])
-begins jobs (start.Job j premature job) now = (record unborn { now = now; wait = Going; ops = (if premature then Write (codes "premature") ∷ jobs job else jobs job) }, act.Ready 0 ∷ [])
+begins jobs (start.Job j premature job) now =
+    (record unborn { now = now; wait = Going; ops = (if premature then Write (codes "premature") ∷ jobs job else jobs job) }, act.Ready 0 ∷ [])
 
 abbrev pub step : (ℕ → List Op) → (ℕ → List Op) → LocalAction ℕ → State → State × List (Act ℕ)
 step programs jobs (Told (Moment t)) st = (record st { now = t }, [])

@@ -1,6 +1,6 @@
 //! Each law is the contract of a function that does nothing.
 
-ghost use Rattle.std.specs.Prelude.{◌≡◌, ℕ, nat_eq, Bool, List, [], ◌∷◌, Some, None, true, false};
+ghost use Rattle.std.specs.Prelude.{◌≡◌, ℕ, nat_eq, Bool, pos, codes, List, [], ◌∷◌, Some, None, true, false};
 ghost use Rattle.strand_contract.specs.Behaviors.{Behavior};
 ghost use Rattle.executions.specs.Executions.{GlobalAction};
 ghost use Rattle.executions.specs.Histories.{external};
@@ -9,12 +9,37 @@ ghost use Rattle.executions.specs.Plain.{IsPlain};
 ghost use Rattle.executions.specs.Ordered.{IsOrdered};
 ghost use Rattle.executions.specs.Beginnings.{IsBeginning};
 ghost use Rattle.exchanges.specs.Checks.{breaks, Alone, Begins, Rest, Kept, Plain, Ordered};
-ghost use Rattle.exchanges.specs.Exchanges.{b, narrow, sleepers, sleepers_exchanged, runs_early, sleeps_zero, ends_at_once, counted, counted_history, reused, reused_history, idle_at_stop, idle_stays, took_none, started, started_history, started_early, premature, wound_up, lives_on, never_started, dropped_by, line_then_socket, socket_then_line, others_between, none_between, turned, not_turned, all_at_50, in_order, job_first, crowded, fails, put_off, offered_again, forgets, jobs_at_stop, dropped_at_stop, dropped_by_others};
+ghost use Rattle.resty_base.specs.declared.dictionary.DictAnswer.{DictAnswer};
+ghost use Rattle.resty_base.specs.declared.dictionary.DictValue.{DictValue};
+ghost use Rattle.exchanges.specs.Exchanges.{one_request, held_back, numbered, two_replies, read_as, two_idle, all_at_stop, socket_then_job, job_then_socket};
+ghost use Rattle.exchanges.specs.Exchanges.{b, narrow, sleepers, sleepers_exchanged, runs_early, sleeps_zero, ends_at_once, counted, counted_history, reused};
+ghost use Rattle.exchanges.specs.Exchanges.{reused_history, idle_at_stop, idle_stays, took_none, started, started_history, started_early, premature};
+ghost use Rattle.exchanges.specs.Exchanges.{wound_up, lives_on, never_started, dropped_by, line_then_socket, socket_then_line, others_between, none_between};
+ghost use Rattle.exchanges.specs.Exchanges.{turned, not_turned, all_at_50, in_order, job_first, crowded, fails, put_off, offered_again, forgets};
+ghost use Rattle.exchanges.specs.Exchanges.{jobs_at_stop, dropped_at_stop, dropped_by_others};
 
 /// An execution that breaks nothing is lawful, kept, plain and ordered.
 pub fn whole<J>()
     ensures { (same : J → J → Bool) (b : Behavior J) (ms : List (GlobalAction J)) → ((i j : J) → same i j ≡ true → i ≡ j)
         → breaks same b ms ≡ [] → IsLawful b ms × IsKept b ms × IsPlain b ms × IsOrdered b ms }
+{}
+
+/// A request gets its reply at once.
+pub fn one_request_and_its_reply()
+    ensures allowed { breaks nat_eq b one_request ≡ [] }
+    ensures held_back { breaks nat_eq b held_back ≡ Alone 3 ∷ Rest 3 ∷ Kept 3 ∷ [] }
+{}
+
+/// Connections are numbered as they arrive.
+pub fn numbers()
+    ensures allowed { breaks nat_eq b (numbered 1) ≡ [] }
+    ensures left_out { breaks nat_eq b (numbered 2) ≡ Plain 0 ∷ [] }
+{}
+
+/// Each client gets its own reply.
+pub fn own_replies()
+    ensures allowed { breaks nat_eq b (two_replies (codes "a")) ≡ [] }
+    ensures of_another { breaks nat_eq b (two_replies (codes "b")) ≡ Alone 5 ∷ [] }
 {}
 
 /// Two sleepers that are due at one moment wake in the order in which they fell asleep, and before either runs.
@@ -35,6 +60,24 @@ pub fn one_dictionary()
     ensures allowed { breaks nat_eq b (counted 2) ≡ [] }
     ensures history { external b (counted 2) ≡ counted_history }
     ensures counts_again { breaks nat_eq b (counted 1) ≡ Plain 12 ∷ [] }
+{}
+
+/// A key that is there is found.
+pub fn a_key_that_is_there()
+    ensures allowed { breaks nat_eq b (read_as (DictAnswer.Found (DictValue.Number (pos 1)) 0)) ≡ [] }
+    ensures nothing { breaks nat_eq b (read_as DictAnswer.Nothing) ≡ Plain 4 ∷ [] }
+{}
+
+/// Of two idle sockets of a key the most recent is taken.
+pub fn the_most_recent()
+    ensures allowed { breaks nat_eq b (two_idle 2) ≡ [] }
+    ensures another { breaks nat_eq b (two_idle 1) ≡ Plain 31 ∷ [] }
+{}
+
+/// At Stop strands are ended, then idle sockets are closed, then jobs start.
+pub fn order_at_stop()
+    ensures allowed { breaks nat_eq b (all_at_stop socket_then_job) ≡ [] }
+    ensures job_first { breaks nat_eq b (all_at_stop job_then_socket) ≡ Ordered 20 ∷ [] }
 {}
 
 /// A socket is kept and taken again; idle, it gives a byte and is closed; Stop closes what is idle.
@@ -119,4 +162,14 @@ pub fn refused()
     ensures socket_first { IsBeginning b (dropped_by socket_then_line) → ⊥ }
     ensures job_first { IsBeginning b (all_at_50 job_first) → ⊥ }
     ensures by_number { IsBeginning b (jobs_at_stop 1 2) → ⊥ }
+    ensures early_run { IsBeginning b runs_early → ⊥ }
+    ensures held_back { IsBeginning b held_back → ⊥ }
+    ensures nothing { IsBeginning b (read_as DictAnswer.Nothing) → ⊥ }
+    ensures another_socket { IsBeginning b (two_idle 1) → ⊥ }
+    ensures dialled { IsBeginning b (fails true) → ⊥ }
+    ensures not_premature { IsBeginning b (premature false) → ⊥ }
+    ensures before_sockets { IsBeginning b (all_at_stop job_then_socket) → ⊥ }
+    ensures left_out { IsBeginning b (numbered 2) → ⊥ }
+    ensures of_another { IsBeginning b (two_replies (codes "b")) → ⊥ }
+    ensures by_others { IsBeginning b dropped_by_others → ⊥ }
 {}

@@ -19,28 +19,33 @@ pub data Whose : Type 0 where
   OfJob : (j : ℕ) → Whose
   OfIdle : (n : ℕ) → Whose
 
--- without the first that is so, and without all that are
+-- without the first that is so
 abbrev pub without_one : (Whose → Bool) → List (Whose × ℕ) → List (Whose × ℕ)
 without_one is_so [] = []
 without_one is_so (d ∷ ds) = if is_so d.0 then ds else d ∷ without_one is_so ds
 
+-- without all that are so
 abbrev pub without_those : (Whose → Bool) → List (Whose × ℕ) → List (Whose × ℕ)
 without_those is_so [] = []
 without_those is_so (d ∷ ds) = if is_so d.0 then without_those is_so ds else d ∷ without_those is_so ds
 
+-- it is the deadline of that number of a strand
 abbrev pub is_number : StrandId → ℕ → Whose → Bool
 is_number s k (OfStrand t j) = same_strand s t && (k == j)
 is_number s k w = false
 
+-- it is one of the strand's deadlines, or its start
 abbrev pub is_of : StrandId → Whose → Bool
 is_of s (OfStrand t j) = same_strand s t
 is_of (strand.Job i) (OfJob j) = i == j
 is_of s w = false
 
+-- it is the job's start
 abbrev pub is_start : ℕ → Whose → Bool
 is_start i (OfJob j) = i == j
 is_start i w = false
 
+-- it is the socket's expiry, if one is named
 abbrev pub is_socket : Option ℕ → Whose → Bool
 is_socket (Some m) (OfIdle n) = m == n
 is_socket n w = false
@@ -52,6 +57,7 @@ armed_with s (act.Arm k at ∷ acts) ds = armed_with s acts (without_one (is_num
 armed_with s (act.Cancel k ∷ acts) ds = armed_with s acts (without_one (is_number s k) ds)
 armed_with s (a ∷ acts) ds = armed_with s acts ds
 
+-- the expiry of a socket that is kept, if it expires
 abbrev pub idle_armed : ℕ → Option Ms → List (Whose × ℕ)
 idle_armed n None = []
 idle_armed n (Some at) = (OfIdle n, at.0) ∷ []
@@ -67,6 +73,7 @@ agenda_at s Gone n ms ds = without_those (is_of s) ds
 agenda_at s Dropped n ms ds = without_those (is_of s) ds
 agenda_at s x n ms ds = ds
 
+-- an action, and then the acts of the turn that it begins; an idle socket that is closed expires no more
 abbrev pub agenda_by : {J : Type 0} → Behavior J → GlobalAction J → List (GlobalAction J) → List (Whose × ℕ) → List (Whose × ℕ)
 agenda_by b (Of s x n) ms ds = armed_with s (b.acts (Did x ∷ projection s ms)) (agenda_at s x n ms ds)
 agenda_by b (IdleGave e) ms ds = without_those (is_socket (closed_by e)) ds
@@ -78,15 +85,17 @@ abbrev pub agenda : {J : Type 0} → Behavior J → List (GlobalAction J) → Li
 agenda b [] = []
 agenda b (m ∷ ms) = agenda_by b m ms (agenda b ms)
 
--- of those not above now the least by moment, among equals the one that was armed first
+-- of what is armed and the first that is due of what was armed later, the one that is due first
 abbrev pub sooner : ℕ → Whose × ℕ → Option (Whose × ℕ) → Option (Whose × ℕ)
 sooner now d None = if nat_le d.1 now then Some d else None
 sooner now d (Some e) = if nat_le d.1 now && nat_le d.1 e.1 then Some d else Some e
 
+-- of what is armed, the first that is due: the least by moment, among equals the one that was armed first
 abbrev pub least : ℕ → List (Whose × ℕ) → Option (Whose × ℕ)
 least now [] = None
 least now (d ∷ ds) = sooner now d (least now ds)
 
+-- whose it is
 abbrev pub whose : Option (Whose × ℕ) → Option Whose
 whose None = None
 whose (Some d) = Some d.0

@@ -14,15 +14,17 @@ use Rattle.strand_contract.specs.Alone.{piece}
 use Rattle.executions.specs.Executions.{GlobalAction, Of, Everyone, TurnedAway, IdleGave, IdleClosed, projection}
 use Rattle.executions.specs.Sockets.{id_at, socket_at, closed_by}
 
--- a strand's part of it: its own execution without what leaves no entry
+-- a strand's execution without what leaves no entry
 abbrev pub without_internal : {J : Type 0} → List (LocalAction J) → List (LocalAction J)
 without_internal [] = []
 without_internal (Told w ∷ es) = Told w ∷ without_internal es
 without_internal (Did x ∷ es) = if is_internal x then without_internal es else Did x ∷ without_internal es
 
+-- a strand's part of the history
 abbrev pub part : {J : Type 0} → StrandId → List (GlobalAction J) → List (LocalAction J)
 part s ms = without_internal (projection s ms)
 
+-- the entry of a strand's beginning
 abbrev pub start_entry : {J : Type 0} → Start J → Entry
 start_entry (start.Client c) = entry.Given (event.Arrive c)
 start_entry (start.Job j premature job) = entry.Start j
@@ -59,10 +61,12 @@ entries_at b s (Timer at answer) n ms = entry.Timer s at answer ∷ []
 entries_at b s Dropped n ms = entry.Dropped s ∷ []
 entries_at b s x n ms = []
 
+-- the entry of what all are told
 abbrev pub word_entry : Word → Entry
 word_entry (Moment t) = entry.Given (event.Moment (record { 0 = t }))
 word_entry Stop = entry.Given event.Stop
 
+-- the entries of any action, the newest first
 abbrev pub entries_of : {J : Type 0} → Behavior J → GlobalAction J → List (GlobalAction J) → List Entry
 entries_of b (Of s x n) ms = entries_at b s x n ms
 entries_of b (Everyone w) ms = word_entry w ∷ []
@@ -70,20 +74,23 @@ entries_of b (TurnedAway c) ms = entry.Close (id.Conn c) ∷ entry.Turned c ∷ 
 entries_of b (IdleGave e) ms = closing (closed_by e) ++ entry.Given e ∷ []
 entries_of b (IdleClosed n) ms = entry.Close (id.Sock n) ∷ []
 
+-- the history of an execution
 abbrev pub external : {J : Type 0} → Behavior J → List (GlobalAction J) → List Entry
 external b [] = []
 external b (m ∷ ms) = entries_of b m ms ++ external b ms
 
--- how long the piece was that each write was offered, of those that were taken or put off
+-- how long the piece was that a write was offered, if it was taken or put off
 abbrev pub offered_at : {J : Type 0} → Behavior J → Action J → List (LocalAction J) → List ℕ
 offered_at b (Put q bytes) es = length (piece b q es) ∷ []
 offered_at b (Later q) es = length (piece b q es) ∷ []
 offered_at b x es = []
 
+-- the same of any action
 abbrev pub lengths_of : {J : Type 0} → Behavior J → GlobalAction J → List (GlobalAction J) → List ℕ
 lengths_of b (Of s x n) ms = offered_at b x (projection s ms)
 lengths_of b m ms = []
 
+-- the lengths of all pieces that were offered, the newest first
 abbrev pub offered_lengths : {J : Type 0} → Behavior J → List (GlobalAction J) → List ℕ
 offered_lengths b [] = []
 offered_lengths b (m ∷ ms) = lengths_of b m ms ++ offered_lengths b ms

@@ -16,6 +16,7 @@ pub record AllAtRest {J : Type 0} (b : Behavior J) (ms : List (GlobalAction J)) 
   pub each : (s : StrandId) → IsQuiescent b (projection s ms)
   pub waits : NothingWaits b ms
 
+-- at a given event all were at rest
 abbrev pub IsGivenAtRest : {J : Type 0} → Behavior J → GlobalAction J → List (GlobalAction J) → Type 0
 IsGivenAtRest b m ms = has_given m ≡ true → AllAtRest b ms
 
@@ -25,10 +26,12 @@ IsStartOf b (strand.Conn c) (start.Client d) ms = c ≡ d
 IsStartOf b (strand.Job i) (start.Job j premature job) ms = (i ≡ j) × (job_of j (pending b ms) ≡ Some job) × (premature ≡ has_stopped ms)
 IsStartOf b s how ms = ⊥
 
+-- each strand begins with its own start, at the present moment
 abbrev pub BeginsRight : {J : Type 0} → Behavior J → GlobalAction J → List (GlobalAction J) → Type 0
 BeginsRight b (Of s (Began now how) n) ms = IsStartOf b s how ms × (now ≡ present ms)
 BeginsRight b m ms = Unit {0}
 
+-- each strand does what it does alone, and begins right; all are at rest at each given event and at the end
 pub record IsLawful {J : Type 0} (b : Behavior J) (ms : List (GlobalAction J)) : Type 0 where
   pub alone : (s : StrandId) → IsExecution b (projection s ms)
   pub begins : Throughout (BeginsRight b) ms
@@ -39,8 +42,10 @@ pub record IsLawful {J : Type 0} (b : Behavior J) (ms : List (GlobalAction J)) :
 abbrev pub NoneHoldsBack : {J : Type 0} → Behavior J → List (GlobalAction J) → Type 0
 NoneHoldsBack b ms = (s : StrandId) → lives (projection s ms) ≡ true → KeepsNothingBack b (projection s ms)
 
+-- at a given event nothing was held back
 abbrev pub HeldNothingBack : {J : Type 0} → Behavior J → GlobalAction J → List (GlobalAction J) → Type 0
 HeldNothingBack b m ms = has_given m ≡ true → NoneHoldsBack b ms
 
+-- nothing is held back, at each given event and at the end
 abbrev pub IsKept : {J : Type 0} → Behavior J → List (GlobalAction J) → Type 0
 IsKept b ms = Throughout (HeldNothingBack b) ms × NoneHoldsBack b ms

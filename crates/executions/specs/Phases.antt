@@ -10,11 +10,13 @@ pub data Phase : Type 0 where
   Stopping : Phase
   Running : Phase
 
+-- an action of a strand ends the phase where it runs a thread, begins an offer, or is given
 abbrev pub phase_at : {J : Type 0} → Action J → Phase → Phase
 phase_at (Run k) p = Running
 phase_at (Offer q) p = Running
 phase_at x p = if is_given x then Running else p
 
+-- an action, and the phase after it
 abbrev pub phase_by : {J : Type 0} → GlobalAction J → Phase → Phase
 phase_by (Of s x n) p = phase_at x p
 phase_by (Everyone (Moment t)) p = Waking
@@ -23,6 +25,7 @@ phase_by (TurnedAway c) p = Running
 phase_by (IdleGave e) p = Running
 phase_by (IdleClosed n) p = p
 
+-- the phase of an execution
 abbrev pub phase : {J : Type 0} → List (GlobalAction J) → Phase
 phase [] = Running
 phase (m ∷ ms) = phase_by m (phase ms)

@@ -13,10 +13,11 @@ use Rattle.executions.specs.Sockets.{event_socket, pool}
 use Rattle.executions.specs.Zones.{zone}
 use Rattle.executions.specs.Jobs.{pending}
 
--- of what a take is answered, the number of the socket, and its uses
+-- the number of the socket that is taken
 abbrev pub taken_number : Option (ℕ × ℕ) → Option ℕ
 taken_number given = option_map (λ g. g.0) given
 
+-- and how often it was taken, with this time
 abbrev pub taken_uses : Option (ℕ × ℕ) → Option ℕ
 taken_uses given = option_map (λ g. g.1) given
 
@@ -25,7 +26,8 @@ abbrev pub dialled_as : {J : Type 0} → Bool → List (GlobalAction J) → Opti
 dialled_as true ms = Some (dialled ms + 1)
 dialled_as false ms = None
 
--- an action of a strand, with the world's number
+-- a strand's call is answered by the plain rules, with the number of the socket that is taken, dialled or crowded out, and of no other; a
+-- connection that begins is the next by number, and there is room for it
 abbrev pub IsPlainAt : {J : Type 0} → Behavior J → Action J → Option ℕ → List (GlobalAction J) → Type 0
 IsPlainAt b (Began now (start.Client c)) n ms = (n ≡ None) × (c ≡ arrived ms + 1) × (open_connections ms < b.connections)
 IsPlainAt b (Dict z call answer) n ms = (n ≡ None) × (answer ≡ (dict (b.zone_size z) call (present ms) (zone b z ms)).0)
@@ -40,7 +42,7 @@ abbrev pub IsOfIdle : List Idle → Option ℕ → Type 0
 IsOfIdle idle None = ⊥
 IsOfIdle idle (Some n) = is_idle n idle ≡ true
 
--- connections are numbered as they arrive, and turned away exactly where as many are open as may be
+-- a connection is turned away where as many are open as may be; what gives something or is closed as idle is idle
 abbrev pub IsPlainBy : {J : Type 0} → Behavior J → GlobalAction J → List (GlobalAction J) → Type 0
 IsPlainBy b (Of s x n) ms = IsPlainAt b x n ms
 IsPlainBy b (Everyone w) ms = Unit {0}
@@ -48,5 +50,6 @@ IsPlainBy b (TurnedAway c) ms = (c ≡ arrived ms + 1) × (b.connections ≤ ope
 IsPlainBy b (IdleGave e) ms = IsOfIdle (pool ms) (event_socket e)
 IsPlainBy b (IdleClosed n) ms = is_idle n (pool ms) ≡ true
 
+-- what strands share answers by the plain rules throughout
 abbrev pub IsPlain : {J : Type 0} → Behavior J → List (GlobalAction J) → Type 0
 IsPlain b ms = Throughout (IsPlainBy b) ms

@@ -33,15 +33,19 @@ pub fn one_next<J>()
 
 /// A socket's number has one holder, and none where the socket is idle.
 pub fn one_holder<J>()
-    ensures held { (b : Behavior J) (ms : List (GlobalAction J)) (s : StrandId) (k : ℕ) → IsBeginning b ms → is_open (Place.Sock k) (projection s ms) ≡ true → owner (socket_at s k ms).sock ms ≡ Some (s, k) }
+    ensures held { (b : Behavior J) (ms : List (GlobalAction J)) (s : StrandId) (k : ℕ) → IsBeginning b ms → is_open (Place.Sock k) (projection s ms) ≡ true
+        → owner (socket_at s k ms).sock ms ≡ Some (s, k) }
     ensures idle { (b : Behavior J) (ms : List (GlobalAction J)) (n : ℕ) → IsBeginning b ms → is_idle n (pool ms) ≡ true → owner n ms ≡ None }
 {}
 
 /// Of the queues and of the agenda of all, what is a living strand's is what it has alone.
 pub fn own_lines<J>()
-    ensures threads { (b : Behavior J) (s : StrandId) (ms : List (GlobalAction J)) → IsQuiet b → IsExecution b (projection s ms) → lives (projection s ms) ≡ true → only s (run_queue b ms) ≡ waiting b (projection s ms) }
-    ensures places { (b : Behavior J) (s : StrandId) (ms : List (GlobalAction J)) → IsQuiet b → IsExecution b (projection s ms) → lives (projection s ms) ≡ true → only s (offer_queue b ms) ≡ to_offer b (projection s ms) }
-    ensures deadlines { (b : Behavior J) (s : StrandId) (ms : List (GlobalAction J)) → IsQuiet b → IsExecution b (projection s ms) → lives (projection s ms) ≡ true → deadlines s (agenda b ms) ≡ armed b (projection s ms) }
+    ensures threads { (b : Behavior J) (s : StrandId) (ms : List (GlobalAction J)) → IsQuiet b → IsExecution b (projection s ms)
+        → lives (projection s ms) ≡ true → only s (run_queue b ms) ≡ waiting b (projection s ms) }
+    ensures places { (b : Behavior J) (s : StrandId) (ms : List (GlobalAction J)) → IsQuiet b → IsExecution b (projection s ms)
+        → lives (projection s ms) ≡ true → only s (offer_queue b ms) ≡ to_offer b (projection s ms) }
+    ensures deadlines { (b : Behavior J) (s : StrandId) (ms : List (GlobalAction J)) → IsQuiet b → IsExecution b (projection s ms)
+        → lives (projection s ms) ≡ true → deadlines s (agenda b ms) ≡ armed b (projection s ms) }
 {}
 
 /// What had its turn is a subsequence of what was put in line: threads that ran, and places whose offer began.
