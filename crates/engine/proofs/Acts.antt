@@ -17,24 +17,22 @@ use Rattle.strand_contract.specs.declared.turns.Place.{Place}
 use Rattle.strand_contract.specs.declared.turns.Place.TheVariants as place
 use Rattle.strand_contract.specs.declared.turns.Act.{Act}
 use Rattle.strand_contract.specs.declared.turns.Act.TheVariants as act
-use Rattle.strand_contract.specs.Actions.{Action, LocalAction, Did, GlobalAction, Of, Close, Log, Dropped, Gone}
+use Rattle.strand_contract.specs.Actions.{Action, LocalAction, Did, Close, Log, Dropped, Gone}
 use Rattle.strand_contract.specs.Behaviors.{Behavior}
-use Rattle.strand_contract.specs.Alone.{lives, was_dropped, moment, is_open, has_ended, todo, carried, waiting, lined_up, to_offer, offers, armed, begun_offer, but, in_offers, is_stopping, open_places, IsExecution, IsPrefixOf}
-use Rattle.strand_contract.specs.Executions.{projection, external, offered_lengths}
+use Rattle.strand_contract.specs.Alone.{lives, was_dropped, moment, is_open, has_ended, todo, carried, waiting, lined_up, to_offer, offers, armed, begun_offer, offering, but, in_offers, is_stopping, open_places, IsExecution, IsPrefixOf}
+use Rattle.executions.specs.Executions.{GlobalAction, Of, projection, present}
+use Rattle.executions.specs.Strands.{is_under_way, strands}
+use Rattle.executions.specs.Counts.{arrived}
+use Rattle.executions.specs.Queues.{only, lined, placed, without_all, run_queue as runs_of, offer_queue as offers_of}
+use Rattle.executions.specs.Agenda.{armed_with, without_those, is_of, agenda}
+use Rattle.executions.specs.Histories.{external, offered_lengths}
+use Rattle.executions.specs.Ordered.{offers_last, was_touched, MayDropLiving}
 use Rattle.strand_contract.specs.Laws.{is_still}
 use Rattle.strand_contract.specs.OpenPlaceLaws.{is_among, open-among, place-self, none-open}
-use Rattle.strand_contract.specs.Order.{IsSubsequence, keep, with_strand, only, readied, all_readied, all_run, all_placed, all_offered, offers_last, NoOtherUnderWay}
-use Rattle.engine.specs.Standing.{Held, HasAsides, Common, Around, Near, Busy, Falls, Standing, IsOffer}
-use Rattle.engine.proofs.Lists.{by_test, clash, same-true, sub-through, sub-front, only-same, only-other, tells-more, tells-same}
+use Rattle.engine.specs.Standing.{Held, HasAsides, Common, Around, Near, Busy, Falls, Standing, IsOffer, runs_with, offers_with}
+use Rattle.engine.proofs.Lists.{by_test, clash, same-true, only-same, only-other, tells-more, tells-same}
+use Rattle.engine.proofs.Waiting.{lined-own, placed-own, armed-own, only-first, runs-still, offers-still, without-next}
 use Rattle.engine.proofs.Marks.{projection-same, touches, fit-same, held-same, SameBook, same-keeps, same-hung, hung-closed, same-dropped, same-forgot, forgot-aside, forgot-ended, own-closed, has-arrived, common-next, around-next}
-
-pub sub-after : {A : Type 0} (xs : List A) {ys zs : List A} → IsSubsequence ys zs → IsSubsequence (xs ++ ys) (xs ++ zs)
-sub-after [] r = r
-sub-after (x ∷ xs) r = keep (sub-after xs r)
-
--- a still action leaves what ran and what is to run
-pub queues-still : {A : Type 0} (s : StrandId) (xs rl ys : List (StrandId × A)) (r u : List A) → r ≡ [] → u ≡ [] → IsSubsequence (xs ++ rl) ys → IsSubsequence (xs ++ with_strand s r ++ rl) (ys ++ with_strand s u)
-queues-still s xs rl ys r u er eu h = rw (er, eu) (simp append-nil h)
 
 -- where no socket is open, the client's connection is the first open place, or there is none
 first-among : (ps : List Place) → is_among place.Client ps ≡ true → ((k : ℕ) → is_among (place.Sock k) ps ≡ false) → IsPrefixOf (place.Client ∷ []) ps
@@ -55,6 +53,13 @@ offer-closed go o None h = λ on. refl
 offer-closed go o (Some place.Client) h = λ on. refl
 offer-closed go o (Some (place.Sock k)) h = absurd h
 
+-- no turn of a strand is under way that has nothing to do, or nothing open
+pub not-under-way : {J : Type 0} (b : Behavior J) (es : List (LocalAction J)) → lives es ≡ true → todo b es ≡ [] → offering b es ≡ None → is_under_way b es ≡ false
+not-under-way b es live nil none = rw (live, nil, none) refl
+
+pub not-open : {J : Type 0} (b : Behavior J) (es : List (LocalAction J)) → lives es ≡ false → open_places es ≡ [] → is_under_way b es ≡ false
+not-open b es off nil = rw (off, nil) refl
+
 -- room is set aside for c's strand and for the others
 pub aside-all : {J : Type 0} (c : ℕ) (book : Book) (ms : List (GlobalAction J)) → ((s : StrandId) → same_strand s (strand.Conn c) ≡ false → book.strand_aside s ≡ lives (projection s ms))
     → book.strand_aside (strand.Conn c) ≡ lives (projection (strand.Conn c) ms) → (s : StrandId) → book.strand_aside s ≡ lives (projection s ms)
@@ -73,9 +78,10 @@ common-kept b runs offered now count book book' ms k entered socks asides arriva
   given = k.given;
   kept = k.kept;
   plain = k.plain;
+  ordered = k.ordered;
+  served = k.served;
   runs = k.runs;
   offered = k.offered;
-  turns = k.turns;
   told = tells-same book.history book'.history (external b ms) k.told entered.history;
   offers_told = tells-same book.offered book'.offered (offered_lengths b ms) k.offers_told entered.offered;
   unborn = λ t past. k.unborn t (rw arrivals at past);
@@ -88,54 +94,22 @@ common-kept b runs offered now count book book' ms k entered socks asides arriva
 }
 
 module _ {J S : Type 0} (b : Behavior J) (st : S → List (LocalAction J) → Type 0) (c : ℕ) where
-  -- fewer turns are to come
-  pub around-queues : (al o : Bool) (h : Held S) (threads threads' : List (StrandId × ℕ)) (offer_queue offer_queue' : List (StrandId × Place)) (book : Book) (ms : List (GlobalAction J))
-      → Around b st c al o h threads offer_queue book ms → IsSubsequence threads' threads → IsSubsequence offer_queue' offer_queue → Around b st c al o h threads' offer_queue' book ms
-  around-queues al o h threads threads' offer_queue offer_queue' book ms a runs list = record {
-    each = a.each;
-    dead = a.dead;
-    closed = a.closed;
-    shut = a.shut;
-    aside = a.aside;
-    forgotten = a.forgotten;
-    out = a.out;
-    alive = a.alive;
-    connection = a.connection;
-    client = a.client;
-    no_socket = a.no_socket;
-    own_aside = a.own_aside;
-    common = record {
-      alone = a.common.alone;
-      begins = a.common.begins;
-      given = a.common.given;
-      kept = a.common.kept;
-      plain = a.common.plain;
-      runs = sub-through (sub-after (all_run ms) runs) a.common.runs;
-      offered = sub-through (sub-after (all_offered ms) list) a.common.offered;
-      turns = a.common.turns;
-      told = a.common.told;
-      offers_told = a.common.offers_told;
-      unborn = a.common.unborn;
-      jobless = a.common.jobless;
-      no_socket = a.common.no_socket;
-      asides = a.common.asides;
-      count = a.common.count;
-      arrived = a.common.arrived;
-      present = a.common.present;
-    };
-  }
-
   -- what a busy strand leaves when it is given up
   pub near-falls : (acts : List (Act J)) (go o : Bool) (h : Held S) (book : Book) (ms : List (GlobalAction J)) → Near b st c acts go o h book ms → Falls b st c o h book ms
   near-falls acts go o h book ms y = record {
-    around = around-queues true o h _ h.run_queue _ h.offer_queue book ms y.around (sub-front h.run_queue _) (sub-front h.offer_queue _);
+    next_runs = runs_with c acts h;
+    next_offers = offers_with c acts h;
+    around = y.around;
+    same_runs = lined-own (strand.Conn c) acts h.run_queue;
+    same_offers = placed-own (strand.Conn c) acts h.offer_queue;
+    agenda = ap (without_those (is_of (strand.Conn c))) (sym y.agenda) ∙ armed-own (strand.Conn c) acts [];
     last = y.last;
     touched = y.touched;
   }
 
   -- the strand is gone
-  pub around-dead : (h : Held S) (book : Book) (ms : List (GlobalAction J)) → Around b st c false false h h.run_queue h.offer_queue book ms → book.has_ended (id.Conn c) ≡ false → (h.in_offers ≡ false → offers_last ms ≡ true → h.offer_queue ≡ []) → (h.in_offers ≡ true → offers_last ms ≡ false → h.run_queue ≡ []) → Standing b st h book ms
-  around-dead h book ms a ended runs_flip offers_flip = record {
+  pub around-dead : (h : Held S) (book : Book) (ms : List (GlobalAction J)) → Around b st c false false h h.run_queue h.offer_queue book ms → agenda b ms ≡ [] → book.has_ended (id.Conn c) ≡ false → (h.in_offers ≡ false → offers_last ms ≡ true → h.offer_queue ≡ []) → (h.in_offers ≡ true → offers_last ms ≡ false → h.run_queue ≡ []) → Standing b st h book ms
+  around-dead h book ms a none_armed ended runs_flip offers_flip = record {
     each = λ t live. by_test (t == c)
         (λ e. clash (subst (λ (i : ℕ). lives (projection (strand.Conn i) ms) ≡ true) (eqb-true t c e) live) a.alive)
         (λ ne. a.each t ne live);
@@ -154,6 +128,8 @@ module _ {J S : Type 0} (b : Behavior J) (st : S → List (LocalAction J) → Ty
         (λ ne. a.forgotten t ne gone);
     flip_to_runs = runs_flip;
     flip_to_offers = offers_flip;
+    stops = a.stops;
+    agenda = none_armed;
     common = a.common;
   }
 
@@ -175,46 +151,54 @@ module _ {J S : Type 0} (b : Behavior J) (st : S → List (LocalAction J) → Ty
         client = a.client;
         no_socket = a.no_socket;
         own_aside = forgot-aside c forgot;
+        stops = a.stops;
         common = common-kept b h.run_queue h.offer_queue h.now h.connections book book' ms a.common forgot.entered (λ n. same.sockets n) same.asides forgot.numbers.arrivals;
       }
 
   -- no turn of another strand is under way
   others-between : (o : Bool) (h : Held S) (threads : List (StrandId × ℕ)) (offer_queue : List (StrandId × Place)) (book : Book) (ms : List (GlobalAction J))
-      → Around b st c true o h threads offer_queue book ms → NoOtherUnderWay b (strand.Conn c) ms
-  others-between o h threads offer_queue book ms a (strand.Conn t) ne = record {
-    between = λ live. let f = a.each t ne live in record { living = live; no_act = f.no_act; no_offer = f.no_offer };
-    closed = λ off. none-open (projection (strand.Conn t) ms) (a.shut t ne off);
-  }
-  others-between o h threads offer_queue book ms a (strand.Job n) ne = record {
-    between = λ live. clash live (ap lives (a.common.jobless n));
-    closed = λ off. ap open_places (a.common.jobless n);
-  }
+      → Around b st c true o h threads offer_queue book ms → (t : StrandId) → same_strand t (strand.Conn c) ≡ false → is_under_way b (projection t ms) ≡ false
+  others-between o h threads offer_queue book ms a (strand.Conn t) ne = by_test (lives (projection (strand.Conn t) ms))
+      (λ live. let f = a.each t ne live in not-under-way b (projection (strand.Conn t) ms) live f.no_act f.no_offer)
+      (λ off. not-open b (projection (strand.Conn t) ms) off (none-open (projection (strand.Conn t) ms) (a.shut t ne off)))
+  others-between o h threads offer_queue book ms a (strand.Job n) ne = ap (is_under_way b) (a.common.jobless n)
+
+  may-drop : (o : Bool) (h : Held S) (threads : List (StrandId × ℕ)) (offer_queue : List (StrandId × Place)) (book : Book) (ms : List (GlobalAction J))
+      → Around b st c true o h threads offer_queue book ms → was_touched (strand.Conn c) ms ≡ true → MayDropLiving (lives (projection (strand.Conn c) ms)) b (strand.Conn c) ms
+  may-drop o h threads offer_queue book ms a touched =
+      subst (λ (v : Bool). MayDropLiving v b (strand.Conn c) ms) (sym a.alive)
+      (only-first (is_under_way b) (strands ms) ms (strand.Conn c) (others-between o h threads offer_queue book ms a), touched)
 
   module _ (quiet : (a : LocalAction J) (es : List (LocalAction J)) → is_still a ≡ true → b.acts (a ∷ es) ≡ []) where
     dropped : (o : Bool) (h : Held S) (book book1 : Book) (back : Option Entry) (ms : List (GlobalAction J)) → Falls b st c o h book ms
         → Notes (entry.Dropped (strand.Conn c)) back book book1
         → Around b st c false o h h.run_queue h.offer_queue book1 (Of (strand.Conn c) Dropped None ∷ ms)
     dropped o h book book1 back ms f noted =
-        let a : Around b st c true o h h.run_queue h.offer_queue book ms = f.around in
+        let a : Around b st c true o h f.next_runs f.next_offers book ms = f.around in
         let same : SameBook c book book1 = same-dropped c noted in
         let arrivals : book1.arrivals ≡ book.arrivals = noted.numbers.arrivals in
         let none : b.acts (Did Dropped ∷ projection (strand.Conn c) ms) ≡ [] = quiet (Did Dropped) (projection (strand.Conn c) ms) refl in
-        around-next b st c ms Dropped true false o o h h h.run_queue h.run_queue h.offer_queue h.offer_queue book book1 a (held-same c h) same a.out refl (noted.is_open (id.Conn c) ∙ a.connection) a.client a.no_socket
-        (noted.strand_aside (strand.Conn c) ∙ ap (λ v. if v then false else book.strand_aside (strand.Conn c)) (same-true c))
-        (common-next b st c ms Dropped h.run_queue h.run_queue h.offer_queue h.offer_queue h.now h.connections h.connections book book1 a.common
+        around-next b st c ms Dropped true false o o h h f.next_runs h.run_queue f.next_offers h.offer_queue book book1 a (held-same c h) same a.out refl (noted.is_open (id.Conn c) ∙ a.connection) a.client a.no_socket
+        (noted.strand_aside (strand.Conn c) ∙ ap (λ v. if v then false else book.strand_aside (strand.Conn c)) (same-true c)) a.stops
+        (common-next b st c ms Dropped f.next_runs h.run_queue f.next_offers h.offer_queue h.now h.connections h.connections book book1 a.common
         (record {
           enabled = inl a.alive;
-          begins = a.common.begins;
+          begins = (a.common.begins, tt);
           given = (a.common.given, λ e. absurd (let x : false ≡ true = e in cc));
           kept = (a.common.kept, λ e. absurd (let x : false ≡ true = e in cc));
-          plain = a.common.plain;
-          turns = (a.common.turns, others-between o h h.run_queue h.offer_queue book ms a, f.touched);
+          plain = (a.common.plain, refl);
+          ordered = (a.common.ordered, may-drop o h f.next_runs f.next_offers book ms a f.touched);
+          served = refl;
           counts = a.common.count;
         }) (rw arrivals (has-arrived a)) (omega (arith, arrivals)) (λ n. same.sockets n ∙ a.common.no_socket n) (same.asides a.common.asides)
         (tells-more book.history book1.history (entry.Dropped (strand.Conn c) ∷ []) (external b ms) a.common.told noted.history)
         (tells-same book.offered book1.offered (offered_lengths b ms) a.common.offers_told noted.offered)
-        (queues-still (strand.Conn c) (all_run ms) h.run_queue (all_readied b ms) [] (readied (b.acts (Did Dropped ∷ projection (strand.Conn c) ms))) refl (ap readied none) a.common.runs)
-        (queues-still (strand.Conn c) (all_offered ms) h.offer_queue (all_placed b ms) [] (offers (b.acts (Did Dropped ∷ projection (strand.Conn c) ms))) refl (ap offers none) a.common.offered))
+        (without-next b c Dropped ms h.run_queue f.next_runs refl f.same_runs ∙ ap (without_all (strand.Conn c)) a.common.runs ∙ sym (ap (λ taken. lined (strand.Conn c) taken (without_all (strand.Conn c) (runs_of b ms))) none))
+        (without-next b c Dropped ms h.offer_queue f.next_offers refl f.same_offers ∙ ap (without_all (strand.Conn c)) a.common.offered ∙ sym (ap (λ taken. placed (strand.Conn c) taken (without_all (strand.Conn c) (offers_of b ms))) none)))
+
+    -- nothing is armed after it
+    dropped-armed : (o : Bool) (h : Held S) (book : Book) (ms : List (GlobalAction J)) → Falls b st c o h book ms → agenda b (Of (strand.Conn c) Dropped None ∷ ms) ≡ []
+    dropped-armed o h book ms f = ap (λ taken. armed_with (strand.Conn c) taken (without_those (is_of (strand.Conn c)) (agenda b ms))) (quiet (Did Dropped) (projection (strand.Conn c) ms) refl) ∙ f.agenda
 
     -- its connection was closed before
     pub fallen-shut : (h : Held S) (book book1 book2 : Book) (back : Option Entry) (ms : List (GlobalAction J)) → Falls b st c false h book ms
@@ -222,7 +206,7 @@ module _ {J S : Type 0} (b : Behavior J) (st : S → List (LocalAction J) → Ty
         → Standing b st h book2 (Of (strand.Conn c) Dropped None ∷ ms)
     fallen-shut h book book1 book2 back ms f noted forgot =
         let a : Around b st c false false h h.run_queue h.offer_queue book1 (Of (strand.Conn c) Dropped None ∷ ms) = dropped false h book book1 back ms f noted in
-        around-dead h book2 (Of (strand.Conn c) Dropped None ∷ ms) (around-forgets h book1 book2 (Of (strand.Conn c) Dropped None ∷ ms) a forgot) (forgot-ended c forgot) (λ run on. clash on (f.last ∙ run)) (λ offer off. clash (f.last ∙ offer) off)
+        around-dead h book2 (Of (strand.Conn c) Dropped None ∷ ms) (around-forgets h book1 book2 (Of (strand.Conn c) Dropped None ∷ ms) a forgot) (dropped-armed false h book ms f) (forgot-ended c forgot) (λ run on. clash on (f.last ∙ run)) (λ offer off. clash (f.last ∙ offer) off)
 
     -- its connection is closed after it
     pub fallen-open : (h h' : Held S) (book book1 book2 book3 : Book) (back : Option Entry) (ms : List (GlobalAction J)) → Falls b st c true h book ms
@@ -239,22 +223,24 @@ module _ {J S : Type 0} (b : Behavior J) (st : S → List (LocalAction J) → Ty
         let shut : Around b st c false false g g.run_queue g.offer_queue book2 (Of (strand.Conn c) (Close place.Client) None ∷ fell) =
         (around-next b st c fell (Close place.Client) false false true false h g h.run_queue h.run_queue h.offer_queue h.offer_queue book1 book2 a
         (record { seats = λ t ne. refl; run_queue = λ t ne. refl; offer_queue = λ t ne. refl; in_offers = refl; now = refl; ends = λ t ne. refl }) same a.out a.alive (hung-closed c hung) refl a.no_socket
-        (hung.strand_aside (strand.Conn c) ∙ a.own_aside)
+        (hung.strand_aside (strand.Conn c) ∙ a.own_aside) a.stops
         (common-next b st c fell (Close place.Client) h.run_queue h.run_queue h.offer_queue h.offer_queue h.now h.connections (h.connections - 1) book1 book2 a.common
         (record {
           enabled = inr (ap was_dropped (projection-same c Dropped None ms), client-first (projection (strand.Conn c) fell) a.client a.no_socket);
-          begins = a.common.begins;
+          begins = (a.common.begins, tt);
           given = (a.common.given, λ e. absurd (let x : false ≡ true = e in cc));
           kept = (a.common.kept, λ e. absurd (let x : false ≡ true = e in cc));
-          plain = a.common.plain;
-          turns = a.common.turns;
+          plain = (a.common.plain, refl);
+          ordered = (a.common.ordered, tt);
+          served = refl;
           counts = ap (λ n. n - 1) a.common.count;
         }) (rw (arrivals, noted.numbers.arrivals) (has-arrived f.around)) (omega (arith, arrivals)) (λ n. same.sockets n ∙ a.common.no_socket n) (same.asides a.common.asides)
         (tells-more book1.history book2.history (entry.Close (id.Conn c) ∷ []) (external b fell) a.common.told hung.history)
         (tells-same book1.offered book2.offered (offered_lengths b fell) a.common.offers_told hung.offered)
-        (queues-still (strand.Conn c) (all_run fell) h.run_queue (all_readied b fell) [] (readied (b.acts (Did (Close place.Client) ∷ projection (strand.Conn c) fell))) refl (ap readied none) a.common.runs)
-        (queues-still (strand.Conn c) (all_offered fell) h.offer_queue (all_placed b fell) [] (offers (b.acts (Did (Close place.Client) ∷ projection (strand.Conn c) fell))) refl (ap offers none) a.common.offered))) in
-        rw held (around-dead g book3 (Of (strand.Conn c) (Close place.Client) None ∷ fell) (around-forgets g book2 book3 (Of (strand.Conn c) (Close place.Client) None ∷ fell) shut forgot) (forgot-ended c forgot)
+        (runs-still b c (Close place.Client) fell h.run_queue refl none refl a.common.runs)
+        (offers-still b c (Close place.Client) fell h.offer_queue refl none refl a.common.offered))) in
+        rw held (around-dead g book3 (Of (strand.Conn c) (Close place.Client) None ∷ fell) (around-forgets g book2 book3 (Of (strand.Conn c) (Close place.Client) None ∷ fell) shut forgot)
+        (ap (λ taken. armed_with (strand.Conn c) taken (agenda b fell)) none ∙ dropped-armed true h book ms f) (forgot-ended c forgot)
         (λ run on. clash on (f.last ∙ run)) (λ offer off. clash (f.last ∙ offer) off))
 
   -- a thread is put in the queue
@@ -275,13 +261,15 @@ module _ {J S : Type 0} (b : Behavior J) (st : S → List (LocalAction J) → Ty
         client = y.near.around.client;
         no_socket = y.near.around.no_socket;
         own_aside = y.near.around.own_aside;
-        common = rw append_assoc y.near.around.common;
+        stops = y.near.around.stops;
+        common = y.near.around.common;
       };
       to_do = y.near.to_do;
       last_act = y.near.last_act;
       threads = ap (λ l. lined_up acts l) (only-same (strand.Conn c) k h.run_queue) ∙ y.near.threads;
       offered = y.near.offered;
       deadlines = y.near.deadlines;
+      agenda = y.near.agenda;
       kind = y.near.kind;
       offer = y.near.offer;
       moment = y.near.moment;
@@ -312,13 +300,15 @@ module _ {J S : Type 0} (b : Behavior J) (st : S → List (LocalAction J) → Ty
         client = y.near.around.client;
         no_socket = y.near.around.no_socket;
         own_aside = y.near.around.own_aside;
-        common = rw append_assoc y.near.around.common;
+        stops = y.near.around.stops;
+        common = y.near.around.common;
       };
       to_do = y.near.to_do;
       last_act = y.near.last_act;
       threads = y.near.threads;
       offered = ap (λ l. l ++ offers acts) (only-same (strand.Conn c) q h.offer_queue) ∙ append_assoc (only (strand.Conn c) h.offer_queue) (q ∷ []) (offers acts) ∙ y.near.offered;
       deadlines = y.near.deadlines;
+      agenda = y.near.agenda;
       kind = y.near.kind;
       offer = y.near.offer;
       moment = y.near.moment;
@@ -364,28 +354,30 @@ module _ {J S : Type 0} (b : Behavior J) (st : S → List (LocalAction J) → Ty
       let arrivals : book'.arrivals ≡ book.arrivals = hung.numbers.arrivals in
       rw held (record {
         near = record {
-          around = around-next b st c ms z true true true false h g _ (h.run_queue ++ with_strand (strand.Conn c) (readied rest)) _ (h.offer_queue ++ with_strand (strand.Conn c) (offers rest)) book book' a
+          around = around-next b st c ms z true true true false h g _ (lined (strand.Conn c) rest h.run_queue) _ (placed (strand.Conn c) rest h.offer_queue) book book' a
               (record { seats = λ t ne. refl; run_queue = λ t ne. refl; offer_queue = λ t ne. refl; in_offers = refl; now = refl; ends = λ t ne. refl }) same a.out a.alive (hung-closed c hung) refl a.no_socket
-              (hung.strand_aside (strand.Conn c) ∙ a.own_aside)
-              (common-next b st c ms z _ (h.run_queue ++ with_strand (strand.Conn c) (readied rest)) _ (h.offer_queue ++ with_strand (strand.Conn c) (offers rest)) h.now h.connections (h.connections - 1) book book' a.common
+              (hung.strand_aside (strand.Conn c) ∙ a.own_aside) a.stops
+              (common-next b st c ms z _ (lined (strand.Conn c) rest h.run_queue) _ (placed (strand.Conn c) rest h.offer_queue) h.now h.connections (h.connections - 1) book book' a.common
               (record {
                 enabled = inl ((carried rest, y.near.to_do), a.client);
-                begins = a.common.begins;
+                begins = (a.common.begins, tt);
                 given = (a.common.given, λ e. absurd (let w : false ≡ true = e in cc));
                 kept = (a.common.kept, λ e. absurd (let w : false ≡ true = e in cc));
-                plain = a.common.plain;
-                turns = a.common.turns;
+                plain = (a.common.plain, refl);
+                ordered = (a.common.ordered, tt);
+                served = refl;
                 counts = ap (λ n. n - 1) a.common.count;
               }) (rw arrivals (has-arrived a)) (omega (arith, arrivals)) (λ n. same.sockets n ∙ a.common.no_socket n) (same.asides a.common.asides)
               (tells-more book.history book'.history (entry.Close (id.Conn c) ∷ []) (external b ms) a.common.told hung.history)
               (tells-same book.offered book'.offered (offered_lengths b ms) a.common.offers_told hung.offered)
-              (queues-still (strand.Conn c) (all_run ms) _ (all_readied b ms) [] (readied (b.acts (Did z ∷ es))) refl (ap readied none) a.common.runs)
-              (queues-still (strand.Conn c) (all_offered ms) _ (all_placed b ms) [] (offers (b.acts (Did z ∷ es))) refl (ap offers none) a.common.offered));
+              (runs-still b c z ms _ refl none refl a.common.runs)
+              (offers-still b c z ms _ refl none refl a.common.offered));
           to_do = ap (todo b) own ∙ (rw (none, y.near.to_do) (append-nil (carried rest)));
           last_act = y.near.last_act;
           threads = sym (ap (waiting b) own ∙ (rw none (sym y.near.threads)));
           offered = sym (ap (to_offer b) own ∙ (rw none (append-nil (to_offer b es) ∙ sym y.near.offered)));
           deadlines = sym (ap (armed b) own ∙ (rw none (sym y.near.deadlines)));
+          agenda = y.near.agenda ∙ sym (ap (λ taken. armed_with (strand.Conn c) taken (agenda b ms)) none);
           kind = ap in_offers own ∙ y.near.kind;
           offer = subst (λ (fs : List (LocalAction J)). IsOffer go false (begun_offer fs)) (sym own) (offer-closed go true (begun_offer es) y.near.offer);
           moment = ap moment own ∙ y.near.moment;
@@ -412,28 +404,30 @@ module _ {J S : Type 0} (b : Behavior J) (st : S → List (LocalAction J) → Ty
       let own : projection (strand.Conn c) (Of (strand.Conn c) z None ∷ ms) ≡ Did z ∷ es = projection-same c z None ms in
       record {
         near = record {
-          around = around-next b st c ms z true true o o h h _ (h.run_queue ++ with_strand (strand.Conn c) (readied rest)) _ (h.offer_queue ++ with_strand (strand.Conn c) (offers rest)) book book' a
+          around = around-next b st c ms z true true o o h h _ (lined (strand.Conn c) rest h.run_queue) _ (placed (strand.Conn c) rest h.offer_queue) book book' a
               (held-same c h) (same-keeps c ids) a.out a.alive (ids.is_open (id.Conn c) ∙ a.connection) a.client a.no_socket
-              (ids.strand_aside (strand.Conn c) ∙ a.own_aside)
-              (common-next b st c ms z _ (h.run_queue ++ with_strand (strand.Conn c) (readied rest)) _ (h.offer_queue ++ with_strand (strand.Conn c) (offers rest)) h.now h.connections h.connections book book' a.common
+              (ids.strand_aside (strand.Conn c) ∙ a.own_aside) a.stops
+              (common-next b st c ms z _ (lined (strand.Conn c) rest h.run_queue) _ (placed (strand.Conn c) rest h.offer_queue) h.now h.connections h.connections book book' a.common
               (record {
                 enabled = (carried rest, y.near.to_do);
-                begins = a.common.begins;
+                begins = (a.common.begins, tt);
                 given = (a.common.given, λ e. absurd (let w : false ≡ true = e in cc));
                 kept = (a.common.kept, λ e. absurd (let w : false ≡ true = e in cc));
-                plain = a.common.plain;
-                turns = a.common.turns;
+                plain = (a.common.plain, refl);
+                ordered = (a.common.ordered, tt);
+                served = refl;
                 counts = a.common.count;
               }) (rw ids.arrivals (has-arrived a)) (omega (arith, ids.arrivals)) (λ n. ids.is_open (id.Sock n) ∙ a.common.no_socket n) ((same-keeps c ids).asides a.common.asides)
               (tells-more book.history book'.history (entry.Log (strand.Conn c) line (done_of r) ∷ []) (external b ms) a.common.told (logs.history ∙ ap (λ e. told e book.history) (log_entry-done (strand.Conn c) line r ok)))
               (tells-same book.offered book'.offered (offered_lengths b ms) a.common.offers_told logs.offered)
-              (queues-still (strand.Conn c) (all_run ms) _ (all_readied b ms) [] (readied (b.acts (Did z ∷ es))) refl (ap readied none) a.common.runs)
-              (queues-still (strand.Conn c) (all_offered ms) _ (all_placed b ms) [] (offers (b.acts (Did z ∷ es))) refl (ap offers none) a.common.offered));
+              (runs-still b c z ms _ refl none refl a.common.runs)
+              (offers-still b c z ms _ refl none refl a.common.offered));
           to_do = ap (todo b) own ∙ (rw (none, y.near.to_do) (append-nil (carried rest)));
           last_act = y.near.last_act;
           threads = sym (ap (waiting b) own ∙ (rw none (sym y.near.threads)));
           offered = sym (ap (to_offer b) own ∙ (rw none (append-nil (to_offer b es) ∙ sym y.near.offered)));
           deadlines = sym (ap (armed b) own ∙ (rw none (sym y.near.deadlines)));
+          agenda = y.near.agenda ∙ sym (ap (λ taken. armed_with (strand.Conn c) taken (agenda b ms)) none);
           kind = ap in_offers own ∙ y.near.kind;
           offer = subst (λ (fs : List (LocalAction J)). IsOffer go o (begun_offer fs)) (sym own) y.near.offer;
           moment = ap moment own ∙ y.near.moment;
@@ -455,23 +449,26 @@ module _ {J S : Type 0} (b : Behavior J) (st : S → List (LocalAction J) → Ty
       let arrivals : book'.arrivals ≡ book.arrivals = forgot.numbers.arrivals in
       let es : List (LocalAction J) = projection (strand.Conn c) ms in
       let none : b.acts (Did Gone ∷ es) ≡ [] = quiet (Did Gone) es refl in
-      let a = around-queues b st c true false h _ h.run_queue _ h.offer_queue book ms y.near.around (sub-front h.run_queue _) (sub-front h.offer_queue _) in
+      let a = y.near.around in
+      let f = near-falls b st c (act.Gone ∷ rest) go false h book ms y.near in
       around-dead b st c h book' (Of (strand.Conn c) Gone None ∷ ms)
-      (around-next b st c ms Gone true false false false h h h.run_queue h.run_queue h.offer_queue h.offer_queue book book' a (held-same c h) same a.out refl (forgot.is_open (id.Conn c) ∙ a.connection) a.client a.no_socket
-      (forgot-aside c forgot)
-      (common-next b st c ms Gone h.run_queue h.run_queue h.offer_queue h.offer_queue h.now h.connections h.connections book book' a.common
+      (around-next b st c ms Gone true false false false h h f.next_runs h.run_queue f.next_offers h.offer_queue book book' a (held-same c h) same a.out refl (forgot.is_open (id.Conn c) ∙ a.connection) a.client a.no_socket
+      (forgot-aside c forgot) a.stops
+      (common-next b st c ms Gone f.next_runs h.run_queue f.next_offers h.offer_queue h.now h.connections h.connections book book' a.common
       (record {
         enabled = y.near.to_do ∙ ap (λ l. act.Gone ∷ carried l) y.near.last_act;
-        begins = a.common.begins;
+        begins = (a.common.begins, tt);
         given = (a.common.given, λ e. absurd (let w : false ≡ true = e in cc));
         kept = (a.common.kept, λ e. absurd (let w : false ≡ true = e in cc));
-        plain = a.common.plain;
-        turns = a.common.turns;
+        plain = (a.common.plain, refl);
+        ordered = (a.common.ordered, tt);
+        served = refl;
         counts = a.common.count;
       }) (rw arrivals (has-arrived a)) (omega (arith, arrivals)) (λ n. same.sockets n ∙ a.common.no_socket n) (same.asides a.common.asides)
       (tells-same book.history book'.history (external b ms) a.common.told forgot.entered.history) (tells-same book.offered book'.offered (offered_lengths b ms) a.common.offers_told forgot.entered.offered)
-      (queues-still (strand.Conn c) (all_run ms) h.run_queue (all_readied b ms) [] (readied (b.acts (Did Gone ∷ es))) refl (ap readied none) a.common.runs)
-      (queues-still (strand.Conn c) (all_offered ms) h.offer_queue (all_placed b ms) [] (offers (b.acts (Did Gone ∷ es))) refl (ap offers none) a.common.offered)))
+      (without-next b c Gone ms h.run_queue f.next_runs refl f.same_runs ∙ ap (without_all (strand.Conn c)) a.common.runs ∙ sym (ap (λ taken. lined (strand.Conn c) taken (without_all (strand.Conn c) (runs_of b ms))) none))
+      (without-next b c Gone ms h.offer_queue f.next_offers refl f.same_offers ∙ ap (without_all (strand.Conn c)) a.common.offered ∙ sym (ap (λ taken. placed (strand.Conn c) taken (without_all (strand.Conn c) (offers_of b ms))) none))))
+      (ap (λ taken. armed_with (strand.Conn c) taken (without_those (is_of (strand.Conn c)) (agenda b ms))) none ∙ f.agenda)
       (forgot-ended c forgot)
       (λ run on. clash on (y.near.last ∙ run)) (λ offer off. clash (y.near.last ∙ offer) off)
 
@@ -513,13 +510,19 @@ module _ {J S : Type 0} (b : Behavior J) (st : S → List (LocalAction J) → Ty
     client = a.client;
     no_socket = a.no_socket;
     own_aside = ids.strand_aside (strand.Conn c) ∙ a.own_aside;
+    stops = a.stops;
     common = common-kept b threads offer_queue h.now h.connections book book' ms a.common entered (λ n. ids.is_open (id.Sock n)) ((same-keeps c ids).asides) ids.arrivals;
   }
 
   pub falls-kept : (o : Bool) (h : Held S) (book book' : Book) (ms : List (GlobalAction J))
       → Falls b st c o h book ms → KeepsIds book book' → KeepsTold book book' → Falls b st c o h book' ms
   falls-kept o h book book' ms f ids entered = record {
-    around = around-kept true o h h.run_queue h.offer_queue book book' ms f.around ids entered;
+    next_runs = f.next_runs;
+    next_offers = f.next_offers;
+    around = around-kept true o h f.next_runs f.next_offers book book' ms f.around ids entered;
+    same_runs = f.same_runs;
+    same_offers = f.same_offers;
+    agenda = f.agenda;
     last = f.last;
     touched = f.touched;
   }

@@ -1,6 +1,6 @@
 -- Connections that arrive: a strand begins, or the connection is turned away.
 use Rattle.engine.specs.declared.engine.Ending.TheVariants as stop
-use Rattle.std.proofs.Common.{◌≡◌, ℕ, ◌+◌, ◌<◌, ◌≤◌, true, false, ◌==◌, List, [], ◌∷◌, ◌++◌, Option, None, if◌then◌else◌, refl, sym, ap, subst, ◌∙◌, append-nil, arith}
+use Rattle.std.proofs.Common.{◌≡◌, ℕ, ◌+◌, ◌<◌, ◌≤◌, true, false, ◌==◌, List, [], ◌∷◌, Option, None, if◌then◌else◌, refl, sym, ap, subst, ◌∙◌, arith}
 use Rattle.std.proofs.lemmas.Bool.{eqb-true}
 use Rattle.resty_base.specs.declared.names.Id.TheVariants as id
 use Rattle.resty_base.specs.declared.names.StrandId.TheVariants as strand
@@ -13,18 +13,21 @@ use Rattle.resty_world.specs.Given.{Gave}
 use Rattle.strand_contract.specs.declared.turns.Place.TheVariants as place
 use Rattle.strand_contract.specs.declared.turns.Start.TheVariants as start
 use Rattle.strand_contract.specs.declared.turns.Act.{Act}
-use Rattle.strand_contract.specs.Actions.{Action, LocalAction, Did, GlobalAction, Of, TurnedAway, Began}
+use Rattle.strand_contract.specs.Actions.{Action, LocalAction, Did, Began}
 use Rattle.strand_contract.specs.Behaviors.{Behavior}
-use Rattle.strand_contract.specs.Alone.{lives, is_open, has_ended, offers, is_stopping, IsExecution, HasNoWork, KeepsNothingBack}
-use Rattle.strand_contract.specs.Executions.{projection, external, offered_lengths, arrived}
+use Rattle.strand_contract.specs.Alone.{lives, is_open, has_ended, is_stopping, IsExecution, HasNoWork, KeepsNothingBack}
+use Rattle.executions.specs.Executions.{GlobalAction, Of, TurnedAway, projection, present}
+use Rattle.executions.specs.Counts.{arrived}
+use Rattle.executions.specs.Queues.{lined, placed}
+use Rattle.executions.specs.Agenda.{without_those, is_of, agenda}
+use Rattle.executions.specs.Histories.{external, offered_lengths}
 use Rattle.strand_contract.specs.Laws.{IsLastAct}
-use Rattle.strand_contract.specs.Order.{with_strand, readied, all_run, all_readied, all_offered, all_placed}
-use Rattle.engine.specs.Standing.{Held, is_to_end, Around, Near, Busy, Falls, Standing}
-use Rattle.engine.proofs.Lists.{by_test, same-true, tells-more, tells-same}
+use Rattle.engine.specs.Standing.{Held, is_to_end, without_dead, Around, Near, Busy, Falls, Standing}
+use Rattle.engine.proofs.Lists.{never-stops, by_test, same-true, tells-more, tells-same}
 use Rattle.engine.proofs.Marks.{projection-same, touches, fit-same, SameBook, same-arrived, same-turned, same-hung, same-forgot, forgot-aside, forgot-ended, same-joins, hung-closed, common-next, around-next, near-begins}
-use Rattle.engine.proofs.Acts.{around-queues, aside-all}
-use Rattle.engine.proofs.Lists.{sub-front}
-use Rattle.engine.proofs.Turns.{turn-queues}
+use Rattle.engine.proofs.Acts.{aside-all}
+use Rattle.engine.proofs.Waiting.{lined-own, placed-own, armed-own, runs-next, offers-next}
+use Rattle.engine.proofs.Turns.{no-thread, no-place}
 use Rattle.engine.proofs.Events.{at-rest, none-holds}
 
 module _ {J S : Type 0} (b : Behavior J) (st : S → List (LocalAction J) → Type 0) (ms : List (GlobalAction J)) (h : Held S) (book : Book) (g : Standing b st h book ms) (run_queue : h.run_queue ≡ []) (offer_queue : h.offer_queue ≡ []) (running : h.in_offers ≡ false) (ending : h.ending ≡ stop.Over)
@@ -51,42 +54,49 @@ module _ {J S : Type 0} (b : Behavior J) (st : S → List (LocalAction J) → Ty
     client = ap (is_open place.Client) unseen;
     no_socket = λ k. ap (is_open (place.Sock k)) unseen;
     own_aside = g.aside (strand.Conn c) ∙ ap lives unseen;
+    stops = g.stops;
     common = g.common;
   }
 
   module _ (book' : Book) (gave : Gave book book' (event.Arrive c)) (h' : Held S) (room : h.connections < b.connections) (held : h' ≡ record h { connections = h.connections + 1 }) where
-    around-begun : Around b st c true true h' (h'.run_queue ++ with_strand (strand.Conn c) (readied (b.acts (Did (Began h.now (start.Client c)) ∷ projection (strand.Conn c) ms)))) (h'.offer_queue ++ with_strand (strand.Conn c) (offers (b.acts (Did (Began h.now (start.Client c)) ∷ projection (strand.Conn c) ms)))) book' (Of (strand.Conn c) (Began h.now (start.Client c)) None ∷ ms)
+    around-begun : Around b st c true true h' (lined (strand.Conn c) (b.acts (Did (Began h.now (start.Client c)) ∷ projection (strand.Conn c) ms)) h'.run_queue) (placed (strand.Conn c) (b.acts (Did (Began h.now (start.Client c)) ∷ projection (strand.Conn c) ms)) h'.offer_queue) book' (Of (strand.Conn c) (Began h.now (start.Client c)) None ∷ ms)
     around-begun =
         let z : Action J = Began h.now (start.Client c) in
         let es : List (LocalAction J) = projection (strand.Conn c) ms in
         let k : Held S = record h { connections = h.connections + 1 } in
         let same : SameBook c book book' = same-arrived c gave in
-        rw held (around-next b st c ms z false true false true h k h.run_queue (h.run_queue ++ with_strand (strand.Conn c) (readied (b.acts (Did z ∷ es)))) h.offer_queue (h.offer_queue ++ with_strand (strand.Conn c) (offers (b.acts (Did z ∷ es)))) book book' around-unseen
+        rw held (around-next b st c ms z false true false true h k h.run_queue (lined (strand.Conn c) (b.acts (Did z ∷ es)) h.run_queue) h.offer_queue (placed (strand.Conn c) (b.acts (Did z ∷ es)) h.offer_queue) book book' around-unseen
         (record { seats = λ t ne. refl; run_queue = λ t ne. refl; offer_queue = λ t ne. refl; in_offers = refl; now = refl; ends = λ t ne. refl })
         same
         around-unseen.out refl
         (gave.is_open (id.Conn c) ∙ ap (λ v. if v then true else book.is_open (id.Conn c)) (same-true c)) refl (λ k. refl)
-        (gave.strand_aside (strand.Conn c) ∙ ap (λ v. if v then true else book.strand_aside (strand.Conn c)) (same-true c))
-        (common-next b st c ms z h.run_queue (h.run_queue ++ with_strand (strand.Conn c) (readied (b.acts (Did z ∷ es)))) h.offer_queue (h.offer_queue ++ with_strand (strand.Conn c) (offers (b.acts (Did z ∷ es)))) h.now h.connections (h.connections + 1) book book' around-unseen.common
+        (gave.strand_aside (strand.Conn c) ∙ ap (λ v. if v then true else book.strand_aside (strand.Conn c)) (same-true c)) (never-stops ending)
+        (common-next b st c ms z h.run_queue (lined (strand.Conn c) (b.acts (Did z ∷ es)) h.run_queue) h.offer_queue (placed (strand.Conn c) (b.acts (Did z ∷ es)) h.offer_queue) h.now h.connections (h.connections + 1) book book' around-unseen.common
         (record {
           enabled = unseen;
-          begins = (g.common.begins, refl, sym g.common.present);
+          begins = (g.common.begins, (refl, sym g.common.present));
           given = (g.common.given, λ e. at-rest b st ms h book g run_queue offer_queue ending);
           kept = (g.common.kept, λ e. none-holds b st ms h book g run_queue offer_queue ending keeps);
-          plain = (g.common.plain, next, rw g.common.count room);
-          turns = g.common.turns;
+          plain = (g.common.plain, (refl, next, rw g.common.count room));
+          ordered = (g.common.ordered, tt);
+          served = refl;
           counts = ap (λ n. n + 1) g.common.count;
         })
         (omega (arith, new, gave.arrivals)) gave.arrivals (λ n. gave.is_open (id.Sock n) ∙ g.common.no_socket n) (same.asides g.common.asides)
         (tells-more book.history book'.history (entry.Given (event.Arrive c) ∷ []) (external b ms) g.common.told gave.history)
         (tells-same book.offered book'.offered (offered_lengths b ms) g.common.offers_told gave.offered)
-        (turn-queues b st c ms (strand.Conn c) (all_run ms) h.run_queue (all_readied b ms) [] (readied (b.acts (Did z ∷ es))) (rw append-nil g.common.runs))
-        (turn-queues b st c ms (strand.Conn c) (all_offered ms) h.offer_queue (all_placed b ms) [] (offers (b.acts (Did z ∷ es))) (rw append-nil g.common.offered))))
+        (runs-next b c z ms (b.acts (Did z ∷ es)) h.run_queue refl refl (ap (without_dead (Of (strand.Conn c) z None ∷ ms)) run_queue ∙ sym (no-thread b st ms h book g run_queue)))
+        (offers-next b c z ms (b.acts (Did z ∷ es)) h.offer_queue refl refl (ap (without_dead (Of (strand.Conn c) z None ∷ ms)) offer_queue ∙ sym (no-place b st ms h book g offer_queue)))))
 
     -- its beginning took no memory, or there was none
     pub falls-begun : Falls b st c true h' book' (Of (strand.Conn c) (Began h.now (start.Client c)) None ∷ ms)
     falls-begun = record {
-      around = around-queues b st c true true h' _ h'.run_queue _ h'.offer_queue book' (Of (strand.Conn c) (Began h.now (start.Client c)) None ∷ ms) around-begun (sub-front h'.run_queue _) (sub-front h'.offer_queue _);
+      next_runs = lined (strand.Conn c) (b.acts (Did (Began h.now (start.Client c)) ∷ projection (strand.Conn c) ms)) h'.run_queue;
+      next_offers = placed (strand.Conn c) (b.acts (Did (Began h.now (start.Client c)) ∷ projection (strand.Conn c) ms)) h'.offer_queue;
+      around = around-begun;
+      same_runs = lined-own (strand.Conn c) (b.acts (Did (Began h.now (start.Client c)) ∷ projection (strand.Conn c) ms)) h'.run_queue;
+      same_offers = placed-own (strand.Conn c) (b.acts (Did (Began h.now (start.Client c)) ∷ projection (strand.Conn c) ms)) h'.offer_queue;
+      agenda = armed-own (strand.Conn c) (b.acts (Did (Began h.now (start.Client c)) ∷ projection (strand.Conn c) ms)) (agenda b ms) ∙ ap (without_those (is_of (strand.Conn c))) g.agenda;
       last = rw held (sym running);
       touched = touches c (Began h.now (start.Client c)) None ms;
     }
@@ -104,6 +114,8 @@ module _ {J S : Type 0} (b : Behavior J) (st : S → List (LocalAction J) → Ty
                 threads = rw (unseen, held, run_queue) refl;
                 offered = rw (unseen, held, offer_queue) refl;
                 deadlines = rw unseen refl;
+                agenda = g.agenda;
+                arms_none = refl;
                 kind = rw held (sym running);
                 offer = λ e. absurd (let w : false ≡ true = e in cc);
                 moment = rw held refl;
@@ -137,15 +149,18 @@ module _ {J S : Type 0} (b : Behavior J) (st : S → List (LocalAction J) → Ty
             (λ ne. same.has_ended t ne ∙ g.forgotten t gone);
         flip_to_runs = λ run on. absurd (let w : false ≡ true = on in cc);
         flip_to_offers = λ offer off. run_queue;
+        stops = never-stops ending;
+        agenda = g.agenda;
         common = record {
           alone = g.common.alone;
-          begins = g.common.begins;
+          begins = (g.common.begins, tt);
           given = (g.common.given, λ e. at-rest b st ms h book g run_queue offer_queue ending);
           kept = (g.common.kept, λ e. none-holds b st ms h book g run_queue offer_queue ending keeps);
-          plain = (g.common.plain, next, rw g.common.count full);
-          runs = g.common.runs;
-          offered = g.common.offered;
-          turns = g.common.turns;
+          plain = (g.common.plain, (next, rw g.common.count full));
+          ordered = (g.common.ordered, tt);
+          served = (g.common.served, tt);
+          runs = ap (without_dead (TurnedAway c ∷ ms)) run_queue ∙ sym (no-thread b st ms h book g run_queue);
+          offered = ap (without_dead (TurnedAway c ∷ ms)) offer_queue ∙ sym (no-place b st ms h book g offer_queue);
           told = tells-same book3.history book4.history (entry.Close (id.Conn c) ∷ entry.Turned c ∷ entry.Given (event.Arrive c) ∷ external b ms)
               (tells-more book2.history book3.history (entry.Close (id.Conn c) ∷ []) (entry.Turned c ∷ entry.Given (event.Arrive c) ∷ external b ms)
               (tells-more book1.history book2.history (entry.Turned c ∷ []) (entry.Given (event.Arrive c) ∷ external b ms)

@@ -3,7 +3,6 @@ use Rattle.std.proofs.Common.{◌≡◌, true, false, refl, []}
 use Rattle.resty_base.specs.declared.names.Id.TheVariants as id
 use Rattle.resty_world.specs.Book.{Book}
 use Rattle.strand_contract.specs.Behaviors.{Behavior}
-use Rattle.strand_contract.specs.Order.{none}
 use Rattle.engine.specs.Right.{IsFresh, IsRight}
 
 pub fresh-right : {J : Type 0} (b : Behavior J) (book : Book) → IsFresh book → IsRight b book
@@ -15,11 +14,15 @@ fresh-right b book fresh = record {
     alone = λ s. tt;
     begins = tt;
     given = tt;
-    rests = λ s. record { idle = λ on. absurd (let e : false ≡ true = on in cc); closed = λ off. refl };
+    rests = record {
+      each = λ s. record { idle = λ on. absurd (let e : false ≡ true = on in cc); closed = λ off. refl };
+      waits = record { settled = tt; no_thread = refl; no_place = refl };
+    };
   };
   kept = (tt, λ s on. absurd (let e : false ≡ true = on in cc));
   plain = tt;
   aside = fresh.none_aside;
   forgotten = λ c off. fresh.none_ended (id.Conn c);
-  ordered = record { runs = none; offered = none; turns = tt };
+  ordered = tt;
+  served = tt;
 }

@@ -1,6 +1,6 @@
 -- What a world gives where all strands are at rest: what is known of them there, and the turns that it begins.
 use Rattle.engine.specs.declared.engine.Ending.TheVariants as stop
-use Rattle.std.proofs.Common.{◌≡◌, ℕ, Bool, true, false, ◌==◌, List, [], ◌∷◌, Some, None, if◌then◌else◌, refl, sym, ap, subst, ◌∙◌, append-nil, arith}
+use Rattle.std.proofs.Common.{◌≡◌, ℕ, Bool, true, false, ◌==◌, List, [], ◌∷◌, Some, None, if◌then◌else◌, refl, sym, ap, subst, ◌∙◌, arith}
 use Rattle.resty_base.specs.declared.names.Id.{Id}
 use Rattle.resty_base.specs.declared.names.Id.TheVariants as id
 use Rattle.resty_base.specs.declared.names.StrandId.{StrandId}
@@ -16,26 +16,31 @@ use Rattle.strand_contract.specs.declared.turns.Place.TheVariants as place
 use Rattle.strand_contract.specs.declared.turns.Start.TheVariants as start
 use Rattle.strand_contract.specs.declared.turns.Seen.{Seen}
 use Rattle.strand_contract.specs.declared.turns.Seen.TheVariants as seen
-use Rattle.strand_contract.specs.Actions.{LocalAction, Told, Did, GlobalAction, Of, Everyone, TurnedAway, IdleGave, IdleClosed, Began, Halted}
+use Rattle.strand_contract.specs.Actions.{LocalAction, Told, Did, Began, Halted}
 use Rattle.strand_contract.specs.Behaviors.{Behavior}
-use Rattle.strand_contract.specs.Alone.{lives, moment, is_open, open_places, has_ended, left_by, waiting, run_by, to_offer, offered_by, begun_offer, in_offers, is_stopping, winds_up_by, is_winding_up, IsExecution, HasNoWork, KeepsNothingBack, IsGivenAt}
-use Rattle.strand_contract.specs.Executions.{projection, external, offered_lengths, BeginsRight, AllQuiescent, NoneHoldsBack}
+use Rattle.strand_contract.specs.Alone.{lives, moment, is_open, open_places, has_ended, left_by, waiting, run_by, to_offer, offered_by, begun_offer, in_offers, is_stopping, winds_up_by, is_winding_up, IsQuiescent, IsExecution, HasNoWork, KeepsNothingBack, IsGivenAt}
+use Rattle.executions.specs.Executions.{GlobalAction, Of, Everyone, TurnedAway, IdleGave, IdleClosed, projection, present, Throughout}
+use Rattle.executions.specs.Counts.{arrived}
+use Rattle.executions.specs.Queues.{only, after_run, after_offer, run_queue as runs_of, offer_queue as offers_of}
+use Rattle.executions.specs.Agenda.{agenda, agenda_at}
+use Rattle.executions.specs.Histories.{external, offered_lengths}
+use Rattle.executions.specs.Ordered.{offers_last}
+use Rattle.executions.specs.Lawful.{AllAtRest, BeginsRight, NoneHoldsBack}
 use Rattle.strand_contract.specs.Calls.{action_of}
 use Rattle.strand_contract.specs.Laws.{IsLastAct}
 use Rattle.strand_contract.specs.OpenPlaceLaws.{none-open}
-use Rattle.strand_contract.specs.Order.{only, run_of, offer_of, offers_last}
 use Rattle.engine.specs.declared.engine.Seat.{Seat}
 use Rattle.engine.specs.Engine.{shown}
 use Rattle.engine.specs.Right.{Tells, IsFresh, IsRight}
-use Rattle.engine.specs.Standing.{Held, is_to_end, HasAsides, Turn, Standing}
-use Rattle.engine.proofs.Lists.{by_test, clash, same-true, tells-more, tells-same, sub-same}
+use Rattle.engine.specs.Standing.{Held, is_to_end, HasAsides, Turn, Standing, without_dead}
+use Rattle.engine.proofs.Lists.{never-stops, by_test, clash, same-true, tells-more, tells-same}
 use Rattle.engine.proofs.Marks.{gave-asides, MayCome}
-use Rattle.engine.proofs.Turns.{seat-lives, seat-fits, around-leave, turn-next, no-job}
+use Rattle.engine.proofs.Turns.{seat-lives, seat-fits, around-leave, turn-next, no-job, settled, no-thread, no-place}
 
 -- where nothing has happened, and no strand has a seat
 pub fresh-stands : {J S : Type 0} (b : Behavior J) (st : S → List (LocalAction J) → Type 0) (h : Held S) (book : Book) → IsFresh book → ((s : StrandId) → h.seats s ≡ None)
-    → h.run_queue ≡ [] → h.offer_queue ≡ [] → h.now ≡ 0 → h.connections ≡ 0 → Standing b st h book []
-fresh-stands b st h book fresh seats run_queue offer_queue now count = record {
+    → h.run_queue ≡ [] → h.offer_queue ≡ [] → h.now ≡ 0 → h.connections ≡ 0 → h.ending ≡ stop.Over → Standing b st h book []
+fresh-stands {J = J} b st h book fresh seats run_queue offer_queue now count ends = record {
   each = λ t live. absurd (let e : false ≡ true = live in cc);
   dead = λ t gone. seats (strand.Conn t);
   closed = λ t gone. fresh.none_open (id.Conn t);
@@ -44,15 +49,18 @@ fresh-stands b st h book fresh seats run_queue offer_queue now count = record {
   forgotten = λ t gone. fresh.none_ended (id.Conn t);
   flip_to_runs = λ run on. absurd (let e : false ≡ true = on in cc);
   flip_to_offers = λ offer off. run_queue;
+  stops = never-stops ends;
+  agenda = refl;
   common = record {
     alone = λ s. tt;
     begins = tt;
     given = tt;
     kept = tt;
     plain = tt;
-    runs = rw run_queue (sub-same []);
-    offered = rw offer_queue (sub-same []);
-    turns = tt;
+    ordered = tt;
+    served = tt;
+    runs = ap (without_dead {J = J} []) run_queue;
+    offered = ap (without_dead {J = J} []) offer_queue;
     told = fresh.history;
     offers_told = fresh.offered;
     unborn = λ t past. refl;
@@ -70,17 +78,17 @@ winds-by : {J : Type 0} (test : Bool) (a : LocalAction J) (es : List (LocalActio
 winds-by true a es before none = ap (winds_up_by a) before ∙ none
 winds-by false a es before none = before
 
-pub never-winds : {J : Type 0} (c : ℕ) (ms : List (GlobalAction J)) → BeginsRight ms → is_winding_up (projection (strand.Conn c) ms) ≡ false
-never-winds c [] right = refl
-never-winds c (Of (strand.Conn t) (Began now (start.Client d)) n ∷ ms) right = winds-by (c == t) _ (projection (strand.Conn c) ms) (never-winds c ms right.0) refl
-never-winds c (Of (strand.Conn t) (Began now (start.Job j premature job)) n ∷ ms) right = absurd right.1
-never-winds c (Of (strand.Job t) (Began now begin) n ∷ ms) right = absurd right.1
-never-winds c (Of s Halted n ∷ ms) right = winds-by (same_strand (strand.Conn c) s) (Did Halted) (projection (strand.Conn c) ms) (never-winds c ms right) refl
-never-winds c (Of s x n ∷ ms) right = winds-by (same_strand (strand.Conn c) s) (Did x) (projection (strand.Conn c) ms) (never-winds c ms right) refl
-never-winds c (Everyone w ∷ ms) right = winds-by (lives (projection (strand.Conn c) ms)) (Told w) (projection (strand.Conn c) ms) (never-winds c ms right) refl
-never-winds c (TurnedAway d ∷ ms) right = never-winds c ms right
-never-winds c (IdleGave e ∷ ms) right = never-winds c ms right
-never-winds c (IdleClosed n ∷ ms) right = never-winds c ms right
+pub never-winds : {J : Type 0} (b : Behavior J) (c : ℕ) (ms : List (GlobalAction J)) → Throughout (BeginsRight b) ms → is_winding_up (projection (strand.Conn c) ms) ≡ false
+never-winds b c [] right = refl
+never-winds b c (Of (strand.Conn t) (Began now (start.Client d)) n ∷ ms) right = winds-by (c == t) _ (projection (strand.Conn c) ms) (never-winds b c ms right.0) refl
+never-winds b c (Of (strand.Conn t) (Began now (start.Job j premature job)) n ∷ ms) right = absurd right.1.0
+never-winds b c (Of (strand.Job t) x n ∷ ms) right = never-winds b c ms right.0
+never-winds b c (Of s Halted n ∷ ms) right = winds-by (same_strand (strand.Conn c) s) (Did Halted) (projection (strand.Conn c) ms) (never-winds b c ms right.0) refl
+never-winds b c (Of s x n ∷ ms) right = winds-by (same_strand (strand.Conn c) s) (Did x) (projection (strand.Conn c) ms) (never-winds b c ms right.0) refl
+never-winds b c (Everyone w ∷ ms) right = winds-by (lives (projection (strand.Conn c) ms)) (Told w) (projection (strand.Conn c) ms) (never-winds b c ms right.0) refl
+never-winds b c (TurnedAway d ∷ ms) right = never-winds b c ms right.0
+never-winds b c (IdleGave e ∷ ms) right = never-winds b c ms right.0
+never-winds b c (IdleClosed n ∷ ms) right = never-winds b c ms right.0
 
 first-same : {A B : Type 0} (p q : A × B) → Some p ≡ Some q → p.0 ≡ q.0
 first-same p q e = cc
@@ -97,8 +105,8 @@ shown-open (event.Ready j) i given book book' gave is = subst (λ (k : Id). book
 shown-open e i given book book' gave is = absurd (let w : None ≡ Some (i, given) = is in cc)
 
 module _ {J S : Type 0} (b : Behavior J) (st : S → List (LocalAction J) → Type 0) (ms : List (GlobalAction J)) (h : Held S) (book : Book) (g : Standing b st h book ms) (run_queue : h.run_queue ≡ []) (offer_queue : h.offer_queue ≡ []) (ending : h.ending ≡ stop.Over) where
-  pub at-rest : AllQuiescent b ms
-  at-rest (strand.Conn t) = record {
+  quiescent : (s : StrandId) → IsQuiescent b (projection s ms)
+  quiescent (strand.Conn t) = record {
     idle = λ live. let f = g.each t live in record {
       no_act = f.no_act;
       no_thread = f.threads ∙ ap (only (strand.Conn t)) run_queue;
@@ -106,15 +114,21 @@ module _ {J S : Type 0} (b : Behavior J) (st : S → List (LocalAction J) → Ty
       no_offer = f.no_offer;
       no_deadline = λ waking. rw f.no_deadline refl;
       no_stop = f.stopping ∙ ap (λ o. is_to_end o t) ending;
-      no_end = never-winds t ms g.common.begins;
+      no_end = never-winds b t ms g.common.begins;
     };
     closed = λ off. none-open (projection (strand.Conn t) ms) (g.shut t off);
   }
-  at-rest (strand.Job n) = record { idle = λ live. absurd (no-job n ms (g.common.jobless n) live); closed = λ off. ap open_places (g.common.jobless n) }
+  quiescent (strand.Job n) = record { idle = λ live. absurd (no-job n ms (g.common.jobless n) live); closed = λ off. ap open_places (g.common.jobless n) }
+
+  pub at-rest : AllAtRest b ms
+  at-rest = record {
+    each = quiescent;
+    waits = record { settled = settled b st ms h book g ending; no_thread = no-thread b st ms h book g run_queue; no_place = no-place b st ms h book g offer_queue };
+  }
 
   module _ (keeps : (es : List (LocalAction J)) → IsExecution b es → lives es ≡ true → HasNoWork b es → KeepsNothingBack b es) where
     pub none-holds : NoneHoldsBack b ms
-    none-holds s live = keeps (projection s ms) (g.common.alone s) live ((at-rest s).idle live)
+    none-holds s live = keeps (projection s ms) (g.common.alone s) live ((at-rest.each s).idle live)
 
     -- what stands at rest is right
     pub rests-right : IsRight b book
@@ -127,11 +141,8 @@ module _ {J S : Type 0} (b : Behavior J) (st : S → List (LocalAction J) → Ty
       plain = g.common.plain;
       aside = g.aside;
       forgotten = g.forgotten;
-      ordered = record {
-        runs = rw (run_queue, append-nil) at g.common.runs;
-        offered = rw (offer_queue, append-nil) at g.common.offered;
-        turns = g.common.turns;
-      };
+      ordered = g.common.ordered;
+      served = g.common.served;
     }
 
     -- an id that is open is a connection's whose strand has a seat
@@ -149,8 +160,9 @@ module _ {J S : Type 0} (b : Behavior J) (st : S → List (LocalAction J) → Ty
           → lives (Did (action_of b (projection (strand.Conn c) ms) given) ∷ projection (strand.Conn c) ms) ≡ lives (projection (strand.Conn c) ms)
           → ((q : Place) → is_open q (Did (action_of b (projection (strand.Conn c) ms) given) ∷ projection (strand.Conn c) ms) ≡ is_open q (projection (strand.Conn c) ms))
           → left_by (Did (action_of b (projection (strand.Conn c) ms) given)) [] ≡ []
-          → run_of (action_of b (projection (strand.Conn c) ms) given) ≡ []
-          → offer_of (action_of b (projection (strand.Conn c) ms) given) ≡ []
+          → after_run (strand.Conn c) (action_of b (projection (strand.Conn c) ms) given) (runs_of b ms) ≡ runs_of b ms
+          → after_offer (strand.Conn c) (action_of b (projection (strand.Conn c) ms) given) (offers_of b ms) ≡ offers_of b ms
+          → agenda_at (strand.Conn c) (action_of b (projection (strand.Conn c) ms) given) None ms [] ≡ []
           → run_by (Did (action_of b (projection (strand.Conn c) ms) given)) (waiting b (projection (strand.Conn c) ms)) ≡ waiting b (projection (strand.Conn c) ms)
           → offered_by (Did (action_of b (projection (strand.Conn c) ms) given)) (to_offer b (projection (strand.Conn c) ms)) ≡ to_offer b (projection (strand.Conn c) ms)
           → in_offers (Did (action_of b (projection (strand.Conn c) ms) given) ∷ projection (strand.Conn c) ms) ≡ false
@@ -165,23 +177,25 @@ module _ {J S : Type 0} (b : Behavior J) (st : S → List (LocalAction J) → Ty
           → Tells book'.history (external b (Of (strand.Conn c) (action_of b (projection (strand.Conn c) ms) given) None ∷ ms))
           → Tells book'.offered (offered_lengths b (Of (strand.Conn c) (action_of b (projection (strand.Conn c) ms) given) None ∷ ms))
           → Turn b st c x.strand given false x.is_open h' book' ms
-      turn-event given may live opens no_use no_run no_offer threads list kind offer time stopping more last ids aside own_aside ended arrivals told offers_told =
+      turn-event given may live opens no_use no_run no_offer arms_none threads list kind offer time stopping more last ids aside own_aside ended arrivals told offers_told =
           let alive : lives (projection (strand.Conn c) ms) ≡ true = seat-lives b st c ms h book x g here in
           let mine = g.each c alive in
           let fits = seat-fits b st c ms h book x g here in
           let out : h'.seats (strand.Conn c) ≡ None = seats (strand.Conn c) ∙ ap (λ v. if v then None else h.seats (strand.Conn c)) (same-true c) in
-          let a = around-leave b st c ms h h' h.run_queue h.offer_queue book x g here seats (λ t ne. ap (only (strand.Conn t)) runs_same) (λ t ne. ap (only (strand.Conn t)) offers_same) phase now count (λ t ne living. ap (λ o. is_to_end o t) ends) g.common.runs g.common.offered in
+          let a = around-leave b st c ms h h' book x g here seats (λ t ne. ap (only (strand.Conn t)) runs_same) (λ t ne. ap (only (strand.Conn t)) offers_same) phase now count (λ t ne living. ap (λ o. is_to_end o t) ends) (never-stops (ends ∙ ending)) in
           turn-next b st c ms asks given x.strand false x.is_open x.is_open h' h' h.run_queue h.offer_queue book book' a fits.0 (mine.moment ∙ sym now)
           (record { seats = λ t ne. refl; run_queue = λ t ne. refl; offer_queue = λ t ne. refl; in_offers = refl; now = refl; ends = λ t ne. refl })
           (record { is_open = λ t ne. ids (id.Conn t); has_ended = ended; strand_aside = λ s ne. own_aside s; sockets = λ n. ids (id.Sock n); asides = aside }) out may
           (live ∙ alive) (ids (id.Conn c) ∙ sym fits.1) (opens place.Client ∙ mine.client ∙ sym fits.1) (λ k. opens (place.Sock k) ∙ mine.no_socket k) (own_aside (strand.Conn c) ∙ g.aside (strand.Conn c) ∙ alive) arrivals told offers_told
-          (rw (no_run, runs_same, append-nil) g.common.runs) (rw (no_offer, offers_same, append-nil) g.common.offered)
+          (ap (without_dead ms) runs_same ∙ g.common.runs ∙ sym no_run) (ap (without_dead ms) offers_same ∙ g.common.offered ∙ sym no_offer) (never-stops (ends ∙ ending))
           (record {
             done = mine.no_act;
             no_use = no_use;
             threads = threads ∙ mine.threads ∙ sym (ap (only (strand.Conn c)) runs_same);
             offered = list ∙ mine.offered ∙ sym (ap (only (strand.Conn c)) offers_same);
             deadlines = mine.no_deadline;
+            agenda = g.agenda;
+            arms_none = arms_none;
             kind = kind ∙ sym (phase ∙ running);
             offer = rw offer (λ e. absurd (let w : false ≡ true = e in cc));
             moment = time ∙ mine.moment ∙ sym now;
@@ -194,7 +208,7 @@ module _ {J S : Type 0} (b : Behavior J) (st : S → List (LocalAction J) → Ty
       given-at : book.is_open (id.Conn c) ≡ true → IsGivenAt b (projection (strand.Conn c) ms) place.Client
       given-at on =
           let alive : lives (projection (strand.Conn c) ms) ≡ true = seat-lives b st c ms h book x g here in
-          record { living = alive; idle = (at-rest (strand.Conn c)).idle alive; opened = (g.each c alive).client ∙ on }
+          record { living = alive; idle = (at-rest.each (strand.Conn c)).idle alive; opened = (g.each c alive).client ∙ on }
 
       turn-came : (bytes : List ℕ) → Gave book book' (event.Bytes (id.Conn c) bytes) → Turn b st c x.strand (seen.Bytes place.Client bytes) false x.is_open h' book' ms
       turn-came bytes gave =
@@ -203,13 +217,14 @@ module _ {J S : Type 0} (b : Behavior J) (st : S → List (LocalAction J) → Ty
           turn-event (seen.Bytes place.Client bytes)
           (record {
             enabled = (given-at gave.fit.0, mine.no_more ∙ gave.fit.1, gave.fit.2);
-            begins = g.common.begins;
+            begins = (g.common.begins, tt);
             given = (g.common.given, λ e. at-rest);
             kept = (g.common.kept, λ e. none-holds);
-            plain = g.common.plain;
-            turns = g.common.turns;
+            plain = (g.common.plain, refl);
+            ordered = (g.common.ordered, tt);
+            served = refl;
             counts = g.common.count ∙ sym count;
-          }) refl (λ q. refl) refl refl refl refl refl refl refl refl refl
+          }) refl (λ q. refl) refl refl refl refl refl refl refl refl refl refl
           (mine.no_more ∙ sym (gave.has_ended (id.Conn c))) refl gave.is_open (gave-asides (event.Bytes (id.Conn c) bytes) gave) gave.strand_aside (λ t ne. gave.has_ended (id.Conn t)) (omega (arith, gave.arrivals))
           (tells-more book.history book'.history (entry.Given (event.Bytes (id.Conn c) bytes) ∷ []) (external b ms) g.common.told gave.history)
           (tells-same book.offered book'.offered (offered_lengths b ms) g.common.offers_told gave.offered)
@@ -219,13 +234,14 @@ module _ {J S : Type 0} (b : Behavior J) (st : S → List (LocalAction J) → Ty
           turn-event (seen.Ended place.Client)
           (record {
             enabled = given-at gave.fit;
-            begins = g.common.begins;
+            begins = (g.common.begins, tt);
             given = (g.common.given, λ e. at-rest);
             kept = (g.common.kept, λ e. none-holds);
-            plain = g.common.plain;
-            turns = g.common.turns;
+            plain = (g.common.plain, refl);
+            ordered = (g.common.ordered, tt);
+            served = refl;
             counts = g.common.count ∙ sym count;
-          }) refl (λ q. refl) refl refl refl refl refl refl refl refl refl
+          }) refl (λ q. refl) refl refl refl refl refl refl refl refl refl refl
           (sym (gave.has_ended (id.Conn c) ∙ ap (λ v. if v then true else book.has_ended (id.Conn c)) (same-true c))) refl gave.is_open (gave-asides (event.Ended (id.Conn c)) gave) gave.strand_aside
           (λ t ne. gave.has_ended (id.Conn t) ∙ ap (λ v. if v then true else book.has_ended (id.Conn t)) ne) (omega (arith, gave.arrivals))
           (tells-more book.history book'.history (entry.Given (event.Ended (id.Conn c)) ∷ []) (external b ms) g.common.told gave.history)
@@ -236,13 +252,14 @@ module _ {J S : Type 0} (b : Behavior J) (st : S → List (LocalAction J) → Ty
           turn-event (seen.Broken place.Client)
           (record {
             enabled = given-at gave.fit;
-            begins = g.common.begins;
+            begins = (g.common.begins, tt);
             given = (g.common.given, λ e. at-rest);
             kept = (g.common.kept, λ e. none-holds);
-            plain = g.common.plain;
-            turns = g.common.turns;
+            plain = (g.common.plain, refl);
+            ordered = (g.common.ordered, tt);
+            served = refl;
             counts = g.common.count ∙ sym count;
-          }) refl (λ q. refl) refl refl refl refl refl refl refl refl refl
+          }) refl (λ q. refl) refl refl refl refl refl refl refl refl refl refl
           (sym (gave.has_ended (id.Conn c) ∙ ap (λ v. if v then true else book.has_ended (id.Conn c)) (same-true c))) refl gave.is_open (gave-asides (event.Broken (id.Conn c)) gave) gave.strand_aside
           (λ t ne. gave.has_ended (id.Conn t) ∙ ap (λ v. if v then true else book.has_ended (id.Conn t)) ne) (omega (arith, gave.arrivals))
           (tells-more book.history book'.history (entry.Given (event.Broken (id.Conn c)) ∷ []) (external b ms) g.common.told gave.history)
@@ -254,13 +271,14 @@ module _ {J S : Type 0} (b : Behavior J) (st : S → List (LocalAction J) → Ty
           turn-event (seen.Ready place.Client)
           (record {
             enabled = given-at gave.fit;
-            begins = g.common.begins;
+            begins = (g.common.begins, tt);
             given = (g.common.given, λ e. at-rest);
             kept = (g.common.kept, λ e. none-holds);
-            plain = g.common.plain;
-            turns = g.common.turns;
+            plain = (g.common.plain, refl);
+            ordered = (g.common.ordered, tt);
+            served = refl;
             counts = g.common.count ∙ sym count;
-          }) refl (λ q. refl) refl refl refl refl refl refl refl refl refl
+          }) refl (λ q. refl) refl refl refl refl refl refl refl refl refl refl
           ((g.each c alive).no_more ∙ sym (gave.has_ended (id.Conn c))) refl gave.is_open (gave-asides (event.Ready (id.Conn c)) gave) gave.strand_aside (λ t ne. gave.has_ended (id.Conn t)) (omega (arith, gave.arrivals))
           (tells-more book.history book'.history (entry.Given (event.Ready (id.Conn c)) ∷ []) (external b ms) g.common.told gave.history)
           (tells-same book.offered book'.offered (offered_lengths b ms) g.common.offers_told gave.offered)

@@ -11,3 +11,5 @@ pub mod Totals
 pub mod Turns
 pub mod Words
 pub mod Writes
+pub mod Served
+pub mod Waiting

@@ -1,11 +1,13 @@
--- Tests of names, and offers_same with some left out.
+-- Tests of names, and what one strand has in a line.
 use Rattle.std.proofs.Common.{◌≡◌, ℕ, Bool, true, false, ◌==◌, List, [], ◌∷◌, ◌++◌, Option, Some, None, if◌then◌else◌, refl, ap, sym, ◌∙◌, append-nil}
 use Rattle.std.proofs.lemmas.Bool.{eq-eqb}
 use Rattle.resty_base.specs.declared.names.StrandId.{StrandId}
 use Rattle.resty_base.specs.declared.names.StrandId.TheVariants as strand
 use Rattle.resty_world.specs.Ids.{same_strand}
 use Rattle.resty_world.specs.Book.{told}
-use Rattle.strand_contract.specs.Order.{IsSubsequence, none, keep, skip, only}
+use Rattle.executions.specs.Queues.{only}
+use Rattle.engine.specs.declared.engine.Ending.{Ending}
+use Rattle.engine.specs.declared.engine.Ending.TheVariants as stop
 use Rattle.engine.specs.Right.{Tells}
 
 -- both outcomes of a test
@@ -16,41 +18,16 @@ by_test false on off = off refl
 pub clash : {C : Type 0} {b : Bool} → b ≡ true → b ≡ false → C
 clash on off = absurd (let e : true ≡ false = sym on ∙ off in cc)
 
+-- what Stop has ended isn't ended by it again
+pub never-stops : {C : Type 0} {o : Ending} → o ≡ stop.Over → (last : Option ℕ) → o ≡ stop.After last → C
+never-stops over last after = absurd (let e : stop.Over ≡ stop.After last = sym over ∙ after in cc)
+
 pub same-true : (c : ℕ) → (c == c) ≡ true
 same-true c = eq-eqb c c refl
 
 pub strand-true : (s : StrandId) → same_strand s s ≡ true
 strand-true (strand.Conn c) = same-true c
 strand-true (strand.Job n) = same-true n
-
-pub sub-same : {A : Type 0} (xs : List A) → IsSubsequence xs xs
-sub-same [] = none
-sub-same (x ∷ xs) = keep (sub-same xs)
-
-pub sub-more : {A : Type 0} {xs ys : List A} → IsSubsequence xs ys → (us : List A) → IsSubsequence (xs ++ us) (ys ++ us)
-sub-more none us = sub-same us
-sub-more (keep r) us = keep (sub-more r us)
-sub-more (skip r) us = skip (sub-more r us)
-
-pub sub-through : {A : Type 0} {xs ys zs : List A} → IsSubsequence xs ys → IsSubsequence ys zs → IsSubsequence xs zs
-sub-through r none = r
-sub-through (keep r) (keep q) = keep (sub-through r q)
-sub-through (skip r) (keep q) = skip (sub-through r q)
-sub-through r (skip q) = skip (sub-through r q)
-
--- one in the middle is left out
-pub sub-without : {A : Type 0} (xs : List A) (x : A) (ys : List A) → IsSubsequence (xs ++ ys) (xs ++ x ∷ ys)
-sub-without [] x ys = skip (sub-same ys)
-sub-without (y ∷ xs) x ys = keep (sub-without xs x ys)
-
-pub sub-nothing : {A : Type 0} (ys : List A) → IsSubsequence [] ys
-sub-nothing [] = none
-sub-nothing (y ∷ ys) = skip (sub-nothing ys)
-
--- the end is left out
-pub sub-front : {A : Type 0} (xs ys : List A) → IsSubsequence xs (xs ++ ys)
-sub-front [] ys = sub-nothing ys
-sub-front (x ∷ xs) ys = keep (sub-front xs ys)
 
 module _ {A : Type 0} where
   pub only-append : (s : StrandId) (es fs : List (StrandId × A)) → only s (es ++ fs) ≡ only s es ++ only s fs

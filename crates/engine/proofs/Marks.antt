@@ -16,18 +16,26 @@ use Rattle.resty_world.specs.Given.{Gave, arrives}
 use Rattle.resty_world.specs.Ids.{same_id, same_strand, is_own}
 use Rattle.strand_contract.specs.declared.turns.Place.{Place}
 use Rattle.strand_contract.specs.declared.turns.Place.TheVariants as place
-use Rattle.strand_contract.specs.Actions.{Action, LocalAction, Did, GlobalAction, Of, Due, is_given}
+use Rattle.strand_contract.specs.Actions.{Action, LocalAction, Did, Due, is_given}
 use Rattle.strand_contract.specs.Behaviors.{Behavior}
 use Rattle.strand_contract.specs.Alone.{lives, moment, is_open, has_ended, todo, left_by, waiting, lined_up, run_by, to_offer, offers, offered_by, armed, armed_by, taken_by, begun_offer, in_offers, is_stopping, Enabled, IsExecution}
-use Rattle.strand_contract.specs.Executions.{projection, external, offered_lengths, arrived_by, open_connections, BeginsRight, IsGivenAtRest, HeldNothingBack, IsPlain}
+use Rattle.executions.specs.Executions.{GlobalAction, Of, projection, present, Throughout}
+use Rattle.executions.specs.Phases.{Stopping, phase as phase_of}
+use Rattle.executions.specs.Counts.{arrived, arrived_by, open_connections}
+use Rattle.executions.specs.Queues.{only, lined, placed, run_queue as runs_of, offer_queue as offers_of}
+use Rattle.executions.specs.Agenda.{armed_with, agenda, agenda_at}
+use Rattle.executions.specs.Histories.{external, offered_lengths}
+use Rattle.executions.specs.Plain.{IsPlain}
+use Rattle.executions.specs.Ordered.{offers_last, was_touched, IsOrdered}
+use Rattle.executions.specs.Lawful.{IsGivenAtRest, BeginsRight, HeldNothingBack}
 use Rattle.strand_contract.specs.declared.turns.Seen.{Seen}
 use Rattle.strand_contract.specs.declared.turns.Seen.TheVariants as seen
 use Rattle.strand_contract.specs.Calls.{action_of}
 use Rattle.strand_contract.specs.Laws.{IsLastAct}
-use Rattle.strand_contract.specs.Order.{IsSubsequence, with_strand, only, readied, all_readied, all_run, all_placed, all_offered, offers_last, was_touched, TurnsInOrder}
 use Rattle.engine.specs.declared.engine.Seat.{Seat}
-use Rattle.engine.specs.Right.{Tells}
-use Rattle.engine.specs.Standing.{Held, is_to_end, Fit, HasAsides, Common, Around, Near, IsOffer}
+use Rattle.engine.specs.Right.{Tells, is_served}
+use Rattle.engine.specs.declared.engine.Ending.TheVariants as stop
+use Rattle.engine.specs.Standing.{Held, is_to_end, without_dead, Fit, HasAsides, Common, Around, Near, IsOffer}
 use Rattle.engine.proofs.Lists.{clash, same-true}
 
 pub projection-same : {J : Type 0} (c : ℕ) (x : Action J) (n : Option ℕ) (ms : List (GlobalAction J)) → projection (strand.Conn c) (Of (strand.Conn c) x n ∷ ms) ≡ Did x ∷ projection (strand.Conn c) ms
@@ -167,11 +175,12 @@ own-closed c book shut (id.Sock n) own = absurd (let e : false ≡ true = own in
 -- the action may come, of the strand alone and among the others
 pub record MayCome {J : Type 0} (b : Behavior J) (c : ℕ) (x : Action J) (ms : List (GlobalAction J)) (count : ℕ) : Type 0 where
   pub enabled : Enabled b (projection (strand.Conn c) ms) (Did x)
-  pub begins : BeginsRight (Of (strand.Conn c) x None ∷ ms)
-  pub given : IsGivenAtRest b (Of (strand.Conn c) x None ∷ ms)
-  pub kept : HeldNothingBack b (Of (strand.Conn c) x None ∷ ms)
+  pub begins : Throughout (BeginsRight b) (Of (strand.Conn c) x None ∷ ms)
+  pub given : Throughout (IsGivenAtRest b) (Of (strand.Conn c) x None ∷ ms)
+  pub kept : Throughout (HeldNothingBack b) (Of (strand.Conn c) x None ∷ ms)
   pub plain : IsPlain b (Of (strand.Conn c) x None ∷ ms)
-  pub turns : TurnsInOrder b (Of (strand.Conn c) x None ∷ ms)
+  pub ordered : IsOrdered b (Of (strand.Conn c) x None ∷ ms)
+  pub served : is_served x ≡ true
   pub counts : open_connections (Of (strand.Conn c) x None ∷ ms) ≡ count
 
 alone-next : {J : Type 0} (b : Behavior J) (c t : ℕ) (x : Action J) (ms : List (GlobalAction J)) → IsExecution b (projection (strand.Conn t) ms) → Enabled b (projection (strand.Conn c) ms) (Did x) → IsExecution b (projection (strand.Conn t) (Of (strand.Conn c) x None ∷ ms))
@@ -217,8 +226,8 @@ module _ {J S : Type 0} (b : Behavior J) (st : S → List (LocalAction J) → Ty
       → ((n : ℕ) → book'.is_open (id.Sock n) ≡ false) → HasAsides book'
       → Tells book'.history (external b (Of (strand.Conn c) x None ∷ ms))
       → Tells book'.offered (offered_lengths b (Of (strand.Conn c) x None ∷ ms))
-      → IsSubsequence (all_run (Of (strand.Conn c) x None ∷ ms) ++ threads') (all_readied b (Of (strand.Conn c) x None ∷ ms))
-      → IsSubsequence (all_offered (Of (strand.Conn c) x None ∷ ms) ++ offer_queue') (all_placed b (Of (strand.Conn c) x None ∷ ms))
+      → without_dead (Of (strand.Conn c) x None ∷ ms) threads' ≡ runs_of b (Of (strand.Conn c) x None ∷ ms)
+      → without_dead (Of (strand.Conn c) x None ∷ ms) offer_queue' ≡ offers_of b (Of (strand.Conn c) x None ∷ ms)
       → Common b threads' offer_queue' now count' book' (Of (strand.Conn c) x None ∷ ms)
   common-next x threads threads' offer_queue offer_queue' now count count' book book' k may born met sockets asides told offers_told runs offered = record {
     alone = alone-all b c x ms k.alone may.enabled;
@@ -228,7 +237,8 @@ module _ {J S : Type 0} (b : Behavior J) (st : S → List (LocalAction J) → Ty
     plain = may.plain;
     runs = runs;
     offered = offered;
-    turns = may.turns;
+    ordered = may.ordered;
+    served = (k.served, may.served);
     told = told;
     offers_told = offers_told;
     unborn = λ t past. projection-other t c x None ms (differs c t book'.arrivals born past) ∙ k.unborn t (omega (arith, met, past));
@@ -249,9 +259,10 @@ module _ {J S : Type 0} (b : Behavior J) (st : S → List (LocalAction J) → Ty
       → is_open place.Client (Did x ∷ projection (strand.Conn c) ms) ≡ o'
       → ((k : ℕ) → is_open (place.Sock k) (Did x ∷ projection (strand.Conn c) ms) ≡ false)
       → book'.strand_aside (strand.Conn c) ≡ al'
+      → ((last : Option ℕ) → h'.ending ≡ stop.After last → phase_of (Of (strand.Conn c) x None ∷ ms) ≡ Stopping)
       → Common b threads' offer_queue' h'.now h'.connections book' (Of (strand.Conn c) x None ∷ ms)
       → Around b st c al' o' h' threads' offer_queue' book' (Of (strand.Conn c) x None ∷ ms)
-  around-next x al al' o o' h h' threads threads' offer_queue offer_queue' book book' a sh sb out alive there client socks own_aside common = record {
+  around-next x al al' o o' h h' threads threads' offer_queue offer_queue' book book' a sh sb out alive there client socks own_aside stops common = record {
     each = λ t ne live. let same = projection-other t c x None ms ne in
         fit-same sh.in_offers sh.now (sh.ends t ne) same (sh.seats t ne) (sh.run_queue t ne) (sh.offer_queue t ne) (sb.is_open t ne) (sb.has_ended t ne) (a.each t ne (sym (ap lives same) ∙ live));
     dead = λ t ne gone. sh.seats t ne ∙ a.dead t ne (sym (ap lives (projection-other t c x None ms ne)) ∙ gone);
@@ -265,6 +276,7 @@ module _ {J S : Type 0} (b : Behavior J) (st : S → List (LocalAction J) → Ty
     client = ap (is_open place.Client) (projection-same c x None ms) ∙ client;
     no_socket = λ k. ap (is_open (place.Sock k)) (projection-same c x None ms) ∙ socks k;
     own_aside = own_aside;
+    stops = stops;
     common = common;
   }
 
@@ -275,6 +287,8 @@ module _ {J S : Type 0} (b : Behavior J) (st : S → List (LocalAction J) → Ty
     pub threads : run_by (Did x) (waiting b (projection (strand.Conn c) ms)) ≡ only (strand.Conn c) h.run_queue
     pub offered : offered_by (Did x) (to_offer b (projection (strand.Conn c) ms)) ≡ only (strand.Conn c) h.offer_queue
     pub deadlines : armed b (projection (strand.Conn c) ms) ≡ []
+    pub agenda : agenda b ms ≡ []
+    pub arms_none : agenda_at (strand.Conn c) x None ms [] ≡ []
     pub kind : in_offers (Did x ∷ projection (strand.Conn c) ms) ≡ h.in_offers
     pub offer : IsOffer go o (begun_offer (Did x ∷ projection (strand.Conn c) ms))
     pub moment : moment (Did x ∷ projection (strand.Conn c) ms) ≡ h.now
@@ -284,7 +298,7 @@ module _ {J S : Type 0} (b : Behavior J) (st : S → List (LocalAction J) → Ty
     pub last : offers_last (Of (strand.Conn c) x None ∷ ms) ≡ h.in_offers
 
   pub near-begins : (asks : (es : List (LocalAction J)) → IsLastAct (b.acts es)) (x : Action J) (go o : Bool) (h : Held S) (book : Book)
-      → Around b st c true o h (h.run_queue ++ with_strand (strand.Conn c) (readied (b.acts (Did x ∷ projection (strand.Conn c) ms)))) (h.offer_queue ++ with_strand (strand.Conn c) (offers (b.acts (Did x ∷ projection (strand.Conn c) ms)))) book (Of (strand.Conn c) x None ∷ ms)
+      → Around b st c true o h (lined (strand.Conn c) (b.acts (Did x ∷ projection (strand.Conn c) ms)) h.run_queue) (placed (strand.Conn c) (b.acts (Did x ∷ projection (strand.Conn c) ms)) h.offer_queue) book (Of (strand.Conn c) x None ∷ ms)
       → Begins x go o h book
       → Near b st c (b.acts (Did x ∷ projection (strand.Conn c) ms)) go o h book (Of (strand.Conn c) x None ∷ ms)
   near-begins asks x go o h book a t =
@@ -296,6 +310,7 @@ module _ {J S : Type 0} (b : Behavior J) (st : S → List (LocalAction J) → Ty
         threads = sym (ap (waiting b) same ∙ ap (λ l. lined_up (b.acts (Did x ∷ projection (strand.Conn c) ms)) l) t.threads);
         offered = sym (ap (to_offer b) same ∙ ap (λ l. l ++ offers (b.acts (Did x ∷ projection (strand.Conn c) ms))) t.offered);
         deadlines = sym (ap (armed b) same ∙ ap (λ l. armed_by (b.acts (Did x ∷ projection (strand.Conn c) ms)) l) (ap (taken_by (Did x)) t.deadlines ∙ taken-none (Did x)));
+        agenda = sym (ap (λ l. armed_with (strand.Conn c) (b.acts (Did x ∷ projection (strand.Conn c) ms)) l) (ap (agenda_at (strand.Conn c) x None ms) t.agenda ∙ t.arms_none));
         kind = ap in_offers same ∙ t.kind;
         offer = subst (λ (es : List (LocalAction J)). IsOffer go o (begun_offer es)) (sym same) t.offer;
         moment = ap moment same ∙ t.moment;

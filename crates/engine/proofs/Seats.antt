@@ -7,15 +7,17 @@ use Rattle.resty_world.specs.Book.{Book}
 use Rattle.resty_world.specs.Ids.{same_strand}
 use Rattle.strand_contract.specs.declared.turns.Place.{Place}
 use Rattle.strand_contract.specs.declared.turns.Place.TheVariants as place
-use Rattle.strand_contract.specs.Actions.{LocalAction, GlobalAction}
+use Rattle.strand_contract.specs.Actions.{LocalAction}
 use Rattle.strand_contract.specs.Behaviors.{Behavior, Meaning}
 use Rattle.strand_contract.specs.Alone.{lives, offering, going_on, begun_offer}
-use Rattle.strand_contract.specs.Executions.{projection}
-use Rattle.strand_contract.specs.Order.{only}
+use Rattle.executions.specs.Executions.{GlobalAction, projection, present}
+use Rattle.executions.specs.Counts.{arrived}
+use Rattle.executions.specs.Queues.{only, without_all}
+use Rattle.executions.specs.Agenda.{agenda}
 use Rattle.engine.specs.declared.engine.Engine.{Engine}
 use Rattle.engine.specs.declared.engine.Seat.{Seat}
 use Rattle.engine.specs.Engine.{IsBusy, IsDone}
-use Rattle.engine.specs.Standing.{Held, share_of, said_of, Fit, Busy, Standing, Falls, IsOffer}
+use Rattle.engine.specs.Standing.{Held, share_of, said_of, without_dead, Fit, Busy, Standing, Falls, IsOffer}
 use Rattle.engine.proofs.Lists.{by_test, clash, same-true}
 use Rattle.engine.proofs.Marks.{fit-same}
 use Rattle.engine.proofs.Acts.{aside-all}
@@ -68,15 +70,18 @@ module _ {J S : Type 0} (b : Behavior J) (st : S → List (LocalAction J) → Ty
             (λ ne. a.forgotten t ne gone);
         flip_to_runs = λ run on. clash on (n.last ∙ sym phase ∙ run);
         flip_to_offers = λ offer off. clash (n.last ∙ sym phase ∙ offer) off;
+        stops = λ last e. a.stops last (sym ends ∙ e);
+        agenda = sym n.agenda;
         common = record {
           alone = a.common.alone;
           begins = a.common.begins;
           given = a.common.given;
           kept = a.common.kept;
           plain = a.common.plain;
-          runs = rw run_queue (rw append-nil at a.common.runs);
-          offered = rw offer_queue (rw append-nil at a.common.offered);
-          turns = a.common.turns;
+          ordered = a.common.ordered;
+          served = a.common.served;
+          runs = ap (without_dead ms) run_queue ∙ a.common.runs;
+          offered = ap (without_dead ms) offer_queue ∙ a.common.offered;
           told = a.common.told;
           offers_told = a.common.offers_told;
           unborn = a.common.unborn;
@@ -95,6 +100,11 @@ module _ {J S : Type 0} (b : Behavior J) (st : S → List (LocalAction J) → Ty
       → h'.run_queue ≡ h.run_queue → h'.offer_queue ≡ h.offer_queue → h'.in_offers ≡ h.in_offers → h'.now ≡ h.now → h'.connections ≡ h.connections → h'.ending ≡ h.ending
       → Falls b st c o h' book ms
   falls-seats o h h' book ms f seats run_queue offer_queue phase now count ends = record {
+    next_runs = f.next_runs;
+    next_offers = f.next_offers;
+    same_runs = f.same_runs ∙ sym (ap (without_all (strand.Conn c)) run_queue);
+    same_offers = f.same_offers ∙ sym (ap (without_all (strand.Conn c)) offer_queue);
+    agenda = f.agenda;
     around = record {
       each = λ t ne live. rw (run_queue, offer_queue, phase, now, ends) (fit-same refl refl refl refl (seats (strand.Conn t)) refl refl refl refl (f.around.each t ne live));
       dead = λ t ne gone. seats (strand.Conn t) ∙ f.around.dead t ne gone;
@@ -108,7 +118,8 @@ module _ {J S : Type 0} (b : Behavior J) (st : S → List (LocalAction J) → Ty
       client = f.around.client;
       no_socket = f.around.no_socket;
       own_aside = f.around.own_aside;
-      common = rw (run_queue, offer_queue, now, count) f.around.common;
+      stops = λ last e. f.around.stops last (sym ends ∙ e);
+      common = rw (now, count) f.around.common;
     };
     last = f.last ∙ sym phase;
     touched = f.touched;
@@ -152,6 +163,8 @@ to-runs b st h h' book ms g nil held = rw held (record {
   forgotten = g.forgotten;
   flip_to_runs = λ run on. nil;
   flip_to_offers = λ offer off. absurd (let e : false ≡ true = offer in cc);
+  stops = g.stops;
+  agenda = g.agenda;
   common = g.common;
 })
 
@@ -180,5 +193,7 @@ to-offers b st h h' book ms g nil held = rw held (record {
   forgotten = g.forgotten;
   flip_to_runs = λ run on. absurd (let e : true ≡ false = run in cc);
   flip_to_offers = λ offer off. nil;
+  stops = g.stops;
+  agenda = g.agenda;
   common = g.common;
 })

@@ -13,7 +13,7 @@ use Rattle.resty_world.specs.Book.{Book, told}
 use Rattle.resty_world.specs.Given.{is_event, is_fault, arrives, arrives_strand, ends, Gave}
 use Rattle.strand_contract.specs.Behaviors.{Behavior, Meaning}
 use Rattle.strand_contract.specs.Laws.{Keeps}
-use Rattle.strand_contract.specs.Executions.{external, offered_lengths}
+use Rattle.executions.specs.Histories.{external, offered_lengths}
 use Rattle.engine.specs.declared.engine.Engine.{Engine}
 use Rattle.engine.specs.Stepping.{is_stop}
 use Rattle.engine.specs.Engine.{Rests}
@@ -30,6 +30,7 @@ right-same b old new r history offers asides ended = record {
   kept = r.kept;
   plain = r.plain;
   ordered = r.ordered;
+  served = r.served;
   aside = λ s. asides s ∙ r.aside s;
   forgotten = λ c off. ended (id.Conn c) ∙ r.forgotten c off;
 }

@@ -1,8 +1,8 @@
 -- What every living strand is told, and Stop, which ends them in the order of their beginning.
 use Rattle.engine.specs.declared.engine.Ending.{Ending}
 use Rattle.engine.specs.declared.engine.Ending.TheVariants as stop
-use Rattle.std.proofs.Common.{◌≡◌, ◌⊎◌, ℕ, ◌+◌, ◌||◌, ◌<◌, ◌≤◌, nat_lt, max, Bool, true, false, ◌==◌, List, [], ◌∷◌, Option, Some, None, if◌then◌else◌, refl, sym, ap, subst, ◌∙◌, append-nil, inl, inr, arith}
-use Rattle.std.proofs.lemmas.Bool.{eqb-true, cases_lt}
+use Rattle.std.proofs.Common.{◌≡◌, ◌⊎◌, ℕ, ◌&&◌, ◌<◌, ◌≤◌, nat_lt, max, Bool, true, false, ◌==◌, List, [], ◌∷◌, Option, Some, None, if◌then◌else◌, refl, sym, ap, subst, ◌∙◌, append-nil, inl, inr, arith}
+use Rattle.std.proofs.lemmas.Bool.{cases_lt}
 use Rattle.std.proofs.lemmas.Bool.Decides.{nat_tests}
 use Rattle.resty_base.specs.declared.names.Id.TheVariants as id
 use Rattle.resty_base.specs.declared.names.StrandId.{StrandId}
@@ -10,20 +10,25 @@ use Rattle.resty_base.specs.declared.names.StrandId.TheVariants as strand
 use Rattle.resty_world.specs.Book.{Book, KeepsIds, told}
 use Rattle.resty_world.specs.Ids.{same_strand}
 use Rattle.strand_contract.specs.declared.turns.Seen.TheVariants as seen
-use Rattle.strand_contract.specs.declared.turns.Start.TheVariants as start
-use Rattle.strand_contract.specs.Actions.{Word, Moment, Stop, Action, LocalAction, Told, GlobalAction, Of, Everyone, TurnedAway, IdleGave, IdleClosed, Began, Dict, Take, Dial, Keep, Timer, Halted}
+use Rattle.strand_contract.specs.Actions.{Word, Moment, Stop, Action, LocalAction, Told, Halted}
 use Rattle.strand_contract.specs.Behaviors.{Behavior}
 use Rattle.strand_contract.specs.Alone.{lives, moment, is_open, is_stopping, IsExecution, HasNoWork, KeepsNothingBack}
-use Rattle.strand_contract.specs.Executions.{projection, external, offered_lengths, present, arrived, BeginsRight, IsPlain, word_entry}
+use Rattle.executions.specs.Executions.{GlobalAction, Everyone, projection, present}
+use Rattle.executions.specs.Strands.{next_to_stop}
+use Rattle.executions.specs.Phases.{Stopping, phase as phase_of}
+use Rattle.executions.specs.Counts.{arrived}
+use Rattle.executions.specs.Queues.{only}
+use Rattle.executions.specs.Agenda.{agenda}
+use Rattle.executions.specs.Histories.{external, offered_lengths, word_entry}
 use Rattle.strand_contract.specs.Laws.{IsLastAct, is_still}
-use Rattle.strand_contract.specs.Order.{only, has_begun, begun_before, IsFirstToEnd}
 use Rattle.engine.specs.declared.engine.Seat.{Seat}
 use Rattle.engine.specs.Slots.{is_after}
-use Rattle.engine.specs.Standing.{Held, is_to_end, said_of, Fit, Standing, Turn}
-use Rattle.engine.proofs.Lists.{by_test, clash, same-true, tells-more, tells-same}
+use Rattle.engine.specs.Standing.{Held, is_to_end, said_of, without_dead, Fit, Standing, Turn}
+use Rattle.engine.proofs.Lists.{never-stops, by_test, clash, same-true, tells-more, tells-same}
 use Rattle.engine.proofs.Marks.{fit-same, book-same, same-keeps}
-use Rattle.engine.proofs.Turns.{seat-lives, seat-fits, around-leave, turn-next, no-job, between}
+use Rattle.engine.proofs.Turns.{seat-lives, seat-fits, around-leave, turn-next, between, no-thread, no-place}
 use Rattle.engine.proofs.Events.{at-rest, none-holds}
+use Rattle.engine.proofs.Served.{strands-rising, first-served}
 
 -- what a word makes of the present moment, and which strands Stop is to end after it
 abbrev pub after_word : Word → ℕ → ℕ
@@ -46,6 +51,10 @@ present-told : {J : Type 0} (w : Word) (ms : List (GlobalAction J)) → present 
 present-told (Moment t) ms = refl
 present-told Stop ms = refl
 
+stops-told : {J : Type 0} {o : Ending} (w : Word) (ms : List (GlobalAction J)) → o ≡ ending_after w → (last : Option ℕ) → o ≡ stop.After last → phase_of (Everyone w ∷ ms) ≡ Stopping
+stops-told (Moment t) ms ends last after = never-stops ends last after
+stops-told Stop ms ends last after = refl
+
 heard : {J : Type 0} (test : Bool) (w : Word) (es : List (LocalAction J)) → test ≡ true → (if test then Told w ∷ es else es) ≡ Told w ∷ es
 heard test w es on = ap (λ v. if v then Told w ∷ es else es) on
 
@@ -58,7 +67,7 @@ module _ {J S : Type 0} (b : Behavior J) (st : S → List (LocalAction J) → Ty
     (quiet : (a : LocalAction J) (es : List (LocalAction J)) → is_still a ≡ true → b.acts (a ∷ es) ≡ []) (w : Word) where
   alone-told : (s : StrandId) → IsExecution b (projection s (Everyone w ∷ ms))
   alone-told s = by_test (lives (projection s ms))
-      (λ live. subst (λ (fs : List (LocalAction J)). IsExecution b fs) (sym (heard (lives (projection s ms)) w (projection s ms) live)) (g.common.alone s, (live, (at-rest b st ms h book g run_queue offer_queue ending s).idle live)))
+      (λ live. subst (λ (fs : List (LocalAction J)). IsExecution b fs) (sym (heard (lives (projection s ms)) w (projection s ms) live)) (g.common.alone s, (live, ((at-rest b st ms h book g run_queue offer_queue ending).each s).idle live)))
       (λ gone. subst (λ (fs : List (LocalAction J)). IsExecution b fs) (sym (unheard (lives (projection s ms)) w (projection s ms) gone)) (g.common.alone s))
 
   fit-told : (t : ℕ) (seat : Option (Seat S)) → seat ≡ h.seats (strand.Conn t) → lives (projection (strand.Conn t) ms) ≡ true
@@ -104,15 +113,18 @@ module _ {J S : Type 0} (b : Behavior J) (st : S → List (LocalAction J) → Ty
         aside = λ s. ids.strand_aside s ∙ g.aside s ∙ sym (by_test (lives (projection s ms)) (λ live. ap lives (heard (lives (projection s ms)) w (projection s ms) live)) (λ gone. ap lives (unheard (lives (projection s ms)) w (projection s ms) gone)));
         flip_to_runs = λ run on. absurd (let e : false ≡ true = on in cc);
         flip_to_offers = λ offer off. runs_same ∙ run_queue;
+        stops = stops-told w ms ends;
+        agenda = g.agenda;
         common = record {
           alone = alone-told;
-          begins = g.common.begins;
+          begins = (g.common.begins, tt);
           given = (g.common.given, λ e. at-rest b st ms h book g run_queue offer_queue ending);
           kept = (g.common.kept, λ e. none-holds b st ms h book g run_queue offer_queue ending keeps);
-          plain = g.common.plain;
-          runs = rw runs_same g.common.runs;
-          offered = rw offers_same g.common.offered;
-          turns = g.common.turns;
+          plain = (g.common.plain, tt);
+          ordered = (g.common.ordered, tt);
+          served = (g.common.served, tt);
+          runs = ap (without_dead (Everyone w ∷ ms)) (runs_same ∙ run_queue) ∙ sym (no-thread b st ms h book g run_queue);
+          offered = ap (without_dead (Everyone w ∷ ms)) (offers_same ∙ offer_queue) ∙ sym (no-place b st ms h book g offer_queue);
           told = tells-more book.history book'.history (word_entry w ∷ []) (external b ms) g.common.told history;
           offers_told = tells-same book.offered book'.offered (offered_lengths b ms) g.common.offers_told offers;
           unborn = λ t past. unheard (lives (projection (strand.Conn t) ms)) w (projection (strand.Conn t) ms) (ap lives (g.common.unborn t (rw arrivals at past))) ∙ g.common.unborn t (rw arrivals at past);
@@ -124,53 +136,6 @@ module _ {J S : Type 0} (b : Behavior J) (st : S → List (LocalAction J) → Ty
           present = present-told w ms ∙ ap (after_word w) g.common.present ∙ sym now;
         };
       }
-
--- a connection that has begun has a number up to that of the newest that arrived
-number-of : (t c d : ℕ) (begun : Bool) (before : ℕ) → (t == c) || begun ≡ true → d ≡ c → d ≡ before + 1 → (begun ≡ true → t ≤ before) → t ≤ before + 1
-number-of t c d begun before on same number more = by_test (t == c)
-    (λ e. let is : t ≡ c = eqb-true t c e in omega (arith, is, same, number))
-    (λ ne. let less : t ≤ before = more (sym (ap (λ v. v || begun) ne) ∙ on) in omega (arith, less))
-
-no-more : (t n : ℕ) → t ≤ n → t ≤ n + 0
-no-more t n h = omega (arith, h)
-
-pub begun-number : {J : Type 0} (b : Behavior J) (t : ℕ) (ms : List (GlobalAction J)) → BeginsRight ms → IsPlain b ms → has_begun (strand.Conn t) ms ≡ true → t ≤ arrived ms
-begun-number b t [] right plain h = absurd (let e : false ≡ true = h in cc)
-begun-number b t (Of (strand.Conn r) (Began now (start.Client d)) n ∷ ms) right plain h =
-    number-of t r d (has_begun (strand.Conn t) ms) (arrived ms) h right.1 plain.1 (begun-number b t ms right.0 plain.0)
-begun-number b t (Of (strand.Conn r) (Began now (start.Job j premature job)) n ∷ ms) right plain h = absurd right.1
-begun-number b t (Of (strand.Job r) (Began now begin) n ∷ ms) right plain h = absurd right.1
-begun-number b t (Of s (Dict zone call given) n ∷ ms) right plain h = absurd plain
-begun-number b t (Of s (Take key uses) n ∷ ms) right plain h = absurd plain
-begun-number b t (Of s (Dial host port done) n ∷ ms) right plain h = absurd plain
-begun-number b t (Of s (Keep k key idle size) n ∷ ms) right plain h = absurd plain
-begun-number b t (Of s (Timer at given) n ∷ ms) right plain h = absurd plain
-begun-number b t (Of s x n ∷ ms) right plain h = no-more t (arrived ms) (begun-number b t ms right plain h)
-begun-number b t (Everyone w ∷ ms) right plain h = no-more t (arrived ms) (begun-number b t ms right plain h)
-begun-number b t (TurnedAway d ∷ ms) right plain h = let less : t ≤ arrived ms = begun-number b t ms right plain.0 h in omega (arith, less)
-begun-number b t (IdleGave e ∷ ms) right plain h = absurd plain
-begun-number b t (IdleClosed n ∷ ms) right plain h = absurd plain
-
--- connections begin in the order of their numbers
-pub begun-order : {J : Type 0} (b : Behavior J) (t c : ℕ) (ms : List (GlobalAction J)) → BeginsRight ms → IsPlain b ms → begun_before (strand.Conn t) (strand.Conn c) ms ≡ true → t < c
-begun-order b t c [] right plain h = absurd (let e : false ≡ true = h in cc)
-begun-order b t c (Of (strand.Conn r) (Began now (start.Client d)) n ∷ ms) right plain h = by_test (c == r)
-    (λ same. let is : c ≡ r = eqb-true c r same in
-    let less : t ≤ arrived ms = begun-number b t ms right.0 plain.0 (sym (ap (λ v. if v then has_begun (strand.Conn t) ms else begun_before (strand.Conn t) (strand.Conn c) ms) same) ∙ h) in
-    omega (arith, is, less, right.1, plain.1))
-    (λ ne. begun-order b t c ms right.0 plain.0 (sym (ap (λ v. if v then has_begun (strand.Conn t) ms else begun_before (strand.Conn t) (strand.Conn c) ms) ne) ∙ h))
-begun-order b t c (Of (strand.Conn r) (Began now (start.Job j premature job)) n ∷ ms) right plain h = absurd right.1
-begun-order b t c (Of (strand.Job r) (Began now begin) n ∷ ms) right plain h = absurd right.1
-begun-order b t c (Of s (Dict zone call given) n ∷ ms) right plain h = absurd plain
-begun-order b t c (Of s (Take key uses) n ∷ ms) right plain h = absurd plain
-begun-order b t c (Of s (Dial host port done) n ∷ ms) right plain h = absurd plain
-begun-order b t c (Of s (Keep k key idle size) n ∷ ms) right plain h = absurd plain
-begun-order b t c (Of s (Timer at given) n ∷ ms) right plain h = absurd plain
-begun-order b t c (Of s x n ∷ ms) right plain h = begun-order b t c ms right plain h
-begun-order b t c (Everyone w ∷ ms) right plain h = begun-order b t c ms right plain h
-begun-order b t c (TurnedAway d ∷ ms) right plain h = begun-order b t c ms right plain.0 h
-begun-order b t c (IdleGave e ∷ ms) right plain h = absurd plain
-begun-order b t c (IdleClosed n ∷ ms) right plain h = absurd plain
 
 -- whoever comes after c, comes after whom c comes after
 after-more : (last : Option ℕ) (c t : ℕ) → is_after last c ≡ true → c < t → is_after last t ≡ nat_lt c t
@@ -199,6 +164,8 @@ module _ {J S : Type 0} (b : Behavior J) (st : S → List (LocalAction J) → Ty
     forgotten = g.forgotten;
     flip_to_runs = g.flip_to_runs;
     flip_to_offers = g.flip_to_offers;
+    stops = never-stops refl;
+    agenda = g.agenda;
     common = g.common;
   })
 
@@ -208,37 +175,40 @@ module _ {J S : Type 0} (b : Behavior J) (st : S → List (LocalAction J) → Ty
       → h.seats (strand.Conn c) ≡ Some x → h.in_offers ≡ false
       → ((s : StrandId) → h'.seats s ≡ (if same_strand s (strand.Conn c) then None else h.seats s)) → h'.run_queue ≡ h.run_queue → h'.offer_queue ≡ h.offer_queue → h'.in_offers ≡ h.in_offers → h'.now ≡ h.now → h'.connections ≡ h.connections → h'.ending ≡ stop.After (Some c)
       → Turn b st c x.strand seen.Stop false x.is_open h' book ms
-  turn-halt asks c x h' after first here running seats runs_same offers_same phase now count ends =
+  turn-halt asks c x h' after before here running seats runs_same offers_same phase now count ends =
       let z : Action J = Halted in
       let es : List (LocalAction J) = projection (strand.Conn c) ms in
       let live : lives es ≡ true = seat-lives b st c ms h book x g here in
       let mine = g.each c live in
       let fits = seat-fits b st c ms h book x g here in
       let out : h'.seats (strand.Conn c) ≡ None = seats (strand.Conn c) ∙ ap (λ v. if v then None else h.seats (strand.Conn c)) (same-true c) in
-      let passed = λ (t : ℕ) (less : t < c) (alive : lives (projection (strand.Conn t) ms) ≡ true). by_test (is_after last t) (λ on. absurd (seated t alive (first t on less))) (λ off. off) in
+      let passed = λ (t : ℕ) (less : t < c) (alive : lives (projection (strand.Conn t) ms) ≡ true). by_test (is_after last t) (λ on. absurd (seated t alive (before t on less))) (λ off. off) in
       let others = λ (t : ℕ) (ne : (t == c) ≡ false) (alive : lives (projection (strand.Conn t) ms) ≡ true). ap (λ o. is_to_end o t) ends ∙ elim (less-or c t ne) [
         | inl less ↦ not-after c t (omega (arith, less)) ∙ sym (ap (λ o. is_to_end o t) ending ∙ passed t less alive)
         | inr more ↦ sym (ap (λ o. is_to_end o t) ending ∙ after-more last c t after more)
       ] in
-      let a = around-leave b st c ms h h' h.run_queue h.offer_queue book x g here seats (λ t ne. ap (only (strand.Conn t)) runs_same) (λ t ne. ap (only (strand.Conn t)) offers_same) phase now count others g.common.runs g.common.offered in
+      let a = around-leave b st c ms h h' book x g here seats (λ t ne. ap (only (strand.Conn t)) runs_same) (λ t ne. ap (only (strand.Conn t)) offers_same) phase now count others (λ l e. g.stops last ending) in
       turn-next b st c ms asks seen.Stop x.strand false x.is_open x.is_open h' h' h.run_queue h.offer_queue book book a fits.0 (mine.moment ∙ sym now)
       (record { seats = λ t ne. refl; run_queue = λ t ne. refl; offer_queue = λ t ne. refl; in_offers = refl; now = refl; ends = λ t ne. refl }) (book-same c book) out
       (record {
         enabled = (record { living = live; no_act = mine.no_act; no_offer = mine.no_offer }, inl (mine.stopping ∙ ap (λ o. is_to_end o c) ending ∙ after));
-        begins = g.common.begins;
+        begins = (g.common.begins, tt);
         given = (g.common.given, λ e. absurd (let w : false ≡ true = e in cc));
         kept = (g.common.kept, λ e. absurd (let w : false ≡ true = e in cc));
-        plain = g.common.plain;
-        turns = (g.common.turns, between b st ms h book g, earlier);
+        plain = (g.common.plain, refl);
+        ordered = (g.common.ordered, (between b st ms h book g, inl (g.stops last ending, first)));
+        served = refl;
         counts = g.common.count ∙ sym count;
       }) live (sym fits.1) (mine.client ∙ sym fits.1) mine.no_socket (g.aside (strand.Conn c) ∙ live) refl g.common.told g.common.offers_told
-      (rw (runs_same, append-nil) g.common.runs) (rw (offers_same, append-nil) g.common.offered)
+      (ap (without_dead ms) runs_same ∙ g.common.runs) (ap (without_dead ms) offers_same ∙ g.common.offered) (λ l e. g.stops last ending)
       (record {
         done = mine.no_act;
         no_use = refl;
         threads = mine.threads ∙ sym (ap (only (strand.Conn c)) runs_same);
         offered = mine.offered ∙ sym (ap (only (strand.Conn c)) offers_same);
         deadlines = mine.no_deadline;
+        agenda = g.agenda;
+        arms_none = refl;
         kind = sym (phase ∙ running);
         offer = (λ e. absurd (let w : false ≡ true = e in cc));
         moment = mine.moment ∙ sym now;
@@ -248,6 +218,13 @@ module _ {J S : Type 0} (b : Behavior J) (st : S → List (LocalAction J) → Ty
         last = sym (phase ∙ running);
       })
     where
-      earlier : IsFirstToEnd (strand.Conn c) ms
-      earlier (strand.Conn t) before alive = (g.each t alive).stopping ∙ ap (λ o. is_to_end o t) ending ∙ by_test (is_after last t) (λ on. absurd (seated t alive (first t on (begun-order b t c ms g.common.begins g.common.plain before)))) (λ off. off)
-      earlier (strand.Job n) before alive = absurd (no-job n ms (g.common.jobless n) alive)
+      own-live : lives (projection (strand.Conn c) ms) ≡ true
+      own-live = seat-lives b st c ms h book x g here
+
+      -- it is the first that Stop is still to end
+      first : next_to_stop ms ≡ Some (strand.Conn c)
+      first = first-served b (λ es. lives es && is_stopping es) ms c refl (strands-rising b ms g.common.served g.common.alone g.common.begins g.common.plain g.common.ordered)
+          (ap (λ v. v && is_stopping (projection (strand.Conn c) ms)) own-live ∙ (g.each c own-live).stopping ∙ ap (λ o. is_to_end o c) ending ∙ after)
+          (λ t less. by_test (lives (projection (strand.Conn t) ms))
+          (λ alive. ap (λ v. v && is_stopping (projection (strand.Conn t) ms)) alive ∙ (g.each t alive).stopping ∙ ap (λ o. is_to_end o t) ending ∙ by_test (is_after last t) (λ on. absurd (seated t alive (before t on less))) (λ off. off))
+          (λ off. ap (λ v. v && is_stopping (projection (strand.Conn t) ms)) off))

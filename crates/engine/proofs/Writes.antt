@@ -9,13 +9,17 @@ use Rattle.strand_contract.specs.declared.turns.Place.{Place}
 use Rattle.strand_contract.specs.declared.turns.Place.TheVariants as place
 use Rattle.strand_contract.specs.declared.turns.Seen.{Seen}
 use Rattle.strand_contract.specs.declared.turns.Seen.TheVariants as seen
-use Rattle.strand_contract.specs.Actions.{LocalAction, Did, GlobalAction, Of}
+use Rattle.strand_contract.specs.Actions.{LocalAction, Did}
 use Rattle.strand_contract.specs.Behaviors.{Behavior}
 use Rattle.strand_contract.specs.Alone.{lives, moment, is_open, has_ended, left_by, waiting, run_by, to_offer, offered_by, offering, going_on, begun_offer, in_offers, is_stopping, piece, queued, taken, is_some_left, IsOfferedAt}
-use Rattle.strand_contract.specs.Executions.{projection, external, offered_lengths}
+use Rattle.executions.specs.Executions.{GlobalAction, Of, projection}
+use Rattle.executions.specs.Phases.{phase as phase_of}
+use Rattle.executions.specs.Queues.{after_run, after_offer, run_queue as runs_of, offer_queue as offers_of}
+use Rattle.executions.specs.Agenda.{agenda, agenda_at}
+use Rattle.executions.specs.Histories.{external, offered_lengths}
+use Rattle.executions.specs.Ordered.{offers_last}
 use Rattle.strand_contract.specs.Calls.{action_of}
 use Rattle.strand_contract.specs.Laws.{IsLastAct}
-use Rattle.strand_contract.specs.Order.{run_of, offer_of, offers_last}
 use Rattle.engine.specs.Right.{Tells}
 use Rattle.engine.specs.Standing.{Held, Busy, Turn, IsOffer}
 use Rattle.engine.proofs.Lists.{by_test, clash, tells-more}
@@ -70,8 +74,10 @@ module _ {J S : Type 0} (b : Behavior J) (st : S → List (LocalAction J) → Ty
       → lives (Did (action_of b (projection (strand.Conn c) ms) given) ∷ projection (strand.Conn c) ms) ≡ lives (projection (strand.Conn c) ms)
       → ((q : Place) → is_open q (Did (action_of b (projection (strand.Conn c) ms) given) ∷ projection (strand.Conn c) ms) ≡ is_open q (projection (strand.Conn c) ms))
       → left_by (Did (action_of b (projection (strand.Conn c) ms) given)) [] ≡ []
-      → run_of (action_of b (projection (strand.Conn c) ms) given) ≡ []
-      → offer_of (action_of b (projection (strand.Conn c) ms) given) ≡ []
+      → after_run (strand.Conn c) (action_of b (projection (strand.Conn c) ms) given) (runs_of b ms) ≡ runs_of b ms
+      → after_offer (strand.Conn c) (action_of b (projection (strand.Conn c) ms) given) (offers_of b ms) ≡ offers_of b ms
+      → agenda_at (strand.Conn c) (action_of b (projection (strand.Conn c) ms) given) None ms [] ≡ []
+      → phase_of (Of (strand.Conn c) (action_of b (projection (strand.Conn c) ms) given) None ∷ ms) ≡ phase_of ms
       → run_by (Did (action_of b (projection (strand.Conn c) ms) given)) (waiting b (projection (strand.Conn c) ms)) ≡ waiting b (projection (strand.Conn c) ms)
       → offered_by (Did (action_of b (projection (strand.Conn c) ms) given)) (to_offer b (projection (strand.Conn c) ms)) ≡ to_offer b (projection (strand.Conn c) ms)
       → in_offers (Did (action_of b (projection (strand.Conn c) ms) given) ∷ projection (strand.Conn c) ms) ≡ in_offers (projection (strand.Conn c) ms)
@@ -83,18 +89,20 @@ module _ {J S : Type 0} (b : Behavior J) (st : S → List (LocalAction J) → Ty
       → Tells book'.history (external b (Of (strand.Conn c) (action_of b (projection (strand.Conn c) ms) given) None ∷ ms))
       → Tells book'.offered (offered_lengths b (Of (strand.Conn c) (action_of b (projection (strand.Conn c) ms) given) None ∷ ms))
       → Turn b st c x given go o h book' ms
-  answered given go may live opens no_use no_run no_offer threads list kind offer time stop more last told offers_told =
+  answered given go may live opens no_use no_run no_offer arms_none goes_on threads list kind offer time stop more last told offers_told =
       let a = y.near.around in
       turn-next b st c ms asks given x go o o h h _ _ book book' a y.stands y.near.moment (held-same c h)
       (same-keeps c ids) a.out may
       (live ∙ a.alive) (ids.is_open (id.Conn c) ∙ a.connection) (opens place.Client ∙ a.client) (λ k. opens (place.Sock k) ∙ a.no_socket k) (ids.strand_aside (strand.Conn c) ∙ a.own_aside) ids.arrivals told offers_told
-      (rw (no_run, append-nil) (rw append-nil at a.common.runs)) (rw (no_offer, append-nil) (rw append-nil at a.common.offered))
+      (a.common.runs ∙ sym no_run) (a.common.offered ∙ sym no_offer) (λ last e. goes_on ∙ a.stops last e)
       (record {
         done = y.near.to_do;
         no_use = no_use;
         threads = threads ∙ sym y.near.threads;
         offered = list ∙ sym y.near.offered ∙ append-nil _;
         deadlines = sym y.near.deadlines;
+        agenda = sym y.near.agenda;
+        arms_none = arms_none;
         kind = kind ∙ y.near.kind;
         offer = offer;
         moment = time ∙ y.near.moment;
@@ -115,13 +123,14 @@ module _ {J S : Type 0} (b : Behavior J) (st : S → List (LocalAction J) → Ty
       answered (seen.Took place.Client n) true
       (record {
         enabled = (offered-at (omega arith), some-taken n (piece b place.Client es) some fits, (drop n (piece b place.Client es), take-append-drop n (piece b place.Client es)));
-        begins = a.common.begins;
+        begins = (a.common.begins, tt);
         given = (a.common.given, λ e. absurd (let w : false ≡ true = e in cc));
         kept = (a.common.kept, λ e. absurd (let w : false ≡ true = e in cc));
-        plain = a.common.plain;
-        turns = a.common.turns;
+        plain = (a.common.plain, refl);
+        ordered = (a.common.ordered, tt);
+        served = refl;
         counts = a.common.count;
-      }) refl (λ q. refl) refl refl refl refl refl refl refl refl refl refl refl
+      }) refl (λ q. refl) refl refl refl refl refl refl refl refl refl refl refl refl refl
       (tells-more book.history book'.history (entry.Put (id.Conn c) (take n (piece b place.Client es)) ∷ []) (external b ms) a.common.told history)
       (tells-more book.offered book'.offered (length (piece b place.Client es) ∷ []) (offered_lengths b ms) a.common.offers_told lengths)
 
@@ -136,13 +145,14 @@ module _ {J S : Type 0} (b : Behavior J) (st : S → List (LocalAction J) → Ty
       answered (seen.Later place.Client) false
       (record {
         enabled = offered-at some;
-        begins = a.common.begins;
+        begins = (a.common.begins, tt);
         given = (a.common.given, λ e. absurd (let w : false ≡ true = e in cc));
         kept = (a.common.kept, λ e. absurd (let w : false ≡ true = e in cc));
-        plain = a.common.plain;
-        turns = a.common.turns;
+        plain = (a.common.plain, refl);
+        ordered = (a.common.ordered, tt);
+        served = refl;
         counts = a.common.count;
-      }) refl (λ q. refl) refl refl refl refl refl refl (λ e. absurd (let w : false ≡ true = e in cc)) refl refl refl refl
+      }) refl (λ q. refl) refl refl refl refl refl refl refl refl (λ e. absurd (let w : false ≡ true = e in cc)) refl refl refl refl
       (tells-more book.history book'.history (entry.Later (id.Conn c) ∷ []) (external b ms) a.common.told history)
       (tells-more book.offered book'.offered (length (piece b place.Client es) ∷ []) (offered_lengths b ms) a.common.offers_told lengths)
 
@@ -156,12 +166,13 @@ module _ {J S : Type 0} (b : Behavior J) (st : S → List (LocalAction J) → Ty
       answered (seen.Lost place.Client) false
       (record {
         enabled = offered-at some;
-        begins = a.common.begins;
+        begins = (a.common.begins, tt);
         given = (a.common.given, λ e. absurd (let w : false ≡ true = e in cc));
         kept = (a.common.kept, λ e. absurd (let w : false ≡ true = e in cc));
-        plain = a.common.plain;
-        turns = a.common.turns;
+        plain = (a.common.plain, refl);
+        ordered = (a.common.ordered, tt);
+        served = refl;
         counts = a.common.count;
-      }) refl (λ q. refl) refl refl refl refl refl refl (λ e. absurd (let w : false ≡ true = e in cc)) refl refl refl refl
+      }) refl (λ q. refl) refl refl refl refl refl refl refl refl (λ e. absurd (let w : false ≡ true = e in cc)) refl refl refl refl
       (tells-more book.history book'.history (entry.Lost (id.Conn c) ∷ []) (external b ms) a.common.told history)
       (tells-more book.offered book'.offered [] (offered_lengths b ms) a.common.offers_told lengths)

@@ -12,10 +12,9 @@ use Rattle.strand_contract.specs.declared.turns.Act.{Act}
 use Rattle.strand_contract.specs.declared.turns.Place.TheVariants as place
 use Rattle.strand_contract.specs.declared.turns.Seen.{Seen}
 use Rattle.strand_contract.specs.declared.turns.Seen.TheVariants as seen
-use Rattle.strand_contract.specs.Actions.{GlobalAction}
 use Rattle.strand_contract.specs.Alone.{offering}
 use Rattle.strand_contract.specs.Behaviors.{Meaning}
-use Rattle.strand_contract.specs.Executions.{projection}
+use Rattle.executions.specs.Executions.{GlobalAction, projection}
 use Rattle.engine.specs.declared.engine.Carried.{Carried}
 use Rattle.engine.specs.declared.engine.Carried.TheVariants as carried
 use Rattle.engine.specs.declared.engine.Ending.TheVariants as stop

@@ -1,5 +1,5 @@
 -- What a world that was served reports.
-use Rattle.std.specs.Prelude.{◌≡◌, ◌⊎◌, ℕ, false, List, [], ◌∷◌, length, Option, Some, None, IfSome}
+use Rattle.std.specs.Prelude.{◌≡◌, ◌⊎◌, ℕ, Bool, true, false, List, [], ◌∷◌, length, Option, Some, None, IfSome}
 use Rattle.resty_base.specs.Counting.{Rose}
 use Rattle.resty_base.specs.declared.names.Id.{Id}
 use Rattle.resty_base.specs.declared.names.Id.TheVariants as id
@@ -11,11 +11,15 @@ use Rattle.resty_world.specs.declared.event.Event.{Event}
 use Rattle.resty_world.specs.declared.event.Event.TheVariants as event
 use Rattle.resty_world.specs.Book.{Book}
 use Rattle.resty_world.specs.Given.{IsBadLine}
-use Rattle.strand_contract.specs.Actions.{GlobalAction}
 use Rattle.strand_contract.specs.Behaviors.{Behavior}
 use Rattle.strand_contract.specs.Alone.{lives}
-use Rattle.strand_contract.specs.Executions.{projection, external, offered_lengths, IsLawful, IsKept, IsPlain}
-use Rattle.strand_contract.specs.Order.{IsOrdered}
+use Rattle.strand_contract.specs.declared.turns.Start.TheVariants as start
+use Rattle.strand_contract.specs.Actions.{Action, Began, Dialled, Refused, Dict, Take, Dial, Keep, Timer, Due}
+use Rattle.executions.specs.Executions.{GlobalAction, Of, Everyone, TurnedAway, projection, Throughout}
+use Rattle.executions.specs.Histories.{external, offered_lengths}
+use Rattle.executions.specs.Lawful.{IsLawful, IsKept}
+use Rattle.executions.specs.Plain.{IsPlain}
+use Rattle.executions.specs.Ordered.{IsOrdered}
 use Rattle.engine.specs.declared.server.Ended.{Ended}
 use Rattle.engine.specs.declared.server.Ended.TheVariants as ended
 
@@ -34,7 +38,26 @@ pub record IsFresh (book : Book) : Type 0 where
   pub none_ended : (x : Id) → book.has_ended x ≡ false
   pub none_aside : (s : StrandId) → book.strand_aside s ≡ false
 
--- the world's history is that of one execution, which is lawful, kept, plain and ordered; room is set aside for the strands
+-- the engine serves connections, which have no sockets, dictionaries, jobs and deadlines yet
+abbrev pub is_served : {J : Type 0} → Action J → Bool
+is_served (Began now (start.Job j premature job)) = false
+is_served (Dialled k) = false
+is_served (Refused k) = false
+is_served (Dict zone call answer) = false
+is_served (Take key uses) = false
+is_served (Dial host port done) = false
+is_served (Keep k key idle size) = false
+is_served (Timer at answer) = false
+is_served (Due n) = false
+is_served x = true
+
+abbrev pub IsServed : {J : Type 0} → GlobalAction J → List (GlobalAction J) → Type 0
+IsServed (Of (strand.Conn c) x n) ms = is_served x ≡ true
+IsServed (Everyone w) ms = Unit {0}
+IsServed (TurnedAway c) ms = Unit {0}
+IsServed m ms = ⊥
+
+-- the world's history is that of one execution, which is lawful, kept, plain and ordered, and of connections alone; room is set aside for the strands
 -- that live, and for no other, and of no other connection it is kept whether it ended
 pub record IsRight {J : Type 0} (b : Behavior J) (book : Book) : Type 0 where
   pub execution : List (GlobalAction J)
@@ -44,6 +67,7 @@ pub record IsRight {J : Type 0} (b : Behavior J) (book : Book) : Type 0 where
   pub kept : IsKept b execution
   pub plain : IsPlain b execution
   pub ordered : IsOrdered b execution
+  pub served : Throughout IsServed execution
   pub aside : (s : StrandId) → book.strand_aside s ≡ lives (projection s execution)
   pub forgotten : (c : ℕ) → lives (projection (strand.Conn c) execution) ≡ false → book.has_ended (id.Conn c) ≡ false
 

@@ -1,5 +1,5 @@
 -- What the engine holds, against an execution.
-use Rattle.std.specs.Prelude.{◌≡◌, ℕ, ◌<◌, Bool, true, false, ◌==◌, List, [], ◌∷◌, ◌++◌, Option, Some, None}
+use Rattle.std.specs.Prelude.{◌≡◌, ℕ, ◌<◌, Bool, true, false, ◌==◌, List, [], ◌∷◌, ◌++◌, Option, Some, None, if◌then◌else◌}
 use Rattle.resty_base.specs.declared.names.Id.{Id}
 use Rattle.resty_base.specs.declared.names.Id.TheVariants as id
 use Rattle.resty_base.specs.declared.names.StrandId.{StrandId}
@@ -10,21 +10,25 @@ use Rattle.strand_contract.specs.declared.turns.Place.{Place}
 use Rattle.strand_contract.specs.declared.turns.Place.TheVariants as place
 use Rattle.strand_contract.specs.declared.turns.Act.{Act}
 use Rattle.strand_contract.specs.declared.turns.Seen.{Seen}
-use Rattle.strand_contract.specs.Actions.{LocalAction, Did, GlobalAction, Of}
+use Rattle.strand_contract.specs.Actions.{LocalAction, Did}
 use Rattle.strand_contract.specs.Behaviors.{Behavior}
 use Rattle.strand_contract.specs.Alone.{lives, moment, is_open, has_ended, todo, carried, waiting, lined_up, to_offer, offers, armed, armed_by, offering}
 use Rattle.strand_contract.specs.Alone.{begun_offer, in_offers, is_stopping, IsExecution}
-use Rattle.strand_contract.specs.Executions.{projection, external, offered_lengths, present, arrived, open_connections, BeginsRight}
-use Rattle.strand_contract.specs.Executions.{IsGivenAtRest, HeldNothingBack}
-use Rattle.strand_contract.specs.Executions.{IsPlain}
 use Rattle.strand_contract.specs.Calls.{action_of}
 use Rattle.strand_contract.specs.Laws.{IsLastAct}
-use Rattle.strand_contract.specs.Order.{IsSubsequence, with_strand, only, readied, all_readied, all_run, all_placed, all_offered, offers_last, was_touched}
-use Rattle.strand_contract.specs.Order.{TurnsInOrder}
+use Rattle.executions.specs.Executions.{GlobalAction, Of, projection, present, Throughout}
+use Rattle.executions.specs.Phases.{Stopping, phase}
+use Rattle.executions.specs.Counts.{arrived, open_connections}
+use Rattle.executions.specs.Queues.{only, lined, placed, without_all, run_queue, offer_queue}
+use Rattle.executions.specs.Agenda.{armed_with, without_those, is_of, agenda}
+use Rattle.executions.specs.Histories.{external, offered_lengths}
+use Rattle.executions.specs.Plain.{IsPlain}
+use Rattle.executions.specs.Ordered.{offers_last, was_touched, IsOrdered}
+use Rattle.executions.specs.Lawful.{IsGivenAtRest, BeginsRight, HeldNothingBack}
 use Rattle.engine.specs.declared.engine.Ending.{Ending}
 use Rattle.engine.specs.declared.engine.Ending.TheVariants as stop
 use Rattle.engine.specs.declared.engine.Seat.{Seat}
-use Rattle.engine.specs.Right.{Tells}
+use Rattle.engine.specs.Right.{Tells, IsServed}
 use Rattle.engine.specs.Slots.{is_after}
 
 -- what the engine holds, in plain values
@@ -76,17 +80,23 @@ said_of c book = record { is_open = book.is_open (id.Conn c); has_ended = book.h
 abbrev pub HasAsides : Book → Type 0
 HasAsides book = (x : Id) → book.is_open x ≡ true → book.id_aside x ≡ true
 
+-- of a queue, what is of strands that live: those that died stay in the engine's until their turn comes
+abbrev pub without_dead : {J A : Type 0} → List (GlobalAction J) → List (StrandId × A) → List (StrandId × A)
+without_dead ms [] = []
+without_dead ms (e ∷ l) = if lives (projection e.0 ms) then e ∷ without_dead ms l else without_dead ms l
+
 -- what doesn't speak of one strand. `next_runs` and `next_offers` are the turns that are to come
 pub record Common {J : Type 0} (b : Behavior J) (next_runs : List (StrandId × ℕ)) (next_offers : List (StrandId × Place)) (now connections : ℕ)
     (book : Book) (ms : List (GlobalAction J)) : Type 0 where
   pub alone : (s : StrandId) → IsExecution b (projection s ms)
-  pub begins : BeginsRight ms
-  pub given : IsGivenAtRest b ms
-  pub kept : HeldNothingBack b ms
+  pub begins : Throughout (BeginsRight b) ms
+  pub given : Throughout (IsGivenAtRest b) ms
+  pub kept : Throughout (HeldNothingBack b) ms
   pub plain : IsPlain b ms
-  pub runs : IsSubsequence (all_run ms ++ next_runs) (all_readied b ms)
-  pub offered : IsSubsequence (all_offered ms ++ next_offers) (all_placed b ms)
-  pub turns : TurnsInOrder b ms
+  pub ordered : IsOrdered b ms
+  pub served : Throughout IsServed ms
+  pub runs : without_dead ms next_runs ≡ run_queue b ms
+  pub offered : without_dead ms next_offers ≡ offer_queue b ms
   pub told : Tells book.history (external b ms)
   pub offers_told : Tells book.offered (offered_lengths b ms)
   pub unborn : (c : ℕ) → book.arrivals < c → projection (strand.Conn c) ms ≡ []
@@ -105,10 +115,10 @@ IsOffer go opened (Some (place.Sock k)) = ⊥
 
 -- the queues, with the threads and places of acts of c's strand that are still to be carried out
 abbrev pub runs_with : {J S : Type 0} → ℕ → List (Act J) → Held S → List (StrandId × ℕ)
-runs_with c acts h = h.run_queue ++ with_strand (strand.Conn c) (readied acts)
+runs_with c acts h = lined (strand.Conn c) acts h.run_queue
 
 abbrev pub offers_with : {J S : Type 0} → ℕ → List (Act J) → Held S → List (StrandId × Place)
-offers_with c acts h = h.offer_queue ++ with_strand (strand.Conn c) (offers acts)
+offers_with c acts h = placed (strand.Conn c) acts h.offer_queue
 
 -- what happened to c's strand, and to all, once it is shown something
 abbrev pub local_turn : {J : Type 0} → Behavior J → ℕ → Seen → List (GlobalAction J) → List (LocalAction J)
@@ -151,6 +161,9 @@ module _ {J S : Type 0} (b : Behavior J) (st : S → List (LocalAction J) → Ty
     pub forgotten : (t : ℕ) → lives (projection (strand.Conn t) ms) ≡ false → book.has_ended (id.Conn t) ≡ false
     pub flip_to_runs : h.in_offers ≡ false → offers_last ms ≡ true → h.offer_queue ≡ []
     pub flip_to_offers : h.in_offers ≡ true → offers_last ms ≡ false → h.run_queue ≡ []
+    -- Stop still ends strands
+    pub stops : (last : Option ℕ) → h.ending ≡ stop.After last → phase ms ≡ Stopping
+    pub agenda : agenda b ms ≡ []
     pub common : Common b h.run_queue h.offer_queue h.now h.connections book ms
 
   -- within a turn of the connection c's strand, which is out of its seat: what is known of the others. `al` says whether it lives,
@@ -169,6 +182,7 @@ module _ {J S : Type 0} (b : Behavior J) (st : S → List (LocalAction J) → Ty
     pub client : is_open place.Client (projection (strand.Conn c) ms) ≡ opened
     pub no_socket : (k : ℕ) → is_open (place.Sock k) (projection (strand.Conn c) ms) ≡ false
     pub own_aside : book.strand_aside (strand.Conn c) ≡ al
+    pub stops : (last : Option ℕ) → h.ending ≡ stop.After last → phase ms ≡ Stopping
     pub common : Common b next_runs next_offers h.now h.connections book ms
 
   -- within a turn of c's strand: these acts are still to be carried out
@@ -179,6 +193,7 @@ module _ {J S : Type 0} (b : Behavior J) (st : S → List (LocalAction J) → Ty
     pub threads : lined_up acts (only (strand.Conn c) h.run_queue) ≡ waiting b (projection (strand.Conn c) ms)
     pub offered : only (strand.Conn c) h.offer_queue ++ offers acts ≡ to_offer b (projection (strand.Conn c) ms)
     pub deadlines : armed_by acts [] ≡ armed b (projection (strand.Conn c) ms)
+    pub agenda : armed_with (strand.Conn c) acts [] ≡ agenda b ms
     pub kind : in_offers (projection (strand.Conn c) ms) ≡ h.in_offers
     pub offer : IsOffer go opened (begun_offer (projection (strand.Conn c) ms))
     pub moment : moment (projection (strand.Conn c) ms) ≡ h.now
@@ -195,7 +210,13 @@ module _ {J S : Type 0} (b : Behavior J) (st : S → List (LocalAction J) → Ty
 
   -- c's strand is out of its seat, and is to be given up
   pub record Falls (c : ℕ) (opened : Bool) (h : Held S) (book : Book) (ms : List (GlobalAction J)) : Type 0 where
-    pub around : Around c true opened h h.run_queue h.offer_queue book ms
+    pub next_runs : List (StrandId × ℕ)
+    pub next_offers : List (StrandId × Place)
+    pub around : Around c true opened h next_runs next_offers book ms
+    -- but for its own turns, what is in line is in the queues
+    pub same_runs : without_all (strand.Conn c) next_runs ≡ without_all (strand.Conn c) h.run_queue
+    pub same_offers : without_all (strand.Conn c) next_offers ≡ without_all (strand.Conn c) h.offer_queue
+    pub agenda : without_those (is_of (strand.Conn c)) (agenda b ms) ≡ []
     pub last : offers_last ms ≡ h.in_offers
     pub touched : was_touched (strand.Conn c) ms ≡ true
 

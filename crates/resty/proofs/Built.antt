@@ -1,5 +1,5 @@
 -- A run of a literal site has a history of built entries alone, which are within their ranges.
-use Rattle.std.proofs.Common.{◌≡◌, ◌⊎◌, ℕ, Bool, true, false, not, ◌&&◌, ◌||◌, inl, inr, List, [], ◌∷◌, ◌++◌, All, Option, Some, None, if◌then◌else◌, refl, sym, ap, subst, ◌∙◌}
+use Rattle.std.proofs.Common.{◌≡◌, ◌⊎◌, ℕ, Bool, true, false, not, ◌&&◌, inl, inr, List, [], ◌∷◌, ◌++◌, All, Option, Some, None, if◌then◌else◌, refl, sym, ap, subst, ◌∙◌}
 use Rattle.std.proofs.lemmas.List.Elements.{All-append, All-cons, All-nil}
 use Rattle.resty_base.specs.declared.names.Id.TheVariants as id
 use Rattle.resty_base.specs.declared.names.StrandId.{StrandId}
@@ -18,11 +18,15 @@ use Rattle.strand_contract.specs.declared.turns.Place.{Place}
 use Rattle.strand_contract.specs.declared.turns.Place.TheVariants as place
 use Rattle.strand_contract.specs.declared.turns.Start.TheVariants as start
 use Rattle.strand_contract.specs.declared.turns.Act.{Act}
-use Rattle.strand_contract.specs.Actions.{Moment, Stop, Action, Began, Bytes, Ended, Broken, Ready, Dialled, Refused, Put, Later, Lost, Close, Log, Dict, Take, Dial, Keep, Timer, Dropped, Run, Offer, Due, Halted, Gone, LocalAction, Told, Did, GlobalAction, Of, Everyone, TurnedAway, IdleGave, IdleClosed, is_given}
+use Rattle.strand_contract.specs.Actions.{Moment, Stop, Action, Began, Bytes, Ended, Broken, Ready, Dialled, Refused, Put, Later, Lost, Close, Log, Dict, Take, Dial, Keep, Timer, Dropped, Run, Offer, Due, Halted, Gone, LocalAction, Told, Did}
 use Rattle.strand_contract.specs.Behaviors.{Behavior}
 use Rattle.strand_contract.specs.Alone.{lives, is_open, is_some_left, queued, going_on, begun_offer, offering, todo, Enabled, IsExecution}
-use Rattle.strand_contract.specs.Executions.{projection, id_at, entry_of, entries_of, external, IsPlain, BeginsRight, IsStartOf}
-use Rattle.strand_contract.specs.Order.{was_touched, TurnsInOrder}
+use Rattle.executions.specs.Executions.{GlobalAction, Of, Everyone, TurnedAway, IdleGave, IdleClosed, projection, Throughout}
+use Rattle.executions.specs.Sockets.{id_at}
+use Rattle.executions.specs.Histories.{entries_at, entries_of, external}
+use Rattle.executions.specs.Ordered.{MayDropLiving, IsOrdered}
+use Rattle.executions.specs.Lawful.{BeginsRight, IsStartOf}
+use Rattle.engine.specs.Right.{IsServed, is_served}
 use Rattle.strand_contract.specs.OpenPlaceLaws.{first-open}
 use Rattle.strand_contract.specs.ClientOnly.{HasClientOnly}
 use Rattle.strand_contract.specs.ClientOnlyLaws.{client-only, never, clash}
@@ -42,9 +46,9 @@ IsNumbered (strand.Job n) = ⊥
 -- what is used of an execution, which holds of each earlier part of it too
 record Fine {J : Type 0} (body : List ℕ) (ms : List (GlobalAction J)) : Type 0 where
   alone : (s : StrandId) → IsExecution (literal_behavior body) (projection s ms)
-  begins : BeginsRight ms
-  plain : IsPlain (literal_behavior body) ms
-  turns : TurnsInOrder (literal_behavior body) ms
+  begins : Throughout (BeginsRight (literal_behavior body)) ms
+  ordered : IsOrdered (literal_behavior body) ms
+  served : Throughout IsServed ms
   told : AreToldEntries (external (literal_behavior body) ms)
 
 unlike : {C : Type 0} → false ≡ true → C
@@ -63,9 +67,9 @@ split h all = (λ k e within. (all k e within).0, λ k e within. (all k e within
 one : (e : Entry) → IsFit e → All IsFit (e ∷ [])
 one e fit = All-cons IsFit e [] fit (All-nil IsFit)
 
-begun-numbered : (J : Type 0) (s : StrandId) (c : ℕ) → IsStartOf {J = J} s (start.Client c) → IsOrdinal c → IsNumbered s
-begun-numbered J (strand.Conn k) c same small = subst IsOrdinal same small
-begun-numbered J (strand.Job k) c same small = absurd same
+begun-numbered : {J : Type 0} (b : Behavior J) (s : StrandId) (c : ℕ) (ms : List (GlobalAction J)) → IsStartOf b s (start.Client c) ms → IsOrdinal c → IsNumbered s
+begun-numbered b (strand.Conn k) c ms same small = subst IsOrdinal (sym same) small
+begun-numbered b (strand.Job k) c ms same small = absurd same
 
 opened-queue : (c : Bool) (bytes : List ℕ) → is_some_left (if c then bytes else []) ≡ true → c ≡ true
 opened-queue true bytes some = refl
@@ -93,65 +97,34 @@ module _ {J : Type 0} where
   alone-tail b (Everyone w) ms s f = tail-execution b (lives (projection s ms)) (Told w) (projection s ms) f
   alone-tail b m ms s f = f
 
-  begins-tail : (m : GlobalAction J) (ms : List (GlobalAction J)) → BeginsRight (m ∷ ms) → BeginsRight ms
-  begins-tail (Of s (Began now begin) n) ms f = f.0
-  begins-tail m ms f = f
-
-  plain-tail : (b : Behavior J) (m : GlobalAction J) (ms : List (GlobalAction J)) → IsPlain b (m ∷ ms) → IsPlain b ms
-  plain-tail b (Of s (Began now (start.Client c)) n) ms f = f.0
-  plain-tail b (Of s (Dict zone call answer) n) ms f = absurd f
-  plain-tail b (Of s (Take key uses) n) ms f = absurd f
-  plain-tail b (Of s (Dial host port done) n) ms f = absurd f
-  plain-tail b (Of s (Keep k key idle size) n) ms f = absurd f
-  plain-tail b (Of s (Timer at answer) n) ms f = absurd f
-  plain-tail b (TurnedAway c) ms f = f.0
-  plain-tail b (IdleGave e) ms f = absurd f
-  plain-tail b (IdleClosed n) ms f = absurd f
-  plain-tail b m ms f = f
-
-  turns-tail : (b : Behavior J) (m : GlobalAction J) (ms : List (GlobalAction J)) → TurnsInOrder b (m ∷ ms) → TurnsInOrder b ms
-  turns-tail b (Of s (Run k) n) ms t = t.0
-  turns-tail b (Of s (Offer q) n) ms t = t.0
-  turns-tail b (Of s (Due k) n) ms t = t.0
-  turns-tail b (Of s Halted n) ms t = t.0
-  turns-tail b (Of s Dropped n) ms t = t.0
-  turns-tail b m ms t = t
-
-  -- a strand to which nothing happened had no part in what the last event began
-  not-touched : (c : Bool) (a : LocalAction J) (es : List (LocalAction J)) (rest : Bool) → (if c then a ∷ es else es) ≡ [] → (es ≡ [] → rest ≡ false) → c || rest ≡ false
-  not-touched true a es rest none more = absurd (let no : a ∷ es ≡ [] = none in cc)
-  not-touched false a es rest none more = more none
-
-  untouched : (s : StrandId) (ms : List (GlobalAction J)) → projection s ms ≡ [] → was_touched s ms ≡ false
-  untouched s [] none = refl
-  untouched s (Of t x n ∷ ms) none = not-touched (same_strand s t) (Did x) (projection s ms) (not (is_given x) && was_touched s ms) none (λ before. and-not (is_given x) (was_touched s ms) (untouched s ms before))
-  untouched s (Everyone w ∷ ms) none = refl
-  untouched s (TurnedAway c ∷ ms) none = refl
-  untouched s (IdleGave e ∷ ms) none = refl
-  untouched s (IdleClosed n ∷ ms) none = untouched s ms none
-
-  -- so it isn't dropped
+  -- a strand to which nothing happened isn't dropped
   never-dropped : {C : Type 0} (body : List ℕ) (s : StrandId) (n : Option ℕ) (ms : List (GlobalAction J)) → Fine body (Of s Dropped n ∷ ms) → projection s ms ≡ [] → C
-  never-dropped body s n ms f none = clash (was_touched s ms) f.turns.2 (untouched s ms none)
+  never-dropped body (strand.Conn c) n ms f none = absurd (subst (λ (es : List (LocalAction J)). MayDropLiving (lives es) (literal_behavior body) (strand.Conn c) ms) none f.ordered.1)
+  never-dropped body (strand.Job j) n ms f none = absurd f.served.1
 
   fine-tail : (body : List ℕ) (m : GlobalAction J) (ms : List (GlobalAction J)) → Fine body (m ∷ ms) → Fine body ms
   fine-tail body m ms f = record {
     alone = λ s. alone-tail (literal_behavior body) m ms s (f.alone s);
-    begins = begins-tail m ms f.begins;
-    plain = plain-tail (literal_behavior body) m ms f.plain;
-    turns = turns-tail (literal_behavior body) m ms f.turns;
+    begins = f.begins.0;
+    ordered = f.ordered.0;
+    served = f.served.0;
     told = older (entries_of (literal_behavior body) m ms) (external (literal_behavior body) ms) f.told;
   }
 
-  no-job : {C : Type 0} (s : StrandId) (n : ℕ) (premature : Bool) (job : J) → IsStartOf s (start.Job n premature job) → C
-  no-job (strand.Conn k) n premature job same = absurd same
-  no-job (strand.Job k) n premature job same = absurd same
+  -- the engine's strands are connections, which do no more than it serves
+  no-job : {C : Type 0} (s : StrandId) (now k : ℕ) (premature : Bool) (job : J) (n : Option ℕ) (ms : List (GlobalAction J)) → IsServed (Of s (Began now (start.Job k premature job)) n) ms → C
+  no-job (strand.Conn c) now k premature job n ms served = unlike served
+  no-job (strand.Job j) now k premature job n ms served = absurd served
+
+  not-served : {C : Type 0} (s : StrandId) (x : Action J) (n : Option ℕ) (ms : List (GlobalAction J)) → IsServed (Of s x n) ms → is_served x ≡ false → C
+  not-served (strand.Conn c) x n ms served off = unlike (sym off ∙ served)
+  not-served (strand.Job j) x n ms served off = absurd served
 
   -- the first action of a strand is its beginning, which is an arrival
   first-numbered : (body : List ℕ) (s : StrandId) (x : Action J) (n : Option ℕ) (ms : List (GlobalAction J)) → Fine body (Of s x n ∷ ms) → projection s ms ≡ [] → Enabled (literal_behavior body) [] (Did x) → IsNumbered s
   first-numbered body s Dropped n ms f none e = never-dropped body s n ms f none
-  first-numbered body s (Began now (start.Client c)) n ms f none e = begun-numbered J s c f.begins.1 f.told.0.1
-  first-numbered body s (Began now (start.Job k premature job)) n ms f none e = no-job s k premature job f.begins.1
+  first-numbered body s (Began now (start.Client c)) n ms f none e = begun-numbered (literal_behavior body) s c ms f.begins.1.0 f.told.0.1
+  first-numbered body s (Began now (start.Job k premature job)) n ms f none e = no-job s now k premature job n ms f.served.1
   first-numbered body s (Bytes q bytes) n ms f none e = unlike e.0.living
   first-numbered body s (Ended q) n ms f none e = unlike e.living
   first-numbered body s (Broken q) n ms f none e = unlike e.living
@@ -166,11 +139,11 @@ module _ {J : Type 0} where
     | inr first ↦ unlike first.0
   ]
   first-numbered body s (Log text done) n ms f none e = no-act _ e.0 e.1
-  first-numbered body s (Dict zone call answer) n ms f none e = absurd f.plain
-  first-numbered body s (Take key uses) n ms f none e = absurd f.plain
-  first-numbered body s (Dial host port done) n ms f none e = absurd f.plain
-  first-numbered body s (Keep k key idle size) n ms f none e = absurd f.plain
-  first-numbered body s (Timer at answer) n ms f none e = absurd f.plain
+  first-numbered body s (Dict zone call answer) n ms f none e = not-served s (Dict zone call answer) n ms f.served.1 refl
+  first-numbered body s (Take key uses) n ms f none e = not-served s (Take key uses) n ms f.served.1 refl
+  first-numbered body s (Dial host port done) n ms f none e = not-served s (Dial host port done) n ms f.served.1 refl
+  first-numbered body s (Keep k key idle size) n ms f none e = not-served s (Keep k key idle size) n ms f.served.1 refl
+  first-numbered body s (Timer at answer) n ms f none e = not-served s (Timer at answer) n ms f.served.1 refl
   first-numbered body s (Run k) n ms f none e = unlike e.0.living
   first-numbered body s (Offer q) n ms f none e = unlike e.0.living
   first-numbered body s (Due k) n ms f none e = unlike e.0.living
@@ -240,9 +213,9 @@ module _ {J : Type 0} where
 
   -- the entry of an action that could come
   entry-fit : (body : List ℕ) (s : StrandId) (x : Action J) (n : Option ℕ) (ms : List (GlobalAction J)) → Fine body (Of s x n ∷ ms) → Fine body ms → Enabled (literal_behavior body) (projection s ms) (Did x)
-      → All IsFit (entry_of (literal_behavior body) s x n ms)
+      → All IsFit (entries_at (literal_behavior body) s x n ms)
   entry-fit body s (Began now (start.Client c)) n ms f g e = one (entry.Given (event.Arrive c)) f.told.0
-  entry-fit body s (Began now (start.Job k premature job)) n ms f g e = no-job s k premature job f.begins.1
+  entry-fit body s (Began now (start.Job k premature job)) n ms f g e = no-job s now k premature job n ms f.served.1
   entry-fit body s (Bytes q bytes) n ms f g e = one (entry.Given (event.Bytes (id_at s q ms) bytes)) f.told.0
   entry-fit body s (Ended q) n ms f g e = one (entry.Given (event.Ended (id_at s q ms))) f.told.0
   entry-fit body s (Broken q) n ms f g e = one (entry.Given (event.Broken (id_at s q ms))) f.told.0
@@ -257,11 +230,11 @@ module _ {J : Type 0} where
       let opened : is_open q (projection s ms) ≡ true = elim e [ inl next ↦ next.1 | inr first ↦ first-open q first.1.0 (projection s ms) first.1.1 ] in
       one (entry.Close (id_at s q ms)) (close-fit s q ms (open-numbered body s q ms g opened) (open-client body (projection s ms) q (g.alone s) opened))
   entry-fit body s (Log text done) n ms f g e = never (todo (literal_behavior body) (projection s ms)) _ (own body (projection s ms) (g.alone s)).to_do e.1 (λ none. absurd none)
-  entry-fit body s (Dict zone call answer) n ms f g e = absurd f.plain
-  entry-fit body s (Take key uses) n ms f g e = absurd f.plain
-  entry-fit body s (Dial host port done) n ms f g e = absurd f.plain
-  entry-fit body s (Keep k key idle size) n ms f g e = absurd f.plain
-  entry-fit body s (Timer at answer) n ms f g e = absurd f.plain
+  entry-fit body s (Dict zone call answer) n ms f g e = not-served s (Dict zone call answer) n ms f.served.1 refl
+  entry-fit body s (Take key uses) n ms f g e = not-served s (Take key uses) n ms f.served.1 refl
+  entry-fit body s (Dial host port done) n ms f g e = not-served s (Dial host port done) n ms f.served.1 refl
+  entry-fit body s (Keep k key idle size) n ms f g e = not-served s (Keep k key idle size) n ms f.served.1 refl
+  entry-fit body s (Timer at answer) n ms f g e = not-served s (Timer at answer) n ms f.served.1 refl
   entry-fit body s Dropped n ms f g e = one (entry.Dropped s) (drop-fit s (elim e [
     | inl alive ↦ living-numbered body s ms g alive
     | inr none ↦ never-dropped body s n ms f none
@@ -280,8 +253,8 @@ module _ {J : Type 0} where
       let number : IsOrdinal c = f.told.1.1.0.1 in
       All-cons IsFit (entry.Close (id.Conn c)) (entry.Turned c ∷ entry.Given (event.Arrive c) ∷ []) (tt, number)
       (All-cons IsFit (entry.Turned c) (entry.Given (event.Arrive c) ∷ []) (tt, number) (one (entry.Given (event.Arrive c)) (tt, number)))
-  entries-fit body (IdleGave e) ms f g = absurd f.plain
-  entries-fit body (IdleClosed n) ms f g = absurd f.plain
+  entries-fit body (IdleGave e) ms f g = absurd f.served.1
+  entries-fit body (IdleClosed n) ms f g = absurd f.served.1
 
   all-fit : (body : List ℕ) (ms : List (GlobalAction J)) → Fine body ms → All IsFit (external (literal_behavior body) ms)
   all-fit body [] f = All-nil IsFit
@@ -291,11 +264,11 @@ module _ {J : Type 0} where
 
   -- the history of an execution of a literal site that tells the lines of a schedule
   pub history-fit : (body : List ℕ) (lines : List SchedLine) (h : List Entry) (offered : List ℕ) (ms : List (GlobalAction J)) → AreEventLines lines → IsTold lines h offered
-      → h ≡ external (literal_behavior body) ms → ((s : StrandId) → IsExecution (literal_behavior body) (projection s ms)) → BeginsRight ms → IsPlain (literal_behavior body) ms → TurnsInOrder (literal_behavior body) ms → All IsBuilt h × IsHistory h
-  history-fit body lines h offered ms whole told is alone begins plain turns = split h (subst (All IsFit) (sym is) (all-fit body ms (record {
+      → h ≡ external (literal_behavior body) ms → ((s : StrandId) → IsExecution (literal_behavior body) (projection s ms)) → Throughout (BeginsRight (literal_behavior body)) ms → IsOrdered (literal_behavior body) ms → Throughout IsServed ms → All IsBuilt h × IsHistory h
+  history-fit body lines h offered ms whole told is alone begins ordered served = split h (subst (All IsFit) (sym is) (all-fit body ms (record {
     alone = alone;
     begins = begins;
-    plain = plain;
-    turns = turns;
+    ordered = ordered;
+    served = served;
     told = subst AreToldEntries (told.steps_history ∙ is) (entries-told (lines ++ told.after) told.steps (subst AreEventLines (sym told.steps_lines) whole) told.steps_right);
   })))

@@ -11,7 +11,7 @@ use Rattle.schedule.specs.declared.replay.Replay.{Replay}
 use Rattle.schedule.specs.ReplayBook.{book_of, Stands, IsFresh, IsLater}
 use Rattle.schedule.specs.Steps.{newest_given}
 use Rattle.schedule.specs.Told.{IsTold}
-use Rattle.strand_contract.specs.Executions.{offered_lengths}
+use Rattle.executions.specs.Histories.{offered_lengths}
 use Rattle.strand.specs.Literal.{literal_behavior}
 use Rattle.engine.specs.Right.{events_of, IsStopped, IsSpent, IsFaulted, IsRight}
 use Rattle.resty.specs.Form.{IsServed}
@@ -88,7 +88,7 @@ passed_run body lines world tells served right =
       steps_offers = s.offered ∙ right.offered;
     } in
     let events : AreEventLines (take world.passed lines) = rw (← tells.course) (events-passed lines world tells served s) in
-    let fit = history-fit body (take world.passed lines) world.history.entries (offered_lengths (literal_behavior body) right.execution) right.execution events told right.history right.lawful.alone right.lawful.begins right.plain right.ordered.turns in
+    let fit = history-fit body (take world.passed lines) world.history.entries (offered_lengths (literal_behavior body) right.execution) right.execution events told right.history right.lawful.alone right.lawful.begins right.ordered right.served in
     record {
       execution = right.execution;
       history = right.history;

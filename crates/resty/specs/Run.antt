@@ -8,10 +8,12 @@ use Rattle.resty.specs.Built.{IsBuilt}
 use Rattle.schedule_text.specs.Accepted.{IsHistory, IsHistoryOf}
 use Rattle.schedule_text.specs.EntryTexts.{history_text}
 use Rattle.schedule.specs.Told.{IsTold}
-use Rattle.strand_contract.specs.Actions.{GlobalAction}
+use Rattle.executions.specs.Executions.{GlobalAction}
 use Rattle.strand_contract.specs.Behaviors.{Behavior}
-use Rattle.strand_contract.specs.Executions.{external, offered_lengths, IsLawful, IsKept, IsPlain}
-use Rattle.strand_contract.specs.Order.{IsOrdered}
+use Rattle.executions.specs.Histories.{external, offered_lengths}
+use Rattle.executions.specs.Lawful.{IsLawful, IsKept}
+use Rattle.executions.specs.Plain.{IsPlain}
+use Rattle.executions.specs.Ordered.{IsOrdered}
 use Rattle.engine.specs.Right.{IsStopped, IsSpent}
 
 -- The history of a run of these lines: it is that of one execution, which is lawful, kept, plain and ordered, and it tells the

@@ -1,11 +1,9 @@
--- What happens: to one strand, and to all of them. Lists of actions have the newest first.
+-- What happens to one strand. Lists of actions have the newest first.
 use Rattle.std.specs.Prelude.{ℕ, Bool, true, false, List, Option, ◌==◌}
 use Rattle.resty_base.specs.declared.names.Ms.{Ms}
-use Rattle.resty_base.specs.declared.names.StrandId.{StrandId}
 use Rattle.resty_base.specs.declared.dictionary.DictCall.{DictCall}
 use Rattle.resty_base.specs.declared.dictionary.DictAnswer.{DictAnswer}
 use Rattle.resty_world.specs.declared.answers.TimerAnswer.{TimerAnswer}
-use Rattle.resty_world.specs.declared.event.Event.{Event}
 use Rattle.strand_contract.specs.declared.turns.Place.{Place}
 use Rattle.strand_contract.specs.declared.turns.Place.TheVariants as place
 use Rattle.strand_contract.specs.declared.turns.Start.{Start}
@@ -51,17 +49,6 @@ pub data Action (J : Type 0) : Type 0 where
 pub data LocalAction (J : Type 0) : Type 0 where
   Told : (w : Word) → LocalAction J
   Did : (x : Action J) → LocalAction J
-
--- an execution of all strands
-pub data GlobalAction (J : Type 0) : Type 0 where
-  -- of one strand; with the world's number of the socket that it gains, or of the pool's that its keeping closes
-  Of : (s : StrandId) (x : Action J) (sock : Option ℕ) → GlobalAction J
-  Everyone : (w : Word) → GlobalAction J
-  -- a connection is turned away as it arrives
-  TurnedAway : (c : ℕ) → GlobalAction J
-  -- an idle socket of the pool gives something, or is closed
-  IdleGave : (e : Event) → GlobalAction J
-  IdleClosed : (n : ℕ) → GlobalAction J
 
 -- two places are the same
 abbrev pub same_place : Place → Place → Bool

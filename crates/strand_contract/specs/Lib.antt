@@ -3,8 +3,6 @@ pub mod Behaviors
 pub mod Alone
 pub mod Calls
 pub mod Laws
-pub mod Executions
-pub mod Order
 pub mod Mute
 pub mod OpenPlaceLaws
 pub mod ClientOnly

@@ -3,10 +3,11 @@ use Rattle.std.proofs.Common.{◌≡◌, inl, inr, true, false, List, [], ◌∷
 use Rattle.resty_base.specs.declared.names.StrandId.{StrandId}
 use Rattle.strand_contract.specs.declared.turns.Place.{Place}
 use Rattle.strand_contract.specs.declared.turns.Act.{Act}
-use Rattle.strand_contract.specs.Actions.{Began, Bytes, Ended, Broken, Ready, Dialled, Refused, Put, Later, Lost, Close, Log, Dict, Take, Dial, Keep, Timer, Dropped, Run, Offer, Due, Halted, Gone, LocalAction, Told, Did, GlobalAction}
+use Rattle.strand_contract.specs.Actions.{Began, Bytes, Ended, Broken, Ready, Dialled, Refused, Put, Later, Lost, Close, Log, Dict, Take, Dial, Keep, Timer, Dropped, Run, Offer, Due, Halted, Gone, LocalAction, Told, Did}
+use Rattle.executions.specs.Executions.{GlobalAction, projection}
 use Rattle.strand_contract.specs.Behaviors.{Behavior}
 use Rattle.strand_contract.specs.Alone.{IsQuiescent, lives, was_dropped, is_open, todo, IsExecution}
-use Rattle.strand_contract.specs.Executions.{projection, IsLawful}
+use Rattle.executions.specs.Lawful.{IsLawful}
 use Rattle.strand_contract.specs.ClientOnly.{IsOver}
 use Rattle.strand_contract.specs.Laws.{IsQuiet}
 use Rattle.strand_contract.specs.ClientOnlyLaws.{over}
@@ -60,7 +61,7 @@ module _ {J : Type 0} where
 
   -- and all of them are in the end
   pub closed : (b : Behavior J) (s : StrandId) (q : Place) (ms : List (GlobalAction J)) → IsLawful b ms → was_dropped (projection s ms) ≡ true → is_open q (projection s ms) ≡ false
-  closed b s q ms lawful w = no-place-open q (projection s ms) ((lawful.rests s).closed (fallen b (projection s ms) (lawful.alone s) w))
+  closed b s q ms lawful w = no-place-open q (projection s ms) ((lawful.rests.each s).closed (fallen b (projection s ms) (lawful.alone s) w))
 
   -- before it was dropped it had done what it does alone
   alone-before : (b : Behavior J) (es : List (LocalAction J)) → IsExecution b es → IsExecution b (before_drop es)

@@ -4,14 +4,17 @@ use Rattle.resty_base.specs.declared.names.StrandId.{StrandId}
 use Rattle.strand_contract.specs.declared.turns.Place.{Place}
 use Rattle.strand_contract.specs.declared.turns.Place.TheVariants as place
 use Rattle.strand_contract.specs.declared.turns.Start.TheVariants as start
-use Rattle.strand_contract.specs.Actions.{Moment, Action, Began, Bytes, Ready, Run, Offer, Due, Halted, Dropped, LocalAction, Told, Did, GlobalAction, Of, is_given}
+use Rattle.strand_contract.specs.Actions.{Moment, Action, Began, Bytes, Ready, Run, Offer, Due, Halted, Dropped, LocalAction, Told, Did, is_given}
+use Rattle.executions.specs.Executions.{GlobalAction, Of, projection}
 use Rattle.strand_contract.specs.Behaviors.{Behavior}
 use Rattle.strand_contract.specs.Alone.{lives, is_open, open_places, was_put_off, is_winding_up, queued, due, Enabled, IsExecution, IsQuiescent, KeepsNothingBack}
-use Rattle.strand_contract.specs.Executions.{projection, IsLawful}
+use Rattle.executions.specs.Strands.{is_under_way, NoneUnderWay}
+use Rattle.executions.proofs.Strands.{none-is-so}
+use Rattle.executions.specs.Lawful.{IsLawful}
 use Rattle.strand_contract.specs.Laws.{Grows, WakesQuietly}
 use Rattle.strand_contract.specs.Mute.{was_halted}
 use Rattle.strand_contract.specs.OpenPlaceLaws.{place-self}
-use Rattle.strand_contract.specs.Order.{IsOrdered}
+use Rattle.executions.specs.Ordered.{IsOrdered}
 use Rattle.strand_laws.specs.Examples.{waker, begun, sends_anew, arms_at_a_moment, began_premature, begins_turn}
 use Rattle.strand_laws.proofs.OwnSteps.{clash}
 
@@ -62,15 +65,21 @@ module _ {J : Type 0} where
   pub dropped-first : (b : Behavior J) → IsExecution b (Did Dropped ∷ []) × IsQuiescent b (Did Dropped ∷ [])
   dropped-first b = ((tt, inr refl), record { idle = λ live. clash live refl; closed = λ off. refl })
 
+  still-open : (b : Behavior J) (s : StrandId) (q : Place) (rest : List Place) (ms : List (GlobalAction J)) → lives (projection s ms) ≡ false → open_places (projection s ms) ≡ q ∷ rest → NoneUnderWay b ms → ⊥
+  still-open b s q rest ms gone open_ none = clash (way gone open_) (none-is-so (is_under_way b) ms refl none s)
+    where
+      way : lives (projection s ms) ≡ false → open_places (projection s ms) ≡ q ∷ rest → is_under_way b (projection s ms) ≡ true
+      way off some = rw (off, some) refl
+
   -- what a dropped strand leaves open is closed first
   pub closed-first : (b : Behavior J) (s t : StrandId) (x : Action J) (n : Option ℕ) (q : Place) (rest : List Place) (ms : List (GlobalAction J))
       → lives (projection s ms) ≡ false → open_places (projection s ms) ≡ q ∷ rest
       → IsLawful b (Of t x n ∷ ms) → IsOrdered b (Of t x n ∷ ms) → (begins_turn x ≡ true) ⊎ (is_given x ≡ true) → ⊥
-  closed-first b s t x n q rest ms gone open_ lawful ordered (inr given) = some-open _ rest q ((lawful.given.1 given s).closed gone) open_
-  closed-first b s t (Run k) n q rest ms gone open_ lawful ordered (inl begins) = some-open _ rest q ((ordered.turns.1 s).closed gone) open_
-  closed-first b s t (Offer p) n q rest ms gone open_ lawful ordered (inl begins) = some-open _ rest q ((ordered.turns.1 s).closed gone) open_
-  closed-first b s t (Due k) n q rest ms gone open_ lawful ordered (inl begins) = some-open _ rest q ((ordered.turns.1 s).closed gone) open_
-  closed-first b s t Halted n q rest ms gone open_ lawful ordered (inl begins) = some-open _ rest q ((ordered.turns.1 s).closed gone) open_
+  closed-first b s t x n q rest ms gone open_ lawful ordered (inr given) = some-open _ rest q (((lawful.given.1 given).each s).closed gone) open_
+  closed-first b s t (Run k) n q rest ms gone open_ lawful ordered (inl begins) = still-open b s q rest ms gone open_ ordered.1.0
+  closed-first b s t (Offer p) n q rest ms gone open_ lawful ordered (inl begins) = still-open b s q rest ms gone open_ ordered.1.0
+  closed-first b s t (Due k) n q rest ms gone open_ lawful ordered (inl begins) = still-open b s q rest ms gone open_ ordered.1.0
+  closed-first b s t Halted n q rest ms gone open_ lawful ordered (inl begins) = still-open b s q rest ms gone open_ ordered.1.0
   closed-first b s t x n q rest ms gone open_ lawful ordered (inl begins) = clash begins refl
 
   -- a reply that is sent anew isn't behind what was sent

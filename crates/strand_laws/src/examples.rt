@@ -4,13 +4,15 @@
 ghost use Rattle.std.specs.Prelude.{◌≡◌, ◌⊎◌, ℕ, List, [], ◌∷◌, Option, true, false};
 ghost use Rattle.resty_base.specs.declared.names.StrandId.{StrandId};
 ghost use Rattle.strand_contract.specs.declared.turns.Place.{Place};
-ghost use Rattle.strand_contract.specs.Actions.{Moment, Action, Ready, Due, Dropped, LocalAction, Told, Did, GlobalAction, Of, is_given};
+ghost use Rattle.strand_contract.specs.Actions.{Moment, Action, Ready, Due, Dropped, LocalAction, Told, Did, is_given};
+ghost use Rattle.executions.specs.Executions.{GlobalAction, Of};
 ghost use Rattle.strand_contract.specs.Alone.{lives, is_open, open_places, was_put_off, queued, Enabled, IsExecution, IsQuiescent, KeepsNothingBack};
 ghost use Rattle.strand_contract.specs.Behaviors.{Behavior};
-ghost use Rattle.strand_contract.specs.Executions.{projection, IsLawful};
+ghost use Rattle.executions.specs.Executions.{projection};
+ghost use Rattle.executions.specs.Lawful.{IsLawful};
 ghost use Rattle.strand_contract.specs.Laws.{Grows, WakesQuietly};
 ghost use Rattle.strand_contract.specs.Mute.{was_halted};
-ghost use Rattle.strand_contract.specs.Order.{IsOrdered};
+ghost use Rattle.executions.specs.Ordered.{IsOrdered};
 ghost use Rattle.strand_laws.specs.Examples.{waker, begun, sends_anew, arms_at_a_moment, began_premature, begins_turn};
 
 /// A strand that armed a deadline for the present moment is at rest. The deadline doesn't come due until a moment is told; then

@@ -4,11 +4,14 @@ ghost use Rattle.std.specs.Prelude.{◌≡◌, ℕ, List, ◌∷◌, ◌++◌, O
 ghost use Rattle.resty_base.specs.declared.names.StrandId.{StrandId};
 ghost use Rattle.resty_world.specs.Ids.{same_strand};
 ghost use Rattle.strand_contract.specs.declared.turns.Place.{Place};
-ghost use Rattle.strand_contract.specs.Actions.{Action, LocalAction, GlobalAction, Of};
+ghost use Rattle.strand_contract.specs.Actions.{Action, LocalAction};
+ghost use Rattle.executions.specs.Executions.{GlobalAction, Of};
 ghost use Rattle.strand_contract.specs.Alone.{lives, is_open, was_dropped, was_put_off, IsExecution, IsQuiescent, IsPrefixOf};
 ghost use Rattle.strand_contract.specs.Behaviors.{Behavior};
 ghost use Rattle.strand_contract.specs.Laws.{IsQuiet, Grows, Keeps};
-ghost use Rattle.strand_contract.specs.Executions.{projection, part, IsLawful};
+ghost use Rattle.executions.specs.Executions.{projection};
+ghost use Rattle.executions.specs.Histories.{part};
+ghost use Rattle.executions.specs.Lawful.{IsLawful};
 ghost use Rattle.strand_laws.specs.Inputs.{Input, gave};
 ghost use Rattle.strand_laws.specs.Drops.{EndsByClosings, before_drop};
 ghost use Rattle.strand_laws.specs.Taken.{took};

@@ -5,11 +5,14 @@ use Rattle.resty_world.specs.declared.event.Event.TheVariants as event
 use Rattle.resty_world.specs.declared.entry.Entry.{Entry}
 use Rattle.resty_world.specs.declared.entry.Entry.TheVariants as entry
 use Rattle.resty_world.specs.Ids.{same_strand}
-use Rattle.strand_contract.specs.Actions.{Moment, Action, Dropped, Run, Offer, Due, Halted, Gone, LocalAction, Told, Did, GlobalAction, Of, Everyone, TurnedAway, IdleGave, IdleClosed, is_internal, is_given}
+use Rattle.strand_contract.specs.Actions.{Moment, Action, Dropped, Run, Offer, Due, Halted, Gone, LocalAction, Told, Did, is_internal, is_given}
+use Rattle.executions.specs.Executions.{GlobalAction, Of, Everyone, TurnedAway, IdleGave, IdleClosed, projection}
 use Rattle.strand_contract.specs.Behaviors.{Behavior}
 use Rattle.strand_contract.specs.Alone.{lives, HasNoWork, Enabled, IsExecution}
-use Rattle.strand_contract.specs.Executions.{projection, external, IsLawful, IsPlain}
-use Rattle.strand_contract.specs.Order.{was_touched, TurnsInOrder, IsOrdered}
+use Rattle.executions.specs.Histories.{external}
+use Rattle.executions.specs.Lawful.{IsLawful}
+use Rattle.executions.specs.Plain.{IsPlain}
+use Rattle.executions.specs.Ordered.{was_touched, MayDropLiving, IsOrdered}
 use Rattle.strand_laws.proofs.OwnSteps.{clash, by_test, is_own, none-at-rest, IsStill, still-none, still-at-rest}
 use Rattle.strand.specs.declared.strand.NoJob.{NoJob}
 use Rattle.strand.specs.Laws.{quiet}
@@ -26,21 +29,9 @@ passes : (c given touched : Bool) → c ≡ false → given ≡ false → (c || 
 passes c given touched h g = rw (h, g) refl
 
 module _ {J : Type 0} where
-  turns-tail : (b : Behavior J) (m : GlobalAction J) (ms : List (GlobalAction J)) → TurnsInOrder b (m ∷ ms) → TurnsInOrder b ms
-  turns-tail b (Of s (Run k) n) ms t = t.0
-  turns-tail b (Of s (Offer q) n) ms t = t.0
-  turns-tail b (Of s (Due k) n) ms t = t.0
-  turns-tail b (Of s Halted n) ms t = t.0
-  turns-tail b (Of s Dropped n) ms t = t.0
-  turns-tail b (Of s x n) ms t = t
-  turns-tail b (Everyone w) ms t = t
-  turns-tail b (TurnedAway c) ms t = t
-  turns-tail b (IdleGave e) ms t = t
-  turns-tail b (IdleClosed n) ms t = t
-
-  turns-below : (b : Behavior J) (above ms : List (GlobalAction J)) → TurnsInOrder b (above ++ ms) → TurnsInOrder b ms
+  turns-below : (b : Behavior J) (above ms : List (GlobalAction J)) → IsOrdered b (above ++ ms) → IsOrdered b ms
   turns-below b [] ms t = t
-  turns-below b (m ∷ above) ms t = turns-below b above ms (turns-tail b m (above ++ ms) t)
+  turns-below b (m ∷ above) ms t = turns-below b above ms t.0
 
   own-internal : (x : Action J) → is_internal x ≡ true → is_own (Did x) ≡ true
   own-internal (Run k) h = refl
@@ -91,8 +82,13 @@ told-idle = record { no_act = refl; no_thread = refl; no_place = refl; no_offer 
 still-told : IsStill behavior told
 still-told = still-none behavior (quiet hi) told (is-begun, (refl, idle)) refl (none-at-rest behavior told told-idle)
 
-turns-at : (ms : List Global) (e : Entry) (h : List Entry) (p : Peeled behavior ms e h) → TurnsInOrder behavior ms → TurnsInOrder behavior (p.top ∷ p.older)
-turns-at ms e h p t = turns-below behavior p.above (p.top ∷ p.older) (subst (TurnsInOrder behavior) p.whole t)
+turns-at : (ms : List Global) (e : Entry) (h : List Entry) (p : Peeled behavior ms e h) → IsOrdered behavior ms → IsOrdered behavior (p.top ∷ p.older)
+turns-at ms e h p t = turns-below behavior p.above (p.top ∷ p.older) (subst (IsOrdered behavior) p.whole t)
+
+-- a connection's strand is dropped at an event of its own
+drop-touched : (living : Bool) (ms : List Global) → MayDropLiving living behavior client ms → was_touched client ms ≡ true
+drop-touched true ms t = t.1
+drop-touched false ms t = absurd t
 
 -- the moment's event doesn't touch the client
 not-his : (ms : List Global) → Fine behavior ms → external behavior ms ≡ entry.Given at_second_2 ∷ entry.Given arrives ∷ entry.Given at_second_1 ∷ [] → was_touched client ms ≡ false
@@ -119,6 +115,6 @@ unordered ms lawful plain ordered is =
     let r : Peeled behavior q.older (entry.Dropped client) (entry.Given at_second_2 ∷ entry.Given arrives ∷ entry.Given at_second_1 ∷ []) = peel behavior q.older _ _ k.plain tt q.rest in
     let l : Fine behavior (r.top ∷ r.older) = fine-at q.older _ _ r k in
     let d = drops behavior r.top r.older l.plain r.left in
-    let turns : TurnsInOrder behavior q.older = turns-tail behavior q.top q.older (turns-at p.older _ _ q (turns-tail behavior p.top p.older (turns-at ms _ _ p ordered.turns))) in
-    let touched : TurnsInOrder behavior (Of client Dropped d.0 ∷ r.older) = subst (λ m. TurnsInOrder behavior (m ∷ r.older)) d.1 (turns-at q.older _ _ r turns) in
-    clash touched.2 (not-his r.older (fine-tail behavior r.top r.older l) r.rest)
+    let turns : IsOrdered behavior q.older = (turns-at p.older _ _ q (turns-at ms _ _ p ordered).0).0 in
+    let touched : IsOrdered behavior (Of client Dropped d.0 ∷ r.older) = subst (λ m. IsOrdered behavior (m ∷ r.older)) d.1 (turns-at q.older _ _ r turns) in
+    clash (drop-touched (lives (projection client r.older)) r.older touched.1) (not-his r.older (fine-tail behavior r.top r.older l) r.rest)

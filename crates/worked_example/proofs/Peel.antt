@@ -1,22 +1,28 @@
 -- The newest entry of a history, and the action that left it.
-use Rattle.std.proofs.Common.{◌≡◌, ℕ, Bool, true, false, List, [], ◌∷◌, ◌++◌, Option, if◌then◌else◌, refl, sym, ap, subst, ◌∙◌}
+use Rattle.std.proofs.Common.{◌≡◌, ◌⊎◌, ℕ, Bool, true, false, List, [], ◌∷◌, ◌++◌, Option, Some, None, if◌then◌else◌, refl, sym, ap, subst, ◌∙◌, inl, inr}
 use Rattle.resty_base.specs.declared.names.StrandId.{StrandId}
+use Rattle.resty_base.specs.declared.names.Id.TheVariants as id
+use Rattle.resty_world.specs.declared.event.Event.{Event}
 use Rattle.resty_world.specs.declared.event.Event.TheVariants as event
 use Rattle.resty_world.specs.declared.entry.Entry.{Entry}
 use Rattle.resty_world.specs.declared.entry.Entry.TheVariants as entry
 use Rattle.resty_world.specs.Ids.{same_strand}
-use Rattle.strand_contract.specs.declared.turns.Start.TheVariants as start
-use Rattle.strand_contract.specs.Actions.{Moment, Stop, Action, Began, Dict, Take, Dial, Keep, Timer, Run, Offer, Due, Halted, Gone, LocalAction, Told, Did, GlobalAction, Of, Everyone, TurnedAway, IdleGave, IdleClosed, is_internal}
+use Rattle.strand_contract.specs.Actions.{Moment, Stop, Action, Keep, Run, Offer, Due, Halted, Gone, LocalAction, Told, Did, is_internal}
+use Rattle.executions.specs.Executions.{GlobalAction, Of, Everyone, TurnedAway, IdleGave, IdleClosed, projection, present, Throughout}
 use Rattle.strand_contract.specs.Behaviors.{Behavior}
 use Rattle.strand_contract.specs.Alone.{lives, IsExecution}
-use Rattle.strand_contract.specs.Executions.{projection, part, without_internal, entry_of, word_entry, entries_of, external, present, IsPlain, BeginsRight, IsGivenAtRest}
+use Rattle.executions.specs.Histories.{part, without_internal, entries_at, word_entry, entries_of, external, closing}
+use Rattle.executions.specs.Plain.{IsPlain, IsOfIdle}
+use Rattle.executions.specs.Lawful.{BeginsRight, IsGivenAtRest}
+use Rattle.plain_rules.specs.declared.sockets.Idle.{Idle}
+use Rattle.executions.specs.Sockets.{pool, event_socket, closed_by}
 use Rattle.strand_laws.proofs.OwnSteps.{clash, by_test}
 
 -- what of the relations holds of every earlier part, too
 pub record Fine {J : Type 0} (b : Behavior J) (ms : List (GlobalAction J)) : Type 0 where
   pub alone : (s : StrandId) → IsExecution b (projection s ms)
-  pub begins : BeginsRight ms
-  pub given : IsGivenAtRest b ms
+  pub begins : Throughout (BeginsRight b) ms
+  pub given : Throughout (IsGivenAtRest b) ms
   pub plain : IsPlain b ms
 
 abbrev pub IsInternal : {J : Type 0} → List (GlobalAction J) → Type 0
@@ -24,10 +30,15 @@ IsInternal [] = Unit {0}
 IsInternal (Of s x n ∷ ms) = (is_internal x ≡ true) × IsInternal ms
 IsInternal (m ∷ ms) = ⊥
 
--- the next entry isn't that of a connection that is turned away
-abbrev pub IsUnturned : List Entry → Type 0
-IsUnturned (entry.Turned c ∷ h) = ⊥
-IsUnturned h = Unit {0}
+-- the next entry isn't of one action with the newest: it isn't that of a connection that is turned away, of a socket that is kept, or
+-- of an idle socket that is closed for what it gives
+abbrev pub StandsAlone : List Entry → Type 0
+StandsAlone (entry.Turned c ∷ h) = ⊥
+StandsAlone (entry.Keep s n key idle size out ∷ h) = ⊥
+StandsAlone (entry.Given (event.Bytes (id.Sock n) bytes) ∷ h) = ⊥
+StandsAlone (entry.Given (event.Ended (id.Sock n)) ∷ h) = ⊥
+StandsAlone (entry.Given (event.Broken (id.Sock n)) ∷ h) = ⊥
+StandsAlone h = Unit {0}
 
 pub record Peeled {J : Type 0} (b : Behavior J) (ms : List (GlobalAction J)) (e : Entry) (h : List Entry) : Type 0 where
   pub above : List (GlobalAction J)
@@ -38,9 +49,27 @@ pub record Peeled {J : Type 0} (b : Behavior J) (ms : List (GlobalAction J)) (e 
   pub left : entries_of b top older ≡ e ∷ []
   pub rest : external b older ≡ h
 
+gives-some : (o : Option ℕ) (g : Event) (l : List Entry) → (closing o ++ entry.Given g ∷ []) ++ l ≡ [] → ⊥
+gives-some None g l e = cc
+gives-some (Some n) g l e = cc
+
 both-none : (xs ys : List Entry) → xs ++ ys ≡ [] → ys ≡ []
 both-none [] ys e = e
 both-none (x ∷ xs) ys e = absurd (let f : x ∷ (xs ++ ys) ≡ [] = e in cc)
+
+-- an idle socket that is closed for what it gives
+idle-entry : (g : Event) (pool : List Idle) → IsOfIdle pool (event_socket g) → (closed_by g ≡ None) ⊎ ((n : ℕ) × (closed_by g ≡ Some n) × ((h : List Entry) → StandsAlone (entry.Given g ∷ h) → ⊥))
+idle-entry (event.Bytes (id.Sock n) bytes) pool p = inr (n, refl, λ l w. w)
+idle-entry (event.Ended (id.Sock n)) pool p = inr (n, refl, λ l w. w)
+idle-entry (event.Broken (id.Sock n)) pool p = inr (n, refl, λ l w. w)
+idle-entry (event.Ready (id.Sock n)) pool p = inl refl
+idle-entry (event.Dialled n) pool p = inl refl
+idle-entry (event.Refused n) pool p = inl refl
+idle-entry (event.Bytes (id.Conn c) bytes) pool p = absurd p
+idle-entry (event.Ended (id.Conn c)) pool p = absurd p
+idle-entry (event.Broken (id.Conn c)) pool p = absurd p
+idle-entry (event.Ready (id.Conn c)) pool p = absurd p
+idle-entry g pool p = absurd p
 
 module _ {J : Type 0} where
   tail-execution : (b : Behavior J) (c : Bool) (a : LocalAction J) (es : List (LocalAction J)) → IsExecution b (if c then a ∷ es else es) → IsExecution b es
@@ -54,42 +83,24 @@ module _ {J : Type 0} where
   alone-tail b (IdleGave e) ms s f = f
   alone-tail b (IdleClosed n) ms s f = f
 
-  begins-tail : (m : GlobalAction J) (ms : List (GlobalAction J)) → BeginsRight (m ∷ ms) → BeginsRight ms
-  begins-tail (Of s (Began now begin) n) ms f = f.0
-  begins-tail (Of s x n) ms f = f
-  begins-tail (Everyone w) ms f = f
-  begins-tail (TurnedAway c) ms f = f
-  begins-tail (IdleGave e) ms f = f
-  begins-tail (IdleClosed n) ms f = f
-
-  pub plain-tail : (b : Behavior J) (m : GlobalAction J) (ms : List (GlobalAction J)) → IsPlain b (m ∷ ms) → IsPlain b ms
-  plain-tail b (Of s (Began now (start.Client c)) n) ms f = f.0
-  plain-tail b (Of s (Began now (start.Job k premature job)) n) ms f = f
-  plain-tail b (Of s (Dict zone call answer) n) ms f = absurd f
-  plain-tail b (Of s (Take key uses) n) ms f = absurd f
-  plain-tail b (Of s (Dial host port done) n) ms f = absurd f
-  plain-tail b (Of s (Keep k key idle size) n) ms f = absurd f
-  plain-tail b (Of s (Timer at answer) n) ms f = absurd f
-  plain-tail b (Of s x n) ms f = f
-  plain-tail b (Everyone w) ms f = f
-  plain-tail b (TurnedAway c) ms f = f.0
-  plain-tail b (IdleGave e) ms f = absurd f
-  plain-tail b (IdleClosed n) ms f = absurd f
-
   pub fine-tail : (b : Behavior J) (m : GlobalAction J) (ms : List (GlobalAction J)) → Fine b (m ∷ ms) → Fine b ms
   fine-tail b m ms f = record {
     alone = λ s. alone-tail b m ms s (f.alone s);
-    begins = begins-tail m ms f.begins;
+    begins = f.begins.0;
     given = f.given.0;
-    plain = plain-tail b m ms f.plain;
+    plain = f.plain.0;
   }
 
   pub fine-below : (b : Behavior J) (above ms : List (GlobalAction J)) → Fine b (above ++ ms) → Fine b ms
   fine-below b [] ms f = f
   fine-below b (m ∷ above) ms f = fine-below b above ms (fine-tail b m (above ++ ms) f)
 
-  -- an action that isn't internal leaves one entry
-  pub no-entry : (b : Behavior J) (s : StrandId) (x : Action J) (n : Option ℕ) (ms : List (GlobalAction J)) → is_internal x ≡ true → entry_of b s x n ms ≡ []
+  abbrev pub is_keep : Action J → Bool
+  is_keep (Keep k key idle size) = true
+  is_keep x = false
+
+  -- an action that isn't internal leaves one entry; one that keeps a socket may close another before
+  pub no-entry : (b : Behavior J) (s : StrandId) (x : Action J) (n : Option ℕ) (ms : List (GlobalAction J)) → is_internal x ≡ true → entries_at b s x n ms ≡ []
   no-entry b s (Run k) n ms h = refl
   no-entry b s (Offer q) n ms h = refl
   no-entry b s (Due k) n ms h = refl
@@ -97,34 +108,56 @@ module _ {J : Type 0} where
   no-entry b s Gone n ms h = refl
   no-entry b s x n ms h = clash h refl
 
-  pub an-entry : (b : Behavior J) (s : StrandId) (x : Action J) (n : Option ℕ) (ms : List (GlobalAction J)) → is_internal x ≡ false → (e : Entry) × (entry_of b s x n ms ≡ e ∷ [])
-  an-entry b s (Run k) n ms h = clash refl h
-  an-entry b s (Offer q) n ms h = clash refl h
-  an-entry b s (Due k) n ms h = clash refl h
-  an-entry b s Halted n ms h = clash refl h
-  an-entry b s Gone n ms h = clash refl h
-  an-entry b s x n ms h = (_, refl)
+  pub an-entry : (b : Behavior J) (s : StrandId) (x : Action J) (n : Option ℕ) (ms : List (GlobalAction J)) → is_internal x ≡ false → is_keep x ≡ false → (e : Entry) × (entries_at b s x n ms ≡ e ∷ [])
+  an-entry b s (Run k) n ms h g = clash refl h
+  an-entry b s (Offer q) n ms h g = clash refl h
+  an-entry b s (Due k) n ms h g = clash refl h
+  an-entry b s Halted n ms h g = clash refl h
+  an-entry b s Gone n ms h g = clash refl h
+  an-entry b s (Keep k key idle size) n ms h g = clash refl g
+  an-entry b s x n ms h g = (_, refl)
 
-  pub peel : (b : Behavior J) (ms : List (GlobalAction J)) (e : Entry) (h : List Entry) → IsPlain b ms → IsUnturned h → external b ms ≡ e ∷ h → Peeled b ms e h
-  peel b [] e h plain turned is = absurd (cc)
-  peel b (Of s x n ∷ ms) e h plain turned is = by_test (is_internal x)
+  keep-entry : (b : Behavior J) (s : StrandId) (x : Action J) (n : Option ℕ) (ms : List (GlobalAction J)) → is_keep x ≡ true
+      → (k : Entry) × (entries_at b s x n ms ≡ closing n ++ k ∷ []) × ((h : List Entry) → StandsAlone (k ∷ h) → ⊥)
+  keep-entry b s (Keep k key idle size) n ms h = (_, refl, λ l w. w)
+  keep-entry b s x n ms h = clash h refl
+
+  -- the newest action left one entry, and it is this
+  one-left : (b : Behavior J) (m : GlobalAction J) (ms : List (GlobalAction J)) (k e : Entry) (h : List Entry) → entries_of b m ms ≡ k ∷ [] → external b (m ∷ ms) ≡ e ∷ h → Peeled b (m ∷ ms) e h
+  one-left b m ms k e h v is =
+      let lists : k ∷ external b ms ≡ e ∷ h = ap (λ l. l ++ external b ms) (sym v) ∙ is in
+      let head : k ≡ e = cc in
+      let tail : external b ms ≡ h = cc in
+      record { above = []; top = m; older = ms; whole = refl; internal = tt; left = v ∙ ap (λ i. i ∷ []) head; rest = tail }
+
+  two-left : (b : Behavior J) (m : GlobalAction J) (ms : List (GlobalAction J)) (c k e : Entry) (h : List Entry) → entries_of b m ms ≡ c ∷ k ∷ [] → ((l : List Entry) → StandsAlone (k ∷ l) → ⊥) → StandsAlone h
+      → external b (m ∷ ms) ≡ e ∷ h → Peeled b (m ∷ ms) e h
+  two-left b m ms c k e h v not-alone alone is =
+      let lists : c ∷ k ∷ external b ms ≡ e ∷ h = ap (λ l. l ++ external b ms) (sym v) ∙ is in
+      let tail : h ≡ k ∷ external b ms = cc in
+      absurd (not-alone (external b ms) (subst StandsAlone tail alone))
+
+  kept-left : (b : Behavior J) (m : GlobalAction J) (ms : List (GlobalAction J)) (n : Option ℕ) (k e : Entry) (h : List Entry) → entries_of b m ms ≡ closing n ++ k ∷ [] → ((l : List Entry) → StandsAlone (k ∷ l) → ⊥) → StandsAlone h
+      → external b (m ∷ ms) ≡ e ∷ h → Peeled b (m ∷ ms) e h
+  kept-left b m ms None k e h v not-alone alone is = one-left b m ms k e h v is
+  kept-left b m ms (Some n) k e h v not-alone alone is = two-left b m ms (entry.Close (id.Sock n)) k e h v not-alone alone is
+
+  pub peel : (b : Behavior J) (ms : List (GlobalAction J)) (e : Entry) (h : List Entry) → IsPlain b ms → StandsAlone h → external b ms ≡ e ∷ h → Peeled b ms e h
+  peel b [] e h plain alone is = absurd (cc)
+  peel b (Of s x n ∷ ms) e h plain alone is = by_test (is_internal x)
       (λ on.
-      let p : Peeled b ms e h = peel b ms e h (plain-tail b (Of s x n) ms plain) turned (ap (λ l. l ++ external b ms) (sym (no-entry b s x n ms on)) ∙ is) in
+      let p : Peeled b ms e h = peel b ms e h plain.0 alone (ap (λ l. l ++ external b ms) (sym (no-entry b s x n ms on)) ∙ is) in
       record { above = Of s x n ∷ p.above; top = p.top; older = p.older; whole = ap (λ l. Of s x n ∷ l) p.whole; internal = (on, p.internal); left = p.left; rest = p.rest })
-      (λ off.
-      let v : (e : Entry) × (entry_of b s x n ms ≡ e ∷ []) = an-entry b s x n ms off in
-      let lists : v.0 ∷ external b ms ≡ e ∷ h = ap (λ l. l ++ external b ms) (sym v.1) ∙ is in
-      let head : v.0 ≡ e = cc in
-      let tail : external b ms ≡ h = cc in
-      record { above = []; top = Of s x n; older = ms; whole = refl; internal = tt; left = v.1 ∙ ap (λ i. i ∷ []) head; rest = tail })
-  peel b (Everyone w ∷ ms) e h plain turned is =
-      let lists : word_entry w ∷ external b ms ≡ e ∷ h = is in
-      let head : word_entry w ≡ e = cc in
-      let tail : external b ms ≡ h = cc in
-      record { above = []; top = Everyone w; older = ms; whole = refl; internal = tt; left = ap (λ i. i ∷ []) head; rest = tail }
-  peel b (TurnedAway c ∷ ms) e h plain turned is = absurd (subst IsUnturned (let tail : h ≡ entry.Turned c ∷ entry.Given (event.Arrive c) ∷ external b ms = cc in tail) turned)
-  peel b (IdleGave g ∷ ms) e h plain turned is = absurd plain
-  peel b (IdleClosed n ∷ ms) e h plain turned is = absurd plain
+      (λ off. by_test (is_keep x)
+      (λ keep. let k = keep-entry b s x n ms keep in kept-left b (Of s x n) ms n k.0 e h k.1 k.2 alone is)
+      (λ other. let v = an-entry b s x n ms off other in one-left b (Of s x n) ms v.0 e h v.1 is))
+  peel b (Everyone w ∷ ms) e h plain alone is = one-left b (Everyone w) ms (word_entry w) e h refl is
+  peel b (TurnedAway c ∷ ms) e h plain alone is = absurd (subst StandsAlone (let tail : h ≡ entry.Turned c ∷ entry.Given (event.Arrive c) ∷ external b ms = cc in tail) alone)
+  peel b (IdleGave g ∷ ms) e h plain alone is = elim (idle-entry g (pool ms) plain.1) [
+    | inl none ↦ one-left b (IdleGave g) ms (entry.Given g) e h (ap (λ o. closing o ++ entry.Given g ∷ []) none) is
+    | inr w ↦ two-left b (IdleGave g) ms (entry.Close (id.Sock w.0)) (entry.Given g) e h (ap (λ o. closing o ++ entry.Given g ∷ []) w.1) w.2 alone is
+  ]
+  peel b (IdleClosed n ∷ ms) e h plain alone is = one-left b (IdleClosed n) ms (entry.Close (id.Sock n)) e h refl is
 
   -- internal actions don't show
   hidden : (c : Bool) (x : Action J) (es : List (LocalAction J)) → is_internal x ≡ true → without_internal (if c then Did x ∷ es else es) ≡ without_internal es
@@ -149,9 +182,9 @@ module _ {J : Type 0} where
 
   pub present-none : (b : Behavior J) (ms : List (GlobalAction J)) → external b ms ≡ [] → present ms ≡ 0
   present-none b [] h = refl
-  present-none b (Of s x n ∷ ms) h = present-none b ms (both-none (entry_of b s x n ms) (external b ms) h)
+  present-none b (Of s x n ∷ ms) h = present-none b ms (both-none (entries_at b s x n ms) (external b ms) h)
   present-none b (Everyone Stop ∷ ms) h = absurd (cc)
   present-none b (Everyone (Moment t) ∷ ms) h = absurd (cc)
   present-none b (TurnedAway c ∷ ms) h = absurd (cc)
-  present-none b (IdleGave e ∷ ms) h = absurd (cc)
+  present-none b (IdleGave e ∷ ms) h = absurd (gives-some (closed_by e) e (external b ms) h)
   present-none b (IdleClosed n ∷ ms) h = absurd (cc)

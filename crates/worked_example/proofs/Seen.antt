@@ -4,9 +4,9 @@ use Rattle.std.proofs.lemmas.Bool.{eqb-true}
 use Rattle.resty_base.specs.declared.names.StrandId.{StrandId}
 use Rattle.resty_base.specs.declared.names.StrandId.TheVariants as strand
 use Rattle.resty_world.specs.Ids.{same_strand}
-use Rattle.strand_contract.specs.Actions.{LocalAction, Did, Told, GlobalAction, Of, Everyone, TurnedAway, IdleGave, IdleClosed}
+use Rattle.strand_contract.specs.Actions.{LocalAction, Did, Told}
+use Rattle.executions.specs.Executions.{GlobalAction, Of, Everyone, TurnedAway, IdleGave, IdleClosed, projection}
 use Rattle.strand_contract.specs.Alone.{lives}
-use Rattle.strand_contract.specs.Executions.{projection}
 use Rattle.strand_laws.proofs.OwnSteps.{clash, by_test}
 
 abbrev pub client : StrandId

@@ -7,10 +7,13 @@ use Rattle.resty_world.specs.declared.entry.Entry.{Entry}
 use Rattle.resty_world.specs.declared.entry.Entry.TheVariants as entry
 use Rattle.strand_contract.specs.declared.turns.Place.TheVariants as place
 use Rattle.strand_contract.specs.declared.turns.Start.TheVariants as start
-use Rattle.strand_contract.specs.Actions.{Moment, Began, Bytes, Put, Close, LocalAction, Did, GlobalAction, Of, Everyone}
+use Rattle.strand_contract.specs.Actions.{Moment, Began, Bytes, Put, Close, LocalAction, Did}
+use Rattle.executions.specs.Executions.{GlobalAction, Of, Everyone, projection, present}
 use Rattle.strand_contract.specs.Behaviors.{Behavior}
 use Rattle.strand_contract.specs.Alone.{was_dropped, IsExecution, IsQuiescent}
-use Rattle.strand_contract.specs.Executions.{projection, part, without_internal, external, present, AllQuiescent, IsLawful, IsPlain}
+use Rattle.executions.specs.Histories.{part, without_internal, external}
+use Rattle.executions.specs.Lawful.{AllAtRest, IsLawful}
+use Rattle.executions.specs.Plain.{IsPlain}
 use Rattle.strand_laws.specs.Inputs.{gave}
 use Rattle.strand_laws.proofs.OwnSteps.{IsStill, still-offered, still-at-rest}
 use Rattle.strand_laws.proofs.Alone.{one}
@@ -21,11 +24,10 @@ use Rattle.strand.specs.Examples.{hi, hi_reply}
 use Rattle.strand.specs.Laws.{quiet}
 use Rattle.strand.specs.Literal.{literal_behavior}
 use Rattle.strand.specs.Replies.{reply}
-use Rattle.worked_example.specs.Exchange.{request, asked, at_second_1}
-use Rattle.worked_example.specs.Exchange.{arrives as arrival, asks as question}
+use Rattle.worked_example.specs.Exchange.{request, asked, at_second_1, arrives as arrival, asks as question}
 use Rattle.worked_example.specs.Spoiled.{HasNoExecution, byte_lost, put_after_stop, date_late, no_close}
 use Rattle.worked_example.proofs.Leaves.{closes, puts, asks, arrives, ticks, stops}
-use Rattle.worked_example.proofs.Peel.{Fine, IsUnturned, Peeled, fine-tail, fine-below, peel, part-below, present-below, present-none}
+use Rattle.worked_example.proofs.Peel.{Fine, StandsAlone, Peeled, fine-tail, fine-below, peel, part-below, present-below, present-none}
 use Rattle.worked_example.proofs.Run.{begun, came, offered, served, is-offered, offered-at, is-served, rests-served}
 use Rattle.worked_example.proofs.Seen.{client}
 
@@ -55,7 +57,7 @@ begun-part ms f is =
     let g : Fine behavior (p.top ∷ p.older) = fine-at ms _ _ p f in
     let t = arrives behavior p.top p.older g.plain g.begins p.left in
     let k : Fine behavior (Of client (Began t.0 (start.Client 1)) t.1 ∷ p.older) = subst (λ m. Fine behavior (m ∷ p.older)) t.2 g in
-    let now : t.0 ≡ 1_000 = k.begins.2 ∙ second-1 p.older (fine-tail behavior p.top p.older g) p.rest in
+    let now : t.0 ≡ 1_000 = k.begins.1.1 ∙ second-1 p.older (fine-tail behavior p.top p.older g) p.rest in
     let none : projection client p.older ≡ [] = (k.alone client).1 in
     part-at ms _ _ p (Of client (Began t.0 (start.Client 1)) t.1) t.2
     ∙ ap (λ l. Did (Began t.0 (start.Client 1)) ∷ without_internal l) none
@@ -87,10 +89,10 @@ closed-part bytes ms f is =
 pub record Before (h : List Entry) : Type 0 where
   pub ms : List Global
   pub fine : Fine behavior ms
-  pub rests : AllQuiescent behavior ms
+  pub rests : AllAtRest behavior ms
   pub history : external behavior ms ≡ h
 
-at-stop : (ms : List Global) (h : List Entry) → Fine behavior ms → IsUnturned h → external behavior ms ≡ entry.Given event.Stop ∷ h → Before h
+at-stop : (ms : List Global) (h : List Entry) → Fine behavior ms → StandsAlone h → external behavior ms ≡ entry.Given event.Stop ∷ h → Before h
 at-stop ms h f turned is =
     let p : Peeled behavior ms (entry.Given event.Stop) h = peel behavior ms (entry.Given event.Stop) h f.plain turned is in
     let g : Fine behavior (p.top ∷ p.older) = fine-at ms _ _ p f in
@@ -105,7 +107,7 @@ pub same : (h : List Entry) (w : Before h) (es fs : List (LocalAction NoJob)) �
 same h w es fs seen whole f kept still e =
     let own : was_dropped (projection client w.ms) ≡ false = sym (dropped-shown (projection client w.ms)) ∙ ap was_dropped seen ∙ whole in
     one behavior (quiet hi) (projection client w.ms) fs (w.fine.alone client) f own kept
-    (still-at-rest behavior (quiet hi) (projection client w.ms) (w.fine.alone client) own (w.rests client)) still
+    (still-at-rest behavior (quiet hi) (projection client w.ms) (w.fine.alone client) own (w.rests.each client)) still
     (sym (gave-shown (projection client w.ms)) ∙ ap gave seen ∙ e)
 
 still-served : IsStill behavior served
@@ -136,7 +138,7 @@ no-put_after_stop ms lawful plain is =
     let q : Peeled behavior p.older (entry.Put (id.Conn 1) hi_reply) (entry.Given event.Stop ∷ asked) = peel behavior p.older _ _ f.plain tt p.rest in
     let w : Before asked = at-stop q.older asked (fine-tail behavior q.top q.older (fine-at p.older _ _ q f)) tt q.rest in
     let e : projection client w.ms ≡ offered = same _ w _ offered (came-part w.ms w.fine w.history) refl is-offered refl (still-offered behavior (quiet hi) offered place.Client is-offered refl refl refl) refl in
-    let none : None ≡ Some place.Client = sym ((subst (IsQuiescent behavior) e (w.rests client)).idle refl).no_offer in
+    let none : None ≡ Some place.Client = sym ((subst (IsQuiescent behavior) e (w.rests.each client)).idle refl).no_offer in
     absurd (cc)
 
 abbrev put_in : List (LocalAction NoJob) → List ℕ

@@ -10,7 +10,8 @@ use Rattle.resty_world.specs.declared.schedule_line.SchedLine.{SchedLine}
 use Rattle.resty_world.specs.declared.schedule_line.SchedLine.TheVariants as line
 use Rattle.strand_contract.specs.declared.turns.Place.TheVariants as place
 use Rattle.strand_contract.specs.declared.turns.Start.TheVariants as start
-use Rattle.strand_contract.specs.Actions.{Moment, Stop, Action, Began, Bytes, Run, Offer, Put, Close, Gone, GlobalAction, Of, Everyone}
+use Rattle.strand_contract.specs.Actions.{Moment, Stop, Action, Began, Bytes, Run, Offer, Put, Close, Gone}
+use Rattle.executions.specs.Executions.{GlobalAction, Of, Everyone}
 use Rattle.strand.specs.declared.strand.NoJob.{NoJob}
 use Rattle.strand.specs.Examples.{hi_reply}
 

@@ -6,9 +6,11 @@ use Rattle.resty_world.specs.declared.event.Event.{Event}
 use Rattle.resty_world.specs.declared.event.Event.TheVariants as event
 use Rattle.resty_world.specs.declared.entry.Entry.{Entry}
 use Rattle.resty_world.specs.declared.entry.Entry.TheVariants as entry
-use Rattle.strand_contract.specs.Actions.{GlobalAction}
-use Rattle.strand_contract.specs.Executions.{external, IsLawful, IsPlain}
-use Rattle.strand_contract.specs.Order.{IsOrdered}
+use Rattle.executions.specs.Executions.{GlobalAction}
+use Rattle.executions.specs.Histories.{external}
+use Rattle.executions.specs.Lawful.{IsLawful}
+use Rattle.executions.specs.Plain.{IsPlain}
+use Rattle.executions.specs.Ordered.{IsOrdered}
 use Rattle.strand.specs.declared.strand.NoJob.{NoJob}
 use Rattle.strand.specs.Examples.{hi, hi_reply}
 use Rattle.strand.specs.Literal.{literal_behavior}
@@ -42,6 +44,11 @@ abbrev pub HasNoOrderedExecution : List Entry → Type 0
 HasNoOrderedExecution h =
     (ms : List (GlobalAction NoJob)) → IsLawful (literal_behavior hi) ms → IsPlain (literal_behavior hi) ms → IsOrdered (literal_behavior hi) ms
     → external (literal_behavior hi) ms ≡ h → ⊥
+
+-- none that is plain has it
+abbrev pub HasNoPlainExecution : List Entry → Type 0
+HasNoPlainExecution h =
+    (ms : List (GlobalAction NoJob)) → IsPlain (literal_behavior hi) ms → external (literal_behavior hi) ms ≡ h → ⊥
 
 -- the request is never given, though the connection is open: Stop closes it
 abbrev pub not_asked : List Entry

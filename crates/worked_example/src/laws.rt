@@ -4,16 +4,16 @@ ghost use Rattle.std.specs.Prelude.{◌≡◌, ℕ, List};
 ghost use Rattle.schedule_text.specs.EntryTexts.{history_text};
 ghost use Rattle.schedule_text.specs.Accepted.{IsRead};
 ghost use Rattle.schedule.specs.Told.{IsTold};
-ghost use Rattle.strand_contract.specs.Executions.{external, offered_lengths, IsLawful, IsKept, IsPlain};
-ghost use Rattle.strand_contract.specs.Order.{IsOrdered};
-ghost use Rattle.strand_contract.specs.Actions.{GlobalAction};
-ghost use Rattle.strand.specs.declared.strand.NoJob.{NoJob};
+ghost use Rattle.executions.specs.Histories.{external, offered_lengths};
+ghost use Rattle.executions.specs.Lawful.{IsLawful, IsKept};
+ghost use Rattle.executions.specs.Plain.{IsPlain};
+ghost use Rattle.executions.specs.Ordered.{IsOrdered};
 ghost use Rattle.strand.specs.Configuration.{IsSite};
 ghost use Rattle.strand.specs.Examples.{hi};
 ghost use Rattle.strand.specs.Literal.{literal_behavior};
 ghost use Rattle.worked_example.specs.Exchange.{lines, history, exchange};
 ghost use Rattle.worked_example.specs.Texts.{configuration_text, schedule_text, exchange_text};
-ghost use Rattle.worked_example.specs.Spoiled.{HasNoExecution, HasNoOrderedExecution};
+ghost use Rattle.worked_example.specs.Spoiled.{HasNoExecution, HasNoPlainExecution, HasNoOrderedExecution};
 ghost use Rattle.worked_example.specs.Spoiled.{byte_lost, put_after_stop, date_late, no_close, not_asked, turned_away, dropped_by_others};
 
 /// The texts of the exchange are those of its configuration, its schedule and its history.
@@ -44,6 +44,6 @@ pub fn no_runs()
 /// Each of told, plain and ordered refuses a history of its own.
 pub fn refusals()
     ensures not_told { (offered : List ℕ) → IsTold lines not_asked offered → ⊥ }
-    ensures not_plain { (ms : List (GlobalAction NoJob)) → IsPlain (literal_behavior hi) ms → external (literal_behavior hi) ms ≡ turned_away → ⊥ }
+    ensures not_plain { HasNoPlainExecution turned_away }
     ensures not_ordered { HasNoOrderedExecution dropped_by_others }
 {}

@@ -1,11 +1,17 @@
-use Rattle.worked_example.proofs.Run.{told, lawful, ordered}
+use Rattle.worked_example.proofs.Run.{told, right}
 use Rattle.worked_example.proofs.laws.a_run.Goals as goal
 
 pub returns-clause-told : goal.returns-clause-told
 returns-clause-told c = told
 
 pub returns-clause-lawful : goal.returns-clause-lawful
-returns-clause-lawful c = lawful
+returns-clause-lawful c = right.0
+
+pub returns-clause-kept : goal.returns-clause-kept
+returns-clause-kept c = right.1
+
+pub returns-clause-plain : goal.returns-clause-plain
+returns-clause-plain c = right.2
 
 pub returns-clause-ordered : goal.returns-clause-ordered
-returns-clause-ordered c = ordered
+returns-clause-ordered c = right.3

@@ -2,7 +2,8 @@ use Rattle.std.proofs.Common.{◌≡◌, ◌∙◌, true, false, None, [], ◌�
 use Rattle.resty_base.specs.declared.names.StrandId.TheVariants as strand
 use Rattle.resty_world.specs.declared.answers.Logged.TheVariants as logged
 use Rattle.strand_contract.specs.declared.turns.Place.TheVariants as place
-use Rattle.strand_contract.specs.Actions.{Of, Close, Log, Gone}
+use Rattle.strand_contract.specs.Actions.{Close, Log, Gone}
+use Rattle.executions.specs.Executions.{Of}
 use Rattle.engine.proofs.Lists.{told-nothing}
 use Rattle.engine.proofs.Acts.{busy-ready, busy-offer, busy-closed, busy-logged, standing-gone, near-falls, falls-kept, client-open, nothing-open, gone-closed}
 use Rattle.engine.proofs.Going.{forgot-work}

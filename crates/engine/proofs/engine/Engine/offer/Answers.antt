@@ -3,7 +3,7 @@ use Rattle.std.proofs.lemmas.Grind.{common_steps}
 use Rattle.resty_base.specs.declared.names.StrandId.TheVariants as strand
 use Rattle.strand_contract.specs.declared.turns.Place.TheVariants as place
 use Rattle.strand_contract.specs.Alone.{piece}
-use Rattle.strand_contract.specs.Executions.{projection}
+use Rattle.executions.specs.Executions.{projection}
 use Rattle.engine.proofs.Writes.{is-not-offered, turn-put, turn-later, turn-lost}
 use Rattle.resty_base.specs.declared.names.Id.TheVariants as id
 use Rattle.resty_world.specs.declared.answers.Wrote.TheVariants as wrote

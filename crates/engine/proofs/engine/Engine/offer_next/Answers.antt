@@ -3,7 +3,8 @@ use Rattle.resty_base.specs.declared.names.StrandId.{StrandId}
 use Rattle.resty_base.specs.declared.names.StrandId.TheVariants as strand
 use Rattle.resty_world.specs.Ids.{same_strand}
 use Rattle.strand_contract.specs.declared.turns.Place.TheVariants as place
-use Rattle.strand_contract.specs.Actions.{Of, Offer}
+use Rattle.strand_contract.specs.Actions.{Offer}
+use Rattle.executions.specs.Executions.{Of}
 use Rattle.engine.specs.Slots.{slot_at}
 use Rattle.engine.specs.Engine.{seat_left}
 use Rattle.engine.proofs.Turns.{busy-offered, falls-offered, skip-offer}

@@ -1,7 +1,7 @@
 use Rattle.std.proofs.Common.{sym, None, ◌∷◌}
 use Rattle.resty_base.specs.declared.names.StrandId.TheVariants as strand
-use Rattle.strand_contract.specs.Actions.{Of}
-use Rattle.strand_contract.specs.Executions.{projection}
+use Rattle.executions.specs.Executions.{Of}
+use Rattle.executions.specs.Executions.{projection}
 use Rattle.strand_contract.specs.Calls.{action_of}
 use Rattle.engine.proofs.Acts.{near-falls}
 use Rattle.engine.proofs.Turns.{turn-busy}

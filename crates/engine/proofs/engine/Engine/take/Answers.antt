@@ -2,7 +2,8 @@ use Rattle.std.proofs.Common.{◌∷◌, refl, subst, arith}
 use Rattle.resty_world.specs.declared.event.Event.{Event}
 use Rattle.resty_world.specs.declared.event.Event.TheVariants as event
 use Rattle.resty_world.specs.Given.{Gave}
-use Rattle.strand_contract.specs.Actions.{Everyone, Moment, Stop}
+use Rattle.strand_contract.specs.Actions.{Moment, Stop}
+use Rattle.executions.specs.Executions.{Everyone}
 use Rattle.engine.proofs.Words.{stands-told}
 use Rattle.engine.proofs.engine.Engine.take.Goals as goal
 

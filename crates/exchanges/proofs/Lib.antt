@@ -1,0 +1,4 @@
+pub mod Same
+pub mod Sound
+pub mod Whole
+pub mod Refused

@@ -1,0 +1,7 @@
+pub mod Strands
+pub mod OwnQueues
+pub mod OwnOffers
+pub mod OwnAgenda
+pub mod Holders
+pub mod OneNext
+pub mod InTurn

@@ -1,0 +1,17 @@
+pub mod Executions
+pub mod Histories
+pub mod Lawful
+pub mod Plain
+pub mod Ordered
+pub mod Strands
+pub mod Phases
+pub mod Queues
+pub mod Sockets
+pub mod Zones
+pub mod Jobs
+pub mod Agenda
+pub mod Counts
+pub mod Beginnings
+pub mod NextActions
+pub mod OwnDeadlines
+pub mod Subsequences
