@@ -17,7 +17,7 @@ use Rattle.strand_contract.specs.Actions.{Moment, Stop, Action, Began, Bytes, Re
 use Rattle.strand_contract.specs.Actions.{Run, Offer, Due, Halted, Gone, LocalAction, Did}
 use Rattle.strand_contract.specs.Behaviors.{Behavior}
 use Rattle.executions.specs.Executions.{GlobalAction, Of, Everyone, TurnedAway, IdleGave, IdleClosed}
-use Rattle.exchanges.specs.Toy.{Op, Sleep, Say, Write, Call, Connect, Receive, GiveBack, At, toy}
+use Rattle.exchanges.specs.Scripts.{Op, Sleep, Say, Write, Call, Connect, Receive, GiveBack, At, script_behavior}
 
 abbrev pub Happens : Type 0
 Happens = List (GlobalAction ℕ)
@@ -62,7 +62,7 @@ abbrev pub jobs : ℕ → List Op
 jobs n = if n == 1 then Write (codes "x") ∷ [] else Sleep 9 ∷ []
 
 abbrev pub b : Behavior ℕ
-b = toy programs jobs 512
+b = script_behavior programs jobs 512
 
 -- a reply is offered, taken whole, and the line is closed
 abbrev pub replies : ℕ → List ℕ → Happens
@@ -255,7 +255,7 @@ none_between =
 
 -- one connection may be open at a time
 abbrev pub narrow : Behavior ℕ
-narrow = toy programs jobs 1
+narrow = script_behavior programs jobs 1
 
 abbrev pub turned : Happens
 turned = reverse (arrive 0 1 ∷ TurnedAway 2 ∷ Everyone Stop ∷ conn 1 Halted ∷ over 1)

@@ -158,19 +158,19 @@ abbrev pub state : (ℕ → List Op) → (ℕ → List Op) → List (LocalAction
 state programs jobs [] = unborn
 state programs jobs (a ∷ es) = (step programs jobs a (state programs jobs es)).0
 
-abbrev pub toy_acts : (ℕ → List Op) → (ℕ → List Op) → List (LocalAction ℕ) → List (Act ℕ)
-toy_acts programs jobs [] = []
-toy_acts programs jobs (a ∷ es) = (step programs jobs a (state programs jobs es)).1
+abbrev pub script_acts : (ℕ → List Op) → (ℕ → List Op) → List (LocalAction ℕ) → List (Act ℕ)
+script_acts programs jobs [] = []
+script_acts programs jobs (a ∷ es) = (step programs jobs a (state programs jobs es)).1
 
-abbrev pub toy_sent : (ℕ → List Op) → (ℕ → List Op) → Place → List (LocalAction ℕ) → List ℕ
-toy_sent programs jobs place.Client es = (state programs jobs es).out
-toy_sent programs jobs (place.Sock k) es = []
+abbrev pub script_sent : (ℕ → List Op) → (ℕ → List Op) → Place → List (LocalAction ℕ) → List ℕ
+script_sent programs jobs place.Client es = (state programs jobs es).out
+script_sent programs jobs (place.Sock k) es = []
 
 -- clients go by the first byte that they send, jobs by what they start with
-abbrev pub toy : (ℕ → List Op) → (ℕ → List Op) → ℕ → Behavior ℕ
-toy programs jobs connections = record {
-  acts = toy_acts programs jobs;
-  sent = toy_sent programs jobs;
+abbrev pub script_behavior : (ℕ → List Op) → (ℕ → List Op) → ℕ → Behavior ℕ
+script_behavior programs jobs connections = record {
+  acts = script_acts programs jobs;
+  sent = script_sent programs jobs;
   zones = 1;
   zone_name = λ z. codes "d";
   zone_size = λ z. 1_048_576;
