@@ -1,5 +1,5 @@
 -- What comes isn't what is next.
-use Rattle.std.specs.Prelude.{◌≡◌, ℕ, zero, suc, Bool, true, false, ◌==◌, ◌&&◌, ℤ, pos, int_le, List, [], ◌∷◌, drop, Some, None, refl, codes}
+use Rattle.std.specs.Prelude.{◌≡◌, ℕ, zero, suc, Bool, true, false, ◌==◌, ◌&&◌, ℤ, pos, int_le, List, [], ◌∷◌, drop, Some, is_some, refl, codes}
 use Rattle.std.proofs.Common.{sym, ◌∙◌, ap, arith}
 use Rattle.resty_base.specs.declared.names.StrandId.TheVariants as strand
 use Rattle.resty_base.specs.declared.dictionary.DictAnswer.TheVariants as answer
@@ -97,6 +97,10 @@ abbrev pub is_numbered : ℕ → GlobalAction ℕ → Bool
 is_numbered k (Of s x (Some n)) = k == n
 is_numbered k m = false
 
+abbrev pub begins_with_a : List ℕ → Bool
+begins_with_a [] = false
+begins_with_a (x ∷ xs) = x == 97
+
 pub not-early-run : IsBeginning b runs_early → ⊥
 not-early-run r = apart (is_conn 2) _ _ refl refl (came _ _ (fewer 11 runs_early r) refl)
 
@@ -110,7 +114,7 @@ pub not-another : IsBeginning b (two_idle 1) → ⊥
 not-another r = apart (is_numbered 1) _ _ refl refl (came _ _ (fewer 2 (two_idle 1) r) refl)
 
 pub not-dialled : IsBeginning b (fails true) → ⊥
-not-dialled r = let e : None ≡ Some 1 = r.plain.1 in cc
+not-dialled r = bad (ap is_some r.plain.1)
 
 pub not-premature : IsBeginning b (premature false) → ⊥
 not-premature r = bad (fewer 3 (premature false) r).begins.1.0.2
@@ -122,7 +126,7 @@ pub not-left-out : IsBeginning b (numbered 2) → ⊥
 not-left-out r = let e : ◌≡◌ {A = ℕ} 2 1 = r.plain.1.1 in absurd (omega (arith, e))
 
 pub not-of-another : IsBeginning b (two_replies (codes "b")) → ⊥
-not-of-another r = let w = ((fewer 9 (two_replies (codes "b")) r).alone (strand.Conn 1)).1.2 in let e : 98 ∷ w.0 ≡ 97 ∷ [] = w.1 in cc
+not-of-another r = bad (ap begins_with_a ((fewer 9 (two_replies (codes "b")) r).alone (strand.Conn 1)).1.2.1)
 
 pub not-by-others : IsBeginning b dropped_by_others → ⊥
 not-by-others r = bad r.ordered.1.1
