@@ -1,12 +1,15 @@
 -- What the words of a directive mean.
-use Rattle.std.specs.Prelude.{ℕ, min, Bool, true, false, not, ◌&&◌, ◌||◌, ◌==◌, nat_le, nat_lt, List, length, codes, bytes_eq, Option, Some, None, option_map}
+use Rattle.std.specs.Prelude.{ℕ, min, Bool, true, false, not, ◌&&◌, ◌||◌, ◌==◌, nat_le, nat_lt, List, length, map, codes, bytes_eq, Option, Some, None, option_map}
 use Rattle.std.specs.Prelude.{if◌then◌else◌}
 use Rattle.std.specs.Option.{option_and_then}
 use Rattle.resty_base.specs.Ascii.{slash}
+use Rattle.http_base.specs.Names.{lower}
 use Rattle.conf_rules.specs.Values.{number_of, size_of, time_of}
 use Rattle.conf_rules.specs.Words.{word, level_in, port_of, are_plain, without_default, is_pattern, is_name, begins_with}
 use Rattle.conf_rules.specs.declared.directives.Directive.{Directive}
 use Rattle.conf_rules.specs.declared.directives.Directive.TheVariants as directive
+use Rattle.conf_rules.specs.declared.directives.Place.{Place}
+use Rattle.conf_rules.specs.declared.directives.Place.TheVariants as place
 use Rattle.conf_rules.specs.declared.effects.LocationKind.{LocationKind}
 use Rattle.conf_rules.specs.declared.effects.LocationKind.TheVariants.{Exact, Prefix, Named}
 use Rattle.conf_rules.specs.declared.effects.Effect.{Effect}
@@ -19,6 +22,10 @@ only words = if length words == 1 then Some (word words 0) else None
 -- a directive without words
 abbrev pub bare : List (List ℕ) → Option Effect
 bare words = if length words == 0 then Some effect.Nothing else None
+
+-- a directive without words that has a block of directives
+abbrev pub opens : Place → List (List ℕ) → Option Effect
+opens place words = if length words == 0 then Some (effect.Opens place) else None
 
 -- `error_log`: a level
 abbrev pub level : List (List ℕ) → Option Effect
@@ -64,9 +71,9 @@ abbrev pub listen : List (List ℕ) → Option Effect
 listen words =
     option_and_then (λ default. option_map (λ port. effect.Listen port default) (port_of (word words 0))) (is_default words)
 
--- `server_name`: one name or more
+-- `server_name`: one name or more, which match in any case
 abbrev pub names : List (List ℕ) → Option Effect
-names words = if length words == 0 then None else Some effect.Names
+names words = if length words == 0 then None else Some (effect.Names (map lower words))
 
 -- from 1 to 64m
 abbrev pub is_dictionary_size : ℕ → Bool
@@ -128,6 +135,9 @@ effect_of directive.AccessLog words = Some effect.Nothing
 effect_of directive.Sendfile words = Some effect.Nothing
 effect_of directive.TcpNopush words = Some effect.Nothing
 effect_of directive.TcpNodelay words = Some effect.Nothing
+effect_of directive.Events words = opens place.Events words
+effect_of directive.Http words = opens place.Http words
+effect_of directive.Server words = opens place.Server words
 effect_of directive.ErrorLog words = level words
 effect_of directive.WorkerConnections words = connections words
 effect_of directive.SocketPoolSize words = pool words

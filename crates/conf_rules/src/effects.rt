@@ -1,13 +1,15 @@
 //! What the words of a directive mean.
-ghost use Rattle.std.specs.Prelude.{◌≡◌, IfOk, option_copied};
+ghost use Rattle.std.specs.Prelude.{◌≡◌, IfOk, map, option_copied};
+ghost use Rattle.http_base.specs.Names.{lower};
 ghost use Rattle.conf_rules.specs.Effects as spec;
 
-use crate::Directive;
+use crate::{Directive, Place};
 use crate::values::{number_of, size_of, time_of};
 use crate::words::{
     are_plain, begins_with, is_name, is_pattern, level_in, port_of, without_default, word,
 };
-use resty_base::Bytes;
+use http_base::lower;
+use resty_base::{ByteLists, Bytes};
 use std::alloc::{AllocError, Global};
 
 /// The most connections that are taken at a time.
@@ -31,7 +33,7 @@ pub enum LocationKind {
 }
 
 /// What a directive says. Sizes are in bytes, times in milliseconds.
-#[derive(Debug, PartialEq, Eq, Drop)]
+#[derive(Debug, Drop)]
 pub enum Effect {
     Nothing,
     /// A log level, from 1 for `emerg` to 8 for `debug`.
@@ -42,12 +44,14 @@ pub enum Effect {
     Text(Bytes),
     /// A port, and whether its server is the default one.
     Listen(u16, bool),
-    /// Names of a server.
-    Names,
+    /// Names of a server, in lower case.
+    Names(ByteLists),
     Dictionary(Bytes, u64),
     Location(LocationKind),
-    /// The number of a block of Lua.
-    Block(usize),
+    /// A block in which directives stand.
+    Opens(Place),
+    /// The number of a block of Lua, which its reader gives.
+    Block(u32),
 }
 
 /// The only word, None where there are more or none.
@@ -67,6 +71,17 @@ fn bare(words: &[Bytes]) -> Option<Effect>
 {
     if words.is_empty() {
         Some(Effect::Nothing)
+    } else {
+        None
+    }
+}
+
+/// What a directive without words says that has a block of directives.
+fn opens(place: Place, words: &[Bytes]) -> Option<Effect>
+    ensures { result ≡ spec.opens place words.now }
+{
+    if words.is_empty() {
+        Some(Effect::Opens(place))
     } else {
         None
     }
@@ -162,15 +177,25 @@ fn listen(words: &[Bytes]) -> Option<Effect>
     Some(Effect::Listen(port, is_default))
 }
 
+/// The names in lower case.
+fn lowered(alloc: Global, words: &[Bytes]) -> Result<ByteLists, AllocError>
+    ensures { IfOk result (λ names. names ≡ map lower words.now) }
+{
+    let mut names = Vec::new(alloc);
+    for word in words {
+        names.push(lower(alloc, word)?)?;
+    }
+    Ok(ByteLists::of(names))
+}
+
 /// What `server_name` says.
-fn names(words: &[Bytes]) -> Option<Effect>
-    ensures { result ≡ spec.names words.now }
+fn names(alloc: Global, words: &[Bytes]) -> Result<Option<Effect>, AllocError>
+    ensures { IfOk result (λ effect. effect ≡ spec.names words.now) }
 {
     if words.is_empty() {
-        None
-    } else {
-        Some(Effect::Names)
+        return Ok(None);
     }
+    Ok(Some(Effect::Names(lowered(alloc, words)?)))
 }
 
 /// Whether the size may be that of a dictionary.
@@ -295,6 +320,9 @@ pub fn effect_of(
         | Directive::Sendfile
         | Directive::TcpNopush
         | Directive::TcpNodelay => Ok(Some(Effect::Nothing)),
+        Directive::Events => Ok(opens(Place::Events, words)),
+        Directive::Http => Ok(opens(Place::Http, words)),
+        Directive::Server => Ok(opens(Place::Server, words)),
         Directive::ErrorLog => Ok(level(words)),
         Directive::WorkerConnections => Ok(connections(words)),
         Directive::SocketPoolSize => Ok(pool(words)),
@@ -308,7 +336,7 @@ pub fn effect_of(
         | Directive::SocketReadTimeout
         | Directive::SocketKeepaliveTimeout => Ok(time(words)),
         Directive::Listen => Ok(listen(words)),
-        Directive::ServerName => Ok(names(words)),
+        Directive::ServerName => names(alloc, words),
         Directive::LuaSharedDict => dictionary(alloc, words),
         Directive::LuaPackagePath => package_path(alloc, words),
         Directive::DefaultType => default_type(alloc, words),

@@ -19,6 +19,16 @@ fn location_text(alloc: Global, kind: &LocationKind) -> Result<String, AllocErro
     }
 }
 
+/// The names as text.
+fn names_text(alloc: Global, names: &[Bytes]) -> Result<String, AllocError> {
+    let mut out = format!(in alloc; "names")?;
+    for name in names {
+        out.push(' ')?;
+        out.push_str(shown(name))?;
+    }
+    Ok(out)
+}
+
 /// What a directive says, as text.
 fn effect_text(alloc: Global, effect: &Effect) -> Result<String, AllocError> {
     match effect {
@@ -30,7 +40,8 @@ fn effect_text(alloc: Global, effect: &Effect) -> Result<String, AllocError> {
         Effect::Text(text) => format!(in alloc; "text {}", shown(text)),
         Effect::Listen(port, true) => format!(in alloc; "default {port}"),
         Effect::Listen(port, false) => format!(in alloc; "port {port}"),
-        Effect::Names => format!(in alloc; "names"),
+        Effect::Names(names) => names_text(alloc, names.as_slice()),
+        Effect::Opens(place) => format!(in alloc; "opens {place:?}"),
         Effect::Dictionary(name, size) => format!(in alloc; "{} of {size}", shown(name)),
         Effect::Location(kind) => location_text(alloc, kind),
         Effect::Block(number) => format!(in alloc; "block {number}"),
@@ -68,7 +79,7 @@ fn words_have_values(rt: HostRuntime) -> Result<(), Fail> {
         (b"user a b c;", "nothing"),
         (b"pid;", "nothing"),
         (b"internal on;", "bad value"),
-        (b"http {", "nothing"),
+        (b"http {", "opens Http"),
         (b"server x {", "bad value"),
         (b"content_by_lua_block x { }", "bad value"),
         (b"error_log x;", "level 4"),
@@ -82,7 +93,7 @@ fn words_have_values(rt: HostRuntime) -> Result<(), Fail> {
         (b"lua_socket_pool_size 4294967295;", "count 4294967295"),
         (b"lua_socket_pool_size 4294967296;", "bad value"),
         (b"server_name;", "bad value"),
-        (b"server_name a B;", "names"),
+        (b"server_name a B;", "names a b"),
     ] {
         let said = said_in(rt.alloc(), text)?;
         assert_eq!(rt; said.as_str(), expected);

@@ -4,4 +4,10 @@
 #[cfg(test)]
 mod directives;
 #[cfg(test)]
+mod faults;
+#[cfg(test)]
 mod items;
+#[cfg(test)]
+mod routes;
+#[cfg(test)]
+mod sites;
