@@ -3,11 +3,11 @@ ghost use Rattle.std.specs.Prelude.{◌≡◌, IfOk, map, option_copied};
 ghost use Rattle.http_base.specs.Names.{lower};
 ghost use Rattle.conf_rules.specs.Effects as spec;
 
-use crate::{Directive, Place};
 use crate::values::{number_of, size_of, time_of};
 use crate::words::{
     are_plain, begins_with, is_name, is_pattern, level_in, port_of, without_default, word,
 };
+use crate::{Directive, Place};
 use http_base::lower;
 use resty_base::{ByteLists, Bytes};
 use std::alloc::{AllocError, Global};
