@@ -1,0 +1,4 @@
+pub mod Recent
+pub mod Keys
+pub mod Kept
+pub mod Changes
