@@ -158,7 +158,7 @@ replace_works S q q' callee old frame new fs before store r lua h kind none e e'
 
     framed : (o : Ending) → finish_from S new o ≡ finish_calls S [] old.below.frames.items (after o (λ sign s w'. Ended (function_end sign) [] w'))
     framed o =
-        ap (λ (b : List Frame). finish_calls S [] b (closed S new.top.kind (around_of [] b) (finish_items S (places_of (around_of [] b) new.top) new.top.items.items o))) h.below
+        ap (λ (b : List Frame). finish_calls S [] b (closed S new.top.kind (around_of [] b) (finish_items S (places_of (around_of [] b) new.top) new.top.items.items o))) (ap (λ (b : Stack). b.frames.items) h.below)
         ∙ ap (λ (f : Frame). finish_calls S [] old.below.frames.items (closed S f.kind (around old) (finish_items S (places_of (around old) f) f.items.items o))) h.top
         ∙ ap (λ (k : Kind). finish_calls S [] old.below.frames.items (closed S k (around old) (finish_items S (places_of (around old) frame) frame.items.items o))) kind
         ∙ ap (λ (items : List Item). finish_calls S [] old.below.frames.items (closed S Lua (around old) (finish_items S (places_of (around old) frame) items o))) none

@@ -155,3 +155,8 @@ work_under S old new fs item q before store r h w =
         ∙ sym (finish_waits S old new item h (do_work (eval S) (q (here old) (slots_of old)) (record { store = before; resumes = rs })))
         ∙ ap (λ (t : Places). finish_from S new (do_work (eval S) (q t (slots_of old)) (record { store = before; resumes = rs }))) (sym (waits_here old new item h))
         ∙ ap (λ (t : Vec Slot Global). finish_from S new (do_work (eval S) (q (here new) t.items) (record { store = before; resumes = rs }))) (sym h.slots)
+
+-- frames in which something was given
+pub ends_finish : {E : Type 0} (S : Setting) (sign : Sign) (old new : Frames) (store : StoreView) (r : Result Flow E) → Ends sign old new r → (rs : List Resume)
+    → finish S new (record { store = store; resumes = rs }) ≡ finish_from S old (Ended sign (slots_of old) (record { store = store; resumes = rs }))
+ends_finish S sign old new store r h rs = rw (h.below, h.top, h.given) refl

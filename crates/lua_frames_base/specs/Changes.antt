@@ -52,6 +52,7 @@ pub record Pushes (line : ℕ) (old : Frames) (frame : Frame) (new : Frames) : T
 pub record Replaces (old : Frames) (frame : Frame) (new : Frames) : Type 0 where
   pub below : new.below ≡ old.below
   pub top : new.top ≡ frame
+  pub given : new.given ≡ old.given
 
 -- the frame below is on top again, or all calls have ended
 abbrev pub GoesBack : Frames → Frames → Flow → Type 0

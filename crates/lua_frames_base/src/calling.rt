@@ -41,7 +41,10 @@ pub fn leave(frames: &mut Frames) -> Result<Flow, AllocError>
             frames.given = signal;
             Ok(go_back(frames))
         }
-        Closing::Handles(handler, fault) => handle(frames, handler, fault),
+        Closing::Handles(handler, fault) => {
+            handle(frames, handler, fault)?;
+            Ok(Flow::Went)
+        }
     }
 }
 
@@ -59,7 +62,7 @@ fn go_back(frames: &mut Frames) -> Flow
 }
 
 /// The handler of `xpcall` is called with a fault, in the frame of its call.
-fn handle(frames: &mut Frames, handler: Value, fault: Value) -> Result<Flow, AllocError>
+fn handle(frames: &mut Frames, handler: Value, fault: Value) -> Result<(), AllocError>
     ensures { OnOk result (Handles frames.old handler fault frames.new) }
 {
     let mut args = frames.lists.values.fresh();
@@ -67,5 +70,5 @@ fn handle(frames: &mut Frames, handler: Value, fault: Value) -> Result<Flow, All
     frames.top.items.push(Item::Call(0, handler, args))?;
     frames.top.kind = Kind::Handling;
     frames.given = Signal::Nothing;
-    Ok(Flow::Went)
+    Ok(())
 }

@@ -47,10 +47,11 @@ fn position_in(program: &Program, function: u32, line: u32) -> Option<Position>
 fn position_below(program: &Program, frames: &[Frame], skip: usize) -> Option<Position>
     ensures { (S : Setting) → S.program ≡ program.now → result ≡ position_of S (drop skip (around_of [] frames.now)) }
 {
-    let mut rest = frames;
     let mut skip = skip;
-    while let [before @ .., frame] = rest {
-        rest = before;
+    let mut i = frames.len();
+    while i > 0 {
+        i -= 1;
+        let frame = &frames[i];
         match frame.kind {
             Kind::Lua => {
                 if skip > 0 {

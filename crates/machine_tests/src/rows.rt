@@ -39,7 +39,6 @@ fn statements_come_to_their_values(rt: HostRuntime) -> Result<(), Fail> {
         ("if nil then return 1 elseif 2 then return 3 end", "Done 3 | 6, 0"),
         ("local a a, a = 1, 2 return a", "Done 1 | 9, 0"),
         ("local x = 1 local f = function() x = x + 1 return x end f() return f(), x", "Done 3, 3 | 28, 56"),
-        ("while true do end", "Spent"),
     ] {
         let shown = outcome(alloc, text, &[])?;
         assert_eq!(rt; shown.as_str(), expected);
@@ -54,8 +53,6 @@ fn calls_come_to_their_values(rt: HostRuntime) -> Result<(), Fail> {
         ("local function f(...) return ... end return f(1, 2, 3)", "Done 1, 2, 3 | 14, 32"),
         ("local function f(...) return (...), ... end return f(1, 2)", "Done 1, 1, 2 | 15, 32"),
         ("local function f(n) if n == 0 then return 0 end return f(n - 1) end return f(3)", "Done 0 | 46, 56"),
-        ("local function f() return f() end f()", "Spent"),
-        ("pcall(function() while true do end end) return 1", "Spent"),
         ("return pcall(error, \"x\")", "Done false, \"t.conf:1: x\" | 8, 0"),
         ("return pcall(error)", "Done false, nil | 7, 0"),
         ("return pcall()", "Failed \"t.conf:1: bad argument #1 to 'pcall' (value expected, got no value)\" | 5, 0"),
@@ -70,6 +67,20 @@ fn calls_come_to_their_values(rt: HostRuntime) -> Result<(), Fail> {
         ("return assert(false)", "Failed \"t.conf:1: assertion failed!\" | 6, 0"),
         ("return assert(nil, \"m\")", "Failed \"t.conf:1: m\" | 7, 0"),
         ("return assert(1, 2, 3)", "Done 1, 2, 3 | 8, 0"),
+    ] {
+        let shown = outcome(alloc, text, &[])?;
+        assert_eq!(rt; shown.as_str(), expected);
+    }
+    Ok(())
+}
+
+#[test]
+fn limits_end_a_program(rt: HostRuntime) -> Result<(), Fail> {
+    let alloc = rt.alloc();
+    for (text, expected) in [
+        ("while true do end", "Spent"),
+        ("local function f() return f() end f()", "Spent"),
+        ("pcall(function() while true do end end) return 1", "Spent"),
         ("local function f() return 1 + f() end return pcall(f)", "Done false, \"t.conf:1: stack overflow\" | 30002, 56"),
     ] {
         let shown = outcome(alloc, text, &[])?;

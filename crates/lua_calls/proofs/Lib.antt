@@ -1,0 +1,4 @@
+pub mod CalleeLemmas
+pub mod BodyLemmas
+pub mod NativeLemmas
+pub mod NativeForms
