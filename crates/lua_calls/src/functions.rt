@@ -4,7 +4,7 @@ ghost use Rattle.std.specs.Prelude.{◌≡◌, ℕ, true, false, slice_get, nat_
 ghost use Rattle.lua_values.specs.Heap.{StoreView};
 ghost use Rattle.lua_meaning.specs.Setting.{Setting};
 ghost use Rattle.lua_meaning.specs.Positions.{callers_at};
-ghost use Rattle.lua_meaning.specs.Calls.{slots_from, extras_of, calling, around_callee, most_callers};
+ghost use Rattle.lua_meaning.specs.Calls.{argument, slots_from, extras_of, calling, around_callee, most_callers};
 ghost use Rattle.lua_frames_base.specs.Frames.{here, slots_of};
 ghost use Rattle.lua_frames_base.specs.Follows.{Works};
 ghost use Rattle.lua_calls.specs.CallEnds.{closure_called, function_called, body_called};
@@ -34,30 +34,27 @@ fn extras_of(alloc: Global, f: &Function, args: &[Value]) -> Result<Vec<Value>, 
     }
 }
 
-/// The next argument, of some in reverse, if it is one of a parameter.
-fn next_argument(reversed: &mut Vec<Value>, is_parameter: bool) -> Value
+/// The argument of a slot: that of a parameter if it is there, else nil.
+fn argument(args: &[Value], i: usize, params: usize) -> Result<Value, AllocError>
+    ensures { IfOk result (λ value. value ≡ argument i params args.now) }
 {
-    if !is_parameter {
-        return Value::Nil;
+    if i >= params {
+        return Ok(Value::Nil);
     }
-    match reversed.pop() {
-        None => Value::Nil,
-        Some(value) => value,
+    match args.get(i) {
+        None => Ok(Value::Nil),
+        Some(value) => value.clone(),
     }
 }
 
 /// The slots of a call: those of parameters have the arguments, and all others nil.
-fn slots_of_call(lists: &mut Lists, f: &Function, args: Vec<Value>) -> Result<Vec<Slot>, AllocError>
-    ensures { IfOk result (λ slots. slots.items ≡ slots_from f.now.slots 0 f.now.params args.items) }
+fn slots_of_call(lists: &mut Lists, count: usize, params: usize, args: &[Value]) -> Result<Vec<Slot>, AllocError>
+    ensures { IfOk result (λ slots. slots.items ≡ slots_from count 0 params args.now) }
 {
     let mut slots = lists.slots.fresh();
-    let mut reversed = args;
-    reversed.reverse();
-    for i in 0..f.slots {
-        let value = next_argument(&mut reversed, i < f.params);
-        slots.push(Slot::Plain(value))?;
+    for i in 0..count {
+        slots.push(Slot::Plain(argument(args, i, params)?))?;
     }
-    lists.values.spare(reversed);
     Ok(slots)
 }
 
@@ -73,7 +70,8 @@ fn frame_of(
     ensures { IfOk result (IsFrameOf number f.now cells.now args.items) }
 {
     let extras = extras_of(alloc, f, &args)?;
-    let slots = slots_of_call(lists, f, args)?;
+    let slots = slots_of_call(lists, f.slots as usize, f.params as usize, &args)?;
+    lists.values.spare(args);
     let mut captured = lists.cells.fresh();
     captured.extend_from_slice(cells)?;
     Ok(Frame {

@@ -25,13 +25,16 @@ Follows S o store fs flow.Over = (resumes : List Resume) → o resumes ≡ Ended
 Follows S o store fs flow.Unsupported = Unit {0}
 
 -- a call that goes on from what is given
-pub record Turns {E : Type 0} (S : Setting) (old : Frames) (before : StoreView) (new : Frames) (store : StoreView) (r : Result Flow E) : Type 0 where
+pub record Turns {E : Type 0} (S : Setting) (old : Frames) (before : StoreView) (new : Frames) (store : StoreView)
+    (r : Result Flow E) : Type 0 where
   pub follows : IfOk r (λ f. Follows S (λ resumes. finish S old (record { store = before; resumes = resumes })) store new f)
 
 -- a call that evaluates a node on top
-pub record Enters {E : Type 0} (S : Setting) (n : Node) (old : Frames) (before : StoreView) (new : Frames) (store : StoreView) (r : Result Flow E) : Type 0 where
+pub record Enters {E : Type 0} (S : Setting) (n : Node) (old : Frames) (before : StoreView) (new : Frames) (store : StoreView)
+    (r : Result Flow E) : Type 0 where
   pub follows : IfOk r (λ f. Follows S (entering S n old before) store new f)
 
 -- a call that does work on top
-pub record Works {E : Type 0} (S : Setting) (q : Work) (old : Frames) (before : StoreView) (new : Frames) (store : StoreView) (r : Result Flow E) : Type 0 where
+pub record Works {E : Type 0} (S : Setting) (q : Work) (old : Frames) (before : StoreView) (new : Frames) (store : StoreView)
+    (r : Result Flow E) : Type 0 where
   pub follows : IfOk r (λ f. Follows S (working S q old before) store new f)

@@ -37,7 +37,8 @@ pub fn element<T: Drop>(xs: &Rc<Vec<T>>, i: usize) -> Option<&T>
 
 /// Begins a block: its statements wait.
 pub fn begin_block(frames: &mut Frames, stmts: &Rc<Vec<Stmt>>) -> Result<Flow, AllocError>
-    ensures { (S : Setting) → (store : StoreView) → Works S (block stmts.now.value.items (here frames.old) (slots_of frames.old)) frames.old store frames.new store result }
+    ensures { (S : Setting) → (store : StoreView)
+        → Works S (block stmts.now.value.items (here frames.old) (slots_of frames.old)) frames.old store frames.new store result }
 {
     wait(frames, Item::Rest(share(stmts)?, 0))?;
     give_nothing(frames)

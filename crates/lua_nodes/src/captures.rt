@@ -1,9 +1,9 @@
 //! Closures, and the variables that they share (Lua 5.1 Reference Manual, 2.5.9 and 2.6).
 
-ghost use Rattle.std.specs.Prelude.{◌≡◌, slice_get, length, IfOk};
+ghost use Rattle.std.specs.Prelude.{◌≡◌, IfOk};
 ghost use Rattle.lua_meaning.specs.Closures.{present_cell, variable_value};
 ghost use Rattle.lua_frames_base.specs.Frames.{here, slots_of};
-ghost use Rattle.lua_nodes.specs.Captures.{Makes, Shares, SharesAll};
+ghost use Rattle.lua_nodes.specs.Captures.{Makes, Shares, KeepsCell};
 
 use lua_ast::{Capture, Program};
 use lua_frames_base::Frames;
