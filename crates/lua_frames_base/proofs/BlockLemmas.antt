@@ -1,19 +1,18 @@
 -- A block that begins.
-use Rattle.std.specs.Prelude.{◌≡◌, List, [], ◌∷◌, drop, Result, Ok, Err, IfOk, refl}
-use Rattle.std.proofs.Common.{sym, ◌∙◌, ap, subst, Vec, Global}
+use Rattle.std.specs.Prelude.{◌≡◌, List, [], Result, Ok, Err, refl}
+use Rattle.std.proofs.Common.{sym, ◌∙◌, subst, Vec, Global}
 use Rattle.std.specs.declared.rc.Rc.{Rc}
 use Rattle.lua_ast.specs.declared.statements.Stmt.{Stmt}
 use Rattle.lua_values.specs.Heap.{StoreView}
-use Rattle.lua_meaning.specs.Works.{Values, Slots, Work}
-use Rattle.lua_meaning.specs.Evaluator.{Resume, Ending, Ended, after, do_work}
+use Rattle.lua_meaning.specs.Works.{Values}
+use Rattle.lua_meaning.specs.Evaluator.{Resume, Ended, do_work}
 use Rattle.lua_meaning.specs.Setting.{Setting}
 use Rattle.lua_meaning.specs.Blocks.{block}
 use Rattle.lua_meaning.specs.Nodes.{eval}
 use Rattle.lua_frames_base.specs.declared.flow.Flow.{Flow}
-use Rattle.lua_frames_base.specs.declared.flow.Flow.TheVariants as flow
 use Rattle.lua_frames_base.specs.declared.items.Item.TheVariants as i
 use Rattle.lua_frames_base.specs.declared.threads.Frames.{Frames}
-use Rattle.lua_frames_base.specs.Frames.{finish, finish_from, here, slots_of, working}
+use Rattle.lua_frames_base.specs.Frames.{finish_from, here, slots_of, working}
 use Rattle.lua_frames_base.specs.Follows.{Follows, Works}
 use Rattle.lua_frames_base.specs.Changes.{Waits, Ends}
 use Rattle.lua_frames_base.proofs.FollowLemmas.{finish_waits, ends_finish}

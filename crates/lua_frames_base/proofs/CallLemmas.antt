@@ -1,31 +1,27 @@
 -- Frames that come and go: what is left of a thread before and after.
-use Rattle.std.specs.Prelude.{◌≡◌, ℕ, List, [], ◌∷◌, ◌++◌, nat_lt, if◌then◌else◌, Bool, true, false, Result, Ok, Err, IfOk, Option, Some, None, refl}
+use Rattle.std.specs.Prelude.{◌≡◌, ℕ, List, [], ◌∷◌, ◌++◌, nat_lt, if◌then◌else◌, Bool, true, false, Result, Ok, Option, Some, None, refl}
 use Rattle.std.proofs.Common.{sym, ◌∙◌, ap, subst, Vec, Global}
 use Rattle.lua_values.specs.declared.values.Value.{Value}
 use Rattle.lua_values.specs.Heap.{StoreView, step_limit}
-use Rattle.lua_meaning.specs.declared.positions.Position.{Position}
 use Rattle.lua_meaning.specs.declared.resumes.Resumed.{Resumed}
-use Rattle.lua_meaning.specs.Works.{Caller, Places, Node, ACall, Sign, Values, Return, Break, Failed, Slots, Work, End, Eval, Outside, and_then}
+use Rattle.lua_meaning.specs.Works.{Caller, Places, ACall, Sign, Values, Return, Break, Failed, Slots, Work, End, Outside}
 use Rattle.lua_meaning.specs.Evaluator.{Resume, State, Ending, Ended, Parked, Spent, after, answered, do_work}
 use Rattle.lua_meaning.specs.Setting.{Setting}
 use Rattle.lua_meaning.specs.Positions.{callers_at}
-use Rattle.lua_meaning.specs.Signs.{give}
 use Rattle.lua_meaning.specs.Calls.{call_end, function_end, returned, calling}
-use Rattle.lua_meaning.specs.ProtectedCalls.{protected_by, handled_fault}
+use Rattle.lua_meaning.specs.ProtectedCalls.{handled_fault}
 use Rattle.lua_meaning.specs.Nodes.{eval}
-use Rattle.lua_frames_base.specs.declared.ending.Closing.{Closing}
 use Rattle.lua_frames_base.specs.declared.ending.Closing.TheVariants as by
 use Rattle.lua_frames_base.specs.declared.flow.Flow.{Flow}
 use Rattle.lua_frames_base.specs.declared.flow.Flow.TheVariants as flow
 use Rattle.lua_frames_base.specs.declared.flow.Op.{Op}
 use Rattle.lua_frames_base.specs.declared.frames.Frame.{Frame}
 use Rattle.lua_frames_base.specs.declared.frames.Kind.{Kind}
-use Rattle.lua_frames_base.specs.declared.frames.Kind.TheVariants.{Base, Lua, Guard, Handled, Handling}
+use Rattle.lua_frames_base.specs.declared.frames.Kind.TheVariants.{Lua, Handled}
 use Rattle.lua_frames_base.specs.declared.items.Item.{Item}
 use Rattle.lua_frames_base.specs.declared.items.Item.TheVariants as i
 use Rattle.lua_frames_base.specs.declared.stack.Stack.{Stack}
 use Rattle.lua_frames_base.specs.declared.threads.Frames.{Frames}
-use Rattle.lua_frames_base.specs.declared.signals.Signal.TheVariants as signal
 use Rattle.lua_frames_base.specs.Around.{is_lua, deeper, around_of, places_of}
 use Rattle.lua_frames_base.specs.Signals.{sign_of}
 use Rattle.lua_frames_base.specs.Items.{resume_item}

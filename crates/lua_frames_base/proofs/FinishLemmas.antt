@@ -1,11 +1,11 @@
 -- How what is left of a thread is taken apart: an item or a frame more, and what ends in no sign.
 use Rattle.std.specs.Prelude.{◌≡◌, ℕ, List, [], ◌∷◌, ◌++◌, Option, refl}
-use Rattle.std.proofs.Common.{sym, ◌∙◌, ap}
+use Rattle.std.proofs.Common.{◌∙◌, ap}
 use Rattle.lua_values.specs.declared.values.Value.{Value}
 use Rattle.lua_values.specs.Heap.{StoreView}
 use Rattle.lua_meaning.specs.declared.positions.Position.{Position}
-use Rattle.lua_meaning.specs.Works.{Caller, Places, Sign, Slots, Work}
-use Rattle.lua_meaning.specs.Evaluator.{State, Ending, Ended, Parked, Spent, after, do_work}
+use Rattle.lua_meaning.specs.Works.{Caller, Places}
+use Rattle.lua_meaning.specs.Evaluator.{Ending, Parked, Spent, after, do_work}
 use Rattle.lua_meaning.specs.Setting.{Setting}
 use Rattle.lua_meaning.specs.Nodes.{eval}
 use Rattle.lua_frames_base.specs.declared.frames.Frame.{Frame}

@@ -1,31 +1,25 @@
 -- How a machine's parts follow what is to be done.
-use Rattle.std.specs.Prelude.{◌≡◌, ℕ, ◌+◌, ◌≤◌, ◌<◌, List, [], ◌∷◌, ◌++◌, nat_lt, min, if◌then◌else◌, Bool, true, false, Result, Ok, Err, IfOk, Option, Some, None, refl}
+use Rattle.std.specs.Prelude.{◌≡◌, ℕ, ◌+◌, ◌<◌, List, [], nat_lt, min, if◌then◌else◌, Bool, true, false, Result, Ok, Err, IfOk, Option, Some, None, refl}
 use Rattle.std.proofs.Common.{sym, ◌∙◌, ap, subst, arith, Vec, Global}
-use borrow.Author.Tests.{ltb-true, ltb-false}
-use Rattle.lua_values.specs.declared.values.Value.{Value}
-use Rattle.lua_values.specs.Heap.{Heap, StoreView, step_limit}
-use Rattle.lua_meaning.specs.declared.positions.Position.{Position}
-use Rattle.lua_meaning.specs.declared.resumes.Resumed.{Resumed}
+use borrow.Author.Tests.{ltb-true}
+use Rattle.lua_values.specs.Heap.{StoreView, step_limit}
 use Rattle.lua_meaning.specs.declared.slots.Slot.{Slot}
-use Rattle.lua_meaning.specs.Works.{Caller, Places, Node, AValue, ACall, Sign, Values, Return, Break, Failed, Slots, Work, End, Eval, Outside, Look, Write, Count, and_then}
-use Rattle.lua_meaning.specs.Evaluator.{Resume, State, Ending, Ended, Parked, Spent, after, answered, counted, do_work}
+use Rattle.lua_meaning.specs.Works.{Places, Node, Sign, Slots, Work, End, Eval, Count, and_then}
+use Rattle.lua_meaning.specs.Evaluator.{Resume, State, Ending, Ended, Parked, Spent, after, do_work}
 use Rattle.lua_meaning.specs.Setting.{Setting}
 use Rattle.lua_meaning.specs.Nodes.{work_of, eval}
 use Rattle.lua_meaning.proofs.EvaluatorLemmas.{eval-law, work-then}
 use Rattle.lua_frames_base.specs.declared.flow.Flow.{Flow}
 use Rattle.lua_frames_base.specs.declared.flow.Flow.TheVariants as flow
 use Rattle.lua_frames_base.specs.declared.flow.Op.{Op}
-use Rattle.lua_frames_base.specs.declared.frames.Frame.{Frame}
-use Rattle.lua_frames_base.specs.declared.frames.Kind.{Kind}
 use Rattle.lua_frames_base.specs.declared.items.Item.{Item}
 use Rattle.lua_frames_base.specs.declared.threads.Frames.{Frames}
-use Rattle.lua_frames_base.specs.Around.{is_lua, deeper, around_of, places_of}
 use Rattle.lua_frames_base.specs.Signals.{sign_of}
 use Rattle.lua_frames_base.specs.Items.{resume_item}
-use Rattle.lua_frames_base.specs.Frames.{closing, closed, back, finish_items, finish_calls, finish_from, finish, around, here, slots_of, entering, working, given}
-use Rattle.lua_frames_base.specs.Follows.{Follows, Asks, Turns, Enters, Works}
-use Rattle.lua_frames_base.specs.Changes.{Waits, Ends, Pushes, Replaces}
-use Rattle.lua_frames_base.proofs.FinishLemmas.{finish_push, around_push, finish_call, spent_through, parked_through}
+use Rattle.lua_frames_base.specs.Frames.{closed, finish_calls, finish_from, finish, around, here, slots_of, entering, working}
+use Rattle.lua_frames_base.specs.Follows.{Follows, Asks, Enters, Works}
+use Rattle.lua_frames_base.specs.Changes.{Waits, Ends}
+use Rattle.lua_frames_base.proofs.FinishLemmas.{finish_push, spent_through}
 
 state : StoreView → List Resume → State
 state store resumes = record { store = store; resumes = resumes }

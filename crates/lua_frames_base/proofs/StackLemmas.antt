@@ -1,5 +1,5 @@
 -- How many Lua functions wait in a stack.
-use Rattle.std.specs.Prelude.{◌≡◌, ℕ, ◌+◌, ◌-◌, ◌≤◌, ◌<◌, suc, zero, List, [], ◌∷◌, ◌++◌, length, if◌then◌else◌, Bool, true, false, Option, Some, None, drop, take, slice_index_or, refl}
+use Rattle.std.specs.Prelude.{◌≡◌, ℕ, ◌+◌, ◌-◌, ◌≤◌, ◌<◌, suc, zero, List, [], ◌∷◌, ◌++◌, length, if◌then◌else◌, Bool, true, false, Some, None, drop, take, slice_index_or, refl}
 use Rattle.std.proofs.Common.{sym, ◌∙◌, ap, arith, Vec, Global, Fits, w64}
 use Rattle.std.proofs.lemmas.List.{take_more}
 use Rattle.lua_meaning.specs.declared.positions.Position.{Position}

@@ -1,5 +1,5 @@
 -- The Lua functions around a call.
-use Rattle.std.specs.Prelude.{ℕ, Bool, true, false, List, [], ◌∷◌, if◌then◌else◌}
+use Rattle.std.specs.Prelude.{Bool, true, false, List, [], ◌∷◌, if◌then◌else◌}
 use Rattle.lua_frames_base.specs.declared.frames.Frame.{Frame}
 use Rattle.lua_frames_base.specs.declared.frames.Kind.{Kind}
 use Rattle.lua_frames_base.specs.declared.frames.Kind.TheVariants.{Base, Lua, Guard, Handled, Handling}

@@ -1,5 +1,5 @@
 -- The promise of the machine's functions: what they leave stands for what was to be done.
-use Rattle.std.specs.Prelude.{◌≡◌, ℕ, List, [], ◌∷◌, Result, IfOk, Option, Some, None}
+use Rattle.std.specs.Prelude.{◌≡◌, List, [], Result, IfOk, Option, Some, None}
 use Rattle.lua_values.specs.Heap.{StoreView}
 use Rattle.lua_meaning.specs.Works.{Node, Work}
 use Rattle.lua_meaning.specs.Evaluator.{Resume, Ending, Ended, Spent, answered}

@@ -1,13 +1,13 @@
 -- What an item does with what it waits for: the work that is left of its node.
-use Rattle.std.specs.Prelude.{ℕ, true, false, List, [], ◌∷◌, ◌++◌, drop, map, reverse, if◌then◌else◌}
+use Rattle.std.specs.Prelude.{List, [], ◌∷◌, drop, map, reverse, if◌then◌else◌}
 use Rattle.lua_ast.specs.declared.statements.Arm.{Arm, out-Arm}
 use Rattle.lua_ast.specs.declared.statements.Stmt.{Stmt}
 use Rattle.lua_values.specs.declared.values.Value.{Value}
 use Rattle.lua_operators.specs.Types.{is_truthy}
-use Rattle.lua_meaning.specs.Works.{Places, Slots, ATurn, Sign, Values, Return, Break, Failed, Work, End, and_then}
+use Rattle.lua_meaning.specs.Works.{Places, Slots, ATurn, Sign, Return, Work, End}
 use Rattle.lua_meaning.specs.Setting.{Setting}
 use Rattle.lua_meaning.specs.Positions.{callers_at}
-use Rattle.lua_meaning.specs.Signs.{first, give, give_one, on_values, value, values_of, more}
+use Rattle.lua_meaning.specs.Signs.{first, give, give_one, on_values, value, more}
 use Rattle.lua_meaning.specs.Variables.{with_locals}
 use Rattle.lua_meaning.specs.Indexing.{index_work}
 use Rattle.lua_meaning.specs.Blocks.{block}

@@ -20,20 +20,20 @@ pub fn child_of<'a>(x: &'a Expr) -> Result<Option<Child<'a>>, AllocError>
 {
     match &x.kind {
         ExprKind::Binary(operator, a, b) => {
-            child(Item::Right(x.line, *operator, share(b)?), a)
+            begins_with(Item::Right(x.line, *operator, share(b)?), a)
         }
-        ExprKind::Unary(operator, a) => child(Item::Unary(x.line, *operator), a),
-        ExprKind::And(a, b) => child(Item::AndThen(share(b)?), a),
-        ExprKind::Or(a, b) => child(Item::OrElse(share(b)?), a),
-        ExprKind::Paren(a) => child(Item::First, a),
-        ExprKind::Index(a, b) => child(Item::Key(x.line, share(b)?), a),
-        ExprKind::Call(f, args) => child(Item::Callee(x.line, share(args)?), f),
+        ExprKind::Unary(operator, a) => begins_with(Item::Unary(x.line, *operator), a),
+        ExprKind::And(a, b) => begins_with(Item::AndThen(share(b)?), a),
+        ExprKind::Or(a, b) => begins_with(Item::OrElse(share(b)?), a),
+        ExprKind::Paren(a) => begins_with(Item::First, a),
+        ExprKind::Index(a, b) => begins_with(Item::Key(x.line, share(b)?), a),
+        ExprKind::Call(f, args) => begins_with(Item::Callee(x.line, share(args)?), f),
         _ => Ok(None),
     }
 }
 
 /// A child with what waits for it.
-fn child<'a>(item: Item, expr: &'a Expr) -> Result<Option<Child<'a>>, AllocError>
+fn begins_with<'a>(item: Item, expr: &'a Expr) -> Result<Option<Child<'a>>, AllocError>
     ensures { IfOk result (λ child. IsChild item expr.now child) }
 {
     Ok(Some(Child { item, expr }))

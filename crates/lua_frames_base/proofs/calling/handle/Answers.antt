@@ -1,6 +1,5 @@
 use Rattle.std.proofs.Common.{refl, ◌∙◌, ap, List, ◌++◌, ◌∷◌, []}
 use Rattle.lua_values.specs.declared.values.Value.{Value}
-use Rattle.lua_frames_base.specs.Changes.{Handles}
 use Rattle.lua_frames_base.proofs.calling.handle.Goals as goal
 
 pub returns : goal.returns

@@ -1,5 +1,5 @@
 use Rattle.std.proofs.Common.{refl}
-use Rattle.lua_frames_base.proofs.CallLemmas.{back_turns, handle_turns}
+use Rattle.lua_frames_base.proofs.CallLemmas.{back_turns}
 use Rattle.lua_frames_base.proofs.calling.leave.Goals as goal
 
 pub returns-in-Gives : goal.returns-in-Gives

@@ -1,4 +1,4 @@
-use Rattle.std.proofs.Common.{◌∙◌, ap, sym, arith, List, ◌≡◌, ◌≤◌, ◌-◌, length, drop}
+use Rattle.std.proofs.Common.{◌∙◌, ap, sym, arith, List, drop}
 use Rattle.lua_meaning.specs.Works.{Caller}
 use Rattle.lua_meaning.specs.Positions.{position_of}
 use Rattle.lua_frames_base.proofs.StackLemmas.{one_more, skipped, positioned_here, positioned_around, no_function}

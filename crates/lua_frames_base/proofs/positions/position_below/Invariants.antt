@@ -1,4 +1,4 @@
-use Rattle.std.proofs.Common.{◌≡◌, ◌≤◌, List, [], drop, take, length}
+use Rattle.std.proofs.Common.{◌≡◌, ◌≤◌, [], drop, take, length}
 use Rattle.lua_meaning.specs.Setting.{Setting}
 use Rattle.lua_meaning.specs.Positions.{position_of}
 use Rattle.lua_frames_base.specs.Around.{around_of}

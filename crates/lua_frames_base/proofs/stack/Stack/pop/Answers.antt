@@ -1,7 +1,4 @@
-use Rattle.std.proofs.Common.{◌∙◌, ap, sym, arith, List, length, ◌++◌, ◌∷◌, [], if◌then◌else◌, ◌≡◌, ◌+◌}
-use Rattle.lua_frames_base.specs.declared.frames.Frame.{Frame}
-use Rattle.lua_frames_base.specs.Around.{is_lua, around_of}
-use Rattle.lua_frames_base.proofs.StackLemmas.{count_push, count_pop, one_there}
+use Rattle.lua_frames_base.proofs.StackLemmas.{count_pop, one_there}
 use Rattle.lua_frames_base.proofs.stack.Stack.pop.Goals as goal
 
 pub overflow_sub-self : goal.overflow_sub-self

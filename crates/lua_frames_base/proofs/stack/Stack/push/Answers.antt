@@ -1,7 +1,7 @@
-use Rattle.std.proofs.Common.{◌∙◌, ◌+◌, ℕ, if◌then◌else◌, ap, sym, arith, List, length, ◌++◌, ◌∷◌, []}
+use Rattle.std.proofs.Common.{◌∙◌, ◌+◌, ℕ, if◌then◌else◌, ap, sym, List, length, []}
 use Rattle.lua_frames_base.specs.declared.frames.Frame.{Frame}
 use Rattle.lua_frames_base.specs.Around.{is_lua, around_of}
-use Rattle.lua_frames_base.proofs.StackLemmas.{count_push, few, fits_one_more}
+use Rattle.lua_frames_base.proofs.StackLemmas.{count_push, fits_one_more}
 use Rattle.lua_frames_base.proofs.stack.Stack.push.Goals as goal
 
 pub overflow_add-self : goal.overflow_add-self
