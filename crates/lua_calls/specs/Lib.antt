@@ -1,0 +1,4 @@
+pub mod Callees
+pub mod CallEnds
+pub mod CallFrames
+pub mod NativeParts

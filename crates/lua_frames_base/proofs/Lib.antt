@@ -1,0 +1,5 @@
+pub mod FinishLemmas
+pub mod FollowLemmas
+pub mod CallLemmas
+pub mod StackLemmas
+pub mod BlockLemmas

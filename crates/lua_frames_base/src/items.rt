@@ -1,0 +1,56 @@
+//! The items of a frame: operations that wait for what the node above them gives.
+
+use crate::Target;
+use lua_ast::{Arm, BinOp, Expr, Stmt, UnOp};
+use lua_values::Value;
+use std::rc::Rc;
+
+/// An operation that waits for what is evaluated first. A number before the others is a line.
+#[derive(Drop)]
+pub enum Item {
+    /// The call of a value with arguments, which hasn't begun.
+    Call(u32, Value, Vec<Value>),
+    /// A binary operator, which has its right operand still to evaluate.
+    Right(u32, BinOp, Rc<Expr>),
+    /// A binary operator with its left operand.
+    Operate(u32, BinOp, Value),
+    Unary(u32, UnOp),
+    AndThen(Rc<Expr>),
+    OrElse(Rc<Expr>),
+    /// One value of many.
+    First,
+    /// A call, which has its arguments still to evaluate.
+    Callee(u32, Rc<Vec<Expr>>),
+    /// A call of this value.
+    Arguments(u32, Value),
+    /// An index, which has its key still to evaluate.
+    Key(u32, Rc<Expr>),
+    /// An index of this value.
+    At(u32, Value),
+    /// A list of expressions from an index on, and the values of those before.
+    More(Rc<Vec<Expr>>, usize, Vec<Value>),
+    /// New local variables in these slots.
+    Locals(Rc<Vec<u8>>),
+    /// The values of a call statement, which are dropped.
+    Discard,
+    /// `return` with what a list gives.
+    Return,
+    /// A tail call, which has its arguments still to evaluate.
+    TailCallee(u32, Rc<Vec<Expr>>),
+    /// A tail call of this value.
+    TailArguments(u32, Value),
+    /// A tail call that runs, whose values are returned.
+    TailReturn,
+    /// The statements of a block from an index on.
+    Rest(Rc<Vec<Stmt>>, usize),
+    /// The test of the arm of `if` at an index, and the last block.
+    Arm(Rc<Vec<Arm>>, usize, Rc<Vec<Stmt>>),
+    /// The test of `while`.
+    While(Rc<Expr>, Rc<Vec<Stmt>>),
+    /// A run of the body of `while`.
+    Turned(Rc<Expr>, Rc<Vec<Stmt>>),
+    /// The values of an assignment to these targets.
+    Assign(Vec<Target>),
+    /// The value of an assignment to one slot.
+    AssignSlot(u32, u8),
+}

@@ -1,0 +1,39 @@
+//! What the machine is made of: the frames of the calls that haven't ended, the items that wait in them, and the signal that
+//! the innermost item takes. `specs/` says what they stand for: `finish` is what is left of a thread, by the evaluator, and every
+//! function of the machine promises that what it leaves stands for what was to be done (`Works`).
+#![tactic(auto)]
+
+mod calling;
+mod ending;
+mod ends;
+mod flow;
+mod frames;
+mod hosts;
+mod items;
+mod kept;
+mod metatables;
+mod positions;
+mod signals;
+mod stack;
+mod starting;
+mod taking;
+mod targets;
+mod threads;
+mod waiting;
+
+pub use calling::{leave, push_frame, replace_frame};
+pub use ends::{give_break, give_many, give_nothing, give_one, raise_value};
+pub use flow::{Flow, Op};
+pub use frames::{Frame, Kind};
+pub use hosts::Host;
+pub use items::Item;
+pub use kept::{Kept, Lists};
+pub use metatables::handler;
+pub use positions::{position_at, positioned, raise};
+pub use signals::Signal;
+pub use stack::Stack;
+pub use starting::{answer, start};
+pub use taking::{take_first, take_values};
+pub use targets::Target;
+pub use threads::Frames;
+pub use waiting::{begin_block, element, share, wait};
