@@ -1,4 +1,0 @@
-pub mod Callees
-pub mod CallEnds
-pub mod CallFrames
-pub mod NativeParts

@@ -1,8 +1,0 @@
-//! Threads: each begins with a call, is resumed, parks where the outside must answer, and ends.
-#![tactic(auto)]
-
-mod loaded;
-mod threads;
-
-pub use loaded::Loaded;
-pub use threads::{Slice, Thread};
