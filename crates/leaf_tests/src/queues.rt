@@ -86,7 +86,7 @@ fn index_of(list: &Vec<Plain>, number: u64) -> Option<usize> {
 }
 
 /// The next number of the fixed generator.
-fn draw(x: u64) -> u64 {
+pub fn draw(x: u64) -> u64 {
     48_271_u64.wrapping_mul(x) % 2_147_483_647
 }
 
