@@ -163,7 +163,7 @@ value-not-begun by n (value.Truth t) h = let f : step.Refused answer.NotNumber �
 
 begun-whole : (size now : ℕ) (key : List ℕ) (m n : ℤ) (ttl : ℕ) (items : List Item) (b : Bool) → calls.begun_with (if b then Some m else None) ≡ step.Begun n
     → (let o : Outcome = if b then as_number m (store size (record { key = key; value = value.Number m; flags = 0; expiry = expiry_at now ttl }) items) else (answer.OutOfRange, items) in o)
-      ≡ as_number n (store size (record { key = key; value = value.Number n; flags = 0; expiry = expiry_at now ttl }) items)
+    ≡ as_number n (store size (record { key = key; value = value.Number n; flags = 0; expiry = expiry_at now ttl }) items)
 begun-whole size now key m n ttl items true h = let f : m ≡ n = cc in ap (λ m. as_number m (store size (record { key = key; value = value.Number m; flags = 0; expiry = expiry_at now ttl }) items)) f
 begun-whole size now key m n ttl items false h = absurd (let f : step.Refused answer.OutOfRange ≡ step.Begun n = h in cc)
 

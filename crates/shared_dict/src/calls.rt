@@ -140,7 +140,10 @@ impl Items {
         match step {
             Increment::Refused(answer) => answer,
             Increment::Raised(n) => DictAnswer::Number(n, false),
-            Increment::Begun(n) => as_number(n, self.foresee_store(size, key, &DictValue::Number(n))),
+            Increment::Begun(n) => as_number(
+                n,
+                self.foresee_store(size, key, &DictValue::Number(n)),
+            ),
         }
     }
 }
@@ -171,7 +174,11 @@ fn expiry_at(now: Ms, ttl: u64) -> Option<Ms>
     requires ttl { IsTtl ttl }
     ensures { result ≡ plain.expiry_at now.0 ttl }
 {
-    if ttl == 0 { None } else { Some(Ms(now.0 + ttl)) }
+    if ttl == 0 {
+        None
+    } else {
+        Some(Ms(now.0 + ttl))
+    }
 }
 
 /// Whether a `get` found a value.

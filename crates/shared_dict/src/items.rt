@@ -49,10 +49,7 @@ impl Items {
             recent: Recent::new(),
             bytes: 0,
             last: 0,
-            flush: Flush {
-                last: 0,
-                at: Ms(0),
-            },
+            flush: Flush { last: 0, at: Ms(0) },
         }
     }
 

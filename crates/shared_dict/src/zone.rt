@@ -43,12 +43,7 @@ impl Zone {
     }
 
     /// Answers a call at a moment. Out of memory leaves the zone as it was.
-    pub fn ask(
-        &mut self,
-        alloc: Global,
-        now: Ms,
-        call: &DictCall,
-    ) -> Result<DictAnswer, AllocError>
+    pub fn ask(&mut self, alloc: Global, now: Ms, call: &DictCall) -> Result<DictAnswer, AllocError>
         requires moment { now.0 ≤ 99_999_999_999_999 }
         requires range { IsInRange call.now }
         ensures answer { IfOk result (λ a. a ≡ (dict self.old.size call.now now.0 self.old.items).0) }
@@ -60,12 +55,7 @@ impl Zone {
     }
 
     /// What the zone answers a call at a moment; the zone stays as it is.
-    pub fn foresee(
-        &self,
-        alloc: Global,
-        now: Ms,
-        call: &DictCall,
-    ) -> Result<DictAnswer, AllocError>
+    pub fn foresee(&self, alloc: Global, now: Ms, call: &DictCall) -> Result<DictAnswer, AllocError>
         requires { IsInRange call.now }
         ensures { IfOk result (λ a. a ≡ (dict self.now.size call.now now.0 self.now.items).0) }
     {
@@ -135,7 +125,10 @@ fn foresee(
     match call {
         DictCall::Get(key) => items.foresee_get(now, key),
         DictCall::Store {
-            how, key, value, ..
+            how,
+            key,
+            value,
+            ..
         } => match items.refusal(*how, now, key) {
             Some(answer) => Ok(answer),
             None => Ok(items.foresee_store(size, key, value)),

@@ -15,7 +15,7 @@ pub overflow_sub-rest : goal.overflow_sub-rest
 overflow_sub-rest c =
     let f : Flush = record { last = 0; at = record { 0 = 0 } } in
     let s = ahead-size c.args.key.now c.args.size c.args.more c.args.entries c.loop-other.entries c.next_back.new.self (c.in-Some.other.now, c.in-Some.kept.now) c.loop-other.rest c.loop-other.most c.loop-other.invariant.ahead c.in-Some.ensures.steps
-        (not-true (same_key c.args.key.now c.in-Some.other.now) (sym c.is_other.ensures ∙ c.if-is_other.true)) f in
+    (not-true (same_key c.args.key.now c.in-Some.other.now) (sym c.is_other.ensures ∙ c.if-is_other.true)) f in
     omega (arith, c.size_of-rest.ensures.size)
 
 pub loop-other-preserved-then-is_other : goal.loop-other-preserved-then-is_other

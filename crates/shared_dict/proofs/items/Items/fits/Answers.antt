@@ -13,7 +13,7 @@ pub fits-requires-clause-distinct : goal.fits-requires-clause-distinct
 fits-requires-clause-distinct c =
     let e : c.in-Some.entries ≡ c.self.inside.recent = c.in-Some.ensures in
     subst (λ (es : List Entry). IsDistinct same_key (keys_of es)) (sym e)
-        (subst (IsDistinct same_key) (keys-are c.self.inside.flush c.self.inside.recent) (subst (λ (l : List Item). IsDistinct same_key (map (λ (i : Item). i.key) l)) (sym c.self.view_is) c.requires.distinct))
+    (subst (IsDistinct same_key) (keys-are c.self.inside.flush c.self.inside.recent) (subst (λ (l : List Item). IsDistinct same_key (map (λ (i : Item). i.key) l)) (sym c.self.view_is) c.requires.distinct))
 
 pub fits-requires-clause-rest : goal.fits-requires-clause-rest
 fits-requires-clause-rest c f =

@@ -12,7 +12,7 @@ invariant_of-self c =
     let v = ap (find (has_key c.args.key.now)) c.self.view_is in
     let e = entry-of c.self.inside.flush c.args.key.now c.self.inside.recent r.0 (v ∙ r.1) in
     rw (c.set_value.ensures e.0 e.1)
-       (set-counted c.self.inside.flush c.self.inside.last c.self.inside.bytes c.args.value e.0 c.args.key.now c.self.inside.recent c.self.invariant e.1 (r.2 ∙ ap (λ (i : Item). value_size i.value) (sym e.2)))
+    (set-counted c.self.inside.flush c.self.inside.last c.self.inside.bytes c.args.value e.0 c.args.key.now c.self.inside.recent c.self.invariant e.1 (r.2 ∙ ap (λ (i : Item). value_size i.value) (sym e.2)))
 
 pub returns : goal.returns
 returns c i h =

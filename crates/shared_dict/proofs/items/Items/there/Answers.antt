@@ -15,11 +15,11 @@ returns-in_err-kept c =
 pub returns-then-is_before : goal.returns-then-is_before
 returns-then-is_before c =
     sym (there-some c.self.inside.flush c.args.now.0 c.args.key.now c.self.inside.recent c.in_ok-kept.kept.now true (sym c.in_ok-kept.ensures)
-        (ap (is_before c.args.now.0) (sym c.expiry_of.ensures) ∙ sym c.if-is_before.ensures))
+    (ap (is_before c.args.now.0) (sym c.expiry_of.ensures) ∙ sym c.if-is_before.ensures))
     ∙ ap (λ (l : List Item). content_of (found c.args.now.0 c.args.key.now l)) c.self.view_is
 
 pub returns-else-is_before : goal.returns-else-is_before
 returns-else-is_before c =
     sym (there-some c.self.inside.flush c.args.now.0 c.args.key.now c.self.inside.recent c.in_ok-kept.kept.now false (sym c.in_ok-kept.ensures)
-        (ap (is_before c.args.now.0) (sym c.expiry_of.ensures) ∙ sym c.if-is_before.ensures))
+    (ap (is_before c.args.now.0) (sym c.expiry_of.ensures) ∙ sym c.if-is_before.ensures))
     ∙ ap (λ (l : List Item). content_of (found c.args.now.0 c.args.key.now l)) c.self.view_is
