@@ -1,0 +1,4 @@
+pub mod Values
+pub mod Zones
+pub mod Kept
+pub mod Calls
