@@ -444,6 +444,7 @@ module _ {J S : Type 0} (b : Behavior J) (st : S → List (LocalAction J) → Ty
   pub standing-gone : (x : S) (rest : List (Act J)) (go : Bool) (h : Held S) (book book' : Book) (ms : List (GlobalAction J))
       → Busy b st c x (act.Gone ∷ rest) go false h book ms → Forgets (strand.Conn c) book book'
       → Standing b st h book' (Of (strand.Conn c) Gone None ∷ ms)
+  unfolding near-falls
   standing-gone x rest go h book book' ms y forgot =
       let same : SameBook c book book' = same-forgot c forgot in
       let arrivals : book'.arrivals ≡ book.arrivals = forgot.numbers.arrivals in
