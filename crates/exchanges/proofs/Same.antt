@@ -159,7 +159,9 @@ same-how how.Replace how.Add h = bad h
 
 pub same-call : (x y : DictCall) → same_call x y ≡ true → x ≡ y
 same-call (call.Get k1) (call.Get k2) h = ap (λ z. call.Get z) (same-key k1 k2 h)
-same-call (call.Store h1 k1 v1 t1 f1) (call.Store h2 k2 v2 t2 f2) h = let g = and5 (same_how h1 h2) (same_key k1 k2) (same_value v1 v2) (t1 == t2) (f1 == f2) h in ap (λ z. call.Store z k1 v1 t1 f1) (same-how h1 h2 g.0) ∙ ap (λ z. call.Store h2 z v1 t1 f1) (same-key k1 k2 g.1) ∙ ap (λ z. call.Store h2 k2 z t1 f1) (same-value v1 v2 g.2) ∙ ap (λ z. call.Store h2 k2 v2 z f1) (eqb-true t1 t2 g.3) ∙ ap (λ z. call.Store h2 k2 v2 t2 z) (eqb-true f1 f2 g.4)
+same-call (call.Store h1 k1 v1 t1 f1) (call.Store h2 k2 v2 t2 f2) h =
+    let g = and5 (same_how h1 h2) (same_key k1 k2) (same_value v1 v2) (t1 == t2) (f1 == f2) h in
+    ap (λ z. call.Store z k1 v1 t1 f1) (same-how h1 h2 g.0) ∙ ap (λ z. call.Store h2 z v1 t1 f1) (same-key k1 k2 g.1) ∙ ap (λ z. call.Store h2 k2 z t1 f1) (same-value v1 v2 g.2) ∙ ap (λ z. call.Store h2 k2 v2 z f1) (eqb-true t1 t2 g.3) ∙ ap (λ z. call.Store h2 k2 v2 t2 z) (eqb-true f1 f2 g.4)
 same-call (call.Delete k1) (call.Delete k2) h = ap (λ z. call.Delete z) (same-key k1 k2 h)
 same-call (call.Incr k1 b1 i1 t1) (call.Incr k2 b2 i2 t2) h = let g = and4 (same_key k1 k2) (same_int b1 b2) (same_init i1 i2) (t1 == t2) h in ap (λ z. call.Incr z b1 i1 t1) (same-key k1 k2 g.0) ∙ ap (λ z. call.Incr k2 z i1 t1) (same-int b1 b2 g.1) ∙ ap (λ z. call.Incr k2 b2 z t1) (same-init i1 i2 g.2) ∙ ap (λ z. call.Incr k2 b2 i2 z) (eqb-true t1 t2 g.3)
 same-call call.FlushAll call.FlushAll h = refl

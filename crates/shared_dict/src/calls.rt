@@ -113,8 +113,10 @@ impl Items {
         requires ttl { IsTtl ttl }
         requires size { used self.old ≤ size }
         requires step { (by : ℤ) × (init : Option ℤ) × (step ≡ calls.increment by init (found now.0 key.now self.old)) }
-        ensures answer { (by : ℤ) (init : Option ℤ) → step ≡ calls.increment by init (found now.0 key.now self.old) → IfOk result (λ a. a ≡ (plain.incr size now.0 key.now by init ttl (found now.0 key.now self.old) self.old).0) }
-        ensures items { (by : ℤ) (init : Option ℤ) → step ≡ calls.increment by init (found now.0 key.now self.old) → OnOk result (self.new ≡ (plain.incr size now.0 key.now by init ttl (found now.0 key.now self.old) self.old).1) }
+        ensures answer { (by : ℤ) (init : Option ℤ) → step ≡ calls.increment by init (found now.0 key.now self.old)
+            → IfOk result (λ a. a ≡ (plain.incr size now.0 key.now by init ttl (found now.0 key.now self.old) self.old).0) }
+        ensures items { (by : ℤ) (init : Option ℤ) → step ≡ calls.increment by init (found now.0 key.now self.old)
+            → OnOk result (self.new ≡ (plain.incr size now.0 key.now by init ttl (found now.0 key.now self.old) self.old).1) }
         ensures unchanged { OnErr result (self.new ≡ self.old) }
     {
         match step {
@@ -135,7 +137,8 @@ impl Items {
     pub(crate) fn foresee_increase(&self, size: u64, key: &Bytes, step: Increment) -> DictAnswer
         requires distinct { IsDistinct same_key (map (λ item. item.key) self.now) }
         requires size { used self.now ≤ size }
-        ensures { (now ttl : ℕ) (by : ℤ) (init : Option ℤ) → step ≡ calls.increment by init (found now key.now self.now) → result ≡ (plain.incr size now key.now by init ttl (found now key.now self.now) self.now).0 }
+        ensures { (now ttl : ℕ) (by : ℤ) (init : Option ℤ) → step ≡ calls.increment by init (found now key.now self.now)
+            → result ≡ (plain.incr size now key.now by init ttl (found now key.now self.now) self.now).0 }
     {
         match step {
             Increment::Refused(answer) => answer,

@@ -1,6 +1,7 @@
 //! The items of a zone, in the order of their last use.
 
-ghost use Rattle.std.specs.Prelude.{◌≡◌, ℕ, ◌+◌, ◌-◌, ◌<◌, ◌≤◌, ◌^◌, [], length, map, take, drop, find, option_map, option_copied, OnOk, OnErr, IfOk, Some, IsSome, Option, List};
+ghost use Rattle.std.specs.Prelude.{◌≡◌, ℕ, ◌+◌, ◌-◌, ◌<◌, ◌≤◌, ◌^◌, [], length, map, take, drop, find};
+ghost use Rattle.std.specs.Prelude.{option_map, option_copied, OnOk, OnErr, IfOk, Some, IsSome, Option, List};
 ghost use Rattle.resty_base.specs.declared.dictionary.DictValue.{DictValue};
 ghost use Rattle.std.specs.List.{IsDistinct};
 ghost use Rattle.plain_rules.specs.Keys.{same_key};

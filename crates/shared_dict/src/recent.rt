@@ -93,7 +93,8 @@ impl Recent {
 
     /// The entry of the key comes first, where there is one, with another value.
     pub(crate) fn set_value(&mut self, key: &Bytes, value: DictValue)
-        ensures { (e : Entry) → lookup_entry (same_key key.now) self.old ≡ Some e → self.new ≡ with_value value e ∷ remove_entry (same_key key.now) self.old }
+        ensures { (e : Entry) → lookup_entry (same_key key.now) self.old ≡ Some e
+            → self.new ≡ with_value value e ∷ remove_entry (same_key key.now) self.old }
     {
         if let Some(map) = &mut self.made {
             set_in(map, key, value);
@@ -157,7 +158,8 @@ fn put_in(map: &mut LruCache<Bytes, Kept>, key: Bytes, kept: Kept) -> Result<(),
 
 /// The entry of the key comes first in the map, where there is one, with another value.
 fn set_in(map: &mut LruCache<Bytes, Kept>, key: &Bytes, value: DictValue)
-    ensures entries { (e : Entry) → lookup_entry (same_key key.now) map.old.entries ≡ Some e → map.new.entries ≡ with_value value e ∷ remove_entry (same_key key.now) map.old.entries }
+    ensures entries { (e : Entry) → lookup_entry (same_key key.now) map.old.entries ≡ Some e
+        → map.new.entries ≡ with_value value e ∷ remove_entry (same_key key.now) map.old.entries }
     ensures capacity { map.new.cap ≡ map.old.cap }
 {
     if let Some(kept) = map.get_mut(key) {
