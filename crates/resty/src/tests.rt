@@ -326,7 +326,6 @@ fn statuses_are_numbered_in_order(rt: HostRuntime) {
     }
 }
 
-mod checking;
 mod connections;
 mod replies;
 mod serving;

@@ -1,0 +1,2 @@
+pub mod ChunkedBodies
+pub mod Laws
