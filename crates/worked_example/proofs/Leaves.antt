@@ -87,7 +87,7 @@ module _ {J : Type 0} where
   asks b (Everyone Stop) older bytes plain e = absurd (cc)
   asks b (Everyone (Moment t)) older bytes plain e = absurd (cc)
   asks b (TurnedAway c) older bytes plain e = absurd (cc)
-  asks b (IdleGave g) older bytes plain e = let same = last-is (closed_by g) (entry.Given g) _ e in not-idle g (event.Bytes (id.Conn 1) bytes) (pool older) cc plain.1 (λ p. p)
+  asks b (IdleGave g) older bytes plain e = let same : entry.Given (event.Bytes (id.Conn 1) bytes) ≡ entry.Given g = last-is (closed_by g) (entry.Given g) _ e in let given : event.Bytes (id.Conn 1) bytes ≡ g = cc in not-idle g (event.Bytes (id.Conn 1) bytes) (pool older) given plain.1 (λ p. p)
   asks b (IdleClosed n) older bytes plain e = absurd (cc)
 
   pub drops : (b : Behavior J) (top : GlobalAction J) (older : List (GlobalAction J)) → IsPlain b (top ∷ older) → entries_of b top older ≡ entry.Dropped client ∷ []
@@ -116,7 +116,7 @@ module _ {J : Type 0} where
   arrives b (Everyone Stop) older plain begins e = absurd (cc)
   arrives b (Everyone (Moment t)) older plain begins e = absurd (cc)
   arrives b (TurnedAway c) older plain begins e = absurd (cc)
-  arrives b (IdleGave g) older plain begins e = let same = last-is (closed_by g) (entry.Given g) _ e in not-idle g (event.Arrive 1) (pool older) cc plain.1 (λ p. p)
+  arrives b (IdleGave g) older plain begins e = let same : entry.Given (event.Arrive 1) ≡ entry.Given g = last-is (closed_by g) (entry.Given g) _ e in let given : event.Arrive 1 ≡ g = cc in not-idle g (event.Arrive 1) (pool older) given plain.1 (λ p. p)
   arrives b (IdleClosed n) older plain begins e = absurd (cc)
 
   pub ticks : (b : Behavior J) (top : GlobalAction J) (older : List (GlobalAction J)) (now : ℕ) → IsPlain b (top ∷ older) → entries_of b top older ≡ entry.Given (event.Moment (record { 0 = now })) ∷ []
@@ -128,7 +128,7 @@ module _ {J : Type 0} where
   ticks b (Everyone Stop) older now plain e = absurd (cc)
   ticks b (Everyone (Moment t)) older now plain e = ap (λ i. Everyone (Moment i)) (ap moment_in e)
   ticks b (TurnedAway c) older now plain e = absurd (cc)
-  ticks b (IdleGave g) older now plain e = let same = last-is (closed_by g) (entry.Given g) _ e in not-idle g (event.Moment (record { 0 = now })) (pool older) cc plain.1 (λ p. p)
+  ticks b (IdleGave g) older now plain e = let same : entry.Given (event.Moment (record { 0 = now })) ≡ entry.Given g = last-is (closed_by g) (entry.Given g) _ e in let given : event.Moment (record { 0 = now }) ≡ g = cc in not-idle g (event.Moment (record { 0 = now })) (pool older) given plain.1 (λ p. p)
   ticks b (IdleClosed n) older now plain e = absurd (cc)
 
   -- Stop is given
