@@ -1,5 +1,5 @@
 //! Tests of the choice of servers and locations.
-use conf::{Route, named_location, route_for, site_text_of};
+use conf::{Conf, Route, named_location, route_for, site_text_of};
 use std::test::Fail;
 
 const SITE: &str =
@@ -22,8 +22,23 @@ fn requests_have_routes(rt: HostRuntime) -> Result<(), Fail> {
     ] {
         assert!(&rt; route_for(&conf, host, path) == Route { server, location });
     }
-    assert_eq!(&rt; named_location(&conf, 1, b"@n"), Some(0));
-    assert_eq!(&rt; named_location(&conf, 1, b"/q"), None);
-    assert_eq!(&rt; named_location(&conf, 0, b"@n"), None);
+    Ok(())
+}
+
+/// The location of a server that has this name; a server that isn't there has none.
+fn location_named(conf: &Conf, server: u32, name: &[u8]) -> Option<u32> {
+    if (server as usize) < conf.servers.len() {
+        named_location(conf, server, name)
+    } else {
+        None
+    }
+}
+
+#[test]
+fn locations_have_names(rt: HostRuntime) -> Result<(), Fail> {
+    let conf = site_text_of(rt.alloc(), SITE.as_bytes())?;
+    assert_eq!(&rt; location_named(&conf, 1, b"@n"), Some(0));
+    assert_eq!(&rt; location_named(&conf, 1, b"/q"), None);
+    assert_eq!(&rt; location_named(&conf, 0, b"@n"), None);
     Ok(())
 }
