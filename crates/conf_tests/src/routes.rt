@@ -27,7 +27,7 @@ fn requests_have_routes(rt: HostRuntime) -> Result<(), Fail> {
 
 /// The location of a server that has this name; a server that isn't there has none.
 fn location_named(conf: &Conf, server: u32, name: &[u8]) -> Option<u32> {
-    if (server as usize) < conf.servers.len() {
+    if server < conf.servers.len() {
         named_location(conf, server, name)
     } else {
         None
