@@ -39,27 +39,39 @@ abbrev pub closing : Option ℕ → List Entry
 closing None = []
 closing (Some n) = entry.Close (id.Sock n) ∷ []
 
--- the entries of an action of a strand; what a socket that is kept crowds out is closed with it
+-- the entry of a strand's beginning, and of what it is told of its connection or of a socket
+abbrev pub told_entries : {J : Type 0} → StrandId → Action J → List (GlobalAction J) → List Entry
+told_entries s (Began now how) ms = start_entry how ∷ []
+told_entries s (Bytes q bytes) ms = entry.Given (event.Bytes (id_at s q ms) bytes) ∷ []
+told_entries s (Ended q) ms = entry.Given (event.Ended (id_at s q ms)) ∷ []
+told_entries s (Broken q) ms = entry.Given (event.Broken (id_at s q ms)) ∷ []
+told_entries s (Ready q) ms = entry.Given (event.Ready (id_at s q ms)) ∷ []
+told_entries s (Dialled k) ms = entry.Given (event.Dialled (socket_at s k ms).sock) ∷ []
+told_entries s (Refused k) ms = entry.Given (event.Refused (socket_at s k ms).sock) ∷ []
+told_entries s x ms = []
+
+-- the entry of what became of a piece that was offered, and of a closing
+abbrev pub sent_entries : {J : Type 0} → StrandId → Action J → List (GlobalAction J) → List Entry
+sent_entries s (Put q bytes) ms = entry.Put (id_at s q ms) bytes ∷ []
+sent_entries s (Later q) ms = entry.Later (id_at s q ms) ∷ []
+sent_entries s (Lost q) ms = entry.Lost (id_at s q ms) ∷ []
+sent_entries s (Close q) ms = entry.Close (id_at s q ms) ∷ []
+sent_entries s x ms = []
+
+-- the entries of a strand's calls, and of its being dropped; what a socket that is kept crowds out is closed with it
+abbrev pub call_entries : {J : Type 0} → Behavior J → StrandId → Action J → Option ℕ → List (GlobalAction J) → List Entry
+call_entries b s (Log line done) n ms = entry.Log s line done ∷ []
+call_entries b s (Dict z call answer) n ms = entry.Dict s (b.zone_name z) call answer ∷ []
+call_entries b s (Take key uses) n ms = entry.Take s key (found n uses) ∷ []
+call_entries b s (Dial host port done) n ms = entry.Dial s host port n ∷ []
+call_entries b s (Keep k key idle size) n ms = closing n ++ entry.Keep s (socket_at s k ms).sock key idle size n ∷ []
+call_entries b s (Timer at answer) n ms = entry.Timer s at answer ∷ []
+call_entries b s Dropped n ms = entry.Dropped s ∷ []
+call_entries b s x n ms = []
+
+-- the entries of an action of a strand
 abbrev pub entries_at : {J : Type 0} → Behavior J → StrandId → Action J → Option ℕ → List (GlobalAction J) → List Entry
-entries_at b s (Began now how) n ms = start_entry how ∷ []
-entries_at b s (Bytes q bytes) n ms = entry.Given (event.Bytes (id_at s q ms) bytes) ∷ []
-entries_at b s (Ended q) n ms = entry.Given (event.Ended (id_at s q ms)) ∷ []
-entries_at b s (Broken q) n ms = entry.Given (event.Broken (id_at s q ms)) ∷ []
-entries_at b s (Ready q) n ms = entry.Given (event.Ready (id_at s q ms)) ∷ []
-entries_at b s (Dialled k) n ms = entry.Given (event.Dialled (socket_at s k ms).sock) ∷ []
-entries_at b s (Refused k) n ms = entry.Given (event.Refused (socket_at s k ms).sock) ∷ []
-entries_at b s (Put q bytes) n ms = entry.Put (id_at s q ms) bytes ∷ []
-entries_at b s (Later q) n ms = entry.Later (id_at s q ms) ∷ []
-entries_at b s (Lost q) n ms = entry.Lost (id_at s q ms) ∷ []
-entries_at b s (Close q) n ms = entry.Close (id_at s q ms) ∷ []
-entries_at b s (Log line done) n ms = entry.Log s line done ∷ []
-entries_at b s (Dict z call answer) n ms = entry.Dict s (b.zone_name z) call answer ∷ []
-entries_at b s (Take key uses) n ms = entry.Take s key (found n uses) ∷ []
-entries_at b s (Dial host port done) n ms = entry.Dial s host port n ∷ []
-entries_at b s (Keep k key idle size) n ms = closing n ++ entry.Keep s (socket_at s k ms).sock key idle size n ∷ []
-entries_at b s (Timer at answer) n ms = entry.Timer s at answer ∷ []
-entries_at b s Dropped n ms = entry.Dropped s ∷ []
-entries_at b s x n ms = []
+entries_at b s x n ms = told_entries s x ms ++ sent_entries s x ms ++ call_entries b s x n ms
 
 -- the entry of what all are told
 abbrev pub word_entry : Word → Entry

@@ -1,0 +1,5 @@
+//! Tests of the order of handlers.
+#![tactic(auto)]
+
+#[cfg(test)]
+mod rows;
