@@ -1,6 +1,7 @@
 //! What follows a handler, by its phase, what was sent, and how it ended.
 use phases::{Next, Outcome, Phase, Sent, after};
 use resty_base::Bytes;
+use std::process::Abort;
 use std::test::Fail;
 use uri_args::Target;
 
@@ -22,7 +23,7 @@ fn redirect(status: u16) -> Outcome {
 }
 
 /// Tests each row, of a request or of a subrequest.
-fn hold(rt: HostRuntime, sub: bool, redirects: u8, rows: &[Row]) -> Result<(), Fail> {
+fn hold(rt: &impl Abort, sub: bool, redirects: u8, rows: &[Row]) -> Result<(), Fail> {
     for (phase, sent, outcome, next) in rows {
         assert_eq!(rt; after(*phase, sub, *sent, redirects, outcome), *next);
     }
@@ -32,7 +33,7 @@ fn hold(rt: HostRuntime, sub: bool, redirects: u8, rows: &[Row]) -> Result<(), F
 #[test]
 fn a_handler_that_ends_leads_on(rt: HostRuntime) -> Result<(), Fail> {
     hold(
-        rt,
+        &rt,
         false,
         0,
         &[
@@ -78,7 +79,7 @@ fn a_handler_that_ends_leads_on(rt: HostRuntime) -> Result<(), Fail> {
 #[test]
 fn a_status_is_answered_where_nothing_was(rt: HostRuntime) -> Result<(), Fail> {
     hold(
-        rt,
+        &rt,
         false,
         0,
         &[
@@ -119,7 +120,7 @@ fn a_status_is_answered_where_nothing_was(rt: HostRuntime) -> Result<(), Fail> {
 #[test]
 fn what_fails_is_answered_or_closes(rt: HostRuntime) -> Result<(), Fail> {
     hold(
-        rt,
+        &rt,
         false,
         0,
         &[
@@ -150,7 +151,7 @@ fn what_fails_is_answered_or_closes(rt: HostRuntime) -> Result<(), Fail> {
 #[test]
 fn a_request_begins_anew_ten_times(rt: HostRuntime) -> Result<(), Fail> {
     hold(
-        rt,
+        &rt,
         false,
         0,
         &[
@@ -159,7 +160,7 @@ fn a_request_begins_anew_ten_times(rt: HostRuntime) -> Result<(), Fail> {
         ],
     )?;
     hold(
-        rt,
+        &rt,
         false,
         9,
         &[
@@ -173,7 +174,7 @@ fn a_request_begins_anew_ten_times(rt: HostRuntime) -> Result<(), Fail> {
         ],
     )?;
     hold(
-        rt,
+        &rt,
         false,
         10,
         &[
@@ -192,7 +193,7 @@ fn a_request_begins_anew_ten_times(rt: HostRuntime) -> Result<(), Fail> {
 #[test]
 fn a_subrequest_has_no_access_phase(rt: HostRuntime) -> Result<(), Fail> {
     hold(
-        rt,
+        &rt,
         true,
         0,
         &[
