@@ -1,8 +1,7 @@
 -- The calls by parts are those of the plain dictionary.
-use Rattle.std.proofs.Common.{◌≡◌, ℕ, ℤ, ◌+ℤ◌, ◌≤◌, Bool, true, false, List, [], ◌∷◌, map, find, Option, Some, None, is_some, Result, Ok, Err, OnOk, OnErr, All, cond, refl, sym, ap, ◌∙◌, arith, subst, if◌then◌else◌}
+use Rattle.std.proofs.Common.{◌≡◌, ℕ, ℤ, ◌+ℤ◌, Bool, true, false, List, [], ◌∷◌, find, Option, Some, None, is_some, Result, Ok, Err, OnOk, OnErr, All, cond, refl, sym, ap, ◌∙◌, arith, subst, if◌then◌else◌}
 use Rattle.std.specs.List.{IsDistinct}
 use Rattle.std.proofs.lemmas.List.Elements.{All-head, All-tail, All-cons}
-use Rattle.resty_base.specs.declared.names.Ms.{Ms}
 use Rattle.resty_base.specs.declared.dictionary.DictValue.{DictValue}
 use Rattle.resty_base.specs.declared.dictionary.DictValue.TheVariants as value
 use Rattle.resty_base.specs.declared.dictionary.DictAnswer.{DictAnswer}
@@ -11,10 +10,9 @@ use Rattle.resty_base.specs.declared.dictionary.How.{How}
 use Rattle.resty_base.specs.declared.dictionary.How.TheVariants as how
 use Rattle.plain_rules.specs.declared.items.Item.{Item}
 use Rattle.plain_rules.specs.Items.{value_size, is_there, has_key, if_there, found, first}
-use Rattle.plain_rules.specs.Dictionary.{Outcome, get, store, stored, expiry_at, is_whole, raised, increased, as_number, begun, incr}
+use Rattle.plain_rules.specs.Dictionary.{Outcome, get, store, stored, expiry_at, is_whole, increased, as_number, incr}
 use Rattle.plain_rules.specs.Ranges.{IsNumbered, IsKept, IsWithin}
 use Rattle.shared_dict.specs.declared.kept.Kept.{Kept}
-use Rattle.shared_dict.specs.declared.calls.Increment.{Increment}
 use Rattle.shared_dict.specs.declared.calls.Increment.TheVariants as step
 use Rattle.shared_dict.specs.Zones.{brought, promoted}
 use Rattle.shared_dict.specs.Kept.{content_of}

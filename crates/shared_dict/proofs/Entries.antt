@@ -1,6 +1,5 @@
 -- What the map of entries does, on the list of items.
-use Rattle.std.proofs.Common.{◌≡◌, ℕ, zero, suc, ◌+◌, ◌-◌, ◌^◌, ◌≤◌, ◌<◌, nat_le, nat_eq, ◌&&◌, Bool, true, false, cond, List, [], ◌∷◌, length, take, drop, map, find, slice_get, Option, Some, None, option_map, refl, sym, ap, inl, inr, ◌∙◌, arith, rules, subst, if◌then◌else◌}
-use Rattle.std.specs.List.{AllByRecursion}
+use Rattle.std.proofs.Common.{◌≡◌, ℕ, zero, suc, ◌+◌, ◌-◌, ◌^◌, ◌≤◌, ◌<◌, nat_le, nat_eq, ◌&&◌, Bool, true, false, cond, List, [], ◌∷◌, length, take, drop, find, slice_get, Option, Some, None, option_map, refl, sym, ap, inl, inr, ◌∙◌, arith, rules, subst, if◌then◌else◌}
 use Rattle.std.specs.Option.{option_map_or}
 use Rattle.std.specs.Map.{lookup, lookup_entry, remove_entry, set_value}
 use Rattle.std.proofs.lemmas.Bool.{eqb-true}
@@ -15,7 +14,7 @@ use Rattle.resty_base.specs.declared.names.Ms.{Ms}
 use Rattle.plain_rules.specs.declared.items.Item.{Item}
 use Rattle.plain_rules.specs.Keys.{same_key}
 use Rattle.plain_rules.specs.Items.{value_size, size_of, used, is_before, has_key, if_there, found, without, first, but_last}
-use Rattle.plain_rules.specs.Dictionary.{expired, expiring}
+use Rattle.plain_rules.specs.Dictionary.{expired}
 use Rattle.shared_dict.specs.declared.kept.Kept.{Kept}
 use Rattle.shared_dict.specs.declared.kept.Flush.{Flush}
 use Rattle.shared_dict.specs.Zones.{brought, promoted}

@@ -1,20 +1,17 @@
 -- How far scans of entries have come.
-use Rattle.std.proofs.Common.{◌≡◌, ℕ, zero, suc, ◌+◌, ◌-◌, ◌≤◌, ◌<◌, nat_le, nat_lt, not, ◌&&◌, Bool, true, false, cond, List, [], ◌∷◌, ◌++◌, length, take, map, filter, refl, sym, ap, ◌∙◌, arith, rules, subst, append-nil, if◌then◌else◌}
+use Rattle.std.proofs.Common.{◌≡◌, ℕ, zero, suc, ◌+◌, ◌-◌, ◌≤◌, ◌<◌, nat_le, nat_lt, not, ◌&&◌, Bool, true, false, cond, List, [], ◌∷◌, ◌++◌, length, take, map, filter, refl, sym, ap, ◌∙◌, arith, subst, append-nil, if◌then◌else◌}
 use Rattle.std.specs.List.{AllByRecursion, IsDistinct}
 use Rattle.std.specs.Map.{keys_of, remove_entry}
-use Rattle.std.proofs.lemmas.Cmp.{nat_list_eq_equiv}
 use Rattle.std.proofs.lemmas.List.{append_assoc, length-append}
 use Rattle.std.proofs.lemmas.List.Sums.{sum_by-cons, sum_by-append}
 use Rattle.std.proofs.lemmas.Map.Keys.{IsDistinct-head, IsDistinct-tail, IsDistinct-cons}
-use Rattle.resty_base.specs.declared.names.Ms.{Ms}
 use Rattle.plain_rules.specs.declared.items.Item.{Item}
 use Rattle.plain_rules.specs.Keys.{same_key}
 use Rattle.plain_rules.specs.Items.{size_of, used, is_there, is_before, without, but_last, evicted}
 use Rattle.plain_rules.specs.Dictionary.{keys_there}
-use Rattle.shared_dict.specs.declared.kept.Kept.{Kept}
 use Rattle.shared_dict.specs.declared.kept.Flush.{Flush}
 use Rattle.shared_dict.specs.Zones.{fits_after, is_doomed, doomed}
-use Rattle.shared_dict.specs.Kept.{Entry, item_of, items_of, expiry_of, bytes_of}
+use Rattle.shared_dict.specs.Kept.{Entry, item_of, items_of, expiry_of}
 use Rattle.shared_dict.proofs.Entries.{same-is, without-is}
 use Rattle.shared_dict.proofs.Evictions.{le-true, le-false, true-lt, evicted-nil, stays, goes}
 

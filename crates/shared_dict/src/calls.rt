@@ -1,6 +1,6 @@
 //! The calls of a zone, on its items.
 
-ghost use Rattle.std.specs.Prelude.{◌≡◌, ℕ, ℤ, ◌+ℤ◌, ◌≤◌, List, map, Option, is_some, IfOk, IfSome, OnOk, OnErr};
+ghost use Rattle.std.specs.Prelude.{◌≡◌, ℕ, ℤ, ◌+ℤ◌, ◌≤◌, List, map, Option, is_some, false, IsOk, IfOk, IfSome, OnOk, OnErr};
 ghost use Rattle.std.specs.List.{IsDistinct};
 ghost use Rattle.resty_base.specs.WholeNumber.{IsWhole};
 ghost use Rattle.plain_rules.specs.declared.items.Item.{Item};
@@ -9,7 +9,7 @@ ghost use Rattle.plain_rules.specs.Items.{used, found};
 ghost use Rattle.plain_rules.specs.Dictionary as plain;
 ghost use Rattle.plain_rules.specs.Ranges.{IsNumbered, IsTtl};
 ghost use Rattle.shared_dict.specs.Calls as calls;
-ghost use Rattle.shared_dict.specs.Calls.{refused, if_whole, HasWholeNumbers};
+ghost use Rattle.shared_dict.specs.Calls.{refused, if_whole, is_beginning, FindsNoText, HasWholeNumbers};
 
 use crate::items::Items;
 use crate::values::copy_of;
@@ -31,7 +31,8 @@ pub(crate) enum Increment {
 impl Items {
     /// What a `get` answers; a text is shared.
     pub(crate) fn foresee_get(&self, now: Ms, key: &Bytes) -> Result<DictAnswer, AllocError>
-        ensures { IfOk result (λ a. a ≡ (plain.get (found now.0 key.now self.now) self.now).0) }
+        ensures answer { IfOk result (λ a. a ≡ (plain.get (found now.0 key.now self.now) self.now).0) }
+        ensures succeeds { FindsNoText (found now.0 key.now self.now) → IsOk result }
     {
         match self.there(now, key) {
             Some(kept) => Ok(DictAnswer::Found(copy_of(&kept.value)?, kept.flags)),
@@ -44,6 +45,7 @@ impl Items {
         ensures answer { IfOk result (λ a. a ≡ (plain.get (found now.0 key.now self.old) self.old).0) }
         ensures items { OnOk result (self.new ≡ (plain.get (found now.0 key.now self.old) self.old).1) }
         ensures unchanged { OnErr result (self.new ≡ self.old) }
+        ensures succeeds { FindsNoText (found now.0 key.now self.old) → IsOk result }
     {
         let answer = self.foresee_get(now, key)?;
         if is_found(&answer) {
@@ -118,6 +120,7 @@ impl Items {
         ensures items { (by : ℤ) (init : Option ℤ) → step ≡ calls.increment by init (found now.0 key.now self.old)
             → OnOk result (self.new ≡ (plain.incr size now.0 key.now by init ttl (found now.0 key.now self.old) self.old).1) }
         ensures unchanged { OnErr result (self.new ≡ self.old) }
+        ensures succeeds { is_beginning step ≡ false → IsOk result }
     {
         match step {
             Increment::Refused(answer) => Ok(answer),

@@ -1,9 +1,10 @@
 //! A zone: its calls.
 
-ghost use Rattle.std.specs.Prelude.{◌≡◌, ℕ, ◌≤◌, [], IfOk, OnOk, OnErr};
+ghost use Rattle.std.specs.Prelude.{◌≡◌, ℕ, ◌≤◌, [], IsOk, IfOk, OnOk, OnErr};
 ghost use Rattle.plain_rules.specs.Dictionary as plain;
 ghost use Rattle.plain_rules.specs.Dictionary.{dict};
 ghost use Rattle.plain_rules.specs.Ranges.{IsInRange, IsWithin};
+ghost use Rattle.shared_dict.specs.Calls.{AnswersWithoutMemory, ForeseesWithoutMemory};
 
 use crate::calls::item_of;
 use crate::items::Items;
@@ -49,6 +50,7 @@ impl Zone {
         ensures answer { IfOk result (λ a. a ≡ (dict self.old.size call.now now.0 self.old.items).0) }
         ensures items { OnOk result (self.new ≡ record self.old { items = (dict self.old.size call.now now.0 self.old.items).1 }) }
         ensures unchanged { OnErr result (self.new ≡ self.old) }
+        ensures succeeds { AnswersWithoutMemory call.now now.0 self.old.items → IsOk result }
     {
         stays_within();
         ask(&mut self.items, self.size, alloc, now, call)
@@ -57,7 +59,8 @@ impl Zone {
     /// What the zone answers a call at a moment; the zone stays as it is.
     pub fn foresee(&self, alloc: Global, now: Ms, call: &DictCall) -> Result<DictAnswer, AllocError>
         requires { IsInRange call.now }
-        ensures { IfOk result (λ a. a ≡ (dict self.now.size call.now now.0 self.now.items).0) }
+        ensures answer { IfOk result (λ a. a ≡ (dict self.now.size call.now now.0 self.now.items).0) }
+        ensures succeeds { ForeseesWithoutMemory call.now now.0 self.now.items → IsOk result }
     {
         foresee(&self.items, self.size, alloc, now, call)
     }
@@ -77,6 +80,7 @@ fn ask(
     ensures answer { IfOk result (λ a. a ≡ (dict size call.now now.0 items.old).0) }
     ensures items { OnOk result (items.new ≡ (dict size call.now now.0 items.old).1) }
     ensures unchanged { OnErr result (items.new ≡ items.old) }
+    ensures succeeds { AnswersWithoutMemory call.now now.0 items.old → IsOk result }
 {
     match call {
         DictCall::Get(key) => items.get(now, key),
@@ -120,7 +124,8 @@ fn foresee(
 ) -> Result<DictAnswer, AllocError>
     requires range { IsInRange call.now }
     requires within { IsWithin size items.now }
-    ensures { IfOk result (λ a. a ≡ (dict size call.now now.0 items.now).0) }
+    ensures answer { IfOk result (λ a. a ≡ (dict size call.now now.0 items.now).0) }
+    ensures succeeds { ForeseesWithoutMemory call.now now.0 items.now → IsOk result }
 {
     match call {
         DictCall::Get(key) => items.foresee_get(now, key),

@@ -1,4 +1,4 @@
-use Rattle.std.proofs.Common.{◌+◌, ◌<◌, ◌≤◌, ◌^◌, length}
+use Rattle.std.proofs.Common.{◌+◌, ◌<◌, ◌^◌, length}
 use Rattle.shared_dict.proofs.Progress.{IsAhead}
 use Rattle.shared_dict.proofs.scans.fits.Given as goal
 

@@ -9,15 +9,15 @@ use Rattle.shared_dict.proofs.Answering.{set-stored}
 use Rattle.shared_dict.proofs.Sweeps.{sweeps}
 use Rattle.shared_dict.proofs.zone.foresee.Goals as goal
 
-pub returns-in-None : goal.returns-in-None
-returns-in-None c =
+pub returns-in-None-clause-answer : goal.returns-in-None-clause-answer
+returns-in-None-clause-answer c =
     let item : Item = record { key = c.in-Store.key; value = c.in-Store.value; flags = c.in-Store.flags; expiry = expiry_at c.args.now.0 c.in-Store.ttl } in
     c.foresee_store.ensures item refl refl
     ∙ sym (ap (λ (o : Outcome). o.0) (set-stored c.args.size c.in-Store.how (found c.args.now.0 c.in-Store.key c.args.items.now) item c.args.items.now (sym c.refusal.ensures ∙ c.in-None.is)))
     ∙ sym (ap (λ (k : DictCall). (dict c.args.size k c.args.now.0 c.args.items.now).0) c.in-Store.is)
 
-pub returns-in-FlushExpired : goal.returns-in-FlushExpired
-returns-in-FlushExpired c =
+pub returns-in-FlushExpired-clause-answer : goal.returns-in-FlushExpired-clause-answer
+returns-in-FlushExpired-clause-answer c =
     let n = c.in-FlushExpired.n in
     let s = (sweeps c.args.now.0 (limit n) c.args.items.now c.requires.within.distinct).count in
     let e : length (doomed c.args.now.0 (limit n) c.args.items.now) ≡ length c.args.items.now - length (swept c.args.now.0 (limit n) c.args.items.now) = omega arith in

@@ -1,4 +1,4 @@
-use Rattle.std.proofs.Common.{◌≡◌, ◌+◌, sym, ap, ◌∙◌, arith, refl}
+use Rattle.std.proofs.Common.{◌≡◌, ◌+◌, ap, ◌∙◌, arith, refl}
 use Rattle.shared_dict.specs.Kept.{kept_of, put_first}
 use Rattle.shared_dict.proofs.Entries.{taken-used, put-counted, put-items}
 use Rattle.shared_dict.proofs.items.Items.put.Goals as goal

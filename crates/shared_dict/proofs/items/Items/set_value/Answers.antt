@@ -1,4 +1,4 @@
-use Rattle.std.proofs.Common.{◌≡◌, ap, ◌∙◌, sym, List}
+use Rattle.std.proofs.Common.{ap, ◌∙◌, sym, List}
 use Rattle.std.specs.List.{find}
 use Rattle.plain_rules.specs.declared.items.Item.{Item}
 use Rattle.plain_rules.specs.Items.{value_size, has_key, first}

@@ -1,5 +1,4 @@
-use Rattle.std.proofs.Common.{◌≡◌, length, nat_lt, sym, ap, ◌∙◌, arith}
-use Rattle.plain_rules.specs.Items.{first}
+use Rattle.std.proofs.Common.{length, nat_lt, sym, ap, ◌∙◌, arith}
 use Rattle.plain_rules.specs.Dictionary.{Outcome}
 use Rattle.shared_dict.specs.Zones.{trimmed}
 use Rattle.shared_dict.proofs.Evictions.{stored-done, stored-none}

@@ -1,4 +1,4 @@
-use Rattle.std.proofs.Common.{◌≡◌, length, ap, ◌∙◌, arith}
+use Rattle.std.proofs.Common.{length, ap, ◌∙◌, arith}
 use Rattle.shared_dict.specs.Zones.{without_all}
 use Rattle.shared_dict.proofs.Sweeps.{sweeps, doomed-few, swept-on, swept-end}
 use Rattle.shared_dict.proofs.items.Items.sweep.Goals as goal

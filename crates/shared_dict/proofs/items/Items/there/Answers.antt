@@ -1,4 +1,4 @@
-use Rattle.std.proofs.Common.{◌≡◌, List, sym, ◌∙◌, ap, true, false, subst}
+use Rattle.std.proofs.Common.{List, sym, ◌∙◌, ap, true, false}
 use Rattle.std.specs.Option.{option_copied}
 use Rattle.plain_rules.specs.declared.items.Item.{Item}
 use Rattle.plain_rules.specs.Items.{found, is_before}

@@ -1,4 +1,3 @@
-use Rattle.plain_rules.specs.Ranges.{IsWithin}
 use Rattle.shared_dict.proofs.Answering.{empty-within}
 use Rattle.shared_dict.proofs.zone.Zone.new.Goals as goal
 
