@@ -262,7 +262,7 @@ joined-found scan taken piece o e none is = head_end-append_none taken piece non
 pub ended-moved : (scan : HeadScan) (rest : List ℕ) (all : HeadScan) → after_bytes scan rest ≡ all → has_ended scan ≡ true → scan ≡ all
 ended-moved scan rest all moved h = sym (after_bytes-ended scan rest h) ∙ moved
 
-end_from-ended : (scan : HeadScan) (rest : List ℕ) → has_ended scan ≡ true → end_from scan rest ≡ Some 0
+pub end_from-ended : (scan : HeadScan) (rest : List ℕ) → has_ended scan ≡ true → end_from scan rest ≡ Some 0
 end_from-ended scan [] h = rw h refl
 end_from-ended scan (b ∷ bs) h = rw h refl
 

@@ -1,6 +1,6 @@
 //! The end of a head, found in bytes that come piece by piece (RFC 9112, section 2.1).
 
-ghost use Rattle.std.specs.Prelude.{◌≡◌, ℕ, ◌+◌, ◌++◌, List, [], length, None, option_map};
+ghost use Rattle.std.specs.Prelude.{◌≡◌, ℕ, ◌+◌, ◌++◌, List, [], length, true, None, Some, option_map};
 ghost use Rattle.http_in.specs.Ends.{head_end};
 ghost use Rattle.http_in.specs.Scanning.{after_byte, after_bytes, scan_of, has_ended};
 
@@ -33,11 +33,12 @@ impl HeadScan {
         HeadScan::Empty
     }
 
-    /// Reads a further piece, and returns how many bytes of it belong to the head, where it ends there.
+    /// Reads a further piece, and returns how many bytes of it belong to the head, where it ends there; 0 once it has ended.
     pub fn read(&mut self, piece: &[u8]) -> Option<usize>
         ensures moved { self.new ≡ after_bytes self.old piece.now }
         ensures found { (taken : List ℕ) → self.old ≡ scan_of taken → head_end taken ≡ None
             → head_end (taken ++ piece.now) ≡ option_map (λ n. length taken + n) result }
+        ensures ended { has_ended self.old ≡ true → result ≡ Some 0 }
     {
         for (index, byte) in piece.iter().enumerate() {
             if self.has_ended() {
