@@ -1,6 +1,6 @@
 -- Calls of Lua functions in frames.
-use Rattle.std.specs.Prelude.{◌≡◌, ℕ, ◌+◌, List, [], ◌∷◌, drop, length, slice_get, nat_lt, Bool, true, false, if◌then◌else◌, Option, Some, None, Result, refl}
-use Rattle.std.proofs.Common.{sym, ◌∙◌, ap, subst}
+use Rattle.std.specs.Prelude.{◌≡◌, ℕ, List, [], drop, length, slice_get, nat_lt, Bool, true, false, if◌then◌else◌, Option, Some, None, Result, refl}
+use Rattle.std.proofs.Common.{sym, ◌∙◌, ap}
 use Rattle.lua_ast.specs.declared.programs.Function.{Function}
 use Rattle.lua_ast.specs.declared.programs.Program.{Program}
 use Rattle.lua_values.specs.declared.values.Value.{Value}
@@ -10,11 +10,11 @@ use Rattle.lua_operators.specs.declared.faults.Fault.TheVariants.{StackOverflow}
 use Rattle.lua_operators.specs.declared.faults.OperandFault.TheVariants as operand
 use Rattle.lua_operators.specs.OperandFaults.{operand_fault_text}
 use Rattle.lua_operators.specs.Types.{type_of}
-use Rattle.lua_meaning.specs.Works.{Caller, Places, Sign, Values, Return, Break, Failed, Slots, Work, End, ACall, and_then}
+use Rattle.lua_meaning.specs.Works.{Caller, Places, Values, Return, Break, Failed, Slots, Work, End, ACall, and_then}
 use Rattle.lua_meaning.specs.Evaluator.{Resume, State, Ending, Ended, Parked, Spent, after, do_work}
 use Rattle.lua_meaning.specs.Setting.{Setting}
 use Rattle.lua_meaning.specs.Positions.{callers_at, raise, raise_fault, raise_operand}
-use Rattle.lua_meaning.specs.Calls.{call_end, returned, function_end, calling, call, tail_call, around_callee, inside, slots_from, most_callers, run}
+use Rattle.lua_meaning.specs.Calls.{call_end, returned, function_end, calling, call, tail_call, around_callee, inside, slots_from, most_callers}
 use Rattle.lua_meaning.specs.Blocks.{block}
 use Rattle.lua_meaning.specs.Nodes.{eval}
 use Rattle.lua_meaning.proofs.EvaluatorLemmas.{work-then}
@@ -23,7 +23,7 @@ use Rattle.lua_frames_base.specs.declared.frames.Frame.{Frame}
 use Rattle.lua_frames_base.specs.declared.frames.Kind.{Kind}
 use Rattle.lua_frames_base.specs.declared.frames.Kind.TheVariants.{Lua}
 use Rattle.lua_frames_base.specs.declared.threads.Frames.{Frames}
-use Rattle.lua_frames_base.specs.Around.{is_lua, places_of}
+use Rattle.lua_frames_base.specs.Around.{places_of}
 use Rattle.lua_frames_base.specs.Frames.{closed, back, around, here, slots_of}
 use Rattle.lua_frames_base.specs.Follows.{Works}
 use Rattle.lua_frames_base.specs.Changes.{Pushes, Replaces}

@@ -1,6 +1,6 @@
 -- What a call comes to: a step, then what is found.
 use Rattle.std.specs.Prelude.{◌≡◌, ℕ, ◌+◌, ◌-◌, ◌<◌, List, [], ◌∷◌, nat_lt, min, Bool, true, false, if◌then◌else◌, refl}
-use Rattle.std.proofs.Common.{sym, ◌∙◌, ap, subst, arith}
+use Rattle.std.proofs.Common.{sym, ◌∙◌, ap, arith}
 use borrow.Author.Tests.{ltb-true}
 use Rattle.lua_values.specs.declared.values.Value.{Value}
 use Rattle.lua_values.specs.declared.values.Value.TheVariants as value
@@ -10,7 +10,7 @@ use Rattle.lua_operators.specs.declared.events.Event.TheVariants.{Call}
 use Rattle.lua_operators.specs.declared.faults.OperandFault.TheVariants as operand
 use Rattle.lua_operators.specs.Types.{type_of}
 use Rattle.lua_meaning.specs.Works.{Places, Slots, ACall, Work, End, Eval, Look}
-use Rattle.lua_meaning.specs.Evaluator.{Resume, Ending, Spent, do_work}
+use Rattle.lua_meaning.specs.Evaluator.{Resume, Spent, do_work}
 use Rattle.lua_meaning.specs.Setting.{Setting}
 use Rattle.lua_meaning.specs.Metatables.{handler}
 use Rattle.lua_meaning.specs.Positions.{raise_operand}

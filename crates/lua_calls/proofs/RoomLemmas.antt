@@ -1,7 +1,6 @@
 -- How many Lua functions are around one that is called.
-use Rattle.std.specs.Prelude.{◌≡◌, ℕ, ◌+◌, ◌-◌, ◌<◌, ◌≤◌, suc, List, [], ◌∷◌, drop, length, nat_lt, Bool, true, false, refl}
+use Rattle.std.specs.Prelude.{◌≡◌, ℕ, ◌-◌, ◌<◌, suc, List, [], ◌∷◌, drop, length, nat_lt, Bool, true, false, refl}
 use Rattle.std.proofs.Common.{sym, ◌∙◌, ap, arith}
-use Rattle.std.proofs.lemmas.Bool.{lt-ltb}
 use borrow.Author.Tests.{ltb-true, ltb-false}
 use Rattle.lua_meaning.specs.Works.{Caller}
 use Rattle.lua_meaning.specs.Positions.{callers_at}

@@ -5,7 +5,7 @@ use Rattle.lua_values.specs.declared.values.Value.TheVariants.{Closure, Native}
 use Rattle.lua_values.specs.Heap.{StoreView}
 use Rattle.lua_operators.specs.declared.faults.OperandFault.TheVariants as operand
 use Rattle.lua_meaning.specs.Works.{Places, ACall, Work}
-use Rattle.lua_meaning.specs.Evaluator.{Resume, Ending, Spent, do_work}
+use Rattle.lua_meaning.specs.Evaluator.{Resume, Spent, do_work}
 use Rattle.lua_meaning.specs.Setting.{Setting}
 use Rattle.lua_meaning.specs.Positions.{raise_operand}
 use Rattle.lua_meaning.specs.Nodes.{eval, callee_work}
