@@ -3,3 +3,5 @@ pub mod FollowLemmas
 pub mod CallLemmas
 pub mod StackLemmas
 pub mod BlockLemmas
+pub mod FaultLemmas
+pub mod ByteLemmas

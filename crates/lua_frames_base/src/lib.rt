@@ -6,6 +6,7 @@
 mod calling;
 mod ending;
 mod ends;
+mod faults;
 mod flow;
 mod frames;
 mod hosts;
@@ -23,6 +24,7 @@ mod waiting;
 
 pub use calling::{leave, push_frame, replace_frame};
 pub use ends::{give_break, give_many, give_nothing, give_one, raise_value};
+pub use faults::{raise_fault, raise_given, raise_operand};
 pub use flow::{Flow, Op};
 pub use frames::{Frame, Kind};
 pub use hosts::Host;
