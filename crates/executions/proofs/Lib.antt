@@ -1,4 +1,5 @@
 pub mod Strands
+pub mod OwnLines
 pub mod OwnQueues
 pub mod OwnOffers
 pub mod OwnAgenda

@@ -20,6 +20,7 @@ use Rattle.executions.specs.Agenda.{Whose, OfStrand, OfJob, OfIdle, without_one,
 use Rattle.executions.specs.Agenda.{agenda_at, agenda}
 use Rattle.executions.specs.OwnDeadlines.{own_of, deadlines}
 use Rattle.executions.proofs.Strands.{same-self, same-is, clash, by_test}
+use Rattle.executions.proofs.OwnLines.{is_by, GoesAlong, own-line}
 
 -- a test that is true of nothing of the strand
 abbrev pub Spares : (Whose → Bool) → StrandId → Type 0
@@ -135,52 +136,21 @@ own-after J s Dropped n ms es l ps live h = clash false live refl
 own-after J s x n ms es l ps live h = h
 
 module _ {J : Type 0} (b : Behavior J) (quiet : IsQuiet b) (s : StrandId) where
-  -- one that hasn't begun has nothing in line
-  unborn : (ms : List (GlobalAction J)) → projection s ms ≡ [] → deadlines s (agenda b ms) ≡ []
-  unborn [] h = refl
-  unborn (Of t x n ∷ ms) h = put (unborn ms) (same_strand s t) refl h
-    where
-      put : (projection s ms ≡ [] → deadlines s (agenda b ms) ≡ []) → (c : Bool) → same_strand s t ≡ c → (if c then Did x ∷ projection s ms else projection s ms) ≡ [] → deadlines s (agenda b (Of t x n ∷ ms)) ≡ []
-      put ih true e h = absurd (let f : Did x ∷ projection s ms ≡ [] = h in cc)
-      put ih false e h = other-armed J s t (b.acts (Did x ∷ projection t ms)) (agenda_at t x n ms (agenda b ms)) e ∙ other-after J s t x n ms (agenda b ms) e ∙ ih h
-  unborn (Everyone w ∷ ms) h = put (unborn ms) (lives (projection s ms)) h
-    where
-      put : (projection s ms ≡ [] → deadlines s (agenda b ms) ≡ []) → (c : Bool) → (if c then Told w ∷ projection s ms else projection s ms) ≡ [] → deadlines s (agenda b ms) ≡ []
-      put ih true h = absurd (let f : Told w ∷ projection s ms ≡ [] = h in cc)
-      put ih false h = ih h
-  unborn (TurnedAway c ∷ ms) h = unborn ms h
-  unborn (IdleGave e ∷ ms) h = spared-those (is_socket (closed_by e)) s (agenda b ms) (spares-socket (closed_by e) s) ∙ unborn ms h
-  unborn (IdleClosed n ∷ ms) h = spared-those (is_socket (Some n)) s (agenda b ms) (spares-socket (Some n) s) ∙ unborn ms h
+  others : (m : GlobalAction J) (ms : List (GlobalAction J)) → is_by s m ≡ false → deadlines s (agenda b (m ∷ ms)) ≡ deadlines s (agenda b ms)
+  others (Of t x n) ms ne = other-armed J s t (b.acts (Did x ∷ projection t ms)) (agenda_at t x n ms (agenda b ms)) ne ∙ other-after J s t x n ms (agenda b ms) ne
+  others (Everyone w) ms ne = refl
+  others (TurnedAway c) ms ne = refl
+  others (IdleGave e) ms ne = spared-those (is_socket (closed_by e)) s (agenda b ms) (spares-socket (closed_by e) s)
+  others (IdleClosed n) ms ne = spared-those (is_socket (Some n)) s (agenda b ms) (spares-socket (Some n) s)
 
-  -- what a strand that lives has in line
-  abbrev pub HasOwn : List (GlobalAction J) → Type 0
-  HasOwn ms = lives (projection s ms) ≡ true → deadlines s (agenda b ms) ≡ armed b (projection s ms)
+  goes-along : GoesAlong b s (agenda b) (deadlines s) (armed b)
+  goes-along = record {
+    none = refl;
+    told = λ w es. ap (λ acts. armed_by acts (armed b es)) (quiet (Told w) es refl);
+    others = others;
+    owns = λ x n ms live h. own-armed J s (b.acts (Did x ∷ projection s ms)) (agenda_at s x n ms (agenda b ms))
+        ∙ ap (armed_by (b.acts (Did x ∷ projection s ms))) (own-after J s x n ms (projection s ms) (agenda b ms) (armed b (projection s ms)) live h);
+  }
 
-  was-none : (ms : List (GlobalAction J)) (x : Action J) → IsExecution b (Did x ∷ projection s ms) → lives (Did x ∷ projection s ms) ≡ true → HasOwn ms → deadlines s (agenda b ms) ≡ armed b (projection s ms)
-  was-none ms x f live ih = by_test (lives (projection s ms)) ih (λ off. begun x (projection s ms) refl f live off)
-    where
-      begun : (x : Action J) (es : List (LocalAction J)) → projection s ms ≡ es → IsExecution b (Did x ∷ es) → lives (Did x ∷ es) ≡ true → lives es ≡ false → deadlines s (agenda b ms) ≡ armed b es
-      begun (Began now start) es e f live off = unborn ms (e ∙ f.1) ∙ sym (ap (armed b) f.1)
-      begun Gone es e f live off = clash false live refl
-      begun Dropped es e f live off = clash false live refl
-      begun x es e f live off = clash (lives es) live off
-
-  pub own-agenda : (ms : List (GlobalAction J)) → IsExecution b (projection s ms) → HasOwn ms
-  own-agenda [] f live = refl
-  own-agenda (TurnedAway c ∷ ms) f live = own-agenda ms f live
-  own-agenda (IdleGave e ∷ ms) f live = spared-those (is_socket (closed_by e)) s (agenda b ms) (spares-socket (closed_by e) s) ∙ own-agenda ms f live
-  own-agenda (IdleClosed n ∷ ms) f live = spared-those (is_socket (Some n)) s (agenda b ms) (spares-socket (Some n) s) ∙ own-agenda ms f live
-  own-agenda (Everyone w ∷ ms) f live = put (own-agenda ms) (lives (projection s ms)) refl f live
-    where
-      put : (IsExecution b (projection s ms) → HasOwn ms) → (c : Bool) → lives (projection s ms) ≡ c → IsExecution b (if c then Told w ∷ projection s ms else projection s ms)
-          → lives (if c then Told w ∷ projection s ms else projection s ms) ≡ true → deadlines s (agenda b ms) ≡ armed b (if c then Told w ∷ projection s ms else projection s ms)
-      put ih true e f live = ih f.0 e ∙ sym (ap (λ acts. armed_by acts (armed b (projection s ms))) (quiet (Told w) (projection s ms) refl))
-      put ih false e f live = ih f live
-  own-agenda (Of t x n ∷ ms) f live = put (own-agenda ms) (same_strand s t) refl f live
-    where
-      put : (IsExecution b (projection s ms) → HasOwn ms) → (c : Bool) → same_strand s t ≡ c → IsExecution b (if c then Did x ∷ projection s ms else projection s ms)
-          → lives (if c then Did x ∷ projection s ms else projection s ms) ≡ true → deadlines s (agenda b (Of t x n ∷ ms)) ≡ armed b (if c then Did x ∷ projection s ms else projection s ms)
-      put ih true e f live = subst (λ (r : StrandId). deadlines s (armed_with r (b.acts (Did x ∷ projection r ms)) (agenda_at r x n ms (agenda b ms))) ≡ armed b (Did x ∷ projection s ms)) (same-is s t e)
-          (own-armed J s (b.acts (Did x ∷ projection s ms)) (agenda_at s x n ms (agenda b ms))
-          ∙ ap (armed_by (b.acts (Did x ∷ projection s ms))) (own-after J s x n ms (projection s ms) (agenda b ms) (armed b (projection s ms)) live (was-none ms x f live (ih f.0))))
-      put ih false e f live = other-armed J s t (b.acts (Did x ∷ projection t ms)) (agenda_at t x n ms (agenda b ms)) e ∙ other-after J s t x n ms (agenda b ms) e ∙ ih f live
+  pub own-agenda : (ms : List (GlobalAction J)) → IsExecution b (projection s ms) → lives (projection s ms) ≡ true → deadlines s (agenda b ms) ≡ armed b (projection s ms)
+  own-agenda ms f live = own-line b s (agenda b) (deadlines s) (armed b) goes-along ms f live
