@@ -1,0 +1,3 @@
+pub mod OutcomeLemmas
+pub mod CompareLemmas
+pub mod JoinLemmas
