@@ -1,0 +1,7 @@
+pub mod DropLemmas
+pub mod MovedLemmas
+pub mod EnterLemmas
+pub mod ChildForms
+pub mod CaptureLemmas
+pub mod LeafForms
+pub mod ListForms

@@ -1,0 +1,18 @@
+use Rattle.lua_nodes.proofs.ChildForms.{begins_as, binary_begins, and_begins, or_begins, index_begins}
+use Rattle.lua_nodes.proofs.children.child_of.Goals as goal
+
+pub returns-in_ok-share-in-Binary : goal.returns-in_ok-share-in-Binary
+returns-in_ok-share-in-Binary c =
+    begins_as c.args.x.now _ _ _ _ c.begins_with.ensures c.deref.ensures (binary_begins c.args.x.now c.in-Binary.operator c.in-Binary.a c.in-Binary.b c.in_ok-share-in-Binary.field-0 c.in-Binary.is c.in_ok-share-in-Binary.ensures)
+
+pub returns-in_ok-share-in-And : goal.returns-in_ok-share-in-And
+returns-in_ok-share-in-And c =
+    begins_as c.args.x.now _ _ _ _ c.begins_with-in-And.ensures c.deref-in-And.ensures (and_begins c.args.x.now c.in-And.a c.in-And.b c.in_ok-share-in-And.field-0 c.in-And.is c.in_ok-share-in-And.ensures)
+
+pub returns-in_ok-share-in-Or : goal.returns-in_ok-share-in-Or
+returns-in_ok-share-in-Or c =
+    begins_as c.args.x.now _ _ _ _ c.begins_with-in-Or.ensures c.deref-in-Or.ensures (or_begins c.args.x.now c.in-Or.a c.in-Or.b c.in_ok-share-in-Or.field-0 c.in-Or.is c.in_ok-share-in-Or.ensures)
+
+pub returns-in_ok-share-in-Index : goal.returns-in_ok-share-in-Index
+returns-in_ok-share-in-Index c =
+    begins_as c.args.x.now _ _ _ _ c.begins_with-in-Index.ensures c.deref-in-Index.ensures (index_begins c.args.x.now c.in-Index.a c.in-Index.b c.in_ok-share-in-Index.field-0 c.in-Index.is c.in_ok-share-in-Index.ensures)

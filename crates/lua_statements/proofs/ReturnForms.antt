@@ -1,0 +1,55 @@
+-- `return` by what it returns.
+use Rattle.std.specs.Prelude.{◌≡◌, ℕ, suc, zero, ◌≤◌, List, [], ◌∷◌, length, refl}
+use Rattle.std.proofs.Common.{sym, ◌∙◌, ap, arith, Vec, Global}
+use Rattle.std.specs.declared.rc.Rc.{Rc}
+use Rattle.lua_ast.specs.declared.expressions.Expr.{Expr}
+use Rattle.lua_ast.specs.declared.expressions.ExprKind.{ExprKind, out-ExprKind}
+use Rattle.lua_ast.specs.declared.expressions.ExprKind as kind
+use Rattle.lua_ast.specs.declared.expressions.ExprKind.TheViews.{outs-Call}
+use Rattle.lua_ast.specs.declared.expressions.ExprKind.TheVariants as v
+use Rattle.lua_meaning.specs.Works.{Places, Slots, Return, Work, End, and_then}
+use Rattle.lua_meaning.specs.Setting.{Setting}
+use Rattle.lua_meaning.specs.Signs.{on_values, values_of}
+use Rattle.lua_meaning.specs.Statements.{return_one, return_work}
+use Rattle.lua_frames_base.specs.declared.items.Item.TheVariants as i
+use Rattle.lua_frames_base.specs.Items.{resume_item}
+use Rattle.lua_statements.specs.Returns.{tail_begins}
+
+-- a call alone
+pub tail_form : (S : Setting) (xs : List Expr) (x : Expr) (f : Rc Expr Global) (args : Rc (Vec Expr Global) Global) (p : Places) (s : Slots) → xs ≡ x ∷ [] → x.kind ≡ v.Call f args
+    → return_work S xs p s ≡ tail_begins x.line f.value args.value.items p s
+tail_form S xs x f args p s one e = ap (λ (ys : List Expr). return_work S ys p s) one ∙ rw (e, outs-Call f args) refl
+
+-- any other expression alone
+plain_one : (S : Setting) (x : Expr) (k : ExprKind) (p : Places) (s : Slots) → ((f : Rc Expr Global) (args : Rc (Vec Expr Global) Global) → k ≡ v.Call f args → ⊥) → ((a : Rc Expr Global) (name : List ℕ) (args : Rc (Vec Expr Global) Global) → k ≡ v.Method a name args → ⊥)
+    → return_one S x (out-ExprKind k) p s ≡ and_then (values_of (x ∷ []) p s) (resume_item S i.Return p)
+plain_one S x kind.Nil p s h g = refl
+plain_one S x kind.True p s h g = refl
+plain_one S x kind.False p s h g = refl
+plain_one S x (kind.Number n) p s h g = refl
+plain_one S x (kind.Text t) p s h g = refl
+plain_one S x kind.Vararg p s h g = refl
+plain_one S x (kind.Function n) p s h g = refl
+plain_one S x (kind.Slot n) p s h g = refl
+plain_one S x (kind.Captured n) p s h g = refl
+plain_one S x (kind.Global name) p s h g = refl
+plain_one S x (kind.Index' a l y b m z) p s h g = refl
+plain_one S x (kind.Call' a l y b shape row) p s h g = absurd (h _ _ refl)
+plain_one S x (kind.Method' a l y name b shape row) p s h g = absurd (g _ _ _ refl)
+plain_one S x (kind.Unary' o a l y) p s h g = refl
+plain_one S x (kind.Binary' o a l y b m z) p s h g = refl
+plain_one S x (kind.And' a l y b m z) p s h g = refl
+plain_one S x (kind.Or' a l y b m z) p s h g = refl
+plain_one S x (kind.Paren' a l y) p s h g = refl
+plain_one S x (kind.Table' b shape row) p s h g = refl
+
+pub plain_form : (S : Setting) (xs : List Expr) (x : Expr) (p : Places) (s : Slots) → xs ≡ x ∷ [] → ((f : Rc Expr Global) (args : Rc (Vec Expr Global) Global) → x.kind ≡ v.Call f args → ⊥) → ((a : Rc Expr Global) (name : List ℕ) (args : Rc (Vec Expr Global) Global) → x.kind ≡ v.Method a name args → ⊥)
+    → return_work S xs p s ≡ and_then (values_of xs p s) (resume_item S i.Return p)
+plain_form S xs x p s one h g =
+    ap (λ (ys : List Expr). return_work S ys p s) one ∙ plain_one S x x.kind p s h g ∙ ap (λ (ys : List Expr). and_then (values_of ys p s) (resume_item S i.Return p)) (sym one)
+
+-- none, or more than one
+pub many_form : (S : Setting) (xs : List Expr) (p : Places) (s : Slots) → (length xs ≡ 1 → ⊥) → return_work S xs p s ≡ and_then (values_of xs p s) (resume_item S i.Return p)
+many_form S [] p s h = refl
+many_form S (x ∷ []) p s h = absurd (h refl)
+many_form S (x ∷ y ∷ xs) p s h = refl

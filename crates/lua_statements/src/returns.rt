@@ -1,0 +1,49 @@
+//! `return` (Lua 5.1 Reference Manual, 2.4.4): a call alone is a tail call.
+
+ghost use Rattle.lua_meaning.specs.Statements.{return_work};
+ghost use Rattle.lua_frames_base.specs.Frames.{here, slots_of};
+ghost use Rattle.lua_frames_base.specs.Follows.{Works};
+ghost use Rattle.lua_statements.specs.Returns.{tail_begins};
+
+use lua_ast::{Expr, ExprKind};
+use lua_frames_base::{Flow, Frames, Host, Item, share};
+use lua_nodes::{list_under, value_under};
+use lua_values::Store;
+use std::alloc::AllocError;
+use std::rc::Rc;
+
+/// Begins a `return` of a list; that of a call of a method isn't begun yet.
+pub(crate) fn begin_return<H: Host>(
+    frames: &mut Frames,
+    host: &H,
+    store: &mut Store,
+    xs: &Rc<Vec<Expr>>,
+) -> Result<Flow, AllocError>
+    ensures { Works (H.setting host.now) (return_work (H.setting host.now) xs.now.value.items (here frames.old) (slots_of frames.old)) frames.old store.old frames.new store.new result }
+{
+    match xs.as_slice() {
+        [x] => match &x.kind {
+            ExprKind::Call(f, args) => begin_tail_call(frames, host, store, x.line, f, args),
+            ExprKind::Method(_, _, _) => Ok(Flow::Unsupported),
+            _ => list_under(frames, host, store, Item::Return, xs),
+        },
+        _ => list_under(frames, host, store, Item::Return, xs),
+    }
+}
+
+/// Begins a tail call, which counts a step as a call does.
+fn begin_tail_call<H: Host>(
+    frames: &mut Frames,
+    host: &H,
+    store: &mut Store,
+    line: u32,
+    f: &Rc<Expr>,
+    args: &Rc<Vec<Expr>>,
+) -> Result<Flow, AllocError>
+    ensures { Works (H.setting host.now) (tail_begins line f.now.value args.now.value.items (here frames.old) (slots_of frames.old)) frames.old store.old frames.new store.new result }
+{
+    if !store.count(1) {
+        return Ok(Flow::Spent);
+    }
+    value_under(frames, host, store, Item::TailCallee(line, share(args)?), f)
+}
