@@ -44,7 +44,7 @@ pub extras_spent : {E : Type 0} (S : Setting) (extras : Vec Value Global) (old n
     → Works {E = E} S (give_counted extras.items (slots_of old)) old before new store (Ok flow.Spent)
 extras_spent S extras old new before store n below is e fails =
     spends S (give_counted extras.items (slots_of old)) old new before store
-        (count_spent S (length extras.items) (give extras.items (slots_of old)) before below (e ∙ ap (λ (k : ℕ). nat_lt (before.steps + k) step_limit) (is ∙ sized)) fails)
+    (count_spent S (length extras.items) (give extras.items (slots_of old)) before below (e ∙ ap (λ (k : ℕ). nat_lt (before.steps + k) step_limit) (is ∙ sized)) fails)
   where
     sized : vec_len extras ≡ length extras.items
     sized = omega (arith, extras.ok)
@@ -61,7 +61,7 @@ pub first_extra_spent : {E : Type 0} (S : Setting) (xs ys : List Value) (old new
     → Works {E = E} S (first_extra xs (slots_of old)) old before new store (Ok flow.Spent)
 first_extra_spent {E} S xs ys old new before store below same some e fails =
     works_as S (first_extra xs (slots_of old)) (Count 1 (give_one (first xs) (slots_of old))) old new before store (Ok flow.Spent)
-        (spends S (Count 1 (give_one (first xs) (slots_of old))) old new before store (count_spent S 1 (give_one (first xs) (slots_of old)) before below e fails)) (first_counts xs ys (slots_of old) same some)
+    (spends S (Count 1 (give_one (first xs) (slots_of old))) old new before store (count_spent S 1 (give_one (first xs) (slots_of old)) before below e fails)) (first_counts xs ys (slots_of old) same some)
 
 -- a value that is read in the heap is given
 pub reads : {E : Type 0} (S : Setting) (of : Heap → Value) (value : Value) (old new : Frames) (store : StoreView) (r : Result Flow E)
@@ -106,7 +106,7 @@ global_form S x name p s is = rw (is, outs-Global name) refl
 
 -- where one value is wanted only `...` differs
 pub one_form : (S : Setting) (line : ℕ) (k : ExprKind) (p : Places) (s : Slots) → (k ≡ v.Vararg → ⊥) → value_work S line (out-ExprKind k) p s ≡ expr_work S line (out-ExprKind k) p s
-  unfolding out-ExprKind denote.Hole.Carrier.out
+unfolding out-ExprKind denote.Hole.Carrier.out
 one_form S line kind.Nil p s h = refl
 one_form S line kind.True p s h = refl
 one_form S line kind.False p s h = refl

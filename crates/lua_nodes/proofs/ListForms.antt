@@ -155,8 +155,8 @@ pub list_ends : {E : Type 0} (S : Setting) (done vs : List Value) (old mid new :
     → Works S (on_values (more [] (here old) done) (sign_of old.given) (slots_of old)) old store new store r
 list_ends S done vs old mid new store r h b t w =
     works_as S (on_values (more [] (here old) done) (sign_of old.given) (slots_of old)) (End (Values (done ++ vs)) (slots_of mid)) old new store store r
-        (works_from S (End (Values (done ++ vs)) (slots_of mid)) old mid new store store r b t w)
-        (on_all (more [] (here old) done) (sign_of old.given) vs (slots_of old) h ∙ ap (λ (f : _). give (done ++ vs) f.slots.items) (sym t))
+    (works_from S (End (Values (done ++ vs)) (slots_of mid)) old mid new store store r b t w)
+    (on_all (more [] (here old) done) (sign_of old.given) vs (slots_of old) h ∙ ap (λ (f : _). give (done ++ vs) f.slots.items) (sym t))
 
 -- past its end nothing is left but those values
 pub more_ends : {E : Type 0} (S : Setting) (xs : Rc (Vec Expr Global) Global) (next : ℕ) (done : Vec Value Global) (old new : Frames) (store : StoreView) (r : Result Flow E)

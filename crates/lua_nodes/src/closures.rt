@@ -8,9 +8,8 @@ ghost use Rattle.lua_frames_base.specs.Frames.{here, slots_of};
 ghost use Rattle.lua_frames_base.specs.Follows.{Works};
 
 use crate::captures::make_closure;
-use crate::faults::raise_fault;
 use lua_ast::Program;
-use lua_frames_base::{Flow, Frames, give_one};
+use lua_frames_base::{Flow, Frames, give_one, raise_fault};
 use lua_operators::Fault;
 use lua_values::{Store, Value};
 use std::alloc::AllocError;

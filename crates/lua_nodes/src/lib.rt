@@ -5,7 +5,6 @@ mod captures;
 mod children;
 mod closures;
 mod expressions;
-mod faults;
 mod globals;
 mod leaves;
 mod lists;

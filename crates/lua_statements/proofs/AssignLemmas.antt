@@ -33,7 +33,7 @@ use Rattle.lua_frames_base.proofs.FollowLemmas.{work_done}
 use Rattle.lua_nodes.specs.Captures.{KeepsAllButSlots, ComesTo, Makes}
 use Rattle.lua_nodes.proofs.MovedLemmas.{kept_on, stays_here, works_moved}
 use Rattle.lua_nodes.proofs.CaptureLemmas.{kept_all, closure_as}
-use Rattle.lua_statements.specs.Assignments.{PutsPlain, IsAssigned, Assigns, IsDone, Does}
+use Rattle.lua_statements.specs.Assignments.{PutsPlain, Fails, IsAssigned, Assigns, IsDone, Does}
 
 -- work that ends at once is done
 pub ends_does : {E : Type 0} (S : Setting) (sign : Sign) (old new : Frames) (store : StoreView) (r : Result Flow E) → IsAssigned sign → Ends sign old new r → Does S (End sign (slots_of old)) old store new store r
@@ -42,6 +42,16 @@ ends_does S sign old new store (Ok f) a e = record { done = subst (λ (t : Flow)
     went : Assigns S (End sign (slots_of old)) old store new store
     went = record { keeps = kept_all old new e.below e.top; comes = λ rs. sym (rw (e.given, e.top) refl); ends = subst IsAssigned (sym e.given) a }
 ends_does S sign old new store (Err x) a e = record { done = tt }
+
+-- and so is work that fails
+pub fails_does : {E : Type 0} (S : Setting) (v : Value) (old new : Frames) (store : StoreView) (r : Result Flow E) → Fails v old new r → Does S (End (Failed v) (slots_of old)) old store new store r
+fails_does S v old new store (Ok f) h = ends_does S (Failed v) old new store (Ok f) tt h.fails
+fails_does S v old new store (Err x) h = record { done = tt }
+
+-- a call that fails with an equal value
+pub fails_as : {E : Type 0} (v w : Value) (old new : Frames) (r : Result Flow E) → Ends (Failed v) old new r → v ≡ w → Fails w old new r
+fails_as v w old new (Ok f) h e = record { fails = record { below = h.below; top = h.top; given = h.given ∙ ap Failed e; went = h.went } }
+fails_as v w old new (Err x) h e = record { fails = tt }
 
 -- work that comes to other work, which is done in frames with other slots
 pub does_moved : {E : Type 0} (S : Setting) (q q' : Work) (old mid new : Frames) (before between store : StoreView) (r : Result Flow E)
@@ -107,13 +117,13 @@ cell_written S callers c v old new before store r allowed is e =
 
 -- and one that the store refuses to write
 pub cell_refused : {E : Type 0} (S : Setting) (callers : List Caller) (c : ℕ) (v : Value) (fault : StoreFault) (old new : Frames) (before store : StoreView) (r : Result Flow E)
-    → frozen_cause before.heap.base.cells c ≡ Some fault → store ≡ before → Ends (Failed (positioned S callers (fault_text (variable_fault fault)))) old new r
+    → frozen_cause before.heap.base.cells c ≡ Some fault → store ≡ before → Fails (positioned S callers (fault_text (variable_fault fault))) old new r
     → Does S (write_cell S callers (Some c) v (slots_of old) (give [] (slots_of old))) old before new store r
 cell_refused S callers c v fault old new before store r cause is e =
     does_by S (write_cell S callers (Some c) v (slots_of old) (give [] (slots_of old))) (raise_fault S callers (variable_fault fault) (slots_of old)) old new before store store r
     (λ rs. ap (λ (x : Option StoreFault). do_work (eval S) (unless_refused S callers variable_fault x (slots_of old) (Write (with_cell_value before.heap c v) (give [] (slots_of old)))) (record { store = before; resumes = rs })) cause
     ∙ ap (λ (st : StoreView). do_work (eval S) (raise_fault S callers (variable_fault fault) (slots_of old)) (record { store = st; resumes = rs })) (sym is))
-    (ends_does S (Failed (positioned S callers (fault_text (variable_fault fault)))) old new store r tt e)
+    (fails_does S (positioned S callers (fault_text (variable_fault fault))) old new store r e)
 
 named : (cause : Option StoreFault) (fault : StoreFault) → IsCause cause fault → (fault ≡ Memory → ⊥) → cause ≡ Some fault
 named None fault e h = absurd (h e)
@@ -131,13 +141,13 @@ pair_set S line t key v old new before store r allowed is e =
 
 -- and one that the store refuses to set
 pub pair_refused : {E : Type 0} (S : Setting) (line t : ℕ) (key v : Value) (fault : StoreFault) (old new : Frames) (before store : StoreView) (r : Result Flow E)
-    → IsCause (set_cause before.heap t key v) fault → (fault ≡ Memory → ⊥) → store ≡ before → Ends (Failed (positioned S (callers_at (here old) line) (fault_text (table_fault fault)))) old new r
+    → IsCause (set_cause before.heap t key v) fault → (fault ≡ Memory → ⊥) → store ≡ before → Fails (positioned S (callers_at (here old) line) (fault_text (table_fault fault))) old new r
     → Does S (set_raw S line (Table t) key v (here old) (slots_of old)) old before new store r
 pair_refused S line t key v fault old new before store r cause known is e =
     does_by S (set_raw S line (Table t) key v (here old) (slots_of old)) (raise_fault S (callers_at (here old) line) (table_fault fault) (slots_of old)) old new before store store r
     (λ rs. ap (λ (x : Option StoreFault). do_work (eval S) (unless_refused S (callers_at (here old) line) table_fault x (slots_of old) (Write (with_pair before.heap t key v) (give [] (slots_of old)))) (record { store = before; resumes = rs })) (named (set_cause before.heap t key v) fault cause known)
     ∙ ap (λ (st : StoreView). do_work (eval S) (raise_fault S (callers_at (here old) line) (table_fault fault) (slots_of old)) (record { store = st; resumes = rs })) (sym is))
-    (ends_does S (Failed (positioned S (callers_at (here old) line) (fault_text (table_fault fault)))) old new store r tt e)
+    (fails_does S (positioned S (callers_at (here old) line) (fault_text (table_fault fault))) old new store r e)
 
 -- a function's variable is there before its closure is made
 function_begins : (S : Setting) (program : Program) (line i function : ℕ) (old mid : Frames) (go : Value → Slots → Work) (before : StoreView) → S.program ≡ program → PutsPlain i Nil old mid → (rs : List Resume)

@@ -1,16 +1,23 @@
 -- `return` by what it returns.
-use Rattle.std.specs.Prelude.{◌≡◌, ℕ, suc, zero, ◌≤◌, List, [], ◌∷◌, length, refl}
-use Rattle.std.proofs.Common.{sym, ◌∙◌, ap, arith, Vec, Global}
+use Rattle.std.specs.Prelude.{◌≡◌, ℕ, ◌+◌, min, nat_lt, Bool, true, false, List, [], ◌∷◌, length, Result, Ok, refl}
+use Rattle.std.proofs.Common.{sym, ◌∙◌, ap, Vec, Global}
 use Rattle.std.specs.declared.rc.Rc.{Rc}
 use Rattle.lua_ast.specs.declared.expressions.Expr.{Expr}
 use Rattle.lua_ast.specs.declared.expressions.ExprKind.{ExprKind, out-ExprKind}
 use Rattle.lua_ast.specs.declared.expressions.ExprKind as kind
 use Rattle.lua_ast.specs.declared.expressions.ExprKind.TheViews.{outs-Call}
 use Rattle.lua_ast.specs.declared.expressions.ExprKind.TheVariants as v
-use Rattle.lua_meaning.specs.Works.{Places, Slots, Return, Work, End, and_then}
+use Rattle.lua_values.specs.Heap.{StoreView, step_limit}
+use Rattle.lua_meaning.specs.Works.{Places, Slots, AValue, Work, Eval, Count, and_then}
 use Rattle.lua_meaning.specs.Setting.{Setting}
-use Rattle.lua_meaning.specs.Signs.{on_values, values_of}
-use Rattle.lua_meaning.specs.Statements.{return_one, return_work}
+use Rattle.lua_meaning.specs.Signs.{value, values_of}
+use Rattle.lua_meaning.specs.Statements.{tail_work, return_one, return_work}
+use Rattle.lua_frames_base.specs.declared.flow.Flow.{Flow}
+use Rattle.lua_frames_base.specs.declared.flow.Flow.TheVariants as flow
+use Rattle.lua_frames_base.specs.declared.threads.Frames.{Frames}
+use Rattle.lua_frames_base.specs.Frames.{here, slots_of}
+use Rattle.lua_frames_base.specs.Follows.{Works}
+use Rattle.lua_frames_base.proofs.FollowLemmas.{works_as, works_by, spends, count_goes, count_spent}
 use Rattle.lua_frames_base.specs.declared.items.Item.TheVariants as i
 use Rattle.lua_frames_base.specs.Items.{resume_item}
 use Rattle.lua_statements.specs.Returns.{tail_begins}
@@ -23,6 +30,7 @@ tail_form S xs x f args p s one e = ap (λ (ys : List Expr). return_work S ys p 
 -- any other expression alone
 plain_one : (S : Setting) (x : Expr) (k : ExprKind) (p : Places) (s : Slots) → ((f : Rc Expr Global) (args : Rc (Vec Expr Global) Global) → k ≡ v.Call f args → ⊥) → ((a : Rc Expr Global) (name : List ℕ) (args : Rc (Vec Expr Global) Global) → k ≡ v.Method a name args → ⊥)
     → return_one S x (out-ExprKind k) p s ≡ and_then (values_of (x ∷ []) p s) (resume_item S i.Return p)
+unfolding out-ExprKind denote.Hole.Carrier.out
 plain_one S x kind.Nil p s h g = refl
 plain_one S x kind.True p s h g = refl
 plain_one S x kind.False p s h g = refl
@@ -53,3 +61,23 @@ pub many_form : (S : Setting) (xs : List Expr) (p : Places) (s : Slots) → (len
 many_form S [] p s h = refl
 many_form S (x ∷ []) p s h = absurd (h refl)
 many_form S (x ∷ y ∷ xs) p s h = refl
+
+-- a tail call counts its step, and its function is evaluated
+tail_counts : (S : Setting) (line : ℕ) (f : Expr) (args copy : Rc (Vec Expr Global) Global) (p : Places) (s : Slots) → copy.value ≡ args.value
+    → tail_begins line f args.value.items p s ≡ Count 1 (Eval (AValue f) p s (resume_item S (i.TailCallee line copy) p))
+tail_counts S line f args copy p s h = rw h refl
+
+pub tail_goes : {E : Type 0} (S : Setting) (line : ℕ) (f : Expr) (args copy : Rc (Vec Expr Global) Global) (old new : Frames) (before counted store : StoreView) (below : Bool) (r : Result Flow E)
+    → copy.value ≡ args.value → counted ≡ record { heap = before.heap; steps = min step_limit (before.steps + 1) } → below ≡ nat_lt (before.steps + 1) step_limit → below ≡ true
+    → Works S (Eval (AValue f) (here old) (slots_of old) (resume_item S (i.TailCallee line copy) (here old))) old counted new store r
+    → Works S (tail_begins line f args.value.items (here old) (slots_of old)) old before new store r
+tail_goes S line f args copy old new before counted store below r h is steps holds w =
+    works_as S (tail_begins line f args.value.items (here old) (slots_of old)) (Count 1 (Eval (AValue f) (here old) (slots_of old) (resume_item S (i.TailCallee line copy) (here old)))) old new before store r
+    (works_by S (Count 1 (Eval (AValue f) (here old) (slots_of old) (resume_item S (i.TailCallee line copy) (here old)))) (Eval (AValue f) (here old) (slots_of old) (resume_item S (i.TailCallee line copy) (here old))) old new before counted store r
+    (count_goes S 1 (Eval (AValue f) (here old) (slots_of old) (resume_item S (i.TailCallee line copy) (here old))) before counted below is steps holds) w)
+    (tail_counts S line f args copy (here old) (slots_of old) h)
+
+pub tail_spent : {E : Type 0} (S : Setting) (line : ℕ) (f : Expr) (args : List Expr) (old new : Frames) (before store : StoreView) (below : Bool)
+    → below ≡ nat_lt (before.steps + 1) step_limit → below ≡ false → Works {E = E} S (tail_begins line f args (here old) (slots_of old)) old before new store (Ok flow.Spent)
+tail_spent S line f args old new before store below steps fails =
+    spends S (tail_begins line f args (here old) (slots_of old)) old new before store (count_spent S 1 (value f (here old) (slots_of old) (λ v s'. tail_work line v [] args (here old) s')) before below steps fails)

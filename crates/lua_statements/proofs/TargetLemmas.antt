@@ -1,6 +1,7 @@
 -- The targets of an assignment, one after another.
 use Rattle.std.specs.Prelude.{◌≡◌, ℕ, ◌+◌, min, nat_lt, Bool, true, false, List, [], ◌∷◌, ◌++◌, drop, map, Option, Some, Result, Ok, refl}
 use Rattle.std.proofs.Common.{sym, ◌∙◌, ap, Vec, Global}
+use Rattle.std.specs.declared.rc.Rc.{Rc}
 use Rattle.lua_ast.specs.declared.expressions.Expr.{Expr}
 use Rattle.lua_ast.specs.declared.expressions.ExprKind.{ExprKind, out-ExprKind}
 use Rattle.lua_ast.specs.declared.expressions.ExprKind as kind
@@ -24,7 +25,7 @@ use Rattle.lua_frames_base.specs.declared.threads.Frames.{Frames}
 use Rattle.lua_frames_base.specs.Items.{target_of, assign_values, resume_item}
 use Rattle.lua_frames_base.specs.Frames.{here, slots_of}
 use Rattle.lua_frames_base.specs.Follows.{Works}
-use Rattle.lua_frames_base.proofs.FollowLemmas.{works_by, spends, count_goes, count_spent}
+use Rattle.lua_frames_base.proofs.FollowLemmas.{works_as, works_by, spends, count_goes, count_spent}
 use Rattle.lua_nodes.specs.Captures.{ComesTo}
 use Rattle.lua_statements.specs.Targets.{IsTarget}
 
@@ -89,3 +90,56 @@ captured_target x n store e S p s go rs = rw (e, outs-Captured n) refl
 
 pub global_target : (x : Expr) (name copy : List ℕ) (t : ℕ) (store : StoreView) → x.kind ≡ v.Global name → copy ≡ name → t ≡ store.heap.globals → IsTarget x store (Some (target.AtKey x.line (Table t) (Text copy)))
 global_target x name copy t store e same is S p s go rs = rw (e, outs-Global name, same, is) refl
+
+-- a slot alone
+one_slot : (S : Setting) (targets xs : List Expr) (x : Expr) (n : ℕ) (p : Places) (s : Slots) → targets ≡ x ∷ [] → x.kind ≡ v.Slot n
+    → assignment_work S targets xs p s ≡ Count 1 (and_then (values_of xs p s) (resume_item S (i.AssignSlot x.line n) p))
+one_slot S targets xs x n p s one e = ap (λ (ts : List Expr). assignment_work S ts xs p s) one ∙ rw (e, outs-Slot n) refl
+
+pub slot_begins : {E : Type 0} (S : Setting) (targets xs : List Expr) (x : Expr) (n : ℕ) (old new : Frames) (before counted store : StoreView) (below : Bool) (r : Result Flow E)
+    → targets ≡ x ∷ [] → x.kind ≡ v.Slot n
+    → counted ≡ record { heap = before.heap; steps = min step_limit (before.steps + 1) } → below ≡ nat_lt (before.steps + 1) step_limit → below ≡ true
+    → Works S (and_then (values_of xs (here old) (slots_of old)) (resume_item S (i.AssignSlot x.line n) (here old))) old counted new store r
+    → Works S (assignment_work S targets xs (here old) (slots_of old)) old before new store r
+slot_begins S targets xs x n old new before counted store below r one e is steps holds w =
+    works_as S (assignment_work S targets xs (here old) (slots_of old)) (Count 1 (and_then (values_of xs (here old) (slots_of old)) (resume_item S (i.AssignSlot x.line n) (here old)))) old new before store r
+    (works_by S (Count 1 (and_then (values_of xs (here old) (slots_of old)) (resume_item S (i.AssignSlot x.line n) (here old)))) (and_then (values_of xs (here old) (slots_of old)) (resume_item S (i.AssignSlot x.line n) (here old))) old new before counted store r
+    (count_goes S 1 (and_then (values_of xs (here old) (slots_of old)) (resume_item S (i.AssignSlot x.line n) (here old))) before counted below is steps holds) w)
+    (one_slot S targets xs x n (here old) (slots_of old) one e)
+
+pub slot_spent : {E : Type 0} (S : Setting) (targets xs : List Expr) (x : Expr) (n : ℕ) (old new : Frames) (before store : StoreView) (below : Bool)
+    → targets ≡ x ∷ [] → x.kind ≡ v.Slot n → below ≡ nat_lt (before.steps + 1) step_limit → below ≡ false
+    → Works {E = E} S (assignment_work S targets xs (here old) (slots_of old)) old before new store (Ok flow.Spent)
+slot_spent S targets xs x n old new before store below one e steps fails =
+    works_as S (assignment_work S targets xs (here old) (slots_of old)) (Count 1 (and_then (values_of xs (here old) (slots_of old)) (resume_item S (i.AssignSlot x.line n) (here old)))) old new before store (Ok flow.Spent)
+    (spends S (Count 1 (and_then (values_of xs (here old) (slots_of old)) (resume_item S (i.AssignSlot x.line n) (here old)))) old new before store
+    (count_spent S 1 (and_then (values_of xs (here old) (slots_of old)) (resume_item S (i.AssignSlot x.line n) (here old))) before below steps fails))
+    (one_slot S targets xs x n (here old) (slots_of old) one e)
+
+-- an expression that is no target
+nowhere : (line : ℕ) (k : ExprKind) (p' : Places) (s' : Slots) (go' : assignment.Target → Slots → Work) → ((n : ℕ) → k ≡ v.Slot n → ⊥) → ((n : ℕ) → k ≡ v.Captured n → ⊥) → ((name : List ℕ) → k ≡ v.Global name → ⊥) → ((m n : Rc Expr Global) → k ≡ v.Index m n → ⊥)
+    → assignment.target_of line (out-ExprKind k) p' s' go' ≡ go' assignment.Nowhere s'
+unfolding out-ExprKind denote.Hole.Carrier.out
+nowhere line kind.Nil p' s' go' h i' j m = refl
+nowhere line kind.True p' s' go' h i' j m = refl
+nowhere line kind.False p' s' go' h i' j m = refl
+nowhere line (kind.Number n) p' s' go' h i' j m = refl
+nowhere line (kind.Text t) p' s' go' h i' j m = refl
+nowhere line kind.Vararg p' s' go' h i' j m = refl
+nowhere line (kind.Function n) p' s' go' h i' j m = refl
+nowhere line (kind.Slot n) p' s' go' h i' j m = absurd (h _ refl)
+nowhere line (kind.Captured n) p' s' go' h i' j m = absurd (i' _ refl)
+nowhere line (kind.Global name) p' s' go' h i' j m = absurd (j _ refl)
+nowhere line (kind.Index' a' l x' b' n y) p' s' go' h i' j m = absurd (m _ _ refl)
+nowhere line (kind.Call' a' l x' b' shape row) p' s' go' h i' j m = refl
+nowhere line (kind.Method' a' l x' name b' shape row) p' s' go' h i' j m = refl
+nowhere line (kind.Unary' o a' l x') p' s' go' h i' j m = refl
+nowhere line (kind.Binary' o a' l x' b' n y) p' s' go' h i' j m = refl
+nowhere line (kind.And' a' l x' b' n y) p' s' go' h i' j m = refl
+nowhere line (kind.Or' a' l x' b' n y) p' s' go' h i' j m = refl
+nowhere line (kind.Paren' a' l x') p' s' go' h i' j m = refl
+nowhere line (kind.Table' b' shape row) p' s' go' h i' j m = refl
+
+pub no_target : (x : Expr) (store : StoreView) → ((n : ℕ) → x.kind ≡ v.Slot n → ⊥) → ((n : ℕ) → x.kind ≡ v.Captured n → ⊥) → ((name : List ℕ) → x.kind ≡ v.Global name → ⊥) → ((a b : Rc Expr Global) → x.kind ≡ v.Index a b → ⊥)
+    → IsTarget x store (Some target.Nowhere)
+no_target x store a b c d S p s go rs = ap (λ (q : Work). do_work (eval S) q (record { store = store; resumes = rs })) (nowhere x.line x.kind p s go a b c d)

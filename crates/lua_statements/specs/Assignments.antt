@@ -1,5 +1,5 @@
 -- Assignments that are done at once, in the frame on top.
-use Rattle.std.specs.Prelude.{◌≡◌, ℕ, Bool, true, false, List, [], Result, IfOk, slice_set}
+use Rattle.std.specs.Prelude.{◌≡◌, ℕ, Bool, true, false, List, [], Result, Ok, IfOk, slice_set}
 use Rattle.lua_values.specs.declared.values.Value.{Value}
 use Rattle.lua_values.specs.Heap.{StoreView}
 use Rattle.lua_meaning.specs.declared.slots.Slot.TheVariants.{Plain}
@@ -10,12 +10,17 @@ use Rattle.lua_frames_base.specs.declared.flow.Flow.TheVariants as flow
 use Rattle.lua_frames_base.specs.declared.threads.Frames.{Frames}
 use Rattle.lua_frames_base.specs.Signals.{sign_of}
 use Rattle.lua_frames_base.specs.Frames.{slots_of}
+use Rattle.lua_frames_base.specs.Changes.{Ends}
 use Rattle.lua_nodes.specs.Captures.{KeepsAllButSlots, ComesTo}
 
 -- a slot of the frame on top has a value of its own from now on
 pub record PutsPlain (i : ℕ) (value : Value) (old new : Frames) : Type 0 where
   pub keeps : KeepsAllButSlots old new
   pub slots : slots_of new ≡ slice_set (slots_of old) i (Plain value)
+
+-- a call that fails with a value
+pub record Fails {E : Type 0} (v : Value) (old new : Frames) (r : Result Flow E) : Type 0 where
+  pub fails : IfOk r (λ f. Ends {E = E} (Failed v) old new (Ok f))
 
 -- an assignment gives no value, or fails
 abbrev pub IsAssigned : Sign → Type 0

@@ -15,7 +15,7 @@ ghost use Rattle.lua_frames_base.specs.Signals.{sign_of};
 ghost use Rattle.lua_statements.specs.Assignments.{Does, has_failed};
 
 use crate::faults::fail;
-use crate::locals::take_value;
+use crate::locals::{put_plain, take_value};
 use lua_ast::Program;
 use lua_frames_base::{Flow, Frames, Signal, Target, give_nothing, handler};
 use lua_meaning::Slot;
@@ -35,14 +35,14 @@ pub fn assign_slot(
     ensures { (S : Setting) → S.program ≡ program.now
         → Does S (write_slot S (callers_at (here frames.old) line) (slice_get (slots_of frames.old) i) i value (slots_of frames.old) (give [])) frames.old store.old frames.new store.new result }
 {
-    match frames.top.slots.get_mut(i as usize) {
+    match frames.top.slots.get(i as usize) {
         None => give_nothing(frames),
         Some(Slot::Shared(c)) => {
             let c = *c;
             write_cell(frames, program, store, line, c, value)
         }
-        Some(slot) => {
-            *slot = Slot::Plain(value);
+        Some(Slot::Plain(_)) => {
+            put_plain(frames, i, value);
             give_nothing(frames)
         }
     }

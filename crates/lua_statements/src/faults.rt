@@ -4,9 +4,8 @@ ghost use Rattle.std.specs.Prelude.{◌≡◌};
 ghost use Rattle.lua_meaning.specs.Setting.{Setting};
 ghost use Rattle.lua_operators.specs.Faults.{fault_text};
 ghost use Rattle.lua_meaning.specs.Positions.{callers_at, positioned};
-ghost use Rattle.lua_meaning.specs.Works.{Failed};
 ghost use Rattle.lua_frames_base.specs.Frames.{here};
-ghost use Rattle.lua_frames_base.specs.Changes.{Ends};
+ghost use Rattle.lua_statements.specs.Assignments.{Fails};
 
 use lua_ast::Program;
 use lua_frames_base::{Flow, Frames, position_at, positioned, raise_value};
@@ -21,7 +20,7 @@ pub(crate) fn fail(
     fault: Fault,
 ) -> Result<Flow, AllocError>
     ensures { (S : Setting) → S.program ≡ program.now
-        → Ends (Failed (positioned S (callers_at (here frames.old) line) (fault_text fault))) frames.old frames.new result }
+        → Fails (positioned S (callers_at (here frames.old) line) (fault_text fault)) frames.old frames.new result }
 {
     let position = position_at(frames, program, line, 0);
     let text = positioned(frames.alloc, program, position, fault.text())?;

@@ -5,12 +5,11 @@ ghost use Rattle.lua_meaning.specs.Setting.{Setting};
 ghost use Rattle.lua_meaning.specs.Statements.{local_function};
 ghost use Rattle.lua_frames_base.specs.Frames.{here, slots_of};
 ghost use Rattle.lua_frames_base.specs.Follows.{Works};
-ghost use Rattle.lua_statements.specs.Assignments.{PutsPlain};
 
 use crate::assigning::assign_slot;
+use crate::locals::put_plain;
 use lua_ast::Program;
 use lua_frames_base::{Flow, Frames, raise_fault};
-use lua_meaning::Slot;
 use lua_nodes::make_closure;
 use lua_operators::Fault;
 use lua_values::{Store, Value};
@@ -32,14 +31,5 @@ pub(crate) fn local_function(
     match make_closure(frames, program, store, function)? {
         Some(c) => assign_slot(frames, program, store, line, i, Value::Closure(c)),
         None => raise_fault(frames, program, line, Fault::StorageLimit),
-    }
-}
-
-/// A slot has a value of its own from now on.
-fn put_plain(frames: &mut Frames, i: u8, value: Value)
-    ensures { PutsPlain i value frames.old frames.new }
-{
-    if let Some(slot) = frames.top.slots.get_mut(i as usize) {
-        *slot = Slot::Plain(value);
     }
 }

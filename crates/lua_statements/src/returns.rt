@@ -1,5 +1,6 @@
 //! `return` (Lua 5.1 Reference Manual, 2.4.4): a call alone is a tail call.
 
+ghost use Rattle.std.specs.Prelude.{◌≡◌, ◌∷◌, []};
 ghost use Rattle.lua_meaning.specs.Statements.{return_work};
 ghost use Rattle.lua_frames_base.specs.Frames.{here, slots_of};
 ghost use Rattle.lua_frames_base.specs.Follows.{Works};
@@ -22,11 +23,25 @@ pub(crate) fn begin_return<H: Host>(
     ensures { Works (H.setting host.now) (return_work (H.setting host.now) xs.now.value.items (here frames.old) (slots_of frames.old)) frames.old store.old frames.new store.new result }
 {
     match xs.as_slice() {
-        [x] => match &x.kind {
-            ExprKind::Call(f, args) => begin_tail_call(frames, host, store, x.line, f, args),
-            ExprKind::Method(_, _, _) => Ok(Flow::Unsupported),
-            _ => list_under(frames, host, store, Item::Return, xs),
-        },
+        [x] => return_one(frames, host, store, xs, x),
+        _ => list_under(frames, host, store, Item::Return, xs),
+    }
+}
+
+/// Begins a `return` of one expression.
+fn return_one<H: Host>(
+    frames: &mut Frames,
+    host: &H,
+    store: &mut Store,
+    xs: &Rc<Vec<Expr>>,
+    x: &Expr,
+) -> Result<Flow, AllocError>
+    requires { xs.now.value.items ≡ x.now ∷ [] }
+    ensures { Works (H.setting host.now) (return_work (H.setting host.now) xs.now.value.items (here frames.old) (slots_of frames.old)) frames.old store.old frames.new store.new result }
+{
+    match &x.kind {
+        ExprKind::Call(f, args) => begin_tail_call(frames, host, store, x.line, f, args),
+        ExprKind::Method(_, _, _) => Ok(Flow::Unsupported),
         _ => list_under(frames, host, store, Item::Return, xs),
     }
 }

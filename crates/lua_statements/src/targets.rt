@@ -1,6 +1,6 @@
 //! The targets of assignments, which are evaluated before the values (Lua 5.1 Reference Manual, 2.4.3).
 
-ghost use Rattle.std.specs.Prelude.{IfOk};
+ghost use Rattle.std.specs.Prelude.{◌≡◌, ◌∷◌, [], IfOk};
 ghost use Rattle.lua_meaning.specs.Assignments.{assignment_work};
 ghost use Rattle.lua_frames_base.specs.Frames.{here, slots_of};
 ghost use Rattle.lua_frames_base.specs.Follows.{Works};
@@ -24,15 +24,30 @@ pub(crate) fn begin_assignment<H: Host>(
     ensures { Works (H.setting host.now) (assignment_work (H.setting host.now) targets.now.value.items xs.now.value.items (here frames.old) (slots_of frames.old)) frames.old store.old frames.new store.new result }
 {
     match targets.as_slice() {
-        [target] => match &target.kind {
-            ExprKind::Slot(i) => {
-                if !store.count(1) {
-                    return Ok(Flow::Spent);
-                }
-                list_under(frames, host, store, Item::AssignSlot(target.line, *i), xs)
+        [target] => begin_one(frames, host, store, targets, target, xs),
+        _ => begin_targets(frames, host, store, targets, xs),
+    }
+}
+
+/// Begins an assignment to one target; to a slot it makes no list of targets.
+fn begin_one<H: Host>(
+    frames: &mut Frames,
+    host: &H,
+    store: &mut Store,
+    targets: &Rc<Vec<Expr>>,
+    target: &Expr,
+    xs: &Rc<Vec<Expr>>,
+) -> Result<Flow, AllocError>
+    requires { targets.now.value.items ≡ target.now ∷ [] }
+    ensures { Works (H.setting host.now) (assignment_work (H.setting host.now) targets.now.value.items xs.now.value.items (here frames.old) (slots_of frames.old)) frames.old store.old frames.new store.new result }
+{
+    match &target.kind {
+        ExprKind::Slot(i) => {
+            if !store.count(1) {
+                return Ok(Flow::Spent);
             }
-            _ => begin_targets(frames, host, store, targets, xs),
-        },
+            list_under(frames, host, store, Item::AssignSlot(target.line, *i), xs)
+        }
         _ => begin_targets(frames, host, store, targets, xs),
     }
 }

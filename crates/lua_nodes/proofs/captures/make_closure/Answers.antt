@@ -8,4 +8,4 @@ returns-in-None c =
 pub returns-in-Some : goal.returns-in-Some
 returns-in-Some c =
     makes_closed_ok c.args.program.now c.args.function c.in-Some.cells.items c.captures_of.result.now c.args.frames.now c.share_variables.new.frames c.close.new.frames c.args.store.now c.share_variables.new.store c.close.new.store c.close.result
-        c.captures_of.ensures (rw c.in-Some.is at c.in_ok-share_variables.ensures) c.close.ensures
+    c.captures_of.ensures (rw c.in-Some.is at c.in_ok-share_variables.ensures) c.close.ensures

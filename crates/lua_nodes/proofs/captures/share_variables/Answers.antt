@@ -7,7 +7,7 @@ use Rattle.lua_nodes.proofs.captures.share_variables.Goals as goal
 pub returns-in-None : goal.returns-in-None
 returns-in-None c =
     one_refused c.args.captures.now c.loop-capture.capture-index _ c.loop-capture.cells.items c.args.frames.now c.loop-capture.frames c.share_variable.new.frames c.args.store.now c.loop-capture.store c.share_variable.new.store
-        (drop_more c.args.captures.now c.loop-capture.capture-index _ c.loop-capture-test.true) c.loop-capture.invariant.0 c.loop-capture.invariant.1 (rw c.in-None.is at c.in_ok-share_variable.ensures)
+    (drop_more c.args.captures.now c.loop-capture.capture-index _ c.loop-capture-test.true) c.loop-capture.invariant.0 c.loop-capture.invariant.1 (rw c.in-None.is at c.in_ok-share_variable.ensures)
 
 pub loop-capture-preserved : goal.loop-capture-preserved
 loop-capture-preserved c = (
@@ -19,4 +19,4 @@ loop-capture-preserved c = (
 pub returns : goal.returns
 returns c =
     all_shared c.args.captures.now c.loop-capture.capture-index c.loop-capture.cells.items c.args.frames.now c.loop-capture.frames c.args.store.now c.loop-capture.store
-        (dropped_all c.args.captures.now c.loop-capture.capture-index c.loop-capture-test.false) c.loop-capture.invariant.0 c.loop-capture.invariant.1
+    (dropped_all c.args.captures.now c.loop-capture.capture-index c.loop-capture-test.false) c.loop-capture.invariant.0 c.loop-capture.invariant.1

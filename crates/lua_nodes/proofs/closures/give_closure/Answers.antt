@@ -9,4 +9,4 @@ returns-in-Some c = λ S e.
 pub returns-in-None : goal.returns-in-None
 returns-in-None c = λ S e.
     closure_refused S c.args.program.now c.args.line c.args.function give_one c.args.frames.now c.make_closure.new.frames c.raise_fault.new.frames c.args.store.now c.make_closure.new.store c.make_closure.new.store c.raise_fault.result
-        e (rw c.in-None.is at c.in_ok-c.ensures) (c.raise_fault.ensures S c.make_closure.new.store e)
+    e (rw c.in-None.is at c.in_ok-c.ensures) (c.raise_fault.ensures S c.make_closure.new.store e)

@@ -16,6 +16,6 @@ pub returns-in_ok-wait-in-Some : goal.returns-in_ok-wait-in-Some
 returns-in_ok-wait-in-Some g c =
     let begins : BeginsWith c.args.x.now c.in-Some.child.item c.in-Some.child.expr.now = rw c.in-Some.is at c.in_ok-child_of.ensures in
     enters_by (g.H.Host.setting c.args.host.now) (AnExpr c.args.x.now) c.args.frames.now c.enter_value.new.frames c.args.store.now c.count.new.self c.enter_value.new.store c.count.result c.enter_value.result c.count.ensures.counted c.count.ensures.below c.if-not-count.false
-        (works_as (g.H.Host.setting c.args.host.now) _ (Eval (AValue c.in-Some.child.expr.now) (here c.args.frames.now) (slots_of c.args.frames.now) (resume_item (g.H.Host.setting c.args.host.now) c.in-Some.child.item (here c.args.frames.now))) c.args.frames.now c.enter_value.new.frames c.count.new.self c.enter_value.new.store c.enter_value.result
-        (step_under (g.H.Host.setting c.args.host.now) c.args.frames.now c.wait.new.frames c.enter_value.new.frames c.in-Some.child.item (AValue c.in-Some.child.expr.now) c.count.new.self c.enter_value.new.store c.enter_value.result c.in_ok-wait-in-Some.ensures c.enter_value.ensures)
-        (begins.all (g.H.Host.setting c.args.host.now) (here c.args.frames.now) (slots_of c.args.frames.now)))
+    (works_as (g.H.Host.setting c.args.host.now) _ (Eval (AValue c.in-Some.child.expr.now) (here c.args.frames.now) (slots_of c.args.frames.now) (resume_item (g.H.Host.setting c.args.host.now) c.in-Some.child.item (here c.args.frames.now))) c.args.frames.now c.enter_value.new.frames c.count.new.self c.enter_value.new.store c.enter_value.result
+    (step_under (g.H.Host.setting c.args.host.now) c.args.frames.now c.wait.new.frames c.enter_value.new.frames c.in-Some.child.item (AValue c.in-Some.child.expr.now) c.count.new.self c.enter_value.new.store c.enter_value.result c.in_ok-wait-in-Some.ensures c.enter_value.ensures)
+    (begins.all (g.H.Host.setting c.args.host.now) (here c.args.frames.now) (slots_of c.args.frames.now)))

@@ -15,7 +15,7 @@ returns-then-not-count g c =
 pub returns-in-None : goal.returns-in-None
 returns-in-None g c =
     enters_done (g.H.Host.setting c.args.host.now) (AValue c.args.x.now) (AValue c.loop-next.next.now) c.args.frames.now c.loop-next.frames c.leaf_one.new.frames c.args.store.now c.loop-next.store c.count.new.self c.leaf_one.new.store c.count.result c.leaf_one.result
-        c.loop-next.invariant c.count.ensures.counted c.count.ensures.below c.if-not-count.false c.leaf_one.ensures
+    c.loop-next.invariant c.count.ensures.counted c.count.ensures.below c.if-not-count.false c.leaf_one.ensures
 
 pub loop-next-smaller : goal.loop-next-smaller
 loop-next-smaller g c = fewer_left c.loop-next.store c.count.new.self c.count.result c.count.ensures.counted c.count.ensures.below c.if-not-count.false

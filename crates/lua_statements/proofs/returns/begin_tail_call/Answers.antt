@@ -1,0 +1,6 @@
+use Rattle.lua_statements.proofs.ReturnForms.{tail_goes, tail_spent}
+use Rattle.lua_statements.proofs.returns.begin_tail_call.Goals as goal
+
+pub returns-then-not-count : goal.returns-then-not-count
+returns-then-not-count g c =
+    tail_spent (g.H.Host.setting c.args.host.now) c.args.line c.args.f.now.value c.args.args.now.value.items c.args.frames.now _ c.args.store.now _ c.count.result c.count.ensures.below c.if-not-count.true

@@ -1,0 +1,15 @@
+use Rattle.std.proofs.Common.{sym}
+use Rattle.lua_frames_base.specs.Frames.{here, slots_of}
+use Rattle.lua_frames_base.proofs.FollowLemmas.{works_as}
+use Rattle.lua_statements.proofs.StatementForms.{local_function_form, do_form}
+use Rattle.lua_statements.proofs.statements.begin_stmt.Goals as goal
+
+pub returns-in-LocalFunction : goal.returns-in-LocalFunction
+returns-in-LocalFunction g c =
+    works_as _ _ _ _ _ _ _ _ (c.local_function.ensures (g.H.Host.setting c.args.host.now) (sym c.program.ensures))
+    (local_function_form (g.H.Host.setting c.args.host.now) c.args.stmt.now.line c.args.stmt.now.kind c.in-LocalFunction.slot c.in-LocalFunction.function (here c.args.frames.now) (slots_of c.args.frames.now) c.in-LocalFunction.is)
+
+pub returns-in-Do : goal.returns-in-Do
+returns-in-Do g c =
+    works_as _ _ _ _ _ _ _ _ (c.begin_block.ensures (g.H.Host.setting c.args.host.now) c.args.store.now)
+    (do_form (g.H.Host.setting c.args.host.now) c.args.stmt.now.line c.args.stmt.now.kind c.in-Do.body (here c.args.frames.now) (slots_of c.args.frames.now) c.in-Do.is)
