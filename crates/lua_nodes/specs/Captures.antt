@@ -15,7 +15,7 @@ use Rattle.lua_meaning.specs.Nodes.{eval}
 use Rattle.lua_frames_base.specs.declared.threads.Frames.{Frames}
 use Rattle.lua_frames_base.specs.Frames.{here, slots_of}
 
--- all of the frame on top and of those below stays, but its slots
+-- what a thread goes on by stays, but for the slots of the frame on top
 pub record KeepsAllButSlots (old new : Frames) : Type 0 where
   pub below : new.below ≡ old.below
   pub kind : new.top.kind ≡ old.top.kind
@@ -26,7 +26,9 @@ pub record KeepsAllButSlots (old new : Frames) : Type 0 where
 
 -- work in a store comes to other work in another one, whatever the thread is resumed with
 abbrev pub ComesTo : Setting → Work → StoreView → Work → StoreView → Type 0
-ComesTo S q before q' store = (resumes : List Resume) → do_work (eval S) q (record { store = before; resumes = resumes }) ≡ do_work (eval S) q' (record { store = store; resumes = resumes })
+ComesTo S q before q' store =
+    (resumes : List Resume)
+    → do_work (eval S) q (record { store = before; resumes = resumes }) ≡ do_work (eval S) q' (record { store = store; resumes = resumes })
 
 -- work that takes units, and goes on with what it made
 abbrev pub Making : Type 0 → Type 0

@@ -95,7 +95,8 @@ fn make_cell(
     store: &mut Store,
     capture: Capture,
 ) -> Result<Option<u32>, AllocError>
-    ensures { present_cell capture (here frames.old) (slots_of frames.old) ≡ None → IfOk result (λ c. Shares capture frames.old store.old frames.new store.new c) }
+    ensures { present_cell capture (here frames.old) (slots_of frames.old) ≡ None → IfOk result (λ c. Shares capture
+        frames.old store.old frames.new store.new c) }
 {
     let value = variable(frames, store, capture)?;
     match store.make_cell(value) {

@@ -18,7 +18,8 @@ pub(crate) fn give_global(
     store: &Store,
     name: &Bytes,
 ) -> Result<Flow, AllocError>
-    ensures { (S : Setting) → (line : ℕ) → Works S (global_work S line name.now (here frames.old) (slots_of frames.old)) frames.old store.now frames.new store.now result }
+    ensures { (S : Setting) → (line : ℕ) → Works S (global_work S line name.now (here frames.old) (slots_of frames.old))
+        frames.old store.now frames.new store.now result }
 {
     let key = Value::Text(name.clone()?);
     let globals = store.globals();

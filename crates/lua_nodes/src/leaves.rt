@@ -22,7 +22,8 @@ pub(crate) fn leaf_one<H: Host>(
     store: &mut Store,
     x: &Expr,
 ) -> Result<Flow, AllocError>
-    ensures { Works (H.setting host.now) (value_work (H.setting host.now) x.now.line (out-ExprKind x.now.kind) (here frames.old) (slots_of frames.old)) frames.old store.old frames.new store.new result }
+    ensures { Works (H.setting host.now) (value_work (H.setting host.now) x.now.line (out-ExprKind x.now.kind) (here frames.old) (slots_of frames.old))
+        frames.old store.old frames.new store.new result }
 {
     match &x.kind {
         ExprKind::Vararg => give_first_extra(frames, store),
@@ -37,7 +38,8 @@ pub(crate) fn leaf_all<H: Host>(
     store: &mut Store,
     x: &Expr,
 ) -> Result<Flow, AllocError>
-    ensures { Works (H.setting host.now) (expr_work (H.setting host.now) x.now.line (out-ExprKind x.now.kind) (here frames.old) (slots_of frames.old)) frames.old store.old frames.new store.new result }
+    ensures { Works (H.setting host.now) (expr_work (H.setting host.now) x.now.line (out-ExprKind x.now.kind) (here frames.old) (slots_of frames.old))
+        frames.old store.old frames.new store.new result }
 {
     match &x.kind {
         ExprKind::Nil => give_one(frames, Value::Nil),

@@ -28,7 +28,8 @@ pub fn begin_list<H: Host>(
     store: &mut Store,
     xs: &Rc<Vec<Expr>>,
 ) -> Result<Flow, AllocError>
-    ensures { Works (H.setting host.now) (values_of xs.now.value.items (here frames.old) (slots_of frames.old)) frames.old store.old frames.new store.new result }
+    ensures { Works (H.setting host.now) (values_of xs.now.value.items (here frames.old) (slots_of frames.old))
+        frames.old store.old frames.new store.new result }
 {
     match xs.as_slice() {
         [] => give_nothing(frames),
@@ -49,7 +50,9 @@ pub fn go_on_with_list<H: Host>(
     next: usize,
     done: Vec<Value>,
 ) -> Result<Flow, AllocError>
-    ensures { Works (H.setting host.now) (resume_item (H.setting host.now) (Item.More xs next done) (here frames.old) (sign_of frames.old.given) (slots_of frames.old)) frames.old store.old frames.new store.new result }
+    ensures { Works (H.setting host.now) (resume_item (H.setting host.now) (Item.More xs next done) (here frames.old)
+        (sign_of frames.old.given) (slots_of frames.old))
+        frames.old store.old frames.new store.new result }
 {
     if next >= xs.len() {
         return end_list(frames, done);
@@ -74,7 +77,8 @@ fn enter_next<H: Host>(
     done: Vec<Value>,
 ) -> Result<Flow, AllocError>
     requires { next < length xs.now.value.items }
-    ensures { Works (H.setting host.now) (rest_of (drop next xs.now.value.items) (here frames.old) done.items (slots_of frames.old)) frames.old store.old frames.new store.new result }
+    ensures { Works (H.setting host.now) (rest_of (drop next xs.now.value.items) (here frames.old) done.items (slots_of frames.old))
+        frames.old store.old frames.new store.new result }
 {
     match element(xs, next) {
         None => give_many(frames, done),
@@ -91,7 +95,8 @@ fn enter_next<H: Host>(
 
 /// Ends a list, whose last expression has just given what is given.
 fn end_list(frames: &mut Frames, done: Vec<Value>) -> Result<Flow, AllocError>
-    ensures { (S : Setting) → (store : StoreView) → Works S (on_values (more [] (here frames.old) done.items) (sign_of frames.old.given) (slots_of frames.old)) frames.old store frames.new store result }
+    ensures { (S : Setting) → (store : StoreView) → Works S (on_values (more [] (here frames.old) done.items) (sign_of frames.old.given) (slots_of frames.old))
+        frames.old store frames.new store result }
 {
     match take_values(frames)? {
         None => Ok(Flow::Went),
@@ -105,7 +110,8 @@ fn give_joined(
     done: Vec<Value>,
     values: Vec<Value>,
 ) -> Result<Flow, AllocError>
-    ensures { (S : Setting) → (store : StoreView) → Works S (End (Values (done.items ++ values.items)) (slots_of frames.old)) frames.old store frames.new store result }
+    ensures { (S : Setting) → (store : StoreView) → Works S (End (Values (done.items ++ values.items)) (slots_of frames.old))
+        frames.old store frames.new store result }
 {
     let mut all = done;
     let mut values = values;

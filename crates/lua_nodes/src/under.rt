@@ -21,7 +21,8 @@ pub fn value_under<H: Host>(
     item: Item,
     x: &Expr,
 ) -> Result<Flow, AllocError>
-    ensures { Works (H.setting host.now) (Eval (AValue x.now) (here frames.old) (slots_of frames.old) (resume_item (H.setting host.now) item (here frames.old))) frames.old store.old frames.new store.new result }
+    ensures { Works (H.setting host.now) (Eval (AValue x.now) (here frames.old) (slots_of frames.old) (resume_item (H.setting host.now) item (here frames.old)))
+        frames.old store.old frames.new store.new result }
 {
     wait(frames, item)?;
     enter_value(frames, host, store, x)
@@ -35,7 +36,8 @@ pub fn expr_under<H: Host>(
     item: Item,
     x: &Expr,
 ) -> Result<Flow, AllocError>
-    ensures { Works (H.setting host.now) (Eval (AnExpr x.now) (here frames.old) (slots_of frames.old) (resume_item (H.setting host.now) item (here frames.old))) frames.old store.old frames.new store.new result }
+    ensures { Works (H.setting host.now) (Eval (AnExpr x.now) (here frames.old) (slots_of frames.old) (resume_item (H.setting host.now) item (here frames.old)))
+        frames.old store.old frames.new store.new result }
 {
     wait(frames, item)?;
     enter_expr(frames, host, store, x)
@@ -49,7 +51,9 @@ pub fn list_under<H: Host>(
     item: Item,
     xs: &Rc<Vec<Expr>>,
 ) -> Result<Flow, AllocError>
-    ensures { Works (H.setting host.now) (and_then (values_of xs.now.value.items (here frames.old) (slots_of frames.old)) (resume_item (H.setting host.now) item (here frames.old))) frames.old store.old frames.new store.new result }
+    ensures { Works (H.setting host.now) (and_then (values_of xs.now.value.items (here frames.old) (slots_of frames.old))
+        (resume_item (H.setting host.now) item (here frames.old)))
+        frames.old store.old frames.new store.new result }
 {
     wait(frames, item)?;
     begin_list(frames, host, store, xs)

@@ -33,7 +33,8 @@ pub fn assign_slot(
     value: Value,
 ) -> Result<Flow, AllocError>
     ensures { (S : Setting) → S.program ≡ program.now
-        → Does S (write_slot S (callers_at (here frames.old) line) (slice_get (slots_of frames.old) i) i value (slots_of frames.old) (give [])) frames.old store.old frames.new store.new result }
+        → Does S (write_slot S (callers_at (here frames.old) line) (slice_get (slots_of frames.old) i) i value (slots_of frames.old) (give []))
+        frames.old store.old frames.new store.new result }
 {
     match frames.top.slots.get(i as usize) {
         None => give_nothing(frames),
@@ -58,7 +59,8 @@ fn write_cell(
     value: Value,
 ) -> Result<Flow, AllocError>
     ensures { (S : Setting) → S.program ≡ program.now
-        → Does S (write_cell S (callers_at (here frames.old) line) (Some c) value (slots_of frames.old) (give [] (slots_of frames.old))) frames.old store.old frames.new store.new result }
+        → Does S (write_cell S (callers_at (here frames.old) line) (Some c) value (slots_of frames.old) (give [] (slots_of frames.old)))
+        frames.old store.old frames.new store.new result }
 {
     match store.set_cell(c, value) {
         Ok(()) => give_nothing(frames),
@@ -101,7 +103,9 @@ fn assign_captured(
     value: Value,
 ) -> Result<Flow, AllocError>
     ensures { (S : Setting) → S.program ≡ program.now
-        → Does S (write_cell S (callers_at (here frames.old) line) (slice_get (here frames.old).cells i) value (slots_of frames.old) (give [] (slots_of frames.old))) frames.old store.old frames.new store.new result }
+        → Does S (write_cell S (callers_at (here frames.old) line) (slice_get (here frames.old).cells i) value (slots_of frames.old)
+        (give [] (slots_of frames.old)))
+        frames.old store.old frames.new store.new result }
 {
     match frames.top.cells.get(i as usize) {
         None => give_nothing(frames),
@@ -162,7 +166,8 @@ pub fn assign_values(
     values: Vec<Value>,
 ) -> Result<Flow, AllocError>
     ensures { (S : Setting) → S.program ≡ program.now
-        → Works S (assign_values S (map target_of targets.items) values.items (here frames.old) (slots_of frames.old)) frames.old store.old frames.new store.new result }
+        → Works S (assign_values S (map target_of targets.items) values.items (here frames.old) (slots_of frames.old))
+        frames.old store.old frames.new store.new result }
 {
     let mut targets = targets;
     let mut values = values;

@@ -20,7 +20,8 @@ pub(crate) fn begin_return<H: Host>(
     store: &mut Store,
     xs: &Rc<Vec<Expr>>,
 ) -> Result<Flow, AllocError>
-    ensures { Works (H.setting host.now) (return_work (H.setting host.now) xs.now.value.items (here frames.old) (slots_of frames.old)) frames.old store.old frames.new store.new result }
+    ensures { Works (H.setting host.now) (return_work (H.setting host.now) xs.now.value.items (here frames.old) (slots_of frames.old))
+        frames.old store.old frames.new store.new result }
 {
     match xs.as_slice() {
         [x] => return_one(frames, host, store, xs, x),
@@ -37,7 +38,8 @@ fn return_one<H: Host>(
     x: &Expr,
 ) -> Result<Flow, AllocError>
     requires { xs.now.value.items ≡ x.now ∷ [] }
-    ensures { Works (H.setting host.now) (return_work (H.setting host.now) xs.now.value.items (here frames.old) (slots_of frames.old)) frames.old store.old frames.new store.new result }
+    ensures { Works (H.setting host.now) (return_work (H.setting host.now) xs.now.value.items (here frames.old) (slots_of frames.old))
+        frames.old store.old frames.new store.new result }
 {
     match &x.kind {
         ExprKind::Call(f, args) => begin_tail_call(frames, host, store, x.line, f, args),
@@ -55,7 +57,8 @@ fn begin_tail_call<H: Host>(
     f: &Rc<Expr>,
     args: &Rc<Vec<Expr>>,
 ) -> Result<Flow, AllocError>
-    ensures { Works (H.setting host.now) (tail_begins line f.now.value args.now.value.items (here frames.old) (slots_of frames.old)) frames.old store.old frames.new store.new result }
+    ensures { Works (H.setting host.now) (tail_begins line f.now.value args.now.value.items (here frames.old) (slots_of frames.old))
+        frames.old store.old frames.new store.new result }
 {
     if !store.count(1) {
         return Ok(Flow::Spent);

@@ -39,7 +39,8 @@ fn begin_stmt<H: Host>(
     store: &mut Store,
     stmt: &Stmt,
 ) -> Result<Flow, AllocError>
-    ensures { Works (H.setting host.now) (stmt_work (H.setting host.now) stmt.now.line (out-StmtKind stmt.now.kind) (here frames.old) (slots_of frames.old)) frames.old store.old frames.new store.new result }
+    ensures { Works (H.setting host.now) (stmt_work (H.setting host.now) stmt.now.line (out-StmtKind stmt.now.kind) (here frames.old) (slots_of frames.old))
+        frames.old store.old frames.new store.new result }
 {
     match &stmt.kind {
         StmtKind::Local(slots, xs) => list_under(
@@ -80,7 +81,8 @@ pub fn begin_arm<H: Host>(
     next: usize,
     last: &Rc<Vec<Stmt>>,
 ) -> Result<Flow, AllocError>
-    ensures { Works (H.setting host.now) (if_work (drop next arms.now.value.items) last.now.value.items (here frames.old) (slots_of frames.old)) frames.old store.old frames.new store.new result }
+    ensures { Works (H.setting host.now) (if_work (drop next arms.now.value.items) last.now.value.items (here frames.old) (slots_of frames.old))
+        frames.old store.old frames.new store.new result }
 {
     match element(arms, next) {
         None => begin_block(frames, last),

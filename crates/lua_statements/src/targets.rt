@@ -21,7 +21,9 @@ pub(crate) fn begin_assignment<H: Host>(
     targets: &Rc<Vec<Expr>>,
     xs: &Rc<Vec<Expr>>,
 ) -> Result<Flow, AllocError>
-    ensures { Works (H.setting host.now) (assignment_work (H.setting host.now) targets.now.value.items xs.now.value.items (here frames.old) (slots_of frames.old)) frames.old store.old frames.new store.new result }
+    ensures { Works (H.setting host.now) (assignment_work (H.setting host.now) targets.now.value.items xs.now.value.items (here frames.old)
+        (slots_of frames.old))
+        frames.old store.old frames.new store.new result }
 {
     match targets.as_slice() {
         [target] => begin_one(frames, host, store, targets, target, xs),
@@ -39,7 +41,9 @@ fn begin_one<H: Host>(
     xs: &Rc<Vec<Expr>>,
 ) -> Result<Flow, AllocError>
     requires { targets.now.value.items ≡ target.now ∷ [] }
-    ensures { Works (H.setting host.now) (assignment_work (H.setting host.now) targets.now.value.items xs.now.value.items (here frames.old) (slots_of frames.old)) frames.old store.old frames.new store.new result }
+    ensures { Works (H.setting host.now) (assignment_work (H.setting host.now) targets.now.value.items xs.now.value.items (here frames.old)
+        (slots_of frames.old))
+        frames.old store.old frames.new store.new result }
 {
     match &target.kind {
         ExprKind::Slot(i) => {
@@ -60,7 +64,9 @@ fn begin_targets<H: Host>(
     targets: &Rc<Vec<Expr>>,
     xs: &Rc<Vec<Expr>>,
 ) -> Result<Flow, AllocError>
-    ensures { Works (H.setting host.now) (assignment_work (H.setting host.now) targets.now.value.items xs.now.value.items (here frames.old) (slots_of frames.old)) frames.old store.old frames.new store.new result }
+    ensures { Works (H.setting host.now) (assignment_work (H.setting host.now) targets.now.value.items xs.now.value.items (here frames.old)
+        (slots_of frames.old))
+        frames.old store.old frames.new store.new result }
 {
     let mut found = Vec::new(frames.alloc);
     for target in targets.as_slice() {
