@@ -1,7 +1,6 @@
 -- The cells and the closures that are made in the frame on top.
 use Rattle.std.specs.Prelude.{◌≡◌, ℕ, ◌+◌, List, [], ◌∷◌, ◌++◌, length, drop, Option, Some, None, slice_get, Result, Ok, Err, IfOk, refl}
 use Rattle.std.proofs.Common.{sym, ◌∙◌, ap}
-use Rattle.std.specs.Option.{option_map}
 use Rattle.lua_ast.specs.declared.programs.Capture.{Capture}
 use Rattle.lua_ast.specs.declared.programs.Program.{Program}
 use Rattle.lua_values.specs.declared.values.Value.{Value}
@@ -12,7 +11,7 @@ use Rattle.lua_values.specs.Heap.{StoreView}
 use Rattle.lua_values.specs.StoreCalls.{full_cause, with_cell, with_closure, closure_units, IsCause}
 use Rattle.lua_operators.specs.declared.faults.Fault.TheVariants.{StorageLimit}
 use Rattle.lua_meaning.specs.Works.{Caller, Places, Slots, Values, Work, Write}
-use Rattle.lua_meaning.specs.Evaluator.{Resume, do_work}
+use Rattle.lua_meaning.specs.Evaluator.{do_work}
 use Rattle.lua_meaning.specs.Setting.{Setting}
 use Rattle.lua_meaning.specs.Positions.{callers_at, raise_fault}
 use Rattle.lua_meaning.specs.Signs.{give_one}

@@ -5,11 +5,8 @@ use Rattle.std.specs.declared.rc.Rc.{Rc}
 use Rattle.lua_ast.specs.declared.expressions.BinOp.{BinOp}
 use Rattle.lua_ast.specs.declared.expressions.UnOp.{UnOp}
 use Rattle.lua_ast.specs.declared.expressions.Expr.{Expr}
-use Rattle.lua_ast.specs.declared.expressions.ExprKind.{ExprKind, out-ExprKind}
 use Rattle.lua_ast.specs.declared.expressions.ExprKind.TheViews.{outs-Binary, outs-Unary, outs-And, outs-Or, outs-Paren, outs-Index, outs-Call}
 use Rattle.lua_ast.specs.declared.expressions.ExprKind.TheVariants as v
-use Rattle.lua_meaning.specs.Works.{Places, Slots, AValue, Eval}
-use Rattle.lua_meaning.specs.Setting.{Setting}
 use Rattle.lua_frames_base.specs.declared.items.Item.{Item}
 use Rattle.lua_frames_base.specs.declared.items.Item.TheVariants as i
 use Rattle.lua_nodes.specs.declared.children.Child.{Child}

@@ -4,7 +4,7 @@ use Rattle.std.proofs.Common.{sym, ◌∙◌, ap, arith, Vec, Global}
 use borrow.Author.Tests.{ltb-true}
 use Rattle.lua_values.specs.Heap.{StoreView, step_limit}
 use Rattle.lua_meaning.specs.declared.slots.Slot.{Slot}
-use Rattle.lua_meaning.specs.Works.{Places, Node, Work, Eval}
+use Rattle.lua_meaning.specs.Works.{Places, Node, Eval}
 use Rattle.lua_meaning.specs.Evaluator.{Resume, Spent}
 use Rattle.lua_meaning.specs.Setting.{Setting}
 use Rattle.lua_meaning.specs.Nodes.{work_of, eval}

@@ -13,7 +13,7 @@ use Rattle.lua_values.specs.Pairs.{value_at}
 use Rattle.lua_values.specs.StoreCalls.{pairs_of}
 use Rattle.lua_values.specs.Values.{is_nil}
 use Rattle.lua_operators.specs.declared.events.Event.TheVariants.{Index}
-use Rattle.lua_meaning.specs.Works.{Places, Slots, Sign, Values, Work, End, Look, Count}
+use Rattle.lua_meaning.specs.Works.{Places, Slots, Sign, Values, End, Look, Count}
 use Rattle.lua_meaning.specs.Evaluator.{Resume, do_work}
 use Rattle.lua_meaning.specs.Setting.{Setting}
 use Rattle.lua_meaning.specs.Signs.{first, give, give_one}

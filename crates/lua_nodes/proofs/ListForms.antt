@@ -1,25 +1,24 @@
 -- Lists of expressions: what is left of them while they are evaluated.
-use Rattle.std.specs.Prelude.{◌≡◌, ℕ, suc, zero, ◌+◌, ◌≤◌, ◌<◌, List, [], ◌∷◌, ◌++◌, length, drop, Result, Ok, Option, Some, None, refl}
+use Rattle.std.specs.Prelude.{◌≡◌, ℕ, suc, zero, ◌+◌, ◌≤◌, ◌<◌, List, [], ◌∷◌, ◌++◌, length, drop, Result, Ok, refl}
 use Rattle.std.proofs.Common.{sym, ◌∙◌, ap, arith, Vec, Global}
 use Rattle.std.specs.declared.rc.Rc.{Rc}
 use Rattle.lua_ast.specs.declared.expressions.Expr.{Expr}
 use Rattle.lua_values.specs.declared.values.Value.{Value}
 use Rattle.lua_values.specs.Heap.{StoreView}
 use Rattle.lua_meaning.specs.Works.{Places, Slots, AValue, AnExpr, Sign, Values, Return, Break, Failed, Work, End, Eval}
-use Rattle.lua_meaning.specs.Evaluator.{Resume, Ending, Ended, Parked, Spent, after, do_work}
+use Rattle.lua_meaning.specs.Evaluator.{Ending, Ended, Parked, Spent, after, do_work}
 use Rattle.lua_meaning.specs.Setting.{Setting}
 use Rattle.lua_meaning.specs.Signs.{first, give, on_values, listed, more, values_of}
 use Rattle.lua_meaning.specs.Nodes.{eval}
 use Rattle.lua_frames_base.specs.declared.flow.Flow.{Flow}
 use Rattle.lua_frames_base.specs.declared.flow.Flow.TheVariants as flow
-use Rattle.lua_frames_base.specs.declared.items.Item.{Item}
 use Rattle.lua_frames_base.specs.declared.items.Item.TheVariants as i
 use Rattle.lua_frames_base.specs.declared.threads.Frames.{Frames}
 use Rattle.lua_frames_base.specs.Signals.{sign_of, Passes, HasFirst, HasValues}
 use Rattle.lua_frames_base.specs.Items.{resume_item}
 use Rattle.lua_frames_base.specs.Frames.{finish_from, here, slots_of, entering, working}
 use Rattle.lua_frames_base.specs.Follows.{Enters, Works}
-use Rattle.lua_frames_base.specs.Changes.{Waits, Ends, TakesFirst, TakesValues}
+use Rattle.lua_frames_base.specs.Changes.{Waits, Ends}
 use Rattle.lua_frames_base.proofs.FollowLemmas.{follows_ok, works_as, works_from, ends_works, step_under}
 use Rattle.lua_nodes.specs.Lists.{rest_of}
 use Rattle.lua_nodes.proofs.DropLemmas.{dropped_all}

@@ -1,5 +1,5 @@
 -- Expressions that begin with another one.
-use Rattle.std.specs.Prelude.{◌≡◌, Option, Some, None, MatchOption}
+use Rattle.std.specs.Prelude.{◌≡◌, Option, Some, None}
 use Rattle.lua_ast.specs.declared.expressions.Expr.{Expr}
 use Rattle.lua_ast.specs.declared.expressions.ExprKind.{out-ExprKind}
 use Rattle.lua_meaning.specs.Works.{Places, Slots, AValue, Eval}

@@ -1,5 +1,3 @@
-use Rattle.lua_meaning.specs.Expressions.{first_extra}
-use Rattle.lua_frames_base.specs.Frames.{slots_of}
 use Rattle.lua_nodes.proofs.LeafForms.{first_extra_spent}
 use Rattle.lua_nodes.proofs.varargs.give_first_extra.Goals as goal
 
