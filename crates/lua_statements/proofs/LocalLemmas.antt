@@ -1,6 +1,6 @@
 -- New local variables, one after another.
-use Rattle.std.specs.Prelude.{◌≡◌, ℕ, suc, zero, ◌+◌, ◌<◌, List, [], ◌∷◌, length, drop, slice_get, slice_set, refl}
-use Rattle.std.proofs.Common.{sym, ◌∙◌, ap}
+use Rattle.std.specs.Prelude.{◌≡◌, ℕ, suc, zero, ◌+◌, List, [], ◌∷◌, drop, slice_get, slice_set, refl}
+use Rattle.std.proofs.Common.{sym, ◌∙◌, ap, arith}
 use Rattle.lua_values.specs.declared.values.Value.{Value}
 use Rattle.lua_values.specs.declared.values.Value.TheVariants.{Nil}
 use Rattle.lua_meaning.specs.declared.slots.Slot.TheVariants.{Plain}
@@ -26,6 +26,9 @@ set_before [] (suc k) v = refl
 set_before (x ∷ vs) zero v = refl
 set_before (x ∷ vs) (suc k) v = set_before vs k v
 
+next : (k : ℕ) → suc k ≡ k + 1
+next k = omega arith
+
 -- one more variable has its value
 pub local_set : (places : List ℕ) (i k : ℕ) (vs us : List Value) (v : Value) (s t : Slots) → drop k places ≡ i ∷ drop (k + 1) places
     → v ≡ or_nil (slice_get vs k) → us ≡ slice_set vs k Nil → t ≡ slice_set s i (Plain v)
@@ -33,5 +36,5 @@ pub local_set : (places : List ℕ) (i k : ℕ) (vs us : List Value) (v : Value)
 local_set places i k vs us v s t e is left set =
     ap (λ (xs : List ℕ). with_locals xs (drop k vs) s) e
     ∙ ap (λ (x : Value). with_locals (drop (k + 1) places) (drop 1 (drop k vs)) (slice_set s i (Plain x))) (first_left vs k ∙ sym is)
-    ∙ ap (λ (xs : List Value). with_locals (drop (k + 1) places) xs (slice_set s i (Plain v))) (one_fewer vs k ∙ sym (set_before vs k Nil) ∙ ap (λ (xs : List Value). drop (suc k) xs) (sym left))
+    ∙ ap (λ (xs : List Value). with_locals (drop (k + 1) places) xs (slice_set s i (Plain v))) (one_fewer vs k ∙ sym (set_before vs k Nil) ∙ ap (λ (xs : List Value). drop (suc k) xs) (sym left) ∙ ap (λ (n : ℕ). drop n us) (next k))
     ∙ ap (λ (x : Slots). with_locals (drop (k + 1) places) (drop (k + 1) us) x) (sym set)

@@ -26,9 +26,9 @@ pub local_function_form : (S : Setting) (line : ℕ) (k : StmtKind) (slot functi
     → stmt_work S line (out-StmtKind k) p s ≡ local_function S line slot function p s
 local_function_form S line k slot function p s e = rw (e, outs-LocalFunction slot function) refl
 
-pub assign_form : (S : Setting) (line : ℕ) (k : StmtKind) (targets xs : Rc (Vec Expr Global) Global) (p : Places) (s : Slots) → k ≡ v.Assign targets xs
-    → stmt_work S line (out-StmtKind k) p s ≡ assignment_work S targets.value.items xs.value.items p s
-assign_form S line k targets xs p s e = rw (e, outs-Assign targets xs) refl
+pub assign_form : (S : Setting) (line : ℕ) (k : StmtKind) (targets xs : Rc (Vec Expr Global) Global) (ts : List Expr) (p : Places) (s : Slots) → k ≡ v.Assign targets xs → ts ≡ targets.value.items
+    → stmt_work S line (out-StmtKind k) p s ≡ assignment_work S ts xs.value.items p s
+assign_form S line k targets xs ts p s e h = rw (e, outs-Assign targets xs) (ap (λ (ys : List Expr). assignment_work S ys xs.value.items p s) (sym h))
 
 pub call_form : (S : Setting) (line : ℕ) (k : StmtKind) (x : Expr) (p : Places) (s : Slots) → k ≡ v.Call x
     → stmt_work S line (out-StmtKind k) p s ≡ Eval (AnExpr x) p s (resume_item S i.Discard p)

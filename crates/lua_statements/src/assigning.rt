@@ -129,7 +129,11 @@ fn set_at(
     ensures { (S : Setting) → S.program ≡ program.now
         → Does S (store_work S line (Table t) key value (here frames.old) (slots_of frames.old)) frames.old store.old frames.new store.new result }
 {
-    if store.get(t, &key).is_nil() && !handler(store, &Value::Table(t), Event::NewIndex)?.is_nil() {
+    if !store.get(t, &key).is_nil() {
+        return set_raw(frames, program, store, line, t, key, value);
+    }
+    let by = handler(store, &Value::Table(t), Event::NewIndex)?;
+    if !by.is_nil() {
         return Ok(Flow::Unsupported);
     }
     set_raw(frames, program, store, line, t, key, value)

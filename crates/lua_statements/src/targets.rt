@@ -18,14 +18,14 @@ pub(crate) fn begin_assignment<H: Host>(
     frames: &mut Frames,
     host: &H,
     store: &mut Store,
-    targets: &Rc<Vec<Expr>>,
+    targets: &[Expr],
     xs: &Rc<Vec<Expr>>,
 ) -> Result<Flow, AllocError>
-    ensures { Works (H.setting host.now) (assignment_work (H.setting host.now) targets.now.value.items xs.now.value.items (here frames.old)
+    ensures { Works (H.setting host.now) (assignment_work (H.setting host.now) targets.now xs.now.value.items (here frames.old)
         (slots_of frames.old))
         frames.old store.old frames.new store.new result }
 {
-    match targets.as_slice() {
+    match targets {
         [target] => begin_one(frames, host, store, targets, target, xs),
         _ => begin_targets(frames, host, store, targets, xs),
     }
@@ -36,12 +36,12 @@ fn begin_one<H: Host>(
     frames: &mut Frames,
     host: &H,
     store: &mut Store,
-    targets: &Rc<Vec<Expr>>,
+    targets: &[Expr],
     target: &Expr,
     xs: &Rc<Vec<Expr>>,
 ) -> Result<Flow, AllocError>
-    requires { targets.now.value.items ≡ target.now ∷ [] }
-    ensures { Works (H.setting host.now) (assignment_work (H.setting host.now) targets.now.value.items xs.now.value.items (here frames.old)
+    requires { targets.now ≡ target.now ∷ [] }
+    ensures { Works (H.setting host.now) (assignment_work (H.setting host.now) targets.now xs.now.value.items (here frames.old)
         (slots_of frames.old))
         frames.old store.old frames.new store.new result }
 {
@@ -61,21 +61,21 @@ fn begin_targets<H: Host>(
     frames: &mut Frames,
     host: &H,
     store: &mut Store,
-    targets: &Rc<Vec<Expr>>,
+    targets: &[Expr],
     xs: &Rc<Vec<Expr>>,
 ) -> Result<Flow, AllocError>
-    ensures { Works (H.setting host.now) (assignment_work (H.setting host.now) targets.now.value.items xs.now.value.items (here frames.old)
+    ensures { Works (H.setting host.now) (assignment_work (H.setting host.now) targets.now xs.now.value.items (here frames.old)
         (slots_of frames.old))
         frames.old store.old frames.new store.new result }
 {
     let mut found = Vec::new(frames.alloc);
-    for target in targets.as_slice() {
+    for target in targets {
         if !store.count(1) {
             return Ok(Flow::Spent);
         }
         match target_of(store, target)? {
             None => return Ok(Flow::Unsupported),
-            Some(target) => found.push(target)?,
+            Some(t) => found.push(t)?,
         }
     }
     list_under(frames, host, store, Item::Assign(found), xs)

@@ -1,7 +1,8 @@
-use Rattle.std.proofs.Common.{sym}
+use Rattle.std.proofs.Common.{◌∙◌, ap, sym, Vec, Global}
+use Rattle.lua_ast.specs.declared.expressions.Expr.{Expr}
 use Rattle.lua_frames_base.specs.Frames.{here, slots_of}
 use Rattle.lua_frames_base.proofs.FollowLemmas.{works_as}
-use Rattle.lua_statements.proofs.StatementForms.{local_function_form, do_form}
+use Rattle.lua_statements.proofs.StatementForms.{local_function_form, assign_form, do_form}
 use Rattle.lua_statements.proofs.statements.begin_stmt.Goals as goal
 
 pub returns-in-LocalFunction : goal.returns-in-LocalFunction
@@ -13,3 +14,8 @@ pub returns-in-Do : goal.returns-in-Do
 returns-in-Do g c =
     works_as _ _ _ _ _ _ _ _ (c.begin_block.ensures (g.H.Host.setting c.args.host.now) c.args.store.now)
     (do_form (g.H.Host.setting c.args.host.now) c.args.stmt.now.line c.args.stmt.now.kind c.in-Do.body (here c.args.frames.now) (slots_of c.args.frames.now) c.in-Do.is)
+
+pub returns-in-Assign : goal.returns-in-Assign
+returns-in-Assign g c =
+    works_as _ _ _ _ _ _ _ _ c.begin_assignment.ensures
+    (assign_form (g.H.Host.setting c.args.host.now) c.args.stmt.now.line c.args.stmt.now.kind c.in-Assign.targets c.in-Assign.xs c.as_slice.result.now (here c.args.frames.now) (slots_of c.args.frames.now) c.in-Assign.is (c.as_slice.ensures.value ∙ ap (λ (w : Vec Expr Global). w.items) c.deref.ensures))
