@@ -84,10 +84,7 @@ assigns_of S q old new before store (Err x) f d is w = absurd (cc)
 -- and one that came to what isn't run
 pub stops_at : {E : Type 0} (S : Setting) (q q' : Work) (old mid new : Frames) (before between store : StoreView) (r : Result Flow E) (f : Flow) → Does S q' mid between new store r → r ≡ Ok f → (f ≡ flow.Went → ⊥)
     → Works {E = E} S q old before new store (Ok f)
-stops_at S q q' old mid new before between store (Ok flow.Went) f d is w = absurd (w (sym (only is)))
-  where
-    only : {x y : Flow} → Ok x ≡ Ok y → x ≡ y
-    only e = cc
+stops_at S q q' old mid new before between store (Ok flow.Went) f d is w = absurd (w cc)
 stops_at S q q' old mid new before between store (Ok flow.Unsupported) f d is w = subst (λ (t : Result Flow _). Works S q old before new store t) is (record { follows = tt })
 stops_at S q q' old mid new before between store (Ok flow.Asked) f d is w = absurd d.done
 stops_at S q q' old mid new before between store (Ok flow.Spent) f d is w = absurd d.done
@@ -191,7 +188,7 @@ captured_there S callers cell c v old new before store r there d =
     does_by S (write_cell S callers cell v (slots_of old) (give [] (slots_of old))) (write_cell S callers (Some c) v (slots_of old) (give [] (slots_of old))) old new before before store r
     (λ rs. ap (λ (t : Option ℕ). do_work (eval S) (write_cell S callers t v (slots_of old) (give [] (slots_of old))) (record { store = before; resumes = rs })) there) d
 
-stored : Setting → ℕ → ℕ → Value → Value → Places → Slots → Heap → Bool → Bool → Work
+abbrev stored : Setting → ℕ → ℕ → Value → Value → Places → Slots → Heap → Bool → Bool → Work
 stored S line t key x p s h absent plain =
     if absent then (if plain then set_raw S line (Table t) key x p s else store_by (handler h (Table t) NewIndex) line (Table t) key x p s) else set_raw S line (Table t) key x p s
 

@@ -5,6 +5,9 @@ use Rattle.std.specs.declared.rc.Rc.{Rc}
 use Rattle.lua_ast.specs.declared.expressions.Expr.{Expr}
 use Rattle.lua_ast.specs.declared.expressions.ExprKind.{ExprKind, out-ExprKind}
 use Rattle.lua_ast.specs.declared.expressions.ExprKind as kind
+use Rattle.lua_ast.specs.declared.expressions.ExprKind.TheOpen.{ExprKind-F}
+use Rattle.lua_ast.specs.declared.expressions.ExprKind.TheOpen as e
+use Rattle.lua_ast.specs.declared.expressions.TableItem.{TableItem}
 use Rattle.lua_ast.specs.declared.expressions.ExprKind.TheViews.{outs-Call}
 use Rattle.lua_ast.specs.declared.expressions.ExprKind.TheVariants as v
 use Rattle.lua_values.specs.Heap.{StoreView, step_limit}
@@ -25,31 +28,81 @@ use Rattle.lua_statements.specs.Returns.{tail_begins}
 -- a call alone
 pub tail_form : (S : Setting) (xs : List Expr) (x : Expr) (f : Rc Expr Global) (args : Rc (Vec Expr Global) Global) (p : Places) (s : Slots) → xs ≡ x ∷ [] → x.kind ≡ v.Call f args
     → return_work S xs p s ≡ tail_begins x.line f.value args.value.items p s
-tail_form S xs x f args p s one e = ap (λ (ys : List Expr). return_work S ys p s) one ∙ rw (e, outs-Call f args) refl
+tail_form S xs x f args p s one is = ap (λ (ys : List Expr). return_work S ys p s) one ∙ rw (is, outs-Call f args) refl
+
+-- a kind by what it is opened to
+back : ExprKind-F ExprKind TableItem Expr → ExprKind
+back e.Nil = v.Nil
+back e.True = v.True
+back e.False = v.False
+back (e.Number n) = v.Number n
+back (e.Text t) = v.Text t
+back e.Vararg = v.Vararg
+back (e.Function n) = v.Function n
+back (e.Slot n) = v.Slot n
+back (e.Captured n) = v.Captured n
+back (e.Global name) = v.Global name
+back (e.Index a b) = v.Index a b
+back (e.Call f args) = v.Call f args
+back (e.Method a name args) = v.Method a name args
+back (e.Unary o a) = v.Unary o a
+back (e.Binary o a b) = v.Binary o a b
+back (e.And a b) = v.And a b
+back (e.Or a b) = v.Or a b
+back (e.Paren a) = v.Paren a
+back (e.Table items) = v.Table items
+
+back_out : (k : ExprKind) → back (out-ExprKind k) ≡ k
+unfolding back out-ExprKind denote.Hole.Carrier.out
+back_out kind.Nil = refl
+back_out kind.True = refl
+back_out kind.False = refl
+back_out (kind.Number n) = refl
+back_out (kind.Text t) = refl
+back_out kind.Vararg = refl
+back_out (kind.Function n) = refl
+back_out (kind.Slot n) = refl
+back_out (kind.Captured n) = refl
+back_out (kind.Global name) = refl
+back_out (kind.Index' a l y b m z) = refl
+back_out (kind.Call' a l y b shape row) = refl
+back_out (kind.Method' a l y name b shape row) = refl
+back_out (kind.Unary' o a l y) = refl
+back_out (kind.Binary' o a l y b m z) = refl
+back_out (kind.And' a l y b m z) = refl
+back_out (kind.Or' a l y b m z) = refl
+back_out (kind.Paren' a l y) = refl
+back_out (kind.Table' b shape row) = refl
 
 -- any other expression alone
-plain_one : (S : Setting) (x : Expr) (k : ExprKind) (p : Places) (s : Slots) → ((f : Rc Expr Global) (args : Rc (Vec Expr Global) Global) → k ≡ v.Call f args → ⊥) → ((a : Rc Expr Global) (name : List ℕ) (args : Rc (Vec Expr Global) Global) → k ≡ v.Method a name args → ⊥)
+plain_open : (S : Setting) (x : Expr) (o : ExprKind-F ExprKind TableItem Expr) (p : Places) (s : Slots)
+    → ((f : Rc Expr Global) (args : Rc (Vec Expr Global) Global) → o ≡ e.Call f args → ⊥) → ((a : Rc Expr Global) (name : List ℕ) (args : Rc (Vec Expr Global) Global) → o ≡ e.Method a name args → ⊥)
+    → return_one S x o p s ≡ and_then (values_of (x ∷ []) p s) (resume_item S i.Return p)
+plain_open S x e.Nil p s h g = refl
+plain_open S x e.True p s h g = refl
+plain_open S x e.False p s h g = refl
+plain_open S x (e.Number n) p s h g = refl
+plain_open S x (e.Text t) p s h g = refl
+plain_open S x e.Vararg p s h g = refl
+plain_open S x (e.Function n) p s h g = refl
+plain_open S x (e.Slot n) p s h g = refl
+plain_open S x (e.Captured n) p s h g = refl
+plain_open S x (e.Global name) p s h g = refl
+plain_open S x (e.Index a b) p s h g = refl
+plain_open S x (e.Call f args) p s h g = absurd (h f args refl)
+plain_open S x (e.Method a name args) p s h g = absurd (g a name args refl)
+plain_open S x (e.Unary o a) p s h g = refl
+plain_open S x (e.Binary o a b) p s h g = refl
+plain_open S x (e.And a b) p s h g = refl
+plain_open S x (e.Or a b) p s h g = refl
+plain_open S x (e.Paren a) p s h g = refl
+plain_open S x (e.Table items) p s h g = refl
+
+plain_one : (S : Setting) (x : Expr) (k : ExprKind) (p : Places) (s : Slots)
+    → ((f : Rc Expr Global) (args : Rc (Vec Expr Global) Global) → k ≡ v.Call f args → ⊥) → ((a : Rc Expr Global) (name : List ℕ) (args : Rc (Vec Expr Global) Global) → k ≡ v.Method a name args → ⊥)
     → return_one S x (out-ExprKind k) p s ≡ and_then (values_of (x ∷ []) p s) (resume_item S i.Return p)
-unfolding out-ExprKind denote.Hole.Carrier.out
-plain_one S x kind.Nil p s h g = refl
-plain_one S x kind.True p s h g = refl
-plain_one S x kind.False p s h g = refl
-plain_one S x (kind.Number n) p s h g = refl
-plain_one S x (kind.Text t) p s h g = refl
-plain_one S x kind.Vararg p s h g = refl
-plain_one S x (kind.Function n) p s h g = refl
-plain_one S x (kind.Slot n) p s h g = refl
-plain_one S x (kind.Captured n) p s h g = refl
-plain_one S x (kind.Global name) p s h g = refl
-plain_one S x (kind.Index' a l y b m z) p s h g = refl
-plain_one S x (kind.Call' a l y b shape row) p s h g = absurd (h _ _ refl)
-plain_one S x (kind.Method' a l y name b shape row) p s h g = absurd (g _ _ _ refl)
-plain_one S x (kind.Unary' o a l y) p s h g = refl
-plain_one S x (kind.Binary' o a l y b m z) p s h g = refl
-plain_one S x (kind.And' a l y b m z) p s h g = refl
-plain_one S x (kind.Or' a l y b m z) p s h g = refl
-plain_one S x (kind.Paren' a l y) p s h g = refl
-plain_one S x (kind.Table' b shape row) p s h g = refl
+unfolding back
+plain_one S x k p s h g = plain_open S x (out-ExprKind k) p s (λ f args q. h f args (sym (back_out k) ∙ ap back q)) (λ a name args q. g a name args (sym (back_out k) ∙ ap back q))
 
 pub plain_form : (S : Setting) (xs : List Expr) (x : Expr) (p : Places) (s : Slots) → xs ≡ x ∷ [] → ((f : Rc Expr Global) (args : Rc (Vec Expr Global) Global) → x.kind ≡ v.Call f args → ⊥) → ((a : Rc Expr Global) (name : List ℕ) (args : Rc (Vec Expr Global) Global) → x.kind ≡ v.Method a name args → ⊥)
     → return_work S xs p s ≡ and_then (values_of xs p s) (resume_item S i.Return p)
