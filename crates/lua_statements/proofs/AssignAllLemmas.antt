@@ -28,7 +28,7 @@ use Rattle.lua_nodes.specs.Captures.{KeepsAllButSlots, ComesTo}
 use Rattle.lua_nodes.proofs.MovedLemmas.{kept_on, stays_here, works_moved}
 use Rattle.lua_statements.specs.Assignments.{IsAssigned, has_failed, Assigns}
 
-first_dropped : (vs : List Value) (n : ℕ) → or_nil (slice_get (drop 1 vs) n) ≡ or_nil (slice_get vs (n + 1))
+first_dropped : (vs : List Value) (n : ℕ) → or_nil (slice_get (drop 1 vs) n) ≡ or_nil (slice_get vs (suc n))
 first_dropped [] n = refl
 first_dropped (v ∷ vs) n = refl
 

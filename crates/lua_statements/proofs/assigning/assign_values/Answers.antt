@@ -16,7 +16,7 @@ pub returns-then-has_failed : goal.returns-then-has_failed
 returns-then-has_failed c = λ S e.
     let count : c.len.result ≡ length c.pop.new.self.items = counted c.len.result c.pop.new.self c.pop.new.self c.len.ensures refl in
     let done : Assigns S (assign_to S (target_of c.in-Some.target) c.take_value-value.result (here c.loop-target.frames) (slots_of c.loop-target.frames)) c.loop-target.frames c.loop-target.store c.assign_to.new.frames c.assign_to.new.store =
-    assigns_of S _ c.loop-target.frames c.assign_to.new.frames c.loop-target.store c.assign_to.new.store c.assign_to.result _ (c.assign_to.ensures S e) c.in_ok-assign_to.was c.in-Went.is in
+    assigns_of S _ c.loop-target.frames c.assign_to.new.frames c.loop-target.store c.assign_to.new.store c.assign_to.result _ (c.assign_to.ensures S e) c.in_ok-flow.was c.in-Went.is in
     fault_ends S c.args.targets.items c.pop.new.self.items c.loop-target.targets.items c.in-Some.target c.args.values.items c.loop-target.values.items c.take_value-value.result c.args.frames.now c.loop-target.frames c.assign_to.new.frames c.args.store.now c.loop-target.store c.assign_to.new.store
     ((c.loop-target.invariant S e).0) ((c.loop-target.invariant S e).1) c.in-Some.ensures.items (c.take_value-value.ensures.value ∙ ap (λ (n : ℕ). or_nil (slice_get c.loop-target.values.items n)) count) done (sym c.has_failed.ensures ∙ c.if-has_failed.true)
 
@@ -24,7 +24,7 @@ pub loop-target-preserved : goal.loop-target-preserved
 loop-target-preserved c = λ S e.
     let count : c.len.result ≡ length c.pop.new.self.items = counted c.len.result c.pop.new.self c.pop.new.self c.len.ensures refl in
     let done : Assigns S (assign_to S (target_of c.in-Some.target) c.take_value-value.result (here c.loop-target.frames) (slots_of c.loop-target.frames)) c.loop-target.frames c.loop-target.store c.assign_to.new.frames c.assign_to.new.store =
-    assigns_of S _ c.loop-target.frames c.assign_to.new.frames c.loop-target.store c.assign_to.new.store c.assign_to.result _ (c.assign_to.ensures S e) c.in_ok-assign_to.was c.in-Went.is in (
+    assigns_of S _ c.loop-target.frames c.assign_to.new.frames c.loop-target.store c.assign_to.new.store c.assign_to.result _ (c.assign_to.ensures S e) c.in_ok-flow.was c.in-Went.is in (
       kept_on c.args.frames.now c.loop-target.frames c.assign_to.new.frames ((c.loop-target.invariant S e).0) done.keeps,
       fewer_by_one S c.args.targets.items c.pop.new.self.items c.loop-target.targets.items c.in-Some.target c.args.values.items c.loop-target.values.items c.take_value-value.new.values.items c.take_value-value.result c.args.frames.now c.loop-target.frames c.assign_to.new.frames c.args.store.now c.loop-target.store c.assign_to.new.store
           ((c.loop-target.invariant S e).0) ((c.loop-target.invariant S e).1) c.in-Some.ensures.items (c.take_value-value.ensures.value ∙ ap (λ (n : ℕ). or_nil (slice_get c.loop-target.values.items n)) count)
