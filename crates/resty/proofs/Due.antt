@@ -5,13 +5,16 @@ use Rattle.resty_world.specs.declared.schedule_line.SchedLine.{SchedLine}
 use Rattle.schedule_text.specs.Accepted.{IsRefusedAt}
 use Rattle.schedule_text.specs.LineTexts.{line_text, whole_line, schedule_text}
 use Rattle.strand.specs.Configuration.{IsFaultAt}
+use Rattle.site_check.specs.Sites.{IsSite, IsSiteFault}
+use Rattle.site_check.specs.declared.faults.CheckFault.{CheckFault}
+use Rattle.site_check.specs.declared.faults.CheckFault.TheVariants.{Memory}
 use Rattle.resty.specs.declared.command_line.Mode.TheVariants as mode
 use Rattle.resty.specs.declared.endings.Named.TheVariants as named
 use Rattle.resty.specs.declared.endings.Ending.{Ending}
 use Rattle.resty.specs.declared.endings.Ending.TheVariants as ending
 use Rattle.resty.specs.Form.{IsUnserved}
 use Rattle.resty.specs.Reading.{IsUnread, EndsReading, OfSchedule}
-use Rattle.resty.specs.Verdict.{Verdict, Missing, TooLong, NotBuilt, BadLine, Holds, IsOf, ending_of, most_of}
+use Rattle.resty.specs.Verdict.{Verdict, Missing, TooLong, Refused, NotBuilt, BadLine, Checks, Holds, TakesLiteral, IsOf, ending_of, most_of}
 use Rattle.resty.specs.Words.{Command}
 use Rattle.resty.proofs.Names.{weaker_some}
 
@@ -22,6 +25,7 @@ conf_unread c old new (ending.Unreadable w) u = u
 conf_unread c old new ending.Memory u = tt
 conf_unread c old new ending.Done u = absurd u
 conf_unread c old new ending.Usage u = absurd u
+conf_unread c old new (ending.Refused fault) u = absurd u
 conf_unread c old new (ending.NotBuilt w n) u = absurd u
 conf_unread c old new (ending.BadLine n) u = absurd u
 conf_unread c old new (ending.NoSuchId n) u = absurd u
@@ -37,6 +41,7 @@ module _ (c : Command) (on : c.mode ≡ mode.Replay) where
   schedule_unread old new ending.Memory u = tt
   schedule_unread old new ending.Done u = absurd u
   schedule_unread old new ending.Usage u = absurd u
+  schedule_unread old new (ending.Refused fault) u = absurd u
   schedule_unread old new (ending.NotBuilt w n) u = absurd u
   schedule_unread old new (ending.BadLine n) u = absurd u
   schedule_unread old new (ending.NoSuchId n) u = absurd u
@@ -56,10 +61,22 @@ module _ (c : Command) (on : c.mode ≡ mode.Replay) where
   schedule_unserved text (Some held) n holds unserved = (NotBuilt named.Schedule n, (λ body site. (on, body, text, site, holds, unserved)), refl)
 
 -- a text that is refused at a line
-pub conf_refused : (c : Command) (text : List ℕ) (told : Option FileMap) (n : ℕ) → IfSome told (λ held. Holds held c.conf (most_of named.Conf) text)
+pub conf_refused : (c : Command) → TakesLiteral c.mode → (text : List ℕ) (told : Option FileMap) (n : ℕ) → IfSome told (λ held. Holds held c.conf (most_of named.Conf) text)
     → IsFaultAt text n → IfSome told (λ held. (v : Verdict) × IsOf c held v × (ending.NotBuilt named.Conf n ≡ ending_of v))
-conf_refused c text None n holds refused = tt
-conf_refused c text (Some held) n holds refused = (NotBuilt named.Conf n, (text, holds, refused), refl)
+conf_refused c literal text None n holds refused = tt
+conf_refused c literal text (Some held) n holds refused = (NotBuilt named.Conf n, (literal, text, holds, refused), refl)
+
+-- a text that is no site's, and one that is
+pub check_refused : (c : Command) → c.mode ≡ mode.Check → (text : List ℕ) (told : Option FileMap) (fault : CheckFault) → IfSome told (λ held. Holds held c.conf (most_of named.Conf) text)
+    → IsSiteFault text fault → (fault ≡ Memory → ⊥) → IfSome told (λ held. (v : Verdict) × IsOf c held v × (ending.Refused fault ≡ ending_of v))
+check_refused c on text None fault holds refused known = tt
+check_refused c on text (Some held) fault holds refused known =
+    (Refused fault, (on, record { text = text; holds = holds; refused = refused; known = known }), refl)
+
+pub check_accepted : (c : Command) → c.mode ≡ mode.Check → (text : List ℕ) (told : Option FileMap) → IfSome told (λ held. Holds held c.conf (most_of named.Conf) text)
+    → IsSite text → IfSome told (λ held. IsOf c held Checks)
+check_accepted c on text None holds accepted = tt
+check_accepted c on text (Some held) holds accepted = (on, record { text = text; holds = holds; accepted = accepted })
 
 -- a schedule has no more lines than its text has bytes
 pub lines_below : (lines : List SchedLine) → length lines ≤ length (schedule_text lines)

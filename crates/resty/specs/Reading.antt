@@ -37,6 +37,7 @@ EndsReading verdict name which old new (ending.Unreadable w) = (w ≡ which) × 
 EndsReading verdict name which old new (ending.Missing w) = (w ≡ which) × IsJudgedBy verdict old (ending.Missing w)
 EndsReading verdict name which old new (ending.TooLong w) = (w ≡ which) × IsJudgedBy verdict old (ending.TooLong w)
 EndsReading verdict name which old new (ending.NotBuilt w n) = (w ≡ which) × IsJudgedBy verdict old (ending.NotBuilt w n)
+EndsReading verdict name which old new (ending.Refused fault) = (which ≡ named.Conf) × IsJudgedBy verdict old (ending.Refused fault)
 EndsReading verdict name which old new (ending.BadLine n) = (which ≡ named.Schedule) × IsJudgedBy verdict old (ending.BadLine n)
 
 -- reading brought no fault

@@ -1,0 +1,10 @@
+//! The text of a site, checked: its configuration, and the grammar of its blocks of Lua.
+#![tactic(auto)]
+
+mod checking;
+mod faults;
+mod laws;
+
+pub use checking::check_site;
+pub use faults::CheckFault;
+pub use laws::no_site_is_refused;
