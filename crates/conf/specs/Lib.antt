@@ -1,4 +1,6 @@
+pub mod Entries
 pub mod Blocks
+pub mod Zones
 pub mod Steps
 pub mod Outcomes
 pub mod Inheritance

@@ -1,5 +1,5 @@
 -- What an item does to the nest of blocks, and why it is refused: its faults in their order.
-use Rattle.std.specs.Prelude.{ℕ, Bool, true, false, not, ◌&&◌, ◌||◌, ◌==◌, List, [], ◌∷◌, ◌++◌, length, bytes_eq, if◌then◌else◌}
+use Rattle.std.specs.Prelude.{ℕ, Bool, true, false, not, ◌&&◌, ◌||◌, ◌==◌, List, [], ◌∷◌, ◌++◌, length, if◌then◌else◌}
 use Rattle.std.specs.Prelude.{Option, Some, None, Result, Ok, Err}
 use Rattle.std.specs.List.{list_any}
 use Rattle.conf_rules.specs.Directives.{directive_of, may_stand, may_repeat, form_of}
@@ -16,10 +16,10 @@ use Rattle.conf_text.specs.declared.endings.Ending.{Ending}
 use Rattle.conf_text.specs.declared.endings.Ending.TheVariants as ending
 use Rattle.conf_text.specs.declared.items.Item.{Item}
 use Rattle.conf.specs.Blocks.{location_of, no_location, server_at, no_server, is_said, said_here, with_said}
+use Rattle.conf.specs.Zones.{has_zone, with_zone}
 use Rattle.conf.specs.declared.blocks.Nest.{Nest}
 use Rattle.conf.specs.declared.blocks.Said.{Said}
 use Rattle.conf.specs.declared.sites.Block.{Block}
-use Rattle.conf.specs.declared.sites.ZoneConf.{ZoneConf}
 use Rattle.conf.specs.declared.faults.ConfFault.{ConfFault}
 use Rattle.conf.specs.declared.faults.ConfFault.TheVariants.{At, Unknown, Twice, Value, Place as Misplaced, Block as Unclosed}
 
@@ -68,10 +68,14 @@ located nest kind = record nest { place = place.Location; location = location_of
 abbrev pub has_default : Nest → Bool
 has_default nest = list_any (λ server. server.is_default) nest.servers
 
+-- the open server can't be the default one, as it isn't yet and another is
+abbrev pub is_second_default : Nest → Bool → Bool
+is_second_default nest default = default && not nest.server.is_default && has_default nest
+
 -- a server listens: all do so at one port, and one of them may be the default one
 abbrev pub listening : Nest → ℕ → Bool → ℕ → Result Nest ConfFault
 listening nest port default line =
-    if not (agrees port nest.port) || default && has_default nest then Err (Value line)
+    if not (agrees port nest.port) || is_second_default nest default then Err (Value line)
     else Ok (record nest {
       port = Some port;
       server = record nest.server { listens = true; is_default = nest.server.is_default || default };
@@ -81,15 +85,11 @@ listening nest port default line =
 abbrev pub named : Nest → List (List ℕ) → Nest
 named nest names = record nest { server = record nest.server { names = nest.server.names ++ names } }
 
--- a dictionary of the name is there
-abbrev pub has_zone : List ZoneConf → List ℕ → Bool
-has_zone zones name = list_any (λ zone. bytes_eq zone.name name) zones
-
 -- a dictionary more
 abbrev pub zoned : Nest → List ℕ → ℕ → ℕ → Result Nest ConfFault
 zoned nest name size line =
     if has_zone nest.zones name then Err (Twice line)
-    else Ok (record nest { zones = nest.zones ++ (record { name = name; size = size }) ∷ [] })
+    else Ok (record nest { zones = with_zone nest.zones name size })
 
 -- a directive on a line says this
 abbrev pub saying : Nest → Directive → Effect → ℕ → Result Nest ConfFault

@@ -3,7 +3,8 @@
 ghost use Rattle.std.specs.Prelude.{◌≡◌, OnOk, option_copied};
 ghost use Rattle.conf.specs.Blocks as spec;
 
-use crate::{Block, Listing, ZoneConf};
+use crate::zones::Zones;
+use crate::{Block, Listing};
 use conf_rules::{Directive, Effect, LocationKind, Place, same};
 use resty_base::Bytes;
 use std::alloc::{AllocError, Global};
@@ -46,7 +47,7 @@ pub(crate) struct Nest {
     pub(crate) main: Listing<Said>,
     pub(crate) events: Listing<Said>,
     pub(crate) http: Listing<Said>,
-    pub(crate) zones: Listing<ZoneConf>,
+    pub(crate) zones: Zones,
     pub(crate) blocks: Listing<Block>,
     /// The port of the first server, once it is known.
     pub(crate) port: Option<u16>,
@@ -117,7 +118,7 @@ impl Nest {
             main: Listing::new(alloc),
             events: Listing::new(alloc),
             http: Listing::new(alloc),
-            zones: Listing::new(alloc),
+            zones: Zones::new(alloc),
             blocks: Listing::new(alloc),
             port: None,
             servers: Listing::new(alloc),

@@ -11,6 +11,7 @@ mod reading;
 mod routes;
 mod sites;
 mod steps;
+mod zones;
 
 pub use conf_rules::LocationKind;
 pub use faults::ConfFault;

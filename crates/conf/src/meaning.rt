@@ -154,7 +154,7 @@ pub(crate) fn conf_of(alloc: Global, nest: Nest) -> Result<Conf, AllocError>
         port,
         connections,
         log_level,
-        zones,
+        zones: zones.into_listing(alloc)?,
         package,
         blocks,
         init,

@@ -5,7 +5,7 @@ ghost use Rattle.conf.specs.Outcomes.{Refuses};
 ghost use Rattle.conf.specs.Steps as spec;
 
 use crate::blocks::{DEFAULT_PORT, LocationBlock, Nest, Said, ServerBlock, is_said};
-use crate::{Block, ConfFault, ZoneConf};
+use crate::{Block, ConfFault};
 use conf_rules::{
     Directive, Effect, Form, LocationKind, Place, directive_of, effect_of, form_of, may_repeat,
     may_stand,
@@ -34,13 +34,6 @@ fn ends(form: Form, ending: &Ending) -> bool
         Form::Block => matches!(ending, Ending::Open),
         Form::Lua => matches!(ending, Ending::Lua(_) | Ending::Unclosed),
     }
-}
-
-/// Whether a dictionary of the name is there.
-fn has_zone(zones: &[ZoneConf], name: &[u8]) -> bool
-    ensures { result ≡ spec.has_zone zones.now name.now }
-{
-    zones.iter().any(|zone| zone.name.as_slice() == name)
 }
 
 /// The line as a number of 32 bits; a greater one is refused as if memory ran out.
@@ -113,12 +106,19 @@ impl Nest {
         self.place = Place::Location;
     }
 
+    /// Whether the open server can't be the default one, as another is.
+    fn is_second_default(&self, is_default: bool) -> bool
+        ensures { result ≡ spec.is_second_default self.now is_default }
+    {
+        is_default && !self.server.is_default && self.has_default()
+    }
+
     /// The open server listens at a port.
     fn listen(&mut self, port: u16, is_default: bool, line: usize) -> Result<(), ConfFault>
         ensures ok { OnOk result (spec.listening self.old port is_default line ≡ Ok self.new) }
         ensures err { IfErr result (Refuses (spec.listening self.old port is_default line)) }
     {
-        if !agrees(port, self.port) || is_default && self.has_default() {
+        if !agrees(port, self.port) || self.is_second_default(is_default) {
             return Err(ConfFault::Value(line));
         }
         self.port = Some(port);
@@ -139,10 +139,10 @@ impl Nest {
         ensures ok { OnOk result (spec.zoned self.old name size line ≡ Ok self.new) }
         ensures err { IfErr result (Refuses (spec.zoned self.old name size line)) }
     {
-        if has_zone(self.zones.as_slice(), name.as_slice()) {
+        if self.zones.has(&name) {
             return Err(ConfFault::Twice(line));
         }
-        self.zones.push(ZoneConf { name, size })?;
+        self.zones.push(name, size)?;
         Ok(())
     }
 

@@ -8,6 +8,10 @@ mod faults;
 #[cfg(test)]
 mod items;
 #[cfg(test)]
+mod places;
+#[cfg(test)]
 mod routes;
 #[cfg(test)]
 mod sites;
+#[cfg(test)]
+mod words;

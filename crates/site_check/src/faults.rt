@@ -21,7 +21,7 @@ impl From<ConfFault> for CheckFault {
     ghost use Rattle.std.specs.Prelude.{◌≡◌};
     ghost use Rattle.site_check.specs.Texts.{of_conf};
 
-    ghost from_gives = { λ from fault. fault ≡ of_conf from };
+    ghost from_gives = { λ below fault. fault ≡ of_conf below };
 
     fn from(fault: ConfFault) -> CheckFault {
         match fault {
@@ -35,7 +35,7 @@ impl From<LexFault> for CheckFault {
     ghost use Rattle.std.specs.Prelude.{◌≡◌};
     ghost use Rattle.site_check.specs.Texts.{of_tokens};
 
-    ghost from_gives = { λ from fault. fault ≡ of_tokens from };
+    ghost from_gives = { λ below fault. fault ≡ of_tokens below };
 
     fn from(fault: LexFault) -> CheckFault {
         match fault {
@@ -49,7 +49,7 @@ impl From<ParseFault> for CheckFault {
     ghost use Rattle.std.specs.Prelude.{◌≡◌};
     ghost use Rattle.site_check.specs.Texts.{of_grammar};
 
-    ghost from_gives = { λ from fault. fault ≡ of_grammar from };
+    ghost from_gives = { λ below fault. fault ≡ of_grammar below };
 
     fn from(fault: ParseFault) -> CheckFault {
         match fault {

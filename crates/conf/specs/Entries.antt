@@ -1,0 +1,7 @@
+-- A dictionary by its name and its size.
+use Rattle.std.specs.Prelude.{ℕ, List}
+use Rattle.conf.specs.declared.sites.ZoneConf.{ZoneConf}
+
+-- the dictionary that an entry of a map stands for
+abbrev pub zone_of : List ℕ × ℕ → ZoneConf
+zone_of entry = record { name = entry.0; size = entry.1 }
