@@ -48,9 +48,10 @@ impl Zones {
         ensures { OnOk result (self.new ≡ spec.with_zone self.old name size) }
     {
         match self.sizes.insert(name, size) {
-            Ok(_) => Ok(()),
-            Err(_) => Err(AllocError),
+            Ok(_) => {}
+            Err(_) => return Err(AllocError),
         }
+        Ok(())
     }
 
     /// The dictionaries as a list.

@@ -7,13 +7,13 @@ use Rattle.schedule_text.specs.LineTexts.{line_text, whole_line, schedule_text}
 use Rattle.strand.specs.Configuration.{IsFaultAt}
 use Rattle.site_check.specs.Sites.{IsSite, IsSiteFault}
 use Rattle.site_check.specs.declared.faults.CheckFault.{CheckFault}
-use Rattle.site_check.specs.declared.faults.CheckFault.TheVariants.{Memory}
+use Rattle.site_check.specs.declared.faults.CheckFault.TheVariants.{Conf, Lex, Parse, Memory}
 use Rattle.resty.specs.declared.command_line.Mode.TheVariants as mode
 use Rattle.resty.specs.declared.endings.Named.TheVariants as named
 use Rattle.resty.specs.declared.endings.Ending.{Ending}
 use Rattle.resty.specs.declared.endings.Ending.TheVariants as ending
 use Rattle.resty.specs.Form.{IsUnserved}
-use Rattle.resty.specs.Reading.{IsUnread, EndsReading, OfSchedule}
+use Rattle.resty.specs.Reading.{IsUnread, EndsReading, OfSchedule, refusal}
 use Rattle.resty.specs.Verdict.{Verdict, Missing, TooLong, Refused, NotBuilt, BadLine, Checks, Holds, TakesLiteral, IsOf, ending_of, most_of}
 use Rattle.resty.specs.Words.{Command}
 use Rattle.resty.proofs.Names.{weaker_some}
@@ -67,16 +67,22 @@ conf_refused c literal text None n holds refused = tt
 conf_refused c literal text (Some held) n holds refused = (NotBuilt named.Conf n, (literal, text, holds, refused), refl)
 
 -- a text that is no site's, and one that is
-pub check_refused : (c : Command) → c.mode ≡ mode.Check → (text : List ℕ) (told : Option FileMap) (fault : CheckFault) → IfSome told (λ held. Holds held c.conf (most_of named.Conf) text)
-    → IsSiteFault text fault → (fault ≡ Memory → ⊥) → IfSome told (λ held. (v : Verdict) × IsOf c held v × (ending.Refused fault ≡ ending_of v))
-check_refused c on text None fault holds refused known = tt
-check_refused c on text (Some held) fault holds refused known =
-    (Refused fault, (on, record { text = text; holds = holds; refused = refused; known = known }), refl)
+module _ (c : Command) (on : c.mode ≡ mode.Check) (text : List ℕ) where
+  no_site : (told : Option FileMap) (fault : CheckFault) → IfSome told (λ held. Holds held c.conf (most_of named.Conf) text) → IsSiteFault text fault → (fault ≡ Memory → ⊥)
+      → IfSome told (λ held. (v : Verdict) × IsOf c held v × (ending.Refused fault ≡ ending_of v))
+  no_site None fault holds refused known = tt
+  no_site (Some held) fault holds refused known = (Refused fault, (on, record { text = text; holds = holds; refused = refused; known = known }), refl)
 
-pub check_accepted : (c : Command) → c.mode ≡ mode.Check → (text : List ℕ) (told : Option FileMap) → IfSome told (λ held. Holds held c.conf (most_of named.Conf) text)
-    → IsSite text → IfSome told (λ held. IsOf c held Checks)
-check_accepted c on text None holds accepted = tt
-check_accepted c on text (Some held) holds accepted = (on, record { text = text; holds = holds; accepted = accepted })
+  pub check_refused : (old new : FileAccount) (fault : CheckFault) → IfSome old.told (λ held. Holds held c.conf (most_of named.Conf) text) → IsSiteFault text fault
+      → EndsReading (IsOf c) c.conf named.Conf old new (refusal fault)
+  check_refused old new (Conf fault) holds refused = (refl, no_site old.told (Conf fault) holds refused (λ e. let no : Conf fault ≡ Memory = e in cc))
+  check_refused old new (Lex fault) holds refused = (refl, no_site old.told (Lex fault) holds refused (λ e. let no : Lex fault ≡ Memory = e in cc))
+  check_refused old new (Parse fault) holds refused = (refl, no_site old.told (Parse fault) holds refused (λ e. let no : Parse fault ≡ Memory = e in cc))
+  check_refused old new Memory holds refused = tt
+
+  pub check_accepted : (told : Option FileMap) → IfSome told (λ held. Holds held c.conf (most_of named.Conf) text) → IsSite text → IfSome told (λ held. IsOf c held Checks)
+  check_accepted None holds accepted = tt
+  check_accepted (Some held) holds accepted = (on, record { text = text; holds = holds; accepted = accepted })
 
 -- a schedule has no more lines than its text has bytes
 pub lines_below : (lines : List SchedLine) → length lines ≤ length (schedule_text lines)

@@ -2,7 +2,7 @@
 
 ghost use Rattle.std.specs.Prelude.{◌≡◌, ◌≤◌, IfSome, IfOk, IfErr, OnOk, length};
 ghost use Rattle.resty.specs.Form.{IsServed};
-ghost use Rattle.resty.specs.Reading.{IsUnread, EndsReading, OfSchedule, ReadsWell};
+ghost use Rattle.resty.specs.Reading.{IsUnread, EndsReading, OfSchedule, ReadsWell, refusal};
 ghost use Rattle.resty.specs.Saying.{said, name_of};
 ghost use Rattle.resty.specs.Verdict.{Checks, Holds, HasSite, HasSchedule, TakesLiteral, IsOf, most_of};
 
@@ -64,8 +64,17 @@ pub fn read_checked<F: Files>(
     };
     match check_site(alloc, text.as_slice()) {
         Ok(()) => Ok(()),
-        Err(CheckFault::Memory) => Err(Ending::Memory),
-        Err(fault) => Err(Ending::Refused(fault)),
+        Err(fault) => Err(refusal(fault)),
+    }
+}
+
+/// How the work ends where the configuration's text has this fault.
+fn refusal(fault: CheckFault) -> Ending
+    ensures { result ≡ refusal fault }
+{
+    match fault {
+        CheckFault::Memory => Ending::Memory,
+        fault => Ending::Refused(fault),
     }
 }
 

@@ -1,5 +1,4 @@
 -- A configuration that can't be read, that is refused, and that is a site's.
-use Rattle.std.proofs.Common.{refl}
 use Rattle.resty.specs.Saying.{said}
 use Rattle.resty.proofs.Due.{conf_unread, check_refused, check_accepted}
 use Rattle.resty.proofs.reading.read_checked.Goals as goal
