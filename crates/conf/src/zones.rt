@@ -1,6 +1,7 @@
 //! The dictionaries of a configuration, found by their names.
 
-ghost use Rattle.std.specs.Prelude.{◌≡◌, ◌++◌, ◌∷◌, [], false, IfOk, OnOk};
+ghost use Rattle.std.specs.Prelude.{◌≡◌, [], false, map, IfOk, OnOk};
+ghost use Rattle.conf.specs.Entries.{zone_of};
 ghost use Rattle.conf.specs.Zones as spec;
 
 use crate::{Listing, ZoneConf};
@@ -59,10 +60,17 @@ impl Zones {
         ensures { IfOk result (λ zones. zones ≡ self) }
     {
         let Zones { sizes } = self;
-        let mut zones = Listing::new(alloc);
-        for (name, size) in sizes {
-            zones.push(ZoneConf { name, size })?;
-        }
-        Ok(zones)
+        listing_of(alloc, sizes)
     }
+}
+
+/// The entries of a map as dictionaries.
+fn listing_of(alloc: Global, sizes: IndexMap<Bytes, u64>) -> Result<Listing<ZoneConf>, AllocError>
+    ensures { IfOk result (λ zones. zones ≡ map zone_of sizes.entries) }
+{
+    let mut zones = Listing::new(alloc);
+    for (name, size) in sizes {
+        zones.push(ZoneConf { name, size })?;
+    }
+    Ok(zones)
 }

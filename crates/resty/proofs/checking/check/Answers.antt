@@ -1,3 +1,4 @@
+-- A check, where the configuration is that of a site and where it is not.
 use Rattle.std.proofs.Common.{refl}
 use Rattle.resty.specs.Outside.{outside}
 use Rattle.resty.specs.Saying.{said}
