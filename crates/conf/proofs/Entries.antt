@@ -1,9 +1,16 @@
 -- Dictionaries as the entries of a map.
-use Rattle.std.proofs.Common.{◌≡◌, ℕ, Bool, true, false, cond, ◌||◌, List, [], ◌∷◌, Option, None, Some, is_some, map, bytes_eq, if◌then◌else◌, true≢false, refl, ap}
+use Rattle.std.proofs.Common.{◌≡◌, ℕ, Bool, true, false, cond, ◌||◌, List, [], ◌∷◌, ◌++◌, Option, None, Some, is_some, map, bytes_eq, if◌then◌else◌, true≢false, refl, sym, ap, ◌∙◌, append_assoc}
 use Rattle.std.specs.Map.{lookup}
 use Rattle.indexmap.specs.IndexMap.{insert_entry}
 use Rattle.conf.specs.Entries.{zone_of}
+use Rattle.conf.specs.declared.sites.ZoneConf.{ZoneConf}
 use Rattle.conf.specs.Zones.{has_zone, with_zone}
+
+-- one more entry is moved into the list
+pub moved : (zones all : List ZoneConf) (left rest : List (List ℕ × ℕ)) (entry : List ℕ × ℕ) → zones ++ map zone_of left ≡ all → left ≡ entry ∷ rest
+    → (zones ++ zone_of entry ∷ []) ++ map zone_of rest ≡ all
+moved zones all left rest entry was here =
+    append_assoc zones (zone_of entry ∷ []) (map zone_of rest) ∙ sym (ap (λ entries. zones ++ map zone_of entries) here) ∙ was
 
 -- a name is that of an entry exactly where a dictionary has it
 pub has_entry : (entries : List (List ℕ × ℕ)) (name : List ℕ) → is_some (lookup (bytes_eq name) entries) ≡ has_zone (map zone_of entries) name
