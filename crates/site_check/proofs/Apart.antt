@@ -24,8 +24,8 @@ module _ (one_conf : (text : List ℕ) (conf other : site.Conf) → IsConf text 
   -- a program has no fault of its grammar
   no_parse : (block : Block) (fault : ParseFault) → IsProgram block → IsUnparsed block fault → ⊥
   no_parse block fault is wrong =
-      let same = (one_reading block.line block.text).tokens is.tokens wrong.0 is.lexed wrong.1.0 in
-      wrong.1.1.none is.program (subst (λ t. IsProgramOf t is.program) same is.parsed)
+      let same = (one_reading block.line block.text).tokens is.tokens wrong.0 is.lexed wrong.1 in
+      wrong.2.none is.program (subst (λ t. IsProgramOf t is.program) same is.parsed)
 
   -- the block of a first fault is one of a site's
   here : (text : List ℕ) (fault : CheckFault) → IsSite text → (at : IsBlocked text fault) → IsProgram at.first.block

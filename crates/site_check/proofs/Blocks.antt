@@ -34,7 +34,7 @@ by_tokens block lex.Memory wrong = tt
 module _ (block : Block) (tokens : List Token) (lexed : HasTokens block.line block.text tokens) where
   no_program : (fault : ParseFault) → OfAt (IsUnfit tokens) fault → OnLimit (IsBroken tokens) fault → ((program : Program) → IsProgramOf tokens program → ⊥)
       → (found : List Token) × HasTokens block.line block.text found × HasNoProgram found fault
-  no_program fault unfit limit none = (tokens, (lexed, record { unfit = unfit; limit = limit; none = none }))
+  no_program fault unfit limit none = (tokens, lexed, record { unfit = unfit; limit = limit; none = none })
 
   -- by their grammar
   pub by_grammar : (fault : ParseFault) → OfAt (IsUnfit tokens) fault → OnLimit (IsBroken tokens) fault

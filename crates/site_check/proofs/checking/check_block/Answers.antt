@@ -4,20 +4,21 @@ use Rattle.site_check.proofs.Blocks.{by_tokens, by_grammar}
 use Rattle.site_check.proofs.checking.check_block.Goals as goal
 
 pub returns-clause-ok : goal.returns-clause-ok
-returns-clause-ok c = record {
-  tokens = c.in_ok-tokens.tokens.items;
-  program = c.in_ok-parse.parse;
-  lexed = c.in_ok-tokens.ensures.tokens;
-  parsed = c.in_ok-parse.ensures.program;
-}
+returns-clause-ok c =
+    let has = c.in_ok-tokens.ensures.tokens in
+    let lexed = rw c.as_slice.ensures at has in
+    record { tokens = c.in_ok-tokens.tokens.items; program = c.in_ok-parse.field-0; lexed = lexed; parsed = c.in_ok-parse.ensures.program }
 
 pub returns-in_err-tokens-clause-err : goal.returns-in_err-tokens-clause-err
 returns-in_err-tokens-clause-err c =
-    let p = err_from_is_err_and c.from_residual-in_err-tokens.result c.from_residual-in_err-tokens.ensures.1 in
-    rw (p.1, p.2) (by_tokens c.args.block.now _ c.in_err-tokens.ensures.fault)
+    let p = err_from_is_err_and c.from_residual.result c.from_residual.ensures.1 in
+    let fault = c.in_err-tokens.ensures.fault in
+    let wrong = rw c.as_slice.ensures at fault in
+    rw (p.1, p.2) (by_tokens c.args.block.now _ wrong)
 
 pub returns-in_err-parse-clause-err : goal.returns-in_err-parse-clause-err
 returns-in_err-parse-clause-err c =
     let p = err_from_is_err_and c.from_residual-in_err-parse.result c.from_residual-in_err-parse.ensures.1 in
-    rw (p.1, p.2) (by_grammar c.args.block.now c.in_ok-tokens.tokens.items c.in_ok-tokens.ensures.tokens _
-    c.in_err-parse.ensures.unfit c.in_err-parse.ensures.limits c.in_err-parse.ensures.complete)
+    let has = c.in_ok-tokens.ensures.tokens in
+    let lexed = rw c.as_slice.ensures at has in
+    rw (p.1, p.2) (by_grammar c.args.block.now c.in_ok-tokens.tokens.items lexed _ c.in_err-parse.ensures.unfit c.in_err-parse.ensures.limits c.in_err-parse.ensures.complete)

@@ -6,10 +6,12 @@ use Rattle.site_check.proofs.checking.check_site.Goals as goal
 
 pub returns-in_err-conf-clause-err : goal.returns-in_err-conf-clause-err
 returns-in_err-conf-clause-err c =
-    let p = err_from_is_err_and c.from_residual-in_err-conf.result c.from_residual-in_err-conf.ensures.1 in
+    let p = err_from_is_err_and c.from_residual.result c.from_residual.ensures.1 in
     rw (p.1, p.2) (by_conf c.args.text.now _ c.in_err-conf.ensures.refused)
 
 pub returns-clause-err : goal.returns-clause-err
 returns-clause-err c =
+    let wrong = c.check_blocks.ensures.err in
+    let first = rw c.as_slice.ensures.value at wrong in
     IfErr-weaker c.check_blocks.result (IsFirstFault c.in_ok-conf.conf.blocks) (IsSiteFault c.args.text.now)
-    (by_block c.args.text.now c.in_ok-conf.conf c.in_ok-conf.ensures.read) c.check_blocks.ensures.err
+    (by_block c.args.text.now c.in_ok-conf.conf c.in_ok-conf.ensures.read) first
