@@ -1,4 +1,5 @@
 -- Why a text is no site, by its configuration and by its blocks.
+use Rattle.std.proofs.Common.{IfErr, subst}
 use Rattle.std.proofs.lemmas.Result.{err_from_is_err_and, IfErr-weaker}
 use Rattle.site_check.specs.Sites.{IsFirstFault, IsSiteFault}
 use Rattle.site_check.proofs.Blocks.{by_conf, by_block}
@@ -11,7 +12,6 @@ returns-in_err-conf-clause-err c =
 
 pub returns-clause-err : goal.returns-clause-err
 returns-clause-err c =
-    let wrong = c.check_blocks.ensures.err in
-    let first = rw c.as_slice.ensures.value at wrong in
+    let first = subst (λ blocks. IfErr c.check_blocks.result (IsFirstFault blocks)) c.as_slice.ensures.value c.check_blocks.ensures.err in
     IfErr-weaker c.check_blocks.result (IsFirstFault c.in_ok-conf.conf.blocks) (IsSiteFault c.args.text.now)
     (by_block c.args.text.now c.in_ok-conf.conf c.in_ok-conf.ensures.read) first
