@@ -36,7 +36,7 @@ pub fn one_more(count: u64) -> u64
 }
 
 impl Accounts {
-    ghost use Rattle.std.specs.Prelude.{◌≡◌, ◌<◌, IfSome, IfNone, true, if◌then◌else◌, Some};
+    ghost use Rattle.std.specs.Prelude.{◌≡◌, ◌<◌, ◌+◌, IfSome, IfNone, true, if◌then◌else◌, Some};
     ghost use Rattle.resty_base.specs.declared.names.Id.{Id as Name};
     ghost use Rattle.resty_world.specs.Book.{KeepsTold, KeepsNumbers, KeepsCourse, KeepsCounts};
     ghost use Rattle.resty_world.specs.declared.answers.Listened.TheVariants as listened;
@@ -82,6 +82,7 @@ impl Accounts {
     pub fn gives(&mut self, event: Event) -> Option<Event>
         ensures some { IfSome result (λ event. Gave (book_of self.old) (book_of self.new) event) }
         ensures none { IfNone result (book_of self.new ≡ book_of self.old) }
+        ensures same { IfSome result (λ given. given ≡ event) }
     {
         match event {
             Event::Arrive(number) => {
@@ -164,7 +165,8 @@ impl Accounts {
 
     /// The number of the next connection, once there is memory for it.
     pub fn reserve(&mut self) -> Option<u64>
-        ensures { book_of self.new ≡ book_of self.old }
+        ensures book { book_of self.new ≡ book_of self.old }
+        ensures next { IfSome result (λ number. number ≡ self.old.arrivals + 1) }
     {
         if self.standings.reserve_id().is_err() {
             return None;

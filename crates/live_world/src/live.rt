@@ -1,8 +1,11 @@
 //! The live world.
 
-ghost use Rattle.std.specs.Prelude.{◌≡◌, length};
+ghost use Rattle.std.specs.Prelude.{◌≡◌, ◌≤◌, ◌+◌, length, Some, IfSome};
 ghost use Rattle.resty_world.specs.Calls.{IsPiece};
+ghost use Rattle.resty_world.specs.Given.{event_id};
 ghost use Rattle.live_world.specs.Accounts.{book_of, IsNew};
+ghost use Rattle.live_world.specs.Moments.{IsAt};
+ghost use Rattle.live_world.specs.Tokens as tokens;
 
 use crate::accounts::{Accounts, LAST_MOMENT};
 use crate::sockets::{Failure, Next, Sockets};
@@ -30,7 +33,9 @@ pub struct Live<'a, R: Net + Clock, W: Write> {
 }
 
 /// The token under which the poll reports an id; that of a number past half of all is none.
-pub fn token_of(id: Id) -> Option<usize> {
+pub fn token_of(id: Id) -> Option<usize>
+    ensures { IfSome result (λ token. token ≡ tokens.token_of id) }
+{
     match id {
         Id::Conn(number) => usize::try_from(number.checked_mul(2)?).ok(),
         Id::Sock(number) => usize::try_from(number.checked_mul(2)?.checked_add(1)?).ok(),
@@ -38,7 +43,9 @@ pub fn token_of(id: Id) -> Option<usize> {
 }
 
 /// The id of a token.
-fn id_of(token: usize) -> Id {
+fn id_of(token: usize) -> Id
+    ensures { tokens.token_of result ≡ token }
+{
     let number = token as u64 / 2;
     if token % 2 == 0 {
         Id::Conn(number)
@@ -48,7 +55,9 @@ fn id_of(token: usize) -> Id {
 }
 
 /// The event that a look at an id gives.
-fn event_of(id: Id, seen: Seen) -> Option<Event> {
+fn event_of(id: Id, seen: Seen) -> Option<Event>
+    ensures { IfSome result (λ event. event_id event ≡ Some id) }
+{
     match seen {
         Seen::Nothing => None,
         Seen::Bytes(bytes) => Some(Event::Bytes(id, bytes)),
@@ -96,7 +105,9 @@ impl<'a, R: Net + Clock, W: Write> Live<'a, R, W> {
     }
 
     /// The moment by the clock, which doesn't fall: a clock that was set back stands still.
-    pub(crate) fn now(&self) -> u64 {
+    pub(crate) fn now(&self) -> u64
+        ensures { self.now.moment ≤ result }
+    {
         let Ok(since) = self.rt.since_1970() else {
             return self.moment;
         };
@@ -109,7 +120,9 @@ impl<'a, R: Net + Clock, W: Write> Live<'a, R, W> {
 
     /// What comes next: an event, or nothing, and then it is to be called again.
     pub(crate) fn turn(&mut self, alloc: Global, until: Option<Ms>) -> Option<Event>
-        ensures { book_of self.new.accounts ≡ book_of self.old.accounts }
+        ensures accounts { book_of self.new.accounts ≡ book_of self.old.accounts }
+        ensures rises { self.old.moment ≤ self.new.moment }
+        ensures moment { IfSome result (IsAt self.new.moment) }
     {
         let now = self.now();
         match until {
@@ -134,7 +147,8 @@ impl<'a, R: Net + Clock, W: Write> Live<'a, R, W> {
 
     /// Dials a host and a port under the next socket's token.
     pub(crate) fn dial_next(&mut self, host: [u8; 4], port: u16) -> Result<(), Failure>
-        ensures { self.new.accounts ≡ self.old.accounts }
+        ensures accounts { self.new.accounts ≡ self.old.accounts }
+        ensures moment { self.new.moment ≡ self.old.moment }
     {
         let next = Id::Sock(self.accounts.dials.saturating_add(1));
         match (&mut self.sockets, token_of(next)) {
@@ -152,6 +166,7 @@ impl<'a, R: Net + Clock, W: Write> Live<'a, R, W> {
     /// Writes a first part of the bytes.
     pub(crate) fn write(&mut self, id: Id, bytes: &[u8]) -> Wrote
         ensures accounts { self.new.accounts ≡ self.old.accounts }
+        ensures moment { self.new.moment ≡ self.old.moment }
         ensures piece { IsPiece (length bytes.now) result }
     {
         match (&mut self.sockets, token_of(id)) {
@@ -162,7 +177,9 @@ impl<'a, R: Net + Clock, W: Write> Live<'a, R, W> {
 
     /// The moment is given.
     fn moment_at(&mut self, now: u64) -> Event
-        ensures { self.new.accounts ≡ self.old.accounts }
+        ensures accounts { self.new.accounts ≡ self.old.accounts }
+        ensures moved { self.new.moment ≡ now }
+        ensures moment { result ≡ Event.Moment (record { 0 = now }) }
     {
         self.moment = now;
         Event::Moment(Ms(now))
@@ -170,7 +187,9 @@ impl<'a, R: Net + Clock, W: Write> Live<'a, R, W> {
 
     /// A connection that arrives; without memory for it, or where it can't be polled, it is closed unseen.
     fn arrival(&mut self, socket: TcpStream) -> Option<Event>
-        ensures { book_of self.new.accounts ≡ book_of self.old.accounts }
+        ensures accounts { book_of self.new.accounts ≡ book_of self.old.accounts }
+        ensures moment { self.new.moment ≡ self.old.moment }
+        ensures arrives { IfSome result (λ event. event ≡ Event.Arrive (self.old.accounts.arrivals + 1)) }
     {
         let number = self.accounts.reserve()?;
         let token = token_of(Id::Conn(number))?;
@@ -181,7 +200,9 @@ impl<'a, R: Net + Clock, W: Write> Live<'a, R, W> {
 }
 
 /// Asks the poll; a poll that fails is a fault.
-fn ask(sockets: &mut Sockets, now: u64, until: Option<Ms>) -> Option<Event> {
+fn ask(sockets: &mut Sockets, now: u64, until: Option<Ms>) -> Option<Event>
+    ensures { IfSome result (λ event. event ≡ Event.Fault) }
+{
     match sockets.ask(now, until.map(|at| at.0)) {
         Ok(()) => None,
         Err(_) => Some(Event::Fault),

@@ -10,15 +10,17 @@ use std::net::Net;
 use std::time::Clock;
 
 impl<R: Net + Clock, W: Write> World for Live<'_, R, W> {
+    ghost use Rattle.std.specs.Prelude.{◌≤◌};
+    ghost use Rattle.std.proofs.Math.Nat.{le_refl, le_trans};
     ghost use Rattle.live_world.specs.Accounts.{book_of};
 
     ghost book = { λ live. book_of live.accounts };
 
-    ghost same = { λ _ _. Unit {0} };
+    ghost same = { λ live later. live.moment ≤ later.moment };
 
-    ghost stays = { λ _. tt };
+    ghost stays = { λ live. le_refl live.moment };
 
-    ghost joins = { λ _ _ _ _ _. tt };
+    ghost joins = { λ live later last rose rises. le_trans rose rises };
 
     fn listen(&mut self, alloc: Global, port: u16) -> Listened {
         match Sockets::listen(self.rt, alloc, port) {
