@@ -171,6 +171,13 @@ fn is_read_when_cut(alloc: Global, bytes: &[u8], at: usize) -> bool {
     in_two(&mut cut, first, second) == joined.feed(bytes)
 }
 
+/// Whether it is read alike byte by byte.
+fn is_read_by_bytes(alloc: Global, bytes: &[u8]) -> bool {
+    let mut joined = BodyIn::new(alloc, C, 5);
+    let mut single = BodyIn::new(alloc, C, 5);
+    by_bytes(&mut single, bytes) == joined.feed(bytes)
+}
+
 /// A text of so many `x` between these.
 fn padded(alloc: Global, before: &[u8], count: usize, after: &[u8]) -> Result<Vec<u8>, AllocError> {
     let mut all = Vec::from_slice(alloc, before)?;
@@ -196,6 +203,7 @@ fn lines_have_a_limit(rt: HostRuntime) -> Result<(), Fail> {
         assert_eq!(rt; fed(alloc, C, 5, &[&bytes])?.as_str(), expected);
         assert!(rt; is_read_when_cut(alloc, &bytes, 9));
         assert!(rt; is_read_when_cut(alloc, &bytes, 16_384));
+        assert!(rt; is_read_by_bytes(alloc, &bytes));
     }
     Ok(())
 }

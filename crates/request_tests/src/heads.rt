@@ -88,6 +88,12 @@ fn ends_at_any_cut(bytes: &[u8]) -> bool {
     end_by_bytes(bytes) == end
 }
 
+/// Whether the same end is found in two pieces of which the first has so many bytes.
+fn ends_when_cut(bytes: &[u8], at: usize) -> bool {
+    let (first, second) = bytes.split_at(at.min(bytes.len()));
+    end_by_pieces(&[first, second]) == end_by_pieces(&[bytes])
+}
+
 /// The answer to a request line and fields, and the empty line after them.
 fn read_fields(alloc: Global, start: &[u8], fields: &[u8]) -> Result<String, AllocError> {
     let bytes = joined(alloc, &[start, fields, b"\r\n"])?;
@@ -124,6 +130,17 @@ fn heads_begin_and_end(rt: HostRuntime) -> Result<(), Fail> {
         assert_eq!(rt; in_words(rt.alloc(), &read)?.as_str(), expected);
         assert!(rt; ends_at_any_cut(bytes));
     }
+    Ok(())
+}
+
+#[test]
+fn no_byte_belongs_to_a_head_after_its_end(rt: HostRuntime) -> Result<(), Fail> {
+    let mut scan = HeadScan::new();
+    assert_eq!(rt; scan.read(b"GET / HTTP/1.0\n"), None);
+    assert_eq!(rt; scan.read(b"\nGET"), Some(1));
+    assert!(rt; scan.has_ended());
+    assert_eq!(rt; scan.read(b""), Some(0));
+    assert_eq!(rt; scan.read(b"\n\n"), Some(0));
     Ok(())
 }
 
@@ -198,6 +215,7 @@ fn bodies_are_framed(rt: HostRuntime) -> Result<(), Fail> {
         (b"Expect: x, 100-continue\r\n", "52 Nothing keep"),
     ] {
         assert_eq!(rt; read_fields(rt.alloc(), A, fields)?.as_str(), expected);
+        assert!(rt; ends_at_any_cut(&joined(rt.alloc(), &[A, fields, b"\r\n"])?));
     }
     Ok(())
 }
@@ -242,6 +260,9 @@ fn heads_have_limits(rt: HostRuntime) -> Result<(), Fail> {
         let head = with_repeated(alloc, front, bytes, count, back)?;
         assert_eq!(rt; in_words(alloc, &head_of(alloc, &head))?.as_str(), expected);
         assert_eq!(rt; end_by_bytes(&head), end_by_pieces(&[&head]));
+        for at in [9, 16_381, 16_382, 16_383, 16_384] {
+            assert!(rt; ends_when_cut(&head, at));
+        }
     }
     Ok(())
 }
