@@ -1,0 +1,5 @@
+pub mod OutcomeLemmas
+pub mod CompareLemmas
+pub mod JoinLemmas
+pub mod LengthLemmas
+pub mod OperatorLemmas
