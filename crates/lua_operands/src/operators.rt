@@ -13,7 +13,9 @@ use crate::concatenation::concatenation;
 use crate::lengths::length_of;
 use lua_ast::{BinOp, Program, UnOp};
 use lua_frames_base::{Flow, Frames, give_one};
-use lua_operators::{ArithmeticOperator, ComparisonOperator, is_truthy};
+use lua_operators::{
+    ArithmeticOperator as Arithmetic, ComparisonOperator as Comparison, is_truthy,
+};
 use lua_values::{Store, Value};
 use std::alloc::AllocError;
 
@@ -31,96 +33,32 @@ pub fn operate(
         → Works S (binary_work S (callers_at (here frames.old) line) operator a b (slots_of frames.old)) frames.old store.old frames.new store.new result }
 {
     match operator {
-        BinOp::Add => arithmetic(
-            frames,
-            program,
-            store,
-            line,
-            ArithmeticOperator::Add,
-            &a,
-            &b,
-        ),
-        BinOp::Sub => arithmetic(
-            frames,
-            program,
-            store,
-            line,
-            ArithmeticOperator::Sub,
-            &a,
-            &b,
-        ),
-        BinOp::Mul => arithmetic(
-            frames,
-            program,
-            store,
-            line,
-            ArithmeticOperator::Mul,
-            &a,
-            &b,
-        ),
-        BinOp::Div => arithmetic(
-            frames,
-            program,
-            store,
-            line,
-            ArithmeticOperator::Div,
-            &a,
-            &b,
-        ),
-        BinOp::Mod => arithmetic(
-            frames,
-            program,
-            store,
-            line,
-            ArithmeticOperator::Mod,
-            &a,
-            &b,
-        ),
-        BinOp::Pow => arithmetic(
-            frames,
-            program,
-            store,
-            line,
-            ArithmeticOperator::Pow,
-            &a,
-            &b,
-        ),
+        BinOp::Add => arithmetic(frames, program, store, line, Arithmetic::Add, &a, &b),
+        BinOp::Sub => arithmetic(frames, program, store, line, Arithmetic::Sub, &a, &b),
+        BinOp::Mul => arithmetic(frames, program, store, line, Arithmetic::Mul, &a, &b),
+        BinOp::Div => arithmetic(frames, program, store, line, Arithmetic::Div, &a, &b),
+        BinOp::Mod => arithmetic(frames, program, store, line, Arithmetic::Mod, &a, &b),
+        BinOp::Pow => arithmetic(frames, program, store, line, Arithmetic::Pow, &a, &b),
         BinOp::Concat => concatenation(frames, program, store, line, &a, &b),
         BinOp::Eq => equal(frames, program, store, line, true, &a, &b),
         BinOp::Ne => equal(frames, program, store, line, false, &a, &b),
-        BinOp::Lt => comparison(
-            frames,
-            program,
-            store,
-            line,
-            ComparisonOperator::Less,
-            &a,
-            &b,
-        ),
+        BinOp::Lt => comparison(frames, program, store, line, Comparison::Less, &a, &b),
         BinOp::Le => comparison(
             frames,
             program,
             store,
             line,
-            ComparisonOperator::LessOrEqual,
+            Comparison::LessOrEqual,
             &a,
             &b,
         ),
-        BinOp::Gt => comparison(
-            frames,
-            program,
-            store,
-            line,
-            ComparisonOperator::Less,
-            &b,
-            &a,
-        ),
+        BinOp::Gt => comparison(frames, program, store, line, Comparison::Less, &b, &a),
         BinOp::Ge => comparison(
             frames,
             program,
             store,
             line,
-            ComparisonOperator::LessOrEqual,
+            Comparison::LessOrEqual,
             &b,
             &a,
         ),
