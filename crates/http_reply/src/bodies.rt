@@ -6,7 +6,7 @@ ghost use Rattle.http_reply.specs.Replies as replies;
 
 use crate::Framing;
 use crate::chunks::{last_chunk, put_chunk};
-use crate::heads::{ReplyHead, put_head};
+use crate::heads::{HEAD_ROOM, ReplyHead, put_head};
 use resty_base::{Bytes, Ms};
 use std::alloc::{AllocError, Global};
 
@@ -95,21 +95,22 @@ pub fn reply(
 ) -> Result<Bytes, AllocError>
     ensures { IfOk result (λ bytes. bytes ≡ replies.reply head.now framing pieces.now now.0) }
 {
-    let mut bytes = Vec::new(alloc);
-    put_reply(&mut bytes, head, framing, pieces, now)?;
+    let bytes = reply_buffer(alloc, head, framing, pieces, now)?;
     Ok(Bytes::from_vec(bytes)?)
 }
 
-/// Puts that reply after what `out` holds.
-pub fn put_reply(
-    out: &mut Vec<u8>,
+/// The same bytes in a buffer of the caller's own, which isn't shared.
+pub fn reply_buffer(
+    alloc: Global,
     head: &ReplyHead,
     framing: Framing,
     pieces: &[Bytes],
     now: Ms,
-) -> Result<(), AllocError>
-    ensures { OnOk result (out.new.items ≡ out.old.items ++ replies.reply head.now framing pieces.now now.0) }
+) -> Result<Vec<u8>, AllocError>
+    ensures { IfOk result (λ bytes. bytes.items ≡ replies.reply head.now framing pieces.now now.0) }
 {
-    put_head(out, head, now)?;
-    put_body(out, framing, pieces)
+    let mut bytes = Vec::with_capacity(alloc, HEAD_ROOM)?;
+    put_head(&mut bytes, head, now)?;
+    put_body(&mut bytes, framing, pieces)?;
+    Ok(bytes)
 }

@@ -9,7 +9,7 @@ use resty_base::{Bytes, Ms};
 use std::alloc::{AllocError, Global};
 
 /// How many bytes a head begins with room for.
-const ROOM: usize = 256;
+pub(crate) const HEAD_ROOM: usize = 256;
 
 /// What the head of a reply says, but for its date.
 #[derive(Debug, Drop)]
@@ -31,7 +31,7 @@ pub struct ReplyHead {
 pub fn head_text(alloc: Global, head: &ReplyHead, now: Ms) -> Result<Bytes, AllocError>
     ensures { IfOk result (λ text. text ≡ heads.head_text head.now now.0) }
 {
-    let mut text = Vec::with_capacity(alloc, ROOM)?;
+    let mut text = Vec::with_capacity(alloc, HEAD_ROOM)?;
     put_head(&mut text, head, now)?;
     Ok(Bytes::from_vec(text)?)
 }

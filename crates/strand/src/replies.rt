@@ -4,7 +4,7 @@ ghost use Rattle.std.specs.Prelude.{◌≡◌, IfOk};
 ghost use Rattle.strand.specs.Replies.{literal_head, reply};
 
 use http_base::Fields;
-use http_reply::{Framing, ReplyHead, put_reply};
+use http_reply::{Framing, ReplyHead, reply_buffer};
 use resty_base::{Bytes, Ms};
 use std::alloc::{AllocError, Global};
 use std::slice::from_ref;
@@ -13,10 +13,8 @@ use std::slice::from_ref;
 pub fn reply_at(alloc: Global, body: &Bytes, now: Ms) -> Result<Vec<u8>, AllocError>
     ensures { IfOk result (λ bytes. bytes.items ≡ reply body.now now.0) }
 {
-    let mut bytes = Vec::new(alloc);
     let head = literal_head(alloc);
-    put_reply(&mut bytes, &head, Framing::UntilClose, from_ref(body), now)?;
-    Ok(bytes)
+    reply_buffer(alloc, &head, Framing::UntilClose, from_ref(body), now)
 }
 
 /// The head of each reply; takes no memory.
