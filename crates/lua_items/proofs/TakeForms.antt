@@ -1,0 +1,82 @@
+-- What items do with what they take.
+use Rattle.std.specs.Prelude.{◌≡◌, ◌+◌, min, nat_lt, Bool, true, if◌then◌else◌, Result, refl}
+use Rattle.std.proofs.Common.{sym, ◌∙◌, ap, Vec, Global}
+use Rattle.std.specs.declared.rc.Rc.{Rc}
+use Rattle.lua_ast.specs.declared.expressions.Expr.{Expr}
+use Rattle.lua_ast.specs.declared.statements.Stmt.{Stmt}
+use Rattle.lua_values.specs.declared.values.Value.{Value}
+use Rattle.lua_values.specs.Heap.{StoreView, step_limit}
+use Rattle.lua_meaning.specs.Works.{Places, Slots, AValue, ATurn, Sign, Values, Return, Break, Failed, Work, Eval}
+use Rattle.lua_meaning.specs.Setting.{Setting}
+use Rattle.lua_meaning.specs.Signs.{first, on_values}
+use Rattle.lua_meaning.specs.Blocks.{block}
+use Rattle.lua_meaning.specs.Loops.{after_body, while_work}
+use Rattle.lua_frames_base.specs.declared.flow.Flow.{Flow}
+use Rattle.lua_frames_base.specs.declared.items.Item.{Item}
+use Rattle.lua_frames_base.specs.declared.items.Item.TheVariants as i
+use Rattle.lua_frames_base.specs.declared.threads.Frames.{Frames}
+use Rattle.lua_frames_base.specs.Signals.{sign_of, HasFirst}
+use Rattle.lua_frames_base.specs.Items.{resume_item}
+use Rattle.lua_frames_base.specs.Frames.{here, slots_of}
+use Rattle.lua_frames_base.specs.Follows.{Works, Enters}
+use Rattle.lua_frames_base.specs.Changes.{Waits}
+use Rattle.lua_frames_base.proofs.FollowLemmas.{works_as, works_from, work_under, enters_by}
+use Rattle.lua_items.specs.declared.loops.RunEnd.TheVariants as run
+use Rattle.lua_items.specs.Takes.{ends_run}
+
+first_goes : (go : Value → Slots → Work) (sign : Sign) (v : Value) (s : Slots) → HasFirst sign v → on_values (λ vs s'. go (first vs) s') sign s ≡ go v s
+first_goes go (Values vs) v s h = ap (λ (x : Value). go x s) (sym h)
+first_goes go (Return vs) v s h = absurd h
+first_goes go Break v s h = absurd h
+first_goes go (Failed x) v s h = absurd h
+
+-- an item that wants one value goes on with the first of those that are given
+pub takes_one : {E : Type 0} (S : Setting) (go : Places → Value → Slots → Work) (v : Value) (old mid fs : Frames) (before store : StoreView) (r : Result Flow E)
+    → HasFirst (sign_of old.given) v → mid.below ≡ old.below → mid.top ≡ old.top → Works S (go (here mid) v (slots_of mid)) mid before fs store r
+    → Works S (on_values (λ vs s'. go (here old) (first vs) s') (sign_of old.given) (slots_of old)) old before fs store r
+takes_one S go v old mid fs before store r h b t w =
+    works_as S (on_values (λ vs s'. go (here old) (first vs) s') (sign_of old.given) (slots_of old)) (go (here mid) v (slots_of mid)) old fs before store r
+    (works_from S (go (here mid) v (slots_of mid)) old mid fs before store r b t w)
+    (first_goes (go (here old)) (sign_of old.given) v (slots_of old) h ∙ rw (b, t) refl)
+
+-- the first of two works, by a truth
+pub by_truth : {E : Type 0} (S : Setting) (t : Bool) (q q' : Work) (old fs : Frames) (before store : StoreView) (r : Result Flow E)
+    → t ≡ true → Works S q old before fs store r → Works S (if t then q else q') old before fs store r
+by_truth S t q q' old fs before store r h w = works_as S (if t then q else q') q old fs before store r w (ap (λ (b : Bool). if b then q else q') h)
+
+-- an item that evaluates an expression next, under another item
+pub takes_value : {E : Type 0} (S : Setting) (x y : Expr) (next : Item) (go : Places → Value → Slots → Work) (v : Value) (old mid fs : Frames) (before store : StoreView) (r : Result Flow E)
+    → HasFirst (sign_of old.given) v → mid.below ≡ old.below → mid.top ≡ old.top → x ≡ y → ((p : Places) (s : Slots) → go p v s ≡ Eval (AValue y) p s (resume_item S next p))
+    → Works S (Eval (AValue x) (here mid) (slots_of mid) (resume_item S next (here mid))) mid before fs store r
+    → Works S (on_values (λ vs s'. go (here old) (first vs) s') (sign_of old.given) (slots_of old)) old before fs store r
+takes_value S x y next go v old mid fs before store r h b t same is w =
+    takes_one S go v old mid fs before store r h b t
+    (works_as S (go (here mid) v (slots_of mid)) (Eval (AValue x) (here mid) (slots_of mid) (resume_item S next (here mid))) mid fs before store r w
+    (is (here mid) (slots_of mid) ∙ ap (λ (e : Expr). Eval (AValue e) (here mid) (slots_of mid) (resume_item S next (here mid))) (sym same)))
+
+-- a run of the body of `while`: its block, and then the test
+pub turn_enters : {E : Type 0} (S : Setting) (test : Rc Expr Global) (body copy : Rc (Vec Stmt Global) Global) (old mid fs : Frames) (before counted store : StoreView) (below : Bool) (r : Result Flow E)
+    → counted ≡ record { heap = before.heap; steps = min step_limit (before.steps + 1) } → below ≡ nat_lt (before.steps + 1) step_limit → below ≡ true
+    → copy.value ≡ body.value → Waits old (i.Turned test body) mid → Works S (block copy.value.items (here mid) (slots_of mid)) mid counted fs store r
+    → Enters S (ATurn test.value body.value.items) old before fs store r
+turn_enters S test body copy old mid fs before counted store below r is e holds same h w =
+    enters_by S (ATurn test.value body.value.items) old fs before counted store below r is e holds
+    (work_under S old mid fs (i.Turned test body) (λ p s. block body.value.items p s) counted store r h
+    (works_as S (block body.value.items (here mid) (slots_of mid)) (block copy.value.items (here mid) (slots_of mid)) mid fs counted store r w
+    (ap (λ (b : Vec Stmt Global). block b.items (here mid) (slots_of mid)) (sym same))))
+
+-- after a run of the body the test comes again
+ran : (go : Slots → Work) (sign : Sign) (s : Slots) → ends_run sign ≡ run.Ran → after_body go sign s ≡ go s
+ran go (Values vs) s e = refl
+ran go (Return vs) s e = absurd (cc)
+ran go Break s e = absurd (cc)
+ran go (Failed v) s e = absurd (cc)
+
+pub turns_again : {E : Type 0} (S : Setting) (test again : Rc Expr Global) (x : Expr) (body : Rc (Vec Stmt Global) Global) (old fs : Frames) (before store : StoreView) (r : Result Flow E)
+    → ends_run (sign_of old.given) ≡ run.Ran → again.value ≡ test.value → x ≡ again.value
+    → Works S (Eval (AValue x) (here old) (slots_of old) (resume_item S (i.While test body) (here old))) old before fs store r
+    → Works S (after_body (while_work test.value body.value.items (here old)) (sign_of old.given) (slots_of old)) old before fs store r
+turns_again S test again x body old fs before store r e same is w =
+    works_as S (after_body (while_work test.value body.value.items (here old)) (sign_of old.given) (slots_of old)) (Eval (AValue x) (here old) (slots_of old) (resume_item S (i.While test body) (here old))) old fs before store r w
+    (ran (while_work test.value body.value.items (here old)) (sign_of old.given) (slots_of old) e
+    ∙ ap (λ (y : Expr). Eval (AValue y) (here old) (slots_of old) (resume_item S (i.While test body) (here old))) (sym (is ∙ same)))
