@@ -1,5 +1,6 @@
 -- How the program ends, and what it says of it.
 use Rattle.std.specs.Prelude.{ℕ, List, [], ◌++◌, codes, decimal}
+use Rattle.site_check.specs.Texts as check
 use Rattle.resty.specs.declared.endings.Named.{Named}
 use Rattle.resty.specs.declared.endings.Named.TheVariants as named
 use Rattle.resty.specs.declared.endings.Ending.{Ending}
@@ -26,6 +27,7 @@ status_of ending.Usage = status.Usage
 status_of (ending.Missing which) = status.ReadFault
 status_of (ending.TooLong which) = status.ReadFault
 status_of (ending.Unreadable which) = status.ReadFault
+status_of (ending.Refused fault) = status.Conf
 status_of (ending.NotBuilt named.Conf line) = status.Conf
 status_of (ending.NotBuilt named.Schedule line) = status.Schedule
 status_of (ending.BadLine line) = status.Schedule
@@ -35,6 +37,10 @@ status_of ending.EventsSpent = status.EventsSpent
 status_of ending.NotWritten = status.WriteFault
 status_of ending.Memory = status.Memory
 
+-- the line that names a file, the number of a line of it, and what is wrong there
+abbrev pub fault_line : List ℕ → List ℕ → List ℕ → List ℕ
+fault_line name line text = codes "resty: " ++ (name ++ (codes ": line " ++ (line ++ (codes ": " ++ (text ++ codes "\n")))))
+
 -- the line that says how the program ended, for files of these names; where all went well there is none
 abbrev pub line_of : (Named → List ℕ) → Ending → List ℕ
 line_of names ending.Done = []
@@ -42,9 +48,10 @@ line_of names ending.Usage = codes "resty: usage: resty MODE [options]\n"
 line_of names (ending.Missing which) = codes "resty: no file " ++ names which ++ codes "\n"
 line_of names (ending.TooLong which) = codes "resty: " ++ names which ++ codes " is too long\n"
 line_of names (ending.Unreadable which) = codes "resty: cannot read " ++ names which ++ codes "\n"
-line_of names (ending.NotBuilt which line) = codes "resty: " ++ names which ++ codes ": line " ++ decimal line ++ codes ": not built yet\n"
-line_of names (ending.BadLine line) = codes "resty: " ++ names named.Schedule ++ codes ": line " ++ decimal line ++ codes ": not a schedule line\n"
-line_of names (ending.NoSuchId line) = codes "resty: " ++ names named.Schedule ++ codes ": line " ++ decimal line ++ codes ": no such id\n"
+line_of names (ending.Refused fault) = fault_line (names named.Conf) (decimal (check.line_of fault)) (check.text_of fault)
+line_of names (ending.NotBuilt which line) = fault_line (names which) (decimal line) (codes "not built yet")
+line_of names (ending.BadLine line) = fault_line (names named.Schedule) (decimal line) (codes "not a schedule line")
+line_of names (ending.NoSuchId line) = fault_line (names named.Schedule) (decimal line) (codes "no such id")
 line_of names ending.WorldFault = codes "resty: world fault\n"
 line_of names ending.EventsSpent = codes "resty: events spent\n"
 line_of names ending.NotWritten = codes "resty: cannot write\n"
