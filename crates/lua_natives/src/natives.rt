@@ -19,6 +19,17 @@ use lua_frames_base::{Flow, Frames, Host, Item, wait};
 use lua_values::{Store, Value};
 use std::alloc::AllocError;
 
+/// The numbers of the machine's own functions; the host's library has those from `LIBRARY` on.
+const PCALL: u32 = 0;
+
+const XPCALL: u32 = 1;
+
+const ERROR: u32 = 2;
+
+const TOSTRING: u32 = 4;
+
+const LIBRARY: u32 = 5;
+
 /// How many bytes of text one step pays for.
 const BYTES_OF_A_STEP: u64 = 64;
 
@@ -35,7 +46,7 @@ fn texts_length(values: &[Value]) -> u64
     length
 }
 
-/// Calls a function of the host by its number: 0 to 4 are the machine's own.
+/// Calls a function of the host by its number.
 pub(crate) fn call_native<H: Host>(
     frames: &mut Frames,
     host: &H,
@@ -48,10 +59,10 @@ pub(crate) fn call_native<H: Host>(
         (back_in false (slots_of frames.old)))
         frames.old store.old frames.new store.new result }
 {
-    if number >= 5 {
-        return call_library(frames, host, store, line, number - 5, args);
+    if number >= LIBRARY {
+        return call_library(frames, host, store, line, number - LIBRARY, args);
     }
-    if number == 4 || number == 1 {
+    if number == XPCALL || number == TOSTRING {
         return Ok(Flow::Unsupported);
     }
     if !store.count(texts_length(&args) / BYTES_OF_A_STEP) {
@@ -72,9 +83,9 @@ fn call_own(
         → Works S (and_then (own_work S number args.items (callers_at (here frames.old) line) []) (back_in false (slots_of frames.old)))
         frames.old store frames.new store result }
 {
-    if number == 0 {
+    if number == PCALL {
         protected_call(frames, program, line, args)
-    } else if number == 2 {
+    } else if number == ERROR {
         error_call(frames, program, line, args)
     } else {
         assert_call(frames, program, line, args)
