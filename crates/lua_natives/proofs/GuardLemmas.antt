@@ -1,0 +1,99 @@
+-- Protected calls.
+use Rattle.std.specs.Prelude.{◌≡◌, ℕ, ◌<◌, List, [], ◌∷◌, ◌++◌, drop, length, vec_len, nat_eq, Bool, true, false, Result, Ok, Err, OnOk, refl}
+use Rattle.std.proofs.Common.{sym, ◌∙◌, ap, subst, arith, Vec, Global}
+use Rattle.std.proofs.lemmas.Bool.{eqb-true, eqb-false}
+use Rattle.lua_values.specs.declared.values.Value.{Value}
+use Rattle.lua_values.specs.Heap.{StoreView}
+use Rattle.lua_meaning.specs.Works.{Caller, ACall, Values, Return, Break, Failed, Slots, and_then}
+use Rattle.lua_meaning.specs.Evaluator.{Resume, State, Ending, Ended, Parked, Spent, after}
+use Rattle.lua_meaning.specs.Setting.{Setting}
+use Rattle.lua_meaning.specs.Positions.{callers_at}
+use Rattle.lua_meaning.specs.Signs.{first}
+use Rattle.lua_meaning.specs.Calls.{call_end, calling}
+use Rattle.lua_meaning.specs.ProtectedCalls.{protected, pcall_work}
+use Rattle.lua_meaning.specs.Nodes.{eval}
+use Rattle.lua_frames_base.specs.declared.flow.Flow.{Flow}
+use Rattle.lua_frames_base.specs.declared.frames.Frame.{Frame}
+use Rattle.lua_frames_base.specs.declared.frames.Kind.{Kind}
+use Rattle.lua_frames_base.specs.declared.frames.Kind.TheVariants.{Guard}
+use Rattle.lua_frames_base.specs.declared.items.Item.{Item}
+use Rattle.lua_frames_base.specs.declared.items.Item.TheVariants as i
+use Rattle.lua_frames_base.specs.declared.stack.Stack.{Stack}
+use Rattle.lua_frames_base.specs.declared.threads.Frames.{Frames}
+use Rattle.lua_frames_base.specs.Around.{is_lua, places_of}
+use Rattle.lua_frames_base.specs.Frames.{closed, back, finish_items, finish_from, finish, here, slots_of, working}
+use Rattle.lua_frames_base.specs.Follows.{Follows, Works}
+use Rattle.lua_frames_base.specs.Changes.{Ends, Pushes}
+use Rattle.lua_frames_base.proofs.FollowLemmas.{ends_finish}
+use Rattle.lua_frames_base.proofs.CallLemmas.{push_finish}
+use Rattle.lua_calls.specs.CallEnds.{back_in}
+use Rattle.lua_natives.specs.NativeParts.{Guards}
+
+-- how a call in a guarded frame ends for the caller
+guarded : (S : Setting) (around : List Caller) (o : Ending) (s s' : Slots) → back s (closed S Guard around (after o (λ sign s'' w. Ended (call_end sign) s' w))) ≡ after o (λ sign s'' w. Ended (Values (protected (call_end sign))) s w)
+guarded S around (Ended (Values vs) s'' w) s s' = refl
+guarded S around (Ended (Return vs) s'' w) s s' = refl
+guarded S around (Ended Break s'' w) s s' = refl
+guarded S around (Ended (Failed v) s'' w) s s' = refl
+guarded S around (Parked number args position store) s s' = refl
+guarded S around Spent s s' = refl
+
+-- a protected call begins in its frame
+pub guard_works : {E : Type 0} (S : Setting) (line : ℕ) (f : Value) (given args : List Value) (old mid new : Frames) (store : StoreView) (r : Result Flow E)
+    → given ≡ f ∷ args → Guards line old f args mid → Ends (Values []) mid new r → Works S (and_then (pcall_work S given (callers_at (here old) line) []) (back_in false (slots_of old))) old store new store r
+guard_works S line f given args old mid new store (Err x) e h w = record { follows = tt }
+guard_works S line f given args old mid new store (Ok t) e h w =
+    record { follows = subst (λ (t' : Flow). Follows S (working S (and_then (pcall_work S given (callers_at (here old) line) []) (back_in false (slots_of old))) old store) store new t') (sym w.went) (λ rs. same rs) }
+  where
+    callers : List Caller
+    callers = callers_at (here old) line
+
+    kept : Vec Value Global
+    kept = h.items.0
+
+    state : List Resume → State
+    state rs = record { store = store; resumes = rs }
+
+    called : List Value → List Resume → Ending
+    called vs rs = after (eval S (ACall f vs) (calling callers false) [] (state rs)) (λ sign s'' w'. Ended (call_end sign) (slots_of mid) w')
+
+    framed : (rs : List Resume) → closed S h.frame.kind callers (finish_items S (places_of callers h.frame) h.frame.items.items (Ended (Values []) (slots_of mid) (state rs))) ≡ closed S Guard callers (called args rs)
+    framed rs =
+        ap (λ (items : List Item). closed S h.frame.kind callers (finish_items S (places_of callers h.frame) items (Ended (Values []) (slots_of mid) (state rs)))) h.items.2
+        ∙ ap (λ (k : Kind). closed S k callers (after (eval S (ACall f kept.items) (calling (callers_at (record (places_of callers h.frame) { lua = is_lua k }) 0) false) [] (state rs)) (λ sign s'' w'. Ended (call_end sign) (slots_of mid) w'))) h.kind
+        ∙ ap (λ (vs : List Value). closed S Guard callers (called vs rs)) h.items.1
+
+    same : (rs : List Resume) → working S (and_then (pcall_work S given callers []) (back_in false (slots_of old))) old store rs ≡ finish S new (state rs)
+    same rs =
+        ap (λ (vs : List Value). working S (and_then (pcall_work S vs callers []) (back_in false (slots_of old))) old store rs) e
+        ∙ ap (finish_from S old) (sym (ap (back (slots_of old)) (framed rs) ∙ guarded S callers (eval S (ACall f args) (calling callers false) [] (state rs)) (slots_of old) (slots_of mid)))
+        ∙ sym (push_finish S line old h.frame mid h.pushes (Ended (Values []) (slots_of mid) (state rs)))
+        ∙ sym (ends_finish S (Values []) mid new store (Ok t) w rs)
+
+-- the frame of a protected call that was pushed
+pub guards : {E : Type 0} (line : ℕ) (old mid : Frames) (frame : Frame) (new : Frames) (f : Value) (kept : Vec Value Global) (args : List Value) (r : Result Unit E)
+    → OnOk r (Pushes line mid frame new) → mid.below ≡ old.below → mid.top ≡ old.top → frame.kind ≡ Guard → kept.items ≡ args → frame.items.items ≡ i.Call 0 f kept ∷ [] → OnOk r (Guards line old f args new)
+guards line old mid frame new f kept args (Ok x) h b t k a it =
+    record {
+      frame = frame;
+      pushes = record { below = h.below ∙ ap (λ (s : Stack). s.frames.items ++ (record mid.top { line = line }) ∷ []) b ∙ ap (λ (top : Frame). old.below.frames.items ++ (record top { line = line }) ∷ []) t; top = h.top };
+      kind = k;
+      items = (kept, a, it);
+    }
+guards line old mid frame new f kept args (Err x) h b t k a it = tt
+
+-- the first of some values, and the others
+pub parted : (vs : List Value) (v : Value) (others : List Value) → 0 < length vs → v ≡ first vs → others ≡ drop 1 vs → vs ≡ v ∷ others
+parted [] v others some e d = absurd (omega (arith, some))
+parted (x ∷ vs) v others some e d = rw (e, d) refl
+
+-- whether a vector has items, by a test that was made
+pub no_items : (t : Bool) (v : Vec Value Global) → t ≡ nat_eq (vec_len v) 0 → t ≡ true → v.items ≡ []
+no_items t v e h = none v.items (omega (arith, v.ok, eqb-true (vec_len v) 0 (sym e ∙ h)))
+  where
+    none : (vs : List Value) → length vs ≡ 0 → vs ≡ []
+    none [] z = refl
+    none (x ∷ vs) z = absurd (omega (arith, z))
+
+pub some_items : (t : Bool) (v : Vec Value Global) → t ≡ nat_eq (vec_len v) 0 → t ≡ false → 0 < length v.items
+some_items t v e h = omega (arith, v.ok, eqb-false (vec_len v) 0 (sym e ∙ h))

@@ -1,0 +1,5 @@
+pub mod NativeLemmas
+pub mod CountLemmas
+pub mod EnterLemmas
+pub mod GuardLemmas
+pub mod ErrorLemmas

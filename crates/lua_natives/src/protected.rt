@@ -1,0 +1,61 @@
+//! `pcall` (Lua 5.1 Reference Manual, 5.1).
+
+ghost use Rattle.std.specs.Prelude.{◌≡◌, [], false, OnOk};
+ghost use Rattle.lua_values.specs.Heap.{StoreView};
+ghost use Rattle.lua_meaning.specs.Setting.{Setting};
+ghost use Rattle.lua_meaning.specs.Works.{and_then};
+ghost use Rattle.lua_meaning.specs.Positions.{callers_at};
+ghost use Rattle.lua_meaning.specs.ProtectedCalls.{pcall_work};
+ghost use Rattle.lua_frames_base.specs.Frames.{here, slots_of};
+ghost use Rattle.lua_frames_base.specs.Follows.{Works};
+ghost use Rattle.lua_calls.specs.CallEnds.{back_in};
+ghost use Rattle.lua_natives.specs.NativeParts.{Guards};
+
+use crate::arguments::{raise_missing, take};
+use lua_ast::Program;
+use lua_frames_base::{Flow, Frame, Frames, Item, Kind, give_nothing, push_frame};
+use lua_values::Value;
+use std::alloc::AllocError;
+
+/// `pcall`: a call in a frame whose end is told as values.
+pub(crate) fn protected_call(
+    frames: &mut Frames,
+    program: &Program,
+    line: u32,
+    args: Vec<Value>,
+) -> Result<Flow, AllocError>
+    ensures { (S : Setting) → (store : StoreView) → S.program ≡ program.now
+        → Works S (and_then (pcall_work S args.items (callers_at (here frames.old) line) []) (back_in false (slots_of frames.old)))
+        frames.old store frames.new store result }
+{
+    let mut args = args;
+    if args.is_empty() {
+        return raise_missing(frames, program, line, 1, b"pcall");
+    }
+    let function = take(&mut args);
+    push_guard(frames, line, function, args)?;
+    give_nothing(frames)
+}
+
+/// The frame of `pcall`, whose call hasn't begun.
+fn push_guard(
+    frames: &mut Frames,
+    line: u32,
+    function: Value,
+    args: Vec<Value>,
+) -> Result<(), AllocError>
+    ensures { OnOk result (Guards line frames.old function args.items frames.new) }
+{
+    let mut items = frames.lists.items.fresh();
+    items.push(Item::Call(0, function, args))?;
+    let frame = Frame {
+        kind: Kind::Guard,
+        function: 0,
+        line: 0,
+        cells: frames.lists.cells.fresh(),
+        extras: frames.lists.values.fresh(),
+        slots: frames.lists.slots.fresh(),
+        items,
+    };
+    push_frame(frames, line, frame)
+}
