@@ -1,0 +1,6 @@
+pub mod StatementForms
+pub mod AssignLemmas
+pub mod AssignAllLemmas
+pub mod LocalLemmas
+pub mod TargetLemmas
+pub mod ReturnForms

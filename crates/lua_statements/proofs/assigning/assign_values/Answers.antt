@@ -1,0 +1,43 @@
+use Rattle.std.proofs.Common.{◌≡◌, ◌∙◌, ap, sym, refl, arith, ℕ, length}
+use Rattle.std.specs.Prelude.{slice_get, slice_set}
+use Rattle.lua_values.specs.declared.values.Value.TheVariants.{Nil}
+use Rattle.lua_meaning.specs.Signs.{or_nil}
+use Rattle.lua_meaning.specs.Assignments.{assign_to}
+use Rattle.lua_frames_base.specs.Items.{target_of}
+use Rattle.lua_frames_base.specs.Frames.{here, slots_of}
+use Rattle.lua_nodes.proofs.DropLemmas.{counted, dropped_all}
+use Rattle.lua_nodes.proofs.MovedLemmas.{kept_on}
+use Rattle.lua_statements.specs.Assignments.{Assigns}
+use Rattle.lua_statements.proofs.AssignLemmas.{assigns_of, stops_at}
+use Rattle.lua_statements.proofs.AssignAllLemmas.{fewer_by_one, fault_ends, none_left}
+use Rattle.lua_statements.proofs.assigning.assign_values.Goals as goal
+
+pub returns-then-has_failed : goal.returns-then-has_failed
+returns-then-has_failed c = λ S e.
+    let count : c.len.result ≡ length c.pop.new.self.items = counted c.len.result c.pop.new.self c.pop.new.self c.len.ensures refl in
+    let done : Assigns S (assign_to S (target_of c.in-Some.target) c.take_value-value.result (here c.loop-target.frames) (slots_of c.loop-target.frames)) c.loop-target.frames c.loop-target.store c.assign_to.new.frames c.assign_to.new.store =
+    assigns_of S _ c.loop-target.frames c.assign_to.new.frames c.loop-target.store c.assign_to.new.store c.assign_to.result _ (c.assign_to.ensures S e) c.in_ok-flow.was c.in-Went.is in
+    fault_ends S c.args.targets.items c.pop.new.self.items c.loop-target.targets.items c.in-Some.target c.args.values.items c.loop-target.values.items c.take_value-value.result c.args.frames.now c.loop-target.frames c.assign_to.new.frames c.args.store.now c.loop-target.store c.assign_to.new.store
+    ((c.loop-target.invariant S e).0) ((c.loop-target.invariant S e).1) c.in-Some.ensures.items (c.take_value-value.ensures.value ∙ ap (λ (n : ℕ). or_nil (slice_get c.loop-target.values.items n)) count) done (sym c.has_failed.ensures ∙ c.if-has_failed.true)
+
+pub loop-target-preserved : goal.loop-target-preserved
+loop-target-preserved c = λ S e.
+    let count : c.len.result ≡ length c.pop.new.self.items = counted c.len.result c.pop.new.self c.pop.new.self c.len.ensures refl in
+    let done : Assigns S (assign_to S (target_of c.in-Some.target) c.take_value-value.result (here c.loop-target.frames) (slots_of c.loop-target.frames)) c.loop-target.frames c.loop-target.store c.assign_to.new.frames c.assign_to.new.store =
+    assigns_of S _ c.loop-target.frames c.assign_to.new.frames c.loop-target.store c.assign_to.new.store c.assign_to.result _ (c.assign_to.ensures S e) c.in_ok-flow.was c.in-Went.is in (
+      kept_on c.args.frames.now c.loop-target.frames c.assign_to.new.frames ((c.loop-target.invariant S e).0) done.keeps,
+      fewer_by_one S c.args.targets.items c.pop.new.self.items c.loop-target.targets.items c.in-Some.target c.args.values.items c.loop-target.values.items c.take_value-value.new.values.items c.take_value-value.result c.args.frames.now c.loop-target.frames c.assign_to.new.frames c.args.store.now c.loop-target.store c.assign_to.new.store
+          ((c.loop-target.invariant S e).0) ((c.loop-target.invariant S e).1) c.in-Some.ensures.items (c.take_value-value.ensures.value ∙ ap (λ (n : ℕ). or_nil (slice_get c.loop-target.values.items n)) count)
+          (c.take_value-value.ensures.left ∙ ap (λ (n : ℕ). slice_set c.loop-target.values.items n Nil) count) done (sym c.has_failed.ensures ∙ c.if-has_failed.false),
+    )
+
+pub returns-in_default-2 : goal.returns-in_default-2
+returns-in_default-2 c = λ S e.
+    stops_at S _ (assign_to S (target_of c.in-Some.target) c.take_value-value.result (here c.loop-target.frames) (slots_of c.loop-target.frames)) c.args.frames.now c.loop-target.frames c.assign_to.new.frames c.args.store.now c.loop-target.store c.assign_to.new.store c.assign_to.result c.in_ok-flow.flow
+    (c.assign_to.ensures S e) c.in_ok-flow.was c.in_default-2.not-Went
+
+pub returns : goal.returns
+returns c = λ S e.
+    let none : 0 ≡ length c.loop-target.targets.items = counted 0 c.loop-target.targets c.loop-target.targets (sym c.in_default.ensures.cases.0) refl in
+    none_left S c.args.targets.items c.loop-target.targets.items c.args.values.items c.loop-target.values.items c.args.frames.now c.loop-target.frames c.give_nothing.new.frames c.args.store.now c.loop-target.store c.give_nothing.result
+    ((c.loop-target.invariant S e).0) ((c.loop-target.invariant S e).1) (dropped_all c.loop-target.targets.items 0 (omega (arith, none))) c.give_nothing.ensures

@@ -1,0 +1,14 @@
+//! Statements of the machine: how they begin, and how assignments end.
+#![tactic(auto)]
+
+mod assigning;
+mod faults;
+mod functions;
+mod locals;
+mod returns;
+mod statements;
+mod targets;
+
+pub use assigning::{assign_slot, assign_values};
+pub use locals::{put_plain, set_locals};
+pub use statements::{begin_arm, enter_stmt};
