@@ -1,0 +1,71 @@
+use Rattle.lua_frames.proofs.FrameForms.{as_item}
+use Rattle.lua_frames.proofs.applying.apply.Goals as goal
+
+pub returns-in-Call : goal.returns-in-Call
+returns-in-Call g c = as_item (g.H.Host.setting c.args.host.now) c.args.item _ c.args.frames.now c.call.new.frames c.args.store.now c.call.new.store c.call.result c.in-Call.is c.call.ensures
+
+pub returns-in-Right : goal.returns-in-Right
+returns-in-Right g c = as_item (g.H.Host.setting c.args.host.now) c.args.item _ c.args.frames.now c.right.new.frames c.args.store.now c.right.new.store c.right.result c.in-Right.is c.right.ensures
+
+pub returns-in-Operate : goal.returns-in-Operate
+returns-in-Operate g c = as_item (g.H.Host.setting c.args.host.now) c.args.item _ c.args.frames.now c.binary.new.frames c.args.store.now c.binary.new.store c.binary.result c.in-Operate.is c.binary.ensures
+
+pub returns-in-Unary : goal.returns-in-Unary
+returns-in-Unary g c = as_item (g.H.Host.setting c.args.host.now) c.args.item _ c.args.frames.now c.unary.new.frames c.args.store.now c.unary.new.store c.unary.result c.in-Unary.is c.unary.ensures
+
+pub returns-in-AndThen : goal.returns-in-AndThen
+returns-in-AndThen g c = as_item (g.H.Host.setting c.args.host.now) c.args.item _ c.args.frames.now c.and_then.new.frames c.args.store.now c.and_then.new.store c.and_then.result c.in-AndThen.is c.and_then.ensures
+
+pub returns-in-OrElse : goal.returns-in-OrElse
+returns-in-OrElse g c = as_item (g.H.Host.setting c.args.host.now) c.args.item _ c.args.frames.now c.or_else.new.frames c.args.store.now c.or_else.new.store c.or_else.result c.in-OrElse.is c.or_else.ensures
+
+pub returns-in-First : goal.returns-in-First
+returns-in-First g c = as_item (g.H.Host.setting c.args.host.now) c.args.item _ c.args.frames.now c.first.new.frames c.args.store.now c.args.store.now c.first.result c.in-First.is (c.first.ensures (g.H.Host.setting c.args.host.now) c.args.store.now)
+
+pub returns-in-Callee : goal.returns-in-Callee
+returns-in-Callee g c = as_item (g.H.Host.setting c.args.host.now) c.args.item _ c.args.frames.now c.callee.new.frames c.args.store.now c.callee.new.store c.callee.result c.in-Callee.is c.callee.ensures
+
+pub returns-in-Arguments : goal.returns-in-Arguments
+returns-in-Arguments g c = as_item (g.H.Host.setting c.args.host.now) c.args.item _ c.args.frames.now c.arguments.new.frames c.args.store.now c.arguments.new.store c.arguments.result c.in-Arguments.is c.arguments.ensures
+
+pub returns-in-Key : goal.returns-in-Key
+returns-in-Key g c = as_item (g.H.Host.setting c.args.host.now) c.args.item _ c.args.frames.now c.key.new.frames c.args.store.now c.key.new.store c.key.result c.in-Key.is c.key.ensures
+
+pub returns-in-More : goal.returns-in-More
+returns-in-More g c = as_item (g.H.Host.setting c.args.host.now) c.args.item _ c.args.frames.now c.go_on_with_list.new.frames c.args.store.now c.go_on_with_list.new.store c.go_on_with_list.result c.in-More.is c.go_on_with_list.ensures
+
+pub returns-in-Locals : goal.returns-in-Locals
+returns-in-Locals g c = as_item (g.H.Host.setting c.args.host.now) c.args.item _ c.args.frames.now c.locals.new.frames c.args.store.now c.args.store.now c.locals.result c.in-Locals.is (c.locals.ensures (g.H.Host.setting c.args.host.now) c.args.store.now)
+
+pub returns-in-Discard : goal.returns-in-Discard
+returns-in-Discard g c = as_item (g.H.Host.setting c.args.host.now) c.args.item _ c.args.frames.now c.discard.new.frames c.args.store.now c.args.store.now c.discard.result c.in-Discard.is (c.discard.ensures (g.H.Host.setting c.args.host.now) c.args.store.now)
+
+pub returns-in-Return : goal.returns-in-Return
+returns-in-Return g c = as_item (g.H.Host.setting c.args.host.now) c.args.item _ c.args.frames.now c.return_given.new.frames c.args.store.now c.args.store.now c.return_given.result c.in-Return.is (c.return_given.ensures (g.H.Host.setting c.args.host.now) c.args.store.now)
+
+pub returns-in-TailCallee : goal.returns-in-TailCallee
+returns-in-TailCallee g c = as_item (g.H.Host.setting c.args.host.now) c.args.item _ c.args.frames.now c.tail_callee.new.frames c.args.store.now c.tail_callee.new.store c.tail_callee.result c.in-TailCallee.is c.tail_callee.ensures
+
+pub returns-in-TailArguments : goal.returns-in-TailArguments
+returns-in-TailArguments g c = as_item (g.H.Host.setting c.args.host.now) c.args.item _ c.args.frames.now c.tail_arguments.new.frames c.args.store.now c.tail_arguments.new.store c.tail_arguments.result c.in-TailArguments.is c.tail_arguments.ensures
+
+pub returns-in-TailReturn : goal.returns-in-TailReturn
+returns-in-TailReturn g c = as_item (g.H.Host.setting c.args.host.now) c.args.item _ c.args.frames.now c.return_called.new.frames c.args.store.now c.args.store.now c.return_called.result c.in-TailReturn.is (c.return_called.ensures (g.H.Host.setting c.args.host.now) c.args.store.now)
+
+pub returns-in-Rest : goal.returns-in-Rest
+returns-in-Rest g c = as_item (g.H.Host.setting c.args.host.now) c.args.item _ c.args.frames.now c.rest.new.frames c.args.store.now c.rest.new.store c.rest.result c.in-Rest.is c.rest.ensures
+
+pub returns-in-Arm : goal.returns-in-Arm
+returns-in-Arm g c = as_item (g.H.Host.setting c.args.host.now) c.args.item _ c.args.frames.now c.arm.new.frames c.args.store.now c.arm.new.store c.arm.result c.in-Arm.is c.arm.ensures
+
+pub returns-in-While : goal.returns-in-While
+returns-in-While g c = as_item (g.H.Host.setting c.args.host.now) c.args.item _ c.args.frames.now c.while_test.new.frames c.args.store.now c.while_test.new.store c.while_test.result c.in-While.is (c.while_test.ensures (g.H.Host.setting c.args.host.now))
+
+pub returns-in-Turned : goal.returns-in-Turned
+returns-in-Turned g c = as_item (g.H.Host.setting c.args.host.now) c.args.item _ c.args.frames.now c.turned.new.frames c.args.store.now c.turned.new.store c.turned.result c.in-Turned.is c.turned.ensures
+
+pub returns-in-Assign : goal.returns-in-Assign
+returns-in-Assign g c = as_item (g.H.Host.setting c.args.host.now) c.args.item _ c.args.frames.now c.assign.new.frames c.args.store.now c.assign.new.store c.assign.result c.in-Assign.is c.assign.ensures
+
+pub returns : goal.returns
+returns g c = as_item (g.H.Host.setting c.args.host.now) c.args.item _ c.args.frames.now c.assign_to_slot.new.frames c.args.store.now c.assign_to_slot.new.store c.assign_to_slot.result c.in-AssignSlot.is c.assign_to_slot.ensures
