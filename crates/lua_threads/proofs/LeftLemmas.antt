@@ -1,0 +1,42 @@
+-- What is left of a thread that was resumed.
+use Rattle.std.specs.Prelude.{◌≡◌, ◌≤◌, ◌<◌, nat_lt, List, Bool, true, false, if◌then◌else◌, Option, Result, IfOk, refl}
+use Rattle.std.proofs.Common.{sym, subst, arith}
+use Rattle.std.proofs.lemmas.Bool.{ltb-false}
+use borrow.Author.Tests.{ltb-true}
+use Rattle.lua_ast.specs.declared.programs.Program.{Program}
+use Rattle.lua_values.specs.Heap.{StoreView, step_limit}
+use Rattle.lua_meaning.specs.declared.positions.Position.{Position}
+use Rattle.lua_meaning.specs.declared.resumes.Resumed.{Resumed}
+use Rattle.lua_meaning.specs.Evaluator.{Resume, Spent}
+use Rattle.lua_meaning.specs.Setting.{Setting}
+use Rattle.lua_meaning.specs.Life.{Outcome}
+use Rattle.lua_frames_base.specs.declared.threads.Frames.{Frames}
+use Rattle.lua_frames_base.specs.Frames.{finish, given}
+use Rattle.lua_frames_base.specs.Starting.{Answers}
+use Rattle.lua_threads.specs.declared.threads.Slice.{Slice}
+use Rattle.lua_threads.specs.declared.threads.Stage.TheVariants as stage
+use Rattle.lua_threads.specs.Left.{resumed_at, IsOutcome}
+
+-- the same outcome in another form
+pub comes_as : {E : Type 0} (S : Setting) (o same : Outcome) (rs : List Resume) (store : StoreView) (r : Result Slice E) → o ≡ same → IfOk r (λ s. IsOutcome S same rs store s) → IfOk r (λ s. IsOutcome S o rs store s)
+comes_as S o same rs store r e h = subst (λ (t : Outcome). IfOk r (λ s. IsOutcome S t rs store s)) (sym e) h
+
+-- its call is answered, and it goes on
+pub answer_goes : (S : Setting) (program : Program) (position : Option Position) (answer : Resumed) (old new : Frames) (store : StoreView) (rs : List Resume)
+    → S.program ≡ program → Answers program position answer old new → finish S new (record { store = store; resumes = rs }) ≡ given S old position answer (record { store = store; resumes = rs })
+answer_goes S program position answer old new store rs is h = rw (h.below, h.top, h.given S is) refl
+
+pub steps_left : (S : Setting) (fs : Frames) (position : Option Position) (r : Resume) (rs : List Resume) → r.store.steps < step_limit
+    → resumed_at S fs (stage.Parked position) r rs ≡ given S fs position r.answer (record { store = r.store; resumes = rs })
+steps_left S fs position r rs few = by_test (nat_lt r.store.steps step_limit) refl
+  where
+    by_test : (t : Bool) → nat_lt r.store.steps step_limit ≡ t → (if t then given S fs position r.answer (record { store = r.store; resumes = rs }) else Spent) ≡ given S fs position r.answer (record { store = r.store; resumes = rs })
+    by_test true e = refl
+    by_test false e = absurd (omega (arith, ltb-false _ _ e, few))
+
+pub no_steps_left : (S : Setting) (fs : Frames) (position : Option Position) (r : Resume) (rs : List Resume) → step_limit ≤ r.store.steps → resumed_at S fs (stage.Parked position) r rs ≡ Spent
+no_steps_left S fs position r rs none = by_test (nat_lt r.store.steps step_limit) refl
+  where
+    by_test : (t : Bool) → nat_lt r.store.steps step_limit ≡ t → (if t then given S fs position r.answer (record { store = r.store; resumes = rs }) else Spent) ≡ Spent
+    by_test true e = absurd (omega (arith, ltb-true _ _ e, none))
+    by_test false e = refl

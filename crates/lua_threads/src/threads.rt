@@ -1,0 +1,136 @@
+//! Threads.
+
+ghost use Rattle.std.specs.Prelude.{List, IfOk};
+ghost use Rattle.lua_values.specs.Heap.{StoreView};
+ghost use Rattle.lua_meaning.specs.Evaluator.{Resume, Ending};
+ghost use Rattle.lua_meaning.specs.Setting.{Setting};
+ghost use Rattle.lua_meaning.specs.Life.{outcome_of};
+ghost use Rattle.lua_frames_base.specs.Frames.{finish};
+ghost use Rattle.lua_frames_base.specs.Follows.{Follows, Asks};
+ghost use Rattle.lua_threads.specs.Left.{IsNew, Resumes, IsOutcome};
+
+use crate::ended::{Ended, end_of};
+use lua_frames::run;
+use lua_frames_base::{Flow, Frames, Host, Op, answer, start};
+use lua_meaning::{Position, Resumed};
+use lua_values::{Store, Value, Values};
+use std::alloc::{AllocError, Global};
+
+/// The most steps of a run.
+const STEP_LIMIT: u64 = 1_000_000;
+
+/// Where a thread stands: it hasn't begun, or it is parked at a call that was made at this position.
+#[derive(Clone, Copy)]
+pub enum Stage {
+    New,
+    Parked(Option<Position>),
+}
+
+/// A thread that hasn't begun, or is parked.
+#[derive(Drop)]
+pub struct Thread {
+    frames: Frames,
+    stage: Stage,
+}
+
+/// What a resume of a thread comes to.
+#[derive(Drop)]
+pub enum Slice {
+    /// A call is left to the outside, whose answer the thread is resumed with.
+    Parked(Thread, Op),
+    Done(Values),
+    Failed(Value),
+    /// The steps reached 1,000,000.
+    Spent,
+    /// Out of memory.
+    Memory,
+    /// The program came to a part of the language that the machine doesn't run yet.
+    Unsupported,
+}
+
+impl Thread {
+    /// A thread that calls a value with arguments as it is first resumed.
+    pub fn start(alloc: Global, function: Value, args: Values) -> Result<Thread, AllocError>
+        ensures { IfOk result (λ thread. IsNew function args thread) }
+    {
+        Ok(Thread {
+            frames: start(alloc, function, args.into_vec())?,
+            stage: Stage::New,
+        })
+    }
+
+    /// Resumes the thread with what the call at which it is parked gives; the answer to a thread that hasn't begun isn't used.
+    pub fn resume<H: Host>(self, host: &H, store: &mut Store, given: Resumed) -> Slice
+        ensures { (resumes : List Resume) → Resumes (H.setting host.now) self (record { store = store.old; answer = given }) resumes store.new result }
+    {
+        match self.go_on(host, store, given) {
+            Ok(slice) => slice,
+            Err(_) => Slice::Memory,
+        }
+    }
+
+    fn go_on<H: Host>(
+        self,
+        host: &H,
+        store: &mut Store,
+        given: Resumed,
+    ) -> Result<Slice, AllocError>
+        ensures { (resumes : List Resume)
+            → IfOk result (λ slice. Resumes (H.setting host.now) self (record { store = store.old; answer = given }) resumes store.new slice) }
+    {
+        let Thread { frames, stage } = self;
+        match stage {
+            Stage::New => run_on(frames, host, store),
+            Stage::Parked(position) => {
+                if store.steps() >= STEP_LIMIT {
+                    return Ok(Slice::Spent);
+                }
+                let mut frames = frames;
+                answer(&mut frames, host.program(), position, given)?;
+                run_on(frames, host, store)
+            }
+        }
+    }
+}
+
+/// Runs frames until they ask, end or have spent their steps.
+fn run_on<H: Host>(frames: Frames, host: &H, store: &mut Store) -> Result<Slice, AllocError>
+    ensures { (resumes : List Resume) → IfOk result (λ slice. IsOutcome (H.setting host.now)
+        (outcome_of (finish (H.setting host.now) frames (record { store = store.old; resumes = resumes }))) resumes store.new slice) }
+{
+    let mut frames = frames;
+    let flow = run(&mut frames, host, store)?;
+    slice_of(frames, flow)
+}
+
+/// What frames came to that were run.
+fn slice_of(frames: Frames, flow: Flow) -> Result<Slice, AllocError>
+    ensures { (S : Setting) → (o : List Resume → Ending) → (store : StoreView) → Follows S o store frames flow → (resumes : List Resume)
+        → IfOk result (λ slice. IsOutcome S (outcome_of (o resumes)) resumes store slice) }
+{
+    let mut frames = frames;
+    match flow {
+        Flow::Asked => Ok(parked(frames)),
+        Flow::Spent => Ok(Slice::Spent),
+        Flow::Over => match end_of(frames.alloc, frames.given)? {
+            Ended::Done(values) => Ok(Slice::Done(values)),
+            Ended::Failed(value) => Ok(Slice::Failed(value)),
+        },
+        Flow::Went | Flow::Unsupported => Ok(Slice::Unsupported),
+    }
+}
+
+/// A thread that is parked at what its frames ask.
+fn parked(frames: Frames) -> Slice
+    ensures { (S : Setting) → (o : List Resume → Ending) → (store : StoreView) → Asks S o store frames frames.asked → (resumes : List Resume)
+        → IsOutcome S (outcome_of (o resumes)) resumes store result }
+{
+    let mut frames = frames;
+    match frames.asked.take() {
+        None => Slice::Unsupported,
+        Some(op) => {
+            let stage = Stage::Parked(op.position);
+            Slice::Parked(Thread { frames, stage }, op)
+        }
+    }
+}
