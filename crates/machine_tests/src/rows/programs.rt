@@ -153,7 +153,7 @@ pub fn outcome_after(
     };
     let mut thread = Thread::start(alloc, Value::Closure(0), Values::of(Vec::new(alloc)))?;
     let mut given = Resumed::Values(Values::of(Vec::new(alloc)));
-    let mut next = 0;
+    let mut answers = answers.iter();
     for _ in 0..100 {
         match thread.resume(&host, &mut store, given) {
             Slice::Parked(parked, op) => {
@@ -165,11 +165,10 @@ pub fn outcome_after(
                 show_number(&mut shown, store.steps() as i64)?;
                 shown.push_str("; ")?;
                 thread = parked;
-                given = match answers.get(next) {
+                given = match answers.next() {
                     None => Resumed::Values(Values::of(Vec::new(alloc))),
                     Some(answer) => resumed(alloc, answer)?,
                 };
-                next += 1;
             }
             Slice::Done(values) => {
                 shown.push_str("Done ")?;
@@ -205,5 +204,5 @@ fn show_counts(text: &mut String, store: &Store, before: u64) -> Result<(), Allo
     text.push_str(" | ")?;
     show_number(text, store.steps() as i64)?;
     text.push_str(", ")?;
-    show_number(text, (store.units() - before) as i64)
+    show_number(text, store.units().wrapping_sub(before) as i64)
 }
