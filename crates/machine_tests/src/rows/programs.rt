@@ -59,6 +59,12 @@ fn show_number(text: &mut String, n: i64) -> Result<(), AllocError> {
     text.push_str(buffer.format(n))
 }
 
+/// Writes a count.
+fn show_count(text: &mut String, n: u64) -> Result<(), AllocError> {
+    let mut buffer = itoa::Buffer::new();
+    text.push_str(buffer.format(n))
+}
+
 fn show_text(text: &mut String, bytes: &Bytes) -> Result<(), AllocError> {
     text.push_str("\"")?;
     for byte in bytes.as_slice() {
@@ -162,7 +168,7 @@ pub fn outcome_after(
                 shown.push_str(": ")?;
                 show_all(&mut shown, op.args.as_slice())?;
                 shown.push_str(") at ")?;
-                show_number(&mut shown, store.steps() as i64)?;
+                show_count(&mut shown, store.steps())?;
                 shown.push_str("; ")?;
                 thread = parked;
                 given = match answers.next() {
@@ -202,7 +208,7 @@ pub fn outcome_after(
 /// Writes the steps, and the units since the beginning.
 fn show_counts(text: &mut String, store: &Store, before: u64) -> Result<(), AllocError> {
     text.push_str(" | ")?;
-    show_number(text, store.steps() as i64)?;
+    show_count(text, store.steps())?;
     text.push_str(", ")?;
-    show_number(text, store.units().wrapping_sub(before) as i64)
+    show_count(text, store.units().saturating_sub(before))
 }
