@@ -14,7 +14,7 @@ use Rattle.resty.specs.Due.{IsDue}
 use Rattle.resty.specs.Ending.{status_of}
 use Rattle.resty.specs.Ends.{AreOfOneStatus, IsStatusBy, IsJudged, IsComplete, IsDoneOr, FailedToRead, HasBadLine}
 use Rattle.resty.specs.Outside.{Outside}
-use Rattle.resty.specs.Verdict.{Verdict, Usage, Missing, TooLong, NotBuilt, BadLine, Runs, Serves, IsOf, IsVerdict, ending_of}
+use Rattle.resty.specs.Verdict.{Verdict, Usage, Missing, TooLong, Refused, NotBuilt, BadLine, Checks, Runs, Serves, IsOf, IsVerdict, ending_of}
 use Rattle.resty.specs.Words.{Command, Says, IsForm}
 use Rattle.resty.proofs.Names.{weaker_some}
 
@@ -23,7 +23,9 @@ pub verdict_of : (words : List (List ℕ)) (c : Command) → Says words c → (h
 verdict_of words c says held Usage of = absurd of
 verdict_of words c says held (Missing w) of = (c, says, of)
 verdict_of words c says held (TooLong w) of = (c, says, of)
+verdict_of words c says held (Refused fault) of = (c, says, of)
 verdict_of words c says held (NotBuilt w n) of = (c, says, of)
+verdict_of words c says held Checks of = (c, says, of)
 verdict_of words c says held (BadLine n) of = (c, says, of)
 verdict_of words c says held (Runs body lines) of = (c, says, of)
 verdict_of words c says held (Serves body) of = (c, says, of)
@@ -54,13 +56,15 @@ module _ (one : AreOfOneStatus) (words : List (List ℕ)) (c : Command) (says : 
   judged_by (ending.TooLong w) d v is = inl (by d.0 (ending.TooLong w) d.1 d.2 v is)
   judged_by (ending.Unreadable named.Conf) d v is = inr (c, named.Conf, says, d)
   judged_by (ending.Unreadable named.Schedule) d v is = inr (c, named.Schedule, says, d.1)
+  judged_by (ending.Refused fault) d v is = by d.0 (ending.Refused fault) d.1 d.2 v is
   judged_by (ending.NotBuilt named.Conf n) d v is = by d.0 (ending.NotBuilt named.Conf n) d.1 d.2 v is
   judged_by (ending.NotBuilt named.Schedule n) d v is = inl (by d.0 (ending.NotBuilt named.Schedule n) d.1 d.2 v is)
   judged_by (ending.BadLine n) d v is = inl (by d.0 (ending.BadLine n) d.1 d.2 v is)
   judged_by (ending.NoSuchId n) d v is = inr (by (Serves d.2.0) ending.Done d.2.1 refl v is, (n, d.1))
   judged_by ending.WorldFault d v is = (by (Serves d.2.0) ending.Done d.2.1 refl v is, d.1)
-  judged_by ending.EventsSpent d v is = by d.1.0 ending.Done d.1.1 (sym d.1.2) v is
-  judged_by ending.NotWritten d v is = (by (Runs d.2.0 d.2.1) ending.Done d.2.2 refl v is, d.1)
+  judged_by ending.EventsSpent d v is = by d.2.0 ending.Done d.2.1 (sym d.2.2) v is
+  judged_by ending.NotWritten d v is =
+      (elim d.2 [ inl checks ↦ by Checks ending.Done checks refl v is | inr runs ↦ by (Runs runs.0 runs.1) ending.Done runs.2 refl v is ], d.1)
   judged_by ending.Memory d v is = tt
 
 judged_told : AreOfOneStatus → (words : List (List ℕ)) (c : Command) → Says words c → (told : Option FileMap) (faults : List ℕ → ℕ) (live : Book) (out : Account) (new : Outside) (e : Ending)

@@ -17,8 +17,13 @@ no_items (x ∷ xs) none = absurd (omega arith)
 
 -- modes have different names
 pub same_mode : (m n : Mode) → mode_name m ≡ mode_name n → m ≡ n
+same_mode mode.Check mode.Check e = refl
 same_mode mode.Replay mode.Replay e = refl
 same_mode mode.Serve mode.Serve e = refl
+same_mode mode.Check mode.Replay e = absurd (let no : codes "check" ≡ codes "replay" = e in cc)
+same_mode mode.Check mode.Serve e = absurd (let no : codes "check" ≡ codes "serve" = e in cc)
+same_mode mode.Replay mode.Check e = absurd (let no : codes "replay" ≡ codes "check" = e in cc)
+same_mode mode.Serve mode.Check e = absurd (let no : codes "serve" ≡ codes "check" = e in cc)
 same_mode mode.Replay mode.Serve e = absurd (let no : codes "replay" ≡ codes "serve" = e in cc)
 same_mode mode.Serve mode.Replay e = absurd (let no : codes "serve" ≡ codes "replay" = e in cc)
 

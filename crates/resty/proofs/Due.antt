@@ -5,13 +5,16 @@ use Rattle.resty_world.specs.declared.schedule_line.SchedLine.{SchedLine}
 use Rattle.schedule_text.specs.Accepted.{IsRefusedAt}
 use Rattle.schedule_text.specs.LineTexts.{line_text, whole_line, schedule_text}
 use Rattle.strand.specs.Configuration.{IsFaultAt}
+use Rattle.site_check.specs.Sites.{IsSite, IsSiteFault}
+use Rattle.site_check.specs.declared.faults.CheckFault.{CheckFault}
+use Rattle.site_check.specs.declared.faults.CheckFault.TheVariants.{Conf, Lex, Parse, Memory}
 use Rattle.resty.specs.declared.command_line.Mode.TheVariants as mode
 use Rattle.resty.specs.declared.endings.Named.TheVariants as named
 use Rattle.resty.specs.declared.endings.Ending.{Ending}
 use Rattle.resty.specs.declared.endings.Ending.TheVariants as ending
 use Rattle.resty.specs.Form.{IsUnserved}
-use Rattle.resty.specs.Reading.{IsUnread, EndsReading, OfSchedule}
-use Rattle.resty.specs.Verdict.{Verdict, Missing, TooLong, NotBuilt, BadLine, Holds, IsOf, ending_of, most_of}
+use Rattle.resty.specs.Reading.{IsUnread, EndsReading, OfSchedule, refusal}
+use Rattle.resty.specs.Verdict.{Verdict, Missing, TooLong, Refused, NotBuilt, BadLine, Checks, Holds, TakesLiteral, IsOf, ending_of, most_of}
 use Rattle.resty.specs.Words.{Command}
 use Rattle.resty.proofs.Names.{weaker_some}
 
@@ -22,6 +25,7 @@ conf_unread c old new (ending.Unreadable w) u = u
 conf_unread c old new ending.Memory u = tt
 conf_unread c old new ending.Done u = absurd u
 conf_unread c old new ending.Usage u = absurd u
+conf_unread c old new (ending.Refused fault) u = absurd u
 conf_unread c old new (ending.NotBuilt w n) u = absurd u
 conf_unread c old new (ending.BadLine n) u = absurd u
 conf_unread c old new (ending.NoSuchId n) u = absurd u
@@ -37,6 +41,7 @@ module _ (c : Command) (on : c.mode ≡ mode.Replay) where
   schedule_unread old new ending.Memory u = tt
   schedule_unread old new ending.Done u = absurd u
   schedule_unread old new ending.Usage u = absurd u
+  schedule_unread old new (ending.Refused fault) u = absurd u
   schedule_unread old new (ending.NotBuilt w n) u = absurd u
   schedule_unread old new (ending.BadLine n) u = absurd u
   schedule_unread old new (ending.NoSuchId n) u = absurd u
@@ -56,10 +61,28 @@ module _ (c : Command) (on : c.mode ≡ mode.Replay) where
   schedule_unserved text (Some held) n holds unserved = (NotBuilt named.Schedule n, (λ body site. (on, body, text, site, holds, unserved)), refl)
 
 -- a text that is refused at a line
-pub conf_refused : (c : Command) (text : List ℕ) (told : Option FileMap) (n : ℕ) → IfSome told (λ held. Holds held c.conf (most_of named.Conf) text)
+pub conf_refused : (c : Command) → TakesLiteral c.mode → (text : List ℕ) (told : Option FileMap) (n : ℕ) → IfSome told (λ held. Holds held c.conf (most_of named.Conf) text)
     → IsFaultAt text n → IfSome told (λ held. (v : Verdict) × IsOf c held v × (ending.NotBuilt named.Conf n ≡ ending_of v))
-conf_refused c text None n holds refused = tt
-conf_refused c text (Some held) n holds refused = (NotBuilt named.Conf n, (text, holds, refused), refl)
+conf_refused c literal text None n holds refused = tt
+conf_refused c literal text (Some held) n holds refused = (NotBuilt named.Conf n, (literal, text, holds, refused), refl)
+
+-- a text that is no site's, and one that is
+module _ (c : Command) (on : c.mode ≡ mode.Check) (text : List ℕ) where
+  no_site : (told : Option FileMap) (fault : CheckFault) → IfSome told (λ held. Holds held c.conf (most_of named.Conf) text) → IsSiteFault text fault → (fault ≡ Memory → ⊥)
+      → IfSome told (λ held. (v : Verdict) × IsOf c held v × (ending.Refused fault ≡ ending_of v))
+  no_site None fault holds refused known = tt
+  no_site (Some held) fault holds refused known = (Refused fault, (on, record { text = text; holds = holds; refused = refused; known = known }), refl)
+
+  pub check_refused : (old new : FileAccount) (fault : CheckFault) → IfSome old.told (λ held. Holds held c.conf (most_of named.Conf) text) → IsSiteFault text fault
+      → EndsReading (IsOf c) c.conf named.Conf old new (refusal fault)
+  check_refused old new (Conf fault) holds refused = (refl, no_site old.told (Conf fault) holds refused (λ e. let no : Conf fault ≡ Memory = e in cc))
+  check_refused old new (Lex fault) holds refused = (refl, no_site old.told (Lex fault) holds refused (λ e. let no : Lex fault ≡ Memory = e in cc))
+  check_refused old new (Parse fault) holds refused = (refl, no_site old.told (Parse fault) holds refused (λ e. let no : Parse fault ≡ Memory = e in cc))
+  check_refused old new Memory holds refused = tt
+
+  pub check_accepted : (told : Option FileMap) → IfSome told (λ held. Holds held c.conf (most_of named.Conf) text) → IsSite text → IfSome told (λ held. IsOf c held Checks)
+  check_accepted None holds accepted = tt
+  check_accepted (Some held) holds accepted = (on, record { text = text; holds = holds; accepted = accepted })
 
 -- a schedule has no more lines than its text has bytes
 pub lines_below : (lines : List SchedLine) → length lines ≤ length (schedule_text lines)

@@ -6,13 +6,17 @@ use Rattle.schedule_text.specs.Accepted.{IsRead, IsRefusedAt}
 use Rattle.schedule_text.specs.Fitting.{IsSchedule}
 use Rattle.schedule_text.specs.LineTexts.{schedule_text}
 use Rattle.strand.specs.Configuration.{IsSite, IsFaultAt}
+use Rattle.site_check.specs.Sites as check
+use Rattle.site_check.specs.Sites.{IsSiteFault}
+use Rattle.site_check.specs.declared.faults.CheckFault.{CheckFault}
+use Rattle.site_check.specs.declared.faults.CheckFault.TheVariants.{Memory}
 use Rattle.resty.specs.declared.endings.Named.TheVariants as named
 use Rattle.resty.specs.declared.endings.Status.{Status}
 use Rattle.resty.specs.declared.endings.Status.TheVariants as status
 use Rattle.resty.specs.Ending.{status_of}
 use Rattle.resty.specs.Ends.{AreOfOneStatus}
 use Rattle.resty.specs.Form.{IsServed, IsUnserved}
-use Rattle.resty.specs.Verdict.{Verdict, Usage, Missing, TooLong, NotBuilt, BadLine, Runs, Serves, Holds, HasSite, IsTooLong, IsOf, IsVerdict, ending_of, most_of}
+use Rattle.resty.specs.Verdict.{Verdict, Usage, Missing, TooLong, Refused, NotBuilt, BadLine, Checks, Runs, Serves, Holds, HasSite, TakesLiteral, IsTooLong, IsOf, IsVerdict, ending_of, most_of}
 use Rattle.resty.specs.declared.command_line.Mode.{Mode}
 use Rattle.resty.specs.declared.command_line.Mode.TheVariants as mode
 use Rattle.resty.specs.Words.{Command, Says, IsForm}
@@ -111,6 +115,7 @@ ScheduleKind held name k = IsKind IsBadSchedule IsGoodSchedule held name (most_o
 abbrev conf_kind : Verdict → Kind
 conf_kind (Missing named.Conf) = missing
 conf_kind (TooLong named.Conf) = too_long
+conf_kind (Refused fault) = refused
 conf_kind (NotBuilt named.Conf n) = refused
 conf_kind v = accepted_
 
@@ -124,33 +129,41 @@ schedule_kind v = accepted_
 site_kind : (held : FileMap) (conf body : List ℕ) → HasSite held conf body → ConfKind held conf accepted_
 site_kind held conf body site = (site.text, site.holds, (body, site.accepted))
 
-conf_is : (c : Command) (held : FileMap) (v : Verdict) → IsOf c held v → ConfKind held c.conf (conf_kind v)
-conf_is c held Usage of = absurd of
-conf_is c held (Missing named.Conf) of = of
-conf_is c held (TooLong named.Conf) of = of
-conf_is c held (NotBuilt named.Conf n) of = (of.0, of.1, (n, of.2))
-conf_is c held (Missing named.Schedule) of = site_kind held c.conf of.1 of.2
-conf_is c held (TooLong named.Schedule) of = site_kind held c.conf of.1 of.2
-conf_is c held (NotBuilt named.Schedule n) of = site_kind held c.conf of.1 of.3
-conf_is c held (BadLine n) of = site_kind held c.conf of.1 of.3
-conf_is c held (Runs body lines) of = site_kind held c.conf body of.1
-conf_is c held (Serves body) of = site_kind held c.conf body of.1
+-- the mode isn't `check`
+abbrev IsNoCheck : Command → Type 0
+IsNoCheck c = c.mode ≡ mode.Check → ⊥
+
+conf_is : (c : Command) → IsNoCheck c → (held : FileMap) (v : Verdict) → IsOf c held v → ConfKind held c.conf (conf_kind v)
+conf_is c serves held Usage of = absurd of
+conf_is c serves held (Missing named.Conf) of = of
+conf_is c serves held (TooLong named.Conf) of = of
+conf_is c serves held (Refused fault) of = absurd (serves of.0)
+conf_is c serves held (NotBuilt named.Conf n) of = (of.1, of.2, (n, of.3))
+conf_is c serves held (Missing named.Schedule) of = site_kind held c.conf of.1 of.2
+conf_is c serves held (TooLong named.Schedule) of = site_kind held c.conf of.1 of.2
+conf_is c serves held (NotBuilt named.Schedule n) of = site_kind held c.conf of.1 of.3
+conf_is c serves held (BadLine n) of = site_kind held c.conf of.1 of.3
+conf_is c serves held Checks of = absurd (serves of.0)
+conf_is c serves held (Runs body lines) of = site_kind held c.conf body of.1
+conf_is c serves held (Serves body) of = site_kind held c.conf body of.1
 
 -- where the configuration is a site's, the schedule is of some kind, or none is read
 abbrev IsAfterSite : Command → FileMap → Kind → Type 0
 IsAfterSite c held k = ((c.mode ≡ mode.Replay) × ScheduleKind held c.schedule k) ⊎ ((c.mode ≡ mode.Serve) × (k ≡ accepted_))
 
-schedule_is : (c : Command) (held : FileMap) (v : Verdict) → IsOf c held v → conf_kind v ≡ accepted_ → IsAfterSite c held (schedule_kind v)
-schedule_is c held Usage of here = absurd of
-schedule_is c held (Missing named.Conf) of here = absurd (let no : missing ≡ accepted_ = here in cc)
-schedule_is c held (TooLong named.Conf) of here = absurd (let no : too_long ≡ accepted_ = here in cc)
-schedule_is c held (NotBuilt named.Conf n) of here = absurd (let no : refused ≡ accepted_ = here in cc)
-schedule_is c held (Missing named.Schedule) of here = inl (of.0, of.3)
-schedule_is c held (TooLong named.Schedule) of here = inl (of.0, of.3)
-schedule_is c held (NotBuilt named.Schedule n) of here = inl (of.0, (of.2, of.4, (n, inr of.5)))
-schedule_is c held (BadLine n) of here = inl (of.0, (of.2, of.4, (n, inl of.5)))
-schedule_is c held (Runs body lines) of here = inl (of.0, (of.2.text, of.2.holds, (lines, of.2.accepted, of.2.served)))
-schedule_is c held (Serves body) of here = inr (of.0, refl)
+schedule_is : (c : Command) → IsNoCheck c → (held : FileMap) (v : Verdict) → IsOf c held v → conf_kind v ≡ accepted_ → IsAfterSite c held (schedule_kind v)
+schedule_is c serves held Usage of here = absurd of
+schedule_is c serves held (Missing named.Conf) of here = absurd (let no : missing ≡ accepted_ = here in cc)
+schedule_is c serves held (TooLong named.Conf) of here = absurd (let no : too_long ≡ accepted_ = here in cc)
+schedule_is c serves held (Refused fault) of here = absurd (serves of.0)
+schedule_is c serves held Checks of here = absurd (serves of.0)
+schedule_is c serves held (NotBuilt named.Conf n) of here = absurd (let no : refused ≡ accepted_ = here in cc)
+schedule_is c serves held (Missing named.Schedule) of here = inl (of.0, of.3)
+schedule_is c serves held (TooLong named.Schedule) of here = inl (of.0, of.3)
+schedule_is c serves held (NotBuilt named.Schedule n) of here = inl (of.0, (of.2, of.4, (n, inr of.5)))
+schedule_is c serves held (BadLine n) of here = inl (of.0, (of.2, of.4, (n, inl of.5)))
+schedule_is c serves held (Runs body lines) of here = inl (of.0, (of.2.text, of.2.holds, (lines, of.2.accepted, of.2.served)))
+schedule_is c serves held (Serves body) of here = inr (of.0, refl)
 
 one_mode : {C : Type 0} (m : Mode) → m ≡ mode.Replay → m ≡ mode.Serve → C
 one_mode m r s = absurd (let no : mode.Replay ≡ mode.Serve = sym r ∙ s in cc)
@@ -169,6 +182,8 @@ status_by : (c : Command) (held : FileMap) (v : Verdict) → IsOf c held v → s
 status_by c held Usage of = absurd of
 status_by c held (Missing named.Conf) of = refl
 status_by c held (TooLong named.Conf) of = refl
+status_by c held (Refused fault) of = refl
+status_by c held Checks of = refl
 status_by c held (NotBuilt named.Conf n) of = refl
 status_by c held (Missing named.Schedule) of = refl
 status_by c held (TooLong named.Schedule) of = refl
@@ -183,7 +198,54 @@ same_status too_long l a b same second = rw (← same) refl
 same_status refused l a b same second = rw (← same) refl
 same_status accepted_ l a b same second = rw (← same, second refl) refl
 
-module _ (no-fault : SitesHaveNoFault) (never-refused : SchedulesAreRead) (schedule-alone : SchedulesAreKnown) where
+-- sites that are checked
+abbrev IsBadText : List ℕ → Type 0
+IsBadText text = (fault : CheckFault) × IsSiteFault text fault × (fault ≡ Memory → ⊥)
+
+-- the text of a site has no fault
+abbrev TextsHaveNoFault : Type 0
+TextsHaveNoFault = (text : List ℕ) (fault : CheckFault) → check.IsSite text → IsSiteFault text fault → fault ≡ Memory
+
+texts_apart : TextsHaveNoFault → (text : List ℕ) → IsBadText text → check.IsSite text → ⊥
+texts_apart no-fault text bad good = bad.2 (no-fault text bad.0 good bad.1)
+
+-- the kind of a text that a verdict of `check` says it is of
+check_is : (c : Command) → c.mode ≡ mode.Check → (held : FileMap) (v : Verdict) → IsOf c held v → IsKind IsBadText check.IsSite held c.conf (most_of named.Conf) (conf_kind v)
+check_is c on held Usage of = absurd of
+check_is c on held (Missing named.Conf) of = of
+check_is c on held (TooLong named.Conf) of = of
+check_is c on held (Refused fault) of = (of.1.text, of.1.holds, (fault, of.1.refused, of.1.known))
+check_is c on held (NotBuilt named.Conf n) of = absurd (subst TakesLiteral on of.0)
+check_is c on held (Missing named.Schedule) of = absurd (let no : mode.Check ≡ mode.Replay = sym on ∙ of.0 in cc)
+check_is c on held (TooLong named.Schedule) of = absurd (let no : mode.Check ≡ mode.Replay = sym on ∙ of.0 in cc)
+check_is c on held (NotBuilt named.Schedule n) of = absurd (let no : mode.Check ≡ mode.Replay = sym on ∙ of.0 in cc)
+check_is c on held (BadLine n) of = absurd (let no : mode.Check ≡ mode.Replay = sym on ∙ of.0 in cc)
+check_is c on held Checks of = (of.1.text, of.1.holds, of.1.accepted)
+check_is c on held (Runs body lines) of = absurd (let no : mode.Check ≡ mode.Replay = sym on ∙ of.0 in cc)
+check_is c on held (Serves body) of = absurd (let no : mode.Check ≡ mode.Serve = sym on ∙ of.0 in cc)
+
+-- no schedule is read
+check_reads_none : (c : Command) → c.mode ≡ mode.Check → (held : FileMap) (v : Verdict) → IsOf c held v → schedule_kind v ≡ accepted_
+check_reads_none c on held Usage of = absurd of
+check_reads_none c on held (Missing named.Conf) of = refl
+check_reads_none c on held (TooLong named.Conf) of = refl
+check_reads_none c on held (Refused fault) of = refl
+check_reads_none c on held (NotBuilt named.Conf n) of = refl
+check_reads_none c on held (Missing named.Schedule) of = absurd (let no : mode.Check ≡ mode.Replay = sym on ∙ of.0 in cc)
+check_reads_none c on held (TooLong named.Schedule) of = absurd (let no : mode.Check ≡ mode.Replay = sym on ∙ of.0 in cc)
+check_reads_none c on held (NotBuilt named.Schedule n) of = absurd (let no : mode.Check ≡ mode.Replay = sym on ∙ of.0 in cc)
+check_reads_none c on held (BadLine n) of = absurd (let no : mode.Check ≡ mode.Replay = sym on ∙ of.0 in cc)
+check_reads_none c on held Checks of = refl
+check_reads_none c on held (Runs body lines) of = refl
+check_reads_none c on held (Serves body) of = refl
+
+-- a mode is `check`, or it isn't
+check_or_not : (m : Mode) → (m ≡ mode.Check) ⊎ (m ≡ mode.Check → ⊥)
+check_or_not mode.Check = inl refl
+check_or_not mode.Replay = inr (λ is. let no : mode.Replay ≡ mode.Check = is in cc)
+check_or_not mode.Serve = inr (λ is. let no : mode.Serve ≡ mode.Check = is in cc)
+
+module _ (no-fault : SitesHaveNoFault) (text-fault : TextsHaveNoFault) (never-refused : SchedulesAreRead) (schedule-alone : SchedulesAreKnown) where
   schedules_same : (c : Command) (held : FileMap) (k l : Kind) → IsAfterSite c held k → IsAfterSite c held l → k ≡ l
   schedules_same c held k l p q = elim p [
     | inl replay ↦ elim q [
@@ -196,13 +258,24 @@ module _ (no-fault : SitesHaveNoFault) (never-refused : SchedulesAreRead) (sched
     ]
   ]
 
-  command_status : (c : Command) (held : FileMap) (v w : Verdict) → IsOf c held v → IsOf c held w → status_of (ending_of v) ≡ status_of (ending_of w)
-  command_status c held v w p q =
-      let confs = one_kind IsBadSite IsGoodSite (sites_apart no-fault) held c.conf (most_of named.Conf) (conf_kind v) (conf_kind w) (conf_is c held v p) (conf_is c held w q) in
+  check_status : (c : Command) → c.mode ≡ mode.Check → (held : FileMap) (v w : Verdict) → IsOf c held v → IsOf c held w → status_of (ending_of v) ≡ status_of (ending_of w)
+  check_status c on held v w p q =
+      let confs = one_kind IsBadText check.IsSite (texts_apart text-fault) held c.conf (most_of named.Conf) (conf_kind v) (conf_kind w) (check_is c on held v p) (check_is c on held w q) in
       status_by c held v p
       ∙ same_status (conf_kind v) (conf_kind w) (schedule_kind v) (schedule_kind w) confs
-      (λ here. schedules_same c held (schedule_kind v) (schedule_kind w) (schedule_is c held v p here) (schedule_is c held w q (sym confs ∙ here)))
+      (λ here. check_reads_none c on held v p ∙ sym (check_reads_none c on held w q))
       ∙ sym (status_by c held w q)
+
+  serve_status : (c : Command) → IsNoCheck c → (held : FileMap) (v w : Verdict) → IsOf c held v → IsOf c held w → status_of (ending_of v) ≡ status_of (ending_of w)
+  serve_status c serves held v w p q =
+      let confs = one_kind IsBadSite IsGoodSite (sites_apart no-fault) held c.conf (most_of named.Conf) (conf_kind v) (conf_kind w) (conf_is c serves held v p) (conf_is c serves held w q) in
+      status_by c held v p
+      ∙ same_status (conf_kind v) (conf_kind w) (schedule_kind v) (schedule_kind w) confs
+      (λ here. schedules_same c held (schedule_kind v) (schedule_kind w) (schedule_is c serves held v p here) (schedule_is c serves held w q (sym confs ∙ here)))
+      ∙ sym (status_by c held w q)
+
+  command_status : (c : Command) (held : FileMap) (v w : Verdict) → IsOf c held v → IsOf c held w → status_of (ending_of v) ≡ status_of (ending_of w)
+  command_status c held v w p q = elim (check_or_not c.mode) [ inl on ↦ check_status c on held v w p q | inr serves ↦ serve_status c serves held v w p q ]
 
   form_status : (words : List (List ℕ)) (held : FileMap) (v w : Verdict) → (c : Command) × Says words c × IsOf c held v → (c : Command) × Says words c × IsOf c held w
       → status_of (ending_of v) ≡ status_of (ending_of w)
@@ -217,7 +290,9 @@ module _ (no-fault : SitesHaveNoFault) (never-refused : SchedulesAreRead) (sched
   after_form words held v Usage p q = absurd (q (has_form words held v p))
   after_form words held v (Missing x) p q = form_status words held v (Missing x) p q
   after_form words held v (TooLong x) p q = form_status words held v (TooLong x) p q
+  after_form words held v (Refused fault) p q = form_status words held v (Refused fault) p q
   after_form words held v (NotBuilt x n) p q = form_status words held v (NotBuilt x n) p q
+  after_form words held v Checks p q = form_status words held v Checks p q
   after_form words held v (BadLine n) p q = form_status words held v (BadLine n) p q
   after_form words held v (Runs body lines) p q = form_status words held v (Runs body lines) p q
   after_form words held v (Serves body) p q = form_status words held v (Serves body) p q
@@ -226,12 +301,16 @@ module _ (no-fault : SitesHaveNoFault) (never-refused : SchedulesAreRead) (sched
   one_status words held Usage Usage p q = refl
   one_status words held Usage (Missing x) p q = absurd (p (has_form words held (Missing x) q))
   one_status words held Usage (TooLong x) p q = absurd (p (has_form words held (TooLong x) q))
+  one_status words held Usage (Refused fault) p q = absurd (p (has_form words held (Refused fault) q))
+  one_status words held Usage Checks p q = absurd (p (has_form words held Checks q))
   one_status words held Usage (NotBuilt x n) p q = absurd (p (has_form words held (NotBuilt x n) q))
   one_status words held Usage (BadLine n) p q = absurd (p (has_form words held (BadLine n) q))
   one_status words held Usage (Runs body lines) p q = absurd (p (has_form words held (Runs body lines) q))
   one_status words held Usage (Serves body) p q = absurd (p (has_form words held (Serves body) q))
   one_status words held (Missing x) w p q = after_form words held (Missing x) w p q
   one_status words held (TooLong x) w p q = after_form words held (TooLong x) w p q
+  one_status words held (Refused fault) w p q = after_form words held (Refused fault) w p q
+  one_status words held Checks w p q = after_form words held Checks w p q
   one_status words held (NotBuilt x n) w p q = after_form words held (NotBuilt x n) w p q
   one_status words held (BadLine n) w p q = after_form words held (BadLine n) w p q
   one_status words held (Runs body lines) w p q = after_form words held (Runs body lines) w p q

@@ -16,16 +16,16 @@ use Rattle.resty.specs.declared.endings.Ending.{Ending}
 use Rattle.resty.specs.declared.endings.Ending.TheVariants as ending
 use Rattle.resty.specs.declared.endings.Status.{Status}
 use Rattle.resty.specs.declared.endings.Status.TheVariants as status
-use Rattle.resty.specs.Due.{IsDue}
+use Rattle.resty.specs.Due.{IsDue, WritesOut}
 use Rattle.resty.specs.Ending.{status_of}
 use Rattle.resty.specs.Live.{ServesTo, LeavesServed, LeavesBy}
 use Rattle.resty.specs.Outside.{Outside}
 use Rattle.resty.specs.Reading.{EndsReading, OfSchedule, ReadsWell}
 use Rattle.resty.specs.Run.{RunsTo}
-use Rattle.resty.specs.Verdict.{Verdict, Runs, Serves, HasSite, HasSchedule, IsOf, most_of}
+use Rattle.resty.specs.Verdict.{Verdict, Checks, Runs, Serves, HasSite, HasSchedule, TakesLiteral, IsOf, most_of}
 use Rattle.resty.specs.Words.{Command}
 use Rattle.resty.specs.Works.{Works}
-use Rattle.resty.specs.Writing.{Writes, WritesBy, WritesRun, WritesHistory, WritesHistoryOf, IsRunOf}
+use Rattle.resty.specs.Writing.{Writes, WritesBy, WritesRun, WritesCheck, WritesHistory, WritesHistoryOf, WritesOk, IsRunOf}
 use Rattle.resty.proofs.Names.{weaker_some, both_some}
 
 -- reading isn't the end of a run
@@ -50,6 +50,7 @@ module _ (c : Command) where
   conf_due old new (ending.Unreadable named.Schedule) reads = absurd (let no : named.Schedule ≡ named.Conf = reads.0 in cc)
   conf_due old new (ending.Missing w) reads = reads.1
   conf_due old new (ending.TooLong w) reads = reads.1
+  conf_due old new (ending.Refused fault) reads = reads.1
   conf_due old new (ending.NotBuilt w n) reads = reads.1
   conf_due old new (ending.BadLine n) reads = absurd (let no : named.Conf ≡ named.Schedule = reads.0 in cc)
 
@@ -67,6 +68,7 @@ module _ (c : Command) where
   schedule_due on body old new (ending.Unreadable named.Schedule) site reads = (on, reads.1, weaker_some old.files.told _ _ (λ held has. (body, has)) site)
   schedule_due on body old new (ending.Missing w) site reads = both_some old.files.told _ _ _ (λ held has v. (v.0, v.1 body has, v.2)) site reads.1
   schedule_due on body old new (ending.TooLong w) site reads = both_some old.files.told _ _ _ (λ held has v. (v.0, v.1 body has, v.2)) site reads.1
+  schedule_due on body old new (ending.Refused fault) site reads = absurd (let no : named.Schedule ≡ named.Conf = reads.0 in cc)
   schedule_due on body old new (ending.NotBuilt w n) site reads = both_some old.files.told _ _ _ (λ held has v. (v.0, v.1 body has, v.2)) site reads.1
   schedule_due on body old new (ending.BadLine n) site reads = both_some old.files.told _ _ _ (λ held has v. (v.0, v.1 body has, v.2)) site reads.1
 
@@ -74,6 +76,21 @@ module _ (c : Command) where
   reading_writes : (V : FileMap → Verdict → Type 0) (name : List ℕ) (which : _) (old new : FileAccount) (told : Option FileMap) (m : Mode) (e : Ending) (out : Account)
       → EndsReading V name which old new e → WritesBy m c told (status_of e) out out
   reading_writes V name which old new told mode.Serve e out reads = nothing out
+  reading_writes V name which old new told mode.Check ending.Done out reads = absurd reads
+  reading_writes V name which old new told mode.Check ending.Usage out reads = absurd reads
+  reading_writes V name which old new told mode.Check ending.NotWritten out reads = absurd reads
+  reading_writes V name which old new told mode.Check ending.WorldFault out reads = absurd reads
+  reading_writes V name which old new told mode.Check ending.EventsSpent out reads = absurd reads
+  reading_writes V name which old new told mode.Check (ending.NoSuchId n) out reads = absurd reads
+  reading_writes V name which old new told mode.Check ending.Memory out reads = nothing out
+  reading_writes V name which old new told mode.Check (ending.Unreadable w) out reads = nothing out
+  reading_writes V name which old new told mode.Check (ending.Missing w) out reads = nothing out
+  reading_writes V name which old new told mode.Check (ending.TooLong w) out reads = nothing out
+  reading_writes V name which old new told mode.Check (ending.Refused fault) out reads = nothing out
+  reading_writes V name which old new told mode.Check (ending.NotBuilt named.Conf n) out reads = nothing out
+  reading_writes V name which old new told mode.Check (ending.NotBuilt named.Schedule n) out reads = nothing out
+  reading_writes V name which old new told mode.Check (ending.BadLine n) out reads = nothing out
+  reading_writes V name which old new told mode.Replay (ending.Refused fault) out reads = nothing out
   reading_writes V name which old new told mode.Replay ending.Done out reads = absurd reads
   reading_writes V name which old new told mode.Replay ending.Usage out reads = absurd reads
   reading_writes V name which old new told mode.Replay ending.NotWritten out reads = absurd reads
@@ -111,12 +128,13 @@ module _ (c : Command) where
   due_before old mid new ending.NotWritten well due = (due.0, due.1, rw (← well.told) due.2)
   due_before old mid new ending.WorldFault well due = (due.0, due.1, rw (← well.told) due.2)
   due_before old mid new (ending.NoSuchId n) well due = (due.0, due.1, rw (← well.told) due.2)
-  due_before old mid new ending.EventsSpent well due = (due.0, rw (← well.told) due.1)
+  due_before old mid new ending.EventsSpent well due = (due.0, due.1, rw (← well.told) due.2)
   due_before old mid new ending.Memory well due = tt
   due_before old mid new ending.Done well due = rw (← well.told) due
   due_before old mid new ending.Usage well due = rw (← well.told) due
   due_before old mid new (ending.Missing w) well due = rw (← well.told) due
   due_before old mid new (ending.TooLong w) well due = rw (← well.told) due
+  due_before old mid new (ending.Refused fault) well due = rw (← well.told) due
   due_before old mid new (ending.NotBuilt w n) well due = rw (← well.told) due
   due_before old mid new (ending.BadLine n) well due = rw (← well.told) due
 
@@ -147,12 +165,12 @@ module _ (c : Command) where
       form = λ same. absurd (let no : ending.Done ≡ ending.Usage = same in cc);
     }
     history_works ending.EventsSpent whole h run writes = record {
-      due = ((λ w. short h (subst (λ (w : Bool). RunsTo {J = NoJob} (literal_behavior body) c.events lines w h) writes.0 run)), weaker_some old.files.told _ _ (λ held v. (Runs body lines, v, refl)) runs);
+      due = (subst TakesLiteral (sym on) tt, (λ w. short h (subst (λ (w : Bool). RunsTo {J = NoJob} (literal_behavior body) c.events lines w h) writes.0 run)), weaker_some old.files.told _ _ (λ held v. (Runs body lines, v, refl)) runs);
       writes = by_replay status.EventsSpent (h, subst (λ (w : Bool). IsRunOf c old.files.told w h) writes.0 (of_run whole h run), writes.1);
       form = λ same. absurd (let no : ending.EventsSpent ≡ ending.Usage = same in cc);
     }
     history_works ending.NotWritten whole h run writes = record {
-      due = (on, writes.faults, weaker_some old.files.told _ _ (λ held v. (body, lines, v)) runs);
+      due = (subst WritesOut (sym on) tt, writes.faults, weaker_some old.files.told _ _ (λ held v. inr (body, lines, v)) runs);
       writes = by_replay status.WriteFault (whole, h, of_run whole h run, writes);
       form = λ same. absurd (let no : ending.NotWritten ≡ ending.Usage = same in cc);
     }
@@ -170,6 +188,7 @@ module _ (c : Command) where
     history_works (ending.Missing w) whole h run writes = absurd writes
     history_works (ending.TooLong w) whole h run writes = absurd writes
     history_works (ending.Unreadable w) whole h run writes = absurd writes
+    history_works (ending.Refused fault) whole h run writes = absurd writes
     history_works (ending.NotBuilt w n) whole h run writes = absurd writes
     history_works (ending.BadLine n) whole h run writes = absurd writes
 
@@ -196,7 +215,7 @@ module _ (c : Command) where
       form = λ no. absurd (let wrong : ending.Done ≡ ending.Usage = no in cc);
     }
     serve_works ending.EventsSpent served = record {
-      due = ((λ w. absurd (let wrong : mode.Serve ≡ mode.Replay = sym on ∙ w in cc)), weaker_some old.files.told _ _ (λ held v. (Serves body, v, refl)) serves);
+      due = (subst TakesLiteral (sym on) tt, (λ w. absurd (let wrong : mode.Serve ≡ mode.Replay = sym on ∙ w in cc)), weaker_some old.files.told _ _ (λ held v. (Serves body, v, refl)) serves);
       writes = silent status.EventsSpent;
       form = λ no. absurd (let wrong : ending.EventsSpent ≡ ending.Usage = no in cc);
     }
@@ -220,6 +239,7 @@ module _ (c : Command) where
     serve_works (ending.Missing w) served = absurd served
     serve_works (ending.TooLong w) served = absurd served
     serve_works (ending.Unreadable w) served = absurd served
+    serve_works (ending.Refused fault) served = absurd served
     serve_works (ending.NotBuilt w n) served = absurd served
     serve_works (ending.BadLine n) served = absurd served
 
@@ -234,13 +254,16 @@ module _ (c : Command) where
     serve_leaves (ending.Missing w) served = absurd served
     serve_leaves (ending.TooLong w) served = absurd served
     serve_leaves (ending.Unreadable w) served = absurd served
+    serve_leaves (ending.Refused fault) served = absurd served
     serve_leaves (ending.NotBuilt w n) served = absurd served
     serve_leaves (ending.BadLine n) served = absurd served
 
   -- where the reading of the configuration ended, the world is as it was
   pub conf_leaves : {V : Type 0} (name : List ℕ) (old new : FileAccount) (told : Option FileMap) (same : V → V → Type 0) (book : V → Book) (live : V) → same live live
       → (m : Mode) (e : Ending) → EndsReading (IsOf c) name named.Conf old new e → LeavesBy m same book c told (status_of e) live live
+  conf_leaves name old new told same book live is mode.Check e reads = refl
   conf_leaves name old new told same book live is mode.Replay e reads = refl
+  conf_leaves name old new told same book live is mode.Serve (ending.Refused fault) reads = (is, refl)
   conf_leaves name old new told same book live is mode.Serve ending.Done reads = absurd reads
   conf_leaves name old new told same book live is mode.Serve ending.Usage reads = absurd reads
   conf_leaves name old new told same book live is mode.Serve ending.NotWritten reads = absurd reads
@@ -254,6 +277,34 @@ module _ (c : Command) where
   conf_leaves name old new told same book live is mode.Serve (ending.NotBuilt named.Conf n) reads = (is, refl)
   conf_leaves name old new told same book live is mode.Serve (ending.NotBuilt named.Schedule n) reads = absurd (let no : named.Schedule ≡ named.Conf = reads.0 in cc)
   conf_leaves name old new told same book live is mode.Serve (ending.BadLine n) reads = absurd (let no : named.Conf ≡ named.Schedule = reads.0 in cc)
+
+  -- what is said of a site that is checked
+  module _ (on : c.mode ≡ mode.Check) (old new : Outside) (checks : IfSome old.files.told (λ held. IsOf c held Checks)) where
+    by_check : (s : Status) → WritesCheck s old.out new.out → Writes c old.files.told s old.out new.out
+    by_check s writes = subst (λ m. WritesBy m c old.files.told s old.out new.out) (sym on) writes
+
+    pub check_works : (e : Ending) → WritesOk e old.out new.out → Works c old new e
+    check_works ending.Done writes = record {
+      due = weaker_some old.files.told _ _ (λ held v. (Checks, v, refl)) checks;
+      writes = by_check status.Done writes;
+      form = λ no. absurd (let wrong : ending.Done ≡ ending.Usage = no in cc);
+    }
+    check_works ending.NotWritten writes = record {
+      due = (subst WritesOut (sym on) tt, writes.faults, weaker_some old.files.told _ _ (λ held v. inl v) checks);
+      writes = by_check status.WriteFault writes;
+      form = λ no. absurd (let wrong : ending.NotWritten ≡ ending.Usage = no in cc);
+    }
+    check_works ending.Memory writes = absurd writes
+    check_works ending.Usage writes = absurd writes
+    check_works ending.WorldFault writes = absurd writes
+    check_works ending.EventsSpent writes = absurd writes
+    check_works (ending.NoSuchId n) writes = absurd writes
+    check_works (ending.Missing w) writes = absurd writes
+    check_works (ending.TooLong w) writes = absurd writes
+    check_works (ending.Unreadable w) writes = absurd writes
+    check_works (ending.Refused fault) writes = absurd writes
+    check_works (ending.NotBuilt w n) writes = absurd writes
+    check_works (ending.BadLine n) writes = absurd writes
 
 -- the files hold what runs, or what is served
 pub runs_held : (c : Command) → c.mode ≡ mode.Replay → (body : List ℕ) (lines : List SchedLine) (told : Option FileMap) → IfSome told (λ held. HasSite held c.conf body)

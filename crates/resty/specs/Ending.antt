@@ -1,5 +1,6 @@
 -- How the program ends, and what it says of it.
 use Rattle.std.specs.Prelude.{ℕ, List, [], ◌++◌, codes, decimal}
+use Rattle.site_check.specs.Texts as check
 use Rattle.resty.specs.declared.endings.Named.{Named}
 use Rattle.resty.specs.declared.endings.Named.TheVariants as named
 use Rattle.resty.specs.declared.endings.Ending.{Ending}
@@ -26,6 +27,7 @@ status_of ending.Usage = status.Usage
 status_of (ending.Missing which) = status.ReadFault
 status_of (ending.TooLong which) = status.ReadFault
 status_of (ending.Unreadable which) = status.ReadFault
+status_of (ending.Refused fault) = status.Conf
 status_of (ending.NotBuilt named.Conf line) = status.Conf
 status_of (ending.NotBuilt named.Schedule line) = status.Schedule
 status_of (ending.BadLine line) = status.Schedule
@@ -42,6 +44,8 @@ line_of names ending.Usage = codes "resty: usage: resty MODE [options]\n"
 line_of names (ending.Missing which) = codes "resty: no file " ++ names which ++ codes "\n"
 line_of names (ending.TooLong which) = codes "resty: " ++ names which ++ codes " is too long\n"
 line_of names (ending.Unreadable which) = codes "resty: cannot read " ++ names which ++ codes "\n"
+line_of names (ending.Refused fault) =
+    codes "resty: " ++ names named.Conf ++ codes ": line " ++ decimal (check.line_of fault) ++ (codes ": " ++ (check.text_of fault ++ codes "\n"))
 line_of names (ending.NotBuilt which line) = codes "resty: " ++ names which ++ codes ": line " ++ decimal line ++ codes ": not built yet\n"
 line_of names (ending.BadLine line) = codes "resty: " ++ names named.Schedule ++ codes ": line " ++ decimal line ++ codes ": not a schedule line\n"
 line_of names (ending.NoSuchId line) = codes "resty: " ++ names named.Schedule ++ codes ": line " ++ decimal line ++ codes ": no such id\n"

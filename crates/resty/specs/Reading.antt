@@ -1,6 +1,8 @@
 -- Reading a file that the words name.
 use Rattle.std.specs.Prelude.{◌≡◌, ℕ, List, None, IfSome}
 use Rattle.resty_base.specs.FileMap.{FileMap, FileAccount}
+use Rattle.site_check.specs.declared.faults.CheckFault.{CheckFault}
+use Rattle.site_check.specs.declared.faults.CheckFault.TheVariants as check
 use Rattle.resty.specs.declared.endings.Named.{Named}
 use Rattle.resty.specs.declared.endings.Named.TheVariants as named
 use Rattle.resty.specs.declared.endings.Ending.{Ending}
@@ -15,6 +17,11 @@ IsUnread name which old new (ending.TooLong w) = (w ≡ which) × IfSome old.tol
 IsUnread name which old new (ending.Unreadable w) = (w ≡ which) × FailedAt name old new
 IsUnread name which old new ending.Memory = Unit {0}
 IsUnread name which old new e = ⊥
+
+-- how the work ends where the configuration's text has this fault
+abbrev pub refusal : CheckFault → Ending
+refusal check.Memory = ending.Memory
+refusal fault = ending.Refused fault
 
 -- the verdicts of a command, where its configuration is a site's
 abbrev pub OfSchedule : Command → FileMap → Verdict → Type 0
@@ -37,6 +44,7 @@ EndsReading verdict name which old new (ending.Unreadable w) = (w ≡ which) × 
 EndsReading verdict name which old new (ending.Missing w) = (w ≡ which) × IsJudgedBy verdict old (ending.Missing w)
 EndsReading verdict name which old new (ending.TooLong w) = (w ≡ which) × IsJudgedBy verdict old (ending.TooLong w)
 EndsReading verdict name which old new (ending.NotBuilt w n) = (w ≡ which) × IsJudgedBy verdict old (ending.NotBuilt w n)
+EndsReading verdict name which old new (ending.Refused fault) = (which ≡ named.Conf) × IsJudgedBy verdict old (ending.Refused fault)
 EndsReading verdict name which old new (ending.BadLine n) = (which ≡ named.Schedule) × IsJudgedBy verdict old (ending.BadLine n)
 
 -- reading brought no fault

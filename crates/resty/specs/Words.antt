@@ -12,11 +12,13 @@ texts words = map string_bytes words
 
 -- the name of a mode
 abbrev pub mode_name : Mode → List ℕ
+mode_name mode.Check = codes "check"
 mode_name mode.Replay = codes "replay"
 mode_name mode.Serve = codes "serve"
 
 -- the table of modes: which options each takes after `--conf F`
 abbrev pub row_of : Mode → Row
+row_of mode.Check = record { has_schedule = false; counts_events = false }
 row_of mode.Replay = record { has_schedule = true; counts_events = true }
 row_of mode.Serve = record { has_schedule = false; counts_events = true }
 

@@ -1,5 +1,5 @@
 -- What is written on the output.
-use Rattle.std.specs.Prelude.{◌≡◌, ◌⊎◌, ℕ, Bool, true, false, List, Option, IfSome}
+use Rattle.std.specs.Prelude.{◌≡◌, ◌⊎◌, ℕ, Bool, true, false, List, codes, Option, IfSome}
 use Rattle.resty_base.specs.Accounts.{Account}
 use Rattle.resty_base.specs.FileMap.{FileMap}
 use Rattle.resty_base.specs.Taking.{TakesAll, TakesPart, TakesNothing}
@@ -37,8 +37,25 @@ WritesRun c told status.Memory out out' =
     TakesNothing out out' ⊎ ((h : List Entry) × IsRunOf c told true h × (has_dropped h ≡ true) × TakesAll (history_text h) out out')
 WritesRun c told s out out' = TakesNothing out out'
 
--- a replay writes its run; the other modes write nothing
+-- what is written of a site that is checked
+abbrev pub site_ok : List ℕ
+site_ok = codes "site ok\n"
+
+-- What the output took of a check: with `Done` that the site is one, with `WriteFault` a proper first part of that, else nothing.
+abbrev pub WritesCheck : Status → Account → Account → Type 0
+WritesCheck status.Done out out' = TakesAll site_ok out out'
+WritesCheck status.WriteFault out out' = TakesPart site_ok out out'
+WritesCheck s out out' = TakesNothing out out'
+
+-- the writing of that
+abbrev pub WritesOk : Ending → Account → Account → Type 0
+WritesOk ending.Done out out' = TakesAll site_ok out out'
+WritesOk ending.NotWritten out out' = TakesPart site_ok out out'
+WritesOk e out out' = ⊥
+
+-- a replay writes its run, and a check that the site is one; `serve` writes nothing
 abbrev pub WritesBy : Mode → Command → Option FileMap → Status → Account → Account → Type 0
+WritesBy mode.Check c told s out out' = WritesCheck s out out'
 WritesBy mode.Replay c told s out out' = WritesRun c told s out out'
 WritesBy m c told s out out' = TakesNothing out out'
 

@@ -11,6 +11,8 @@ use itoa::Buffer;
 /// What the program does.
 #[derive(Clone, Copy, Debug, PartialEq, Eq)]
 pub enum Mode {
+    /// It reads the site, and says that it is one.
+    Check,
     /// It serves the events of a schedule, and writes their history.
     Replay,
     /// It serves the events of the live world.
@@ -32,6 +34,10 @@ impl Mode {
         ensures { result ≡ row_of self }
     {
         match self {
+            Mode::Check => Row {
+                has_schedule: false,
+                counts_events: false,
+            },
             Mode::Replay => Row {
                 has_schedule: true,
                 counts_events: true,
@@ -47,7 +53,9 @@ impl Mode {
     fn named(word: &str) -> Option<Mode>
         ensures { MatchOption result ((mode : Mode) → word.now ≢ mode_name mode) (λ mode. word.now ≡ mode_name mode) }
     {
-        if word == "replay" {
+        if word == "check" {
+            Some(Mode::Check)
+        } else if word == "replay" {
             Some(Mode::Replay)
         } else if word == "serve" {
             Some(Mode::Serve)

@@ -3,6 +3,8 @@
 ghost use Rattle.std.specs.Prelude.{◌≡◌};
 ghost use Rattle.resty.specs.Ending.{code_of, status_of};
 
+use site_check::CheckFault;
+
 /// How the program ended; its exit code is the index in this list, from 0.
 #[derive(Clone, Copy, Debug, PartialEq, Eq)]
 pub enum Status {
@@ -50,6 +52,8 @@ pub enum Ending {
     TooLong(Named),
     /// The file can't be read.
     Unreadable(Named),
+    /// The text of the configuration is no site's.
+    Refused(CheckFault),
     /// This line of the file is of no form that is built yet; lines are numbered from 1.
     NotBuilt(Named, u64),
     /// This line of the schedule is no line of a schedule; lines are numbered from 1.
@@ -74,7 +78,7 @@ impl Ending {
             Ending::Done => Status::Done,
             Ending::Usage => Status::Usage,
             Ending::Missing(_) | Ending::TooLong(_) | Ending::Unreadable(_) => Status::ReadFault,
-            Ending::NotBuilt(Named::Conf, _) => Status::Conf,
+            Ending::Refused(_) | Ending::NotBuilt(Named::Conf, _) => Status::Conf,
             Ending::NotBuilt(Named::Schedule, _) | Ending::BadLine(_) | Ending::NoSuchId(_) => {
                 Status::Schedule
             }

@@ -11,6 +11,7 @@ ghost use Rattle.resty.specs.Run.{IsRun, IsKnownByItsText};
 use schedule::{
     a_history_is_known_by_its_text, a_schedule_is_known_by_its_text, no_schedule_is_refused,
 };
+use site_check::no_site_is_refused;
 use strand::laws::site_or_fault;
 
 /// All verdicts of the same words and files are of one status.
@@ -18,6 +19,7 @@ pub fn one_status()
     ensures { AreOfOneStatus }
 {
     site_or_fault();
+    no_site_is_refused();
     no_schedule_is_refused();
     a_schedule_is_known_by_its_text();
 }

@@ -1,6 +1,7 @@
 //! The program: its words, the files that they name, the run, and what it writes.
 #![tactic(auto)]
 
+mod checking;
 mod command_line;
 mod endings;
 pub mod laws;

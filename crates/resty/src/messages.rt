@@ -35,6 +35,22 @@ pub fn put_line<E: Sink>(
             let name = command.name(which).as_bytes();
             put_pieces(err, &[b"resty: cannot read ", name, b"\n"])
         }
+        Ending::Refused(fault) => {
+            let name = command.name(Named::Conf).as_bytes();
+            let line = buffer.format(fault.line() as u64).as_bytes();
+            put_pieces(
+                err,
+                &[
+                    b"resty: ",
+                    name,
+                    b": line ",
+                    line,
+                    b": ",
+                    fault.text(),
+                    b"\n",
+                ],
+            )
+        }
         Ending::NotBuilt(which, line) => {
             let name = command.name(which).as_bytes();
             let line = buffer.format(line).as_bytes();

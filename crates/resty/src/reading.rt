@@ -2,15 +2,16 @@
 
 ghost use Rattle.std.specs.Prelude.{◌≡◌, ◌≤◌, IfSome, IfOk, IfErr, OnOk, length};
 ghost use Rattle.resty.specs.Form.{IsServed};
-ghost use Rattle.resty.specs.Reading.{IsUnread, EndsReading, OfSchedule, ReadsWell};
+ghost use Rattle.resty.specs.Reading.{IsUnread, EndsReading, OfSchedule, ReadsWell, refusal};
 ghost use Rattle.resty.specs.Saying.{said, name_of};
-ghost use Rattle.resty.specs.Verdict.{Holds, HasSite, HasSchedule, IsOf, most_of};
+ghost use Rattle.resty.specs.Verdict.{Checks, Holds, HasSite, HasSchedule, TakesLiteral, IsOf, most_of};
 
 use crate::command_line::{Command, Mode};
 use crate::endings::{Ending, Named};
 use crate::served_form::first_unserved;
 use resty_base::{Bytes, Fetched, Files};
 use schedule::{SchedFault, Schedule, schedule_of};
+use site_check::{CheckFault, check_site};
 use std::alloc::Global;
 use strand::{Site, SiteFault, literal_site};
 
@@ -46,12 +47,44 @@ fn most_of(which: Named) -> usize
     }
 }
 
+/// Reads the configuration as the text of a site, or says how the work ends for it.
+pub fn read_checked<F: Files>(
+    alloc: Global,
+    files: &mut F,
+    command: &Command<'_>,
+) -> Result<(), Ending>
+    requires { command.now.mode ≡ Mode.Check }
+    ensures site { OnOk result (IfSome (F.account files.old).told (λ held. IsOf (said command.now) held Checks)) }
+    ensures due { IfErr result (EndsReading (IsOf (said command.now)) command.now.conf.now Named.Conf (F.account files.old) (F.account files.new)) }
+    ensures well { OnOk result (ReadsWell (F.account files.old) (F.account files.new)) }
+{
+    let text = match read_named(alloc, files, command, Named::Conf) {
+        Ok(text) => text,
+        Err(ending) => return Err(ending),
+    };
+    match check_site(alloc, text.as_slice()) {
+        Ok(()) => Ok(()),
+        Err(fault) => Err(refusal(fault)),
+    }
+}
+
+/// How the work ends where the configuration's text has this fault.
+fn refusal(fault: CheckFault) -> Ending
+    ensures { result ≡ refusal fault }
+{
+    match fault {
+        CheckFault::Memory => Ending::Memory,
+        fault => Ending::Refused(fault),
+    }
+}
+
 /// Reads the site of the configuration, or says how the work ends for it.
 pub fn read_site<F: Files>(
     alloc: Global,
     files: &mut F,
     command: &Command<'_>,
 ) -> Result<Site, Ending>
+    requires { TakesLiteral command.now.mode }
     ensures site { IfOk result (λ site. IfSome (F.account files.old).told (λ held. HasSite held command.now.conf.now site)) }
     ensures due { IfErr result (EndsReading (IsOf (said command.now)) command.now.conf.now Named.Conf (F.account files.old) (F.account files.new)) }
     ensures well { OnOk result (ReadsWell (F.account files.old) (F.account files.new)) }

@@ -326,6 +326,7 @@ fn statuses_are_numbered_in_order(rt: HostRuntime) {
     }
 }
 
+mod checking;
 mod connections;
 mod replies;
 mod serving;

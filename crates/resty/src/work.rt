@@ -8,10 +8,11 @@ ghost use Rattle.resty.specs.Form.{IsServed};
 ghost use Rattle.resty.specs.Live.{Leaves};
 ghost use Rattle.resty.specs.Outside.{outside};
 ghost use Rattle.resty.specs.Saying.{said};
-ghost use Rattle.resty.specs.Verdict.{HasSite};
+ghost use Rattle.resty.specs.Verdict.{HasSite, TakesLiteral};
 ghost use Rattle.resty.specs.Works.{Works};
 ghost use Rattle.resty.specs.Writing.{WritesHistoryOf};
 
+use crate::checking::check;
 use crate::command_line::{Command, Mode};
 use crate::endings::Ending;
 use crate::reading::{read_schedule, read_site};
@@ -24,7 +25,7 @@ use schedule::Schedule;
 use std::alloc::Global;
 use strand::Site;
 
-/// Reads the configuration, and does what the mode says.
+/// Does what the mode says with the configuration.
 pub fn work<F: Files, W: World, O: Sink>(
     alloc: Global,
     command: &Command<'_>,
@@ -37,10 +38,31 @@ pub fn work<F: Files, W: World, O: Sink>(
         (outside (F.account files.new) (W.book live.new) (O.account out.new)) result }
     ensures live { Leaves W.same W.book (said command.now) (F.account files.old).told (status_of result) live.old live.new }
 {
+    match command.mode {
+        Mode::Check => check(alloc, command, files, out),
+        Mode::Replay | Mode::Serve => work_on_site(alloc, command, files, live, out),
+    }
+}
+
+/// Reads the configuration of a literal site, and does what the mode says.
+fn work_on_site<F: Files, W: World, O: Sink>(
+    alloc: Global,
+    command: &Command<'_>,
+    files: &mut F,
+    live: &mut W,
+    out: &mut O,
+) -> Ending
+    requires fresh { IsFresh (W.book live.old) }
+    requires literal { TakesLiteral command.now.mode }
+    ensures works { Works (said command.now) (outside (F.account files.old) (W.book live.old) (O.account out.old))
+        (outside (F.account files.new) (W.book live.new) (O.account out.new)) result }
+    ensures live { Leaves W.same W.book (said command.now) (F.account files.old).told (status_of result) live.old live.new }
+{
     match read_site(alloc, files, command) {
         Ok(site) => match command.mode {
             Mode::Replay => replay(alloc, command, site, files, out),
             Mode::Serve => serve_live(alloc, site, live, command.events),
+            Mode::Check => unreachable!(),
         },
         Err(ending) => ending,
     }

@@ -1,4 +1,5 @@
-use Rattle.std.proofs.Common.{codes, ◌∙◌}
+use Rattle.std.proofs.Common.{◌++◌, codes, decimal, ap, ◌∙◌}
+use Rattle.site_check.specs.Texts as check
 use Rattle.resty.proofs.Lines.{numbered_line}
 use Rattle.resty.proofs.messages.put_line.Goals as goal
 
@@ -39,3 +40,15 @@ returns-in-NoSuchId-clause-err g c =
     let name = c.as_bytes-name-in-NoSuchId.ensures.value ∙ c.name-in-NoSuchId.ensures in
     let number = c.as_bytes-line-in-NoSuchId.ensures.value ∙ c.format-in-NoSuchId.ensures.text in
     rw (c.in-NoSuchId.is, numbered_line c.args.command.now.schedule.now c.in-NoSuchId.line (codes ": no such id\n") _ _ name number) c.put_pieces-in-NoSuchId.ensures.err
+
+pub returns-in-Refused-clause-ok : goal.returns-in-Refused-clause-ok
+returns-in-Refused-clause-ok g c =
+    let name = c.as_bytes-name-in-Refused.ensures.value ∙ c.name-in-Refused.ensures in
+    let number = c.as_bytes-line-in-Refused.ensures.value ∙ c.format-in-Refused.ensures.text ∙ ap decimal c.line.ensures in
+    rw (c.in-Refused.is, numbered_line c.args.command.now.conf.now (check.line_of c.in-Refused.fault) (codes ": " ++ (check.text_of c.in-Refused.fault ++ codes "\n")) _ _ name number, ← c.text.ensures) c.put_pieces-in-Refused.ensures.ok
+
+pub returns-in-Refused-clause-err : goal.returns-in-Refused-clause-err
+returns-in-Refused-clause-err g c =
+    let name = c.as_bytes-name-in-Refused.ensures.value ∙ c.name-in-Refused.ensures in
+    let number = c.as_bytes-line-in-Refused.ensures.value ∙ c.format-in-Refused.ensures.text ∙ ap decimal c.line.ensures in
+    rw (c.in-Refused.is, numbered_line c.args.command.now.conf.now (check.line_of c.in-Refused.fault) (codes ": " ++ (check.text_of c.in-Refused.fault ++ codes "\n")) _ _ name number, ← c.text.ensures) c.put_pieces-in-Refused.ensures.err

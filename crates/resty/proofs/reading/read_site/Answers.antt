@@ -10,4 +10,4 @@ pub returns-in-Err-NotYet-clause-due : goal.returns-in-Err-NotYet-clause-due
 returns-in-Err-NotYet-clause-due g c =
     let fault = rw c.in-Err-NotYet.field-0-is at c.in-Err-NotYet.ensures.fault in
     let refused = rw c.as_slice.ensures at fault in
-    (refl, rw c.from.ensures (conf_refused (said c.args.command.now) c.in-Ok.text (g.F.Files.account c.args.files.now).told c.in-Err-NotYet.line c.in-Ok.ensures.text refused))
+    (refl, rw c.from.ensures (conf_refused (said c.args.command.now) c.requires c.in-Ok.text (g.F.Files.account c.args.files.now).told c.in-Err-NotYet.line c.in-Ok.ensures.text refused))
