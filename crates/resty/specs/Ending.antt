@@ -37,6 +37,10 @@ status_of ending.EventsSpent = status.EventsSpent
 status_of ending.NotWritten = status.WriteFault
 status_of ending.Memory = status.Memory
 
+-- the line that names a file, the number of a line of it, and what is wrong there
+abbrev pub fault_line : List ℕ → List ℕ → List ℕ → List ℕ
+fault_line name line text = codes "resty: " ++ (name ++ (codes ": line " ++ (line ++ (codes ": " ++ (text ++ codes "\n")))))
+
 -- the line that says how the program ended, for files of these names; where all went well there is none
 abbrev pub line_of : (Named → List ℕ) → Ending → List ℕ
 line_of names ending.Done = []
@@ -44,11 +48,10 @@ line_of names ending.Usage = codes "resty: usage: resty MODE [options]\n"
 line_of names (ending.Missing which) = codes "resty: no file " ++ names which ++ codes "\n"
 line_of names (ending.TooLong which) = codes "resty: " ++ names which ++ codes " is too long\n"
 line_of names (ending.Unreadable which) = codes "resty: cannot read " ++ names which ++ codes "\n"
-line_of names (ending.Refused fault) =
-    codes "resty: " ++ names named.Conf ++ codes ": line " ++ decimal (check.line_of fault) ++ (codes ": " ++ (check.text_of fault ++ codes "\n"))
-line_of names (ending.NotBuilt which line) = codes "resty: " ++ names which ++ codes ": line " ++ decimal line ++ codes ": not built yet\n"
-line_of names (ending.BadLine line) = codes "resty: " ++ names named.Schedule ++ codes ": line " ++ decimal line ++ codes ": not a schedule line\n"
-line_of names (ending.NoSuchId line) = codes "resty: " ++ names named.Schedule ++ codes ": line " ++ decimal line ++ codes ": no such id\n"
+line_of names (ending.Refused fault) = fault_line (names named.Conf) (decimal (check.line_of fault)) (check.text_of fault)
+line_of names (ending.NotBuilt which line) = fault_line (names which) (decimal line) (codes "not built yet")
+line_of names (ending.BadLine line) = fault_line (names named.Schedule) (decimal line) (codes "not a schedule line")
+line_of names (ending.NoSuchId line) = fault_line (names named.Schedule) (decimal line) (codes "no such id")
 line_of names ending.WorldFault = codes "resty: world fault\n"
 line_of names ending.EventsSpent = codes "resty: events spent\n"
 line_of names ending.NotWritten = codes "resty: cannot write\n"

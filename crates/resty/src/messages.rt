@@ -2,7 +2,7 @@
 
 ghost use Rattle.std.specs.Prelude.{OnOk, OnErr, codes};
 ghost use Rattle.resty_base.specs.Taking.{TakesAll, TakesPart};
-ghost use Rattle.resty.specs.Ending.{line_of};
+ghost use Rattle.resty.specs.Ending.{fault_line, line_of};
 ghost use Rattle.resty.specs.Saying.{said, name_of};
 
 use crate::command_line::Command;
@@ -38,54 +38,44 @@ pub fn put_line<E: Sink>(
         Ending::Refused(fault) => {
             let name = command.name(Named::Conf).as_bytes();
             let line = buffer.format(fault.line() as u64).as_bytes();
-            put_pieces(
-                err,
-                &[
-                    b"resty: ",
-                    name,
-                    b": line ",
-                    line,
-                    b": ",
-                    fault.text(),
-                    b"\n",
-                ],
-            )
+            put_fault(err, name, line, fault.text())
         }
         Ending::NotBuilt(which, line) => {
             let name = command.name(which).as_bytes();
             let line = buffer.format(line).as_bytes();
-            put_pieces(
-                err,
-                &[b"resty: ", name, b": line ", line, b": not built yet\n"],
-            )
+            put_fault(err, name, line, b"not built yet")
         }
         Ending::BadLine(line) => {
             let name = command.name(Named::Schedule).as_bytes();
             let line = buffer.format(line).as_bytes();
-            put_pieces(
-                err,
-                &[
-                    b"resty: ",
-                    name,
-                    b": line ",
-                    line,
-                    b": not a schedule line\n",
-                ],
-            )
+            put_fault(err, name, line, b"not a schedule line")
         }
         Ending::NoSuchId(line) => {
             let name = command.name(Named::Schedule).as_bytes();
             let line = buffer.format(line).as_bytes();
-            put_pieces(
-                err,
-                &[b"resty: ", name, b": line ", line, b": no such id\n"],
-            )
+            put_fault(err, name, line, b"no such id")
         }
         Ending::WorldFault => put_all(err, b"resty: world fault\n"),
         Ending::EventsSpent => put_all(err, b"resty: events spent\n"),
         Ending::NotWritten => put_all(err, b"resty: cannot write\n"),
         Ending::Memory => put_out_of_memory(err),
     }
+}
+
+/// Puts the line that names a file, the number of a line of it, and what is wrong there.
+fn put_fault<'a, E: Sink>(
+    err: &mut E,
+    name: &'a [u8],
+    line: &'a [u8],
+    text: &'a [u8],
+) -> Result<(), SinkFault>
+    ensures ok { OnOk result (TakesAll (fault_line name.now line.now text.now) (E.account err.old) (E.account err.new)) }
+    ensures err { OnErr result (TakesPart (fault_line name.now line.now text.now) (E.account err.old) (E.account err.new)) }
+{
+    put_pieces(
+        err,
+        &[b"resty: ", name, b": line ", line, b": ", text, b"\n"],
+    )
 }
 
 /// Puts the line that says how the program is called.
