@@ -1,5 +1,5 @@
 -- Words are at most one command.
-use Rattle.std.proofs.Common.{◌≡◌, ◌<◌, ◌^◌, ℕ, Bool, true, false, List, ◌∷◌, [], length, Option, Some, None, IfNone, MatchOption, codes, refl, sym, subst, ◌∙◌, arith}
+use Rattle.std.proofs.Common.{◌≡◌, ◌<◌, ◌^◌, ℕ, Bool, true, false, List, ◌∷◌, [], length, Option, Some, None, IfNone, MatchOption, codes, refl, sym, ap, subst, ◌∙◌, arith}
 use Rattle.std.proofs.lemmas.Fmt.{decimal_injective}
 use Rattle.resty.specs.declared.command_line.Mode.{Mode}
 use Rattle.resty.specs.declared.command_line.Mode.TheVariants as mode
@@ -15,15 +15,20 @@ pub no_items : {A : Type 0} (xs : List A) → length xs ≡ 0 → xs ≡ []
 no_items [] none = refl
 no_items (x ∷ xs) none = absurd (omega arith)
 
+-- the first byte of a text
+abbrev first_byte : List ℕ → ℕ
+first_byte [] = 0
+first_byte (x ∷ xs) = x
+
 -- modes have different names
 pub same_mode : (m n : Mode) → mode_name m ≡ mode_name n → m ≡ n
 same_mode mode.Check mode.Check e = refl
 same_mode mode.Replay mode.Replay e = refl
 same_mode mode.Serve mode.Serve e = refl
 same_mode mode.Check mode.Replay e = absurd (let no : codes "check" ≡ codes "replay" = e in cc)
-same_mode mode.Check mode.Serve e = absurd (let no : codes "check" ≡ codes "serve" = e in cc)
+same_mode mode.Check mode.Serve e = absurd (let no : 99 ≡ 115 = ap first_byte e in omega (arith, no))
 same_mode mode.Replay mode.Check e = absurd (let no : codes "replay" ≡ codes "check" = e in cc)
-same_mode mode.Serve mode.Check e = absurd (let no : codes "serve" ≡ codes "check" = e in cc)
+same_mode mode.Serve mode.Check e = absurd (let no : 115 ≡ 99 = ap first_byte e in omega (arith, no))
 same_mode mode.Replay mode.Serve e = absurd (let no : codes "replay" ≡ codes "serve" = e in cc)
 same_mode mode.Serve mode.Replay e = absurd (let no : codes "serve" ≡ codes "replay" = e in cc)
 

@@ -6,8 +6,8 @@ use Rattle.resty.proofs.reading.read_checked.Goals as goal
 pub returns-in-Err-clause-due : goal.returns-in-Err-clause-due
 returns-in-Err-clause-due g c = conf_unread (said c.args.command.now) (g.F.Files.account c.args.files.now) (g.F.Files.account c.read_named.new.files) c.in-Err.ending c.in-Err.ensures.unread
 
-pub returns-in-Err-check_site-clause-due : goal.returns-in-Err-check_site-clause-due
-returns-in-Err-check_site-clause-due g c =
+pub returns-clause-due : goal.returns-clause-due
+returns-clause-due g c =
     let fault = c.in-Err-check_site.ensures.err in
     let refused = rw c.as_slice.ensures at fault in
     rw c.refusal.ensures (check_refused (said c.args.command.now) c.requires c.in-Ok.text (g.F.Files.account c.args.files.now) (g.F.Files.account c.read_named.new.files)
