@@ -44,11 +44,11 @@ returns-in-NoSuchId-clause-err g c =
 pub returns-in-Refused-clause-ok : goal.returns-in-Refused-clause-ok
 returns-in-Refused-clause-ok g c =
     let name = c.as_bytes-name-in-Refused.ensures.value ∙ c.name-in-Refused.ensures in
-    let number = c.as_bytes-line-in-Refused.ensures.value ∙ c.format-in-Refused.ensures.text ∙ ap decimal c.line.ensures in
+    let number = c.as_bytes-line.ensures.value ∙ c.format.ensures.text ∙ ap decimal c.line.ensures in
     rw (c.in-Refused.is, fault_line_of c.args.command.now.conf.now (check.line_of c.in-Refused.fault) (check.text_of c.in-Refused.fault) _ _ _ name number c.text.ensures) c.put_fault.ensures.ok
 
 pub returns-in-Refused-clause-err : goal.returns-in-Refused-clause-err
 returns-in-Refused-clause-err g c =
     let name = c.as_bytes-name-in-Refused.ensures.value ∙ c.name-in-Refused.ensures in
-    let number = c.as_bytes-line-in-Refused.ensures.value ∙ c.format-in-Refused.ensures.text ∙ ap decimal c.line.ensures in
+    let number = c.as_bytes-line.ensures.value ∙ c.format.ensures.text ∙ ap decimal c.line.ensures in
     rw (c.in-Refused.is, fault_line_of c.args.command.now.conf.now (check.line_of c.in-Refused.fault) (check.text_of c.in-Refused.fault) _ _ _ name number c.text.ensures) c.put_fault.ensures.err
