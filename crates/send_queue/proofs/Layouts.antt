@@ -1,0 +1,146 @@
+-- Shared pieces and the beginning of a block: what is taken of them, and what is put after them.
+use Rattle.std.proofs.Common.{◌≡◌, ℕ, ◌+◌, ◌-◌, ◌*◌, ◌%◌, ◌/◌, ◌<◌, ◌≤◌, List, [], ◌∷◌, ◌++◌, length, take, drop, All, slice_range, inl, inr, ◌⊎◌, refl, sym, ap, subst, ◌∙◌, append_assoc, append-nil, arith, mod-lt, mod-eq_of_lt, drop-drop, drop_at, length-append, length-drop, length-take, take-append-drop, eq-or-lt_of_le}
+use Rattle.std.specs.List.{concat}
+use Rattle.std.proofs.lemmas.List.{drop-append-le, take-append-le, drop_all}
+use Rattle.std.proofs.lemmas.List.Folds.{concat-append, drop_split}
+use Rattle.std.proofs.lemmas.List.Elements.{All-nil, All-cons, All-head, All-tail, All-append}
+use Rattle.std.proofs.Math.Nat.{mod-add-div', mod_self}
+use Rattle.send_queue.specs.Layout.{block_size, AreBlocks, first, before, IsLaidOut}
+
+-- all that is kept
+abbrev pub kept : List (List ℕ) → List ℕ → List ℕ
+kept pieces begun = concat pieces ++ begun
+
+-- ---- what is offered
+
+pub offers : (phase taken : ℕ) (pieces : List (List ℕ)) (begun : List ℕ) → phase < block_size → IsLaidOut phase taken pieces begun
+    → take (block_size - phase) (drop taken (first pieces begun)) ≡ take (block_size - phase) (drop taken (kept pieces begun))
+offers phase taken [] begun p l = refl
+offers phase taken (x ∷ xs) begun p l =
+    sym (ap (λ t. take (block_size - phase) (drop taken t)) (append_assoc x (concat xs) begun)
+    ∙ ap (take (block_size - phase)) (drop-append-le taken x (concat xs ++ begun) (omega (arith, l.0)))
+    ∙ take-append-le (block_size - phase) (drop taken x) (concat xs ++ begun) (omega (arith, p, l.1.1, length-drop taken x)))
+
+pub within : (phase taken : ℕ) (pieces : List (List ℕ)) (begun : List ℕ) → IsLaidOut phase taken pieces begun → taken ≤ length (first pieces begun)
+within phase taken [] begun l = l.0
+within phase taken (x ∷ xs) begun l = omega (arith, l.0)
+
+pub reaches : (phase taken : ℕ) (pieces : List (List ℕ)) (begun : List ℕ) → IsLaidOut phase taken pieces begun → taken ≤ length (kept pieces begun)
+reaches phase taken [] begun l = l.0
+reaches phase taken (x ∷ xs) begun l = omega (arith, l.0, length-append x (concat xs), length-append (x ++ concat xs) begun)
+
+-- so many bytes of what is offered are among those that come first
+pub bounds : (phase taken count : ℕ) (pieces : List (List ℕ)) (begun : List ℕ) → phase < block_size → IsLaidOut phase taken pieces begun
+    → count ≤ length (take (block_size - phase) (drop taken (kept pieces begun))) → (phase + count ≤ block_size) × (taken + count ≤ length (first pieces begun))
+bounds phase taken count pieces begun p l h =
+    let e = ap length (offers phase taken pieces begun p l) in
+    let f = length-take (block_size - phase) (drop taken (first pieces begun)) in
+    let g = length-drop taken (first pieces begun) in
+    (omega (arith, p, e, f, h), omega (arith, e, f, g, h, within phase taken pieces begun l))
+
+-- ---- after bytes were taken
+
+pub phase-within : (phase count : ℕ) → (phase + count) % block_size < block_size
+phase-within phase count = mod-lt (phase + count) block_size (omega arith)
+
+stays-in : (phase taken count : ℕ) (x : List ℕ) → phase < block_size → phase + count ≤ block_size → taken + count < length x
+    → AreBlocks (phase + (length x - taken)) → AreBlocks ((phase + count) % block_size + (length x - (taken + count)))
+stays-in phase taken count x p q h b = from (eq-or-lt_of_le q)
+  where
+    from : (phase + count ≡ block_size) ⊎ (phase + count < block_size) → AreBlocks ((phase + count) % block_size + (length x - (taken + count)))
+    from (inl e) = (b.0 - 1, ap (λ n. n % block_size + (length x - (taken + count))) e ∙ ap (λ n. n + (length x - (taken + count))) (mod_self block_size) ∙ omega (arith, e, h, b.1))
+    from (inr e) = (b.0, ap (λ n. n + (length x - (taken + count))) (mod-eq_of_lt e) ∙ omega (arith, e, h, b.1))
+
+-- some of what comes first is left
+pub stays : (phase taken count : ℕ) (pieces : List (List ℕ)) (begun : List ℕ) → phase < block_size → IsLaidOut phase taken pieces begun
+    → phase + count ≤ block_size → taken + count < length (first pieces begun) → IsLaidOut ((phase + count) % block_size) (taken + count) pieces begun
+stays phase taken count [] begun p l q h =
+    let e : phase + count < block_size = omega (arith, l.1, h) in
+    (omega (arith, h), omega (arith, mod-eq_of_lt e, l.1, h))
+stays phase taken count (x ∷ xs) begun p l q h = (h, stays-in phase taken count x p q h l.1, l.2, l.3)
+
+-- the piece that comes first was taken whole
+pub leaves : (phase taken count : ℕ) (x : List ℕ) (xs : List (List ℕ)) (begun : List ℕ) → phase < block_size → IsLaidOut phase taken (x ∷ xs) begun
+    → phase + count ≤ block_size → taken + count ≡ length x → IsLaidOut ((phase + count) % block_size) 0 xs begun
+leaves phase taken count x xs begun p l q h =
+    let full : phase + count ≡ block_size = omega (arith, l.0, l.1.1, q, h) in
+    let begins : (phase + count) % block_size ≡ 0 = ap (λ n. n % block_size) full ∙ mod_self block_size in
+    subst (λ n. IsLaidOut n 0 xs begun) (sym begins) (next xs l.2)
+  where
+    next : (ys : List (List ℕ)) → All (λ y. AreBlocks (length y)) ys → IsLaidOut 0 0 ys begun
+    next [] all = (omega arith, omega (arith, l.3))
+    next (y ∷ ys) all =
+        let b = All-head (λ z. AreBlocks (length z)) y ys all in
+        (omega (arith, b.1), (b.0, omega (arith, b.1)), All-tail (λ z. AreBlocks (length z)) y ys all, l.3)
+
+pub leaves-bytes : (taken count : ℕ) (x : List ℕ) (xs : List (List ℕ)) (begun : List ℕ) → taken + count ≡ length x
+    → kept xs begun ≡ drop count (drop taken (kept (x ∷ xs) begun))
+leaves-bytes taken count x xs begun h =
+    sym (drop-drop count taken (kept (x ∷ xs) begun) ∙ ap (drop (taken + count)) (append_assoc x (concat xs) begun) ∙ drop_at x (concat xs ++ begun) (taken + count) (sym h))
+
+-- the begun block was taken whole
+pub empties : (taken count : ℕ) (begun : List ℕ) → taken + count ≡ length begun → [] ≡ drop count (drop taken (kept [] begun))
+empties taken count begun h = sym (drop-drop count taken begun ∙ drop_all (taken + count) begun (omega (arith, h)))
+
+-- ---- what is put after them
+
+-- bytes that the begun block has room for
+pub appends : (phase taken room : ℕ) (pieces : List (List ℕ)) (begun bytes : List ℕ) → IsLaidOut phase taken pieces begun
+    → room + before phase taken pieces begun ≡ block_size → length bytes < room → IsLaidOut phase taken pieces (begun ++ bytes)
+appends phase taken room [] begun bytes l r h =
+    (omega (arith, length-append begun bytes, l.0), omega (arith, length-append begun bytes, l.0, l.1, r, h))
+appends phase taken room (x ∷ xs) begun bytes l r h = (l.0, l.1, l.2, omega (arith, length-append begun bytes, r, h))
+
+pub appends-bytes : (phase taken : ℕ) (pieces : List (List ℕ)) (begun bytes : List ℕ) → IsLaidOut phase taken pieces begun
+    → drop taken (kept pieces (begun ++ bytes)) ≡ drop taken (kept pieces begun) ++ bytes
+appends-bytes phase taken pieces begun bytes l =
+    ap (drop taken) (sym (append_assoc (concat pieces) begun bytes)) ∙ drop-append-le taken (kept pieces begun) bytes (reaches phase taken pieces begun l)
+
+-- bytes that fill it, whole blocks after them, and the beginning of another block
+pub fills : (phase taken room : ℕ) (pieces : List (List ℕ)) (begun cut : List ℕ) (more : List (List ℕ)) (rest : List ℕ) → IsLaidOut phase taken pieces begun
+    → room + before phase taken pieces begun ≡ block_size → length cut ≡ room → All (λ p. AreBlocks (length p)) more → length rest < block_size
+    → IsLaidOut phase taken (pieces ++ (begun ++ cut) ∷ more) rest
+fills phase taken room [] begun cut more rest l r c all h =
+    (omega (arith, length-append begun cut, l.0, l.1, r, c), (0, omega (arith, length-append begun cut, l.0, l.1, r, c)), all, h)
+fills phase taken room (x ∷ xs) begun cut more rest l r c all h =
+    let whole : AreBlocks (length (begun ++ cut)) = (0, omega (arith, length-append begun cut, r, c)) in
+    (l.0, l.1, All-append (λ p. AreBlocks (length p)) xs ((begun ++ cut) ∷ more) l.2 (All-cons (λ p. AreBlocks (length p)) (begun ++ cut) more whole all), h)
+
+seam : (a b c m r : List ℕ) → (a ++ ((b ++ c) ++ m)) ++ r ≡ (a ++ b) ++ (c ++ (m ++ r))
+seam a b c m r =
+    append_assoc a ((b ++ c) ++ m) r ∙ ap (λ t. a ++ t) (append_assoc (b ++ c) m r ∙ append_assoc b c (m ++ r)) ∙ sym (append_assoc a b (c ++ (m ++ r)))
+
+pub fills-bytes : (phase taken : ℕ) (pieces : List (List ℕ)) (begun cut : List ℕ) (more : List (List ℕ)) (rest : List ℕ) → IsLaidOut phase taken pieces begun
+    → drop taken (kept (pieces ++ (begun ++ cut) ∷ more) rest) ≡ drop taken (kept pieces begun) ++ (cut ++ (concat more ++ rest))
+fills-bytes phase taken pieces begun cut more rest l =
+    ap (λ t. drop taken (t ++ rest)) (concat-append pieces ((begun ++ cut) ∷ more))
+    ∙ ap (drop taken) (seam (concat pieces) begun cut (concat more) rest)
+    ∙ drop-append-le taken (kept pieces begun) (cut ++ (concat more ++ rest)) (reaches phase taken pieces begun l)
+
+-- the parts of a piece: what fills the block, whole blocks, and the rest
+pub parts : (room end : ℕ) (piece : List ℕ) (more : List (List ℕ)) → room ≤ end → concat more ≡ slice_range piece room end
+    → take room piece ++ (concat more ++ drop end piece) ≡ piece
+parts room end piece more h e =
+    ap (λ t. take room piece ++ (t ++ drop end piece)) e
+    ∙ ap (λ t. take room piece ++ t) (sym (drop_split piece room end h))
+    ∙ take-append-drop room piece
+
+-- so many bytes are whole blocks, and fewer than one block more
+pub divides : (n : ℕ) → ((n / block_size) * block_size ≤ n) × (n < (n / block_size) * block_size + block_size)
+divides n =
+    let e = mod-add-div' n block_size in
+    let f = mod-lt n block_size (omega arith) in
+    (omega (arith, e), omega (arith, e, f))
+
+pub middle-blocks : (room end : ℕ) (piece : List ℕ) → room ≤ length piece → end ≡ room + (length piece - room) / block_size * block_size
+    → 0 < length (slice_range piece room end) → AreBlocks (length (slice_range piece room end))
+middle-blocks room end piece h e some =
+    let k = (length piece - room) / block_size in
+    let d = divides (length piece - room) in
+    let f = length-take (end - room) (drop room piece) in
+    let g = length-drop room piece in
+    let long : length (slice_range piece room end) ≡ k * block_size = omega (arith, e, d.0, f, g) in
+    (k - 1, omega (arith, long, some))
+
+pub rest-short : (room end : ℕ) (piece : List ℕ) → room ≤ length piece → end ≡ room + (length piece - room) / block_size * block_size → length (drop end piece) < block_size
+rest-short room end piece h e = omega (arith, e, (divides (length piece - room)).1, length-drop end piece)
