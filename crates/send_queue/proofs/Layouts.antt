@@ -1,11 +1,11 @@
 -- Shared pieces and the beginning of a block: what is taken of them, and what is put after them.
-use Rattle.std.proofs.Common.{◌≡◌, ℕ, ◌+◌, ◌-◌, ◌*◌, ◌%◌, ◌/◌, ◌<◌, ◌≤◌, List, [], ◌∷◌, ◌++◌, length, take, drop, All, slice_range, inl, inr, ◌⊎◌, refl, sym, ap, subst, ◌∙◌, append_assoc, append-nil, arith, mod-lt, mod-eq_of_lt, drop-drop, drop_at, length-append, length-drop, length-take, take-append-drop, eq-or-lt_of_le}
+use Rattle.std.proofs.Common.{◌≡◌, ℕ, ◌+◌, ◌-◌, ◌*◌, ◌%◌, ◌/◌, ◌<◌, ◌≤◌, List, [], ◌∷◌, ◌++◌, length, take, drop, All, slice_range, inl, inr, ◌⊎◌, refl, sym, ap, subst, ◌∙◌, append_assoc, append-nil, arith, mod-eq_of_lt, drop-drop, drop_at, length-append, length-drop, length-take, take-append-drop, eq-or-lt_of_le}
 use Rattle.std.specs.List.{concat}
 use Rattle.std.proofs.lemmas.List.{drop-append-le, take-append-le, drop_all}
 use Rattle.std.proofs.lemmas.List.Folds.{concat-append, drop_split}
 use Rattle.std.proofs.lemmas.List.Elements.{All-nil, All-cons, All-head, All-tail, All-append}
 use Rattle.std.proofs.Math.Nat.{mod-add-div', mod_self}
-use Rattle.send_queue.specs.Layout.{block_size, AreBlocks, first, before, IsLaidOut}
+use Rattle.send_queue.specs.Layout.{AreBlocks, first, before, IsLaidOut}
 
 -- all that is kept
 abbrev pub kept : List (List ℕ) → List ℕ → List ℕ
@@ -13,13 +13,13 @@ kept pieces begun = concat pieces ++ begun
 
 -- ---- what is offered
 
-pub offers : (phase taken : ℕ) (pieces : List (List ℕ)) (begun : List ℕ) → phase < block_size → IsLaidOut phase taken pieces begun
-    → take (block_size - phase) (drop taken (first pieces begun)) ≡ take (block_size - phase) (drop taken (kept pieces begun))
+pub offers : (phase taken : ℕ) (pieces : List (List ℕ)) (begun : List ℕ) → phase < 16_384 → IsLaidOut phase taken pieces begun
+    → take (16_384 - phase) (drop taken (first pieces begun)) ≡ take (16_384 - phase) (drop taken (kept pieces begun))
 offers phase taken [] begun p l = refl
 offers phase taken (x ∷ xs) begun p l =
-    sym (ap (λ t. take (block_size - phase) (drop taken t)) (append_assoc x (concat xs) begun)
-    ∙ ap (take (block_size - phase)) (drop-append-le taken x (concat xs ++ begun) (omega (arith, l.0)))
-    ∙ take-append-le (block_size - phase) (drop taken x) (concat xs ++ begun) (omega (arith, p, l.1.1, length-drop taken x)))
+    sym (ap (λ t. take (16_384 - phase) (drop taken t)) (append_assoc x (concat xs) begun)
+    ∙ ap (take (16_384 - phase)) (drop-append-le taken x (concat xs ++ begun) (omega (arith, l.0)))
+    ∙ take-append-le (16_384 - phase) (drop taken x) (concat xs ++ begun) (omega (arith, p, l.1.1, length-drop taken x)))
 
 pub within : (phase taken : ℕ) (pieces : List (List ℕ)) (begun : List ℕ) → IsLaidOut phase taken pieces begun → taken ≤ length (first pieces begun)
 within phase taken [] begun l = l.0
@@ -27,44 +27,48 @@ within phase taken (x ∷ xs) begun l = omega (arith, l.0)
 
 pub reaches : (phase taken : ℕ) (pieces : List (List ℕ)) (begun : List ℕ) → IsLaidOut phase taken pieces begun → taken ≤ length (kept pieces begun)
 reaches phase taken [] begun l = l.0
-reaches phase taken (x ∷ xs) begun l = omega (arith, l.0, length-append x (concat xs), length-append (x ++ concat xs) begun)
+reaches phase taken (x ∷ xs) begun l =
+    let goes : taken ≤ length ((x ++ concat xs) ++ begun) = omega (arith, l.0, length-append x (concat xs), length-append (x ++ concat xs) begun) in
+    goes
 
 -- so many bytes of what is offered are among those that come first
-pub bounds : (phase taken count : ℕ) (pieces : List (List ℕ)) (begun : List ℕ) → phase < block_size → IsLaidOut phase taken pieces begun
-    → count ≤ length (take (block_size - phase) (drop taken (kept pieces begun))) → (phase + count ≤ block_size) × (taken + count ≤ length (first pieces begun))
+pub bounds : (phase taken count : ℕ) (pieces : List (List ℕ)) (begun : List ℕ) → phase < 16_384 → IsLaidOut phase taken pieces begun
+    → count ≤ length (take (16_384 - phase) (drop taken (kept pieces begun))) → (phase + count ≤ 16_384) × (taken + count ≤ length (first pieces begun))
 bounds phase taken count pieces begun p l h =
     let e = ap length (offers phase taken pieces begun p l) in
-    let f = length-take (block_size - phase) (drop taken (first pieces begun)) in
+    let f = length-take (16_384 - phase) (drop taken (first pieces begun)) in
     let g = length-drop taken (first pieces begun) in
     (omega (arith, p, e, f, h), omega (arith, e, f, g, h, within phase taken pieces begun l))
 
 -- ---- after bytes were taken
 
-pub phase-within : (phase count : ℕ) → (phase + count) % block_size < block_size
-phase-within phase count = mod-lt (phase + count) block_size (omega arith)
+pub phase-within : (phase count : ℕ) → (phase + count) % 16_384 < 16_384
+phase-within phase count = omega arith
 
-stays-in : (phase taken count : ℕ) (x : List ℕ) → phase < block_size → phase + count ≤ block_size → taken + count < length x
-    → AreBlocks (phase + (length x - taken)) → AreBlocks ((phase + count) % block_size + (length x - (taken + count)))
+stays-in : (phase taken count : ℕ) (x : List ℕ) → phase < 16_384 → phase + count ≤ 16_384 → taken + count < length x
+    → AreBlocks (phase + (length x - taken)) → AreBlocks ((phase + count) % 16_384 + (length x - (taken + count)))
 stays-in phase taken count x p q h b = from (eq-or-lt_of_le q)
   where
-    from : (phase + count ≡ block_size) ⊎ (phase + count < block_size) → AreBlocks ((phase + count) % block_size + (length x - (taken + count)))
-    from (inl e) = (b.0 - 1, ap (λ n. n % block_size + (length x - (taken + count))) e ∙ ap (λ n. n + (length x - (taken + count))) (mod_self block_size) ∙ omega (arith, e, h, b.1))
+    from : (phase + count ≡ 16_384) ⊎ (phase + count < 16_384) → AreBlocks ((phase + count) % 16_384 + (length x - (taken + count)))
+    from (inl e) = (b.0 - 1, ap (λ n. n % 16_384 + (length x - (taken + count))) e ∙ ap (λ n. n + (length x - (taken + count))) (mod_self 16_384) ∙ omega (arith, e, h, b.1))
     from (inr e) = (b.0, ap (λ n. n + (length x - (taken + count))) (mod-eq_of_lt e) ∙ omega (arith, e, h, b.1))
 
 -- some of what comes first is left
-pub stays : (phase taken count : ℕ) (pieces : List (List ℕ)) (begun : List ℕ) → phase < block_size → IsLaidOut phase taken pieces begun
-    → phase + count ≤ block_size → taken + count < length (first pieces begun) → IsLaidOut ((phase + count) % block_size) (taken + count) pieces begun
+pub stays : (phase taken count : ℕ) (pieces : List (List ℕ)) (begun : List ℕ) → phase < 16_384 → IsLaidOut phase taken pieces begun
+    → phase + count ≤ 16_384 → taken + count < length (first pieces begun) → IsLaidOut ((phase + count) % 16_384) (taken + count) pieces begun
 stays phase taken count [] begun p l q h =
-    let e : phase + count < block_size = omega (arith, l.1, h) in
-    (omega (arith, h), omega (arith, mod-eq_of_lt e, l.1, h))
+    let some : taken + count < length begun = h in
+    let room : phase + (length begun - taken) < 16_384 = l.1 in
+    let e : phase + count < 16_384 = omega (arith, room, some) in
+    (omega (arith, some), omega (arith, mod-eq_of_lt e, room, some))
 stays phase taken count (x ∷ xs) begun p l q h = (h, stays-in phase taken count x p q h l.1, l.2, l.3)
 
 -- the piece that comes first was taken whole
-pub leaves : (phase taken count : ℕ) (x : List ℕ) (xs : List (List ℕ)) (begun : List ℕ) → phase < block_size → IsLaidOut phase taken (x ∷ xs) begun
-    → phase + count ≤ block_size → taken + count ≡ length x → IsLaidOut ((phase + count) % block_size) 0 xs begun
+pub leaves : (phase taken count : ℕ) (x : List ℕ) (xs : List (List ℕ)) (begun : List ℕ) → phase < 16_384 → IsLaidOut phase taken (x ∷ xs) begun
+    → phase + count ≤ 16_384 → taken + count ≡ length x → IsLaidOut ((phase + count) % 16_384) 0 xs begun
 leaves phase taken count x xs begun p l q h =
-    let full : phase + count ≡ block_size = omega (arith, l.0, l.1.1, q, h) in
-    let begins : (phase + count) % block_size ≡ 0 = ap (λ n. n % block_size) full ∙ mod_self block_size in
+    let full : phase + count ≡ 16_384 = omega (arith, l.0, l.1.1, q, h) in
+    let begins : (phase + count) % 16_384 ≡ 0 = ap (λ n. n % 16_384) full ∙ mod_self 16_384 in
     subst (λ n. IsLaidOut n 0 xs begun) (sym begins) (next xs l.2)
   where
     next : (ys : List (List ℕ)) → All (λ y. AreBlocks (length y)) ys → IsLaidOut 0 0 ys begun
@@ -86,10 +90,13 @@ empties taken count begun h = sym (drop-drop count taken begun ∙ drop_all (tak
 
 -- bytes that the begun block has room for
 pub appends : (phase taken room : ℕ) (pieces : List (List ℕ)) (begun bytes : List ℕ) → IsLaidOut phase taken pieces begun
-    → room + before phase taken pieces begun ≡ block_size → length bytes < room → IsLaidOut phase taken pieces (begun ++ bytes)
+    → room + before phase taken pieces begun ≡ 16_384 → length bytes < room → IsLaidOut phase taken pieces (begun ++ bytes)
 appends phase taken room [] begun bytes l r h =
-    (omega (arith, length-append begun bytes, l.0), omega (arith, length-append begun bytes, l.0, l.1, r, h))
-appends phase taken room (x ∷ xs) begun bytes l r h = (l.0, l.1, l.2, omega (arith, length-append begun bytes, r, h))
+    let full : room + (phase + (length begun - taken)) ≡ 16_384 = r in
+    (omega (arith, length-append begun bytes, l.0), omega (arith, length-append begun bytes, l.0, full, h))
+appends phase taken room (x ∷ xs) begun bytes l r h =
+    let full : room + length begun ≡ 16_384 = r in
+    (l.0, l.1, l.2, omega (arith, length-append begun bytes, full, h))
 
 pub appends-bytes : (phase taken : ℕ) (pieces : List (List ℕ)) (begun bytes : List ℕ) → IsLaidOut phase taken pieces begun
     → drop taken (kept pieces (begun ++ bytes)) ≡ drop taken (kept pieces begun) ++ bytes
@@ -98,12 +105,16 @@ appends-bytes phase taken pieces begun bytes l =
 
 -- bytes that fill it, whole blocks after them, and the beginning of another block
 pub fills : (phase taken room : ℕ) (pieces : List (List ℕ)) (begun cut : List ℕ) (more : List (List ℕ)) (rest : List ℕ) → IsLaidOut phase taken pieces begun
-    → room + before phase taken pieces begun ≡ block_size → length cut ≡ room → All (λ p. AreBlocks (length p)) more → length rest < block_size
+    → room + before phase taken pieces begun ≡ 16_384 → length cut ≡ room → All (λ p. AreBlocks (length p)) more → length rest < 16_384
     → IsLaidOut phase taken (pieces ++ (begun ++ cut) ∷ more) rest
 fills phase taken room [] begun cut more rest l r c all h =
-    (omega (arith, length-append begun cut, l.0, l.1, r, c), (0, omega (arith, length-append begun cut, l.0, l.1, r, c)), all, h)
+    let full : room + (phase + (length begun - taken)) ≡ 16_384 = r in
+    let left : phase + (length begun - taken) < 16_384 = l.1 in
+    let some : taken ≤ length begun = l.0 in
+    (omega (arith, length-append begun cut, some, left, full, c), (0, omega (arith, length-append begun cut, some, full, c)), all, h)
 fills phase taken room (x ∷ xs) begun cut more rest l r c all h =
-    let whole : AreBlocks (length (begun ++ cut)) = (0, omega (arith, length-append begun cut, r, c)) in
+    let full : room + length begun ≡ 16_384 = r in
+    let whole : AreBlocks (length (begun ++ cut)) = (0, omega (arith, length-append begun cut, full, c)) in
     (l.0, l.1, All-append (λ p. AreBlocks (length p)) xs ((begun ++ cut) ∷ more) l.2 (All-cons (λ p. AreBlocks (length p)) (begun ++ cut) more whole all), h)
 
 seam : (a b c m r : List ℕ) → (a ++ ((b ++ c) ++ m)) ++ r ≡ (a ++ b) ++ (c ++ (m ++ r))
@@ -126,21 +137,21 @@ parts room end piece more h e =
     ∙ take-append-drop room piece
 
 -- so many bytes are whole blocks, and fewer than one block more
-pub divides : (n : ℕ) → ((n / block_size) * block_size ≤ n) × (n < (n / block_size) * block_size + block_size)
+divides : (n : ℕ) → ((n / 16_384) * 16_384 ≤ n) × (n < (n / 16_384) * 16_384 + 16_384)
 divides n =
-    let e = mod-add-div' n block_size in
-    let f = mod-lt n block_size (omega arith) in
-    (omega (arith, e), omega (arith, e, f))
+    let e = mod-add-div' n 16_384 in
+    (omega (arith, e), omega (arith, e))
 
-pub middle-blocks : (room end : ℕ) (piece : List ℕ) → room ≤ length piece → end ≡ room + (length piece - room) / block_size * block_size
+are-blocks : (k n : ℕ) → n ≡ k * 16_384 → 0 < n → AreBlocks n
+are-blocks k n e some = (k - 1, omega (arith, e, some))
+
+pub middle-blocks : (room end : ℕ) (piece : List ℕ) → room ≤ length piece → end ≡ room + (length piece - room) / 16_384 * 16_384
     → 0 < length (slice_range piece room end) → AreBlocks (length (slice_range piece room end))
 middle-blocks room end piece h e some =
-    let k = (length piece - room) / block_size in
     let d = divides (length piece - room) in
-    let f = length-take (end - room) (drop room piece) in
-    let g = length-drop room piece in
-    let long : length (slice_range piece room end) ≡ k * block_size = omega (arith, e, d.0, f, g) in
-    (k - 1, omega (arith, long, some))
+    let long : length (take (end - room) (drop room piece)) ≡ (length piece - room) / 16_384 * 16_384 =
+    omega (arith, e, d.0, length-take (end - room) (drop room piece), length-drop room piece) in
+    are-blocks ((length piece - room) / 16_384) (length (slice_range piece room end)) long some
 
-pub rest-short : (room end : ℕ) (piece : List ℕ) → room ≤ length piece → end ≡ room + (length piece - room) / block_size * block_size → length (drop end piece) < block_size
-rest-short room end piece h e = omega (arith, e, (divides (length piece - room)).1, length-drop end piece)
+pub rest-short : (room end : ℕ) (piece : List ℕ) → room ≤ length piece → end ≡ room + (length piece - room) / 16_384 * 16_384 → length (drop end piece) < 16_384
+rest-short room end piece h e = omega (arith, h, e, (divides (length piece - room)).1, length-drop end piece)

@@ -24,7 +24,7 @@ pub(crate) fn first<'a>(pieces: &'a VecDeque<Bytes>, begun: &'a Vec<u8>) -> &'a 
 /// How many bytes the block that is begun has room for.
 pub(crate) fn room(pieces: &VecDeque<Bytes>, begun: &Vec<u8>, taken: usize, phase: usize) -> usize
     requires { spec.IsLaidOut phase taken pieces.now.items begun.now.items }
-    ensures { result + spec.before phase taken pieces.now.items begun.now.items ≡ spec.block_size }
+    ensures { result + spec.before phase taken pieces.now.items begun.now.items ≡ 16_384 }
 {
     if pieces.is_empty() {
         BLOCK - (phase + (begun.len() - taken))

@@ -30,13 +30,13 @@ impl Model for SendQueue {
     ghost use Rattle.std.specs.Prelude.{◌<◌, ◌++◌, drop};
     ghost use Rattle.std.specs.List.{concat};
     ghost use Rattle.send_queue.specs.Records.{Sending};
-    ghost use Rattle.send_queue.specs.Layout.{block_size, IsLaidOut};
+    ghost use Rattle.send_queue.specs.Layout.{IsLaidOut};
 
     ghost Value = { Sending };
 
     ghost view = { λ q. record { bytes = drop q.taken (concat q.pieces.items ++ q.begun.items); phase = q.phase; gone = q.is_gone } };
 
-    ghost invariant = { λ q. (q.phase < block_size) × IsLaidOut q.phase q.taken q.pieces.items q.begun.items };
+    ghost invariant = { λ q. (q.phase < 16_384) × IsLaidOut q.phase q.taken q.pieces.items q.begun.items };
 }
 
 impl SendQueue {

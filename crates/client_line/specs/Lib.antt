@@ -1,0 +1,5 @@
+pub mod Requests
+pub mod Records
+pub mod Lines
+pub mod Messages
+pub mod Views

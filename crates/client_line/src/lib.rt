@@ -1,0 +1,8 @@
+//! The connection of a client: the bytes that come, cut into requests, and the bytes that wait to be sent.
+#![tactic(auto)]
+
+mod line;
+mod requests;
+
+pub use line::{Held, Line};
+pub use requests::LineOut;
