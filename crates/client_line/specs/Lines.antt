@@ -78,13 +78,28 @@ IsFed before piece answer after = Leads (settled before.at (before.held ++ piece
 abbrev pub body_so_far : Option Body → BodyKind → ℕ → Body
 body_so_far body kind max = unwrap_or body (begun kind max)
 
--- what belongs to the body of the bytes that are held is taken; where it is refused nothing is
-abbrev pub takes : BodyState → Body → BodyKind → BodyState → ℕ → List ℕ → Came
-takes (state.Refused code) body kind skips count bytes = came_at (Present (Some body) kind skips) bytes
-takes far body kind skips count bytes = came_at (Present (Some body) kind (skipped skips (take count bytes))) (drop count bytes)
+-- how many of the bytes that are held are taken: those that belong to the body, none where it is refused
+abbrev pub count_by : BodyState → ℕ → ℕ
+count_by (state.Refused code) count = 0
+count_by far count = count
 
+abbrev pub taken_count : Body → List ℕ → ℕ
+taken_count body bytes = count_by (after_bytes body bytes).state (used body bytes)
+
+-- what is held then, and how far the body is without a limit
+abbrev pub held_after : Body → List ℕ → List ℕ
+held_after body bytes = drop (taken_count body bytes) bytes
+
+abbrev pub skips_after : Body → BodyState → List ℕ → BodyState
+skips_after body skips bytes = skipped skips (take (taken_count body bytes) bytes)
+
+-- what is answered
+abbrev pub read_answer : Body → List ℕ → BodyRead
+read_answer body bytes = answer_at (after_bytes body bytes).state (used body bytes)
+
+-- what came then
 abbrev pub reads_body : Body → BodyKind → BodyState → List ℕ → Came
-reads_body body kind skips bytes = let all = after_bytes body bytes in takes all.state all kind skips (used body bytes) bytes
+reads_body body kind skips bytes = came_at (Present (Some (after_bytes body bytes)) kind (skips_after body skips bytes)) (held_after body bytes)
 
 -- after the body was asked for
 abbrev pub after_asked : Came → ℕ → Came
@@ -99,8 +114,7 @@ abbrev pub body_answer : Came → ℕ → BodyRead
 body_answer came max = asked came.at
   where
     asked : At → BodyRead
-    asked (Present body kind skips) =
-        let before = body_so_far body kind max in answer_at (after_bytes before came.held).state (used before came.held)
+    asked (Present body kind skips) = read_answer (body_so_far body kind max) came.held
     asked at = answer.Whole 0
 
 -- the content that was taken of it

@@ -1,6 +1,10 @@
 //! The connection of a client: the bytes that come, cut into requests, and the bytes that wait to be sent.
 #![tactic(auto)]
 
+mod at;
+mod bodies;
+mod heads;
+mod held;
 mod line;
 mod requests;
 

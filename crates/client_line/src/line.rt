@@ -4,11 +4,14 @@ ghost use Rattle.std.specs.Prelude.{◌≡◌, ◌≢◌, ◌≤◌, length, OnO
 ghost use Rattle.client_line.specs.Lines as spec;
 ghost use Rattle.send_queue.specs.Queues as queues;
 
-use crate::requests::{LineOut, request_in};
-use bytes::BytesMut;
-use http_bodies::{BodyIn, BodyRead, BodyState, begun_skip, skip};
-use http_in::{BodyKind, HeadScan};
-use resty_base::{Bytes, bytes_after, first_bytes};
+use crate::at::At;
+use crate::bodies::read_body;
+use crate::heads::{fed_head, fed_rest};
+use crate::held::{HeldBytes, advance};
+use crate::requests::LineOut;
+use http_bodies::{BodyRead, BodyState, skip};
+use http_in::HeadScan;
+use resty_base::Bytes;
 use send_queue::SendQueue;
 use std::alloc::{AllocError, Global};
 use std::marker::Model;
@@ -26,43 +29,24 @@ pub enum Held {
     Begun,
 }
 
-/// The most bytes that a head may have.
-const HEAD_LIMIT: usize = 16_384;
-
-/// What is read next of the bytes that came.
-#[derive(Debug, Drop)]
-enum At {
-    /// A head; so many of the bytes that are held were scanned for its end.
-    Head(HeadScan, usize),
-    /// A request is present: its body so far, where it was asked for, how it is framed, and how far it has come without a limit.
-    Present(Option<BodyIn>, BodyKind, BodyState),
-    /// The rest of a body, which is dropped as it comes.
-    Dropping(BodyState),
-    /// Nothing: a head was refused with this status.
-    Over(u16),
-}
-
 /// The bytes that came from a client and aren't read yet, and those that wait to be sent to it.
 #[derive(Drop)]
 pub struct Line {
     alloc: Global,
-    /// The first of the bytes that are held, where a head was cut off them that couldn't be read out of memory.
-    front: Bytes,
-    held: BytesMut,
+    held: HeldBytes,
     at: At,
     sending: SendQueue,
 }
 
 impl Model for Line {
-    ghost use Rattle.std.specs.Prelude.{◌++◌};
     ghost use Rattle.client_line.specs.Records.{Connection};
-    ghost use Rattle.client_line.specs.Views.{at_of, IsKept};
+    ghost use Rattle.client_line.specs.Views.{at_of, all_of, IsKept};
 
     ghost Value = { Connection };
 
-    ghost view = { λ line. record { came = record { at = at_of line.at; held = line.front ++ line.held.items }; sending = line.sending } };
+    ghost view = { λ line. record { came = record { at = at_of line.at; held = all_of line.held }; sending = line.sending } };
 
-    ghost invariant = { λ line. IsKept line.at line.front line.held.items };
+    ghost invariant = { λ line. IsKept line.at line.held };
 }
 
 impl Line {
@@ -72,8 +56,7 @@ impl Line {
     {
         Line {
             alloc,
-            front: Bytes::new(),
-            held: BytesMut::new(alloc),
+            held: HeldBytes::new(alloc),
             at: At::Head(HeadScan::new(), 0),
             sending: SendQueue::new(alloc),
         }
@@ -87,113 +70,26 @@ impl Line {
     {
         match &self.at {
             At::Head(scan, scanned) => {
-                let (scan, scanned) = (*scan, *scanned);
-                self.fed_head(scan, scanned, piece)
+                match fed_head(self.alloc, &mut self.held, *scan, *scanned, piece) {
+                    Ok((out, at)) => {
+                        self.at = at;
+                        out
+                    }
+                    Err(_) => LineOut::Memory,
+                }
             }
-            At::Present(_, _, _) => self.hold(piece),
-            At::Dropping(state) => {
-                let (state, count) = skip(*state, piece);
-                self.fed_rest(state, bytes_after(piece, count))
-            }
+            At::Present(_, _, _) => match self.held.rest.extend_from_slice(piece) {
+                Ok(()) => LineOut::Waiting,
+                Err(_) => LineOut::Memory,
+            },
+            At::Dropping(state) => match fed_rest(self.alloc, &mut self.held, *state, piece) {
+                Ok((out, at)) => {
+                    self.at = at;
+                    out
+                }
+                Err(_) => LineOut::Memory,
+            },
             At::Over(code) => LineOut::Refused(*code),
-        }
-    }
-
-    fn hold(&mut self, piece: &[u8]) -> LineOut {
-        match self.held.extend_from_slice(piece) {
-            Ok(()) => LineOut::Waiting,
-            Err(_) => LineOut::Memory,
-        }
-    }
-
-    /// The body that is dropped is so far, and these bytes come after it.
-    fn fed_rest(&mut self, state: BodyState, rest: &[u8]) -> LineOut {
-        match state {
-            BodyState::Whole => self.fed_head(HeadScan::new(), 0, rest),
-            BodyState::Refused(code) => {
-                self.at = At::Dropping(state);
-                LineOut::Refused(code)
-            }
-            _ => {
-                self.at = At::Dropping(state);
-                LineOut::Waiting
-            }
-        }
-    }
-
-    /// A further piece of a head, of which so many bytes were scanned.
-    fn fed_head(&mut self, scan: HeadScan, scanned: usize, piece: &[u8]) -> LineOut {
-        let Ok(()) = self.join() else {
-            return LineOut::Memory;
-        };
-        let before = self.held.len();
-        let Ok(()) = self.held.extend_from_slice(piece) else {
-            return LineOut::Memory;
-        };
-        let mut scan = scan;
-        match scan.read(bytes_after(&self.held, scanned)) {
-            Some(more) if scanned + more <= HEAD_LIMIT => self.cut(before, scanned + more),
-            None if self.held.len() < HEAD_LIMIT => {
-                self.at = At::Head(scan, self.held.len());
-                LineOut::Waiting
-            }
-            _ => self.refuse(431),
-        }
-    }
-
-    /// Puts what is held into one buffer.
-    fn join(&mut self) -> Result<(), AllocError> {
-        if self.front.is_empty() {
-            return Ok(());
-        }
-        let mut joined = BytesMut::with_capacity(self.alloc, self.front.len() + self.held.len())?;
-        joined.extend_from_slice(&self.front)?;
-        joined.extend_from_slice(&self.held)?;
-        self.held = joined;
-        self.front = Bytes::new();
-        Ok(())
-    }
-
-    fn refuse(&mut self, code: u16) -> LineOut {
-        self.held = BytesMut::new(self.alloc);
-        self.at = At::Over(code);
-        LineOut::Refused(code)
-    }
-
-    /// Cuts a whole head of `end` bytes off what is held, and reads it. Out of memory only the first `before` bytes are held.
-    fn cut(&mut self, before: usize, end: usize) -> LineOut {
-        let Ok(head) = self.held.freeze_to(end) else {
-            self.held.truncate(before);
-            return LineOut::Memory;
-        };
-        let Ok(shared) = head.clone() else {
-            return self.put_back(head, before);
-        };
-        match request_in(self.alloc, shared) {
-            LineOut::Request(head, target) => {
-                self.at = At::Present(None, head.body, begun_skip(head.body));
-                self.advance(0);
-                LineOut::Request(head, target)
-            }
-            LineOut::Refused(code) => self.refuse(code),
-            LineOut::Waiting | LineOut::Memory => self.put_back(head, before),
-        }
-    }
-
-    /// Puts a head that was cut off back, with what came after it, up to `before` bytes in all.
-    fn put_back(&mut self, head: Bytes, before: usize) -> LineOut {
-        self.held.truncate(before.saturating_sub(head.len()));
-        self.front = head;
-        self.front.truncate(before);
-        LineOut::Memory
-    }
-
-    /// Lets the first bytes go that are held; nothing that is held takes no memory.
-    fn advance(&mut self, count: usize) {
-        if self.held.len() <= count {
-            self.held = BytesMut::new(self.alloc);
-        } else {
-            self.held.advance(count);
         }
     }
 
@@ -203,27 +99,12 @@ impl Line {
         ensures taken { result ≢ BodyRead.Memory → self.new ≡ record self.old { came = spec.after_asked self.old.came max } }
         ensures kept { result ≡ BodyRead.Memory → self.new ≡ self.old }
     {
-        let At::Present(body, kind, skips) = &mut self.at else {
-            return BodyRead::Whole(0);
-        };
-        let was_begun = body.is_some();
-        let mut reading = match body.take() {
-            Some(reading) => reading,
-            None => BodyIn::new(self.alloc, *kind, max),
-        };
-        let read = reading.feed(&self.held);
-        if was_begun || read != BodyRead::Memory {
-            *body = Some(reading);
+        match &mut self.at {
+            At::Present(body, kind, skips) => {
+                read_body(self.alloc, &mut self.held.rest, body, *kind, skips, max)
+            }
+            _ => BodyRead::Whole(0),
         }
-        let count = match read {
-            BodyRead::More => self.held.len(),
-            BodyRead::Whole(count) => count,
-            BodyRead::Refused(_) | BodyRead::Memory => return read,
-        };
-        let (next, _) = skip(*skips, first_bytes(&self.held, count));
-        *skips = next;
-        self.advance(count);
-        read
     }
 
     /// The content of the present request's body that was taken.
@@ -240,16 +121,15 @@ impl Line {
     pub fn done(&mut self)
         ensures { self.new ≡ record self.old { came = spec.done self.old.came } }
     {
-        let At::Present(_, _, skips) = &self.at else {
-            return;
-        };
-        let (state, count) = skip(*skips, &self.held);
-        if state == BodyState::Whole {
-            self.at = At::Head(HeadScan::new(), 0);
-            self.advance(count);
-        } else {
-            self.at = At::Dropping(state);
-            self.held = BytesMut::new(self.alloc);
+        if let At::Present(_, _, skips) = &self.at {
+            let (state, count) = skip(*skips, &self.held.rest);
+            if state == BodyState::Whole {
+                self.at = At::Head(HeadScan::new(), 0);
+                advance(self.alloc, &mut self.held.rest, count);
+            } else {
+                self.at = At::Dropping(state);
+                self.held = HeldBytes::new(self.alloc);
+            }
         }
     }
 
@@ -260,7 +140,7 @@ impl Line {
         match &self.at {
             At::Present(_, _, _) => Held::Request,
             At::Dropping(_) => Held::Body,
-            At::Head(_, _) if self.front.is_empty() && self.held.is_empty() => Held::Nothing,
+            At::Head(_, _) if self.held.is_empty() => Held::Nothing,
             At::Head(_, _) | At::Over(_) => Held::Begun,
         }
     }

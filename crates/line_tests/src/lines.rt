@@ -57,7 +57,7 @@ fn step(alloc: Global, line: &mut Line, step: &str) -> Result<String, AllocError
         return format!(in alloc; "");
     }
     if step == "held" {
-        return format!(in alloc; "{held_in_words(line.held())}");
+        return format!(in alloc; "{}", held_in_words(line.held()));
     }
     if let Some(max) = step.strip_prefix("body ") {
         return body_in_words(alloc, line, max.parse().unwrap_or(0));

@@ -38,18 +38,18 @@ fn due(plain: &[u8], taken: usize) -> &[u8] {
 fn what_is_offered_ends_at_multiples(rt: HostRuntime) -> Result<(), Fail> {
     let alloc = rt.alloc();
     let mut waits = SendQueue::new(alloc);
-    assert_eq!(rt; waits.queued(), b"");
+    assert_eq!(rt; waits.queued(), b"".as_slice());
     queue(alloc, &mut waits, &mut Vec::new(alloc), 16_383)?;
     waits.queue(&Bytes::from_static(b"ab"))?;
     assert_eq!(rt; waits.queued().len(), 16_384);
     assert_eq!(rt; take(&mut waits, 1), 1);
     assert_eq!(rt; waits.queued().len(), 16_383);
     assert_eq!(rt; take(&mut waits, 20_000), 16_383);
-    assert_eq!(rt; waits.queued(), b"b");
+    assert_eq!(rt; waits.queued(), b"b".as_slice());
     waits.gone();
-    assert_eq!(rt; waits.queued(), b"");
+    assert_eq!(rt; waits.queued(), b"".as_slice());
     waits.queue(&Bytes::from_static(b"c"))?;
-    assert_eq!(rt; waits.queued(), b"");
+    assert_eq!(rt; waits.queued(), b"".as_slice());
     Ok(())
 }
 

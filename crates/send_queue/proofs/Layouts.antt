@@ -1,11 +1,12 @@
 -- Shared pieces and the beginning of a block: what is taken of them, and what is put after them.
-use Rattle.std.proofs.Common.{◌≡◌, ℕ, ◌+◌, ◌-◌, ◌*◌, ◌%◌, ◌/◌, ◌<◌, ◌≤◌, List, [], ◌∷◌, ◌++◌, length, take, drop, All, slice_range, inl, inr, ◌⊎◌, refl, sym, ap, subst, ◌∙◌, append_assoc, append-nil, arith, mod-eq_of_lt, drop-drop, drop_at, length-append, length-drop, length-take, take-append-drop, eq-or-lt_of_le}
+use Rattle.std.proofs.Common.{◌≡◌, ℕ, ◌+◌, ◌-◌, ◌*◌, ◌%◌, ◌/◌, ◌<◌, ◌≤◌, List, [], ◌∷◌, ◌++◌, length, take, drop, All, slice_range, inl, inr, ◌⊎◌, refl, sym, ap, subst, ◌∙◌, append_assoc, append-nil, arith, mod-eq_of_lt, drop-drop, drop_at, length-append, length-drop, length-take, length-take-le, take-append-drop, eq-or-lt_of_le}
 use Rattle.std.specs.List.{concat}
 use Rattle.std.proofs.lemmas.List.{drop-append-le, take-append-le, drop_all}
 use Rattle.std.proofs.lemmas.List.Folds.{concat-append, drop_split}
 use Rattle.std.proofs.lemmas.List.Elements.{All-nil, All-cons, All-head, All-tail, All-append}
 use Rattle.std.proofs.Math.Nat.{mod-add-div', mod_self}
-use Rattle.send_queue.specs.Layout.{AreBlocks, first, before, IsLaidOut}
+use Rattle.std.specs.Prelude.{Bool, true, false, Option, Some, None, is_some, option_to_list, suc}
+use Rattle.send_queue.specs.Layout.{AreBlocks, first, before, IsLaidOut, unless_empty}
 
 -- all that is kept
 abbrev pub kept : List (List ℕ) → List ℕ → List ℕ
@@ -39,6 +40,10 @@ bounds phase taken count pieces begun p l h =
     let f = length-take (16_384 - phase) (drop taken (first pieces begun)) in
     let g = length-drop taken (first pieces begun) in
     (omega (arith, p, e, f, h), omega (arith, e, f, g, h, within phase taken pieces begun l))
+
+no-more : (ps : List (List ℕ)) → length ps ≡ 0 → ps ≡ []
+no-more [] h = refl
+no-more (p ∷ ps) h = absurd (omega (arith, h))
 
 -- ---- after bytes were taken
 
@@ -85,6 +90,23 @@ leaves-bytes taken count x xs begun h =
 -- the begun block was taken whole
 pub empties : (taken count : ℕ) (begun : List ℕ) → taken + count ≡ length begun → [] ≡ drop count (drop taken (kept [] begun))
 empties taken count begun h = sym (drop-drop count taken begun ∙ drop_all (taken + count) begun (omega (arith, h)))
+
+-- what came first was popped
+pub pops : (phase taken count : ℕ) (ps qs : List (List ℕ)) (begun : List ℕ) (popped : Option (List ℕ)) → phase < 16_384 → IsLaidOut phase taken ps begun
+    → phase + count ≤ 16_384 → taken + count ≡ length (first ps begun) → ps ≡ option_to_list popped ++ qs → is_some popped ≡ true
+    → IsLaidOut ((phase + count) % 16_384) 0 qs begun × (kept qs begun ≡ drop count (drop taken (kept ps begun)))
+pops phase taken count ps qs begun None p l q h e s = absurd (let f : false ≡ true = s in cc)
+pops phase taken count ps qs begun (Some x) p l q h e s =
+    let is : ps ≡ x ∷ qs = e in
+    let laid : IsLaidOut phase taken (x ∷ qs) begun = subst (λ rs. IsLaidOut phase taken rs begun) is l in
+    let whole : taken + count ≡ length x = h ∙ ap (λ rs. length (first rs begun)) is in
+    (leaves phase taken count x qs begun p laid q whole, leaves-bytes taken count x qs begun whole ∙ ap (λ rs. drop count (drop taken (kept rs begun))) (sym is))
+
+pub pops-last : (phase taken count : ℕ) (ps qs rs : List (List ℕ)) (begun : List ℕ) (popped : Option (List ℕ)) → phase < 16_384 → IsLaidOut phase taken ps begun
+    → phase + count ≤ 16_384 → taken + count ≡ length (first ps begun) → ps ≡ option_to_list popped ++ qs → is_some popped ≡ true → length qs ≡ 0 → rs ≡ []
+    → kept rs begun ≡ drop count (drop taken (kept ps begun))
+pops-last phase taken count ps qs rs begun popped p l q h e s none empty =
+    ap (λ zs. kept zs begun) (empty ∙ sym (no-more qs none)) ∙ (pops phase taken count ps qs begun popped p l q h e s).1
 
 -- ---- what is put after them
 
@@ -155,3 +177,33 @@ middle-blocks room end piece h e some =
 
 pub rest-short : (room end : ℕ) (piece : List ℕ) → room ≤ length piece → end ≡ room + (length piece - room) / 16_384 * 16_384 → length (drop end piece) < 16_384
 rest-short room end piece h e = omega (arith, h, e, (divides (length piece - room)).1, length-drop end piece)
+
+middle-laid : (room end : ℕ) (piece middle : List ℕ) → room ≤ length piece → end ≡ room + (length piece - room) / 16_384 * 16_384
+    → middle ≡ slice_range piece room end → All (λ p. AreBlocks (length p)) (unless_empty middle)
+middle-laid room end piece [] h e is = All-nil (λ p. AreBlocks (length p))
+middle-laid room end piece (b ∷ bs) h e is =
+    let some : 0 < length (slice_range piece room end) = omega (arith, ap length is) in
+    let blocks : AreBlocks (length (b ∷ bs)) = subst (λ m. AreBlocks (length m)) (sym is) (middle-blocks room end piece h e some) in
+    All-cons (λ p. AreBlocks (length p)) (b ∷ bs) [] blocks (All-nil (λ p. AreBlocks (length p)))
+
+middle-bytes : (middle : List ℕ) → concat (unless_empty middle) ≡ middle
+middle-bytes [] = refl
+middle-bytes (b ∷ bs) = append-nil (b ∷ bs)
+
+-- all of a piece that fills the begun block
+pub queues : (phase taken room end n : ℕ) (ps qs : List (List ℕ)) (begun piece whole middle rest : List ℕ) → IsLaidOut phase taken ps begun
+    → room + before phase taken ps begun ≡ 16_384 → n ≡ length piece → room ≤ n → end ≡ room + (n - room) / 16_384 * 16_384
+    → whole ≡ begun ++ take room piece → middle ≡ slice_range piece room end → rest ≡ drop end piece → qs ≡ ps ++ whole ∷ unless_empty middle
+    → IsLaidOut phase taken qs rest × (drop taken (kept qs rest) ≡ drop taken (kept ps begun) ++ piece)
+queues phase taken room end n ps qs begun piece whole middle rest l r len h e w m t put =
+    let fits : room ≤ length piece = omega (arith, h, len) in
+    let ends : end ≡ room + (length piece - room) / 16_384 * 16_384 = e ∙ ap (λ k. room + (k - room) / 16_384 * 16_384) len in
+    let cut = length-take-le room piece fits in
+    let short : length rest < 16_384 = omega (arith, ap length t, rest-short room end piece fits ends) in
+    let is : qs ≡ ps ++ (begun ++ take room piece) ∷ unless_empty middle = put ∙ ap (λ x. ps ++ x ∷ unless_empty middle) w in
+    let within : room ≤ end = omega (arith, ends) in
+    let all : take room piece ++ (concat (unless_empty middle) ++ rest) ≡ piece =
+    ap (λ t. take room piece ++ (concat (unless_empty middle) ++ t)) t ∙ parts room end piece (unless_empty middle) within (middle-bytes middle ∙ m) in (
+      subst (λ rs. IsLaidOut phase taken rs rest) (sym is) (fills phase taken room ps begun (take room piece) (unless_empty middle) rest l r cut (middle-laid room end piece middle fits ends m) short),
+      ap (λ rs. drop taken (kept rs rest)) is ∙ fills-bytes phase taken ps begun (take room piece) (unless_empty middle) rest l ∙ ap (λ b. drop taken (kept ps begun) ++ b) all,
+    )

@@ -20,3 +20,8 @@ abbrev pub IsLaidOut : ℕ → ℕ → List (List ℕ) → List ℕ → Type 0
 IsLaidOut phase taken [] begun = (taken ≤ length begun) × (phase + (length begun - taken) < 16_384)
 IsLaidOut phase taken (piece ∷ pieces) begun =
     (taken < length piece) × AreBlocks (phase + (length piece - taken)) × All (λ p. AreBlocks (length p)) pieces × (length begun < 16_384)
+
+-- a piece alone, and none where it is empty
+abbrev pub unless_empty : List ℕ → List (List ℕ)
+unless_empty [] = []
+unless_empty (b ∷ bs) = (b ∷ bs) ∷ []

@@ -1,6 +1,7 @@
 //! Blocks of bytes, which are filled by copying or cut off shared pieces.
 
-ghost use Rattle.std.specs.Prelude.{◌≡◌, ◌+◌, ◌++◌, ◌≤◌, [], length, take, IfOk, OnOk, OnErr};
+ghost use Rattle.std.specs.Prelude.{◌≡◌, ◌+◌, ◌++◌, ◌∷◌, ◌≤◌, [], length, take, IfOk, OnOk, OnErr};
+ghost use Rattle.std.specs.VecDeque.{deque_len, deque_capacity};
 ghost use Rattle.send_queue.specs.Layout as spec;
 
 use resty_base::{Bytes, first_bytes};
@@ -69,5 +70,16 @@ pub(crate) fn filled(
             block.truncate(count);
             Err(AllocError)
         }
+    }
+}
+
+/// Puts a piece at the end, and another after it unless it is empty.
+pub(crate) fn put(pieces: &mut VecDeque<Bytes>, piece: Bytes, other: Bytes)
+    requires { deque_len pieces.old + 2 ≤ deque_capacity pieces.old }
+    ensures { pieces.new.items ≡ pieces.old.items ++ piece ∷ spec.unless_empty other }
+{
+    pieces.push_back_reserved(piece);
+    if !other.is_empty() {
+        pieces.push_back_reserved(other);
     }
 }

@@ -3,7 +3,7 @@
 ghost use Rattle.std.specs.Prelude.{◌≡◌, ◌≤◌, length, OnOk, OnErr};
 ghost use Rattle.send_queue.specs.Queues as spec;
 
-use crate::blocks::{BLOCK, append, filled, first, room};
+use crate::blocks::{BLOCK, append, filled, first, put, room};
 use resty_base::{Bytes, bytes_after, first_bytes};
 use std::alloc::{AllocError, Global};
 use std::collections::VecDeque;
@@ -72,10 +72,7 @@ impl SendQueue {
         append(&mut rest, bytes_after(piece, end), BLOCK)?;
         self.pieces.reserve(2)?;
         let whole = filled(self.alloc, &mut self.begun, piece, room)?;
-        self.pieces.push_back_reserved(whole);
-        if !middle.is_empty() {
-            self.pieces.push_back_reserved(middle);
-        }
+        put(&mut self.pieces, whole, middle);
         self.begun = rest;
         Ok(())
     }
