@@ -2,9 +2,7 @@
 use Rattle.std.specs.Prelude.{◌≡◌, ℕ, ◌==◌, List, [], ◌++◌, length, take, drop, Option, Some, None, if◌then◌else◌}
 use Rattle.std.specs.Option.{unwrap_or}
 use Rattle.http_in.specs.declared.framing.BodyKind.{BodyKind}
-use Rattle.http_in.specs.declared.heads.HeadRead.{HeadRead}
-use Rattle.http_in.specs.declared.heads.HeadRead.TheVariants as read
-use Rattle.http_in.specs.Heads.{Reads}
+use Rattle.http_in.specs.Ends.{head_end}
 use Rattle.http_bodies.specs.declared.bodies.BodyRead.{BodyRead}
 use Rattle.http_bodies.specs.declared.bodies.BodyRead.TheVariants as answer
 use Rattle.http_bodies.specs.declared.states.BodyState.{BodyState}
@@ -16,9 +14,9 @@ use Rattle.client_line.specs.declared.line.Held.{Held}
 use Rattle.client_line.specs.declared.line.Held.TheVariants as held
 use Rattle.client_line.specs.declared.requests.LineOut.{LineOut}
 use Rattle.client_line.specs.declared.requests.LineOut.TheVariants as out
-use Rattle.client_line.specs.Requests.{answer_to}
+use Rattle.client_line.specs.Requests.{IsOf}
 use Rattle.client_line.specs.Records.{At, Came}
-use Rattle.client_line.specs.Records.At.{Head, Present, Dropping, Over}
+use Rattle.client_line.specs.Records.{Head, Present, Dropping, Over}
 
 abbrev pub came_at : At → List ℕ → Came
 came_at at bytes = record { at = at; held = bytes }
@@ -52,21 +50,26 @@ abbrev pub answer_dropping : BodyState → LineOut
 answer_dropping (state.Refused code) = out.Refused code
 answer_dropping far = out.Waiting
 
+-- what comes after the head that the bytes begin with
+abbrev pub after_head : Option ℕ → List ℕ → List ℕ
+after_head None bytes = bytes
+after_head (Some n) bytes = drop n bytes
+
 -- after an answer to the bytes at a head: a request is present, nothing is read any more, or the bytes are held
-abbrev pub after_answer : HeadRead → LineOut → List ℕ → Came
-after_answer (read.Whole head n) (out.Request h target) bytes = came_at (Present None head.body (begun_state head.body no_limit)) (drop n bytes)
-after_answer far (out.Refused code) bytes = came_at (Over code) []
-after_answer far other bytes = came_at Head bytes
+abbrev pub after_answer : LineOut → List ℕ → Came
+after_answer (out.Request head target) bytes = came_at (Present None head.body (begun_state head.body no_limit)) (after_head (head_end bytes) bytes)
+after_answer (out.Refused code) bytes = came_at (Over code) []
+after_answer other bytes = came_at Head bytes
 
 -- what the bytes that came lead to, and what came then
+abbrev pub LeadsAt : At → List ℕ → LineOut → Came → Type 0
+LeadsAt Head bytes answer after = IsOf bytes answer × (after ≡ after_answer answer bytes)
+LeadsAt (Present body kind skips) bytes answer after = (answer ≡ out.Waiting) × (after ≡ came_at (Present body kind skips) bytes)
+LeadsAt (Dropping far) bytes answer after = (answer ≡ answer_dropping far) × (after ≡ came_at (Dropping far) bytes)
+LeadsAt (Over code) bytes answer after = (answer ≡ out.Refused code) × (after ≡ came_at (Over code) bytes)
+
 abbrev pub Leads : Came → LineOut → Came → Type 0
-Leads came answer after = leads came.at
-  where
-    leads : At → Type 0
-    leads Head = (read : HeadRead) × Reads came.held read × (answer ≡ answer_to read) × (after ≡ after_answer read answer came.held)
-    leads (Present body kind skips) = (answer ≡ out.Waiting) × (after ≡ came)
-    leads (Dropping far) = (answer ≡ answer_dropping far) × (after ≡ came)
-    leads (Over code) = (answer ≡ out.Refused code) × (after ≡ came)
+Leads came answer after = LeadsAt came.at came.held answer after
 
 -- a further piece came
 abbrev pub IsFed : Came → List ℕ → LineOut → Came → Type 0
@@ -102,20 +105,20 @@ abbrev pub reads_body : Body → BodyKind → BodyState → List ℕ → Came
 reads_body body kind skips bytes = came_at (Present (Some (after_bytes body bytes)) kind (skips_after body skips bytes)) (held_after body bytes)
 
 -- after the body was asked for
+abbrev pub asked_at : At → List ℕ → ℕ → Came
+asked_at (Present body kind skips) bytes max = reads_body (body_so_far body kind max) kind skips bytes
+asked_at at bytes max = came_at at bytes
+
 abbrev pub after_asked : Came → ℕ → Came
-after_asked came max = asked came.at
-  where
-    asked : At → Came
-    asked (Present body kind skips) = reads_body (body_so_far body kind max) kind skips came.held
-    asked at = came
+after_asked came max = asked_at came.at came.held max
 
 -- what is answered then: without a request a whole body of no bytes
+abbrev pub answer_in : At → List ℕ → ℕ → BodyRead
+answer_in (Present body kind skips) bytes max = read_answer (body_so_far body kind max) bytes
+answer_in at bytes max = answer.Whole 0
+
 abbrev pub body_answer : Came → ℕ → BodyRead
-body_answer came max = asked came.at
-  where
-    asked : At → BodyRead
-    asked (Present body kind skips) = read_answer (body_so_far body kind max) came.held
-    asked at = answer.Whole 0
+body_answer came max = answer_in came.at came.held max
 
 -- the content that was taken of it
 abbrev pub content : At → List ℕ
@@ -125,12 +128,12 @@ content at = []
 -- ---- done, and what the line is at
 
 -- the request that is present ends, and the rest of its body is dropped
+abbrev pub ended_at : At → List ℕ → Came
+ended_at (Present body kind skips) bytes = drops skips bytes
+ended_at at bytes = came_at at bytes
+
 abbrev pub done : Came → Came
-done came = ended came.at
-  where
-    ended : At → Came
-    ended (Present body kind skips) = drops skips came.held
-    ended at = came
+done came = ended_at came.at came.held
 
 abbrev pub held_in : At → List ℕ → Held
 held_in (Present body kind skips) bytes = held.Request

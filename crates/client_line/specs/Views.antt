@@ -9,7 +9,7 @@ use Rattle.client_line.specs.declared.held.HeldBytes.{HeldBytes}
 use Rattle.client_line.specs.declared.requests.LineOut.{LineOut}
 use Rattle.client_line.specs.declared.requests.LineOut.TheVariants as out
 use Rattle.client_line.specs.Records.{At, Came}
-use Rattle.client_line.specs.Records.At.{Head, Present, Dropping, Over}
+use Rattle.client_line.specs.Records.{Head, Present, Dropping, Over}
 use Rattle.client_line.specs.Lines.{came_at, Leads}
 
 -- what is read next

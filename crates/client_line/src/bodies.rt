@@ -2,7 +2,7 @@
 
 ghost use Rattle.std.specs.Prelude.{◌≡◌, ◌≢◌};
 ghost use Rattle.http_bodies.specs.Bodies.{after_bytes};
-ghost use Rattle.client_line.specs.Records.At.{Present};
+ghost use Rattle.client_line.specs.Records.{Present};
 ghost use Rattle.client_line.specs.Lines as spec;
 
 use crate::held::advance;

@@ -3,7 +3,7 @@
 ghost use Rattle.std.specs.Prelude.{◌≡◌, ◌≢◌, ◌≤◌, ◌++◌, Some, [], length, take, drop, IfOk, OnErr};
 ghost use Rattle.http_in.specs.Ends.{head_end};
 ghost use Rattle.client_line.specs.Requests.{IsOf};
-ghost use Rattle.client_line.specs.Records.At.{Head};
+ghost use Rattle.client_line.specs.Records.{Head};
 ghost use Rattle.client_line.specs.Lines.{came_at, drops};
 ghost use Rattle.client_line.specs.Views.{all_of, IsScanned, LeadsTo};
 

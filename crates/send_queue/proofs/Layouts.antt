@@ -5,7 +5,7 @@ use Rattle.std.proofs.lemmas.List.{drop-append-le, take-append-le, drop_all}
 use Rattle.std.proofs.lemmas.List.Folds.{concat-append, drop_split}
 use Rattle.std.proofs.lemmas.List.Elements.{All-nil, All-cons, All-head, All-tail, All-append}
 use Rattle.std.proofs.Math.Nat.{mod-add-div', mod_self}
-use Rattle.std.specs.Prelude.{Bool, true, false, Option, Some, None, is_some, option_to_list, suc}
+use Rattle.std.specs.Prelude.{true, false, Option, Some, None, is_some, option_to_list}
 use Rattle.send_queue.specs.Layout.{AreBlocks, first, before, IsLaidOut, unless_empty}
 
 -- all that is kept

@@ -1,5 +1,5 @@
 -- What the calls of a queue do with the bytes that wait.
-use Rattle.std.specs.Prelude.{ℕ, ◌+◌, ◌-◌, ◌%◌, true, false, List, [], ◌++◌, length, take, drop, if◌then◌else◌}
+use Rattle.std.specs.Prelude.{ℕ, ◌+◌, ◌-◌, ◌%◌, true, false, List, [], ◌++◌, take, drop, if◌then◌else◌}
 use Rattle.send_queue.specs.Records.{Sending}
 
 -- nothing waits, and nothing was taken

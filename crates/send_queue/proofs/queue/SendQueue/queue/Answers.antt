@@ -1,5 +1,5 @@
 -- A piece that fills the begun block is put after what waits.
-use Rattle.std.proofs.Common.{◌≡◌, ℕ, ◌+◌, ◌-◌, ◌*◌, ◌/◌, ◌≤◌, ◌++◌, false, drop, length, refl, arith, rules}
+use Rattle.std.proofs.Common.{◌≡◌, ◌+◌, ◌-◌, ◌*◌, ◌/◌, ◌≤◌, false, drop, refl, arith, rules}
 use Rattle.send_queue.proofs.Layouts.{queues}
 use Rattle.send_queue.proofs.queue.SendQueue.queue.Goals as goal
 

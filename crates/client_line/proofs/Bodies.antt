@@ -1,0 +1,80 @@
+-- What is taken of the bytes that are held, by what a body is answered with.
+use Rattle.std.specs.Prelude.{Bool, true, false, suc, if◌then◌else◌}
+use Rattle.std.proofs.Common.{◌≡◌, ℕ, List, [], ◌∷◌, length, refl, sym, ap, ◌∙◌}
+use Rattle.http_bodies.specs.declared.bodies.BodyRead.{BodyRead}
+use Rattle.http_bodies.specs.declared.bodies.BodyRead.TheVariants as answer
+use Rattle.http_bodies.specs.declared.states.BodyState.{BodyState}
+use Rattle.http_bodies.specs.declared.states.BodyState.TheVariants.{Data, Digits, Blanks, Extension, Return, DataEnd, DataReturn, Trailers, TrailersReturn, TrailersLine, Whole, Refused}
+use Rattle.http_bodies.specs.Records.{Body}
+use Rattle.http_bodies.specs.States.{is_settled}
+use Rattle.http_bodies.specs.Bodies.{after_one, after_bytes, used, answer_at}
+use Rattle.http_bodies.proofs.Pieces.{settled-stays}
+use Rattle.client_line.specs.Lines.{count_by}
+
+-- where a body is neither whole nor refused all bytes belong to it
+uses-all : (body : Body) (bs : List ℕ) → is_settled (after_bytes body bs).state ≡ false → used body bs ≡ length bs
+uses-all body [] h = refl
+uses-all body (b ∷ bs) h = test (is_settled body.state) refl
+  where
+    test : (s : Bool) → is_settled body.state ≡ s → (if s then 0 else suc (used (after_one body b) bs)) ≡ suc (length bs)
+    test true e =
+        let stays : after_bytes body (b ∷ bs) ≡ body = settled-stays body.max body.state body.content (b ∷ bs) e in
+        absurd (let f : true ≡ false = sym e ∙ ap (λ (x : Body). is_settled x.state) (sym stays) ∙ h in cc)
+    test false e = ap suc (uses-all (after_one body b) bs h)
+
+is-more : (state : BodyState) (n : ℕ) → answer_at state n ≡ answer.More → (is_settled state ≡ false) × (count_by state n ≡ n)
+is-more (Data more of) n h = (refl, refl)
+is-more (Digits size m) n h = (refl, refl)
+is-more (Blanks size m) n h = (refl, refl)
+is-more (Extension size m) n h = (refl, refl)
+is-more (Return size m) n h = (refl, refl)
+is-more DataEnd n h = (refl, refl)
+is-more DataReturn n h = (refl, refl)
+is-more (Trailers m) n h = (refl, refl)
+is-more (TrailersReturn m) n h = (refl, refl)
+is-more (TrailersLine m) n h = (refl, refl)
+is-more Whole n h = absurd (let f : answer.Whole n ≡ answer.More = h in cc)
+is-more (Refused code) n h = absurd (let f : answer.Refused code ≡ answer.More = h in cc)
+
+is-whole : (state : BodyState) (n m : ℕ) → answer_at state n ≡ answer.Whole m → count_by state n ≡ m
+is-whole (Data more of) n m h = absurd (let f : answer.More ≡ answer.Whole m = h in cc)
+is-whole (Digits size k) n m h = absurd (let f : answer.More ≡ answer.Whole m = h in cc)
+is-whole (Blanks size k) n m h = absurd (let f : answer.More ≡ answer.Whole m = h in cc)
+is-whole (Extension size k) n m h = absurd (let f : answer.More ≡ answer.Whole m = h in cc)
+is-whole (Return size k) n m h = absurd (let f : answer.More ≡ answer.Whole m = h in cc)
+is-whole DataEnd n m h = absurd (let f : answer.More ≡ answer.Whole m = h in cc)
+is-whole DataReturn n m h = absurd (let f : answer.More ≡ answer.Whole m = h in cc)
+is-whole (Trailers k) n m h = absurd (let f : answer.More ≡ answer.Whole m = h in cc)
+is-whole (TrailersReturn k) n m h = absurd (let f : answer.More ≡ answer.Whole m = h in cc)
+is-whole (TrailersLine k) n m h = absurd (let f : answer.More ≡ answer.Whole m = h in cc)
+is-whole Whole n m h = let f : answer.Whole n ≡ answer.Whole m = h in cc
+is-whole (Refused code) n m h = absurd (let f : answer.Refused code ≡ answer.Whole m = h in cc)
+
+is-refused : (state : BodyState) (n code : ℕ) → answer_at state n ≡ answer.Refused code → count_by state n ≡ 0
+is-refused (Data more of) n code h = absurd (let f : answer.More ≡ answer.Refused code = h in cc)
+is-refused (Digits size k) n code h = absurd (let f : answer.More ≡ answer.Refused code = h in cc)
+is-refused (Blanks size k) n code h = absurd (let f : answer.More ≡ answer.Refused code = h in cc)
+is-refused (Extension size k) n code h = absurd (let f : answer.More ≡ answer.Refused code = h in cc)
+is-refused (Return size k) n code h = absurd (let f : answer.More ≡ answer.Refused code = h in cc)
+is-refused DataEnd n code h = absurd (let f : answer.More ≡ answer.Refused code = h in cc)
+is-refused DataReturn n code h = absurd (let f : answer.More ≡ answer.Refused code = h in cc)
+is-refused (Trailers k) n code h = absurd (let f : answer.More ≡ answer.Refused code = h in cc)
+is-refused (TrailersReturn k) n code h = absurd (let f : answer.More ≡ answer.Refused code = h in cc)
+is-refused (TrailersLine k) n code h = absurd (let f : answer.More ≡ answer.Refused code = h in cc)
+is-refused Whole n code h = absurd (let f : answer.Whole n ≡ answer.Refused code = h in cc)
+is-refused (Refused other) n code h = refl
+
+-- how many of the bytes are taken
+pub more-takes : (body : Body) (bs : List ℕ) (read : BodyRead) → read ≡ answer_at (after_bytes body bs).state (used body bs) → read ≡ answer.More
+    → count_by (after_bytes body bs).state (used body bs) ≡ length bs
+more-takes body bs read h m =
+    let is = is-more (after_bytes body bs).state (used body bs) (sym h ∙ m) in
+    is.1 ∙ uses-all body bs is.0
+
+pub whole-takes : (body : Body) (bs : List ℕ) (read : BodyRead) (count : ℕ) → read ≡ answer_at (after_bytes body bs).state (used body bs) → read ≡ answer.Whole count
+    → count_by (after_bytes body bs).state (used body bs) ≡ count
+whole-takes body bs read count h m = is-whole (after_bytes body bs).state (used body bs) count (sym h ∙ m)
+
+pub refused-takes : (body : Body) (bs : List ℕ) (read : BodyRead) (code : ℕ) → read ≡ answer_at (after_bytes body bs).state (used body bs) → read ≡ answer.Refused code
+    → count_by (after_bytes body bs).state (used body bs) ≡ 0
+refused-takes body bs read code h m = is-refused (after_bytes body bs).state (used body bs) code (sym h ∙ m)
