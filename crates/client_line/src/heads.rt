@@ -8,7 +8,7 @@ ghost use Rattle.client_line.specs.Lines.{came_at, drops};
 ghost use Rattle.client_line.specs.Views.{all_of, IsScanned, LeadsTo};
 
 use crate::at::At;
-use crate::held::HeldBytes;
+use crate::held::{HeldBytes, advance};
 use crate::requests::{LineOut, request_in};
 use http_bodies::{BodyState, begun_skip, skip};
 use http_in::HeadScan;
@@ -67,6 +67,7 @@ fn cut_head(
         Ok(shared) => match request_in(alloc, shared) {
             LineOut::Request(head, target) => {
                 let body = head.body;
+                advance(alloc, &mut held.rest, 0);
                 Ok((
                     LineOut::Request(head, target),
                     At::Present(None, body, begun_skip(body)),

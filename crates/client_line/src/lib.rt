@@ -5,8 +5,10 @@ mod at;
 mod bodies;
 mod heads;
 mod held;
+mod laws;
 mod line;
 mod requests;
 
+pub use laws::two_pieces_are_one_of_both;
 pub use line::{Held, Line};
 pub use requests::LineOut;

@@ -82,3 +82,30 @@ run-on state next more of rest left count st cnt nx lf = rw (st, lf, cnt, nx) (t
           ap (skipped (Data (more - length rest) of)) left ∙ sym (ap (skipped (Data more of)) (sym (append-nil rest)) ∙ front more of rest [] long),
           ap (skip_count (Data more of)) (sym (append-nil rest)) ∙ front-count more of rest [] long ∙ ap (λ (t : List ℕ). length rest + skip_count (Data (more - length rest) of) t) (sym left),
         )
+
+-- ---- bytes that come in two parts
+
+pub counts-append : (state : BodyState) (xs ys : List ℕ) → skip_count state (xs ++ ys) ≡ skip_count state xs + skip_count (skipped state xs) ys
+counts-append state [] ys = refl
+counts-append state (x ∷ xs) ys = test (is_settled state) refl
+  where
+    test : (f : Bool) → is_settled state ≡ f → (if f then 0 else suc (skip_count (after_byte no_limit state x) (xs ++ ys)))
+        ≡ (if f then 0 else suc (skip_count (after_byte no_limit state x) xs)) + skip_count (skipped (after_byte no_limit state x) xs) ys
+    test true e = sym (settled-counts (skipped (after_byte no_limit state x) xs) ys (ap is_settled (settled-stays state (x ∷ xs) e) ∙ e))
+    test false e = ap suc (counts-append (after_byte no_limit state x) xs ys)
+
+pub counts-within : (state : BodyState) (xs : List ℕ) → skip_count state xs ≤ length xs
+counts-within state [] = omega arith
+counts-within state (x ∷ xs) = test (is_settled state)
+  where
+    test : (f : Bool) → (if f then 0 else suc (skip_count (after_byte no_limit state x) xs)) ≤ suc (length xs)
+    test true = omega arith
+    test false = omega (arith, counts-within (after_byte no_limit state x) xs)
+
+pub counts-all : (state : BodyState) (xs : List ℕ) → is_settled (skipped state xs) ≡ false → skip_count state xs ≡ length xs
+counts-all state [] h = refl
+counts-all state (x ∷ xs) h = test (is_settled state) refl
+  where
+    test : (f : Bool) → is_settled state ≡ f → (if f then 0 else suc (skip_count (after_byte no_limit state x) xs)) ≡ suc (length xs)
+    test true e = absurd (let f : true ≡ false = sym e ∙ ap is_settled (sym (settled-stays state (x ∷ xs) e)) ∙ h in cc)
+    test false e = ap suc (counts-all (after_byte no_limit state x) xs h)
