@@ -1,6 +1,6 @@
 -- What is taken of the bytes that are held, by what a body is answered with.
-use Rattle.std.specs.Prelude.{Bool, true, false, suc, if◌then◌else◌}
-use Rattle.std.proofs.Common.{◌≡◌, ℕ, List, [], ◌∷◌, length, refl, sym, ap, ◌∙◌}
+use Rattle.std.specs.Prelude.{Bool, true, false, suc, Option, Some, None, if◌then◌else◌}
+use Rattle.std.proofs.Common.{◌≡◌, ◌≢◌, ℕ, List, [], ◌∷◌, length, refl, sym, ap, ◌∙◌}
 use Rattle.http_bodies.specs.declared.bodies.BodyRead.{BodyRead}
 use Rattle.http_bodies.specs.declared.bodies.BodyRead.TheVariants as answer
 use Rattle.http_bodies.specs.declared.states.BodyState.{BodyState}
@@ -9,7 +9,7 @@ use Rattle.http_bodies.specs.Records.{Body}
 use Rattle.http_bodies.specs.States.{is_settled}
 use Rattle.http_bodies.specs.Bodies.{after_one, after_bytes, used, answer_at}
 use Rattle.http_bodies.proofs.Pieces.{settled-stays}
-use Rattle.client_line.specs.Lines.{count_by}
+use Rattle.client_line.specs.Lines.{count_by, taken_count, taken_of}
 
 -- where a body is neither whole nor refused all bytes belong to it
 uses-all : (body : Body) (bs : List ℕ) → is_settled (after_bytes body bs).state ≡ false → used body bs ≡ length bs
@@ -65,16 +65,21 @@ is-refused Whole n code h = absurd (let f : answer.Whole n ≡ answer.Refused co
 is-refused (Refused other) n code h = refl
 
 -- how many of the bytes are taken
-pub more-takes : (body : Body) (bs : List ℕ) (read : BodyRead) → read ≡ answer_at (after_bytes body bs).state (used body bs) → read ≡ answer.More
-    → count_by (after_bytes body bs).state (used body bs) ≡ length bs
-more-takes body bs read h m =
-    let is = is-more (after_bytes body bs).state (used body bs) (sym h ∙ m) in
-    is.1 ∙ uses-all body bs is.0
+pub takes-some : (body : Body) (bs : List ℕ) (read : BodyRead) (n : ℕ) → read ≡ answer_at (after_bytes body bs).state (used body bs) → taken_of read (length bs) ≡ Some n
+    → taken_count body bs ≡ n
+takes-some body bs answer.More n h s =
+    let is = is-more (after_bytes body bs).state (used body bs) (sym h) in
+    let count : length bs ≡ n = (let f : Some (length bs) ≡ Some n = s in cc) in
+    is.1 ∙ uses-all body bs is.0 ∙ count
+takes-some body bs (answer.Whole m) n h s =
+    let count : m ≡ n = (let f : Some m ≡ Some n = s in cc) in
+    is-whole (after_bytes body bs).state (used body bs) m (sym h) ∙ count
+takes-some body bs (answer.Refused code) n h s = absurd (let f : None ≡ Some n = s in cc)
+takes-some body bs answer.Memory n h s = absurd (let f : None ≡ Some n = s in cc)
 
-pub whole-takes : (body : Body) (bs : List ℕ) (read : BodyRead) (count : ℕ) → read ≡ answer_at (after_bytes body bs).state (used body bs) → read ≡ answer.Whole count
-    → count_by (after_bytes body bs).state (used body bs) ≡ count
-whole-takes body bs read count h m = is-whole (after_bytes body bs).state (used body bs) count (sym h ∙ m)
-
-pub refused-takes : (body : Body) (bs : List ℕ) (read : BodyRead) (code : ℕ) → read ≡ answer_at (after_bytes body bs).state (used body bs) → read ≡ answer.Refused code
-    → count_by (after_bytes body bs).state (used body bs) ≡ 0
-refused-takes body bs read code h m = is-refused (after_bytes body bs).state (used body bs) code (sym h ∙ m)
+pub takes-none : (body : Body) (bs : List ℕ) (read : BodyRead) (len : ℕ) → read ≢ answer.Memory → read ≡ answer_at (after_bytes body bs).state (used body bs) → taken_of read len ≡ None
+    → taken_count body bs ≡ 0
+takes-none body bs answer.More len m h s = absurd (let f : Some len ≡ None = s in cc)
+takes-none body bs (answer.Whole k) len m h s = absurd (let f : Some k ≡ None = s in cc)
+takes-none body bs (answer.Refused code) len m h s = is-refused (after_bytes body bs).state (used body bs) code (sym h)
+takes-none body bs answer.Memory len m h s = absurd (m refl)

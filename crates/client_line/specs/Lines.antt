@@ -89,6 +89,13 @@ count_by far count = count
 abbrev pub taken_count : Body → List ℕ → ℕ
 taken_count body bytes = count_by (after_bytes body bytes).state (used body bytes)
 
+-- the same by the answer to so many bytes
+abbrev pub taken_of : BodyRead → ℕ → Option ℕ
+taken_of answer.More len = Some len
+taken_of (answer.Whole count) len = Some count
+taken_of (answer.Refused code) len = None
+taken_of answer.Memory len = None
+
 -- what is held then, and how far the body is without a limit
 abbrev pub held_after : Body → List ℕ → List ℕ
 held_after body bytes = drop (taken_count body bytes) bytes

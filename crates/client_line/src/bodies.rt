@@ -51,13 +51,21 @@ fn read_on(alloc: Global, held: &mut BytesMut, body: &mut BodyIn, skips: &mut Bo
     ensures kept_state { result ≡ BodyRead.Memory → skips.new ≡ skips.old }
 {
     let read = body.feed(held);
-    let count = match read {
-        BodyRead::More => held.len(),
-        BodyRead::Whole(count) => count,
-        BodyRead::Refused(_) | BodyRead::Memory => return read,
-    };
-    let (next, _) = skip(*skips, first_bytes(held, count));
-    *skips = next;
-    advance(alloc, held, count);
+    if let Some(count) = taken_of(read, held.len()) {
+        let (next, _) = skip(*skips, first_bytes(held, count));
+        *skips = next;
+        advance(alloc, held, count);
+    }
     read
+}
+
+/// How many of `len` bytes are taken that a body was fed with, by its answer; None where none are.
+fn taken_of(read: BodyRead, len: usize) -> Option<usize>
+    ensures { result ≡ spec.taken_of read len }
+{
+    match read {
+        BodyRead::More => Some(len),
+        BodyRead::Whole(count) => Some(count),
+        BodyRead::Refused(_) | BodyRead::Memory => None,
+    }
 }
