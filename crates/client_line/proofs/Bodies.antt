@@ -14,13 +14,13 @@ use Rattle.client_line.specs.Lines.{count_by, taken_count, taken_of}
 -- where a body is neither whole nor refused all bytes belong to it
 uses-all : (body : Body) (bs : List ℕ) → is_settled (after_bytes body bs).state ≡ false → used body bs ≡ length bs
 uses-all body [] h = refl
-uses-all body (b ∷ bs) h = test (is_settled body.state) refl
+uses-all body (b ∷ bs) h = test (uses-all (after_one body b) bs h) (is_settled body.state) refl
   where
-    test : (s : Bool) → is_settled body.state ≡ s → (if s then 0 else suc (used (after_one body b) bs)) ≡ suc (length bs)
-    test true e =
+    test : used (after_one body b) bs ≡ length bs → (s : Bool) → is_settled body.state ≡ s → (if s then 0 else suc (used (after_one body b) bs)) ≡ suc (length bs)
+    test more true e =
         let stays : after_bytes body (b ∷ bs) ≡ body = settled-stays body.max body.state body.content (b ∷ bs) e in
         absurd (let f : true ≡ false = sym e ∙ ap (λ (x : Body). is_settled x.state) (sym stays) ∙ h in cc)
-    test false e = ap suc (uses-all (after_one body b) bs h)
+    test more false e = ap suc more
 
 is-more : (state : BodyState) (n : ℕ) → answer_at state n ≡ answer.More → (is_settled state ≡ false) × (count_by state n ≡ n)
 is-more (Data more of) n h = (refl, refl)

@@ -74,7 +74,7 @@ run-on state next more of rest left count st cnt nx lf = rw (st, lf, cnt, nx) (t
         let ends : after_byte no_limit (Data (more - length (take more rest)) of) (get_or rest more 0) ≡ data_end of = last (more - length (take more rest)) of (get_or rest more 0) (omega (arith, long)) in (
           sym (ap (skipped (Data more of)) parted ∙ front more of (take more rest) (get_or rest more 0 ∷ drop (more + 1) rest) (omega (arith, long)) ∙ ap (λ s. skipped s (drop (more + 1) rest)) ends),
           ap (skip_count (Data more of)) parted ∙ front-count more of (take more rest) (get_or rest more 0 ∷ drop (more + 1) rest) (omega (arith, long))
-          ∙ ap (λ n. length (take more rest) + suc n) (ap (λ s. skip_count s (drop (more + 1) rest)) ends) ∙ omega (arith, long),
+              ∙ ap (λ n. length (take more rest) + suc n) (ap (λ s. skip_count s (drop (more + 1) rest)) ends) ∙ omega (arith, long),
         )
     test false e =
         let long : length rest ≤ more = ltb-false more (length rest) e in
@@ -86,26 +86,27 @@ run-on state next more of rest left count st cnt nx lf = rw (st, lf, cnt, nx) (t
 -- ---- bytes that come in two parts
 
 pub counts-append : (state : BodyState) (xs ys : List ℕ) → skip_count state (xs ++ ys) ≡ skip_count state xs + skip_count (skipped state xs) ys
-counts-append state [] ys = refl
-counts-append state (x ∷ xs) ys = test (is_settled state) refl
+counts-append state [] ys = omega arith
+counts-append state (x ∷ xs) ys = test (counts-append (after_byte no_limit state x) xs ys) (is_settled state) refl
   where
-    test : (f : Bool) → is_settled state ≡ f → (if f then 0 else suc (skip_count (after_byte no_limit state x) (xs ++ ys)))
+    test : skip_count (after_byte no_limit state x) (xs ++ ys) ≡ skip_count (after_byte no_limit state x) xs + skip_count (skipped (after_byte no_limit state x) xs) ys
+        → (f : Bool) → is_settled state ≡ f → (if f then 0 else suc (skip_count (after_byte no_limit state x) (xs ++ ys)))
         ≡ (if f then 0 else suc (skip_count (after_byte no_limit state x) xs)) + skip_count (skipped (after_byte no_limit state x) xs) ys
-    test true e = sym (settled-counts (skipped (after_byte no_limit state x) xs) ys (ap is_settled (settled-stays state (x ∷ xs) e) ∙ e))
-    test false e = ap suc (counts-append (after_byte no_limit state x) xs ys)
+    test more true e = omega (arith, settled-counts (skipped (after_byte no_limit state x) xs) ys (ap is_settled (settled-stays state (x ∷ xs) e) ∙ e))
+    test more false e = omega (arith, more)
 
 pub counts-within : (state : BodyState) (xs : List ℕ) → skip_count state xs ≤ length xs
 counts-within state [] = omega arith
-counts-within state (x ∷ xs) = test (is_settled state)
+counts-within state (x ∷ xs) = test (counts-within (after_byte no_limit state x) xs) (is_settled state)
   where
-    test : (f : Bool) → (if f then 0 else suc (skip_count (after_byte no_limit state x) xs)) ≤ suc (length xs)
-    test true = omega arith
-    test false = omega (arith, counts-within (after_byte no_limit state x) xs)
+    test : skip_count (after_byte no_limit state x) xs ≤ length xs → (f : Bool) → (if f then 0 else suc (skip_count (after_byte no_limit state x) xs)) ≤ suc (length xs)
+    test more true = omega arith
+    test more false = omega (arith, more)
 
 pub counts-all : (state : BodyState) (xs : List ℕ) → is_settled (skipped state xs) ≡ false → skip_count state xs ≡ length xs
 counts-all state [] h = refl
-counts-all state (x ∷ xs) h = test (is_settled state) refl
+counts-all state (x ∷ xs) h = test (counts-all (after_byte no_limit state x) xs h) (is_settled state) refl
   where
-    test : (f : Bool) → is_settled state ≡ f → (if f then 0 else suc (skip_count (after_byte no_limit state x) xs)) ≡ suc (length xs)
-    test true e = absurd (let f : true ≡ false = sym e ∙ ap is_settled (sym (settled-stays state (x ∷ xs) e)) ∙ h in cc)
-    test false e = ap suc (counts-all (after_byte no_limit state x) xs h)
+    test : skip_count (after_byte no_limit state x) xs ≡ length xs → (f : Bool) → is_settled state ≡ f → (if f then 0 else suc (skip_count (after_byte no_limit state x) xs)) ≡ suc (length xs)
+    test more true e = absurd (let f : true ≡ false = sym e ∙ ap is_settled (sym (settled-stays state (x ∷ xs) e)) ∙ h in cc)
+    test more false e = ap suc more
