@@ -1,3 +1,3 @@
-pub mod Bodies
-pub mod Heads
+pub mod Taking
+pub mod Cutting
 pub mod Feeds
