@@ -30,7 +30,7 @@ pub scans-on : (scan : HeadScan) (scanned : ℕ) (bytes piece : List ℕ) (found
     → head_end (bytes ++ piece) ≡ option_map (λ n. scanned + n) found
 scans-on scan scanned bytes piece found s f =
     let long : length (take scanned bytes) ≡ scanned = length-take-le scanned bytes s.within in
-    ap head_end (sym (front-is scanned bytes piece s.within)) ∙ f (take scanned bytes) s.scan s.unfinished ∙ ap (λ k. option_map (λ n. k + n) found) long
+    ap head_end (sym (front-is scanned bytes piece s.within)) ∙ f (take scanned bytes) s.state s.unfinished ∙ ap (λ k. option_map (λ n. k + n) found) long
 
 -- all are scanned then
 pub scanned-all : (scan next : HeadScan) (scanned : ℕ) (bytes piece : List ℕ) → IsScanned scan scanned bytes → next ≡ after_bytes scan (drop scanned (bytes ++ piece))
@@ -38,10 +38,10 @@ pub scanned-all : (scan next : HeadScan) (scanned : ℕ) (bytes piece : List ℕ
 scanned-all scan next scanned bytes piece s n none =
     let all : take (length (bytes ++ piece)) (bytes ++ piece) ≡ bytes ++ piece = take_all (length (bytes ++ piece)) (bytes ++ piece) (omega arith) in
     let moved : next ≡ scan_of (bytes ++ piece) =
-    n ∙ ap (λ z. after_bytes z (drop scanned (bytes ++ piece))) s.scan ∙ sym (after_bytes-append (scan_of []) (take scanned bytes) (drop scanned (bytes ++ piece))) ∙ ap scan_of (front-is scanned bytes piece s.within) in
+    n ∙ ap (λ z. after_bytes z (drop scanned (bytes ++ piece))) s.state ∙ sym (after_bytes-append (scan_of []) (take scanned bytes) (drop scanned (bytes ++ piece))) ∙ ap scan_of (front-is scanned bytes piece s.within) in
     record {
       within = omega arith;
-      scan = moved ∙ ap scan_of (sym all);
+      state = moved ∙ ap scan_of (sym all);
       unfinished = ap head_end all ∙ none;
     }
 

@@ -26,7 +26,7 @@ all_of held = held.front ++ held.rest.items
 -- so many of the bytes were scanned, and the head doesn't end among them
 pub record IsScanned (scan : HeadScan) (scanned : ℕ) (bytes : List ℕ) : Type 0 where
   pub within : scanned ≤ length bytes
-  pub scan : scan ≡ scan_of (take scanned bytes)
+  pub state : scan ≡ scan_of (take scanned bytes)
   pub unfinished : head_end (take scanned bytes) ≡ None
 
 -- only bytes of a head are held in two parts; of a body that is dropped, and after a refused head, none are held
