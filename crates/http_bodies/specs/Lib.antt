@@ -2,3 +2,4 @@ pub mod States
 pub mod Records
 pub mod Bodies
 pub mod Runs
+pub mod Skips

@@ -79,7 +79,7 @@ impl BodyIn {
 }
 
 /// How far a body is of which no byte came: a length above the limit is refused at once.
-fn begun_state(kind: BodyKind, max: u64) -> BodyState
+pub(crate) fn begun_state(kind: BodyKind, max: u64) -> BodyState
     ensures { result ≡ begun_state kind max }
 {
     match kind {

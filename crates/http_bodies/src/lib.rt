@@ -4,8 +4,10 @@
 mod bodies;
 mod laws;
 mod runs;
+mod skips;
 mod states;
 
 pub use bodies::{BodyIn, BodyRead};
 pub use laws::pieces_are_read_as_their_bytes_joined;
+pub use skips::{begun_skip, skip};
 pub use states::{BodyState, DataOf};

@@ -140,18 +140,3 @@ same_turns S old fs left before store r e w =
     same rs =
         ap (λ (t : List Item). finish_calls S [] old.below.frames.items (closed S old.top.kind (around old) (finish_items S (here old) t (Ended (sign_of old.given) (slots_of old) (record { store = before; resumes = rs })))))
         (e ∙ no_more left.items)
-
--- turns that went, and then what comes of the next one
-pub turns_on : {E : Type 0} (S : Setting) (old mid fs : Frames) (before between store : StoreView) (r : Result Flow E)
-    → ((rs : List Resume) → finish S old (record { store = before; resumes = rs }) ≡ finish S mid (record { store = between; resumes = rs })) → Turns S mid between fs store r → Turns S old before fs store r
-turns_on S old mid fs before between store r e w =
-    record { follows = follows_ok S (λ rs. finish S old (record { store = before; resumes = rs })) (λ rs. finish S mid (record { store = between; resumes = rs })) store fs r e w.follows }
-
-pub went_on : {E : Type 0} (S : Setting) (old fs : Frames) (before store : StoreView) (r : Result Flow E)
-    → Turns S old before fs store r → r ≡ Ok flow.Went → (rs : List Resume) → finish S old (record { store = before; resumes = rs }) ≡ finish S fs (record { store = store; resumes = rs })
-went_on S old fs before store (Ok flow.Went) w e = w.follows
-went_on S old fs before store (Ok flow.Asked) w e = absurd (cc)
-went_on S old fs before store (Ok flow.Spent) w e = absurd (cc)
-went_on S old fs before store (Ok flow.Over) w e = absurd (cc)
-went_on S old fs before store (Ok flow.Unsupported) w e = absurd (cc)
-went_on S old fs before store (Err x) w e = absurd (cc)

@@ -1,4 +1,4 @@
--- Items that take what they waited for.
+-- Items that take what they waited for (Lua manual, 2.4 and 2.5).
 use Rattle.std.specs.Prelude.{Result}
 use Rattle.lua_values.specs.Heap.{StoreView}
 use Rattle.lua_meaning.specs.Works.{Sign, Values, Return, Break, Failed}
