@@ -12,8 +12,8 @@ use Rattle.resty_world.specs.declared.answers.Logged.TheVariants as logged
 use Rattle.resty_world.specs.Book.{Book, told}
 use Rattle.resty_world.specs.Contract.{Forgets}
 use Rattle.resty_world.specs.Calls.{wrote_entry, log_entry}
-use Rattle.engine.specs.Right.{events_of, HasFailedLog}
-use Rattle.engine.proofs.Lists.{told-nothing}
+use Rattle.engine.specs.Endings.{events_of, HasFailedLog}
+use Rattle.engine_base.proofs.Lists.{told-nothing}
 use Rattle.engine.specs.Engine.{Logs, Worked}
 
 pub goes-stays : {V : Type 0} (same : V → V → Type 0) (book : V → Book) (v : V) (f : Bool) → same v v → Worked same book v v f f

@@ -1,15 +1,3 @@
-pub mod Acts
-pub mod Arrivals
-pub mod Empty
-pub mod Events
 pub mod Going
-pub mod Lists
-pub mod Marks
 pub mod Seats
 pub mod Serving
-pub mod Totals
-pub mod Turns
-pub mod Words
-pub mod Writes
-pub mod Served
-pub mod Waiting

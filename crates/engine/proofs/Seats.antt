@@ -10,17 +10,15 @@ use Rattle.strand_contract.specs.declared.turns.Place.TheVariants as place
 use Rattle.strand_contract.specs.Actions.{LocalAction}
 use Rattle.strand_contract.specs.Behaviors.{Behavior, Meaning}
 use Rattle.strand_contract.specs.Alone.{lives, offering, going_on, begun_offer}
-use Rattle.executions.specs.Executions.{GlobalAction, projection, present}
-use Rattle.executions.specs.Counts.{arrived}
+use Rattle.executions.specs.Executions.{GlobalAction, projection}
 use Rattle.executions.specs.Queues.{only, without_all}
-use Rattle.executions.specs.Agenda.{agenda}
 use Rattle.engine.specs.declared.engine.Engine.{Engine}
-use Rattle.engine.specs.declared.engine.Seat.{Seat}
+use Rattle.engine_base.specs.declared.seats.Seat.{Seat}
 use Rattle.engine.specs.Engine.{IsBusy, IsDone}
-use Rattle.engine.specs.Standing.{Held, share_of, said_of, without_dead, Fit, Busy, Standing, Falls, IsOffer}
-use Rattle.engine.proofs.Lists.{by_test, clash, same-true}
-use Rattle.engine.proofs.Marks.{fit-same}
-use Rattle.engine.proofs.Acts.{aside-all}
+use Rattle.engine_base.specs.Standing.{Held, share_of, said_of, without_dead, Fit, Busy, Standing, Falls, IsOffer}
+use Rattle.engine_base.proofs.Lists.{by_test, clash, same-true}
+use Rattle.engine_base.proofs.Marks.{fit-same}
+use Rattle.engine_base.proofs.Acts.{aside-all}
 
 module _ {J S : Type 0} (b : Behavior J) (st : S → List (LocalAction J) → Type 0) (c : ℕ) where
   -- the turn is over, and nothing is under way

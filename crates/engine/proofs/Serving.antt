@@ -17,9 +17,10 @@ use Rattle.executions.specs.Histories.{external, offered_lengths}
 use Rattle.engine.specs.declared.engine.Engine.{Engine}
 use Rattle.engine.specs.Stepping.{is_stop}
 use Rattle.engine.specs.Engine.{Rests}
-use Rattle.engine.specs.Right.{IsRight, Tells, events_of, IsStopped, HasNoStop, IsSpent, HasFailedLog, IsFaulted}
-use Rattle.engine.proofs.Lists.{tells-same, told-nothing}
-use Rattle.engine.proofs.Events.{rests-right}
+use Rattle.engine_base.specs.Right.{IsRight, Tells}
+use Rattle.engine.specs.Endings.{events_of, IsStopped, HasNoStop, IsSpent, HasFailedLog, IsFaulted}
+use Rattle.engine_base.proofs.Lists.{tells-same, told-nothing}
+use Rattle.engine_base.proofs.Events.{rests-right}
 
 pub right-same : {J : Type 0} (b : Behavior J) (old new : Book) → IsRight b old → new.history ≡ old.history → new.offered ≡ old.offered → ((s : StrandId) → new.strand_aside s ≡ old.strand_aside s) → ((x : Id) → new.has_ended x ≡ old.has_ended x) → IsRight b new
 right-same b old new r history offers asides ended = record {

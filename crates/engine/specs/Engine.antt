@@ -7,22 +7,20 @@ use Rattle.resty_base.specs.declared.names.StrandId.TheVariants as strand
 use Rattle.resty_world.specs.Book.{Book}
 use Rattle.resty_world.specs.Given.{Gave}
 use Rattle.resty_world.specs.declared.event.Event.{Event}
-use Rattle.resty_world.specs.declared.event.Event.TheVariants as event
 use Rattle.strand_contract.specs.declared.turns.Act.{Act}
-use Rattle.strand_contract.specs.declared.turns.Place.TheVariants as place
 use Rattle.strand_contract.specs.declared.turns.Seen.{Seen}
-use Rattle.strand_contract.specs.declared.turns.Seen.TheVariants as seen
 use Rattle.strand_contract.specs.Alone.{offering}
 use Rattle.strand_contract.specs.Behaviors.{Meaning}
 use Rattle.executions.specs.Executions.{GlobalAction, projection}
 use Rattle.engine.specs.declared.engine.Carried.{Carried}
 use Rattle.engine.specs.declared.engine.Carried.TheVariants as carried
-use Rattle.engine.specs.declared.engine.Ending.TheVariants as stop
+use Rattle.engine_base.specs.declared.seats.Ending.TheVariants as stop
 use Rattle.engine.specs.declared.engine.Engine.{Engine}
-use Rattle.engine.specs.declared.engine.Seat.{Seat}
-use Rattle.engine.specs.Right.{events_of, HasFailedLog}
-use Rattle.engine.specs.Slots.{slot_at, total}
-use Rattle.engine.specs.Standing.{Held, Standing, Busy, Falls, Turn}
+use Rattle.engine_base.specs.declared.seats.Seat.{Seat}
+use Rattle.engine.specs.Endings.{events_of, HasFailedLog}
+use Rattle.engine_base.specs.Shown.{shown}
+use Rattle.engine_base.specs.Slots.{slot_at, total}
+use Rattle.engine_base.specs.Standing.{Held, Standing, Busy, Falls, Turn}
 
 abbrev pub view_of : {S : Type 0} → Engine S → Held S
 view_of e = record {
@@ -105,14 +103,6 @@ pub record Worked {V : Type 0} (same : V → V → Type 0) (book : V → Book) (
 -- the same for an engine that works
 abbrev pub Works : {S V : Type 0} → (V → V → Type 0) → (V → Book) → Engine S → Engine S → V → V → Type 0
 Works same book e f old new = Worked same book old new e.log_failed f.log_failed
-
--- whom an event is for, and what the strand is shown
-abbrev pub shown : Event → Option (Id × Seen)
-shown (event.Bytes i bytes) = Some (i, seen.Bytes place.Client bytes)
-shown (event.Ended i) = Some (i, seen.Ended place.Client)
-shown (event.Broken i) = Some (i, seen.Broken place.Client)
-shown (event.Ready i) = Some (i, seen.Ready place.Client)
-shown e = None
 
 -- the world gave an event at rest that is for this id
 abbrev pub IsShown : {J S : Type 0} → Meaning S J → Engine S → Book → Id → Seen → Type 0

@@ -1,5 +1,3 @@
-pub mod Right
+pub mod Endings
 pub mod Stepping
-pub mod Slots
-pub mod Standing
 pub mod Engine

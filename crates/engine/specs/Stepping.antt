@@ -7,7 +7,7 @@ use Rattle.resty_world.specs.declared.event.Event.{Event}
 use Rattle.resty_world.specs.declared.event.Event.TheVariants as event
 use Rattle.engine.specs.declared.engine.Stepped.{Stepped}
 use Rattle.engine.specs.declared.engine.Stepped.TheVariants as to
-use Rattle.engine.specs.Right.{events_of, HasFailedLog}
+use Rattle.engine.specs.Endings.{events_of, HasFailedLog}
 
 -- a world some calls later, of which no event was asked, and which listens where it listened
 pub record Goes {V : Type 0} (same : V → V → Type 0) (book : V → Book) (old new : V) : Type 0 where

@@ -1,21 +1,11 @@
 //! The engine: what it holds of each strand, and how it takes an event of the world with all turns that follow.
 
-use crate::slots::Slots;
+use engine_base::{Ending, Seat, Slots};
 use resty_base::{Id, Ms, StrandId};
 use resty_world::{Entry, Event, Logged, World, Wrote};
 use std::alloc::Global;
 use std::collections::VecDeque;
 use strand_contract::{Act, Acts, Place, Seen, Start, StrandContract};
-
-/// A strand in its seat.
-#[derive(Drop)]
-pub(crate) struct Seat<S> {
-    strand: S,
-    /// Whether its client's connection is open.
-    is_open: bool,
-    /// Whether it wants bytes of its client, as the world was told last.
-    wanted: bool,
-}
 
 /// The strands that live, the threads that are to run, and the places that are to be offered.
 #[derive(Drop)]
@@ -33,15 +23,6 @@ pub struct Engine<S> {
     ending: Ending,
     /// Whether a log line wasn't written in this step.
     log_failed: bool,
-}
-
-/// Which strands Stop is still to end.
-#[derive(Clone, Copy, Debug, PartialEq, Eq)]
-pub(crate) enum Ending {
-    /// None: Stop wasn't given, or has ended all.
-    Over,
-    /// Each that began after this connection; after none, all.
-    After(Option<u64>),
 }
 
 /// How an act was carried out.
@@ -72,7 +53,7 @@ impl<S: StrandContract> Engine<S> {
     ghost use Rattle.resty_world.specs.Book.{Book};
     ghost use Rattle.resty_world.specs.Given.{Gave};
     ghost use Rattle.resty_base.specs.declared.names.Id.{Id};
-    ghost use Rattle.engine.specs.Right.{IsFresh};
+    ghost use Rattle.engine_base.specs.Right.{IsFresh};
     ghost use Rattle.engine.specs.Stepping.{Steps, Goes, is_stop};
     ghost use Rattle.engine.specs.Engine.{Stands, Rests, IsGiven, IsShown, IsTurn, IsBusy, IsDone, IsFalling, IsCarried};
     ghost use Rattle.engine.specs.Engine.{Works, KeepsPhase, work, left_of};

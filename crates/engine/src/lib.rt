@@ -3,7 +3,6 @@
 
 mod engine;
 mod server;
-mod slots;
 
 pub use engine::{Engine, Stepped};
 pub use server::{Ended, serve};

@@ -1,7 +1,8 @@
 //! Serving a world: its events, one after another, until Stop or a fault.
 
 ghost use Rattle.std.specs.Prelude.{◌≡◌};
-ghost use Rattle.engine.specs.Right.{IsFresh, IsRight, EndsBy};
+ghost use Rattle.engine_base.specs.Right.{IsFresh, IsRight};
+ghost use Rattle.engine.specs.Endings.{EndsBy};
 
 use crate::{Engine, Stepped};
 use resty_world::{Event, World};

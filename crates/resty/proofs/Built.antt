@@ -26,7 +26,7 @@ use Rattle.executions.specs.Sockets.{id_at}
 use Rattle.executions.specs.Histories.{entries_at, entries_of, external}
 use Rattle.executions.specs.Ordered.{MayDropLiving, IsOrdered}
 use Rattle.executions.specs.Lawful.{BeginsRight, IsStartOf}
-use Rattle.engine.specs.Right.{IsServed, is_served}
+use Rattle.engine_base.specs.Right.{IsServed, is_served}
 use Rattle.strand_contract.specs.OpenPlaceLaws.{first-open}
 use Rattle.strand_contract.specs.ClientOnly.{HasClientOnly}
 use Rattle.strand_contract.specs.ClientOnlyLaws.{client-only, never, clash}

@@ -3,10 +3,11 @@ use Rattle.std.proofs.Common.{◌≡◌, ℕ, List, ◌∙◌}
 use Rattle.resty_world.specs.Book.{Book}
 use Rattle.resty_world.specs.Contract.{Listens}
 use Rattle.resty_world.specs.declared.answers.Listened.TheVariants as listened
-use Rattle.engine.specs.Right.{IsFresh, IsRight, EndsBy}
+use Rattle.engine_base.specs.Right.{IsFresh, IsRight}
+use Rattle.engine.specs.Endings.{EndsBy}
 use Rattle.engine.specs.declared.server.Ended.{Ended}
 use Rattle.engine.specs.declared.server.Ended.TheVariants as ended
-use Rattle.engine.proofs.Lists.{tells-same}
+use Rattle.engine_base.proofs.Lists.{tells-same}
 use Rattle.strand.specs.declared.strand.NoJob.{NoJob}
 use Rattle.strand.specs.Literal.{literal_behavior}
 use Rattle.resty.specs.Live.{IsServed, site_port}

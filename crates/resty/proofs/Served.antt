@@ -13,7 +13,8 @@ use Rattle.schedule.specs.Steps.{newest_given}
 use Rattle.schedule.specs.Told.{IsTold}
 use Rattle.executions.specs.Histories.{offered_lengths}
 use Rattle.strand.specs.Literal.{literal_behavior}
-use Rattle.engine.specs.Right.{events_of, IsStopped, IsSpent, IsFaulted, IsRight}
+use Rattle.engine_base.specs.Right.{IsRight}
+use Rattle.engine.specs.Endings.{events_of, IsStopped, IsSpent, IsFaulted}
 use Rattle.resty.specs.Form.{IsServed}
 use Rattle.resty.specs.Run.{IsRun, IsWhole, IsCutShort}
 use Rattle.resty.proofs.Built.{history-fit}

@@ -17,7 +17,7 @@ use Rattle.schedule_text.specs.Fitting.{Fits}
 use Rattle.schedule_text.specs.Lines.{arrivals_in}
 use Rattle.schedule_text.specs.Ranges.{IsBytes, IsEvent}
 use Rattle.schedule.specs.Steps.{Step, Call, Passed, Answered, Listened, AskedAtBadLine, AskedAtEnd, Writing, AreSteps, history_of, lines_of, is_skipped, unspent, one_if, room_of, room_after, begins_by_failing, has_listened_in_vain, newest_given, is_failed_log, IsAnswer, faults_in}
-use Rattle.engine.specs.Right.{events_of, HasNoStop, HasFailedLog, IsStopped}
+use Rattle.engine.specs.Endings.{events_of, HasNoStop, HasFailedLog, IsStopped}
 use Rattle.resty.specs.Built.{IsBuiltEvent}
 use Rattle.resty.specs.Form.{IsServed, IsServedLine}
 

@@ -4,7 +4,8 @@ use Rattle.resty_base.specs.FileMap.{FileMap}
 use Rattle.resty_world.specs.Book.{Book}
 use Rattle.resty_world.specs.Contract.{Listens}
 use Rattle.resty_world.specs.declared.answers.Listened.TheVariants as listened
-use Rattle.engine.specs.Right.{IsRight, EndsBy}
+use Rattle.engine_base.specs.Right.{IsRight}
+use Rattle.engine.specs.Endings.{EndsBy}
 use Rattle.engine.specs.declared.server.Ended.{Ended}
 use Rattle.engine.specs.declared.server.Ended.TheVariants as ended
 use Rattle.strand.specs.declared.strand.NoJob.{NoJob}

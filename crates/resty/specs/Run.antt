@@ -14,7 +14,7 @@ use Rattle.executions.specs.Histories.{external, offered_lengths}
 use Rattle.executions.specs.Lawful.{IsLawful, IsKept}
 use Rattle.executions.specs.Plain.{IsPlain}
 use Rattle.executions.specs.Ordered.{IsOrdered}
-use Rattle.engine.specs.Right.{IsStopped, IsSpent}
+use Rattle.engine.specs.Endings.{IsStopped, IsSpent}
 
 -- The history of a run of these lines: it is that of one execution, which is lawful, kept, plain and ordered, and it tells the
 -- lines. Its entries are all built, and within the ranges of the text.

@@ -1,7 +1,7 @@
 //! The program as a function of its words, files, world and sinks.
 
 ghost use Rattle.std.specs.Prelude.{◌≡◌, ◌↔◌};
-ghost use Rattle.engine.specs.Right.{IsFresh};
+ghost use Rattle.engine_base.specs.Right.{IsFresh};
 ghost use Rattle.resty_base.specs.Taking.{TakesNothing};
 ghost use Rattle.resty.specs.Ends.{Ends, IsJudged, IsComplete};
 ghost use Rattle.resty.specs.Live.{Leaves};

@@ -2,7 +2,8 @@
 
 ghost use Rattle.std.specs.Prelude.{◌≡◌, IfOk};
 ghost use Rattle.engine.specs.Stepping.{Goes, Steps};
-ghost use Rattle.engine.specs.Right.{IsFresh, IsRight, EndsBy};
+ghost use Rattle.engine_base.specs.Right.{IsFresh, IsRight};
+ghost use Rattle.engine.specs.Endings.{EndsBy};
 ghost use Rattle.resty_world.specs.Book.{Book};
 ghost use Rattle.resty_world.specs.Given.{Gave};
 ghost use Rattle.strand.specs.Literal.{literal_behavior};

@@ -1,6 +1,6 @@
 //! Serving the live world.
 
-ghost use Rattle.engine.specs.Right.{IsFresh};
+ghost use Rattle.engine_base.specs.Right.{IsFresh};
 ghost use Rattle.resty.specs.Live.{ServesTo};
 
 use crate::endings::Ending;

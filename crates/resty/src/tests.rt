@@ -1,7 +1,7 @@
 //! Tests of the program, over files, sinks and a live world in memory.
 
 ghost use Rattle.std.specs.Prelude.{IfOk};
-ghost use Rattle.engine.specs.Right.{IsFresh};
+ghost use Rattle.engine_base.specs.Right.{IsFresh};
 ghost use Rattle.schedule.specs.ReplayBook.{book_of};
 
 use super::*;

@@ -1,7 +1,7 @@
 //! The work on a command: its files are read, and then it does what its mode says.
 
 ghost use Rattle.std.specs.Prelude.{◌≡◌, ◌≤◌, IfSome, length};
-ghost use Rattle.engine.specs.Right.{IsFresh};
+ghost use Rattle.engine_base.specs.Right.{IsFresh};
 ghost use Rattle.resty_world.specs.Book.{Book};
 ghost use Rattle.resty.specs.Ending.{status_of};
 ghost use Rattle.resty.specs.Form.{IsServed};

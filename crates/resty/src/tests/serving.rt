@@ -1,6 +1,6 @@
 //! Serving the live world, which is one in memory here, and a number of events.
 
-ghost use Rattle.engine.specs.Right.{IsFresh};
+ghost use Rattle.engine_base.specs.Right.{IsFresh};
 ghost use Rattle.schedule.specs.ReplayBook.{book_of};
 
 use super::{CONF, Ran, call, call_over, expect, files_of, world_of};

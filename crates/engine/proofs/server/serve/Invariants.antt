@@ -1,6 +1,6 @@
 use Rattle.std.proofs.Common.{◌≡◌, ◌≤◌, ◌-◌, IfSome}
 use Rattle.engine.specs.Engine.{Rests}
-use Rattle.engine.specs.Right.{IsSpent}
+use Rattle.engine.specs.Endings.{IsSpent}
 use Rattle.engine.proofs.server.serve.Given as goal
 
 abbrev pub invariant-loop-given : goal.invariant-loop-given

@@ -4,7 +4,7 @@ use Rattle.resty_base.specs.declared.names.StrandId.TheVariants as strand
 use Rattle.strand_contract.specs.declared.turns.Start.TheVariants as start
 use Rattle.strand_contract.specs.Actions.{Began}
 use Rattle.executions.specs.Executions.{Of, TurnedAway}
-use Rattle.engine.proofs.Arrivals.{falls-begun, busy-begun, stands-turned}
+use Rattle.engine_base.proofs.Arrivals.{falls-begun, busy-begun, stands-turned}
 use Rattle.engine.proofs.Seats.{done-of}
 use Rattle.engine.proofs.Going.{goes-joins, goes-work, turned-work, closed-work, forgot-work}
 use Rattle.engine.proofs.engine.Engine.arrive.Goals as goal

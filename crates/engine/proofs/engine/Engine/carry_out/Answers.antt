@@ -4,8 +4,8 @@ use Rattle.resty_world.specs.declared.answers.Logged.TheVariants as logged
 use Rattle.strand_contract.specs.declared.turns.Place.TheVariants as place
 use Rattle.strand_contract.specs.Actions.{Close, Log, Gone}
 use Rattle.executions.specs.Executions.{Of}
-use Rattle.engine.proofs.Lists.{told-nothing}
-use Rattle.engine.proofs.Acts.{busy-ready, busy-offer, busy-closed, busy-logged, standing-gone, near-falls, falls-kept, client-open, nothing-open, gone-closed}
+use Rattle.engine_base.proofs.Lists.{told-nothing}
+use Rattle.engine_base.proofs.Acts.{busy-ready, busy-offer, busy-closed, busy-logged, standing-gone, near-falls, falls-kept, client-open, nothing-open, gone-closed}
 use Rattle.engine.proofs.Going.{forgot-work}
 use Rattle.engine.proofs.engine.Engine.carry_out.Goals as goal
 

@@ -1,5 +1,5 @@
 use Rattle.std.proofs.Common.{Some, refl, sym, ap, ◌∙◌}
-use Rattle.engine.proofs.Events.{turn-shown}
+use Rattle.engine_base.proofs.Events.{turn-shown}
 use Rattle.engine.proofs.engine.Engine.come.Goals as goal
 
 pub take_turn-requires : goal.take_turn-requires

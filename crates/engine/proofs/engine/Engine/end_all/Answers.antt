@@ -1,5 +1,5 @@
 use Rattle.std.proofs.Common.{refl, sym}
-use Rattle.engine.proofs.Words.{turn-halt}
+use Rattle.engine_base.proofs.Words.{turn-halt}
 use Rattle.engine.proofs.engine.Engine.end_all.Goals as goal
 
 pub take_turn-requires : goal.take_turn-requires

@@ -1,5 +1,5 @@
 use Rattle.std.proofs.Common.{◌≡◌, ◌-◌, ◌^◌, ℕ, false, Option, Some, None}
-use Rattle.engine.specs.declared.engine.Ending.TheVariants as stop
+use Rattle.engine_base.specs.declared.seats.Ending.TheVariants as stop
 use Rattle.engine.specs.Engine.{Stands, Works}
 use Rattle.engine.proofs.engine.Engine.end_all.Given as goal
 

@@ -4,7 +4,7 @@ use Rattle.resty_base.specs.declared.names.StrandId.TheVariants as strand
 use Rattle.strand_contract.specs.declared.turns.Place.TheVariants as place
 use Rattle.strand_contract.specs.Actions.{Close, Dropped}
 use Rattle.executions.specs.Executions.{Of}
-use Rattle.engine.proofs.Acts.{fallen-open, fallen-shut}
+use Rattle.engine_base.proofs.Acts.{fallen-open, fallen-shut}
 use Rattle.engine.proofs.Going.{goes-joins, goes-work, dropped-work, closed-work, forgot-work}
 use Rattle.engine.proofs.engine.Engine.give_up.Goals as goal
 use Rattle.engine.proofs.engine.Engine.give_up.Goals.{then-is_open, else-is_open}

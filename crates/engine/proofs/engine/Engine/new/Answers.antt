@@ -1,5 +1,5 @@
 use Rattle.std.proofs.Common.{[], refl}
-use Rattle.engine.proofs.Events.{fresh-stands}
+use Rattle.engine_base.proofs.Events.{fresh-stands}
 use Rattle.engine.proofs.engine.Engine.new.Goals as goal
 
 pub returns : goal.returns

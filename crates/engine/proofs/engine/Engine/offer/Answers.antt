@@ -4,11 +4,11 @@ use Rattle.resty_base.specs.declared.names.StrandId.TheVariants as strand
 use Rattle.strand_contract.specs.declared.turns.Place.TheVariants as place
 use Rattle.strand_contract.specs.Alone.{piece}
 use Rattle.executions.specs.Executions.{projection}
-use Rattle.engine.proofs.Writes.{is-not-offered, turn-put, turn-later, turn-lost}
+use Rattle.engine_base.proofs.Writes.{is-not-offered, turn-put, turn-later, turn-lost}
 use Rattle.resty_base.specs.declared.names.Id.TheVariants as id
 use Rattle.resty_world.specs.declared.answers.Wrote.TheVariants as wrote
-use Rattle.engine.proofs.Acts.{near-falls, falls-kept}
-use Rattle.engine.proofs.Lists.{told-nothing}
+use Rattle.engine_base.proofs.Acts.{near-falls, falls-kept}
+use Rattle.engine_base.proofs.Lists.{told-nothing}
 use Rattle.engine.proofs.Going.{goes-joins, goes-put}
 use Rattle.engine.proofs.engine.Engine.offer.Goals as goal
 

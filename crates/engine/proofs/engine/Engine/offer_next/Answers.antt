@@ -5,9 +5,9 @@ use Rattle.resty_world.specs.Ids.{same_strand}
 use Rattle.strand_contract.specs.declared.turns.Place.TheVariants as place
 use Rattle.strand_contract.specs.Actions.{Offer}
 use Rattle.executions.specs.Executions.{Of}
-use Rattle.engine.specs.Slots.{slot_at}
+use Rattle.engine_base.specs.Slots.{slot_at}
 use Rattle.engine.specs.Engine.{seat_left}
-use Rattle.engine.proofs.Turns.{busy-offered, falls-offered, skip-offer}
+use Rattle.engine_base.proofs.Turns.{busy-offered, falls-offered, skip-offer}
 use Rattle.engine.proofs.engine.Engine.offer_next.Goals as goal
 
 pub offer_place-requires-clause-client : goal.offer_place-requires-clause-client

@@ -1,5 +1,5 @@
 use Rattle.std.proofs.Common.{[], refl, ◌∙◌}
-use Rattle.engine.proofs.Acts.{near-falls}
+use Rattle.engine_base.proofs.Acts.{near-falls}
 use Rattle.engine.proofs.Seats.{busy-done, falls-seats}
 use Rattle.engine.proofs.engine.Engine.put_back.Goals as goal
 

@@ -2,9 +2,9 @@ use Rattle.std.proofs.Common.{◌≡◌, ◌∷◌, length, Some, None, if◌the
 use Rattle.resty_base.specs.declared.names.StrandId.{StrandId}
 use Rattle.resty_base.specs.declared.names.StrandId.TheVariants as strand
 use Rattle.resty_world.specs.Ids.{same_strand}
-use Rattle.engine.specs.Slots.{slot_at}
+use Rattle.engine_base.specs.Slots.{slot_at}
 use Rattle.engine.specs.Engine.{seat_left}
-use Rattle.engine.proofs.Turns.{turn-run, skip-run}
+use Rattle.engine_base.proofs.Turns.{turn-run, skip-run}
 use Rattle.engine.proofs.engine.Engine.run_next.Goals as goal
 
 pub take_turn-requires : goal.take_turn-requires

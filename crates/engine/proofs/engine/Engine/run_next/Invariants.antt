@@ -1,5 +1,5 @@
 use Rattle.std.proofs.Common.{◌≡◌, ◌≤◌, false, length}
-use Rattle.engine.specs.declared.engine.Ending.TheVariants as stop
+use Rattle.engine_base.specs.declared.seats.Ending.TheVariants as stop
 use Rattle.engine.specs.Engine.{Stands, work, Works}
 use Rattle.engine.proofs.engine.Engine.run_next.Given as goal
 

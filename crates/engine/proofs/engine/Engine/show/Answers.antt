@@ -3,8 +3,8 @@ use Rattle.resty_base.specs.declared.names.StrandId.TheVariants as strand
 use Rattle.executions.specs.Executions.{Of}
 use Rattle.executions.specs.Executions.{projection}
 use Rattle.strand_contract.specs.Calls.{action_of}
-use Rattle.engine.proofs.Acts.{near-falls}
-use Rattle.engine.proofs.Turns.{turn-busy}
+use Rattle.engine_base.proofs.Acts.{near-falls}
+use Rattle.engine_base.proofs.Turns.{turn-busy}
 use Rattle.engine.proofs.engine.Engine.show.Goals as goal
 
 pub carry-requires : goal.carry-requires

@@ -4,7 +4,7 @@ use Rattle.resty_world.specs.declared.event.Event.TheVariants as event
 use Rattle.resty_world.specs.Given.{Gave}
 use Rattle.strand_contract.specs.Actions.{Moment, Stop}
 use Rattle.executions.specs.Executions.{Everyone}
-use Rattle.engine.proofs.Words.{stands-told}
+use Rattle.engine_base.proofs.Words.{stands-told}
 use Rattle.engine.proofs.engine.Engine.take.Goals as goal
 
 pub end_all-requires-clause-standing : goal.end_all-requires-clause-standing

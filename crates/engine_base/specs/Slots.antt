@@ -4,7 +4,7 @@ use Rattle.std.specs.Ordering.{nat_cmp}
 use Rattle.std.specs.BTreeMap.{get}
 use Rattle.resty_base.specs.declared.names.StrandId.{StrandId}
 use Rattle.resty_base.specs.declared.names.StrandId.TheVariants as strand
-use Rattle.engine.specs.declared.slots.Slots.{Slots}
+use Rattle.engine_base.specs.declared.slots.Slots.{Slots}
 
 -- what the seat of a strand holds
 abbrev pub slot_at : {X : Type 0} → Slots X → StrandId → Option X

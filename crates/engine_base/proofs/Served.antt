@@ -18,8 +18,8 @@ use Rattle.executions.specs.Lawful.{BeginsRight}
 use Rattle.executions.specs.Plain.{IsPlain, IsPlainAt}
 use Rattle.executions.specs.Ordered.{MayTurnAt, MayDropLiving, IsOrdered}
 use Rattle.executions.proofs.Strands.{unnamed}
-use Rattle.engine.specs.Right.{IsServed}
-use Rattle.engine.proofs.Lists.{by_test, clash, same-true}
+use Rattle.engine_base.specs.Right.{IsServed}
+use Rattle.engine_base.proofs.Lists.{by_test, clash, same-true}
 
 -- connections, in the order of their numbers, from above one number up to another
 pub data Rising : ℕ → List StrandId → ℕ → Type 0 where

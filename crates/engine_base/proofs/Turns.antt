@@ -1,5 +1,5 @@
 -- How turns begin: a thread runs, a place is offered, a write is answered.
-use Rattle.engine.specs.declared.engine.Ending.TheVariants as stop
+use Rattle.engine_base.specs.declared.seats.Ending.TheVariants as stop
 use Rattle.std.proofs.Common.{◌≡◌, ℕ, ◌≤◌, Bool, true, false, ◌==◌, List, [], ◌∷◌, ◌&&◌, drop, Option, Some, None, if◌then◌else◌, refl, sym, ap, subst, ◌∙◌, append-nil, arith}
 use Rattle.std.proofs.lemmas.Bool.{eqb-true}
 use Rattle.resty_base.specs.declared.names.Id.TheVariants as id
@@ -19,22 +19,21 @@ use Rattle.strand_contract.specs.Alone.{lives, moment, is_open, has_ended, todo,
 use Rattle.executions.specs.Executions.{GlobalAction, Of, projection, present}
 use Rattle.executions.specs.Strands.{NoneUnderWay, is_under_way}
 use Rattle.executions.specs.Phases.{Phase, Waking, Stopping, Running, phase as phase_of}
-use Rattle.executions.specs.Counts.{arrived}
 use Rattle.executions.specs.Queues.{only, lined, placed, without_first, after_run, after_offer, run_queue as runs_of, offer_queue as offers_of}
 use Rattle.executions.specs.Agenda.{armed_with, without_those, is_of, agenda, whose, least}
 use Rattle.executions.specs.Histories.{external, offered_lengths}
 use Rattle.executions.specs.Ordered.{HasSettledIn, HasSettled}
 use Rattle.strand_contract.specs.Calls.{action_of}
 use Rattle.strand_contract.specs.Laws.{is_still, IsLastAct}
-use Rattle.engine.specs.declared.engine.Seat.{Seat}
-use Rattle.engine.specs.Right.{Tells}
-use Rattle.engine.specs.Standing.{Held, is_to_end, without_dead, Around, Busy, Turn, Standing, Falls, IsOffer}
-use Rattle.engine.proofs.Lists.{never-stops, by_test, same-true}
-use Rattle.engine.proofs.Marks.{projection-same, touches, fit-same, SameHeld, SameBook, book-same, MayCome, has-arrived, arrives-none, common-next, around-next, Begins, near-begins}
+use Rattle.engine_base.specs.declared.seats.Seat.{Seat}
+use Rattle.engine_base.specs.Right.{Tells}
+use Rattle.engine_base.specs.Standing.{Held, is_to_end, without_dead, Around, Busy, Turn, Standing, Falls, IsOffer}
+use Rattle.engine_base.proofs.Lists.{never-stops, by_test, same-true}
+use Rattle.engine_base.proofs.Marks.{projection-same, touches, fit-same, SameHeld, SameBook, book-same, MayCome, has-arrived, arrives-none, common-next, around-next, Begins, near-begins}
 use Rattle.executions.proofs.Strands.{none-that}
-use Rattle.engine.proofs.Waiting.{runs-next, offers-next, still-dead}
-use Rattle.engine.proofs.Served.{pool-none, pending-none}
-use Rattle.engine.proofs.Acts.{not-under-way, not-open}
+use Rattle.engine_base.proofs.Waiting.{runs-next, offers-next, still-dead}
+use Rattle.engine_base.proofs.Served.{pool-none, pending-none}
+use Rattle.engine_base.proofs.Acts.{not-under-way, not-open}
 
 some-same : {A : Type 0} (x y : A) → Some x ≡ Some y → x ≡ y
 some-same x y e = cc

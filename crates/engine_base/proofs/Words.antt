@@ -1,6 +1,6 @@
 -- What every living strand is told, and Stop, which ends them in the order of their beginning.
-use Rattle.engine.specs.declared.engine.Ending.{Ending}
-use Rattle.engine.specs.declared.engine.Ending.TheVariants as stop
+use Rattle.engine_base.specs.declared.seats.Ending.{Ending}
+use Rattle.engine_base.specs.declared.seats.Ending.TheVariants as stop
 use Rattle.std.proofs.Common.{◌≡◌, ◌⊎◌, ℕ, ◌&&◌, ◌<◌, ◌≤◌, nat_lt, max, Bool, true, false, ◌==◌, List, [], ◌∷◌, Option, Some, None, if◌then◌else◌, refl, sym, ap, subst, ◌∙◌, append-nil, inl, inr, arith}
 use Rattle.std.proofs.lemmas.Bool.{cases_lt}
 use Rattle.std.proofs.lemmas.Bool.Decides.{nat_tests}
@@ -16,19 +16,17 @@ use Rattle.strand_contract.specs.Alone.{lives, moment, is_open, is_stopping, IsE
 use Rattle.executions.specs.Executions.{GlobalAction, Everyone, projection, present}
 use Rattle.executions.specs.Strands.{next_to_stop}
 use Rattle.executions.specs.Phases.{Stopping, phase as phase_of}
-use Rattle.executions.specs.Counts.{arrived}
 use Rattle.executions.specs.Queues.{only}
-use Rattle.executions.specs.Agenda.{agenda}
 use Rattle.executions.specs.Histories.{external, offered_lengths, word_entry}
 use Rattle.strand_contract.specs.Laws.{IsLastAct, is_still}
-use Rattle.engine.specs.declared.engine.Seat.{Seat}
-use Rattle.engine.specs.Slots.{is_after}
-use Rattle.engine.specs.Standing.{Held, is_to_end, said_of, without_dead, Fit, Standing, Turn}
-use Rattle.engine.proofs.Lists.{never-stops, by_test, clash, same-true, tells-more, tells-same}
-use Rattle.engine.proofs.Marks.{fit-same, book-same, same-keeps}
-use Rattle.engine.proofs.Turns.{seat-lives, seat-fits, around-leave, turn-next, between, no-thread, no-place}
-use Rattle.engine.proofs.Events.{at-rest, none-holds}
-use Rattle.engine.proofs.Served.{strands-rising, first-served}
+use Rattle.engine_base.specs.declared.seats.Seat.{Seat}
+use Rattle.engine_base.specs.Slots.{is_after}
+use Rattle.engine_base.specs.Standing.{Held, is_to_end, said_of, without_dead, Fit, Standing, Turn}
+use Rattle.engine_base.proofs.Lists.{never-stops, by_test, clash, same-true, tells-more, tells-same}
+use Rattle.engine_base.proofs.Marks.{fit-same, book-same, same-keeps}
+use Rattle.engine_base.proofs.Turns.{seat-lives, seat-fits, around-leave, turn-next, between, no-thread, no-place}
+use Rattle.engine_base.proofs.Events.{at-rest, none-holds}
+use Rattle.engine_base.proofs.Served.{strands-rising, first-served}
 
 -- what a word makes of the present moment, and which strands Stop is to end after it
 abbrev pub after_word : Word → ℕ → ℕ

@@ -20,19 +20,18 @@ use Rattle.strand_contract.specs.declared.turns.Act.TheVariants as act
 use Rattle.strand_contract.specs.Actions.{Action, LocalAction, Did, Close, Log, Dropped, Gone}
 use Rattle.strand_contract.specs.Behaviors.{Behavior}
 use Rattle.strand_contract.specs.Alone.{lives, was_dropped, moment, is_open, has_ended, todo, carried, waiting, lined_up, to_offer, offers, armed, begun_offer, offering, but, in_offers, is_stopping, open_places, IsExecution, IsPrefixOf}
-use Rattle.executions.specs.Executions.{GlobalAction, Of, projection, present}
+use Rattle.executions.specs.Executions.{GlobalAction, Of, projection}
 use Rattle.executions.specs.Strands.{is_under_way, strands}
-use Rattle.executions.specs.Counts.{arrived}
 use Rattle.executions.specs.Queues.{only, lined, placed, without_all, run_queue as runs_of, offer_queue as offers_of}
 use Rattle.executions.specs.Agenda.{armed_with, without_those, is_of, agenda}
 use Rattle.executions.specs.Histories.{external, offered_lengths}
 use Rattle.executions.specs.Ordered.{offers_last, was_touched, MayDropLiving}
 use Rattle.strand_contract.specs.Laws.{is_still}
 use Rattle.strand_contract.specs.OpenPlaceLaws.{is_among, open-among, place-self, none-open}
-use Rattle.engine.specs.Standing.{Held, HasAsides, Common, Around, Near, Busy, Falls, Standing, IsOffer, runs_with, offers_with}
-use Rattle.engine.proofs.Lists.{by_test, clash, same-true, only-same, only-other, tells-more, tells-same}
-use Rattle.engine.proofs.Waiting.{lined-own, placed-own, armed-own, only-first, runs-still, offers-still, without-next}
-use Rattle.engine.proofs.Marks.{projection-same, touches, fit-same, held-same, SameBook, same-keeps, same-hung, hung-closed, same-dropped, same-forgot, forgot-aside, forgot-ended, own-closed, has-arrived, common-next, around-next}
+use Rattle.engine_base.specs.Standing.{Held, HasAsides, Common, Around, Near, Busy, Falls, Standing, IsOffer, runs_with, offers_with}
+use Rattle.engine_base.proofs.Lists.{by_test, clash, same-true, only-same, only-other, tells-more, tells-same}
+use Rattle.engine_base.proofs.Waiting.{lined-own, placed-own, armed-own, only-first, runs-still, offers-still, without-next}
+use Rattle.engine_base.proofs.Marks.{projection-same, touches, fit-same, held-same, SameBook, same-keeps, same-hung, hung-closed, same-dropped, same-forgot, forgot-aside, forgot-ended, own-closed, has-arrived, common-next, around-next}
 
 -- where no socket is open, the client's connection is the first open place, or there is none
 first-among : (ps : List Place) → is_among place.Client ps ≡ true → ((k : ℕ) → is_among (place.Sock k) ps ≡ false) → IsPrefixOf (place.Client ∷ []) ps

@@ -1,7 +1,7 @@
 use Rattle.std.specs.Ordering.{nat_cmp}
 use Rattle.std.specs.BTreeMap.{is_at}
-use Rattle.engine.proofs.Totals.{remove-total}
-use Rattle.engine.proofs.slots.Slots.take_out.Goals as goal
+use Rattle.engine_base.proofs.Totals.{remove-total}
+use Rattle.engine_base.proofs.slots.Slots.take_out.Goals as goal
 
 pub returns-in-Conn-clause-total : goal.returns-in-Conn-clause-total
 returns-in-Conn-clause-total g c f =

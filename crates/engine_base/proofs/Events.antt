@@ -1,5 +1,5 @@
 -- What a world gives where all strands are at rest: what is known of them there, and the turns that it begins.
-use Rattle.engine.specs.declared.engine.Ending.TheVariants as stop
+use Rattle.engine_base.specs.declared.seats.Ending.TheVariants as stop
 use Rattle.std.proofs.Common.{◌≡◌, ℕ, Bool, true, false, ◌==◌, List, [], ◌∷◌, Some, None, if◌then◌else◌, refl, sym, ap, subst, ◌∙◌, arith}
 use Rattle.resty_base.specs.declared.names.Id.{Id}
 use Rattle.resty_base.specs.declared.names.Id.TheVariants as id
@@ -19,23 +19,22 @@ use Rattle.strand_contract.specs.declared.turns.Seen.TheVariants as seen
 use Rattle.strand_contract.specs.Actions.{LocalAction, Told, Did, Began, Halted}
 use Rattle.strand_contract.specs.Behaviors.{Behavior}
 use Rattle.strand_contract.specs.Alone.{lives, moment, is_open, open_places, has_ended, left_by, waiting, run_by, to_offer, offered_by, begun_offer, in_offers, is_stopping, winds_up_by, is_winding_up, IsQuiescent, IsExecution, HasNoWork, KeepsNothingBack, IsGivenAt}
-use Rattle.executions.specs.Executions.{GlobalAction, Of, Everyone, TurnedAway, IdleGave, IdleClosed, projection, present, Throughout}
-use Rattle.executions.specs.Counts.{arrived}
+use Rattle.executions.specs.Executions.{GlobalAction, Of, Everyone, TurnedAway, IdleGave, IdleClosed, projection, Throughout}
 use Rattle.executions.specs.Queues.{only, after_run, after_offer, run_queue as runs_of, offer_queue as offers_of}
-use Rattle.executions.specs.Agenda.{agenda, agenda_at}
+use Rattle.executions.specs.Agenda.{agenda_at}
 use Rattle.executions.specs.Histories.{external, offered_lengths}
 use Rattle.executions.specs.Ordered.{offers_last}
 use Rattle.executions.specs.Lawful.{AllAtRest, BeginsRight, NoneHoldsBack}
 use Rattle.strand_contract.specs.Calls.{action_of}
 use Rattle.strand_contract.specs.Laws.{IsLastAct}
 use Rattle.strand_contract.specs.OpenPlaceLaws.{none-open}
-use Rattle.engine.specs.declared.engine.Seat.{Seat}
-use Rattle.engine.specs.Engine.{shown}
-use Rattle.engine.specs.Right.{Tells, IsFresh, IsRight}
-use Rattle.engine.specs.Standing.{Held, is_to_end, HasAsides, Turn, Standing, without_dead}
-use Rattle.engine.proofs.Lists.{never-stops, by_test, clash, same-true, tells-more, tells-same}
-use Rattle.engine.proofs.Marks.{gave-asides, MayCome}
-use Rattle.engine.proofs.Turns.{seat-lives, seat-fits, around-leave, turn-next, no-job, settled, no-thread, no-place}
+use Rattle.engine_base.specs.declared.seats.Seat.{Seat}
+use Rattle.engine_base.specs.Shown.{shown}
+use Rattle.engine_base.specs.Right.{Tells, IsFresh, IsRight}
+use Rattle.engine_base.specs.Standing.{Held, is_to_end, HasAsides, Turn, Standing, without_dead}
+use Rattle.engine_base.proofs.Lists.{never-stops, by_test, clash, same-true, tells-more, tells-same}
+use Rattle.engine_base.proofs.Marks.{gave-asides, MayCome}
+use Rattle.engine_base.proofs.Turns.{seat-lives, seat-fits, around-leave, turn-next, no-job, settled, no-thread, no-place}
 
 -- where nothing has happened, and no strand has a seat
 pub fresh-stands : {J S : Type 0} (b : Behavior J) (st : S → List (LocalAction J) → Type 0) (h : Held S) (book : Book) → IsFresh book → ((s : StrandId) → h.seats s ≡ None)

@@ -1,5 +1,5 @@
 -- Connections that arrive: a strand begins, or the connection is turned away.
-use Rattle.engine.specs.declared.engine.Ending.TheVariants as stop
+use Rattle.engine_base.specs.declared.seats.Ending.TheVariants as stop
 use Rattle.std.proofs.Common.{◌≡◌, ℕ, ◌+◌, ◌<◌, ◌≤◌, true, false, ◌==◌, List, [], ◌∷◌, Option, None, if◌then◌else◌, refl, sym, ap, subst, ◌∙◌, arith}
 use Rattle.std.proofs.lemmas.Bool.{eqb-true}
 use Rattle.resty_base.specs.declared.names.Id.TheVariants as id
@@ -16,19 +16,19 @@ use Rattle.strand_contract.specs.declared.turns.Act.{Act}
 use Rattle.strand_contract.specs.Actions.{Action, LocalAction, Did, Began}
 use Rattle.strand_contract.specs.Behaviors.{Behavior}
 use Rattle.strand_contract.specs.Alone.{lives, is_open, has_ended, is_stopping, IsExecution, HasNoWork, KeepsNothingBack}
-use Rattle.executions.specs.Executions.{GlobalAction, Of, TurnedAway, projection, present}
+use Rattle.executions.specs.Executions.{GlobalAction, Of, TurnedAway, projection}
 use Rattle.executions.specs.Counts.{arrived}
 use Rattle.executions.specs.Queues.{lined, placed}
 use Rattle.executions.specs.Agenda.{without_those, is_of, agenda}
 use Rattle.executions.specs.Histories.{external, offered_lengths}
 use Rattle.strand_contract.specs.Laws.{IsLastAct}
-use Rattle.engine.specs.Standing.{Held, is_to_end, without_dead, Around, Near, Busy, Falls, Standing}
-use Rattle.engine.proofs.Lists.{never-stops, by_test, same-true, tells-more, tells-same}
-use Rattle.engine.proofs.Marks.{projection-same, touches, fit-same, SameBook, same-arrived, same-turned, same-hung, same-forgot, forgot-aside, forgot-ended, same-joins, hung-closed, common-next, around-next, near-begins}
-use Rattle.engine.proofs.Acts.{aside-all}
-use Rattle.engine.proofs.Waiting.{lined-own, placed-own, armed-own, runs-next, offers-next}
-use Rattle.engine.proofs.Turns.{no-thread, no-place}
-use Rattle.engine.proofs.Events.{at-rest, none-holds}
+use Rattle.engine_base.specs.Standing.{Held, is_to_end, without_dead, Around, Near, Busy, Falls, Standing}
+use Rattle.engine_base.proofs.Lists.{never-stops, by_test, same-true, tells-more, tells-same}
+use Rattle.engine_base.proofs.Marks.{projection-same, touches, fit-same, SameBook, same-arrived, same-turned, same-hung, same-forgot, forgot-aside, forgot-ended, same-joins, hung-closed, common-next, around-next, near-begins}
+use Rattle.engine_base.proofs.Acts.{aside-all}
+use Rattle.engine_base.proofs.Waiting.{lined-own, placed-own, armed-own, runs-next, offers-next}
+use Rattle.engine_base.proofs.Turns.{no-thread, no-place}
+use Rattle.engine_base.proofs.Events.{at-rest, none-holds}
 
 module _ {J S : Type 0} (b : Behavior J) (st : S → List (LocalAction J) → Type 0) (ms : List (GlobalAction J)) (h : Held S) (book : Book) (g : Standing b st h book ms) (run_queue : h.run_queue ≡ []) (offer_queue : h.offer_queue ≡ []) (running : h.in_offers ≡ false) (ending : h.ending ≡ stop.Over)
     (keeps : (es : List (LocalAction J)) → IsExecution b es → lives es ≡ true → HasNoWork b es → KeepsNothingBack b es) (c : ℕ) (new : c ≡ book.arrivals + 1) where

@@ -6,9 +6,9 @@ use Rattle.resty_base.specs.declared.names.StrandId.TheVariants as strand
 use Rattle.resty_world.specs.Ids.{same_strand}
 use Rattle.resty_world.specs.Book.{told}
 use Rattle.executions.specs.Queues.{only}
-use Rattle.engine.specs.declared.engine.Ending.{Ending}
-use Rattle.engine.specs.declared.engine.Ending.TheVariants as stop
-use Rattle.engine.specs.Right.{Tells}
+use Rattle.engine_base.specs.declared.seats.Ending.{Ending}
+use Rattle.engine_base.specs.declared.seats.Ending.TheVariants as stop
+use Rattle.engine_base.specs.Right.{Tells}
 
 -- both outcomes of a test
 pub by_test : {C : Type 0} (b : Bool) → (b ≡ true → C) → (b ≡ false → C) → C

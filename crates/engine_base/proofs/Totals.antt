@@ -5,7 +5,7 @@ use Rattle.std.specs.declared.cmp.Ordering.{Ordering}
 use Rattle.std.specs.declared.cmp.Ordering.TheVariants.{Less, Equal, Greater}
 use Rattle.std.specs.Map.{lookup, remove_entry}
 use Rattle.std.specs.BTreeMap.{insert_entry}
-use Rattle.engine.specs.Slots.{entries_total, value_of}
+use Rattle.engine_base.specs.Slots.{entries_total, value_of}
 
 remove-here : {X : Type 0} (b : Bool) (f : X → ℕ) (e : ℕ × X) (es less : List (ℕ × X)) (found : Option X)
     → entries_total f less + value_of f found ≡ entries_total f es

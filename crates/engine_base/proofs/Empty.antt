@@ -3,7 +3,7 @@ use Rattle.std.proofs.Common.{◌≡◌, true, false, refl, []}
 use Rattle.resty_base.specs.declared.names.Id.TheVariants as id
 use Rattle.resty_world.specs.Book.{Book}
 use Rattle.strand_contract.specs.Behaviors.{Behavior}
-use Rattle.engine.specs.Right.{IsFresh, IsRight}
+use Rattle.engine_base.specs.Right.{IsFresh, IsRight}
 
 pub fresh-right : {J : Type 0} (b : Behavior J) (book : Book) → IsFresh book → IsRight b book
 fresh-right b book fresh = record {

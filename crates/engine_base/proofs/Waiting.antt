@@ -14,8 +14,8 @@ use Rattle.executions.specs.Strands.{first_in}
 use Rattle.executions.specs.Queues.{lined, placed, without_all, without_thread, after_run, run_queue, after_offer, offer_queue}
 use Rattle.executions.specs.Agenda.{Whose, OfStrand, armed_with, without_one, without_those, is_number, is_of}
 use Rattle.executions.proofs.Strands.{same-is}
-use Rattle.engine.specs.Standing.{without_dead}
-use Rattle.engine.proofs.Lists.{by_test, clash, same-true, strand-true}
+use Rattle.engine_base.specs.Standing.{without_dead}
+use Rattle.engine_base.proofs.Lists.{by_test, clash, same-true, strand-true}
 
 -- what is put at the end by a strand is its own
 without-end : {A : Type 0} (s : StrandId) (l : List (StrandId × A)) (k : A) → without_all s (l ++ (s, k) ∷ []) ≡ without_all s l

@@ -19,9 +19,9 @@ use Rattle.strand_contract.specs.declared.turns.Place.TheVariants as place
 use Rattle.strand_contract.specs.Actions.{Action, LocalAction, Did, Due, is_given}
 use Rattle.strand_contract.specs.Behaviors.{Behavior}
 use Rattle.strand_contract.specs.Alone.{lives, moment, is_open, has_ended, todo, left_by, waiting, lined_up, run_by, to_offer, offers, offered_by, armed, armed_by, taken_by, begun_offer, in_offers, is_stopping, Enabled, IsExecution}
-use Rattle.executions.specs.Executions.{GlobalAction, Of, projection, present, Throughout}
+use Rattle.executions.specs.Executions.{GlobalAction, Of, projection, Throughout}
 use Rattle.executions.specs.Phases.{Stopping, phase as phase_of}
-use Rattle.executions.specs.Counts.{arrived, arrived_by, open_connections}
+use Rattle.executions.specs.Counts.{arrived_by, open_connections}
 use Rattle.executions.specs.Queues.{only, lined, placed, run_queue as runs_of, offer_queue as offers_of}
 use Rattle.executions.specs.Agenda.{armed_with, agenda, agenda_at}
 use Rattle.executions.specs.Histories.{external, offered_lengths}
@@ -32,11 +32,11 @@ use Rattle.strand_contract.specs.declared.turns.Seen.{Seen}
 use Rattle.strand_contract.specs.declared.turns.Seen.TheVariants as seen
 use Rattle.strand_contract.specs.Calls.{action_of}
 use Rattle.strand_contract.specs.Laws.{IsLastAct}
-use Rattle.engine.specs.declared.engine.Seat.{Seat}
-use Rattle.engine.specs.Right.{Tells, is_served}
-use Rattle.engine.specs.declared.engine.Ending.TheVariants as stop
-use Rattle.engine.specs.Standing.{Held, is_to_end, without_dead, Fit, HasAsides, Common, Around, Near, IsOffer}
-use Rattle.engine.proofs.Lists.{clash, same-true}
+use Rattle.engine_base.specs.declared.seats.Seat.{Seat}
+use Rattle.engine_base.specs.Right.{Tells, is_served}
+use Rattle.engine_base.specs.declared.seats.Ending.TheVariants as stop
+use Rattle.engine_base.specs.Standing.{Held, is_to_end, without_dead, Fit, HasAsides, Common, Around, Near, IsOffer}
+use Rattle.engine_base.proofs.Lists.{clash, same-true}
 
 pub projection-same : {J : Type 0} (c : ℕ) (x : Action J) (n : Option ℕ) (ms : List (GlobalAction J)) → projection (strand.Conn c) (Of (strand.Conn c) x n ∷ ms) ≡ Did x ∷ projection (strand.Conn c) ms
 projection-same c x n ms = ap (λ b. if b then Did x ∷ projection (strand.Conn c) ms else projection (strand.Conn c) ms) (same-true c)

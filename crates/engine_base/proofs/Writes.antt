@@ -15,16 +15,16 @@ use Rattle.strand_contract.specs.Alone.{lives, moment, is_open, has_ended, left_
 use Rattle.executions.specs.Executions.{GlobalAction, Of, projection}
 use Rattle.executions.specs.Phases.{phase as phase_of}
 use Rattle.executions.specs.Queues.{after_run, after_offer, run_queue as runs_of, offer_queue as offers_of}
-use Rattle.executions.specs.Agenda.{agenda, agenda_at}
+use Rattle.executions.specs.Agenda.{agenda_at}
 use Rattle.executions.specs.Histories.{external, offered_lengths}
 use Rattle.executions.specs.Ordered.{offers_last}
 use Rattle.strand_contract.specs.Calls.{action_of}
 use Rattle.strand_contract.specs.Laws.{IsLastAct}
-use Rattle.engine.specs.Right.{Tells}
-use Rattle.engine.specs.Standing.{Held, Busy, Turn, IsOffer}
-use Rattle.engine.proofs.Lists.{by_test, clash, tells-more}
-use Rattle.engine.proofs.Marks.{same-keeps, MayCome, held-same}
-use Rattle.engine.proofs.Turns.{turn-next}
+use Rattle.engine_base.specs.Right.{Tells}
+use Rattle.engine_base.specs.Standing.{Held, Busy, Turn, IsOffer}
+use Rattle.engine_base.proofs.Lists.{by_test, clash, tells-more}
+use Rattle.engine_base.proofs.Marks.{same-keeps, MayCome, held-same}
+use Rattle.engine_base.proofs.Turns.{turn-next}
 
 some-left : (q : List ℕ) → 0 < length q → is_some_left q ≡ true
 some-left [] h = absurd (omega arith)

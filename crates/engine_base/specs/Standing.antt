@@ -25,11 +25,11 @@ use Rattle.executions.specs.Histories.{external, offered_lengths}
 use Rattle.executions.specs.Plain.{IsPlain}
 use Rattle.executions.specs.Ordered.{offers_last, was_touched, IsOrdered}
 use Rattle.executions.specs.Lawful.{IsGivenAtRest, BeginsRight, HeldNothingBack}
-use Rattle.engine.specs.declared.engine.Ending.{Ending}
-use Rattle.engine.specs.declared.engine.Ending.TheVariants as stop
-use Rattle.engine.specs.declared.engine.Seat.{Seat}
-use Rattle.engine.specs.Right.{Tells, IsServed}
-use Rattle.engine.specs.Slots.{is_after}
+use Rattle.engine_base.specs.declared.seats.Ending.{Ending}
+use Rattle.engine_base.specs.declared.seats.Ending.TheVariants as stop
+use Rattle.engine_base.specs.declared.seats.Seat.{Seat}
+use Rattle.engine_base.specs.Right.{Tells, IsServed}
+use Rattle.engine_base.specs.Slots.{is_after}
 
 -- what the engine holds, in plain values
 pub record Held (S : Type 0) : Type 0 where

@@ -1,0 +1,12 @@
+pub mod Acts
+pub mod Arrivals
+pub mod Empty
+pub mod Events
+pub mod Lists
+pub mod Marks
+pub mod Served
+pub mod Totals
+pub mod Turns
+pub mod Waiting
+pub mod Words
+pub mod Writes

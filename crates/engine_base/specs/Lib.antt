@@ -1,0 +1,4 @@
+pub mod Slots
+pub mod Right
+pub mod Standing
+pub mod Shown
