@@ -1,4 +1,4 @@
-use Rattle.std.proofs.Common.{◌≡◌, ℕ, true, false, List, ◌∷◌, Option, None, Some, sym, ap, ◌∙◌}
+use Rattle.std.proofs.Common.{◌≡◌, ℕ, true, false, List, Option, None, Some, sym, ap, ◌∙◌}
 use Rattle.std.specs.Option.{is_some, option_or}
 use Rattle.std.proofs.lemmas.Bool.{true≢false}
 use Rattle.http_base.specs.Splitting.{before, after, split, later_pieces}
@@ -23,8 +23,16 @@ goes_on text name (Some v) all found none is = absurd (true≢false none)
 pub loop-rest-smaller-else-is_some : goal.loop-rest-smaller-else-is_some
 loop-rest-smaller-else-is_some c = rw (c.in_ok-piece.ensures.after, c.in-Some.is) (left_after 38 c.in-Some.text)
 
+pub loop-rest-smaller : goal.loop-rest-smaller
+loop-rest-smaller c = rw (c.in_ok-piece.ensures.after, c.in-Some.is) (left_after 38 c.in-Some.text)
+
 pub loop-rest-preserved-else-is_some : goal.loop-rest-preserved-else-is_some
 loop-rest-preserved-else-is_some c =
+    rw c.in_ok-piece.ensures.after (goes_on c.in-Some.text c.args.name.now c.in_ok-value.value (spec.argument c.args.args.now c.args.name.now)
+    (c.in_ok-value.ensures ∙ ap (λ p. spec.value_in p c.args.name.now) c.in_ok-piece.ensures.before) (sym c.is_some.ensures ∙ c.if-is_some.false) (rw c.in-Some.is at c.loop-rest.invariant))
+
+pub loop-rest-preserved : goal.loop-rest-preserved
+loop-rest-preserved c =
     rw c.in_ok-piece.ensures.after (goes_on c.in-Some.text c.args.name.now c.in_ok-value.value (spec.argument c.args.args.now c.args.name.now)
     (c.in_ok-value.ensures ∙ ap (λ p. spec.value_in p c.args.name.now) c.in_ok-piece.ensures.before) (sym c.is_some.ensures ∙ c.if-is_some.false) (rw c.in-Some.is at c.loop-rest.invariant))
 
