@@ -1,0 +1,7 @@
+use Rattle.std.proofs.Common.{◌≡◌, drop}
+use Rattle.std.specs.List.{list_all}
+use Rattle.request_api.specs.Names.{is_value}
+use Rattle.request_api.proofs.names.are_values.Given as goal
+
+abbrev pub invariant-loop-value : goal.invariant-loop-value
+invariant-loop-value l = list_all is_value (drop l.value-index l.values) ≡ list_all is_value l.values
