@@ -1,4 +1,5 @@
 //! What the tests begin with, and fields in words.
+use http_base::{elements, split_once};
 use http_in::{HeadRead, head_of};
 use request_api::Req;
 use resty_base::{ByteLists, Bytes, Pair2};
@@ -16,13 +17,28 @@ pub(crate) fn begun(alloc: Global, head: &[u8]) -> Result<Option<Req>, AllocErro
     }
 }
 
-/// These values.
-pub(crate) fn list(alloc: Global, values: &[&'static [u8]]) -> Result<ByteLists, AllocError> {
+/// The values between commas; none for None.
+pub(crate) fn list(alloc: Global, values: Option<&[u8]>) -> Result<ByteLists, AllocError> {
     let mut items = Vec::new(alloc);
-    for value in values {
-        items.push(Bytes::from_static(value))?;
+    if let Some(text) = values {
+        for value in &elements(alloc, text)? {
+            items.push(Bytes::copy_from_slice(alloc, value)?)?;
+        }
     }
     Ok(ByteLists::of(items))
+}
+
+/// Sets the reply's fields between commas, each as `NAME: VALUE`. Returns whether all were set.
+pub(crate) fn set_all(alloc: Global, req: &mut Req, fields: &[u8]) -> Result<bool, AllocError> {
+    let mut done = true;
+    for field in &elements(alloc, fields)? {
+        if let (name, Some(value)) = split_once(field, b':') {
+            let name = Bytes::copy_from_slice(alloc, name)?;
+            let values = list(alloc, Some(value))?;
+            done &= req.set_reply_header(alloc, &name, &values).is_ok();
+        }
+    }
+    Ok(done)
 }
 
 /// The fields as `NAME: VALUE;`.

@@ -12,42 +12,42 @@ fn fields_of_requests_are_set_as_written(rt: HostRuntime) -> Result<(), Fail> {
     for (name, values, answer, expected) in [
         (
             b"B".as_slice(),
-            [b"1".as_slice()].as_slice(),
+            Some(b"1".as_slice()),
             Ok(()),
             b"Host: h;X-A: 1;x_a: 2;x-a: 3;B: 1;".as_slice(),
         ),
         (
             b"X-a",
-            &[b"4", b""],
+            Some(b"4, "),
             Ok(()),
             b"Host: h;x_a: 2;X-a: 4;X-a: ;",
         ),
-        (b"X_A", &[b"5"], Ok(()), b"Host: h;X-A: 1;x-a: 3;X_A: 5;"),
-        (b"x-A", &[], Ok(()), b"Host: h;x_a: 2;"),
-        (b"y", &[], Ok(()), b"Host: h;X-A: 1;x_a: 2;x-a: 3;"),
+        (b"X_A", Some(b"5"), Ok(()), b"Host: h;X-A: 1;x-a: 3;X_A: 5;"),
+        (b"x-A", None, Ok(()), b"Host: h;x_a: 2;"),
+        (b"y", None, Ok(()), b"Host: h;X-A: 1;x_a: 2;x-a: 3;"),
         (
             b"",
-            &[],
+            None,
             Err(ReqFault::BadRequest),
             b"Host: h;X-A: 1;x_a: 2;x-a: 3;",
         ),
         (
             b"a b",
-            &[b"1"],
+            Some(b"1"),
             Err(ReqFault::BadRequest),
             b"Host: h;X-A: 1;x_a: 2;x-a: 3;",
         ),
         (
             b"x-a",
-            &[b"1", b"\n"],
+            Some(b"1, \n"),
             Err(ReqFault::BadRequest),
             b"Host: h;X-A: 1;x_a: 2;x-a: 3;",
         ),
         (
             b"x-a",
-            &[b"\t\x80 "],
+            Some(b"a\t\x80"),
             Ok(()),
-            b"Host: h;x_a: 2;x-a: \t\x80 ;",
+            b"Host: h;x_a: 2;x-a: a\t\x80;",
         ),
     ] {
         let Some(mut req) = begun(alloc, HEAD)? else {
