@@ -110,3 +110,33 @@ refused-so bytes front rest code is f r = (is, ap (λ (b : List ℕ). came_at (O
 
 pub none-left : (front rest : List ℕ) → front ≡ [] → rest ≡ [] → front ++ rest ≡ []
 none-left front rest f r = ap (λ (b : List ℕ). b ++ rest) f ∙ r
+
+-- ---- a head that was scanned on
+
+pub scan-found : (scan : HeadScan) (scanned : ℕ) (bytes piece rest joined : List ℕ) (found : Option ℕ) → IsScanned scan scanned bytes → joined ≡ bytes ++ piece
+    → rest ≡ drop scanned joined
+    → ((taken : List ℕ) → scan ≡ scan_of taken → head_end taken ≡ None → head_end (taken ++ rest) ≡ option_map (λ n. length taken + n) found)
+    → head_end joined ≡ option_map (λ n. scanned + n) found
+scan-found scan scanned bytes piece rest joined found s j r f =
+    ap head_end j
+    ∙ scans-on scan scanned bytes piece found s
+    (λ t e none. subst (λ (b : List ℕ). head_end (t ++ b) ≡ option_map (λ n. length t + n) found) (r ∙ ap (drop scanned) j) (f t e none))
+
+pub waiting-so : (scan next : HeadScan) (scanned total : ℕ) (bytes piece front joined rest : List ℕ) → IsScanned scan scanned bytes → front ≡ [] → joined ≡ bytes ++ piece
+    → rest ≡ drop scanned joined → next ≡ after_bytes scan rest → head_end joined ≡ None → total ≡ length joined → total < 16_384
+    → Leads (came_at Head (bytes ++ piece)) out.Waiting (came_at Head (front ++ joined)) × IsScanned next total (front ++ joined)
+waiting-so scan next scanned total bytes piece front joined rest s f j r n none t short =
+    let same : front ++ joined ≡ bytes ++ piece = ap (λ (b : List ℕ). b ++ joined) f ∙ j in
+    let unfinished : head_end (bytes ++ piece) ≡ None = ap head_end (sym j) ∙ none in
+    let size : total ≡ length (bytes ++ piece) = t ∙ ap length j in
+    let all : IsScanned next (length (bytes ++ piece)) (bytes ++ piece) =
+    scanned-all scan next scanned bytes piece s (n ∙ ap (after_bytes scan) (r ∙ ap (drop scanned) j)) unfinished in (
+      waiting-leads (bytes ++ piece) (front ++ joined) same unfinished (omega (arith, size, short)),
+      subst (λ (k : ℕ). IsScanned next k (front ++ joined)) (sym size) (subst (λ (b : List ℕ). IsScanned next (length (bytes ++ piece)) b) (sym same) all),
+    )
+
+pub overflow-so : (bytes piece front rest joined : List ℕ) (total : ℕ) → joined ≡ bytes ++ piece → head_end joined ≡ None → total ≡ length joined → 16_384 ≤ total
+    → front ≡ [] → rest ≡ [] → Leads (came_at Head (bytes ++ piece)) (out.Refused 431) (came_at (Over 431) (front ++ rest))
+overflow-so bytes piece front rest joined total j none t long f r =
+    let size : total ≡ length (bytes ++ piece) = t ∙ ap length j in
+    refused-so (bytes ++ piece) front rest 431 (overflows (bytes ++ piece) (ap head_end (sym j) ∙ none) (omega (arith, size, long))) f r

@@ -1,12 +1,13 @@
 -- What a body leads to that is dropped, by how far it is.
-use Rattle.std.proofs.Common.{◌≡◌, ◌≢◌, ℕ, ◌≤◌, List, [], ◌++◌, take, length, refl, sym, ap, subst, ◌∙◌, arith}
+use Rattle.std.proofs.Common.{◌≡◌, ◌≢◌, ℕ, ◌≤◌, List, [], ◌++◌, take, drop, length, refl, sym, ap, subst, ◌∙◌, arith}
 use Rattle.http_in.specs.declared.scan.HeadScan.{HeadScan}
 use Rattle.http_in.specs.Scanning.{scan_of}
 use Rattle.http_bodies.specs.declared.states.BodyState.{BodyState}
 use Rattle.http_bodies.specs.declared.states.BodyState.TheVariants as state
+use Rattle.http_bodies.specs.Skips.{skipped, skip_count}
 use Rattle.client_line.specs.declared.requests.LineOut.TheVariants as out
-use Rattle.client_line.specs.Records.{Dropping}
-use Rattle.client_line.specs.Lines.{came_at, after_body, Leads}
+use Rattle.client_line.specs.Records.{Head, Dropping}
+use Rattle.client_line.specs.Lines.{came_at, after_body, drops, Leads}
 use Rattle.client_line.specs.Views.{IsScanned}
 
 -- it isn't whole yet
@@ -48,3 +49,23 @@ after-more state.Whole rest not = absurd (not refl)
 -- no byte was scanned
 pub none-scanned : (scan : HeadScan) (bytes : List ℕ) → scan ≡ scan_of [] → IsScanned scan 0 bytes
 none-scanned scan bytes e = record { within = omega arith; state = e; unfinished = refl }
+
+-- ---- by what skipping returns
+
+pub drops-whole : (far next : BodyState) (piece held rest : List ℕ) (n : ℕ) → next ≡ skipped far piece → next ≡ state.Whole → n ≡ skip_count far piece
+    → held ≡ [] → rest ≡ drop n piece → came_at Head (held ++ rest) ≡ drops far piece
+drops-whole far next piece held rest n moved whole counted none left =
+    let after : came_at Head (drop n piece) ≡ after_body (skipped far piece) (drop n piece) = ap (λ (s : BodyState). after_body s (drop n piece)) (sym whole ∙ moved) in
+    ap (λ (b : List ℕ). came_at Head (b ++ rest)) none ∙ ap (came_at Head) left ∙ after ∙ ap (λ k. after_body (skipped far piece) (drop k piece)) counted
+
+pub drops-on-fault : (far next : BodyState) (piece held : List ℕ) (code : ℕ) → next ≡ skipped far piece → next ≡ state.Refused code → held ≡ []
+    → Leads (drops far piece) (out.Refused 400) (came_at (Dropping next) held)
+drops-on-fault far next piece held code moved fault none =
+    subst (λ (s : BodyState). Leads (after_body s (drop (skip_count far piece) piece)) (out.Refused 400) (came_at (Dropping next) held)) moved
+    (drops-fault next code (drop (skip_count far piece) piece) held fault none)
+
+pub drops-on-more : (far next : BodyState) (piece held : List ℕ) → next ≡ skipped far piece → next ≢ state.Whole → ((code : ℕ) → next ≢ state.Refused code)
+    → held ≡ [] → Leads (drops far piece) out.Waiting (came_at (Dropping next) held)
+drops-on-more far next piece held moved whole fault none =
+    subst (λ (s : BodyState). Leads (after_body s (drop (skip_count far piece) piece)) out.Waiting (came_at (Dropping next) held)) moved
+    (drops-more next (drop (skip_count far piece) piece) held whole fault none)

@@ -37,36 +37,36 @@ ReadsOn came bytes requests answer = ReadsCame (settled came.at (came.held ++ by
 
 -- the last one
 ends-so : (at : At) (held : List ℕ) (answer : LineOut) (after : Came) → LeadsAt at held answer after → IsNoRequest answer → ReadsAt at held [] answer
-ends-so Head held answer after led no =
-    elim no [
+ends-so Head held answer after led plain =
+    elim plain [
       | inl w ↦ subst (λ (a : LineOut). AreRequests held [] a) (sym w) (AreRequests.waits (subst (λ (a : LineOut). IsOf held a) w led.0))
       | inr w ↦ subst (λ (a : LineOut). AreRequests held [] a) (sym w.1) (AreRequests.refused (subst (λ (a : LineOut). IsOf held a) w.1 led.0))
     ]
-ends-so (Present body kind skips) held answer after led no = (refl, led.0)
-ends-so (Dropping far) held answer after led no = (refl, led.0)
-ends-so (Over code) held answer after led no = (refl, led.0)
+ends-so (Present body kind skips) held answer after led plain = (refl, led.0)
+ends-so (Dropping far) held answer after led plain = (refl, led.0)
+ends-so (Over code) held answer after led plain = (refl, led.0)
 
 -- with more bytes
 head-goes-on : (held ys : List ℕ) (requests : List Request) (between answer : LineOut) (after : Came) → LeadsAt Head held between after → IsNoRequest between
     → ReadsOn after ys requests answer → AreRequests (held ++ ys) requests answer
-head-goes-on held ys requests out.Waiting answer after led no more = subst (λ (k : Came). ReadsOn k ys requests answer) led.1 more
-head-goes-on held ys requests out.Memory answer after led no more = subst (λ (k : Came). ReadsOn k ys requests answer) led.1 more
-head-goes-on held ys requests (out.Refused code) answer after led no more =
+head-goes-on held ys requests out.Waiting answer after led plain more = subst (λ (k : Came). ReadsOn k ys requests answer) led.1 more
+head-goes-on held ys requests out.Memory answer after led plain more = subst (λ (k : Came). ReadsOn k ys requests answer) led.1 more
+head-goes-on held ys requests (out.Refused code) answer after led plain more =
     let over : (requests ≡ []) × (answer ≡ out.Refused code) = subst (λ (k : Came). ReadsOn k ys requests answer) led.1 more in
     let is : IsOf (held ++ ys) (out.Refused code) = stays held ys (out.Refused code) (λ e. let f : out.Refused code ≡ out.Waiting = e in cc) led.0 in
     subst (λ (r : List Request). AreRequests (held ++ ys) r answer) (sym over.0) (subst (λ (a : LineOut). AreRequests (held ++ ys) [] a) (sym over.1) (AreRequests.refused is))
-head-goes-on held ys requests (out.Request head target) answer after led no more =
-    absurd (elim no [
+head-goes-on held ys requests (out.Request head target) answer after led plain more =
+    absurd (elim plain [
       | inl w ↦ let f : out.Request head target ≡ out.Waiting = w in cc
       | inr w ↦ let f : out.Request head target ≡ out.Refused w.0 = w.1 in cc
     ])
 
 goes-on : (at : At) (held ys : List ℕ) (requests : List Request) (between answer : LineOut) (after : Came) → LeadsAt at held between after → IsNoRequest between
     → ReadsOn after ys requests answer → ReadsOn (came_at at held) ys requests answer
-goes-on Head held ys requests between answer after led no more = head-goes-on held ys requests between answer after led no more
-goes-on (Present body kind skips) held ys requests between answer after led no more = subst (λ (k : Came). ReadsOn k ys requests answer) led.1 more
-goes-on (Dropping far) held ys requests between answer after led no more = subst (λ (k : Came). ReadsOn k ys requests answer) led.1 more
-goes-on (Over code) held ys requests between answer after led no more = subst (λ (k : Came). ReadsOn k ys requests answer) led.1 more
+goes-on Head held ys requests between answer after led plain more = head-goes-on held ys requests between answer after led plain more
+goes-on (Present body kind skips) held ys requests between answer after led plain more = subst (λ (k : Came). ReadsOn k ys requests answer) led.1 more
+goes-on (Dropping far) held ys requests between answer after led plain more = subst (λ (k : Came). ReadsOn k ys requests answer) led.1 more
+goes-on (Over code) held ys requests between answer after led plain more = subst (λ (k : Came). ReadsOn k ys requests answer) led.1 more
 
 -- ---- a request
 
@@ -131,13 +131,13 @@ asks-on (Over code) held ys head target requests answer after led more = absurd 
 
 pub serves : (came : Came) (pieces : List (List ℕ)) (requests : List Request) (answer : LineOut) → Serves came pieces requests answer
     → ReadsOn came (concat pieces) requests answer
-serves came pieces requests answer (Serves.last {piece} after fed no) =
+serves came pieces requests answer (Serves.last {piece} after fed plain) =
     let s = settled came.at (came.held ++ piece) in
-    subst (λ (b : List ℕ). ReadsOn came b [] answer) (sym (append-nil piece)) (ends-so s.at s.held answer after fed no)
-serves came pieces requests answer (Serves.more {piece} {pieces = others} between after fed no rest) =
+    subst (λ (b : List ℕ). ReadsOn came b [] answer) (sym (append-nil piece)) (ends-so s.at s.held answer after fed plain)
+serves came pieces requests answer (Serves.more {piece} {pieces = others} between after fed plain rest) =
     let s = settled came.at (came.held ++ piece) in
     subst (λ (k : Came). ReadsCame k requests answer) (joined came piece (concat others))
-    (goes-on s.at s.held (concat others) requests between answer after fed no (serves after others requests answer rest))
+    (goes-on s.at s.held (concat others) requests between answer after fed plain (serves after others requests answer rest))
 serves came pieces requests answer (Serves.asks {piece} {pieces = others} {head} {target} {requests = later} after fed rest) =
     let s = settled came.at (came.held ++ piece) in
     subst (λ (k : Came). ReadsCame k (record { head = head; target = target } ∷ later) answer) (joined came piece (concat others))
@@ -148,7 +148,7 @@ serves came pieces requests answer (Serves.asks {piece} {pieces = others} {head}
 one-is : (bytes : List ℕ) (x y : LineOut) → IsOf bytes x → IsOf bytes y → x ≡ y
 one-is bytes x y a b = a.2 ∙ ap answer_to (one-answer bytes a.0 b.0 a.1 b.1) ∙ sym b.2
 
-asked_in : LineOut → Option Request
+abbrev asked_in : LineOut → Option Request
 asked_in (out.Request head target) = Some (record { head = head; target = target })
 asked_in answer = None
 
@@ -158,26 +158,26 @@ same-head bytes r s a b x y =
     ((let f : r ≡ s = cc in f), x.follows ∙ sym y.follows)
 
 no-head : (bytes after : List ℕ) (request : Request) (answer : LineOut) → IsNoRequest answer → IsOf bytes answer → HasHead bytes request after → ⊥
-no-head bytes after request answer no is x =
+no-head bytes after request answer plain is x =
     let e : out.Request request.head request.target ≡ answer = one-is bytes (out.Request request.head request.target) answer x.asks is in
-    elim no [
+    elim plain [
       | inl w ↦ let f : out.Request request.head request.target ≡ out.Waiting = e ∙ w in cc
       | inr w ↦ let f : out.Request request.head request.target ≡ out.Refused w.0 = e ∙ w.1 in cc
     ]
 
 -- where the bytes have no request
 none-asked : (bytes : List ℕ) (x : LineOut) (ys : List Request) (y : LineOut) → IsNoRequest x → IsOf bytes x → AreRequests bytes ys y → ([] ≡ ys) × (x ≡ y)
-none-asked bytes x ys y no is (AreRequests.waits other) = (refl, one-is bytes x out.Waiting is other)
-none-asked bytes x ys y no is (AreRequests.refused {code} other) = (refl, one-is bytes x (out.Refused code) is other)
-none-asked bytes x ys y no is (AreRequests.begun {after} {request} other not) = absurd (no-head bytes after request x no is other)
-none-asked bytes x ys y no is (AreRequests.message {after} {request} other whole rest) = absurd (no-head bytes after request x no is other)
+none-asked bytes x ys y plain is (AreRequests.waits other) = (refl, one-is bytes x out.Waiting is other)
+none-asked bytes x ys y plain is (AreRequests.refused {code} other) = (refl, one-is bytes x (out.Refused code) is other)
+none-asked bytes x ys y plain is (AreRequests.begun {after} {request} other not) = absurd (no-head bytes after request x plain is other)
+none-asked bytes x ys y plain is (AreRequests.message {after} {request} other whole rest) = absurd (no-head bytes after request x plain is other)
 
 -- where a body isn't whole
 one-begun : (bytes after : List ℕ) (request : Request) (ys : List Request) (y : LineOut) → HasHead bytes request after → body_state request after ≢ state.Whole
     → AreRequests bytes ys y → (request ∷ [] ≡ ys) × (answer_dropping (body_state request after) ≡ y)
 one-begun bytes after request ys y is not (AreRequests.waits other) = absurd (no-head bytes after request out.Waiting (inl refl) other is)
 one-begun bytes after request ys y is not (AreRequests.refused {code} other) = absurd (no-head bytes after request (out.Refused code) (inr (code, refl)) other is)
-one-begun bytes after request ys y is not (AreRequests.begun {after = behind} {request = asked} other open) =
+one-begun bytes after request ys y is not (AreRequests.begun {after = behind} {request = asked} other unfinished) =
     let same = same-head bytes request asked after behind is other in
     (ap (λ (r : Request). r ∷ []) same.0, ap (λ (r : Request). answer_dropping (body_state r after)) same.0 ∙ ap (λ (b : List ℕ). answer_dropping (body_state asked b)) same.1)
 one-begun bytes after request ys y is not (AreRequests.message {after = behind} {request = asked} other whole rest) =
@@ -192,9 +192,9 @@ one-message : (bytes after : List ℕ) (request : Request) (requests ys : List R
 one-message bytes after request requests ys x y is whole later (AreRequests.waits other) = absurd (no-head bytes after request out.Waiting (inl refl) other is)
 one-message bytes after request requests ys x y is whole later (AreRequests.refused {code} other) =
     absurd (no-head bytes after request (out.Refused code) (inr (code, refl)) other is)
-one-message bytes after request requests ys x y is whole later (AreRequests.begun {after = behind} {request = asked} other open) =
+one-message bytes after request requests ys x y is whole later (AreRequests.begun {after = behind} {request = asked} other unfinished) =
     let same = same-head bytes request asked after behind is other in
-    absurd (open (sym (ap (λ (r : Request). body_state r after) same.0 ∙ ap (λ (b : List ℕ). body_state asked b) same.1) ∙ whole))
+    absurd (unfinished (sym (ap (λ (r : Request). body_state r after) same.0 ∙ ap (λ (b : List ℕ). body_state asked b) same.1) ∙ whole))
 one-message bytes after request requests ys x y is whole later (AreRequests.message {after = behind} {request = asked} {requests = others} other ends rest) =
     let same = same-head bytes request asked after behind is other in
     let rests : drop (body_length asked behind) behind ≡ drop (body_length request after) after =

@@ -32,13 +32,11 @@ pub(crate) fn fed_head(
 {
     let before = held.front.len() + held.rest.len();
     held.push(alloc, piece)?;
+    let total = held.rest.len();
     let mut scan = scan;
     match scan.read(bytes_after(&held.rest, scanned)) {
         Some(more) => cut_head(alloc, held, before, scanned + more),
-        None if held.rest.len() < HEAD_LIMIT => Ok((
-            LineOut::Waiting,
-            At::Head(scan, held.rest.len()),
-        )),
+        None if total < HEAD_LIMIT => Ok((LineOut::Waiting, At::Head(scan, total))),
         None => {
             *held = HeldBytes::new(alloc);
             Ok((LineOut::Refused(431), At::Over(431)))

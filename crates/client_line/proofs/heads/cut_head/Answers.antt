@@ -20,7 +20,8 @@ returns-in-Request-clause-led c =
     (c.in-Request.ensures (λ e. let f : out.Request c.in-Request.head c.in-Request.target ≡ out.Memory = e in cc)) in (
       asked-so bytes c.advance.new.bytes.items c.args.held.now.front c.args.end c.in-Request.head c.in-Request.target c.begun_skip.result c.requires.whole is c.requires.joined
           (c.advance.ensures ∙ c.in-Ok.ensures.rest.0) c.begun_skip.ensures,
-      (c.requires.joined, λ e. let f : out.Request c.in-Request.head c.in-Request.target ≡ out.Memory = e in cc),
+      c.requires.joined,
+      λ e. let f : out.Request c.in-Request.head c.in-Request.target ≡ out.Memory = e in cc,
     )
 
 pub returns-in-Refused-clause-led : goal.returns-in-Refused-clause-led
@@ -30,5 +31,6 @@ returns-in-Refused-clause-led c =
     of-copy bytes c.in-Ok-clone.shared c.in-Ok.head c.args.end (out.Refused c.in-Refused.code) c.in-Ok-clone.ensures.cases c.in-Ok.ensures.front
     (c.in-Refused.ensures (λ e. let f : out.Refused c.in-Refused.code ≡ out.Memory = e in cc)) in (
       refused-so bytes c.new.result.front c.new.result.rest.items c.in-Refused.code (cuts bytes c.args.end (out.Refused c.in-Refused.code) c.requires.whole is) c.new.ensures.front c.new.ensures.rest,
-      (none-left c.new.result.front c.new.result.rest.items c.new.ensures.front c.new.ensures.rest, λ e. let f : out.Refused c.in-Refused.code ≡ out.Memory = e in cc),
+      none-left c.new.result.front c.new.result.rest.items c.new.ensures.front c.new.ensures.rest,
+      λ e. let f : out.Refused c.in-Refused.code ≡ out.Memory = e in cc,
     )
