@@ -121,10 +121,7 @@ fn lines_are_cut_into_requests(rt: HostRuntime) -> Result<(), Fail> {
             "C+3\r\nabcd,body 9,done,,held,A+E",
             "POST /c x,400 abc,,400,Body,400",
         ),
-        (
-            "A+E+G E T\r\n\r\n,done,,held,A+E",
-            "GET /a,,400,Begun,400",
-        ),
+        ("A+E+G E T\r\n\r\n,done,,held,A+E", "GET /a,,400,Begun,400"),
         ("GET /.. HTTP/1.0\r\n\r\n,,held", "400,400,Begun"),
         (
             "GET http://H:2/a HTTP/1.1\r\nHost: b\r\n\r\n,body 5",
@@ -144,12 +141,7 @@ fn lines_are_cut_into_requests(rt: HostRuntime) -> Result<(), Fail> {
 }
 
 /// Feeds a piece, ends each request at once, and writes the answers, `;` after each request.
-fn serve(
-    alloc: Global,
-    line: &mut Line,
-    piece: &[u8],
-    all: &mut String,
-) -> Result<(), AllocError> {
+fn serve(alloc: Global, line: &mut Line, piece: &[u8], all: &mut String) -> Result<(), AllocError> {
     let mut out = line.fed(piece);
     while let LineOut::Request(_, _) = out {
         all.push_str(in_words(alloc, &out)?.as_str())?;

@@ -13,7 +13,7 @@ pub returns-in-Whole-clause-led : goal.returns-in-Whole-clause-led
 returns-in-Whole-clause-led c =
     subst (λ (k : Came). IfOk c.fed_head.result (λ r. LeadsTo k r.0 r.1 c.fed_head.new.held))
     (drops-whole c.args.state c.skip-state.result.0 c.args.piece.now (all_of c.args.held.now) c.bytes_after.result.now c.skip-state.result.1 c.skip-state.ensures.moved c.in-Whole.is
-        c.skip-state.ensures.counted c.requires c.bytes_after.ensures)
+    c.skip-state.ensures.counted c.requires c.bytes_after.ensures)
     c.fed_head.ensures.led
 
 pub returns-in-Refused-clause-led : goal.returns-in-Refused-clause-led
