@@ -1,0 +1,5 @@
+pub mod Taking
+pub mod Cutting
+pub mod Dropping
+pub mod Feeds
+pub mod Serving
