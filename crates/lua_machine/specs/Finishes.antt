@@ -3,7 +3,6 @@ use Rattle.std.specs.Prelude.{◌≡◌, ◌≤◌, ◌<◌, List, [], ◌∷◌
 use Rattle.lua_values.specs.Heap.{StoreView, step_limit}
 use Rattle.lua_meaning.specs.Evaluator.{Resume}
 use Rattle.lua_meaning.specs.Life.{Outcome, Done, Failure, Asks, OutOfSteps}
-use Rattle.lua_machine.specs.declared.slices.Op.{Op}
 use Rattle.lua_machine.specs.declared.slices.Slice.{Slice}
 use Rattle.lua_machine.specs.declared.slices.Slice.TheVariants as slice
 

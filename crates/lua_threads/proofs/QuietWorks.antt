@@ -40,7 +40,7 @@ use Rattle.lua_meaning.specs.Signs.{value as one}
 use Rattle.lua_meaning.specs.Variables.{table_fault, variable_fault, unless_refused, write_cell, write_slot, with_locals}
 use Rattle.lua_meaning.specs.Calls.{call, tail_call, call_for_one}
 use Rattle.lua_meaning.specs.Metatables.{handler, handler_of_two, handler_of_both, is_function}
-use Rattle.lua_meaning.specs.Arithmetic.{handled, outcome_work, arithmetic_work, negation_work}
+use Rattle.lua_meaning.specs.Arithmetic.{handled, outcome_work, arithmetic_work}
 use Rattle.lua_meaning.specs.Comparison.{count_texts, give_truth, call_for_truth, truth_work, equality_work, compared_by_handler, comparison_work}
 use Rattle.lua_meaning.specs.Concatenation.{text_length, with_text, joined, concatenation_work}
 use Rattle.lua_meaning.specs.Operators.{length_work, unary_work, binary_work}

@@ -1,8 +1,7 @@
 -- An evaluation never lowers the steps; a thread that parks, and won't be resumed, has raised them.
-use Rattle.std.specs.Prelude.{◌≡◌, ℕ, zero, suc, ◌+◌, ◌≤◌, ◌<◌, List, [], nat_lt, if◌then◌else◌, true, false, Option}
+use Rattle.std.specs.Prelude.{◌≡◌, ℕ, zero, suc, ◌+◌, ◌≤◌, ◌<◌, [], nat_lt, if◌then◌else◌, true, false}
 use Rattle.std.proofs.Common.{arith}
-use Rattle.lua_values.specs.declared.values.Value.{Value}
-use Rattle.lua_values.specs.Heap.{Heap, StoreView, step_limit}
+use Rattle.lua_values.specs.Heap.{Heap, step_limit}
 use Rattle.lua_meaning.specs.Works.{Places, Node, Sign, Values, Return, Break, Failed, Slots, Work, End, Eval, Outside, Look, Write, Count}
 use Rattle.lua_meaning.specs.Evaluator.{State, Ending, Ended, Parked, Spent, after, counted, Evaluator, do_work, budget, WorkOf, eval_within, eval_by}
 use Rattle.lua_meaning.specs.Life.{Outcome, Done, Failure, Asks, OutOfSteps, Unbegun, outcome_of}

@@ -1,8 +1,8 @@
 -- The steps of a thread that is resumed.
-use Rattle.std.specs.Prelude.{◌≡◌, ℕ, ◌≤◌, nat_lt, List, [], ◌∷◌, if◌then◌else◌, true, false, refl}
+use Rattle.std.specs.Prelude.{ℕ, nat_lt, List, [], ◌∷◌, if◌then◌else◌, true, false, refl}
 use Rattle.std.proofs.Common.{subst, arith}
 use Rattle.lua_values.specs.Heap.{StoreView, step_limit}
-use Rattle.lua_meaning.specs.Works.{Caller, Places, Sign, Slots}
+use Rattle.lua_meaning.specs.Works.{Caller, Places, Sign}
 use Rattle.lua_meaning.specs.Evaluator.{Resume, State, Ending, Ended, Spent, do_work}
 use Rattle.lua_meaning.specs.Setting.{Setting}
 use Rattle.lua_meaning.specs.Nodes.{work_of, eval}

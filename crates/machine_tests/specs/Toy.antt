@@ -1,5 +1,5 @@
 -- What comes of a thread that parks as often as it is told.
-use Rattle.std.specs.Prelude.{ℕ, zero, suc, ◌+◌, min, nat_lt, List, [], ◌∷◌, None, if◌then◌else◌}
+use Rattle.std.specs.Prelude.{ℕ, zero, suc, ◌+◌, min, nat_lt, [], ◌∷◌, None, if◌then◌else◌}
 use Rattle.lua_values.specs.Heap.{StoreView, step_limit}
 use Rattle.lua_meaning.specs.Evaluator.{Resume}
 use Rattle.lua_meaning.specs.Life.{Outcome, Done, Asks, OutOfSteps, Unbegun}

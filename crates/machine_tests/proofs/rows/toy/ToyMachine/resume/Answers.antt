@@ -1,4 +1,5 @@
 use Rattle.std.proofs.Common.{sym, ◌∙◌, refl, arith}
+use Rattle.machine_tests.specs.declared.rows.toy.ToyThread.{ToyThread}
 use Rattle.machine_tests.proofs.ToyLemmas.{spends, at_limit, has_risen, ends, parks}
 use Rattle.machine_tests.proofs.rows.toy.ToyMachine.resume.Goals as goal
 
@@ -14,7 +15,7 @@ returns-then-left-eq0-clause-goes_on c =
 
 pub returns-clause-goes_on : goal.returns-clause-goes_on
 returns-clause-goes_on c =
-    parks c.args.thread.left _ _ (record { store = c.args.store.now; answer = c.args.given }) c.count.new.self (omega (arith, c.if-left-eq0.false)) refl refl c.no_values-2.ensures refl (sym c.count.ensures.below ∙ c.if-not-count.false) c.count.ensures.counted
+    parks (λ (t : ToyThread). t.left) c.args.thread.left c.args.thread _ _ (record { store = c.args.store.now; answer = c.args.given }) c.count.new.self refl (omega (arith, c.if-left-eq0.false)) refl refl c.no_values-2.ensures refl (sym c.count.ensures.below ∙ c.if-not-count.false) c.count.ensures.counted
 
 pub returns-clause-counts : goal.returns-clause-counts
 returns-clause-counts c = has_risen c.args.store.now c.count.new.self c.count.ensures.counted (sym c.count.ensures.below ∙ c.if-not-count.false)
