@@ -1,5 +1,5 @@
 //! Threads that park again and again, in any machine.
-use super::programs::ready;
+use super::programs::prepare;
 use super::toy::Toy;
 use lua_machine::{Machine, Slice};
 use lua_meaning::Resumed;
@@ -30,11 +30,11 @@ fn parks_of<M: Machine>(
 fn a_thread_parks_50000_times(rt: HostRuntime) -> Result<(), Fail> {
     let alloc = rt.alloc();
     let text = "local i = 0 while i < 50000 do i = i + 1 w() end return i";
-    if let Some(ready) = ready(alloc, text)? {
-        let mut ready = ready;
-        let parks = parks_of(&ready.host, alloc, &mut ready.store)?;
+    if let Some(prepared) = prepare(alloc, text)? {
+        let mut prepared = prepared;
+        let parks = parks_of(&prepared.host, alloc, &mut prepared.store)?;
         assert_eq!(rt; parks, Some(50_000));
-        assert_eq!(rt; ready.store.steps(), 650_009);
+        assert_eq!(rt; prepared.store.steps(), 650_009);
     }
     Ok(())
 }

@@ -134,13 +134,13 @@ fn store_of(alloc: Global) -> Result<Option<Store>, AllocError> {
 
 /// A program, and the store in which it runs.
 #[derive(Drop)]
-pub struct Ready {
+pub struct Prepared {
     pub host: Loaded<WaitAndId>,
     pub store: Store,
 }
 
 /// A text that is ready to run; `None` of one that is refused.
-pub fn ready(alloc: Global, text: &str) -> Result<Option<Ready>, AllocError> {
+pub fn prepare(alloc: Global, text: &str) -> Result<Option<Prepared>, AllocError> {
     let Some(program) = program_of(alloc, text)? else {
         return Ok(None);
     };
@@ -151,33 +151,33 @@ pub fn ready(alloc: Global, text: &str) -> Result<Option<Ready>, AllocError> {
         program,
         natives: WaitAndId,
     };
-    Ok(Some(Ready { host, store }))
+    Ok(Some(Prepared { host, store }))
 }
 
 /// What a text comes to with these answers.
 pub fn outcome(alloc: Global, text: &str, answers: &[Answer]) -> Result<String, AllocError> {
-    match ready(alloc, text)? {
+    match prepare(alloc, text)? {
         None => Ok(String::new(alloc)),
-        Some(ready) => shown_of(alloc, ready, answers),
+        Some(prepared) => shown_of(alloc, prepared, answers),
     }
 }
 
 /// What it comes to in a store whose tables, cells and closures are frozen.
 pub fn outcome_frozen(alloc: Global, text: &str) -> Result<String, AllocError> {
-    match ready(alloc, text)? {
+    match prepare(alloc, text)? {
         None => Ok(String::new(alloc)),
-        Some(ready) => {
-            let mut ready = ready;
-            ready.store.freeze();
-            shown_of(alloc, ready, &[])
+        Some(prepared) => {
+            let mut prepared = prepared;
+            prepared.store.freeze();
+            shown_of(alloc, prepared, &[])
         }
     }
 }
 
 /// What a program that is ready comes to.
-fn shown_of(alloc: Global, ready: Ready, answers: &[Answer]) -> Result<String, AllocError> {
+fn shown_of(alloc: Global, prepared: Prepared, answers: &[Answer]) -> Result<String, AllocError> {
     let mut shown = String::new(alloc);
-    let Ready { host, store } = ready;
+    let Prepared { host, store } = prepared;
     let mut store = store;
     let before = store.units();
     let mut thread = host.start(alloc, Value::Closure(0), Values::of(Vec::new(alloc)))?;
