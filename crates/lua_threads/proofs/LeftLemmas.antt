@@ -10,16 +10,18 @@ use Rattle.lua_meaning.specs.declared.resumes.Resumed.{Resumed}
 use Rattle.lua_meaning.specs.Evaluator.{Resume, Spent}
 use Rattle.lua_meaning.specs.Setting.{Setting}
 use Rattle.lua_meaning.specs.Life.{Outcome}
+use Rattle.lua_machine.specs.declared.slices.Slice.{Slice}
+use Rattle.lua_machine.specs.Finishes.{IsOutcome}
 use Rattle.lua_frames_base.specs.declared.threads.Frames.{Frames}
 use Rattle.lua_frames_base.specs.Frames.{finish, given}
 use Rattle.lua_frames_base.specs.Starting.{Answers}
-use Rattle.lua_threads.specs.declared.threads.Slice.{Slice}
 use Rattle.lua_threads.specs.declared.threads.Stage.TheVariants as stage
-use Rattle.lua_threads.specs.Left.{resumed_at, IsOutcome}
+use Rattle.lua_threads.specs.declared.threads.Thread.{Thread}
+use Rattle.lua_threads.specs.Left.{resumed_at, left}
 
 -- the same outcome in another form
-pub comes_as : {E : Type 0} (S : Setting) (o same : Outcome) (rs : List Resume) (store : StoreView) (r : Result Slice E) → o ≡ same → IfOk r (λ s. IsOutcome S same rs store s) → IfOk r (λ s. IsOutcome S o rs store s)
-comes_as S o same rs store r e h = subst (λ (t : Outcome). IfOk r (λ s. IsOutcome S t rs store s)) (sym e) h
+pub comes_as : {E : Type 0} (S : Setting) (o same : Outcome) (rs : List Resume) (store : StoreView) (r : Result (Slice Thread) E) → o ≡ same → IfOk r (λ s. IsOutcome (left S) same rs store s) → IfOk r (λ s. IsOutcome (left S) o rs store s)
+comes_as S o same rs store r e h = subst (λ (t : Outcome). IfOk r (λ s. IsOutcome (left S) t rs store s)) (sym e) h
 
 -- its call is answered, and it goes on
 pub answer_goes : (S : Setting) (program : Program) (position : Option Position) (answer : Resumed) (old new : Frames) (store : StoreView) (rs : List Resume)

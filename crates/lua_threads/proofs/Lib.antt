@@ -1,1 +1,4 @@
+pub mod StepsRise
+pub mod QuietWorks
+pub mod ThreadsRise
 pub mod LeftLemmas

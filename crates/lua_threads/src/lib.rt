@@ -1,4 +1,4 @@
-//! Threads: each begins with a call, is resumed, parks where the outside must answer, and ends.
+//! The machine of Lua and its threads: each begins with a call, is resumed, parks where the outside must answer, and ends.
 #![tactic(auto)]
 
 mod ended;
@@ -6,4 +6,4 @@ mod loaded;
 mod threads;
 
 pub use loaded::Loaded;
-pub use threads::{Slice, Stage, Thread};
+pub use threads::{Stage, Thread};

@@ -1,17 +1,19 @@
 //! Threads.
 
-ghost use Rattle.std.specs.Prelude.{List, IfOk};
+ghost use Rattle.std.specs.Prelude.{List, ◌∷◌, IfOk};
 ghost use Rattle.lua_values.specs.Heap.{StoreView};
 ghost use Rattle.lua_meaning.specs.Evaluator.{Resume, Ending};
 ghost use Rattle.lua_meaning.specs.Setting.{Setting};
-ghost use Rattle.lua_meaning.specs.Life.{outcome_of};
+ghost use Rattle.lua_meaning.specs.Life.{outcome_of, life};
+ghost use Rattle.lua_machine.specs.Finishes.{IsNew, IsOutcome, Resumes, CountsSteps};
 ghost use Rattle.lua_frames_base.specs.Frames.{finish};
 ghost use Rattle.lua_frames_base.specs.Follows.{Follows, Asks};
-ghost use Rattle.lua_threads.specs.Left.{IsNew, Resumes, IsOutcome};
+ghost use Rattle.lua_threads.specs.Left.{left, SpendsAll};
 
 use crate::ended::{Ended, end_of};
 use lua_frames::run;
-use lua_frames_base::{Flow, Frames, Host, Op, answer, start};
+use lua_frames_base::{Flow, Frames, Host, answer, start};
+use lua_machine::{Op, Slice};
 use lua_meaning::{Position, Resumed};
 use lua_values::{Store, Value, Values};
 use std::alloc::{AllocError, Global};
@@ -33,25 +35,10 @@ pub struct Thread {
     stage: Stage,
 }
 
-/// What a resume of a thread comes to.
-#[derive(Drop)]
-pub enum Slice {
-    /// A call is left to the outside, whose answer the thread is resumed with.
-    Parked(Thread, Op),
-    Done(Values),
-    Failed(Value),
-    /// The steps reached 1,000,000.
-    Spent,
-    /// Out of memory.
-    Memory,
-    /// The program came to a part of the language that the machine doesn't run yet.
-    Unsupported,
-}
-
 impl Thread {
     /// A thread that calls a value with arguments as it is first resumed.
-    pub fn start(alloc: Global, function: Value, args: Values) -> Result<Thread, AllocError>
-        ensures { IfOk result (λ thread. IsNew function args thread) }
+    pub(crate) fn start(alloc: Global, function: Value, args: Values) -> Result<Thread, AllocError>
+        ensures { (S : Setting) → IfOk result (λ thread. IsNew (life S function args) (left S thread)) }
     {
         Ok(Thread {
             frames: start(alloc, function, args.into_vec())?,
@@ -59,9 +46,15 @@ impl Thread {
         })
     }
 
-    /// Resumes the thread with what the call at which it is parked gives; the answer to a thread that hasn't begun isn't used.
-    pub fn resume<H: Host>(self, host: &H, store: &mut Store, given: Resumed) -> Slice
-        ensures { (resumes : List Resume) → Resumes (H.setting host.now) self (record { store = store.old; answer = given }) resumes store.new result }
+    /// Resumes the thread with what the call gives at which it is parked.
+    pub(crate) fn resume<H: Host>(
+        self,
+        host: &H,
+        store: &mut Store,
+        given: Resumed,
+    ) -> Slice<Thread>
+        ensures goes_on { Resumes (left (H.setting host.now)) self (record { store = store.old; answer = given }) store.new result }
+        ensures counts { CountsSteps store.old store.new result }
     {
         match self.go_on(host, store, given) {
             Ok(slice) => slice,
@@ -74,9 +67,10 @@ impl Thread {
         host: &H,
         store: &mut Store,
         given: Resumed,
-    ) -> Result<Slice, AllocError>
-        ensures { (resumes : List Resume)
-            → IfOk result (λ slice. Resumes (H.setting host.now) self (record { store = store.old; answer = given }) resumes store.new slice) }
+    ) -> Result<Slice<Thread>, AllocError>
+        ensures comes { (resumes : List Resume) → IfOk result (λ slice. IsOutcome (left (H.setting host.now))
+            (left (H.setting host.now) self ((record { store = store.old; answer = given }) ∷ resumes)) resumes store.new slice) }
+        ensures spent { IfOk result (SpendsAll store.new) }
     {
         let Thread { frames, stage } = self;
         match stage {
@@ -94,24 +88,29 @@ impl Thread {
 }
 
 /// Runs frames until they ask, end or have spent their steps.
-fn run_on<H: Host>(frames: Frames, host: &H, store: &mut Store) -> Result<Slice, AllocError>
-    ensures { (resumes : List Resume) → IfOk result (λ slice. IsOutcome (H.setting host.now)
+fn run_on<H: Host>(frames: Frames, host: &H, store: &mut Store) -> Result<Slice<Thread>, AllocError>
+    ensures comes { (resumes : List Resume) → IfOk result (λ slice. IsOutcome (left (H.setting host.now))
         (outcome_of (finish (H.setting host.now) frames (record { store = store.old; resumes = resumes }))) resumes store.new slice) }
+    ensures spent { IfOk result (SpendsAll store.new) }
 {
     let mut frames = frames;
     let flow = run(&mut frames, host, store)?;
-    slice_of(frames, flow)
+    slice_of(frames, store, flow)
 }
 
-/// What frames came to that were run.
-fn slice_of(frames: Frames, flow: Flow) -> Result<Slice, AllocError>
-    ensures { (S : Setting) → (o : List Resume → Ending) → (store : StoreView) → Follows S o store frames flow → (resumes : List Resume)
-        → IfOk result (λ slice. IsOutcome S (outcome_of (o resumes)) resumes store slice) }
+/// What frames came to that were run. Where a step was wanted that isn't left, the steps are at the limit.
+fn slice_of(frames: Frames, store: &mut Store, flow: Flow) -> Result<Slice<Thread>, AllocError>
+    ensures comes { (S : Setting) → (o : List Resume → Ending) → Follows S o store.old frames flow → (resumes : List Resume)
+        → IfOk result (λ slice. IsOutcome (left S) (outcome_of (o resumes)) resumes store.new slice) }
+    ensures spent { IfOk result (SpendsAll store.new) }
 {
     let mut frames = frames;
     match flow {
         Flow::Asked => Ok(parked(frames)),
-        Flow::Spent => Ok(Slice::Spent),
+        Flow::Spent => {
+            store.add_steps(STEP_LIMIT);
+            Ok(Slice::Spent)
+        }
         Flow::Over => match end_of(frames.alloc, frames.given)? {
             Ended::Done(values) => Ok(Slice::Done(values)),
             Ended::Failed(value) => Ok(Slice::Failed(value)),
@@ -121,15 +120,21 @@ fn slice_of(frames: Frames, flow: Flow) -> Result<Slice, AllocError>
 }
 
 /// A thread that is parked at what its frames ask.
-fn parked(frames: Frames) -> Slice
-    ensures { (S : Setting) → (o : List Resume → Ending) → (store : StoreView) → Asks S o store frames frames.asked → (resumes : List Resume)
-        → IsOutcome S (outcome_of (o resumes)) resumes store result }
+fn parked(frames: Frames) -> Slice<Thread>
+    ensures comes { (S : Setting) → (o : List Resume → Ending) → (store : StoreView) → Asks S o store frames frames.asked → (resumes : List Resume)
+        → IsOutcome (left S) (outcome_of (o resumes)) resumes store result }
+    ensures spent { (store : StoreView) → SpendsAll store result }
 {
     let mut frames = frames;
     match frames.asked.take() {
         None => Slice::Unsupported,
         Some(op) => {
             let stage = Stage::Parked(op.position);
+            let op = Op {
+                number: op.number,
+                args: op.args,
+                position: op.position,
+            };
             Slice::Parked(Thread { frames, stage }, op)
         }
     }

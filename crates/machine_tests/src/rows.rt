@@ -1,9 +1,11 @@
 //! What small programs come to, with their steps and the units that they take.
 mod natives;
+mod parks;
 mod programs;
+mod toy;
 
 use natives::WaitAndId;
-use programs::{Answer, outcome, outcome_after};
+use programs::{Answer, outcome, outcome_frozen};
 use std::test::Fail;
 
 #[test]
@@ -139,14 +141,30 @@ fn calls_come_to_their_values(rt: HostRuntime) -> Result<(), Fail> {
 #[test]
 fn steps_end_a_program(rt: HostRuntime) -> Result<(), Fail> {
     let alloc = rt.alloc();
-    for text in [
-        "while true do end",
-        "local function f() return f() end f()",
-        "pcall(function() while true do end end) return 1",
+    for (text, expected) in [
+        (
+            "local function f() return f() end f()",
+            "Spent | 1000000, 56",
+        ),
+        ("while true do end", "Spent | 1000000, 0"),
+        (
+            "pcall(function() while true do end end) return 1",
+            "Spent | 1000000, 32",
+        ),
     ] {
-        let shown = outcome_after(alloc, 995_000, text, &[])?;
-        assert_eq!(rt; shown.as_str(), "Spent");
+        let shown = outcome(alloc, text, &[])?;
+        assert_eq!(rt; shown.as_str(), expected);
     }
+    Ok(())
+}
+
+#[test]
+fn what_is_frozen_is_not_changed(rt: HostRuntime) -> Result<(), Fail> {
+    let shown = outcome_frozen(rt.alloc(), "x = 1")?;
+    assert_eq!(rt;
+        shown.as_str(),
+        "Failed \"t.conf:1: attempt to modify a frozen table\" | 4, 0"
+    );
     Ok(())
 }
 

@@ -2,9 +2,10 @@
 use super::WaitAndId;
 use lua_ast::Program;
 use lua_lexer::lex;
+use lua_machine::{Machine, Slice};
 use lua_meaning::Resumed;
 use lua_parser::parse;
-use lua_threads::{Loaded, Slice, Thread};
+use lua_threads::Loaded;
 use lua_values::{Store, Value, Values};
 use resty_base::{ByteLists, Bytes, Whole};
 use std::alloc::{AllocError, Global};
@@ -131,37 +132,59 @@ fn store_of(alloc: Global) -> Result<Option<Store>, AllocError> {
     }
 }
 
-/// What a text comes to with these answers.
-pub fn outcome(alloc: Global, text: &str, answers: &[Answer]) -> Result<String, AllocError> {
-    outcome_after(alloc, 0, text, answers)
+/// A program, and the store in which it runs.
+#[derive(Drop)]
+pub struct Prepared {
+    pub host: Loaded<WaitAndId>,
+    pub store: Store,
 }
 
-/// What it comes to where so many steps were counted before.
-pub fn outcome_after(
-    alloc: Global,
-    steps: u64,
-    text: &str,
-    answers: &[Answer],
-) -> Result<String, AllocError> {
-    let mut shown = String::new(alloc);
+/// A text that is ready to run; `None` of one that is refused.
+pub fn prepare(alloc: Global, text: &str) -> Result<Option<Prepared>, AllocError> {
     let Some(program) = program_of(alloc, text)? else {
-        return Ok(shown);
+        return Ok(None);
     };
     let Some(store) = store_of(alloc)? else {
-        return Ok(shown);
+        return Ok(None);
     };
-    let mut store = store;
-    store.add_steps(steps);
-    let before = store.units();
     let host = Loaded {
         program,
         natives: WaitAndId,
     };
-    let mut thread = Thread::start(alloc, Value::Closure(0), Values::of(Vec::new(alloc)))?;
+    Ok(Some(Prepared { host, store }))
+}
+
+/// What a text comes to with these answers.
+pub fn outcome(alloc: Global, text: &str, answers: &[Answer]) -> Result<String, AllocError> {
+    match prepare(alloc, text)? {
+        None => Ok(String::new(alloc)),
+        Some(prepared) => shown_of(alloc, prepared, answers),
+    }
+}
+
+/// What it comes to in a store whose tables, cells and closures are frozen.
+pub fn outcome_frozen(alloc: Global, text: &str) -> Result<String, AllocError> {
+    match prepare(alloc, text)? {
+        None => Ok(String::new(alloc)),
+        Some(prepared) => {
+            let mut prepared = prepared;
+            prepared.store.freeze();
+            shown_of(alloc, prepared, &[])
+        }
+    }
+}
+
+/// What a program that is ready comes to.
+fn shown_of(alloc: Global, prepared: Prepared, answers: &[Answer]) -> Result<String, AllocError> {
+    let mut shown = String::new(alloc);
+    let Prepared { host, store } = prepared;
+    let mut store = store;
+    let before = store.units();
+    let mut thread = host.start(alloc, Value::Closure(0), Values::of(Vec::new(alloc)))?;
     let mut given = Resumed::Values(Values::of(Vec::new(alloc)));
     let mut answers = answers.iter();
     for _ in 0..100 {
-        match thread.resume(&host, &mut store, given) {
+        match host.resume(thread, &mut store, given) {
             Slice::Parked(parked, op) => {
                 shown.push_str("Parked(")?;
                 show_number(&mut shown, i64::from(op.number))?;
@@ -190,6 +213,7 @@ pub fn outcome_after(
             }
             Slice::Spent => {
                 shown.push_str("Spent")?;
+                show_counts(&mut shown, &store, before)?;
                 return Ok(shown);
             }
             Slice::Memory => {

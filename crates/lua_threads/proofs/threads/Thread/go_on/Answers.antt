@@ -5,22 +5,22 @@ use Rattle.lua_threads.specs.Left.{resumed_at}
 use Rattle.lua_threads.proofs.LeftLemmas.{comes_as, answer_goes, steps_left, no_steps_left}
 use Rattle.lua_threads.proofs.threads.Thread.go_on.Goals as goal
 
-pub returns-in-New : goal.returns-in-New
-returns-in-New g c = λ rs.
+pub returns-in-New-clause-comes : goal.returns-in-New-clause-comes
+returns-in-New-clause-comes g c = λ rs.
     comes_as (g.H.Host.setting c.args.host.now) _ _ rs c.run_on.new.store c.run_on.result
-    (ap (λ (t : Stage). outcome_of (resumed_at (g.H.Host.setting c.args.host.now) c.args.self.frames t (record { store = c.args.store.now; answer = c.args.given }) rs)) c.in-New.is) (c.run_on.ensures rs)
+    (ap (λ (t : Stage). outcome_of (resumed_at (g.H.Host.setting c.args.host.now) c.args.self.frames t (record { store = c.args.store.now; answer = c.args.given }) rs)) c.in-New.is) (c.run_on.ensures.comes rs)
 
-pub returns-then-steps-ge-STEP_LIMIT : goal.returns-then-steps-ge-STEP_LIMIT
-returns-then-steps-ge-STEP_LIMIT g c = λ rs.
+pub returns-then-steps-ge-STEP_LIMIT-clause-comes : goal.returns-then-steps-ge-STEP_LIMIT-clause-comes
+returns-then-steps-ge-STEP_LIMIT-clause-comes g c = λ rs.
     ap outcome_of
     (ap (λ (t : Stage). resumed_at (g.H.Host.setting c.args.host.now) c.args.self.frames t (record { store = c.args.store.now; answer = c.args.given }) rs) c.in-Parked.is
     ∙ no_steps_left (g.H.Host.setting c.args.host.now) c.args.self.frames c.in-Parked.position (record { store = c.args.store.now; answer = c.args.given }) rs (omega (arith, c.steps.ensures.steps, c.if-steps-ge-STEP_LIMIT.true)))
 
-pub returns-in_ok-answer-in-Parked : goal.returns-in_ok-answer-in-Parked
-returns-in_ok-answer-in-Parked g c = λ rs.
+pub returns-in_ok-answer-in-Parked-clause-comes : goal.returns-in_ok-answer-in-Parked-clause-comes
+returns-in_ok-answer-in-Parked-clause-comes g c = λ rs.
     comes_as (g.H.Host.setting c.args.host.now) _ _ rs c.run_on-in-Parked.new.store c.run_on-in-Parked.result
     (ap outcome_of
     (ap (λ (t : Stage). resumed_at (g.H.Host.setting c.args.host.now) c.args.self.frames t (record { store = c.args.store.now; answer = c.args.given }) rs) c.in-Parked.is
     ∙ steps_left (g.H.Host.setting c.args.host.now) c.args.self.frames c.in-Parked.position (record { store = c.args.store.now; answer = c.args.given }) rs (omega (arith, c.steps.ensures.steps, c.if-steps-ge-STEP_LIMIT.false))
     ∙ sym (answer_goes (g.H.Host.setting c.args.host.now) c.program.result.now c.in-Parked.position c.args.given c.args.self.frames c.answer.new.frames c.args.store.now rs (sym c.program.ensures) c.in_ok-answer-in-Parked.ensures)))
-    (c.run_on-in-Parked.ensures rs)
+    (c.run_on-in-Parked.ensures.comes rs)
