@@ -57,7 +57,7 @@ fn begin_stmt<H: Host>(
             frames,
             host,
             store,
-            targets.as_slice(),
+            targets,
             xs,
         ),
         StmtKind::Call(x) => expr_under(frames, host, store, Item::Discard, x),

@@ -1,6 +1,7 @@
 //! What small programs come to, with their steps and the units that they take.
 mod natives;
 mod programs;
+mod tables;
 
 use natives::WaitAndId;
 use programs::{Answer, outcome, outcome_after};
