@@ -144,7 +144,7 @@ pub at_key : {E : Type 0} (S : Setting) (targets ts : Vec Target Global) (more :
     → v ≡ or_nil (slice_get vs.items (length ts.items)) → us.items ≡ slice_set vs.items (length ts.items) Nil → Waits mid (i.Stores ts us) waits
     → Works S (store_work S line object key v (here waits) (slots_of waits)) waits between fs store r
     → Works S (assign_values S (map target_of targets.items) values.items (here old) (slots_of old)) old before fs store r
-at_key S targets ts more t line object key values vs us v old mid waits fs before between store r h e split at is left k w =
+at_key S targets ts more t line object key values vs us v old mid waits fs before between store r h e split there is left k w =
     works_moved S (assign_values S (map target_of targets.items) values.items (here old) (slots_of old)) (and_then (store_work S line object key v (here mid) (slots_of mid)) (resume_item S (i.Stores ts us) (here mid))) old mid fs before between store r h comes
     (work_under S mid waits fs (i.Stores ts us) (λ p s. store_work S line object key v p s) between store r k w)
   where
@@ -156,7 +156,7 @@ at_key S targets ts more t line object key values vs us v old mid waits fs befor
         e rs ∙ ap (λ (xs : List Target). do_work (eval S) (assign_values S (map target_of xs) vs.items (here old) (slots_of mid)) (record { store = between; resumes = rs })) split
         ∙ ap (λ (q : Work). do_work (eval S) q (record { store = between; resumes = rs })) (last_first S ts.items t vs.items (here old) (slots_of mid))
         ∙ ap (λ (x : Value). do_work (eval S) (and_then (assign_to S (target_of t) x (here old) (slots_of mid)) (on_values (λ xs s'. assign_values S (map target_of ts.items) vs.items (here old) s'))) (record { store = between; resumes = rs })) (sym is)
-        ∙ ap (λ (x : Target). do_work (eval S) (and_then (assign_to S (target_of x) v (here old) (slots_of mid)) (on_values (λ xs s'. assign_values S (map target_of ts.items) vs.items (here old) s'))) (record { store = between; resumes = rs })) at
+        ∙ ap (λ (x : Target). do_work (eval S) (and_then (assign_to S (target_of x) v (here old) (slots_of mid)) (on_values (λ xs s'. assign_values S (map target_of ts.items) vs.items (here old) s'))) (record { store = between; resumes = rs })) there
         ∙ ap (λ (ys : List (assignment.Target × Value)). do_work (eval S) (and_then (store_work S line object key v (here old) (slots_of mid)) (on_values (λ xs s'. assign_all S (reverse ys) (here old) s'))) (record { store = between; resumes = rs })) same_values
         ∙ ap (λ (p : Places). do_work (eval S) (and_then (store_work S line object key v p (slots_of mid)) (resume_item S (i.Stores ts us) p)) (record { store = between; resumes = rs })) (sym (stays_here old mid h))
 

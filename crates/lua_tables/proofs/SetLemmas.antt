@@ -42,17 +42,17 @@ pair_refused t key x fault before store cause known is S callers s go rs =
     ∙ ap (λ (st : StoreView). do_work (eval S) (raise_fault S callers (table_fault fault) s) (record { store = st; resumes = rs })) (sym is)
 
 -- work goes on once a pair is set
-pub set_goes : {E : Type 0} (S : Setting) (callers : List Caller) (t : ℕ) (key at x : Value) (s : Slots) (go : Work) (old fs : Frames) (before mid store : StoreView) (r : Result Flow E)
-    → key ≡ at → Sets t key x before None mid → Works S go old mid fs store r → Works S (set_work S callers t at x s go) old before fs store r
-set_goes S callers t key at x s go old fs before mid store r same h w =
-    works_by S (set_work S callers t at x s go) go old fs before mid store r
+pub set_goes : {E : Type 0} (S : Setting) (callers : List Caller) (t : ℕ) (key spot x : Value) (s : Slots) (go : Work) (old fs : Frames) (before mid store : StoreView) (r : Result Flow E)
+    → key ≡ spot → Sets t key x before None mid → Works S go old mid fs store r → Works S (set_work S callers t spot x s go) old before fs store r
+set_goes S callers t key spot x s go old fs before mid store r same h w =
+    works_by S (set_work S callers t spot x s go) go old fs before mid store r
     (subst (λ (k : Value). ComesTo S (set_work S callers t k x s go) before go mid) same (h S callers s go)) w
 
 -- or a fault is raised
-pub set_fails : {E : Type 0} (S : Setting) (callers : List Caller) (t : ℕ) (key at x : Value) (fault : Fault) (s : Slots) (go : Work) (old fs : Frames) (before mid store : StoreView) (r : Result Flow E)
-    → key ≡ at → Sets t key x before (Some fault) mid → Works S (raise_fault S callers fault s) old mid fs store r → Works S (set_work S callers t at x s go) old before fs store r
-set_fails S callers t key at x fault s go old fs before mid store r same h w =
-    works_by S (set_work S callers t at x s go) (raise_fault S callers fault s) old fs before mid store r
+pub set_fails : {E : Type 0} (S : Setting) (callers : List Caller) (t : ℕ) (key spot x : Value) (fault : Fault) (s : Slots) (go : Work) (old fs : Frames) (before mid store : StoreView) (r : Result Flow E)
+    → key ≡ spot → Sets t key x before (Some fault) mid → Works S (raise_fault S callers fault s) old mid fs store r → Works S (set_work S callers t spot x s go) old before fs store r
+set_fails S callers t key spot x fault s go old fs before mid store r same h w =
+    works_by S (set_work S callers t spot x s go) (raise_fault S callers fault s) old fs before mid store r
     (subst (λ (k : Value). ComesTo S (set_work S callers t k x s go) before (raise_fault S callers fault s) mid) same (h S callers s go)) w
 
 -- values at numbers: those from an index on are left

@@ -9,7 +9,7 @@ use Rattle.lua_nodes.proofs.DropLemmas.{counted, dropped_all}
 use Rattle.lua_nodes.proofs.MovedLemmas.{kept_on}
 use Rattle.lua_statements.specs.Assignments.{Assigns}
 use Rattle.lua_statements.proofs.AssignLemmas.{assigns_of, stops_at}
-use Rattle.lua_statements.proofs.AssignAllLemmas.{fewer_by_one, fault_ends, none_left}
+use Rattle.lua_statements.proofs.AssignAllLemmas.{fewer_by_one, fault_ends, at_key, none_left}
 use Rattle.lua_statements.proofs.assigning.assign_values.Goals as goal
 
 pub returns-then-has_failed : goal.returns-then-has_failed
@@ -35,6 +35,13 @@ pub returns-in_default-2 : goal.returns-in_default-2
 returns-in_default-2 g c =
     stops_at (g.H.Host.setting c.args.host.now) _ (assign_to (g.H.Host.setting c.args.host.now) (target_of c.in-Some.target) c.take_value-value.result (here c.loop-target.frames) (slots_of c.loop-target.frames)) c.args.frames.now c.loop-target.frames c.assign_variable.new.frames c.args.store.now c.loop-target.store c.assign_variable.new.store c.assign_variable.result c.in_ok-flow.flow
     (c.assign_variable.ensures (g.H.Host.setting c.args.host.now) (sym c.program.ensures)) c.in_ok-flow.was c.in_default-2.not-Went
+
+pub returns-in-AtKey : goal.returns-in-AtKey
+returns-in-AtKey g c =
+    let count : c.len.result ≡ length c.pop.new.self.items = counted c.len.result c.pop.new.self c.pop.new.self c.len.ensures refl in
+    at_key (g.H.Host.setting c.args.host.now) c.args.targets c.pop.new.self c.loop-target.targets.items c.in-Some.target c.in-AtKey.line c.in-AtKey.object c.in-AtKey.key c.args.values c.loop-target.values c.take_value-value.new.values c.take_value-value.result c.args.frames.now c.loop-target.frames c.wait.new.frames c.store_at.new.frames c.args.store.now c.loop-target.store c.store_at.new.store c.store_at.result
+    c.loop-target.invariant.0 c.loop-target.invariant.1 c.in-Some.ensures.items c.in-AtKey.is (c.take_value-value.ensures.value ∙ ap (λ (n : ℕ). or_nil (slice_get c.loop-target.values.items n)) count)
+    (c.take_value-value.ensures.left ∙ ap (λ (n : ℕ). slice_set c.loop-target.values.items n Nil) count) c.in_ok-wait-in-AtKey.ensures c.store_at.ensures
 
 pub returns : goal.returns
 returns g c =
