@@ -97,7 +97,8 @@ resume_item S i.Return p sign s = on_values (λ vs s'. End (Return vs) s') sign 
 resume_item S (i.TailCallee line args) p sign s = on_value (λ f s'. tail_work line f [] args.value.items p s') sign s
 resume_item S (i.TailArguments line f) p sign s = on_values (λ vs s'. tail_call (callers_at p line) f vs s') sign s
 resume_item S (i.TailMethod line name args) p sign s =
-    on_value (λ object s'. and_then (index_work S line object (Text name) p s') (on_value (λ f s''. tail_work line f (object ∷ []) args.value.items p s''))) sign s
+    on_value (λ object s'. and_then (index_work S line object (Text name) p s')
+    (on_value (λ f s''. tail_work line f (object ∷ []) args.value.items p s''))) sign s
 resume_item S (i.TailMethodCallee line object args) p sign s = on_value (λ f s'. tail_work line f (object ∷ []) args.value.items p s') sign s
 resume_item S (i.TailMethodArguments line f object) p sign s = on_values (λ vs s'. tail_call (callers_at p line) f (object ∷ vs) s') sign s
 resume_item S i.TailReturn p sign s = End (returned sign) s

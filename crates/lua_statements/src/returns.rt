@@ -97,7 +97,8 @@ fn begin_tail_method<H: Host>(
     name: &Bytes,
     args: &Rc<Vec<Expr>>,
 ) -> Result<Flow, AllocError>
-    ensures { Works (H.setting host.now) (tail_method_begins (H.setting host.now) line object.now.value name.now args.now.value.items (here frames.old) (slots_of frames.old))
+    ensures { Works (H.setting host.now) (tail_method_begins (H.setting host.now) line object.now.value name.now args.now.value.items
+        (here frames.old) (slots_of frames.old))
         frames.old store.old frames.new store.new result }
 {
     if !store.count(1) {

@@ -23,7 +23,8 @@ Located = Setting → ℕ → Places → Slots → Work
 
 -- an index comes to other work in a store
 abbrev pub IndexComesTo : Value → Value → StoreView → Located → StoreView → Type 0
-IndexComesTo v key before work store = (S : Setting) (line : ℕ) (p : Places) (s : Slots) → ComesTo S (index_work S line v key p s) before (work S line p s) store
+IndexComesTo v key before work store =
+    (S : Setting) (line : ℕ) (p : Places) (s : Slots) → ComesTo S (index_work S line v key p s) before (work S line p s) store
 
 -- an index comes to what was found
 abbrev pub Reads : Value → Value → StoreView → Read → StoreView → Type 0

@@ -39,7 +39,8 @@ returns-in_default-2 g c =
 pub returns-in-AtKey : goal.returns-in-AtKey
 returns-in-AtKey g c =
     let count : c.len.result ≡ length c.pop.new.self.items = counted c.len.result c.pop.new.self c.pop.new.self c.len.ensures refl in
-    at_key (g.H.Host.setting c.args.host.now) c.args.targets c.pop.new.self c.loop-target.targets.items c.in-Some.target c.in-AtKey.line c.in-AtKey.object c.in-AtKey.key c.args.values c.loop-target.values c.take_value-value.new.values c.take_value-value.result c.args.frames.now c.loop-target.frames c.wait.new.frames c.store_at.new.frames c.args.store.now c.loop-target.store c.store_at.new.store c.store_at.result
+    at_key (g.H.Host.setting c.args.host.now) c.args.targets c.pop.new.self c.loop-target.targets.items c.in-Some.target c.in-AtKey.line c.in-AtKey.object c.in-AtKey.key c.args.values c.loop-target.values
+    c.take_value-value.new.values c.take_value-value.result c.args.frames.now c.loop-target.frames c.wait.new.frames c.store_at.new.frames c.args.store.now c.loop-target.store c.store_at.new.store c.store_at.result
     c.loop-target.invariant.0 c.loop-target.invariant.1 c.in-Some.ensures.items c.in-AtKey.is (c.take_value-value.ensures.value ∙ ap (λ (n : ℕ). or_nil (slice_get c.loop-target.values.items n)) count)
     (c.take_value-value.ensures.left ∙ ap (λ (n : ℕ). slice_set c.loop-target.values.items n Nil) count) c.in_ok-wait-in-AtKey.ensures c.store_at.ensures
 
