@@ -23,9 +23,7 @@ pub(crate) fn target_key<H: Host>(
 {
     match take_first(frames) {
         None => Ok(Flow::Went),
-        Some(object) => {
-            value_under(frames, host, store, Item::TargetAt(line, object, left), &b)
-        }
+        Some(object) => { value_under(frames, host, store, Item::TargetAt(line, object, left), &b) }
     }
 }
 
@@ -43,10 +41,25 @@ pub(crate) fn target_at<H: Host>(
     match take_first(frames) {
         None => Ok(Flow::Went),
         Some(key) => {
-            let Assignment { found, targets, next, values } = left;
+            let Assignment {
+                found,
+                targets,
+                next,
+                values,
+            } = left;
             let mut found = found;
             found.push(Target::AtKey(line, object, key))?;
-            find_targets(frames, host, store, Assignment { found, targets, next, values })
+            find_targets(
+                frames,
+                host,
+                store,
+                Assignment {
+                    found,
+                    targets,
+                    next,
+                    values,
+                },
+            )
         }
     }
 }

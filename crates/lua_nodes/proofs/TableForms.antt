@@ -37,7 +37,6 @@ use Rattle.lua_nodes.proofs.CaptureLemmas.{full_there}
 pub table_form : (S : Setting) (x : Expr) (items : Rc (Vec TableItem Global) Global) (p : Places) (s : Slots) → x.kind ≡ v.Table items → expr_work S x.line (out-ExprKind x.kind) p s ≡ constructor_work S x.line items.value.items p s
 table_form S x items p s is = rw (is, outs-Table items) refl
 
-
 -- a table is made, and its items wait
 pub table_made : {E : Type 0} (S : Setting) (line t : ℕ) (items copy : Rc (Vec TableItem Global) Global) (old mid new : Frames) (before store : StoreView) (r : Result Flow E)
     → t ≡ length before.heap.tables → full_cause before.heap 32 ≡ None → store ≡ record { heap = with_table before.heap; steps = before.steps } → copy.value ≡ items.value

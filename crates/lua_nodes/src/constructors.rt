@@ -27,7 +27,13 @@ pub(crate) fn begin_table(
     match store.make_table() {
         Ok(table) => {
             let items = share(items)?;
-            let next = Item::Items(Constructor { line, table, number: 1, items, next: 0 });
+            let next = Item::Items(Constructor {
+                line,
+                table,
+                number: 1,
+                items,
+                next: 0,
+            });
             wait(frames, next)?;
             give_nothing(frames)
         }

@@ -105,5 +105,11 @@ fn begin_tail_method<H: Host>(
         return Ok(Flow::Spent);
     }
     let copy = name.clone()?;
-    value_under(frames, host, store, Item::TailMethod(line, copy, share(args)?), object)
+    value_under(
+        frames,
+        host,
+        store,
+        Item::TailMethod(line, copy, share(args)?),
+        object,
+    )
 }

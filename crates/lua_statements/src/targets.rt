@@ -72,7 +72,17 @@ fn begin_targets<H: Host>(
     let found = Vec::new(frames.alloc);
     let targets = share(targets)?;
     let values = share(xs)?;
-    find_targets(frames, host, store, Assignment { found, targets, next: 0, values })
+    find_targets(
+        frames,
+        host,
+        store,
+        Assignment {
+            found,
+            targets,
+            next: 0,
+            values,
+        },
+    )
 }
 
 /// Goes on with the targets of an assignment that are left, and then with its values.
@@ -86,7 +96,12 @@ pub fn find_targets<H: Host>(
         (slots_of frames.old))
         frames.old store.old frames.new store.new result }
 {
-    let Assignment { found, targets, next, values } = assignment;
+    let Assignment {
+        found,
+        targets,
+        next,
+        values,
+    } = assignment;
     let mut found = found;
     let mut next = next;
     while let Some(target) = element(&targets, next) {
@@ -96,8 +111,19 @@ pub fn find_targets<H: Host>(
         match begin_target(store, target)? {
             Begun::Found(target) => found.push(target)?,
             Begun::Index(line, object, key) => {
-                let left = Assignment { found, targets, next: next + 1, values };
-                return value_under(frames, host, store, Item::TargetKey(line, key, left), &object);
+                let left = Assignment {
+                    found,
+                    targets,
+                    next: next + 1,
+                    values,
+                };
+                return value_under(
+                    frames,
+                    host,
+                    store,
+                    Item::TargetKey(line, key, left),
+                    &object,
+                );
             }
         }
         next += 1;

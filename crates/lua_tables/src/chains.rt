@@ -73,11 +73,7 @@ fn is_function(value: &Value) -> bool
 }
 
 /// Finds what an index comes to. A handler that is no function is indexed in turn, which counts a step.
-pub(crate) fn find_value(
-    store: &mut Store,
-    value: Value,
-    key: &Value,
-) -> Result<Read, AllocError>
+pub(crate) fn find_value(store: &mut Store, value: Value, key: &Value) -> Result<Read, AllocError>
     ensures { IfOk result (λ read. Reads value key.now store.old read store.new) }
 {
     let mut value = value;

@@ -68,8 +68,20 @@ pub fn next_item<H: Host>(
         None => give_one(frames, Value::Table(c.table)),
         Some(TableItem::Pair(key, _)) => value_under(frames, host, store, Item::ItemKey(c), key),
         Some(TableItem::Item(value)) => {
-            let Constructor { line, table, number, items: shared, .. } = c;
-            let left = Constructor { line, table, number, items: shared, next: next + 1 };
+            let Constructor {
+                line,
+                table,
+                number,
+                items: shared,
+                ..
+            } = c;
+            let left = Constructor {
+                line,
+                table,
+                number,
+                items: shared,
+                next: next + 1,
+            };
             if next + 1 < items.len() {
                 value_under(frames, host, store, Item::ItemAtNumber(left), value)
             } else {
@@ -109,8 +121,20 @@ fn begin_value<H: Host>(
     let next = c.next;
     match element(&items, next) {
         Some(TableItem::Pair(_, value)) => {
-            let Constructor { line, table, number, items: shared, .. } = c;
-            let left = Constructor { line, table, number, items: shared, next: next + 1 };
+            let Constructor {
+                line,
+                table,
+                number,
+                items: shared,
+                ..
+            } = c;
+            let left = Constructor {
+                line,
+                table,
+                number,
+                items: shared,
+                next: next + 1,
+            };
             value_under(frames, host, store, Item::ItemAtKey(left, key), value)
         }
         Some(TableItem::Item(_)) => give_one(frames, Value::Table(c.table)),
@@ -152,8 +176,20 @@ pub fn item_at_number<H: Host>(
             let key = key_of(c.number)?;
             match set_pair(store, c.table, key, value)? {
                 None => {
-                    let Constructor { line, table, number, items, next } = c;
-                    let left = Constructor { line, table, number: number + 1, items, next };
+                    let Constructor {
+                        line,
+                        table,
+                        number,
+                        items,
+                        next,
+                    } = c;
+                    let left = Constructor {
+                        line,
+                        table,
+                        number: number + 1,
+                        items,
+                        next,
+                    };
                     next_item(frames, host, store, left)
                 }
                 Some(fault) => raise_fault(frames, host.program(), c.line, fault),
@@ -173,7 +209,15 @@ pub fn items_at_numbers<H: Host>(
 {
     match take_values(frames)? {
         None => Ok(Flow::Went),
-        Some(values) => fill(frames, host.program(), store, c.line, c.table, c.number, values),
+        Some(values) => fill(
+            frames,
+            host.program(),
+            store,
+            c.line,
+            c.table,
+            c.number,
+            values,
+        ),
     }
 }
 

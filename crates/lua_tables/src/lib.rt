@@ -13,6 +13,5 @@ pub use constructors::{
 };
 pub use indexing::{at, index, store_at};
 pub use methods::{
-    method, method_arguments, method_callee, tail_method, tail_method_arguments,
-    tail_method_callee,
+    method, method_arguments, method_callee, tail_method, tail_method_arguments, tail_method_callee,
 };

@@ -140,8 +140,16 @@ fn add_object(store: &mut Store) -> Result<(), StoreFault> {
     let o = store.make_table()?;
     let m = store.make_table()?;
     store.set_metatable(o, Some(m))?;
-    store.set(globals, Value::Text(Bytes::from_static(b"o")), Value::Table(o))?;
-    store.set(globals, Value::Text(Bytes::from_static(b"m")), Value::Table(m))
+    store.set(
+        globals,
+        Value::Text(Bytes::from_static(b"o")),
+        Value::Table(o),
+    )?;
+    store.set(
+        globals,
+        Value::Text(Bytes::from_static(b"m")),
+        Value::Table(m),
+    )
 }
 
 /// What a text comes to with these answers.

@@ -106,11 +106,7 @@ fn metatables_handle_keys_that_are_lacking(rt: HostRuntime) -> Result<(), Fail> 
 
 #[test]
 fn handlers_park(rt: HostRuntime) -> Result<(), Fail> {
-    let shown = outcome(
-        rt.alloc(),
-        "m.__index = w return o.x",
-        &[Answer::One(7)],
-    )?;
+    let shown = outcome(rt.alloc(), "m.__index = w return o.x", &[Answer::One(7)])?;
     assert_eq!(rt;
         shown.as_str(),
         "Parked(0: table, \"x\") at 11; Done 7 | 11, 32"
