@@ -119,3 +119,7 @@ module _ (by : ℕ) where
   arm_raised a b p q =
       let e : arm.roll-Arm (out-Arm a) ≡ a = search (rules, arm.the_lemmas) in
       subst (λ c. RaisedArm by c b) e (arm_rolled (out-Arm a) b p q)
+
+pub ruleset of_expressions = (index_raised, binary_raised, and_raised, or_raised, unary_raised, paren_raised, call_raised, method_raised, table_raised)
+
+pub ruleset of_statements = (do_raised, while_raised, repeat_raised, if_raised, numeric_raised, generic_raised)

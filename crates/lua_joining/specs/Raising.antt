@@ -68,7 +68,8 @@ module _ (by : ℕ) where
 
   abbrev mutual
     pub RaisedStmtKind : StmtKind → StmtKind → Type 0
-    RaisedStmtKind (stmt.Local slots values) d = (others : SharedList Expr) × (d ≡ stmt.Local slots others) × AllZip RaisedExpr values.value.items others.value.items
+    RaisedStmtKind (stmt.Local slots values) d =
+        (others : SharedList Expr) × (d ≡ stmt.Local slots others) × AllZip RaisedExpr values.value.items others.value.items
     RaisedStmtKind (stmt.LocalFunction slot n) d = d ≡ stmt.LocalFunction slot (n + by)
     RaisedStmtKind (stmt.Assign targets values) d =
         (ts : SharedList Expr) × (others : SharedList Expr) × (d ≡ stmt.Assign ts others) × AllZip RaisedExpr targets.value.items ts.value.items

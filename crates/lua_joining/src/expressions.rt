@@ -23,7 +23,7 @@ pub(crate) fn raise_number(number: &mut u32, by: u32) -> Result<(), AllocError>
 
 /// Raises the numbers of functions in an expression. Its parts have no other owner; where one has, that is out of memory.
 #[cycle(raise)]
-#[tactic(auto, using(crate::proofs::Nodes::index_raised, crate::proofs::Nodes::binary_raised, crate::proofs::Nodes::and_raised, crate::proofs::Nodes::or_raised, crate::proofs::Nodes::unary_raised, crate::proofs::Nodes::paren_raised, crate::proofs::Nodes::call_raised, crate::proofs::Nodes::method_raised, crate::proofs::Nodes::table_raised))]
+#[tactic(auto, using(crate::proofs::Nodes::of_expressions))]
 pub(crate) fn raise_expr(expr: &mut Expr, by: u32) -> Result<(), AllocError>
     ensures { OnOk result (RaisedExpr by expr.old expr.new) }
 {

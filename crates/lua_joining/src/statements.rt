@@ -11,7 +11,7 @@ use std::rc::Rc;
 
 /// Raises the numbers of functions in a statement.
 #[cycle(raise_block)]
-#[tactic(auto, using(crate::proofs::Nodes::do_raised, crate::proofs::Nodes::while_raised, crate::proofs::Nodes::repeat_raised, crate::proofs::Nodes::if_raised, crate::proofs::Nodes::numeric_raised, crate::proofs::Nodes::generic_raised))]
+#[tactic(auto, using(crate::proofs::Nodes::of_statements))]
 fn raise_stmt(stmt: &mut Stmt, by: u32) -> Result<(), AllocError>
     ensures { OnOk result (RaisedStmt by stmt.old stmt.new) }
 {

@@ -12,16 +12,16 @@ use Rattle.lua_ast.specs.declared.statements.StmtKind.{StmtKind}
 use Rattle.lua_ast.specs.declared.statements.StmtKind as stmt
 use Rattle.lua_ast.specs.declared.statements.Arm.{Arm, out-Arm}
 use Rattle.lua_ast.specs.declared.statements.Arm as arm
-use Rattle.lua_names.specs.Mentions.{kind_mentions, row_mentions, items_mentions, mentions_in, mentions_in_item, module_in, module_in_row}
+use Rattle.lua_names.specs.Mentions.{kind_mentions, row_mentions, items_mentions, mentions_in, mentions_in_item, module_in, first_kind, row_head}
 use Rattle.lua_names.specs.Mentions.{stmt_mentions, block_mentions, arms_mentions, mentions_in_arm, mentions_in_stmt, mentions_in_range}
 
 pub row_is : {m : _} (r : kind.Row_of-Expr m) → row_mentions r ≡ flat_map mentions_in (kind.items-the_row-Expr _ r)
 row_is kind.end_of-Expr = refl
 row_is (kind.more_of-Expr l k row) = ap (λ xs. kind_mentions k ++ xs) (row_is row)
 
-pub module_row_is : {m : _} (callee : Expr) (r : kind.Row_of-Expr m) → module_in_row callee.kind r ≡ module_in callee (kind.items-the_row-Expr _ r)
-module_row_is callee kind.end_of-Expr = refl
-module_row_is callee (kind.more_of-Expr l k row) = refl
+head_is : {m : _} (r : kind.Row_of-Expr m) → row_head r ≡ first_kind (kind.items-the_row-Expr _ r)
+head_is kind.end_of-Expr = refl
+head_is (kind.more_of-Expr l k row) = refl
 
 pub items_is : {m : _} (r : kind.Row_of-TableItem m) → items_mentions r ≡ flat_map mentions_in_item (kind.items-the_row-TableItem _ r)
 items_is kind.end_of-TableItem = refl
@@ -41,10 +41,10 @@ exprs values =
     let e : kind.items-the_row-Expr _ (kind.TheBlock.hidden-the_row-Expr-0 values) ≡ values.items = search (rules, kind.the_lemmas) in
     row_is (kind.TheBlock.hidden-the_row-Expr-0 values) ∙ ap (flat_map mentions_in) e
 
-pub named : (callee : Expr) (values : Vec Expr Global) → module_in_row callee.kind (kind.TheBlock.hidden-the_row-Expr-0 values) ≡ module_in callee values.items
-named callee values =
+head : (values : Vec Expr Global) → row_head (kind.TheBlock.hidden-the_row-Expr-0 values) ≡ first_kind values.items
+head values =
     let e : kind.items-the_row-Expr _ (kind.TheBlock.hidden-the_row-Expr-0 values) ≡ values.items = search (rules, kind.the_lemmas) in
-    module_row_is callee (kind.TheBlock.hidden-the_row-Expr-0 values) ∙ ap (module_in callee) e
+    head_is (kind.TheBlock.hidden-the_row-Expr-0 values) ∙ ap first_kind e
 
 pub items : (values : Vec TableItem Global) → items_mentions (kind.TheBlock.hidden-the_row-TableItem-1 values) ≡ flat_map mentions_in_item values.items
 items values =
@@ -64,7 +64,7 @@ arms values =
 -- what a node with lists mentions
 pub call_is : (callee : Rc Expr Global) (values : Rc (Vec Expr Global) Global) →
     kind_mentions (kind.Call callee values) ≡ module_in callee.value values.value.items ++ (mentions_in callee.value ++ flat_map mentions_in values.value.items)
-call_is callee values = rw (named callee.value values.value, exprs values.value) refl
+call_is callee values = rw (head values.value, exprs values.value) refl
 
 pub method_is : (object : Rc Expr Global) (name : List ℕ) (values : Rc (Vec Expr Global) Global) →
     kind_mentions (kind.Method object name values) ≡ mentions_in object.value ++ flat_map mentions_in values.value.items
@@ -104,3 +104,5 @@ pub arm_is : (a : Arm) → mentions_in_arm a ≡ mentions_in (out-Arm a).test ++
 arm_is a =
     let e : arm.roll-Arm (out-Arm a) ≡ a = search (rules, arm.the_lemmas) in
     subst (λ b. mentions_in_arm b ≡ mentions_in (out-Arm a).test ++ flat_map mentions_in_stmt (out-Arm a).body.value.items) e (arm_rolled (out-Arm a))
+
+pub ruleset of_statements = (do_is, while_is, repeat_is, if_is, numeric_is, generic_is)

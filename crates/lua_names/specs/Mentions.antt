@@ -1,5 +1,6 @@
 -- What a program mentions, in the order of its text: modules, by the literal names after `require`, and functions.
-use Rattle.std.specs.Prelude.{ℕ, Bool, not, ◌&&◌, ◌||◌, ◌==◌, List, [], ◌∷◌, ◌++◌, length, flat_map, codes, bytes_eq, Option, Some, None, if◌then◌else◌}
+use Rattle.std.specs.Prelude.{ℕ, Bool, not, ◌&&◌, ◌||◌, ◌==◌, List, [], ◌∷◌, ◌++◌, length, flat_map, codes, bytes_eq, slice_get}
+use Rattle.std.specs.Prelude.{Option, Some, None, option_map, if◌then◌else◌}
 use Rattle.std.specs.List.{list_all}
 use Rattle.std.specs.Char.{is_ascii_alphanumeric}
 use Rattle.std.specs.Global.{Global}
@@ -29,30 +30,27 @@ is_module_name text = not (length text == 0) && list_all is_name_byte text
 abbrev pub is_required : List ℕ → List ℕ → Bool
 is_required function text = bytes_eq function (codes "require") && is_module_name text
 
--- the module that a call of a global names by its first argument
-abbrev pub module_by : List ℕ → ExprKind → List Mention
-module_by function (kind.Text text) = if is_required function text then Module text ∷ [] else []
-module_by function value = []
-
--- the same of any call
-abbrev pub module_of : ExprKind → ExprKind → List Mention
-module_of (kind.Global function) value = module_by function value
+-- the module that a call names by its function and its first argument, if it has one
+abbrev pub module_of : ExprKind → Option ExprKind → List Mention
+module_of (kind.Global function) (Some (kind.Text text)) = if is_required function text then Module text ∷ [] else []
 module_of callee value = []
 
-abbrev pub module_in : Expr → List Expr → List Mention
-module_in callee [] = []
-module_in callee (value ∷ values) = module_of callee.kind value.kind
+abbrev pub first_kind : List Expr → Option ExprKind
+first_kind values = option_map (λ e. e.kind) (slice_get values 0)
 
-abbrev pub module_in_row : ExprKind → {m : _} → kind.Row_of-Expr m → List Mention
-module_in_row callee kind.end_of-Expr = []
-module_in_row callee (kind.more_of-Expr l k row) = module_of callee k
+abbrev pub module_in : Expr → List Expr → List Mention
+module_in callee values = module_of callee.kind (first_kind values)
+
+abbrev pub row_head : {m : _} → kind.Row_of-Expr m → Option ExprKind
+row_head kind.end_of-Expr = None
+row_head (kind.more_of-Expr l k row) = Some k
 
 -- In the patterns `k` and `j` are the kinds of the children, `row` is a list of them, and the rest are their lines and addresses.
 abbrev mutual
   pub kind_mentions : ExprKind → List Mention
   kind_mentions (kind.Function n) = Inner n ∷ []
   kind_mentions (kind.Index' p l k q m j) = kind_mentions k ++ kind_mentions j
-  kind_mentions (kind.Call' p l k q shape row) = module_in_row k row ++ (kind_mentions k ++ row_mentions row)
+  kind_mentions (kind.Call' p l k q shape row) = module_of k (row_head row) ++ (kind_mentions k ++ row_mentions row)
   kind_mentions (kind.Method' p l k name q shape row) = kind_mentions k ++ row_mentions row
   kind_mentions (kind.Unary' op p l k) = kind_mentions k
   kind_mentions (kind.Binary' op p l k q m j) = kind_mentions k ++ kind_mentions j

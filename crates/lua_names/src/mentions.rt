@@ -1,6 +1,7 @@
 //! What the body of a function mentions: modules and functions.
 
-ghost use Rattle.std.specs.Prelude.{◌≡◌, ◌++◌, ◌∷◌, [], OnOk};
+ghost use Rattle.std.specs.Prelude.{◌≡◌, ◌++◌, ◌∷◌, [], OnOk, Some};
+ghost use Rattle.lua_ast.specs.declared.expressions.ExprKind.{Global};
 ghost use Rattle.lua_names.specs.Mentions as spec;
 ghost use Rattle.lua_names.specs.declared.mentions.Mention.TheVariants.{Inner};
 
@@ -54,19 +55,33 @@ pub(crate) fn mention_module(
 ) -> Result<(), AllocError>
     ensures { OnOk result (mentions.new.items ≡ mentions.old.items ++ spec.module_in callee.now values.now) }
 {
-    match (&callee.kind, values.first()) {
-        (ExprKind::Global(function), Some(value)) => mention_text(function, value, mentions),
+    match &callee.kind {
+        ExprKind::Global(function) => mention_first(function, values, mentions),
         _ => Ok(()),
     }
 }
 
-/// Notes the module that a call of a global names, if it names one by its first argument.
+/// Notes the module that a call of a global with these arguments names, if it names one.
+fn mention_first(
+    function: &Bytes,
+    values: &[Expr],
+    mentions: &mut Vec<Mention>,
+) -> Result<(), AllocError>
+    ensures { OnOk result (mentions.new.items ≡ mentions.old.items ++ spec.module_of (Global function.now) (spec.first_kind values.now)) }
+{
+    match values.first() {
+        Some(value) => mention_text(function, value, mentions),
+        None => Ok(()),
+    }
+}
+
+/// Notes the module that a call of a global with this first argument names, if it names one.
 fn mention_text(
     function: &Bytes,
     value: &Expr,
     mentions: &mut Vec<Mention>,
 ) -> Result<(), AllocError>
-    ensures { OnOk result (mentions.new.items ≡ mentions.old.items ++ spec.module_by function.now value.now.kind) }
+    ensures { OnOk result (mentions.new.items ≡ mentions.old.items ++ spec.module_of (Global function.now) (Some value.now.kind)) }
 {
     match &value.kind {
         ExprKind::Text(text) => {

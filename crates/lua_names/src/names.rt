@@ -1,7 +1,6 @@
 //! The names of modules in a function and in those within it.
 
-ghost use Rattle.std.specs.Prelude.{◌≡◌, ◌++◌, OnOk, IfOk, flat_map};
-ghost use Rattle.lua_names.specs.Mentions.{mentions_in_stmt};
+ghost use Rattle.std.specs.Prelude.{◌≡◌, ◌≤◌, ◌++◌, OnOk, IfOk, flat_map, length};
 ghost use Rattle.lua_names.specs.Names as spec;
 
 use crate::mentions::Mention;
@@ -79,11 +78,13 @@ fn names_in_function(
 }
 
 /// The names in each function from this number on.
+#[tactic(auto, using(crate::proofs::Steps::names_step, crate::proofs::Steps::names_end))]
 fn names_in_each(
     alloc: Global,
     functions: &[Function],
     number: usize,
 ) -> Result<VecDeque<ByteLists>, AllocError>
+    requires { number ≤ length functions.now }
     ensures { IfOk result (λ known. known.items ≡ spec.names_from functions.now number) }
 {
     let mut known = VecDeque::new(alloc);
@@ -97,10 +98,15 @@ fn names_in_each(
 /// The names of the modules that a function requires, with those that the functions within it require, in the order of the text:
 /// each text of letters, digits, `_`, `-` and `.` that is the first argument of a call of the global `require`. A name that stands
 /// there twice is listed twice. It takes time for all functions from this one on.
+#[tactic(auto, using(crate::proofs::Steps::names_end))]
 pub fn names_of(alloc: Global, program: &Program, number: u32) -> Result<ByteLists, AllocError>
     ensures { IfOk result (λ names. names ≡ spec.names_of program.now.functions.items number) }
 {
-    let mut known = names_in_each(alloc, program.functions.as_slice(), number as usize)?;
+    let number = number as usize;
+    if program.functions.len() <= number {
+        return Ok(ByteLists::of(Vec::new(alloc)));
+    }
+    let mut known = names_in_each(alloc, program.functions.as_slice(), number)?;
     match known.pop_front() {
         Some(names) => Ok(names),
         None => Ok(ByteLists::of(Vec::new(alloc))),

@@ -11,7 +11,7 @@ use std::rc::Rc;
 
 /// Notes what a statement mentions.
 #[cycle(statement)]
-#[tactic(auto, using(crate::proofs::Rows::do_is, crate::proofs::Rows::while_is, crate::proofs::Rows::repeat_is, crate::proofs::Rows::if_is, crate::proofs::Rows::numeric_is, crate::proofs::Rows::generic_is))]
+#[tactic(auto, using(crate::proofs::Rows::of_statements))]
 fn mentions_in_stmt(stmt: &Stmt, mentions: &mut Vec<Mention>) -> Result<(), AllocError>
     ensures { OnOk result (mentions.new.items ≡ mentions.old.items ++ spec.mentions_in_stmt stmt.now) }
 {

@@ -1,6 +1,6 @@
-use Rattle.std.proofs.Common.{◌≡◌}
+use Rattle.std.proofs.Common.{◌≡◌, ◌≤◌}
 use Rattle.lua_names.specs.Names.{names_from}
 use Rattle.lua_names.proofs.names.names_in_each.Given as goal
 
 abbrev pub invariant-loop-n : goal.invariant-loop-n
-invariant-loop-n l = l.known.items ≡ names_from l.functions l.n
+invariant-loop-n l = (l.number ≤ l.n) × (l.known.items ≡ names_from l.functions l.n)
