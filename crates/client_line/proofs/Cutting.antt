@@ -1,6 +1,6 @@
 -- Heads, found in what is held: nothing was found, too much came, or a head is cut off.
-use Rattle.std.specs.Prelude.{Bool, true, false, ◌||◌, Option, Some, None, option_map, MatchBool, MatchOption, nat_lt, if◌then◌else◌}
-use Rattle.std.proofs.Common.{◌≡◌, ◌≢◌, ℕ, ◌+◌, ◌<◌, ◌≤◌, List, [], ◌∷◌, ◌++◌, length, take, drop, refl, sym, ap, subst, ◌∙◌, arith, append-nil}
+use Rattle.std.specs.Prelude.{true, Option, Some, None, option_map, nat_lt, if◌then◌else◌}
+use Rattle.std.proofs.Common.{◌≡◌, ℕ, ◌+◌, ◌<◌, ◌≤◌, List, [], ◌++◌, length, take, drop, refl, sym, ap, subst, ◌∙◌, arith}
 use Rattle.std.proofs.lemmas.Bool.{lt-ltb, le-ltb}
 use Rattle.std.proofs.lemmas.List.{take-append-drop, take-append-le, take_all, length-take-le}
 use Rattle.http_in.specs.declared.scan.HeadScan.{HeadScan}
@@ -9,12 +9,10 @@ use Rattle.http_bodies.specs.declared.states.BodyState.{BodyState}
 use Rattle.http_bodies.specs.Bodies.{begun_state}
 use Rattle.http_bodies.specs.Skips.{no_limit}
 use Rattle.http_in.specs.declared.heads.Head as heads
-use Rattle.http_in.specs.declared.heads.HeadRead.{HeadRead}
 use Rattle.http_in.specs.declared.heads.HeadRead.TheVariants as read
 use Rattle.http_in.specs.Ends.{head_end}
 use Rattle.http_in.specs.Scanning.{after_bytes, scan_of}
-use Rattle.http_in.specs.Heads.{Reads, ReadsHead, ReadsTree, unfinished, has_too_many_lines}
-use Rattle.http_in.specs.Lines.{full_lines, first_line, without_return, has_other_version}
+use Rattle.http_in.specs.Heads.{ReadsHead}
 use Rattle.http_in.proofs.Scans.{after_bytes-append, head_end-bound, head_end-take}
 use Rattle.http_in.proofs.Answers.{begins-with}
 use Rattle.client_line.specs.declared.requests.LineOut.{LineOut}

@@ -1,5 +1,5 @@
 -- What a body leads to that is dropped, by how far it is.
-use Rattle.std.proofs.Common.{◌≡◌, ◌≢◌, ℕ, ◌≤◌, List, [], ◌++◌, take, drop, length, refl, sym, ap, subst, ◌∙◌, arith}
+use Rattle.std.proofs.Common.{◌≡◌, ◌≢◌, ℕ, List, [], ◌++◌, drop, refl, sym, ap, subst, ◌∙◌, arith}
 use Rattle.http_in.specs.declared.scan.HeadScan.{HeadScan}
 use Rattle.http_in.specs.Scanning.{scan_of}
 use Rattle.http_bodies.specs.declared.states.BodyState.{BodyState}

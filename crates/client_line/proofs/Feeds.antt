@@ -1,12 +1,11 @@
 -- Two pieces lead to what both joined lead to.
 use Rattle.std.specs.Prelude.{Bool, true, false, Option, Some, None, MatchOption, nat_lt, if◌then◌else◌}
-use Rattle.std.proofs.Common.{◌≡◌, ◌≢◌, ℕ, ◌+◌, ◌≤◌, List, [], ◌∷◌, ◌++◌, length, take, drop, refl, sym, ap, subst, ◌∙◌, append_assoc, arith}
+use Rattle.std.proofs.Common.{◌≡◌, ◌≢◌, ℕ, ◌+◌, List, ◌++◌, length, drop, refl, sym, ap, subst, ◌∙◌, append_assoc, arith}
 use Rattle.std.proofs.lemmas.List.{drop-append-le}
 use Rattle.std.proofs.Math.Seq.{drop-append-add}
-use Rattle.http_in.specs.declared.heads.HeadRead.{HeadRead}
 use Rattle.http_in.specs.declared.heads.HeadRead.TheVariants as read
 use Rattle.http_in.specs.Ends.{head_end}
-use Rattle.http_in.specs.Heads.{Reads, ReadsHead, unfinished}
+use Rattle.http_in.specs.Heads.{ReadsHead, unfinished}
 use Rattle.http_in.proofs.Scans.{head_end-append_some, head_end-bound}
 use Rattle.http_in.proofs.Answers.{answer-stays}
 use Rattle.http_bodies.specs.declared.states.BodyState.{BodyState}

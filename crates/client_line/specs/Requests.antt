@@ -1,5 +1,5 @@
 -- The request of a head: its target, with the host (RFC 9112, sections 3.2 and 3.3).
-use Rattle.std.specs.Prelude.{◌≡◌, ℕ, List, length, codes, slice_get, Option, Some, None, option_map}
+use Rattle.std.specs.Prelude.{◌≡◌, ℕ, List, codes, slice_get, Option, Some, None, option_map}
 use Rattle.std.specs.Option.{option_or}
 use Rattle.resty_base.specs.declared.names.Pair2.{Pair2}
 use Rattle.http_base.specs.FieldLists.{values_of}

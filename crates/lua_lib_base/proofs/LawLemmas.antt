@@ -1,6 +1,5 @@
 -- What counting keeps.
-use Rattle.std.specs.Prelude.{ℕ, List}
-use Rattle.lua_lib_base.specs.Results.{LibraryResult, Gave, Refused, Left}
+use Rattle.lua_lib_base.specs.Results.{Gave, Refused, Left}
 use Rattle.lua_lib_base.specs.Lawful.{CountingKeepsLawful}
 
 pub counting_keeps : CountingKeepsLawful

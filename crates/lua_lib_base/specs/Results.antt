@@ -1,5 +1,5 @@
 -- What a function of the library means: a result of its arguments and of the heap.
-use Rattle.std.specs.Prelude.{◌≡◌, ℕ, ◌+◌, ◌/◌, ◌<◌, List, [], ◌∷◌, Option, Some, None, Result, Ok, Err}
+use Rattle.std.specs.Prelude.{◌≡◌, ℕ, ◌+◌, ◌/◌, ◌<◌, List, Option, Some, None, Result, Ok, Err}
 use Rattle.lua_values.specs.declared.values.Value.{Value}
 use Rattle.lua_values.specs.declared.values.Value.TheVariants.{Text}
 use Rattle.lua_values.specs.declared.faults.StoreFault.{StoreFault}

@@ -1,5 +1,5 @@
 use Rattle.std.specs.Prelude.{Some}
-use Rattle.std.proofs.Common.{◌≡◌, List, length, drop, take, ap, sym, ◌∙◌, rules}
+use Rattle.std.proofs.Common.{◌≡◌, length, drop, take, ap, sym, ◌∙◌, rules}
 use Rattle.http_bodies.specs.Skips.{skipped}
 use Rattle.client_line.specs.Lines.{taken_count}
 use Rattle.client_line.specs.Views.{taken_of}

@@ -1,5 +1,5 @@
-use Rattle.std.specs.Prelude.{Option, Some, None}
-use Rattle.std.proofs.Common.{◌≡◌, ℕ, ◌+◌, ◌<◌, ◌≤◌, drop, ap, ◌∙◌, arith}
+use Rattle.std.specs.Prelude.{Some, None}
+use Rattle.std.proofs.Common.{◌≡◌, ◌+◌, drop, ap, ◌∙◌, arith}
 use Rattle.http_in.specs.Ends.{head_end}
 use Rattle.http_in.proofs.Scans.{head_end-bound}
 use Rattle.client_line.specs.declared.requests.LineOut.TheVariants as out
