@@ -1,0 +1,6 @@
+pub mod Work
+pub mod Refusals
+pub mod Arguments
+pub mod Results
+pub mod Texts
+pub mod Lawful

@@ -1,0 +1,43 @@
+//! Texts that the library makes. A text of n bytes takes n + 16 units.
+
+ghost use Rattle.std.specs.Prelude.{◌≡◌, ◌≢◌, ◌<◌, ◌^◌, None, OnOk, OnErr, IfErr};
+ghost use Rattle.lua_lib_base.specs.declared.refusals.Refusal.TheVariants.{Fault as OfFault};
+ghost use Rattle.lua_operators.specs.declared.faults.Fault.TheVariants.{StorageLimit as OfStorage};
+ghost use Rattle.lua_lib_base.specs.Results.{IsOutcome};
+ghost use Rattle.lua_lib_base.specs.Texts.{text_cause, with_text, made_text};
+
+use crate::{Given, Refusal, Unanswered, Work};
+use lua_operators::Fault;
+use lua_values::{Store, Value, Values};
+use resty_base::Bytes;
+use std::alloc::Global;
+
+/// The units of a text, beside its bytes.
+const TEXT_UNITS: u64 = 16;
+
+/// Counts the units of a text of so many bytes, before it is made.
+pub fn reserve_text(store: &mut Store, bytes: usize) -> Result<(), Refusal>
+    requires { bytes < 2 ^ 63 }
+    ensures done { OnOk result (store.new ≡ record { heap = with_text store.old.heap bytes; steps = store.old.steps }) }
+    ensures allowed { OnOk result (text_cause store.old.heap bytes ≡ None) }
+    ensures cause { OnErr result (text_cause store.old.heap bytes ≢ None) }
+    ensures refused { IfErr result (λ refusal. refusal ≡ OfFault OfStorage) }
+    ensures kept { OnErr result (store.new ≡ store.old) }
+{
+    match store.add_units(bytes as u64 + TEXT_UNITS) {
+        Ok(()) => Ok(()),
+        Err(_) => Err(Refusal::Fault(Fault::StorageLimit)),
+    }
+}
+
+/// Gives a text that the call makes.
+pub fn give_made(alloc: Global, store: &mut Store, text: Bytes) -> Result<Given, Unanswered>
+    ensures { IsOutcome (made_text store.old.heap text) store.old result store.new }
+{
+    let made = text.len();
+    reserve_text(store, made)?;
+    Ok(Given {
+        values: Values::of(vec![in alloc; Value::Text(text)]?),
+        work: Work::making(made as u64),
+    })
+}
