@@ -31,11 +31,7 @@ fn a_refused_call_counts_what_it_took(rt: HostRuntime) -> Result<(), Fail> {
             &[Texts(128), Number(1)] as &[Arg],
             "bad argument #1 to 'rawget' (table expected, got string) | 2, 0",
         ),
-        (
-            7,
-            &[Table(1), Nil, Texts(64)],
-            "table index is nil | 1, 0",
-        ),
+        (7, &[Table(1), Nil, Texts(64)], "table index is nil | 1, 0"),
         (12, &[Texts(130)], "outside | 2, 0"),
     ] {
         let shown = outcome(rt.alloc(), number, args)?;

@@ -118,4 +118,3 @@ fn texts_are_converted_to_numbers(rt: HostRuntime) -> Result<(), Fail> {
     }
     Ok(())
 }
-

@@ -199,7 +199,7 @@ basic_lawful bound heap args basic.RawGet s = rawget_lawful bound heap args s
 basic_lawful bound heap args basic.RawSet s = rawset_lawful bound heap args s
 basic_lawful bound heap args basic.Select s = select_lawful bound heap args s
 basic_lawful bound heap args basic.ToNumber s = tonumber_lawful bound heap args s
-basic_lawful bound heap args basic.Type s = type_lawful bound heap args s
+basic_lawful bound heap args basic.TypeName s = type_lawful bound heap args s
 basic_lawful bound heap args basic.Unpack s = unpack_lawful bound heap args s
 
 prelude_lawful : (bound : ℕ) (heap : Heap) (args : List Value) (function : PreludeFunction) → Setup bound heap args → IsLawfulResult bound heap (prelude_result function args heap)

@@ -47,8 +47,7 @@ unless_lawful bound heap args (Some cause) go s h = kept bound heap args s
 pub made_lawful : (bound : ℕ) (heap : Heap) (args : List Value) (text : List ℕ) → Setup bound heap args → IsLawfulResult bound heap (made_text heap text)
 made_lawful bound heap args text s =
     unless_lawful bound heap args _ _ s (λ _.
-    let keeps : Keeps heap (with_text heap (length text)) = s.writes.add_units heap (heap.units + (length text + 16)) s.fits in
-    (
+    let keeps : Keeps heap (with_text heap (length text)) = s.writes.add_units heap (heap.units + (length text + 16)) s.fits in (
       record {
         frozen = record { base = refl; tables = refl; cells = refl; closures = refl; no_shorter = keeps.1 };
         closures = refl;
@@ -97,10 +96,9 @@ pub set_raw_lawful : (bound : ℕ) (heap : Heap) (args : List Value) (t : ℕ) (
     → IsLawfulResult bound heap (set_raw heap t key value)
 set_raw_lawful bound heap args t key value s there k v =
     unless_lawful bound heap args _ _ s (λ none.
-    let keeps : Keeps heap (calls.with_pair heap t key value) = s.writes.set heap t key value s.fits k.0 v.0 in
-    (
+    let keeps : Keeps heap (calls.with_pair heap t key value) = s.writes.set heap t key value s.fits k.0 v.0 in (
       written bound heap (calls.with_pair heap t key value) args t (record { pairs = with_value (calls.pairs_of heap t) key value; meta = (calls.table_of heap t).meta }) s
-      (set_later heap t key value none) keeps (with_value_named bound (calls.pairs_of heap t) key value k.1 v.1 (table_named bound heap t s.names)) refl refl refl refl,
+          (set_later heap t key value none) keeps (with_value_named bound (calls.pairs_of heap t) key value k.1 v.1 (table_named bound heap t s.names)) refl refl refl refl,
       table_given bound heap (calls.with_pair heap t key value) t there keeps.1,
     ))
 
@@ -111,10 +109,9 @@ set_metatable_lawful bound heap args t meta s there m = by (is_nil (protection h
     set : IsLawfulResult bound heap (unless_refused (calls.frozen_cause heap.base.tables t) heap (gives (Table t ∷ []) (calls.with_metatable heap t meta)))
     set =
         unless_lawful bound heap args _ _ s (λ none.
-        let keeps : Keeps heap (calls.with_metatable heap t meta) = s.writes.set_metatable heap t meta s.fits m in
-        (
+        let keeps : Keeps heap (calls.with_metatable heap t meta) = s.writes.set_metatable heap t meta s.fits m in (
           written bound heap (calls.with_metatable heap t meta) args t (record { pairs = calls.pairs_of heap t; meta = meta }) s
-          (meta_later heap t none) keeps (table_named bound heap t s.names) refl refl refl refl,
+              (meta_later heap t none) keeps (table_named bound heap t s.names) refl refl refl refl,
           table_given bound heap (calls.with_metatable heap t meta) t there keeps.1,
         ))
 

@@ -2,7 +2,7 @@
 use Rattle.std.specs.Prelude.{ℕ, nat_eq, List, codes, Option, Some, None, if◌then◌else◌}
 use Rattle.lua_tables_lib.specs.declared.functions.BasicFunction.{BasicFunction}
 use Rattle.lua_tables_lib.specs.declared.functions.BasicFunction.TheVariants.{GetMetatable, SetMetatable, Ipairs, Next, Pairs, RawEqual, RawGet}
-use Rattle.lua_tables_lib.specs.declared.functions.BasicFunction.TheVariants.{RawSet, Select, ToNumber, Type, Unpack}
+use Rattle.lua_tables_lib.specs.declared.functions.BasicFunction.TheVariants.{RawSet, Select, ToNumber, TypeName, Unpack}
 use Rattle.lua_tables_lib.specs.declared.functions.PreludeFunction.{PreludeFunction}
 use Rattle.lua_tables_lib.specs.declared.functions.PreludeFunction.TheVariants.{IpairsStep, Globals, ModuleName}
 use Rattle.lua_tables_lib.specs.declared.functions.Function.{Function}
@@ -21,7 +21,7 @@ basic_at n =
     else if nat_eq n 7 then Some RawSet
     else if nat_eq n 8 then Some Select
     else if nat_eq n 9 then Some ToNumber
-    else if nat_eq n 10 then Some Type
+    else if nat_eq n 10 then Some TypeName
     else if nat_eq n 11 then Some Unpack
     else None
 
@@ -37,7 +37,7 @@ basic_name RawGet = codes "rawget"
 basic_name RawSet = codes "rawset"
 basic_name Select = codes "select"
 basic_name ToNumber = codes "tonumber"
-basic_name Type = codes "type"
+basic_name TypeName = codes "type"
 basic_name Unpack = codes "unpack"
 
 -- the function that the library's own texts alone call

@@ -29,7 +29,7 @@ basic_result basic.RawGet args heap = rawget args heap
 basic_result basic.RawSet args heap = rawset args heap
 basic_result basic.Select args heap = select args heap
 basic_result basic.ToNumber args heap = tonumber args heap
-basic_result basic.Type args heap = type_ args heap
+basic_result basic.TypeName args heap = type_ args heap
 basic_result basic.Unpack args heap = unpack args heap
 
 abbrev pub prelude_result : PreludeFunction → List Value → Heap → LibraryResult

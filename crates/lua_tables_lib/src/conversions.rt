@@ -22,12 +22,7 @@ pub(crate) fn tonumber(alloc: Global, args: Args) -> Result<Given, Unanswered>
 }
 
 /// The number of a value, or of the first argument as a text in a base other than 10.
-fn converted(
-    alloc: Global,
-    args: Args,
-    value: &Value,
-    base: Whole,
-) -> Result<Given, Unanswered>
+fn converted(alloc: Global, args: Args, value: &Value, base: Whole) -> Result<Given, Unanswered>
     ensures { (store : StoreView) → IsOutcome (converted args.values.now store.heap value.now base) store result store }
 {
     if base.get() == 10 {

@@ -51,7 +51,7 @@ fn call_basic(
         BasicFunction::RawSet => rawset(alloc, args, store),
         BasicFunction::Select => select(alloc, args),
         BasicFunction::ToNumber => tonumber(alloc, args),
-        BasicFunction::Type => type_name(alloc, args, store),
+        BasicFunction::TypeName => type_name(alloc, args, store),
         BasicFunction::Unpack => unpack(alloc, args, store),
     }
 }

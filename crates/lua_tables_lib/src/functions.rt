@@ -16,7 +16,7 @@ pub enum BasicFunction {
     RawSet,
     Select,
     ToNumber,
-    Type,
+    TypeName,
     Unpack,
 }
 
@@ -36,7 +36,7 @@ impl BasicFunction {
             7 => BasicFunction::RawSet,
             8 => BasicFunction::Select,
             9 => BasicFunction::ToNumber,
-            10 => BasicFunction::Type,
+            10 => BasicFunction::TypeName,
             11 => BasicFunction::Unpack,
             _ => return None,
         })
@@ -57,7 +57,7 @@ impl BasicFunction {
             BasicFunction::RawSet => b"rawset",
             BasicFunction::Select => b"select",
             BasicFunction::ToNumber => b"tonumber",
-            BasicFunction::Type => b"type",
+            BasicFunction::TypeName => b"type",
             BasicFunction::Unpack => b"unpack",
         }
     }

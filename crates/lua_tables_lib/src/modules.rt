@@ -16,11 +16,7 @@ pub(crate) fn globals(alloc: Global, store: &Store) -> Result<Given, Unanswered>
 }
 
 /// The argument of `require` as a text, which is made where it is a number.
-pub(crate) fn module_name(
-    alloc: Global,
-    args: Args,
-    store: &mut Store,
-) -> Result<Given, Unanswered>
+pub(crate) fn module_name(alloc: Global, args: Args, store: &mut Store) -> Result<Given, Unanswered>
     ensures { IsOutcome (module_name args.values.now store.old.heap) store.old result store.new }
 {
     let name = args.text(alloc, 1)?;

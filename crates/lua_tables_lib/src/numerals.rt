@@ -14,10 +14,7 @@ pub(crate) fn numeral(text: &[u8], base: u32) -> Option<Whole>
     requires { (2 ≤ base) × (base ≤ 36) }
     ensures { result ≡ numeral base text.now }
 {
-    numeral_of(
-        digits_of(before_blanks(after_blanks(text)), base),
-        base,
-    )
+    numeral_of(digits_of(before_blanks(after_blanks(text)), base), base)
 }
 
 /// The digits of a numeral.

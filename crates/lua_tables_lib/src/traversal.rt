@@ -29,12 +29,7 @@ pub(crate) fn next(alloc: Global, args: Args, store: &Store) -> Result<Given, Un
 }
 
 /// The key that comes next and its value, or nil.
-fn next_values(
-    alloc: Global,
-    store: &Store,
-    t: u32,
-    key: &Value,
-) -> Result<Vec<Value>, AllocError>
+fn next_values(alloc: Global, store: &Store, t: u32, key: &Value) -> Result<Vec<Value>, AllocError>
     ensures { IfOk result (λ values. values.items ≡ next_values store.now.heap t key.now) }
 {
     match store.next(t, key) {
@@ -48,9 +43,7 @@ pub(crate) fn pairs(alloc: Global, args: Args) -> Result<Given, Unanswered>
     ensures { (store : StoreView) → IsOutcome (pairs args.values.now store.heap) store result store }
 {
     let t = args.table(1)?;
-    Ok(Given::of(
-        vec![in alloc; Value::Native(NEXT), Value::Table(t), Value::Nil]?,
-    ))
+    Ok(Given::of(vec![in alloc; Value::Native(NEXT), Value::Table(t), Value::Nil]?))
 }
 
 /// `ipairs(table)`: its step, the table and 0.
@@ -58,9 +51,11 @@ pub(crate) fn ipairs(alloc: Global, args: Args) -> Result<Given, Unanswered>
     ensures { (store : StoreView) → IsOutcome (ipairs args.values.now store.heap) store result store }
 {
     let t = args.table(1)?;
-    Ok(Given::of(
-        vec![in alloc; Value::Native(IPAIRS_STEP), Value::Table(t), Value::Number(small_number(0))]?,
-    ))
+    Ok(Given::of(vec![in alloc;
+        Value::Native(IPAIRS_STEP),
+        Value::Table(t),
+        Value::Number(small_number(0)),
+    ]?))
 }
 
 /// The step of `ipairs`, of a table and an index: the next index and the value there, or nothing where that is nil.
