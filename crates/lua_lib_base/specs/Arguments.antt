@@ -1,9 +1,10 @@
 -- The arguments of a function of the library, which are numbered from 1 (Lua 5.1 Reference Manual, 5): where a number is
 -- expected a text that writes one will do, and where a text is expected a number (2.2.1). `null` is no nil.
-use Rattle.std.specs.Prelude.{ℕ, ◌-◌, Bool, true, false, List, ℤ, Option, Some, None, Result, Ok, Err, slice_get, if◌then◌else◌}
+use Rattle.std.specs.Prelude.{ℕ, ◌-◌, Bool, true, List, ℤ, Option, Some, None, Result, Ok, Err, slice_get, if◌then◌else◌}
 use Rattle.std.specs.Fmt.{signed_decimal}
 use Rattle.lua_values.specs.declared.values.Value.{Value}
 use Rattle.lua_values.specs.declared.values.Value.TheVariants.{Nil, Number, Text, Table}
+use Rattle.lua_values.specs.Values.{is_nil}
 use Rattle.lua_operators.specs.declared.types.LuaType.{LuaType}
 use Rattle.lua_operators.specs.Conversions.{number_of}
 use Rattle.lua_operators.specs.Types.{type_of}
@@ -19,8 +20,7 @@ argument args number = slice_get args (number - 1)
 -- it is missing or nil, where the manual gives a default
 abbrev pub is_absent : Option Value → Bool
 is_absent None = true
-is_absent (Some Nil) = true
-is_absent (Some value) = false
+is_absent (Some value) = is_nil value
 
 -- its type
 abbrev pub found : Option Value → Option LuaType
@@ -28,7 +28,7 @@ found None = None
 found (Some value) = Some (type_of value)
 
 abbrev pub refused : ℕ → Expected → Option Value → Refusal
-refused number expected value = Argument number expected (found value)
+refused number wanted value = Argument number wanted (found value)
 
 abbrev pub as_value : ℕ → Option Value → Result Value Refusal
 as_value number (Some value) = Ok value

@@ -25,7 +25,7 @@ message_text number name message = codes "bad argument #" ++ decimal number ++ c
 
 -- the fault of a function of this name
 abbrev pub refusal_text : List ℕ → Refusal → List ℕ
-refusal_text name (Argument number expected found) = argument_text number name (expected_text expected) (found_text found)
+refusal_text name (Argument number wanted found) = argument_text number name (expected_text wanted) (found_text found)
 refusal_text name (Index number) = message_text number name (codes "index out of range")
 refusal_text name (Base number) = message_text number name (codes "base out of range")
 refusal_text name (Fault fault) = fault_text fault

@@ -65,10 +65,10 @@ unless_refused None heap go = go
 unless_refused (Some cause) heap go = refuses (refused_by cause) heap
 
 -- the values and the heap are those that are meant, but for values that the steps aren't enough for
-pub record IsGift (values : List Value) (heap : Heap) (work : Work) (old : StoreView) (given : Given) (new : StoreView) : Type 0 where
-  pub work : given.work ≡ work
+pub record IsGift (values : List Value) (heap : Heap) (done : Work) (old : StoreView) (given : Given) (new : StoreView) : Type 0 where
+  pub work : given.work ≡ done
   pub steps : new.steps ≡ old.steps
-  pub meant : old.steps + work.given < step_limit → (given.values ≡ values) × (new.heap ≡ heap)
+  pub meant : old.steps + done.given < step_limit → (given.values ≡ values) × (new.heap ≡ heap)
 
 -- what a function answered is what is meant, before its steps are counted; or memory ran out
 abbrev pub IsOutcome : LibraryResult → StoreView → Result Given Unanswered → StoreView → Type 0

@@ -110,12 +110,12 @@ impl From<StoreFault> for Unanswered {
 /// Counts the steps of a call, and gives what the machine is told of it. Where these reach the limit, the values don't matter.
 pub fn answer(
     alloc: Global,
-    args: Args,
+    args: &Args<'_>,
     outcome: Result<Given, Unanswered>,
     store: &mut Store,
 ) -> NativeOut
     ensures { (meant : LibraryResult) → (before : StoreView) → IsOutcome meant before outcome store.old
-        → Answers (counted args.name.now args.values.now meant) before result store.new }
+        → Answers (counted args.now.name.now args.now.values.now meant) before result store.new }
 {
     let taken = texts_length(args.values);
     match outcome {
@@ -144,7 +144,8 @@ fn count_gift(store: &mut Store, taken: u64, work: Work)
     ensures { (args : List LuaValue) → taken ≡ min (texts_length args) (2 ^ 64 - 1)
         → store.new ≡ record { heap = store.old.heap; steps = min step_limit (store.old.steps + steps_of_gift args work) } }
 {
-    let bytes = taken.saturating_add(work.taken).saturating_add(work.made);
+    let all_taken = taken.saturating_add(work.taken);
+    let bytes = all_taken.saturating_add(work.made);
     store.add_steps(bytes / BYTES_OF_A_STEP);
     store.add_steps(work.tests / TESTS_OF_A_STEP);
     store.add_steps(work.given);

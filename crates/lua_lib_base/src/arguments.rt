@@ -19,29 +19,29 @@ pub struct Args<'a> {
 
 impl<'a> Args<'a> {
     /// An argument, none where it is missing.
-    pub fn argument(self, number: u32) -> Option<&'a Value>
+    pub fn argument(&self, number: u32) -> Option<&'a Value>
         requires { 0 < number }
-        ensures { option_copied result ≡ argument self.values.now number }
+        ensures { option_copied result ≡ argument self.now.values.now number }
     {
         self.values.get((number - 1) as usize)
     }
 
     /// Whether an argument is missing or nil, where the manual gives a default.
-    pub fn is_absent(self, number: u32) -> bool
+    pub fn is_absent(&self, number: u32) -> bool
         requires { 0 < number }
-        ensures { result ≡ is_absent (argument self.values.now number) }
+        ensures { result ≡ is_absent (argument self.now.values.now number) }
     {
         match self.argument(number) {
-            None | Some(Value::Nil) => true,
-            Some(_) => false,
+            None => true,
+            Some(value) => value.is_nil(),
         }
     }
 
     /// An argument of any type, nil too.
-    pub fn any(self, number: u32) -> Result<&'a Value, Refusal>
+    pub fn any(&self, number: u32) -> Result<&'a Value, Refusal>
         requires { 0 < number }
-        ensures given { IfOk result (λ value. any_at self.values.now number ≡ Ok value.now) }
-        ensures refused { IfErr result (λ refusal. any_at self.values.now number ≡ Err refusal) }
+        ensures given { IfOk result (λ value. any_at self.now.values.now number ≡ Ok value.now) }
+        ensures refused { IfErr result (λ refusal. any_at self.now.values.now number ≡ Err refusal) }
     {
         match self.argument(number) {
             Some(value) => Ok(value),
@@ -50,32 +50,38 @@ impl<'a> Args<'a> {
     }
 
     /// A table.
-    pub fn table(self, number: u32) -> Result<u32, Refusal>
+    pub fn table(&self, number: u32) -> Result<u32, Refusal>
         requires { 0 < number }
-        ensures { result ≡ table_at self.values.now number }
+        ensures { result ≡ table_at self.now.values.now number }
     {
         match self.argument(number) {
-            Some(Value::Table(t)) => Ok(*t),
-            _ => Err(self.refused(number, Expected::Table)),
+            Some(value) => match value {
+                Value::Table(t) => Ok(*t),
+                _ => Err(self.refused(number, Expected::Table)),
+            },
+            None => Err(self.refused(number, Expected::Table)),
         }
     }
 
     /// A table or nil, which may not be left out.
-    pub fn table_or_nil(self, number: u32) -> Result<Option<u32>, Refusal>
+    pub fn table_or_nil(&self, number: u32) -> Result<Option<u32>, Refusal>
         requires { 0 < number }
-        ensures { result ≡ table_or_nil_at self.values.now number }
+        ensures { result ≡ table_or_nil_at self.now.values.now number }
     {
         match self.argument(number) {
-            Some(Value::Table(t)) => Ok(Some(*t)),
-            Some(Value::Nil) => Ok(None),
-            _ => Err(self.refused(number, Expected::NilOrTable)),
+            Some(value) => match value {
+                Value::Table(t) => Ok(Some(*t)),
+                Value::Nil => Ok(None),
+                _ => Err(self.refused(number, Expected::NilOrTable)),
+            },
+            None => Err(self.refused(number, Expected::NilOrTable)),
         }
     }
 
     /// A number, or a text that writes one.
-    pub fn number(self, number: u32) -> Result<Whole, Refusal>
+    pub fn number(&self, number: u32) -> Result<Whole, Refusal>
         requires { 0 < number }
-        ensures { result ≡ number_at self.values.now number }
+        ensures { result ≡ number_at self.now.values.now number }
     {
         match self.argument(number) {
             Some(value) => match number_of(value) {
@@ -87,9 +93,9 @@ impl<'a> Args<'a> {
     }
 
     /// The same, or the default where it is missing or nil.
-    pub fn number_or(self, number: u32, default: Whole) -> Result<Whole, Refusal>
+    pub fn number_or(&self, number: u32, default: Whole) -> Result<Whole, Refusal>
         requires { 0 < number }
-        ensures { result ≡ number_or_at self.values.now number default }
+        ensures { result ≡ number_or_at self.now.values.now number default }
     {
         if self.is_absent(number) {
             Ok(default)
@@ -99,9 +105,9 @@ impl<'a> Args<'a> {
     }
 
     /// A text, or a number as its text.
-    pub fn text(self, alloc: Global, number: u32) -> Result<Bytes, Unanswered>
+    pub fn text(&self, alloc: Global, number: u32) -> Result<Bytes, Unanswered>
         requires { 0 < number }
-        ensures { Agrees (text_at self.values.now number) result }
+        ensures { Agrees (text_at self.now.values.now number) result }
     {
         match self.argument(number) {
             Some(value) => match value {
@@ -113,17 +119,17 @@ impl<'a> Args<'a> {
     }
 
     /// The refusal of an argument that isn't what is expected.
-    pub fn refused(self, number: u32, expected: Expected) -> Refusal
+    pub fn refused(&self, number: u32, expected: Expected) -> Refusal
         requires { 0 < number }
-        ensures { result ≡ refused number expected (argument self.values.now number) }
+        ensures { result ≡ refused number expected (argument self.now.values.now number) }
     {
         Refusal::Argument(number, expected, self.found(number))
     }
 
     /// The type of an argument, none where it is missing.
-    fn found(self, number: u32) -> Option<LuaType>
+    fn found(&self, number: u32) -> Option<LuaType>
         requires { 0 < number }
-        ensures { result ≡ found (argument self.values.now number) }
+        ensures { result ≡ found (argument self.now.values.now number) }
     {
         match self.argument(number) {
             None => None,

@@ -34,7 +34,7 @@ use Rattle.lua_tables_lib.specs.Traversal.{values_of, next_values, or_nil, next,
 use Rattle.lua_tables_lib.specs.Raw.{rawequal, rawget, rawset, set_raw}
 use Rattle.lua_tables_lib.specs.Lists.{asks_count, passed, selected_after, selected, select, elements, count_between, unpacked, unpack}
 use Rattle.lua_tables_lib.specs.Conversions.{number_or_nil, as_base, numeral, in_base, converted, tonumber, type_}
-use Rattle.lua_tables_lib.specs.Modules.{globals, text_given, module_name}
+use Rattle.lua_tables_lib.specs.Modules.{globals, is_text, module_name}
 use Rattle.lua_tables_lib.specs.Meaning.{basic_result, prelude_result, function_result, call_result, call_name, library_meaning}
 use Rattle.lua_tables_lib.specs.Laws.{LibraryIsLawful}
 use Rattle.lua_tables_lib.proofs.KnownLemmas.{Setup, NamedPair, argument_known, any_known, table_known, meta_known, table_named, next_named, value_known}
@@ -173,20 +173,11 @@ type_lawful : (bound : ℕ) (heap : Heap) (args : List Value) → Setup bound he
 type_lawful bound heap args s = with_lawful bound heap args (any_at args 1) _ s (λ value e. made_lawful bound heap args (type_name (type_of value)) s)
 
 name_lawful : (bound : ℕ) (heap : Heap) (args : List Value) → Setup bound heap args → IsLawfulResult bound heap (module_name args heap)
-name_lawful bound heap args s = with_lawful bound heap args (text_at args 1) _ s (λ text e. by text (argument args 1))
+name_lawful bound heap args s = with_lawful bound heap args (text_at args 1) _ s (λ text e. by text (is_text (argument args 1)))
   where
-    by : (text : List ℕ) (o : Option Value) → IsLawfulResult bound heap (text_given heap o text)
-    by text (Some (Text x)) = (kept bound heap args s, one bound heap (Text text) (tt, tt))
-    by text (Some (Table u)) = made_lawful bound heap args text s
-    by text (Some Nil) = made_lawful bound heap args text s
-    by text (Some (Truth b)) = made_lawful bound heap args text s
-    by text (Some (Number n)) = made_lawful bound heap args text s
-    by text (Some (Closure n)) = made_lawful bound heap args text s
-    by text (Some (Native n)) = made_lawful bound heap args text s
-    by text (Some (Thread n)) = made_lawful bound heap args text s
-    by text (Some Null) = made_lawful bound heap args text s
-    by text (Some (Object o n)) = made_lawful bound heap args text s
-    by text None = made_lawful bound heap args text s
+    by : (text : List ℕ) (b : Bool) → IsLawfulResult bound heap (if b then gives (Text text ∷ []) heap else made_text heap text)
+    by text true = (kept bound heap args s, one bound heap (Text text) (tt, tt))
+    by text false = made_lawful bound heap args text s
 
 basic_lawful : (bound : ℕ) (heap : Heap) (args : List Value) (function : BasicFunction) → Setup bound heap args → IsLawfulResult bound heap (basic_result function args heap)
 basic_lawful bound heap args basic.GetMetatable s = getmetatable_lawful bound heap args s

@@ -18,7 +18,7 @@ abbrev pub metatable_of : Heap → Value → Option ℕ
 metatable_of heap (value.Table t) = (table_of heap t).meta
 metatable_of heap (value.Text text) = type_metatable_of heap.metatables kind.Text
 metatable_of heap (value.Object k n) = type_metatable_of heap.metatables (kind.Object k)
-metatable_of heap value = None
+metatable_of heap v = None
 
 -- its field `__metatable`, nil without one
 abbrev pub protection : Heap → Option ℕ → Value

@@ -13,8 +13,8 @@ use resty_base::{Bytes, Whole};
 use std::alloc::Global;
 
 /// `tonumber(e, base)`: the number of a value, or nil; in a base other than 10, that of a text of digits without a sign.
-pub(crate) fn tonumber(alloc: Global, args: Args) -> Result<Given, Unanswered>
-    ensures { (store : StoreView) → IsOutcome (tonumber args.values.now store.heap) store result store }
+pub(crate) fn tonumber(alloc: Global, args: &Args<'_>) -> Result<Given, Unanswered>
+    ensures { (store : StoreView) → IsOutcome (tonumber args.now.values.now store.heap) store result store }
 {
     let value = args.any(1)?;
     let base = args.number_or(2, small_number(10))?;
@@ -22,8 +22,13 @@ pub(crate) fn tonumber(alloc: Global, args: Args) -> Result<Given, Unanswered>
 }
 
 /// The number of a value, or of the first argument as a text in a base other than 10.
-fn converted(alloc: Global, args: Args, value: &Value, base: Whole) -> Result<Given, Unanswered>
-    ensures { (store : StoreView) → IsOutcome (converted args.values.now store.heap value.now base) store result store }
+fn converted(
+    alloc: Global,
+    args: &Args<'_>,
+    value: &Value,
+    base: Whole,
+) -> Result<Given, Unanswered>
+    ensures { (store : StoreView) → IsOutcome (converted args.now.values.now store.heap value.now base) store result store }
 {
     if base.get() == 10 {
         return Ok(Given::one(alloc, number_or_nil(number_of(value)))?);
@@ -66,8 +71,12 @@ fn number_or_nil(number: Option<Whole>) -> Value
 }
 
 /// `type(v)`: the name of a value's type, a text that is made.
-pub(crate) fn type_name(alloc: Global, args: Args, store: &mut Store) -> Result<Given, Unanswered>
-    ensures { IsOutcome (type_ args.values.now store.old.heap) store.old result store.new }
+pub(crate) fn type_name(
+    alloc: Global,
+    args: &Args<'_>,
+    store: &mut Store,
+) -> Result<Given, Unanswered>
+    ensures { IsOutcome (type_ args.now.values.now store.old.heap) store.old result store.new }
 {
     let value = args.any(1)?;
     give_made(alloc, store, Bytes::from_static(type_of(value).name()))

@@ -20,10 +20,10 @@ use std::alloc::Global;
 pub(crate) fn call_function(
     alloc: Global,
     function: Function,
-    args: Args,
+    args: &Args<'_>,
     store: &mut Store,
 ) -> Result<Given, Unanswered>
-    ensures { IsOutcome (function_result function args.values.now store.old.heap) store.old result store.new }
+    ensures { IsOutcome (function_result function args.now.values.now store.old.heap) store.old result store.new }
 {
     match function {
         Function::Basic(function) => call_basic(alloc, function, args, store),
@@ -35,10 +35,10 @@ pub(crate) fn call_function(
 fn call_basic(
     alloc: Global,
     function: BasicFunction,
-    args: Args,
+    args: &Args<'_>,
     store: &mut Store,
 ) -> Result<Given, Unanswered>
-    ensures { IsOutcome (basic_result function args.values.now store.old.heap) store.old result store.new }
+    ensures { IsOutcome (basic_result function args.now.values.now store.old.heap) store.old result store.new }
 {
     match function {
         BasicFunction::GetMetatable => getmetatable(alloc, args, store),
@@ -60,10 +60,10 @@ fn call_basic(
 fn call_prelude(
     alloc: Global,
     function: PreludeFunction,
-    args: Args,
+    args: &Args<'_>,
     store: &mut Store,
 ) -> Result<Given, Unanswered>
-    ensures { IsOutcome (prelude_result function args.values.now store.old.heap) store.old result store.new }
+    ensures { IsOutcome (prelude_result function args.now.values.now store.old.heap) store.old result store.new }
 {
     match function {
         PreludeFunction::IpairsStep => ipairs_step(alloc, args, store),

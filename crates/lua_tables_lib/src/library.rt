@@ -32,8 +32,8 @@ impl Natives for Library {
             name: name_of(function),
             values: args,
         };
-        let outcome = outcome_of(alloc, function, args, store);
-        answer(alloc, args, outcome, store)
+        let outcome = outcome_of(alloc, function, &args, store);
+        answer(alloc, &args, outcome, store)
     }
 }
 
@@ -51,10 +51,10 @@ fn name_of(function: Option<Function>) -> &'static [u8]
 fn outcome_of(
     alloc: Global,
     function: Option<Function>,
-    args: Args,
+    args: &Args<'_>,
     store: &mut Store,
 ) -> Result<Given, Unanswered>
-    ensures { IsOutcome (call_result function args.values.now store.old.heap) store.old result store.new }
+    ensures { IsOutcome (call_result function args.now.values.now store.old.heap) store.old result store.new }
 {
     match function {
         Some(function) => call_function(alloc, function, args, store),

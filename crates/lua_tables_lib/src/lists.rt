@@ -20,8 +20,8 @@ use std::alloc::{AllocError, Global};
 const STEP_LIMIT: u64 = 1_000_000;
 
 /// `select(index, ..)`: the arguments after this one from an index on, counted from the end where it is negative; of `#` their number.
-pub(crate) fn select(alloc: Global, args: Args) -> Result<Given, Unanswered>
-    ensures { (store : StoreView) → IsOutcome (select args.values.now store.heap) store result store }
+pub(crate) fn select(alloc: Global, args: &Args<'_>) -> Result<Given, Unanswered>
+    ensures { (store : StoreView) → IsOutcome (select args.now.values.now store.heap) store result store }
 {
     let others = after_first(args.values);
     if asks_count(args) {
@@ -33,8 +33,8 @@ pub(crate) fn select(alloc: Global, args: Args) -> Result<Given, Unanswered>
 }
 
 /// Whether the first argument is the text `#`.
-fn asks_count(args: Args) -> bool
-    ensures { result ≡ asks_count (argument args.values.now 1) }
+fn asks_count(args: &Args<'_>) -> bool
+    ensures { result ≡ asks_count (argument args.now.values.now 1) }
 {
     match args.argument(1) {
         None => false,
@@ -84,8 +84,8 @@ fn values_after(values: &[Value], count: usize) -> &[Value]
 }
 
 /// `unpack(list, i, j)`: the values at the numbers from `i`, or 1, to `j`, or the length of the table.
-pub(crate) fn unpack(alloc: Global, args: Args, store: &Store) -> Result<Given, Unanswered>
-    ensures { IsOutcome (unpack args.values.now store.now.heap) store.now result store.now }
+pub(crate) fn unpack(alloc: Global, args: &Args<'_>, store: &Store) -> Result<Given, Unanswered>
+    ensures { IsOutcome (unpack args.now.values.now store.now.heap) store.now result store.now }
 {
     let t = args.table(1)?;
     let first = args.number_or(2, small_number(1))?;
@@ -94,8 +94,8 @@ pub(crate) fn unpack(alloc: Global, args: Args, store: &Store) -> Result<Given, 
 }
 
 /// The third argument, or the length of the table.
-fn last_index(args: Args, store: &Store, t: u32) -> Result<Whole, Unanswered>
-    ensures { Agrees (number_or_at args.values.now 3 (pos (border_of (pairs_of store.now.heap t)))) result }
+fn last_index(args: &Args<'_>, store: &Store, t: u32) -> Result<Whole, Unanswered>
+    ensures { Agrees (number_or_at args.now.values.now 3 (pos (border_of (pairs_of store.now.heap t)))) result }
 {
     if args.is_absent(3) {
         Ok(count_number(store.border(t))?)

@@ -11,8 +11,12 @@ use resty_base::Bytes;
 use std::alloc::{AllocError, Global};
 
 /// `getmetatable(object)`: the field `__metatable` of its metatable, or else this itself; nil where it has none.
-pub(crate) fn getmetatable(alloc: Global, args: Args, store: &Store) -> Result<Given, Unanswered>
-    ensures { IsOutcome (getmetatable args.values.now store.now.heap) store.now result store.now }
+pub(crate) fn getmetatable(
+    alloc: Global,
+    args: &Args<'_>,
+    store: &Store,
+) -> Result<Given, Unanswered>
+    ensures { IsOutcome (getmetatable args.now.values.now store.now.heap) store.now result store.now }
 {
     let object = args.any(1)?;
     let shown = shown(store, metatable_of(store, object))?;
@@ -22,10 +26,10 @@ pub(crate) fn getmetatable(alloc: Global, args: Args, store: &Store) -> Result<G
 /// `setmetatable(table, metatable)`: gives the table; nil takes its metatable away.
 pub(crate) fn setmetatable(
     alloc: Global,
-    args: Args,
+    args: &Args<'_>,
     store: &mut Store,
 ) -> Result<Given, Unanswered>
-    ensures { IsOutcome (setmetatable args.values.now store.old.heap) store.old result store.new }
+    ensures { IsOutcome (setmetatable args.now.values.now store.old.heap) store.old result store.new }
 {
     let t = args.table(1)?;
     let meta = args.table_or_nil(2)?;

@@ -10,8 +10,8 @@ use lua_values::{Store, Value};
 use std::alloc::Global;
 
 /// `rawequal(v1, v2)`: whether they are one value.
-pub(crate) fn rawequal(alloc: Global, args: Args) -> Result<Given, Unanswered>
-    ensures { (store : StoreView) → IsOutcome (rawequal args.values.now store.heap) store result store }
+pub(crate) fn rawequal(alloc: Global, args: &Args<'_>) -> Result<Given, Unanswered>
+    ensures { (store : StoreView) → IsOutcome (rawequal args.now.values.now store.heap) store result store }
 {
     let first = args.any(1)?;
     let second = args.any(2)?;
@@ -19,8 +19,8 @@ pub(crate) fn rawequal(alloc: Global, args: Args) -> Result<Given, Unanswered>
 }
 
 /// `rawget(table, index)`: the value at a key, without a metatable.
-pub(crate) fn rawget(alloc: Global, args: Args, store: &Store) -> Result<Given, Unanswered>
-    ensures { IsOutcome (rawget args.values.now store.now.heap) store.now result store.now }
+pub(crate) fn rawget(alloc: Global, args: &Args<'_>, store: &Store) -> Result<Given, Unanswered>
+    ensures { IsOutcome (rawget args.now.values.now store.now.heap) store.now result store.now }
 {
     let t = args.table(1)?;
     let key = args.any(2)?;
@@ -29,8 +29,8 @@ pub(crate) fn rawget(alloc: Global, args: Args, store: &Store) -> Result<Given, 
 }
 
 /// `rawset(table, index, value)`: sets a value at a key, without a metatable, and gives the table.
-pub(crate) fn rawset(alloc: Global, args: Args, store: &mut Store) -> Result<Given, Unanswered>
-    ensures { IsOutcome (rawset args.values.now store.old.heap) store.old result store.new }
+pub(crate) fn rawset(alloc: Global, args: &Args<'_>, store: &mut Store) -> Result<Given, Unanswered>
+    ensures { IsOutcome (rawset args.now.values.now store.old.heap) store.old result store.new }
 {
     let t = args.table(1)?;
     let key = args.any(2)?.clone()?;

@@ -17,8 +17,8 @@ const NEXT: u32 = 131;
 const IPAIRS_STEP: u32 = 174;
 
 /// `next(table, index)`: the next key and its value, or nil; the first for nil.
-pub(crate) fn next(alloc: Global, args: Args, store: &Store) -> Result<Given, Unanswered>
-    ensures { IsOutcome (next args.values.now store.now.heap) store.now result store.now }
+pub(crate) fn next(alloc: Global, args: &Args<'_>, store: &Store) -> Result<Given, Unanswered>
+    ensures { IsOutcome (next args.now.values.now store.now.heap) store.now result store.now }
 {
     let t = args.table(1)?;
     let values = match args.argument(2) {
@@ -39,16 +39,16 @@ fn next_values(alloc: Global, store: &Store, t: u32, key: &Value) -> Result<Vec<
 }
 
 /// `pairs(table)`: `next`, the table and nil.
-pub(crate) fn pairs(alloc: Global, args: Args) -> Result<Given, Unanswered>
-    ensures { (store : StoreView) → IsOutcome (pairs args.values.now store.heap) store result store }
+pub(crate) fn pairs(alloc: Global, args: &Args<'_>) -> Result<Given, Unanswered>
+    ensures { (store : StoreView) → IsOutcome (pairs args.now.values.now store.heap) store result store }
 {
     let t = args.table(1)?;
     Ok(Given::of(vec![in alloc; Value::Native(NEXT), Value::Table(t), Value::Nil]?))
 }
 
 /// `ipairs(table)`: its step, the table and 0.
-pub(crate) fn ipairs(alloc: Global, args: Args) -> Result<Given, Unanswered>
-    ensures { (store : StoreView) → IsOutcome (ipairs args.values.now store.heap) store result store }
+pub(crate) fn ipairs(alloc: Global, args: &Args<'_>) -> Result<Given, Unanswered>
+    ensures { (store : StoreView) → IsOutcome (ipairs args.now.values.now store.heap) store result store }
 {
     let t = args.table(1)?;
     Ok(Given::of(vec![in alloc;
@@ -59,8 +59,12 @@ pub(crate) fn ipairs(alloc: Global, args: Args) -> Result<Given, Unanswered>
 }
 
 /// The step of `ipairs`, of a table and an index: the next index and the value there, or nothing where that is nil.
-pub(crate) fn ipairs_step(alloc: Global, args: Args, store: &Store) -> Result<Given, Unanswered>
-    ensures { IsOutcome (ipairs_step args.values.now store.now.heap) store.now result store.now }
+pub(crate) fn ipairs_step(
+    alloc: Global,
+    args: &Args<'_>,
+    store: &Store,
+) -> Result<Given, Unanswered>
+    ensures { IsOutcome (ipairs_step args.now.values.now store.now.heap) store.now result store.now }
 {
     let t = args.table(1)?;
     let index = args.number(2)?;
