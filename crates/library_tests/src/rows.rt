@@ -1,32 +1,33 @@
-//! What small programs come to that call the library, with their steps and the units that they take.
+//! What small programs come to that call the library, with their steps and the units that they take. The machine makes no tables
+//! yet, so the only table here is `string`, which is empty; `calls` has others.
 mod programs;
 
 use programs::outcome;
 use std::test::Fail;
 
 #[test]
-fn types_are_named_and_tables_read_raw(rt: HostRuntime) -> Result<(), Fail> {
+fn values_are_compared_and_their_types_named(rt: HostRuntime) -> Result<(), Fail> {
     let alloc = rt.alloc();
     for (text, expected) in [
         (
-            "return type(nil), type(1), type(print), type(type), type({})",
-            "Done \"nil\", \"number\", \"nil\", \"function\", \"table\" | 22, 137",
+            "return type(nil), type(1), type(print), type(type)",
+            "Done \"nil\", \"number\", \"nil\", \"function\" | 18, 84",
         ),
         (
             "return type()",
             "Failed \"t.conf:1: bad argument #1 to 'type' (value expected, got no value)\" | 5, 0",
         ),
         (
-            "return rawequal(\"a\", \"a\"), rawequal({}, {}), pcall(rawequal, 1)",
-            "Done true, false, false, \"t.conf:1: bad argument #2 to 'rawequal' (value expected, got no value)\" | 18, 64",
+            "return rawequal(\"a\", \"a\"), pcall(rawequal, 1)",
+            "Done true, false, \"t.conf:1: bad argument #2 to 'rawequal' (value expected, got no value)\" | 13, 0",
         ),
         (
-            "return rawget({5}, 1), pcall(rawget, 1, 1)",
-            "Done 5, false, \"t.conf:1: bad argument #1 to 'rawget' (table expected, got number)\" | 15, 64",
+            "return pcall(rawget, 1, 1)",
+            "Done false, \"t.conf:1: bad argument #1 to 'rawget' (table expected, got number)\" | 9, 0",
         ),
         (
-            "local t = {} return rawset(t, \"k\", 7) == t, t.k, pcall(rawset, t, nil, 1)",
-            "Done true, 7, false, \"t.conf:1: table index is nil\" | 23, 64",
+            "return getmetatable(1), pcall(getmetatable)",
+            "Done nil, false, \"t.conf:1: bad argument #1 to 'getmetatable' (value expected, got no value)\" | 11, 0",
         ),
     ] {
         let shown = outcome(alloc, text)?;
@@ -36,17 +37,15 @@ fn types_are_named_and_tables_read_raw(rt: HostRuntime) -> Result<(), Fail> {
 }
 
 #[test]
-fn metatables_are_shown_and_set(rt: HostRuntime) -> Result<(), Fail> {
+fn tables_are_traversed(rt: HostRuntime) -> Result<(), Fail> {
     let alloc = rt.alloc();
     for (text, expected) in [
+        ("return next(string)", "Done nil | 6, 0"),
         (
-            "return setmetatable({}, nil) ~= nil, pcall(setmetatable, {}, 1)",
-            "Done true, false, \"t.conf:1: bad argument #2 to 'setmetatable' (nil or table expected, got number)\" | 16, 64",
+            "local f, t, i = ipairs(string) return i, f(t, i)",
+            "Done 0 | 13, 0",
         ),
-        (
-            "return getmetatable(1), getmetatable(\"\").__index == string, pcall(getmetatable)",
-            "Done nil, true, false, \"t.conf:1: bad argument #1 to 'getmetatable' (value expected, got no value)\" | 19, 0",
-        ),
+        ("return unpack(string, 1, 3)", "Done nil, nil, nil | 11, 0"),
     ] {
         let shown = outcome(alloc, text)?;
         assert_eq!(rt; shown.as_str(), expected);
@@ -55,45 +54,12 @@ fn metatables_are_shown_and_set(rt: HostRuntime) -> Result<(), Fail> {
 }
 
 #[test]
-fn tables_are_traversed_in_order(rt: HostRuntime) -> Result<(), Fail> {
+fn arguments_are_selected(rt: HostRuntime) -> Result<(), Fail> {
     let alloc = rt.alloc();
-    for (text, expected) in [
-        (
-            "return next({}), next({a = 1}), next({1}, 9)",
-            "Done nil, \"a\", nil | 18, 160",
-        ),
-        (
-            "local t = {a = 1, b = 2} t.a = nil return next(t)",
-            "Done \"b\", 2 | 17, 96",
-        ),
-        (
-            "local r = \"\" for k, v in pairs({3, x = 4, 5}) do r = r .. k .. \"=\" .. v .. \" \" end return r",
-            "Done \"1=3 x=4 2=5 \" | 54, 371",
-        ),
-        (
-            "local n = 0 for i, v in ipairs({1, 2, nil, 4}) do n = n + i * v end return n",
-            "Done 5 | 33, 128",
-        ),
-    ] {
-        let shown = outcome(alloc, text)?;
-        assert_eq!(rt; shown.as_str(), expected);
-    }
-    Ok(())
-}
-
-#[test]
-fn arguments_are_selected_and_lists_unpacked(rt: HostRuntime) -> Result<(), Fail> {
-    let alloc = rt.alloc();
-    for (text, expected) in [
-        (
-            "return select(\"#\"), select(\"#\", nil, nil), select(2, \"a\", \"b\", \"c\"), select(-1, \"a\", \"b\"), pcall(select, 0, 1)",
-            "Done 0, 2, \"b\", \"b\", false, \"t.conf:1: bad argument #1 to 'select' (index out of range)\" | 33, 0",
-        ),
-        (
-            "return unpack({1, 2, 3}), unpack({1, 2, 3}, 2), unpack({1, nil, 3}, 1, 3)",
-            "Done 1, 2, 1, nil, 3 | 34, 352",
-        ),
-    ] {
+    for (text, expected) in [(
+        "return select(\"#\"), select(\"#\", nil, nil), select(2, \"a\", \"b\", \"c\"), select(-1, \"a\", \"b\"), pcall(select, 0, 1)",
+        "Done 0, 2, \"b\", \"b\", false, \"t.conf:1: bad argument #1 to 'select' (index out of range)\" | 33, 0",
+    )] {
         let shown = outcome(alloc, text)?;
         assert_eq!(rt; shown.as_str(), expected);
     }
@@ -105,13 +71,28 @@ fn texts_are_converted_to_numbers(rt: HostRuntime) -> Result<(), Fail> {
     let alloc = rt.alloc();
     for (text, expected) in [
         (
-            "return tonumber(\" 12 \"), tonumber(\"0x1F\"), tonumber(\"1e2\"), tonumber(\"99999999999999\"), tonumber(\"100000000000000\"), tonumber({})",
-            "Done 12, 31, nil, 99999999999999, nil, nil | 26, 32",
+            "return tonumber(\" 12 \"), tonumber(\"0x1F\"), tonumber(\"1e2\"), tonumber(\"99999999999999\"), tonumber(\"100000000000000\")",
+            "Done 12, 31, nil, 99999999999999, nil | 22, 0",
         ),
         (
             "return tonumber(\"ff\", 16), tonumber(\"0xff\", 16), tonumber(\"8\", 8), tonumber(\"-1\", 2), tonumber(\"zz\", 36), pcall(tonumber, \"1\", 37)",
             "Done 255, 255, nil, nil, 1295, false, \"t.conf:1: bad argument #2 to 'tonumber' (base out of range)\" | 34, 0",
         ),
+    ] {
+        let shown = outcome(alloc, text)?;
+        assert_eq!(rt; shown.as_str(), expected);
+    }
+    Ok(())
+}
+
+#[test]
+fn what_the_prelude_asks_is_given_and_what_isnt_built_parks(rt: HostRuntime) -> Result<(), Fail> {
+    let alloc = rt.alloc();
+    for (text, expected) in [
+        ("return globals()", "Done table | 5, 0"),
+        ("return module_name(12)", "Done \"12\" | 6, 18"),
+        ("return byte(\"a\")", "Parked 135"),
+        ("return run_modules()", "Parked 178"),
     ] {
         let shown = outcome(alloc, text)?;
         assert_eq!(rt; shown.as_str(), expected);

@@ -53,3 +53,8 @@ is_unwritten (Some Full) fault go store new u c e k = rw (e, c) (refl, refl, k)
 is_unwritten (Some Frozen) fault go store new u c e k = rw (e, c) (refl, refl, k)
 is_unwritten (Some BadKey) fault go store new u c e k = rw (e, c) (refl, refl, k)
 is_unwritten (Some Memory) fault go store new u c e k = rw (e, c) tt
+
+-- or has no room for a text
+pub is_unmade : (cause : Option StoreFault) (fault : StoreFault) (go : LibraryResult) (store new : StoreView) (u : Unanswered) → cause ≡ Some fault → u ≡ unanswered_by fault → new ≡ store
+    → IsOutcome (unless_refused cause store.heap go) store (Err u) new
+is_unmade cause fault go store new u c e k = rw c (is_unwritten (Some fault) fault go store new u refl e k)

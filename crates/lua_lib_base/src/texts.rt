@@ -1,14 +1,11 @@
 //! Texts that the library makes. A text of n bytes takes n + 16 units.
 
-ghost use Rattle.std.specs.Prelude.{◌≡◌, ◌≢◌, ◌<◌, ◌^◌, None, OnOk, OnErr, IfErr};
-ghost use Rattle.lua_lib_base.specs.declared.refusals.Refusal.TheVariants.{Fault as OfFault};
-ghost use Rattle.lua_operators.specs.declared.faults.Fault.TheVariants.{StorageLimit as OfStorage};
+ghost use Rattle.std.specs.Prelude.{◌≡◌, ◌<◌, ◌^◌, None, Some, OnOk, OnErr, IfErr};
 ghost use Rattle.lua_lib_base.specs.Results.{IsOutcome};
 ghost use Rattle.lua_lib_base.specs.Texts.{text_cause, with_text, made_text};
 
-use crate::{Given, Refusal, Unanswered, Work};
-use lua_operators::Fault;
-use lua_values::{Store, Value, Values};
+use crate::{Given, Unanswered, Work};
+use lua_values::{Store, StoreFault, Value, Values};
 use resty_base::Bytes;
 use std::alloc::Global;
 
@@ -16,18 +13,14 @@ use std::alloc::Global;
 const TEXT_UNITS: u64 = 16;
 
 /// Counts the units of a text of so many bytes, before it is made.
-pub fn reserve_text(store: &mut Store, bytes: usize) -> Result<(), Refusal>
+pub fn reserve_text(store: &mut Store, bytes: usize) -> Result<(), StoreFault>
     requires { bytes < 2 ^ 63 }
     ensures done { OnOk result (store.new ≡ record { heap = with_text store.old.heap bytes; steps = store.old.steps }) }
     ensures allowed { OnOk result (text_cause store.old.heap bytes ≡ None) }
-    ensures cause { OnErr result (text_cause store.old.heap bytes ≢ None) }
-    ensures refused { IfErr result (λ refusal. refusal ≡ OfFault OfStorage) }
+    ensures cause { IfErr result (λ fault. text_cause store.old.heap bytes ≡ Some fault) }
     ensures kept { OnErr result (store.new ≡ store.old) }
 {
-    match store.add_units(bytes as u64 + TEXT_UNITS) {
-        Ok(()) => Ok(()),
-        Err(_) => Err(Refusal::Fault(Fault::StorageLimit)),
-    }
+    store.add_units(bytes as u64 + TEXT_UNITS)
 }
 
 /// Gives a text that the call makes.

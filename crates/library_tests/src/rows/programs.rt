@@ -99,9 +99,8 @@ fn program_of(alloc: Global, text: &str) -> Result<Option<Program>, AllocError> 
 /// Sets the functions by their names, the table `string`, the metatable of texts, and a closure of the chunk.
 fn fill(store: &mut Store) -> Result<(), StoreFault> {
     let globals = store.globals();
-    let names: [(&'static [u8], u32); 18] = [
+    let names: [(&'static [u8], u32); 17] = [
         (b"pcall", 0),
-        (b"print", 5),
         (b"getmetatable", 128),
         (b"setmetatable", 129),
         (b"ipairs", 130),
