@@ -2,7 +2,7 @@
 //! yet, so the only table here is `string`, which is empty; `calls` has others.
 mod programs;
 
-use programs::outcome;
+use programs::{outcome, outcome_after};
 use std::test::Fail;
 
 #[test]
@@ -95,6 +95,24 @@ fn what_the_prelude_asks_is_given_and_what_isnt_built_parks(rt: HostRuntime) -> 
         ("return run_modules()", "Parked 178"),
     ] {
         let shown = outcome(alloc, text)?;
+        assert_eq!(rt; shown.as_str(), expected);
+    }
+    Ok(())
+}
+
+#[test]
+fn values_that_are_unpacked_may_spend_the_steps(rt: HostRuntime) -> Result<(), Fail> {
+    let alloc = rt.alloc();
+    for (before, text, expected) in [
+        (
+            999_990,
+            "return unpack(string, 1, 1)",
+            "Done nil | 999999, 0",
+        ),
+        (999_990, "return unpack(string, 1, 2)", "Spent"),
+        (0, "return unpack(string, 1, 99999999999999)", "Spent"),
+    ] {
+        let shown = outcome_after(alloc, before, text)?;
         assert_eq!(rt; shown.as_str(), expected);
     }
     Ok(())
