@@ -1,3 +1,2 @@
-pub mod AnswerLemmas
-pub mod OutcomeLemmas
+mod AnswerLemmas
 mod LawLemmas
