@@ -11,7 +11,7 @@ use lua_ast::{Expr, Stmt};
 use lua_frames_base::{
     Flow, Frames, Host, Item, Signal, begin_block, give_nothing, share, take_first, wait,
 };
-use lua_nodes::value_under;
+use lua_nodes::{take_plain, value_under};
 use lua_operators::is_truthy;
 use lua_values::Store;
 use std::alloc::AllocError;
@@ -87,6 +87,13 @@ pub fn turned<H: Host>(
 {
     match end_of_run(&frames.given) {
         RunEnd::Ran => {
+            if let Some(value) = take_plain(frames, store, &test) {
+                return if is_truthy(&value) {
+                    enter_turn(frames, store, test, body)
+                } else {
+                    give_nothing(frames)
+                };
+            }
             let again = share(&test)?;
             value_under(frames, host, store, Item::While(test, body), &again)
         }

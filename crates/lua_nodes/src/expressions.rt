@@ -6,7 +6,8 @@ ghost use Rattle.lua_frames_base.specs.Follows.{Enters};
 use crate::children::child_of;
 use crate::leaves::{leaf_all, leaf_one};
 use lua_ast::Expr;
-use lua_frames_base::{Flow, Frames, Host, wait};
+use crate::plain::take_plain;
+use lua_frames_base::{Flow, Frames, Host, give_one, wait};
 use lua_values::Store;
 use std::alloc::AllocError;
 
@@ -19,6 +20,9 @@ pub fn enter_value<H: Host>(
 ) -> Result<Flow, AllocError>
     ensures { Enters (H.setting host.now) (AValue x.now) frames.old store.old frames.new store.new result }
 {
+    if let Some(value) = take_plain(frames, store, x) {
+        return give_one(frames, value);
+    }
     let mut next = x;
     loop {
         if !store.count(1) {
@@ -43,6 +47,9 @@ pub fn enter_expr<H: Host>(
 ) -> Result<Flow, AllocError>
     ensures { Enters (H.setting host.now) (AnExpr x.now) frames.old store.old frames.new store.new result }
 {
+    if let Some(value) = take_plain(frames, store, x) {
+        return give_one(frames, value);
+    }
     if !store.count(1) {
         return Ok(Flow::Spent);
     }

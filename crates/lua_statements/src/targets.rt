@@ -8,7 +8,8 @@ ghost use Rattle.lua_statements.specs.Targets.{IsTarget};
 
 use lua_ast::{Expr, ExprKind};
 use lua_frames_base::{Flow, Frames, Host, Item, Target};
-use lua_nodes::list_under;
+use crate::assigning::assign_slot;
+use lua_nodes::{list_under, take_plain};
 use lua_values::{Store, Value};
 use std::alloc::AllocError;
 use std::rc::Rc;
@@ -49,6 +50,11 @@ fn begin_one<H: Host>(
         ExprKind::Slot(i) => {
             if !store.count(1) {
                 return Ok(Flow::Spent);
+            }
+            if let [x] = xs.as_slice() {
+                if let Some(value) = take_plain(frames, store, x) {
+                    return assign_slot(frames, host.program(), store, target.line, *i, value);
+                }
             }
             list_under(frames, host, store, Item::AssignSlot(target.line, *i), xs)
         }
