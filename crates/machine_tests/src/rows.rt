@@ -139,22 +139,27 @@ fn calls_come_to_their_values(rt: HostRuntime) -> Result<(), Fail> {
 }
 
 #[test]
-fn steps_end_a_program(rt: HostRuntime) -> Result<(), Fail> {
-    let alloc = rt.alloc();
-    for (text, expected) in [
-        (
-            "local function f() return f() end f()",
-            "Spent | 1000000, 56",
-        ),
-        ("while true do end", "Spent | 1000000, 0"),
-        (
-            "pcall(function() while true do end end) return 1",
-            "Spent | 1000000, 32",
-        ),
-    ] {
-        let shown = outcome(alloc, text, &[])?;
-        assert_eq!(rt; shown.as_str(), expected);
-    }
+fn tail_calls_for_ever_spend_the_steps(rt: HostRuntime) -> Result<(), Fail> {
+    let shown = outcome(rt.alloc(), "local function f() return f() end f()", &[])?;
+    assert_eq!(rt; shown.as_str(), "Spent | 1000000, 56");
+    Ok(())
+}
+
+#[test]
+fn a_loop_for_ever_spends_the_steps(rt: HostRuntime) -> Result<(), Fail> {
+    let shown = outcome(rt.alloc(), "while true do end", &[])?;
+    assert_eq!(rt; shown.as_str(), "Spent | 1000000, 0");
+    Ok(())
+}
+
+#[test]
+fn spent_steps_are_caught_by_nothing(rt: HostRuntime) -> Result<(), Fail> {
+    let shown = outcome(
+        rt.alloc(),
+        "pcall(function() while true do end end) return 1",
+        &[],
+    )?;
+    assert_eq!(rt; shown.as_str(), "Spent | 1000000, 32");
     Ok(())
 }
 
