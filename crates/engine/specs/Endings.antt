@@ -7,14 +7,9 @@ use Rattle.resty_world.specs.declared.event.Event.{Event}
 use Rattle.resty_world.specs.declared.event.Event.TheVariants as event
 use Rattle.resty_world.specs.Book.{Book}
 use Rattle.resty_world.specs.Given.{IsBadLine}
+pub use Rattle.turns.specs.Worked.{events_of, HasFailedLog}
 use Rattle.engine.specs.declared.server.Ended.{Ended}
 use Rattle.engine.specs.declared.server.Ended.TheVariants as ended
-
--- the events that were given, the newest first
-abbrev pub events_of : List Entry → List Event
-events_of [] = []
-events_of (entry.Given e ∷ h) = e ∷ events_of h
-events_of (e ∷ h) = events_of h
 
 -- Stop was given last
 abbrev pub IsStopped : List Entry → Type 0
@@ -30,12 +25,6 @@ HasNoStop (e ∷ es) = HasNoStop es
 pub record IsSpent (events : ℕ) (h : List Entry) : Type 0 where
   pub count : length (events_of h) ≡ events
   pub no_stop : HasNoStop (events_of h)
-
--- a log line wasn't written
-abbrev pub HasFailedLog : List Entry → Type 0
-HasFailedLog [] = ⊥
-HasFailedLog (entry.Log who line false ∷ h) = Unit {0}
-HasFailedLog (e ∷ h) = HasFailedLog h
 
 -- the world failed where Stop was still to be given, or a log line wasn't written
 abbrev pub IsFaulted : List Entry → Type 0

@@ -1,3 +1,4 @@
 pub mod Endings
 pub mod Stepping
+pub mod Events
 pub mod Engine

@@ -1,7 +1,8 @@
-//! Many strands over one world: a queue of threads, a queue of offers, and a seat for each strand that lives.
+//! Many strands over one world: its events, each with the turns that follow.
 #![tactic(auto)]
 
 mod engine;
+mod events;
 mod server;
 
 pub use engine::{Engine, Stepped};

@@ -1,0 +1,18 @@
+use Rattle.std.proofs.Common.{◌≡◌, ◌≤◌, true, length}
+use Rattle.engine_base.specs.declared.seats.Ending.TheVariants as stop
+use Rattle.turns.specs.Turns.{Stands, work}
+use Rattle.turns.specs.Worked.{Works}
+use Rattle.turns.proofs.turns.Turns.offer_next.Given as goal
+
+abbrev pub invariant-loop-who : goal.invariant-loop-who
+invariant-loop-who g l = record {
+  standing : Stands (g.S.StrandContract.meaning l.site) l.self (g.W.World.book l.world);
+  works : Works g.W.World.same g.W.World.book l.fn.self l.self l.fn.world l.world;
+  in_offers : l.self.in_offers ≡ true;
+  ending : l.self.ending ≡ stop.Over;
+  run_queue : l.self.run_queue.items ≡ l.fn.self.run_queue.items;
+  less : work g.S.StrandContract.left l.self ≤ work g.S.StrandContract.left l.fn.self;
+}
+
+abbrev pub decreases-loop-who : goal.decreases-loop-who
+decreases-loop-who g l = length l.self.offer_queue.items
