@@ -1,0 +1,6 @@
+pub mod Heads
+pub mod Feeding
+pub mod Messages
+pub mod PieceLaws
+pub mod HeadLaws
+pub mod MessageLaws
