@@ -51,6 +51,7 @@ after-fewer bytes k n head size h fits = by (head_end bytes) refl h
         at : (c : Bool) → read.Whole head size ≡ (if c then read.More else read.Refused 431) → ⊥
         at true e = cc
         at false e = cc
+
     by : (end : Option ℕ) → head_end bytes ≡ end
         → MatchOption end (read.Whole head size ≡ unfinished (length bytes)) (λ m. ReadsHead bytes m (read.Whole head size))
         → length (drop k (after_head end bytes)) ≤ n

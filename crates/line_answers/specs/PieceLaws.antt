@@ -141,6 +141,7 @@ word-decided test stop fails text = let s = split-at test text in from s.run s.r
         let same = run_unique test [] h.0 (stop ∷ rest) (stop ∷ h.1) all h.2.1 fails fails (sym e ∙ h.2.2) in
         let none : 0 < 0 = subst (λ (w : List ℕ). 0 < length w) (sym same.0) h.2.0 in omega (arith, none))
     some (b ∷ run) rest all e = inl (b ∷ run, rest, (omega arith, all, e))
+
     at-stop : (run : List ℕ) (c : ℕ) (rest : List ℕ) (is : Bool) → (c == stop) ≡ is → AllPass test run → text ≡ run ++ c ∷ rest → test c ≡ false
         → Decided (Word test stop) text
     at-stop run c rest true f all e stops = some run rest all (e ∙ ap (λ (v : ℕ). run ++ v ∷ rest) (eqb-true c stop f))
@@ -151,6 +152,7 @@ word-decided test stop fails text = let s = split-at test text in from s.run s.r
       where
         same-byte : (v : ℕ) → (v == v) ≡ true
         same-byte v = grind arith
+
     from : (run rest : List ℕ) → AllPass test run → text ≡ run ++ rest → (rest ≡ []) ⊎ Stops test rest → Decided (Word test stop) text
     from run [] all e end = inr (NotYet_intro λ h. no-stop test text run h.0 (stop ∷ h.1) all e h.2.2 fails)
     from run (c ∷ rest) all e end = elim end [
@@ -179,6 +181,7 @@ bytes-decided (x ∷ front) (b ∷ text) = by (b == x) refl (bytes-decided front
   where
     same-byte : (v : ℕ) → (v == v) ≡ true
     same-byte v = grind arith
+
     by : (c : Bool) → (b == x) ≡ c → ((rest : List ℕ) × (text ≡ front ++ rest)) ⊎ ((rest : List ℕ) → text ≡ front ++ rest → ⊥)
         → ((rest : List ℕ) × (b ∷ text ≡ x ∷ front ++ rest)) ⊎ ((rest : List ℕ) → b ∷ text ≡ x ∷ front ++ rest → ⊥)
     by true e after = elim after [
@@ -282,11 +285,14 @@ request-decided text = then-decided RequestStart Section text RequestStart_deter
   where
     line : (text : List ℕ) → Decided (Then Version Newline) text
     line text = then-decided Version Newline text Version_deterministic (version-decided text) newline-decided
+
     target : (text : List ℕ) → Decided (Then Target (Then Version Newline)) text
     target text = then-decided Target (Then Version Newline) text Target_deterministic (target-decided text) line
+
     method : (text : List ℕ) → Decided (Then Method (Then Target (Then Version Newline))) text
     method text =
         let word = word-decided is_token_byte 32 space_ends_token text in
         then-decided Method (Then Target (Then Version Newline)) text Method_deterministic word target
+
     start : (text : List ℕ) → Decided RequestStart text
     start text = then-decided Blank (Then Method (Then Target (Then Version Newline))) text Blank_deterministic (blank-decided text) method

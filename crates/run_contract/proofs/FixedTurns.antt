@@ -8,7 +8,7 @@ use Rattle.run_contract.specs.Fixed.{reply_said}
 pub reply-falls : {J E : Type 0} (bytes : List ℕ) (result : Result (RunTurn J) E) (sent client : Bool) → sent ≡ false
     → IfOk result (λ turn. turn.said.items ≡ (if sent then [] else reply_said bytes)) → IfOk result (λ turn. turn.acts.items ≡ [])
     → IfOk result (λ turn. 0 + (if client then 1 else 0) + (length turn.acts.items + length turn.said.items)
-        < (if sent then 0 else 8) + (if client then 1 else 0))
+    < (if sent then 0 else 8) + (if client then 1 else 0))
 reply-falls bytes (Ok turn) sent client e said acts =
     let many : length turn.said.items ≡ 3 = ap length (said ∙ ap (λ (c : Bool). if c then [] else reply_said bytes) e) in
     let none : length turn.acts.items ≡ 0 = ap length acts in

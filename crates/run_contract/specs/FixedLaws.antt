@@ -36,15 +36,19 @@ own-due now n at (d ∷ ds) e f h = by (λ x y. own-due now n at ds x f y) (due 
   where
     rest : nat_lt d.0 2 ≡ true → own_deadlines ds ≡ []
     rest i = sym (ap (λ (c : Bool). if c then own_deadlines ds else d ∷ own_deadlines ds) i) ∙ h
+
     first : nat_lt d.0 2 ≡ true → d ≡ (n, at) → ⊥
     first g same = let x : true ≡ false = sym g ∙ ap (λ (k : ℕ × ℕ). nat_lt k.0 2) same ∙ f in cc
+
     at-none : nat_lt d.0 2 ≡ true → (c : Bool) → (if c then Some d else None) ≡ Some (n, at) → ⊥
     at-none i true x = first i (cc)
     at-none i false x = cc
+
     at-some : (due now ds ≡ Some (n, at) → own_deadlines ds ≡ [] → ⊥) → nat_lt d.0 2 ≡ true → (y : ℕ × ℕ) → due now ds ≡ Some y → (c : Bool)
         → (if c then Some d else Some y) ≡ Some (n, at) → ⊥
     at-some later i y g true x = first i (cc)
     at-some later i y g false x = later (g ∙ x) (rest i)
+
     by : (due now ds ≡ Some (n, at) → own_deadlines ds ≡ [] → ⊥) → (o : Option (ℕ × ℕ)) → due now ds ≡ o → (c : Bool) → nat_lt d.0 2 ≡ c → ⊥
     by later o g false i = let x : d ∷ own_deadlines ds ≡ [] = sym (ap (λ (c : Bool). if c then own_deadlines ds else d ∷ own_deadlines ds) i) ∙ h in cc
     by later None g true i = at-none i (nat_le d.1 now) (sym (ap (sooner now d) g) ∙ e)

@@ -13,9 +13,9 @@ pub returns-clause-left : goal.returns-clause-left
 returns-clause-left c =
     let bytes = c.args.site.now.reply in
     let may : (s : RunSeen) → c.args.seen ≡ s → MayCome (fixed_plan bytes) c.args.now.0 s c.requires.0 c.requires.1 =
-        λ s e. subst (λ s. MayCome (fixed_plan bytes) c.args.now.0 s c.requires.0 c.requires.1) e c.requires.4 in
+    λ s e. subst (λ s. MayCome (fixed_plan bytes) c.args.now.0 s c.requires.0 c.requires.1) e c.requires.4 in
     let other : (s : RunSeen) → c.args.seen ≡ s → IsElse s → ⊥ =
-        λ s e h. none-else bytes c.args.now.0 s c.requires.0 c.requires.1 c.requires.3 (may s e) h in
+    λ s e h. none-else bytes c.args.now.0 s c.requires.0 c.requires.1 c.requires.3 (may s e) h in
     elim c.match-seen.branch [
       | in-Run w ↦ rw (w.self-is, w.result-is, w.reply.ensures.sent) (λ own.
           reply-falls bytes w.reply.result c.args.self.now.is_sent c.args.self.now.has_client
