@@ -1,6 +1,7 @@
 -- Each function of the library leaves a heap as it may.
-use Rattle.std.proofs.Common.{◌≡◌, ℕ, zero, suc, ◌+◌, ◌-◌, ◌<◌, ◌≤◌, Bool, true, false, List, [], ◌∷◌, length, drop, Option, None, Some, IfSome, Result, Ok, Err, All, refl, if◌then◌else◌, arith, ℤ, pos, ◌+ℤ◌, ap}
-use Rattle.std.proofs.lemmas.List.Elements.{All-nil, All-cons, All-push, All-drop}
+use Rattle.std.proofs.Common.{◌≡◌, ℕ, zero, suc, ◌+◌, ◌-◌, ◌<◌, ◌≤◌, Bool, true, false, List, [], ◌∷◌, length, drop, get_or, Option, None, Some, IfSome, Result, Ok, Err, All, refl, if◌then◌else◌, arith, ℤ, pos, ◌+ℤ◌, ap}
+use Rattle.std.proofs.lemmas.List.Elements.{All-nil, All-cons, All-map, All-drop}
+use Rattle.std.specs.List.{range_with_len}
 use Rattle.std.specs.Ordering.{int_eq}
 use Rattle.lua_numbers.specs.declared.faults.NumFault.{NumFault}
 use Rattle.lua_numbers.specs.Arithmetic.{within_range}
@@ -9,6 +10,7 @@ use Rattle.lua_values.specs.declared.values.Value.TheVariants.{Nil, Truth, Numbe
 use Rattle.lua_values.specs.declared.kinds.TypeKind.TheVariants as kind
 use Rattle.lua_values.specs.Values.{same, is_nil, number}
 use Rattle.lua_values.specs.Pairs.{value_at, next_pair}
+use Rattle.lua_values.specs.Border.{border_of}
 use Rattle.lua_values.specs.Heap.{Heap}
 use Rattle.lua_values.specs.Fits.{FitsMeta, FitsPair}
 use Rattle.lua_values.specs.NativeCalls.{IsKnown, LeavesLawfully}
@@ -18,7 +20,7 @@ use Rattle.lua_operators.specs.Conversions.{number_of}
 use Rattle.lua_operators.specs.Types.{type_of}
 use Rattle.lua_operators.specs.TypeNames.{type_name}
 use Rattle.lua_lib_base.specs.declared.refusals.Refusal.TheVariants.{Base, Index}
-use Rattle.lua_lib_base.specs.Arguments.{argument, any_at, table_at, number_at, text_at}
+use Rattle.lua_lib_base.specs.Arguments.{argument, any_at, table_at, table_or_nil_at, number_at, number_or_at, text_at}
 use Rattle.lua_lib_base.specs.Results.{LibraryResult, gives, refuses, with_argument, counted}
 use Rattle.lua_lib_base.specs.Texts.{made_text}
 use Rattle.lua_lib_base.specs.Lawful.{IsLawfulResult, CountingKeepsLawful}
@@ -78,7 +80,7 @@ getmetatable_lawful bound heap args s =
 setmetatable_lawful : (bound : ℕ) (heap : Heap) (args : List Value) → Setup bound heap args → IsLawfulResult bound heap (setmetatable args heap)
 setmetatable_lawful bound heap args s =
     with_lawful bound heap args (table_at args 1) _ s (λ t e.
-    with_lawful bound heap args _ _ s (λ meta f. set_metatable_lawful bound heap args t meta s (table_known bound heap args 1 t s e) (meta_known bound heap args 2 meta s f)))
+    with_lawful bound heap args (table_or_nil_at args 2) _ s (λ meta f. set_metatable_lawful bound heap args t meta s (table_known bound heap args 1 t s e) (meta_known bound heap args 2 meta s f)))
 
 rawequal_lawful : (bound : ℕ) (heap : Heap) (args : List Value) → Setup bound heap args → IsLawfulResult bound heap (rawequal args heap)
 rawequal_lawful bound heap args s =
@@ -142,15 +144,15 @@ select_lawful bound heap args s = by (asks_count (argument args 1))
     by false = with_lawful bound heap args (number_at args 1) _ s (λ index e. after (passed (length (drop 1 args)) index))
 
 elements_known : (bound : ℕ) (heap : Heap) (args : List Value) (t : ℕ) (first : ℤ) (n : ℕ) → Setup bound heap args → All (IsKnown bound heap) (elements (calls.pairs_of heap t) first n)
-elements_known bound heap args t first zero s = All-nil (IsKnown bound heap)
-elements_known bound heap args t first (suc n) s =
-    All-push (IsKnown bound heap) (elements (calls.pairs_of heap t) first n) _ (elements_known bound heap args t first n s) (value_known bound heap args t (Number (first +ℤ pos n)) s)
+elements_known bound heap args t first n s =
+    All-map (IsKnown bound heap) (λ k. value_at (calls.pairs_of heap t) (Number (first +ℤ pos k))) (range_with_len 0 n)
+    (λ k d below. value_known bound heap args t (Number (first +ℤ pos (get_or (range_with_len 0 n) k d))) s)
 
 unpack_lawful : (bound : ℕ) (heap : Heap) (args : List Value) → Setup bound heap args → IsLawfulResult bound heap (unpack args heap)
 unpack_lawful bound heap args s =
     with_lawful bound heap args (table_at args 1) _ s (λ t e.
-    with_lawful bound heap args _ _ s (λ first f.
-    with_lawful bound heap args _ _ s (λ last g. (kept bound heap args s, elements_known bound heap args t first (count_between first last) s))))
+    with_lawful bound heap args (number_or_at args 2 (pos 1)) _ s (λ first f.
+    with_lawful bound heap args (number_or_at args 3 (pos (border_of (calls.pairs_of heap t)))) _ s (λ last g. (kept bound heap args s, elements_known bound heap args t first (count_between first last) s))))
 
 optional_known : (bound : ℕ) (heap : Heap) (o : Option ℤ) → IsKnown bound heap (number_or_nil o)
 optional_known bound heap None = (tt, tt)
@@ -158,7 +160,7 @@ optional_known bound heap (Some n) = (tt, tt)
 
 tonumber_lawful : (bound : ℕ) (heap : Heap) (args : List Value) → Setup bound heap args → IsLawfulResult bound heap (tonumber args heap)
 tonumber_lawful bound heap args s =
-    with_lawful bound heap args (any_at args 1) _ s (λ value e. with_lawful bound heap args _ _ s (λ base f. by value base (int_eq base (pos 10))))
+    with_lawful bound heap args (any_at args 1) _ s (λ value e. with_lawful bound heap args (number_or_at args 2 (pos 10)) _ s (λ base f. by value base (int_eq base (pos 10))))
   where
     based : (text : List ℕ) (o : Option ℕ) → IsLawfulResult bound heap (in_base heap text o)
     based text (Some base) = (kept bound heap args s, one bound heap _ (optional_known bound heap (numeral base text)))

@@ -17,8 +17,9 @@ use Rattle.lua_values.specs.NativeCalls.{IsKnown, LeavesHeap}
 use Rattle.lua_values.specs.StoreCalls as calls
 use Rattle.lua_lib_base.specs.declared.refusals.Refusal.{Refusal}
 use Rattle.lua_lib_base.specs.declared.refusals.Refusal.TheVariants.{ProtectedMetatable}
-use Rattle.lua_lib_base.specs.Results.{LibraryResult, gives, refuses, with_argument, unless_refused}
-use Rattle.lua_lib_base.specs.Texts.{with_text, made_text}
+use Rattle.lua_lib_base.specs.Work.{making}
+use Rattle.lua_lib_base.specs.Results.{LibraryResult, Gave, gives, refuses, with_argument, unless_refused}
+use Rattle.lua_lib_base.specs.Texts.{text_cause, with_text, made_text}
 use Rattle.lua_lib_base.specs.Lawful.{IsLawfulResult}
 use Rattle.lua_tables_lib.specs.Raw.{set_raw}
 use Rattle.lua_tables_lib.specs.Metatables.{protection, set_metatable}
@@ -46,7 +47,7 @@ unless_lawful bound heap args (Some cause) go s h = kept bound heap args s
 -- a text that is made
 pub made_lawful : (bound : ℕ) (heap : Heap) (args : List Value) (text : List ℕ) → Setup bound heap args → IsLawfulResult bound heap (made_text heap text)
 made_lawful bound heap args text s =
-    unless_lawful bound heap args _ _ s (λ _.
+    unless_lawful bound heap args (text_cause heap (length text)) (Gave (Text text ∷ []) (with_text heap (length text)) (making (length text))) s (λ _.
     let keeps : Keeps heap (with_text heap (length text)) = s.writes.add_units heap (heap.units + (length text + 16)) s.fits in (
       record {
         frozen = record { base = refl; tables = refl; cells = refl; closures = refl; no_shorter = keeps.1 };
@@ -95,7 +96,7 @@ table_given bound heap new t there longer = All-cons (IsKnown bound new) (Table 
 pub set_raw_lawful : (bound : ℕ) (heap : Heap) (args : List Value) (t : ℕ) (key value : Value) → Setup bound heap args → t < length heap.tables → IsKnown bound heap key → IsKnown bound heap value
     → IsLawfulResult bound heap (set_raw heap t key value)
 set_raw_lawful bound heap args t key value s there k v =
-    unless_lawful bound heap args _ _ s (λ none.
+    unless_lawful bound heap args (calls.set_cause heap t key value) (gives (Table t ∷ []) (calls.with_pair heap t key value)) s (λ none.
     let keeps : Keeps heap (calls.with_pair heap t key value) = s.writes.set heap t key value s.fits k.0 v.0 in (
       written bound heap (calls.with_pair heap t key value) args t (record { pairs = with_value (calls.pairs_of heap t) key value; meta = (calls.table_of heap t).meta }) s
           (set_later heap t key value none) keeps (with_value_named bound (calls.pairs_of heap t) key value k.1 v.1 (table_named bound heap t s.names)) refl refl refl refl,
@@ -108,7 +109,7 @@ set_metatable_lawful bound heap args t meta s there m = by (is_nil (protection h
   where
     set : IsLawfulResult bound heap (unless_refused (calls.frozen_cause heap.base.tables t) heap (gives (Table t ∷ []) (calls.with_metatable heap t meta)))
     set =
-        unless_lawful bound heap args _ _ s (λ none.
+        unless_lawful bound heap args (calls.frozen_cause heap.base.tables t) (gives (Table t ∷ []) (calls.with_metatable heap t meta)) s (λ none.
         let keeps : Keeps heap (calls.with_metatable heap t meta) = s.writes.set_metatable heap t meta s.fits m in (
           written bound heap (calls.with_metatable heap t meta) args t (record { pairs = calls.pairs_of heap t; meta = meta }) s
               (meta_later heap t none) keeps (table_named bound heap t s.names) refl refl refl refl,

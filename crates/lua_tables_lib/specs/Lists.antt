@@ -1,6 +1,7 @@
 -- `select` and `unpack` (Lua 5.1 Reference Manual, 5.1).
-use Rattle.std.specs.Prelude.{ℕ, zero, suc, ◌-◌, nat_lt, Bool, false, List, [], ◌∷◌, ◌++◌, drop, length, codes, ℤ, pos, negsuc, ◌+ℤ◌, ◌-ℤ◌, Option, Some, None}
+use Rattle.std.specs.Prelude.{ℕ, zero, suc, ◌-◌, nat_lt, Bool, false, List, [], ◌∷◌, map, drop, length, codes, ℤ, pos, negsuc, ◌+ℤ◌, ◌-ℤ◌, Option, Some, None}
 use Rattle.std.specs.Prelude.{if◌then◌else◌}
+use Rattle.std.specs.List.{range_with_len}
 use Rattle.lua_values.specs.declared.values.Value.{Value}
 use Rattle.lua_values.specs.declared.values.Value.TheVariants.{Number, Text}
 use Rattle.lua_values.specs.Heap.{Heap}
@@ -47,8 +48,7 @@ count_between first last = at_least_zero ((last -ℤ first) +ℤ pos 1)
 
 -- the values at n numbers from one on
 abbrev pub elements : List (Value × Value) → ℤ → ℕ → List Value
-elements ps first zero = []
-elements ps first (suc n) = elements ps first n ++ value_at ps (Number (first +ℤ pos n)) ∷ []
+elements ps first n = map (λ k. value_at ps (Number (first +ℤ pos k))) (range_with_len 0 n)
 
 -- each value that `unpack` gives is counted
 abbrev pub unpacked : Heap → ℕ → ℤ → ℤ → LibraryResult
