@@ -1,0 +1,4 @@
+mod StoreLemmas
+mod KnownLemmas
+mod WriteLemmas
+mod LawLemmas

@@ -1,0 +1,9 @@
+pub mod Metatables
+pub mod Raw
+pub mod Traversal
+pub mod Lists
+pub mod Conversions
+pub mod Modules
+pub mod Functions
+pub mod Meaning
+pub mod Laws

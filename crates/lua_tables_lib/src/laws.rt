@@ -1,0 +1,15 @@
+//! A law of the definitions, as the contract of a function.
+
+ghost use Rattle.lua_tables_lib.specs.Laws.{LibraryIsLawful};
+
+use lua_lib_base::counting_keeps_lawful;
+use lua_values::{reads_fit, writes_keep_fitting};
+
+/// The library is lawful where a program may call the natives 0 to 183.
+pub fn library_is_lawful()
+    ensures { LibraryIsLawful }
+{
+    counting_keeps_lawful();
+    reads_fit();
+    writes_keep_fitting();
+}
