@@ -1,4 +1,5 @@
-//! Zones and the plain program, over calls of a fixed generator.
+//! Zones and the plain program, over calls of a fixed generator. Memory may be refused once, anywhere: what was refused is asked for
+//! again, and the answers are the same.
 
 use crate::answers::asked;
 use crate::calls::{Call, Value};
@@ -71,11 +72,22 @@ fn store_of(kind: u64, key: &'static [u8], y: u64, z: u64) -> Call {
     }
 }
 
-/// The names that a call is answered.
+/// The names that a call is answered; where memory is refused it is asked for once more.
 fn names_of(alloc: Global, items: &[Item], now: u64, call: Call) -> Result<Vec<u8>, AllocError> {
-    match call {
-        Call::Keys(count) => names(alloc, items, now, count),
-        _ => Ok(Vec::new(alloc)),
+    let Call::Keys(count) = call else {
+        return Ok(Vec::new(alloc));
+    };
+    match names(alloc, items, now, count) {
+        Ok(names) => Ok(names),
+        Err(_) => names(alloc, items, now, count),
+    }
+}
+
+/// An empty list that takes no more memory for its first 1,000 items; where memory is refused it is asked for once more.
+fn with_room(alloc: Global) -> Result<Vec<Item>, AllocError> {
+    match Vec::with_capacity(alloc, 1_000) {
+        Ok(items) => Ok(items),
+        Err(_) => Vec::with_capacity(alloc, 1_000),
     }
 }
 
@@ -99,7 +111,7 @@ fn agrees(
 /// How many of 1,000 calls of a zone of a size agree.
 fn agreeing(alloc: Global, size: u32, seed: u64) -> Result<u32, AllocError> {
     let mut zone = Zone::new(u64::from(size));
-    let mut items: Vec<Item> = Vec::new(alloc);
+    let mut items = with_room(alloc)?;
     let (mut now, mut x, mut count) = (0_u64, seed, 0_u32);
     for _ in 0..1_000_u32 {
         let y = draw(x);
