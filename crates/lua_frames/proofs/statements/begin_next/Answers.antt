@@ -1,5 +1,5 @@
 use Rattle.lua_frames.proofs.FrameForms.{next_runs}
-use Rattle.lua_frames.proofs.statements.next_stmt.Goals as goal
+use Rattle.lua_frames.proofs.statements.begin_next.Goals as goal
 
 pub returns : goal.returns
 returns g c =
