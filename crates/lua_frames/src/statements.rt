@@ -15,7 +15,7 @@ use lua_frames_base::{
     take_values, wait,
 };
 use lua_operators::is_truthy;
-use lua_shortcuts::run_simple;
+use lua_shortcuts::run_block;
 use lua_statements::{assign_slot, assign_values, begin_arm, enter_stmt, set_locals};
 use lua_values::{Store, Value};
 use std::alloc::AllocError;
@@ -65,7 +65,7 @@ fn next_stmt<H: Host>(
     ensures { Works (H.setting host.now) (block (drop next stmts.value.items) (here frames.old) (slots_of frames.old))
         frames.old store.old frames.new store.new result }
 {
-    let next = run_simple(&mut frames.top.slots, store, stmts.as_slice(), next);
+    let next = run_block(&mut frames.top.slots, store, &stmts, next);
     begin_next(frames, host, store, stmts, next)
 }
 

@@ -5,7 +5,7 @@ use Rattle.std.specs.declared.rc.Rc.{Rc}
 use Rattle.lua_ast.specs.declared.expressions.Expr.{Expr}
 use Rattle.lua_ast.specs.declared.statements.Stmt.{Stmt}
 use Rattle.lua_values.specs.Heap.{StoreView}
-use Rattle.lua_meaning.specs.Works.{Places, Slots, AValue, Values, Eval}
+use Rattle.lua_meaning.specs.Works.{Places, Slots, AValue, Sign, Values, Return, Break, Failed, Work, Eval}
 use Rattle.lua_meaning.specs.Evaluator.{Resume, Ended, do_work}
 use Rattle.lua_meaning.specs.Setting.{Setting}
 use Rattle.lua_meaning.specs.Signs.{give}
@@ -24,6 +24,8 @@ use Rattle.lua_frames_base.specs.Frames.{finish_from, here, slots_of, working}
 use Rattle.lua_frames_base.specs.Follows.{Follows, Works}
 use Rattle.lua_frames_base.specs.Changes.{Waits, Ends}
 use Rattle.lua_frames_base.proofs.FollowLemmas.{works_as, finish_waits, ends_finish, ends_works, work_under}
+use Rattle.lua_items.specs.declared.loops.RunEnd.TheVariants as run
+use Rattle.lua_items.specs.Takes.{ends_run}
 use Rattle.lua_nodes.specs.Captures.{KeepsAllButSlots}
 use Rattle.lua_nodes.proofs.MovedLemmas.{stays_here, works_moved}
 
@@ -38,14 +40,15 @@ rest_works S stmts next old mid new store (Ok f) h e =
 rest_works S stmts next old mid new store (Err x) h e = record { follows = tt }
 
 -- a loop that was run as far as it goes at once, and then went on
-pub loop_goes : {E : Type 0} (S : Setting) (test : Rc Expr Global) (body : Rc (Vec Stmt Global) Global) (y : Expr) (items : List Stmt) (end was : LoopEnd) (old mid fs : Frames) (before between store : StoreView) (r : Result Flow E)
-    → KeepsAllButSlots old mid → y ≡ test.value → items ≡ body.value.items → was ≡ end
-    → Becomes S (while_work y items (here old) (slots_of old)) before (left_of was y items (here old) (slots_of mid)) between
+pub loop_goes : {E : Type 0} (S : Setting) (test : Rc Expr Global) (body : Rc (Vec Stmt Global) Global) (end was : LoopEnd) (old mid fs : Frames) (before between store : StoreView) (r : Result Flow E)
+    → KeepsAllButSlots old mid → was ≡ end
+    → Becomes S (while_work test.value body.value.items (here old) (slots_of old)) before (left_of was test.value body.value.items (here old) (slots_of mid)) between
     → Works S (left_of end test.value body.value.items (here mid) (slots_of mid)) mid between fs store r
     → Works S (while_work test.value body.value.items (here old) (slots_of old)) old before fs store r
-loop_goes S test body y items end was old mid fs before between store r keeps tests stmts is comes w =
+loop_goes S test body end was old mid fs before between store r keeps is comes w =
     works_moved S (while_work test.value body.value.items (here old) (slots_of old)) (left_of end test.value body.value.items (here mid) (slots_of mid)) old mid fs before between store r keeps
-    (λ rs. rw (← tests, ← stmts, ← is, stays_here old mid keeps) (comes rs)) w
+    (λ rs. comes rs ∙ ap (λ (e : LoopEnd). do_work (eval S) (left_of e test.value body.value.items (here old) (slots_of mid)) (record { store = between; resumes = rs })) is
+    ∙ ap (λ (p : Places). do_work (eval S) (left_of end test.value body.value.items p (slots_of mid)) (record { store = between; resumes = rs })) (sym (stays_here old mid keeps))) w
 
 -- it is over
 pub loop_over : {E : Type 0} (S : Setting) (test : Expr) (body : List Stmt) (old new : Frames) (store : StoreView) (r : Result Flow E)
@@ -71,9 +74,15 @@ loop_turns S test body copy next old mid fs before store r same h w =
     (ap (λ (b : Vec Stmt Global). block (drop next b.items) (here mid) (slots_of mid)) (sym same)))
 
 -- after a run of the body the loop goes on
+ran : (go : Slots → Work) (sign : Sign) (s : Slots) → ends_run sign ≡ run.Ran → after_body go sign s ≡ go s
+ran go (Values vs) s e = refl
+ran go (Return vs) s e = absurd (cc)
+ran go Break s e = absurd (cc)
+ran go (Failed v) s e = absurd (cc)
+
 pub loop_again : {E : Type 0} (S : Setting) (test : Rc Expr Global) (body : Rc (Vec Stmt Global) Global) (old fs : Frames) (before store : StoreView) (r : Result Flow E)
-    → after_body (while_work test.value body.value.items (here old)) (sign_of old.given) (slots_of old) ≡ while_work test.value body.value.items (here old) (slots_of old)
-    → Works S (while_work test.value body.value.items (here old) (slots_of old)) old before fs store r
+    → ends_run (sign_of old.given) ≡ run.Ran → Works S (while_work test.value body.value.items (here old) (slots_of old)) old before fs store r
     → Works S (after_body (while_work test.value body.value.items (here old)) (sign_of old.given) (slots_of old)) old before fs store r
 loop_again S test body old fs before store r e w =
-    works_as S (after_body (while_work test.value body.value.items (here old)) (sign_of old.given) (slots_of old)) (while_work test.value body.value.items (here old) (slots_of old)) old fs before store r w e
+    works_as S (after_body (while_work test.value body.value.items (here old)) (sign_of old.given) (slots_of old)) (while_work test.value body.value.items (here old) (slots_of old)) old fs before store r w
+    (ran (while_work test.value body.value.items (here old)) (sign_of old.given) (slots_of old) e)

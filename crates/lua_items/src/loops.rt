@@ -104,7 +104,7 @@ fn go_on<H: Host>(
     ensures { Works (H.setting host.now) (while_work test.value body.value.items (here frames.old) (slots_of frames.old))
         frames.old store.old frames.new store.new result }
 {
-    match run_loop(&mut frames.top.slots, store, &test, body.as_slice()) {
+    match run_loop(&mut frames.top.slots, store, &test, &body) {
         LoopEnd::Over => give_nothing(frames),
         LoopEnd::Test => {
             let again = share(&test)?;

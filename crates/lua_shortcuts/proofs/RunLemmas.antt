@@ -1,5 +1,5 @@
 -- Statements and loops that are run at once.
-use Rattle.std.specs.Prelude.{◌≡◌, ℕ, suc, zero, ◌+◌, ◌≤◌, ◌<◌, nat_lt, min, Bool, true, false, if◌then◌else◌, List, [], ◌∷◌, length, drop, slice_index_or, slice_get, slice_set, Option, Some, None, refl}
+use Rattle.std.specs.Prelude.{◌≡◌, ℕ, suc, zero, ◌+◌, ◌≤◌, ◌<◌, nat_lt, min, Bool, true, false, if◌then◌else◌, List, [], ◌∷◌, length, drop, slice_index_or, slice_get, slice_set, Option, Some, None, ℤ, refl}
 use Rattle.std.specs.declared.rc.Rc.{Rc}
 use Rattle.std.specs.declared.vec.Vec.{Vec}
 use Rattle.std.specs.declared.alloc.Global.{Global}
@@ -17,11 +17,11 @@ use Rattle.lua_ast.specs.declared.statements.StmtKind.TheOpen as sk
 use Rattle.lua_ast.specs.declared.statements.StmtKind.TheViews.{outs-Local, outs-Assign}
 use Rattle.lua_ast.specs.declared.statements.StmtKind.TheVariants as sv
 use Rattle.lua_values.specs.declared.values.Value.{Value}
-use Rattle.lua_values.specs.declared.values.Value.TheVariants.{Truth, Number}
+use Rattle.lua_values.specs.declared.values.Value.TheVariants.{Nil, Truth, Number, Text, Table, Closure, Native, Thread, Null, Object}
 use Rattle.lua_values.specs.Heap.{StoreView, step_limit}
 use Rattle.lua_operators.specs.Types.{is_truthy}
 use Rattle.lua_meaning.specs.declared.slots.Slot.{Slot}
-use Rattle.lua_meaning.specs.declared.slots.Slot.TheVariants.{Plain}
+use Rattle.lua_meaning.specs.declared.slots.Slot.TheVariants.{Plain, Shared}
 use Rattle.lua_meaning.specs.Works.{Places, Slots, Node, AValue, AnExpr, AStmt, ATurn, Sign, Values, Work, End, Eval, and_then}
 use Rattle.lua_meaning.specs.Evaluator.{Resume, State, Ending, Ended, Parked, Spent, after, do_work}
 use Rattle.lua_meaning.specs.Setting.{Setting}
@@ -37,7 +37,7 @@ use Rattle.lua_meaning.specs.Nodes.{work_of, eval}
 use Rattle.lua_meaning.proofs.EvaluatorLemmas.{eval-law, work-then}
 use Rattle.lua_meaning.proofs.Running.{Does, stepped, stmt, seq, count, target, end}
 use Rattle.lua_shortcuts.specs.Gives.{counting, later, Gives}
-use Rattle.lua_shortcuts.specs.Runs.{state, Becomes, RunsIf, IsLocals, IsAssignments, IsAssignment, Tests, left_of, Replaces}
+use Rattle.lua_shortcuts.specs.Runs.{state, Becomes, RunsIf, IsLocals, IsAssignments, IsAssignment, Tests, left_of, has_number}
 
 -- counted steps that stay below the limit
 pub counted : (n : ℕ) (before store : StoreView) → store ≡ record { heap = before.heap; steps = min step_limit (before.steps + n) } → nat_lt (before.steps + n) step_limit ≡ true → store ≡ counting n before
@@ -94,6 +94,23 @@ written : (S : Setting) (line i n : ℕ) (v old : Value) (s : Slots) (p : Places
 written S line i n v old s p w plain =
     record { is = ap (λ (t : Option Slot). do_work (eval S) (and_then (write_slot S (callers_at p line) t i v s (give [])) (on_values (λ us s'. give [] s'))) w) plain }
 
+number_there : (s : Slots) (i : ℕ) → has_number (slice_get s i) ≡ true → (n : ℤ) × (slice_get s i ≡ Some (Plain (Number n)))
+number_there s i h = by_slot (slice_get s i) h
+  where
+    by_slot : (t : Option Slot) → has_number t ≡ true → (n : ℤ) × (t ≡ Some (Plain (Number n)))
+    by_slot (Some (Plain (Number n))) h = (n, refl)
+    by_slot (Some (Plain Nil)) h = absurd (cc)
+    by_slot (Some (Plain (Truth t))) h = absurd (cc)
+    by_slot (Some (Plain (Text t))) h = absurd (cc)
+    by_slot (Some (Plain (Table t))) h = absurd (cc)
+    by_slot (Some (Plain (Closure t))) h = absurd (cc)
+    by_slot (Some (Plain (Native t))) h = absurd (cc)
+    by_slot (Some (Plain (Thread t))) h = absurd (cc)
+    by_slot (Some (Plain Null)) h = absurd (cc)
+    by_slot (Some (Plain (Object k t))) h = absurd (cc)
+    by_slot (Some (Shared c)) h = absurd (cc)
+    by_slot None h = absurd (cc)
+
 assignment_ends : (S : Setting) (targets xs : List Expr) (target' x : Expr) (i n : ℕ) (v old : Value) (s : Slots) (p : Places) (w : State) → targets ≡ target' ∷ [] → xs ≡ x ∷ [] → out-ExprKind target'.kind ≡ e.Slot i
     → Gives x s v n → slice_get s i ≡ Some (Plain old) → w.store.steps + (n + 1) < step_limit
     → Does S (assignment_work S targets xs p s) w (Ended (Values []) (slice_set s i (Plain v)) (later n (later 1 w)))
@@ -101,12 +118,12 @@ assignment_ends S targets xs target' x i n v old s p w one values is g plain few
     rw (one, values) (count (lt-ltb _ _ (omega (arith, few))) (target {k = e.Slot i} target' p s _ is (seq {n = AnExpr x} (record { is = g.all S p (later 1 w) (omega (arith, few)) }) (written S target'.line i n v old s p (later n (later 1 w)) plain))))
 
 pub assignment_runs : (st : Stmt) (x : Expr) (i n : ℕ) (v : Value) (s s' : Slots) (before store : StoreView) → IsAssignment i x st → Gives x s v n → nat_lt (before.steps + (n + 2)) step_limit ≡ true
-    → Replaces i v s s' → store ≡ counting (n + 2) before → RunsIf true st s before s' store
-assignment_runs st x i n v s s' before store is g few set steps S p rs =
+    → has_number (slice_get s i) ≡ true → s' ≡ slice_set s i (Plain v) → store ≡ counting (n + 2) before → RunsIf true st s before s' store
+assignment_runs st x i n v s s' before store is g few had set steps S p rs =
     (stmt {k = sk.Assign is.assignments.targets is.assignments.values} is.assignments.is_assignment (lt-ltb _ _ (omega (arith, below)))
-    (assignment_ends S is.assignments.targets.value.items is.assignments.values.value.items is.target x i n v set.old s p (later 1 (state before rs)) is.assignments.aimed is.assignments.listed is.is_slot g set.plain (omega (arith, below)))).is
+    (assignment_ends S is.assignments.targets.value.items is.assignments.values.value.items is.target x i n v (Number (number_there s i had).0) s p (later 1 (state before rs)) is.assignments.aimed is.assignments.listed is.is_slot g (number_there s i had).1 (omega (arith, below)))).is
     ∙ ap (λ (k : ℕ). Ended (Values []) (slice_set s i (Plain v)) (state (record { heap = before.heap; steps = k }) rs)) sums
-    ∙ ap (λ (t : Slots). Ended (Values []) t (state (counting (n + 2) before) rs)) (sym set.slots) ∙ ap (λ (st' : StoreView). Ended (Values []) s' (state st' rs)) (sym steps)
+    ∙ ap (λ (t : Slots). Ended (Values []) t (state (counting (n + 2) before) rs)) (sym set) ∙ ap (λ (st' : StoreView). Ended (Values []) s' (state st' rs)) (sym steps)
   where
     below : before.steps + (n + 2) < step_limit
     below = ltb-true _ _ few
@@ -185,3 +202,17 @@ locals_kind st slots values is = record { slots = slots; values = values; is_loc
 
 pub assignments_kind : (st : Stmt) (targets values : Rc (Vec Expr Global) Global) → st.kind ≡ sv.Assign targets values → IsAssignments targets.value.items values.value.items st
 assignments_kind st targets values is = record { targets = targets; values = values; is_assignment = rw (is, outs-Assign targets values) refl; aimed = refl; listed = refl }
+
+-- lists that are the same
+pub same_locals : (places places' : List ℕ) (xs xs' : List Expr) (r : Bool) (s s' : Slots) (before store : StoreView) → places ≡ places' → xs ≡ xs' → ((st : Stmt) → IsLocals places' xs' st → RunsIf r st s before s' store)
+    → (st : Stmt) → IsLocals places xs st → RunsIf r st s before s' store
+same_locals places places' xs xs' r s s' before store p q h st is = h st (record { slots = is.slots; values = is.values; is_local = is.is_local; in_slots = is.in_slots ∙ p; listed = is.listed ∙ q })
+
+pub same_assignments : (ts ts' xs xs' : List Expr) (r : Bool) (s s' : Slots) (before store : StoreView) → ts ≡ ts' → xs ≡ xs' → ((st : Stmt) → IsAssignments ts' xs' st → RunsIf r st s before s' store)
+    → (st : Stmt) → IsAssignments ts xs st → RunsIf r st s before s' store
+same_assignments ts ts' xs xs' r s s' before store p q h st is =
+    h st (record { targets = is.targets; values = is.values; is_assignment = is.is_assignment; aimed = is.aimed ∙ p; listed = is.listed ∙ q })
+
+-- nothing was counted for the test
+pub loop_stays : (S : Setting) (p : Places) (q : Work) (test : Expr) (body : List Stmt) (s : Slots) (first before store : StoreView) → Becomes S q first (while_work test body p s) before → store ≡ before → Becomes S q first (while_work test body p s) store
+loop_stays S p q test body s first before store h e rs = h rs ∙ ap (λ (st : StoreView). do_work (eval S) (while_work test body p s) (state st rs)) (sym e)

@@ -39,27 +39,23 @@ use Rattle.lua_meaning.proofs.Running.{Does, val, exp, seq, look, end}
 use Rattle.lua_shortcuts.specs.declared.numbers.Counted.{Counted}
 use Rattle.lua_shortcuts.specs.Gives.{later, Gives, Operates, GivesBinary}
 
--- the first of several steps is left
-first_left : (k n : ℕ) → k + n < step_limit → 1 < n + 1 → nat_lt (k + 1) step_limit ≡ true
-first_left k n h some = lt-ltb _ _ (omega (arith, h, some))
-
 -- literals
 pub true_gives : (x : Expr) (s : Slots) → x.kind ≡ v.True → Gives x s (Truth true) 1
 true_gives x s is = record {
-  one = λ S p w few. (val {k = e.True} (rw (is, outs-True) refl) (lt-ltb _ _ few) end).is;
-  all = λ S p w few. (exp {k = e.True} (rw (is, outs-True) refl) (lt-ltb _ _ few) end).is;
+  one = λ S p w few. (val {x = x} {k = e.True} (rw (is, outs-True) refl) (lt-ltb _ _ few) end).is;
+  all = λ S p w few. (exp {x = x} {k = e.True} (rw (is, outs-True) refl) (lt-ltb _ _ few) end).is;
 }
 
 pub false_gives : (x : Expr) (s : Slots) → x.kind ≡ v.False → Gives x s (Truth false) 1
 false_gives x s is = record {
-  one = λ S p w few. (val {k = e.False} (rw (is, outs-False) refl) (lt-ltb _ _ few) end).is;
-  all = λ S p w few. (exp {k = e.False} (rw (is, outs-False) refl) (lt-ltb _ _ few) end).is;
+  one = λ S p w few. (val {x = x} {k = e.False} (rw (is, outs-False) refl) (lt-ltb _ _ few) end).is;
+  all = λ S p w few. (exp {x = x} {k = e.False} (rw (is, outs-False) refl) (lt-ltb _ _ few) end).is;
 }
 
 pub number_gives : (x : Expr) (s : Slots) (n : ℤ) → x.kind ≡ v.Number n → Gives x s (Number n) 1
 number_gives x s n is = record {
-  one = λ S p w few. (val {k = e.Number n} (rw (is, outs-Number n) refl) (lt-ltb _ _ few) end).is;
-  all = λ S p w few. (exp {k = e.Number n} (rw (is, outs-Number n) refl) (lt-ltb _ _ few) end).is;
+  one = λ S p w few. (val {x = x} {k = e.Number n} (rw (is, outs-Number n) refl) (lt-ltb _ _ few) end).is;
+  all = λ S p w few. (exp {x = x} {k = e.Number n} (rw (is, outs-Number n) refl) (lt-ltb _ _ few) end).is;
 }
 
 -- local variables
@@ -69,8 +65,8 @@ slot_read S s i n h w there = record { is = ap (λ (t : Option Slot). do_work (e
 
 slot_gives : (x : Expr) (s : Slots) (i : ℕ) (n : ℤ) → x.kind ≡ v.Slot i → slice_get s i ≡ Some (Plain (Number n)) → Gives x s (Number n) 1
 slot_gives x s i n is there = record {
-  one = λ S p w few. (val {k = e.Slot i} (rw (is, outs-Slot i) refl) (lt-ltb _ _ few) (look (slot_read S s i n _ _ there))).is;
-  all = λ S p w few. (exp {k = e.Slot i} (rw (is, outs-Slot i) refl) (lt-ltb _ _ few) (look (slot_read S s i n _ _ there))).is;
+  one = λ S p w few. (val {x = x} {k = e.Slot i} (rw (is, outs-Slot i) refl) (lt-ltb _ _ few) (look (slot_read S s i n _ _ there))).is;
+  all = λ S p w few. (exp {x = x} {k = e.Slot i} (rw (is, outs-Slot i) refl) (lt-ltb _ _ few) (look (slot_read S s i n _ _ there))).is;
 }
 
 pub slot_counted : (x : Expr) (s : Slots) (i : ℕ) (r : Option Counted) → x.kind ≡ v.Slot i → IfSome r (λ c. slice_get s i ≡ Some (Plain (Number c.number))) → IfSome r (λ c. c.steps ≡ 1)
@@ -92,8 +88,8 @@ operated S line o a b s m n r i j p w ga gb op few =
 pub binary_gives : (x : Expr) (o : BinOp) (a b : Rc Expr Global) (s : Slots) (m n : ℤ) (r : Value) (i j : ℕ) → out-ExprKind x.kind ≡ e.Binary o a b → Gives a.value s (Number m) i → Gives b.value s (Number n) j → Operates o m n r
     → Gives x s r (i + j + 1)
 binary_gives x o a b s m n r i j is ga gb op = record {
-  one = λ S p w few. (val {k = e.Binary o a b} is (lt-ltb _ _ (omega (arith, few))) (operated S x.line o a.value b.value s m n r i j p w ga gb op few)).is;
-  all = λ S p w few. (exp {k = e.Binary o a b} is (lt-ltb _ _ (omega (arith, few))) (operated S x.line o a.value b.value s m n r i j p w ga gb op few)).is;
+  one = λ S p w few. (val {x = x} {k = e.Binary o a b} is (lt-ltb _ _ (omega (arith, few))) (operated S x.line o a.value b.value s m n r i j p w ga gb op few)).is;
+  all = λ S p w few. (exp {x = x} {k = e.Binary o a b} is (lt-ltb _ _ (omega (arith, few))) (operated S x.line o a.value b.value s m n r i j p w ga gb op few)).is;
 }
 
 pub gives_binary : (o : BinOp) (a b : Expr) (s : Slots) (m n : ℤ) (r : Value) (i j k : ℕ) → Gives a s (Number m) i → Gives b s (Number n) j → Operates o m n r → k ≡ i + j + 1 → GivesBinary o a b s r k
@@ -109,22 +105,7 @@ pub binary_counted : (x : Expr) (o : BinOp) (a b : Rc Expr Global) (y z : Expr) 
 binary_counted x o a b y z s (Some c) is l h g = g x a b (binary_kind x o a b is) (sym l) (sym h)
 binary_counted x o a b y z s None is l h g = tt
 
--- what operators give on numbers
-pub arithmetic_operates : (o : BinOp) (op : ArithmeticOperator) (a b : ℤ) (r : Result ℤ NumFault) (t : Option ℤ)
-    → ((S : Setting) (callers : List Caller) (x y : Value) (s : Slots) → binary_work S callers o x y s ≡ arithmetic_work S callers op x y s) → r ≡ result_of op a b → t ≡ result_ok r → IfSome t (λ n. Operates o a b (Number n))
-arithmetic_operates o op a b (Ok n) (Some m) form e is = λ S callers s. form S callers (Number a) (Number b) s ∙ rw (← e) (cc)
-arithmetic_operates o op a b (Ok n) None form e is = tt
-arithmetic_operates o op a b (Err f) (Some m) form e is = absurd (cc)
-arithmetic_operates o op a b (Err f) None form e is = tt
-
-pub equal_operates : (a b : ℤ) (t : Bool) → same (Number a) (Number b) ≡ t → Operates binary.Eq a b (Truth t)
-equal_operates a b true e = λ S callers s. rw e refl
-equal_operates a b false e = λ S callers s. rw e refl
-
-pub unequal_operates : (a b : ℤ) (t : Bool) → same (Number a) (Number b) ≡ t → Operates binary.Ne a b (Truth (not t))
-unequal_operates a b true e = λ S callers s. rw e refl
-unequal_operates a b false e = λ S callers s. rw e refl
-
-pub order_operates : (o : BinOp) (op : ComparisonOperator) (a b x y : ℤ) (t : Bool)
-    → ((S : Setting) (callers : List Caller) (s : Slots) → binary_work S callers o (Number a) (Number b) s ≡ comparison_work S callers op (Number x) (Number y) s) → t ≡ holds op (int_cmp x y) → Operates o a b (Truth t)
-order_operates o op a b x y t form e = λ S callers s. form S callers s ∙ ap (λ (z : Bool). give_one (Truth z) s) (sym e)
+pub with_counted : (o : BinOp) (a b : Expr) (s : Slots) (m n r : ℤ) (i j : ℕ) (t : Option Counted) → Gives a s (Number m) i → Gives b s (Number n) j → Operates o m n (Number r) → IfSome t (λ c. c.number ≡ r) → IfSome t (λ c. c.steps ≡ i + j + 1)
+    → IfSome t (λ c. GivesBinary o a b s (Number c.number) c.steps)
+with_counted o a b s m n r i j (Some c) ga gb op is steps = gives_binary o a b s m n (Number c.number) i j c.steps ga gb (subst (λ (z : ℤ). Operates o m n (Number z)) (sym is) op) steps
+with_counted o a b s m n r i j None ga gb op is steps = tt

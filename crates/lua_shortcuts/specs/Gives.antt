@@ -35,4 +35,5 @@ Operates o a b v = (S : Setting) (callers : List Caller) (s : Slots) → binary_
 
 -- `a OPERATOR b` gives a value
 abbrev pub GivesBinary : BinOp → Expr → Expr → Slots → Value → ℕ → Type 0
-GivesBinary o a b s v n = (x : Expr) (left right : Rc Expr Global) → out-ExprKind x.kind ≡ e.Binary o left right → left.value ≡ a → right.value ≡ b → Gives x s v n
+GivesBinary o a b s v n =
+    (x : Expr) (left right : Rc Expr Global) → out-ExprKind x.kind ≡ e.Binary o left right → left.value ≡ a → right.value ≡ b → Gives x s v n

@@ -1,5 +1,5 @@
 -- Statements and loops that are run at once (Lua 5.1 Reference Manual, 2.4).
-use Rattle.std.specs.Prelude.{◌≡◌, ℕ, Bool, true, false, List, [], ◌∷◌, drop, slice_get, slice_set, Some, if◌then◌else◌}
+use Rattle.std.specs.Prelude.{◌≡◌, ℕ, Bool, true, false, List, [], ◌∷◌, drop, Option, Some, if◌then◌else◌}
 use Rattle.std.specs.declared.rc.Rc.{Rc}
 use Rattle.std.specs.declared.vec.Vec.{Vec}
 use Rattle.std.specs.declared.alloc.Global.{Global}
@@ -9,8 +9,9 @@ use Rattle.lua_ast.specs.declared.expressions.ExprKind.TheOpen as e
 use Rattle.lua_ast.specs.declared.statements.Stmt.{Stmt}
 use Rattle.lua_ast.specs.declared.statements.StmtKind.{out-StmtKind}
 use Rattle.lua_ast.specs.declared.statements.StmtKind.TheOpen as k
-use Rattle.lua_values.specs.declared.values.Value.{Value}
+use Rattle.lua_values.specs.declared.values.Value.TheVariants.{Number}
 use Rattle.lua_values.specs.Heap.{StoreView}
+use Rattle.lua_meaning.specs.declared.slots.Slot.{Slot}
 use Rattle.lua_meaning.specs.declared.slots.Slot.TheVariants.{Plain}
 use Rattle.lua_meaning.specs.Works.{Places, Slots, AStmt, Values, Work, and_then}
 use Rattle.lua_meaning.specs.Evaluator.{Resume, State, Ended, do_work}
@@ -31,7 +32,8 @@ Becomes S q before q' store = (resumes : List Resume) → do_work (eval S) q (st
 
 -- a statement was run, and ended, or nothing was changed
 abbrev pub RunsIf : Bool → Stmt → Slots → StoreView → Slots → StoreView → Type 0
-RunsIf true st s before s' store = (S : Setting) (p : Places) (resumes : List Resume) → eval S (AStmt st) p s (state before resumes) ≡ Ended (Values []) s' (state store resumes)
+RunsIf true st s before s' store =
+    (S : Setting) (p : Places) (resumes : List Resume) → eval S (AStmt st) p s (state before resumes) ≡ Ended (Values []) s' (state store resumes)
 RunsIf false st s before s' store = (s' ≡ s) × (store ≡ before)
 
 -- `local NAMES = VALUES`, of the variables in these slots
@@ -68,13 +70,7 @@ left_of loop_end.Over test body p s = give [] s
 left_of loop_end.Test test body p s = while_work test body p s
 left_of (loop_end.Body next) test body p s = and_then (block (drop next body) p s) (after_body (while_work test body p))
 
--- a slot that has a value of its own gets another one
-pub record Replaces (i : ℕ) (v : Value) (s s' : Slots) : Type 0 where
-  pub old : Value
-  pub plain : slice_get s i ≡ Some (Plain old)
-  pub slots : s' ≡ slice_set s i (Plain v)
-
--- it does, or nothing is changed
-abbrev pub ReplacesIf : Bool → ℕ → Value → Slots → Slots → Type 0
-ReplacesIf true i v s s' = Replaces i v s s'
-ReplacesIf false i v s s' = s' ≡ s
+-- a slot has a number of its own
+abbrev pub has_number : Option Slot → Bool
+has_number (Some (Plain (Number n))) = true
+has_number slot = false

@@ -9,4 +9,4 @@ mod steps;
 mod tests;
 
 pub use loops::{LoopEnd, run_loop};
-pub use statements::run_simple;
+pub use statements::run_block;

@@ -10,6 +10,7 @@ use crate::tests::take_test;
 use lua_ast::{Expr, Stmt};
 use lua_meaning::Slot;
 use lua_values::Store;
+use std::rc::Rc;
 
 /// As many turns as a run has steps.
 const MOST_TURNS: u64 = 1_000_000;
@@ -25,15 +26,17 @@ pub enum LoopEnd {
 }
 
 /// Runs the turns of `while test do body end`, which begins with its test, as far as they can be run at once.
-pub fn run_loop(slots: &mut Vec<Slot>, store: &mut Store, test: &Expr, body: &[Stmt]) -> LoopEnd
-    ensures { (S : Setting) → (p : Places) → Becomes S (while_work test.now body.now p slots.old.items) store.old
-        (left_of result test.now body.now p slots.new.items) store.new }
+fn run_turns(slots: &mut Vec<Slot>, store: &mut Store, test: &Rc<Expr>, body: &[Stmt]) -> LoopEnd
+    ensures { (S : Setting) → (p : Places) → Becomes S (while_work test.now.value body.now p slots.old.items) store.old
+        (left_of result test.now.value body.now p slots.new.items) store.new }
 {
     for _ in 0..MOST_TURNS {
         match take_test(slots, store, test) {
             None => return LoopEnd::Test,
-            Some(false) => return LoopEnd::Over,
-            Some(true) => {
+            Some(holds) => {
+                if !holds {
+                    return LoopEnd::Over;
+                }
                 let next = run_simple(slots, store, body, 0);
                 if next < body.len() {
                     return LoopEnd::Body(next);
@@ -42,4 +45,12 @@ pub fn run_loop(slots: &mut Vec<Slot>, store: &mut Store, test: &Expr, body: &[S
         }
     }
     LoopEnd::Test
+}
+
+/// Runs `while test do body end`, which begins with its test, as far as it can be run at once.
+pub fn run_loop(slots: &mut Vec<Slot>, store: &mut Store, test: &Rc<Expr>, body: &Rc<Vec<Stmt>>) -> LoopEnd
+    ensures { (S : Setting) → (p : Places) → Becomes S (while_work test.now.value body.now.value.items p slots.old.items) store.old
+        (left_of result test.now.value body.now.value.items p slots.new.items) store.new }
+{
+    run_turns(slots, store, test, body.as_slice())
 }
