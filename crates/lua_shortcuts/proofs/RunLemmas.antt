@@ -1,5 +1,5 @@
 -- Statements and loops that are run at once.
-use Rattle.std.specs.Prelude.{◌≡◌, ℕ, suc, zero, ◌+◌, ◌≤◌, ◌<◌, nat_lt, min, Bool, true, false, if◌then◌else◌, List, [], ◌∷◌, length, drop, slice_index_or, slice_get, slice_set, Option, Some, None, ℤ, refl}
+use Rattle.std.specs.Prelude.{◌≡◌, ℕ, suc, zero, ◌+◌, ◌≤◌, ◌<◌, nat_lt, min, Bool, true, false, if◌then◌else◌, List, [], ◌∷◌, length, drop, slice_index_or, slice_get, slice_set, Option, Some, None, MatchOption, ℤ, refl}
 use Rattle.std.specs.declared.rc.Rc.{Rc}
 use Rattle.std.specs.declared.vec.Vec.{Vec}
 use Rattle.std.specs.declared.alloc.Global.{Global}
@@ -36,6 +36,7 @@ use Rattle.lua_meaning.specs.Loops.{again, after_body, while_work, turn_work}
 use Rattle.lua_meaning.specs.Nodes.{work_of, eval}
 use Rattle.lua_meaning.proofs.EvaluatorLemmas.{eval-law, work-then}
 use Rattle.lua_meaning.proofs.Running.{Does, stepped, stmt, seq, count, target, end}
+use Rattle.lua_shortcuts.specs.declared.loops.LoopEnd.{LoopEnd}
 use Rattle.lua_shortcuts.specs.Gives.{counting, later, Gives}
 use Rattle.lua_shortcuts.specs.Runs.{state, Becomes, RunsIf, IsLocals, IsAssignments, IsAssignment, Tests, left_of, has_number}
 
@@ -216,3 +217,17 @@ same_assignments ts ts' xs xs' r s s' before store p q h st is =
 -- nothing was counted for the test
 pub loop_stays : (S : Setting) (p : Places) (q : Work) (test : Expr) (body : List Stmt) (s : Slots) (first before store : StoreView) → Becomes S q first (while_work test body p s) before → store ≡ before → Becomes S q first (while_work test body p s) store
 loop_stays S p q test body s first before store h e rs = h rs ∙ ap (λ (st : StoreView). do_work (eval S) (while_work test body p s) (state st rs)) (sym e)
+
+-- the same statements
+pub same_body : (test : Expr) (xs ys : List Stmt) (r : LoopEnd) (s s' : Slots) (before store : StoreView) → xs ≡ ys → ((S : Setting) (p : Places) → Becomes S (while_work test xs p s) before (left_of r test xs p s') store)
+    → (S : Setting) (p : Places) → Becomes S (while_work test ys p s) before (left_of r test ys p s') store
+same_body test xs ys r s s' before store e h S p = subst (λ (zs : List Stmt). Becomes S (while_work test zs p s) before (left_of r test zs p s') store) e (h S p)
+
+pub same_block : (xs ys : List Stmt) (from to : ℕ) (s s' : Slots) (before store : StoreView) → xs ≡ ys → ((S : Setting) (p : Places) → Becomes S (block (drop from xs) p s) before (block (drop to xs) p s') store)
+    → (S : Setting) (p : Places) → Becomes S (block (drop from ys) p s) before (block (drop to ys) p s') store
+same_block xs ys from to s s' before store e h S p = subst (λ (zs : List Stmt). Becomes S (block (drop from zs) p s) before (block (drop to zs) p s') store) e (h S p)
+
+-- a test that was evaluated
+pub tests_as : (x y : Expr) (s t : Slots) (holds h : Bool) (r : Option Bool) (before store : StoreView) → r ≡ Some holds → holds ≡ h → x ≡ y → s ≡ t → MatchOption r (store ≡ before) (λ b. Tests x s b before store) → Tests y t h before store
+tests_as x y s t holds h r before store is e ex es m =
+    subst (λ (z : Slots). Tests y z h before store) es (subst (λ (z : Expr). Tests z s h before store) ex (subst (λ (z : Bool). Tests x s z before store) e (subst (λ (z : Option Bool). MatchOption z (store ≡ before) (λ b. Tests x s b before store)) is m)))

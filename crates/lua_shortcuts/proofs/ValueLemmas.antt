@@ -42,20 +42,20 @@ use Rattle.lua_shortcuts.specs.Gives.{later, Gives, Operates, GivesBinary}
 -- literals
 pub true_gives : (x : Expr) (s : Slots) → x.kind ≡ v.True → Gives x s (Truth true) 1
 true_gives x s is = record {
-  one = λ S p w few. (val {x = x} {k = e.True} (rw (is, outs-True) refl) (lt-ltb _ _ few) end).is;
-  all = λ S p w few. (exp {x = x} {k = e.True} (rw (is, outs-True) refl) (lt-ltb _ _ few) end).is;
+  one = λ S p w few. (val {S = S} {x = x} {k = e.True} {p = p} {s = s} {w = w} (rw (is, outs-True) refl) (lt-ltb _ _ few) end).is;
+  all = λ S p w few. (exp {S = S} {x = x} {k = e.True} {p = p} {s = s} {w = w} (rw (is, outs-True) refl) (lt-ltb _ _ few) end).is;
 }
 
 pub false_gives : (x : Expr) (s : Slots) → x.kind ≡ v.False → Gives x s (Truth false) 1
 false_gives x s is = record {
-  one = λ S p w few. (val {x = x} {k = e.False} (rw (is, outs-False) refl) (lt-ltb _ _ few) end).is;
-  all = λ S p w few. (exp {x = x} {k = e.False} (rw (is, outs-False) refl) (lt-ltb _ _ few) end).is;
+  one = λ S p w few. (val {S = S} {x = x} {k = e.False} {p = p} {s = s} {w = w} (rw (is, outs-False) refl) (lt-ltb _ _ few) end).is;
+  all = λ S p w few. (exp {S = S} {x = x} {k = e.False} {p = p} {s = s} {w = w} (rw (is, outs-False) refl) (lt-ltb _ _ few) end).is;
 }
 
 pub number_gives : (x : Expr) (s : Slots) (n : ℤ) → x.kind ≡ v.Number n → Gives x s (Number n) 1
 number_gives x s n is = record {
-  one = λ S p w few. (val {x = x} {k = e.Number n} (rw (is, outs-Number n) refl) (lt-ltb _ _ few) end).is;
-  all = λ S p w few. (exp {x = x} {k = e.Number n} (rw (is, outs-Number n) refl) (lt-ltb _ _ few) end).is;
+  one = λ S p w few. (val {S = S} {x = x} {k = e.Number n} {p = p} {s = s} {w = w} (rw (is, outs-Number n) refl) (lt-ltb _ _ few) end).is;
+  all = λ S p w few. (exp {S = S} {x = x} {k = e.Number n} {p = p} {s = s} {w = w} (rw (is, outs-Number n) refl) (lt-ltb _ _ few) end).is;
 }
 
 -- local variables
@@ -65,8 +65,8 @@ slot_read S s i n h w there = record { is = ap (λ (t : Option Slot). do_work (e
 
 slot_gives : (x : Expr) (s : Slots) (i : ℕ) (n : ℤ) → x.kind ≡ v.Slot i → slice_get s i ≡ Some (Plain (Number n)) → Gives x s (Number n) 1
 slot_gives x s i n is there = record {
-  one = λ S p w few. (val {x = x} {k = e.Slot i} (rw (is, outs-Slot i) refl) (lt-ltb _ _ few) (look (slot_read S s i n _ _ there))).is;
-  all = λ S p w few. (exp {x = x} {k = e.Slot i} (rw (is, outs-Slot i) refl) (lt-ltb _ _ few) (look (slot_read S s i n _ _ there))).is;
+  one = λ S p w few. (val {S = S} {x = x} {k = e.Slot i} {p = p} {s = s} {w = w} (rw (is, outs-Slot i) refl) (lt-ltb _ _ few) (look (slot_read S s i n _ _ there))).is;
+  all = λ S p w few. (exp {S = S} {x = x} {k = e.Slot i} {p = p} {s = s} {w = w} (rw (is, outs-Slot i) refl) (lt-ltb _ _ few) (look (slot_read S s i n _ _ there))).is;
 }
 
 pub slot_counted : (x : Expr) (s : Slots) (i : ℕ) (r : Option Counted) → x.kind ≡ v.Slot i → IfSome r (λ c. slice_get s i ≡ Some (Plain (Number c.number))) → IfSome r (λ c. c.steps ≡ 1)
@@ -88,8 +88,8 @@ operated S line o a b s m n r i j p w ga gb op few =
 pub binary_gives : (x : Expr) (o : BinOp) (a b : Rc Expr Global) (s : Slots) (m n : ℤ) (r : Value) (i j : ℕ) → out-ExprKind x.kind ≡ e.Binary o a b → Gives a.value s (Number m) i → Gives b.value s (Number n) j → Operates o m n r
     → Gives x s r (i + j + 1)
 binary_gives x o a b s m n r i j is ga gb op = record {
-  one = λ S p w few. (val {x = x} {k = e.Binary o a b} is (lt-ltb _ _ (omega (arith, few))) (operated S x.line o a.value b.value s m n r i j p w ga gb op few)).is;
-  all = λ S p w few. (exp {x = x} {k = e.Binary o a b} is (lt-ltb _ _ (omega (arith, few))) (operated S x.line o a.value b.value s m n r i j p w ga gb op few)).is;
+  one = λ S p w few. (val {S = S} {x = x} {k = e.Binary o a b} {p = p} {s = s} {w = w} is (lt-ltb _ _ (omega (arith, few))) (operated S x.line o a.value b.value s m n r i j p w ga gb op few)).is;
+  all = λ S p w few. (exp {S = S} {x = x} {k = e.Binary o a b} {p = p} {s = s} {w = w} is (lt-ltb _ _ (omega (arith, few))) (operated S x.line o a.value b.value s m n r i j p w ga gb op few)).is;
 }
 
 pub gives_binary : (o : BinOp) (a b : Expr) (s : Slots) (m n : ℤ) (r : Value) (i j k : ℕ) → Gives a s (Number m) i → Gives b s (Number n) j → Operates o m n r → k ≡ i + j + 1 → GivesBinary o a b s r k

@@ -1,6 +1,6 @@
 //! Statements that are run at once: a local variable gets a number.
 
-ghost use Rattle.std.specs.Prelude.{◌≡◌, ◌∷◌, ◌+◌, [], true, false, drop, slice_get, slice_set, MatchOption};
+ghost use Rattle.std.specs.Prelude.{◌≡◌, ◌∷◌, ◌+◌, [], true, false, drop, slice_get, slice_set, IfSome, MatchOption};
 ghost use Rattle.lua_ast.specs.declared.statements.Stmt.{Stmt as LuaStmt};
 ghost use Rattle.lua_values.specs.declared.values.Value.TheVariants.{Number};
 ghost use Rattle.lua_meaning.specs.declared.slots.Slot.TheVariants.{Plain};
@@ -77,13 +77,35 @@ fn run_assignment(slots: &mut Vec<Slot>, store: &mut Store, i: u8, x: &Expr) -> 
 
 /// `local NAME = VALUES`, of one value.
 #[inline(always)]
-fn run_listed(slots: &mut Vec<Slot>, store: &mut Store, i: u8, xs: &Rc<Vec<Expr>>) -> bool
-    ensures { (stmt : LuaStmt) → IsLocals (i ∷ []) xs.now.value.items stmt
+fn run_listed(slots: &mut Vec<Slot>, store: &mut Store, i: &u8, xs: &Rc<Vec<Expr>>) -> bool
+    ensures { (stmt : LuaStmt) → IsLocals (i.now ∷ []) xs.now.value.items stmt
         → RunsIf result stmt slots.old.items store.old slots.new.items store.new }
 {
     match xs.as_slice() {
-        [x] => run_local(slots, store, i, x),
+        [x] => run_local(slots, store, *i, x),
         _ => false,
+    }
+}
+
+/// The slot at an index, if it is there.
+#[inline(always)]
+fn place_at(places: &[u8], i: usize) -> Option<&u8>
+    ensures { MatchOption result (drop i places.now ≡ []) (λ place. drop i places.now ≡ place.now ∷ drop (i + 1) places.now) }
+{
+    places.get(i)
+}
+
+/// The one slot of a list that has no other.
+#[inline(always)]
+fn only(places: &[u8]) -> Option<&u8>
+    ensures { IfSome result (λ place. places.now ≡ place.now ∷ []) }
+{
+    match place_at(places, 0) {
+        None => None,
+        Some(place) => match place_at(places, 1) {
+            None => Some(place),
+            Some(_) => None,
+        },
     }
 }
 
@@ -93,9 +115,9 @@ fn run_locals(slots: &mut Vec<Slot>, store: &mut Store, places: &Rc<Vec<u8>>, xs
     ensures { (stmt : LuaStmt) → IsLocals places.now.value.items xs.now.value.items stmt
         → RunsIf result stmt slots.old.items store.old slots.new.items store.new }
 {
-    match places.as_slice() {
-        [i] => run_listed(slots, store, *i, xs),
-        _ => false,
+    match only(places.as_slice()) {
+        Some(i) => run_listed(slots, store, i, xs),
+        None => false,
     }
 }
 
