@@ -15,6 +15,7 @@ use lua_frames_base::{
     take_values, wait,
 };
 use lua_operators::is_truthy;
+use lua_shortcuts::run_block;
 use lua_statements::{assign_slot, assign_values, begin_arm, enter_stmt, set_locals};
 use lua_values::{Store, Value};
 use std::alloc::AllocError;
@@ -33,8 +34,8 @@ pub(crate) fn locals(frames: &mut Frames, slots: Rc<Vec<u8>>) -> Result<Flow, Al
     }
 }
 
-/// The statement of a block at an index, and then those after it.
-fn next_stmt<H: Host>(
+/// The statement of a block at an index is run, and then those after it.
+fn begin_next<H: Host>(
     frames: &mut Frames,
     host: &H,
     store: &mut Store,
@@ -51,6 +52,21 @@ fn next_stmt<H: Host>(
             enter_stmt(frames, host, store, stmt)
         }
     }
+}
+
+/// The statement of a block at an index, and then those after it: as far as they can be run at once.
+fn next_stmt<H: Host>(
+    frames: &mut Frames,
+    host: &H,
+    store: &mut Store,
+    stmts: Rc<Vec<Stmt>>,
+    next: usize,
+) -> Result<Flow, AllocError>
+    ensures { Works (H.setting host.now) (block (drop next stmts.value.items) (here frames.old) (slots_of frames.old))
+        frames.old store.old frames.new store.new result }
+{
+    let next = run_block(&mut frames.top.slots, store, &stmts, next);
+    begin_next(frames, host, store, stmts, next)
 }
 
 /// A statement has ended, and the next one of its block is run.

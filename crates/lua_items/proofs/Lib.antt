@@ -1,1 +1,2 @@
 pub mod TakeForms
+pub mod LoopForms

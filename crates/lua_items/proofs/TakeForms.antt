@@ -64,19 +64,3 @@ turn_enters S test body copy old mid fs before counted store below r is e holds 
     (work_under S old mid fs (i.Turned test body) (λ p s. block body.value.items p s) counted store r h
     (works_as S (block body.value.items (here mid) (slots_of mid)) (block copy.value.items (here mid) (slots_of mid)) mid fs counted store r w
     (ap (λ (b : Vec Stmt Global). block b.items (here mid) (slots_of mid)) (sym same))))
-
--- after a run of the body the test comes again
-ran : (go : Slots → Work) (sign : Sign) (s : Slots) → ends_run sign ≡ run.Ran → after_body go sign s ≡ go s
-ran go (Values vs) s e = refl
-ran go (Return vs) s e = absurd (cc)
-ran go Break s e = absurd (cc)
-ran go (Failed v) s e = absurd (cc)
-
-pub turns_again : {E : Type 0} (S : Setting) (test again : Rc Expr Global) (x : Expr) (body : Rc (Vec Stmt Global) Global) (old fs : Frames) (before store : StoreView) (r : Result Flow E)
-    → ends_run (sign_of old.given) ≡ run.Ran → again.value ≡ test.value → x ≡ again.value
-    → Works S (Eval (AValue x) (here old) (slots_of old) (resume_item S (i.While test body) (here old))) old before fs store r
-    → Works S (after_body (while_work test.value body.value.items (here old)) (sign_of old.given) (slots_of old)) old before fs store r
-turns_again S test again x body old fs before store r e same is w =
-    works_as S (after_body (while_work test.value body.value.items (here old)) (sign_of old.given) (slots_of old)) (Eval (AValue x) (here old) (slots_of old) (resume_item S (i.While test body) (here old))) old fs before store r w
-    (ran (while_work test.value body.value.items (here old)) (sign_of old.given) (slots_of old) e
-    ∙ ap (λ (y : Expr). Eval (AValue y) (here old) (slots_of old) (resume_item S (i.While test body) (here old))) (sym (is ∙ same)))

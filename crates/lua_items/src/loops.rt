@@ -1,10 +1,14 @@
 //! The items of `while` (Lua 5.1 Reference Manual, 2.4.4).
 
-ghost use Rattle.std.specs.Prelude.{◌≡◌};
+ghost use Rattle.std.specs.Prelude.{◌≡◌, drop};
+ghost use Rattle.lua_values.specs.Heap.{StoreView};
 ghost use Rattle.lua_meaning.specs.Setting.{Setting};
 ghost use Rattle.lua_meaning.specs.Works.{ATurn};
+ghost use Rattle.lua_meaning.specs.Blocks.{block};
+ghost use Rattle.lua_meaning.specs.Loops.{while_work};
 ghost use Rattle.lua_frames_base.specs.Signals.{sign_of};
-ghost use Rattle.lua_frames_base.specs.Follows.{Enters};
+ghost use Rattle.lua_frames_base.specs.Frames.{here, slots_of};
+ghost use Rattle.lua_frames_base.specs.Follows.{Enters, Works};
 ghost use Rattle.lua_items.specs.Takes.{Takes, ends_run};
 
 use lua_ast::{Expr, Stmt};
@@ -13,6 +17,7 @@ use lua_frames_base::{
 };
 use lua_nodes::value_under;
 use lua_operators::is_truthy;
+use lua_shortcuts::{LoopEnd, run_loop};
 use lua_values::Store;
 use std::alloc::AllocError;
 use std::rc::Rc;
@@ -75,6 +80,44 @@ fn end_of_run(given: &Signal) -> RunEnd
     }
 }
 
+/// The statements of a block from an index on wait.
+fn begin_rest(
+    frames: &mut Frames,
+    stmts: Rc<Vec<Stmt>>,
+    next: usize,
+) -> Result<Flow, AllocError>
+    ensures { (S : Setting) → (store : StoreView) → Works S (block (drop next stmts.value.items) (here frames.old) (slots_of frames.old))
+        frames.old store frames.new store result }
+{
+    wait(frames, Item::Rest(stmts, next))?;
+    give_nothing(frames)
+}
+
+/// The test comes, and while it holds the body: as far as they can be run at once.
+fn go_on<H: Host>(
+    frames: &mut Frames,
+    host: &H,
+    store: &mut Store,
+    test: Rc<Expr>,
+    body: Rc<Vec<Stmt>>,
+) -> Result<Flow, AllocError>
+    ensures { Works (H.setting host.now) (while_work test.value body.value.items (here frames.old) (slots_of frames.old))
+        frames.old store.old frames.new store.new result }
+{
+    match run_loop(&mut frames.top.slots, store, &test, &body) {
+        LoopEnd::Over => give_nothing(frames),
+        LoopEnd::Test => {
+            let again = share(&test)?;
+            value_under(frames, host, store, Item::While(test, body), &again)
+        }
+        LoopEnd::Body(next) => {
+            let block = share(&body)?;
+            wait(frames, Item::Turned(test, body))?;
+            begin_rest(frames, block, next)
+        }
+    }
+}
+
 /// The body has run: the test comes again, unless a `break` ended it.
 pub fn turned<H: Host>(
     frames: &mut Frames,
@@ -86,10 +129,7 @@ pub fn turned<H: Host>(
     ensures { Takes (H.setting host.now) (Item.Turned test body) frames.old store.old frames.new store.new result }
 {
     match end_of_run(&frames.given) {
-        RunEnd::Ran => {
-            let again = share(&test)?;
-            value_under(frames, host, store, Item::While(test, body), &again)
-        }
+        RunEnd::Ran => go_on(frames, host, store, test, body),
         RunEnd::Broke => give_nothing(frames),
         RunEnd::Left => Ok(Flow::Went),
     }

@@ -1,7 +1,12 @@
-use Rattle.lua_frames.proofs.FrameForms.{next_runs}
+use Rattle.std.proofs.Common.{refl, drop}
+use Rattle.lua_meaning.specs.Blocks.{block}
+use Rattle.lua_frames_base.specs.Frames.{here, slots_of}
+use Rattle.lua_nodes.proofs.MovedLemmas.{works_moved}
 use Rattle.lua_frames.proofs.statements.next_stmt.Goals as goal
 
 pub returns : goal.returns
 returns g c =
-    next_runs (g.H.Host.setting c.args.host.now) c.args.stmts c.in_ok-share-in-Some.field-0 c.in-Some.stmt.now c.args.next c.args.frames.now c.wait.new.frames c.enter_stmt.new.frames c.args.store.now c.enter_stmt.new.store c.enter_stmt.result
-    (rw c.in-Some.is at c.element.ensures) c.in_ok-share-in-Some.ensures c.in_ok-wait-in-Some.ensures c.enter_stmt.ensures
+    let mid = record c.args.frames.now { top = record c.args.frames.now.top { slots = c.run_block-next.new.slots } } in
+    works_moved (g.H.Host.setting c.args.host.now) (block (drop c.args.next c.args.stmts.value.items) (here c.args.frames.now) (slots_of c.args.frames.now)) (block (drop c.run_block-next.result c.args.stmts.value.items) (here mid) (slots_of mid))
+    c.args.frames.now mid c.begin_next.new.frames c.args.store.now c.run_block-next.new.store c.begin_next.new.store c.begin_next.result
+    (record { below = refl; kind = refl; function = refl; cells = refl; extras = refl; items = refl }) (c.run_block-next.ensures (g.H.Host.setting c.args.host.now) (here c.args.frames.now)) c.begin_next.ensures

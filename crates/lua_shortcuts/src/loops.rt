@@ -1,0 +1,56 @@
+//! Loops whose turns are run at once.
+
+ghost use Rattle.lua_meaning.specs.Works.{Places};
+ghost use Rattle.lua_meaning.specs.Setting.{Setting};
+ghost use Rattle.lua_meaning.specs.Loops.{while_work};
+ghost use Rattle.lua_shortcuts.specs.Runs.{Becomes, left_of};
+
+use crate::statements::run_simple;
+use crate::tests::take_test;
+use lua_ast::{Expr, Stmt};
+use lua_meaning::Slot;
+use lua_values::Store;
+use std::rc::Rc;
+
+/// As many turns as a run has steps.
+const MOST_TURNS: u64 = 1_000_000;
+
+/// Where a loop stands.
+pub enum LoopEnd {
+    /// It has ended.
+    Over,
+    /// Its test comes next.
+    Test,
+    /// A turn has begun, whose statements were run up to this index.
+    Body(usize),
+}
+
+/// Runs the turns of `while test do body end`, which begins with its test, as far as they can be run at once.
+fn run_turns(slots: &mut Vec<Slot>, store: &mut Store, test: &Rc<Expr>, body: &[Stmt]) -> LoopEnd
+    ensures { (S : Setting) → (p : Places) → Becomes S (while_work test.now.value body.now p slots.old.items) store.old
+        (left_of result test.now.value body.now p slots.new.items) store.new }
+{
+    for _ in 0..MOST_TURNS {
+        match take_test(slots, store, test) {
+            None => return LoopEnd::Test,
+            Some(holds) => {
+                if !holds {
+                    return LoopEnd::Over;
+                }
+                let next = run_simple(slots, store, body, 0);
+                if next < body.len() {
+                    return LoopEnd::Body(next);
+                }
+            }
+        }
+    }
+    LoopEnd::Test
+}
+
+/// Runs `while test do body end`, which begins with its test, as far as it can be run at once.
+pub fn run_loop(slots: &mut Vec<Slot>, store: &mut Store, test: &Rc<Expr>, body: &Rc<Vec<Stmt>>) -> LoopEnd
+    ensures { (S : Setting) → (p : Places) → Becomes S (while_work test.now.value body.now.value.items p slots.old.items) store.old
+        (left_of result test.now.value body.now.value.items p slots.new.items) store.new }
+{
+    run_turns(slots, store, test, body.as_slice())
+}

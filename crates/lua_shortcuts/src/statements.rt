@@ -1,0 +1,206 @@
+//! Statements that are run at once: a local variable gets a number.
+
+ghost use Rattle.std.specs.Prelude.{◌≡◌, ◌∷◌, ◌+◌, [], true, false, drop, slice_get, slice_set, IfSome, MatchOption};
+ghost use Rattle.lua_ast.specs.declared.statements.Stmt.{Stmt as LuaStmt};
+ghost use Rattle.lua_values.specs.declared.values.Value.TheVariants.{Number};
+ghost use Rattle.lua_meaning.specs.declared.slots.Slot.TheVariants.{Plain};
+ghost use Rattle.lua_meaning.specs.Works.{Places};
+ghost use Rattle.lua_meaning.specs.Setting.{Setting};
+ghost use Rattle.lua_meaning.specs.Blocks.{block};
+ghost use Rattle.lua_shortcuts.specs.Runs.{Becomes, RunsIf, IsLocals, IsAssignments, IsAssignment, has_number};
+
+use crate::numbers::{LEVELS, number_of};
+use crate::steps::affords;
+use lua_ast::{Expr, ExprKind, Stmt, StmtKind};
+use lua_meaning::Slot;
+use lua_values::{Store, Value};
+use resty_base::Whole;
+use std::rc::Rc;
+
+/// A slot has a number of its own from now on, if it is there.
+fn put(slots: &mut Vec<Slot>, i: u8, number: Whole)
+    ensures { slots.new.items ≡ slice_set slots.old.items i (Plain (Number number)) }
+{
+    if let Some(slot) = slots.get_mut(i as usize) {
+        *slot = Slot::Plain(Value::Number(number));
+    }
+}
+
+/// Whether a slot has a number of its own.
+#[inline(always)]
+fn has_number(slots: &[Slot], i: u8) -> bool
+    ensures { result ≡ has_number (slice_get slots.now i) }
+{
+    match slots.get(i as usize) {
+        Some(Slot::Plain(Value::Number(_))) => true,
+        _ => false,
+    }
+}
+
+/// `local NAME = x`, which counts a step besides those of x.
+fn run_local(slots: &mut Vec<Slot>, store: &mut Store, i: u8, x: &Expr) -> bool
+    ensures { (stmt : LuaStmt) → IsLocals (i ∷ []) (x.now ∷ []) stmt → RunsIf result stmt slots.old.items store.old slots.new.items store.new }
+{
+    match number_of(slots, x, LEVELS) {
+        None => false,
+        Some(n) => {
+            if !affords(store, n.steps + 1) {
+                return false;
+            }
+            put(slots, i, n.number);
+            let _ = store.count(n.steps + 1);
+            true
+        }
+    }
+}
+
+/// `NAME = x` of a local variable with a number that no closure shares, which counts a step, and one for its target.
+#[inline(always)]
+fn run_assignment(slots: &mut Vec<Slot>, store: &mut Store, i: u8, x: &Expr) -> bool
+    ensures { (stmt : LuaStmt) → IsAssignment i x.now stmt → RunsIf result stmt slots.old.items store.old slots.new.items store.new }
+{
+    if !has_number(slots, i) {
+        return false;
+    }
+    match number_of(slots, x, LEVELS) {
+        None => false,
+        Some(n) => {
+            if !affords(store, n.steps + 2) {
+                return false;
+            }
+            put(slots, i, n.number);
+            let _ = store.count(n.steps + 2);
+            true
+        }
+    }
+}
+
+/// `local NAME = VALUES`, of one value.
+#[inline(always)]
+fn run_listed(slots: &mut Vec<Slot>, store: &mut Store, i: &u8, xs: &Rc<Vec<Expr>>) -> bool
+    ensures { (stmt : LuaStmt) → IsLocals (i.now ∷ []) xs.now.value.items stmt
+        → RunsIf result stmt slots.old.items store.old slots.new.items store.new }
+{
+    match xs.as_slice() {
+        [x] => run_local(slots, store, *i, x),
+        _ => false,
+    }
+}
+
+/// The slot at an index, if it is there.
+#[inline(always)]
+fn place_at(places: &[u8], i: usize) -> Option<&u8>
+    ensures { MatchOption result (drop i places.now ≡ []) (λ place. drop i places.now ≡ place.now ∷ drop (i + 1) places.now) }
+{
+    places.get(i)
+}
+
+/// The one slot of a list that has no other.
+#[inline(always)]
+fn only(places: &[u8]) -> Option<&u8>
+    ensures { IfSome result (λ place. places.now ≡ place.now ∷ []) }
+{
+    match place_at(places, 0) {
+        None => None,
+        Some(place) => match place_at(places, 1) {
+            None => Some(place),
+            Some(_) => None,
+        },
+    }
+}
+
+/// `local NAMES = VALUES`, of one name and one value.
+#[inline(always)]
+fn run_locals(slots: &mut Vec<Slot>, store: &mut Store, places: &Rc<Vec<u8>>, xs: &Rc<Vec<Expr>>) -> bool
+    ensures { (stmt : LuaStmt) → IsLocals places.now.value.items xs.now.value.items stmt
+        → RunsIf result stmt slots.old.items store.old slots.new.items store.new }
+{
+    match only(places.as_slice()) {
+        Some(i) => run_listed(slots, store, i, xs),
+        None => false,
+    }
+}
+
+/// `TARGET = x`, where the target is a local variable.
+#[inline(always)]
+fn run_target(slots: &mut Vec<Slot>, store: &mut Store, target: &Expr, x: &Expr) -> bool
+    ensures { (stmt : LuaStmt) → IsAssignments (target.now ∷ []) (x.now ∷ []) stmt → RunsIf result stmt slots.old.items store.old slots.new.items store.new }
+{
+    match &target.kind {
+        ExprKind::Slot(i) => run_assignment(slots, store, *i, x),
+        _ => false,
+    }
+}
+
+/// `TARGET = VALUES`, of one value.
+#[inline(always)]
+fn run_aimed(slots: &mut Vec<Slot>, store: &mut Store, target: &Expr, xs: &Rc<Vec<Expr>>) -> bool
+    ensures { (stmt : LuaStmt) → IsAssignments (target.now ∷ []) xs.now.value.items stmt
+        → RunsIf result stmt slots.old.items store.old slots.new.items store.new }
+{
+    match xs.as_slice() {
+        [x] => run_target(slots, store, target, x),
+        _ => false,
+    }
+}
+
+/// `TARGETS = VALUES`, of one target and one value.
+#[inline(always)]
+fn run_assignments(slots: &mut Vec<Slot>, store: &mut Store, targets: &Rc<Vec<Expr>>, xs: &Rc<Vec<Expr>>) -> bool
+    ensures { (stmt : LuaStmt) → IsAssignments targets.now.value.items xs.now.value.items stmt
+        → RunsIf result stmt slots.old.items store.old slots.new.items store.new }
+{
+    match targets.as_slice() {
+        [target] => run_aimed(slots, store, target, xs),
+        _ => false,
+    }
+}
+
+/// Runs a statement if it can be run at once; if not, nothing is changed.
+#[inline(always)]
+fn run_one(slots: &mut Vec<Slot>, store: &mut Store, stmt: &Stmt) -> bool
+    ensures { RunsIf result stmt.now slots.old.items store.old slots.new.items store.new }
+{
+    match &stmt.kind {
+        StmtKind::Local(places, xs) => run_locals(slots, store, places, xs),
+        StmtKind::Assign(targets, xs) => run_assignments(slots, store, targets, xs),
+        _ => false,
+    }
+}
+
+/// The statement at an index, if it is there.
+#[inline(always)]
+fn stmt_at(stmts: &[Stmt], i: usize) -> Option<&Stmt>
+    ensures { MatchOption result (drop i stmts.now ≡ []) (λ st. drop i stmts.now ≡ st.now ∷ drop (i + 1) stmts.now) }
+{
+    stmts.get(i)
+}
+
+/// Runs the statements of a block from an index on, as long as they can be run at once. Returns the index of the first that can't.
+pub(crate) fn run_simple(slots: &mut Vec<Slot>, store: &mut Store, stmts: &[Stmt], from: usize) -> usize
+    ensures { (S : Setting) → (p : Places) → Becomes S (block (drop from stmts.now) p slots.old.items) store.old
+        (block (drop result stmts.now) p slots.new.items) store.new }
+{
+    let mut next = from;
+    while next < stmts.len() {
+        match stmt_at(stmts, next) {
+            None => return next,
+            Some(stmt) => {
+                if !run_one(slots, store, stmt) {
+                    return next;
+                }
+            }
+        }
+        next += 1;
+    }
+    next
+}
+
+/// Runs the statements of a block that a pointer shares, from an index on, as long as they can be run at once. Returns the index of the first
+/// that can't.
+pub fn run_block(slots: &mut Vec<Slot>, store: &mut Store, stmts: &Rc<Vec<Stmt>>, from: usize) -> usize
+    ensures { (S : Setting) → (p : Places) → Becomes S (block (drop from stmts.now.value.items) p slots.old.items) store.old
+        (block (drop result stmts.now.value.items) p slots.new.items) store.new }
+{
+    run_simple(slots, store, stmts.as_slice(), from)
+}
