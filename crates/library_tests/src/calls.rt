@@ -127,7 +127,10 @@ fn types_are_texts_that_are_made(rt: HostRuntime) -> Result<(), Fail> {
 
 #[test]
 fn a_refused_call_counts_what_it_took(rt: HostRuntime) -> Result<(), Fail> {
-    assert_eq!(rt; first_wrong(rt.alloc(), State::Plain, REFUSED)?.as_str(), "");
+    assert_eq!(rt;
+        first_wrong(rt.alloc(), State::Plain, REFUSED)?.as_str(),
+        ""
+    );
     Ok(())
 }
 
@@ -139,37 +142,55 @@ fn raw_calls_ask_no_metatable(rt: HostRuntime) -> Result<(), Fail> {
 
 #[test]
 fn arguments_are_selected(rt: HostRuntime) -> Result<(), Fail> {
-    assert_eq!(rt; first_wrong(rt.alloc(), State::Plain, SELECTED)?.as_str(), "");
+    assert_eq!(rt;
+        first_wrong(rt.alloc(), State::Plain, SELECTED)?.as_str(),
+        ""
+    );
     Ok(())
 }
 
 #[test]
 fn each_value_that_is_unpacked_is_counted(rt: HostRuntime) -> Result<(), Fail> {
-    assert_eq!(rt; first_wrong(rt.alloc(), State::Plain, UNPACKED)?.as_str(), "");
+    assert_eq!(rt;
+        first_wrong(rt.alloc(), State::Plain, UNPACKED)?.as_str(),
+        ""
+    );
     Ok(())
 }
 
 #[test]
 fn pairs_come_one_after_the_other(rt: HostRuntime) -> Result<(), Fail> {
-    assert_eq!(rt; first_wrong(rt.alloc(), State::Plain, TRAVERSED)?.as_str(), "");
+    assert_eq!(rt;
+        first_wrong(rt.alloc(), State::Plain, TRAVERSED)?.as_str(),
+        ""
+    );
     Ok(())
 }
 
 #[test]
 fn numerals_are_read_in_a_base(rt: HostRuntime) -> Result<(), Fail> {
-    assert_eq!(rt; first_wrong(rt.alloc(), State::Plain, NUMERALS)?.as_str(), "");
+    assert_eq!(rt;
+        first_wrong(rt.alloc(), State::Plain, NUMERALS)?.as_str(),
+        ""
+    );
     Ok(())
 }
 
 #[test]
 fn metatables_may_be_protected(rt: HostRuntime) -> Result<(), Fail> {
-    assert_eq!(rt; first_wrong(rt.alloc(), State::Plain, METATABLES)?.as_str(), "");
+    assert_eq!(rt;
+        first_wrong(rt.alloc(), State::Plain, METATABLES)?.as_str(),
+        ""
+    );
     Ok(())
 }
 
 #[test]
 fn own_texts_are_answered(rt: HostRuntime) -> Result<(), Fail> {
-    assert_eq!(rt; first_wrong(rt.alloc(), State::Plain, OWN_TEXTS)?.as_str(), "");
+    assert_eq!(rt;
+        first_wrong(rt.alloc(), State::Plain, OWN_TEXTS)?.as_str(),
+        ""
+    );
     Ok(())
 }
 
@@ -181,6 +202,9 @@ fn a_full_store_refuses_texts_and_entries(rt: HostRuntime) -> Result<(), Fail> {
 
 #[test]
 fn a_frozen_table_refuses_writes(rt: HostRuntime) -> Result<(), Fail> {
-    assert_eq!(rt; first_wrong(rt.alloc(), State::Frozen, FROZEN)?.as_str(), "");
+    assert_eq!(rt;
+        first_wrong(rt.alloc(), State::Frozen, FROZEN)?.as_str(),
+        ""
+    );
     Ok(())
 }

@@ -1,17 +1,16 @@
 -- What the functions of the library give is known to the heap.
-use Rattle.std.proofs.Common.{◌≡◌, ℕ, zero, suc, ◌-◌, ◌<◌, ◌≤◌, Bool, true, false, List, [], ◌∷◌, length, Option, None, Some, IfSome, Result, Ok, Err, slice_get, unwrap_or, All, refl, sym, if◌then◌else◌, arith, ℤ}
+use Rattle.std.proofs.Common.{◌≡◌, ℕ, zero, suc, ◌-◌, ◌<◌, ◌≤◌, Bool, true, false, List, [], ◌∷◌, length, Option, None, Some, IfSome, Ok, slice_get, unwrap_or, All, if◌then◌else◌}
 use Rattle.std.proofs.lemmas.List.Elements.{All-nil, All-cons, All-head, All-tail}
 use Rattle.lua_values.specs.declared.values.Value.{Value}
 use Rattle.lua_values.specs.declared.values.Value.TheVariants.{Nil, Truth, Number, Text, Table, Closure, Native, Thread, Null, Object}
 use Rattle.lua_values.specs.Values.{same, is_nil}
 use Rattle.lua_values.specs.Pairs.{value_at, with_value, first_live, pairs_after, next_pair}
-use Rattle.lua_values.specs.Heap.{Heap, TableView}
-use Rattle.lua_values.specs.Fits.{Fits, FitsMeta, FitsPair, FitsItself}
+use Rattle.lua_values.specs.Heap.{Heap}
+use Rattle.lua_values.specs.Fits.{FitsMeta, FitsItself}
 use Rattle.lua_values.specs.NativeNumbers.{NamesBelow, TableNamesBelow, HeapNamesBelow}
 use Rattle.lua_values.specs.NativeCalls.{IsKnown}
 use Rattle.lua_values.specs.Laws.{ReadsFit, WritesKeepFitting}
 use Rattle.lua_values.specs.StoreCalls as calls
-use Rattle.lua_lib_base.specs.declared.refusals.Refusal.{Refusal}
 use Rattle.lua_lib_base.specs.Arguments.{argument, as_value, as_table, as_table_or_nil, any_at, table_at, table_or_nil_at}
 
 -- a heap and arguments as a program has them, where it may call the natives below a bound

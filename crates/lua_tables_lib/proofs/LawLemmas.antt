@@ -1,5 +1,5 @@
 -- Each function of the library leaves a heap as it may.
-use Rattle.std.proofs.Common.{◌≡◌, ℕ, zero, suc, ◌+◌, ◌-◌, ◌<◌, ◌≤◌, Bool, true, false, List, [], ◌∷◌, length, drop, get_or, Option, None, Some, IfSome, Result, Ok, Err, All, refl, if◌then◌else◌, arith, ℤ, pos, ◌+ℤ◌, ap}
+use Rattle.std.proofs.Common.{ℕ, Bool, true, false, List, [], ◌∷◌, length, drop, get_or, Option, None, Some, IfSome, Result, Ok, Err, All, if◌then◌else◌, arith, ℤ, pos, ◌+ℤ◌}
 use Rattle.std.proofs.lemmas.List.Elements.{All-nil, All-cons, All-map, All-drop}
 use Rattle.std.specs.List.{range_with_len}
 use Rattle.std.specs.Ordering.{int_eq}
@@ -13,15 +13,14 @@ use Rattle.lua_values.specs.Pairs.{value_at, next_pair}
 use Rattle.lua_values.specs.Border.{border_of}
 use Rattle.lua_values.specs.Heap.{Heap}
 use Rattle.lua_values.specs.Fits.{FitsMeta, FitsPair}
-use Rattle.lua_values.specs.NativeCalls.{IsKnown, LeavesLawfully}
+use Rattle.lua_values.specs.NativeCalls.{IsKnown}
 use Rattle.lua_values.specs.Laws.{ReadsFit, WritesKeepFitting}
 use Rattle.lua_values.specs.StoreCalls as calls
 use Rattle.lua_operators.specs.Conversions.{number_of}
 use Rattle.lua_operators.specs.Types.{type_of}
 use Rattle.lua_operators.specs.TypeNames.{type_name}
-use Rattle.lua_lib_base.specs.declared.refusals.Refusal.TheVariants.{Base, Index}
 use Rattle.lua_lib_base.specs.Arguments.{argument, any_at, table_at, table_or_nil_at, number_at, number_or_at, text_at}
-use Rattle.lua_lib_base.specs.Results.{LibraryResult, gives, refuses, with_argument, counted}
+use Rattle.lua_lib_base.specs.Results.{gives, with_argument}
 use Rattle.lua_lib_base.specs.Texts.{made_text}
 use Rattle.lua_lib_base.specs.Lawful.{IsLawfulResult, CountingKeepsLawful}
 use Rattle.lua_tables_lib.specs.declared.functions.BasicFunction.{BasicFunction}
@@ -30,17 +29,17 @@ use Rattle.lua_tables_lib.specs.declared.functions.PreludeFunction.{PreludeFunct
 use Rattle.lua_tables_lib.specs.declared.functions.PreludeFunction.TheVariants as prelude
 use Rattle.lua_tables_lib.specs.declared.functions.Function.{Function}
 use Rattle.lua_tables_lib.specs.declared.functions.Function.TheVariants.{Basic, Prelude}
-use Rattle.lua_tables_lib.specs.Functions.{function_at, function_name}
-use Rattle.lua_tables_lib.specs.Metatables.{metatable_of, protection, shown, getmetatable, setmetatable, set_metatable}
-use Rattle.lua_tables_lib.specs.Traversal.{values_of, next_values, or_nil, next, pairs, ipairs, element_at, element_within, element, ipairs_step}
-use Rattle.lua_tables_lib.specs.Raw.{rawequal, rawget, rawset, set_raw}
-use Rattle.lua_tables_lib.specs.Lists.{asks_count, passed, selected_after, selected, select, elements, count_between, unpacked, unpack}
-use Rattle.lua_tables_lib.specs.Conversions.{number_or_nil, as_base, numeral, in_base, converted, tonumber, type_}
-use Rattle.lua_tables_lib.specs.Modules.{globals, is_text, module_name}
-use Rattle.lua_tables_lib.specs.Meaning.{basic_result, prelude_result, function_result, call_result, call_name, library_meaning}
+use Rattle.lua_tables_lib.specs.Functions.{function_at}
+use Rattle.lua_tables_lib.specs.Metatables.{metatable_of, protection, shown, getmetatable, setmetatable}
+use Rattle.lua_tables_lib.specs.Traversal.{values_of, next_values, or_nil, next, pairs, ipairs, element_within, element, ipairs_step}
+use Rattle.lua_tables_lib.specs.Raw.{rawequal, rawget, rawset}
+use Rattle.lua_tables_lib.specs.Lists.{asks_count, passed, selected_after, selected, select, elements, count_between, unpack}
+use Rattle.lua_tables_lib.specs.Conversions.{number_or_nil, as_base, numeral, in_base, tonumber, type_}
+use Rattle.lua_tables_lib.specs.Modules.{is_text, module_name}
+use Rattle.lua_tables_lib.specs.Meaning.{basic_result, prelude_result, call_result, call_name}
 use Rattle.lua_tables_lib.specs.Laws.{LibraryIsLawful}
-use Rattle.lua_tables_lib.proofs.KnownLemmas.{Setup, NamedPair, argument_known, any_known, table_known, meta_known, table_named, next_named, value_known}
-use Rattle.lua_tables_lib.proofs.WriteLemmas.{kept, with_lawful, unless_lawful, made_lawful, set_raw_lawful, set_metatable_lawful}
+use Rattle.lua_tables_lib.proofs.KnownLemmas.{Setup, NamedPair, any_known, table_known, meta_known, table_named, next_named, value_known}
+use Rattle.lua_tables_lib.proofs.WriteLemmas.{kept, with_lawful, made_lawful, set_raw_lawful, set_metatable_lawful}
 
 -- one value
 one : (bound : ℕ) (heap : Heap) (value : Value) → IsKnown bound heap value → All (IsKnown bound heap) (value ∷ [])

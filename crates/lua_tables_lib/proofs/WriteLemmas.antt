@@ -1,7 +1,7 @@
 -- What the functions of the library leave of a heap.
 use Rattle.std.proofs.Common.{◌≡◌, ℕ, ◌+◌, ◌<◌, ◌≤◌, nat_lt, Bool, true, false, List, [], ◌∷◌, length, Option, None, Some, Result, Ok, Err, slice_set, All, refl, if◌then◌else◌, ◌&&◌, arith}
 use borrow.Author.Tests.{ltb-false}
-use Rattle.std.proofs.lemmas.List.{take-set-le, length-set}
+use Rattle.std.proofs.lemmas.List.{take-set-le}
 use Rattle.std.proofs.lemmas.List.Elements.{All-nil, All-cons, All-set}
 use Rattle.lua_values.specs.declared.values.Value.{Value}
 use Rattle.lua_values.specs.declared.values.Value.TheVariants.{Text, Table}
@@ -10,9 +10,9 @@ use Rattle.lua_values.specs.declared.faults.StoreFault.TheVariants.{Full, Frozen
 use Rattle.lua_values.specs.Values.{is_nil}
 use Rattle.lua_values.specs.Pairs.{with_value}
 use Rattle.lua_values.specs.Heap.{Heap, TableView}
-use Rattle.lua_values.specs.Fits.{FitsMeta, FitsItself, IsNoShorter}
+use Rattle.lua_values.specs.Fits.{FitsMeta, IsNoShorter}
 use Rattle.lua_values.specs.Laws.{Keeps}
-use Rattle.lua_values.specs.NativeNumbers.{TableNamesBelow, HeapNamesBelow}
+use Rattle.lua_values.specs.NativeNumbers.{TableNamesBelow}
 use Rattle.lua_values.specs.NativeCalls.{IsKnown, LeavesHeap}
 use Rattle.lua_values.specs.StoreCalls as calls
 use Rattle.lua_lib_base.specs.declared.refusals.Refusal.{Refusal}

@@ -87,7 +87,12 @@ fn fill(store: &mut Store) -> Result<(), Fail> {
     set(store, list, number(2)?, number(20)?)?;
     set(store, list, static_text(b"k"), number(30)?)?;
     let locked = made(store)?;
-    set(store, locked, static_text(b"__metatable"), static_text(b"locked"))?;
+    set(
+        store,
+        locked,
+        static_text(b"__metatable"),
+        static_text(b"locked"),
+    )?;
     match store.set_metatable(locked, Some(locked)) {
         Ok(()) => Ok(()),
         Err(_) => Err("refused")?,
