@@ -1,12 +1,13 @@
 //! Requests: heads with their targets.
 
-ghost use Rattle.std.specs.Prelude.{◌≡◌, ◌≢◌, Some, length, IfOk};
+ghost use Rattle.std.specs.Prelude.{◌≡◌, ◌≢◌, Some, length, slice_get, option_copied, IfOk};
+ghost use Rattle.http_base.specs.FieldLists.{values_of};
 ghost use Rattle.http_in.specs.Ends.{head_end};
 ghost use Rattle.client_line.specs.Requests as spec;
 
-use http_base::{Fields, plain_host};
+use http_base::{Fields, plain_host, same_name};
 use http_in::{Head, HeadRead, head_in};
-use resty_base::Bytes;
+use resty_base::{Bytes, Pair2};
 use std::alloc::{AllocError, Global};
 use uri_args::{Target, target_of};
 
@@ -66,8 +67,22 @@ fn target_for(alloc: Global, head: &Head) -> Result<Option<Target>, AllocError>
 fn host_of(alloc: Global, fields: &Fields) -> Result<Option<Bytes>, AllocError>
     ensures { IfOk result (λ host. host ≡ spec.host_of fields.now) }
 {
-    match fields.values_of(alloc, b"host")?.first() {
+    match first_named(fields.as_slice(), b"host") {
         Some(host) => Ok(Some(plain_host(alloc, host)?)),
         None => Ok(None),
     }
+}
+
+/// The value of the first field of this name.
+fn first_named<'a>(fields: &'a [Pair2], name: &[u8]) -> Option<&'a Bytes>
+    ensures { option_copied result ≡ slice_get (values_of fields.now name.now) 0 }
+{
+    let mut rest = fields;
+    while let [field, others @ ..] = rest {
+        if same_name(&field.name, name) {
+            return Some(&field.value);
+        }
+        rest = others;
+    }
+    None
 }

@@ -3,6 +3,7 @@ use client_line::{Held, Line, LineOut};
 use http_bodies::BodyRead;
 use resty_base::Bytes;
 use std::alloc::{AllocError, Global};
+use std::process::Abort;
 use std::test::Fail;
 
 const A: &str = "GET /a HTTP/1.0\r\n";
@@ -56,7 +57,22 @@ fn body_in_words(alloc: Global, line: &mut Line, max: u64) -> Result<String, All
     }
 }
 
-/// What a step answers: `done`, `held`, `body N`, or bytes that are fed, written by names with `+` between them.
+/// The bytes of parts with `+` between them, each a name of one above or bytes as they are.
+fn joined(alloc: Global, parts: &str) -> Result<String, AllocError> {
+    let mut bytes = String::new(alloc);
+    for part in parts.split('+') {
+        bytes.push_str(match part {
+            "A" => A,
+            "C" => C,
+            "L" => L,
+            "E" => E,
+            other => other,
+        })?;
+    }
+    Ok(bytes)
+}
+
+/// What a step answers: `done`, `held`, `body N`, or parts that are fed.
 fn step(alloc: Global, line: &mut Line, step: &str) -> Result<String, AllocError> {
     if step == "done" {
         line.done();
@@ -68,79 +84,71 @@ fn step(alloc: Global, line: &mut Line, step: &str) -> Result<String, AllocError
     if let Some(max) = step.strip_prefix("body ") {
         return body_in_words(alloc, line, max.parse().unwrap_or(0));
     }
-    let mut bytes = String::new(alloc);
-    for part in step.split('+') {
-        bytes.push_str(match part {
-            "A" => A,
-            "C" => C,
-            "L" => L,
-            "E" => E,
-            other => other,
-        })?;
-    }
-    in_words(alloc, &line.fed(bytes.as_bytes()))
+    in_words(alloc, &line.fed(joined(alloc, step)?.as_bytes()))
 }
+
+/// What the steps answer on one line, `,` after each.
+fn steps(alloc: Global, steps: &str) -> Result<String, AllocError> {
+    let mut all = String::new(alloc);
+    let mut line = Line::new(alloc);
+    for given in steps.split(',') {
+        all.push_str(step(alloc, &mut line, given)?.as_str())?;
+        all.push(',')?;
+    }
+    Ok(all)
+}
+
+/// Tests each row: steps, and what each answers.
+fn hold(rt: &impl Abort, alloc: Global, rows: &str) -> Result<(), Fail> {
+    for row in rows.lines() {
+        let (given, expected) = row.split_once(" => ").unwrap_or((row, ""));
+        assert_eq!(rt; steps(alloc, given)?.as_str(), expected);
+    }
+    Ok(())
+}
+
+const REQUESTS_IN_TURN: &str = "\
+A,held,E,held,x,done,,held => W,Begun,GET /a,Request,W,,W,Begun,
+A+E+A+E,done,,done,,held => GET /a,,GET /a,,W,Nothing,
+A+E+G E T+E+E,done,,held,A+E => GET /a,,400,Begun,400,
+L+hello+A+E+GET /a HTTP/2.0+E+E,done,,done,,held,A+E => POST /l x,,GET /a,,505,Begun,505,
+GET /.. HTTP/1.0+E+E,,held => 400,400,Begun,
+GET http://H:2/a HTTP/1.1+E+Host: b+E+E,body 5 => GET /a h,Whole 0 ,
+body 3,held,GET /a HTTP/2.0+E+E,A+E => Whole 0 ,Nothing,505,505,";
 
 #[test]
 fn lines_are_cut_into_requests(rt: HostRuntime) -> Result<(), Fail> {
-    let alloc = rt.alloc();
-    for (steps, expected) in [
-        (
-            "A,held,E,held,x,done,,held",
-            "W,Begun,GET /a,Request,W,,W,Begun",
-        ),
-        ("A+E+A+E,done,,done,,held", "GET /a,,GET /a,,W,Nothing"),
-        (
-            "C+3\r\nabc,body 9,\r\n0\r\n\r\n+A+E,body 9,done,",
-            "POST /c x,More abc,W,Whole 7 abc,,GET /a",
-        ),
-        (
-            "C,done,held,3\r\na,held,bc\r\n0\r\n\r\nG,held",
-            "POST /c x,,Body,W,Body,W,Begun",
-        ),
-        ("C,done,g,held,A+E,held", "POST /c x,,400,Body,400,Body"),
-        (
-            "C+3\r\nabc\r\n,body 2,done,0\r\n\r\n+A+E",
-            "POST /c x,413 ,,GET /a",
-        ),
-        (
-            "C+3\r\nabc\r\n2,body 3,\r\n,body 9,body 9,de\r\n0\r\n\r\n+A+E,done,",
-            "POST /c x,More abc,W,413 abc,413 abc,W,,GET /a",
-        ),
-        ("A+E,body 0,done,held", "GET /a,Whole 0 ,,Nothing"),
-        (
-            "L+hello,body 5,body 5,done,held",
-            "POST /l x,Whole 5 hello,Whole 0 hello,,Nothing",
-        ),
-        (
-            "L+he,body 9,done,held,ll,o+A+E",
-            "POST /l x,More he,,Body,W,GET /a",
-        ),
-        (
-            "L+hello,body 4,body 9,done,,held",
-            "POST /l x,413 ,413 ,,W,Nothing",
-        ),
-        (
-            "C+3\r\nabcd,body 9,done,,held,A+E",
-            "POST /c x,400 abc,,400,Body,400",
-        ),
-        ("A+E+G E T\r\n\r\n,done,,held,A+E", "GET /a,,400,Begun,400"),
-        ("GET /.. HTTP/1.0\r\n\r\n,,held", "400,400,Begun"),
-        (
-            "GET http://H:2/a HTTP/1.1\r\nHost: b\r\n\r\n,body 5",
-            "GET /a h,Whole 0 ",
-        ),
-        (
-            "body 3,held,GET /a HTTP/2.0\r\n\r\n,A+E",
-            "Whole 0 ,Nothing,505,505",
-        ),
-    ] {
-        let mut line = Line::new(alloc);
-        for (given, answer) in steps.split(',').zip(expected.split(',')) {
-            assert_eq!(rt; step(alloc, &mut line, given)?.as_str(), answer);
-        }
-    }
-    Ok(())
+    hold(&rt, rt.alloc(), REQUESTS_IN_TURN)
+}
+
+const BODIES: &str = "\
+A+E,body 0,done,held => GET /a,Whole 0 ,,Nothing,
+A+E+A+E,done,,body 0 => GET /a,,GET /a,Whole 0 ,
+L+hello,body 5,body 5,done,held => POST /l x,Whole 5 hello,Whole 0 hello,,Nothing,
+L+he,body 9,done,held,ll,o+A+E => POST /l x,More he,,Body,W,GET /a,
+L+hello+A+E,done, => POST /l x,,GET /a,
+L,done,hel,held,lo+A+E => POST /l x,,W,Body,GET /a,
+L+hello,body 4,body 9,done,,held => POST /l x,413 ,413 ,,W,Nothing,
+C+3+E+abc,body 9,E+0+E+E+A+E,body 9,done, => POST /c x,More abc,W,Whole 7 abc,,GET /a,
+C+3+E+ab,body 9,done,held,c+E+0+E+E+A+E => POST /c x,More ab,,Body,GET /a,
+C,done,held,3+E+a,held,bc+E+0+E+E+G,held => POST /c x,,Body,W,Body,W,Begun,
+C+3+E+abc+E+0+E+E+A+E,done, => POST /c x,,GET /a,
+C+3+E+abc+E,body 2,done,0+E+E+A+E => POST /c x,413 ,,GET /a,
+C+3+E+abc+E+2,body 3,E,body 9,body 9,de+E+0+E+E+A+E,done, => POST /c x,More abc,W,413 abc,413 abc,W,,GET /a,";
+
+#[test]
+fn bodies_are_read_or_dropped(rt: HostRuntime) -> Result<(), Fail> {
+    hold(&rt, rt.alloc(), BODIES)
+}
+
+const FAULTS: &str = "\
+C,done,g,held,A+E,held => POST /c x,,400,Body,400,Body,
+C+3+E+abcd,body 9,done,,held,A+E => POST /c x,400 abc,,400,Body,400,
+C+3+E+abc+E+0+E+E+C+g,done,,body 9,done,A+E => POST /c x,,POST /c x,400 ,,400,";
+
+#[test]
+fn nothing_is_read_after_a_fault_in_a_body(rt: HostRuntime) -> Result<(), Fail> {
+    hold(&rt, rt.alloc(), FAULTS)
 }
 
 /// Feeds a piece, ends each request at once, and writes the answers, `;` after each request.
@@ -169,34 +177,45 @@ fn answers(alloc: Global, pieces: &[&[u8]]) -> Result<String, AllocError> {
     Ok(all)
 }
 
+/// The answers to a stream of these parts in one piece, where each cut into two pieces, and each into pieces of one length, has the same.
+fn answers_at_any_cut(alloc: Global, parts: &str) -> Result<Option<String>, AllocError> {
+    let stream = joined(alloc, parts)?;
+    let bytes = stream.as_bytes();
+    let whole = answers(alloc, &[bytes])?;
+    for cut in 0..bytes.len() {
+        let (front, rest) = bytes.split_at(cut);
+        if answers(alloc, &[front, rest])?.as_str() != whole.as_str() {
+            return Ok(None);
+        }
+    }
+    for length in 1..20usize {
+        let pieces: Vec<&[u8]> = bytes.chunks(length).collect(alloc)?;
+        if answers(alloc, pieces.as_slice())?.as_str() != whole.as_str() {
+            return Ok(None);
+        }
+    }
+    Ok(Some(whole))
+}
+
+/// Three requests: with a body in chunks, one of a length, and none.
+const THREE: &str =
+    "C+3;x=1+E+abc+E+10+E+0123456789abcdef+E+0+E+T: 1+E+E+A+Content-Length: 5+E+E+hello+A+E";
+
+/// What follows these three, and the answers.
+const STREAMS: &str = "\
+GE => POST /c x;GET /a;GET /a;W
+G E T+E+E => POST /c x;GET /a;GET /a;400
+C => POST /c x;GET /a;GET /a;POST /c x;W
+C+g => POST /c x;GET /a;GET /a;POST /c x;400";
+
 #[test]
 fn any_cutting_gives_the_same_requests(rt: HostRuntime) -> Result<(), Fail> {
     let alloc = rt.alloc();
-    let mut stream = String::new(alloc);
-    for part in [
-        C,
-        "3;x=1\r\nabc\r\n10\r\n0123456789abcdef\r\n0\r\nT: 1\r\n\r\n",
-        A,
-        "Content-Length: 5\r\n\r\nhello",
-        A,
-        E,
-    ] {
-        stream.push_str(part)?;
-    }
-    for (end, last) in [("GE", "W"), ("G E T\r\n\r\n", "400"), (C, "W")] {
-        let mut stream = Vec::from_slice(alloc, stream.as_bytes())?;
-        stream.extend_from_slice(end.as_bytes())?;
-        let whole = answers(alloc, &[stream.as_slice()])?;
-        assert!(rt; whole.starts_with("POST /c x;GET /a;GET /a;"));
-        assert!(rt; whole.ends_with(last));
-        for cut in 0..stream.len() {
-            let (front, rest) = stream.as_slice().split_at(cut);
-            assert_eq!(rt; answers(alloc, &[front, rest])?.as_str(), whole.as_str());
-        }
-        for length in 1..20usize {
-            let pieces: Vec<&[u8]> = stream.as_slice().chunks(length).collect(alloc)?;
-            assert_eq!(rt; answers(alloc, pieces.as_slice())?.as_str(), whole.as_str());
-        }
+    for row in STREAMS.lines() {
+        let (end, expected) = row.split_once(" => ").unwrap_or((row, ""));
+        let parts = format!(in alloc; "{THREE}+{end}")?;
+        let found = answers_at_any_cut(alloc, parts.as_str())?;
+        assert_eq!(rt; found.as_ref().map_or("", |all| all.as_str()), expected);
     }
     Ok(())
 }

@@ -1,5 +1,6 @@
 -- The variables of a request (nginx, "Embedded Variables" of the module ngx_http_core_module).
-use Rattle.std.specs.Prelude.{ℕ, ◌==◌, List, [], ◌∷◌, drop, length, codes, decimal, find, bytes_eq, nat_eq, Option, None, Some, unwrap_or, if◌then◌else◌}
+use Rattle.std.specs.Prelude.{ℕ, ◌==◌, ◌&&◌, List, [], ◌∷◌, drop, length, codes, decimal, find, bytes_eq, nat_eq, nat_lt}
+use Rattle.std.specs.Prelude.{Option, None, Some, unwrap_or, if◌then◌else◌}
 use Rattle.std.specs.List.{starts_with}
 use Rattle.std.specs.Option.{option_or}
 use Rattle.resty_base.specs.Ascii.{equals}
@@ -86,10 +87,10 @@ argument args name = value_among (split ampersand args) name
 abbrev pub header : Req → List ℕ → Option (List ℕ)
 header req name = first_value req.head.headers (dashed name)
 
--- a variable whose name says of which argument or header field it is
+-- a variable whose name says of which argument or header field it is; `arg_` alone is of none
 abbrev pub prefixed : Req → List ℕ → Option (List ℕ)
 prefixed req name =
-    if starts_with nat_eq name (codes "arg_") then argument req.target.args (drop 4 name)
+    if starts_with nat_eq name (codes "arg_") && nat_lt 4 (length name) then argument req.target.args (drop 4 name)
     else if starts_with nat_eq name (codes "http_") then header req (drop 5 name) else None
 
 -- the value of the variable, or of one by its beginning where there is none of this whole name

@@ -59,7 +59,7 @@ impl Req {
     {
         if let Some(variable) = variable_of(name) {
             value_of(self, alloc, variable, port)
-        } else if name.starts_with(b"arg_") {
+        } else if name.starts_with(b"arg_") && name.len() > 4 {
             argument(&self.target.args, &name[4..])
         } else if name.starts_with(b"http_") {
             header(self, alloc, &name.slice(5..)?)
