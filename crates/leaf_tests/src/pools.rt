@@ -1,12 +1,36 @@
 //! Tests of the pool of idle sockets; the last compares it with a plain list over calls of a fixed generator.
-use crate::queues::draw;
+use crate::queues::{draw, with_room};
 use plain_rules::Idle;
 use resty_base::{Bytes, Ms};
 use sock_pool::Pool;
 use std::alloc::AllocError;
 use std::test::Fail;
 
-/// Keeps a socket that was never taken; None out of memory.
+fn idle_of(key: &'static [u8], sock: u64, uses: u32, until: Option<Ms>) -> Idle {
+    Idle {
+        key: Bytes::from_static(key),
+        sock,
+        uses,
+        until,
+    }
+}
+
+/// Keeps a socket that was taken so often. Where memory is refused the pool stays as it was, and is asked once more.
+fn keep_used(
+    pool: &mut Pool,
+    key: &'static [u8],
+    sock: u64,
+    uses: u32,
+    until: Option<Ms>,
+    size: u32,
+) -> Option<Option<u64>> {
+    match pool.keep(idle_of(key, sock, uses, until), size) {
+        Ok(closed) => Some(closed),
+        Err(_) => pool.keep(idle_of(key, sock, uses, until), size).ok(),
+    }
+}
+
+/// Keeps a socket that was never taken.
 fn keep(
     pool: &mut Pool,
     key: &'static [u8],
@@ -14,13 +38,7 @@ fn keep(
     until: Option<Ms>,
     size: u32,
 ) -> Option<Option<u64>> {
-    let idle = Idle {
-        key: Bytes::from_static(key),
-        sock,
-        uses: 0,
-        until,
-    };
-    pool.keep(idle, size).ok()
+    keep_used(pool, key, sock, 0, until, size)
 }
 
 fn take(pool: &mut Pool, key: &'static [u8]) -> Option<(u64, u32)> {
@@ -56,13 +74,7 @@ fn uses_rise_with_each_take_up_to_their_end(rt: HostRuntime) -> Result<(), Fail>
         (4_294_967_294, u32::MAX),
         (u32::MAX, u32::MAX),
     ] {
-        let idle = Idle {
-            key: Bytes::new(),
-            sock: 7,
-            uses,
-            until: None,
-        };
-        assert_eq!(rt; pool.keep(idle, 1).ok(), Some(None));
+        assert_eq!(rt; keep_used(&mut pool, b"", 7, uses, None, 1), Some(None));
         assert_eq!(rt; take(&mut pool, b""), Some((7, taken)));
     }
     Ok(())
@@ -313,7 +325,7 @@ fn first_of(list: &Vec<Plain>) -> Option<u64> {
 fn the_pool_is_a_plain_list(rt: HostRuntime) -> Result<(), Fail> {
     let alloc = rt.alloc();
     let mut pool = Pool::new(alloc);
-    let mut list: Vec<Plain> = Vec::new(alloc);
+    let mut list: Vec<Plain> = with_room(alloc)?;
     let mut x = 1;
     for _ in 0..2_000_u32 {
         x = draw(x);

@@ -1,13 +1,46 @@
-//! Tests of the run queue and of deadlines; the last compares deadlines with a plain list over calls of a fixed generator.
+//! Tests of the run queue and of deadlines; the last compares deadlines with a plain list over calls of a fixed generator. Memory may
+//! be refused once, anywhere: what was refused is asked for again, and the answers are the same.
+
+ghost use Rattle.std.specs.Prelude.{◌≤◌, OnOk};
+
 use resty_base::{Ms, StrandId};
-use std::alloc::AllocError;
+use std::alloc::{AllocError, Global};
 use std::test::Fail;
 use wakes::{Deadlines, RunQueue, Whose};
+
+/// Makes room for `n` more. Where memory is refused the queue stays as it was, and is asked once more.
+fn reserve(queue: &mut RunQueue, n: usize) -> Result<(), AllocError>
+    ensures { OnOk result (n ≤ queue.new.room) }
+{
+    match queue.reserve(n) {
+        Ok(()) => Ok(()),
+        Err(_) => queue.reserve(n),
+    }
+}
+
+/// Arms a deadline. Where memory is refused the deadlines stay as they were, and are asked once more.
+fn arm(deadlines: &mut Deadlines, at: u64, whose: Whose) -> Result<u64, AllocError> {
+    if !deadlines.has_number() {
+        return Err(AllocError);
+    }
+    match deadlines.arm(Ms(at), whose) {
+        Ok(number) => Ok(number),
+        Err(_) => deadlines.arm(Ms(at), whose),
+    }
+}
+
+/// An empty list that takes no more memory for its first 2,000 items; where memory is refused it is asked for once more.
+pub fn with_room<T>(alloc: Global) -> Result<Vec<T>, AllocError> {
+    match Vec::with_capacity(alloc, 2_000) {
+        Ok(list) => Ok(list),
+        Err(_) => Vec::with_capacity(alloc, 2_000),
+    }
+}
 
 #[test]
 fn the_first_of_the_same_threads_leaves(rt: HostRuntime) -> Result<(), Fail> {
     let mut queue = RunQueue::new(rt.alloc());
-    queue.reserve(5)?;
+    reserve(&mut queue, 5)?;
     let (c, t) = (StrandId::Conn(1), StrandId::Job(1));
     assert!(rt; queue.pop().is_none());
     queue.push(c, 0);
@@ -29,11 +62,11 @@ fn the_first_of_the_same_threads_leaves(rt: HostRuntime) -> Result<(), Fail> {
 fn deadlines_come_by_moment_and_then_by_number(rt: HostRuntime) -> Result<(), Fail> {
     let mut deadlines = Deadlines::new(rt.alloc());
     assert_eq!(rt; deadlines.earliest(), None);
-    assert_eq!(rt; deadlines.arm(Ms(5), Whose::Job(1))?, 1);
-    assert_eq!(rt; deadlines.arm(Ms(3), Whose::Job(2))?, 2);
-    assert_eq!(rt; deadlines.arm(Ms(3), Whose::Idle(3))?, 3);
+    assert_eq!(rt; arm(&mut deadlines, 5, Whose::Job(1))?, 1);
+    assert_eq!(rt; arm(&mut deadlines, 3, Whose::Job(2))?, 2);
+    assert_eq!(rt; arm(&mut deadlines, 3, Whose::Idle(3))?, 3);
     assert_eq!(rt;
-        deadlines.arm(Ms(9), Whose::Strand(StrandId::Conn(1), 0))?,
+        arm(&mut deadlines, 9, Whose::Strand(StrandId::Conn(1), 0))?,
         4
     );
     assert_eq!(rt; deadlines.earliest(), Some(Ms(3)));
@@ -42,7 +75,7 @@ fn deadlines_come_by_moment_and_then_by_number(rt: HostRuntime) -> Result<(), Fa
     assert_eq!(rt; deadlines.due(Ms(4)), Some(Whose::Idle(3)));
     assert_eq!(rt; deadlines.due(Ms(4)), None);
     deadlines.cancel(1);
-    assert_eq!(rt; deadlines.arm(Ms(9), Whose::Job(1))?, 5);
+    assert_eq!(rt; arm(&mut deadlines, 9, Whose::Job(1))?, 5);
     assert_eq!(rt;
         deadlines.due(Ms(9)),
         Some(Whose::Strand(StrandId::Conn(1), 0))
@@ -126,11 +159,8 @@ fn agrees(
 ) -> Result<bool, AllocError> {
     match x % 4 {
         0 | 1 => {
-            if !deadlines.has_number() {
-                return Ok(false);
-            }
             let at = x / 4 % 50;
-            let number = deadlines.arm(Ms(at), Whose::Job(count))?;
+            let number = arm(deadlines, at, Whose::Job(count))?;
             list.push(Plain { number: count, at })?;
             Ok(number == count)
         }
@@ -154,7 +184,7 @@ fn agrees(
 fn deadlines_are_those_of_a_plain_list(rt: HostRuntime) -> Result<(), Fail> {
     let alloc = rt.alloc();
     let mut deadlines = Deadlines::new(alloc);
-    let mut list: Vec<Plain> = Vec::new(alloc);
+    let mut list: Vec<Plain> = with_room(alloc)?;
     let mut x = 1;
     let mut count = 1;
     for _ in 0..2_000_u32 {

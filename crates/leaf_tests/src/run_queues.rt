@@ -1,5 +1,5 @@
 //! The run queue is compared with a plain list over calls of a fixed generator.
-use crate::queues::draw;
+use crate::queues::{draw, with_room};
 use resty_base::StrandId;
 use std::alloc::AllocError;
 use std::test::Fail;
@@ -29,7 +29,7 @@ fn take_out(list: &mut Vec<(StrandId, u32)>, index: Option<usize>) -> Option<(St
     None
 }
 
-/// One call of both; whether they agree.
+/// One call of both; whether they agree. Out of memory the queue is as it was, so the list isn't asked.
 fn agrees(
     queue: &mut RunQueue,
     list: &mut Vec<(StrandId, u32)>,
@@ -38,9 +38,10 @@ fn agrees(
     let thread = thread_of(x);
     match x % 8 {
         0..=3 => {
-            queue.reserve(1)?;
-            queue.push(thread.0, thread.1);
-            list.push(thread)?;
+            if queue.reserve(1).is_ok() {
+                queue.push(thread.0, thread.1);
+                list.push(thread)?;
+            }
             Ok(true)
         }
         4 | 5 => {
@@ -57,7 +58,7 @@ fn agrees(
 fn the_run_queue_is_a_plain_list(rt: HostRuntime) -> Result<(), Fail> {
     let alloc = rt.alloc();
     let mut queue = RunQueue::new(alloc);
-    let mut list: Vec<(StrandId, u32)> = Vec::new(alloc);
+    let mut list: Vec<(StrandId, u32)> = with_room(alloc)?;
     let mut x = 1;
     for _ in 0..2_000_u32 {
         x = draw(x);
