@@ -1,10 +1,12 @@
 //! Tests of a client's line; the answers were worked out from RFC 9112 by hand.
 use client_line::{Held, Line, LineOut};
 use http_bodies::BodyRead;
+use http_in::Head;
 use resty_base::Bytes;
 use std::alloc::{AllocError, Global};
 use std::process::Abort;
 use std::test::Fail;
+use uri_args::Target;
 
 const A: &str = "GET /a HTTP/1.0\r\n";
 
@@ -17,23 +19,34 @@ const L: &str = "POST /l HTTP/1.1\r\nHost: x\r\nContent-Length: 5\r\n\r\n";
 /// More requests than any stream of the tests has.
 const REQUESTS: u32 = 10;
 
-/// The answer in words: a request by its method, path and host.
-fn in_words(alloc: Global, out: &LineOut) -> Result<String, AllocError> {
+/// Writes bytes, `?` where they are no text.
+fn write(all: &mut String, bytes: &[u8]) -> Result<(), AllocError> {
+    all.push_str(str::from_utf8(bytes).unwrap_or("?"))
+}
+
+fn write_number(alloc: Global, all: &mut String, number: u64) -> Result<(), AllocError> {
+    all.push_str(format!(in alloc; "{number}")?.as_str())
+}
+
+/// Writes a request by its method, path and host.
+fn write_request(all: &mut String, head: &Head, target: &Target) -> Result<(), AllocError> {
+    write(all, &head.method)?;
+    all.push(' ')?;
+    write(all, &target.path)?;
+    if let Some(host) = &target.host {
+        all.push(' ')?;
+        write(all, host)?;
+    }
+    Ok(())
+}
+
+/// Writes the answer to a piece.
+fn write_answer(alloc: Global, all: &mut String, out: &LineOut) -> Result<(), AllocError> {
     match out {
-        LineOut::Waiting => format!(in alloc; "W"),
-        LineOut::Memory => format!(in alloc; "Memory"),
-        LineOut::Refused(code) => format!(in alloc; "{code}"),
-        LineOut::Request(head, target) => {
-            let method = str::from_utf8(&head.method).unwrap_or("?");
-            let path = str::from_utf8(&target.path).unwrap_or("?");
-            match &target.host {
-                Some(host) => {
-                    let host = str::from_utf8(host).unwrap_or("?");
-                    format!(in alloc; "{method} {path} {host}")
-                }
-                None => format!(in alloc; "{method} {path}"),
-            }
-        }
+        LineOut::Waiting => all.push_str("W"),
+        LineOut::Memory => all.push_str("Memory"),
+        LineOut::Refused(code) => write_number(alloc, all, u64::from(*code)),
+        LineOut::Request(head, target) => write_request(all, head, target),
     }
 }
 
@@ -46,15 +59,24 @@ fn held_in_words(held: Held) -> &'static str {
     }
 }
 
-fn body_in_words(alloc: Global, line: &mut Line, max: u64) -> Result<String, AllocError> {
-    let read = line.body(max);
-    let content = str::from_utf8(line.body_bytes()).unwrap_or("?");
-    match read {
-        BodyRead::More => format!(in alloc; "More {content}"),
-        BodyRead::Whole(count) => format!(in alloc; "Whole {count} {content}"),
-        BodyRead::Refused(code) => format!(in alloc; "{code} {content}"),
-        BodyRead::Memory => format!(in alloc; "Memory"),
+/// Asks for the body under this limit, and writes the answer and the content so far.
+fn write_body(
+    alloc: Global,
+    all: &mut String,
+    line: &mut Line,
+    max: u64,
+) -> Result<(), AllocError> {
+    match line.body(max) {
+        BodyRead::More => all.push_str("More")?,
+        BodyRead::Whole(count) => {
+            all.push_str("Whole ")?;
+            write_number(alloc, all, count as u64)?;
+        }
+        BodyRead::Refused(code) => write_number(alloc, all, u64::from(code))?,
+        BodyRead::Memory => all.push_str("Memory")?,
     }
+    all.push(' ')?;
+    write(all, line.body_bytes())
 }
 
 /// The bytes of parts with `+` between them, each a name of one above or bytes as they are.
@@ -72,27 +94,32 @@ fn joined(alloc: Global, parts: &str) -> Result<String, AllocError> {
     Ok(bytes)
 }
 
-/// What a step answers: `done`, `held`, `body N`, or parts that are fed.
-fn step(alloc: Global, line: &mut Line, step: &str) -> Result<String, AllocError> {
+/// Takes a step, and writes what it answers: `done`, `held`, `body N`, or parts that are fed.
+fn take(alloc: Global, all: &mut String, line: &mut Line, step: &str) -> Result<(), AllocError> {
     if step == "done" {
         line.done();
-        return format!(in alloc; "");
+        return Ok(());
     }
     if step == "held" {
-        return format!(in alloc; "{}", held_in_words(line.held()));
+        return all.push_str(held_in_words(line.held()));
     }
     if let Some(max) = step.strip_prefix("body ") {
-        return body_in_words(alloc, line, max.parse().unwrap_or(0));
+        return write_body(alloc, all, line, max.parse().unwrap_or(0));
     }
-    in_words(alloc, &line.fed(joined(alloc, step)?.as_bytes()))
+    feed(alloc, all, line, joined(alloc, step)?.as_bytes())
+}
+
+/// Feeds a piece, and writes the answer.
+fn feed(alloc: Global, all: &mut String, line: &mut Line, piece: &[u8]) -> Result<(), AllocError> {
+    write_answer(alloc, all, &line.fed(piece))
 }
 
 /// What the steps answer on one line, `,` after each.
 fn steps(alloc: Global, steps: &str) -> Result<String, AllocError> {
     let mut all = String::new(alloc);
     let mut line = Line::new(alloc);
-    for given in steps.split(',') {
-        all.push_str(step(alloc, &mut line, given)?.as_str())?;
+    for step in steps.split(',') {
+        take(alloc, &mut all, &mut line, step)?;
         all.push(',')?;
     }
     Ok(all)
@@ -158,7 +185,7 @@ fn serve(alloc: Global, line: &mut Line, piece: &[u8], all: &mut String) -> Resu
         if !matches!(&out, LineOut::Request(_, _)) {
             break;
         }
-        all.push_str(in_words(alloc, &out)?.as_str())?;
+        write_answer(alloc, all, &out)?;
         all.push(';')?;
         line.done();
         out = line.fed(b"");
@@ -173,7 +200,7 @@ fn answers(alloc: Global, pieces: &[&[u8]]) -> Result<String, AllocError> {
     for piece in pieces {
         serve(alloc, &mut line, piece, &mut all)?;
     }
-    all.push_str(in_words(alloc, &line.fed(b""))?.as_str())?;
+    feed(alloc, &mut all, &mut line, b"")?;
     Ok(all)
 }
 
@@ -227,7 +254,7 @@ fn a_line_offers_what_was_queued(rt: HostRuntime) -> Result<(), Fail> {
     line.queue(&Bytes::from_static(b"abc"))?;
     line.took(1);
     assert_eq!(rt; line.queued(), b"bc".as_slice());
-    assert_eq!(rt; in_words(alloc, &line.fed(A.as_bytes()))?.as_str(), "W");
+    assert!(rt; matches!(line.fed(A.as_bytes()), LineOut::Waiting));
     line.gone();
     line.queue(&Bytes::from_static(b"d"))?;
     assert_eq!(rt; line.queued(), b"".as_slice());
