@@ -81,11 +81,7 @@ fn end_of_run(given: &Signal) -> RunEnd
 }
 
 /// The statements of a block from an index on wait.
-fn begin_rest(
-    frames: &mut Frames,
-    stmts: Rc<Vec<Stmt>>,
-    next: usize,
-) -> Result<Flow, AllocError>
+fn begin_rest(frames: &mut Frames, stmts: Rc<Vec<Stmt>>, next: usize) -> Result<Flow, AllocError>
     ensures { (S : Setting) → (store : StoreView) → Works S (block (drop next stmts.value.items) (here frames.old) (slots_of frames.old))
         frames.old store frames.new store result }
 {

@@ -12,7 +12,6 @@ use Rattle.lua_ast.specs.declared.expressions.ExprKind.TheOpen as e
 use Rattle.lua_ast.specs.declared.expressions.ExprKind.TheViews.{outs-Slot}
 use Rattle.lua_ast.specs.declared.expressions.ExprKind.TheVariants as v
 use Rattle.lua_ast.specs.declared.statements.Stmt.{Stmt}
-use Rattle.lua_ast.specs.declared.statements.StmtKind.{out-StmtKind}
 use Rattle.lua_ast.specs.declared.statements.StmtKind.TheOpen as sk
 use Rattle.lua_ast.specs.declared.statements.StmtKind.TheViews.{outs-Local, outs-Assign}
 use Rattle.lua_ast.specs.declared.statements.StmtKind.TheVariants as sv
@@ -22,20 +21,19 @@ use Rattle.lua_values.specs.Heap.{StoreView, step_limit}
 use Rattle.lua_operators.specs.Types.{is_truthy}
 use Rattle.lua_meaning.specs.declared.slots.Slot.{Slot}
 use Rattle.lua_meaning.specs.declared.slots.Slot.TheVariants.{Plain, Shared}
-use Rattle.lua_meaning.specs.Works.{Places, Slots, Node, AValue, AnExpr, AStmt, ATurn, Sign, Values, Work, End, Eval, and_then}
-use Rattle.lua_meaning.specs.Evaluator.{Resume, State, Ending, Ended, Parked, Spent, after, do_work}
+use Rattle.lua_meaning.specs.Works.{Places, Slots, Node, AnExpr, ATurn, Values, Work, and_then}
+use Rattle.lua_meaning.specs.Evaluator.{State, Ending, Ended, Parked, Spent, after, do_work}
 use Rattle.lua_meaning.specs.Setting.{Setting}
 use Rattle.lua_meaning.specs.Positions.{callers_at}
-use Rattle.lua_meaning.specs.Signs.{first, give, on_values, values_of, value}
+use Rattle.lua_meaning.specs.Signs.{first, give, on_values}
 use Rattle.lua_meaning.specs.Variables.{with_locals, write_slot}
-use Rattle.lua_meaning.specs.Assignments.{Target, InSlot, assigned, assign_all}
 use Rattle.lua_meaning.specs.Statements.{with_values}
 use Rattle.lua_meaning.specs.Assignments.{assignment_work}
 use Rattle.lua_meaning.specs.Blocks.{block}
 use Rattle.lua_meaning.specs.Loops.{again, after_body, while_work, turn_work}
 use Rattle.lua_meaning.specs.Nodes.{work_of, eval}
 use Rattle.lua_meaning.proofs.EvaluatorLemmas.{eval-law, work-then}
-use Rattle.lua_meaning.proofs.Running.{Does, stepped, stmt, seq, count, target, end}
+use Rattle.lua_meaning.proofs.Running.{Does, stmt, seq, count, target, end}
 use Rattle.lua_shortcuts.specs.declared.loops.LoopEnd.{LoopEnd}
 use Rattle.lua_shortcuts.specs.Gives.{counting, later, Gives}
 use Rattle.lua_shortcuts.specs.Runs.{state, Becomes, RunsIf, IsLocals, IsAssignments, IsAssignment, Tests, left_of, has_number}

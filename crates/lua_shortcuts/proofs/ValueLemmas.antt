@@ -1,38 +1,26 @@
 -- What expressions of numbers give.
-use Rattle.std.specs.Prelude.{◌≡◌, ℕ, ◌+◌, ◌<◌, nat_lt, Bool, true, false, not, if◌then◌else◌, List, [], ◌∷◌, ℤ, Option, Some, None, IfSome, Result, Ok, Err, slice_get, refl}
-use Rattle.std.specs.Result.{result_ok}
-use Rattle.std.specs.Ordering.{int_eq, int_cmp, is_lt, is_le}
+use Rattle.std.specs.Prelude.{◌≡◌, ℕ, ◌+◌, ◌<◌, true, false, [], ◌∷◌, ℤ, Option, Some, None, IfSome, slice_get, refl}
 use Rattle.std.specs.declared.rc.Rc.{Rc}
 use Rattle.std.specs.declared.alloc.Global.{Global}
 use Rattle.std.proofs.Common.{sym, ◌∙◌, ap, subst, arith}
 use Rattle.std.proofs.lemmas.Bool.{lt-ltb}
 use Rattle.lua_ast.specs.declared.expressions.BinOp.{BinOp}
-use Rattle.lua_ast.specs.declared.expressions.BinOp.TheVariants as binary
 use Rattle.lua_ast.specs.declared.expressions.Expr.{Expr}
-use Rattle.lua_ast.specs.declared.expressions.ExprKind.{ExprKind, out-ExprKind}
+use Rattle.lua_ast.specs.declared.expressions.ExprKind.{out-ExprKind}
 use Rattle.lua_ast.specs.declared.expressions.ExprKind.TheOpen as e
 use Rattle.lua_ast.specs.declared.expressions.ExprKind.TheViews.{outs-True, outs-False, outs-Number, outs-Slot, outs-Binary}
 use Rattle.lua_ast.specs.declared.expressions.ExprKind.TheVariants as v
-use Rattle.lua_numbers.specs.declared.faults.NumFault.{NumFault}
 use Rattle.lua_values.specs.declared.values.Value.{Value}
 use Rattle.lua_values.specs.declared.values.Value.TheVariants.{Truth, Number}
-use Rattle.lua_values.specs.Values.{same}
 use Rattle.lua_values.specs.Heap.{Heap, step_limit}
-use Rattle.lua_operators.specs.declared.arithmetic.ArithmeticOperator.{ArithmeticOperator}
-use Rattle.lua_operators.specs.declared.comparison.ComparisonOperator.{ComparisonOperator}
-use Rattle.lua_operators.specs.declared.comparison.ComparisonOperator.TheVariants.{Less, LessOrEqual}
-use Rattle.lua_operators.specs.ArithmeticOperators.{result_of}
-use Rattle.lua_operators.specs.Comparison.{holds}
 use Rattle.lua_meaning.specs.declared.slots.Slot.{Slot}
 use Rattle.lua_meaning.specs.declared.slots.Slot.TheVariants.{Plain}
-use Rattle.lua_meaning.specs.Works.{Caller, Places, Slots, Values, Work}
+use Rattle.lua_meaning.specs.Works.{Places, Slots, Values, Work}
 use Rattle.lua_meaning.specs.Evaluator.{State, Ended, do_work}
 use Rattle.lua_meaning.specs.Setting.{Setting}
 use Rattle.lua_meaning.specs.Positions.{callers_at}
 use Rattle.lua_meaning.specs.Signs.{give_one, value}
 use Rattle.lua_meaning.specs.Variables.{in_slot}
-use Rattle.lua_meaning.specs.Arithmetic.{arithmetic_work}
-use Rattle.lua_meaning.specs.Comparison.{comparison_work}
 use Rattle.lua_meaning.specs.Operators.{binary_work}
 use Rattle.lua_meaning.specs.Nodes.{eval}
 use Rattle.lua_meaning.proofs.Running.{Does, val, exp, seq, look, end}

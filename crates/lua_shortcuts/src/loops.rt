@@ -48,7 +48,12 @@ fn run_turns(slots: &mut Vec<Slot>, store: &mut Store, test: &Rc<Expr>, body: &[
 }
 
 /// Runs `while test do body end`, which begins with its test, as far as it can be run at once.
-pub fn run_loop(slots: &mut Vec<Slot>, store: &mut Store, test: &Rc<Expr>, body: &Rc<Vec<Stmt>>) -> LoopEnd
+pub fn run_loop(
+    slots: &mut Vec<Slot>,
+    store: &mut Store,
+    test: &Rc<Expr>,
+    body: &Rc<Vec<Stmt>>,
+) -> LoopEnd
     ensures { (S : Setting) → (p : Places) → Becomes S (while_work test.now.value body.now.value.items p slots.old.items) store.old
         (left_of result test.now.value body.now.value.items p slots.new.items) store.new }
 {

@@ -33,7 +33,10 @@ pub(crate) fn number_of(slots: &[Slot], x: &Expr, levels: u8) -> Option<Counted>
     ensures few { IfSome result (λ c. c.steps < step_limit) }
 {
     match &x.kind {
-        ExprKind::Number(n) => Some(Counted { number: *n, steps: 1 }),
+        ExprKind::Number(n) => Some(Counted {
+            number: *n,
+            steps: 1,
+        }),
         ExprKind::Slot(i) => in_slot(slots, *i),
         ExprKind::Binary(operator, a, b) => operated(slots, *operator, a, b, levels),
         _ => None,
@@ -62,7 +65,10 @@ fn in_slot(slots: &[Slot], i: u8) -> Option<Counted>
     ensures steps { IfSome result (λ c. c.steps ≡ 1) }
 {
     match slots.get(i as usize) {
-        Some(Slot::Plain(Value::Number(n))) => Some(Counted { number: *n, steps: 1 }),
+        Some(Slot::Plain(Value::Number(n))) => Some(Counted {
+            number: *n,
+            steps: 1,
+        }),
         _ => None,
     }
 }

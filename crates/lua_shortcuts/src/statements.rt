@@ -111,7 +111,12 @@ fn only(places: &[u8]) -> Option<&u8>
 
 /// `local NAMES = VALUES`, of one name and one value.
 #[inline(always)]
-fn run_locals(slots: &mut Vec<Slot>, store: &mut Store, places: &Rc<Vec<u8>>, xs: &Rc<Vec<Expr>>) -> bool
+fn run_locals(
+    slots: &mut Vec<Slot>,
+    store: &mut Store,
+    places: &Rc<Vec<u8>>,
+    xs: &Rc<Vec<Expr>>,
+) -> bool
     ensures { (stmt : LuaStmt) → IsLocals places.now.value.items xs.now.value.items stmt
         → RunsIf result stmt slots.old.items store.old slots.new.items store.new }
 {
@@ -146,7 +151,12 @@ fn run_aimed(slots: &mut Vec<Slot>, store: &mut Store, target: &Expr, xs: &Rc<Ve
 
 /// `TARGETS = VALUES`, of one target and one value.
 #[inline(always)]
-fn run_assignments(slots: &mut Vec<Slot>, store: &mut Store, targets: &Rc<Vec<Expr>>, xs: &Rc<Vec<Expr>>) -> bool
+fn run_assignments(
+    slots: &mut Vec<Slot>,
+    store: &mut Store,
+    targets: &Rc<Vec<Expr>>,
+    xs: &Rc<Vec<Expr>>,
+) -> bool
     ensures { (stmt : LuaStmt) → IsAssignments targets.now.value.items xs.now.value.items stmt
         → RunsIf result stmt slots.old.items store.old slots.new.items store.new }
 {
@@ -177,7 +187,12 @@ fn stmt_at(stmts: &[Stmt], i: usize) -> Option<&Stmt>
 }
 
 /// Runs the statements of a block from an index on, as long as they can be run at once. Returns the index of the first that can't.
-pub(crate) fn run_simple(slots: &mut Vec<Slot>, store: &mut Store, stmts: &[Stmt], from: usize) -> usize
+pub(crate) fn run_simple(
+    slots: &mut Vec<Slot>,
+    store: &mut Store,
+    stmts: &[Stmt],
+    from: usize,
+) -> usize
     ensures { (S : Setting) → (p : Places) → Becomes S (block (drop from stmts.now) p slots.old.items) store.old
         (block (drop result stmts.now) p slots.new.items) store.new }
 {
@@ -198,7 +213,12 @@ pub(crate) fn run_simple(slots: &mut Vec<Slot>, store: &mut Store, stmts: &[Stmt
 
 /// Runs the statements of a block that a pointer shares, from an index on, as long as they can be run at once. Returns the index of the first
 /// that can't.
-pub fn run_block(slots: &mut Vec<Slot>, store: &mut Store, stmts: &Rc<Vec<Stmt>>, from: usize) -> usize
+pub fn run_block(
+    slots: &mut Vec<Slot>,
+    store: &mut Store,
+    stmts: &Rc<Vec<Stmt>>,
+    from: usize,
+) -> usize
     ensures { (S : Setting) → (p : Places) → Becomes S (block (drop from stmts.now.value.items) p slots.old.items) store.old
         (block (drop result stmts.now.value.items) p slots.new.items) store.new }
 {

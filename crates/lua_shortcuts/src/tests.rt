@@ -29,7 +29,10 @@ fn compared_of(slots: &[Slot], operator: BinOp, a: &Expr, b: &Expr) -> Option<Te
     let a = number_of(slots, a, LEVELS)?;
     let b = number_of(slots, b, LEVELS)?;
     let holds = compared(operator, a.number, b.number)?;
-    Some(Tested { holds, steps: a.steps + b.steps + 1 })
+    Some(Tested {
+        holds,
+        steps: a.steps + b.steps + 1,
+    })
 }
 
 /// Whether a constant holds, or a comparison of expressions of numbers; `None` of any other test.
@@ -39,8 +42,14 @@ fn test_of(slots: &[Slot], x: &Expr) -> Option<Tested>
     ensures few { IfSome result (λ t. t.steps < 2 * step_limit) }
 {
     match &x.kind {
-        ExprKind::True => Some(Tested { holds: true, steps: 1 }),
-        ExprKind::False => Some(Tested { holds: false, steps: 1 }),
+        ExprKind::True => Some(Tested {
+            holds: true,
+            steps: 1,
+        }),
+        ExprKind::False => Some(Tested {
+            holds: false,
+            steps: 1,
+        }),
         ExprKind::Binary(operator, a, b) => compared_of(slots, *operator, a, b),
         _ => None,
     }

@@ -1,4 +1,4 @@
-use Rattle.std.proofs.Common.{◌≡◌, ◌∷◌, [], ◌∙◌, ap, sym, refl, arith, ℕ, Vec, Global}
+use Rattle.std.proofs.Common.{◌≡◌, ◌∷◌, [], ◌∙◌, ap, sym, refl, arith, Vec, Global}
 use Rattle.lua_ast.specs.declared.expressions.Expr.{Expr}
 use Rattle.lua_shortcuts.proofs.RunLemmas.{one_of, same_locals}
 use Rattle.lua_shortcuts.proofs.statements.run_listed.Goals as goal

@@ -1,6 +1,5 @@
-use Rattle.std.proofs.Common.{◌≡◌, ◌∷◌, [], ◌∙◌, ap, sym, refl, arith, ℕ, Vec, Global}
-use Rattle.lua_ast.specs.declared.expressions.Expr.{Expr}
-use Rattle.lua_shortcuts.proofs.RunLemmas.{one_of, same_locals}
+use Rattle.std.proofs.Common.{◌≡◌, ◌∷◌, [], ◌∙◌, ap, sym, refl, ℕ, Vec, Global}
+use Rattle.lua_shortcuts.proofs.RunLemmas.{same_locals}
 use Rattle.lua_shortcuts.proofs.statements.run_locals.Goals as goal
 
 pub returns-in-Some : goal.returns-in-Some
