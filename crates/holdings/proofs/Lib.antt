@@ -1,0 +1,4 @@
+pub mod Strands
+pub mod Own
+pub mod Kept
+pub mod First

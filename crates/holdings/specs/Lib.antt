@@ -1,0 +1,4 @@
+pub mod Seats
+pub mod Agenda
+pub mod Numbers
+pub mod Kept
