@@ -8,7 +8,6 @@ use Rattle.lua_values.specs.Heap.{StoreView}
 use Rattle.lua_meaning.specs.Works.{Places, Slots, AValue, Sign, Values, Return, Break, Failed, Work, Eval}
 use Rattle.lua_meaning.specs.Evaluator.{Resume, Ended, do_work}
 use Rattle.lua_meaning.specs.Setting.{Setting}
-use Rattle.lua_meaning.specs.Signs.{give}
 use Rattle.lua_meaning.specs.Blocks.{block}
 use Rattle.lua_meaning.specs.Loops.{after_body, while_work}
 use Rattle.lua_meaning.specs.Nodes.{eval}

@@ -10,7 +10,6 @@ use Rattle.lua_meaning.specs.Works.{Places, Slots, AValue, ATurn, Sign, Values, 
 use Rattle.lua_meaning.specs.Setting.{Setting}
 use Rattle.lua_meaning.specs.Signs.{first, on_values}
 use Rattle.lua_meaning.specs.Blocks.{block}
-use Rattle.lua_meaning.specs.Loops.{after_body, while_work}
 use Rattle.lua_frames_base.specs.declared.flow.Flow.{Flow}
 use Rattle.lua_frames_base.specs.declared.items.Item.{Item}
 use Rattle.lua_frames_base.specs.declared.items.Item.TheVariants as i
@@ -21,8 +20,6 @@ use Rattle.lua_frames_base.specs.Frames.{here, slots_of}
 use Rattle.lua_frames_base.specs.Follows.{Works, Enters}
 use Rattle.lua_frames_base.specs.Changes.{Waits}
 use Rattle.lua_frames_base.proofs.FollowLemmas.{works_as, works_from, work_under, enters_by}
-use Rattle.lua_items.specs.declared.loops.RunEnd.TheVariants as run
-use Rattle.lua_items.specs.Takes.{ends_run}
 
 first_goes : (go : Value → Slots → Work) (sign : Sign) (v : Value) (s : Slots) → HasFirst sign v → on_values (λ vs s'. go (first vs) s') sign s ≡ go v s
 first_goes go (Values vs) v s h = ap (λ (x : Value). go x s) (sym h)
