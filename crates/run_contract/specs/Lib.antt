@@ -1,7 +1,0 @@
-pub mod Runs
-pub mod Alike
-pub mod Forms
-pub mod Conditions
-pub mod Calls
-pub mod Fixed
-pub mod FixedLaws
