@@ -1,8 +1,7 @@
 -- How serving ends.
-use Rattle.std.specs.Prelude.{◌≡◌, ◌⊎◌, ℕ, false, List, [], ◌∷◌, length, IfSome}
+use Rattle.std.specs.Prelude.{◌≡◌, ◌⊎◌, ℕ, List, [], ◌∷◌, length, IfSome}
 use Rattle.resty_base.specs.Counting.{Rose}
 use Rattle.resty_world.specs.declared.entry.Entry.{Entry}
-use Rattle.resty_world.specs.declared.entry.Entry.TheVariants as entry
 use Rattle.resty_world.specs.declared.event.Event.{Event}
 use Rattle.resty_world.specs.declared.event.Event.TheVariants as event
 use Rattle.resty_world.specs.Book.{Book}

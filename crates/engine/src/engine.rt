@@ -1,12 +1,13 @@
 //! The engine: a step takes an event of the world, with all turns that follow.
 
 use crate::events;
+use resty_base::Ms;
 use resty_world::{Event, World};
 use std::alloc::Global;
 use strand_contract::StrandContract;
 use turns::Turns;
 
-/// The strands that live, the threads that are to run, and the places that are to be offered.
+/// The strands that live, the threads that are to run, the places that are to be offered, and the deadlines that are armed.
 #[derive(Drop)]
 pub struct Engine<S> {
     turns: Turns<S>,
@@ -24,7 +25,9 @@ pub enum Stepped {
 }
 
 impl<S: StrandContract> Engine<S> {
+    ghost use Rattle.std.specs.Prelude.{◌≡◌, option_map};
     ghost use Rattle.resty_world.specs.Book.{Book};
+    ghost use Rattle.holdings.specs.Agenda.{first_moment};
     ghost use Rattle.engine_base.specs.Right.{IsFresh};
     ghost use Rattle.engine.specs.Stepping.{Steps, Goes};
     ghost use Rattle.engine.specs.Engine.{Rests, IsGiven};
@@ -36,6 +39,13 @@ impl<S: StrandContract> Engine<S> {
         Engine {
             turns: Turns::new(alloc),
         }
+    }
+
+    /// The moment of the deadline that comes first.
+    pub fn earliest(&self) -> Option<Ms>
+        ensures { option_map (λ at. at.0) result ≡ first_moment self.now.turns.agenda }
+    {
+        self.turns.agenda.earliest()
     }
 
     /// Takes what the world gave, with all turns that follow.

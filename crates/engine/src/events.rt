@@ -2,13 +2,13 @@
 
 ghost use Rattle.std.specs.Prelude.{◌≡◌, false, None};
 ghost use Rattle.resty_world.specs.declared.event.Event.{Event};
-ghost use Rattle.engine_base.specs.declared.seats.Ending.{Ending};
+ghost use Rattle.engine_base.specs.declared.seats.ToCome.{ToCome};
 ghost use Rattle.turns.specs.Turns.{Stands};
 ghost use Rattle.turns.specs.Worked.{Works};
 ghost use Rattle.engine.specs.Stepping.{is_stop};
 ghost use Rattle.engine.specs.Events.{IsGiven, IsShown};
 
-use engine_base::{Ending, Seat};
+use engine_base::{Seat, ToCome};
 use resty_base::{Id, Ms, StrandId};
 use resty_world::{Entry, Event, World};
 use strand_contract::{Place, Seen, Start, StrandContract};
@@ -24,7 +24,7 @@ fn arrive<S: StrandContract, W: World>(
     requires { IsGiven (S.meaning site.now) turns.old (W.book world.old) (Event.Arrive connection) }
     ensures standing { Stands (S.meaning site.now) turns.new (W.book world.new) }
     ensures works { Works W.same W.book turns.old turns.new world.old world.new }
-    ensures ending { turns.new.ending ≡ Ending.Over }
+    ensures to_come { turns.new.to_come ≡ ToCome.Nothing }
 {
     if u64::from(S::connections(site)) <= turns.connections {
         let _ = world.note(Entry::Turned(connection));
@@ -59,7 +59,7 @@ fn come<S: StrandContract, W: World>(
     requires { IsShown (S.meaning site.now) turns.old (W.book world.old) id seen }
     ensures standing { Stands (S.meaning site.now) turns.new (W.book world.new) }
     ensures works { Works W.same W.book turns.old turns.new world.old world.new }
-    ensures ending { turns.new.ending ≡ Ending.Over }
+    ensures to_come { turns.new.to_come ≡ ToCome.Nothing }
 {
     if let Id::Conn(connection) = id {
         if let Some(seat) = turns.seats.take_out(StrandId::Conn(connection)) {
@@ -72,20 +72,20 @@ fn come<S: StrandContract, W: World>(
 fn end_all<S: StrandContract, W: World>(turns: &mut Turns<S>, site: &S::Site, world: &mut W)
     requires standing { Stands (S.meaning site.now) turns.old (W.book world.old) }
     requires in_offers { turns.old.in_offers ≡ false }
-    requires ending { turns.old.ending ≡ Ending.After None }
+    requires to_come { turns.old.to_come ≡ ToCome.Endings None }
     ensures standing { Stands (S.meaning site.now) turns.new (W.book world.new) }
     ensures works { Works W.same W.book turns.old turns.new world.old world.new }
-    ensures ending { turns.new.ending ≡ Ending.Over }
+    ensures to_come { turns.new.to_come ≡ ToCome.Nothing }
 {
     let mut last = None;
     while let Some(connection) = turns.seats.first_after(last) {
         last = Some(connection);
-        turns.ending = Ending::After(last);
+        turns.to_come = ToCome::Endings(last);
         if let Some(seat) = turns.seats.take_out(StrandId::Conn(connection)) {
             turns.take_turn(site, connection, seat, Seen::Stop, world);
         }
     }
-    turns.ending = Ending::Over;
+    turns.to_come = ToCome::Nothing;
 }
 
 /// Takes what the world gave, up to the turns that follow, and says whether it was Stop.
@@ -98,7 +98,7 @@ pub(crate) fn take<S: StrandContract, W: World>(
     requires { IsGiven (S.meaning site.now) turns.old (W.book world.old) event }
     ensures standing { Stands (S.meaning site.now) turns.new (W.book world.new) }
     ensures works { Works W.same W.book turns.old turns.new world.old world.new }
-    ensures ending { turns.new.ending ≡ Ending.Over }
+    ensures to_come { turns.new.to_come ≡ ToCome.Nothing }
     ensures stops { result ≡ is_stop event }
 {
     match event {
@@ -107,9 +107,13 @@ pub(crate) fn take<S: StrandContract, W: World>(
         Event::Ended(id) => come(turns, site, id, Seen::Ended(Place::Client), world),
         Event::Broken(id) => come(turns, site, id, Seen::Broken(Place::Client), world),
         Event::Ready(id) => come(turns, site, id, Seen::Ready(Place::Client), world),
-        Event::Moment(now) => turns.now = Ms(now.0.max(turns.now.0)),
+        Event::Moment(now) => {
+            turns.now = Ms(now.0.max(turns.now.0));
+            turns.to_come = ToCome::Wakings;
+            turns.wake(site, world);
+        }
         Event::Stop => {
-            turns.ending = Ending::After(None);
+            turns.to_come = ToCome::Endings(None);
             end_all(turns, site, world);
             return true;
         }

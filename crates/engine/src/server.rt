@@ -40,7 +40,7 @@ pub fn serve<S: StrandContract, W: World>(
     let mut engine: Engine<S> = Engine::new(alloc);
     let mut given: u64 = 0;
     while given < events {
-        match world.next_event(alloc, None) {
+        match world.next_event(alloc, engine.earliest()) {
             Event::Fault => return Ended::WorldFault,
             Event::BadLine(line) => return Ended::BadLine(line),
             Event::Memory => return Ended::Memory,

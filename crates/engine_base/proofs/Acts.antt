@@ -19,19 +19,22 @@ use Rattle.strand_contract.specs.declared.turns.Act.{Act}
 use Rattle.strand_contract.specs.declared.turns.Act.TheVariants as act
 use Rattle.strand_contract.specs.Actions.{Action, LocalAction, Did, Close, Log, Dropped, Gone}
 use Rattle.strand_contract.specs.Behaviors.{Behavior}
-use Rattle.strand_contract.specs.Alone.{lives, was_dropped, moment, is_open, has_ended, todo, carried, waiting, lined_up, to_offer, offers, armed, begun_offer, offering, but, in_offers, is_stopping, open_places, IsExecution, IsPrefixOf}
+use Rattle.strand_contract.specs.Alone.{lives, was_dropped, moment, is_open, has_ended, todo, carried, waiting, lined_up, to_offer, offers, begun_offer, offering, but, in_offers, is_stopping, is_waking, open_places, IsExecution, IsPrefixOf}
 use Rattle.executions.specs.Executions.{GlobalAction, Of, projection}
 use Rattle.executions.specs.Strands.{is_under_way, strands}
+use Rattle.executions.proofs.Strands.{same-is}
 use Rattle.executions.specs.Queues.{only, lined, placed, without_all, run_queue as runs_of, offer_queue as offers_of}
 use Rattle.executions.specs.Agenda.{armed_with, without_those, is_of, agenda}
+use Rattle.executions.specs.OwnDeadlines.{deadlines}
 use Rattle.executions.specs.Histories.{external, offered_lengths}
 use Rattle.executions.specs.Ordered.{offers_last, was_touched, MayDropLiving}
 use Rattle.strand_contract.specs.Laws.{is_still}
 use Rattle.strand_contract.specs.OpenPlaceLaws.{is_among, open-among, place-self, none-open}
-use Rattle.engine_base.specs.Standing.{Held, HasAsides, Common, Around, Near, Busy, Falls, Standing, IsOffer, runs_with, offers_with}
+use Rattle.engine_base.specs.Standing.{Held, HasCome, HasAsides, Common, Around, Near, Busy, Falls, Standing, IsOffer, runs_with, offers_with}
 use Rattle.engine_base.proofs.Lists.{by_test, clash, same-true, only-same, only-other, tells-more, tells-same}
+use Rattle.engine_base.proofs.Agendas.{come-of, other-those, none-left}
 use Rattle.engine_base.proofs.Waiting.{lined-own, placed-own, armed-own, only-first, runs-still, offers-still, without-next}
-use Rattle.engine_base.proofs.Marks.{projection-same, touches, fit-same, held-same, SameBook, same-keeps, same-hung, hung-closed, same-dropped, same-forgot, forgot-aside, forgot-ended, own-closed, has-arrived, common-next, around-next}
+use Rattle.engine_base.proofs.Marks.{projection-same, touches, fit-same, SameHeld, held-same, SameBook, same-keeps, same-hung, hung-closed, same-dropped, same-forgot, forgot-aside, forgot-ended, own-closed, has-arrived, common-next, around-next}
 
 -- where no socket is open, the client's connection is the first open place, or there is none
 first-among : (ps : List Place) → is_among place.Client ps ≡ true → ((k : ℕ) → is_among (place.Sock k) ps ≡ false) → IsPrefixOf (place.Client ∷ []) ps
@@ -101,14 +104,15 @@ module _ {J S : Type 0} (b : Behavior J) (st : S → List (LocalAction J) → Ty
     around = y.around;
     same_runs = lined-own (strand.Conn c) acts h.run_queue;
     same_offers = placed-own (strand.Conn c) acts h.offer_queue;
-    agenda = ap (without_those (is_of (strand.Conn c))) (sym y.agenda) ∙ armed-own (strand.Conn c) acts [];
+    agenda = ap (without_those (is_of (strand.Conn c))) (sym y.agenda) ∙ armed-own (strand.Conn c) acts h.agenda;
+    phase = y.phase;
     last = y.last;
     touched = y.touched;
   }
 
   -- the strand is gone
-  pub around-dead : (h : Held S) (book : Book) (ms : List (GlobalAction J)) → Around b st c false false h h.run_queue h.offer_queue book ms → agenda b ms ≡ [] → book.has_ended (id.Conn c) ≡ false → (h.in_offers ≡ false → offers_last ms ≡ true → h.offer_queue ≡ []) → (h.in_offers ≡ true → offers_last ms ≡ false → h.run_queue ≡ []) → Standing b st h book ms
-  around-dead h book ms a none_armed ended runs_flip offers_flip = record {
+  pub around-dead : (h : Held S) (book : Book) (ms : List (GlobalAction J)) → Around b st c false false h h.run_queue h.offer_queue book ms → HasCome h.to_come b ms → agenda b ms ≡ h.agenda → deadlines (strand.Conn c) h.agenda ≡ [] → book.has_ended (id.Conn c) ≡ false → (h.in_offers ≡ false → offers_last ms ≡ true → h.offer_queue ≡ []) → (h.in_offers ≡ true → offers_last ms ≡ false → h.run_queue ≡ []) → Standing b st h book ms
+  around-dead h book ms a comes armed none_armed ended runs_flip offers_flip = record {
     each = λ t live. by_test (t == c)
         (λ e. clash (subst (λ (i : ℕ). lives (projection (strand.Conn i) ms) ≡ true) (eqb-true t c e) live) a.alive)
         (λ ne. a.each t ne live);
@@ -127,8 +131,11 @@ module _ {J S : Type 0} (b : Behavior J) (st : S → List (LocalAction J) → Ty
         (λ ne. a.forgotten t ne gone);
     flip_to_runs = runs_flip;
     flip_to_offers = offers_flip;
-    stops = a.stops;
-    agenda = none_armed;
+    comes = comes;
+    agenda = armed;
+    disarmed = λ s gone. by_test (same_strand s (strand.Conn c))
+        (λ on. subst (λ (t : StrandId). deadlines t h.agenda ≡ []) (sym (same-is s (strand.Conn c) on)) none_armed)
+        (λ off. a.disarmed s off gone);
     common = a.common;
   }
 
@@ -138,7 +145,7 @@ module _ {J S : Type 0} (b : Behavior J) (st : S → List (LocalAction J) → Ty
   around-forgets h book book' ms a forgot =
       let same : SameBook c book book' = same-forgot c forgot in
       record {
-        each = λ t ne live. fit-same refl refl refl refl refl refl refl (same.is_open t ne) (same.has_ended t ne) (a.each t ne live);
+        each = λ t ne live. fit-same refl refl refl refl refl refl refl refl (same.is_open t ne) (same.has_ended t ne) (a.each t ne live);
         dead = a.dead;
         closed = λ t ne gone. same.is_open t ne ∙ a.closed t ne gone;
         shut = a.shut;
@@ -150,9 +157,16 @@ module _ {J S : Type 0} (b : Behavior J) (st : S → List (LocalAction J) → Ty
         client = a.client;
         no_socket = a.no_socket;
         own_aside = forgot-aside c forgot;
-        stops = a.stops;
+        disarmed = a.disarmed;
         common = common-kept b h.run_queue h.offer_queue h.now h.connections book book' ms a.common forgot.entered (λ n. same.sockets n) same.asides forgot.numbers.arrivals;
       }
+
+  -- the deadlines of the strand leave with it
+  abbrev pub ended : Held S → Held S
+  ended h = record h { agenda = without_those (is_of (strand.Conn c)) h.agenda }
+
+  ended-same : (h : Held S) → SameHeld c h (ended h)
+  ended-same h = record { seats = λ t ne. refl; run_queue = λ t ne. refl; offer_queue = λ t ne. refl; in_offers = refl; now = refl; ends = λ t ne. refl; wakes = refl; deadlines = λ s ne. other-those s (strand.Conn c) h.agenda ne }
 
   -- no turn of another strand is under way
   others-between : (o : Bool) (h : Held S) (threads : List (StrandId × ℕ)) (offer_queue : List (StrandId × Place)) (book : Book) (ms : List (GlobalAction J))
@@ -171,14 +185,14 @@ module _ {J S : Type 0} (b : Behavior J) (st : S → List (LocalAction J) → Ty
   module _ (quiet : (a : LocalAction J) (es : List (LocalAction J)) → is_still a ≡ true → b.acts (a ∷ es) ≡ []) where
     dropped : (o : Bool) (h : Held S) (book book1 : Book) (back : Option Entry) (ms : List (GlobalAction J)) → Falls b st c o h book ms
         → Notes (entry.Dropped (strand.Conn c)) back book book1
-        → Around b st c false o h h.run_queue h.offer_queue book1 (Of (strand.Conn c) Dropped None ∷ ms)
+        → Around b st c false o (ended h) h.run_queue h.offer_queue book1 (Of (strand.Conn c) Dropped None ∷ ms)
     dropped o h book book1 back ms f noted =
         let a : Around b st c true o h f.next_runs f.next_offers book ms = f.around in
         let same : SameBook c book book1 = same-dropped c noted in
         let arrivals : book1.arrivals ≡ book.arrivals = noted.numbers.arrivals in
         let none : b.acts (Did Dropped ∷ projection (strand.Conn c) ms) ≡ [] = quiet (Did Dropped) (projection (strand.Conn c) ms) refl in
-        around-next b st c ms Dropped true false o o h h f.next_runs h.run_queue f.next_offers h.offer_queue book book1 a (held-same c h) same a.out refl (noted.is_open (id.Conn c) ∙ a.connection) a.client a.no_socket
-        (noted.strand_aside (strand.Conn c) ∙ ap (λ v. if v then false else book.strand_aside (strand.Conn c)) (same-true c)) a.stops
+        around-next b st c ms Dropped true false o o h (ended h) f.next_runs h.run_queue f.next_offers h.offer_queue book book1 a (ended-same h) same a.out refl (noted.is_open (id.Conn c) ∙ a.connection) a.client a.no_socket
+        (noted.strand_aside (strand.Conn c) ∙ ap (λ v. if v then false else book.strand_aside (strand.Conn c)) (same-true c))
         (common-next b st c ms Dropped f.next_runs h.run_queue f.next_offers h.offer_queue h.now h.connections h.connections book book1 a.common
         (record {
           enabled = inl a.alive;
@@ -195,34 +209,35 @@ module _ {J S : Type 0} (b : Behavior J) (st : S → List (LocalAction J) → Ty
         (without-next b c Dropped ms h.run_queue f.next_runs refl f.same_runs ∙ ap (without_all (strand.Conn c)) a.common.runs ∙ sym (ap (λ taken. lined (strand.Conn c) taken (without_all (strand.Conn c) (runs_of b ms))) none))
         (without-next b c Dropped ms h.offer_queue f.next_offers refl f.same_offers ∙ ap (without_all (strand.Conn c)) a.common.offered ∙ sym (ap (λ taken. placed (strand.Conn c) taken (without_all (strand.Conn c) (offers_of b ms))) none)))
 
-    -- nothing is armed after it
-    dropped-armed : (o : Bool) (h : Held S) (book : Book) (ms : List (GlobalAction J)) → Falls b st c o h book ms → agenda b (Of (strand.Conn c) Dropped None ∷ ms) ≡ []
+    -- what is armed after it
+    dropped-armed : (o : Bool) (h : Held S) (book : Book) (ms : List (GlobalAction J)) → Falls b st c o h book ms → agenda b (Of (strand.Conn c) Dropped None ∷ ms) ≡ without_those (is_of (strand.Conn c)) h.agenda
     dropped-armed o h book ms f = ap (λ taken. armed_with (strand.Conn c) taken (without_those (is_of (strand.Conn c)) (agenda b ms))) (quiet (Did Dropped) (projection (strand.Conn c) ms) refl) ∙ f.agenda
 
     -- its connection was closed before
-    pub fallen-shut : (h : Held S) (book book1 book2 : Book) (back : Option Entry) (ms : List (GlobalAction J)) → Falls b st c false h book ms
-        → Notes (entry.Dropped (strand.Conn c)) back book book1 → Forgets (strand.Conn c) book1 book2
-        → Standing b st h book2 (Of (strand.Conn c) Dropped None ∷ ms)
-    fallen-shut h book book1 book2 back ms f noted forgot =
-        let a : Around b st c false false h h.run_queue h.offer_queue book1 (Of (strand.Conn c) Dropped None ∷ ms) = dropped false h book book1 back ms f noted in
-        around-dead h book2 (Of (strand.Conn c) Dropped None ∷ ms) (around-forgets h book1 book2 (Of (strand.Conn c) Dropped None ∷ ms) a forgot) (dropped-armed false h book ms f) (forgot-ended c forgot) (λ run on. clash on (f.last ∙ run)) (λ offer off. clash (f.last ∙ offer) off)
+    pub fallen-shut : (h h' : Held S) (book book1 book2 : Book) (back : Option Entry) (ms : List (GlobalAction J)) → Falls b st c false h book ms
+        → Notes (entry.Dropped (strand.Conn c)) back book book1 → Forgets (strand.Conn c) book1 book2 → h' ≡ ended h
+        → Standing b st h' book2 (Of (strand.Conn c) Dropped None ∷ ms)
+    fallen-shut h h' book book1 book2 back ms f noted forgot held =
+        let a : Around b st c false false (ended h) h.run_queue h.offer_queue book1 (Of (strand.Conn c) Dropped None ∷ ms) = dropped false h book book1 back ms f noted in
+        rw held (around-dead (ended h) book2 (Of (strand.Conn c) Dropped None ∷ ms) (around-forgets (ended h) book1 book2 (Of (strand.Conn c) Dropped None ∷ ms) a forgot) (come-of h.to_come b (Of (strand.Conn c) Dropped None ∷ ms) f.phase) (dropped-armed false h book ms f) (none-left (strand.Conn c) h.agenda) (forgot-ended c forgot)
+        (λ run on. clash on (f.last ∙ run)) (λ offer off. clash (f.last ∙ offer) off))
 
     -- its connection is closed after it
     pub fallen-open : (h h' : Held S) (book book1 book2 book3 : Book) (back : Option Entry) (ms : List (GlobalAction J)) → Falls b st c true h book ms
         → Notes (entry.Dropped (strand.Conn c)) back book book1 → HangsUp (id.Conn c) book1 book2 → Forgets (strand.Conn c) book2 book3
-        → h' ≡ record h { connections = h.connections - 1 }
+        → h' ≡ record h { connections = h.connections - 1; agenda = without_those (is_of (strand.Conn c)) h.agenda }
         → Standing b st h' book3 (Of (strand.Conn c) (Close place.Client) None ∷ Of (strand.Conn c) Dropped None ∷ ms)
     fallen-open h h' book book1 book2 book3 back ms f noted hung forgot held =
         let fell : List (GlobalAction J) = Of (strand.Conn c) Dropped None ∷ ms in
-        let a : Around b st c false true h h.run_queue h.offer_queue book1 fell = dropped true h book book1 back ms f noted in
+        let a : Around b st c false true (ended h) h.run_queue h.offer_queue book1 fell = dropped true h book book1 back ms f noted in
         let none : b.acts (Did (Close place.Client) ∷ projection (strand.Conn c) fell) ≡ [] = quiet (Did (Close place.Client)) (projection (strand.Conn c) fell) refl in
-        let g : Held S = record h { connections = h.connections - 1 } in
+        let g : Held S = record h { connections = h.connections - 1; agenda = without_those (is_of (strand.Conn c)) h.agenda } in
         let same : SameBook c book1 book2 = same-hung c hung in
         let arrivals : book2.arrivals ≡ book1.arrivals = hung.numbers.arrivals in
         let shut : Around b st c false false g g.run_queue g.offer_queue book2 (Of (strand.Conn c) (Close place.Client) None ∷ fell) =
-        (around-next b st c fell (Close place.Client) false false true false h g h.run_queue h.run_queue h.offer_queue h.offer_queue book1 book2 a
-        (record { seats = λ t ne. refl; run_queue = λ t ne. refl; offer_queue = λ t ne. refl; in_offers = refl; now = refl; ends = λ t ne. refl }) same a.out a.alive (hung-closed c hung) refl a.no_socket
-        (hung.strand_aside (strand.Conn c) ∙ a.own_aside) a.stops
+        (around-next b st c fell (Close place.Client) false false true false (ended h) g h.run_queue h.run_queue h.offer_queue h.offer_queue book1 book2 a
+        (record { seats = λ t ne. refl; run_queue = λ t ne. refl; offer_queue = λ t ne. refl; in_offers = refl; now = refl; ends = λ t ne. refl; wakes = refl; deadlines = λ s ne. refl }) same a.out a.alive (hung-closed c hung) refl a.no_socket
+        (hung.strand_aside (strand.Conn c) ∙ a.own_aside)
         (common-next b st c fell (Close place.Client) h.run_queue h.run_queue h.offer_queue h.offer_queue h.now h.connections (h.connections - 1) book1 book2 a.common
         (record {
           enabled = inr (ap was_dropped (projection-same c Dropped None ms), client-first (projection (strand.Conn c) fell) a.client a.no_socket);
@@ -239,7 +254,7 @@ module _ {J S : Type 0} (b : Behavior J) (st : S → List (LocalAction J) → Ty
         (runs-still b c (Close place.Client) fell h.run_queue refl none refl a.common.runs)
         (offers-still b c (Close place.Client) fell h.offer_queue refl none refl a.common.offered))) in
         rw held (around-dead g book3 (Of (strand.Conn c) (Close place.Client) None ∷ fell) (around-forgets g book2 book3 (Of (strand.Conn c) (Close place.Client) None ∷ fell) shut forgot)
-        (ap (λ taken. armed_with (strand.Conn c) taken (agenda b fell)) none ∙ dropped-armed true h book ms f) (forgot-ended c forgot)
+        (come-of h.to_come b (Of (strand.Conn c) (Close place.Client) None ∷ fell) f.phase) (ap (λ taken. armed_with (strand.Conn c) taken (agenda b fell)) none ∙ dropped-armed true h book ms f) (none-left (strand.Conn c) h.agenda) (forgot-ended c forgot)
         (λ run on. clash on (f.last ∙ run)) (λ offer off. clash (f.last ∙ offer) off))
 
   -- a thread is put in the queue
@@ -248,7 +263,7 @@ module _ {J S : Type 0} (b : Behavior J) (st : S → List (LocalAction J) → Ty
   busy-ready x k acts go o h h' book ms y held = rw held (record {
     near = record {
       around = record {
-        each = λ t ne live. fit-same refl refl refl refl refl (only-other (strand.Conn t) (strand.Conn c) k h.run_queue ne) refl refl refl (y.near.around.each t ne live);
+        each = λ t ne live. fit-same refl refl refl refl refl refl (only-other (strand.Conn t) (strand.Conn c) k h.run_queue ne) refl refl refl (y.near.around.each t ne live);
         dead = y.near.around.dead;
         closed = y.near.around.closed;
         shut = y.near.around.shut;
@@ -260,14 +275,13 @@ module _ {J S : Type 0} (b : Behavior J) (st : S → List (LocalAction J) → Ty
         client = y.near.around.client;
         no_socket = y.near.around.no_socket;
         own_aside = y.near.around.own_aside;
-        stops = y.near.around.stops;
+        disarmed = y.near.around.disarmed;
         common = y.near.around.common;
       };
       to_do = y.near.to_do;
       last_act = y.near.last_act;
       threads = ap (λ l. lined_up acts l) (only-same (strand.Conn c) k h.run_queue) ∙ y.near.threads;
       offered = y.near.offered;
-      deadlines = y.near.deadlines;
       agenda = y.near.agenda;
       kind = y.near.kind;
       offer = y.near.offer;
@@ -275,6 +289,8 @@ module _ {J S : Type 0} (b : Behavior J) (st : S → List (LocalAction J) → Ty
       stopping = y.near.stopping;
       no_more = y.near.no_more;
       not_to_end = y.near.not_to_end;
+      wakes = y.near.wakes;
+      phase = y.near.phase;
       last = y.near.last;
       touched = y.near.touched;
     };
@@ -287,7 +303,7 @@ module _ {J S : Type 0} (b : Behavior J) (st : S → List (LocalAction J) → Ty
   busy-offer x q acts go o h h' book ms y held = rw held (record {
     near = record {
       around = record {
-        each = λ t ne live. fit-same refl refl refl refl refl refl (only-other (strand.Conn t) (strand.Conn c) q h.offer_queue ne) refl refl (y.near.around.each t ne live);
+        each = λ t ne live. fit-same refl refl refl refl refl refl refl (only-other (strand.Conn t) (strand.Conn c) q h.offer_queue ne) refl refl (y.near.around.each t ne live);
         dead = y.near.around.dead;
         closed = y.near.around.closed;
         shut = y.near.around.shut;
@@ -299,14 +315,13 @@ module _ {J S : Type 0} (b : Behavior J) (st : S → List (LocalAction J) → Ty
         client = y.near.around.client;
         no_socket = y.near.around.no_socket;
         own_aside = y.near.around.own_aside;
-        stops = y.near.around.stops;
+        disarmed = y.near.around.disarmed;
         common = y.near.around.common;
       };
       to_do = y.near.to_do;
       last_act = y.near.last_act;
       threads = y.near.threads;
       offered = ap (λ l. l ++ offers acts) (only-same (strand.Conn c) q h.offer_queue) ∙ append_assoc (only (strand.Conn c) h.offer_queue) (q ∷ []) (offers acts) ∙ y.near.offered;
-      deadlines = y.near.deadlines;
       agenda = y.near.agenda;
       kind = y.near.kind;
       offer = y.near.offer;
@@ -314,6 +329,8 @@ module _ {J S : Type 0} (b : Behavior J) (st : S → List (LocalAction J) → Ty
       stopping = y.near.stopping;
       no_more = y.near.no_more;
       not_to_end = y.near.not_to_end;
+      wakes = y.near.wakes;
+      phase = y.near.phase;
       last = y.near.last;
       touched = y.near.touched;
     };
@@ -354,8 +371,8 @@ module _ {J S : Type 0} (b : Behavior J) (st : S → List (LocalAction J) → Ty
       rw held (record {
         near = record {
           around = around-next b st c ms z true true true false h g _ (lined (strand.Conn c) rest h.run_queue) _ (placed (strand.Conn c) rest h.offer_queue) book book' a
-              (record { seats = λ t ne. refl; run_queue = λ t ne. refl; offer_queue = λ t ne. refl; in_offers = refl; now = refl; ends = λ t ne. refl }) same a.out a.alive (hung-closed c hung) refl a.no_socket
-              (hung.strand_aside (strand.Conn c) ∙ a.own_aside) a.stops
+              (record { seats = λ t ne. refl; run_queue = λ t ne. refl; offer_queue = λ t ne. refl; in_offers = refl; now = refl; ends = λ t ne. refl; wakes = refl; deadlines = λ s ne. refl }) same a.out a.alive (hung-closed c hung) refl a.no_socket
+              (hung.strand_aside (strand.Conn c) ∙ a.own_aside)
               (common-next b st c ms z _ (lined (strand.Conn c) rest h.run_queue) _ (placed (strand.Conn c) rest h.offer_queue) h.now h.connections (h.connections - 1) book book' a.common
               (record {
                 enabled = inl ((carried rest, y.near.to_do), a.client);
@@ -375,7 +392,6 @@ module _ {J S : Type 0} (b : Behavior J) (st : S → List (LocalAction J) → Ty
           last_act = y.near.last_act;
           threads = sym (ap (waiting b) own ∙ (rw none (sym y.near.threads)));
           offered = sym (ap (to_offer b) own ∙ (rw none (append-nil (to_offer b es) ∙ sym y.near.offered)));
-          deadlines = sym (ap (armed b) own ∙ (rw none (sym y.near.deadlines)));
           agenda = y.near.agenda ∙ sym (ap (λ taken. armed_with (strand.Conn c) taken (agenda b ms)) none);
           kind = ap in_offers own ∙ y.near.kind;
           offer = subst (λ (fs : List (LocalAction J)). IsOffer go false (begun_offer fs)) (sym own) (offer-closed go true (begun_offer es) y.near.offer);
@@ -383,6 +399,8 @@ module _ {J S : Type 0} (b : Behavior J) (st : S → List (LocalAction J) → Ty
           stopping = ap is_stopping own ∙ y.near.stopping;
           no_more = ap (has_ended place.Client) own ∙ y.near.no_more ∙ sym (hung.has_ended (id.Conn c));
           not_to_end = y.near.not_to_end;
+          wakes = ap is_waking own ∙ y.near.wakes;
+          phase = y.near.phase;
           last = y.near.last;
           touched = touches c z None ms;
         };
@@ -405,7 +423,7 @@ module _ {J S : Type 0} (b : Behavior J) (st : S → List (LocalAction J) → Ty
         near = record {
           around = around-next b st c ms z true true o o h h _ (lined (strand.Conn c) rest h.run_queue) _ (placed (strand.Conn c) rest h.offer_queue) book book' a
               (held-same c h) (same-keeps c ids) a.out a.alive (ids.is_open (id.Conn c) ∙ a.connection) a.client a.no_socket
-              (ids.strand_aside (strand.Conn c) ∙ a.own_aside) a.stops
+              (ids.strand_aside (strand.Conn c) ∙ a.own_aside)
               (common-next b st c ms z _ (lined (strand.Conn c) rest h.run_queue) _ (placed (strand.Conn c) rest h.offer_queue) h.now h.connections h.connections book book' a.common
               (record {
                 enabled = (carried rest, y.near.to_do);
@@ -425,7 +443,6 @@ module _ {J S : Type 0} (b : Behavior J) (st : S → List (LocalAction J) → Ty
           last_act = y.near.last_act;
           threads = sym (ap (waiting b) own ∙ (rw none (sym y.near.threads)));
           offered = sym (ap (to_offer b) own ∙ (rw none (append-nil (to_offer b es) ∙ sym y.near.offered)));
-          deadlines = sym (ap (armed b) own ∙ (rw none (sym y.near.deadlines)));
           agenda = y.near.agenda ∙ sym (ap (λ taken. armed_with (strand.Conn c) taken (agenda b ms)) none);
           kind = ap in_offers own ∙ y.near.kind;
           offer = subst (λ (fs : List (LocalAction J)). IsOffer go o (begun_offer fs)) (sym own) y.near.offer;
@@ -433,6 +450,8 @@ module _ {J S : Type 0} (b : Behavior J) (st : S → List (LocalAction J) → Ty
           stopping = ap is_stopping own ∙ y.near.stopping;
           no_more = ap (has_ended place.Client) own ∙ y.near.no_more ∙ sym (ids.has_ended (id.Conn c));
           not_to_end = y.near.not_to_end;
+          wakes = ap is_waking own ∙ y.near.wakes;
+          phase = y.near.phase;
           last = y.near.last;
           touched = touches c z None ms;
         };
@@ -440,20 +459,20 @@ module _ {J S : Type 0} (b : Behavior J) (st : S → List (LocalAction J) → Ty
       }
 
   -- its life is over
-  pub standing-gone : (x : S) (rest : List (Act J)) (go : Bool) (h : Held S) (book book' : Book) (ms : List (GlobalAction J))
-      → Busy b st c x (act.Gone ∷ rest) go false h book ms → Forgets (strand.Conn c) book book'
-      → Standing b st h book' (Of (strand.Conn c) Gone None ∷ ms)
+  pub standing-gone : (x : S) (rest : List (Act J)) (go : Bool) (h h' : Held S) (book book' : Book) (ms : List (GlobalAction J))
+      → Busy b st c x (act.Gone ∷ rest) go false h book ms → Forgets (strand.Conn c) book book' → h' ≡ ended b st c h
+      → Standing b st h' book' (Of (strand.Conn c) Gone None ∷ ms)
   unfolding near-falls
-  standing-gone x rest go h book book' ms y forgot =
+  standing-gone x rest go h h' book book' ms y forgot held =
       let same : SameBook c book book' = same-forgot c forgot in
       let arrivals : book'.arrivals ≡ book.arrivals = forgot.numbers.arrivals in
       let es : List (LocalAction J) = projection (strand.Conn c) ms in
       let none : b.acts (Did Gone ∷ es) ≡ [] = quiet (Did Gone) es refl in
       let a = y.near.around in
       let f = near-falls b st c (act.Gone ∷ rest) go false h book ms y.near in
-      around-dead b st c h book' (Of (strand.Conn c) Gone None ∷ ms)
-      (around-next b st c ms Gone true false false false h h f.next_runs h.run_queue f.next_offers h.offer_queue book book' a (held-same c h) same a.out refl (forgot.is_open (id.Conn c) ∙ a.connection) a.client a.no_socket
-      (forgot-aside c forgot) a.stops
+      rw held (around-dead b st c (ended b st c h) book' (Of (strand.Conn c) Gone None ∷ ms)
+      (around-next b st c ms Gone true false false false h (ended b st c h) f.next_runs h.run_queue f.next_offers h.offer_queue book book' a (ended-same b st c h) same a.out refl (forgot.is_open (id.Conn c) ∙ a.connection) a.client a.no_socket
+      (forgot-aside c forgot)
       (common-next b st c ms Gone f.next_runs h.run_queue f.next_offers h.offer_queue h.now h.connections h.connections book book' a.common
       (record {
         enabled = y.near.to_do ∙ ap (λ l. act.Gone ∷ carried l) y.near.last_act;
@@ -468,9 +487,9 @@ module _ {J S : Type 0} (b : Behavior J) (st : S → List (LocalAction J) → Ty
       (tells-same book.history book'.history (external b ms) a.common.told forgot.entered.history) (tells-same book.offered book'.offered (offered_lengths b ms) a.common.offers_told forgot.entered.offered)
       (without-next b c Gone ms h.run_queue f.next_runs refl f.same_runs ∙ ap (without_all (strand.Conn c)) a.common.runs ∙ sym (ap (λ taken. lined (strand.Conn c) taken (without_all (strand.Conn c) (runs_of b ms))) none))
       (without-next b c Gone ms h.offer_queue f.next_offers refl f.same_offers ∙ ap (without_all (strand.Conn c)) a.common.offered ∙ sym (ap (λ taken. placed (strand.Conn c) taken (without_all (strand.Conn c) (offers_of b ms))) none))))
-      (ap (λ taken. armed_with (strand.Conn c) taken (without_those (is_of (strand.Conn c)) (agenda b ms))) none ∙ f.agenda)
+      (come-of h.to_come b (Of (strand.Conn c) Gone None ∷ ms) y.near.phase) (ap (λ taken. armed_with (strand.Conn c) taken (without_those (is_of (strand.Conn c)) (agenda b ms))) none ∙ f.agenda) (none-left (strand.Conn c) h.agenda)
       (forgot-ended c forgot)
-      (λ run on. clash on (y.near.last ∙ run)) (λ offer off. clash (y.near.last ∙ offer) off)
+      (λ run on. clash on (y.near.last ∙ run)) (λ offer off. clash (y.near.last ∙ offer) off))
 
 module _ {J S : Type 0} (b : Behavior J) (st : S → List (LocalAction J) → Type 0) (c : ℕ) where
   -- what is hung up is open
@@ -498,7 +517,7 @@ module _ {J S : Type 0} (b : Behavior J) (st : S → List (LocalAction J) → Ty
       → Around b st c al o h threads offer_queue book ms → KeepsIds book book' → KeepsTold book book'
       → Around b st c al o h threads offer_queue book' ms
   around-kept al o h threads offer_queue book book' ms a ids entered = record {
-    each = λ t ne live. fit-same refl refl refl refl refl refl refl (ids.is_open (id.Conn t)) (ids.has_ended (id.Conn t)) (a.each t ne live);
+    each = λ t ne live. fit-same refl refl refl refl refl refl refl refl (ids.is_open (id.Conn t)) (ids.has_ended (id.Conn t)) (a.each t ne live);
     dead = a.dead;
     closed = λ t ne gone. ids.is_open (id.Conn t) ∙ a.closed t ne gone;
     shut = a.shut;
@@ -510,7 +529,7 @@ module _ {J S : Type 0} (b : Behavior J) (st : S → List (LocalAction J) → Ty
     client = a.client;
     no_socket = a.no_socket;
     own_aside = ids.strand_aside (strand.Conn c) ∙ a.own_aside;
-    stops = a.stops;
+    disarmed = a.disarmed;
     common = common-kept b threads offer_queue h.now h.connections book book' ms a.common entered (λ n. ids.is_open (id.Sock n)) ((same-keeps c ids).asides) ids.arrivals;
   }
 
@@ -523,6 +542,7 @@ module _ {J S : Type 0} (b : Behavior J) (st : S → List (LocalAction J) → Ty
     same_runs = f.same_runs;
     same_offers = f.same_offers;
     agenda = f.agenda;
+    phase = f.phase;
     last = f.last;
     touched = f.touched;
   }

@@ -1,5 +1,5 @@
 -- Connections that arrive: a strand begins, or the connection is turned away.
-use Rattle.engine_base.specs.declared.seats.Ending.TheVariants as stop
+use Rattle.engine_base.specs.declared.seats.ToCome.TheVariants as coming
 use Rattle.std.proofs.Common.{◌≡◌, ℕ, ◌+◌, ◌<◌, ◌≤◌, true, false, ◌==◌, List, [], ◌∷◌, Option, None, if◌then◌else◌, refl, sym, ap, subst, ◌∙◌, arith}
 use Rattle.std.proofs.lemmas.Bool.{eqb-true}
 use Rattle.resty_base.specs.declared.names.Id.TheVariants as id
@@ -20,17 +20,19 @@ use Rattle.executions.specs.Executions.{GlobalAction, Of, TurnedAway, projection
 use Rattle.executions.specs.Counts.{arrived}
 use Rattle.executions.specs.Queues.{lined, placed}
 use Rattle.executions.specs.Agenda.{without_those, is_of, agenda}
+use Rattle.executions.specs.Phases.{Waking, Running}
 use Rattle.executions.specs.Histories.{external, offered_lengths}
 use Rattle.strand_contract.specs.Laws.{IsLastAct}
-use Rattle.engine_base.specs.Standing.{Held, is_to_end, without_dead, Around, Near, Busy, Falls, Standing}
-use Rattle.engine_base.proofs.Lists.{never-stops, by_test, same-true, tells-more, tells-same}
+use Rattle.engine_base.specs.Standing.{Held, is_to_end, is_to_wake, phase_at, without_dead, Around, Near, Busy, Falls, Standing}
+use Rattle.engine_base.proofs.Lists.{by_test, same-true, tells-more, tells-same}
 use Rattle.engine_base.proofs.Marks.{projection-same, touches, fit-same, SameBook, same-arrived, same-turned, same-hung, same-forgot, forgot-aside, forgot-ended, same-joins, hung-closed, common-next, around-next, near-begins}
+use Rattle.engine_base.proofs.Agendas.{come-same}
 use Rattle.engine_base.proofs.Acts.{aside-all}
 use Rattle.engine_base.proofs.Waiting.{lined-own, placed-own, armed-own, runs-next, offers-next}
 use Rattle.engine_base.proofs.Turns.{no-thread, no-place}
 use Rattle.engine_base.proofs.Events.{at-rest, none-holds}
 
-module _ {J S : Type 0} (b : Behavior J) (st : S → List (LocalAction J) → Type 0) (ms : List (GlobalAction J)) (h : Held S) (book : Book) (g : Standing b st h book ms) (run_queue : h.run_queue ≡ []) (offer_queue : h.offer_queue ≡ []) (running : h.in_offers ≡ false) (ending : h.ending ≡ stop.Over)
+module _ {J S : Type 0} (b : Behavior J) (st : S → List (LocalAction J) → Type 0) (ms : List (GlobalAction J)) (h : Held S) (book : Book) (g : Standing b st h book ms) (run_queue : h.run_queue ≡ []) (offer_queue : h.offer_queue ≡ []) (running : h.in_offers ≡ false) (to_come : h.to_come ≡ coming.Nothing)
     (keeps : (es : List (LocalAction J)) → IsExecution b es → lives es ≡ true → HasNoWork b es → KeepsNothingBack b es) (c : ℕ) (new : c ≡ book.arrivals + 1) where
   unseen : projection (strand.Conn c) ms ≡ []
   unseen = g.common.unborn c (omega (arith, new))
@@ -54,7 +56,7 @@ module _ {J S : Type 0} (b : Behavior J) (st : S → List (LocalAction J) → Ty
     client = ap (is_open place.Client) unseen;
     no_socket = λ k. ap (is_open (place.Sock k)) unseen;
     own_aside = g.aside (strand.Conn c) ∙ ap lives unseen;
-    stops = g.stops;
+    disarmed = λ s ne. g.disarmed s;
     common = g.common;
   }
 
@@ -66,17 +68,17 @@ module _ {J S : Type 0} (b : Behavior J) (st : S → List (LocalAction J) → Ty
         let k : Held S = record h { connections = h.connections + 1 } in
         let same : SameBook c book book' = same-arrived c gave in
         rw held (around-next b st c ms z false true false true h k h.run_queue (lined (strand.Conn c) (b.acts (Did z ∷ es)) h.run_queue) h.offer_queue (placed (strand.Conn c) (b.acts (Did z ∷ es)) h.offer_queue) book book' around-unseen
-        (record { seats = λ t ne. refl; run_queue = λ t ne. refl; offer_queue = λ t ne. refl; in_offers = refl; now = refl; ends = λ t ne. refl })
+        (record { seats = λ t ne. refl; run_queue = λ t ne. refl; offer_queue = λ t ne. refl; in_offers = refl; now = refl; ends = λ t ne. refl; wakes = refl; deadlines = λ s ne. refl })
         same
         around-unseen.out refl
         (gave.is_open (id.Conn c) ∙ ap (λ v. if v then true else book.is_open (id.Conn c)) (same-true c)) refl (λ k. refl)
-        (gave.strand_aside (strand.Conn c) ∙ ap (λ v. if v then true else book.strand_aside (strand.Conn c)) (same-true c)) (never-stops ending)
+        (gave.strand_aside (strand.Conn c) ∙ ap (λ v. if v then true else book.strand_aside (strand.Conn c)) (same-true c))
         (common-next b st c ms z h.run_queue (lined (strand.Conn c) (b.acts (Did z ∷ es)) h.run_queue) h.offer_queue (placed (strand.Conn c) (b.acts (Did z ∷ es)) h.offer_queue) h.now h.connections (h.connections + 1) book book' around-unseen.common
         (record {
           enabled = unseen;
           begins = (g.common.begins, (refl, sym g.common.present));
-          given = (g.common.given, λ e. at-rest b st ms h book g run_queue offer_queue ending);
-          kept = (g.common.kept, λ e. none-holds b st ms h book g run_queue offer_queue ending keeps);
+          given = (g.common.given, λ e. at-rest b st ms h book g run_queue offer_queue to_come);
+          kept = (g.common.kept, λ e. none-holds b st ms h book g run_queue offer_queue to_come keeps);
           plain = (g.common.plain, (refl, next, rw g.common.count room));
           ordered = (g.common.ordered, tt);
           served = refl;
@@ -96,7 +98,8 @@ module _ {J S : Type 0} (b : Behavior J) (st : S → List (LocalAction J) → Ty
       around = around-begun;
       same_runs = lined-own (strand.Conn c) (b.acts (Did (Began h.now (start.Client c)) ∷ projection (strand.Conn c) ms)) h'.run_queue;
       same_offers = placed-own (strand.Conn c) (b.acts (Did (Began h.now (start.Client c)) ∷ projection (strand.Conn c) ms)) h'.offer_queue;
-      agenda = armed-own (strand.Conn c) (b.acts (Did (Began h.now (start.Client c)) ∷ projection (strand.Conn c) ms)) (agenda b ms) ∙ ap (without_those (is_of (strand.Conn c))) g.agenda;
+      agenda = rw held (armed-own (strand.Conn c) (b.acts (Did (Began h.now (start.Client c)) ∷ projection (strand.Conn c) ms)) (agenda b ms) ∙ ap (without_those (is_of (strand.Conn c))) g.agenda);
+      phase = rw held (sym (ap phase_at to_come));
       last = rw held (sym running);
       touched = touches c (Began h.now (start.Client c)) None ms;
     }
@@ -113,15 +116,15 @@ module _ {J S : Type 0} (b : Behavior J) (st : S → List (LocalAction J) → Ty
                 no_use = refl;
                 threads = rw (unseen, held, run_queue) refl;
                 offered = rw (unseen, held, offer_queue) refl;
-                deadlines = rw unseen refl;
-                agenda = g.agenda;
-                arms_none = refl;
+                agenda = rw held g.agenda;
                 kind = rw held (sym running);
                 offer = λ e. absurd (let w : false ≡ true = e in cc);
                 moment = rw held refl;
                 stopping = ap is_stopping unseen;
                 no_more = ap (has_ended place.Client) unseen ∙ sym (gave.has_ended (id.Conn c) ∙ ap (λ v. if v then false else book.has_ended (id.Conn c)) (same-true c));
-                not_to_end = rw held (ap (λ o. is_to_end o c) ending);
+                not_to_end = rw held (ap (λ o. is_to_end o c) to_come);
+                wakes = rw held (sym (ap is_to_wake to_come));
+                phase = rw held (sym (ap phase_at to_come));
                 last = rw held (sym running);
               }));
           stands = subst (λ (fs : List (LocalAction J)). st x fs) (sym own) stands;
@@ -137,7 +140,7 @@ module _ {J S : Type 0} (b : Behavior J) (st : S → List (LocalAction J) → Ty
       record {
         each = λ t live. by_test (t == c)
             (λ e. absurd (let w : false ≡ true = sym (ap lives unseen) ∙ subst (λ (i : ℕ). lives (projection (strand.Conn i) ms) ≡ true) (eqb-true t c e) live in cc))
-            (λ ne. fit-same refl refl refl refl refl refl refl (same.is_open t ne) (same.has_ended t ne) (g.each t live));
+            (λ ne. fit-same refl refl refl refl refl refl refl refl (same.is_open t ne) (same.has_ended t ne) (g.each t live));
         dead = g.dead;
         closed = λ t gone. by_test (t == c)
             (λ e. subst (λ (i : ℕ). book4.is_open (id.Conn i) ≡ false) (sym (eqb-true t c e)) (forgot.is_open (id.Conn c) ∙ hung-closed c hung))
@@ -149,13 +152,14 @@ module _ {J S : Type 0} (b : Behavior J) (st : S → List (LocalAction J) → Ty
             (λ ne. same.has_ended t ne ∙ g.forgotten t gone);
         flip_to_runs = λ run on. absurd (let w : false ≡ true = on in cc);
         flip_to_offers = λ offer off. run_queue;
-        stops = never-stops ending;
+        comes = come-same coming.Nothing h.to_come b (TurnedAway c ∷ ms) to_come (λ waking. absurd (let w : Running ≡ Waking = waking in cc));
         agenda = g.agenda;
+        disarmed = g.disarmed;
         common = record {
           alone = g.common.alone;
           begins = (g.common.begins, tt);
-          given = (g.common.given, λ e. at-rest b st ms h book g run_queue offer_queue ending);
-          kept = (g.common.kept, λ e. none-holds b st ms h book g run_queue offer_queue ending keeps);
+          given = (g.common.given, λ e. at-rest b st ms h book g run_queue offer_queue to_come);
+          kept = (g.common.kept, λ e. none-holds b st ms h book g run_queue offer_queue to_come keeps);
           plain = (g.common.plain, (next, rw g.common.count full));
           ordered = (g.common.ordered, tt);
           served = (g.common.served, tt);

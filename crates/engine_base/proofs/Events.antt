@@ -1,5 +1,5 @@
 -- What a world gives where all strands are at rest: what is known of them there, and the turns that it begins.
-use Rattle.engine_base.specs.declared.seats.Ending.TheVariants as stop
+use Rattle.engine_base.specs.declared.seats.ToCome.TheVariants as coming
 use Rattle.std.proofs.Common.{◌≡◌, ℕ, Bool, true, false, ◌==◌, List, [], ◌∷◌, Some, None, if◌then◌else◌, refl, sym, ap, subst, ◌∙◌, arith}
 use Rattle.resty_base.specs.declared.names.Id.{Id}
 use Rattle.resty_base.specs.declared.names.Id.TheVariants as id
@@ -18,10 +18,12 @@ use Rattle.strand_contract.specs.declared.turns.Seen.{Seen}
 use Rattle.strand_contract.specs.declared.turns.Seen.TheVariants as seen
 use Rattle.strand_contract.specs.Actions.{LocalAction, Told, Did, Began, Halted}
 use Rattle.strand_contract.specs.Behaviors.{Behavior}
-use Rattle.strand_contract.specs.Alone.{lives, moment, is_open, open_places, has_ended, left_by, waiting, run_by, to_offer, offered_by, begun_offer, in_offers, is_stopping, winds_up_by, is_winding_up, IsQuiescent, IsExecution, HasNoWork, KeepsNothingBack, IsGivenAt}
+use Rattle.strand_contract.specs.Alone.{lives, moment, is_open, open_places, has_ended, left_by, waiting, run_by, to_offer, offered_by, begun_offer, in_offers, is_stopping, is_waking, winds_up_by, is_winding_up, IsQuiescent, IsExecution, HasNoWork, KeepsNothingBack, IsGivenAt}
 use Rattle.executions.specs.Executions.{GlobalAction, Of, Everyone, TurnedAway, IdleGave, IdleClosed, projection, Throughout}
 use Rattle.executions.specs.Queues.{only, after_run, after_offer, run_queue as runs_of, offer_queue as offers_of}
-use Rattle.executions.specs.Agenda.{agenda_at}
+use Rattle.executions.specs.Phases.{Running, phase as phase_of}
+use Rattle.executions.specs.Agenda.{agenda, agenda_at}
+use Rattle.executions.specs.OwnDeadlines.{deadlines}
 use Rattle.executions.specs.Histories.{external, offered_lengths}
 use Rattle.executions.specs.Ordered.{offers_last}
 use Rattle.executions.specs.Lawful.{AllAtRest, BeginsRight, NoneHoldsBack}
@@ -31,15 +33,16 @@ use Rattle.strand_contract.specs.OpenPlaceLaws.{none-open}
 use Rattle.engine_base.specs.declared.seats.Seat.{Seat}
 use Rattle.engine_base.specs.Shown.{shown}
 use Rattle.engine_base.specs.Right.{Tells, IsFresh, IsRight}
-use Rattle.engine_base.specs.Standing.{Held, is_to_end, HasAsides, Turn, Standing, without_dead}
-use Rattle.engine_base.proofs.Lists.{never-stops, by_test, clash, same-true, tells-more, tells-same}
+use Rattle.engine_base.specs.Standing.{Held, is_to_end, is_to_wake, phase_at, HasAsides, Turn, Standing, without_dead}
+use Rattle.engine_base.proofs.Lists.{by_test, clash, same-true, tells-more, tells-same}
+use Rattle.engine_base.proofs.Agendas.{come-same, wake-same}
 use Rattle.engine_base.proofs.Marks.{gave-asides, MayCome}
 use Rattle.engine_base.proofs.Turns.{seat-lives, seat-fits, around-leave, turn-next, no-job, settled, no-thread, no-place}
 
 -- where nothing has happened, and no strand has a seat
 pub fresh-stands : {J S : Type 0} (b : Behavior J) (st : S → List (LocalAction J) → Type 0) (h : Held S) (book : Book) → IsFresh book → ((s : StrandId) → h.seats s ≡ None)
-    → h.run_queue ≡ [] → h.offer_queue ≡ [] → h.now ≡ 0 → h.connections ≡ 0 → h.ending ≡ stop.Over → Standing b st h book []
-fresh-stands {J = J} b st h book fresh seats run_queue offer_queue now count ends = record {
+    → h.run_queue ≡ [] → h.offer_queue ≡ [] → h.now ≡ 0 → h.connections ≡ 0 → h.to_come ≡ coming.Nothing → h.agenda ≡ [] → Standing b st h book []
+fresh-stands {J = J} b st h book fresh seats run_queue offer_queue now count ends none_armed = record {
   each = λ t live. absurd (let e : false ≡ true = live in cc);
   dead = λ t gone. seats (strand.Conn t);
   closed = λ t gone. fresh.none_open (id.Conn t);
@@ -48,8 +51,9 @@ fresh-stands {J = J} b st h book fresh seats run_queue offer_queue now count end
   forgotten = λ t gone. fresh.none_ended (id.Conn t);
   flip_to_runs = λ run on. absurd (let e : false ≡ true = on in cc);
   flip_to_offers = λ offer off. run_queue;
-  stops = never-stops ends;
-  agenda = refl;
+  comes = come-same coming.Nothing h.to_come b [] ends (λ waking. refl);
+  agenda = sym none_armed;
+  disarmed = λ s gone. ap (deadlines s) none_armed;
   common = record {
     alone = λ s. tt;
     begins = tt;
@@ -103,7 +107,7 @@ shown-open (event.Broken j) i given book book' gave is = subst (λ (k : Id). boo
 shown-open (event.Ready j) i given book book' gave is = subst (λ (k : Id). book.is_open k ≡ true) (first-same (j, seen.Ready place.Client) (i, given) is) gave.fit
 shown-open e i given book book' gave is = absurd (let w : None ≡ Some (i, given) = is in cc)
 
-module _ {J S : Type 0} (b : Behavior J) (st : S → List (LocalAction J) → Type 0) (ms : List (GlobalAction J)) (h : Held S) (book : Book) (g : Standing b st h book ms) (run_queue : h.run_queue ≡ []) (offer_queue : h.offer_queue ≡ []) (ending : h.ending ≡ stop.Over) where
+module _ {J S : Type 0} (b : Behavior J) (st : S → List (LocalAction J) → Type 0) (ms : List (GlobalAction J)) (h : Held S) (book : Book) (g : Standing b st h book ms) (run_queue : h.run_queue ≡ []) (offer_queue : h.offer_queue ≡ []) (to_come : h.to_come ≡ coming.Nothing) where
   quiescent : (s : StrandId) → IsQuiescent b (projection s ms)
   quiescent (strand.Conn t) = record {
     idle = λ live. let f = g.each t live in record {
@@ -111,8 +115,8 @@ module _ {J S : Type 0} (b : Behavior J) (st : S → List (LocalAction J) → Ty
       no_thread = f.threads ∙ ap (only (strand.Conn t)) run_queue;
       no_place = f.offered ∙ ap (only (strand.Conn t)) offer_queue;
       no_offer = f.no_offer;
-      no_deadline = λ waking. rw f.no_deadline refl;
-      no_stop = f.stopping ∙ ap (λ o. is_to_end o t) ending;
+      no_deadline = wake-same (is_to_wake h.to_come) false b (projection (strand.Conn t) ms) (sym (ap is_to_wake to_come)) f.wakes;
+      no_stop = f.stopping ∙ ap (λ o. is_to_end o t) to_come;
       no_end = never-winds b t ms g.common.begins;
     };
     closed = λ off. none-open (projection (strand.Conn t) ms) (g.shut t off);
@@ -122,7 +126,7 @@ module _ {J S : Type 0} (b : Behavior J) (st : S → List (LocalAction J) → Ty
   pub at-rest : AllAtRest b ms
   at-rest = record {
     each = quiescent;
-    waits = record { settled = settled b st ms h book g ending; no_thread = no-thread b st ms h book g run_queue; no_place = no-place b st ms h book g offer_queue };
+    waits = record { settled = settled b st ms h book g to_come; no_thread = no-thread b st ms h book g run_queue; no_place = no-place b st ms h book g offer_queue };
   }
 
   module _ (keeps : (es : List (LocalAction J)) → IsExecution b es → lives es ≡ true → HasNoWork b es → KeepsNothingBack b es) where
@@ -153,7 +157,7 @@ module _ {J S : Type 0} (b : Behavior J) (st : S → List (LocalAction J) → Ty
     module _ (asks : (es : List (LocalAction J)) → IsLastAct (b.acts es)) (c : ℕ) (x : Seat S) (h' : Held S) (book' : Book)
         (here : h.seats (strand.Conn c) ≡ Some x) (running : h.in_offers ≡ false)
         (seats : (t : StrandId) → h'.seats t ≡ (if same_strand t (strand.Conn c) then None else h.seats t))
-        (runs_same : h'.run_queue ≡ h.run_queue) (offers_same : h'.offer_queue ≡ h.offer_queue) (phase : h'.in_offers ≡ h.in_offers) (now : h'.now ≡ h.now) (count : h'.connections ≡ h.connections) (ends : h'.ending ≡ h.ending) where
+        (runs_same : h'.run_queue ≡ h.run_queue) (offers_same : h'.offer_queue ≡ h.offer_queue) (phase : h'.in_offers ≡ h.in_offers) (now : h'.now ≡ h.now) (count : h'.connections ≡ h.connections) (ends : h'.to_come ≡ h.to_come) (armed : h'.agenda ≡ h.agenda) where
       turn-event : (given : Seen)
           → MayCome b c (action_of b (projection (strand.Conn c) ms) given) ms h'.connections
           → lives (Did (action_of b (projection (strand.Conn c) ms) given) ∷ projection (strand.Conn c) ms) ≡ lives (projection (strand.Conn c) ms)
@@ -161,7 +165,9 @@ module _ {J S : Type 0} (b : Behavior J) (st : S → List (LocalAction J) → Ty
           → left_by (Did (action_of b (projection (strand.Conn c) ms) given)) [] ≡ []
           → after_run (strand.Conn c) (action_of b (projection (strand.Conn c) ms) given) (runs_of b ms) ≡ runs_of b ms
           → after_offer (strand.Conn c) (action_of b (projection (strand.Conn c) ms) given) (offers_of b ms) ≡ offers_of b ms
-          → agenda_at (strand.Conn c) (action_of b (projection (strand.Conn c) ms) given) None ms [] ≡ []
+          → agenda_at (strand.Conn c) (action_of b (projection (strand.Conn c) ms) given) None ms (agenda b ms) ≡ agenda b ms
+          → is_waking (Did (action_of b (projection (strand.Conn c) ms) given) ∷ projection (strand.Conn c) ms) ≡ false
+          → phase_of (Of (strand.Conn c) (action_of b (projection (strand.Conn c) ms) given) None ∷ ms) ≡ Running
           → run_by (Did (action_of b (projection (strand.Conn c) ms) given)) (waiting b (projection (strand.Conn c) ms)) ≡ waiting b (projection (strand.Conn c) ms)
           → offered_by (Did (action_of b (projection (strand.Conn c) ms) given)) (to_offer b (projection (strand.Conn c) ms)) ≡ to_offer b (projection (strand.Conn c) ms)
           → in_offers (Did (action_of b (projection (strand.Conn c) ms) given) ∷ projection (strand.Conn c) ms) ≡ false
@@ -176,31 +182,31 @@ module _ {J S : Type 0} (b : Behavior J) (st : S → List (LocalAction J) → Ty
           → Tells book'.history (external b (Of (strand.Conn c) (action_of b (projection (strand.Conn c) ms) given) None ∷ ms))
           → Tells book'.offered (offered_lengths b (Of (strand.Conn c) (action_of b (projection (strand.Conn c) ms) given) None ∷ ms))
           → Turn b st c x.strand given false x.is_open h' book' ms
-      turn-event given may live opens no_use no_run no_offer arms_none threads list kind offer time stopping more last ids aside own_aside ended arrivals told offers_told =
+      turn-event given may live opens no_use no_run no_offer arms_none wakes runs threads list kind offer time stopping more last ids aside own_aside ended arrivals told offers_told =
           let alive : lives (projection (strand.Conn c) ms) ≡ true = seat-lives b st c ms h book x g here in
           let mine = g.each c alive in
           let fits = seat-fits b st c ms h book x g here in
           let out : h'.seats (strand.Conn c) ≡ None = seats (strand.Conn c) ∙ ap (λ v. if v then None else h.seats (strand.Conn c)) (same-true c) in
-          let a = around-leave b st c ms h h' book x g here seats (λ t ne. ap (only (strand.Conn t)) runs_same) (λ t ne. ap (only (strand.Conn t)) offers_same) phase now count (λ t ne living. ap (λ o. is_to_end o t) ends) (never-stops (ends ∙ ending)) in
+          let a = around-leave b st c ms h h' book x g here seats (λ t ne. ap (only (strand.Conn t)) runs_same) (λ t ne. ap (only (strand.Conn t)) offers_same) phase now count (λ t ne living. ap (λ o. is_to_end o t) ends) (ap is_to_wake ends) (λ s ne. ap (deadlines s) armed) in
           turn-next b st c ms asks given x.strand false x.is_open x.is_open h' h' h.run_queue h.offer_queue book book' a fits.0 (mine.moment ∙ sym now)
-          (record { seats = λ t ne. refl; run_queue = λ t ne. refl; offer_queue = λ t ne. refl; in_offers = refl; now = refl; ends = λ t ne. refl })
+          (record { seats = λ t ne. refl; run_queue = λ t ne. refl; offer_queue = λ t ne. refl; in_offers = refl; now = refl; ends = λ t ne. refl; wakes = refl; deadlines = λ s ne. refl })
           (record { is_open = λ t ne. ids (id.Conn t); has_ended = ended; strand_aside = λ s ne. own_aside s; sockets = λ n. ids (id.Sock n); asides = aside }) out may
           (live ∙ alive) (ids (id.Conn c) ∙ sym fits.1) (opens place.Client ∙ mine.client ∙ sym fits.1) (λ k. opens (place.Sock k) ∙ mine.no_socket k) (own_aside (strand.Conn c) ∙ g.aside (strand.Conn c) ∙ alive) arrivals told offers_told
-          (ap (without_dead ms) runs_same ∙ g.common.runs ∙ sym no_run) (ap (without_dead ms) offers_same ∙ g.common.offered ∙ sym no_offer) (never-stops (ends ∙ ending))
+          (ap (without_dead ms) runs_same ∙ g.common.runs ∙ sym no_run) (ap (without_dead ms) offers_same ∙ g.common.offered ∙ sym no_offer)
           (record {
             done = mine.no_act;
             no_use = no_use;
             threads = threads ∙ mine.threads ∙ sym (ap (only (strand.Conn c)) runs_same);
             offered = list ∙ mine.offered ∙ sym (ap (only (strand.Conn c)) offers_same);
-            deadlines = mine.no_deadline;
-            agenda = g.agenda;
-            arms_none = arms_none;
+            agenda = arms_none ∙ g.agenda ∙ sym armed;
             kind = kind ∙ sym (phase ∙ running);
             offer = rw offer (λ e. absurd (let w : false ≡ true = e in cc));
             moment = time ∙ mine.moment ∙ sym now;
-            stopping = stopping ∙ mine.stopping ∙ ap (λ o. is_to_end o c) ending;
+            stopping = stopping ∙ mine.stopping ∙ ap (λ o. is_to_end o c) to_come;
             no_more = more;
-            not_to_end = ap (λ o. is_to_end o c) (ends ∙ ending);
+            not_to_end = ap (λ o. is_to_end o c) (ends ∙ to_come);
+            wakes = wakes ∙ sym (ap is_to_wake (ends ∙ to_come));
+            phase = runs ∙ sym (ap phase_at (ends ∙ to_come));
             last = last ∙ sym (phase ∙ running);
           })
 
@@ -223,7 +229,7 @@ module _ {J S : Type 0} (b : Behavior J) (st : S → List (LocalAction J) → Ty
             ordered = (g.common.ordered, tt);
             served = refl;
             counts = g.common.count ∙ sym count;
-          }) refl (λ q. refl) refl refl refl refl refl refl refl refl refl refl
+          }) refl (λ q. refl) refl refl refl refl refl refl refl refl refl refl refl refl
           (mine.no_more ∙ sym (gave.has_ended (id.Conn c))) refl gave.is_open (gave-asides (event.Bytes (id.Conn c) bytes) gave) gave.strand_aside (λ t ne. gave.has_ended (id.Conn t)) (omega (arith, gave.arrivals))
           (tells-more book.history book'.history (entry.Given (event.Bytes (id.Conn c) bytes) ∷ []) (external b ms) g.common.told gave.history)
           (tells-same book.offered book'.offered (offered_lengths b ms) g.common.offers_told gave.offered)
@@ -240,7 +246,7 @@ module _ {J S : Type 0} (b : Behavior J) (st : S → List (LocalAction J) → Ty
             ordered = (g.common.ordered, tt);
             served = refl;
             counts = g.common.count ∙ sym count;
-          }) refl (λ q. refl) refl refl refl refl refl refl refl refl refl refl
+          }) refl (λ q. refl) refl refl refl refl refl refl refl refl refl refl refl refl
           (sym (gave.has_ended (id.Conn c) ∙ ap (λ v. if v then true else book.has_ended (id.Conn c)) (same-true c))) refl gave.is_open (gave-asides (event.Ended (id.Conn c)) gave) gave.strand_aside
           (λ t ne. gave.has_ended (id.Conn t) ∙ ap (λ v. if v then true else book.has_ended (id.Conn t)) ne) (omega (arith, gave.arrivals))
           (tells-more book.history book'.history (entry.Given (event.Ended (id.Conn c)) ∷ []) (external b ms) g.common.told gave.history)
@@ -258,7 +264,7 @@ module _ {J S : Type 0} (b : Behavior J) (st : S → List (LocalAction J) → Ty
             ordered = (g.common.ordered, tt);
             served = refl;
             counts = g.common.count ∙ sym count;
-          }) refl (λ q. refl) refl refl refl refl refl refl refl refl refl refl
+          }) refl (λ q. refl) refl refl refl refl refl refl refl refl refl refl refl refl
           (sym (gave.has_ended (id.Conn c) ∙ ap (λ v. if v then true else book.has_ended (id.Conn c)) (same-true c))) refl gave.is_open (gave-asides (event.Broken (id.Conn c)) gave) gave.strand_aside
           (λ t ne. gave.has_ended (id.Conn t) ∙ ap (λ v. if v then true else book.has_ended (id.Conn t)) ne) (omega (arith, gave.arrivals))
           (tells-more book.history book'.history (entry.Given (event.Broken (id.Conn c)) ∷ []) (external b ms) g.common.told gave.history)
@@ -277,7 +283,7 @@ module _ {J S : Type 0} (b : Behavior J) (st : S → List (LocalAction J) → Ty
             ordered = (g.common.ordered, tt);
             served = refl;
             counts = g.common.count ∙ sym count;
-          }) refl (λ q. refl) refl refl refl refl refl refl refl refl refl refl
+          }) refl (λ q. refl) refl refl refl refl refl refl refl refl refl refl refl refl
           ((g.each c alive).no_more ∙ sym (gave.has_ended (id.Conn c))) refl gave.is_open (gave-asides (event.Ready (id.Conn c)) gave) gave.strand_aside (λ t ne. gave.has_ended (id.Conn t)) (omega (arith, gave.arrivals))
           (tells-more book.history book'.history (entry.Given (event.Ready (id.Conn c)) ∷ []) (external b ms) g.common.told gave.history)
           (tells-same book.offered book'.offered (offered_lengths b ms) g.common.offers_told gave.offered)

@@ -1,4 +1,6 @@
 pub mod Acts
+pub mod Agendas
+pub mod Deadlines
 pub mod Arrivals
 pub mod Empty
 pub mod Events

@@ -6,8 +6,6 @@ use Rattle.resty_base.specs.declared.names.StrandId.TheVariants as strand
 use Rattle.resty_world.specs.Ids.{same_strand}
 use Rattle.resty_world.specs.Book.{told}
 use Rattle.executions.specs.Queues.{only}
-use Rattle.engine_base.specs.declared.seats.Ending.{Ending}
-use Rattle.engine_base.specs.declared.seats.Ending.TheVariants as stop
 use Rattle.engine_base.specs.Right.{Tells}
 
 -- both outcomes of a test
@@ -17,10 +15,6 @@ by_test false on off = off refl
 
 pub clash : {C : Type 0} {b : Bool} → b ≡ true → b ≡ false → C
 clash on off = absurd (let e : true ≡ false = sym on ∙ off in cc)
-
--- what Stop has ended isn't ended by it again
-pub never-stops : {C : Type 0} {o : Ending} → o ≡ stop.Over → (last : Option ℕ) → o ≡ stop.After last → C
-never-stops over last after = absurd (let e : stop.Over ≡ stop.After last = sym over ∙ after in cc)
 
 pub same-true : (c : ℕ) → (c == c) ≡ true
 same-true c = eq-eqb c c refl

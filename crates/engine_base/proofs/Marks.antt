@@ -16,14 +16,15 @@ use Rattle.resty_world.specs.Given.{Gave, arrives}
 use Rattle.resty_world.specs.Ids.{same_id, same_strand, is_own}
 use Rattle.strand_contract.specs.declared.turns.Place.{Place}
 use Rattle.strand_contract.specs.declared.turns.Place.TheVariants as place
-use Rattle.strand_contract.specs.Actions.{Action, LocalAction, Did, Due, is_given}
+use Rattle.strand_contract.specs.Actions.{Action, LocalAction, Did, is_given}
 use Rattle.strand_contract.specs.Behaviors.{Behavior}
-use Rattle.strand_contract.specs.Alone.{lives, moment, is_open, has_ended, todo, left_by, waiting, lined_up, run_by, to_offer, offers, offered_by, armed, armed_by, taken_by, begun_offer, in_offers, is_stopping, Enabled, IsExecution}
+use Rattle.strand_contract.specs.Alone.{lives, moment, is_open, has_ended, todo, left_by, waiting, lined_up, run_by, to_offer, offers, offered_by, begun_offer, in_offers, is_stopping, is_waking, Enabled, IsExecution}
 use Rattle.executions.specs.Executions.{GlobalAction, Of, projection, Throughout}
-use Rattle.executions.specs.Phases.{Stopping, phase as phase_of}
+use Rattle.executions.specs.Phases.{phase as phase_of}
 use Rattle.executions.specs.Counts.{arrived_by, open_connections}
 use Rattle.executions.specs.Queues.{only, lined, placed, run_queue as runs_of, offer_queue as offers_of}
 use Rattle.executions.specs.Agenda.{armed_with, agenda, agenda_at}
+use Rattle.executions.specs.OwnDeadlines.{deadlines}
 use Rattle.executions.specs.Histories.{external, offered_lengths}
 use Rattle.executions.specs.Plain.{IsPlain}
 use Rattle.executions.specs.Ordered.{offers_last, was_touched, IsOrdered}
@@ -34,8 +35,7 @@ use Rattle.strand_contract.specs.Calls.{action_of}
 use Rattle.strand_contract.specs.Laws.{IsLastAct}
 use Rattle.engine_base.specs.declared.seats.Seat.{Seat}
 use Rattle.engine_base.specs.Right.{Tells, is_served}
-use Rattle.engine_base.specs.declared.seats.Ending.TheVariants as stop
-use Rattle.engine_base.specs.Standing.{Held, is_to_end, without_dead, Fit, HasAsides, Common, Around, Near, IsOffer}
+use Rattle.engine_base.specs.Standing.{Held, is_to_end, is_to_wake, phase_at, without_dead, Fit, HasAsides, Common, Around, Near, IsOffer}
 use Rattle.engine_base.proofs.Lists.{clash, same-true}
 
 pub projection-same : {J : Type 0} (c : ℕ) (x : Action J) (n : Option ℕ) (ms : List (GlobalAction J)) → projection (strand.Conn c) (Of (strand.Conn c) x n ∷ ms) ≡ Did x ∷ projection (strand.Conn c) ms
@@ -54,11 +54,11 @@ pub differs : (c t n : ℕ) → c ≤ n → n < t → (t == c) ≡ false
 differs c t n h k = grind (arith, nat_tests)
 
 -- what is held of a strand stays so, where it sees no change
-pub fit-same : {J S : Type 0} {b : Behavior J} {st : S → List (LocalAction J) → Type 0} {f f' : Bool} {now now' : ℕ} {u u' : Bool} {es es' : List (LocalAction J)} {seat seat' : Option (Seat S)} {l l' : List ℕ} {q q' : List Place} {o o' e e' : Bool}
-    → f' ≡ f → now' ≡ now → u' ≡ u → es' ≡ es → seat' ≡ seat → l' ≡ l → q' ≡ q → o' ≡ o → e' ≡ e
-    → Fit b st (record { seat = seat; threads = l; places = q; in_offers = f; now = now; to_end = u }) (record { is_open = o; has_ended = e }) es
-    → Fit b st (record { seat = seat'; threads = l'; places = q'; in_offers = f'; now = now'; to_end = u' }) (record { is_open = o'; has_ended = e' }) es'
-fit-same e1 e2 e3 e4 e5 e6 e7 e8 e9 fit = rw (e1, e2, e3, e4, e5, e6, e7, e8, e9) fit
+pub fit-same : {J S : Type 0} {b : Behavior J} {st : S → List (LocalAction J) → Type 0} {f f' : Bool} {now now' : ℕ} {u u' v v' : Bool} {es es' : List (LocalAction J)} {seat seat' : Option (Seat S)} {l l' : List ℕ} {q q' : List Place} {o o' e e' : Bool}
+    → f' ≡ f → now' ≡ now → u' ≡ u → v' ≡ v → es' ≡ es → seat' ≡ seat → l' ≡ l → q' ≡ q → o' ≡ o → e' ≡ e
+    → Fit b st (record { seat = seat; threads = l; places = q; in_offers = f; now = now; to_end = u; to_wake = v }) (record { is_open = o; has_ended = e }) es
+    → Fit b st (record { seat = seat'; threads = l'; places = q'; in_offers = f'; now = now'; to_end = u'; to_wake = v' }) (record { is_open = o'; has_ended = e' }) es'
+fit-same e1 e2 e3 e4 e5 e6 e7 e8 e9 e10 fit = rw (e1, e2, e3, e4, e5, e6, e7, e8, e9, e10) fit
 
 -- what the engine holds of the strands but c's stays so
 pub record SameHeld {S : Type 0} (c : ℕ) (h h' : Held S) : Type 0 where
@@ -67,10 +67,12 @@ pub record SameHeld {S : Type 0} (c : ℕ) (h h' : Held S) : Type 0 where
   pub offer_queue : (t : ℕ) → (t == c) ≡ false → only (strand.Conn t) h'.offer_queue ≡ only (strand.Conn t) h.offer_queue
   pub in_offers : h'.in_offers ≡ h.in_offers
   pub now : h'.now ≡ h.now
-  pub ends : (t : ℕ) → (t == c) ≡ false → is_to_end h'.ending t ≡ is_to_end h.ending t
+  pub ends : (t : ℕ) → (t == c) ≡ false → is_to_end h'.to_come t ≡ is_to_end h.to_come t
+  pub wakes : is_to_wake h'.to_come ≡ is_to_wake h.to_come
+  pub deadlines : (s : StrandId) → same_strand s (strand.Conn c) ≡ false → deadlines s h'.agenda ≡ deadlines s h.agenda
 
 pub held-same : {S : Type 0} (c : ℕ) (h : Held S) → SameHeld c h h
-held-same c h = record { seats = λ t ne. refl; run_queue = λ t ne. refl; offer_queue = λ t ne. refl; in_offers = refl; now = refl; ends = λ t ne. refl }
+held-same c h = record { seats = λ t ne. refl; run_queue = λ t ne. refl; offer_queue = λ t ne. refl; in_offers = refl; now = refl; ends = λ t ne. refl; wakes = refl; deadlines = λ s ne. refl }
 
 -- what the world says of the connections but c stays so, and of the sockets
 pub record SameBook (c : ℕ) (book book' : Book) : Type 0 where
@@ -214,10 +216,6 @@ arrives-none b s es (seen.Due n) = refl
 arrives-none b s es (seen.Run k) = refl
 arrives-none b s es seen.Stop = refl
 
-taken-none : {J : Type 0} (a : LocalAction J) → taken_by a [] ≡ []
-taken-none (Did (Due n)) = refl
-taken-none a = refl
-
 module _ {J S : Type 0} (b : Behavior J) (st : S → List (LocalAction J) → Type 0) (c : ℕ) (ms : List (GlobalAction J)) where
   -- one more action of the strand that is out
   pub common-next : (x : Action J) (threads threads' : List (StrandId × ℕ)) (offer_queue offer_queue' : List (StrandId × Place)) (now count count' : ℕ) (book book' : Book)
@@ -259,12 +257,11 @@ module _ {J S : Type 0} (b : Behavior J) (st : S → List (LocalAction J) → Ty
       → is_open place.Client (Did x ∷ projection (strand.Conn c) ms) ≡ o'
       → ((k : ℕ) → is_open (place.Sock k) (Did x ∷ projection (strand.Conn c) ms) ≡ false)
       → book'.strand_aside (strand.Conn c) ≡ al'
-      → ((last : Option ℕ) → h'.ending ≡ stop.After last → phase_of (Of (strand.Conn c) x None ∷ ms) ≡ Stopping)
       → Common b threads' offer_queue' h'.now h'.connections book' (Of (strand.Conn c) x None ∷ ms)
       → Around b st c al' o' h' threads' offer_queue' book' (Of (strand.Conn c) x None ∷ ms)
-  around-next x al al' o o' h h' threads threads' offer_queue offer_queue' book book' a sh sb out alive there client socks own_aside stops common = record {
+  around-next x al al' o o' h h' threads threads' offer_queue offer_queue' book book' a sh sb out alive there client socks own_aside common = record {
     each = λ t ne live. let same = projection-other t c x None ms ne in
-        fit-same sh.in_offers sh.now (sh.ends t ne) same (sh.seats t ne) (sh.run_queue t ne) (sh.offer_queue t ne) (sb.is_open t ne) (sb.has_ended t ne) (a.each t ne (sym (ap lives same) ∙ live));
+        fit-same sh.in_offers sh.now (sh.ends t ne) sh.wakes same (sh.seats t ne) (sh.run_queue t ne) (sh.offer_queue t ne) (sb.is_open t ne) (sb.has_ended t ne) (a.each t ne (sym (ap lives same) ∙ live));
     dead = λ t ne gone. sh.seats t ne ∙ a.dead t ne (sym (ap lives (projection-other t c x None ms ne)) ∙ gone);
     closed = λ t ne gone. sb.is_open t ne ∙ a.closed t ne (sym (ap lives (projection-other t c x None ms ne)) ∙ gone);
     shut = λ t ne gone q. let same = projection-other t c x None ms ne in ap (is_open q) same ∙ a.shut t ne (sym (ap lives same) ∙ gone) q;
@@ -276,7 +273,7 @@ module _ {J S : Type 0} (b : Behavior J) (st : S → List (LocalAction J) → Ty
     client = ap (is_open place.Client) (projection-same c x None ms) ∙ client;
     no_socket = λ k. ap (is_open (place.Sock k)) (projection-same c x None ms) ∙ socks k;
     own_aside = own_aside;
-    stops = stops;
+    disarmed = λ s ne gone. sh.deadlines s ne ∙ a.disarmed s ne (sym (ap lives (projection-out s c x None ms ne)) ∙ gone);
     common = common;
   }
 
@@ -286,15 +283,15 @@ module _ {J S : Type 0} (b : Behavior J) (st : S → List (LocalAction J) → Ty
     pub no_use : left_by (Did x) [] ≡ []
     pub threads : run_by (Did x) (waiting b (projection (strand.Conn c) ms)) ≡ only (strand.Conn c) h.run_queue
     pub offered : offered_by (Did x) (to_offer b (projection (strand.Conn c) ms)) ≡ only (strand.Conn c) h.offer_queue
-    pub deadlines : armed b (projection (strand.Conn c) ms) ≡ []
-    pub agenda : agenda b ms ≡ []
-    pub arms_none : agenda_at (strand.Conn c) x None ms [] ≡ []
+    pub agenda : agenda_at (strand.Conn c) x None ms (agenda b ms) ≡ h.agenda
     pub kind : in_offers (Did x ∷ projection (strand.Conn c) ms) ≡ h.in_offers
     pub offer : IsOffer go o (begun_offer (Did x ∷ projection (strand.Conn c) ms))
     pub moment : moment (Did x ∷ projection (strand.Conn c) ms) ≡ h.now
     pub stopping : is_stopping (Did x ∷ projection (strand.Conn c) ms) ≡ false
     pub no_more : has_ended place.Client (Did x ∷ projection (strand.Conn c) ms) ≡ book.has_ended (id.Conn c)
-    pub not_to_end : is_to_end h.ending c ≡ false
+    pub not_to_end : is_to_end h.to_come c ≡ false
+    pub wakes : is_waking (Did x ∷ projection (strand.Conn c) ms) ≡ is_to_wake h.to_come
+    pub phase : phase_of (Of (strand.Conn c) x None ∷ ms) ≡ phase_at h.to_come
     pub last : offers_last (Of (strand.Conn c) x None ∷ ms) ≡ h.in_offers
 
   pub near-begins : (asks : (es : List (LocalAction J)) → IsLastAct (b.acts es)) (x : Action J) (go o : Bool) (h : Held S) (book : Book)
@@ -309,14 +306,15 @@ module _ {J S : Type 0} (b : Behavior J) (st : S → List (LocalAction J) → Ty
         last_act = asks (Did x ∷ projection (strand.Conn c) ms);
         threads = sym (ap (waiting b) same ∙ ap (λ l. lined_up (b.acts (Did x ∷ projection (strand.Conn c) ms)) l) t.threads);
         offered = sym (ap (to_offer b) same ∙ ap (λ l. l ++ offers (b.acts (Did x ∷ projection (strand.Conn c) ms))) t.offered);
-        deadlines = sym (ap (armed b) same ∙ ap (λ l. armed_by (b.acts (Did x ∷ projection (strand.Conn c) ms)) l) (ap (taken_by (Did x)) t.deadlines ∙ taken-none (Did x)));
-        agenda = sym (ap (λ l. armed_with (strand.Conn c) (b.acts (Did x ∷ projection (strand.Conn c) ms)) l) (ap (agenda_at (strand.Conn c) x None ms) t.agenda ∙ t.arms_none));
+        agenda = sym (ap (λ l. armed_with (strand.Conn c) (b.acts (Did x ∷ projection (strand.Conn c) ms)) l) t.agenda);
         kind = ap in_offers same ∙ t.kind;
         offer = subst (λ (es : List (LocalAction J)). IsOffer go o (begun_offer es)) (sym same) t.offer;
         moment = ap moment same ∙ t.moment;
         stopping = ap is_stopping same ∙ t.stopping;
         no_more = ap (has_ended place.Client) same ∙ t.no_more;
         not_to_end = t.not_to_end;
+        wakes = ap is_waking same ∙ t.wakes;
+        phase = t.phase;
         last = t.last;
         touched = touches c x None ms;
       }

@@ -6,7 +6,7 @@ use Rattle.resty_base.specs.declared.names.StrandId.TheVariants as strand
 use Rattle.resty_world.specs.Ids.{same_strand}
 use Rattle.strand_contract.specs.declared.turns.Start.TheVariants as start
 use Rattle.strand_contract.specs.declared.turns.Act.TheVariants as act
-use Rattle.strand_contract.specs.Actions.{Action, Began, Bytes, Ended, Broken, Ready, Put, Later, Lost, Close, Log, Dropped, Run, Offer, Halted, Gone, Take, Keep, Timer, LocalAction, Told, Did}
+use Rattle.strand_contract.specs.Actions.{Action, Began, Bytes, Ended, Broken, Ready, Put, Later, Lost, Close, Log, Dropped, Run, Offer, Due, Halted, Gone, Take, Keep, Timer, LocalAction, Told, Did}
 use Rattle.strand_contract.specs.Behaviors.{Behavior}
 use Rattle.strand_contract.specs.Alone.{lives, Enabled, IsExecution}
 use Rattle.executions.specs.Executions.{GlobalAction, Of, Everyone, TurnedAway, IdleGave, IdleClosed, projection, Throughout}
@@ -87,6 +87,7 @@ module _ {J : Type 0} where
   first-act b c Dropped n ms k nil e r p t = absurd (subst (λ (es : List (LocalAction J)). MayDropLiving (lives es) b (strand.Conn c) ms) nil t)
   first-act b c (Run i) n ms k nil e r p t = clash e.0.living refl
   first-act b c (Offer q) n ms k nil e r p t = clash e.0.living refl
+  first-act b c (Due i) n ms k nil e r p t = clash e.0.living refl
   first-act b c Halted n ms k nil e r p t = clash e.0.living refl
   first-act b c Gone n ms k nil e r p t = absurd (let f : [] ≡ act.Gone ∷ [] = e in cc)
   first-act b c x n ms k nil e r p t = clash k refl

@@ -49,7 +49,7 @@ number-of (strand.Job n) k (OfStrand t j) h = put (same_strand (strand.Job n) t)
     put false h = h
 number-of s k w h = clash h refl
 
-those-one : (s : StrandId) (k : ℕ) (l : List (Whose × ℕ)) → without_those (is_of s) (without_one (is_number s k) l) ≡ without_those (is_of s) l
+pub those-one : (s : StrandId) (k : ℕ) (l : List (Whose × ℕ)) → without_those (is_of s) (without_one (is_number s k) l) ≡ without_those (is_of s) l
 those-one s k [] = refl
 those-one s k (d ∷ l) = put (is_number s k d.0) refl (those-one s k l)
   where

@@ -11,11 +11,11 @@ use Rattle.strand_contract.specs.declared.turns.Seen.{Seen}
 use Rattle.strand_contract.specs.declared.turns.Seen.TheVariants as seen
 use Rattle.strand_contract.specs.Actions.{LocalAction, Did}
 use Rattle.strand_contract.specs.Behaviors.{Behavior}
-use Rattle.strand_contract.specs.Alone.{lives, moment, is_open, has_ended, left_by, waiting, run_by, to_offer, offered_by, offering, going_on, begun_offer, in_offers, is_stopping, piece, queued, taken, is_some_left, IsOfferedAt}
+use Rattle.strand_contract.specs.Alone.{lives, moment, is_open, has_ended, left_by, waiting, run_by, to_offer, offered_by, offering, going_on, begun_offer, in_offers, is_stopping, is_waking, piece, queued, taken, is_some_left, IsOfferedAt}
 use Rattle.executions.specs.Executions.{GlobalAction, Of, projection}
 use Rattle.executions.specs.Phases.{phase as phase_of}
 use Rattle.executions.specs.Queues.{after_run, after_offer, run_queue as runs_of, offer_queue as offers_of}
-use Rattle.executions.specs.Agenda.{agenda_at}
+use Rattle.executions.specs.Agenda.{agenda, agenda_at}
 use Rattle.executions.specs.Histories.{external, offered_lengths}
 use Rattle.executions.specs.Ordered.{offers_last}
 use Rattle.strand_contract.specs.Calls.{action_of}
@@ -76,7 +76,8 @@ module _ {J S : Type 0} (b : Behavior J) (st : S → List (LocalAction J) → Ty
       → left_by (Did (action_of b (projection (strand.Conn c) ms) given)) [] ≡ []
       → after_run (strand.Conn c) (action_of b (projection (strand.Conn c) ms) given) (runs_of b ms) ≡ runs_of b ms
       → after_offer (strand.Conn c) (action_of b (projection (strand.Conn c) ms) given) (offers_of b ms) ≡ offers_of b ms
-      → agenda_at (strand.Conn c) (action_of b (projection (strand.Conn c) ms) given) None ms [] ≡ []
+      → agenda_at (strand.Conn c) (action_of b (projection (strand.Conn c) ms) given) None ms (agenda b ms) ≡ agenda b ms
+      → is_waking (Did (action_of b (projection (strand.Conn c) ms) given) ∷ projection (strand.Conn c) ms) ≡ is_waking (projection (strand.Conn c) ms)
       → phase_of (Of (strand.Conn c) (action_of b (projection (strand.Conn c) ms) given) None ∷ ms) ≡ phase_of ms
       → run_by (Did (action_of b (projection (strand.Conn c) ms) given)) (waiting b (projection (strand.Conn c) ms)) ≡ waiting b (projection (strand.Conn c) ms)
       → offered_by (Did (action_of b (projection (strand.Conn c) ms) given)) (to_offer b (projection (strand.Conn c) ms)) ≡ to_offer b (projection (strand.Conn c) ms)
@@ -89,26 +90,26 @@ module _ {J S : Type 0} (b : Behavior J) (st : S → List (LocalAction J) → Ty
       → Tells book'.history (external b (Of (strand.Conn c) (action_of b (projection (strand.Conn c) ms) given) None ∷ ms))
       → Tells book'.offered (offered_lengths b (Of (strand.Conn c) (action_of b (projection (strand.Conn c) ms) given) None ∷ ms))
       → Turn b st c x given go o h book' ms
-  answered given go may live opens no_use no_run no_offer arms_none goes_on threads list kind offer time stop more last told offers_told =
+  answered given go may live opens no_use no_run no_offer arms_none wakes goes_on threads list kind offer time stop more last told offers_told =
       let a = y.near.around in
       turn-next b st c ms asks given x go o o h h _ _ book book' a y.stands y.near.moment (held-same c h)
       (same-keeps c ids) a.out may
       (live ∙ a.alive) (ids.is_open (id.Conn c) ∙ a.connection) (opens place.Client ∙ a.client) (λ k. opens (place.Sock k) ∙ a.no_socket k) (ids.strand_aside (strand.Conn c) ∙ a.own_aside) ids.arrivals told offers_told
-      (a.common.runs ∙ sym no_run) (a.common.offered ∙ sym no_offer) (λ last e. goes_on ∙ a.stops last e)
+      (a.common.runs ∙ sym no_run) (a.common.offered ∙ sym no_offer)
       (record {
         done = y.near.to_do;
         no_use = no_use;
         threads = threads ∙ sym y.near.threads;
         offered = list ∙ sym y.near.offered ∙ append-nil _;
-        deadlines = sym y.near.deadlines;
-        agenda = sym y.near.agenda;
-        arms_none = arms_none;
+        agenda = arms_none ∙ sym y.near.agenda;
         kind = kind ∙ y.near.kind;
         offer = offer;
         moment = time ∙ y.near.moment;
         stopping = stop ∙ y.near.stopping;
         no_more = more ∙ y.near.no_more ∙ sym (ids.has_ended (id.Conn c));
         not_to_end = y.near.not_to_end;
+        wakes = wakes ∙ y.near.wakes;
+        phase = goes_on ∙ y.near.phase;
         last = last ∙ y.near.last;
       })
 
@@ -130,7 +131,7 @@ module _ {J S : Type 0} (b : Behavior J) (st : S → List (LocalAction J) → Ty
         ordered = (a.common.ordered, tt);
         served = refl;
         counts = a.common.count;
-      }) refl (λ q. refl) refl refl refl refl refl refl refl refl refl refl refl refl refl
+      }) refl (λ q. refl) refl refl refl refl refl refl refl refl refl refl refl refl refl refl
       (tells-more book.history book'.history (entry.Put (id.Conn c) (take n (piece b place.Client es)) ∷ []) (external b ms) a.common.told history)
       (tells-more book.offered book'.offered (length (piece b place.Client es) ∷ []) (offered_lengths b ms) a.common.offers_told lengths)
 
@@ -152,7 +153,7 @@ module _ {J S : Type 0} (b : Behavior J) (st : S → List (LocalAction J) → Ty
         ordered = (a.common.ordered, tt);
         served = refl;
         counts = a.common.count;
-      }) refl (λ q. refl) refl refl refl refl refl refl refl refl (λ e. absurd (let w : false ≡ true = e in cc)) refl refl refl refl
+      }) refl (λ q. refl) refl refl refl refl refl refl refl refl refl (λ e. absurd (let w : false ≡ true = e in cc)) refl refl refl refl
       (tells-more book.history book'.history (entry.Later (id.Conn c) ∷ []) (external b ms) a.common.told history)
       (tells-more book.offered book'.offered (length (piece b place.Client es) ∷ []) (offered_lengths b ms) a.common.offers_told lengths)
 
@@ -173,6 +174,6 @@ module _ {J S : Type 0} (b : Behavior J) (st : S → List (LocalAction J) → Ty
         ordered = (a.common.ordered, tt);
         served = refl;
         counts = a.common.count;
-      }) refl (λ q. refl) refl refl refl refl refl refl refl refl (λ e. absurd (let w : false ≡ true = e in cc)) refl refl refl refl
+      }) refl (λ q. refl) refl refl refl refl refl refl refl refl refl (λ e. absurd (let w : false ≡ true = e in cc)) refl refl refl refl
       (tells-more book.history book'.history (entry.Lost (id.Conn c) ∷ []) (external b ms) a.common.told history)
       (tells-more book.offered book'.offered [] (offered_lengths b ms) a.common.offers_told lengths)

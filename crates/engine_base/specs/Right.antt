@@ -8,7 +8,7 @@ use Rattle.resty_world.specs.Book.{Book}
 use Rattle.strand_contract.specs.Behaviors.{Behavior}
 use Rattle.strand_contract.specs.Alone.{lives}
 use Rattle.strand_contract.specs.declared.turns.Start.TheVariants as start
-use Rattle.strand_contract.specs.Actions.{Action, Began, Dialled, Refused, Dict, Take, Dial, Keep, Timer, Due}
+use Rattle.strand_contract.specs.Actions.{Action, Began, Dialled, Refused, Dict, Take, Dial, Keep, Timer}
 use Rattle.executions.specs.Executions.{GlobalAction, Of, Everyone, TurnedAway, projection, Throughout}
 use Rattle.executions.specs.Histories.{external, offered_lengths}
 use Rattle.executions.specs.Lawful.{IsLawful, IsKept}
@@ -30,7 +30,7 @@ pub record IsFresh (book : Book) : Type 0 where
   pub none_ended : (x : Id) → book.has_ended x ≡ false
   pub none_aside : (s : StrandId) → book.strand_aside s ≡ false
 
--- the engine serves connections, which have no sockets, dictionaries, jobs and deadlines yet
+-- the engine serves connections, which have no sockets, dictionaries and jobs yet
 abbrev pub is_served : {J : Type 0} → Action J → Bool
 is_served (Began now (start.Job j premature job)) = false
 is_served (Dialled k) = false
@@ -40,7 +40,6 @@ is_served (Take key uses) = false
 is_served (Dial host port done) = false
 is_served (Keep k key idle size) = false
 is_served (Timer at answer) = false
-is_served (Due n) = false
 is_served x = true
 
 abbrev pub IsServed : {J : Type 0} → GlobalAction J → List (GlobalAction J) → Type 0

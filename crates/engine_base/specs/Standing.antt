@@ -12,21 +12,22 @@ use Rattle.strand_contract.specs.declared.turns.Act.{Act}
 use Rattle.strand_contract.specs.declared.turns.Seen.{Seen}
 use Rattle.strand_contract.specs.Actions.{LocalAction, Did}
 use Rattle.strand_contract.specs.Behaviors.{Behavior}
-use Rattle.strand_contract.specs.Alone.{lives, moment, is_open, has_ended, todo, carried, waiting, lined_up, to_offer, offers, armed, armed_by, offering}
-use Rattle.strand_contract.specs.Alone.{begun_offer, in_offers, is_stopping, IsExecution}
+use Rattle.strand_contract.specs.Alone.{lives, moment, is_open, has_ended, todo, carried, waiting, lined_up, to_offer, offers, offering}
+use Rattle.strand_contract.specs.Alone.{begun_offer, in_offers, is_stopping, is_waking, NoneIsDue, IsExecution}
 use Rattle.strand_contract.specs.Calls.{action_of}
 use Rattle.strand_contract.specs.Laws.{IsLastAct}
 use Rattle.executions.specs.Executions.{GlobalAction, Of, projection, present, Throughout}
-use Rattle.executions.specs.Phases.{Stopping, phase}
+use Rattle.executions.specs.Phases.{Phase, Waking, Stopping, Running, phase}
 use Rattle.executions.specs.Counts.{arrived, open_connections}
 use Rattle.executions.specs.Queues.{only, lined, placed, without_all, run_queue, offer_queue}
-use Rattle.executions.specs.Agenda.{armed_with, without_those, is_of, agenda}
+use Rattle.executions.specs.Agenda.{Whose, armed_with, without_those, is_of, agenda, next_due}
+use Rattle.executions.specs.OwnDeadlines.{deadlines}
 use Rattle.executions.specs.Histories.{external, offered_lengths}
 use Rattle.executions.specs.Plain.{IsPlain}
 use Rattle.executions.specs.Ordered.{offers_last, was_touched, IsOrdered}
 use Rattle.executions.specs.Lawful.{IsGivenAtRest, BeginsRight, HeldNothingBack}
-use Rattle.engine_base.specs.declared.seats.Ending.{Ending}
-use Rattle.engine_base.specs.declared.seats.Ending.TheVariants as stop
+use Rattle.engine_base.specs.declared.seats.ToCome.{ToCome}
+use Rattle.engine_base.specs.declared.seats.ToCome.TheVariants as coming
 use Rattle.engine_base.specs.declared.seats.Seat.{Seat}
 use Rattle.engine_base.specs.Right.{Tells, IsServed}
 use Rattle.engine_base.specs.Slots.{is_after}
@@ -41,13 +42,36 @@ pub record Held (S : Type 0) : Type 0 where
   pub in_offers : Bool
   pub now : ℕ
   pub connections : ℕ
-  -- which strands are still to be ended by Stop
-  pub ending : Ending
+  -- what the newest event still brings about by itself
+  pub to_come : ToCome
+  -- the deadlines that are armed, in the order of arming
+  pub agenda : List (Whose × ℕ)
 
 -- a connection's strand is still to be ended by Stop
-abbrev pub is_to_end : Ending → ℕ → Bool
-is_to_end stop.Over c = false
-is_to_end (stop.After last) c = is_after last c
+abbrev pub is_to_end : ToCome → ℕ → Bool
+is_to_end (coming.Endings last) c = is_after last c
+is_to_end o c = false
+
+-- a moment still wakes what is due
+abbrev pub is_to_wake : ToCome → Bool
+is_to_wake coming.Wakings = true
+is_to_wake o = false
+
+-- the phase of a turn, by what is still to come
+abbrev pub phase_at : ToCome → Phase
+phase_at coming.Nothing = Running
+phase_at coming.Wakings = Waking
+phase_at (coming.Endings last) = Stopping
+
+-- what is still to come fits the phase between turns; where nothing is, nothing is due at the moment
+abbrev pub HasCome : {J : Type 0} → ToCome → Behavior J → List (GlobalAction J) → Type 0
+HasCome coming.Nothing b ms = phase ms ≡ Waking → next_due b ms ≡ None
+HasCome o b ms = phase ms ≡ phase_at o
+
+-- while a moment still wakes what is due, the strand may be woken; else nothing of it is due
+abbrev pub MayWake : {J : Type 0} → Bool → Behavior J → List (LocalAction J) → Type 0
+MayWake true b es = is_waking es ≡ true
+MayWake false b es = NoneIsDue b es
 
 -- what is held of one connection's strand: its seat, its part of the queues, and what the engine does now
 pub record Share (S : Type 0) : Type 0 where
@@ -57,6 +81,7 @@ pub record Share (S : Type 0) : Type 0 where
   pub in_offers : Bool
   pub now : ℕ
   pub to_end : Bool
+  pub to_wake : Bool
 
 abbrev pub share_of : {S : Type 0} → ℕ → Held S → Share S
 share_of c h = record {
@@ -65,7 +90,8 @@ share_of c h = record {
   places = only (strand.Conn c) h.offer_queue;
   in_offers = h.in_offers;
   now = h.now;
-  to_end = is_to_end h.ending c;
+  to_end = is_to_end h.to_come c;
+  to_wake = is_to_wake h.to_come;
 }
 
 -- what the world's book says of one connection
@@ -140,7 +166,7 @@ module _ {J S : Type 0} (b : Behavior J) (st : S → List (LocalAction J) → Ty
     pub runs_first : own.in_offers ≡ false → in_offers es ≡ true → own.places ≡ []
     pub offers_first : own.in_offers ≡ true → in_offers es ≡ false → own.threads ≡ []
     pub moment : moment es ≡ own.now
-    pub no_deadline : armed b es ≡ []
+    pub wakes : MayWake own.to_wake b es
     pub no_socket : (k : ℕ) → is_open (place.Sock k) es ≡ false
     pub stopping : is_stopping es ≡ own.to_end
     pub client : is_open place.Client es ≡ said.is_open
@@ -161,9 +187,10 @@ module _ {J S : Type 0} (b : Behavior J) (st : S → List (LocalAction J) → Ty
     pub forgotten : (t : ℕ) → lives (projection (strand.Conn t) ms) ≡ false → book.has_ended (id.Conn t) ≡ false
     pub flip_to_runs : h.in_offers ≡ false → offers_last ms ≡ true → h.offer_queue ≡ []
     pub flip_to_offers : h.in_offers ≡ true → offers_last ms ≡ false → h.run_queue ≡ []
-    -- Stop still ends strands
-    pub stops : (last : Option ℕ) → h.ending ≡ stop.After last → phase ms ≡ Stopping
-    pub agenda : agenda b ms ≡ []
+    pub comes : HasCome h.to_come b ms
+    pub agenda : agenda b ms ≡ h.agenda
+    -- a strand that doesn't live has no deadline
+    pub disarmed : (s : StrandId) → lives (projection s ms) ≡ false → deadlines s h.agenda ≡ []
     pub common : Common b h.run_queue h.offer_queue h.now h.connections book ms
 
   -- within a turn of the connection c's strand, which is out of its seat: what is known of the others. `al` says whether it lives,
@@ -182,7 +209,7 @@ module _ {J S : Type 0} (b : Behavior J) (st : S → List (LocalAction J) → Ty
     pub client : is_open place.Client (projection (strand.Conn c) ms) ≡ opened
     pub no_socket : (k : ℕ) → is_open (place.Sock k) (projection (strand.Conn c) ms) ≡ false
     pub own_aside : book.strand_aside (strand.Conn c) ≡ al
-    pub stops : (last : Option ℕ) → h.ending ≡ stop.After last → phase ms ≡ Stopping
+    pub disarmed : (s : StrandId) → same_strand s (strand.Conn c) ≡ false → lives (projection s ms) ≡ false → deadlines s h.agenda ≡ []
     pub common : Common b next_runs next_offers h.now h.connections book ms
 
   -- within a turn of c's strand: these acts are still to be carried out
@@ -192,14 +219,15 @@ module _ {J S : Type 0} (b : Behavior J) (st : S → List (LocalAction J) → Ty
     pub last_act : IsLastAct acts
     pub threads : lined_up acts (only (strand.Conn c) h.run_queue) ≡ waiting b (projection (strand.Conn c) ms)
     pub offered : only (strand.Conn c) h.offer_queue ++ offers acts ≡ to_offer b (projection (strand.Conn c) ms)
-    pub deadlines : armed_by acts [] ≡ armed b (projection (strand.Conn c) ms)
-    pub agenda : armed_with (strand.Conn c) acts [] ≡ agenda b ms
+    pub agenda : armed_with (strand.Conn c) acts h.agenda ≡ agenda b ms
     pub kind : in_offers (projection (strand.Conn c) ms) ≡ h.in_offers
     pub offer : IsOffer go opened (begun_offer (projection (strand.Conn c) ms))
     pub moment : moment (projection (strand.Conn c) ms) ≡ h.now
     pub stopping : is_stopping (projection (strand.Conn c) ms) ≡ false
     pub no_more : has_ended place.Client (projection (strand.Conn c) ms) ≡ book.has_ended (id.Conn c)
-    pub not_to_end : is_to_end h.ending c ≡ false
+    pub not_to_end : is_to_end h.to_come c ≡ false
+    pub wakes : is_waking (projection (strand.Conn c) ms) ≡ is_to_wake h.to_come
+    pub phase : phase ms ≡ phase_at h.to_come
     pub last : offers_last ms ≡ h.in_offers
     pub touched : was_touched (strand.Conn c) ms ≡ true
 
@@ -216,7 +244,9 @@ module _ {J S : Type 0} (b : Behavior J) (st : S → List (LocalAction J) → Ty
     -- but for its own turns, what is in line is in the queues
     pub same_runs : without_all (strand.Conn c) next_runs ≡ without_all (strand.Conn c) h.run_queue
     pub same_offers : without_all (strand.Conn c) next_offers ≡ without_all (strand.Conn c) h.offer_queue
-    pub agenda : without_those (is_of (strand.Conn c)) (agenda b ms) ≡ []
+    -- but for its own deadlines, what is armed is held
+    pub agenda : without_those (is_of (strand.Conn c)) (agenda b ms) ≡ without_those (is_of (strand.Conn c)) h.agenda
+    pub phase : phase ms ≡ phase_at h.to_come
     pub last : offers_last ms ≡ h.in_offers
     pub touched : was_touched (strand.Conn c) ms ≡ true
 

@@ -4,5 +4,5 @@
 mod seats;
 mod slots;
 
-pub use seats::{Ending, Seat};
+pub use seats::{Seat, ToCome};
 pub use slots::Slots;

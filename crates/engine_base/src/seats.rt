@@ -1,4 +1,4 @@
-//! What the engine holds of a strand, and of Stop.
+//! What the engine holds of a strand, and what is still to come of the newest event.
 
 /// A strand in its seat.
 #[derive(Drop)]
@@ -11,11 +11,13 @@ pub struct Seat<S> {
     pub wanted: bool,
 }
 
-/// Which strands Stop is still to end.
+/// What the newest event still brings about by itself.
 #[derive(Clone, Copy, Debug, PartialEq, Eq)]
-pub enum Ending {
-    /// None: Stop wasn't given, or has ended all.
-    Over,
-    /// Each that began after this connection; after none, all.
-    After(Option<u64>),
+pub enum ToCome {
+    /// Nothing: all of it has come.
+    Nothing,
+    /// A moment wakes what is due at it.
+    Wakings,
+    /// Stop ends each strand that began after this connection; after none, all.
+    Endings(Option<u64>),
 }

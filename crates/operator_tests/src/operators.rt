@@ -1,11 +1,11 @@
 //! Tests of arithmetic, comparison and concatenation: each over each pair of types, and lines of single ones.
 
-use crate::values::{EACH, value};
+use crate::values::{EACH, Wrong, value};
 use lua_numbers::NumFault;
 use lua_operators::*;
 use lua_values::Value;
 use resty_base::Bytes;
-use std::alloc::Global;
+use std::alloc::{AllocError, Global};
 use std::test::Fail;
 
 /// An operator, and what it gives for each value of `EACH` on its left, with each of `EACH` on its right in order. Where
@@ -161,7 +161,7 @@ const CONCATENATION: &str = "\
 true | .. | 'a | event";
 
 /// The outcome that a word writes: `event`, a fault of numbers, or a value.
-fn wanted(alloc: Global, word: &str) -> Result<Outcome, Fail> {
+fn wanted(alloc: Global, word: &str) -> Result<Outcome, Wrong> {
     Ok(match word {
         "event" => Outcome::NeedsEvent,
         "range" => Outcome::Faults(NumFault::Range),
@@ -172,7 +172,7 @@ fn wanted(alloc: Global, word: &str) -> Result<Outcome, Fail> {
 }
 
 /// What an operator gives on two values.
-fn given(alloc: Global, operator: &str, a: &Value, b: &Value) -> Result<Outcome, Fail> {
+fn given(alloc: Global, operator: &str, a: &Value, b: &Value) -> Result<Outcome, Wrong> {
     Ok(match operator {
         "+" => computed(ArithmeticOperator::Add, a, b),
         "-" => computed(ArithmeticOperator::Sub, a, b),
@@ -184,22 +184,32 @@ fn given(alloc: Global, operator: &str, a: &Value, b: &Value) -> Result<Outcome,
         "<" => compared(ComparisonOperator::Less, a, b),
         "<=" => compared(ComparisonOperator::LessOrEqual, a, b),
         "==" => equality(a, b),
-        _ => Err("no operator")?,
+        _ => return Err(Wrong::Row),
     })
 }
 
 /// Whether an operator gives this on two values, each as its word.
-fn gives(alloc: Global, operator: &str, a: &str, b: &str, want: &str) -> Result<bool, Fail> {
+fn gives(alloc: Global, operator: &str, a: &str, b: &str, want: &str) -> Result<bool, Wrong> {
     let outcome = given(alloc, operator, &value(alloc, a)?, &value(alloc, b)?)?;
     Ok(outcome == wanted(alloc, want)?)
 }
 
 /// Whether a line holds: a value, an operator, a value, what it gives.
-fn holds(alloc: Global, line: &str) -> Result<bool, Fail> {
-    let (a, after) = line.split_once(" | ").ok_or("no operator")?;
-    let (operator, after) = after.split_once(" | ").ok_or("no second value")?;
-    let (b, want) = after.split_once(" | ").ok_or("no result")?;
+fn holds(alloc: Global, line: &str) -> Result<bool, Wrong> {
+    let (a, after) = line.split_once(" | ").unwrap_or((line, ""));
+    let (operator, after) = after.split_once(" | ").unwrap_or((after, ""));
+    let (b, want) = after.split_once(" | ").unwrap_or((after, ""));
     gives(alloc, operator, a, b, want)
+}
+
+/// The first line that doesn't hold.
+fn first_wrong<'a>(alloc: Global, lines: &'a str) -> Result<Option<&'a str>, Wrong> {
+    for line in lines.lines() {
+        if !holds(alloc, line)? {
+            return Ok(Some(line));
+        }
+    }
+    Ok(None)
 }
 
 /// The results in a row of the tables, where it is the one of this operator and the value on its left.
@@ -223,7 +233,7 @@ fn first_wrong_in_row(
     alloc: Global,
     operator: &str,
     a: &str,
-) -> Result<Option<&'static str>, Fail> {
+) -> Result<Option<&'static str>, Wrong> {
     let mut results = listed(operator, a).split(' ');
     for b in EACH.split(' ') {
         let want = match results.next() {
@@ -261,50 +271,57 @@ fn values_are_equal_to_themselves_alone(rt: HostRuntime) -> Result<(), Fail> {
 
 #[test]
 fn single_lines(rt: HostRuntime) -> Result<(), Fail> {
-    for script in [ARITHMETIC, COMPARISON, EQUALITY, CONCATENATION] {
-        for line in script.lines() {
-            assert!(rt; holds(rt.alloc(), line)?, "{line}");
-        }
+    for lines in [ARITHMETIC, COMPARISON, EQUALITY, CONCATENATION] {
+        assert_eq!(rt; first_wrong(rt.alloc(), lines)?, None);
     }
     Ok(())
+}
+
+/// Whether a text is less than another by each operator, and not the other way round.
+fn is_less(alloc: Global, low: &[u8], high: &[u8]) -> Result<bool, AllocError> {
+    let low = Value::Text(Bytes::copy_from_slice(alloc, low)?);
+    let high = Value::Text(Bytes::copy_from_slice(alloc, high)?);
+    Ok(
+        orders(ComparisonOperator::Less, &low, &high)
+            && orders(ComparisonOperator::LessOrEqual, &low, &high),
+    )
+}
+
+/// Whether an operator holds of two values, and not the other way round.
+fn orders(operator: ComparisonOperator, low: &Value, high: &Value) -> bool {
+    compared(operator, low, high) == Outcome::Gives(Value::Truth(true))
+        && compared(operator, high, low) == Outcome::Gives(Value::Truth(false))
 }
 
 #[test]
 fn bytes_are_unsigned(rt: HostRuntime) -> Result<(), Fail> {
     let alloc = rt.alloc();
-    let pairs: [(&[u8], &[u8]); 3] = [(b"\x7f", b"\x80"), (b"\x80", b"\xff"), (b"a\x00", b"a\xff")];
-    for (low, high) in pairs {
-        let low = Value::Text(Bytes::copy_from_slice(alloc, low)?);
-        let high = Value::Text(Bytes::copy_from_slice(alloc, high)?);
-        for operator in [ComparisonOperator::Less, ComparisonOperator::LessOrEqual] {
-            assert_eq!(rt;
-                compared(operator, &low, &high),
-                Outcome::Gives(Value::Truth(true))
-            );
-            assert_eq!(rt;
-                compared(operator, &high, &low),
-                Outcome::Gives(Value::Truth(false))
-            );
-        }
-    }
+    let are_less = is_less(alloc, b"\x7f", b"\x80")? && is_less(alloc, b"\x80", b"\xff")?;
+    assert!(rt; are_less && is_less(alloc, b"a\x00", b"a\xff")?);
     Ok(())
+}
+
+/// Values, and what their negation gives.
+const NEGATION: &str = "\
+0 | 0
+5 | -5
+-99999999999999 | 99999999999999
+' -0x10  | 16
+'x | event
+nil | event
+true | event
+table:1 | event";
+
+/// Whether the negation of a line's value gives what the line says.
+fn negation_holds(alloc: Global, line: &str) -> Result<bool, Wrong> {
+    let (word, want) = line.split_once(" | ").unwrap_or((line, ""));
+    Ok(negated(&value(alloc, word)?) == wanted(alloc, want)?)
 }
 
 #[test]
 fn numbers_are_negated(rt: HostRuntime) -> Result<(), Fail> {
-    let alloc = rt.alloc();
-    for (word, want) in [
-        ("0", "0"),
-        ("5", "-5"),
-        ("-99999999999999", "99999999999999"),
-        ("' -0x10 ", "16"),
-        ("'x", "event"),
-        ("nil", "event"),
-        ("true", "event"),
-        ("table:1", "event"),
-    ] {
-        let outcome = negated(&value(alloc, word)?);
-        assert!(rt; outcome == wanted(alloc, want)?, "{word}");
+    for line in NEGATION.lines() {
+        assert!(rt; negation_holds(rt.alloc(), line)?, "{line}");
     }
     Ok(())
 }

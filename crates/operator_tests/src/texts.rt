@@ -1,9 +1,11 @@
 //! Tests of types, conversions, keys of events, and texts of faults.
 
-use crate::values::value;
+use crate::values::{Wrong, value};
 use lua_numbers::NumFault;
 use lua_operators::*;
-use resty_base::whole;
+use lua_values::Value;
+use resty_base::{Bytes, whole};
+use std::alloc::{AllocError, Global};
 use std::test::Fail;
 
 /// A value, the name of its type, its text, and whether it is true.
@@ -25,119 +27,166 @@ semaphore:7 | userdata | userdata | true
 zone:7 | userdata | userdata | true
 reader:7 | function | function | true";
 
+/// Writes bytes that are a text.
+fn write(all: &mut String, bytes: &[u8]) -> Result<(), AllocError> {
+    all.push_str(str::from_utf8(bytes).unwrap_or("?"))
+}
+
+/// The name of a value's type, its text, and whether it is true.
+fn described(alloc: Global, value: &Value) -> Result<String, AllocError> {
+    let mut all = String::new(alloc);
+    write(&mut all, type_of(value).name())?;
+    all.push_str(" | ")?;
+    write(&mut all, &text_of(alloc, value)?)?;
+    all.push_str(if is_truthy(value) {
+        " | true"
+    } else {
+        " | false"
+    })?;
+    Ok(all)
+}
+
+/// Whether a line describes its value.
+fn is_described(alloc: Global, line: &str) -> Result<bool, Wrong> {
+    let (word, wanted) = line.split_once(" | ").unwrap_or((line, ""));
+    Ok(described(alloc, &value(alloc, word)?)?.as_str() == wanted)
+}
+
 #[test]
 fn types_texts_and_truths(rt: HostRuntime) -> Result<(), Fail> {
     for line in VALUES.lines() {
-        let (word, after) = line.split_once(" | ").ok_or("no type")?;
-        let (name, after) = after.split_once(" | ").ok_or("no text")?;
-        let (text, truth) = after.split_once(" | ").ok_or("no truth")?;
-        let value = value(rt.alloc(), word)?;
-        assert_eq!(rt; type_of(&value).name(), name.as_bytes(), "{line}");
-        assert_eq!(rt;
-            text_of(rt.alloc(), &value)?.as_slice(),
-            text.as_bytes(),
-            "{line}"
-        );
-        assert_eq!(rt; is_truthy(&value), truth == "true", "{line}");
+        assert!(rt; is_described(rt.alloc(), line)?, "{line}");
     }
     Ok(())
+}
+
+/// Values and their numbers, `none` for those that have none.
+const NUMBERS: &str = "\
+12 | 12
+' 0x1F  | 31
+'x | none
+true | none
+nil | none";
+
+/// Whether a line has its value's number.
+fn has_number(alloc: Global, line: &str) -> Result<bool, Wrong> {
+    let (word, wanted) = line.split_once(" | ").unwrap_or((line, ""));
+    Ok(match number_of(&value(alloc, word)?) {
+        Some(number) => wanted.parse::<i64>().ok() == Some(number.get()),
+        None => wanted == "none",
+    })
 }
 
 #[test]
 fn numbers_of_values(rt: HostRuntime) -> Result<(), Fail> {
-    for (word, want) in [
-        ("12", Some(12)),
-        ("' 0x1F ", Some(31)),
-        ("'x", None),
-        ("true", None),
-        ("nil", None),
-    ] {
-        let number = number_of(&value(rt.alloc(), word)?);
-        assert_eq!(rt; number.map(|n| n.get()), want, "{word}");
+    for line in NUMBERS.lines() {
+        assert!(rt; has_number(rt.alloc(), line)?, "{line}");
     }
     Ok(())
 }
 
 #[test]
-fn lengths_are_counts_of_bytes(rt: HostRuntime) -> Result<(), Fail> {
+fn lengths_are_counts_of_bytes(rt: HostRuntime) {
     assert_eq!(rt; length(b"").ok(), whole(0));
     assert_eq!(rt; length(b"abc").ok(), whole(3));
     assert_eq!(rt; length(b"a\x00\xff\xc3\xa9").ok(), whole(5));
-    Ok(())
 }
 
-/// The keys, in the order of `EVENTS`.
+/// The keys of all events.
 const KEYS: &str =
     "__index __newindex __call __add __sub __mul __div __mod __pow __unm __concat __eq __lt __le \
     __tostring __metatable";
 
-const EVENTS: [Event; 16] = [
-    Event::Index,
-    Event::NewIndex,
-    Event::Call,
-    Event::Add,
-    Event::Sub,
-    Event::Mul,
-    Event::Div,
-    Event::Mod,
-    Event::Pow,
-    Event::Unm,
-    Event::Concat,
-    Event::Eq,
-    Event::Lt,
-    Event::Le,
-    Event::ToString,
-    Event::Metatable,
-];
-
-#[test]
-fn keys_of_events(rt: HostRuntime) -> Result<(), Fail> {
-    for (event, key) in EVENTS.iter().zip(KEYS.split_whitespace()) {
-        assert_eq!(rt; event.key(), key.as_bytes());
+/// The event that has this key.
+fn event_of(key: &str) -> Event {
+    match key {
+        "__index" => Event::Index,
+        "__newindex" => Event::NewIndex,
+        "__call" => Event::Call,
+        "__add" => Event::Add,
+        "__sub" => Event::Sub,
+        "__mul" => Event::Mul,
+        "__div" => Event::Div,
+        "__mod" => Event::Mod,
+        "__pow" => Event::Pow,
+        "__unm" => Event::Unm,
+        "__concat" => Event::Concat,
+        "__eq" => Event::Eq,
+        "__lt" => Event::Lt,
+        "__le" => Event::Le,
+        "__tostring" => Event::ToString,
+        _ => Event::Metatable,
     }
-    assert_eq!(rt; ArithmeticOperator::Mod.event(), Event::Mod);
-    assert_eq!(rt; ComparisonOperator::LessOrEqual.event(), Event::Le);
-    Ok(())
 }
 
 #[test]
-fn faults_that_name_no_value(rt: HostRuntime) -> Result<(), Fail> {
-    for (fault, text) in [
-        (Fault::Number(NumFault::Range), "number out of range"),
-        (
-            Fault::Number(NumFault::Inexact),
-            "number has no whole result",
-        ),
-        (Fault::Number(NumFault::ByZero), "attempt to divide by zero"),
-        (Fault::StorageLimit, "not enough memory (storage limit)"),
-        (Fault::StackOverflow, "stack overflow"),
-        (Fault::TooManyThreads, "too many threads"),
-        (Fault::TooManySockets, "too many sockets"),
-        (Fault::TooManySubrequests, "too many nested subrequests"),
-        (Fault::NilKey, "table index is nil"),
-        (Fault::FrozenTable, "attempt to modify a frozen table"),
-        (Fault::FrozenVariable, "attempt to modify a frozen variable"),
-        (
-            Fault::SortMixed,
-            "table.sort takes all numbers or all strings",
-        ),
-        (Fault::ForInitial, "'for' initial value must be a number"),
-        (Fault::ForLimit, "'for' limit must be a number"),
-        (Fault::ForStep, "'for' step must be a number"),
-        (Fault::ForStepZero, "'for' step is zero"),
-        (Fault::MalformedPattern, "malformed pattern"),
-        (Fault::TooManyCaptures, "too many captures"),
-        (Fault::PatternTooComplex, "pattern too complex"),
-        (Fault::DeadCoroutine, "cannot resume dead coroutine"),
-        (
-            Fault::RunningCoroutine,
-            "cannot resume non-suspended coroutine",
-        ),
-        (Fault::BadRequest, "bad request"),
-    ] {
-        assert_eq!(rt; fault.text(), text.as_bytes());
+fn keys_of_events(rt: HostRuntime) {
+    for key in KEYS.split_whitespace() {
+        assert_eq!(rt; event_of(key).key(), key.as_bytes());
     }
-    Ok(())
+    assert_eq!(rt; ArithmeticOperator::Mod.event(), Event::Mod);
+    assert_eq!(rt; ComparisonOperator::LessOrEqual.event(), Event::Le);
+}
+
+/// Faults and their texts.
+const FAULTS: &str = "\
+Range | number out of range
+Inexact | number has no whole result
+ByZero | attempt to divide by zero
+StorageLimit | not enough memory (storage limit)
+StackOverflow | stack overflow
+TooManyThreads | too many threads
+TooManySockets | too many sockets
+TooManySubrequests | too many nested subrequests
+NilKey | table index is nil
+FrozenTable | attempt to modify a frozen table
+FrozenVariable | attempt to modify a frozen variable
+SortMixed | table.sort takes all numbers or all strings
+ForInitial | 'for' initial value must be a number
+ForLimit | 'for' limit must be a number
+ForStep | 'for' step must be a number
+ForStepZero | 'for' step is zero
+MalformedPattern | malformed pattern
+TooManyCaptures | too many captures
+PatternTooComplex | pattern too complex
+DeadCoroutine | cannot resume dead coroutine
+RunningCoroutine | cannot resume non-suspended coroutine
+BadRequest | bad request";
+
+/// The fault that has this name.
+fn fault_of(name: &str) -> Fault {
+    match name {
+        "Range" => Fault::Number(NumFault::Range),
+        "Inexact" => Fault::Number(NumFault::Inexact),
+        "ByZero" => Fault::Number(NumFault::ByZero),
+        "StorageLimit" => Fault::StorageLimit,
+        "StackOverflow" => Fault::StackOverflow,
+        "TooManyThreads" => Fault::TooManyThreads,
+        "TooManySockets" => Fault::TooManySockets,
+        "TooManySubrequests" => Fault::TooManySubrequests,
+        "NilKey" => Fault::NilKey,
+        "FrozenTable" => Fault::FrozenTable,
+        "FrozenVariable" => Fault::FrozenVariable,
+        "SortMixed" => Fault::SortMixed,
+        "ForInitial" => Fault::ForInitial,
+        "ForLimit" => Fault::ForLimit,
+        "ForStep" => Fault::ForStep,
+        "ForStepZero" => Fault::ForStepZero,
+        "MalformedPattern" => Fault::MalformedPattern,
+        "TooManyCaptures" => Fault::TooManyCaptures,
+        "PatternTooComplex" => Fault::PatternTooComplex,
+        "DeadCoroutine" => Fault::DeadCoroutine,
+        "RunningCoroutine" => Fault::RunningCoroutine,
+        _ => Fault::BadRequest,
+    }
+}
+
+#[test]
+fn faults_that_name_no_value(rt: HostRuntime) {
+    for line in FAULTS.lines() {
+        let (name, text) = line.split_once(" | ").unwrap_or((line, ""));
+        assert_eq!(rt; fault_of(name).text(), text.as_bytes());
+    }
 }
 
 /// The faults of operators on two values of which one or both are named.
@@ -160,65 +209,86 @@ const OPERANDS: &str = "\
 < | nil | nil | attempt to compare two nil values
 < | true | nil | attempt to compare boolean with nil";
 
+/// The fault of an operator on two values.
+fn operand_fault(operator: &str, a: &Value, b: &Value) -> OperandFault {
+    match operator {
+        "+" => arithmetic_fault(a, b),
+        ".." => concatenation_fault(a, b),
+        _ => comparison_fault(a, b),
+    }
+}
+
+/// Whether bytes that were made are this text.
+fn are(made: Result<Bytes, AllocError>, text: &str) -> Result<bool, AllocError> {
+    Ok(made?.as_slice() == text.as_bytes())
+}
+
+/// Whether a line has the text of its fault.
+fn has_text(alloc: Global, line: &str) -> Result<bool, Wrong> {
+    let (operator, after) = line.split_once(" | ").unwrap_or((line, ""));
+    let (a, after) = after.split_once(" | ").unwrap_or((after, ""));
+    let (b, text) = after.split_once(" | ").unwrap_or((after, ""));
+    let fault = operand_fault(operator, &value(alloc, a)?, &value(alloc, b)?);
+    Ok(are(fault.text(alloc), text)?)
+}
+
+/// The faults of what is no operator of two values, and their texts.
+fn others_have_their_texts(alloc: Global) -> Result<bool, AllocError> {
+    let index = OperandFault::Index(LuaType::Nil).text(alloc);
+    let call = OperandFault::Call(LuaType::Number).text(alloc);
+    let length = OperandFault::Length(LuaType::Userdata).text(alloc);
+    Ok(
+        are(index, "attempt to index a nil value")?
+            && are(call, "attempt to call a number value")?
+            && are(length, "attempt to get length of a userdata value")?,
+    )
+}
+
 #[test]
 fn faults_that_name_an_operand(rt: HostRuntime) -> Result<(), Fail> {
-    let alloc = rt.alloc();
     for line in OPERANDS.lines() {
-        let (operator, after) = line.split_once(" | ").ok_or("no first value")?;
-        let (a, after) = after.split_once(" | ").ok_or("no second value")?;
-        let (b, text) = after.split_once(" | ").ok_or("no text")?;
-        let (a, b) = (value(alloc, a)?, value(alloc, b)?);
-        let fault = match operator {
-            "+" => arithmetic_fault(&a, &b),
-            ".." => concatenation_fault(&a, &b),
-            _ => comparison_fault(&a, &b),
-        };
-        assert_eq!(rt; fault.text(alloc)?.as_slice(), text.as_bytes(), "{line}");
+        assert!(rt; has_text(rt.alloc(), line)?, "{line}");
     }
-    for (fault, text) in [
-        (
-            OperandFault::Index(LuaType::Nil),
-            "attempt to index a nil value",
-        ),
-        (
-            OperandFault::Call(LuaType::Number),
-            "attempt to call a number value",
-        ),
-        (
-            OperandFault::Length(LuaType::Userdata),
-            "attempt to get length of a userdata value",
-        ),
-    ] {
-        assert_eq!(rt; fault.text(alloc)?.as_slice(), text.as_bytes());
-    }
+    assert!(rt; others_have_their_texts(rt.alloc())?);
     Ok(())
+}
+
+/// The faults of an argument have these texts.
+fn arguments_have_their_texts(alloc: Global) -> Result<bool, AllocError> {
+    let first = argument_fault(alloc, 1, b"pcall", b"value", b"no value");
+    let last = argument_fault(alloc, 4_294_967_295, b"print", b"string", b"table");
+    let first_text = "bad argument #1 to 'pcall' (value expected, got no value)";
+    let last_text = "bad argument #4294967295 to 'print' (string expected, got table)";
+    Ok(are(first, first_text)? && are(last, last_text)?)
+}
+
+/// The faults of a module and of a phase have these texts.
+fn names_have_their_texts(alloc: Global) -> Result<bool, AllocError> {
+    let phase_text = "API disabled in the context of log_by_lua*";
+    Ok(
+        are(module_fault(alloc, b"a.b"), "module 'a.b' not found")?
+            && are(phase_fault(alloc, b"log_by_lua*"), phase_text)?,
+    )
 }
 
 #[test]
 fn faults_that_name_what_was_asked_for(rt: HostRuntime) -> Result<(), Fail> {
-    let alloc = rt.alloc();
-    let argument = argument_fault(alloc, 1, b"pcall", b"value", b"no value")?;
-    let want: &[u8] = b"bad argument #1 to 'pcall' (value expected, got no value)";
-    assert_eq!(rt; argument.as_slice(), want);
-    let last = argument_fault(alloc, 4_294_967_295, b"print", b"string", b"table")?;
-    let want: &[u8] = b"bad argument #4294967295 to 'print' (string expected, got table)";
-    assert_eq!(rt; last.as_slice(), want);
-    let want: &[u8] = b"module 'a.b' not found";
-    assert_eq!(rt; module_fault(alloc, b"a.b")?.as_slice(), want);
-    let want: &[u8] = b"API disabled in the context of log_by_lua*";
-    assert_eq!(rt; phase_fault(alloc, b"log_by_lua*")?.as_slice(), want);
+    assert!(rt; arguments_have_their_texts(rt.alloc())?);
+    assert!(rt; names_have_their_texts(rt.alloc())?);
     Ok(())
+}
+
+/// A text at a position, and at none.
+fn positions_have_their_texts(alloc: Global) -> Result<bool, AllocError> {
+    let text = with_position(alloc, b"t.conf", 2, b"attempt to index a nil value");
+    Ok(
+        are(text, "t.conf:2: attempt to index a nil value")?
+            && are(with_position(alloc, b"", 2, b"m"), "m")?,
+    )
 }
 
 #[test]
 fn positions(rt: HostRuntime) -> Result<(), Fail> {
-    let alloc = rt.alloc();
-    let want: &[u8] = b"t.conf:2: attempt to index a nil value";
-    assert_eq!(rt;
-        with_position(alloc, b"t.conf", 2, b"attempt to index a nil value")?.as_slice(),
-        want
-    );
-    let want: &[u8] = b"m";
-    assert_eq!(rt; with_position(alloc, b"", 2, b"m")?.as_slice(), want);
+    assert!(rt; positions_have_their_texts(rt.alloc())?);
     Ok(())
 }

@@ -1,5 +1,5 @@
 -- Strands that leave their seats, and come back to them.
-use Rattle.std.proofs.Common.{◌≡◌, ℕ, Bool, true, false, ◌==◌, List, [], Option, Some, None, if◌then◌else◌, refl, sym, ap, subst, ◌∙◌, append-nil}
+use Rattle.std.proofs.Common.{◌≡◌, ℕ, ◌≤◌, Bool, true, false, ◌==◌, ◌&&◌, List, [], ◌∷◌, slice_get, drop, length, Option, Some, None, if◌then◌else◌, refl, sym, ap, subst, ◌∙◌, append-nil, arith}
 use Rattle.std.proofs.lemmas.Bool.{eqb-true}
 use Rattle.resty_base.specs.declared.names.StrandId.{StrandId}
 use Rattle.resty_base.specs.declared.names.StrandId.TheVariants as strand
@@ -11,12 +11,19 @@ use Rattle.strand_contract.specs.Actions.{LocalAction}
 use Rattle.strand_contract.specs.Behaviors.{Behavior, Meaning}
 use Rattle.strand_contract.specs.Alone.{lives, offering, going_on, begun_offer}
 use Rattle.executions.specs.Executions.{GlobalAction, projection}
-use Rattle.executions.specs.Queues.{only, without_all}
+use Rattle.wakes.specs.Queue.{QueueView, left, without_thread as without_thread_of}
+use Rattle.executions.specs.Queues.{only, without_all, without_thread}
+use Rattle.executions.specs.Agenda.{without_those, is_of}
+use Rattle.executions.specs.OwnDeadlines.{deadlines}
+use Rattle.executions.proofs.Strands.{same-is}
 use Rattle.turns.specs.declared.turns.Turns.{Turns}
 use Rattle.engine_base.specs.declared.seats.Seat.{Seat}
+use Rattle.engine_base.specs.declared.slots.Slots.{Slots}
+use Rattle.engine_base.specs.Slots.{slot_at}
 use Rattle.turns.specs.Turns.{IsBusy, IsDone}
-use Rattle.engine_base.specs.Standing.{Held, share_of, said_of, without_dead, Fit, Busy, Standing, Falls, IsOffer}
+use Rattle.engine_base.specs.Standing.{Held, is_to_wake, phase_at, share_of, said_of, without_dead, Fit, Busy, Standing, Falls, IsOffer}
 use Rattle.engine_base.proofs.Lists.{by_test, clash, same-true}
+use Rattle.engine_base.proofs.Agendas.{come-of, come-same, may-wake}
 use Rattle.engine_base.proofs.Marks.{fit-same}
 use Rattle.engine_base.proofs.Acts.{aside-all}
 
@@ -25,9 +32,9 @@ module _ {J S : Type 0} (b : Behavior J) (st : S → List (LocalAction J) → Ty
   pub busy-done : (x : Seat S) (go : Bool) (h h' : Held S) (book : Book) (ms : List (GlobalAction J))
       → Busy b st c x.strand [] go x.is_open h book ms → offering b (projection (strand.Conn c) ms) ≡ None
       → ((s : StrandId) → h'.seats s ≡ (if same_strand s (strand.Conn c) then Some x else h.seats s))
-      → h'.run_queue ≡ h.run_queue → h'.offer_queue ≡ h.offer_queue → h'.in_offers ≡ h.in_offers → h'.now ≡ h.now → h'.connections ≡ h.connections → h'.ending ≡ h.ending
+      → h'.run_queue ≡ h.run_queue → h'.offer_queue ≡ h.offer_queue → h'.in_offers ≡ h.in_offers → h'.now ≡ h.now → h'.connections ≡ h.connections → h'.to_come ≡ h.to_come → h'.agenda ≡ h.agenda
       → Standing b st h' book ms
-  busy-done x go h h' book ms y still seats run_queue offer_queue phase now count ends =
+  busy-done x go h h' book ms y still seats run_queue offer_queue phase now count ends armed =
       let here : h'.seats (strand.Conn c) ≡ Some x = seats (strand.Conn c) ∙ ap (λ v. if v then Some x else h.seats (strand.Conn c)) (same-true c) in
       let other = λ (t : ℕ) (ne : (t == c) ≡ false). seats (strand.Conn t) ∙ ap (λ v. if v then Some x else h.seats (strand.Conn t)) ne in
       let n = y.near in
@@ -43,7 +50,7 @@ module _ {J S : Type 0} (b : Behavior J) (st : S → List (LocalAction J) → Ty
         runs_first = λ run on. clash on (n.kind ∙ run);
         offers_first = λ offer off. clash (n.kind ∙ offer) off;
         moment = n.moment;
-        no_deadline = sym n.deadlines;
+        wakes = may-wake (is_to_wake h.to_come) b es n.wakes;
         no_socket = a.no_socket;
         stopping = n.stopping ∙ sym n.not_to_end;
         client = a.client ∙ sym a.connection;
@@ -52,7 +59,7 @@ module _ {J S : Type 0} (b : Behavior J) (st : S → List (LocalAction J) → Ty
       record {
         each = λ t live. rw (run_queue, offer_queue, phase, now, ends) (by_test (t == c)
             (λ e. subst (λ (i : ℕ). Fit b st (share_of i g) (said_of i book) (projection (strand.Conn i) ms)) (sym (eqb-true t c e)) mine)
-            (λ ne. fit-same refl refl refl refl (other t ne) refl refl refl refl (a.each t ne live)));
+            (λ ne. fit-same refl refl refl refl refl (other t ne) refl refl refl refl (a.each t ne live)));
         dead = λ t gone. by_test (t == c)
             (λ e. clash a.alive (subst (λ (i : ℕ). lives (projection (strand.Conn i) ms) ≡ false) (eqb-true t c e) gone))
             (λ ne. other t ne ∙ a.dead t ne gone);
@@ -68,8 +75,11 @@ module _ {J S : Type 0} (b : Behavior J) (st : S → List (LocalAction J) → Ty
             (λ ne. a.forgotten t ne gone);
         flip_to_runs = λ run on. clash on (n.last ∙ sym phase ∙ run);
         flip_to_offers = λ offer off. clash (n.last ∙ sym phase ∙ offer) off;
-        stops = λ last e. a.stops last (sym ends ∙ e);
-        agenda = sym n.agenda;
+        comes = come-same h.to_come h'.to_come b ms ends (come-of h.to_come b ms n.phase);
+        agenda = sym n.agenda ∙ sym armed;
+        disarmed = λ s gone. ap (deadlines s) armed ∙ by_test (same_strand s (strand.Conn c))
+            (λ on. clash a.alive (subst (λ (r : StrandId). lives (projection r ms) ≡ false) (same-is s (strand.Conn c) on) gone))
+            (λ off. a.disarmed s off gone);
         common = record {
           alone = a.common.alone;
           begins = a.common.begins;
@@ -95,16 +105,17 @@ module _ {J S : Type 0} (b : Behavior J) (st : S → List (LocalAction J) → Ty
   -- the seats stay as they are
   pub falls-seats : (o : Bool) (h h' : Held S) (book : Book) (ms : List (GlobalAction J))
       → Falls b st c o h book ms → ((s : StrandId) → h'.seats s ≡ h.seats s)
-      → h'.run_queue ≡ h.run_queue → h'.offer_queue ≡ h.offer_queue → h'.in_offers ≡ h.in_offers → h'.now ≡ h.now → h'.connections ≡ h.connections → h'.ending ≡ h.ending
+      → h'.run_queue ≡ h.run_queue → h'.offer_queue ≡ h.offer_queue → h'.in_offers ≡ h.in_offers → h'.now ≡ h.now → h'.connections ≡ h.connections → h'.to_come ≡ h.to_come → h'.agenda ≡ h.agenda
       → Falls b st c o h' book ms
-  falls-seats o h h' book ms f seats run_queue offer_queue phase now count ends = record {
+  falls-seats o h h' book ms f seats run_queue offer_queue phase now count ends armed = record {
     next_runs = f.next_runs;
     next_offers = f.next_offers;
     same_runs = f.same_runs ∙ sym (ap (without_all (strand.Conn c)) run_queue);
     same_offers = f.same_offers ∙ sym (ap (without_all (strand.Conn c)) offer_queue);
-    agenda = f.agenda;
+    agenda = f.agenda ∙ sym (ap (without_those (is_of (strand.Conn c))) armed);
+    phase = f.phase ∙ sym (ap phase_at ends);
     around = record {
-      each = λ t ne live. rw (run_queue, offer_queue, phase, now, ends) (fit-same refl refl refl refl (seats (strand.Conn t)) refl refl refl refl (f.around.each t ne live));
+      each = λ t ne live. rw (run_queue, offer_queue, phase, now, ends) (fit-same refl refl refl refl refl (seats (strand.Conn t)) refl refl refl refl (f.around.each t ne live));
       dead = λ t ne gone. seats (strand.Conn t) ∙ f.around.dead t ne gone;
       closed = f.around.closed;
       shut = f.around.shut;
@@ -116,7 +127,7 @@ module _ {J S : Type 0} (b : Behavior J) (st : S → List (LocalAction J) → Ty
       client = f.around.client;
       no_socket = f.around.no_socket;
       own_aside = f.around.own_aside;
-      stops = λ last e. f.around.stops last (sym ends ∙ e);
+      disarmed = λ s ne gone. ap (deadlines s) armed ∙ f.around.disarmed s ne gone;
       common = rw (now, count) f.around.common;
     };
     last = f.last ∙ sym phase;
@@ -148,7 +159,7 @@ to-runs b st h h' book ms g nil held = rw held (record {
     runs_first = λ run on. ap (only (strand.Conn t)) nil;
     offers_first = λ offer off. absurd (let e : false ≡ true = offer in cc);
     moment = f.moment;
-    no_deadline = f.no_deadline;
+    wakes = f.wakes;
     no_socket = f.no_socket;
     stopping = f.stopping;
     client = f.client;
@@ -161,8 +172,9 @@ to-runs b st h h' book ms g nil held = rw held (record {
   forgotten = g.forgotten;
   flip_to_runs = λ run on. nil;
   flip_to_offers = λ offer off. absurd (let e : false ≡ true = offer in cc);
-  stops = g.stops;
+  comes = g.comes;
   agenda = g.agenda;
+  disarmed = g.disarmed;
   common = g.common;
 })
 
@@ -178,7 +190,7 @@ to-offers b st h h' book ms g nil held = rw held (record {
     runs_first = λ run on. absurd (let e : true ≡ false = run in cc);
     offers_first = λ offer off. ap (only (strand.Conn t)) nil;
     moment = f.moment;
-    no_deadline = f.no_deadline;
+    wakes = f.wakes;
     no_socket = f.no_socket;
     stopping = f.stopping;
     client = f.client;
@@ -191,7 +203,41 @@ to-offers b st h h' book ms g nil held = rw held (record {
   forgotten = g.forgotten;
   flip_to_runs = λ run on. absurd (let e : true ≡ false = run in cc);
   flip_to_offers = λ offer off. nil;
-  stops = g.stops;
+  comes = g.comes;
   agenda = g.agenda;
+  disarmed = g.disarmed;
   common = g.common;
 })
+
+-- the first of a queue is in front of the rest
+pub front-of : {A : Type 0} (l : List A) (x : A) → Some x ≡ slice_get l 0 → l ≡ x ∷ drop 1 l
+front-of [] x e = absurd (let f : Some x ≡ None = e in cc)
+front-of (y ∷ l) x e = ap (λ z. z ∷ l) (let f : y ≡ x = cc in f)
+
+pub popped : (old new : QueueView) (s : StrandId) (k : ℕ) → Some (s, k) ≡ slice_get old.threads 0 → new ≡ left old (drop 1 old.threads) → old.threads ≡ (s, k) ∷ new.threads
+popped old new s k first rest = front-of old.threads (s, k) first ∙ ap (λ (q : QueueView). (s, k) ∷ q.threads) (sym rest)
+
+-- a strand with a seat is a connection's
+pub seat-conn : {X : Type 0} (slots : Slots X) (who : StrandId) (x : X) → Some x ≡ slot_at slots who → ((c : ℕ) → who ≡ strand.Conn c → ⊥) → ⊥
+seat-conn slots (strand.Conn c) x e other = other c refl
+seat-conn slots (strand.Job n) x e other = let f : Some x ≡ None = e in cc
+
+nil-of : {A : Type 0} (l : List A) → None ≡ slice_get l 0 → drop 1 l ≡ []
+nil-of [] e = refl
+nil-of (y ∷ l) e = absurd (let f : None ≡ Some y = e in cc)
+
+pub emptied : (old new : QueueView) → None ≡ slice_get old.threads 0 → new ≡ left old (drop 1 old.threads) → new.threads ≡ []
+emptied old new first rest = ap (λ (q : QueueView). q.threads) rest ∙ nil-of old.threads first
+
+-- a thread of a strand is the same in the words of the queue and of executions
+pub without-same : (s : StrandId) (k : ℕ) (l : List (StrandId × ℕ)) → without_thread_of (s, k) l ≡ without_thread s k l
+without-same s k [] = refl
+without-same s k (e ∷ l) = ap (λ r. if same_strand s e.0 && (k == e.1) then l else e ∷ r) (without-same s k l)
+
+pub thread-not-longer : (s : StrandId) (k : ℕ) (l : List (StrandId × ℕ)) → length (without_thread s k l) ≤ length l
+thread-not-longer s k [] = omega arith
+thread-not-longer s k (e ∷ l) = put (same_strand s e.0 && (k == e.1)) (thread-not-longer s k l)
+  where
+    put : (v : Bool) → length (without_thread s k l) ≤ length l → length (if v then l else e ∷ without_thread s k l) ≤ length (e ∷ l)
+    put true h = omega arith
+    put false h = omega (arith, h)

@@ -9,7 +9,7 @@ use Rattle.strand_contract.specs.Behaviors.{Meaning}
 use Rattle.executions.specs.Executions.{GlobalAction, projection}
 use Rattle.turns.specs.declared.turns.Carried.{Carried}
 use Rattle.turns.specs.declared.turns.Carried.TheVariants as carried
-use Rattle.engine_base.specs.declared.seats.Ending.TheVariants as stop
+use Rattle.engine_base.specs.declared.seats.ToCome.TheVariants as coming
 use Rattle.turns.specs.declared.turns.Turns.{Turns}
 use Rattle.engine_base.specs.declared.seats.Seat.{Seat}
 use Rattle.engine_base.specs.Slots.{slot_at, total}
@@ -19,17 +19,18 @@ use Rattle.engine_base.specs.Standing.{Held, Standing, Busy, Falls, Turn}
 abbrev pub view_of : {S : Type 0} → Turns S → Held S
 view_of turns = record {
   seats = slot_at turns.seats;
-  run_queue = turns.run_queue.items;
+  run_queue = turns.run_queue.threads;
   offer_queue = turns.offer_queue.items;
   in_offers = turns.in_offers;
   now = turns.now.0;
   connections = turns.connections;
-  ending = turns.ending;
+  to_come = turns.to_come;
+  agenda = turns.agenda;
 }
 
 -- no turn is under way, and none is to come
 abbrev pub IsIdle : {S : Type 0} → Turns S → Type 0
-IsIdle turns = (turns.run_queue.items ≡ []) × (turns.offer_queue.items ≡ []) × (turns.in_offers ≡ false) × (turns.ending ≡ stop.Over)
+IsIdle turns = (turns.run_queue.threads ≡ []) × (turns.offer_queue.items ≡ []) × (turns.in_offers ≡ false) × (turns.to_come ≡ coming.Nothing)
 
 module _ {J S : Type 0} (m : Meaning S J) where
   -- they stand for some execution
@@ -63,16 +64,16 @@ module _ {J S : Type 0} (m : Meaning S J) where
   IsCarried c seat rest go turns book carried.Over = Stands turns book
   IsCarried c seat rest go turns book carried.Refused = IsFalling c seat.is_open turns book
 
--- the same turns go on: threads run, or places are offered, and the same strands are still to be ended
+-- the same turns go on: threads run, or places are offered, and the same is still to come
 abbrev pub KeepsPhase : {S : Type 0} → Turns S → Turns S → Type 0
-KeepsPhase old new = (new.in_offers ≡ old.in_offers) × (new.ending ≡ old.ending)
+KeepsPhase old new = (new.in_offers ≡ old.in_offers) × (new.to_come ≡ old.to_come)
 
--- what is left to be done: by the strands, and in the queues
+-- what is left to be done: by the strands, in the queues, and at deadlines
 abbrev pub seat_left : {S : Type 0} → (S → ℕ) → Seat S → ℕ
 seat_left left seat = left seat.strand
 
 abbrev pub work : {S : Type 0} → (S → ℕ) → Turns S → ℕ
-work left turns = total (seat_left left) turns.seats + length turns.run_queue.items + length turns.offer_queue.items
+work left turns = total (seat_left left) turns.seats + length turns.run_queue.threads + length turns.offer_queue.items + length turns.agenda
 
 abbrev pub left_of : {S : Type 0} → (S → ℕ) → Option (Seat S) → ℕ
 left_of left None = 0

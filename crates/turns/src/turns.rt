@@ -1,26 +1,30 @@
-//! The turns of the strands that live: what is held of each, and how its acts are carried out, its threads run and its places are offered.
+//! The turns of the strands that live: what is held of each, and how its acts are carried out, it is woken, its threads run and its places are
+//! offered.
 
-use engine_base::{Ending, Seat, Slots};
+use engine_base::{Seat, Slots, ToCome};
+use holdings::Agenda;
 use resty_base::{Id, Ms, StrandId};
 use resty_world::{Entry, Logged, World, Wrote};
 use std::alloc::Global;
 use std::collections::VecDeque;
 use strand_contract::{Act, Acts, Place, Seen, StrandContract};
+use wakes::RunQueue;
 
-/// The strands that live, the threads that are to run, and the places that are to be offered.
+/// The strands that live, the threads that are to run, the places that are to be offered, and the deadlines that are armed.
 #[derive(Drop)]
 pub struct Turns<S> {
     pub alloc: Global,
     pub seats: Slots<Seat<S>>,
-    pub run_queue: VecDeque<(StrandId, u32)>,
+    pub run_queue: RunQueue,
     pub offer_queue: VecDeque<(StrandId, Place)>,
     /// Whether places are offered now, and no threads run.
     pub in_offers: bool,
     pub now: Ms,
+    pub agenda: Agenda,
     /// How many connections are open.
     pub connections: u64,
-    /// Which strands are still to be ended by Stop.
-    pub ending: Ending,
+    /// What the newest event still brings about by itself.
+    pub to_come: ToCome,
     /// Whether a log line wasn't written in this step.
     pub log_failed: bool,
 }
@@ -36,11 +40,14 @@ pub(crate) enum Carried {
 }
 
 impl<S: StrandContract> Turns<S> {
-    ghost use Rattle.std.specs.Prelude.{◌≡◌, ◌<◌, ◌≤◌, ◌+◌, List, [], ◌∷◌, Bool, true, false, MatchOption, IfSome, length};
+    ghost use Rattle.std.specs.Prelude.{◌≡◌, ◌<◌, ◌≤◌, ◌+◌, List, [], ◌∷◌, Bool, true, false, None, MatchOption, IfSome, length};
     ghost use Rattle.strand_contract.specs.Calls.{is_own_turn};
     ghost use Rattle.strand_contract.specs.declared.turns.Act.{Act};
     ghost use Rattle.resty_world.specs.Book.{Book};
     ghost use Rattle.resty_base.specs.declared.names.Id.{Id};
+    ghost use Rattle.resty_base.specs.declared.names.StrandId.{StrandId};
+    ghost use Rattle.executions.specs.Agenda.{without_those, is_of, least, whose};
+    ghost use Rattle.engine_base.specs.declared.seats.ToCome.{ToCome};
     ghost use Rattle.engine_base.specs.Right.{IsFresh};
     ghost use Rattle.turns.specs.Turns.{Stands, Rests, IsTurn, IsBusy, IsDone, IsFalling, IsCarried, KeepsPhase, work, left_of};
     ghost use Rattle.turns.specs.Worked.{Works};
@@ -52,26 +59,32 @@ impl<S: StrandContract> Turns<S> {
         Turns {
             alloc,
             seats: Slots::new(alloc),
-            run_queue: VecDeque::new(alloc),
+            run_queue: RunQueue::new(alloc),
             offer_queue: VecDeque::new(alloc),
             in_offers: false,
             now: Ms(0),
+            agenda: Agenda::new(alloc),
             connections: 0,
-            ending: Ending::Over,
+            to_come: ToCome::Nothing,
             log_failed: false,
         }
     }
 
-    /// Gives a strand up: notes that it was dropped, and closes its connection.
+    /// Gives a strand up: notes that it was dropped, closes its connection, and takes its deadlines out.
     pub fn give_up<W: World>(&mut self, connection: u64, is_open: bool, world: &mut W)
         requires { (site : S.Site) × IsFalling (S.meaning site) connection is_open self.old (W.book world.old) }
         ensures standing { (site : S.Site) → IsFalling (S.meaning site) connection is_open self.old (W.book world.old)
             → Stands (S.meaning site) self.new (W.book world.new) }
         ensures works { Works W.same W.book self.old self.new world.old world.new }
-        ensures kept { self.new ≡ record self.old { connections = self.new.connections } }
+        ensures kept { self.new ≡ record self.old {
+          connections = self.new.connections;
+          agenda = without_those (is_of (StrandId.Conn connection)) self.old.agenda;
+        } }
+        ensures work { work S.left self.new ≤ work S.left self.old }
     {
         let who = StrandId::Conn(connection);
         let _ = world.note(Entry::Dropped(who));
+        self.agenda.end(who);
         if is_open {
             world.hang_up(Id::Conn(connection));
             self.connections = self.connections.saturating_sub(1);
@@ -98,13 +111,17 @@ impl<S: StrandContract> Turns<S> {
         ensures work { work S.left self.new ≤ work S.left self.old + 1 }
     {
         match act {
-            Act::Ready(thread) => match self
-                .run_queue
-                .push_back((StrandId::Conn(connection), thread))
-            {
-                Ok(()) => Carried::Done,
+            Act::Ready(thread) => match self.run_queue.reserve(1) {
+                Ok(()) => {
+                    self.run_queue.push(StrandId::Conn(connection), thread);
+                    Carried::Done
+                }
                 Err(_) => Carried::Refused,
             },
+            Act::Unready(thread) => {
+                self.run_queue.remove(StrandId::Conn(connection), thread);
+                Carried::Done
+            }
             Act::Offer(place) => match self
                 .offer_queue
                 .push_back((StrandId::Conn(connection), place))
@@ -112,6 +129,14 @@ impl<S: StrandContract> Turns<S> {
                 Ok(()) => Carried::Done,
                 Err(_) => Carried::Refused,
             },
+            Act::Arm(number, at) => match self.agenda.arm(StrandId::Conn(connection), number, at) {
+                Ok(()) => Carried::Done,
+                Err(_) => Carried::Refused,
+            },
+            Act::Cancel(number) => {
+                self.agenda.cancel(StrandId::Conn(connection), number);
+                Carried::Done
+            }
             Act::HangUp(place) => match place {
                 Place::Client => {
                     world.hang_up(Id::Conn(connection));
@@ -134,10 +159,11 @@ impl<S: StrandContract> Turns<S> {
                 Logged::Memory => Carried::Refused,
             },
             Act::Gone => {
+                self.agenda.end(StrandId::Conn(connection));
                 world.forget(StrandId::Conn(connection));
                 Carried::Over
             }
-            // There are no deadlines, sockets, dictionaries, pools and timers yet.
+            // There are no sockets, dictionaries, pools and timers yet.
             _ => Carried::Refused,
         }
     }
@@ -250,20 +276,58 @@ impl<S: StrandContract> Turns<S> {
         }
     }
 
+    /// Shows its strand the deadline that is due first, and says whether one was due.
+    fn wake_next<W: World>(&mut self, site: &S::Site, world: &mut W) -> bool
+        requires standing { Stands (S.meaning site.now) self.old (W.book world.old) }
+        requires in_offers { self.old.in_offers ≡ false }
+        requires to_come { self.old.to_come ≡ ToCome.Wakings }
+        ensures standing { Stands (S.meaning site.now) self.new (W.book world.new) }
+        ensures works { Works W.same W.book self.old self.new world.old world.new }
+        ensures phase { KeepsPhase self.old self.new }
+        ensures none { result ≡ false → whose (least self.new.now.0 self.new.agenda) ≡ None }
+        ensures less { result ≡ true → work S.left self.new < work S.left self.old }
+    {
+        let Some((who, number)) = self.agenda.due(self.now) else {
+            return false;
+        };
+        // Whose deadline is armed is a connection's strand, and has a seat.
+        let Some(seat) = self.seats.take_out(who) else {
+            return true;
+        };
+        let StrandId::Conn(connection) = who else {
+            return true;
+        };
+        self.take_turn(site, connection, seat, Seen::Due(number), world);
+        true
+    }
+
+    /// Shows their strands all deadlines that are due: the earliest first, of equals the one that was armed first.
+    pub fn wake<W: World>(&mut self, site: &S::Site, world: &mut W)
+        requires standing { Stands (S.meaning site.now) self.old (W.book world.old) }
+        requires in_offers { self.old.in_offers ≡ false }
+        requires to_come { self.old.to_come ≡ ToCome.Wakings }
+        ensures standing { Stands (S.meaning site.now) self.new (W.book world.new) }
+        ensures works { Works W.same W.book self.old self.new world.old world.new }
+        ensures to_come { self.new.to_come ≡ ToCome.Nothing }
+    {
+        while self.wake_next(site, world) {}
+        self.to_come = ToCome::Nothing;
+    }
+
     /// Runs the first thread in the queue whose strand lives, and says whether there was one.
     fn run_next<W: World>(&mut self, site: &S::Site, world: &mut W) -> bool
         requires standing { Stands (S.meaning site.now) self.old (W.book world.old) }
         requires in_offers { self.old.in_offers ≡ false }
-        requires ending { self.old.ending ≡ Ending.Over }
+        requires to_come { self.old.to_come ≡ ToCome.Nothing }
         ensures standing { Stands (S.meaning site.now) self.new (W.book world.new) }
         ensures works { Works W.same W.book self.old self.new world.old world.new }
         ensures phase { KeepsPhase self.old self.new }
-        ensures none { result ≡ false → self.new.run_queue.items ≡ [] }
+        ensures none { result ≡ false → self.new.run_queue.threads ≡ [] }
         ensures offers { result ≡ false → self.new.offer_queue.items ≡ self.old.offer_queue.items }
         ensures kept { work S.left self.new ≤ work S.left self.old }
         ensures less { result ≡ true → work S.left self.new < work S.left self.old }
     {
-        while let Some((who, thread)) = self.run_queue.pop_front() {
+        while let Some((who, thread)) = self.run_queue.pop() {
             if let Some(seat) = self.seats.take_out(who) {
                 if let StrandId::Conn(connection) = who {
                     self.take_turn(site, connection, seat, Seen::Run(thread), world);
@@ -320,12 +384,12 @@ impl<S: StrandContract> Turns<S> {
     fn offer_next<W: World>(&mut self, site: &S::Site, world: &mut W) -> bool
         requires standing { Stands (S.meaning site.now) self.old (W.book world.old) }
         requires in_offers { self.old.in_offers ≡ true }
-        requires ending { self.old.ending ≡ Ending.Over }
+        requires to_come { self.old.to_come ≡ ToCome.Nothing }
         ensures standing { Stands (S.meaning site.now) self.new (W.book world.new) }
         ensures works { Works W.same W.book self.old self.new world.old world.new }
         ensures phase { KeepsPhase self.old self.new }
         ensures none { result ≡ false → self.new.offer_queue.items ≡ [] }
-        ensures runs { result ≡ false → self.new.run_queue.items ≡ self.old.run_queue.items }
+        ensures runs { result ≡ false → self.new.run_queue.threads ≡ self.old.run_queue.threads }
         ensures kept { work S.left self.new ≤ work S.left self.old }
         ensures less { result ≡ true → work S.left self.new < work S.left self.old }
     {
@@ -366,11 +430,11 @@ impl<S: StrandContract> Turns<S> {
     /// One turn, of a thread or of a place; false where both queues are empty.
     fn turn<W: World>(&mut self, site: &S::Site, world: &mut W) -> bool
         requires standing { Stands (S.meaning site.now) self.old (W.book world.old) }
-        requires ending { self.old.ending ≡ Ending.Over }
+        requires to_come { self.old.to_come ≡ ToCome.Nothing }
         ensures standing { Stands (S.meaning site.now) self.new (W.book world.new) }
         ensures works { Works W.same W.book self.old self.new world.old world.new }
-        ensures ending { self.new.ending ≡ Ending.Over }
-        ensures none { result ≡ false → (self.new.run_queue.items ≡ []) × (self.new.offer_queue.items ≡ []) }
+        ensures to_come { self.new.to_come ≡ ToCome.Nothing }
+        ensures none { result ≡ false → (self.new.run_queue.threads ≡ []) × (self.new.offer_queue.items ≡ []) }
         ensures less { result ≡ true → work S.left self.new < work S.left self.old }
     {
         if self.in_offers {
@@ -391,7 +455,7 @@ impl<S: StrandContract> Turns<S> {
     /// All turns, until both queues are empty.
     pub fn settle<W: World>(&mut self, site: &S::Site, world: &mut W)
         requires standing { Stands (S.meaning site.now) self.old (W.book world.old) }
-        requires ending { self.old.ending ≡ Ending.Over }
+        requires to_come { self.old.to_come ≡ ToCome.Nothing }
         ensures rests { Rests (S.meaning site.now) self.new (W.book world.new) }
         ensures works { Works W.same W.book self.old self.new world.old world.new }
     {

@@ -1,5 +1,5 @@
 use Rattle.std.proofs.Common.{◌≡◌, ◌-◌, ◌^◌, ℕ, false, Option, Some, None}
-use Rattle.engine_base.specs.declared.seats.Ending.TheVariants as stop
+use Rattle.engine_base.specs.declared.seats.ToCome.TheVariants as coming
 use Rattle.turns.specs.Turns.{Stands}
 use Rattle.turns.specs.Worked.{Works}
 use Rattle.engine.proofs.events.end_all.Given as goal
@@ -14,7 +14,7 @@ invariant-loop-connection g l = record {
   standing : Stands (g.S.StrandContract.meaning l.site) l.turns (g.W.World.book l.world);
   works : Works g.W.World.same g.W.World.book l.fn.turns l.turns l.fn.world l.world;
   in_offers : l.turns.in_offers ≡ false;
-  ending : l.turns.ending ≡ stop.After l.last;
+  to_come : l.turns.to_come ≡ coming.Endings l.last;
 }
 
 abbrev pub decreases-loop-connection : goal.decreases-loop-connection

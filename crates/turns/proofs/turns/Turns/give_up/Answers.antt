@@ -1,9 +1,11 @@
-use Rattle.std.proofs.Common.{None, ◌∷◌, refl}
+use Rattle.std.proofs.Common.{None, ◌∷◌, refl, arith}
 use Rattle.resty_base.specs.declared.names.Id.TheVariants as id
 use Rattle.resty_base.specs.declared.names.StrandId.TheVariants as strand
 use Rattle.strand_contract.specs.declared.turns.Place.TheVariants as place
 use Rattle.strand_contract.specs.Actions.{Close, Dropped}
 use Rattle.executions.specs.Executions.{Of}
+use Rattle.executions.specs.Agenda.{is_of}
+use Rattle.engine_base.proofs.Agendas.{all-not-longer}
 use Rattle.engine_base.proofs.Acts.{fallen-open, fallen-shut}
 use Rattle.turns.proofs.Going.{goes-joins, goes-work, dropped-work, closed-work, forgot-work}
 use Rattle.turns.proofs.turns.Turns.give_up.Goals as goal
@@ -16,11 +18,11 @@ returns-clause-standing g c = λ site f.
       | then-is_open w ↦ (
         Of (strand.Conn k) (Close place.Client) None ∷ Of (strand.Conn k) Dropped None ∷ f.0,
         fallen-open _ _ k (g.met.S.StrandContract.quiet site) _ _ (g.W.World.book c.args.world.now) (g.W.World.book c.note.new.self) (g.W.World.book w.hang_up.new.self) (g.W.World.book c.forget.new.self) _ f.0 (rw w.if-is_open.true at f.1)
-            c.note.ensures.notes w.hang_up.ensures.hangs_up (rw w.world-is at c.forget.ensures.forgets) (rw (w.self-is, w.saturating_sub-self.ensures) refl),
+            c.note.ensures.notes w.hang_up.ensures.hangs_up (rw w.world-is at c.forget.ensures.forgets) (rw (w.self-is, w.saturating_sub-self.ensures, c.end.ensures) refl),
       )
       | else-is_open w ↦ (
         Of (strand.Conn k) Dropped None ∷ f.0,
-        rw w.self-is (fallen-shut _ _ k (g.met.S.StrandContract.quiet site) _ (g.W.World.book c.args.world.now) (g.W.World.book c.note.new.self) (g.W.World.book c.forget.new.self) _ f.0 (rw w.if-is_open.false at f.1) c.note.ensures.notes (rw w.world-is at c.forget.ensures.forgets)),
+        fallen-shut _ _ k (g.met.S.StrandContract.quiet site) _ _ (g.W.World.book c.args.world.now) (g.W.World.book c.note.new.self) (g.W.World.book c.forget.new.self) _ f.0 (rw w.if-is_open.false at f.1) c.note.ensures.notes (rw w.world-is at c.forget.ensures.forgets) (rw (w.self-is, c.end.ensures) refl),
       )
     ]
 
@@ -35,3 +37,17 @@ returns-clause-works g c =
           (rw w.world-is at forgot))
       | else-is_open w ↦ rw w.self-is (goes-joins g.W.World.same g.W.World.book _ c.note.new.self _ _ _ _ (g.met.W.World.joins _ _ _) noted (rw w.world-is at forgot))
     ]
+
+pub returns-clause-work : goal.returns-clause-work
+returns-clause-work g c =
+    let fewer = all-not-longer (is_of (strand.Conn c.args.connection)) c.args.self.now.agenda in
+    elim c.if-is_open.branch [
+      | then-is_open w ↦ rw (w.self-is, c.end.ensures) (omega (arith, fewer))
+      | else-is_open w ↦ rw (w.self-is, c.end.ensures) (omega (arith, fewer))
+    ]
+
+pub returns-clause-kept : goal.returns-clause-kept
+returns-clause-kept g c = elim c.if-is_open.branch [
+  | then-is_open w ↦ rw (w.self-is, c.end.ensures) refl
+  | else-is_open w ↦ rw (w.self-is, c.end.ensures) refl
+]

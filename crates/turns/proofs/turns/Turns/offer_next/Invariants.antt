@@ -1,5 +1,5 @@
 use Rattle.std.proofs.Common.{◌≡◌, ◌≤◌, true, length}
-use Rattle.engine_base.specs.declared.seats.Ending.TheVariants as stop
+use Rattle.engine_base.specs.declared.seats.ToCome.TheVariants as coming
 use Rattle.turns.specs.Turns.{Stands, work}
 use Rattle.turns.specs.Worked.{Works}
 use Rattle.turns.proofs.turns.Turns.offer_next.Given as goal
@@ -9,8 +9,8 @@ invariant-loop-who g l = record {
   standing : Stands (g.S.StrandContract.meaning l.site) l.self (g.W.World.book l.world);
   works : Works g.W.World.same g.W.World.book l.fn.self l.self l.fn.world l.world;
   in_offers : l.self.in_offers ≡ true;
-  ending : l.self.ending ≡ stop.Over;
-  run_queue : l.self.run_queue.items ≡ l.fn.self.run_queue.items;
+  to_come : l.self.to_come ≡ coming.Nothing;
+  run_queue : l.self.run_queue.threads ≡ l.fn.self.run_queue.threads;
   less : work g.S.StrandContract.left l.self ≤ work g.S.StrandContract.left l.fn.self;
 }
 

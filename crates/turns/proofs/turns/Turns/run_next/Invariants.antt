@@ -1,5 +1,5 @@
 use Rattle.std.proofs.Common.{◌≡◌, ◌≤◌, false, length}
-use Rattle.engine_base.specs.declared.seats.Ending.TheVariants as stop
+use Rattle.engine_base.specs.declared.seats.ToCome.TheVariants as coming
 use Rattle.turns.specs.Turns.{Stands, work}
 use Rattle.turns.specs.Worked.{Works}
 use Rattle.turns.proofs.turns.Turns.run_next.Given as goal
@@ -9,10 +9,10 @@ invariant-loop-who g l = record {
   standing : Stands (g.S.StrandContract.meaning l.site) l.self (g.W.World.book l.world);
   works : Works g.W.World.same g.W.World.book l.fn.self l.self l.fn.world l.world;
   in_offers : l.self.in_offers ≡ false;
-  ending : l.self.ending ≡ stop.Over;
+  to_come : l.self.to_come ≡ coming.Nothing;
   offer_queue : l.self.offer_queue.items ≡ l.fn.self.offer_queue.items;
   less : work g.S.StrandContract.left l.self ≤ work g.S.StrandContract.left l.fn.self;
 }
 
 abbrev pub decreases-loop-who : goal.decreases-loop-who
-decreases-loop-who g l = length l.self.run_queue.items
+decreases-loop-who g l = length l.self.run_queue.threads

@@ -6,4 +6,4 @@ pub returns-clause-rests : goal.returns-clause-rests
 returns-clause-rests g c =
     let nil = c.loop-test.ensures.none refl in
     let s = c.loop-test.ensures.standing in
-    (s.0, to-runs _ _ _ _ _ s.0 s.1 nil.1 refl, (nil.0, nil.1, refl, c.loop-test.ensures.ending))
+    (s.0, to-runs _ _ _ _ _ s.0 s.1 nil.1 refl, (nil.0, nil.1, refl, c.loop-test.ensures.to_come))

@@ -1,5 +1,5 @@
 use Rattle.std.proofs.Common.{◌≡◌}
-use Rattle.engine_base.specs.declared.seats.Ending.TheVariants as stop
+use Rattle.engine_base.specs.declared.seats.ToCome.TheVariants as coming
 use Rattle.turns.specs.Turns.{Stands, work}
 use Rattle.turns.specs.Worked.{Works}
 use Rattle.turns.proofs.turns.Turns.settle.Given as goal
@@ -8,7 +8,7 @@ abbrev pub invariant-loop : goal.invariant-loop
 invariant-loop g l = record {
   standing : Stands (g.S.StrandContract.meaning l.site) l.self (g.W.World.book l.world);
   works : Works g.W.World.same g.W.World.book l.fn.self l.self l.fn.world l.world;
-  ending : l.self.ending ≡ stop.Over;
+  to_come : l.self.to_come ≡ coming.Nothing;
 }
 
 abbrev pub decreases-loop : goal.decreases-loop

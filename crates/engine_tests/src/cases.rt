@@ -1,0 +1,90 @@
+//! Cases as texts: what comes, and what the engine does then, for strands that go by the programs of a text.
+use engine::serve;
+use resty_base::{Bytes, Ms};
+use schedule::{Replay, history_text, schedule_of};
+use script_strand::{Op, Program, ScriptStrand, Site};
+use std::alloc::{AllocError, Global};
+use std::process::Abort;
+use std::rc::Rc;
+use std::test::Fail;
+
+/// How many connections may be open at a time.
+const CONNECTIONS: u32 = 3;
+
+/// More events than any case has.
+pub(crate) const EVENTS: u64 = 100;
+
+/// Tests each case; an empty line stands between two. A line of a case that begins with `> ` is what the engine does, one that
+/// begins with `< ` stands in the schedule alone, and any other is given: it stands in the schedule and in the history.
+pub(crate) fn hold(
+    rt: &impl Abort,
+    alloc: Global,
+    programs: &str,
+    cases: &str,
+) -> Result<(), Fail> {
+    for case in cases.split("\n\n") {
+        let history = served(alloc, site(alloc, programs)?, case)?;
+        assert_eq!(rt;
+            str::from_utf8(history.as_slice()).unwrap_or("?"),
+            lines(alloc, case, "> ", "< ")?.as_str()
+        );
+    }
+    Ok(())
+}
+
+/// The lines of a case that begin with a mark, and those without one, but not those that begin with the other mark.
+fn lines(alloc: Global, case: &str, mark: &str, other: &str) -> Result<String, AllocError> {
+    let mut text = String::new(alloc);
+    for line in case.lines() {
+        if !line.starts_with(other) {
+            text.push_str(line.strip_prefix(mark).unwrap_or(line))?;
+            text.push('\n')?;
+        }
+    }
+    Ok(text)
+}
+
+/// The history that is left once the schedule of a case was served.
+fn served(alloc: Global, site: Site, case: &str) -> Result<Bytes, Fail> {
+    let schedule = schedule_of(alloc, lines(alloc, case, "< ", "> ")?.as_bytes())?;
+    let mut world = Replay::new(alloc, schedule);
+    let _ = serve::<ScriptStrand, Replay>(alloc, site, &mut world, EVENTS);
+    Ok(history_text(alloc, world.history())?)
+}
+
+/// The site with these programs, one a line: its name, which is one byte, `: `, and operations with `, ` between.
+pub(crate) fn site(alloc: Global, programs: &str) -> Result<Site, AllocError> {
+    let mut all = Vec::new(alloc);
+    for line in programs.lines() {
+        let (name, ops) = line.split_once(": ").unwrap_or((line, ""));
+        all.push(Program {
+            name: name.as_bytes().first().copied().unwrap_or(b'?'),
+            ops: Rc::new(alloc, ops_of(alloc, ops)?)?,
+        })?;
+    }
+    Ok(Site {
+        programs: all,
+        connections: CONNECTIONS,
+    })
+}
+
+fn ops_of(alloc: Global, texts: &str) -> Result<Vec<Op>, AllocError> {
+    let mut ops = Vec::new(alloc);
+    for text in texts.split(", ") {
+        ops.push(op_of(alloc, text)?)?;
+    }
+    Ok(ops)
+}
+
+/// An operation: a word, and after a space what it takes.
+fn op_of(alloc: Global, text: &str) -> Result<Op, AllocError> {
+    let (word, given) = text.split_once(' ').unwrap_or((text, ""));
+    Ok(match word {
+        "sleep" => Op::Sleep(Ms(given.parse().unwrap_or(0))),
+        "yield" => Op::Yield,
+        "recall" => Op::Recall,
+        "fail" => Op::Fail,
+        "log" => Op::Log(Bytes::copy_from_slice(alloc, given.as_bytes())?),
+        _ => Op::Say(Bytes::copy_from_slice(alloc, given.as_bytes())?),
+    })
+}

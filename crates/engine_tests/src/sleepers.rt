@@ -1,0 +1,288 @@
+//! Strands that sleep: moments wake them in the order in which they are due, and of equals the one that was armed first.
+use crate::asking::Asking;
+use crate::cases::{EVENTS, hold, site};
+use engine::serve;
+use schedule::schedule_of;
+use script_strand::ScriptStrand;
+use std::alloc::Global;
+use std::test::Fail;
+
+const PROGRAMS: &str = "\
+a: sleep 5, log a
+b: sleep 3, log b
+z: sleep 0, log z
+m: sleep 5, sleep 0, log m
+w: sleep 5, log w, sleep 5, log v
+s: say a, sleep 5, say b
+f: sleep 5, fail
+g: sleep 5, log g, yield, fail
+r: recall, sleep 5, recall, log r";
+
+const ORDER: &str = r#"arrive c1
+arrive c2
+arrive c3
+bytes c3 "a"
+bytes c2 "b"
+bytes c1 "a"
+moment 2
+moment 3
+> log c2 "b"
+> close c2
+moment 5
+> log c3 "a"
+> close c3
+> log c1 "a"
+> close c1
+stop
+
+arrive c1
+arrive c2
+arrive c3
+bytes c2 "a"
+moment 2
+bytes c3 "b"
+bytes c1 "b"
+moment 4
+moment 9
+> log c2 "a"
+> close c2
+> log c3 "b"
+> close c3
+> log c1 "b"
+> close c1
+stop
+
+arrive c1
+arrive c2
+arrive c3
+bytes c3 "a"
+bytes c2 "a"
+bytes c1 "b"
+moment 4
+> log c1 "b"
+> close c1
+bytes c3 "x"
+> log c3 "a"
+> close c3
+moment 4
+moment 7
+> log c2 "a"
+> close c2
+stop"#;
+
+#[test]
+fn sleepers_wake_by_moment_and_by_order_of_arming(rt: HostRuntime) -> Result<(), Fail> {
+    hold(&rt, rt.alloc(), PROGRAMS, ORDER)
+}
+
+const NEXT_MOMENT: &str = r#"arrive c1
+bytes c1 "z"
+arrive c2
+moment 0
+> log c1 "z"
+> close c1
+stop
+> close c2
+
+arrive c1
+arrive c2
+bytes c2 "z"
+bytes c1 "m"
+moment 5
+> log c2 "z"
+> close c2
+arrive c3
+moment 5
+> log c1 "m"
+> close c1
+stop
+> close c3
+
+moment 7
+arrive c1
+bytes c1 "a"
+moment 11
+moment 12
+> log c1 "a"
+> close c1
+stop"#;
+
+#[test]
+fn a_deadline_comes_due_at_a_later_moment_alone(rt: HostRuntime) -> Result<(), Fail> {
+    hold(&rt, rt.alloc(), PROGRAMS, NEXT_MOMENT)
+}
+
+const CANCELLED: &str = r#"arrive c1
+bytes c1 "w"
+moment 3
+bytes c1 "x"
+> log c1 "w"
+moment 5
+moment 7
+moment 8
+> log c1 "v"
+> close c1
+stop
+
+arrive c1
+arrive c2
+bytes c1 "w"
+bytes c2 "a"
+bytes c1 "x"
+> log c1 "w"
+moment 5
+> log c2 "a"
+> close c2
+> log c1 "v"
+> close c1
+stop
+
+arrive c1
+bytes c1 "r"
+moment 4
+moment 5
+> log c1 "r"
+> close c1
+stop"#;
+
+#[test]
+fn a_cancelled_deadline_never_comes_due(rt: HostRuntime) -> Result<(), Fail> {
+    hold(&rt, rt.alloc(), PROGRAMS, CANCELLED)
+}
+
+const OVER: &str = r#"arrive c1
+arrive c2
+bytes c1 "f"
+bytes c2 "a"
+bytes c1 "x"
+> dropped c1
+> close c1
+moment 5
+> log c2 "a"
+> close c2
+stop
+
+arrive c1
+arrive c2
+bytes c1 "g"
+bytes c2 "a"
+moment 5
+> log c1 "g"
+> log c2 "a"
+> close c2
+> dropped c1
+> close c1
+stop
+
+arrive c1
+arrive c2
+bytes c1 "a"
+bytes c2 "a"
+ended c2
+broken c1
+> close c1
+arrive c3
+bytes c3 "a"
+moment 5
+> log c2 "a"
+> close c2
+> log c3 "a"
+> close c3
+stop
+
+arrive c1
+arrive c2
+arrive c3
+bytes c2 "a"
+bytes c1 "b"
+stop
+> close c1
+> close c2
+> close c3"#;
+
+#[test]
+fn a_strand_that_is_over_leaves_no_deadline(rt: HostRuntime) -> Result<(), Fail> {
+    hold(&rt, rt.alloc(), PROGRAMS, OVER)
+}
+
+const WRITES: &str = r#"arrive c1
+arrive c2
+< room c1 1
+bytes c1 "s"
+> put c1 "a"
+bytes c2 "s"
+> put c2 "a"
+moment 5
+> later c1
+> put c2 "b"
+> close c2
+< room c1 all
+ready c1
+> put c1 "b"
+> close c1
+stop
+
+arrive c1
+arrive c2
+bytes c1 "s"
+> put c1 "a"
+bytes c2 "s"
+> put c2 "a"
+< fail put c1
+moment 5
+> lost c1
+> close c1
+> put c2 "b"
+> close c2
+stop
+
+arrive c1
+arrive c2
+bytes c1 "a"
+bytes c2 "a"
+< fail log
+moment 5
+> log c1 failed "a"
+> close c1
+> log c2 "a"
+> close c2
+< stop"#;
+
+#[test]
+fn what_sleepers_write_waits_and_breaks(rt: HostRuntime) -> Result<(), Fail> {
+    hold(&rt, rt.alloc(), PROGRAMS, WRITES)
+}
+
+/// Until when the world was asked as the schedule was served.
+fn asked(alloc: Global, schedule: &str) -> Result<Asking, Fail> {
+    let mut world = Asking::new(alloc, schedule_of(alloc, schedule.as_bytes())?);
+    let _ = serve::<ScriptStrand, Asking>(alloc, site(alloc, PROGRAMS)?, &mut world, EVENTS);
+    Ok(world)
+}
+
+const TWO_SLEEP: &str = r#"arrive c1
+arrive c2
+bytes c1 "a"
+bytes c2 "b"
+moment 3
+moment 5
+stop
+"#;
+
+const TWO_GO: &str = r#"arrive c1
+arrive c2
+bytes c1 "a"
+bytes c2 "b"
+bytes c2 "x"
+broken c1
+moment 6
+stop
+"#;
+
+#[test]
+fn the_world_is_asked_until_the_earliest_deadline(rt: HostRuntime) -> Result<(), Fail> {
+    let alloc = rt.alloc();
+    assert_eq!(rt; asked(alloc, TWO_SLEEP)?.asked(), "- - - 5 3 5 - ");
+    assert_eq!(rt; asked(alloc, TWO_GO)?.asked(), "- - - 5 3 5 - - ");
+    Ok(())
+}

@@ -1,0 +1,7 @@
+//! Tests of what an engine holds of its strands.
+#![tactic(auto)]
+
+#[cfg(test)]
+mod agendas;
+#[cfg(test)]
+mod seats;

@@ -1,0 +1,89 @@
+-- Runs that answer each request with what a dictionary keeps under a key, and close the connection.
+use Rattle.std.specs.Prelude.{◌≡◌, ℕ, ◌≤◌, Bool, true, false, List, [], ◌∷◌, Option, Some, None, if◌then◌else◌}
+use Rattle.resty_base.specs.declared.dictionary.DictValue.TheVariants as value
+use Rattle.resty_base.specs.declared.dictionary.DictCall.TheVariants as dict
+use Rattle.resty_base.specs.declared.dictionary.DictAnswer.TheVariants as given
+use Rattle.strand_contract.specs.declared.turns.Place.TheVariants as place
+use Rattle.strand_contract.specs.declared.turns.Answer.{Answer}
+use Rattle.strand_contract.specs.declared.turns.Answer.TheVariants as answer
+use Rattle.strand_contract.specs.Actions.{Action, Dict}
+use Rattle.moves.specs.Questions.{Question}
+use Rattle.moves.specs.Questions as question
+use Rattle.moves.specs.Ledgers.{Ledger, has}
+use Rattle.moves.specs.Moves.{Done, Set, Ask}
+use Rattle.moves.specs.Moves as move
+use Rattle.run_contract.specs.declared.stored.Progress.{Progress}
+use Rattle.run_contract.specs.declared.stored.Progress.TheVariants.{Queued, Asked, Replied}
+use Rattle.run_contract.specs.declared.turns.RunSeen.{RunSeen}
+use Rattle.run_contract.specs.declared.turns.RunSeen.TheVariants as seen
+use Rattle.run_contract.specs.declared.turns.Said.{Said}
+use Rattle.run_contract.specs.declared.turns.Said.TheVariants as said
+use Rattle.run_contract.specs.Runs.{Turn, RunPlan}
+use Rattle.run_contract.specs.Alike.{own_deadlines}
+use Rattle.run_contract.specs.Conditions.{IsUnused}
+
+-- how far it has come, and whether the client is there
+pub record Stored : Type 0 where
+  pub progress : Progress
+  pub client : Bool
+
+-- the reply, whole, after which nothing is left
+abbrev pub reply_said : List ℕ → List Said
+reply_said bytes = said.Send bytes ∷ said.Ended true ∷ said.Over ∷ []
+
+-- the text that was found, or the other one
+abbrev pub given_text : List ℕ → Answer → List ℕ
+given_text otherwise (answer.Dict (given.Found (value.Text text) flags)) = text
+given_text otherwise a = otherwise
+
+abbrev pub silent : {J : Type 0} → Turn J Stored
+silent = record { moves = Done; said = [] }
+
+-- the thread asks for what is kept under the key
+abbrev pub stored_turn : {J : Type 0} → List ℕ → ℕ → RunSeen → Ledger J → Stored → Turn J Stored
+stored_turn key now (seen.Run k) b r = record { moves = Set (λ r. record r { progress = Asked }) (Ask (question.Dict 0 (dict.Get key))); said = [] }
+stored_turn key now seen.ClientGone b r = record { moves = Set (λ r. record r { client = false }) Done; said = [] }
+stored_turn key now s b r = silent
+
+-- and sends that
+abbrev pub stored_answered : {J : Type 0} → List ℕ → ℕ → Action J → Ledger J → Stored → Turn J Stored
+stored_answered otherwise now (Dict zone call a) b r =
+    record { moves = Set (λ r. record r { progress = Replied }) Done; said = reply_said (given_text otherwise (answer.Dict a)) }
+stored_answered otherwise now x b r = silent
+
+abbrev pub stored_plan : {J : Type 0} → (name key otherwise : List ℕ) → RunPlan J Stored
+stored_plan name key otherwise = record {
+  unborn = record { progress = Queued; client = true };
+  waits = λ r. record { body = false; taken = false; client = r.client };
+  tells_left = λ r. if r.client then 1 else 0;
+  begun = λ now head target b. record { moves = move.Ready 0 Done; said = [] };
+  begun_job = λ now premature job b. record { moves = Set (λ r. record r { client = false }) (move.Ready 0 Done); said = [] };
+  turn = stored_turn key;
+  answered = stored_answered otherwise;
+  zones = 1;
+  zone_name = λ n. name;
+  zone_size = λ n. 12_288;
+}
+
+-- the threads that are queued, and what is asked, when it has come so far
+abbrev pub threads_at : Progress → List ℕ
+threads_at Queued = 0 ∷ []
+threads_at p = []
+
+abbrev pub asked_at : {J : Type 0} → List ℕ → Progress → Option (Question J)
+asked_at key Asked = Some (question.Dict 0 (dict.Get key))
+asked_at key p = None
+
+-- it has no deadline and no socket, and sends to none
+pub record StoredHolds {J : Type 0} (key : List ℕ) (b : Ledger J) (r : Stored) : Type 0 where
+  pub threads : b.threads ≡ threads_at r.progress
+  pub asked : b.asked ≡ asked_at key r.progress
+  pub no_deadline : own_deadlines b.armed ≡ []
+  pub no_socket : (k : ℕ) → has (place.Sock k) b.opened ≡ false
+  pub unused : (k : ℕ) → b.count ≤ k → IsUnused (place.Sock k) b
+
+-- how much it can do: three things to say, before them an act, each in a turn
+abbrev pub left_at : Progress → ℕ
+left_at Queued = 6
+left_at Asked = 4
+left_at Replied = 0

@@ -1,0 +1,229 @@
+//! Runs that answer each request with what a dictionary keeps under a key: they meet the contract, so each of its calls can be made.
+
+ghost use Rattle.std.specs.Prelude.{◌≡◌, [], ◌∷◌, IfOk};
+ghost use Rattle.strand_contract.specs.declared.turns.Act.TheVariants as act;
+ghost use Rattle.resty_base.specs.declared.dictionary.DictCall.TheVariants as dict;
+ghost use Rattle.run_contract.specs.Stored.{given_text, reply_said};
+
+use crate::{RunContract, RunSeen, RunTurn, Said};
+use http_in::Head;
+use resty_base::{Boxed, Bytes, DictAnswer, DictCall, DictValue, Ms};
+use std::alloc::{AllocError, Global};
+use std::collections::VecDeque;
+use strand_contract::{Act, Answer};
+use uri_args::Target;
+
+/// One dictionary, a key of it, and the reply where no text is kept under the key.
+#[derive(Debug, Drop)]
+pub struct StoredSite {
+    pub dictionary: Bytes,
+    pub key: Bytes,
+    pub otherwise: Bytes,
+}
+
+/// No run of this site asks for a timer job.
+#[derive(Debug, Drop)]
+pub struct NoJob;
+
+/// How far a run has come.
+#[derive(Clone, Copy, Debug, PartialEq, Eq)]
+pub enum Progress {
+    /// Its thread waits for its run.
+    Queued,
+    /// The dictionary was asked.
+    Asked,
+    Replied,
+}
+
+/// A run that asks for the value, sends it as the whole reply and closes.
+#[derive(Debug, Drop)]
+pub struct StoredReply {
+    progress: Progress,
+    has_client: bool,
+}
+
+/// A turn that does nothing and says nothing.
+fn silent(alloc: Global) -> RunTurn<NoJob>
+    ensures acts { result.acts.items ≡ [] }
+    ensures said { result.said.items ≡ [] }
+{
+    RunTurn {
+        acts: VecDeque::new(alloc),
+        said: Vec::new(alloc),
+    }
+}
+
+/// A turn that puts the thread into the queue.
+fn queueing(alloc: Global) -> Result<RunTurn<NoJob>, AllocError>
+    ensures acts { IfOk result (λ turn. turn.acts.items ≡ act.Ready 0 ∷ []) }
+    ensures said { IfOk result (λ turn. turn.said.items ≡ []) }
+{
+    let mut turn = silent(alloc);
+    turn.acts.push_back(Act::Ready(0))?;
+    Ok(turn)
+}
+
+/// A turn that asks for what is kept under the key.
+fn asking(alloc: Global, site: &StoredSite) -> Result<RunTurn<NoJob>, AllocError>
+    ensures acts { IfOk result (λ turn. turn.acts.items ≡ act.Dict 0 (dict.Get site.now.key) ∷ []) }
+    ensures said { IfOk result (λ turn. turn.said.items ≡ []) }
+{
+    let mut turn = silent(alloc);
+    let call = Boxed::new(alloc, DictCall::Get(site.key.clone()?))?;
+    turn.acts.push_back(Act::Dict(0, call))?;
+    Ok(turn)
+}
+
+/// The text that was found, or the other one.
+fn text_of(site: &StoredSite, answer: Answer) -> Result<Bytes, AllocError>
+    ensures { IfOk result (λ text. text ≡ given_text site.now.otherwise answer) }
+{
+    match answer {
+        Answer::Dict(DictAnswer::Found(DictValue::Text(text), _)) => Ok(text),
+        _ => site.otherwise.clone(),
+    }
+}
+
+/// A turn that sends this as the whole reply.
+fn replying(alloc: Global, text: Bytes) -> Result<RunTurn<NoJob>, AllocError>
+    ensures acts { IfOk result (λ turn. turn.acts.items ≡ []) }
+    ensures said { IfOk result (λ turn. turn.said.items ≡ reply_said text) }
+{
+    let mut turn = silent(alloc);
+    turn.said.push(Said::Send(text))?;
+    turn.said.push(Said::Ended(true))?;
+    turn.said.push(Said::Over)?;
+    Ok(turn)
+}
+
+impl RunContract for StoredReply {
+    ghost use Rattle.std.specs.Prelude.{◌+◌, if◌then◌else◌};
+    ghost use Rattle.run_contract.specs.Stored.{Stored, stored_plan, StoredHolds, left_at};
+    ghost use Rattle.run_contract.specs.StoredLaws.{stored-is-run};
+
+    type Site = StoredSite;
+
+    type Job = NoJob;
+
+    ghost Inner = { Stored };
+
+    ghost plan = { λ site. stored_plan site.dictionary site.key site.otherwise };
+
+    ghost holds = { λ site b r. StoredHolds site.key b r };
+
+    ghost stands = { λ site run b r. (run.progress ≡ r.progress) × (run.has_client ≡ r.client) };
+
+    ghost left = { λ run. left_at run.progress + (if run.has_client then 1 else 0) };
+
+    ghost most = { λ site. 8 };
+
+    ghost meets = { λ site. stored-is-run site.dictionary site.key site.otherwise };
+
+    ghost apart = { λ site run b c r same stands. stands };
+
+    fn zones(site: &StoredSite) -> u32 {
+        let _ = site;
+        1
+    }
+
+    fn zone_name(site: &StoredSite, zone: u32) -> Option<&Bytes> {
+        if zone == 0 {
+            Some(&site.dictionary)
+        } else {
+            None
+        }
+    }
+
+    fn zone_size(site: &StoredSite, zone: u32) -> u64 {
+        let _ = site;
+        let _ = zone;
+        12_288
+    }
+
+    fn begin(
+        alloc: Global,
+        site: &StoredSite,
+        now: Ms,
+        sockets: u32,
+        head: Head,
+        target: Target,
+    ) -> Result<(Self, RunTurn<NoJob>), AllocError> {
+        let _ = site;
+        let _ = now;
+        let _ = sockets;
+        let _ = head;
+        let _ = target;
+        let run = StoredReply {
+            progress: Progress::Queued,
+            has_client: true,
+        };
+        Ok((run, queueing(alloc)?))
+    }
+
+    fn begin_job(
+        alloc: Global,
+        site: &StoredSite,
+        now: Ms,
+        premature: bool,
+        job: NoJob,
+    ) -> Result<(Self, RunTurn<NoJob>), AllocError> {
+        let _ = site;
+        let _ = now;
+        let _ = premature;
+        let _ = job;
+        let run = StoredReply {
+            progress: Progress::Queued,
+            has_client: false,
+        };
+        Ok((run, queueing(alloc)?))
+    }
+
+    fn given(
+        &mut self,
+        alloc: Global,
+        site: &StoredSite,
+        now: Ms,
+        seen: RunSeen,
+    ) -> Result<RunTurn<NoJob>, AllocError> {
+        let _ = now;
+        match seen {
+            RunSeen::Run(_) => {
+                self.progress = Progress::Asked;
+                asking(alloc, site)
+            }
+            RunSeen::ClientGone => {
+                self.has_client = false;
+                Ok(silent(alloc))
+            }
+            RunSeen::Due(_)
+            | RunSeen::Body(_, _)
+            | RunSeen::BodyRefused(_)
+            | RunSeen::AllTaken
+            | RunSeen::Sock(_, _) => Ok(silent(alloc)),
+        }
+    }
+
+    fn answer(
+        &mut self,
+        alloc: Global,
+        site: &StoredSite,
+        now: Ms,
+        answer: Answer,
+    ) -> Result<RunTurn<NoJob>, AllocError> {
+        let _ = now;
+        self.progress = Progress::Replied;
+        let text = text_of(site, answer)?;
+        replying(alloc, text)
+    }
+
+    fn queued(&self, site: &StoredSite, socket: u32) -> &[u8] {
+        let _ = site;
+        let _ = socket;
+        &[]
+    }
+
+    fn wants(&self, socket: u32) -> bool {
+        let _ = socket;
+        false
+    }
+}

@@ -1,0 +1,5 @@
+pub mod Programs
+pub mod Scripted
+pub mod Lines
+pub mod Turns
+pub mod ConditionLaws
