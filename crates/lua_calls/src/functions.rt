@@ -59,6 +59,7 @@ fn slots_of_call(
     ensures { IfOk result (λ slots. slots.items ≡ slots_from count 0 params args.now) }
 {
     let mut slots = lists.slots.fresh();
+    slots.reserve_exact(count)?;
     for i in 0..count {
         slots.push(Slot::Plain(argument(args, i, params)?))?;
     }

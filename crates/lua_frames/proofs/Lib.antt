@@ -1,1 +1,2 @@
 pub mod FrameForms
+pub mod ReturnLemmas

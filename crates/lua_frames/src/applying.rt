@@ -24,7 +24,7 @@ pub(crate) fn apply<H: Host>(
     ensures { Takes (H.setting host.now) item frames.old store.old frames.new store.new result }
 {
     match item {
-        Item::Call(line, f, args) => call(frames, host, store, line, f, args),
+        Item::Call(line, f, args) => call(frames, host, store, line, f.into_inner(), args),
         Item::Right(line, operator, b) => right(frames, host, store, line, operator, b),
         Item::Operate(line, operator, a) => binary(frames, host, store, line, operator, a),
         Item::Unary(line, operator) => unary(frames, host, store, line, operator),

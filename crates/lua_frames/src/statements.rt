@@ -9,7 +9,7 @@ ghost use Rattle.lua_frames_base.specs.Frames.{here, slots_of};
 ghost use Rattle.lua_frames_base.specs.Follows.{Works};
 ghost use Rattle.lua_items.specs.Takes.{Takes};
 
-use lua_ast::{Arm, Stmt};
+use lua_ast::{Arm, Stmt, StmtKind};
 use lua_frames_base::{
     Flow, Frames, Host, Item, Target, begin_block, element, give_nothing, share, take_first,
     take_values, wait,
@@ -34,7 +34,7 @@ pub(crate) fn locals(frames: &mut Frames, slots: Rc<Vec<u8>>) -> Result<Flow, Al
     }
 }
 
-/// The statement of a block at an index is run, and then those after it.
+/// The statement of a block at an index is run, and then those after it, which don't wait where it is a `return`.
 fn begin_next<H: Host>(
     frames: &mut Frames,
     host: &H,
@@ -47,10 +47,13 @@ fn begin_next<H: Host>(
 {
     match element(&stmts, next) {
         None => give_nothing(frames),
-        Some(stmt) => {
-            wait(frames, Item::Rest(share(&stmts)?, next + 1))?;
-            enter_stmt(frames, host, store, stmt)
-        }
+        Some(stmt) => match &stmt.kind {
+            StmtKind::Return(_) => enter_stmt(frames, host, store, stmt),
+            _ => {
+                wait(frames, Item::Rest(share(&stmts)?, next + 1))?;
+                enter_stmt(frames, host, store, stmt)
+            }
+        },
     }
 }
 

@@ -1,5 +1,5 @@
 -- Steps for bytes, of which no more are told than a number holds: past that no step is left in any case.
-use Rattle.std.specs.Prelude.{◌≡◌, ℕ, ◌+◌, ◌-◌, ◌/◌, ◌^◌, ◌≤◌, ◌<◌, List, nat_lt, min, Bool, true, false, refl}
+use Rattle.std.specs.Prelude.{◌≡◌, ℕ, ◌+◌, ◌-◌, ◌/◌, ◌^◌, ◌<◌, List, nat_lt, min, Bool, true, false, refl}
 use Rattle.std.proofs.Common.{sym, ◌∙◌, ap, arith}
 use borrow.Author.Tests.{ltb-true, ltb-false}
 use Rattle.lua_values.specs.Heap.{StoreView, step_limit}

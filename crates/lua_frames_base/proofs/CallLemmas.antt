@@ -40,16 +40,17 @@ push_finish S line old frame new h o =
     ∙ ap (λ (f : Frame). finish_calls S [] (old.below.frames.items ++ caller ∷ []) (closed S f.kind (around_of [] (old.below.frames.items ++ caller ∷ [])) (finish_items S (places_of (around_of [] (old.below.frames.items ++ caller ∷ [])) f) f.items.items o))) h.top
     ∙ ap (λ (a : List Caller). finish_calls S [] (old.below.frames.items ++ caller ∷ []) (closed S frame.kind a (finish_items S (places_of a frame) frame.items.items o))) (around_push [] old.below.frames.items caller)
     ∙ finish_call S [] old.below.frames.items caller (closed S frame.kind (deeper (around old) caller) (finish_items S (places_of (deeper (around old) caller) frame) frame.items.items o))
+    ∙ ap (λ (items : List Item). finish_calls S [] old.below.frames.items (closed S old.top.kind (around old) (finish_items S (here old) items (back (slots_of old) (closed S frame.kind (callers_at (here old) line) (finish_items S (places_of (callers_at (here old) line) frame) frame.items.items o)))))) h.same
   where
     caller : Frame
-    caller = record old.top { line = line }
+    caller = record old.top { line = line; items = h.items }
 
 -- where the pushed frame evaluates
 pub push_here : (line : ℕ) (old : Frames) (frame : Frame) (new : Frames) → Pushes line old frame new → here new ≡ places_of (callers_at (here old) line) frame
 push_here line old frame new h =
     ap (λ (b : List Frame). places_of (around_of [] b) new.top) h.below
-    ∙ ap (λ (f : Frame). places_of (around_of [] (old.below.frames.items ++ (record old.top { line = line }) ∷ [])) f) h.top
-    ∙ ap (λ (a : List Caller). places_of a frame) (around_push [] old.below.frames.items (record old.top { line = line }))
+    ∙ ap (λ (f : Frame). places_of (around_of [] (old.below.frames.items ++ (record old.top { line = line; items = h.items }) ∷ [])) f) h.top
+    ∙ ap (λ (a : List Caller). places_of a frame) (around_push [] old.below.frames.items (record old.top { line = line; items = h.items }))
 
 -- work that is a call's work in a frame of its own
 pub push_works : {E : Type 0} (S : Setting) (q : Work) (q' : Places → Slots → Work) (line : ℕ) (old : Frames) (frame : Frame) (new fs : Frames) (before store : StoreView) (r : Result Flow E)

@@ -43,9 +43,11 @@ pub record TakesValues (old new : Frames) (r : Option (List Value)) : Type 0 whe
   pub top : new.top ≡ old.top
   pub values : MatchOption r (Passes (sign_of old.given) × (new.given ≡ old.given)) (λ vs. HasValues (sign_of old.given) vs)
 
--- a call begins in a frame on top; the one that was on top calls at this line
+-- a call begins in a frame on top; the one that was on top calls at this line, and the same items wait in it
 pub record Pushes (line : ℕ) (old : Frames) (frame : Frame) (new : Frames) : Type 0 where
-  pub below : new.below.frames.items ≡ old.below.frames.items ++ (record old.top { line = line }) ∷ []
+  pub items : Vec Item Global
+  pub same : items.items ≡ old.top.items.items
+  pub below : new.below.frames.items ≡ old.below.frames.items ++ (record old.top { line = line; items = items }) ∷ []
   pub top : new.top ≡ frame
 
 -- a frame stands in place of the one on top

@@ -9,17 +9,34 @@ ghost use Rattle.lua_frames_base.specs.Follows.{Turns};
 use crate::ending::{Closing, closing_of};
 use crate::{Flow, Frame, Frames, Item, Kind, Signal};
 use lua_values::Value;
+use resty_base::Boxed;
 use std::alloc::AllocError;
 use std::mem;
+
+/// How many calls wait where one that makes another call begins to keep no room.
+const MANY_CALLS: usize = 64;
+
+/// How many items wait at most in a call that keeps no room.
+const FEW_ITEMS: usize = 8;
 
 /// A call begins in this frame. The frame that was on top calls at this line.
 pub fn push_frame(frames: &mut Frames, line: u32, frame: Frame) -> Result<(), AllocError>
     ensures { OnOk result (Pushes line frames.old frame frames.new) }
 {
+    tighten(&mut frames.top.items, frames.below.as_slice().len());
     frames.top.line = line;
     let caller = mem::replace(&mut frames.top, frame);
     frames.below.push(caller)?;
     Ok(())
+}
+
+/// Where many calls wait, and few items wait in one that makes another call, these keep no room for more.
+fn tighten(items: &mut Vec<Item>, calls: usize)
+    ensures { items.new.items ≡ items.old.items }
+{
+    if calls >= MANY_CALLS && items.len() <= FEW_ITEMS {
+        items.shrink_to_fit();
+    }
 }
 
 /// A call begins in this frame, in place of the frame on top, whose lists are kept for others.
@@ -67,6 +84,7 @@ fn handle(frames: &mut Frames, handler: Value, fault: Value) -> Result<(), Alloc
 {
     let mut args = frames.lists.values.fresh();
     args.push(fault)?;
+    let handler = Boxed::new(frames.alloc, handler)?;
     frames.top.items.push(Item::Call(0, handler, args))?;
     frames.top.kind = Kind::Handling;
     frames.given = Signal::Nothing;

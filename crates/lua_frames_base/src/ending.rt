@@ -91,7 +91,7 @@ pub(crate) fn closing_of(
         Kind::Base => Ok(Closing::Gives(given)),
         Kind::Lua => Ok(Closing::Gives(function_signal(given))),
         Kind::Guard => Ok(Closing::Gives(protected_signal(lists, given)?)),
-        Kind::Handled(by) => handled_closing(lists, by, given),
+        Kind::Handled(by) => handled_closing(lists, by.get(), given),
         Kind::Handling => Ok(Closing::Gives(handled_signal(lists, given)?)),
     }
 }

@@ -3,6 +3,7 @@
 use crate::Item;
 use lua_meaning::Slot;
 use lua_values::Value;
+use resty_base::Boxed;
 
 /// What a frame is of: the thread itself, a Lua function, `pcall`, `xpcall` with its handler, or that handler while it runs.
 #[derive(Drop)]
@@ -10,7 +11,7 @@ pub enum Kind {
     Base,
     Lua,
     Guard,
-    Handled(Value),
+    Handled(Boxed<Value>),
     Handling,
 }
 

@@ -3,13 +3,14 @@
 use crate::Target;
 use lua_ast::{Arm, BinOp, Expr, Stmt, UnOp};
 use lua_values::Value;
+use resty_base::Boxed;
 use std::rc::Rc;
 
 /// An operation that waits for what is evaluated first. A number before the others is a line.
 #[derive(Drop)]
 pub enum Item {
     /// The call of a value with arguments, which hasn't begun.
-    Call(u32, Value, Vec<Value>),
+    Call(u32, Boxed<Value>, Vec<Value>),
     /// A binary operator, which has its right operand still to evaluate.
     Right(u32, BinOp, Rc<Expr>),
     /// A binary operator with its left operand.

@@ -44,6 +44,7 @@ impl Stack {
         ensures { OnOk result (self.new.frames.items ≡ self.old.frames.items ++ frame ∷ []) }
     {
         let more = count_of(&frame);
+        make_room(&mut self.frames)?;
         self.frames.push(frame)?;
         self.functions += more;
         Ok(())
@@ -61,6 +62,17 @@ impl Stack {
             }
         }
     }
+}
+
+/// Makes room for one more call where there is none: for an eighth of those that are there, and eight.
+fn make_room(frames: &mut Vec<Frame>) -> Result<(), AllocError>
+    ensures { frames.new.items ≡ frames.old.items }
+{
+    let len = frames.len();
+    if len == frames.capacity() {
+        frames.reserve_exact(len / 8 + 8)?;
+    }
+    Ok(())
 }
 
 /// 1 of a call of a Lua function, 0 of any other.

@@ -7,6 +7,7 @@ use crate::{Frame, Frames, Item, Kind, Lists, Signal, Stack, positioned};
 use lua_ast::Program;
 use lua_meaning::{Position, Resumed};
 use lua_values::Value;
+use resty_base::Boxed;
 use std::alloc::{AllocError, Global};
 
 /// The frames of a thread that calls a value with arguments, which hasn't begun.
@@ -14,7 +15,7 @@ pub fn start(alloc: Global, function: Value, args: Vec<Value>) -> Result<Frames,
     ensures { IfOk result (λ frames. Begins function args.items frames) }
 {
     let mut items = Vec::new(alloc);
-    items.push(Item::Call(0, function, args))?;
+    items.push(Item::Call(0, Boxed::new(alloc, function)?, args))?;
     Ok(Frames {
         alloc,
         below: Stack::new(alloc),

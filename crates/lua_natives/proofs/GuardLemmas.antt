@@ -76,7 +76,13 @@ pub guards : {E : Type 0} (line : ℕ) (old mid : Frames) (frame : Frame) (new :
 guards line old mid frame new f kept args (Ok x) h b t k a it =
     record {
       frame = frame;
-      pushes = record { below = h.below ∙ ap (λ (s : Stack). s.frames.items ++ (record mid.top { line = line }) ∷ []) b ∙ ap (λ (top : Frame). old.below.frames.items ++ (record top { line = line }) ∷ []) t; top = h.top };
+      pushes = record {
+        items = h.items;
+        same = h.same ∙ ap (λ (top : Frame). top.items.items) t;
+        below = h.below ∙ ap (λ (s : Stack). s.frames.items ++ (record mid.top { line = line; items = h.items }) ∷ []) b
+            ∙ ap (λ (top : Frame). old.below.frames.items ++ (record top { line = line; items = h.items }) ∷ []) t;
+        top = h.top;
+      };
       kind = k;
       items = (kept, a, it);
     }

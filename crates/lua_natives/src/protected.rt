@@ -15,6 +15,7 @@ use crate::arguments::{raise_missing, take};
 use lua_ast::Program;
 use lua_frames_base::{Flow, Frame, Frames, Item, Kind, give_nothing, push_frame};
 use lua_values::Value;
+use resty_base::Boxed;
 use std::alloc::AllocError;
 
 /// `pcall`: a call in a frame whose end is told as values.
@@ -47,6 +48,7 @@ fn push_guard(
     ensures { OnOk result (Guards line frames.old function args.items frames.new) }
 {
     let mut items = frames.lists.items.fresh();
+    let function = Boxed::new(frames.alloc, function)?;
     items.push(Item::Call(0, function, args))?;
     let frame = Frame {
         kind: Kind::Guard,

@@ -1,8 +1,13 @@
+use Rattle.std.proofs.Common.{◌∙◌, ap, sym}
+use Rattle.lua_values.specs.declared.values.Value.{Value}
+use Rattle.lua_frames_base.specs.declared.items.Item.TheVariants as i
 use Rattle.lua_frames.proofs.FrameForms.{as_item}
 use Rattle.lua_frames.proofs.applying.apply.Goals as goal
 
 pub returns-in-Call : goal.returns-in-Call
-returns-in-Call g c = as_item (g.H.Host.setting c.args.host.now) c.args.item _ c.args.frames.now c.call.new.frames c.args.store.now c.call.new.store c.call.result c.in-Call.is c.call.ensures
+returns-in-Call g c =
+    as_item (g.H.Host.setting c.args.host.now) c.args.item _ c.args.frames.now c.call.new.frames c.args.store.now c.call.new.store c.call.result
+    (c.in-Call.is ∙ ap (λ (f : Value). i.Call c.in-Call.line f c.in-Call.args) (sym c.into_inner.ensures)) c.call.ensures
 
 pub returns-in-Right : goal.returns-in-Right
 returns-in-Right g c = as_item (g.H.Host.setting c.args.host.now) c.args.item _ c.args.frames.now c.right.new.frames c.args.store.now c.right.new.store c.right.result c.in-Right.is c.right.ensures
