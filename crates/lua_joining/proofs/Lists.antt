@@ -23,7 +23,3 @@ first_of P x xs all = all 0 x (omega arith)
 
 pub rest_of : {X : Type 0} (P : X → Type 0) (x : X) (xs : List X) → All P (x ∷ xs) → All P xs
 rest_of P x xs all = λ k d h. all (suc k) d (omega (arith, h))
-
--- what follows of each element follows of all
-pub all_step : {X : Type 0} (P Q : X → Type 0) (xs : List X) → ((x : X) → P x → Q x) → All P xs → All Q xs
-all_step P Q xs step all = λ k d h. step (get_or xs k d) (all k d h)

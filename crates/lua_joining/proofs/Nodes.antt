@@ -1,6 +1,5 @@
 -- Nodes whose parts are raised are raised.
-use Rattle.std.proofs.Common.{◌≡◌, ℕ, List, [], ◌∷◌, Vec, Global, Option, OnOk, Result, Ok, Err, refl, rules, subst}
-use Rattle.std.specs.declared.alloc.AllocError.{AllocError}
+use Rattle.std.proofs.Common.{◌≡◌, ℕ, List, [], ◌∷◌, Vec, Global, Option, refl, rules, subst}
 use denote.Hole.Carrier.{roll}
 use Rattle.std.specs.List.{AllZip}
 use Rattle.lua_ast.specs.declared.expressions.Expr.{Expr}
@@ -134,8 +133,3 @@ module _ (by : ℕ) where
   arm_raised a b p q =
       let e : arm.roll-Arm (out-Arm a) ≡ a = search (rules, arm.the_lemmas) in
       subst (λ c. RaisedArm by c b) e (arm_rolled a b p q)
-
--- what follows of the last part's end
-pub follows : (r : Result (Unit {0}) AllocError) (P Q : Type 0) → (P → Q) → OnOk r P → OnOk r Q
-follows (Ok u) P Q step h = step h
-follows (Err e) P Q step h = tt

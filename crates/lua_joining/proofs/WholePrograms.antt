@@ -1,7 +1,7 @@
 -- Whole programs joined are a whole program.
 use Rattle.std.proofs.Common.{◌≡◌, ℕ, zero, suc, ◌+◌, ◌<◌, List, [], ◌∷◌, ◌++◌, length, refl, sym, subst, arith, length-append}
 use Rattle.std.specs.List.{All, AllZip}
-use Rattle.std.proofs.lemmas.List.Elements.{All-append}
+use Rattle.std.proofs.lemmas.List.Elements.{All-append, All-weaker}
 use Rattle.lua_ast.specs.declared.programs.Capture.{Capture}
 use Rattle.lua_ast.specs.declared.programs.Capture.TheVariants as capture
 use Rattle.lua_ast.specs.declared.programs.Function.{Function}
@@ -9,7 +9,7 @@ use Rattle.lua_ast.specs.declared.programs.Program.{Program}
 use Rattle.lua_ast.specs.WholeProgram.{HasVariable, HasInner, IsWholeStmt, IsWholeFunction, IsWholeProgram}
 use Rattle.lua_joining.specs.Raising.{RaisedStmt, RaisedFunction}
 use Rattle.lua_joining.specs.Joining.{IsJoined}
-use Rattle.lua_joining.proofs.Lists.{all_step, all_zipped}
+use Rattle.lua_joining.proofs.Lists.{all_zipped}
 use Rattle.lua_joining.proofs.WholeStatements.{stmt_whole, stmt_stays}
 
 -- a function with the same slots and captures has the same variables
@@ -22,7 +22,7 @@ inner_zipped : (by files : ℕ) (f g : Function) → g.slots ≡ f.slots → g.c
 inner_zipped by files f g slots captures [] gs z n h = absurd h
 inner_zipped by files f g slots captures (x ∷ fs) [] z n h = absurd z
 inner_zipped by files f g slots captures (x ∷ fs) (y ∷ gs) z zero h =
-    subst (All (HasVariable g)) (sym z.0.captures) (all_step (HasVariable f) (HasVariable g) x.captures.items (has_variable f g slots captures) h)
+    subst (All (HasVariable g)) (sym z.0.captures) (All-weaker (HasVariable f) (HasVariable g) (has_variable f g slots captures) x.captures.items h)
 inner_zipped by files f g slots captures (x ∷ fs) (y ∷ gs) z (suc n) h = inner_zipped by files f g slots captures fs gs z.1 n h
 
 inner_after : (g : Function) (before gs : List Function) (n m : ℕ) → m ≡ n + length before → HasInner gs g n → HasInner (before ++ gs) g m
@@ -43,8 +43,8 @@ module _ (first second joined : Program) (j : IsJoined first second joined) wher
   stays f w = record {
     file = file_fits f.file (omega (arith, w.file));
     params = w.params;
-    body = all_step (IsWholeStmt first.functions.items f) (IsWholeStmt joined.functions.items f) f.body.value.items
-        (stmt_stays first.functions.items joined.functions.items f (λ n h. rw j.functions (inner_before f first.functions.items j.raised n h))) w.body;
+    body = All-weaker (IsWholeStmt first.functions.items f) (IsWholeStmt joined.functions.items f)
+        (stmt_stays first.functions.items joined.functions.items f (λ n h. rw j.functions (inner_before f first.functions.items j.raised n h))) f.body.value.items w.body;
   }
 
   raised_whole : (f g : Function) → RaisedFunction (length first.functions.items) (length first.files) f g → IsWholeFunction second f → IsWholeFunction joined g
@@ -61,6 +61,6 @@ module _ (first second joined : Program) (j : IsJoined first second joined) wher
 
   pub joined_whole : IsWholeProgram first → IsWholeProgram second → IsWholeProgram joined
   joined_whole v w = subst (All (IsWholeFunction joined)) (sym j.functions) (All-append (IsWholeFunction joined) first.functions.items j.raised
-      (all_step (IsWholeFunction first) (IsWholeFunction joined) first.functions.items stays v)
+      (All-weaker (IsWholeFunction first) (IsWholeFunction joined) stays first.functions.items v)
       (all_zipped (RaisedFunction (length first.functions.items) (length first.files)) (IsWholeFunction second) (IsWholeFunction joined)
       second.functions.items j.raised raised_whole j.numbers w))

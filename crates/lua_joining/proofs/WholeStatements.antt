@@ -3,7 +3,7 @@ use Rattle.std.proofs.Common.{◌≡◌, ℕ, ◌+◌, ◌<◌, List, [], ◌∷
 use denote.Hole.Carrier.{roll}
 use Rattle.std.specs.Prelude.{IfSome}
 use Rattle.std.specs.List.{All, AllZip}
-use Rattle.std.proofs.lemmas.List.Elements.{All-cons}
+use Rattle.std.proofs.lemmas.List.Elements.{All-cons, All-weaker}
 use Rattle.lua_ast.specs.declared.expressions.Expr.{Expr}
 use Rattle.lua_ast.specs.declared.statements.Stmt.{Stmt}
 use Rattle.lua_ast.specs.declared.statements.StmtKind.{StmtKind}
@@ -13,7 +13,7 @@ use Rattle.lua_ast.specs.declared.statements.Arm as arm
 use Rattle.lua_ast.specs.declared.programs.Function.{Function}
 use Rattle.lua_ast.specs.WholeProgram.{HasInner, IsWholeExpr, IsWholeStmtKind, IsWholeStmt, IsWholeBlock, AreWholeArms, IsWholeArm}
 use Rattle.lua_joining.specs.Raising.{Shared, RaisedExpr, RaisedStep, RaisedStmtKind, RaisedBlock, RaisedArms, RaisedArm, RaisedStmt}
-use Rattle.lua_joining.proofs.Lists.{all_step, all_zipped, first_of, rest_of}
+use Rattle.lua_joining.proofs.Lists.{all_zipped, first_of, rest_of}
 use Rattle.lua_joining.proofs.Wholes.{expr_whole, expr_stays}
 
 -- a list of whole statements is a whole block, and the same of arms
@@ -111,7 +111,7 @@ module _ (by : ℕ) (fs gs : List Function) (f g : Function) (slots : g.slots �
 -- a whole statement stays so where functions are added
 module _ (fs gs : List Function) (f : Function) (inner : (n : ℕ) → HasInner fs f n → HasInner gs f n) where
   each_stays : (es : List Expr) → All (IsWholeExpr fs f) es → All (IsWholeExpr gs f) es
-  each_stays es = all_step (IsWholeExpr fs f) (IsWholeExpr gs f) es (expr_stays fs gs f inner)
+  each_stays es = All-weaker (IsWholeExpr fs f) (IsWholeExpr gs f) (expr_stays fs gs f inner) es
 
   step_stays : (s : Option Shared) → IfSome s (λ x. IsWholeExpr fs f x.value) → IfSome s (λ x. IsWholeExpr gs f x.value)
   step_stays None w = tt
