@@ -12,7 +12,8 @@ use Rattle.lua_grammar.specs.Laws.{BeginsWithChunk}
 use Rattle.lua_joining.specs.Raising.{RaisedFunction}
 use Rattle.lua_joining.specs.Joining.{IsJoined}
 use Rattle.lua_modules.specs.Texts.{HasProgram}
-use Rattle.lua_modules.specs.Sets.{IsChunk, IsOutermost, IsSound, IsUnchanged, Lists, lists_of, next_function, module_of, of_file, with_block, with_module, with_prelude}
+use Rattle.lua_modules.specs.Sets.{IsChunk, IsOutermost, IsSound, IsUnchanged, Lists, lists_of, next_function, module_of, of_file, with_block, with_module}
+use Rattle.lua_modules.specs.Sets.{with_prelude}
 use Rattle.lua_modules.specs.declared.faults.ModuleFault.{ModuleFault}
 use Rattle.lua_modules.specs.declared.sets.Module.{Module}
 use Rattle.lua_modules.specs.declared.sets.ModuleSet.{ModuleSet}
@@ -72,10 +73,12 @@ unchanged_sound before after same sound =
     let functions = sym same.program.functions in
     let lists = sym same.lists in record {
       whole = whole_alike before.program after.program same.program.functions (rw same.program.files refl) sound.whole;
-      preludes = subst (λ fs. All (IsChunk fs) after.preludes.items) functions (subst (λ l. All (IsChunk before.program.functions.items) l.preludes) lists sound.preludes);
+      preludes = subst (λ fs. All (IsChunk fs) after.preludes.items) functions
+          (subst (λ l. All (IsChunk before.program.functions.items) l.preludes) lists sound.preludes);
       modules = subst (λ fs. All (λ m. IsChunk fs m.function) after.modules.items) functions
           (subst (λ l. All (λ m. IsChunk before.program.functions.items m.function) l.modules) lists sound.modules);
-      blocks = subst (λ fs. All (IsChunk fs) after.blocks.items) functions (subst (λ l. All (IsChunk before.program.functions.items) l.blocks) lists sound.blocks);
+      blocks = subst (λ fs. All (IsChunk fs) after.blocks.items) functions
+          (subst (λ l. All (IsChunk before.program.functions.items) l.blocks) lists sound.blocks);
     }
 
 module _ (before after : ModuleSet) (chunk : Program) (joined : IsJoined before.program chunk after.program) (whole : IsWholeProgram after.program)
@@ -132,7 +135,8 @@ module _ (before after : ModuleSet) (chunk : Program) (joined : IsJoined before.
 module _ (before after : ModuleSet) (line : ℕ) (text file : List ℕ) (chunk : Program) (read : HasProgram line text chunk) (whole : IsWholeProgram chunk)
     (joins : (first second joined : Program) → IsJoined first second joined → IsWholeProgram first → IsWholeProgram second → IsWholeProgram joined)
     (begins_with : (tokens : List Token) (program : Program) → IsProgramOf tokens program → BeginsWithChunk program)
-    (r : Result (Unit {0}) ModuleFault) (joined : OnOk r (IsJoined before.program (of_file file chunk) after.program)) (kept : OnErr r (IsUnchanged before after))
+    (r : Result (Unit {0}) ModuleFault) (joined : OnOk r (IsJoined before.program (of_file file chunk) after.program))
+        (kept : OnErr r (IsUnchanged before after))
     (sound : IsSound before) where
   all_whole : IsJoined before.program (of_file file chunk) after.program → IsWholeProgram after.program
   all_whole j = joins before.program (of_file file chunk) after.program j sound.whole (named_whole line text file chunk read whole)
@@ -141,10 +145,13 @@ module _ (before after : ModuleSet) (line : ℕ) (text file : List ℕ) (chunk :
   first = begins chunk (begins_with read.tokens chunk read.parsed)
 
   pub after_prelude : OnOk r (lists_of after ≡ with_prelude (next_function before) (lists_of before)) → IsSound after
-  after_prelude e = ended r _ _ _ _ (λ j h. prelude_sound before after (of_file file chunk) j (all_whole j) first sound h) (λ k. unchanged_sound before after k sound) joined e kept
+  after_prelude e = ended r _ _ _ _ (λ j h. prelude_sound before after (of_file file chunk) j (all_whole j) first sound h)
+      (λ k. unchanged_sound before after k sound) joined e kept
 
   pub after_module : (name : List ℕ) → OnOk r (lists_of after ≡ with_module name file (next_function before) (lists_of before)) → IsSound after
-  after_module name e = ended r _ _ _ _ (λ j h. module_sound before after (of_file file chunk) j (all_whole j) first sound name file h) (λ k. unchanged_sound before after k sound) joined e kept
+  after_module name e = ended r _ _ _ _ (λ j h. module_sound before after (of_file file chunk) j (all_whole j) first sound name file h)
+      (λ k. unchanged_sound before after k sound) joined e kept
 
   pub after_block : OnOk r (lists_of after ≡ with_block (next_function before) (lists_of before)) → IsSound after
-  after_block e = ended r _ _ _ _ (λ j h. block_sound before after (of_file file chunk) j (all_whole j) first sound h) (λ k. unchanged_sound before after k sound) joined e kept
+  after_block e = ended r _ _ _ _ (λ j h. block_sound before after (of_file file chunk) j (all_whole j) first sound h)
+      (λ k. unchanged_sound before after k sound) joined e kept
