@@ -1,0 +1,5 @@
+mod Lists
+mod Nodes
+mod Wholes
+mod WholeStatements
+mod WholePrograms
