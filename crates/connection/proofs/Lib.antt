@@ -1,0 +1,5 @@
+pub mod Alike
+pub mod Lifted
+pub mod Steps
+pub mod Stays
+pub mod Meets
