@@ -3,3 +3,4 @@ pub mod Lifted
 pub mod Steps
 pub mod Stays
 pub mod Meets
+pub mod Rows

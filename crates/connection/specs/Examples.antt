@@ -7,9 +7,14 @@ use Rattle.http_in.specs.declared.heads.Head.{Head}
 use Rattle.http_in.specs.Ends.{head_end}
 use Rattle.client_line.specs.declared.requests.LineOut.TheVariants as out
 use Rattle.client_line.specs.Requests.{IsOf}
+use Rattle.strand_contract.specs.declared.turns.Place.TheVariants as place
+use Rattle.strand_contract.specs.declared.turns.Start.TheVariants as start
+use Rattle.strand_contract.specs.declared.turns.Act.{Act}
+use Rattle.strand_contract.specs.Actions.{LocalAction, Did, Began, Bytes, Put}
 use Rattle.moves.specs.Ledgers.{Ledger}
 use Rattle.moves.specs.Moves.{Done, Set}
 use Rattle.moves.specs.Moves as move
+use Rattle.moves.specs.Plans.{state_of, acts_of}
 use Rattle.run_contract.specs.declared.turns.RunSeen.{RunSeen}
 use Rattle.run_contract.specs.declared.turns.RunSeen.TheVariants as seen
 use Rattle.run_contract.specs.declared.turns.Said.{Said}
@@ -17,6 +22,7 @@ use Rattle.run_contract.specs.declared.turns.Said.TheVariants as said
 use Rattle.run_contract.specs.Runs.{Turn, Waits, RunPlan, waits_at_first}
 use Rattle.connection.specs.Clients.{Times}
 use Rattle.connection.specs.Services.{Service}
+use Rattle.connection.specs.Connections.{connection_plan}
 
 -- how far a run has come that replies with the path of its request, or with its body, of at most five bytes
 pub data Echo : Type 0 where
@@ -46,7 +52,7 @@ echo_begun reads head target =
 
 abbrev pub echo_turn : {J : Type 0} → ℕ → RunSeen → Ledger J → Echo → Turn J Echo
 echo_turn now (seen.Body content waited) b (Reading keep) = replies content keep
-echo_turn now (seen.BodyRefused code) b r = replies (codes "no") false
+echo_turn now (seen.BodyRefused code) b r = replies (code ∷ []) false
 echo_turn now seen.ClientGone b r = record { moves = Set (λ r. Left) (move.Ready 0 Done); said = [] }
 echo_turn now (seen.Run k) b r = record { moves = Done; said = said.Over ∷ [] }
 echo_turn now s b r = record { moves = Done; said = [] }
@@ -77,22 +83,41 @@ echo_site reads = record {
   connections = 512;
 }
 
--- a request with a body of this kind
-abbrev pub request : BodyKind → (keep expects : Bool) → List Pair2 → Head
-request kind keep expects headers = record {
+-- a request to a path of a client that keeps the connection, with a body of this kind; the client may wait for a 100 reply
+abbrev pub request : BodyKind → (expects : Bool) → (path : List ℕ) → List Pair2 → Head
+request kind expects path headers = record {
   method = codes "PUT";
-  target = codes "/a";
+  target = path;
   minor = 1;
   headers = headers;
   body = kind;
-  keep = keep;
+  keep = true;
   expects = expects;
 }
 
 abbrev pub to : (path : List ℕ) → Target
 to path = record { path = path; args = []; host = Some (codes "h") }
 
--- the bytes begin with a whole head of n bytes, which asks this
-pub record Asks (bytes : List ℕ) (n : ℕ) (head : Head) (target : Target) : Type 0 where
-  pub asks : IsOf bytes (out.Request head target)
-  pub ends : head_end bytes ≡ Some n
+-- the bytes are the whole head of such a request to the path, and then the rest
+pub record Asks (kind : BodyKind) (expects : Bool) (path bytes rest : List ℕ) : Type 0 where
+  pub headers : List Pair2
+  pub size : ℕ
+  pub asks : IsOf bytes (out.Request (request kind expects path headers) (to path))
+  pub ends : head_end bytes ≡ Some size
+  pub follows : rest ≡ drop size bytes
+
+-- what happens to a connection of a site that replies with bodies or with paths, the newest first: it began at the moment 1,000
+abbrev pub began : LocalAction ℕ
+began = Did (Began 1_000 (start.Client 1))
+
+abbrev pub came : List ℕ → LocalAction ℕ
+came bytes = Did (Bytes place.Client bytes)
+
+abbrev pub took : List ℕ → LocalAction ℕ
+took bytes = Did (Put place.Client bytes)
+
+abbrev pub acts : Bool → List (LocalAction ℕ) → List (Act ℕ)
+acts reads es = acts_of (connection_plan (echo_site reads)) es
+
+abbrev pub sent : Bool → List (LocalAction ℕ) → List ℕ
+sent reads es = (state_of (connection_plan (echo_site reads)) es).ledger.sent place.Client

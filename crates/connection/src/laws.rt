@@ -1,11 +1,20 @@
 //! Laws of the definitions.
 
+ghost use Rattle.std.specs.Prelude.{◌≡◌, ℕ, true, false, List, [], ◌∷◌, ◌++◌, codes};
+ghost use Rattle.http_in.specs.declared.framing.BodyKind.TheVariants as kind;
+ghost use Rattle.client_line.specs.declared.requests.LineOut.TheVariants as out;
+ghost use Rattle.client_line.specs.Requests.{IsOf};
+ghost use Rattle.strand_contract.specs.declared.turns.Place.TheVariants as place;
+ghost use Rattle.strand_contract.specs.declared.turns.Act.TheVariants as act;
+ghost use Rattle.strand_contract.specs.Actions.{Did, Due, Offer};
 ghost use Rattle.moves.specs.Ledgers.{Ledger};
 ghost use Rattle.moves.specs.Conditions.{IsPlan};
 ghost use Rattle.run_contract.specs.Conditions.{IsRun};
 ghost use Rattle.connection.specs.Services.{Service};
 ghost use Rattle.connection.specs.Connections.{connection_plan};
 ghost use Rattle.connection.specs.Conditions.{Knows, MayAsk};
+ghost use Rattle.connection.specs.Turns.{continue_reply};
+ghost use Rattle.connection.specs.Examples.{Asks, began, came, took, acts, sent};
 
 /// A site whose runs are lawful.
 pub trait Lawful {
@@ -26,4 +35,54 @@ pub trait Lawful {
 /// Its connections meet the conditions of a strand that goes by moves, turn by turn; so they keep every law of a strand.
 pub fn connections_meet<S: Lawful>()
     ensures { IsPlan (connection_plan S.service) (Knows S.holds) (MayAsk S.service) }
+{}
+
+/// A request without a body gets its reply; once that is taken the next request is awaited, for as long as the keepalive timer says.
+pub fn a_kept_connection()
+    ensures begins { (bytes rest : List ℕ) → Asks kind.Nothing false (codes "/a") bytes rest
+        → acts false (came bytes ∷ began ∷ []) ≡ act.Cancel 0 ∷ act.Offer place.Client ∷ [] }
+    ensures replies { (bytes rest : List ℕ) → Asks kind.Nothing false (codes "/a") bytes rest → sent false (came bytes ∷ began ∷ []) ≡ codes "/a" }
+    ensures waits { (bytes : List ℕ) → Asks kind.Nothing false (codes "/a") bytes []
+        → acts false (took (codes "/a") ∷ Did (Offer place.Client) ∷ came bytes ∷ began ∷ []) ≡ act.Arm 0 (record { 0 = 1_020 }) ∷ [] }
+{}
+
+/// A head that is refused gets the reply of its status, after which the connection closes.
+pub fn a_refused_head()
+    ensures begins { (bytes : List ℕ) (code : ℕ) → IsOf bytes (out.Refused code)
+        → acts false (came bytes ∷ began ∷ []) ≡ act.Cancel 0 ∷ act.Offer place.Client ∷ [] }
+    ensures replies { (bytes : List ℕ) (code : ℕ) → IsOf bytes (out.Refused code) → sent false (came bytes ∷ began ∷ []) ≡ code ∷ [] }
+    ensures closes { (bytes : List ℕ) (code : ℕ) → IsOf bytes (out.Refused code)
+        → acts false (took (code ∷ []) ∷ Did (Offer place.Client) ∷ came bytes ∷ began ∷ []) ≡ act.HangUp place.Client ∷ act.Gone ∷ [] }
+{}
+
+/// Of two requests that come at once the second begins where the reply to the first is taken, and the offer goes on.
+pub fn a_pipelined_pair()
+    ensures first { (bytes more rest : List ℕ) (b : ℕ) → Asks kind.Nothing false (codes "/a") bytes (b ∷ more) → Asks kind.Nothing false (codes "/b") (b ∷ more) rest
+        → sent false (came bytes ∷ began ∷ []) ≡ codes "/a" }
+    ensures goes_on { (bytes more rest : List ℕ) (b : ℕ) → Asks kind.Nothing false (codes "/a") bytes (b ∷ more) → Asks kind.Nothing false (codes "/b") (b ∷ more) rest
+        → acts false (took (codes "/a") ∷ Did (Offer place.Client) ∷ came bytes ∷ began ∷ []) ≡ [] }
+    ensures second { (bytes more rest : List ℕ) (b : ℕ) → Asks kind.Nothing false (codes "/a") bytes (b ∷ more) → Asks kind.Nothing false (codes "/b") (b ∷ more) rest
+        → sent false (took (codes "/a") ∷ Did (Offer place.Client) ∷ came bytes ∷ began ∷ []) ≡ codes "/a/b" }
+{}
+
+/// A body that isn't read is dropped after the reply: it is waited for, and once it is whole the next request is.
+pub fn a_dropped_body()
+    ensures waits { (bytes : List ℕ) → Asks (kind.Length 3) false (codes "/a") bytes []
+        → acts false (took (codes "/a") ∷ Did (Offer place.Client) ∷ came bytes ∷ began ∷ []) ≡ act.Arm 0 (record { 0 = 1_030 }) ∷ [] }
+    ensures whole { (bytes : List ℕ) → Asks (kind.Length 3) false (codes "/a") bytes []
+        → acts false (came (1 ∷ 2 ∷ 3 ∷ []) ∷ took (codes "/a") ∷ Did (Offer place.Client) ∷ came bytes ∷ began ∷ []) ≡ act.Arm 0 (record { 0 = 1_020 }) ∷ [] }
+{}
+
+/// A client that waits for a 100 reply gets one before its body is waited for; and a body that is too large is refused.
+pub fn a_body_that_is_read()
+    ensures continues { (bytes : List ℕ) → Asks (kind.Length 3) true (codes "/a") bytes []
+        → acts true (came bytes ∷ began ∷ []) ≡ act.Cancel 0 ∷ act.Offer place.Client ∷ act.Arm 0 (record { 0 = 1_030 }) ∷ [] }
+    ensures replies { (bytes : List ℕ) → Asks (kind.Length 3) true (codes "/a") bytes []
+        → sent true (came (codes "hi!") ∷ came bytes ∷ began ∷ []) ≡ continue_reply ++ codes "hi!" }
+    ensures refused { (bytes : List ℕ) → Asks (kind.Length 9) false (codes "/a") bytes [] → sent true (came bytes ∷ began ∷ []) ≡ 413 ∷ [] }
+{}
+
+/// A client that sends no head in time is hung up without a reply.
+pub fn a_head_that_does_not_come()
+    ensures { acts false (Did (Due 0) ∷ began ∷ []) ≡ act.HangUp place.Client ∷ act.Gone ∷ [] }
 {}
