@@ -4,3 +4,4 @@ pub mod Steps
 pub mod Stays
 pub mod Meets
 pub mod Rows
+pub mod Accounts

@@ -24,7 +24,7 @@ use Rattle.run_contract.specs.Runs.{Turn, Waits, RunPlan, performed, says_over, 
 use Rattle.run_contract.specs.Alike.{AreAlike}
 use Rattle.run_contract.specs.Forms.{IsOwn}
 use Rattle.run_contract.specs.Conditions.{IsBlank, IsLeft, IsRun, MayCome, Leaves, entered_as}
-use Rattle.connection.specs.Clients.{Stage, Client, with_request, closes_after}
+use Rattle.connection.specs.Clients.{Stage, Client, with_request, with_refusal, closes_after}
 use Rattle.connection.specs.Clients as stage
 use Rattle.connection.specs.Services.{Service, Both}
 use Rattle.connection.specs.Timers as timer
@@ -32,7 +32,7 @@ use Rattle.connection.specs.Turns.{is_there, is_all_taken, waits_of, change, beg
 use Rattle.connection.specs.Conditions.{Agrees, Knows}
 use Rattle.connection.proofs.Alike.{alike-refl, blank-alike, hung-up-alike, asking-alike, asking}
 use Rattle.connection.proofs.Lifted.{state, lifted-leads}
-use Rattle.connection.proofs.Steps.{stage_said, Follows, Leads, begins-leads, ends-leads, sends-leads, says-leads}
+use Rattle.connection.proofs.Steps.{stage_said, Follows, Leads, begins-leads, ends-leads, speaks-leads, says-leads}
 
 module _ {J R : Type 0} (holds : Ledger J → R → Type 0) where
   -- so it is known, and no question waits
@@ -138,13 +138,13 @@ module _ {J R : Type 0} (site : Service J R) (now : ℕ) (holds : Ledger J → R
       → Knows holds (perform (begin site now rest head target) b s).state
   begin-keeps rest head target b s keeps h =
       turn-keeps (site.runs.begun now head target b) rest (waits_at_first true) b
-      (record { client = with_request head (site.times_of head target) s.client; run = site.runs.unborn })
+      (record { client = with_request head target (site.times_of head target) s.client; run = site.runs.unborn })
       refl (run.begins_by_own now head target b) (run.begins now head target b h) h.none_asked keeps
 
   refuse-keeps : (at : At) (code : ℕ) (b : Ledger J) (s : Both R) → IsBlank b → Knows holds (perform (refuse site now at code) b s).state
   refuse-keeps (line.Over status) code b s h =
-      sends-leads site now (Knows holds) (site.refusal code now) Done b (record s { client = record s.client { stage = stage.Flush; times = site.default_times; reply = stage.Whole true } })
-      (λ c t x. agrees-follows b c _ t stage.Flush x h)
+      speaks-leads site now (Knows holds) (site.refusal code now) Done b (record s { client = with_refusal code site.default_times s.client })
+      (λ c t x. agrees-follows b c (record s { client = with_refusal code site.default_times s.client }) t stage.Flush x h)
   refuse-keeps line.Head code b s h = finishes b s h.none_asked
   refuse-keeps (line.Present body kind skips) code b s h = finishes b s h.none_asked
   refuse-keeps (line.Dropping far) code b s h = finishes b s h.none_asked

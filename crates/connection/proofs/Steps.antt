@@ -8,12 +8,12 @@ use Rattle.run_contract.specs.declared.turns.Said.{Said}
 use Rattle.run_contract.specs.declared.turns.Said.TheVariants as said
 use Rattle.run_contract.specs.Runs.{says_over}
 use Rattle.run_contract.specs.Alike.{AreAlike}
-use Rattle.connection.specs.Clients.{Stage, Reply, Client, Unsent, Begun, Whole, begun}
+use Rattle.connection.specs.Clients.{Stage, Reply, Client, Unsent, Begun, Whole, with_more, begun}
 use Rattle.connection.specs.Clients as stage
 use Rattle.connection.specs.Services.{Service, Both}
 use Rattle.connection.specs.Timers.{Timer, number_of, time_of, later}
 use Rattle.connection.specs.Timers as timer
-use Rattle.connection.specs.Turns.{change, begin_timer, end_timer, continue_reply, let_send, awaits_body, await_body, says}
+use Rattle.connection.specs.Turns.{is_there, change, send, begin_timer, end_timer, continue_reply, let_send, awaits_body, await_body, says}
 use Rattle.connection.proofs.Alike.{alike-refl, alike-trans, sent-alike, armed-alike, cancelled-alike}
 
 pub own-number : (t : Timer) → nat_lt (number_of t) 2 ≡ true
@@ -63,6 +63,14 @@ module _ {J R : Type 0} (site : Service J R) (now : ℕ) (P : State J (Both R) �
   pub sends-leads : (bytes : List ℕ) (m : Move J (Both R)) (b : Ledger J) (s : Both R) → Leads P m b s s.client.stage → P (perform (move.Send place.Client bytes m) b s).state
   sends-leads bytes m b s f = f (with_offer place.Client (with_sent place.Client bytes b)) s (record { alike = sent-alike bytes b; run = refl; stage = refl })
 
+  pub speaks-leads : (bytes : List ℕ) (m : Move J (Both R)) (b : Ledger J) (s : Both R) → Leads P m b s s.client.stage → P (perform (send site now bytes m) b s).state
+  speaks-leads bytes m b s f = by (is_there b)
+    where
+      by : (c : Bool) → P (perform (if c then change (λ c. record c { exchanges = with_more bytes c.exchanges }) (move.Send place.Client bytes m) else m) b s).state
+      by true = f (with_offer place.Client (with_sent place.Client bytes b)) (record s { client = record s.client { exchanges = with_more bytes s.client.exchanges } })
+          (record { alike = sent-alike bytes b; run = refl; stage = refl })
+      by false = f b s (same b s)
+
   continues-leads : (m : Move J (Both R)) (b : Ledger J) (s : Both R) (c : Client) (r : Reply) → Leads P m b s s.client.stage → P (perform (let_send site now c r m) b s).state
   continues-leads m b s c Begun f = f b s (same b s)
   continues-leads m b s c (Whole closes) f = f b s (same b s)
@@ -71,11 +79,11 @@ module _ {J R : Type 0} (site : Service J R) (now : ℕ) (P : State J (Both R) �
       waiting : Both R
       waiting = record s { client = record s.client { waited = true } }
 
-      asked : (x : Bool) → P (perform (if x then move.Send place.Client continue_reply m else m) b waiting).state
-      asked true = f (with_offer place.Client (with_sent place.Client continue_reply b)) waiting (record { alike = sent-alike continue_reply b; run = refl; stage = refl })
+      asked : (x : Bool) → P (perform (if x then send site now continue_reply m else m) b waiting).state
+      asked true = speaks-leads continue_reply m b waiting (λ c t x. f c t (record { alike = x.alike; run = x.run; stage = x.stage }))
       asked false = f b waiting (record { alike = alike-refl b; run = refl; stage = refl })
 
-      by : (w : Bool) → P (perform (if w then m else change (λ c. record c { waited = true }) (if c.expects then move.Send place.Client continue_reply m else m)) b s).state
+      by : (w : Bool) → P (perform (if w then m else change (λ c. record c { waited = true }) (if c.expects then send site now continue_reply m else m)) b s).state
       by true = f b s (same b s)
       by false = asked c.expects
 
@@ -92,8 +100,8 @@ module _ {J R : Type 0} (site : Service J R) (now : ℕ) (P : State J (Both R) �
       → P (perform (says site now words m) b s).state
   says-leads [] m b s f = f b s (same b s)
   says-leads (said.Send bytes ∷ more) m b s f =
-      says-leads more m (with_offer place.Client (with_sent place.Client bytes b)) (record s { client = record s.client { reply = begun s.client.reply } })
-      (λ c t x. f c t (record { alike = alike-trans b _ c (sent-alike bytes b) x.alike; run = x.run; stage = x.stage }))
+      speaks-leads bytes (says site now more m) b (record s { client = record s.client { reply = begun s.client.reply } })
+      (λ c t x. says-leads more m c t (λ d u y. f d u (said-then b c d s t u more x.alike x.run x.stage y)))
   says-leads (said.WantsBody max ∷ more) m b s f =
       awaits-leads (says site now more m) b (record s { client = record s.client { limit = max } }) (λ c t x. says-leads more m c t (λ d u y. f d u (said-then b c d s t u more x.alike x.run x.stage y)))
   says-leads (said.WantsNoBody ∷ more) m b s f =

@@ -1,6 +1,9 @@
 -- What a connection keeps of its client, beside its ledger (RFC 9112, 9.3 to 9.6).
-use Rattle.std.specs.Prelude.{ℕ, Bool, true, false}
+use Rattle.std.specs.Prelude.{ℕ, Bool, true, false, List, [], ◌∷◌, ◌++◌}
+use Rattle.uri_args.specs.declared.targets.Target.{Target}
 use Rattle.http_in.specs.declared.heads.Head as http
+use Rattle.client_line.specs.declared.requests.LineOut.{LineOut}
+use Rattle.client_line.specs.declared.requests.LineOut.TheVariants as out
 use Rattle.client_line.specs.Records.{Came}
 use Rattle.client_line.specs.Lines.{nothing}
 
@@ -31,6 +34,24 @@ pub data Reply : Type 0 where
   Begun : Reply
   Whole : (closes : Bool) → Reply
 
+-- what the client asked, a request or a head that is refused, and what was sent for it so far
+pub record Exchange : Type 0 where
+  pub asked : LineOut
+  pub reply : List ℕ
+
+abbrev pub exchange : LineOut → List ℕ → Exchange
+exchange asked reply = record { asked = asked; reply = reply }
+
+-- what was sent for all that was asked, the newest first
+abbrev pub replies_of : List Exchange → List ℕ
+replies_of [] = []
+replies_of (e ∷ es) = replies_of es ++ e.reply
+
+-- more is sent for the newest; before anything is asked nothing is sent
+abbrev pub with_more : List ℕ → List Exchange → List Exchange
+with_more bytes [] = exchange out.Waiting bytes ∷ []
+with_more bytes (e ∷ es) = exchange e.asked (e.reply ++ bytes) ∷ es
+
 pub record Client : Type 0 where
   -- the bytes that came, and what is read next of them
   pub came : Came
@@ -45,6 +66,8 @@ pub record Client : Type 0 where
   pub waited : Bool
   -- it sends no more
   pub ended : Bool
+  -- what it asked so far, the newest first
+  pub exchanges : List Exchange
 
 abbrev pub new_client : Times → Client
 new_client times = record {
@@ -56,11 +79,23 @@ new_client times = record {
   expects = false;
   waited = false;
   ended = false;
+  exchanges = [];
 }
 
 -- as a request begins, with its times
-abbrev pub with_request : http.Head → Times → Client → Client
-with_request head times c = record c { stage = Busy; times = times; reply = Unsent; expects = head.expects; waited = false }
+abbrev pub with_request : http.Head → Target → Times → Client → Client
+with_request head target times c = record c {
+  stage = Busy;
+  times = times;
+  reply = Unsent;
+  expects = head.expects;
+  waited = false;
+  exchanges = exchange (out.Request head target) [] ∷ c.exchanges;
+}
+
+-- as a head is refused, with the times of the default server
+abbrev pub with_refusal : (code : ℕ) → Times → Client → Client
+with_refusal code times c = record c { stage = Flush; times = times; reply = Whole true; exchanges = exchange (out.Refused code) [] ∷ c.exchanges }
 
 -- more of the reply is sent
 abbrev pub begun : Reply → Reply

@@ -5,4 +5,5 @@ pub mod Lifts
 pub mod Turns
 pub mod Connections
 pub mod Conditions
+pub mod Accounts
 pub mod Examples

@@ -17,14 +17,13 @@ use Rattle.strand_contract.specs.declared.turns.Place.TheVariants as place
 use Rattle.strand_contract.specs.Actions.{Action}
 use Rattle.strand_contract.specs.Alone.{is_some_left}
 use Rattle.moves.specs.Ledgers.{Ledger, has, has_number, numbers, left_at}
-use Rattle.moves.specs.Moves.{Move, Done, Arm, Cancel, HangUp, Set, Look, Ask, End}
-use Rattle.moves.specs.Moves as move
+use Rattle.moves.specs.Moves.{Move, Done, Send, Arm, Cancel, HangUp, Set, Look, Ask, End}
 use Rattle.run_contract.specs.declared.turns.RunSeen.{RunSeen}
 use Rattle.run_contract.specs.declared.turns.RunSeen.TheVariants as seen
 use Rattle.run_contract.specs.declared.turns.Said.{Said}
 use Rattle.run_contract.specs.declared.turns.Said.TheVariants as said
 use Rattle.run_contract.specs.Runs.{Turn, Waits}
-use Rattle.connection.specs.Clients.{Stage, Reply, Client, Unsent, Whole, with_request, begun, closes_after, is_last}
+use Rattle.connection.specs.Clients.{Stage, Reply, Client, Unsent, Whole, with_more, with_request, with_refusal, begun, closes_after, is_last}
 use Rattle.connection.specs.Clients as stage
 use Rattle.connection.specs.Services.{Service, Both}
 use Rattle.connection.specs.Timers.{Timer, number_of, time_of, later}
@@ -73,6 +72,10 @@ module _ {J R : Type 0} (site : Service J R) (now : ℕ) where
   abbrev pub waits_of : Both R → Waits
   waits_of s = site.runs.waits s.run
 
+  -- bytes are sent to the client, where it is there
+  abbrev pub send : List ℕ → Moves → Moves
+  send bytes m = Look (λ b s. if is_there b then change (λ c. record c { exchanges = with_more bytes c.exchanges }) (Send place.Client bytes m) else m)
+
   -- a timer begins, also anew; and what it waited for is there
   abbrev pub begin_timer : Timer → Moves → Moves
   begin_timer t m = Look (λ b s. Arm (number_of t) (later now (time_of site.default_times s.client.times t)) m)
@@ -86,7 +89,7 @@ module _ {J R : Type 0} (site : Service J R) (now : ℕ) where
   abbrev pub let_send : Client → Reply → Moves → Moves
   let_send c Unsent m =
       if c.waited then m
-      else change (λ c. record c { waited = true }) (if c.expects then move.Send place.Client continue_reply m else m)
+      else change (λ c. record c { waited = true }) (if c.expects then send continue_reply m else m)
   let_send c reply m = m
 
   -- the run waits for more of the body, and the client may send it
@@ -99,7 +102,7 @@ module _ {J R : Type 0} (site : Service J R) (now : ℕ) where
   -- what is said after the end doesn't count
   abbrev pub says : List Said → Moves → Moves
   says [] m = m
-  says (said.Send bytes ∷ more) m = change (λ c. record c { reply = begun c.reply }) (move.Send place.Client bytes (says more m))
+  says (said.Send bytes ∷ more) m = change (λ c. record c { reply = begun c.reply }) (send bytes (says more m))
   says (said.WantsBody max ∷ more) m = change (λ c. record c { limit = max }) (await_body (says more m))
   says (said.WantsNoBody ∷ more) m = end_timer timer.Body (says more m)
   says (said.WantsAllTaken ∷ more) m = says more m
@@ -129,14 +132,12 @@ module _ {J R : Type 0} (site : Service J R) (now : ℕ) where
   -- a request begins
   abbrev pub begin : Moves → Head → Target → Moves
   begin rest head target =
-      change (with_request head (site.times_of head target))
+      change (with_request head target (site.times_of head target))
       (Set (λ s. record s { run = site.runs.unborn }) (Look (λ b s. run_turn (site.runs.begun now head target b) rest)))
 
   -- a head is refused: the client gets the reply, and nothing more is read; after a fault in a body that is dropped the connection closes
   abbrev pub refuse : At → ℕ → Moves
-  refuse (line.Over status) code =
-      change (λ c. record c { stage = stage.Flush; times = site.default_times; reply = Whole true })
-      (move.Send place.Client (site.refusal code now) Done)
+  refuse (line.Over status) code = change (with_refusal code site.default_times) (send (site.refusal code now) Done)
   refuse at code = finish
 
   -- what is waited for: more of a body that is dropped, the first byte of a head, or the rest of one

@@ -6,13 +6,15 @@ ghost use Rattle.client_line.specs.declared.requests.LineOut.TheVariants as out;
 ghost use Rattle.client_line.specs.Requests.{IsOf};
 ghost use Rattle.strand_contract.specs.declared.turns.Place.TheVariants as place;
 ghost use Rattle.strand_contract.specs.declared.turns.Act.TheVariants as act;
-ghost use Rattle.strand_contract.specs.Actions.{Did, Due, Offer};
+ghost use Rattle.strand_contract.specs.Actions.{LocalAction, Did, Due, Offer};
 ghost use Rattle.moves.specs.Ledgers.{Ledger};
+ghost use Rattle.moves.specs.Plans.{state_of};
 ghost use Rattle.moves.specs.Conditions.{IsPlan};
 ghost use Rattle.run_contract.specs.Conditions.{IsRun};
 ghost use Rattle.connection.specs.Services.{Service};
 ghost use Rattle.connection.specs.Connections.{connection_plan};
 ghost use Rattle.connection.specs.Conditions.{Knows, MayAsk};
+ghost use Rattle.connection.specs.Accounts.{Accounts};
 ghost use Rattle.connection.specs.Turns.{continue_reply};
 ghost use Rattle.connection.specs.Examples.{Asks, began, came, took, acts, sent};
 
@@ -35,6 +37,11 @@ pub trait Lawful {
 /// Its connections meet the conditions of a strand that goes by moves, turn by turn; so they keep every law of a strand.
 pub fn connections_meet<S: Lawful>()
     ensures { IsPlan (connection_plan S.service) (Knows S.holds) (MayAsk S.service) }
+{}
+
+/// What a connection sends is the replies to what its client asked, in order.
+pub fn replies_are_sent_in_order<S: Lawful>()
+    ensures { (es : List (LocalAction S.Job)) → Accounts (state_of (connection_plan S.service) es) }
 {}
 
 /// A request without a body gets its reply; once that is taken the next request is awaited, for as long as the keepalive timer says.
