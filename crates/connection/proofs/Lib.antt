@@ -5,3 +5,5 @@ pub mod Stays
 pub mod Meets
 pub mod Rows
 pub mod Accounts
+pub mod Heads
+pub mod Recalling

@@ -112,11 +112,11 @@ module _ (bytes : List ℕ) (code : ℕ) (h : IsOf bytes (out.Refused code)) whe
 
 -- ---- two requests at once
 
-done-whole : (rest : List ℕ) → came_at line.Head rest ≡ done (came_at (line.Present None kind.Nothing state.Whole) rest)
+pub done-whole : (rest : List ℕ) → came_at line.Head rest ≡ done (came_at (line.Present None kind.Nothing state.Whole) rest)
 done-whole rest =
     ap (λ n. came_at line.Head (drop n rest)) (sym (settled-counts state.Whole rest refl)) ∙ ap (λ s. after_body s (drop (skip_count state.Whole rest) rest)) (sym (settled-stays state.Whole rest refl))
 
-fed-head : (rest : List ℕ) → fed nothing rest ≡ fed (came_at line.Head rest) []
+pub fed-head : (rest : List ℕ) → fed nothing rest ≡ fed (came_at line.Head rest) []
 fed-head rest = ap (λ (xs : List ℕ). led line.Head xs) (sym (append-nil rest))
 
 module _ (bytes more rest : List ℕ) (b : ℕ) (h : Asks kind.Nothing false (codes "/a") bytes (b ∷ more)) (second : Asks kind.Nothing false (codes "/b") (b ∷ more) rest) where

@@ -7,3 +7,4 @@ pub mod Connections
 pub mod Conditions
 pub mod Accounts
 pub mod Examples
+pub mod Recalls

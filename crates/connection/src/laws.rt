@@ -16,6 +16,7 @@ ghost use Rattle.connection.specs.Connections.{connection_plan};
 ghost use Rattle.connection.specs.Conditions.{Knows, MayAsk};
 ghost use Rattle.connection.specs.Accounts.{Accounts};
 ghost use Rattle.connection.specs.Turns.{continue_reply};
+ghost use Rattle.connection.specs.Recalls.{recalls_plan, RecallsHolds, recalled};
 ghost use Rattle.connection.specs.Examples.{Asks, began, came, took, acts, sent};
 
 /// A site whose runs are lawful.
@@ -64,11 +65,13 @@ pub fn a_refused_head()
 
 /// Of two requests that come at once the second begins where the reply to the first is taken, and the offer goes on.
 pub fn a_pipelined_pair()
-    ensures first { (bytes more rest : List ℕ) (b : ℕ) → Asks kind.Nothing false (codes "/a") bytes (b ∷ more) → Asks kind.Nothing false (codes "/b") (b ∷ more) rest
-        → sent false (came bytes ∷ began ∷ []) ≡ codes "/a" }
-    ensures goes_on { (bytes more rest : List ℕ) (b : ℕ) → Asks kind.Nothing false (codes "/a") bytes (b ∷ more) → Asks kind.Nothing false (codes "/b") (b ∷ more) rest
+    ensures first { (bytes more rest : List ℕ) (b : ℕ) → Asks kind.Nothing false (codes "/a") bytes (b ∷ more)
+        → Asks kind.Nothing false (codes "/b") (b ∷ more) rest → sent false (came bytes ∷ began ∷ []) ≡ codes "/a" }
+    ensures goes_on { (bytes more rest : List ℕ) (b : ℕ) → Asks kind.Nothing false (codes "/a") bytes (b ∷ more)
+        → Asks kind.Nothing false (codes "/b") (b ∷ more) rest
         → acts false (took (codes "/a") ∷ Did (Offer place.Client) ∷ came bytes ∷ began ∷ []) ≡ [] }
-    ensures second { (bytes more rest : List ℕ) (b : ℕ) → Asks kind.Nothing false (codes "/a") bytes (b ∷ more) → Asks kind.Nothing false (codes "/b") (b ∷ more) rest
+    ensures second { (bytes more rest : List ℕ) (b : ℕ) → Asks kind.Nothing false (codes "/a") bytes (b ∷ more)
+        → Asks kind.Nothing false (codes "/b") (b ∷ more) rest
         → sent false (took (codes "/a") ∷ Did (Offer place.Client) ∷ came bytes ∷ began ∷ []) ≡ codes "/a/b" }
 {}
 
@@ -92,4 +95,20 @@ pub fn a_body_that_is_read()
 /// A client that sends no head in time is hung up without a reply.
 pub fn a_head_that_does_not_come()
     ensures { acts false (Did (Due 0) ∷ began ∷ []) ≡ act.HangUp place.Client ∷ act.Gone ∷ [] }
+{}
+
+/// A request as those of the rows can be sent, whatever follows it.
+pub fn such_a_request_can_be_sent()
+    ensures { (rest : List ℕ) → (bytes : List ℕ) × Asks kind.Nothing false (codes "/a") bytes rest }
+{}
+
+/// That a run is lawful doesn't make its reply depend on its own request alone: one that replies with all that was sent before is lawful, and its
+/// replies to two requests that ask the same differ.
+pub fn a_reply_may_tell_of_others<J>()
+    ensures lawful { IsRun {J = J} recalls_plan RecallsHolds }
+    ensures first { (bytes more rest : List ℕ) (b : ℕ) → Asks kind.Nothing false (codes "/a") bytes (b ∷ more)
+        → Asks kind.Nothing false (codes "/a") (b ∷ more) rest → recalled (came bytes ∷ began ∷ []) ≡ 1 ∷ [] }
+    ensures second { (bytes more rest : List ℕ) (b : ℕ) → Asks kind.Nothing false (codes "/a") bytes (b ∷ more)
+        → Asks kind.Nothing false (codes "/a") (b ∷ more) rest
+        → recalled (took (1 ∷ []) ∷ Did (Offer place.Client) ∷ came bytes ∷ began ∷ []) ≡ 1 ∷ 1 ∷ 1 ∷ [] }
 {}
