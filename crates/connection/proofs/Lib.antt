@@ -7,3 +7,4 @@ pub mod Rows
 pub mod Accounts
 pub mod Heads
 pub mod Recalling
+pub mod Echoing

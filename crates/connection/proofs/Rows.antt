@@ -23,7 +23,7 @@ use Rattle.line_answers.proofs.Feeds.{fed-only}
 use Rattle.strand_contract.specs.declared.turns.Place.TheVariants as place
 use Rattle.strand_contract.specs.declared.turns.Act.{Act}
 use Rattle.strand_contract.specs.declared.turns.Act.TheVariants as act
-use Rattle.strand_contract.specs.Actions.{LocalAction, Did, Due, Offer}
+use Rattle.strand_contract.specs.Actions.{LocalAction, Did, Ended, Broken, Ready, Later, Close, Run, Due, Offer}
 use Rattle.moves.specs.Ledgers.{Ledger, entered}
 use Rattle.moves.specs.Moves.{State, Performed, perform}
 use Rattle.moves.specs.Plans.{Plan, state_of, stepped}
@@ -98,7 +98,7 @@ module _ (bytes : List ℕ) (code : ℕ) (h : IsOf bytes (out.Refused code)) whe
   refused : Fed
   refused = record { answer = out.Refused code; after = came_at (line.Over code) [] }
 
-  refused-is : record { answer = out.Refused code; after = came_at (line.Over code) [] } ≡ fed nothing bytes
+  pub refused-is : record { answer = out.Refused code; after = came_at (line.Over code) [] } ≡ fed nothing bytes
   refused-is = fed-only nothing (came_at (line.Over code) []) bytes (out.Refused code) (h, refl)
 
   pub refused-begins : acts false (came bytes ∷ began ∷ []) ≡ act.Cancel 0 ∷ act.Offer place.Client ∷ []
@@ -142,7 +142,7 @@ module _ (bytes more rest : List ℕ) (b : ℕ) (h : Asks kind.Nothing false (co
 -- ---- a body that isn't read
 
 module _ (bytes : List ℕ) (h : Asks (kind.Length 3) false (codes "/a") bytes []) where
-  body-is : asked (request (kind.Length 3) false (codes "/a") h.headers) (to (codes "/a")) [] ≡ fed nothing bytes
+  pub body-is : asked (request (kind.Length 3) false (codes "/a") h.headers) (to (codes "/a")) [] ≡ fed nothing bytes
   body-is = asked-is (kind.Length 3) false (codes "/a") bytes [] h
 
   pub dropped-waits : acts false (took (codes "/a") ∷ Did (Offer place.Client) ∷ came bytes ∷ began ∷ []) ≡ act.Arm 0 (record { 0 = 1_030 }) ∷ []
@@ -169,6 +169,34 @@ module _ (bytes : List ℕ) (h : Asks (kind.Length 3) true (codes "/a") bytes []
 -- a body that is too large
 pub too-large : (bytes : List ℕ) → Asks (kind.Length 9) false (codes "/a") bytes [] → sent true (came bytes ∷ began ∷ []) ≡ 413 ∷ []
 too-large bytes h = subst (λ (f : Fed). (first true f).state.ledger.sent place.Client ≡ 413 ∷ []) (asked-is (kind.Length 9) false (codes "/a") bytes [] h) refl
+
+-- ---- a client that takes no bytes, and one that is gone
+
+abbrev pub then_ : Bool → LocalAction ℕ → State ℕ (Both Echo) → Performed ℕ (Both Echo)
+then_ reads a st = stepped (plan reads) 1_000 a st
+
+module _ (bytes : List ℕ) (code : ℕ) (h : IsOf bytes (out.Refused code)) where
+  abbrev put_off : Fed → State ℕ (Both Echo)
+  put_off f = (then_ false (Did (Later place.Client)) (then_ false (Did (Offer place.Client)) (first false f).state).state).state
+
+  pub put-off-waits : acts false (Did (Later place.Client) ∷ Did (Offer place.Client) ∷ came bytes ∷ began ∷ []) ≡ act.Arm 1 (record { 0 = 1_040 }) ∷ []
+  put-off-waits = subst (λ (f : Fed). (then_ false (Did (Later place.Client)) (then_ false (Did (Offer place.Client)) (first false f).state).state).acts ≡ act.Arm 1 (record { 0 = 1_040 }) ∷ []) (refused-is bytes code h) refl
+
+  pub ready-resumes : acts false (Did (Ready place.Client) ∷ Did (Later place.Client) ∷ Did (Offer place.Client) ∷ came bytes ∷ began ∷ []) ≡ act.Cancel 1 ∷ act.Offer place.Client ∷ []
+  ready-resumes = subst (λ (f : Fed). (then_ false (Did (Ready place.Client)) (put_off f)).acts ≡ act.Cancel 1 ∷ act.Offer place.Client ∷ []) (refused-is bytes code h) refl
+
+  pub send-runs-out : acts false (Did (Due 1) ∷ Did (Later place.Client) ∷ Did (Offer place.Client) ∷ came bytes ∷ began ∷ []) ≡ act.HangUp place.Client ∷ act.Gone ∷ []
+  send-runs-out = subst (λ (f : Fed). (then_ false (Did (Due 1)) (put_off f)).acts ≡ act.HangUp place.Client ∷ act.Gone ∷ []) (refused-is bytes code h) refl
+
+module _ (bytes : List ℕ) (h : Asks (kind.Length 3) false (codes "/a") bytes []) where
+  pub end-refuses : sent true (Did (Ended place.Client) ∷ came bytes ∷ began ∷ []) ≡ 400 ∷ []
+  end-refuses = subst (λ (f : Fed). (then_ true (Did (Ended place.Client)) (first true f).state).state.ledger.sent place.Client ≡ 400 ∷ []) (body-is bytes h) refl
+
+  pub break-hangs-up : acts true (Did (Broken place.Client) ∷ came bytes ∷ began ∷ []) ≡ act.HangUp place.Client ∷ act.Cancel 0 ∷ act.Ready 0 ∷ []
+  break-hangs-up = subst (λ (f : Fed). (then_ true (Did (Broken place.Client)) (first true f).state).acts ≡ act.HangUp place.Client ∷ act.Cancel 0 ∷ act.Ready 0 ∷ []) (body-is bytes h) refl
+
+  pub run-ends : acts true (Did (Run 0) ∷ Did (Close place.Client) ∷ Did (Broken place.Client) ∷ came bytes ∷ began ∷ []) ≡ act.Gone ∷ []
+  run-ends = subst (λ (f : Fed). (then_ true (Did (Run 0)) (then_ true (Did (Close place.Client)) (then_ true (Did (Broken place.Client)) (first true f).state).state).state).acts ≡ act.Gone ∷ []) (body-is bytes h) refl
 
 -- ---- timers that run out
 

@@ -1,5 +1,5 @@
 -- A small site for worked rows, and what a client may send to it.
-use Rattle.std.specs.Prelude.{◌≡◌, ℕ, not, Bool, true, false, List, [], ◌∷◌, codes, drop, length, Option, Some, if◌then◌else◌}
+use Rattle.std.specs.Prelude.{◌≡◌, ℕ, ◌≤◌, not, Bool, true, false, List, [], ◌∷◌, codes, drop, Option, Some, None, if◌then◌else◌}
 use Rattle.resty_base.specs.declared.names.Pair2.{Pair2}
 use Rattle.uri_args.specs.declared.targets.Target.{Target}
 use Rattle.http_in.specs.declared.framing.BodyKind.{BodyKind}
@@ -11,7 +11,7 @@ use Rattle.strand_contract.specs.declared.turns.Place.TheVariants as place
 use Rattle.strand_contract.specs.declared.turns.Start.TheVariants as start
 use Rattle.strand_contract.specs.declared.turns.Act.{Act}
 use Rattle.strand_contract.specs.Actions.{LocalAction, Did, Began, Bytes, Put}
-use Rattle.moves.specs.Ledgers.{Ledger}
+use Rattle.moves.specs.Ledgers.{Ledger, has}
 use Rattle.moves.specs.Moves.{Done, Set}
 use Rattle.moves.specs.Moves as move
 use Rattle.moves.specs.Plans.{state_of, acts_of}
@@ -20,6 +20,8 @@ use Rattle.run_contract.specs.declared.turns.RunSeen.TheVariants as seen
 use Rattle.run_contract.specs.declared.turns.Said.{Said}
 use Rattle.run_contract.specs.declared.turns.Said.TheVariants as said
 use Rattle.run_contract.specs.Runs.{Turn, Waits, RunPlan, waits_at_first}
+use Rattle.run_contract.specs.Alike.{own_deadlines}
+use Rattle.run_contract.specs.Conditions.{IsUnused}
 use Rattle.connection.specs.Clients.{Times}
 use Rattle.connection.specs.Services.{Service}
 use Rattle.connection.specs.Connections.{connection_plan}
@@ -70,6 +72,18 @@ echo_plan reads = record {
   zone_name = λ n. [];
   zone_size = λ n. 0;
 }
+
+-- a thread is queued only once its client is gone; it has no deadline and no socket, sends to none and asks nothing
+abbrev pub IsQueued : Echo → List ℕ → Type 0
+IsQueued Left threads = drop 1 threads ≡ []
+IsQueued e threads = threads ≡ []
+
+pub record EchoHolds {J : Type 0} (b : Ledger J) (e : Echo) : Type 0 where
+  pub threads : IsQueued e b.threads
+  pub asked : b.asked ≡ None
+  pub no_deadline : own_deadlines b.armed ≡ []
+  pub no_socket : (k : ℕ) → has (place.Sock k) b.opened ≡ false
+  pub unused : (k : ℕ) → b.count ≤ k → IsUnused (place.Sock k) b
 
 abbrev pub example_times : Times
 example_times = record { header = 10; keepalive = 20; body = 30; send = 40 }

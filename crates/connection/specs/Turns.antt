@@ -1,6 +1,6 @@
 -- What a connection does for each thing that happens: it reads requests in turn, hands each to a run, and does what the run says
 -- (RFC 9112, 9.3 to 9.6; RFC 9110, 10.1.1).
-use Rattle.std.specs.Prelude.{ℕ, zero, suc, Bool, true, false, not, ◌&&◌, ◌||◌, List, [], ◌∷◌, ◌++◌, codes, length, Option, Some, None, if◌then◌else◌}
+use Rattle.std.specs.Prelude.{ℕ, zero, suc, Bool, true, false, not, ◌&&◌, ◌||◌, List, [], ◌∷◌, ◌++◌, codes, length, nat_lt, Option, Some, None, if◌then◌else◌}
 use Rattle.uri_args.specs.declared.targets.Target.{Target}
 use Rattle.http_in.specs.declared.heads.Head.{Head}
 use Rattle.http_bodies.specs.declared.bodies.BodyRead.{BodyRead}
@@ -56,6 +56,13 @@ abbrev pub body_told : Bool → Client → BodyRead → Option RunSeen
 body_told may_come c (body.Whole n) = Some (seen.Body (content (after_asked c.came c.limit).at) c.waited)
 body_told may_come c (body.Refused code) = Some (seen.BodyRefused code)
 body_told may_come c answer = if may_come then None else Some (seen.BodyRefused 400)
+
+-- bytes of the client are wanted while a head or a body is due, else while few are held
+abbrev pub wants_bytes : Stage → Waits → Came → Bool
+wants_bytes stage.Busy w came = w.body || nat_lt (length came.held) 65_536
+wants_bytes stage.Flush w came = nat_lt (length came.held) 65_536
+wants_bytes stage.Over w came = false
+wants_bytes st w came = true
 
 -- the client changes
 abbrev pub change : {J R : Type 0} → (Client → Client) → Move J (Both R) → Move J (Both R)
