@@ -1,15 +1,13 @@
 -- What a connection sends is the replies to what its client asked, in order.
 use Rattle.std.proofs.Common.{◌≡◌, ℕ, zero, suc, ◌&&◌, Bool, true, false, List, [], ◌∷◌, ◌++◌, Option, Some, None, if◌then◌else◌, refl, sym, ap, ◌∙◌, append-nil, append_assoc}
 use Rattle.std.specs.Prelude.{not, length}
-use Rattle.http_bodies.specs.declared.bodies.BodyRead.{BodyRead}
-use Rattle.http_bodies.specs.declared.bodies.BodyRead.TheVariants as body
 use Rattle.client_line.specs.declared.requests.LineOut.{LineOut}
 use Rattle.client_line.specs.declared.requests.LineOut.TheVariants as out
 use Rattle.client_line.specs.declared.line.Held.{Held}
 use Rattle.client_line.specs.declared.line.Held.TheVariants as held
 use Rattle.client_line.specs.Records.{At, Came}
 use Rattle.client_line.specs.Records as line
-use Rattle.client_line.specs.Lines.{after_asked, body_answer, done, held_in}
+use Rattle.client_line.specs.Lines.{after_asked, done, held_in}
 use Rattle.line_answers.specs.Feeding.{Fed, fed}
 use Rattle.strand_contract.specs.declared.turns.Place.TheVariants as place
 use Rattle.strand_contract.specs.declared.turns.Start.TheVariants as start
@@ -32,7 +30,7 @@ use Rattle.connection.specs.Clients.{Stage, Reply, Client, Exchange, Unsent, Beg
 use Rattle.connection.specs.Clients as stage
 use Rattle.connection.specs.Services.{Service, Both}
 use Rattle.connection.specs.Timers as timer
-use Rattle.connection.specs.Turns.{continue_reply, is_there, is_all_taken, is_to_close, awaits_body, body_told, change, finish, send, begin_timer, end_timer, let_send, await_body, says, run_turn, tell, lose_at, lose, begin, refuse, wait_for, heard_by, heard, tell_body, ask_body, busy, flush, settled_at, tells, settle_for, settle}
+use Rattle.connection.specs.Turns.{continue_reply, is_there, is_all_taken, is_to_close, awaits_body, change, finish, send, begin_timer, end_timer, let_send, await_body, says, run_turn, tell, lose_at, lose, begin, close_if_taken, refuse, wait_for, heard_by, heard, tell_body, ask_body, busy, flush, settled_at, tells, settle_for, settle}
 use Rattle.connection.specs.Connections.{starts, came_at, ends_at, to_run, is_due, connection_plan}
 use Rattle.connection.specs.Connections as turns
 use Rattle.connection.specs.Accounts.{Accounts}
@@ -152,8 +150,17 @@ module _ {J R : Type 0} (site : Service J R) (now : ℕ) where
         by stage.Drop = h
         by stage.Over = h
 
+    closing-fair : Fair (close_if_taken site now)
+    closing-fair b s h = by (is_all_taken b)
+      where
+        by : (c : Bool) → Accounts (perform (if c then finish else Done) b s).state
+        by true = h
+        by false = h
+
     refuse-fair : (at : At) (code : ℕ) → Fair (refuse site now at code)
-    refuse-fair (line.Over status) code b s h = send-fair (site.refusal code now) Done done-fair b (record s { client = stage.with_refusal code site.default_times s.client }) (append-nil (replies_of s.client.exchanges) ∙ h)
+    refuse-fair (line.Over status) code b s h =
+        send-fair (site.refusal code now) (close_if_taken site now) closing-fair b (record s { client = stage.with_refusal code site.default_times s.client })
+        (append-nil (replies_of s.client.exchanges) ∙ h)
     refuse-fair line.Head code b s h = h
     refuse-fair (line.Present body kind skips) code b s h = h
     refuse-fair (line.Dropping far) code b s h = h

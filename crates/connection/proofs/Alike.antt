@@ -1,15 +1,14 @@
 -- What concerns only the client, or only the queue of offers, leaves the ledger as it is to a run.
-use Rattle.std.proofs.Common.{◌≡◌, ℕ, ◌≤◌, nat_lt, ◌==◌, ◌&&◌, Bool, true, false, List, [], ◌∷◌, ◌++◌, Option, Some, None, if◌then◌else◌, refl, sym, ap, ◌∙◌, subst, eqb-true}
+use Rattle.std.proofs.Common.{◌≡◌, ℕ, ◌≤◌, nat_lt, ◌==◌, ◌&&◌, Bool, true, false, List, [], ◌∷◌, ◌++◌, Some, None, if◌then◌else◌, refl, sym, ap, ◌∙◌, subst, eqb-true}
 use Rattle.resty_base.specs.declared.names.Ms.{Ms}
 use Rattle.strand_contract.specs.declared.turns.Place.TheVariants as place
-use Rattle.strand_contract.specs.declared.turns.Start.TheVariants as start
-use Rattle.strand_contract.specs.Actions.{same_place, Action, LocalAction, Told, Did, Bytes, Ended, Broken, Ready, Put, Later, Lost, Close, Log, Dropped, Offer, Due, Gone}
+use Rattle.strand_contract.specs.Actions.{Action, LocalAction, Told, Did, Bytes, Ended, Broken, Ready, Put, Later, Lost, Close, Log, Dropped, Offer, Due, Gone}
 use Rattle.strand_contract.specs.Alone.{disarmed}
 use Rattle.strand_contract.specs.Laws.{is_still}
 use Rattle.moves.specs.Questions.{Question}
 use Rattle.moves.specs.Questions as question
 use Rattle.moves.specs.Ledgers.{Ledger, has, entered}
-use Rattle.moves.specs.Moves.{with_sent, with_offer, with_deadline, without_deadline, hung_up, asked_of, sends}
+use Rattle.moves.specs.Moves.{with_sent, with_offer, with_deadline, without_deadline, hung_up, asked_of}
 use Rattle.moves.proofs.Places.{has-without}
 use Rattle.run_contract.specs.Alike.{own_deadlines, AreAlike}
 use Rattle.run_contract.specs.Conditions.{IsBlank}

@@ -1,11 +1,8 @@
 -- The runs of the worked rows meet the contract of a run.
-use Rattle.std.proofs.Common.{◌≡◌, ℕ, ◌≤◌, ◌<◌, Bool, true, false, List, [], ◌∷◌, ◌++◌, drop, Some, None, refl, sym, ap, ◌∙◌, subst, lit<}
-use Rattle.std.specs.Prelude.{not}
+use Rattle.std.proofs.Common.{◌≡◌, ℕ, ◌≤◌, ◌<◌, Bool, true, false, List, [], ◌∷◌, drop, Some, None, refl, sym, ap, ◌∙◌, subst, lit<}
 use Rattle.uri_args.specs.declared.targets.Target.{Target}
 use Rattle.http_in.specs.declared.heads.Head.{Head}
 use Rattle.strand_contract.specs.declared.turns.Place.TheVariants as place
-use Rattle.strand_contract.specs.declared.turns.Answer.{Answer}
-use Rattle.strand_contract.specs.Actions.{Action}
 use Rattle.strand_contract.specs.Alone.{IsPrefixOf}
 use Rattle.strand_contract.specs.Calls.{answered}
 use Rattle.moves.specs.Questions.{asking_if}

@@ -1,6 +1,5 @@
 -- What the moves of a run come to within those of its connection.
-use Rattle.std.proofs.Common.{◌≡◌, ℕ, refl, sym, ap, ◌∙◌, subst}
-use Rattle.strand_contract.specs.declared.turns.Place.{Place}
+use Rattle.std.proofs.Common.{◌≡◌, refl}
 use Rattle.moves.specs.Questions.{Question}
 use Rattle.moves.specs.Ledgers.{Ledger}
 use Rattle.moves.specs.Moves.{Move, Done, Unready, Send, Arm, Cancel, HangUp, Log, Set, Look, Ask, End, State, with_sent, with_offer, with_thread, without_thread, with_deadline, without_deadline, hung_up, perform}

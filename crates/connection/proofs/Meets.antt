@@ -1,5 +1,5 @@
 -- A connection over a lawful run meets the conditions of a strand that goes by moves.
-use Rattle.std.proofs.Common.{◌≡◌, ℕ, zero, suc, ◌+◌, ◌≤◌, ◌<◌, Bool, true, false, ◌&&◌, ◌||◌, List, [], ◌∷◌, ◌++◌, take, drop, length, Option, Some, None, if◌then◌else◌, refl, sym, ap, ◌∙◌, subst, arith, length-append, take-append-drop, append_assoc}
+use Rattle.std.proofs.Common.{◌≡◌, ℕ, zero, suc, ◌+◌, ◌≤◌, Bool, true, false, List, [], ◌++◌, take, drop, length, Some, None, if◌then◌else◌, refl, sym, ap, ◌∙◌, subst, arith, length-append, take-append-drop, append_assoc}
 use Rattle.std.proofs.Math.Seq.{take-append_seam}
 use Rattle.std.specs.Prelude.{nat_lt}
 use Rattle.strand_contract.specs.declared.turns.Place.{Place}
@@ -9,8 +9,8 @@ use Rattle.strand_contract.specs.declared.turns.Answer.{Answer}
 use Rattle.strand_contract.specs.declared.turns.Answer.TheVariants as answer
 use Rattle.strand_contract.specs.Actions.{Action, LocalAction, Told, Did, Began, Bytes, Ended, Broken, Ready, Dialled, Refused}
 use Rattle.strand_contract.specs.Actions.{Put, Later, Lost, Close, Log, Dict, Take, Dial, Keep, Timer, Dropped, Run, Offer, Due, Halted, Gone}
-use Rattle.strand_contract.specs.Alone.{IsPrefixOf, due, is_some_left}
-use Rattle.strand_contract.specs.Laws.{is_still, IsMild}
+use Rattle.strand_contract.specs.Alone.{IsPrefixOf}
+use Rattle.strand_contract.specs.Laws.{is_still}
 use Rattle.strand_contract.specs.Calls.{answered}
 use Rattle.moves.specs.Questions.{Question, asking_if}
 use Rattle.moves.specs.Questions as question
@@ -18,7 +18,7 @@ use Rattle.moves.specs.Ledgers.{Ledger, empty_ledger, has, has_number, numbers, 
 use Rattle.moves.specs.Moves.{Move, Done, End, State, perform}
 use Rattle.moves.specs.Moves as move
 use Rattle.moves.specs.Plans.{stepped, unborn_state}
-use Rattle.moves.specs.Turns.{Comes, IsFreeAt, IsTaking, IsTaken, IsDue}
+use Rattle.moves.specs.Turns.{Comes, IsTaken, IsDue}
 use Rattle.moves.specs.Conditions.{IsServed, OnlyWakes, IsPlan}
 use Rattle.moves.specs.Conditions as plan
 use Rattle.moves.proofs.Served.{performed-kept, send-serves, hang-up-serves, end-serves}
@@ -29,7 +29,6 @@ use Rattle.run_contract.specs.declared.turns.SockSeen.{SockSeen}
 use Rattle.run_contract.specs.declared.turns.SockSeen.TheVariants as at
 use Rattle.run_contract.specs.Runs.{Turn, waits_at_first, performed}
 use Rattle.run_contract.specs.declared.turns.Said.{Said}
-use Rattle.run_contract.specs.Alike.{own_deadlines, AreAlike}
 use Rattle.run_contract.specs.Conditions.{IsBlank, IsRun, MayCome, IsTakenOf, next_piece, entered_as, IsQuiet}
 use Rattle.run_contract.specs.StoredLaws.{own-due, not-below}
 use Rattle.connection.specs.Clients.{Stage}
@@ -38,13 +37,13 @@ use Rattle.connection.specs.Services.{Service, Both}
 use Rattle.connection.specs.Timers.{number_of}
 use Rattle.connection.specs.Timers as timer
 use Rattle.line_answers.specs.Feeding.{Fed, fed}
-use Rattle.connection.specs.Turns.{change, begin_timer, end_timer, finish, await_body, says, run_turn, tell, lose_at, lose, heard, settle}
+use Rattle.connection.specs.Turns.{begin_timer, end_timer, finish, says, run_turn, tell, lose_at, lose, settle}
 use Rattle.connection.specs.Connections.{starts, came_at, ends_at, to_run, is_due, connection_plan}
 use Rattle.connection.specs.Connections as turns
 use Rattle.connection.specs.Conditions.{Agrees, Knows, MayAsk}
-use Rattle.connection.proofs.Alike.{alike-refl, blank-alike, own-disarmed, still-alike, AtClient, client-alike, due-alike, asking}
-use Rattle.connection.proofs.Lifted.{state, lifted-leads, lifted-wakes}
-use Rattle.connection.proofs.Steps.{Follows, begins-leads, ends-leads, sends-leads, awaits-leads}
+use Rattle.connection.proofs.Alike.{still-alike, AtClient, client-alike, due-alike}
+use Rattle.connection.proofs.Lifted.{lifted-leads, lifted-wakes}
+use Rattle.connection.proofs.Steps.{begins-leads, ends-leads, sends-leads, awaits-leads}
 use Rattle.connection.proofs.Stays.{Known, Keeps, agrees-alike, agrees-follows, known-follows, finishes, turn-keeps, told-keeps, busy-holds, done-keeps, lose-keeps, heard-keeps, settle-keeps}
 
 none-some : {A C : Type 0} (x : A) → None ≡ Some x → C

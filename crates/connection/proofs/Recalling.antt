@@ -4,14 +4,14 @@ use Rattle.strand_contract.specs.declared.turns.Place.TheVariants as place
 use Rattle.strand_contract.specs.declared.turns.Answer.{Answer}
 use Rattle.strand_contract.specs.Actions.{Action, Did, Offer}
 use Rattle.strand_contract.specs.Calls.{answered}
-use Rattle.moves.specs.Questions.{Question, asking_if}
+use Rattle.moves.specs.Questions.{asking_if}
 use Rattle.moves.specs.Ledgers.{Ledger, has, entered}
 use Rattle.run_contract.specs.declared.turns.RunSeen.{RunSeen}
 use Rattle.run_contract.specs.declared.turns.RunSeen.TheVariants as seen
 use Rattle.run_contract.specs.declared.turns.SockSeen.{SockSeen}
 use Rattle.run_contract.specs.declared.turns.SockSeen.TheVariants as at
 use Rattle.run_contract.specs.Runs.{performed, waits_told, is_of_client, waits_at_first}
-use Rattle.run_contract.specs.Alike.{own_deadlines, AreAlike}
+use Rattle.run_contract.specs.Alike.{AreAlike}
 use Rattle.run_contract.specs.Forms.{IsOwn}
 use Rattle.run_contract.specs.Conditions.{IsBlank, MayComeAt, MayCome, Leaves, entered_as, IsRun}
 use Rattle.run_contract.specs.StoredLaws.{own-due, not-below}

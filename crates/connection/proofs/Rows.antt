@@ -1,35 +1,30 @@
 -- The worked rows, which compute once it is known what the bytes are read as.
-use Rattle.std.proofs.Common.{◌≡◌, ℕ, Bool, true, false, List, [], ◌∷◌, ◌++◌, drop, length, Some, None, suc, refl, sym, ap, ◌∙◌, subst, append-nil}
+use Rattle.std.proofs.Common.{◌≡◌, ℕ, Bool, true, false, List, [], ◌∷◌, ◌++◌, drop, length, None, suc, refl, sym, ap, ◌∙◌, subst, append-nil}
 use Rattle.std.specs.Prelude.{codes}
-use Rattle.resty_base.specs.declared.names.Pair2.{Pair2}
 use Rattle.uri_args.specs.declared.targets.Target.{Target}
 use Rattle.http_in.specs.declared.framing.BodyKind.{BodyKind}
 use Rattle.http_in.specs.declared.framing.BodyKind.TheVariants as kind
 use Rattle.http_in.specs.declared.heads.Head.{Head}
 use Rattle.http_in.specs.declared.heads.HeadRead.TheVariants as read
-use Rattle.http_in.specs.Ends.{head_end}
 use Rattle.http_bodies.specs.Bodies.{begun_state}
 use Rattle.http_bodies.specs.declared.states.BodyState.TheVariants as state
 use Rattle.http_bodies.specs.Skips.{no_limit, skip_count}
 use Rattle.http_bodies.proofs.Skipping.{settled-stays, settled-counts}
-use Rattle.client_line.specs.declared.requests.LineOut.{LineOut}
 use Rattle.client_line.specs.declared.requests.LineOut.TheVariants as out
-use Rattle.client_line.specs.Requests.{answer_to, IsOf}
+use Rattle.client_line.specs.Requests.{IsOf}
 use Rattle.client_line.specs.Records.{Came}
 use Rattle.client_line.specs.Records as line
 use Rattle.client_line.specs.Lines.{came_at, nothing, after_head, after_body, done}
 use Rattle.line_answers.specs.Feeding.{Fed, led, fed}
 use Rattle.line_answers.proofs.Feeds.{fed-only}
 use Rattle.strand_contract.specs.declared.turns.Place.TheVariants as place
-use Rattle.strand_contract.specs.declared.turns.Act.{Act}
 use Rattle.strand_contract.specs.declared.turns.Act.TheVariants as act
 use Rattle.strand_contract.specs.Actions.{LocalAction, Did, Ended, Broken, Ready, Later, Close, Run, Due, Offer}
-use Rattle.moves.specs.Ledgers.{Ledger, entered}
+use Rattle.moves.specs.Ledgers.{entered}
 use Rattle.moves.specs.Moves.{State, Performed, perform}
 use Rattle.moves.specs.Plans.{Plan, state_of, stepped}
 use Rattle.connection.specs.Clients as stage
 use Rattle.connection.specs.Services.{Both}
-use Rattle.connection.specs.Timers.{later}
 use Rattle.connection.specs.Turns.{continue_reply, heard, settle_for}
 use Rattle.connection.specs.Connections.{connection_plan}
 use Rattle.connection.specs.Connections as turns

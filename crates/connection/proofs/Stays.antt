@@ -1,5 +1,5 @@
 -- A connection over a lawful run: what it knows of its states stays true.
-use Rattle.std.proofs.Common.{◌≡◌, ℕ, zero, suc, ◌≤◌, Bool, true, false, ◌&&◌, ◌||◌, List, [], ◌∷◌, Option, Some, None, if◌then◌else◌, refl, sym, ap, ◌∙◌, subst, arith}
+use Rattle.std.proofs.Common.{◌≡◌, ℕ, zero, suc, Bool, true, false, ◌&&◌, ◌||◌, List, [], Some, None, if◌then◌else◌, refl, sym, ap, ◌∙◌, subst}
 use Rattle.std.specs.Prelude.{not, length}
 use Rattle.uri_args.specs.declared.targets.Target.{Target}
 use Rattle.http_in.specs.declared.heads.Head.{Head}
@@ -15,24 +15,24 @@ use Rattle.client_line.specs.Lines.{after_asked, body_answer, done, held_in}
 use Rattle.line_answers.specs.Feeding.{Fed, fed}
 use Rattle.strand_contract.specs.declared.turns.Place.TheVariants as place
 use Rattle.moves.specs.Questions.{Question}
-use Rattle.moves.specs.Ledgers.{Ledger, has}
+use Rattle.moves.specs.Ledgers.{Ledger}
 use Rattle.moves.specs.Moves.{Move, Done, Ask, State, hung_up, perform}
 use Rattle.run_contract.specs.declared.turns.RunSeen.{RunSeen}
 use Rattle.run_contract.specs.declared.turns.RunSeen.TheVariants as seen
 use Rattle.run_contract.specs.declared.turns.Said.{Said}
-use Rattle.run_contract.specs.Runs.{Turn, Waits, RunPlan, performed, says_over, waits_at_first, waits_told}
+use Rattle.run_contract.specs.Runs.{Turn, Waits, says_over, waits_at_first, waits_told}
 use Rattle.run_contract.specs.Alike.{AreAlike}
 use Rattle.run_contract.specs.Forms.{IsOwn}
-use Rattle.run_contract.specs.Conditions.{IsBlank, IsLeft, IsRun, MayCome, Leaves, entered_as}
+use Rattle.run_contract.specs.Conditions.{IsBlank, IsRun, MayCome, Leaves, entered_as}
 use Rattle.connection.specs.Clients.{Stage, Client, with_request, with_refusal, closes_after}
 use Rattle.connection.specs.Clients as stage
 use Rattle.connection.specs.Services.{Service, Both}
 use Rattle.connection.specs.Timers as timer
-use Rattle.connection.specs.Turns.{is_there, is_all_taken, waits_of, change, begin_timer, end_timer, finish, says, run_turn, tell, lose_at, lose, begin, refuse, wait_for, heard_by, heard, next, body_told, tell_body, ask_body, is_to_close, busy, flush, settled_at, tells, settle_for, settle}
+use Rattle.connection.specs.Turns.{is_there, is_all_taken, end_timer, finish, says, run_turn, tell, lose_at, lose, begin, close_if_taken, refuse, wait_for, heard_by, heard, next, body_told, tell_body, ask_body, is_to_close, busy, flush, settled_at, tells, settle_for, settle}
 use Rattle.connection.specs.Conditions.{Agrees, Knows}
-use Rattle.connection.proofs.Alike.{alike-refl, blank-alike, hung-up-alike, asking-alike, asking}
+use Rattle.connection.proofs.Alike.{blank-alike, hung-up-alike, asking-alike, asking}
 use Rattle.connection.proofs.Lifted.{state, lifted-leads}
-use Rattle.connection.proofs.Steps.{stage_said, Follows, Leads, begins-leads, ends-leads, speaks-leads, says-leads}
+use Rattle.connection.proofs.Steps.{stage_said, Follows, begins-leads, ends-leads, speaks-leads, says-leads}
 
 module _ {J R : Type 0} (holds : Ledger J → R → Type 0) where
   -- so it is known, and no question waits
@@ -141,10 +141,18 @@ module _ {J R : Type 0} (site : Service J R) (now : ℕ) (holds : Ledger J → R
       (record { client = with_request head target (site.times_of head target) s.client; run = site.runs.unborn })
       refl (run.begins_by_own now head target b) (run.begins now head target b h) h.none_asked keeps
 
+  closing-keeps : (b : Ledger J) (s : Both R) → Known holds b s → Knows holds (perform (close_if_taken site now) b s).state
+  closing-keeps b s h = by (is_all_taken b)
+    where
+      by : (c : Bool) → Knows holds (perform (if c then finish else Done) b s).state
+      by true = finishes b s h.1
+      by false = h.0
+
   refuse-keeps : (at : At) (code : ℕ) (b : Ledger J) (s : Both R) → IsBlank b → Knows holds (perform (refuse site now at code) b s).state
   refuse-keeps (line.Over status) code b s h =
-      speaks-leads site now (Knows holds) (site.refusal code now) Done b (record s { client = with_refusal code site.default_times s.client })
-      (λ c t x. agrees-follows b c (record s { client = with_refusal code site.default_times s.client }) t stage.Flush x h)
+      let t = record s { client = with_refusal code site.default_times s.client } in
+      speaks-leads site now (Knows holds) (site.refusal code now) (close_if_taken site now) b t
+      (λ c u x. closing-keeps c u (known-follows b c t u stage.Flush x h h.none_asked))
   refuse-keeps line.Head code b s h = finishes b s h.none_asked
   refuse-keeps (line.Present body kind skips) code b s h = finishes b s h.none_asked
   refuse-keeps (line.Dropping far) code b s h = finishes b s h.none_asked

@@ -1,5 +1,5 @@
 -- What the connection's own moves, and what a run says, lead to: ledgers that are alike, and the same run.
-use Rattle.std.proofs.Common.{◌≡◌, ℕ, nat_lt, Bool, true, false, List, [], ◌∷◌, None, if◌then◌else◌, refl, sym, ap, ◌∙◌}
+use Rattle.std.proofs.Common.{◌≡◌, ℕ, nat_lt, Bool, true, false, List, [], ◌∷◌, if◌then◌else◌, refl, ap, ◌∙◌}
 use Rattle.strand_contract.specs.declared.turns.Place.TheVariants as place
 use Rattle.moves.specs.Ledgers.{Ledger, has_number, numbers}
 use Rattle.moves.specs.Moves.{Move, Done, Cancel, State, with_sent, with_offer, with_deadline, without_deadline, perform}

@@ -1,9 +1,7 @@
 -- What a connection over a lawful run knows of its states, and what it may ask.
-use Rattle.std.specs.Prelude.{◌≡◌, ℕ, ◌<◌, ◌≤◌, false, None}
-use Rattle.plain_rules.specs.Ranges.{IsInRange}
+use Rattle.std.specs.Prelude.{◌≡◌, ℕ, false, None}
 use Rattle.strand_contract.specs.declared.turns.Place.TheVariants as place
 use Rattle.moves.specs.Questions.{Question}
-use Rattle.moves.specs.Questions as question
 use Rattle.moves.specs.Ledgers.{Ledger, has}
 use Rattle.moves.specs.Moves.{State}
 use Rattle.run_contract.specs.Conditions.{IsBlank, Fits}

@@ -1,5 +1,5 @@
 -- A small site for worked rows, and what a client may send to it.
-use Rattle.std.specs.Prelude.{◌≡◌, ℕ, ◌≤◌, not, Bool, true, false, List, [], ◌∷◌, codes, drop, Option, Some, None, if◌then◌else◌}
+use Rattle.std.specs.Prelude.{◌≡◌, ℕ, ◌≤◌, not, Bool, true, false, List, [], ◌∷◌, codes, drop, Some, None, if◌then◌else◌}
 use Rattle.resty_base.specs.declared.names.Pair2.{Pair2}
 use Rattle.uri_args.specs.declared.targets.Target.{Target}
 use Rattle.http_in.specs.declared.framing.BodyKind.{BodyKind}
@@ -17,7 +17,6 @@ use Rattle.moves.specs.Moves as move
 use Rattle.moves.specs.Plans.{state_of, acts_of}
 use Rattle.run_contract.specs.declared.turns.RunSeen.{RunSeen}
 use Rattle.run_contract.specs.declared.turns.RunSeen.TheVariants as seen
-use Rattle.run_contract.specs.declared.turns.Said.{Said}
 use Rattle.run_contract.specs.declared.turns.Said.TheVariants as said
 use Rattle.run_contract.specs.Runs.{Turn, Waits, RunPlan, waits_at_first}
 use Rattle.run_contract.specs.Alike.{own_deadlines}

@@ -14,7 +14,6 @@ use Rattle.client_line.specs.Records as line
 use Rattle.client_line.specs.Lines.{after_asked, body_answer, content, done, held_in}
 use Rattle.line_answers.specs.Feeding.{Fed, fed}
 use Rattle.strand_contract.specs.declared.turns.Place.TheVariants as place
-use Rattle.strand_contract.specs.Actions.{Action}
 use Rattle.strand_contract.specs.Alone.{is_some_left}
 use Rattle.moves.specs.Ledgers.{Ledger, has, has_number, numbers, left_at}
 use Rattle.moves.specs.Moves.{Move, Done, Send, Arm, Cancel, HangUp, Set, Look, Ask, End}
@@ -143,8 +142,11 @@ module _ {J R : Type 0} (site : Service J R) (now : ℕ) where
       (Set (λ s. record s { run = site.runs.unborn }) (Look (λ b s. run_turn (site.runs.begun now head target b) rest)))
 
   -- a head is refused: the client gets the reply, and nothing more is read; after a fault in a body that is dropped the connection closes
+  abbrev pub close_if_taken : Moves
+  close_if_taken = Look (λ b s. if is_all_taken b then finish else Done)
+
   abbrev pub refuse : At → ℕ → Moves
-  refuse (line.Over status) code = change (with_refusal code site.default_times) (send (site.refusal code now) Done)
+  refuse (line.Over status) code = change (with_refusal code site.default_times) (send (site.refusal code now) close_if_taken)
   refuse at code = finish
 
   -- what is waited for: more of a body that is dropped, the first byte of a head, or the rest of one

@@ -128,7 +128,8 @@ pub fn a_client_that_takes_no_bytes()
 /// A client that ends before the body is whole gets 400; one whose connection breaks is hung up, and the run goes on to its end.
 pub fn a_client_that_is_gone()
     ensures ends { acts false (Did (Ended place.Client) ∷ began ∷ []) ≡ act.HangUp place.Client ∷ act.Gone ∷ [] }
-    ensures refuses { (bytes : List ℕ) → Asks (kind.Length 3) false (codes "/a") bytes [] → sent true (Did (Ended place.Client) ∷ came bytes ∷ began ∷ []) ≡ 400 ∷ [] }
+    ensures refuses { (bytes : List ℕ) → Asks (kind.Length 3) false (codes "/a") bytes []
+        → sent true (Did (Ended place.Client) ∷ came bytes ∷ began ∷ []) ≡ 400 ∷ [] }
     ensures breaks { (bytes : List ℕ) → Asks (kind.Length 3) false (codes "/a") bytes []
         → acts true (Did (Broken place.Client) ∷ came bytes ∷ began ∷ []) ≡ act.HangUp place.Client ∷ act.Cancel 0 ∷ act.Ready 0 ∷ [] }
     ensures goes_on { (bytes : List ℕ) → Asks (kind.Length 3) false (codes "/a") bytes []
