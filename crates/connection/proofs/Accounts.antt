@@ -1,6 +1,6 @@
 -- What a connection sends is the replies to what its client asked, in order.
 use Rattle.std.proofs.Common.{◌≡◌, ℕ, zero, suc, ◌&&◌, Bool, true, false, List, [], ◌∷◌, ◌++◌, Option, Some, None, if◌then◌else◌, refl, sym, ap, ◌∙◌, append-nil, append_assoc}
-use Rattle.std.specs.Prelude.{not, length}
+use Rattle.std.specs.Prelude.{not, length, is_some}
 use Rattle.client_line.specs.declared.requests.LineOut.{LineOut}
 use Rattle.client_line.specs.declared.requests.LineOut.TheVariants as out
 use Rattle.client_line.specs.declared.line.Held.{Held}
@@ -16,7 +16,7 @@ use Rattle.strand_contract.specs.Actions.{Action, Put, Later, Lost, Close, Log, 
 use Rattle.strand_contract.specs.Alone.{moment}
 use Rattle.moves.specs.Questions.{Question}
 use Rattle.moves.specs.Ledgers.{Ledger, has, has_number, numbers, entered}
-use Rattle.moves.specs.Moves.{Move, Done, Unready, Send, Arm, Cancel, HangUp, Set, Look, Ask, End, State, with_sent, with_offer, with_thread, without_thread, with_deadline, without_deadline, hung_up, perform}
+use Rattle.moves.specs.Moves.{Move, Done, Unready, Send, Arm, Cancel, HangUp, Set, Look, Ask, End, State, with_sent, with_offer, with_thread, without_thread, with_deadline, without_deadline, hung_up, asked_of, perform}
 use Rattle.moves.specs.Moves as move
 use Rattle.moves.specs.Plans.{state_of, stepped}
 use Rattle.run_contract.specs.declared.turns.RunSeen.{RunSeen}
@@ -30,7 +30,7 @@ use Rattle.connection.specs.Clients.{Stage, Reply, Client, Exchange, Unsent, Beg
 use Rattle.connection.specs.Clients as stage
 use Rattle.connection.specs.Services.{Service, Both}
 use Rattle.connection.specs.Timers as timer
-use Rattle.connection.specs.Turns.{continue_reply, is_there, is_all_taken, is_to_close, awaits_body, change, finish, send, begin_timer, end_timer, let_send, await_body, says, run_turn, tell, lose_at, lose, begin, close_if_taken, refuse, wait_for, heard_by, heard, tell_body, ask_body, busy, flush, settled_at, tells, settle_for, settle}
+use Rattle.connection.specs.Turns.{continue_reply, is_there, is_all_taken, is_to_close, awaits_body, change, finish, ask, send, begin_timer, end_timer, let_send, await_body, says, run_turn, tell, lose_at, lose, begin, close_if_taken, refuse, wait_for, heard_by, heard, tell_body, ask_body, busy, flush, settled_at, tells, settle_for, settle}
 use Rattle.connection.specs.Connections.{starts, came_at, ends_at, to_run, is_due, connection_plan}
 use Rattle.connection.specs.Connections as turns
 use Rattle.connection.specs.Accounts.{Accounts}
@@ -126,8 +126,16 @@ module _ {J R : Type 0} (site : Service J R) (now : ℕ) where
   says-fair (said.Over ∷ more) m f b s h =
       end-timer-fair timer.Body (change (λ c. record c { stage = stage.Flush }) m) (λ c t k. f c (record t { client = record t.client { stage = stage.Flush } }) k) b s h
 
+  ask-fair : (x : Question J) (m : Move J (Both R)) → Fair m → Fair (ask x m)
+  ask-fair x m f b s h = by (is_some (asked_of x b))
+    where
+      by : (c : Bool) → Accounts (perform (if c then Ask x else m) b s).state
+      by true = h
+      by false = f b s h
+
   turn-fair : (t : Turn J R) (m : Move J (Both R)) → IsOwn t.moves → Fair m → Fair (run_turn site now t m)
-  turn-fair t m own f = lifted-fair t.moves (says site now t.said m) (λ x. says site now t.said (Ask x)) own (says-fair t.said m f) (λ x. says-fair t.said (Ask x) (λ b s h. h))
+  turn-fair t m own f =
+      lifted-fair t.moves (says site now t.said m) (λ x. says site now t.said (ask x m)) own (says-fair t.said m f) (λ x. says-fair t.said (ask x m) (ask-fair x m f))
 
   module _ (holds : Ledger J → R → Type 0) (run : IsRun site.runs holds) where
     tell-fair : (x : RunSeen) (m : Move J (Both R)) → Fair m → Fair (tell site now x m)

@@ -22,7 +22,9 @@ module _ {J R : Type 0} where
   After P m after b s = (c : Ledger J) (r : R) → (perform m b s.run).state ≡ state c r → c.asked ≡ b.asked → P (perform after c (with_run s r)).state
 
   abbrev pub Asks : (State J (Both R) → Type 0) → Move J R → (Question J → Move J (Both R)) → Ledger J → Both R → Type 0
-  Asks P m asks b s = (x : Question J) (c : Ledger J) (r : R) → (perform m b s.run).state ≡ state (asking x c) r → P (perform (asks x) c (with_run s r)).state
+  Asks P m asks b s =
+      (x : Question J) (c : Ledger J) (r : R) → (perform m b s.run).state ≡ state (asking x c) r → c.asked ≡ b.asked
+      → P (perform (asks x) c (with_run s r)).state
 
   pub lifted-leads : (P : State J (Both R) → Type 0) (m : Move J R) (after : Move J (Both R)) (asks : Question J → Move J (Both R)) (b : Ledger J) (s : Both R)
       → IsOwn m → After P m after b s → Asks P m asks b s → P (perform (lifted m after asks) b s).state
@@ -36,7 +38,7 @@ module _ {J R : Type 0} where
   lifted-leads P (Log line m) after asks b s own f g = lifted-leads P m after asks b s own f g
   lifted-leads P (Set h m) after asks b s own f g = lifted-leads P m after asks b (with_run s (h s.run)) own f g
   lifted-leads P (Look go) after asks b s own f g = lifted-leads P (go b s.run) after asks b s (own b s.run) f g
-  lifted-leads P (Ask x) after asks b s own f g = g x b s.run refl
+  lifted-leads P (Ask x) after asks b s own f g = g x b s.run refl refl
   lifted-leads P End after asks b s own f g = absurd own
 
   pub lifted-wakes : (m : Move J R) (after : Move J (Both R)) (asks : Question J → Move J (Both R)) → OnlyWakes m → OnlyWakes after → OnlyWakes (lifted m after asks)

@@ -37,7 +37,7 @@ use Rattle.connection.specs.Services.{Service, Both}
 use Rattle.connection.specs.Timers.{number_of}
 use Rattle.connection.specs.Timers as timer
 use Rattle.line_answers.specs.Feeding.{Fed, fed}
-use Rattle.connection.specs.Turns.{begin_timer, end_timer, finish, says, run_turn, tell, lose_at, lose, settle}
+use Rattle.connection.specs.Turns.{begin_timer, end_timer, finish, ask, says, run_turn, tell, lose_at, lose, settle}
 use Rattle.connection.specs.Connections.{starts, came_at, ends_at, to_run, is_due, connection_plan}
 use Rattle.connection.specs.Connections as turns
 use Rattle.connection.specs.Conditions.{Agrees, Knows, MayAsk}
@@ -312,11 +312,11 @@ module _ {J R : Type 0} (site : Service J R) (now : ℕ) (holds : Ledger J → R
       by : (st : Stage) → s.client.stage ≡ st → IsServed (place.Sock k) (perform (to_run site now (settle site now) st (seen.Sock k x)) c s).state.ledger
       by stage.Busy e =
           let t = site.runs.turn now (seen.Sock k x) c s.run in
-          lifted-leads (λ st. IsServed (place.Sock k) st.ledger) t.moves (says site now t.said (settle site now)) (λ y. says site now t.said (move.Ask y)) c s
+          lifted-leads (λ st. IsServed (place.Sock k) st.ledger) t.moves (says site now t.said (settle site now)) (λ y. says site now t.said (ask y (settle site now))) c s
           (run.moves_by_own now (seen.Sock k x) c s.run)
           (λ d r f same. performed-kept {S = Both R} (place.Sock k) (says site now t.said (settle site now)) d (record s { run = r })
           (subst (λ (st : State J R). IsServed (place.Sock k) st.ledger) f (served e)))
-          (λ y d r f. performed-kept {S = Both R} (place.Sock k) (says site now t.said (move.Ask y)) d (record s { run = r })
+          (λ y d r f same. performed-kept {S = Both R} (place.Sock k) (says site now t.said (ask y (settle site now))) d (record s { run = r })
           (subst (λ (st : State J R). IsServed (place.Sock k) st.ledger) f (served e)))
       by stage.Idle e = free stage.Idle tt e
       by stage.Head e = free stage.Head tt e
@@ -345,7 +345,7 @@ module _ {J R : Type 0} (site : Service J R) (now : ℕ) (holds : Ledger J → R
   unsaid-wakes words e = subst (λ (words : List Said). OnlyWakes (says {J = J} {R = R} site now words Done)) (sym e) tt
 
   quiet-wakes : (t : Turn J R) → IsQuiet t → OnlyWakes (run_turn site now t Done)
-  quiet-wakes t q = lifted-wakes t.moves (says site now t.said Done) (λ x. says site now t.said (move.Ask x)) q.0 (unsaid-wakes t.said q.1)
+  quiet-wakes t q = lifted-wakes t.moves (says site now t.said Done) (λ x. says site now t.said (ask x Done)) q.0 (unsaid-wakes t.said q.1)
 
   end-wakes : (t : timer.Timer) (m : Move J (Both R)) → OnlyWakes m → OnlyWakes (end_timer site now t m)
   end-wakes t m h = λ b s. either OnlyWakes (has_number (number_of t) (numbers b.armed)) (move.Cancel (number_of t) m) m h h

@@ -1,6 +1,6 @@
 -- A connection over a lawful run: what it knows of its states stays true.
 use Rattle.std.proofs.Common.{◌≡◌, ℕ, zero, suc, Bool, true, false, ◌&&◌, ◌||◌, List, [], Some, None, if◌then◌else◌, refl, sym, ap, ◌∙◌, subst}
-use Rattle.std.specs.Prelude.{not, length}
+use Rattle.std.specs.Prelude.{not, length, Option, is_some}
 use Rattle.uri_args.specs.declared.targets.Target.{Target}
 use Rattle.http_in.specs.declared.heads.Head.{Head}
 use Rattle.http_bodies.specs.declared.bodies.BodyRead.{BodyRead}
@@ -16,7 +16,7 @@ use Rattle.line_answers.specs.Feeding.{Fed, fed}
 use Rattle.strand_contract.specs.declared.turns.Place.TheVariants as place
 use Rattle.moves.specs.Questions.{Question}
 use Rattle.moves.specs.Ledgers.{Ledger}
-use Rattle.moves.specs.Moves.{Move, Done, Ask, State, hung_up, perform}
+use Rattle.moves.specs.Moves.{Move, Done, Ask, State, asked_of, hung_up, perform}
 use Rattle.run_contract.specs.declared.turns.RunSeen.{RunSeen}
 use Rattle.run_contract.specs.declared.turns.RunSeen.TheVariants as seen
 use Rattle.run_contract.specs.declared.turns.Said.{Said}
@@ -28,9 +28,9 @@ use Rattle.connection.specs.Clients.{Stage, Client, with_request, with_refusal, 
 use Rattle.connection.specs.Clients as stage
 use Rattle.connection.specs.Services.{Service, Both}
 use Rattle.connection.specs.Timers as timer
-use Rattle.connection.specs.Turns.{is_there, is_all_taken, end_timer, finish, says, run_turn, tell, lose_at, lose, begin, close_if_taken, refuse, wait_for, heard_by, heard, next, body_told, tell_body, ask_body, is_to_close, busy, flush, settled_at, tells, settle_for, settle}
+use Rattle.connection.specs.Turns.{is_there, is_all_taken, end_timer, finish, ask, says, run_turn, tell, lose_at, lose, begin, close_if_taken, refuse, wait_for, heard_by, heard, next, body_told, tell_body, ask_body, is_to_close, busy, flush, settled_at, tells, settle_for, settle}
 use Rattle.connection.specs.Conditions.{Agrees, Knows}
-use Rattle.connection.proofs.Alike.{blank-alike, hung-up-alike, asking-alike, asking}
+use Rattle.connection.proofs.Alike.{alike-trans, blank-alike, hung-up-alike, asking-alike, unasked-alike, asking}
 use Rattle.connection.proofs.Lifted.{state, lifted-leads}
 use Rattle.connection.proofs.Steps.{stage_said, Follows, begins-leads, ends-leads, speaks-leads, says-leads}
 
@@ -75,7 +75,7 @@ module _ {J R : Type 0} (site : Service J R) (now : ℕ) (holds : Ledger J → R
 
   pub turn-keeps : (t : Turn J R) (m : Move J (Both R)) (w : Waits) (b : Ledger J) (s : Both R) → s.client.stage ≡ stage.Busy → IsOwn t.moves
       → Leaves site.runs holds w t b s.run → b.asked ≡ None → Keeps holds m → Knows holds (perform (run_turn site now t m) b s).state
-  turn-keeps t m w b s at own left none keeps = lifted-leads (Knows holds) t.moves (says site now t.said m) (λ x. says site now t.said (Ask x)) b s own after asks
+  turn-keeps t m w b s at own left none keeps = lifted-leads (Knows holds) t.moves (says site now t.said m) (λ x. says site now t.said (ask x m)) b s own after asks
     where
       agreed : (c : Ledger J) (r : R) → (perform t.moves b s.run).state ≡ state c r → Agrees holds (stage_said t.said s.client.stage) c r
       agreed c r e =
@@ -87,11 +87,22 @@ module _ {J R : Type 0} (site : Service J R) (now : ℕ) (holds : Ledger J → R
       after c r e same = says-leads site now (Knows holds) t.said m c (record s { run = r })
           (λ d u x. keeps d u (known-follows c d (record s { run = r }) u (stage_said t.said s.client.stage) x (agreed c r e) (same ∙ none)))
 
-      asks : (x : Question J) (c : Ledger J) (r : R) → (perform t.moves b s.run).state ≡ state (asking x c) r
-          → Knows holds (perform (says site now t.said (Ask x)) c (record s { run = r })).state
-      asks x c r e = says-leads site now (Knows holds) t.said (Ask x) c (record s { run = r })
-          (λ d u y. agrees-follows (asking x c) (asking x d) (record s { run = r }) u (stage_said t.said s.client.stage)
-          (record { alike = asking-alike x c d y.alike; run = y.run; stage = y.stage }) (agreed (asking x c) r e))
+      -- the question, or the rest where nothing is asked
+      ends : (x : Question J) (c d : Ledger J) (r : R) (u : Both R) → Agrees holds (stage_said t.said s.client.stage) (asking x c) r → c.asked ≡ b.asked
+          → Follows c (record s { run = r }) (stage_said t.said s.client.stage) d u → (o : Option (Question J)) → asked_of x d ≡ o
+          → Knows holds (perform (if is_some o then Ask x else m) d u).state
+      ends x c d r u h same y (Some z) o =
+          agrees-follows (asking x c) (asking x d) (record s { run = r }) u (stage_said t.said s.client.stage)
+          (record { alike = asking-alike x c d y.alike; run = y.run; stage = y.stage }) h
+      ends x c d r u h same y None o =
+          let n = sym y.alike.asked ∙ same ∙ none in
+          let like = alike-trans (asking x c) (asking x d) d (asking-alike x c d y.alike) (unasked-alike x d o n) in
+          keeps d u (agrees-follows (asking x c) d (record s { run = r }) u (stage_said t.said s.client.stage) (record { alike = like; run = y.run; stage = y.stage }) h, n)
+
+      asks : (x : Question J) (c : Ledger J) (r : R) → (perform t.moves b s.run).state ≡ state (asking x c) r → c.asked ≡ b.asked
+          → Knows holds (perform (says site now t.said (ask x m)) c (record s { run = r })).state
+      asks x c r e same = says-leads site now (Knows holds) t.said (ask x m) c (record s { run = r })
+          (λ d u y. ends x c d r u (agreed (asking x c) r e) same y (asked_of x d) refl)
 
   -- it is told something, in a ledger in which that was entered
   pub told-keeps : (x : RunSeen) (m : Move J (Both R)) (b : Ledger J) (s : Both R) → s.client.stage ≡ stage.Busy → holds b s.run

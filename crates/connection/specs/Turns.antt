@@ -1,6 +1,6 @@
 -- What a connection does for each thing that happens: it reads requests in turn, hands each to a run, and does what the run says
 -- (RFC 9112, 9.3 to 9.6; RFC 9110, 10.1.1).
-use Rattle.std.specs.Prelude.{ℕ, zero, suc, Bool, true, false, not, ◌&&◌, ◌||◌, List, [], ◌∷◌, ◌++◌, codes, length, nat_lt, Option, Some, None, if◌then◌else◌}
+use Rattle.std.specs.Prelude.{ℕ, zero, suc, Bool, true, false, not, ◌&&◌, ◌||◌, List, [], ◌∷◌, ◌++◌, codes, length, nat_lt, is_some, Option, Some, None, if◌then◌else◌}
 use Rattle.uri_args.specs.declared.targets.Target.{Target}
 use Rattle.http_in.specs.declared.heads.Head.{Head}
 use Rattle.http_bodies.specs.declared.bodies.BodyRead.{BodyRead}
@@ -15,8 +15,9 @@ use Rattle.client_line.specs.Lines.{after_asked, body_answer, content, done, hel
 use Rattle.line_answers.specs.Feeding.{Fed, fed}
 use Rattle.strand_contract.specs.declared.turns.Place.TheVariants as place
 use Rattle.strand_contract.specs.Alone.{is_some_left}
+use Rattle.moves.specs.Questions.{Question}
 use Rattle.moves.specs.Ledgers.{Ledger, has, has_number, numbers, left_at}
-use Rattle.moves.specs.Moves.{Move, Done, Send, Arm, Cancel, HangUp, Set, Look, Ask, End}
+use Rattle.moves.specs.Moves.{Move, Done, Send, Arm, Cancel, HangUp, Set, Look, Ask, End, asked_of}
 use Rattle.run_contract.specs.declared.turns.RunSeen.{RunSeen}
 use Rattle.run_contract.specs.declared.turns.RunSeen.TheVariants as seen
 use Rattle.run_contract.specs.declared.turns.Said.{Said}
@@ -71,6 +72,10 @@ change f m = Set (λ s. record s { client = f s.client }) m
 abbrev pub finish : {J R : Type 0} → Move J (Both R)
 finish = change (λ c. record c { stage = stage.Over }) End
 
+-- a question ends the turn; of a socket that isn't open nothing is asked, and these come
+abbrev pub ask : {J R : Type 0} → Question J → Move J (Both R) → Move J (Both R)
+ask x m = Look (λ b s. if is_some (asked_of x b) then Ask x else m)
+
 module _ {J R : Type 0} (site : Service J R) (now : ℕ) where
   abbrev pub Moves : Type 0
   Moves = Move J (Both R)
@@ -115,9 +120,9 @@ module _ {J R : Type 0} (site : Service J R) (now : ℕ) where
   says (said.Ended closes ∷ more) m = change (λ c. record c { reply = Whole closes }) (says more m)
   says (said.Over ∷ more) m = end_timer timer.Body (change (λ c. record c { stage = stage.Flush }) m)
 
-  -- a turn of the run: its moves, what it says, and then these; a question that it waits for ends the turn
+  -- a turn of the run: its moves, what it says, and then these, or the question that it waits for
   abbrev pub run_turn : Turn J R → Moves → Moves
-  run_turn t m = lifted t.moves (says t.said m) (λ x. says t.said (Ask x))
+  run_turn t m = lifted t.moves (says t.said m) (λ x. says t.said (ask x m))
 
   abbrev pub tell : RunSeen → Moves → Moves
   tell s m = Look (λ b st. run_turn (site.runs.turn now s b st.run) m)
@@ -141,10 +146,11 @@ module _ {J R : Type 0} (site : Service J R) (now : ℕ) where
       change (with_request head target (site.times_of head target))
       (Set (λ s. record s { run = site.runs.unborn }) (Look (λ b s. run_turn (site.runs.begun now head target b) rest)))
 
-  -- a head is refused: the client gets the reply, and nothing more is read; after a fault in a body that is dropped the connection closes
+  -- where nothing of a last reply is left the life is over
   abbrev pub close_if_taken : Moves
   close_if_taken = Look (λ b s. if is_all_taken b then finish else Done)
 
+  -- a head is refused: the client gets the reply, and nothing more is read; after a fault in a body that is dropped the connection closes
   abbrev pub refuse : At → ℕ → Moves
   refuse (line.Over status) code = change (with_refusal code site.default_times) (send (site.refusal code now) close_if_taken)
   refuse at code = finish
