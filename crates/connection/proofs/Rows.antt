@@ -2,6 +2,7 @@
 use Rattle.std.proofs.Common.{◌≡◌, ℕ, Bool, true, false, List, [], ◌∷◌, ◌++◌, drop, length, None, suc, refl, sym, ap, ◌∙◌, subst, append-nil}
 use Rattle.std.specs.Prelude.{codes}
 use Rattle.uri_args.specs.declared.targets.Target.{Target}
+use Rattle.resty_base.specs.declared.names.Pair2.{Pair2}
 use Rattle.http_in.specs.declared.framing.BodyKind.{BodyKind}
 use Rattle.http_in.specs.declared.framing.BodyKind.TheVariants as kind
 use Rattle.http_in.specs.declared.heads.Head.{Head}
@@ -86,6 +87,29 @@ kept-waits bytes h =
     subst (λ (f : Fed). (taken false (codes "/a") (first false f).state).acts ≡ act.Arm 0 (record { 0 = 1_020 }) ∷ [])
     (asked-is kind.Nothing false (codes "/a") bytes [] h)
     (subst (λ (f : Fed). (next false 0 (codes "/a") f (first false one).state).acts ≡ act.Arm 0 (record { 0 = 1_020 }) ∷ []) nothing-is refl)
+
+-- the connection that waits for the next request, and what a first byte of that leads to
+byte-is : record { answer = out.Waiting; after = came_at line.Head (71 ∷ []) } ≡ fed nothing (71 ∷ [])
+byte-is = fed-only nothing (came_at line.Head (71 ∷ [])) (71 ∷ []) out.Waiting ((read.More, refl, refl), refl)
+
+abbrev idle : List Pair2 → Fed → State ℕ (Both Echo)
+idle headers g = (next false 0 (codes "/a") g (first false (asked (request kind.Nothing false (codes "/a") headers) (to (codes "/a")) [])).state).state
+
+pub byte-begins : (bytes : List ℕ) → Asks kind.Nothing false (codes "/a") bytes []
+    → acts false (came (71 ∷ []) ∷ took (codes "/a") ∷ Did (Offer place.Client) ∷ came bytes ∷ began ∷ []) ≡ act.Arm 0 (record { 0 = 1_010 }) ∷ []
+byte-begins bytes h =
+    let st = idle h.headers (record { answer = out.Waiting; after = nothing }) in
+    subst (λ (f : Fed). (sends false (71 ∷ []) (taken false (codes "/a") (first false f).state).state).acts ≡ act.Arm 0 (record { 0 = 1_010 }) ∷ [])
+    (asked-is kind.Nothing false (codes "/a") bytes [] h)
+    (subst (λ (g : Fed). (sends false (71 ∷ []) (idle h.headers g)).acts ≡ act.Arm 0 (record { 0 = 1_010 }) ∷ []) nothing-is
+    (subst (λ (f : Fed). (perform (turns.came_at (echo_site false) 1_000 stage.Idle f st.inner) (entered (came []) st.ledger) st.inner).acts ≡ act.Arm 0 (record { 0 = 1_010 }) ∷ []) byte-is refl))
+
+pub keepalive-runs-out : (bytes : List ℕ) → Asks kind.Nothing false (codes "/a") bytes []
+    → acts false (Did (Due 0) ∷ took (codes "/a") ∷ Did (Offer place.Client) ∷ came bytes ∷ began ∷ []) ≡ act.HangUp place.Client ∷ act.Gone ∷ []
+keepalive-runs-out bytes h =
+    subst (λ (f : Fed). (stepped (plan false) 1_000 (Did (Due 0)) (taken false (codes "/a") (first false f).state).state).acts ≡ act.HangUp place.Client ∷ act.Gone ∷ [])
+    (asked-is kind.Nothing false (codes "/a") bytes [] h)
+    (subst (λ (g : Fed). (stepped (plan false) 1_000 (Did (Due 0)) (idle h.headers g)).acts ≡ act.HangUp place.Client ∷ act.Gone ∷ []) nothing-is refl)
 
 -- ---- a head that is refused
 

@@ -62,13 +62,17 @@ pub fn runs_of_the_rows_are_lawful<J>()
     ensures { (reads : Bool) → IsRun {J = J} (echo_plan reads) EchoHolds }
 {}
 
-/// A request without a body gets its reply; once that is taken the next request is awaited, for as long as the keepalive timer says.
+/// A request without a body gets its reply; once that is taken the keepalive timer begins, and the header timer with the next byte.
 pub fn a_kept_connection()
     ensures begins { (bytes rest : List ℕ) → Asks kind.Nothing false (codes "/a") bytes rest
         → acts false (came bytes ∷ began ∷ []) ≡ act.Cancel 0 ∷ act.Offer place.Client ∷ [] }
     ensures replies { (bytes rest : List ℕ) → Asks kind.Nothing false (codes "/a") bytes rest → sent false (came bytes ∷ began ∷ []) ≡ codes "/a" }
     ensures waits { (bytes : List ℕ) → Asks kind.Nothing false (codes "/a") bytes []
         → acts false (took (codes "/a") ∷ Did (Offer place.Client) ∷ came bytes ∷ began ∷ []) ≡ act.Arm 0 (record { 0 = 1_020 }) ∷ [] }
+    ensures next { (bytes : List ℕ) → Asks kind.Nothing false (codes "/a") bytes []
+        → acts false (came (71 ∷ []) ∷ took (codes "/a") ∷ Did (Offer place.Client) ∷ came bytes ∷ began ∷ []) ≡ act.Arm 0 (record { 0 = 1_010 }) ∷ [] }
+    ensures runs_out { (bytes : List ℕ) → Asks kind.Nothing false (codes "/a") bytes []
+        → acts false (Did (Due 0) ∷ took (codes "/a") ∷ Did (Offer place.Client) ∷ came bytes ∷ began ∷ []) ≡ act.HangUp place.Client ∷ act.Gone ∷ [] }
 {}
 
 /// A head that is refused gets the reply of its status, after which the connection closes.
