@@ -100,6 +100,8 @@ pub fn a_pipelined_pair()
 pub fn a_dropped_body()
     ensures waits { (bytes : List ℕ) → Asks (kind.Length 3) false (codes "/a") bytes []
         → acts false (took (codes "/a") ∷ Did (Offer place.Client) ∷ came bytes ∷ began ∷ []) ≡ act.Arm 0 (record { 0 = 1_030 }) ∷ [] }
+    ensures anew { (bytes : List ℕ) → Asks (kind.Length 3) false (codes "/a") bytes []
+        → acts false (came (1 ∷ []) ∷ took (codes "/a") ∷ Did (Offer place.Client) ∷ came bytes ∷ began ∷ []) ≡ act.Arm 0 (record { 0 = 1_030 }) ∷ [] }
     ensures whole { (bytes : List ℕ) → Asks (kind.Length 3) false (codes "/a") bytes []
         → acts false (came (1 ∷ 2 ∷ 3 ∷ []) ∷ took (codes "/a") ∷ Did (Offer place.Client) ∷ came bytes ∷ began ∷ []) ≡ act.Arm 0 (record { 0 = 1_020 }) ∷ [] }
 {}
@@ -108,6 +110,8 @@ pub fn a_dropped_body()
 pub fn a_body_that_is_read()
     ensures continues { (bytes : List ℕ) → Asks (kind.Length 3) true (codes "/a") bytes []
         → acts true (came bytes ∷ began ∷ []) ≡ act.Cancel 0 ∷ act.Offer place.Client ∷ act.Arm 0 (record { 0 = 1_030 }) ∷ [] }
+    ensures anew { (bytes : List ℕ) → Asks (kind.Length 3) false (codes "/a") bytes []
+        → acts true (came (1 ∷ []) ∷ came bytes ∷ began ∷ []) ≡ act.Arm 0 (record { 0 = 1_030 }) ∷ [] }
     ensures replies { (bytes : List ℕ) → Asks (kind.Length 3) true (codes "/a") bytes []
         → sent true (came (codes "hi!") ∷ came bytes ∷ began ∷ []) ≡ continue_reply ++ codes "hi!" }
     ensures refused { (bytes : List ℕ) → Asks (kind.Length 9) false (codes "/a") bytes [] → sent true (came bytes ∷ began ∷ []) ≡ 413 ∷ [] }
