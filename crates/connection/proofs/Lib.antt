@@ -1,0 +1,10 @@
+pub mod Alike
+pub mod Lifted
+pub mod Steps
+pub mod Stays
+pub mod Meets
+pub mod Rows
+pub mod Accounts
+pub mod Heads
+pub mod Recalling
+pub mod Echoing
