@@ -1,9 +1,35 @@
 //! What the lines say: a call of the library with what it comes to, or what is done to the store before the next one.
 
-use crate::values::{Wrong, id, text_value, value, values};
+use crate::values::{Wrong, id, text_value, value, values, whether};
 use lua_tables_lib::Library;
-use lua_values::{NativeOut, Natives, Store, TypeKind, Value};
-use std::alloc::Global;
+use lua_values::{Both, NativeOut, Natives, Store, TypeKind, Value};
+use std::alloc::{AllocError, Global};
+use std::process::Abort;
+use std::test::Fail;
+
+/// How many functions the machine has of its own, whose numbers come first.
+const OWN: u32 = 5;
+
+/// The functions of the host between those and the library's: 123 that leave their answer to the outside.
+#[derive(Drop)]
+struct Others;
+
+impl Natives for Others {
+    ghost use Rattle.lua_values.specs.NativeCalls as calls;
+
+    ghost size = { λ _. 123 };
+
+    ghost meaning = { λ _ number args heap. calls.Leaves 0 };
+
+    fn count(&self) -> u32 {
+        123
+    }
+
+    fn call(&self, _alloc: Global, _number: u32, _args: &[Value], store: &mut Store) -> NativeOut {
+        store.add_steps(0);
+        NativeOut::Outside
+    }
+}
 
 /// The store in which the first line of a test finds itself: table 1 is 10, 20 and 30 at `k`; table 2 is its own metatable, whose
 /// field `__metatable` is `locked`; table 3 is empty, and so is table 0, the global one.
@@ -17,8 +43,14 @@ rawset(table:2, '__metatable, 'locked) => table:2 | 0 | 32
 setmetatable(table:2, table:2) => table:2 | 0 | 0
 table 3";
 
-/// The first line that doesn't hold, of lines over one store.
-pub(crate) fn first_wrong<'a>(alloc: Global, lines: &'a str) -> Result<Option<&'a str>, Wrong> {
+/// Tests that all lines hold, over one store.
+pub(crate) fn hold(rt: &impl Abort, alloc: Global, lines: &str) -> Result<(), Fail> {
+    assert_eq!(rt; first_wrong(alloc, lines)?, None);
+    Ok(())
+}
+
+/// The first line that doesn't hold.
+fn first_wrong<'a>(alloc: Global, lines: &'a str) -> Result<Option<&'a str>, AllocError> {
     let mut store = Store::new(alloc)?;
     match first_wrong_in(alloc, &mut store, BEGINNING)? {
         None => first_wrong_in(alloc, &mut store, lines),
@@ -26,17 +58,15 @@ pub(crate) fn first_wrong<'a>(alloc: Global, lines: &'a str) -> Result<Option<&'
     }
 }
 
-/// The first line that doesn't hold, of lines over this store.
+/// The same, of lines over this store.
 fn first_wrong_in<'a>(
     alloc: Global,
     store: &mut Store,
     lines: &'a str,
-) -> Result<Option<&'a str>, Wrong> {
+) -> Result<Option<&'a str>, AllocError> {
     for line in lines.lines() {
-        match holds(alloc, store, line) {
-            Ok(true) => {}
-            Err(Wrong::Memory) => return Err(Wrong::Memory),
-            _ => return Ok(Some(line)),
+        if !whether(holds(alloc, store, line))? {
+            return Ok(Some(line));
         }
     }
     Ok(None)
@@ -74,31 +104,32 @@ fn counts_are(counts: &str, steps: u64, units: u64) -> bool {
 fn answer_of(alloc: Global, store: &mut Store, call: &str) -> Result<NativeOut, Wrong> {
     let (name, words) = call.split_once('(').ok_or(Wrong::Line)?;
     let args = values(alloc, words.strip_suffix(')').ok_or(Wrong::Line)?)?;
-    let number = number_of(name)?;
-    if number >= Library.count() {
+    let number = number_of(name)?.checked_sub(OWN).ok_or(Wrong::Line)?;
+    let natives = Both::new(Others, Library);
+    if number >= natives.count() {
         return Err(Wrong::Line);
     }
-    Ok(Library.call(alloc, number, args.as_slice(), store))
+    Ok(natives.call(alloc, number, args.as_slice(), store))
 }
 
-/// The number of a function of the library.
+/// The number under which a program finds a function.
 fn number_of(name: &str) -> Result<u32, Wrong> {
     Ok(match name {
-        "getmetatable" => 0,
-        "setmetatable" => 1,
-        "ipairs" => 2,
-        "next" => 3,
-        "pairs" => 4,
-        "rawequal" => 5,
-        "rawget" => 6,
-        "rawset" => 7,
-        "select" => 8,
-        "tonumber" => 9,
-        "type" => 10,
-        "unpack" => 11,
-        "ipairs_step" => 46,
-        "globals" => 53,
-        "module_name" => 54,
+        "getmetatable" => 128,
+        "setmetatable" => 129,
+        "ipairs" => 130,
+        "next" => 131,
+        "pairs" => 132,
+        "rawequal" => 133,
+        "rawget" => 134,
+        "rawset" => 135,
+        "select" => 136,
+        "tonumber" => 137,
+        "type" => 138,
+        "unpack" => 139,
+        "ipairs_step" => 174,
+        "globals" => 181,
+        "module_name" => 182,
         _ => id(name)?,
     })
 }

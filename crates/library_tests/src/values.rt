@@ -23,6 +23,15 @@ impl From<AllocFailed<Value>> for Wrong {
     }
 }
 
+/// Whether a line holds; one that can't be read doesn't.
+pub(crate) fn whether(outcome: Result<bool, Wrong>) -> Result<bool, AllocError> {
+    match outcome {
+        Ok(holds) => Ok(holds),
+        Err(Wrong::Line) => Ok(false),
+        Err(Wrong::Memory) => Err(AllocError),
+    }
+}
+
 /// The values of words with commas between them.
 pub(crate) fn values(alloc: Global, words: &str) -> Result<Vec<Value>, Wrong> {
     let mut values = Vec::new(alloc);
