@@ -55,7 +55,7 @@ fn seen(alloc: Global, subject: Subject, given: &str) -> String {
     all
 }
 
-/// Writes a text. Where there is no memory for it, it is left out, and the row isn't seen.
+/// Writes a text, or leaves it out where there is no memory for it, so that the row fails.
 pub(crate) fn put(all: &mut String, text: &str) {
     let _ = all.push_str(text);
 }

@@ -1,8 +1,7 @@
 //! How operators group, for every pair of them, and their lines.
-use crate::rows::{Subject, hold};
-use std::alloc::{AllocError, Global};
+use crate::rows::{Subject, hold, put};
+use std::alloc::Global;
 use std::process::Abort;
-use std::test::Fail;
 
 /// A row for each binary operator: its sign, its name in the tree, and a letter for each operator of these rows in their order
 /// as the second one, as in `1 + 2 * 3`: `l` where the first one's operands go together, `r` where the second one's do
@@ -49,88 +48,102 @@ fn operator_of(line: &str) -> Operator<'_> {
     }
 }
 
-/// The row of two binary operators that group as the letter says.
-fn binary_row(
-    alloc: Global,
-    first: Operator<'_>,
-    second: Operator<'_>,
-    letter: char,
-) -> Result<String, AllocError> {
-    let (a, b) = (first.sign, second.sign);
-    let (above, below) = (first.name, second.name);
-    if letter == 'l' {
-        format!(in alloc; "return 1 {a} 2 {b} 3 => return ((1 {above} 2) {below} 3);")
-    } else {
-        format!(in alloc; "return 1 {a} 2 {b} 3 => return (1 {above} (2 {below} 3));")
+/// Writes texts one after the other.
+fn put_all(all: &mut String, texts: &[&str]) {
+    for text in texts {
+        put(all, text);
     }
 }
 
-/// The rows of a unary operator before a binary one, which groups as the letter says, and after it, where it takes the operand
-/// alone.
-fn unary_rows(
+/// Writes the row of two binary operators that group as the letter says.
+fn binary_row(row: &mut String, first: Operator<'_>, second: Operator<'_>, letter: char) {
+    let (above, below) = (first.name, second.name);
+    put_all(
+        row,
+        &["return 1 ", first.sign, " 2 ", second.sign, " 3 => return "],
+    );
+    if letter == 'l' {
+        put_all(row, &["((1 ", above, " 2) ", below, " 3);"]);
+    } else {
+        put_all(row, &["(1 ", above, " (2 ", below, " 3));"]);
+    }
+}
+
+/// Writes the row of a unary operator before a binary one, which groups as the letter says.
+fn unary_row(row: &mut String, first: Operator<'_>, second: Operator<'_>, letter: char) {
+    let (unary, binary) = (first.name, second.name);
+    put_all(
+        row,
+        &["return ", first.sign, " 1 ", second.sign, " 2 => return "],
+    );
+    if letter == 'l' {
+        put_all(row, &["((", unary, " 1) ", binary, " 2);"]);
+    } else {
+        put_all(row, &["(", unary, " (1 ", binary, " 2));"]);
+    }
+}
+
+/// Writes the row of a unary operator after a binary one, which takes the operand alone.
+fn operand_row(row: &mut String, first: Operator<'_>, second: Operator<'_>) {
+    put_all(
+        row,
+        &["\nreturn 1 ", second.sign, " ", first.sign, " 2 => "],
+    );
+    put_all(row, &["return (1 ", second.name, " (", first.name, " 2));"]);
+}
+
+/// The rows of an operator before a binary one, and of a unary one after it too.
+fn rows_of(
     alloc: Global,
     first: Operator<'_>,
     second: Operator<'_>,
     letter: char,
-) -> Result<String, AllocError> {
-    let (a, b) = (first.sign, second.sign);
-    let (unary, binary) = (first.name, second.name);
-    if letter == 'l' {
-        format!(in alloc;
-            "return {a} 1 {b} 2 => return (({unary} 1) {binary} 2);\nreturn 1 {b} {a} 2 => return (1 {binary} ({unary} 2));"
-        )
+    is_unary: bool,
+) -> String {
+    let mut rows = String::new(alloc);
+    if is_unary {
+        unary_row(&mut rows, first, second, letter);
+        operand_row(&mut rows, first, second);
     } else {
-        format!(in alloc;
-            "return {a} 1 {b} 2 => return ({unary} (1 {binary} 2));\nreturn 1 {b} {a} 2 => return (1 {binary} ({unary} 2));"
-        )
+        binary_row(&mut rows, first, second, letter);
     }
+    rows
 }
 
 /// Tests an operator of one of the tables with each binary one after it.
-fn hold_pairs(
-    rt: &impl Abort,
-    alloc: Global,
-    line: &str,
-    is_unary: bool,
-) -> Result<(), AllocError> {
+fn hold_pairs(rt: &impl Abort, alloc: Global, line: &str, is_unary: bool) {
     let first = operator_of(line);
     assert_eq!(rt; first.letters.len(), 15, "{line}");
     for (letter, line) in first.letters.chars().zip(BINARY.lines()) {
-        let second = operator_of(line);
-        let rows = if is_unary {
-            unary_rows(alloc, first, second, letter)?
-        } else {
-            binary_row(alloc, first, second, letter)?
-        };
+        let rows = rows_of(alloc, first, operator_of(line), letter, is_unary);
         hold(rt, alloc, Subject::Program, &rows);
     }
-    Ok(())
 }
 
 #[test]
-fn each_pair_of_operators_groups_by_precedence(rt: HostRuntime) -> Result<(), Fail> {
+fn each_pair_of_operators_groups_by_precedence(rt: HostRuntime) {
     for line in BINARY.lines() {
-        hold_pairs(&rt, rt.alloc(), line, false)?;
+        hold_pairs(&rt, rt.alloc(), line, false);
     }
     for line in UNARY.lines() {
-        hold_pairs(&rt, rt.alloc(), line, true)?;
+        hold_pairs(&rt, rt.alloc(), line, true);
     }
-    Ok(())
 }
 
 /// The row of a binary operator on a line of its own.
-fn line_row(alloc: Global, operator: Operator<'_>) -> Result<String, AllocError> {
-    let (sign, name) = (operator.sign, operator.name);
-    format!(in alloc; "return¶1¶{sign}¶2 => 1: return (1@2 {name} 2@4)@3;")
+fn line_row(alloc: Global, operator: Operator<'_>) -> String {
+    let mut row = String::new(alloc);
+    put_all(&mut row, &["return¶1¶", operator.sign, "¶2 => "]);
+    put_all(&mut row, &["1: return (1@2 ", operator.name, " 2@4)@3;"]);
+    row
 }
 
 #[test]
-fn a_binary_operator_has_the_line_of_its_sign(rt: HostRuntime) -> Result<(), Fail> {
+fn a_binary_operator_has_the_line_of_its_sign(rt: HostRuntime) {
     for line in BINARY.lines() {
-        let row = line_row(rt.alloc(), operator_of(line))?;
+        let row = line_row(rt.alloc(), operator_of(line));
         hold(&rt, rt.alloc(), Subject::Lines, &row);
     }
-    Ok(())
 }
 
 #[test]

@@ -76,6 +76,75 @@ fn stmt(all: &mut String, statement: &Stmt, lines: bool) {
         put(all, ": ");
     }
     match &statement.kind {
+        StmtKind::Do(body)
+        | StmtKind::While(_, body)
+        | StmtKind::NumericFor { body, .. }
+        | StmtKind::GenericFor { body, .. } => {
+            loop_head(all, &statement.kind, lines);
+            block(all, body, lines);
+            put(all, " end");
+        }
+        StmtKind::Repeat(body, test) => {
+            put(all, "repeat ");
+            block(all, body, lines);
+            put(all, " until ");
+            expr(all, test, lines);
+        }
+        StmtKind::If(tests, otherwise) => {
+            arms(all, tests, lines);
+            put(all, "else ");
+            block(all, otherwise, lines);
+            put(all, " end");
+        }
+        kind => plain_stmt(all, kind, lines),
+    }
+}
+
+/// Writes what stands before the block of a statement that begins with `do`, `while` or `for`.
+fn loop_head(all: &mut String, kind: &StmtKind, lines: bool) {
+    match kind {
+        StmtKind::While(test, _) => {
+            put(all, "while ");
+            expr(all, test, lines);
+            put(all, " ");
+        }
+        StmtKind::NumericFor {
+            slot,
+            from,
+            to,
+            step,
+            ..
+        } => {
+            put_named(all, "for s", u32::from(*slot));
+            put(all, " = ");
+            expr(all, from, lines);
+            put(all, ", ");
+            expr(all, to, lines);
+            put(all, ", ");
+            if let Some(step) = step {
+                expr(all, step, lines);
+            }
+            put(all, " ");
+        }
+        StmtKind::GenericFor {
+            slots: targets,
+            values,
+            ..
+        } => {
+            put(all, "for ");
+            slots(all, targets);
+            put(all, "in ");
+            exprs(all, values, lines);
+            put(all, " ");
+        }
+        _ => {}
+    }
+    put(all, "do ");
+}
+
+/// Writes a statement that has no block.
+fn plain_stmt(all: &mut String, kind: &StmtKind, lines: bool) {
+    match kind {
         StmtKind::Local(targets, values) => {
             put(all, "local ");
             slots(all, targets);
@@ -92,68 +161,11 @@ fn stmt(all: &mut String, statement: &Stmt, lines: bool) {
             exprs(all, values, lines);
         }
         StmtKind::Call(call) => expr(all, call, lines),
-        StmtKind::Do(body) => {
-            put(all, "do ");
-            block(all, body, lines);
-            put(all, " end");
-        }
-        StmtKind::While(test, body) => {
-            put(all, "while ");
-            expr(all, test, lines);
-            put(all, " do ");
-            block(all, body, lines);
-            put(all, " end");
-        }
-        StmtKind::Repeat(body, test) => {
-            put(all, "repeat ");
-            block(all, body, lines);
-            put(all, " until ");
-            expr(all, test, lines);
-        }
-        StmtKind::If(tests, otherwise) => {
-            arms(all, tests, lines);
-            put(all, "else ");
-            block(all, otherwise, lines);
-            put(all, " end");
-        }
-        StmtKind::NumericFor {
-            slot,
-            from,
-            to,
-            step,
-            body,
-        } => {
-            put_named(all, "for s", u32::from(*slot));
-            put(all, " = ");
-            expr(all, from, lines);
-            put(all, ", ");
-            expr(all, to, lines);
-            put(all, ", ");
-            if let Some(step) = step {
-                expr(all, step, lines);
-            }
-            put(all, " do ");
-            block(all, body, lines);
-            put(all, " end");
-        }
-        StmtKind::GenericFor {
-            slots: targets,
-            values,
-            body,
-        } => {
-            put(all, "for ");
-            slots(all, targets);
-            put(all, "in ");
-            exprs(all, values, lines);
-            put(all, " do ");
-            block(all, body, lines);
-            put(all, " end");
-        }
         StmtKind::Return(values) => {
             put(all, "return ");
             exprs(all, values, lines);
         }
-        StmtKind::Break => put(all, "break"),
+        _ => put(all, "break"),
     }
 }
 
@@ -196,7 +208,69 @@ fn expr(all: &mut String, expression: &Expr, lines: bool) {
 #[cycle(write_expr)]
 fn kind(all: &mut String, kind: &ExprKind, lines: bool) {
     match kind {
-        ExprKind::Nil => put(all, "nil"),
+        ExprKind::Index(object, key) => {
+            expr(all, object, lines);
+            put(all, "[");
+            expr(all, key, lines);
+            put(all, "]");
+        }
+        ExprKind::Call(object, values) | ExprKind::Method(object, _, values) => {
+            expr(all, object, lines);
+            method(all, kind);
+            put(all, "(");
+            exprs(all, values, lines);
+            put(all, ")");
+        }
+        ExprKind::Unary(_, operand) => {
+            put(all, "(");
+            operator(all, kind);
+            expr(all, operand, lines);
+            put(all, ")");
+        }
+        ExprKind::Binary(_, left, right) | ExprKind::And(left, right) | ExprKind::Or(left, right) =>
+            {
+                put(all, "(");
+                expr(all, left, lines);
+                put(all, " ");
+                operator(all, kind);
+                expr(all, right, lines);
+                put(all, ")");
+            }
+        ExprKind::Paren(inner) => {
+            put(all, "<");
+            expr(all, inner, lines);
+            put(all, ">");
+        }
+        ExprKind::Table(all_items) => {
+            put(all, "{");
+            items(all, all_items, lines);
+            put(all, "}");
+        }
+        _ => leaf(all, kind),
+    }
+}
+
+/// Writes the name of a method that is called.
+fn method(all: &mut String, kind: &ExprKind) {
+    if let ExprKind::Method(_, text, _) = kind {
+        put(all, ":");
+        name(all, text.as_slice());
+    }
+}
+
+/// Writes the name of an operator, and a blank.
+fn operator(all: &mut String, kind: &ExprKind) {
+    let _ = match kind {
+        ExprKind::Unary(op, _) => write!(all, "{op:?} "),
+        ExprKind::Binary(op, _, _) => write!(all, "{op:?} "),
+        ExprKind::And(_, _) => all.push_str("And "),
+        _ => all.push_str("Or "),
+    };
+}
+
+/// Writes an expression that has no other within it.
+fn leaf(all: &mut String, kind: &ExprKind) {
+    match kind {
         ExprKind::True => put(all, "true"),
         ExprKind::False => put(all, "false"),
         ExprKind::Number(number) => put_number(all, number.get()),
@@ -209,62 +283,7 @@ fn kind(all: &mut String, kind: &ExprKind, lines: bool) {
             put(all, "g");
             name(all, text.as_slice());
         }
-        ExprKind::Index(object, key) => {
-            expr(all, object, lines);
-            put(all, "[");
-            expr(all, key, lines);
-            put(all, "]");
-        }
-        ExprKind::Call(callee, values) => {
-            expr(all, callee, lines);
-            put(all, "(");
-            exprs(all, values, lines);
-            put(all, ")");
-        }
-        ExprKind::Method(object, text, values) => {
-            expr(all, object, lines);
-            put(all, ":");
-            name(all, text.as_slice());
-            put(all, "(");
-            exprs(all, values, lines);
-            put(all, ")");
-        }
-        ExprKind::Unary(op, operand) => {
-            let _ = write!(all, "({op:?} ");
-            expr(all, operand, lines);
-            put(all, ")");
-        }
-        ExprKind::Binary(op, left, right) => {
-            put(all, "(");
-            expr(all, left, lines);
-            let _ = write!(all, " {op:?} ");
-            expr(all, right, lines);
-            put(all, ")");
-        }
-        ExprKind::And(left, right) => {
-            put(all, "(");
-            expr(all, left, lines);
-            put(all, " And ");
-            expr(all, right, lines);
-            put(all, ")");
-        }
-        ExprKind::Or(left, right) => {
-            put(all, "(");
-            expr(all, left, lines);
-            put(all, " Or ");
-            expr(all, right, lines);
-            put(all, ")");
-        }
-        ExprKind::Paren(inner) => {
-            put(all, "<");
-            expr(all, inner, lines);
-            put(all, ">");
-        }
-        ExprKind::Table(all_items) => {
-            put(all, "{");
-            items(all, all_items, lines);
-            put(all, "}");
-        }
+        _ => put(all, "nil"),
     }
 }
 
