@@ -4,9 +4,9 @@
 #[cfg(test)]
 mod numbers;
 #[cfg(test)]
-mod operators;
-#[cfg(test)]
 mod parsing;
+#[cfg(test)]
+mod rows;
 #[cfg(test)]
 mod tokens;
 #[cfg(test)]

@@ -1,144 +1,161 @@
 //! Arithmetic of whole numbers, and numbers as texts.
+use crate::rows::{Subject, hold, put, put_number};
 use lua_numbers::*;
-use resty_base::{Whole, whole};
-use std::test::Fail;
+use resty_base::{Bytes, Whole, whole};
+use std::alloc::{AllocError, Global};
 
-const MOST: i64 = 99_999_999_999_999;
+/// At the ends of the range, and with each sign.
+const ARITHMETIC: &str = "\
+99999999999999 + 1 => Range: number out of range
+99999999999998 + 1 => 99999999999999
+-99999999999999 - 1 => Range: number out of range
+-99999999999999 - -1 => -99999999999998
+10000000 * 10000000 => Range: number out of range
+9999999 * -9999999 => -99999980000001
+99999999999999 * 99999999999999 => Range: number out of range
+7 / 2 => Inexact: number has no whole result
+-8 / 2 => -4
+-8 / -2 => 4
+0 / -3 => 0
+1 / 0 => ByZero: attempt to divide by zero
+0 / 0 => ByZero: attempt to divide by zero
+-7 % 3 => 2
+7 % -3 => -2
+-7 % -3 => -1
+7 % 3 => 1
+-6 % 3 => 0
+1 % 0 => ByZero: attempt to divide by zero";
 
-fn calculate(a: Whole, sign: char, b: Whole) -> Result<i64, NumFault> {
-    let outcome = match sign {
-        '+' => add(a, b),
-        '-' => sub(a, b),
-        '*' => mul(a, b),
-        '/' => div(a, b),
-        '%' => modulo(a, b),
+/// Powers, which are answered at once however great they are.
+const POWERS: &str = "\
+0 ^ -1 => ByZero: attempt to divide by zero
+-1 ^ -3 => -1
+2 ^ -1 => Inexact: number has no whole result
+0 ^ 0 => 1
+0 ^ 99999999999999 => 0
+1 ^ 99999999999999 => 1
+1 ^ -99999999999999 => 1
+-1 ^ 99999999999999 => -1
+-1 ^ 99999999999998 => 1
+2 ^ 46 => 70368744177664
+2 ^ 47 => Range: number out of range
+2 ^ 90000000000000 => Range: number out of range
+-3 ^ 3 => -27
+2 ^ -90000000000000 => Inexact: number has no whole result
+10 ^ 14 => Range: number out of range
+-10 ^ 13 => -10000000000000";
+
+/// The number of these digits.
+fn number(digits: &str) -> Option<Whole> {
+    whole(digits.parse().ok()?)
+}
+
+/// The number that an operator gives, or its fault.
+fn calculated(a: Whole, sign: &str, b: Whole) -> Result<Whole, NumFault> {
+    match sign {
+        "+" => add(a, b),
+        "-" => sub(a, b),
+        "*" => mul(a, b),
+        "/" => div(a, b),
+        "%" => modulo(a, b),
         _ => pow(a, b),
-    };
-    outcome.map(|number| number.get())
+    }
+}
+
+/// Writes what an operator gives.
+pub(crate) fn see_result(all: &mut String, text: &str) {
+    let (a, after) = text.split_once(' ').unwrap_or((text, ""));
+    let (sign, b) = after.split_once(' ').unwrap_or((after, ""));
+    match (number(a), number(b)) {
+        (Some(a), Some(b)) => see_outcome(all, calculated(a, sign, b)),
+        _ => put(all, "no numbers"),
+    }
+}
+
+/// Writes a number, or a fault's name and its text.
+fn see_outcome(all: &mut String, outcome: Result<Whole, NumFault>) {
+    match outcome {
+        Ok(number) => put_number(all, number.get()),
+        Err(fault) => {
+            let _ = write!(all, "{fault:?}: {fault}");
+        }
+    }
 }
 
 #[test]
-fn arithmetic_is_whole_and_within_the_range(rt: HostRuntime) -> Result<(), Fail> {
-    for (a, sign, b, expected) in [
-        (MOST, '+', 1, Err(NumFault::Range)),
-        (MOST - 1, '+', 1, Ok(MOST)),
-        (-MOST, '-', 1, Err(NumFault::Range)),
-        (-MOST, '-', -1, Ok(1 - MOST)),
-        (10_000_000, '*', 10_000_000, Err(NumFault::Range)),
-        (9_999_999, '*', -9_999_999, Ok(-99_999_980_000_001)),
-        (MOST, '*', MOST, Err(NumFault::Range)),
-        (7, '/', 2, Err(NumFault::Inexact)),
-        (-8, '/', 2, Ok(-4)),
-        (-8, '/', -2, Ok(4)),
-        (0, '/', -3, Ok(0)),
-        (1, '/', 0, Err(NumFault::ByZero)),
-        (0, '/', 0, Err(NumFault::ByZero)),
-        (-7, '%', 3, Ok(2)),
-        (7, '%', -3, Ok(-2)),
-        (-7, '%', -3, Ok(-1)),
-        (7, '%', 3, Ok(1)),
-        (-6, '%', 3, Ok(0)),
-        (1, '%', 0, Err(NumFault::ByZero)),
-    ] {
-        let (left, right) = (whole(a).ok_or("range")?, whole(b).ok_or("range")?);
-        assert_eq!(rt; calculate(left, sign, right), expected, "{a} {sign} {b}");
+fn arithmetic_is_whole_and_within_the_range(rt: HostRuntime) {
+    hold(&rt, rt.alloc(), Subject::Arithmetic, ARITHMETIC);
+    hold(&rt, rt.alloc(), Subject::Arithmetic, POWERS);
+}
+
+/// Texts that write numbers, and texts that don't.
+const NUMERALS: &str = "\
+1e2 => none
+ 0x1F  => 31
+0xfF => 255
+0X10 => none
+0x => none
+ => none
+  => none
+- => none
+- 5 => none
++5 => none
+--5 => none
+-0x10 => -16
+0x-10 => none
+007 => 7
+-0 => 0
+1.0 => none
+1 2 => none
+0xg => none
+a => none
+\t¶\x0b\x0c\r 12\t¶\x0b\x0c\r  => 12
+12\0 => none
+\u{85}12 => none
+99999999999999 => 99999999999999
+-99999999999999 => -99999999999999
+100000000000000 => none
+-100000000000000 => none
+0x5af3107a3fff => 99999999999999
+0x5AF3107A4000 => none
+0000000000000000000000000000000000000000001 => 1
+99999999999999999999999999999999999999999999999 => none";
+
+/// Writes the number that a text writes, or `none`.
+pub(crate) fn see_numeral(all: &mut String, text: &str) {
+    match number_of(text.as_bytes()) {
+        Some(number) => put_number(all, number.get()),
+        None => put(all, "none"),
     }
-    assert_eq!(rt; neg(whole(MOST).ok_or("range")?).get(), -MOST);
-    Ok(())
+}
+
+/// Numbers, and how they and their negations are written.
+const DIGITS: &str = "\
+-7 => -7 7
+0 => 0 0
+99999999999999 => 99999999999999 -99999999999999
+-99999999999999 => -99999999999999 99999999999999
+1000 => 1000 -1000";
+
+/// Writes a number and its negation.
+pub(crate) fn see_digits(alloc: Global, all: &mut String, text: &str) {
+    if let Some(number) = number(text) {
+        see_text(all, &text_of(alloc, number));
+        put(all, " ");
+        see_text(all, &text_of(alloc, neg(number)));
+    }
+}
+
+/// Writes a text, `?` where it is none.
+fn see_text(all: &mut String, text: &Result<Bytes, AllocError>) {
+    match text {
+        Ok(bytes) => put(all, str::from_utf8(bytes).unwrap_or("?")),
+        Err(_) => put(all, "?"),
+    }
 }
 
 #[test]
-fn powers_answer_at_once(rt: HostRuntime) -> Result<(), Fail> {
-    for (a, b, expected) in [
-        (0, -1, Err(NumFault::ByZero)),
-        (-1, -3, Ok(-1)),
-        (2, -1, Err(NumFault::Inexact)),
-        (0, 0, Ok(1)),
-        (0, MOST, Ok(0)),
-        (1, MOST, Ok(1)),
-        (1, -MOST, Ok(1)),
-        (-1, MOST, Ok(-1)),
-        (-1, MOST - 1, Ok(1)),
-        (2, 46, Ok(70_368_744_177_664)),
-        (2, 47, Err(NumFault::Range)),
-        (2, 90_000_000_000_000, Err(NumFault::Range)),
-        (-3, 3, Ok(-27)),
-        (2, -90_000_000_000_000, Err(NumFault::Inexact)),
-        (10, 14, Err(NumFault::Range)),
-        (-10, 13, Ok(-10_000_000_000_000)),
-    ] {
-        let (base, exponent) = (whole(a).ok_or("range")?, whole(b).ok_or("range")?);
-        assert_eq!(rt; calculate(base, '^', exponent), expected, "{a} ^ {b}");
-    }
-    Ok(())
-}
-
-#[test]
-fn faults_have_their_texts(rt: HostRuntime) -> Result<(), Fail> {
-    for (fault, text) in [
-        (NumFault::Range, "number out of range"),
-        (NumFault::Inexact, "number has no whole result"),
-        (NumFault::ByZero, "attempt to divide by zero"),
-    ] {
-        assert_eq!(rt; format!(in rt.alloc(); "{fault}")?.as_str(), text);
-    }
-    Ok(())
-}
-
-#[test]
-fn texts_are_read_as_numbers(rt: HostRuntime) -> Result<(), Fail> {
-    for (text, expected) in [
-        (" 0x1F ", Some(31)),
-        ("1e2", None),
-        ("0xfF", Some(255)),
-        ("0X10", None),
-        ("0x", None),
-        ("", None),
-        (" ", None),
-        ("-", None),
-        ("- 5", None),
-        ("+5", None),
-        ("--5", None),
-        ("-0x10", Some(-16)),
-        ("0x-10", None),
-        ("007", Some(7)),
-        ("-0", Some(0)),
-        ("1.0", None),
-        ("1 2", None),
-        ("0xg", None),
-        ("a", None),
-        ("\t\n\u{b}\u{c}\r 12\t\n\u{b}\u{c}\r ", Some(12)),
-        ("12\u{0}", None),
-        ("\u{85}12", None),
-        ("99999999999999", Some(MOST)),
-        ("-99999999999999", Some(-MOST)),
-        ("100000000000000", None),
-        ("-100000000000000", None),
-        ("0x5af3107a3fff", Some(MOST)),
-        ("0x5AF3107A4000", None),
-        ("0000000000000000000000000000000000000000001", Some(1)),
-        ("99999999999999999999999999999999999999999999999", None),
-    ] {
-        assert_eq!(rt;
-            number_of(text.as_bytes()).map(|number| number.get()),
-            expected,
-            "{text}"
-        );
-    }
-    Ok(())
-}
-
-#[test]
-fn numbers_are_written_in_decimal(rt: HostRuntime) -> Result<(), Fail> {
-    for (n, expected) in [
-        (-7, "-7"),
-        (0, "0"),
-        (MOST, "99999999999999"),
-        (-MOST, "-99999999999999"),
-        (1000, "1000"),
-    ] {
-        let text = text_of(rt.alloc(), whole(n).ok_or("range")?)?;
-        assert_eq!(rt; text.as_slice(), expected.as_bytes());
-    }
-    Ok(())
+fn numbers_are_read_and_written(rt: HostRuntime) {
+    hold(&rt, rt.alloc(), Subject::Numeral, NUMERALS);
+    hold(&rt, rt.alloc(), Subject::Digits, DIGITS);
 }

@@ -4,11 +4,12 @@ mod calls;
 mod shifts;
 mod values;
 
-use calls::first_wrong;
+use calls::hold;
 use lua_values::*;
-use shifts::{TABLES, is_as_set_of_each};
-use std::alloc::Global;
+use shifts::{SHIFTS as BY, TABLES, is_as_set_of_each};
+use std::alloc::{AllocError, Global};
 use std::test::Fail;
+use values::{put, put_number};
 
 /// Keys of each kind, no two of which are equal.
 const KEYS: &str = "\
@@ -363,49 +364,43 @@ shift 0 1 2 up = frozen
 shift 0 2 1 up = ok";
 
 #[test]
-fn scripts_give_their_answers(rt: HostRuntime) -> Result<(), Fail> {
-    for script in [
-        KEYS,
-        NIL_AT_A_KEY,
-        EMPTIED,
-        BORDERS,
-        FAULTS,
-        COUNTS,
-        SHIFTS,
-        CYCLES,
-        COPY,
-        COPIES,
-    ] {
-        assert_eq!(rt; first_wrong(rt.alloc(), script)?, None);
-    }
-    Ok(())
+fn scripts_give_their_answers(rt: HostRuntime) {
+    hold(&rt, rt.alloc(), KEYS);
+    hold(&rt, rt.alloc(), NIL_AT_A_KEY);
+    hold(&rt, rt.alloc(), EMPTIED);
+    hold(&rt, rt.alloc(), BORDERS);
+    hold(&rt, rt.alloc(), FAULTS);
+    hold(&rt, rt.alloc(), COUNTS);
+    hold(&rt, rt.alloc(), SHIFTS);
+    hold(&rt, rt.alloc(), CYCLES);
+    hold(&rt, rt.alloc(), COPY);
+    hold(&rt, rt.alloc(), COPIES);
 }
 
 #[test]
-fn shifts_are_sets_of_each_value(rt: HostRuntime) -> Result<(), Fail> {
-    for pairs in TABLES {
-        for (from, to, up) in shifts::SHIFTS {
-            let as_set = is_as_set_of_each(rt.alloc(), pairs, Shift { from, to, up })?;
-            assert_eq!(rt; (pairs, from, to, up, as_set), (pairs, from, to, up, true));
+fn shifts_are_sets_of_each_value(rt: HostRuntime) {
+    assert_eq!(rt; (TABLES.lines().count(), BY.lines().count()), (8, 9));
+    for pairs in TABLES.lines() {
+        for by in BY.lines() {
+            assert!(rt; is_as_set_of_each(rt.alloc(), pairs, by), "{pairs}, {by}");
         }
     }
-    Ok(())
+}
+
+/// Writes the text of a fault.
+fn see_fault(all: &mut String, fault: StoreFault) {
+    let _ = write!(all, "{fault}; ");
 }
 
 #[test]
-fn faults_show_what_lua_says_or_their_names(rt: HostRuntime) -> Result<(), Fail> {
-    let (full, frozen, key, memory) = (
-        StoreFault::Full,
-        StoreFault::Frozen,
-        StoreFault::BadKey,
-        StoreFault::Memory,
-    );
-    let shown = format!(in rt.alloc(); "{full}, {frozen}, {key}, {memory}")?;
-    assert_eq!(rt;
-        shown.as_str(),
-        "not enough memory (storage limit), Frozen, table index is nil, Memory"
-    );
-    Ok(())
+fn faults_show_what_lua_says_or_their_names(rt: HostRuntime) {
+    let mut all = String::new(rt.alloc());
+    see_fault(&mut all, StoreFault::Full);
+    see_fault(&mut all, StoreFault::Frozen);
+    see_fault(&mut all, StoreFault::BadKey);
+    see_fault(&mut all, StoreFault::Memory);
+    let expected = "not enough memory (storage limit); Frozen; table index is nil; Memory; ";
+    assert_eq!(rt; all.as_str(), expected);
 }
 
 /// One function of the host, which leaves its answer to the outside.
@@ -451,16 +446,37 @@ impl Natives for Gives {
     }
 }
 
+/// Calls one of the three functions of both, and writes whether the answer is left to the outside, the steps, and how many functions
+/// there are.
+fn see_called(alloc: Global, all: &mut String, store: &mut Store, number: u32) {
+    if number >= 3 {
+        return;
+    }
+    let natives = Both::new(Parks, Gives);
+    let answer = natives.call(alloc, number, &[], store);
+    let parks = matches!(&answer, NativeOut::Outside);
+    put(all, if parks { "parks" } else { "gives" });
+    put_number(all, " ", store.steps());
+    put_number(all, " of ", u64::from(natives.count()));
+    put(all, "; ");
+}
+
+/// What is written of each function.
+fn called(alloc: Global) -> Result<String, AllocError> {
+    let mut store = Store::new(alloc)?;
+    let mut all = String::new(alloc);
+    for number in 0..3 {
+        see_called(alloc, &mut all, &mut store, number);
+    }
+    Ok(all)
+}
+
 #[test]
 fn the_numbers_of_the_first_library_come_first(rt: HostRuntime) -> Result<(), Fail> {
-    let alloc = rt.alloc();
-    let mut store = Store::new(alloc)?;
-    let natives = Both::new(Parks, Gives);
-    assert_eq!(rt; natives.count(), 3);
-    for (number, parks, steps) in [(0, true, 0), (1, false, 0), (2, false, 1)] {
-        let answer = natives.call(alloc, number, &[], &mut store);
-        assert_eq!(rt; matches!(&answer, NativeOut::Outside), parks);
-        assert_eq!(rt; store.steps(), steps);
-    }
+    let called = called(rt.alloc())?;
+    assert_eq!(rt;
+        called.as_str(),
+        "parks 0 of 3; gives 0 of 3; gives 1 of 3; "
+    );
     Ok(())
 }

@@ -1,92 +1,37 @@
 //! What loops over numbers come to, which are run at once as far as that goes: with the steps that each of their nodes counts.
-use super::programs::outcome;
-use std::test::Fail;
+use super::programs::hold;
+
+const LOOPS: &str = "\
+local n, i = 0, 0 while i < 4 do n = n + i % 3 * 2 - 1 i = i + 1 end return n, i => Done 2, 4 | 91, 0
+local i = 0 while i < 2 do local j = i * 2 i = j + 1 end return i => Done 3 | 35, 0
+local i = 0 while true do i = i + 1 if i == 3 then break end end return i => Done 3 | 40, 0
+local i = 0 while i < 1 do i = i + 1 + 0 + 0 + 0 + 0 + 0 + 0 + 0 + 0 + 0 + 0 + 0 end return i => Done 1 | 40, 0
+local i = 0 while i < 20 do i = \"10\" + i + 1 end return i => Done 22 | 31, 0";
+
+/// Loops in which a variable is captured.
+const CAPTURED: &str = "\
+local i = 0 local f = function() i = i + 1 end while i < 3 do f() i = i + 1 end return i => Done 4 | 47, 56
+local f local i = 0 while i < 2 do local j = i if i == 0 then f = function() return j end end i = i + 1 end return f(), i => Done 0, 2 | 48, 56";
+
+/// Faults, each with its step and position.
+const FAULTS: &str = "\
+local i = 0 while i < 3 do¶i = i + 1 % 0 end => Failed \"t.conf:2: attempt to divide by zero\" | 15, 0
+local i = 99999999999998 while true do i = i + 1 end => Failed \"t.conf:1: number out of range\" | 18, 0
+local i = 1 while i < \"x\" do end => Failed \"t.conf:1: attempt to compare number with string\" | 7, 0";
 
 #[test]
-fn loops_over_numbers_come_to_their_values(rt: HostRuntime) -> Result<(), Fail> {
-    let alloc = rt.alloc();
-    for (text, expected) in [
-        (
-            "local n, i = 0, 0 while i < 4 do n = n + i % 3 * 2 - 1 i = i + 1 end return n, i",
-            "Done 2, 4 | 91, 0",
-        ),
-        (
-            "local i = 0 while i < 2 do local j = i * 2 i = j + 1 end return i",
-            "Done 3 | 35, 0",
-        ),
-        (
-            "local i = 0 while true do i = i + 1 if i == 3 then break end end return i",
-            "Done 3 | 40, 0",
-        ),
-        (
-            "local i = 0 while i < 1 do i = i + 1 + 0 + 0 + 0 + 0 + 0 + 0 + 0 + 0 + 0 + 0 + 0 end return i",
-            "Done 1 | 40, 0",
-        ),
-        (
-            "local i = 0 while i < 20 do i = \"10\" + i + 1 end return i",
-            "Done 22 | 31, 0",
-        ),
-    ] {
-        let shown = outcome(alloc, text, &[])?;
-        assert_eq!(rt; shown.as_str(), expected);
-    }
-    Ok(())
+fn loops_over_numbers_come_to_their_values(rt: HostRuntime) {
+    hold(&rt, rt.alloc(), LOOPS);
+    hold(&rt, rt.alloc(), CAPTURED);
+    hold(&rt, rt.alloc(), FAULTS);
 }
 
-#[test]
-fn captured_variables_stay_shared_in_loops(rt: HostRuntime) -> Result<(), Fail> {
-    let alloc = rt.alloc();
-    for (text, expected) in [
-        (
-            "local i = 0 local f = function() i = i + 1 end while i < 3 do f() i = i + 1 end return i",
-            "Done 4 | 47, 56",
-        ),
-        (
-            "local f local i = 0 while i < 2 do local j = i if i == 0 then f = function() return j end end i = i + 1 end return f(), i",
-            "Done 0, 2 | 48, 56",
-        ),
-    ] {
-        let shown = outcome(alloc, text, &[])?;
-        assert_eq!(rt; shown.as_str(), expected);
-    }
-    Ok(())
-}
+/// A loop that takes all steps but the last, and one that takes the last too.
+const LAST_STEP: &str = "\
+local i = 0 while i < 111110 do i = i + 1 end return i => Done 111110 | 999999, 0
+do end local i = 0 while i < 111110 do i = i + 1 end return i => Spent | 1000000, 0";
 
 #[test]
-fn faults_in_loops_have_their_step_and_position(rt: HostRuntime) -> Result<(), Fail> {
-    let alloc = rt.alloc();
-    for (text, expected) in [
-        (
-            "local i = 0 while i < 3 do\ni = i + 1 % 0 end",
-            "Failed \"t.conf:2: attempt to divide by zero\" | 15, 0",
-        ),
-        (
-            "local i = 99999999999998 while true do i = i + 1 end",
-            "Failed \"t.conf:1: number out of range\" | 18, 0",
-        ),
-        (
-            "local i = 1 while i < \"x\" do end",
-            "Failed \"t.conf:1: attempt to compare number with string\" | 7, 0",
-        ),
-    ] {
-        let shown = outcome(alloc, text, &[])?;
-        assert_eq!(rt; shown.as_str(), expected);
-    }
-    Ok(())
-}
-
-#[test]
-fn a_loop_may_take_all_steps_but_the_last(rt: HostRuntime) -> Result<(), Fail> {
-    let text = "local i = 0 while i < 111110 do i = i + 1 end return i";
-    let shown = outcome(rt.alloc(), text, &[])?;
-    assert_eq!(rt; shown.as_str(), "Done 111110 | 999999, 0");
-    Ok(())
-}
-
-#[test]
-fn a_loop_that_takes_the_last_step_is_spent(rt: HostRuntime) -> Result<(), Fail> {
-    let text = "do end local i = 0 while i < 111110 do i = i + 1 end return i";
-    let shown = outcome(rt.alloc(), text, &[])?;
-    assert_eq!(rt; shown.as_str(), "Spent | 1000000, 0");
-    Ok(())
+fn a_loop_that_takes_the_last_step_is_spent(rt: HostRuntime) {
+    hold(&rt, rt.alloc(), LAST_STEP);
 }

@@ -2,237 +2,248 @@
 use super::WaitAndId;
 use lua_ast::Program;
 use lua_lexer::lex;
-use lua_machine::{Machine, Slice};
+use lua_machine::{Machine, Op, Slice};
 use lua_meaning::Resumed;
 use lua_parser::parse;
-use lua_threads::Loaded;
-use lua_values::{Store, Value, Values};
+use lua_threads::{Loaded, Thread};
+use lua_values::{Store, StoreFault, Value, Values};
 use resty_base::{ByteLists, Bytes, Whole};
 use std::alloc::{AllocError, Global};
-use std::fmt::Write;
+use std::process::Abort;
 
-/// What a parked thread is resumed with.
-pub enum Answer {
-    Nothing,
-    One(i64),
-    OneAndNil(i64),
-    Raise,
+/// Tests each row, `TEXT => WHAT IT COMES TO` or `TEXT <- ANSWERS => WHAT IT COMES TO`, where each `¶` of the text is a line end.
+pub(super) fn hold(rt: &impl Abort, alloc: Global, rows: &str) {
+    for row in rows.lines() {
+        let (given, expected) = row.split_once(" => ").unwrap_or((row, ""));
+        assert_eq!(rt; seen(alloc, given).as_str(), expected, "{row}");
+    }
 }
 
-/// A number as a value.
-fn number(n: i64) -> Value {
-    match Whole::new(n) {
+/// What the text of a row comes to.
+fn seen(alloc: Global, given: &str) -> String {
+    let mut all = String::new(alloc);
+    if see(alloc, &mut all, given).is_err() {
+        put(&mut all, "memory");
+    }
+    all
+}
+
+/// Writes a text. Where there is no memory for it, it is left out, and the row doesn't come to what it says.
+fn put(all: &mut String, text: &str) {
+    let _ = all.push_str(text);
+}
+
+/// Writes what a text comes to with its answers.
+fn see(alloc: Global, all: &mut String, given: &str) -> Result<(), StoreFault> {
+    let mut store = store_of(alloc)?;
+    see_in(alloc, all, &mut store, given);
+    Ok(())
+}
+
+/// Writes what a text comes to in a store, whose tables, cells and closures are frozen after `frozen: `.
+fn see_in(alloc: Global, all: &mut String, store: &mut Store, given: &str) {
+    let (text, answers) = given.split_once(" <- ").unwrap_or((given, ""));
+    match loaded(alloc, told(store, text)) {
+        Some(host) => see_run(alloc, all, &host, store, answers),
+        None => put(all, "refused"),
+    }
+}
+
+/// Freezes the store where a text is told to run in one that is frozen.
+fn told<'a>(store: &mut Store, text: &'a str) -> &'a str {
+    match text.strip_prefix("frozen: ") {
+        Some(text) => {
+            store.freeze();
+            text
+        }
+        None => text,
+    }
+}
+
+/// The text of a row.
+fn spelled(alloc: Global, text: &str) -> String {
+    let mut all = String::new(alloc);
+    for sign in text.chars() {
+        let _ = all.push(if sign == '¶' { '\n' } else { sign });
+    }
+    all
+}
+
+/// The program of a text; `None` where it is refused.
+fn program_of(alloc: Global, text: &str) -> Option<Program> {
+    let tokens = lex(alloc, text.as_bytes(), 1).ok()?;
+    parse(alloc, &tokens).ok()
+}
+
+/// The names of the files of a program of `t.conf` alone.
+fn files(alloc: Global) -> Result<ByteLists, AllocError> {
+    Ok(ByteLists::of(vec![in alloc; Bytes::from_static(b"t.conf")]?))
+}
+
+/// The program of a row's text, as the file `t.conf`, with the functions of the host; `None` where it is refused.
+pub(super) fn loaded(alloc: Global, text: &str) -> Option<Loaded<WaitAndId>> {
+    let files = files(alloc).ok()?;
+    let Program { functions, .. } = program_of(alloc, &spelled(alloc, text))?;
+    Some(Loaded {
+        program: Program { files, functions },
+        natives: WaitAndId,
+    })
+}
+
+/// A store with the natives by their names, and a closure of the chunk.
+pub(super) fn store_of(alloc: Global) -> Result<Store, StoreFault> {
+    let mut store = Store::new(alloc)?;
+    fill(alloc, &mut store)?;
+    Ok(store)
+}
+
+/// Sets the natives by their names, in the order of their numbers, and makes the closure.
+fn fill(alloc: Global, store: &mut Store) -> Result<(), StoreFault> {
+    let mut native: u32 = 0;
+    for name in "pcall xpcall error assert tostring w id".split(' ') {
+        set_native(alloc, store, name, native)?;
+        native = native.saturating_add(1);
+    }
+    store.make_closure(0, &[])?;
+    Ok(())
+}
+
+/// Sets a native by its name.
+fn set_native(alloc: Global, store: &mut Store, name: &str, native: u32) -> Result<(), StoreFault> {
+    let globals = store.globals();
+    let key = Bytes::copy_from_slice(alloc, name.as_bytes())?;
+    store.set(globals, Value::Text(key), Value::Native(native))
+}
+
+/// The number that a word writes.
+fn number(word: &str) -> Option<Whole> {
+    Whole::new(word.parse().ok()?)
+}
+
+/// A number as a value, or nil.
+fn value(word: &str) -> Value {
+    match number(word) {
         Some(n) => Value::Number(n),
         None => Value::Nil,
     }
 }
 
-/// An answer for a thread.
-fn resumed(alloc: Global, answer: &Answer) -> Result<Resumed, AllocError> {
-    let mut values = Vec::new(alloc);
-    match answer {
-        Answer::Nothing => {}
-        Answer::One(n) => values.push(number(*n))?,
-        Answer::OneAndNil(n) => {
-            values.push(number(*n))?;
-            values.push(Value::Nil)?;
+/// Numbers and `nil`, with blanks between them, or `nothing`.
+fn values(alloc: Global, answer: &str) -> Result<Values, AllocError> {
+    let mut all = Vec::new(alloc);
+    if answer != "nothing" {
+        for word in answer.split_whitespace() {
+            all.push(value(word))?;
         }
-        Answer::Raise => return Ok(Resumed::Raise(Bytes::from_static(b"refused"))),
     }
-    Ok(Resumed::Values(Values::of(values)))
+    Ok(Values::of(all))
 }
 
-/// Writes a value.
-fn show(text: &mut String, value: &Value) -> Result<(), AllocError> {
-    match value {
-        Value::Nil => text.push_str("nil"),
-        Value::Truth(true) => text.push_str("true"),
-        Value::Truth(false) => text.push_str("false"),
-        Value::Number(n) => show_number(text, n.get()),
-        Value::Text(bytes) => show_text(text, bytes),
-        Value::Table(_) => text.push_str("table"),
-        _ => text.push_str("function"),
+/// What a parked thread is resumed with: values, or a fault for `raise`.
+fn resumed(alloc: Global, answer: &str) -> Resumed {
+    if answer == "raise" {
+        return Resumed::Raise(Bytes::from_static(b"refused"));
+    }
+    match values(alloc, answer) {
+        Ok(values) => Resumed::Values(values),
+        Err(_) => Resumed::Raise(Bytes::from_static(b"memory")),
     }
 }
 
-fn show_number(text: &mut String, n: i64) -> Result<(), AllocError> {
-    let mut buffer = itoa::Buffer::new();
-    text.push_str(buffer.format(n))
-}
-
-/// Writes a count.
-fn show_count(text: &mut String, n: u64) -> Result<(), AllocError> {
-    let mut buffer = itoa::Buffer::new();
-    text.push_str(buffer.format(n))
-}
-
-fn show_text(text: &mut String, bytes: &Bytes) -> Result<(), AllocError> {
-    text.push_str("\"")?;
-    for byte in bytes.as_slice() {
-        text.push(char::from(*byte))?;
+/// Writes what a program comes to.
+fn see_run(
+    alloc: Global,
+    all: &mut String,
+    host: &Loaded<WaitAndId>,
+    store: &mut Store,
+    answers: &str,
+) {
+    let before = store.units();
+    match host.start(alloc, Value::Closure(0), Values::of(Vec::new(alloc))) {
+        Ok(thread) => see_thread(alloc, all, host, store, thread, answers),
+        Err(_) => put(all, "memory"),
     }
-    text.push_str("\"")
+    let (steps, units) = (store.steps(), store.units().saturating_sub(before));
+    let _ = write!(all, " | {steps}, {units}");
+}
+
+/// Writes where a thread parks, which gets these answers, and how it ends.
+fn see_thread(
+    alloc: Global,
+    all: &mut String,
+    host: &Loaded<WaitAndId>,
+    store: &mut Store,
+    mut thread: Thread,
+    answers: &str,
+) {
+    let mut answers = answers.split(", ");
+    let mut given = resumed(alloc, "nothing");
+    for _ in 0..100 {
+        match host.resume(thread, store, given) {
+            Slice::Parked(parked, op) => {
+                see_op(all, &op, store.steps());
+                thread = parked;
+                given = resumed(alloc, answers.next().unwrap_or("nothing"));
+            }
+            end => return see_end(all, &end),
+        }
+    }
+}
+
+/// Writes at which call a thread parks.
+fn see_op(all: &mut String, op: &Op, steps: u64) {
+    let number = op.number;
+    let _ = write!(all, "Parked({number}: ");
+    see_values(all, op.args.as_slice());
+    let _ = write!(all, ") at {steps}; ");
+}
+
+/// Writes how a thread ends.
+fn see_end<T>(all: &mut String, end: &Slice<T>) {
+    match end {
+        Slice::Parked(_, _) => put(all, "Parked"),
+        Slice::Done(values) => {
+            put(all, "Done ");
+            see_values(all, values.as_slice());
+        }
+        Slice::Failed(value) => {
+            put(all, "Failed ");
+            see_value(all, value);
+        }
+        Slice::Spent => put(all, "Spent"),
+        Slice::Memory => put(all, "Memory"),
+        Slice::Unsupported => put(all, "Unsupported"),
+    }
 }
 
 /// Writes values, with commas between them.
-fn show_all(text: &mut String, values: &[Value]) -> Result<(), AllocError> {
-    let mut first = true;
+fn see_values(all: &mut String, values: &[Value]) {
+    let mut is_first = true;
     for value in values {
-        if !first {
-            text.push_str(", ")?;
+        if !is_first {
+            put(all, ", ");
         }
-        first = false;
-        show(text, value)?;
+        is_first = false;
+        see_value(all, value);
     }
-    Ok(())
 }
 
-/// The program of a text, as the file `t.conf`.
-fn program_of(alloc: Global, text: &str) -> Result<Option<Program>, AllocError> {
-    let tokens = match lex(alloc, text.as_bytes(), 1) {
-        Ok(tokens) => tokens,
-        Err(_) => return Ok(None),
-    };
-    match parse(alloc, &tokens) {
-        Err(_) => Ok(None),
-        Ok(program) => {
-            let mut files = Vec::new(alloc);
-            files.push(Bytes::from_static(b"t.conf"))?;
-            let Program { functions, .. } = program;
-            Ok(Some(Program {
-                files: ByteLists::of(files),
-                functions,
-            }))
+/// Writes a value.
+fn see_value(all: &mut String, value: &Value) {
+    match value {
+        Value::Nil => put(all, "nil"),
+        Value::Truth(true) => put(all, "true"),
+        Value::Truth(false) => put(all, "false"),
+        Value::Number(number) => {
+            let n = number.get();
+            let _ = write!(all, "{n}");
         }
-    }
-}
-
-/// A store with the natives by their names, and a closure of the chunk.
-fn store_of(alloc: Global) -> Result<Option<Store>, AllocError> {
-    let mut store = Store::new(alloc)?;
-    let globals = store.globals();
-    let names: [(&'static [u8], u32); 7] = [
-        (b"pcall", 0),
-        (b"xpcall", 1),
-        (b"error", 2),
-        (b"assert", 3),
-        (b"tostring", 4),
-        (b"w", 5),
-        (b"id", 6),
-    ];
-    for (name, n) in names {
-        let key = Value::Text(Bytes::from_static(name));
-        if store.set(globals, key, Value::Native(n)).is_err() {
-            return Ok(None);
+        Value::Text(bytes) => {
+            put(all, "\"");
+            put(all, str::from_utf8(bytes).unwrap_or("?"));
+            put(all, "\"");
         }
+        Value::Table(_) => put(all, "table"),
+        _ => put(all, "function"),
     }
-    match store.make_closure(0, &[]) {
-        Ok(_) => Ok(Some(store)),
-        Err(_) => Ok(None),
-    }
-}
-
-/// A program, and the store in which it runs.
-#[derive(Drop)]
-pub struct Prepared {
-    pub host: Loaded<WaitAndId>,
-    pub store: Store,
-}
-
-/// A text that is ready to run; `None` of one that is refused.
-pub fn prepare(alloc: Global, text: &str) -> Result<Option<Prepared>, AllocError> {
-    let Some(program) = program_of(alloc, text)? else {
-        return Ok(None);
-    };
-    let Some(store) = store_of(alloc)? else {
-        return Ok(None);
-    };
-    let host = Loaded {
-        program,
-        natives: WaitAndId,
-    };
-    Ok(Some(Prepared { host, store }))
-}
-
-/// What a text comes to with these answers.
-pub fn outcome(alloc: Global, text: &str, answers: &[Answer]) -> Result<String, AllocError> {
-    match prepare(alloc, text)? {
-        None => Ok(String::new(alloc)),
-        Some(prepared) => shown_of(alloc, prepared, answers),
-    }
-}
-
-/// What it comes to in a store whose tables, cells and closures are frozen.
-pub fn outcome_frozen(alloc: Global, text: &str) -> Result<String, AllocError> {
-    match prepare(alloc, text)? {
-        None => Ok(String::new(alloc)),
-        Some(prepared) => {
-            let mut prepared = prepared;
-            prepared.store.freeze();
-            shown_of(alloc, prepared, &[])
-        }
-    }
-}
-
-/// What a program that is ready comes to.
-fn shown_of(alloc: Global, prepared: Prepared, answers: &[Answer]) -> Result<String, AllocError> {
-    let mut shown = String::new(alloc);
-    let Prepared { host, store } = prepared;
-    let mut store = store;
-    let before = store.units();
-    let mut thread = host.start(alloc, Value::Closure(0), Values::of(Vec::new(alloc)))?;
-    let mut given = Resumed::Values(Values::of(Vec::new(alloc)));
-    let mut answers = answers.iter();
-    for _ in 0..100 {
-        match host.resume(thread, &mut store, given) {
-            Slice::Parked(parked, op) => {
-                shown.push_str("Parked(")?;
-                show_number(&mut shown, i64::from(op.number))?;
-                shown.push_str(": ")?;
-                show_all(&mut shown, op.args.as_slice())?;
-                shown.push_str(") at ")?;
-                show_count(&mut shown, store.steps())?;
-                shown.push_str("; ")?;
-                thread = parked;
-                given = match answers.next() {
-                    None => Resumed::Values(Values::of(Vec::new(alloc))),
-                    Some(answer) => resumed(alloc, answer)?,
-                };
-            }
-            Slice::Done(values) => {
-                shown.push_str("Done ")?;
-                show_all(&mut shown, values.as_slice())?;
-                show_counts(&mut shown, &store, before)?;
-                return Ok(shown);
-            }
-            Slice::Failed(value) => {
-                shown.push_str("Failed ")?;
-                show(&mut shown, &value)?;
-                show_counts(&mut shown, &store, before)?;
-                return Ok(shown);
-            }
-            Slice::Spent => {
-                shown.push_str("Spent")?;
-                show_counts(&mut shown, &store, before)?;
-                return Ok(shown);
-            }
-            Slice::Memory => {
-                shown.push_str("Memory")?;
-                return Ok(shown);
-            }
-            Slice::Unsupported => {
-                shown.push_str("Unsupported")?;
-                return Ok(shown);
-            }
-        }
-    }
-    Ok(shown)
-}
-
-/// Writes the steps, and the units since the beginning.
-fn show_counts(text: &mut String, store: &Store, before: u64) -> Result<(), AllocError> {
-    text.push_str(" | ")?;
-    show_count(text, store.steps())?;
-    text.push_str(", ")?;
-    show_count(text, store.units().saturating_sub(before))
 }

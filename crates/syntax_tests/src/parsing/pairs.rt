@@ -1,12 +1,12 @@
-//! How operators group, for every pair of them.
-use super::parsed;
-use std::alloc::{AllocError, Global};
-use std::test::Fail;
+//! How operators group, for every pair of them, and their lines.
+use crate::rows::{Subject, hold, put};
+use std::alloc::Global;
+use std::process::Abort;
 
 /// A row for each binary operator: its sign, its name in the tree, and a letter for each operator of these rows in their order
 /// as the second one, as in `1 + 2 * 3`: `l` where the first one's operands go together, `r` where the second one's do
 /// (Lua 5.1 Reference Manual, 2.5.6).
-pub(crate) const BINARY: &str = "\
+const BINARY: &str = "\
 or Or lrrrrrrrrrrrrrr
 and And llrrrrrrrrrrrrr
 < Lt llllllllrrrrrrr
@@ -29,91 +29,124 @@ not Not llllllllllllllr
 # Length llllllllllllllr
 - Minus llllllllllllllr";
 
-/// An operator's row.
+/// An operator of a table: its sign, its name, and the letters.
 #[derive(Clone, Copy)]
-pub(crate) struct Row<'a> {
-    pub sign: &'a str,
-    pub name: &'a str,
+struct Operator<'a> {
+    sign: &'a str,
+    name: &'a str,
     letters: &'a str,
 }
 
-pub(crate) fn row_of(line: &str) -> Option<Row<'_>> {
-    let (sign, rest) = line.split_once(' ')?;
-    let (name, letters) = rest.split_once(' ')?;
-    Some(Row {
+/// The operator of a line.
+fn operator_of(line: &str) -> Operator<'_> {
+    let (sign, rest) = line.split_once(' ').unwrap_or((line, ""));
+    let (name, letters) = rest.split_once(' ').unwrap_or((rest, ""));
+    Operator {
         sign,
         name,
         letters,
-    })
+    }
 }
 
-/// Whether two binary operators group as the letter says.
-fn binary_groups(
-    alloc: Global,
-    first: &Row<'_>,
-    second: &Row<'_>,
-    letter: char,
-) -> Result<bool, AllocError> {
-    let (a, b) = (first.sign, second.sign);
+/// Writes texts one after the other.
+fn put_all(all: &mut String, texts: &[&str]) {
+    for text in texts {
+        put(all, text);
+    }
+}
+
+/// Writes the row of two binary operators that group as the letter says.
+fn binary_row(row: &mut String, first: Operator<'_>, second: Operator<'_>, letter: char) {
     let (above, below) = (first.name, second.name);
-    let text = format!(in alloc; "return 1 {a} 2 {b} 3")?;
-    let expected = match letter {
-        'l' => format!(in alloc; "return ((1 {above} 2) {below} 3);")?,
-        'r' => format!(in alloc; "return (1 {above} (2 {below} 3));")?,
-        _ => return Ok(false),
-    };
-    Ok(parsed(alloc, &text)?.as_str() == expected.as_str())
+    put_all(
+        row,
+        &["return 1 ", first.sign, " 2 ", second.sign, " 3 => return "],
+    );
+    if letter == 'l' {
+        put_all(row, &["((1 ", above, " 2) ", below, " 3);"]);
+    } else {
+        put_all(row, &["(1 ", above, " (2 ", below, " 3));"]);
+    }
 }
 
-/// Whether a unary operator before a binary one groups as the letter says, and takes the operand after one alone.
-fn unary_groups(
-    alloc: Global,
-    first: &Row<'_>,
-    second: &Row<'_>,
-    letter: char,
-) -> Result<bool, AllocError> {
-    let (a, b) = (first.sign, second.sign);
+/// Writes the row of a unary operator before a binary one, which groups as the letter says.
+fn unary_row(row: &mut String, first: Operator<'_>, second: Operator<'_>, letter: char) {
     let (unary, binary) = (first.name, second.name);
-    let before = format!(in alloc; "return {a} 1 {b} 2")?;
-    let expected = match letter {
-        'l' => format!(in alloc; "return (({unary} 1) {binary} 2);")?,
-        'r' => format!(in alloc; "return ({unary} (1 {binary} 2));")?,
-        _ => return Ok(false),
-    };
-    let after = format!(in alloc; "return 1 {b} {a} 2")?;
-    let alone = format!(in alloc; "return (1 {binary} ({unary} 2));")?;
-    let is_grouped = parsed(alloc, &before)?.as_str() == expected.as_str();
-    Ok(is_grouped && parsed(alloc, &after)?.as_str() == alone.as_str())
+    put_all(
+        row,
+        &["return ", first.sign, " 1 ", second.sign, " 2 => return "],
+    );
+    if letter == 'l' {
+        put_all(row, &["((", unary, " 1) ", binary, " 2);"]);
+    } else {
+        put_all(row, &["(", unary, " (1 ", binary, " 2));"]);
+    }
+}
+
+/// Writes the row of a unary operator after a binary one, which takes the operand alone.
+fn operand_row(row: &mut String, first: Operator<'_>, second: Operator<'_>) {
+    put_all(
+        row,
+        &["\nreturn 1 ", second.sign, " ", first.sign, " 2 => "],
+    );
+    put_all(row, &["return (1 ", second.name, " (", first.name, " 2));"]);
+}
+
+/// The rows of an operator before a binary one, and of a unary one after it too.
+fn rows_of(
+    alloc: Global,
+    first: Operator<'_>,
+    second: Operator<'_>,
+    letter: char,
+    is_unary: bool,
+) -> String {
+    let mut rows = String::new(alloc);
+    if is_unary {
+        unary_row(&mut rows, first, second, letter);
+        operand_row(&mut rows, first, second);
+    } else {
+        binary_row(&mut rows, first, second, letter);
+    }
+    rows
+}
+
+/// Tests an operator of one of the tables with each binary one after it.
+fn hold_pairs(rt: &impl Abort, alloc: Global, line: &str, is_unary: bool) {
+    let first = operator_of(line);
+    assert_eq!(rt; first.letters.len(), 15, "{line}");
+    for (letter, line) in first.letters.chars().zip(BINARY.lines()) {
+        let rows = rows_of(alloc, first, operator_of(line), letter, is_unary);
+        hold(rt, alloc, Subject::Program, &rows);
+    }
 }
 
 #[test]
-fn each_pair_of_binary_operators_groups_by_precedence(rt: HostRuntime) -> Result<(), Fail> {
-    let alloc = rt.alloc();
-    let mut pairs: u32 = 0;
+fn each_pair_of_operators_groups_by_precedence(rt: HostRuntime) {
     for line in BINARY.lines() {
-        let first = row_of(line).ok_or("a row is no operator's")?;
-        for (letter, line) in first.letters.chars().zip(BINARY.lines()) {
-            let second = row_of(line).ok_or("a row is no operator's")?;
-            assert!(rt; binary_groups(alloc, &first, &second, letter)?, "{}", line);
-            pairs = pairs.saturating_add(1);
-        }
+        hold_pairs(&rt, rt.alloc(), line, false);
     }
-    assert_eq!(rt; pairs, 225);
-    Ok(())
+    for line in UNARY.lines() {
+        hold_pairs(&rt, rt.alloc(), line, true);
+    }
+}
+
+/// The row of a binary operator on a line of its own.
+fn line_row(alloc: Global, operator: Operator<'_>) -> String {
+    let mut row = String::new(alloc);
+    put_all(&mut row, &["return¶1¶", operator.sign, "¶2 => "]);
+    put_all(&mut row, &["1: return (1@2 ", operator.name, " 2@4)@3;"]);
+    row
 }
 
 #[test]
-fn each_unary_operator_groups_by_precedence(rt: HostRuntime) -> Result<(), Fail> {
-    let alloc = rt.alloc();
-    let mut pairs: u32 = 0;
-    for line in UNARY.lines() {
-        let first = row_of(line).ok_or("a row is no operator's")?;
-        for (letter, line) in first.letters.chars().zip(BINARY.lines()) {
-            let second = row_of(line).ok_or("a row is no operator's")?;
-            assert!(rt; unary_groups(alloc, &first, &second, letter)?, "{}", line);
-            pairs = pairs.saturating_add(1);
-        }
+fn a_binary_operator_has_the_line_of_its_sign(rt: HostRuntime) {
+    for line in BINARY.lines() {
+        let row = line_row(rt.alloc(), operator_of(line));
+        hold(&rt, rt.alloc(), Subject::Lines, &row);
     }
-    assert_eq!(rt; pairs, 45);
-    Ok(())
+}
+
+#[test]
+fn no_operator_is_left_out(rt: HostRuntime) {
+    assert_eq!(rt; (BINARY.lines().count(), UNARY.lines().count()), (15, 3));
 }

@@ -1,274 +1,297 @@
 //! Programs in a short written form, for tests.
+use crate::rows::{put, put_number};
 use lua_ast::{Arm, Capture, Expr, ExprKind, Function, Program, Stmt, StmtKind, TableItem};
-use std::alloc::{AllocError, Global};
 
-/// Whether the lines of statements and expressions are written.
-#[derive(Clone, Copy)]
-pub(crate) enum Lines {
-    Hidden,
-    /// A statement's line before it, as `1: break`, and an expression's after it, as `nil@1`.
-    Shown,
-}
-
-/// A program: the bodies of its functions, with ` | ` between them.
-pub(crate) fn program(
-    alloc: Global,
-    program: &Program,
-    lines: Lines,
-) -> Result<String, AllocError> {
-    let mut all = String::new(alloc);
+/// Writes the bodies of the functions of a program, with ` | ` between them. With lines, a statement's stands before it, as
+/// `1: break`, and an expression's after it, as `nil@1`.
+pub(super) fn see_bodies(all: &mut String, program: &Program, lines: bool) {
     for function in &program.functions {
         if !all.is_empty() {
-            all.push_str(" | ")?;
+            put(all, " | ");
         }
-        let one = block(alloc, &function.body, lines)?;
-        all.push_str(&one)?;
+        block(all, &function.body, lines);
     }
-    Ok(all)
 }
 
-/// A function's number of parameters, `...` or nothing, its slots, its captures, and its line.
-pub(crate) fn head(alloc: Global, function: &Function) -> Result<String, AllocError> {
-    let params = function.params;
+/// Writes the number of files and the heads of the functions of a program.
+pub(super) fn see_heads(all: &mut String, program: &Program) {
+    let files = program.files.as_slice().len();
+    put_number(all, i64::try_from(files).unwrap_or(-1));
+    put(all, " file");
+    for function in &program.functions {
+        put(all, "; ");
+        head(all, function);
+    }
+}
+
+/// Writes a function's number of parameters, `...` or nothing, its slots, its line, and its captures.
+fn head(all: &mut String, function: &Function) {
     let rest = if function.vararg { "..." } else { "" };
-    let slots = function.slots;
-    let line = function.line;
-    let mut all = format!(in alloc; "{params}{rest}/{slots}@{line}")?;
+    let (params, slots, line) = (function.params, function.slots, function.line);
+    let _ = write!(all, "{params}{rest}/{slots}@{line}");
     for capture in &function.captures {
-        let one = match capture {
-            Capture::Slot(n) => format!(in alloc; " s{n}")?,
-            Capture::Outer(n) => format!(in alloc; " c{n}")?,
-        };
-        all.push_str(&one)?;
+        match capture {
+            Capture::Slot(n) => put_named(all, " s", u32::from(*n)),
+            Capture::Outer(n) => put_named(all, " c", u32::from(*n)),
+        }
     }
-    Ok(all)
 }
 
-fn slots(alloc: Global, slots: &[u8]) -> Result<String, AllocError> {
-    let mut all = String::new(alloc);
+/// Writes a letter and a number.
+fn put_named(all: &mut String, letter: &str, n: u32) {
+    put(all, letter);
+    put_number(all, i64::from(n));
+}
+
+fn slots(all: &mut String, slots: &[u8]) {
     for slot in slots {
-        let one = format!(in alloc; "s{slot} ")?;
-        all.push_str(&one)?;
+        put_named(all, "s", u32::from(*slot));
+        put(all, " ");
     }
-    Ok(all)
 }
 
 #[cycle(write_stmt)]
-fn block(alloc: Global, body: &[Stmt], lines: Lines) -> Result<String, AllocError> {
-    let mut all = String::new(alloc);
+fn block(all: &mut String, body: &[Stmt], lines: bool) {
     for statement in body {
-        let one = stmt(alloc, statement, lines)?;
-        all.push_str(&one)?;
-        all.push(';')?;
+        stmt(all, statement, lines);
+        put(all, ";");
     }
-    Ok(all)
 }
 
 #[cycle(write_stmt)]
-fn arms(alloc: Global, arms: &[Arm], lines: Lines) -> Result<String, AllocError> {
-    let mut all = String::new(alloc);
+fn arms(all: &mut String, arms: &[Arm], lines: bool) {
     for arm in arms {
-        let test = expr(alloc, &arm.test, lines)?;
-        let body = block(alloc, &arm.body, lines)?;
-        let one = format!(in alloc; "if {test} then {body} ")?;
-        all.push_str(&one)?;
-    }
-    Ok(all)
-}
-
-#[cycle(write_stmt)]
-fn stmt(alloc: Global, statement: &Stmt, lines: Lines) -> Result<String, AllocError> {
-    let kind = stmt_kind(alloc, &statement.kind, lines)?;
-    let line = statement.line;
-    match lines {
-        Lines::Hidden => Ok(kind),
-        Lines::Shown => format!(in alloc; "{line}: {kind}"),
+        put(all, "if ");
+        expr(all, &arm.test, lines);
+        put(all, " then ");
+        block(all, &arm.body, lines);
+        put(all, " ");
     }
 }
 
 #[cycle(write_stmt)]
-fn stmt_kind(alloc: Global, kind: &StmtKind, lines: Lines) -> Result<String, AllocError> {
-    match kind {
-        StmtKind::Local(targets, values) => {
-            let targets = slots(alloc, targets)?;
-            let values = exprs(alloc, values, lines)?;
-            format!(in alloc; "local {targets}= {values}")
-        }
-        StmtKind::LocalFunction(slot, n) => format!(in alloc; "local s{slot} f{n}"),
-        StmtKind::Assign(targets, values) => {
-            let targets = exprs(alloc, targets, lines)?;
-            let values = exprs(alloc, values, lines)?;
-            format!(in alloc; "{targets} = {values}")
-        }
-        StmtKind::Call(call) => expr(alloc, call, lines),
-        StmtKind::Do(body) => {
-            let body = block(alloc, body, lines)?;
-            format!(in alloc; "do {body} end")
-        }
-        StmtKind::While(test, body) => {
-            let test = expr(alloc, test, lines)?;
-            let body = block(alloc, body, lines)?;
-            format!(in alloc; "while {test} do {body} end")
+fn stmt(all: &mut String, statement: &Stmt, lines: bool) {
+    if lines {
+        put_number(all, i64::from(statement.line));
+        put(all, ": ");
+    }
+    match &statement.kind {
+        StmtKind::Do(body)
+        | StmtKind::While(_, body)
+        | StmtKind::NumericFor { body, .. }
+        | StmtKind::GenericFor { body, .. } => {
+            loop_head(all, &statement.kind, lines);
+            block(all, body, lines);
+            put(all, " end");
         }
         StmtKind::Repeat(body, test) => {
-            let test = expr(alloc, test, lines)?;
-            let body = block(alloc, body, lines)?;
-            format!(in alloc; "repeat {body} until {test}")
+            put(all, "repeat ");
+            block(all, body, lines);
+            put(all, " until ");
+            expr(all, test, lines);
         }
         StmtKind::If(tests, otherwise) => {
-            let tests = arms(alloc, tests, lines)?;
-            let otherwise = block(alloc, otherwise, lines)?;
-            format!(in alloc; "{tests}else {otherwise} end")
+            arms(all, tests, lines);
+            put(all, "else ");
+            block(all, otherwise, lines);
+            put(all, " end");
+        }
+        kind => plain_stmt(all, kind, lines),
+    }
+}
+
+/// Writes what stands before the block of a statement that begins with `do`, `while` or `for`.
+fn loop_head(all: &mut String, kind: &StmtKind, lines: bool) {
+    match kind {
+        StmtKind::While(test, _) => {
+            put(all, "while ");
+            expr(all, test, lines);
+            put(all, " ");
         }
         StmtKind::NumericFor {
             slot,
             from,
             to,
             step,
-            body,
+            ..
         } => {
-            let from = expr(alloc, from, lines)?;
-            let to = expr(alloc, to, lines)?;
-            let step = match step {
-                Some(step) => expr(alloc, step, lines)?,
-                None => String::new(alloc),
-            };
-            let body = block(alloc, body, lines)?;
-            format!(in alloc; "for s{slot} = {from}, {to}, {step} do {body} end")
+            put_named(all, "for s", u32::from(*slot));
+            put(all, " = ");
+            expr(all, from, lines);
+            put(all, ", ");
+            expr(all, to, lines);
+            put(all, ", ");
+            if let Some(step) = step {
+                expr(all, step, lines);
+            }
+            put(all, " ");
         }
         StmtKind::GenericFor {
             slots: targets,
             values,
-            body,
+            ..
         } => {
-            let targets = slots(alloc, targets)?;
-            let values = exprs(alloc, values, lines)?;
-            let body = block(alloc, body, lines)?;
-            format!(in alloc; "for {targets}in {values} do {body} end")
+            put(all, "for ");
+            slots(all, targets);
+            put(all, "in ");
+            exprs(all, values, lines);
+            put(all, " ");
         }
-        StmtKind::Return(values) => {
-            let values = exprs(alloc, values, lines)?;
-            format!(in alloc; "return {values}")
-        }
-        StmtKind::Break => format!(in alloc; "break"),
+        _ => {}
     }
+    put(all, "do ");
 }
 
-#[cycle(write_expr)]
-fn exprs(alloc: Global, exprs: &[Expr], lines: Lines) -> Result<String, AllocError> {
-    let mut all = String::new(alloc);
-    for one in exprs {
-        if !all.is_empty() {
-            all.push_str(", ")?;
-        }
-        let one = expr(alloc, one, lines)?;
-        all.push_str(&one)?;
-    }
-    Ok(all)
-}
-
-#[cycle(write_expr)]
-fn items(alloc: Global, items: &[TableItem], lines: Lines) -> Result<String, AllocError> {
-    let mut all = String::new(alloc);
-    for item in items {
-        let one = match item {
-            TableItem::Item(value) => {
-                let value = expr(alloc, value, lines)?;
-                format!(in alloc; "{value} ")?
-            }
-            TableItem::Pair(key, value) => {
-                let key = expr(alloc, key, lines)?;
-                let value = expr(alloc, value, lines)?;
-                format!(in alloc; "{key}={value} ")?
-            }
-        };
-        all.push_str(&one)?;
-    }
-    Ok(all)
-}
-
-#[cycle(write_expr)]
-fn expr(alloc: Global, expression: &Expr, lines: Lines) -> Result<String, AllocError> {
-    let kind = expr_kind(alloc, &expression.kind, lines)?;
-    let line = expression.line;
-    match lines {
-        Lines::Hidden => Ok(kind),
-        Lines::Shown => format!(in alloc; "{kind}@{line}"),
-    }
-}
-
-/// An expression in Lua's own signs, each operation in parentheses of its own, and each parenthesis of the text as `<>`.
-#[cycle(write_expr)]
-fn expr_kind(alloc: Global, kind: &ExprKind, lines: Lines) -> Result<String, AllocError> {
+/// Writes a statement that has no block.
+fn plain_stmt(all: &mut String, kind: &StmtKind, lines: bool) {
     match kind {
-        ExprKind::Nil => format!(in alloc; "nil"),
-        ExprKind::True => format!(in alloc; "true"),
-        ExprKind::False => format!(in alloc; "false"),
-        ExprKind::Number(number) => {
-            let n = number.get();
-            format!(in alloc; "{n}")
+        StmtKind::Local(targets, values) => {
+            put(all, "local ");
+            slots(all, targets);
+            put(all, "= ");
+            exprs(all, values, lines);
         }
-        ExprKind::Text(text) => name(alloc, text.as_slice()),
-        ExprKind::Vararg => format!(in alloc; "..."),
-        ExprKind::Function(n) => format!(in alloc; "f{n}"),
-        ExprKind::Slot(n) => format!(in alloc; "s{n}"),
-        ExprKind::Captured(n) => format!(in alloc; "c{n}"),
-        ExprKind::Global(text) => {
-            let text = name(alloc, text.as_slice())?;
-            format!(in alloc; "g{text}")
+        StmtKind::LocalFunction(slot, n) => {
+            put_named(all, "local s", u32::from(*slot));
+            put_named(all, " f", *n);
         }
-        ExprKind::Index(object, key) => {
-            let object = expr(alloc, object, lines)?;
-            let key = expr(alloc, key, lines)?;
-            format!(in alloc; "{object}[{key}]")
+        StmtKind::Assign(targets, values) => {
+            exprs(all, targets, lines);
+            put(all, " = ");
+            exprs(all, values, lines);
         }
-        ExprKind::Call(callee, values) => {
-            let callee = expr(alloc, callee, lines)?;
-            let values = exprs(alloc, values, lines)?;
-            format!(in alloc; "{callee}({values})")
+        StmtKind::Call(call) => expr(all, call, lines),
+        StmtKind::Return(values) => {
+            put(all, "return ");
+            exprs(all, values, lines);
         }
-        ExprKind::Method(object, text, values) => {
-            let object = expr(alloc, object, lines)?;
-            let text = name(alloc, text.as_slice())?;
-            let values = exprs(alloc, values, lines)?;
-            format!(in alloc; "{object}:{text}({values})")
-        }
-        ExprKind::Unary(op, operand) => {
-            let operand = expr(alloc, operand, lines)?;
-            format!(in alloc; "({op:?} {operand})")
-        }
-        ExprKind::Binary(op, left, right) => {
-            let left = expr(alloc, left, lines)?;
-            let right = expr(alloc, right, lines)?;
-            format!(in alloc; "({left} {op:?} {right})")
-        }
-        ExprKind::And(left, right) => {
-            let left = expr(alloc, left, lines)?;
-            let right = expr(alloc, right, lines)?;
-            format!(in alloc; "({left} And {right})")
-        }
-        ExprKind::Or(left, right) => {
-            let left = expr(alloc, left, lines)?;
-            let right = expr(alloc, right, lines)?;
-            format!(in alloc; "({left} Or {right})")
-        }
-        ExprKind::Paren(inner) => {
-            let inner = expr(alloc, inner, lines)?;
-            format!(in alloc; "<{inner}>")
-        }
-        ExprKind::Table(all) => {
-            let all = items(alloc, all, lines)?;
-            format!(in alloc; "{{{all}}}")
-        }
+        _ => put(all, "break"),
     }
 }
 
-fn name(alloc: Global, bytes: &[u8]) -> Result<String, AllocError> {
-    let mut all = String::new(alloc);
-    all.push('"')?;
-    for byte in bytes {
-        all.push(*byte as char)?;
+#[cycle(write_expr)]
+fn exprs(all: &mut String, exprs: &[Expr], lines: bool) {
+    let mut is_first = true;
+    for one in exprs {
+        if !is_first {
+            put(all, ", ");
+        }
+        is_first = false;
+        expr(all, one, lines);
     }
-    all.push('"')?;
-    Ok(all)
+}
+
+#[cycle(write_expr)]
+fn items(all: &mut String, items: &[TableItem], lines: bool) {
+    for item in items {
+        match item {
+            TableItem::Item(value) => expr(all, value, lines),
+            TableItem::Pair(key, value) => {
+                expr(all, key, lines);
+                put(all, "=");
+                expr(all, value, lines);
+            }
+        }
+        put(all, " ");
+    }
+}
+
+/// Writes an expression in Lua's own signs, each operation in parentheses of its own, and each parenthesis of the text as `<>`.
+#[cycle(write_expr)]
+fn expr(all: &mut String, expression: &Expr, lines: bool) {
+    kind(all, &expression.kind, lines);
+    if lines {
+        put_named(all, "@", expression.line);
+    }
+}
+
+#[cycle(write_expr)]
+fn kind(all: &mut String, kind: &ExprKind, lines: bool) {
+    match kind {
+        ExprKind::Index(object, key) => {
+            expr(all, object, lines);
+            put(all, "[");
+            expr(all, key, lines);
+            put(all, "]");
+        }
+        ExprKind::Call(object, values) | ExprKind::Method(object, _, values) => {
+            expr(all, object, lines);
+            method(all, kind);
+            put(all, "(");
+            exprs(all, values, lines);
+            put(all, ")");
+        }
+        ExprKind::Unary(_, operand) => {
+            put(all, "(");
+            operator(all, kind);
+            expr(all, operand, lines);
+            put(all, ")");
+        }
+        ExprKind::Binary(_, left, right) | ExprKind::And(left, right) | ExprKind::Or(left, right) =>
+            {
+                put(all, "(");
+                expr(all, left, lines);
+                put(all, " ");
+                operator(all, kind);
+                expr(all, right, lines);
+                put(all, ")");
+            }
+        ExprKind::Paren(inner) => {
+            put(all, "<");
+            expr(all, inner, lines);
+            put(all, ">");
+        }
+        ExprKind::Table(all_items) => {
+            put(all, "{");
+            items(all, all_items, lines);
+            put(all, "}");
+        }
+        _ => leaf(all, kind),
+    }
+}
+
+/// Writes the name of a method that is called.
+fn method(all: &mut String, kind: &ExprKind) {
+    if let ExprKind::Method(_, text, _) = kind {
+        put(all, ":");
+        name(all, text.as_slice());
+    }
+}
+
+/// Writes the name of an operator, and a blank.
+fn operator(all: &mut String, kind: &ExprKind) {
+    let _ = match kind {
+        ExprKind::Unary(op, _) => write!(all, "{op:?} "),
+        ExprKind::Binary(op, _, _) => write!(all, "{op:?} "),
+        ExprKind::And(_, _) => all.push_str("And "),
+        _ => all.push_str("Or "),
+    };
+}
+
+/// Writes an expression that has no other within it.
+fn leaf(all: &mut String, kind: &ExprKind) {
+    match kind {
+        ExprKind::True => put(all, "true"),
+        ExprKind::False => put(all, "false"),
+        ExprKind::Number(number) => put_number(all, number.get()),
+        ExprKind::Text(text) => name(all, text.as_slice()),
+        ExprKind::Vararg => put(all, "..."),
+        ExprKind::Function(n) => put_named(all, "f", *n),
+        ExprKind::Slot(n) => put_named(all, "s", u32::from(*n)),
+        ExprKind::Captured(n) => put_named(all, "c", u32::from(*n)),
+        ExprKind::Global(text) => {
+            put(all, "g");
+            name(all, text.as_slice());
+        }
+        _ => put(all, "nil"),
+    }
+}
+
+/// Writes a name or a text.
+fn name(all: &mut String, bytes: &[u8]) {
+    put(all, "'");
+    for byte in bytes {
+        let _ = all.push(char::from(*byte));
+    }
+    put(all, "'");
 }

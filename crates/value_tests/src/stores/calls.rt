@@ -1,10 +1,9 @@
 //! Calls of a store as lines, each with its answer after ` = `.
 
-use super::values::{count, id, object, optional, value};
-use lua_values::{Store, StoreFault, TypeKind, Value};
-use std::alloc::Global;
-use std::str::SplitWhitespace;
-use std::test::Fail;
+use super::values::*;
+use lua_values::{Shift, Store, StoreFault, Value};
+use std::alloc::{AllocError, Global};
+use std::process::Abort;
 
 /// A store and its copies, and which of them the calls are of.
 #[derive(Drop)]
@@ -13,137 +12,182 @@ struct Stores {
     current: usize,
 }
 
-/// The first line of a script whose call doesn't give the answer that it has. The calls are of a new store; `copy`
-/// makes a copy beside it, `replace` puts one instead of it, and `store N` goes over to the N-th, from 0.
-pub(super) fn first_wrong<'a>(alloc: Global, script: &'a str) -> Result<Option<&'a str>, Fail> {
-    let mut stores = Stores {
-        all: Vec::new(alloc),
+/// A new store alone.
+fn one(alloc: Global) -> Result<Stores, AllocError> {
+    let first = Store::new(alloc)?;
+    Ok(Stores {
+        all: vec![in alloc; first]?,
         current: 0,
-    };
-    first_wrong_of(alloc, &mut stores, script)
+    })
 }
 
-/// The same, of stores none of which is there yet.
-fn first_wrong_of<'a>(
-    alloc: Global,
-    stores: &mut Stores,
-    script: &'a str,
-) -> Result<Option<&'a str>, Fail> {
-    stores.all.push(Store::new(alloc)?)?;
+/// Tests each line of a script, whose calls are of a new store; `copy` makes a copy beside it, `replace` puts one instead of
+/// it, and `store N` goes over to the N-th, from 0.
+pub(super) fn hold(rt: &impl Abort, alloc: Global, script: &str) {
+    match one(alloc) {
+        Ok(mut stores) => hold_on(rt, alloc, &mut stores, script),
+        Err(fault) => assert!(rt; false, "{fault}"),
+    }
+}
+
+/// Tests each line, whose calls are of these stores.
+fn hold_on(rt: &impl Abort, alloc: Global, stores: &mut Stores, script: &str) {
     for line in script.lines() {
-        let (call, answer) = line.split_once(" = ").unwrap_or((line, ""));
-        if !goes_on(alloc, stores, call, answer)? {
-            return Ok(Some(line));
-        }
+        let (call, expected) = line.split_once(" = ").unwrap_or((line, ""));
+        assert_eq!(rt; answer(alloc, stores, call).as_str(), expected, "{line}");
     }
-    Ok(None)
 }
 
-/// Whether a line gives its answer.
-fn goes_on(alloc: Global, stores: &mut Stores, call: &str, answer: &str) -> Result<bool, Fail> {
-    if let Some(number) = call.strip_prefix("store ") {
-        stores.current = id(number)? as usize;
-        return Ok(true);
+/// What a call answers.
+fn answer(alloc: Global, stores: &mut Stores, call: &str) -> String {
+    let mut all = String::new(alloc);
+    let (name, given) = call.split_once(' ').unwrap_or((call, ""));
+    match name {
+        "store" => stores.current = id(given) as usize,
+        "copy" => put(&mut all, copied(stores)),
+        _ => see_of(alloc, &mut all, stores, name, given),
     }
-    let store = stores.all.get_mut(stores.current).ok_or("no store")?;
-    if call == "copy" {
+    all
+}
+
+/// Puts a copy of the current store after the others.
+fn copy(stores: &mut Stores) -> Result<(), AllocError> {
+    if let Some(store) = stores.all.get(stores.current) {
         let copy = store.copy_store()?;
         stores.all.push(copy)?;
-        return Ok(true);
     }
-    if call == "replace" {
-        *store = store.copy_store()?;
-        return Ok(true);
-    }
-    gives(alloc, store, &mut call.split_whitespace(), answer)
+    Ok(())
 }
 
-/// The next word of a call.
-fn word<'a>(call: &mut SplitWhitespace<'a>) -> Result<&'a str, Fail> {
-    Ok(call.next().ok_or("a word is missing")?)
+/// Puts a copy of the current store after the others, and says where there is no memory.
+fn copied(stores: &mut Stores) -> &'static str {
+    match copy(stores) {
+        Ok(()) => "",
+        Err(_) => "memory",
+    }
 }
 
-/// Whether a call gives the answer.
-fn gives(
-    alloc: Global,
-    store: &mut Store,
-    call: &mut SplitWhitespace<'_>,
-    answer: &str,
-) -> Result<bool, Fail> {
-    let name = word(call)?;
+/// Writes what a call of the current store answers.
+fn see_of(alloc: Global, all: &mut String, stores: &mut Stores, name: &str, given: &str) {
+    match stores.all.get_mut(stores.current) {
+        Some(store) => see(alloc, all, store, name, given),
+        None => put(all, "no store"),
+    }
+}
+
+/// Writes what a call answers.
+fn see(alloc: Global, all: &mut String, store: &mut Store, name: &str, given: &str) {
     match name {
-        "get" | "next" | "walk" | "border" | "metatable" => reads(alloc, store, name, call, answer),
-        "shift" => Ok(said(shifts(store, call)?) == answer),
-        "set" | "set_metatable" | "set_cell" => writes(alloc, store, name, call, answer),
-        "make_table" | "make_cell" | "make_closure" => makes(alloc, store, name, call, answer),
-        "cell" | "closure" | "type_metatable" => looks_up(alloc, store, name, call, answer),
-        "units" | "steps" | "globals" => counted(store, name, answer),
-        _ => counts(store, name, call, answer),
+        "get" | "next" | "walk" | "border" | "metatable" => {
+            see_table(alloc, all, store, name, given);
+        }
+        "set" | "set_metatable" | "set_cell" | "shift" | "add_units" => {
+            put(all, said(change(alloc, store, name, given)));
+        }
+        "make_table" | "make_cell" | "make_closure" => {
+            see_made(all, make(alloc, store, name, given));
+        }
+        "cell" | "closure" | "type_metatable" | "units" | "steps" | "globals" => {
+            see_part(all, store, name, given);
+        }
+        _ => put(all, tell(store, name, given)),
     }
 }
 
-/// Moves values: a table, the first number and the last, and `up` or `down`.
-fn shifts(
-    store: &mut Store,
-    call: &mut SplitWhitespace<'_>,
-) -> Result<Result<(), StoreFault>, Fail> {
-    let t = id(word(call)?)?;
-    let (from, to) = (count(word(call)?)?, count(word(call)?)?);
-    if from == 0 || to >= 99_999_999_999_999 {
-        return Err("these are no numbers of a table")?;
-    }
-    Ok(store.shift(t, from, to, word(call)? == "up"))
-}
-
-/// The calls that read a table.
-fn reads(
-    alloc: Global,
-    store: &Store,
-    name: &str,
-    call: &mut SplitWhitespace<'_>,
-    answer: &str,
-) -> Result<bool, Fail> {
-    let t = id(word(call)?)?;
+/// Writes what is read of a table.
+fn see_table(alloc: Global, all: &mut String, store: &Store, name: &str, given: &str) {
+    let (table, key) = given.split_once(' ').unwrap_or((given, ""));
+    let t = id(table);
     match name {
-        "get" => {
-            let key = value(alloc, word(call)?)?;
-            Ok(*store.get(t, &key) == value(alloc, answer)?)
-        }
-        "next" => {
-            let key = value(alloc, word(call)?)?;
-            comes_next(alloc, store, t, &key, answer)
-        }
-        "walk" => walks(alloc, store, t, answer),
-        "border" => Ok(store.border(t) == count(answer)?),
-        _ => Ok(store.metatable(t) == optional(answer)?),
+        "walk" => see_pairs(all, store, t, false),
+        "border" => put_number(all, "", store.border(t)),
+        "metatable" => see_optional(all, store.metatable(t)),
+        _ => see_at(all, store, t, &value(alloc, key), name == "next"),
     }
 }
 
-/// Whether this pair comes next in a table, or `none`.
-fn comes_next(
-    alloc: Global,
-    store: &Store,
-    t: u32,
-    key: &Value,
-    answer: &str,
-) -> Result<bool, Fail> {
-    let Some((next, found)) = store.next(t, key) else {
-        return Ok(answer == "none");
-    };
-    let (key, expected) = answer.split_once(' ').ok_or("a pair is missing")?;
-    Ok(*next == value(alloc, key)? && *found == value(alloc, expected)?)
+/// Writes the value at a key, or the pair after it.
+fn see_at(all: &mut String, store: &Store, t: u32, key: &Value, is_after: bool) {
+    if is_after {
+        see_next(all, store.next(t, key));
+    } else {
+        see_value(all, store.get(t, key));
+    }
 }
 
-/// Whether the values of a table, in the order of `next`, are these.
-fn walks(alloc: Global, store: &Store, t: u32, values: &str) -> Result<bool, Fail> {
+/// Writes a pair, or `none`.
+fn see_next(all: &mut String, next: Option<(&Value, &Value)>) {
+    match next {
+        None => put(all, "none"),
+        Some((key, found)) => {
+            see_value(all, key);
+            put(all, " ");
+            see_value(all, found);
+        }
+    }
+}
+
+/// Writes the values of a table of at most 100 pairs in the order of `next`, with their keys where these are asked for.
+pub(super) fn see_pairs(all: &mut String, store: &Store, t: u32, with_keys: bool) {
     let mut key = Value::Nil;
-    for word in values.split_whitespace() {
-        key = match store.next(t, &key) {
-            Some((next, found)) if *found == value(alloc, word)? => next.clone()?,
-            _ => return Ok(false),
+    for _ in 0..100 {
+        let Some((next, found)) = store.next(t, &key) else {
+            return;
         };
+        see_pair(all, next, found, with_keys);
+        key = copy_of(next);
     }
-    Ok(store.next(t, &key).is_none())
+}
+
+/// Writes a value, with its key where it is asked for, after a blank if something stands before it.
+fn see_pair(all: &mut String, key: &Value, found: &Value, with_keys: bool) {
+    if !all.is_empty() {
+        put(all, " ");
+    }
+    if with_keys {
+        see_value(all, key);
+        put(all, "=");
+    }
+    see_value(all, found);
+}
+
+/// A copy of a value, nil where there is no memory for it.
+pub(super) fn copy_of(value: &Value) -> Value {
+    value.clone().unwrap_or(Value::Nil)
+}
+
+/// Changes a table or a cell, or adds units.
+fn change(alloc: Global, store: &mut Store, name: &str, given: &str) -> Result<(), StoreFault> {
+    let (first, after) = given.split_once(' ').unwrap_or((given, ""));
+    match name {
+        "add_units" => store.add_units(count(first)),
+        "set_metatable" => store.set_metatable(id(first), optional(after)),
+        "set_cell" => store.set_cell(id(first), value(alloc, after)),
+        "shift" => shift(store, id(first), shift_of(after)),
+        _ => {
+            let (key, new) = after.split_once(' ').unwrap_or((after, ""));
+            store.set(id(first), value(alloc, key), value(alloc, new))
+        }
+    }
+}
+
+/// Which values move: the first number and the last, and `up` or `down`.
+pub(super) fn shift_of(given: &str) -> Shift {
+    let (from, after) = given.split_once(' ').unwrap_or((given, ""));
+    let (to, direction) = after.split_once(' ').unwrap_or((after, ""));
+    Shift {
+        from: count(from),
+        to: count(to),
+        up: direction == "up",
+    }
+}
+
+/// Moves values.
+pub(super) fn shift(store: &mut Store, t: u32, by: Shift) -> Result<(), StoreFault> {
+    if by.from == 0 || by.to >= 99_999_999_999_999 {
+        return Err(StoreFault::BadKey);
+    }
+    store.shift(t, by.from, by.to, by.up)
 }
 
 /// What a call that gives nothing returns, in a word.
@@ -157,124 +201,89 @@ fn said(outcome: Result<(), StoreFault>) -> &'static str {
     }
 }
 
-/// The calls that write to a table or a cell.
-fn writes(
-    alloc: Global,
-    store: &mut Store,
-    name: &str,
-    call: &mut SplitWhitespace<'_>,
-    answer: &str,
-) -> Result<bool, Fail> {
-    let number = id(word(call)?)?;
-    if name == "set_metatable" {
-        return Ok(said(store.set_metatable(number, optional(word(call)?)?)) == answer);
-    }
-    let first = value(alloc, word(call)?)?;
-    if name == "set_cell" {
-        return Ok(said(store.set_cell(number, first)) == answer);
-    }
-    let new = value(alloc, word(call)?)?;
-    Ok(said(store.set(number, first, new)) == answer)
-}
-
-/// The calls that make something and give its number.
-fn makes(
-    alloc: Global,
-    store: &mut Store,
-    name: &str,
-    call: &mut SplitWhitespace<'_>,
-    answer: &str,
-) -> Result<bool, Fail> {
-    let outcome = match name {
+/// Makes something, and gives its number.
+fn make(alloc: Global, store: &mut Store, name: &str, given: &str) -> Result<u32, StoreFault> {
+    match name {
         "make_table" => store.make_table(),
-        "make_cell" => store.make_cell(value(alloc, word(call)?)?),
+        "make_cell" => store.make_cell(value(alloc, given)),
         _ => {
-            let function = id(word(call)?)?;
-            store.make_closure(function, &ids(alloc, call)?)
+            let (function, cells) = given.split_once(' ').unwrap_or((given, ""));
+            store.make_closure(id(function), &ids(alloc, cells)?)
         }
-    };
-    match outcome {
-        Ok(number) => Ok(number == id(answer)?),
-        Err(fault) => Ok(said(Err(fault)) == answer),
     }
 }
 
-/// The numbers that are left of a line.
-fn ids(alloc: Global, words: &mut SplitWhitespace<'_>) -> Result<Vec<u32>, Fail> {
+/// Writes the number of what was made, or why it wasn't.
+fn see_made(all: &mut String, made: Result<u32, StoreFault>) {
+    match made {
+        Ok(number) => put_number(all, "", u64::from(number)),
+        Err(fault) => put(all, said(Err(fault))),
+    }
+}
+
+/// The numbers between blanks.
+fn ids(alloc: Global, words: &str) -> Result<Vec<u32>, AllocError> {
     let mut all = Vec::new(alloc);
-    for word in words {
-        all.push(id(word)?)?;
+    for word in words.split_whitespace() {
+        all.push(id(word))?;
     }
     Ok(all)
 }
 
-/// The calls that look up a cell, a closure or the metatable of a type.
-fn looks_up(
-    alloc: Global,
-    store: &Store,
-    name: &str,
-    call: &mut SplitWhitespace<'_>,
-    answer: &str,
-) -> Result<bool, Fail> {
-    let first = word(call)?;
+/// Writes a cell, a closure, the metatable of a type, or a count.
+fn see_part(all: &mut String, store: &Store, name: &str, given: &str) {
     match name {
-        "cell" => Ok(*store.cell(id(first)?) == value(alloc, answer)?),
-        "closure" => captures(alloc, store, id(first)?, answer),
-        _ => Ok(store.type_metatable(type_kind(first)?) == optional(answer)?),
+        "cell" => see_value(all, store.cell(id(given))),
+        "closure" => see_closure(all, store.closure(id(given))),
+        "type_metatable" => see_optional(all, store.type_metatable(type_kind(given))),
+        "units" => put_number(all, "", store.units()),
+        "steps" => put_number(all, "", store.steps()),
+        _ => put_number(all, "", u64::from(store.globals())),
     }
 }
 
-/// Whether a closure is of this function with these cells, or `none`.
-fn captures(alloc: Global, store: &Store, c: u32, answer: &str) -> Result<bool, Fail> {
-    let Some((function, cells)) = store.closure(c) else {
-        return Ok(answer == "none");
-    };
-    let mut words = answer.split_whitespace();
-    Ok(function == id(word(&mut words)?)? && cells == ids(alloc, &mut words)?.as_slice())
-}
-
-/// `text`, or the kind of an object.
-fn type_kind(word: &str) -> Result<TypeKind, Fail> {
-    if word == "text" {
-        return Ok(TypeKind::Text);
-    }
-    Ok(TypeKind::Object(object(word)?))
-}
-
-/// The counts, and the global table.
-fn counted(store: &Store, name: &str, answer: &str) -> Result<bool, Fail> {
-    match name {
-        "units" => Ok(store.units() == count(answer)?),
-        "steps" => Ok(store.steps() == count(answer)?),
-        _ => Ok(store.globals() == id(answer)?),
+/// Writes the function and the cells of a closure, or `none`.
+fn see_closure(all: &mut String, closure: Option<(u32, &[u32])>) {
+    match closure {
+        None => put(all, "none"),
+        Some((function, cells)) => {
+            put_number(all, "", u64::from(function));
+            for cell in cells {
+                put_number(all, " ", u64::from(*cell));
+            }
+        }
     }
 }
 
-/// Whether a call that counts steps says so.
-fn goes_on_below(store: &mut Store, steps: &str, answer: &str) -> Result<bool, Fail> {
-    let below = store.count(count(steps)?);
-    Ok(if below { "true" } else { "false" } == answer)
-}
-
-/// The other calls, all but two of which give nothing.
-fn counts(
-    store: &mut Store,
-    name: &str,
-    call: &mut SplitWhitespace<'_>,
-    answer: &str,
-) -> Result<bool, Fail> {
+/// Makes a call that answers nothing, or whether steps are left.
+fn tell(store: &mut Store, name: &str, given: &str) -> &'static str {
     match name {
-        "add_units" => return Ok(said(store.add_units(count(word(call)?)?)) == answer),
-        "count" => return goes_on_below(store, word(call)?, answer),
-        "add_steps" => store.add_steps(count(word(call)?)?),
+        "count" => return if store.count(count(given)) {
+            "true"
+        } else {
+            "false"
+        },
+        "add_steps" => store.add_steps(count(given)),
         "clear_steps" => store.clear_steps(),
-        "set_globals" => store.set_globals(id(word(call)?)?),
+        "set_globals" => store.set_globals(id(given)),
         "set_type_metatable" => {
-            let kind = type_kind(word(call)?)?;
-            store.set_type_metatable(kind, optional(word(call)?)?);
+            let (kind, table) = given.split_once(' ').unwrap_or((given, ""));
+            store.set_type_metatable(type_kind(kind), optional(table));
         }
         "freeze" => store.freeze(),
-        _ => return Err("there is no such call")?,
+        "replace" => return replace(store),
+        _ => return "no such call",
     }
-    Ok(answer.is_empty())
+    ""
+}
+
+/// Puts a copy of a store in its place.
+fn replace(store: &mut Store) -> &'static str {
+    match store.copy_store() {
+        Ok(copy) => {
+            *store = copy;
+            ""
+        }
+        Err(_) => "memory",
+    }
 }

@@ -1,109 +1,130 @@
 //! Shifts of values against `set` of each, one after the other.
 
-use super::values::value;
-use lua_values::{Shift, Store, Value};
+use super::calls::{copy_of, see_pairs, shift, shift_of};
+use super::values::{put, put_number, value};
+use lua_values::{Shift, Store, StoreFault, Value};
 use resty_base::whole;
 use std::alloc::Global;
-use std::test::Fail;
 
-/// Tables as the pairs that are set, in this order: numbers in order, with nil within, with more after them, backwards, with a
-/// gap, with a text as the first key, and none.
-pub(super) const TABLES: [&str; 8] = [
-    "1='a 2='b 3='c 4='d 5='e 6='f 7='g",
-    "1='a 2='b 3=true 4='d 5='e 6='f 7='g 3=nil 6=nil",
-    "1='a 2='b 3='c 4='d 5='e 6='f 1=nil 2=nil 6=nil",
-    "1='a 2='b 3='c 4='d 'x='y 0='z 5='e 7='g 6='f",
-    "7='g 6='f 5='e 4='d 3='c 2='b 1='a",
-    "1='a 2='b 3='c 5='e 7='g",
-    "'x='y 1='a 2='b 3='c 4='d 5='e 6='f",
-    "",
-];
+/// Tables as the pairs that are set, in this order: numbers in order, with nil within, with more after them, none, backwards,
+/// with a gap, and with a text as the first key.
+pub(super) const TABLES: &str = "\
+1='a 2='b 3='c 4='d 5='e 6='f 7='g
+1='a 2='b 3=true 4='d 5='e 6='f 7='g 3=nil 6=nil
+1='a 2='b 3='c 4='d 5='e 6='f 1=nil 2=nil 6=nil
+1='a 2='b 3='c 4='d 'x='y 0='z 5='e 7='g 6='f
+
+7='g 6='f 5='e 4='d 3='c 2='b 1='a
+1='a 2='b 3='c 5='e 7='g
+'x='y 1='a 2='b 3='c 4='d 5='e 6='f";
 
 /// The first number, the last, and whether the values go up.
-pub(super) const SHIFTS: [(u64, u64, bool); 9] = [
-    (1, 5, true),
-    (2, 6, false),
-    (1, 6, true),
-    (1, 6, false),
-    (1, 1, false),
-    (3, 3, true),
-    (3, 3, false),
-    (2, 8, true),
-    (4, 9, false),
-];
-
-/// Whether a shift of a table, done three times, each time leaves the table that `set` of each value leaves, in as many units.
-pub(super) fn is_as_set_of_each(alloc: Global, pairs: &str, shift: Shift) -> Result<bool, Fail> {
-    let mut store = Store::new(alloc)?;
-    let moved = table_of(alloc, &mut store, pairs)?;
-    let set = table_of(alloc, &mut store, pairs)?;
-    for _ in 0..3 {
-        let taken = units_of_shift(&mut store, moved, shift)?;
-        if taken != units_of_sets(&mut store, set, shift)? || !alike(&store, moved, set)? {
-            return Ok(false);
-        }
-    }
-    Ok(true)
-}
+pub(super) const SHIFTS: &str = "\
+1 5 up
+2 6 down
+1 6 up
+1 6 down
+1 1 down
+3 3 up
+3 3 down
+2 8 up
+4 9 down";
 
 /// A new table with these pairs.
-fn table_of(alloc: Global, store: &mut Store, pairs: &str) -> Result<u32, Fail> {
+fn table_of(alloc: Global, store: &mut Store, pairs: &str) -> Result<u32, StoreFault> {
     let t = store.make_table()?;
     for pair in pairs.split_whitespace() {
-        let (key, new) = pair.split_once('=').ok_or("no pair")?;
-        store.set(t, value(alloc, key)?, value(alloc, new)?)?;
+        set_pair(alloc, store, t, pair)?;
     }
     Ok(t)
 }
 
-/// Moves the values, and gives the units that this takes.
-fn units_of_shift(store: &mut Store, t: u32, shift: Shift) -> Result<u64, Fail> {
-    if shift.from == 0 || shift.to >= 99_999_999_999_999 {
-        return Err("these are no numbers of a table")?;
-    }
-    let before = store.units();
-    store.shift(t, shift.from, shift.to, shift.up)?;
-    Ok(store.units().saturating_sub(before))
+/// Sets a pair.
+fn set_pair(alloc: Global, store: &mut Store, t: u32, pair: &str) -> Result<(), StoreFault> {
+    let (key, new) = pair.split_once('=').unwrap_or((pair, ""));
+    store.set(t, value(alloc, key), value(alloc, new))
 }
 
-/// Sets each value at its new number, and gives the units that this takes.
-fn units_of_sets(store: &mut Store, t: u32, shift: Shift) -> Result<u64, Fail> {
-    let before = store.units();
-    for i in 0..=shift.to.saturating_sub(shift.from) {
-        set_next(store, t, shift, i)?;
+/// Sets each value at its new number.
+fn set_each(store: &mut Store, t: u32, by: Shift) -> Result<(), StoreFault> {
+    for i in 0..=by.to.saturating_sub(by.from) {
+        set_next(store, t, by, i)?;
     }
-    Ok(store.units().saturating_sub(before))
-}
-
-/// Sets the value that is the i-th to move.
-fn set_next(store: &mut Store, t: u32, shift: Shift, i: u64) -> Result<(), Fail> {
-    let (number, new) = if shift.up {
-        let number = shift.to.saturating_sub(i);
-        (number, number.saturating_add(1))
-    } else {
-        let number = shift.from.saturating_add(i);
-        (number, number.saturating_sub(1))
-    };
-    let moved = store.get(t, &numbered(number)?).clone()?;
-    store.set(t, numbered(new)?, moved)?;
     Ok(())
 }
 
-/// The number n as a value.
-fn numbered(n: u64) -> Result<Value, Fail> {
-    let n = i64::try_from(n).ok().ok_or("range")?;
-    Ok(Value::Number(whole(n).ok_or("range")?))
+/// Sets the value that is the i-th to move.
+fn set_next(store: &mut Store, t: u32, by: Shift, i: u64) -> Result<(), StoreFault> {
+    let (number, new) = if by.up {
+        let number = by.to.saturating_sub(i);
+        (number, number.saturating_add(1))
+    } else {
+        let number = by.from.saturating_add(i);
+        (number, number.saturating_sub(1))
+    };
+    let moved = copy_of(store.get(t, &numbered(number)));
+    store.set(t, numbered(new), moved)
 }
 
-/// Whether two tables of at most 16 pairs have the same ones in the same order, and the same border.
-fn alike(store: &Store, t: u32, u: u32) -> Result<bool, Fail> {
-    let mut key = Value::Nil;
-    for _ in 0..17 {
-        key = match (store.next(t, &key), store.next(u, &key)) {
-            (None, None) => return Ok(store.border(t) == store.border(u)),
-            (Some((k, a)), Some((l, b))) if *k == *l && *a == *b => k.clone()?,
-            _ => return Ok(false),
-        };
+/// The number n as a value, nil where it is out of range.
+fn numbered(n: u64) -> Value {
+    match whole(i64::try_from(n).unwrap_or(i64::MAX)) {
+        Some(number) => Value::Number(number),
+        None => Value::Nil,
     }
-    Ok(false)
+}
+
+/// Moves the values at once, or sets each.
+fn go(store: &mut Store, t: u32, by: Shift, at_once: bool) -> Result<(), StoreFault> {
+    if at_once {
+        shift(store, t, by)
+    } else {
+        set_each(store, t, by)
+    }
+}
+
+/// Moves the values three times, and writes each time the pairs, the border and the units that it takes.
+fn see_moves(
+    all: &mut String,
+    store: &mut Store,
+    t: u32,
+    by: Shift,
+    at_once: bool,
+) -> Result<(), StoreFault> {
+    for _ in 0..3 {
+        let before = store.units();
+        go(store, t, by, at_once)?;
+        see_pairs(all, store, t, true);
+        put_number(all, ", border ", store.border(t));
+        put_number(all, ", units ", store.units().saturating_sub(before));
+    }
+    Ok(())
+}
+
+/// The same, of a new table with these pairs.
+fn see_moved(
+    alloc: Global,
+    all: &mut String,
+    pairs: &str,
+    by: Shift,
+    at_once: bool,
+) -> Result<(), StoreFault> {
+    let mut store = Store::new(alloc)?;
+    let t = table_of(alloc, &mut store, pairs)?;
+    see_moves(all, &mut store, t, by, at_once)
+}
+
+/// What a table with these pairs becomes where the values move at once, or each by `set`.
+fn moved(alloc: Global, pairs: &str, by: Shift, at_once: bool) -> String {
+    let mut all = String::new(alloc);
+    if see_moved(alloc, &mut all, pairs, by, at_once).is_err() {
+        put(&mut all, if at_once { "no shift" } else { "no sets" });
+    }
+    all
+}
+
+/// Whether a shift of a table, done three times, each time leaves the table that `set` of each value leaves, in as many units.
+pub(super) fn is_as_set_of_each(alloc: Global, pairs: &str, given: &str) -> bool {
+    let by = shift_of(given);
+    moved(alloc, pairs, by, true).as_str() == moved(alloc, pairs, by, false).as_str()
 }

@@ -1,66 +1,128 @@
 //! Values in a short written form, for tests.
 
-use lua_values::{ObjectKind, Value};
-use resty_base::{Bytes, whole};
+use lua_values::{ObjectKind, TypeKind, Value};
+use resty_base::{Bytes, Whole, whole};
 use std::alloc::Global;
-use std::test::Fail;
 
 /// `nil`, `true`, `false`, `null`, a number, `'` and a text, or a kind with a number after a colon, as `table:1`.
-pub(super) fn value(alloc: Global, word: &str) -> Result<Value, Fail> {
+pub(super) fn value(alloc: Global, word: &str) -> Value {
     if let Some(text) = word.strip_prefix('\'') {
-        return Ok(Value::Text(Bytes::copy_from_slice(alloc, text.as_bytes())?));
+        return text_value(alloc, text.as_bytes());
     }
-    if let Some((kind, number)) = word.split_once(':') {
-        return reference(kind, id(number)?);
+    match word.split_once(':') {
+        Some((kind, number)) => reference(kind, id(number)),
+        None => plain(word),
     }
-    Ok(match word {
-        "nil" => Value::Nil,
+}
+
+/// A text as a value, nil where there is no memory for it.
+fn text_value(alloc: Global, text: &[u8]) -> Value {
+    match Bytes::copy_from_slice(alloc, text) {
+        Ok(bytes) => Value::Text(bytes),
+        Err(_) => Value::Nil,
+    }
+}
+
+/// A value that is no text and has no number.
+fn plain(word: &str) -> Value {
+    match word {
         "true" => Value::Truth(true),
         "false" => Value::Truth(false),
         "null" => Value::Null,
-        _ => {
-            let n = word.parse::<i64>().ok().ok_or("no number")?;
-            Value::Number(whole(n).ok_or("range")?)
-        }
-    })
+        _ => match number(word) {
+            Some(n) => Value::Number(n),
+            None => Value::Nil,
+        },
+    }
+}
+
+fn number(word: &str) -> Option<Whole> {
+    whole(word.parse().ok()?)
 }
 
 /// The value of a kind that has a number.
-fn reference(kind: &str, n: u32) -> Result<Value, Fail> {
-    Ok(match kind {
+fn reference(kind: &str, n: u32) -> Value {
+    match kind {
         "table" => Value::Table(n),
         "closure" => Value::Closure(n),
         "native" => Value::Native(n),
         "thread" => Value::Thread(n),
-        _ => Value::Object(object(kind)?, n),
-    })
+        _ => Value::Object(object(kind), n),
+    }
 }
 
 /// `socket`, `reader`, `semaphore` or `zone`.
-pub(super) fn object(word: &str) -> Result<ObjectKind, Fail> {
-    Ok(match word {
+fn object(word: &str) -> ObjectKind {
+    match word {
         "socket" => ObjectKind::Socket,
         "reader" => ObjectKind::Reader,
         "semaphore" => ObjectKind::Semaphore,
-        "zone" => ObjectKind::Zone,
-        _ => Err("no kind")?,
-    })
-}
-
-/// The number of a table, a cell, a closure or a function.
-pub(super) fn id(word: &str) -> Result<u32, Fail> {
-    Ok(word.parse::<u32>().ok().ok_or("no number")?)
-}
-
-/// A count.
-pub(super) fn count(word: &str) -> Result<u64, Fail> {
-    Ok(word.parse::<u64>().ok().ok_or("no count")?)
-}
-
-/// The number of a table, or none where the word is `none`.
-pub(super) fn optional(word: &str) -> Result<Option<u32>, Fail> {
-    if word == "none" {
-        return Ok(None);
+        _ => ObjectKind::Zone,
     }
-    Ok(Some(id(word)?))
+}
+
+/// `text`, or the kind of an object.
+pub(super) fn type_kind(word: &str) -> TypeKind {
+    if word == "text" {
+        TypeKind::Text
+    } else {
+        TypeKind::Object(object(word))
+    }
+}
+
+/// The number of a table, a cell, a closure or a function, the greatest where there is none.
+pub(super) fn id(word: &str) -> u32 {
+    word.parse().unwrap_or(u32::MAX)
+}
+
+/// A count, the greatest where there is none.
+pub(super) fn count(word: &str) -> u64 {
+    word.parse().unwrap_or(u64::MAX)
+}
+
+/// The number of a table, or `none`.
+pub(super) fn optional(word: &str) -> Option<u32> {
+    word.parse().ok()
+}
+
+/// Writes a text, or leaves it out where there is no memory for it, so that the line fails.
+pub(super) fn put(all: &mut String, text: &str) {
+    let _ = all.push_str(text);
+}
+
+/// Writes a number after a word.
+pub(super) fn put_number(all: &mut String, word: &str, n: u64) {
+    put(all, word);
+    let _ = write!(all, "{n}");
+}
+
+/// Writes a value.
+pub(super) fn see_value(all: &mut String, value: &Value) {
+    match value {
+        Value::Nil => put(all, "nil"),
+        Value::Truth(true) => put(all, "true"),
+        Value::Truth(false) => put(all, "false"),
+        Value::Null => put(all, "null"),
+        Value::Number(number) => {
+            let n = number.get();
+            let _ = write!(all, "{n}");
+        }
+        Value::Text(bytes) => {
+            put(all, "'");
+            put(all, str::from_utf8(bytes).unwrap_or("?"));
+        }
+        Value::Table(n) => put_number(all, "table:", u64::from(*n)),
+        Value::Closure(n) => put_number(all, "closure:", u64::from(*n)),
+        Value::Native(n) => put_number(all, "native:", u64::from(*n)),
+        Value::Thread(n) => put_number(all, "thread:", u64::from(*n)),
+        Value::Object(_, n) => put_number(all, "object:", u64::from(*n)),
+    }
+}
+
+/// Writes the number of a table, or `none`.
+pub(super) fn see_optional(all: &mut String, table: Option<u32>) {
+    match table {
+        Some(n) => put_number(all, "", u64::from(n)),
+        None => put(all, "none"),
+    }
 }
