@@ -1,64 +1,13 @@
 //! Tests of directives and of the values of their words; the expected ones are those of nginx's documentation.
+use crate::rows::hold;
 use conf_rules::*;
 use conf_text::items_of;
-use resty_base::Bytes;
 use std::alloc::{AllocError, Global};
 use std::test::Fail;
 
-/// A text that may not be UTF-8.
-fn shown(text: &[u8]) -> &str {
-    str::from_utf8(text).unwrap_or("?")
-}
-
-/// The location as text.
-fn location_text(alloc: Global, kind: &LocationKind) -> Result<String, AllocError> {
-    match kind {
-        LocationKind::Exact(path) => format!(in alloc; "exact {}", shown(path)),
-        LocationKind::Prefix(path) => format!(in alloc; "prefix {}", shown(path)),
-        LocationKind::Named(name) => format!(in alloc; "named {}", shown(name)),
-    }
-}
-
-/// The names as text.
-fn names_text(alloc: Global, names: &[Bytes]) -> Result<String, AllocError> {
-    let mut out = format!(in alloc; "names")?;
-    for name in names {
-        out.push(' ')?;
-        out.push_str(shown(name))?;
-    }
-    Ok(out)
-}
-
-/// What a directive says, as text.
-fn effect_text(alloc: Global, effect: &Effect) -> Result<String, AllocError> {
-    match effect {
-        Effect::Nothing => format!(in alloc; "nothing"),
-        Effect::Level(level) => format!(in alloc; "level {level}"),
-        Effect::Count(count) => format!(in alloc; "count {count}"),
-        Effect::Size(size) => format!(in alloc; "size {size}"),
-        Effect::Time(time) => format!(in alloc; "time {time}"),
-        Effect::Text(text) => format!(in alloc; "text {}", shown(text)),
-        Effect::Listen(port, true) => format!(in alloc; "default {port}"),
-        Effect::Listen(port, false) => format!(in alloc; "port {port}"),
-        Effect::Names(names) => names_text(alloc, names.as_slice()),
-        Effect::Opens(place) => format!(in alloc; "opens {place:?}"),
-        Effect::Dictionary(name, size) => format!(in alloc; "{} of {size}", shown(name)),
-        Effect::Location(kind) => location_text(alloc, kind),
-        Effect::Block(number) => format!(in alloc; "block {number}"),
-    }
-}
-
-/// What a directive with the words after its name says.
-fn said(alloc: Global, directive: Directive, words: &[Bytes]) -> Result<String, AllocError> {
-    match effect_of(alloc, directive, words)? {
-        Some(effect) => effect_text(alloc, &effect),
-        None => format!(in alloc; "bad value"),
-    }
-}
-
-/// What the directive that the text begins with says.
-fn said_in(alloc: Global, text: &[u8]) -> Result<String, AllocError> {
-    let items = items_of(alloc, text)?;
+/// What the directive that a text begins with says, None where its words are no value of it.
+pub(crate) fn said(alloc: Global, text: &str) -> Result<String, AllocError> {
+    let items = items_of(alloc, text.as_bytes())?;
     let Some(item) = items.first() else {
         return format!(in alloc; "no item");
     };
@@ -66,208 +15,133 @@ fn said_in(alloc: Global, text: &[u8]) -> Result<String, AllocError> {
         return format!(in alloc; "no name");
     };
     match directive_of(name) {
-        Some(directive) => said(alloc, directive, words),
+        Some(directive) => format!(in alloc; "{:?}", effect_of(alloc, directive, words)?),
         None => format!(in alloc; "unknown"),
     }
 }
 
+const WORDS: &str = r#"says frob 1 2; => unknown
+says Listen 80; => unknown
+says user a b c; => Some(Nothing)
+says pid; => Some(Nothing)
+says internal on; => None
+says http { => Some(Opens(Http))
+says server x { => None
+says content_by_lua_block x { } => None
+says error_log x; => Some(Level(4))
+says error_log x emerg; => Some(Level(1))
+says error_log x debug; => Some(Level(8))
+says error_log; => None
+says error_log x error y; => None
+says worker_connections 9999999999; => Some(Count(512))
+says worker_connections 1; => Some(Count(1))
+says worker_connections 0; => None
+says lua_socket_pool_size 4294967295; => Some(Count(4294967295))
+says lua_socket_pool_size 4294967296; => None
+says server_name; => None
+says server_name a B; => Some(Names(ByteLists { items: [b"a", b"b"] }))"#;
+
+const UNITS: &str = "\
+says client_max_body_size 8k; => Some(Size(8192))
+says client_max_body_size 0; => Some(Size(16777216))
+says client_max_body_size 17m; => Some(Size(16777216))
+says client_max_body_size 8K; => None
+says client_max_body_size k; => None
+says client_max_body_size 18446744073709551615; => Some(Size(16777216))
+says client_max_body_size 18446744073709551616; => None
+says client_max_body_size 18014398509481984k; => None
+says send_timeout 2h; => Some(Time(7200000))
+says send_timeout 1500ms; => Some(Time(1500))
+says send_timeout 5m; => Some(Time(300000))
+says send_timeout 07s; => Some(Time(7000))
+says send_timeout 99999999; => Some(Time(99999999000))
+says send_timeout 99999999999ms; => Some(Time(99999999999))
+says send_timeout 100000000; => None
+says send_timeout 1d; => None
+says send_timeout 1.5m; => None
+says send_timeout -1; => None
+says send_timeout +1; => None
+says send_timeout 5 6; => None
+says send_timeout; => None
+says send_timeout ''; => None";
+
+const FORMS: &str = "\
+says listen 80; => Some(Listen(80, false))
+says listen localhost:65535 default_server; => Some(Listen(65535, true))
+says listen 127.0.0.1:1; => Some(Listen(1, false))
+says listen 0; => None
+says listen 65536; => None
+says listen *:80; => None
+says listen 80 ssl; => None
+says listen 80 default_server x; => None
+says lua_shared_dict a.b_C-9 64m; => Some(Dictionary(b\"a.b_C-9\", 67108864))
+says lua_shared_dict a 65m; => None
+says lua_shared_dict a 0; => None
+says lua_shared_dict '' 1m; => None
+says lua_shared_dict a/b 1m; => None
+says lua_shared_dict a; => None
+says lua_package_path \"x/?.lua;;\"; => Some(Text(b\"x/?.lua\"))
+says lua_package_path \"a/?;b\"; => None
+says lua_package_path a/??; => None
+says lua_package_path \"a\t?\"; => None
+says default_type \"\"; => Some(Text(b\"\"))
+says default_type \"a\tb\"; => None
+says location /a { => Some(Location(Prefix(b\"/a\")))
+says location ^~ /a { => Some(Location(Prefix(b\"/a\")))
+says location = /a { => Some(Location(Exact(b\"/a\")))
+says location @a { => Some(Location(Named(b\"@a\")))
+says location @ { => None
+says location a { => None
+says location =/a { => None
+says location ~ /a { => None";
+
 #[test]
 fn words_have_values(rt: HostRuntime) -> Result<(), Fail> {
-    for (text, expected) in [
-        (b"frob 1 2;".as_slice(), "unknown"),
-        (b"Listen 80;", "unknown"),
-        (b"user a b c;", "nothing"),
-        (b"pid;", "nothing"),
-        (b"internal on;", "bad value"),
-        (b"http {", "opens Http"),
-        (b"server x {", "bad value"),
-        (b"content_by_lua_block x { }", "bad value"),
-        (b"error_log x;", "level 4"),
-        (b"error_log x emerg;", "level 1"),
-        (b"error_log x debug;", "level 8"),
-        (b"error_log;", "bad value"),
-        (b"error_log x error y;", "bad value"),
-        (b"worker_connections 9999999999;", "count 512"),
-        (b"worker_connections 1;", "count 1"),
-        (b"worker_connections 0;", "bad value"),
-        (b"lua_socket_pool_size 4294967295;", "count 4294967295"),
-        (b"lua_socket_pool_size 4294967296;", "bad value"),
-        (b"server_name;", "bad value"),
-        (b"server_name a B;", "names a b"),
-    ] {
-        let said = said_in(rt.alloc(), text)?;
-        assert_eq!(rt; said.as_str(), expected);
-    }
-    Ok(())
+    hold(&rt, rt.alloc(), WORDS)?;
+    hold(&rt, rt.alloc(), UNITS)?;
+    hold(&rt, rt.alloc(), FORMS)
 }
 
-#[test]
-fn sizes_and_times_have_units(rt: HostRuntime) -> Result<(), Fail> {
-    for (text, expected) in [
-        (b"client_max_body_size 8k;".as_slice(), "size 8192"),
-        (b"client_max_body_size 0;", "size 16777216"),
-        (b"client_max_body_size 17m;", "size 16777216"),
-        (b"client_max_body_size 8K;", "bad value"),
-        (b"client_max_body_size k;", "bad value"),
-        (
-            b"client_max_body_size 18446744073709551615;",
-            "size 16777216",
-        ),
-        (b"client_max_body_size 18446744073709551616;", "bad value"),
-        (b"client_max_body_size 18014398509481984k;", "bad value"),
-        (b"send_timeout 2h;", "time 7200000"),
-        (b"send_timeout 1500ms;", "time 1500"),
-        (b"send_timeout 5m;", "time 300000"),
-        (b"send_timeout 07s;", "time 7000"),
-        (b"send_timeout 99999999;", "time 99999999000"),
-        (b"send_timeout 99999999999ms;", "time 99999999999"),
-        (b"send_timeout 100000000;", "bad value"),
-        (b"send_timeout 1d;", "bad value"),
-        (b"send_timeout 1.5m;", "bad value"),
-        (b"send_timeout -1;", "bad value"),
-        (b"send_timeout +1;", "bad value"),
-        (b"send_timeout 5 6;", "bad value"),
-        (b"send_timeout;", "bad value"),
-        (b"send_timeout '';", "bad value"),
+/// Where a directive may stand, its form, and whether it may stand more often.
+pub(crate) fn stands(alloc: Global, name: &str) -> Result<String, AllocError> {
+    let mut all = String::new(alloc);
+    let Some(directive) = directive_of(name.as_bytes()) else {
+        return Ok(all);
+    };
+    for place in [
+        Place::Main,
+        Place::Events,
+        Place::Http,
+        Place::Server,
+        Place::Location,
     ] {
-        let said = said_in(rt.alloc(), text)?;
-        assert_eq!(rt; said.as_str(), expected);
+        if may_stand(directive, place) {
+            all.push_str(format!(in alloc; "{place:?} ")?.as_str())?;
+        }
     }
-    Ok(())
+    let form = form_of(directive);
+    all.push_str(format!(in alloc; "{form:?}")?.as_str())?;
+    all.push_str(if may_repeat(directive) {
+        " repeats"
+    } else {
+        ""
+    })?;
+    Ok(all)
 }
 
-#[test]
-fn ports_dictionaries_and_locations_have_forms(rt: HostRuntime) -> Result<(), Fail> {
-    for (text, expected) in [
-        (b"listen 80;".as_slice(), "port 80"),
-        (b"listen localhost:65535 default_server;", "default 65535"),
-        (b"listen 127.0.0.1:1;", "port 1"),
-        (b"listen 0;", "bad value"),
-        (b"listen 65536;", "bad value"),
-        (b"listen *:80;", "bad value"),
-        (b"listen 80 ssl;", "bad value"),
-        (b"listen 80 default_server x;", "bad value"),
-        (b"lua_shared_dict a.b_C-9 64m;", "a.b_C-9 of 67108864"),
-        (b"lua_shared_dict a 65m;", "bad value"),
-        (b"lua_shared_dict a 0;", "bad value"),
-        (b"lua_shared_dict '' 1m;", "bad value"),
-        (b"lua_shared_dict a/b 1m;", "bad value"),
-        (b"lua_shared_dict a;", "bad value"),
-        (b"lua_package_path \"x/?.lua;;\";", "text x/?.lua"),
-        (b"lua_package_path \"a/?;b\";", "bad value"),
-        (b"lua_package_path a/??;", "bad value"),
-        (b"lua_package_path \"a\t?\";", "bad value"),
-        (b"default_type \"\";", "text "),
-        (b"default_type \"a\tb\";", "bad value"),
-        (b"location /a {", "prefix /a"),
-        (b"location ^~ /a {", "prefix /a"),
-        (b"location = /a {", "exact /a"),
-        (b"location @a {", "named @a"),
-        (b"location @ {", "bad value"),
-        (b"location a {", "bad value"),
-        (b"location =/a {", "bad value"),
-        (b"location ~ /a {", "bad value"),
-    ] {
-        let said = said_in(rt.alloc(), text)?;
-        assert_eq!(rt; said.as_str(), expected);
-    }
-    Ok(())
-}
+const PLACES: &str = "\
+stands pid => Main Simple
+stands error_log => Main Http Simple
+stands worker_connections => Events Simple
+stands server => Http Block repeats
+stands client_header_timeout => Http Server Simple
+stands listen => Server Simple repeats
+stands content_by_lua_block => Location Lua
+stands send_timeout => Http Server Location Simple";
 
 #[test]
 fn directives_have_places_and_forms(rt: HostRuntime) -> Result<(), Fail> {
-    for (name, main, events, http, server, location, form, repeats) in [
-        (
-            b"pid".as_slice(),
-            true,
-            false,
-            false,
-            false,
-            false,
-            Form::Simple,
-            false,
-        ),
-        (
-            b"error_log",
-            true,
-            false,
-            true,
-            false,
-            false,
-            Form::Simple,
-            false,
-        ),
-        (
-            b"worker_connections",
-            false,
-            true,
-            false,
-            false,
-            false,
-            Form::Simple,
-            false,
-        ),
-        (
-            b"server",
-            false,
-            false,
-            true,
-            false,
-            false,
-            Form::Block,
-            true,
-        ),
-        (
-            b"client_header_timeout",
-            false,
-            false,
-            true,
-            true,
-            false,
-            Form::Simple,
-            false,
-        ),
-        (
-            b"listen",
-            false,
-            false,
-            false,
-            true,
-            false,
-            Form::Simple,
-            true,
-        ),
-        (
-            b"content_by_lua_block",
-            false,
-            false,
-            false,
-            false,
-            true,
-            Form::Lua,
-            false,
-        ),
-        (
-            b"send_timeout",
-            false,
-            false,
-            true,
-            true,
-            true,
-            Form::Simple,
-            false,
-        ),
-    ] {
-        let directive = directive_of(name).unwrap_or(Directive::User);
-        assert_eq!(rt; directive == Directive::User, name == b"user".as_slice());
-        assert_eq!(rt; may_stand(directive, Place::Main), main);
-        assert_eq!(rt; may_stand(directive, Place::Events), events);
-        assert_eq!(rt; may_stand(directive, Place::Http), http);
-        assert_eq!(rt; may_stand(directive, Place::Server), server);
-        assert_eq!(rt; may_stand(directive, Place::Location), location);
-        assert!(rt; form_of(directive) == form);
-        assert_eq!(rt; may_repeat(directive), repeats);
-    }
+    hold(&rt, rt.alloc(), PLACES)?;
     assert!(rt; same(Directive::Listen, Directive::Listen));
     assert!(rt; !same(Directive::Listen, Directive::Server));
     assert_eq!(rt; number_of(b"10"), Some(10));

@@ -1,10 +1,10 @@
 //! Tests of words and items; the expected ones were worked out by hand from nginx's documentation.
+use crate::rows::hold;
 use conf_text::{Ending, Item, items_of};
-use resty_base::Bytes;
 use std::alloc::{AllocError, Global};
 use std::test::Fail;
 
-/// Appends a letter for the ending, with the text of a block of Lua.
+/// Writes a letter for the ending, with the text of a block of Lua.
 fn put_ending(out: &mut String, ending: &Ending) -> Result<(), AllocError> {
     match ending {
         Ending::Semicolon => out.push(';'),
@@ -17,7 +17,7 @@ fn put_ending(out: &mut String, ending: &Ending) -> Result<(), AllocError> {
     }
 }
 
-/// Appends the words in brackets, the line, the ending and its line.
+/// Writes the words in brackets, the line, the ending and its line.
 fn put_item(alloc: Global, out: &mut String, item: &Item) -> Result<(), AllocError> {
     for word in item.words.as_slice() {
         out.push('[')?;
@@ -28,76 +28,48 @@ fn put_item(alloc: Global, out: &mut String, item: &Item) -> Result<(), AllocErr
     let ending_line = item.ending_line;
     out.push_str(format!(in alloc; "{line}")?.as_str())?;
     put_ending(out, &item.ending)?;
-    out.push_str(format!(in alloc; "{ending_line} ")?.as_str())
+    out.push_str(format!(in alloc; "{ending_line},")?.as_str())
 }
 
-/// The items as text.
-fn written(alloc: Global, text: &[u8]) -> Result<String, AllocError> {
+/// The items of a text.
+pub(crate) fn written(alloc: Global, text: &str) -> Result<String, AllocError> {
     let mut out = String::new(alloc);
-    let items = items_of(alloc, text)?;
+    let items = items_of(alloc, text.as_bytes())?;
     for item in &items {
         put_item(alloc, &mut out, item)?;
     }
     Ok(out)
 }
 
+const ITEMS: &str = "\
+items  => 1$1,
+items http {|} => [http]1{1,2}2,2$2,
+items \"http\"|{ server{}}#x => [http]1{2,[server]2{2,2}2,2}2,2$2,
+items a 'b c'|\"d\"; e => [a][b c][d]1;2,[e]2$2,
+items a'b#C; => [a'b#C]1;1,1$1,
+items a\\;b => [a\\]1;1,[b]1$1,
+items a # c ; {|; => [a]1;2,2$2,
+items a;\r|b\t;\r| => [a]1;1,[b]2;2,3$2,
+items '' => []1$1,
+items 'a|' 'b||' => [a|][b||]1$4,
+items ; { }} => 1;1,1{1,1}1,1}1,1$1,";
+
+const QUOTES: &str = r##"items listen "80| => [listen]1!1,
+items a|'b|"c" => [a]1!2,
+items "a|"b => 1!2,
+items "a"'b' => 1!1,
+items "a"#' => [a]1$1,
+items "a"{"b"}"c"; => [a]1{1,[b]1}1,[c]1;1,1$1,"##;
+
+const LUA: &str = r#"items x_by_lua_block { "}" --}| }y => [x_by_lua_block]1 "}" --}| 1,[y]2$2,
+items '_by_lua_block' z|{{[[}]]}} } => [_by_lua_block][z]1{[[}]]}2,2}2,2$2,
+items x_by_lua_block|{ "} => [x_by_lua_block]1U2,
+items x_by_lua_block; => [x_by_lua_block]1;1,1$1,
+items by_lua_block {|'} => [by_lua_block]1{1,2!2,"#;
+
 #[test]
 fn texts_have_items(rt: HostRuntime) -> Result<(), Fail> {
-    for (text, expected) in [
-        (b"".as_slice(), "1$1 "),
-        (b"http {\n}", "[http]1{1 2}2 2$2 "),
-        (
-            b"\"http\"\n{ server{}}#x",
-            "[http]1{2 [server]2{2 2}2 2}2 2$2 ",
-        ),
-        (b"a 'b c'\n\"d\"; e", "[a][b c][d]1;2 [e]2$2 "),
-        (b"a'b#C;", "[a'b#C]1;1 1$1 "),
-        (b"a\\;b", "[a\\]1;1 [b]1$1 "),
-        (b"a # c ; {\n;", "[a]1;2 2$2 "),
-        (b"a;\r\nb\t;\r\n", "[a]1;1 [b]2;2 3$2 "),
-        (b"''", "[]1$1 "),
-        (b"'a\n' 'b\n\n'", "[a\n][b\n\n]1$4 "),
-        (b"; { }}", "1;1 1{1 1}1 1}1 1$1 "),
-    ] {
-        let items = written(rt.alloc(), text)?;
-        assert_eq!(rt; items.as_str(), expected);
-    }
-    Ok(())
-}
-
-#[test]
-fn quotes_end_before_a_blank_or_a_sign(rt: HostRuntime) -> Result<(), Fail> {
-    for (text, expected) in [
-        (b"listen \"80\n".as_slice(), "[listen]1!1 "),
-        (b"a\n'b\n\"c\"", "[a]1!2 "),
-        (b"\"a\n\"b", "1!2 "),
-        (b"\"a\"'b'", "1!1 "),
-        (b"\"a\"#'", "[a]1$1 "),
-        (b"\"a\"{\"b\"}\"c\";", "[a]1{1 [b]1}1 [c]1;1 1$1 "),
-    ] {
-        let items = written(rt.alloc(), text)?;
-        assert_eq!(rt; items.as_str(), expected);
-    }
-    Ok(())
-}
-
-#[test]
-fn blocks_of_lua_end_past_strings_and_comments(rt: HostRuntime) -> Result<(), Fail> {
-    for (text, expected) in [
-        (
-            b"x_by_lua_block { \"}\" --}\n }y".as_slice(),
-            "[x_by_lua_block]1 \"}\" --}\n 1 [y]2$2 ",
-        ),
-        (
-            b"'_by_lua_block' z\n{{[[}]]}} }",
-            "[_by_lua_block][z]1{[[}]]}2 2}2 2$2 ",
-        ),
-        (b"x_by_lua_block\n{ \"}", "[x_by_lua_block]1U2 "),
-        (b"x_by_lua_block;", "[x_by_lua_block]1;1 1$1 "),
-        (b"by_lua_block {\n'}", "[by_lua_block]1{1 2!2 "),
-    ] {
-        let items = written(rt.alloc(), text)?;
-        assert_eq!(rt; items.as_str(), expected);
-    }
-    Ok(())
+    hold(&rt, rt.alloc(), ITEMS)?;
+    hold(&rt, rt.alloc(), QUOTES)?;
+    hold(&rt, rt.alloc(), LUA)
 }

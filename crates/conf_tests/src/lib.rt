@@ -1,4 +1,4 @@
-//! Tests of the crates of the configuration, by their public calls.
+//! Tests of the crates of the configuration, by their public calls: rows of texts, and what is seen of each.
 #![tactic(auto)]
 
 #[cfg(test)]
@@ -10,7 +10,7 @@ mod items;
 #[cfg(test)]
 mod places;
 #[cfg(test)]
-mod routes;
+mod rows;
 #[cfg(test)]
 mod sites;
 #[cfg(test)]

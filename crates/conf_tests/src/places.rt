@@ -1,52 +1,47 @@
 //! Tests of every directive in every block, once and twice; the expected ones are those of the documentation of nginx and of the lua-nginx-module.
-use conf::site_text_of;
+use crate::faults::fault;
 use std::alloc::{AllocError, Global};
 use std::process::Abort;
 use std::test::Fail;
 
-/// Directives of the main part alone; `http` is tried below.
-const MAIN: [&str; 5] = [
-    "worker_processes 1;",
-    "daemon off;",
-    "pid x;",
-    "user x y;",
-    "events { }",
-];
-
-/// Directives of `http` alone that stand once.
-const HTTP: [&str; 2] = ["lua_package_path x/?.lua;", "init_by_lua_block { }"];
-
-/// Directives of `http` that may stand more often.
-const HTTP_MORE: [&str; 1] = ["server { }"];
-
-/// Directives of `server` alone, which may stand more often.
-const SERVER: [&str; 3] = ["listen 8080;", "server_name x;", "location /x { }"];
-
-/// Directives of `location` alone.
-const LOCATION: [&str; 2] = ["content_by_lua_block { }", "internal;"];
-
-/// Directives of `http`, `server` and `location`.
-const INHERITED: [&str; 19] = [
-    "access_log x;",
-    "sendfile on;",
-    "tcp_nopush on;",
-    "tcp_nodelay on;",
-    "rewrite_by_lua_block { }",
-    "access_by_lua_block { }",
-    "header_filter_by_lua_block { }",
-    "body_filter_by_lua_block { }",
-    "log_by_lua_block { }",
-    "default_type x;",
-    "client_max_body_size 1;",
-    "keepalive_timeout 1;",
-    "client_body_timeout 1;",
-    "send_timeout 1;",
-    "lua_socket_connect_timeout 1;",
-    "lua_socket_send_timeout 1;",
-    "lua_socket_read_timeout 1;",
-    "lua_socket_keepalive_timeout 1;",
-    "lua_socket_pool_size 1;",
-];
+/// Directives after the letters of the places where they may stand, and a `+` where they may stand more often; `http` is tried below.
+const DIRECTIVES: &str = "\
+M worker_processes 1;
+M daemon off;
+M pid x;
+M user x y;
+M events { }
+MH error_log x;
+E worker_connections 1;
+H lua_package_path x/?.lua;
+H init_by_lua_block { }
+H+ server { }
+H lua_shared_dict x 1;
+HS client_header_timeout 1;
+S+ listen 8080;
+S+ server_name x;
+S+ location /x { }
+L content_by_lua_block { }
+L internal;
+HSL access_log x;
+HSL sendfile on;
+HSL tcp_nopush on;
+HSL tcp_nodelay on;
+HSL rewrite_by_lua_block { }
+HSL access_by_lua_block { }
+HSL header_filter_by_lua_block { }
+HSL body_filter_by_lua_block { }
+HSL log_by_lua_block { }
+HSL default_type x;
+HSL client_max_body_size 1;
+HSL keepalive_timeout 1;
+HSL client_body_timeout 1;
+HSL send_timeout 1;
+HSL lua_socket_connect_timeout 1;
+HSL lua_socket_send_timeout 1;
+HSL lua_socket_read_timeout 1;
+HSL lua_socket_keepalive_timeout 1;
+HSL lua_socket_pool_size 1;";
 
 /// A configuration in which this stands in the main part, in `events`, `http`, `server` or `location`, by its first letter.
 fn placed(alloc: Global, place: char, said: &str) -> Result<String, AllocError> {
@@ -59,102 +54,65 @@ fn placed(alloc: Global, place: char, said: &str) -> Result<String, AllocError> 
     }
 }
 
-/// The fault of a text with its line, or `ok`.
-fn read(alloc: Global, text: &str) -> Result<String, AllocError> {
-    match site_text_of(alloc, text.as_bytes()) {
-        Ok(_) => format!(in alloc; "ok"),
-        Err(fault) => format!(in alloc; "{fault:?}"),
-    }
-}
-
-/// What stands in this place has this fault.
-fn expect(
-    rt: &impl Abort,
-    alloc: Global,
-    place: char,
-    said: &str,
-    expected: &str,
-) -> Result<(), Fail> {
+/// Whether what stands in this place has this fault.
+fn has(alloc: Global, place: char, said: &str, expected: &str) -> Result<bool, AllocError> {
     let text = placed(alloc, place, said)?;
-    let found = read(alloc, text.as_str())?;
-    assert_eq!(rt; found.as_str(), expected);
-    Ok(())
+    Ok(fault(alloc, text.as_str())?.as_str() == expected)
 }
 
-/// Where directives may stand, by the letters of these places, they are taken, and elsewhere they aren't allowed.
-fn expect_places(
-    rt: &impl Abort,
-    alloc: Global,
-    directives: &[&str],
-    places: &str,
-) -> Result<(), Fail> {
-    for directive in directives {
-        for place in "MEHSL".chars() {
-            let expected = if places.contains(place) {
-                "ok"
-            } else {
-                "Place(1)"
-            };
-            expect(rt, alloc, place, directive, expected)?;
-        }
+/// A directive has its places: elsewhere it isn't allowed.
+fn expect_places(rt: &impl Abort, alloc: Global, places: &str, said: &str) -> Result<(), Fail> {
+    for place in "MEHSL".chars() {
+        let expected = if places.contains(place) {
+            "ok"
+        } else {
+            "Place(1)"
+        };
+        assert!(rt; has(alloc, place, said, expected)?, "{place}: {said}");
     }
     Ok(())
 }
 
-/// Where directives stand twice, in each of these places, the second has this fault.
+/// Where a directive stands twice in its places, the second has this fault.
 fn expect_twice(
     rt: &impl Abort,
     alloc: Global,
-    directives: &[&str],
     places: &str,
+    said: &str,
     expected: &str,
 ) -> Result<(), Fail> {
-    for directive in directives {
-        let twice = format!(in alloc; "{directive}\n{directive}")?;
-        for place in places.chars() {
-            expect(rt, alloc, place, twice.as_str(), expected)?;
-        }
+    let twice = format!(in alloc; "{said}\n{said}")?;
+    for place in places.chars() {
+        assert!(rt;
+            has(alloc, place, twice.as_str(), expected)?,
+            "{place}: {said}"
+        );
     }
     Ok(())
 }
 
 #[test]
 fn every_directive_has_its_places(rt: HostRuntime) -> Result<(), Fail> {
-    let alloc = rt.alloc();
-    expect_places(&rt, alloc, &MAIN, "M")?;
-    expect_places(&rt, alloc, &["error_log x;"], "MH")?;
-    expect_places(&rt, alloc, &["worker_connections 1;"], "E")?;
-    expect_places(&rt, alloc, &HTTP, "H")?;
-    expect_places(&rt, alloc, &HTTP_MORE, "H")?;
-    expect_places(&rt, alloc, &["lua_shared_dict x 1;"], "H")?;
-    expect_places(&rt, alloc, &["client_header_timeout 1;"], "HS")?;
-    expect_places(&rt, alloc, &SERVER, "S")?;
-    expect_places(&rt, alloc, &LOCATION, "L")?;
-    expect_places(&rt, alloc, &INHERITED, "HSL")
+    for row in DIRECTIVES.lines() {
+        let (places, said) = row.split_once(' ').unwrap_or((row, ""));
+        let (places, expected) = match places.strip_suffix('+') {
+            Some(places) => (places, "ok"),
+            None => (places, "Twice(2)"),
+        };
+        expect_places(&rt, rt.alloc(), places, said)?;
+        expect_twice(&rt, rt.alloc(), places, said, expected)?;
+    }
+    Ok(())
 }
 
-#[test]
-fn most_directives_stand_once(rt: HostRuntime) -> Result<(), Fail> {
-    let alloc = rt.alloc();
-    expect_twice(&rt, alloc, &MAIN, "M", "Twice(2)")?;
-    expect_twice(&rt, alloc, &["error_log x;"], "MH", "Twice(2)")?;
-    expect_twice(&rt, alloc, &["worker_connections 1;"], "E", "Twice(2)")?;
-    expect_twice(&rt, alloc, &HTTP, "H", "Twice(2)")?;
-    expect_twice(&rt, alloc, &["lua_shared_dict x 1;"], "H", "Twice(2)")?;
-    expect_twice(&rt, alloc, &["client_header_timeout 1;"], "HS", "Twice(2)")?;
-    expect_twice(&rt, alloc, &LOCATION, "L", "Twice(2)")?;
-    expect_twice(&rt, alloc, &INHERITED, "HSL", "Twice(2)")?;
-    expect_twice(&rt, alloc, &HTTP_MORE, "H", "ok")?;
-    expect_twice(&rt, alloc, &SERVER, "S", "ok")
-}
+const HTTP: &str = "http { server { } }";
 
 /// `http` stands in the main part alone, and once.
 #[test]
 fn http_has_its_place(rt: HostRuntime) -> Result<(), Fail> {
-    let alloc = rt.alloc();
-    expect(&rt, alloc, 'M', "http { server { } }", "Twice(1)")?;
+    assert!(rt; has(rt.alloc(), 'M', HTTP, "Twice(1)")?);
     for place in "EHSL".chars() {
-        expect(&rt, alloc, place, "http { server { } }", "Place(1)")?;
+        assert!(rt; has(rt.alloc(), place, HTTP, "Place(1)")?, "{place}");
     }
     Ok(())
 }

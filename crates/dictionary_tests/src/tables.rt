@@ -1,214 +1,211 @@
 //! Tables of calls with their answers, which were worked out by hand. Each answer is foreseen, too.
 
 use crate::answers::{Answer, asked};
-use crate::calls::Call;
 use crate::calls::Value::{Long, Number, Text, Truth};
+use crate::calls::{Call, Value};
 use shared_dict::Zone;
 use std::alloc::Global;
-use std::test::Fail;
-
-/// A call at a moment, and its answer.
-type Step = (u64, Call, Answer<'static>);
+use std::process::Abort;
 
 /// 132 bytes hold two items of one byte each in key and value.
-const TWO_FIT: [Step; 11] = [
-    (0, Call::Set(b"a", Text(b"1"), 0, 0), Answer::Done(false)),
-    (0, Call::Add(b"a", Text(b"2"), 0, 0), Answer::Exists),
-    (0, Call::Replace(b"b", Text(b"2"), 0, 0), Answer::Missing),
-    (0, Call::Incr(b"a", 1), Answer::NotNumber),
-    (0, Call::Incr(b"n", 2), Answer::Missing),
-    (0, Call::Begin(b"n", 2, 5, 0), Answer::Number(7, true)),
-    (0, Call::Keys(0), Answer::Names(b"n|")),
-    (0, Call::FlushAll, Answer::Done(false)),
-    (0, Call::Get(b"n"), Answer::Nothing),
-    (0, Call::FlushExpired(0), Answer::Count(1)),
-    (0, Call::FlushExpired(0), Answer::Count(0)),
-];
+const TWO_FIT: &str = "\
+0 set a '1 0 0 => done
+0 add a '2 0 0 => exists
+0 replace b '2 0 0 => missing
+0 incr a 1 => not-a-number
+0 incr n 2 => missing
+0 begin n 2 5 0 => number 7 evicted
+0 keys 0 => names n|
+0 flush-all => done
+0 get n => nothing
+0 flush-expired 0 => count 1
+0 flush-expired 0 => count 0";
 
 /// The last item goes though another one has expired; the other is taken out later.
-const LIVE_LAST: [Step; 7] = [
-    (0, Call::Set(b"a", Text(b"1"), 0, 0), Answer::Done(false)),
-    (
-        0,
-        Call::Set(b"b", Text(b"2"), 1_000, 0),
-        Answer::Done(false),
-    ),
-    (1_000, Call::Set(b"c", Text(b"3"), 0, 0), Answer::Done(true)),
-    (1_000, Call::Get(b"a"), Answer::Nothing),
-    (1_000, Call::Get(b"b"), Answer::Nothing),
-    (1_000, Call::FlushExpired(0), Answer::Count(1)),
-    (1_000, Call::Keys(0), Answer::Names(b"c|")),
-];
+const LIVE_LAST: &str = "\
+0 set a '1 0 0 => done
+0 set b '2 1000 0 => done
+1000 set c '3 0 0 => done evicted
+1000 get a => nothing
+1000 get b => nothing
+1000 flush-expired 0 => count 1
+1000 keys 0 => names c|";
 
 /// A `get` brings its item first, also before one that is evicted for a third.
-const RECENT: [Step; 12] = [
-    (0, Call::Set(b"a", Text(b"1"), 0, 0), Answer::Done(false)),
-    (0, Call::Set(b"b", Text(b"2"), 0, 0), Answer::Done(false)),
-    (0, Call::Get(b"a"), Answer::Found(Text(b"1"), 0)),
-    (0, Call::Keys(0), Answer::Names(b"a|b|")),
-    (0, Call::Set(b"c", Text(b"3"), 0, 0), Answer::Done(true)),
-    (0, Call::Get(b"b"), Answer::Nothing),
-    (0, Call::Get(b"a"), Answer::Found(Text(b"1"), 0)),
-    (0, Call::Keys(1), Answer::Names(b"a|")),
-    (0, Call::Set(b"c", Text(b"4"), 0, 0), Answer::Done(false)),
-    (0, Call::Keys(0), Answer::Names(b"c|a|")),
-    (0, Call::Set(b"d", Text(b"xxx"), 0, 0), Answer::Done(true)),
-    (0, Call::Keys(0), Answer::Names(b"d|")),
-];
+const RECENT: &str = "\
+0 set a '1 0 0 => done
+0 set b '2 0 0 => done
+0 get a => found '1 0
+0 keys 0 => names a|b|
+0 set c '3 0 0 => done evicted
+0 get b => nothing
+0 get a => found '1 0
+0 keys 1 => names a|
+0 set c '4 0 0 => done
+0 keys 0 => names c|a|
+0 set d 'xxx 0 0 => done evicted
+0 keys 0 => names d|";
 
 /// An item that never fits has others evicted, and takes the old one of its key with it.
-const TOO_LARGE: [Step; 8] = [
-    (0, Call::Set(b"a", Text(b"1"), 0, 0), Answer::Done(false)),
-    (0, Call::Set(b"b", Long(68), 0, 0), Answer::NoMemory(true)),
-    (0, Call::Get(b"a"), Answer::Nothing),
-    (0, Call::Set(b"b", Text(b"2"), 0, 0), Answer::Done(false)),
-    (0, Call::Set(b"b", Long(68), 0, 0), Answer::NoMemory(false)),
-    (0, Call::Get(b"b"), Answer::Nothing),
-    (0, Call::Set(b"b", Long(67), 0, 0), Answer::Done(false)),
-    (0, Call::Keys(0), Answer::Names(b"b|")),
-];
+const TOO_LARGE: &str = "\
+0 set a '1 0 0 => done
+0 set b x*68 0 0 => no-memory evicted
+0 get a => nothing
+0 set b '2 0 0 => done
+0 set b x*68 0 0 => no-memory
+0 get b => nothing
+0 set b x*67 0 0 => done
+0 keys 0 => names b|";
 
 /// Times to live and flags.
-const TIMES: [Step; 20] = [
-    (
-        0,
-        Call::Set(b"k", Text(b"v"), 1_000, 7),
-        Answer::Done(false),
-    ),
-    (999, Call::Get(b"k"), Answer::Found(Text(b"v"), 7)),
-    (1_000, Call::Get(b"k"), Answer::Nothing),
-    (
-        1_000,
-        Call::Add(b"k", Text(b"w"), 0, 0),
-        Answer::Done(false),
-    ),
-    (
-        1_000,
-        Call::Replace(b"k", Number(5), 0, 3),
-        Answer::Done(false),
-    ),
-    (1_000, Call::Get(b"k"), Answer::Found(Number(5), 3)),
-    (
-        1_000,
-        Call::Set(b"t", Truth(true), 5, 0),
-        Answer::Done(false),
-    ),
-    (1_004, Call::Get(b"t"), Answer::Found(Truth(true), 0)),
-    (1_005, Call::Get(b"t"), Answer::Nothing),
-    (1_005, Call::Delete(b"k"), Answer::Done(false)),
-    (1_005, Call::Get(b"k"), Answer::Nothing),
-    (1_005, Call::Keys(0), Answer::Names(b"")),
-    (1_005, Call::FlushExpired(0), Answer::Count(1)),
-    (
-        1_005,
-        Call::Set(b"u", Truth(false), 0, u32::MAX),
-        Answer::Done(false),
-    ),
-    (1_120, Call::FlushAll, Answer::Done(false)),
-    (1_120, Call::Get(b"u"), Answer::Nothing),
-    (
-        1_119,
-        Call::Get(b"u"),
-        Answer::Found(Truth(false), u32::MAX),
-    ),
-    (1_120, Call::FlushExpired(1), Answer::Count(1)),
-    (
-        99_999_999_999_999,
-        Call::Set(b"z", Truth(false), 99_999_999_999_999, 0),
-        Answer::Done(false),
-    ),
-    (
-        99_999_999_999_999,
-        Call::Get(b"z"),
-        Answer::Found(Truth(false), 0),
-    ),
-];
+const TIMES: &str = "\
+0 set k 'v 1000 7 => done
+999 get k => found 'v 7
+1000 get k => nothing
+1000 add k 'w 0 0 => done
+1000 replace k 5 0 3 => done
+1000 get k => found 5 3
+1000 set t true 5 0 => done
+1004 get t => found true 0
+1005 get t => nothing
+1005 delete k => done
+1005 get k => nothing
+1005 keys 0 => names
+1005 flush-expired 0 => count 1
+1005 set u false 0 4294967295 => done
+1120 flush-all => done
+1120 get u => nothing
+1119 get u => found false 4294967295
+1120 flush-expired 1 => count 1
+99999999999999 set z false 99999999999999 0 => done
+99999999999999 get z => found false 0";
 
 /// Numbers and their range.
-const NUMBERS: [Step; 19] = [
-    (0, Call::Set(b"k", Number(5), 0, 3), Answer::Done(false)),
-    (0, Call::Incr(b"k", 10), Answer::Number(15, false)),
-    (0, Call::Get(b"k"), Answer::Found(Number(15), 3)),
-    (0, Call::Incr(b"k", 99_999_999_999_985), Answer::OutOfRange),
-    (
-        0,
-        Call::Incr(b"k", 99_999_999_999_984),
-        Answer::Number(99_999_999_999_999, false),
-    ),
-    (
-        0,
-        Call::Incr(b"k", -1),
-        Answer::Number(99_999_999_999_998, false),
-    ),
-    (
-        0,
-        Call::Begin(b"n", -5, -99_999_999_999_994, 0),
-        Answer::Number(-99_999_999_999_999, false),
-    ),
-    (0, Call::Incr(b"n", -1), Answer::OutOfRange),
-    (
-        0,
-        Call::Get(b"n"),
-        Answer::Found(Number(-99_999_999_999_999), 0),
-    ),
-    (
-        0,
-        Call::Begin(b"m", 1, 99_999_999_999_999, 0),
-        Answer::OutOfRange,
-    ),
-    (0, Call::Get(b"m"), Answer::Nothing),
-    (0, Call::Set(b"c", Number(1), 10, 2), Answer::Done(false)),
-    (5, Call::Begin(b"c", 1, 5, 100), Answer::Number(2, false)),
-    (9, Call::Get(b"c"), Answer::Found(Number(2), 2)),
-    (10, Call::Get(b"c"), Answer::Nothing),
-    (10, Call::Begin(b"c", 1, 5, 100), Answer::Number(6, false)),
-    (109, Call::Get(b"c"), Answer::Found(Number(6), 0)),
-    (110, Call::Get(b"c"), Answer::Nothing),
-    (110, Call::Keys(0), Answer::Names(b"n|k|")),
-];
+const NUMBERS: &str = "\
+0 set k 5 0 3 => done
+0 incr k 10 => number 15
+0 get k => found 15 3
+0 incr k 99999999999985 => out-of-range
+0 incr k 99999999999984 => number 99999999999999
+0 incr k -1 => number 99999999999998
+0 begin n -5 -99999999999994 0 => number -99999999999999
+0 incr n -1 => out-of-range
+0 get n => found -99999999999999 0
+0 begin m 1 99999999999999 0 => out-of-range
+0 get m => nothing
+0 set c 1 10 2 => done
+5 begin c 1 5 100 => number 2
+9 get c => found 2 2
+10 get c => nothing
+10 begin c 1 5 100 => number 6
+109 get c => found 6 0
+110 get c => nothing
+110 keys 0 => names n|k|";
 
 /// Keys and values of no bytes, and of bytes that are zero.
-const ZERO_BYTES: [Step; 8] = [
-    (0, Call::Set(b"", Text(b""), 0, 0), Answer::Done(false)),
-    (0, Call::Get(b""), Answer::Found(Text(b""), 0)),
-    (
-        0,
-        Call::Set(b"\0", Text(b"\0\0"), 0, 0),
-        Answer::Done(false),
-    ),
-    (0, Call::Get(b"\0"), Answer::Found(Text(b"\0\0"), 0)),
-    (0, Call::Get(b"\0\0"), Answer::Nothing),
-    (0, Call::Keys(0), Answer::Names(b"\0||")),
-    (0, Call::Delete(b""), Answer::Done(false)),
-    (0, Call::Get(b""), Answer::Nothing),
-];
+const ZERO_BYTES: &str = "\
+0 set  ' 0 0 => done
+0 get  => found ' 0
+0 set \0 '\0\0 0 0 => done
+0 get \0 => found '\0\0 0
+0 get \0\0 => nothing
+0 keys 0 => names \0||
+0 delete  => done
+0 get  => nothing";
 
 /// What was stored after a flush of all stays, and so does what is stored again.
-const FLUSHES: [Step; 11] = [
-    (0, Call::Set(b"a", Text(b"1"), 0, 0), Answer::Done(false)),
-    (0, Call::Set(b"b", Text(b"2"), 50, 0), Answer::Done(false)),
-    (10, Call::FlushAll, Answer::Done(false)),
-    (10, Call::Set(b"c", Text(b"3"), 0, 0), Answer::Done(false)),
-    (10, Call::Set(b"a", Text(b"4"), 0, 0), Answer::Done(false)),
-    (10, Call::Keys(0), Answer::Names(b"a|c|")),
-    (20, Call::FlushAll, Answer::Done(false)),
-    (20, Call::Keys(0), Answer::Names(b"")),
-    (19, Call::Keys(0), Answer::Names(b"a|c|b|")),
-    (20, Call::FlushExpired(2), Answer::Count(2)),
-    (19, Call::Keys(0), Answer::Names(b"a|")),
-];
+const FLUSHES: &str = "\
+0 set a '1 0 0 => done
+0 set b '2 50 0 => done
+10 flush-all => done
+10 set c '3 0 0 => done
+10 set a '4 0 0 => done
+10 keys 0 => names a|c|
+20 flush-all => done
+20 keys 0 => names
+19 keys 0 => names a|c|b|
+20 flush-expired 2 => count 2
+19 keys 0 => names a|";
 
 /// The keys of 31 items, one byte each.
 const THIRTY_ONE: &[u8; 31] = b"0123456789ABCDEFGHIJKLMNOPQRSTU";
 
-/// What a full zone of 31 items of 66 bytes answers a text of so many bytes, and which keys it has then: 28, 29, 30 are evicted, and
-/// no 31.
-const CROWDS: [(usize, bool, &[u8]); 4] = [
-    (1_783, true, b"x|U|T|S|"),
-    (1_849, true, b"x|U|T|"),
-    (1_915, true, b"x|U|"),
-    (1_981, false, b"U|"),
-];
+/// A text's length, what a full zone of 31 items of 66 bytes answers to such a text, and which keys it has then: 28, 29, 30 are evicted,
+/// and no 31.
+const CROWDS: &str = "\
+1783 done evicted => x|U|T|S|
+1849 done evicted => x|U|T|
+1915 done evicted => x|U|
+1981 no-memory evicted => U|";
+
+/// The word of this number.
+fn word(text: &'static str, index: usize) -> &'static str {
+    text.split(' ').nth(index).unwrap_or("")
+}
+
+/// A text after `'`, so many `x` after `x*`, a truth or a number.
+fn value_in(word: &'static str) -> Value {
+    if let Some(text) = word.strip_prefix('\'') {
+        return Text(text.as_bytes());
+    }
+    if let Some(count) = word.strip_prefix("x*") {
+        return Long(count.parse().unwrap_or(0));
+    }
+    match word {
+        "true" => Truth(true),
+        "false" => Truth(false),
+        number => Number(number.parse().unwrap_or(0)),
+    }
+}
+
+/// The value, the time to live and the flags of a call that stores.
+fn stored_in(row: &'static str) -> (Value, u64, u32) {
+    let ttl = word(row, 4).parse().unwrap_or(0);
+    let flags = word(row, 5).parse().unwrap_or(0);
+    (value_in(word(row, 3)), ttl, flags)
+}
+
+/// The call of a row: a moment, the name of the call, its key and the rest.
+fn call_in(row: &'static str) -> Call {
+    let key = word(row, 2).as_bytes();
+    let by = word(row, 3).parse().unwrap_or(0);
+    let (value, ttl, flags) = stored_in(row);
+    match word(row, 1) {
+        "get" => Call::Get(key),
+        "set" => Call::Set(key, value, ttl, flags),
+        "add" => Call::Add(key, value, ttl, flags),
+        "replace" => Call::Replace(key, value, ttl, flags),
+        "delete" => Call::Delete(key),
+        "incr" => Call::Incr(key, by),
+        "begin" => {
+            let init = word(row, 4).parse().unwrap_or(0);
+            Call::Begin(key, by, init, word(row, 5).parse().unwrap_or(0))
+        }
+        "flush-all" => Call::FlushAll,
+        "flush-expired" => Call::FlushExpired(word(row, 2).parse().unwrap_or(0)),
+        _ => Call::Keys(word(row, 2).parse().unwrap_or(0)),
+    }
+}
+
+/// The answer that a text writes.
+fn answer_in(text: &'static str) -> Answer<'static> {
+    match word(text, 0) {
+        "found" => Answer::Found(value_in(word(text, 1)), word(text, 2).parse().unwrap_or(0)),
+        "nothing" => Answer::Nothing,
+        "done" => Answer::Done(word(text, 1) == "evicted"),
+        "exists" => Answer::Exists,
+        "missing" => Answer::Missing,
+        "no-memory" => Answer::NoMemory(word(text, 1) == "evicted"),
+        "not-a-number" => Answer::NotNumber,
+        "out-of-range" => Answer::OutOfRange,
+        "number" => {
+            let number = word(text, 1).parse().unwrap_or(0);
+            Answer::Number(number, word(text, 2) == "evicted")
+        }
+        "count" => Answer::Count(word(text, 1).parse().unwrap_or(0)),
+        _ => Answer::Names(word(text, 1).as_bytes()),
+    }
+}
 
 /// Whether a zone answers the call so.
 fn holds(alloc: Global, zone: &mut Zone, now: u64, call: Call, want: Answer<'_>) -> bool {
@@ -218,15 +215,17 @@ fn holds(alloc: Global, zone: &mut Zone, now: u64, call: Call, want: Answer<'_>)
     }
 }
 
-/// The index of the first step that a zone of this size answers otherwise.
-fn first_wrong(alloc: Global, size: u64, steps: &[Step]) -> Option<usize> {
+/// Tests each row, `MOMENT CALL => ANSWER`, on one zone of this size.
+fn hold(rt: &impl Abort, alloc: Global, size: u64, rows: &'static str) {
     let mut zone = Zone::new(size);
-    for (index, (now, call, want)) in steps.iter().enumerate() {
-        if !holds(alloc, &mut zone, *now, *call, *want) {
-            return Some(index);
-        }
+    for row in rows.lines() {
+        let (call, answer) = row.split_once(" => ").unwrap_or((row, ""));
+        let now = word(call, 0).parse().unwrap_or(0);
+        assert!(rt;
+            holds(alloc, &mut zone, now, call_in(call), answer_in(answer)),
+            "{row}"
+        );
     }
-    None
 }
 
 /// Fills a zone with items of 66 bytes; whether all were stored.
@@ -260,34 +259,28 @@ fn crowds(alloc: Global, count: usize, want: Answer<'_>, keys: &[u8]) -> bool {
 }
 
 #[test]
-fn at_most_30_are_evicted(rt: HostRuntime) -> Result<(), Fail> {
-    for (count, fits, keys) in CROWDS {
-        let want = if fits {
-            Answer::Done(true)
-        } else {
-            Answer::NoMemory(true)
-        };
-        assert!(rt; crowds(rt.alloc(), count, want, keys));
+fn at_most_30_are_evicted(rt: HostRuntime) {
+    for row in CROWDS.lines() {
+        let (given, keys) = row.split_once(" => ").unwrap_or((row, ""));
+        let (count, answer) = given.split_once(' ').unwrap_or((given, ""));
+        let count = count.parse().unwrap_or(0);
+        assert!(rt;
+            crowds(rt.alloc(), count, answer_in(answer), keys.as_bytes()),
+            "{row}"
+        );
     }
-    Ok(())
 }
 
 #[test]
-fn tables_hold_where_two_items_fit(rt: HostRuntime) -> Result<(), Fail> {
-    let alloc = rt.alloc();
-    assert_eq!(rt; first_wrong(alloc, 132, &TWO_FIT), None);
-    assert_eq!(rt; first_wrong(alloc, 132, &LIVE_LAST), None);
-    assert_eq!(rt; first_wrong(alloc, 132, &RECENT), None);
-    assert_eq!(rt; first_wrong(alloc, 132, &TOO_LARGE), None);
-    Ok(())
+fn tables_hold_where_two_items_fit(rt: HostRuntime) {
+    for rows in [TWO_FIT, LIVE_LAST, RECENT, TOO_LARGE] {
+        hold(&rt, rt.alloc(), 132, rows);
+    }
 }
 
 #[test]
-fn tables_hold_where_all_fit(rt: HostRuntime) -> Result<(), Fail> {
-    let alloc = rt.alloc();
-    assert_eq!(rt; first_wrong(alloc, 1_000, &TIMES), None);
-    assert_eq!(rt; first_wrong(alloc, 1_000, &NUMBERS), None);
-    assert_eq!(rt; first_wrong(alloc, 1_000, &ZERO_BYTES), None);
-    assert_eq!(rt; first_wrong(alloc, 1_000, &FLUSHES), None);
-    Ok(())
+fn tables_hold_where_all_fit(rt: HostRuntime) {
+    for rows in [TIMES, NUMBERS, ZERO_BYTES, FLUSHES] {
+        hold(&rt, rt.alloc(), 1_000, rows);
+    }
 }

@@ -1,127 +1,173 @@
 //! Tests of header fields, names, lists in values and hosts; the values were worked out from RFC 9110 by hand.
+use crate::calls::hold;
+use crate::texts::*;
 use http_base::*;
-use resty_base::{Bytes, Pair2};
 use std::alloc::{AllocError, Global};
 use std::test::Fail;
 
-/// A field of these two.
-fn field(alloc: Global, name: &[u8], value: &[u8]) -> Result<Pair2, AllocError> {
-    Ok(Pair2 {
-        name: Bytes::copy_from_slice(alloc, name)?,
-        value: Bytes::copy_from_slice(alloc, value)?,
-    })
-}
-
-/// The texts, each in brackets.
-fn in_brackets(alloc: Global, texts: &[&[u8]]) -> Result<Vec<u8>, AllocError> {
-    let mut all = Vec::new(alloc);
-    for text in texts {
-        all.push(b'[')?;
-        all.extend_from_slice(text)?;
-        all.push(b']')?;
-    }
-    Ok(all)
-}
+const NAMES: &str = "\
+lower  => []
+same   => same
+lower Host => [host]
+same Host host => same
+lower AZaz@[`{ => [azaz@[`{]
+same AZaz@[`{ azaz@[`{ => same
+lower \u{c3}\u{89}X => [\u{c3}\u{89}x]
+same \u{c3}\u{89}X \u{c3}\u{89}x => same
+same host hos => another
+same  x => another
+same a-b a_b => another
+same \u{c3}\u{89} \u{c3}\u{a9} => another
+same @ ` => another";
 
 #[test]
 fn names_have_no_case(rt: HostRuntime) -> Result<(), Fail> {
-    for (text, expected) in [
-        (b"".as_slice(), b"".as_slice()),
-        (b"Host", b"host"),
-        (b"AZaz@[`{", b"azaz@[`{"),
-        (b"\xc3\x89X", b"\xc3\x89x"),
-    ] {
-        let lowered = lower(rt.alloc(), text)?;
-        assert_eq!(rt; lowered.as_slice(), expected);
-        assert!(rt; same_name(text, expected));
-    }
-    for (name, other) in [
-        (b"host".as_slice(), b"hos".as_slice()),
-        (b"", b"x"),
-        (b"a-b", b"a_b"),
-        (b"\xc3\x89", b"\xc3\xa9"),
-        (b"@", b"`"),
-    ] {
-        assert!(rt; !same_name(name, other));
-    }
-    Ok(())
+    hold(&rt, rt.alloc(), NAMES)
 }
+
+/// Fields, steps on them, and the fields at the end.
+const FIELDS: &str =
+    "fields A=1 B=2 a=3 A-B=4 a=; values a, values c, remove a, count, remove c => [1;3;;][][2]B=2;A-B=4;";
 
 #[test]
 fn fields_are_found_and_taken_out_by_name(rt: HostRuntime) -> Result<(), Fail> {
-    let alloc = rt.alloc();
-    let mut items = Vec::new(alloc);
-    for (name, value) in [
-        (b"A".as_slice(), b"1".as_slice()),
-        (b"B", b"2"),
-        (b"a", b"3"),
-        (b"A-B", b"4"),
-        (b"a", b""),
-    ] {
-        items.push(field(alloc, name, value)?)?;
-    }
-    let mut fields = Fields::of(items);
-    let mut values = Vec::new(alloc);
-    for value in fields.values_of(alloc, b"a")?.as_slice() {
-        values.extend_from_slice(value)?;
-        values.push(b';')?;
-    }
-    assert_eq!(rt; values.as_slice(), b"1;3;;".as_slice());
-    assert!(rt; fields.values_of(alloc, b"c")?.is_empty());
-    fields.remove(b"a");
-    assert_eq!(rt; fields.as_slice().len(), 2);
-    fields.remove(b"c");
-    let mut left = Vec::new(alloc);
-    for field in fields.into_vec().as_slice() {
-        left.extend_from_slice(&field.name)?;
-        left.extend_from_slice(&field.value)?;
-    }
-    assert_eq!(rt; left.as_slice(), b"B2A-B4".as_slice());
-    Ok(())
+    hold(&rt, rt.alloc(), FIELDS)
 }
+
+const LISTS: &str = "\
+elements  => []
+elements chunked => [chunked]
+elements x, chunked => [x][chunked]
+elements chunked, => [chunked][]
+elements , chunked => [][chunked]
+elements  \ta b\t ,\t => [a b][]
+elements a\x0b,\x0cb => [a\x0b][\x0cb]
+elements ,, => [][][]
+elements chunked;a=1 => [chunked;a=1]
+trimmed  \t  => []";
 
 #[test]
 fn values_are_lists_of_elements(rt: HostRuntime) -> Result<(), Fail> {
-    let alloc = rt.alloc();
-    for (value, expected) in [
-        (b"".as_slice(), b"[]".as_slice()),
-        (b"chunked", b"[chunked]"),
-        (b"x, chunked", b"[x][chunked]"),
-        (b"chunked,", b"[chunked][]"),
-        (b", chunked", b"[][chunked]"),
-        (b" \x09a b\x09 ,\x09", b"[a b][]"),
-        (b"a\x0b,\x0cb", b"[a\x0b][\x0cb]"),
-        (b",,", b"[][][]"),
-        (b"chunked;a=1", b"[chunked;a=1]"),
-    ] {
-        let list = elements(alloc, value)?;
-        let written = in_brackets(alloc, &list)?;
-        assert_eq!(rt; written.as_slice(), expected);
-    }
-    assert_eq!(rt; trimmed(b" \x09 "), b"".as_slice());
-    Ok(())
+    hold(&rt, rt.alloc(), LISTS)
 }
+
+const HOSTS: &str = "\
+host  => []
+host H => [h]
+host H:80 => [h]
+host :80 => []
+host a:b:c => [a]
+host [::1]:80 => [[::1]]
+host [::A] => [[::a]]
+host [::1 => [[::1]
+host u@H => [u@h]
+host a[:] => [a[]";
+
+const SPLITS: &str = "\
+split a=b=c => [a][b=c]
+split a => [a]";
 
 #[test]
 fn hosts_are_plain(rt: HostRuntime) -> Result<(), Fail> {
-    for (text, expected) in [
-        (b"".as_slice(), b"".as_slice()),
-        (b"H", b"h"),
-        (b"H:80", b"h"),
-        (b":80", b""),
-        (b"a:b:c", b"a"),
-        (b"[::1]:80", b"[::1]"),
-        (b"[::A]", b"[::a]"),
-        (b"[::1", b"[::1"),
-        (b"u@H", b"u@h"),
-        (b"a[:]", b"a["),
-    ] {
-        let host = plain_host(rt.alloc(), text)?;
-        assert_eq!(rt; host.as_slice(), expected);
+    hold(&rt, rt.alloc(), HOSTS)?;
+    hold(&rt, rt.alloc(), SPLITS)
+}
+
+/// Writes what a call of `http_base` gives.
+pub(crate) fn write_call(
+    alloc: Global,
+    all: &mut String,
+    word: &str,
+    given: &str,
+) -> Result<(), AllocError> {
+    let bytes = bytes_of(alloc, given)?;
+    match word {
+        "lower" => write_part(all, &lower(alloc, &bytes)?),
+        "same" => all.push_str(compared(&bytes)),
+        "fields" => write_steps(alloc, all, given),
+        "elements" => write_elements(alloc, all, &bytes),
+        "trimmed" => write_part(all, trimmed(&bytes)),
+        "host" => write_part(all, &plain_host(alloc, &bytes)?),
+        _ => write_split(all, &bytes),
     }
-    let (before, after) = split_once(b"a=b=c", b'=');
-    assert_eq!(rt; before, b"a".as_slice());
-    assert_eq!(rt; after, Some(b"b=c".as_slice()));
-    assert_eq!(rt; split_once(b"a", b'=').1, None);
+}
+
+/// Compares two names with a space between.
+fn compared(names: &[u8]) -> &'static str {
+    let (name, other) = split_once(names, b' ');
+    if same_name(name, other.unwrap_or(b"")) {
+        "same"
+    } else {
+        "another"
+    }
+}
+
+/// Takes the steps of `FIELDS; STEPS`, and writes what each answers, and the fields at the end.
+fn write_steps(alloc: Global, all: &mut String, given: &str) -> Result<(), AllocError> {
+    let (fields, steps) = given.split_once("; ").unwrap_or((given, ""));
+    let mut fields = fields_of(alloc, fields)?;
+    for step in steps.split(", ") {
+        take(alloc, all, &mut fields, step)?;
+    }
+    for field in fields.into_vec().as_slice() {
+        write(all, &field.name)?;
+        all.push('=')?;
+        write(all, &field.value)?;
+        all.push(';')?;
+    }
     Ok(())
+}
+
+/// Takes a step: `values NAME`, `remove NAME` or `count`.
+fn take(
+    alloc: Global,
+    all: &mut String,
+    fields: &mut Fields,
+    step: &str,
+) -> Result<(), AllocError> {
+    let (word, name) = step.split_once(' ').unwrap_or((step, ""));
+    match word {
+        "values" => write_values(alloc, all, fields, name.as_bytes()),
+        "remove" => {
+            fields.remove(name.as_bytes());
+            Ok(())
+        }
+        _ => {
+            let count = fields.as_slice().len();
+            all.push_str(format!(in alloc; "[{count}]")?.as_str())
+        }
+    }
+}
+
+/// Writes the values of the fields of a name.
+fn write_values(
+    alloc: Global,
+    all: &mut String,
+    fields: &Fields,
+    name: &[u8],
+) -> Result<(), AllocError> {
+    all.push('[')?;
+    for value in fields.values_of(alloc, name)?.as_slice() {
+        write(all, value)?;
+        all.push(';')?;
+    }
+    all.push(']')
+}
+
+/// Writes the elements of a value.
+fn write_elements(alloc: Global, all: &mut String, value: &[u8]) -> Result<(), AllocError> {
+    for element in elements(alloc, value)?.as_slice() {
+        write_part(all, element)?;
+    }
+    Ok(())
+}
+
+/// Writes what stands before and after the first `=`.
+fn write_split(all: &mut String, text: &[u8]) -> Result<(), AllocError> {
+    let (before, after) = split_once(text, b'=');
+    write_part(all, before)?;
+    match after {
+        Some(after) => write_part(all, after),
+        None => Ok(()),
+    }
 }

@@ -1,264 +1,275 @@
 //! Tests of heads, dates, chunks, framings and built-in replies; the values were worked out from RFC 9110 and 9112 by hand.
+use crate::calls::hold;
+use crate::texts::*;
 use http_base::Fields;
 use http_reply::*;
-use resty_base::{Bytes, Ms, Pair2};
+use resty_base::{Bytes, Ms};
 use std::alloc::{AllocError, Global};
 use std::test::Fail;
 
-/// A head of these, to which nothing else is known.
-fn head(alloc: Global, status: u16, server: &'static [u8], keep: bool) -> ReplyHead {
-    ReplyHead {
-        status,
-        server: Bytes::from_static(server),
-        content_type: None,
-        length: None,
-        chunked: false,
-        keep,
-        others: Fields::of(Vec::new(alloc)),
-    }
-}
-
-/// These fields.
-fn fields(alloc: Global, pairs: &[(&'static [u8], &'static [u8])]) -> Result<Fields, AllocError> {
-    let mut items = Vec::new(alloc);
-    for (name, value) in pairs {
-        items.push(Pair2 {
-            name: Bytes::from_static(name),
-            value: Bytes::from_static(value),
-        })?;
-    }
-    Ok(Fields::of(items))
-}
-
-/// Pieces of a body.
-fn pieces(alloc: Global, texts: &[&'static [u8]]) -> Result<Vec<Bytes>, AllocError> {
-    let mut pieces = Vec::new(alloc);
-    for text in texts {
-        pieces.push(Bytes::from_static(text))?;
-    }
-    Ok(pieces)
-}
+/// Heads: a status, words and fields, the moment, and the text.
+const HEADS: &str = "\
+head 200 server:resty type:text/plain; 0 => \
+HTTP/1.1 200 OK␍␊Server: resty␍␊Date: Thu, 01 Jan 1970 00:00:00 GMT␍␊Content-Type: text/plain␍␊Connection: close␍␊␍␊
+head 404 server:s keep length:10; X-A=1 x-a=2; 999 => \
+HTTP/1.1 404 Not Found␍␊Server: s␍␊Date: Thu, 01 Jan 1970 00:00:00 GMT␍␊Content-Length: 10␍␊Connection: keep-alive␍␊X-A: 1␍␊x-a: 2␍␊␍␊
+head 299 server:resty keep type:a chunked; B=; 1000 => \
+HTTP/1.1 299 ␍␊Server: resty␍␊Date: Thu, 01 Jan 1970 00:00:01 GMT␍␊\
+Content-Type: a␍␊Transfer-Encoding: chunked␍␊Connection: keep-alive␍␊B: ␍␊␍␊
+head 200 keep length:0; 0 => \
+HTTP/1.1 200 OK␍␊Server: ␍␊Date: Thu, 01 Jan 1970 00:00:00 GMT␍␊Content-Length: 0␍␊Connection: keep-alive␍␊␍␊
+head 204 keep length:5; 0 => \
+HTTP/1.1 204 No Content␍␊Server: ␍␊Date: Thu, 01 Jan 1970 00:00:00 GMT␍␊Connection: keep-alive␍␊␍␊";
 
 #[test]
 fn heads_are_written(rt: HostRuntime) -> Result<(), Fail> {
-    let alloc = rt.alloc();
-    let mut plain = head(alloc, 200, b"resty", false);
-    plain.content_type = Some(Bytes::from_static(b"text/plain"));
-    let mut long = head(alloc, 404, b"s", true);
-    long.length = Some(10);
-    long.others = fields(alloc, &[(b"X-A", b"1"), (b"x-a", b"2")])?;
-    let mut chunked = head(alloc, 299, b"resty", true);
-    chunked.content_type = Some(Bytes::from_static(b"a"));
-    chunked.chunked = true;
-    chunked.others = fields(alloc, &[(b"B", b"")])?;
-    let mut empty = head(alloc, 200, b"", true);
-    empty.length = Some(0);
-    let mut bodiless = head(alloc, 204, b"", true);
-    bodiless.length = Some(5);
-    for (head, now, expected) in [
-        (
-            &plain,
-            0,
-            b"HTTP/1.1 200 OK\r\nServer: resty\r\nDate: Thu, 01 Jan 1970 00:00:00 GMT\r\n\
-              Content-Type: text/plain\r\nConnection: close\r\n\r\n"
-                .as_slice(),
-        ),
-        (
-            &long,
-            999,
-            b"HTTP/1.1 404 Not Found\r\nServer: s\r\nDate: Thu, 01 Jan 1970 00:00:00 GMT\r\n\
-              Content-Length: 10\r\nConnection: keep-alive\r\nX-A: 1\r\nx-a: 2\r\n\r\n",
-        ),
-        (
-            &chunked,
-            1000,
-            b"HTTP/1.1 299 \r\nServer: resty\r\nDate: Thu, 01 Jan 1970 00:00:01 GMT\r\n\
-              Content-Type: a\r\nTransfer-Encoding: chunked\r\nConnection: keep-alive\r\nB: \r\n\r\n",
-        ),
-        (
-            &empty,
-            0,
-            b"HTTP/1.1 200 OK\r\nServer: \r\nDate: Thu, 01 Jan 1970 00:00:00 GMT\r\nContent-Length: 0\r\nConnection: keep-alive\r\n\r\n",
-        ),
-        (
-            &bodiless,
-            0,
-            b"HTTP/1.1 204 No Content\r\nServer: \r\nDate: Thu, 01 Jan 1970 00:00:00 GMT\r\nConnection: keep-alive\r\n\r\n",
-        ),
-    ] {
-        let text = head_text(alloc, head, Ms(now))?;
-        assert_eq!(rt; text.as_slice(), expected);
-    }
-    Ok(())
+    hold(&rt, rt.alloc(), HEADS)
 }
+
+const DATES: &str = "\
+date 0 => Thu, 01 Jan 1970 00:00:00 GMT
+date 951782399999 => Mon, 28 Feb 2000 23:59:59 GMT
+date 951868799000 => Tue, 29 Feb 2000 23:59:59 GMT
+date 1700000000000 => Tue, 14 Nov 2023 22:13:20 GMT
+date 99999999999999 => Wed, 16 Nov 5138 09:46:39 GMT
+date 18446744073709551615 => Fri, 31 Dec 9999 23:59:59 GMT";
 
 #[test]
 fn moments_have_dates(rt: HostRuntime) -> Result<(), Fail> {
-    for (now, expected) in [
-        (0, b"Thu, 01 Jan 1970 00:00:00 GMT"),
-        (951_782_399_999, b"Mon, 28 Feb 2000 23:59:59 GMT"),
-        (951_868_799_000, b"Tue, 29 Feb 2000 23:59:59 GMT"),
-        (1_700_000_000_000, b"Tue, 14 Nov 2023 22:13:20 GMT"),
-        (99_999_999_999_999, b"Wed, 16 Nov 5138 09:46:39 GMT"),
-        (u64::MAX, b"Fri, 31 Dec 9999 23:59:59 GMT"),
-    ] {
-        assert_eq!(rt; date_text(Ms(now)).as_slice(), expected.as_slice());
-    }
-    Ok(())
+    hold(&rt, rt.alloc(), DATES)
 }
+
+/// Bodies of built-in replies, with the lengths that their heads say, and a head.
+const BODIES: &str = "\
+body 200 => 200 OK␊ Some(7)
+body 204 => 204 No Content␊ Some(15)
+body 299 => 299 ␊ Some(5)
+body 308 => 308 Permanent Redirect␊ Some(23)
+body 413 => 413 Content Too Large␊ Some(22)
+body 429 => 429 Too Many Requests␊ Some(22)
+body 431 => 431 Request Header Fields Too Large␊ Some(36)
+body 444 => 444 ␊ Some(5)
+body 505 => 505 HTTP Version Not Supported␊ Some(31)
+body 65535 => 65535 ␊ Some(7)
+built-in 404 => \
+HTTP/1.1 404 Not Found␍␊Server: resty␍␊Date: Thu, 01 Jan 1970 00:00:00 GMT␍␊Content-Type: text/plain␍␊Content-Length: 14␍␊Connection: close␍␊␍␊";
+
+const REASONS: &str = "\
+reason 200 => [OK]
+reason 201 => [Created]
+reason 202 => [Accepted]
+reason 204 => [No Content]
+reason 206 => [Partial Content]
+reason 301 => [Moved Permanently]
+reason 302 => [Found]
+reason 303 => [See Other]
+reason 304 => [Not Modified]
+reason 307 => [Temporary Redirect]
+reason 308 => [Permanent Redirect]
+reason 400 => [Bad Request]
+reason 401 => [Unauthorized]
+reason 403 => [Forbidden]
+reason 404 => [Not Found]
+reason 405 => [Method Not Allowed]
+reason 408 => [Request Timeout]
+reason 409 => [Conflict]
+reason 413 => [Content Too Large]
+reason 429 => [Too Many Requests]
+reason 431 => [Request Header Fields Too Large]
+reason 500 => [Internal Server Error]
+reason 501 => [Not Implemented]
+reason 502 => [Bad Gateway]
+reason 503 => [Service Unavailable]
+reason 504 => [Gateway Timeout]
+reason 505 => [HTTP Version Not Supported]
+reason 0 => []
+reason 100 => []
+reason 203 => []
+reason 418 => []
+reason 506 => []";
 
 #[test]
 fn built_in_replies_say_their_status(rt: HostRuntime) -> Result<(), Fail> {
-    let alloc = rt.alloc();
-    for (code, expected) in [
-        (200, b"200 OK\n".as_slice()),
-        (204, b"204 No Content\n"),
-        (299, b"299 \n"),
-        (308, b"308 Permanent Redirect\n"),
-        (413, b"413 Content Too Large\n"),
-        (429, b"429 Too Many Requests\n"),
-        (431, b"431 Request Header Fields Too Large\n"),
-        (444, b"444 \n"),
-        (505, b"505 HTTP Version Not Supported\n"),
-        (65535, b"65535 \n"),
-    ] {
-        let body = status_body(alloc, code)?;
-        assert_eq!(rt; body.as_slice(), expected);
-        assert_eq!(rt; built_in(alloc, code).length, Some(expected.len() as u64));
-    }
-    let text = head_text(alloc, &built_in(alloc, 404), Ms(0))?;
-    assert_eq!(rt;
-        text.as_slice(),
-        b"HTTP/1.1 404 Not Found\r\nServer: resty\r\nDate: Thu, 01 Jan 1970 00:00:00 GMT\r\n\
-          Content-Type: text/plain\r\nContent-Length: 14\r\nConnection: close\r\n\r\n"
-            .as_slice()
-    );
-    Ok(())
+    hold(&rt, rt.alloc(), BODIES)?;
+    hold(&rt, rt.alloc(), REASONS)
 }
 
-#[test]
-fn statuses_have_reasons(rt: HostRuntime) -> Result<(), Fail> {
-    for (code, expected) in [
-        (200, "OK"),
-        (201, "Created"),
-        (202, "Accepted"),
-        (204, "No Content"),
-        (206, "Partial Content"),
-        (301, "Moved Permanently"),
-        (302, "Found"),
-        (303, "See Other"),
-        (304, "Not Modified"),
-        (307, "Temporary Redirect"),
-        (308, "Permanent Redirect"),
-        (400, "Bad Request"),
-        (401, "Unauthorized"),
-        (403, "Forbidden"),
-        (404, "Not Found"),
-        (405, "Method Not Allowed"),
-        (408, "Request Timeout"),
-        (409, "Conflict"),
-        (413, "Content Too Large"),
-        (429, "Too Many Requests"),
-        (431, "Request Header Fields Too Large"),
-        (500, "Internal Server Error"),
-        (501, "Not Implemented"),
-        (502, "Bad Gateway"),
-        (503, "Service Unavailable"),
-        (504, "Gateway Timeout"),
-        (505, "HTTP Version Not Supported"),
-        (0, ""),
-        (100, ""),
-        (203, ""),
-        (418, ""),
-        (506, ""),
-    ] {
-        assert_eq!(rt; reason(code), expected);
-    }
-    Ok(())
-}
+const SIZES: &str = "\
+start 1 => 1␍␊
+start 9 => 9␍␊
+start 10 => a␍␊
+start 15 => f␍␊
+start 16 => 10␍␊
+start 255 => ff␍␊
+start 4096 => 1000␍␊
+start 4194304 => 400000␍␊
+start 18446744073709551615 => ffffffffffffffff␍␊";
+
+const CHUNKS: &str = "\
+chunk  => []
+chunk ab => [2␍␊ab␍␊]
+chunk 0123456789abcdef => [10␍␊0123456789abcdef␍␊]
+chunk ␍␊ => [2␍␊␍␊␍␊]
+last => 0␍␊␍␊";
 
 #[test]
 fn pieces_are_chunks(rt: HostRuntime) -> Result<(), Fail> {
-    for (length, expected) in [
-        (1, b"1\r\n".as_slice()),
-        (9, b"9\r\n"),
-        (10, b"a\r\n"),
-        (15, b"f\r\n"),
-        (16, b"10\r\n"),
-        (255, b"ff\r\n"),
-        (4_096, b"1000\r\n"),
-        (4_194_304, b"400000\r\n"),
-        (usize::MAX, b"ffffffffffffffff\r\n"),
-    ] {
-        assert_eq!(rt; chunk_start(length).as_slice(), expected);
-    }
-    for (piece, expected) in [
-        (b"".as_slice(), b"".as_slice()),
-        (b"ab", b"2\r\nab\r\n"),
-        (b"0123456789abcdef", b"10\r\n0123456789abcdef\r\n"),
-        (b"\r\n", b"2\r\n\r\n\r\n"),
-    ] {
-        assert_eq!(rt; chunk_text(rt.alloc(), piece)?.as_slice(), expected);
-    }
-    assert_eq!(rt; last_chunk().as_slice(), b"0\r\n\r\n".as_slice());
-    Ok(())
+    hold(&rt, rt.alloc(), SIZES)?;
+    hold(&rt, rt.alloc(), CHUNKS)
 }
 
-#[test]
-fn bodies_have_framings(rt: HostRuntime) -> Result<(), Fail> {
-    for (method, status, minor, length, expected) in [
-        (b"GET".as_slice(), 200, 1, None, Framing::Chunked),
-        (b"GET", 200, 0, None, Framing::UntilClose),
-        (b"GET", 200, 0, Some(3), Framing::Counted(3)),
-        (b"GET", 200, 1, Some(0), Framing::Counted(0)),
-        (b"HEAD", 200, 1, None, Framing::Bodiless),
-        (b"HEAD", 404, 1, Some(14), Framing::Bodiless),
-        (b"GET", 204, 1, None, Framing::Bodiless),
-        (b"GET", 304, 0, Some(17), Framing::Bodiless),
-        (b"POST", 204, 0, Some(5), Framing::Bodiless),
-        (b"POST", 404, 1, None, Framing::Chunked),
-        (b"head", 200, 1, None, Framing::Chunked),
-    ] {
-        assert_eq!(rt; framing(method, status, minor, length), expected);
-    }
-    Ok(())
-}
+/// Framings by method, status, minor version and length.
+const FRAMINGS: &str = "\
+framing GET 200 1 - => Chunked
+framing GET 200 0 - => UntilClose
+framing GET 200 0 3 => Counted(3)
+framing GET 200 1 0 => Counted(0)
+framing HEAD 200 1 - => Bodiless
+framing HEAD 404 1 14 => Bodiless
+framing GET 204 1 - => Bodiless
+framing GET 304 0 17 => Bodiless
+framing POST 204 0 5 => Bodiless
+framing POST 404 1 - => Chunked
+framing head 200 1 - => Chunked";
+
+/// Framings, pieces, the bytes of the body, and whether five bytes are short of it.
+const SENT: &str = "\
+sent chunked ab,,cde, => [2␍␊ab␍␊3␍␊cde␍␊0␍␊␍␊]
+sent close ab,,cde, => [abcde]
+sent 4 ab,,cde, => [abcd]
+sent 5 ab,,cde, => [abcde]
+sent 6 ab,,cde, => [abcde] short
+sent 0 ab,,cde, => []
+sent bodiless ab,,cde, => []
+sent chunked => [0␍␊␍␊]
+reply 14 404 Not Found␊ => \
+HTTP/1.1 404 Not Found␍␊Server: resty␍␊Date: Thu, 01 Jan 1970 00:00:00 GMT␍␊Content-Type: text/plain␍␊Content-Length: 14␍␊\
+Connection: close␍␊␍␊404 Not Found␊";
 
 #[test]
 fn bodies_are_sent_by_their_framing(rt: HostRuntime) -> Result<(), Fail> {
-    let alloc = rt.alloc();
-    let made = pieces(alloc, &[b"ab", b"", b"cde"])?;
-    for (framing, expected, falls_short) in [
-        (
-            Framing::Chunked,
-            b"2\r\nab\r\n3\r\ncde\r\n0\r\n\r\n".as_slice(),
-            false,
-        ),
-        (Framing::UntilClose, b"abcde", false),
-        (Framing::Counted(4), b"abcd", false),
-        (Framing::Counted(5), b"abcde", false),
-        (Framing::Counted(6), b"abcde", true),
-        (Framing::Counted(0), b"", false),
-        (Framing::Bodiless, b"", false),
-    ] {
-        assert_eq!(rt; body_bytes(alloc, framing, &made)?.as_slice(), expected);
-        assert_eq!(rt; framing.falls_short(5), falls_short);
+    hold(&rt, rt.alloc(), FRAMINGS)?;
+    hold(&rt, rt.alloc(), SENT)
+}
+
+/// The number that a text writes, 0 where it writes none.
+fn number(text: &str) -> u64 {
+    text.parse().unwrap_or(0)
+}
+
+/// The status that a text writes.
+fn status(text: &str) -> u16 {
+    text.parse().unwrap_or(0)
+}
+
+/// Writes what a call of `http_reply` gives.
+pub(crate) fn write_call(
+    alloc: Global,
+    all: &mut String,
+    word: &str,
+    given: &str,
+) -> Result<(), AllocError> {
+    match word {
+        "head" => write_head(alloc, all, given),
+        "date" => write(all, &date_text(Ms(number(given)))),
+        "body" => write_status_body(alloc, all, status(given)),
+        "built-in" => write_text(alloc, all, &built_in(alloc, status(given)), Ms(0)),
+        "reason" => write_part(all, reason(status(given)).as_bytes()),
+        "start" => write(all, chunk_start(given.parse().unwrap_or(0)).as_slice()),
+        "chunk" => write_part(all, &chunk_text(alloc, &bytes_of(alloc, given)?)?),
+        "last" => write(all, &last_chunk()),
+        "framing" => write_framing(alloc, all, given),
+        _ => write_body(alloc, all, word, given),
     }
-    let none = body_bytes(alloc, Framing::Chunked, &[])?;
-    assert_eq!(rt; none.as_slice(), b"0\r\n\r\n".as_slice());
-    let body = pieces(alloc, &[b"404 Not Found\n"])?;
-    let whole = reply(
-        alloc,
-        &built_in(alloc, 404),
-        Framing::Counted(14),
-        &body,
-        Ms(0),
-    )?;
-    assert_eq!(rt;
-        whole.as_slice(),
-        b"HTTP/1.1 404 Not Found\r\nServer: resty\r\nDate: Thu, 01 Jan 1970 00:00:00 GMT\r\n\
-          Content-Type: text/plain\r\nContent-Length: 14\r\nConnection: close\r\n\r\n404 Not Found\n"
-            .as_slice()
-    );
-    Ok(())
+}
+
+/// Writes the head of `WORDS; MOMENT` or `WORDS; FIELDS; MOMENT`.
+fn write_head(alloc: Global, all: &mut String, given: &str) -> Result<(), AllocError> {
+    let (words, after) = given.split_once("; ").unwrap_or((given, ""));
+    let (fields, now) = after.split_once("; ").unwrap_or(("", after));
+    let head = described(alloc, words, fields_of(alloc, fields)?)?;
+    write_text(alloc, all, &head, Ms(number(now)))
+}
+
+fn write_text(
+    alloc: Global,
+    all: &mut String,
+    head: &ReplyHead,
+    now: Ms,
+) -> Result<(), AllocError> {
+    write(all, &head_text(alloc, head, now)?)
+}
+
+/// The head that words describe, with these other fields.
+fn described(alloc: Global, words: &str, others: Fields) -> Result<ReplyHead, AllocError> {
+    let mut head = ReplyHead {
+        status: 0,
+        server: Bytes::new(),
+        content_type: None,
+        length: None,
+        chunked: false,
+        keep: false,
+        others,
+    };
+    for word in words.split(' ') {
+        let (name, value) = word.split_once(':').unwrap_or((word, ""));
+        match name {
+            "server" => head.server = bytes_of(alloc, value)?,
+            "type" => head.content_type = Some(bytes_of(alloc, value)?),
+            "length" => head.length = Some(number(value)),
+            "chunked" => head.chunked = true,
+            "keep" => head.keep = true,
+            _ => head.status = status(word),
+        }
+    }
+    Ok(head)
+}
+
+/// Writes the body of a built-in reply, and the length that its head says.
+fn write_status_body(alloc: Global, all: &mut String, code: u16) -> Result<(), AllocError> {
+    let length = built_in(alloc, code).length;
+    write(all, &status_body(alloc, code)?)?;
+    all.push_str(format!(in alloc; " {length:?}")?.as_str())
+}
+
+/// Writes the framing for `METHOD STATUS MINOR LENGTH`, in which `-` is no length.
+fn write_framing(alloc: Global, all: &mut String, given: &str) -> Result<(), AllocError> {
+    let (method, after) = given.split_once(' ').unwrap_or((given, ""));
+    let (code, after) = after.split_once(' ').unwrap_or((after, ""));
+    let (minor, length) = after.split_once(' ').unwrap_or((after, ""));
+    let minor = minor.parse().unwrap_or(0);
+    let framing = framing(method.as_bytes(), status(code), minor, length.parse().ok());
+    all.push_str(format!(in alloc; "{framing:?}")?.as_str())
+}
+
+/// The framing that a word says; a number is that of a body of so many bytes.
+fn framing_of(word: &str) -> Framing {
+    match word {
+        "bodiless" => Framing::Bodiless,
+        "chunked" => Framing::Chunked,
+        "close" => Framing::UntilClose,
+        _ => Framing::Counted(number(word)),
+    }
+}
+
+/// Writes the body, or the whole built-in reply, of `FRAMING PIECES`.
+fn write_body(alloc: Global, all: &mut String, word: &str, given: &str) -> Result<(), AllocError> {
+    let (framing, pieces) = given.split_once(' ').unwrap_or((given, ""));
+    let framing = framing_of(framing);
+    let pieces = pieces_of(alloc, pieces)?;
+    if word == "reply" {
+        let head = built_in(alloc, 404);
+        return write(all, &reply(alloc, &head, framing, &pieces, Ms(0))?);
+    }
+    write_part(all, &body_bytes(alloc, framing, &pieces)?)?;
+    all.push_str(if framing.falls_short(5) { " short" } else { "" })
+}
+
+/// Pieces with a `,` after each.
+fn pieces_of(alloc: Global, text: &str) -> Result<Vec<Bytes>, AllocError> {
+    let mut pieces = Vec::new(alloc);
+    for piece in text.split_terminator(',') {
+        pieces.push(bytes_of(alloc, piece)?)?;
+    }
+    Ok(pieces)
 }

@@ -1,148 +1,21 @@
 //! Tests of the pool of idle sockets; the last compares it with a plain list over calls of a fixed generator.
-use crate::queues::{draw, with_room};
+use crate::queues::{draw, number, with_room, word};
 use plain_rules::Idle;
 use resty_base::{Bytes, Ms};
 use sock_pool::Pool;
 use std::alloc::AllocError;
+use std::process::Abort;
 use std::test::Fail;
 
-fn idle_of(key: &'static [u8], sock: u64, uses: u32, until: Option<Ms>) -> Idle {
-    Idle {
-        key: Bytes::from_static(key),
-        sock,
-        uses,
-        until,
-    }
-}
-
-/// Keeps a socket that was taken so often. Where memory is refused the pool stays as it was, and is asked once more.
-fn keep_used(
-    pool: &mut Pool,
-    key: &'static [u8],
-    sock: u64,
-    uses: u32,
-    until: Option<Ms>,
-    size: u32,
-) -> Option<Option<u64>> {
-    match pool.keep(idle_of(key, sock, uses, until), size) {
-        Ok(closed) => Some(closed),
-        Err(_) => pool.keep(idle_of(key, sock, uses, until), size).ok(),
-    }
-}
-
-/// Keeps a socket that was never taken.
-fn keep(
-    pool: &mut Pool,
-    key: &'static [u8],
-    sock: u64,
-    until: Option<Ms>,
-    size: u32,
-) -> Option<Option<u64>> {
-    keep_used(pool, key, sock, 0, until, size)
-}
-
-fn take(pool: &mut Pool, key: &'static [u8]) -> Option<(u64, u32)> {
-    pool.take(&Bytes::from_static(key))
-}
-
-#[test]
-fn the_most_recent_socket_of_the_key_is_taken(rt: HostRuntime) -> Result<(), Fail> {
-    let mut pool = Pool::new(rt.alloc());
-    assert_eq!(rt; take(&mut pool, b"a"), None);
-    assert_eq!(rt; keep(&mut pool, b"a", 1, None, 9), Some(None));
-    assert_eq!(rt; keep(&mut pool, b"b", 2, None, 9), Some(None));
-    assert_eq!(rt; keep(&mut pool, b"a", 3, None, 9), Some(None));
-    assert_eq!(rt; keep(&mut pool, b"a", 4, None, 9), Some(None));
-    assert_eq!(rt; pool.last(), Some(1));
-    assert_eq!(rt; take(&mut pool, b"a"), Some((4, 1)));
-    assert_eq!(rt; take(&mut pool, b"a"), Some((3, 1)));
-    assert_eq!(rt; take(&mut pool, b""), None);
-    assert_eq!(rt; take(&mut pool, b"b"), Some((2, 1)));
-    assert_eq!(rt; take(&mut pool, b"b"), None);
-    assert_eq!(rt; take(&mut pool, b"a"), Some((1, 1)));
-    assert_eq!(rt; take(&mut pool, b"a"), None);
-    assert_eq!(rt; pool.last(), None);
-    Ok(())
-}
-
-#[test]
-fn uses_rise_with_each_take_up_to_their_end(rt: HostRuntime) -> Result<(), Fail> {
-    let mut pool = Pool::new(rt.alloc());
-    for (uses, taken) in [
-        (0, 1),
-        (1, 2),
-        (4_294_967_294, u32::MAX),
-        (u32::MAX, u32::MAX),
-    ] {
-        assert_eq!(rt; keep_used(&mut pool, b"", 7, uses, None, 1), Some(None));
-        assert_eq!(rt; take(&mut pool, b""), Some((7, taken)));
-    }
-    Ok(())
-}
-
-#[test]
-fn a_full_key_closes_its_least_recent_socket(rt: HostRuntime) -> Result<(), Fail> {
-    let mut pool = Pool::new(rt.alloc());
-    assert_eq!(rt; keep(&mut pool, b"a", 1, None, 0), Some(None));
-    assert_eq!(rt; keep(&mut pool, b"b", 2, None, 1), Some(None));
-    assert_eq!(rt; keep(&mut pool, b"a", 3, None, 0), Some(Some(1)));
-    assert_eq!(rt; keep(&mut pool, b"a", 4, None, 1), Some(Some(3)));
-    assert_eq!(rt; keep(&mut pool, b"a", 5, None, 2), Some(None));
-    assert_eq!(rt; keep(&mut pool, b"a", 6, None, 3), Some(None));
-    assert_eq!(rt; keep(&mut pool, b"a", 7, None, 1), Some(Some(4)));
-    assert_eq!(rt; keep(&mut pool, b"a", 6, None, 3), Some(None));
-    assert_eq!(rt; pool.last(), Some(2));
-    assert_eq!(rt; take(&mut pool, b"a"), Some((6, 1)));
-    assert_eq!(rt; take(&mut pool, b"a"), Some((7, 1)));
-    assert_eq!(rt; take(&mut pool, b"a"), Some((5, 1)));
-    assert_eq!(rt; take(&mut pool, b"a"), None);
-    Ok(())
-}
-
-#[test]
-fn sockets_end_by_moment_and_then_as_they_were_kept(rt: HostRuntime) -> Result<(), Fail> {
-    let mut pool = Pool::new(rt.alloc());
-    assert_eq!(rt; keep(&mut pool, b"a", 1, Some(Ms(30)), 9), Some(None));
-    assert_eq!(rt; keep(&mut pool, b"b", 2, Some(Ms(20)), 9), Some(None));
-    assert_eq!(rt; keep(&mut pool, b"a", 3, Some(Ms(20)), 9), Some(None));
-    assert_eq!(rt; keep(&mut pool, b"b", 4, None, 9), Some(None));
-    assert_eq!(rt; keep(&mut pool, b"c", 5, Some(Ms(20)), 9), Some(None));
-    assert_eq!(rt; pool.expire(Ms(19)), None);
-    assert_eq!(rt; pool.expire(Ms(20)), Some(2));
-    assert_eq!(rt; take(&mut pool, b"a"), Some((3, 1)));
-    assert_eq!(rt; pool.expire(Ms(29)), Some(5));
-    assert_eq!(rt; pool.expire(Ms(29)), None);
-    assert_eq!(rt; keep(&mut pool, b"a", 1, Some(Ms(40)), 9), Some(None));
-    assert_eq!(rt; pool.expire(Ms(39)), None);
-    assert_eq!(rt; pool.expire(Ms(40)), Some(1));
-    assert_eq!(rt; pool.expire(Ms(u64::MAX)), None);
-    assert_eq!(rt; pool.last(), Some(4));
-    Ok(())
-}
-
-#[test]
-fn a_socket_at_which_something_came_leaves(rt: HostRuntime) -> Result<(), Fail> {
-    let mut pool = Pool::new(rt.alloc());
-    assert_eq!(rt; keep(&mut pool, b"a", 1, Some(Ms(5)), 9), Some(None));
-    assert_eq!(rt; keep(&mut pool, b"a", 2, None, 9), Some(None));
-    assert_eq!(rt; keep(&mut pool, b"b", 1, Some(Ms(6)), 9), Some(None));
-    assert_eq!(rt; take(&mut pool, b"a"), Some((2, 1)));
-    assert_eq!(rt; take(&mut pool, b"a"), None);
-    assert!(rt; !pool.idle_gave(2));
-    assert!(rt; pool.idle_gave(1));
-    assert!(rt; !pool.idle_gave(1));
-    assert_eq!(rt; pool.expire(Ms(9)), None);
-    assert_eq!(rt; take(&mut pool, b"b"), None);
-    Ok(())
-}
-
-/// A call of the pool; a key is a number below 5, a socket that may be idle for ever has no moment.
+/// A call of the pool; a key is a number, a socket that may be idle for ever has no moment.
 #[derive(Clone, Copy)]
 enum Call {
-    Keep(u8, u64, Option<Ms>, u32),
+    /// Key, socket, moment, size and uses.
+    Keep(u8, u64, Option<Ms>, u32, u32),
     Take(u8),
     Gave(u64),
     Expire(Ms),
+    Last,
 }
 
 /// A call's answer: a socket, if one is named, or what a take gives.
@@ -159,35 +32,21 @@ fn key_of(number: u8) -> Bytes {
         1 => b"127.0.0.1:80",
         2 => b"127.0.0.1:81",
         3 => b"name",
-        _ => b"names",
+        4 => b"names",
+        5 => b"a",
+        6 => b"b",
+        _ => b"c",
     })
-}
-
-fn call_of(x: u64) -> Call {
-    let sock = x / 64 % 40;
-    let key = (x / 8 % 5) as u8;
-    let moment = Ms(x / 4096 % 50);
-    match x % 8 {
-        0..=3 => Call::Keep(
-            key,
-            sock,
-            if x % 3 == 0 { None } else { Some(moment) },
-            (x / 16 % 5) as u32,
-        ),
-        4 | 5 => Call::Take(key),
-        6 => Call::Gave(sock),
-        _ => Call::Expire(Ms(moment.0 / 2)),
-    }
 }
 
 /// What the pool answers; None out of memory.
 fn asked(pool: &mut Pool, call: Call) -> Option<Answer> {
     Some(match call {
-        Call::Keep(key, sock, until, size) => {
+        Call::Keep(key, sock, until, size, uses) => {
             let idle = Idle {
                 key: key_of(key),
                 sock,
-                uses: size,
+                uses,
                 until,
             };
             Answer::Socket(pool.keep(idle, size).ok()?)
@@ -195,7 +54,188 @@ fn asked(pool: &mut Pool, call: Call) -> Option<Answer> {
         Call::Take(key) => Answer::Taken(pool.take(&key_of(key))),
         Call::Gave(sock) => Answer::Gave(pool.idle_gave(sock)),
         Call::Expire(now) => Answer::Socket(pool.expire(now)),
+        Call::Last => Answer::Socket(pool.last()),
     })
+}
+
+/// The number of a key.
+fn key_named(name: &str) -> u8 {
+    match name {
+        "" => 0,
+        "a" => 5,
+        "b" => 6,
+        _ => 7,
+    }
+}
+
+/// The call of a row: `keep KEY SOCKET MOMENT SIZE`, maybe with uses, `take KEY`, `gave SOCKET`, `expire MOMENT` or `last`.
+fn call_in(row: &str) -> Call {
+    match word(row, 0) {
+        "keep" => Call::Keep(
+            key_named(word(row, 1)),
+            number(word(row, 2)),
+            moment(word(row, 3)),
+            word(row, 4).parse().unwrap_or(0),
+            word(row, 5).parse().unwrap_or(0),
+        ),
+        "take" => Call::Take(key_named(word(row, 1))),
+        "gave" => Call::Gave(number(word(row, 1))),
+        "expire" => Call::Expire(Ms(number(word(row, 1)))),
+        _ => Call::Last,
+    }
+}
+
+/// The moment that a word writes, `-` for none.
+fn moment(word: &str) -> Option<Ms> {
+    if word == "-" {
+        None
+    } else {
+        Some(Ms(number(word)))
+    }
+}
+
+/// Whether a text writes this answer, `-` for none.
+fn is_written(answer: Answer, text: &str) -> bool {
+    match answer {
+        Answer::Socket(None) | Answer::Taken(None) => text == "-",
+        Answer::Socket(Some(sock)) => text.parse().ok() == Some(sock),
+        Answer::Taken(Some((sock, uses))) => {
+            word(text, 0).parse().ok() == Some(sock) && word(text, 1).parse().ok() == Some(uses)
+        }
+        Answer::Gave(true) => text == "yes",
+        Answer::Gave(false) => text == "no",
+    }
+}
+
+/// Whether the pool answers so. Where memory is refused the pool stays as it was, and is asked once more.
+fn answers(pool: &mut Pool, call: Call, expected: &str) -> bool {
+    let answer = match asked(pool, call) {
+        None => asked(pool, call),
+        answer => answer,
+    };
+    match answer {
+        Some(answer) => is_written(answer, expected),
+        None => false,
+    }
+}
+
+/// Tests each row, `CALL => ANSWER`, on one pool.
+fn hold(rt: &impl Abort, pool: &mut Pool, rows: &str) {
+    for row in rows.lines() {
+        let (call, expected) = row.split_once(" => ").unwrap_or((row, ""));
+        assert!(rt; answers(pool, call_in(call), expected), "{row}");
+    }
+}
+
+const RECENT: &str = "\
+take a => -
+keep a 1 - 9 => -
+keep b 2 - 9 => -
+keep a 3 - 9 => -
+keep a 4 - 9 => -
+last => 1
+take a => 4 1
+take a => 3 1
+take  => -
+take b => 2 1
+take b => -
+take a => 1 1
+take a => -
+last => -";
+
+#[test]
+fn the_most_recent_socket_of_the_key_is_taken(rt: HostRuntime) {
+    hold(&rt, &mut Pool::new(rt.alloc()), RECENT);
+}
+
+const USES: &str = "\
+keep  7 - 1 0 => -
+take  => 7 1
+keep  7 - 1 1 => -
+take  => 7 2
+keep  7 - 1 4294967294 => -
+take  => 7 4294967295
+keep  7 - 1 4294967295 => -
+take  => 7 4294967295";
+
+#[test]
+fn uses_rise_with_each_take_up_to_their_end(rt: HostRuntime) {
+    hold(&rt, &mut Pool::new(rt.alloc()), USES);
+}
+
+const FULL: &str = "\
+keep a 1 - 0 => -
+keep b 2 - 1 => -
+keep a 3 - 0 => 1
+keep a 4 - 1 => 3
+keep a 5 - 2 => -
+keep a 6 - 3 => -
+keep a 7 - 1 => 4
+keep a 6 - 3 => -
+last => 2
+take a => 6 1
+take a => 7 1
+take a => 5 1
+take a => -";
+
+#[test]
+fn a_full_key_closes_its_least_recent_socket(rt: HostRuntime) {
+    hold(&rt, &mut Pool::new(rt.alloc()), FULL);
+}
+
+const MOMENTS: &str = "\
+keep a 1 30 9 => -
+keep b 2 20 9 => -
+keep a 3 20 9 => -
+keep b 4 - 9 => -
+keep c 5 20 9 => -
+expire 19 => -
+expire 20 => 2
+take a => 3 1
+expire 29 => 5
+expire 29 => -
+keep a 1 40 9 => -
+expire 39 => -
+expire 40 => 1
+expire 18446744073709551615 => -
+last => 4";
+
+#[test]
+fn sockets_end_by_moment_and_then_as_they_were_kept(rt: HostRuntime) {
+    hold(&rt, &mut Pool::new(rt.alloc()), MOMENTS);
+}
+
+const GAVE: &str = "\
+keep a 1 5 9 => -
+keep a 2 - 9 => -
+keep b 1 6 9 => -
+take a => 2 1
+take a => -
+gave 2 => no
+gave 1 => yes
+gave 1 => no
+expire 9 => -
+take b => -";
+
+#[test]
+fn a_socket_at_which_something_came_leaves(rt: HostRuntime) {
+    hold(&rt, &mut Pool::new(rt.alloc()), GAVE);
+}
+
+fn call_of(x: u64) -> Call {
+    let sock = x / 64 % 40;
+    let key = (x / 8 % 5) as u8;
+    let moment = Ms(x / 4096 % 50);
+    match x % 8 {
+        0..=3 => {
+            let until = if x % 3 == 0 { None } else { Some(moment) };
+            let size = (x / 16 % 5) as u32;
+            Call::Keep(key, sock, until, size, size)
+        }
+        4 | 5 => Call::Take(key),
+        6 => Call::Gave(sock),
+        _ => Call::Expire(Ms(moment.0 / 2)),
+    }
 }
 
 /// An idle socket of the plain list, in which the most recent is the last.
@@ -279,11 +319,11 @@ fn plain_keep(list: &mut Vec<Plain>, plain: Plain, size: u32) -> Result<Option<u
 /// What the plain list answers.
 fn plainly(list: &mut Vec<Plain>, call: Call) -> Result<Answer, AllocError> {
     match call {
-        Call::Keep(key, sock, until, size) => {
+        Call::Keep(key, sock, until, size, uses) => {
             let plain = Plain {
                 key,
                 sock,
-                uses: size,
+                uses,
                 until,
             };
             Ok(Answer::Socket(plain_keep(list, plain, size)?))
@@ -303,6 +343,7 @@ fn plainly(list: &mut Vec<Plain>, call: Call) -> Result<Answer, AllocError> {
             let index = over_at(list, now);
             Ok(Answer::Socket(socket_of(take_out(list, index))))
         }
+        Call::Last => Ok(Answer::Socket(first_of(list))),
     }
 }
 

@@ -58,33 +58,75 @@ fn the_first_of_the_same_threads_leaves(rt: HostRuntime) -> Result<(), Fail> {
     Ok(())
 }
 
+/// The word of this number.
+pub fn word(text: &str, index: usize) -> &str {
+    text.split(' ').nth(index).unwrap_or("")
+}
+
+/// The number that a word writes, 0 where it writes none.
+pub fn number(word: &str) -> u64 {
+    word.parse().unwrap_or(0)
+}
+
+/// Whose deadline it is: a job's, an idle socket's, or the first thread's of a connection.
+fn whose_of(kind: &str, number: u64) -> Whose {
+    match kind {
+        "job" => Whose::Job(number),
+        "idle" => Whose::Idle(number),
+        _ => Whose::Strand(StrandId::Conn(number), 0),
+    }
+}
+
+/// Whether a call of the deadlines answers so; `-` is nothing.
+fn answers(deadlines: &mut Deadlines, call: &str, expected: &str) -> Result<bool, AllocError> {
+    let given = number(word(call, 1));
+    match word(call, 0) {
+        "arm" => {
+            let whose = whose_of(word(call, 2), number(word(call, 3)));
+            Ok(Some(arm(deadlines, given, whose)?) == expected.parse().ok())
+        }
+        "due" => Ok(match deadlines.due(Ms(given)) {
+            Some(whose) => whose == whose_of(word(expected, 0), number(word(expected, 1))),
+            None => expected == "-",
+        }),
+        "cancel" => {
+            deadlines.cancel(given);
+            Ok(expected == "-")
+        }
+        _ => Ok(match deadlines.earliest() {
+            Some(at) => expected.parse().ok() == Some(at.0),
+            None => expected == "-",
+        }),
+    }
+}
+
+const DEADLINES: &str = "\
+earliest => -
+arm 5 job 1 => 1
+arm 3 job 2 => 2
+arm 3 idle 3 => 3
+arm 9 connection 1 => 4
+earliest => 3
+due 2 => -
+due 3 => job 2
+due 4 => idle 3
+due 4 => -
+cancel 1 => -
+arm 9 job 1 => 5
+due 9 => connection 1
+cancel 77 => -
+earliest => 9
+cancel 5 => -
+due 100 => -
+earliest => -";
+
 #[test]
 fn deadlines_come_by_moment_and_then_by_number(rt: HostRuntime) -> Result<(), Fail> {
     let mut deadlines = Deadlines::new(rt.alloc());
-    assert_eq!(rt; deadlines.earliest(), None);
-    assert_eq!(rt; arm(&mut deadlines, 5, Whose::Job(1))?, 1);
-    assert_eq!(rt; arm(&mut deadlines, 3, Whose::Job(2))?, 2);
-    assert_eq!(rt; arm(&mut deadlines, 3, Whose::Idle(3))?, 3);
-    assert_eq!(rt;
-        arm(&mut deadlines, 9, Whose::Strand(StrandId::Conn(1), 0))?,
-        4
-    );
-    assert_eq!(rt; deadlines.earliest(), Some(Ms(3)));
-    assert_eq!(rt; deadlines.due(Ms(2)), None);
-    assert_eq!(rt; deadlines.due(Ms(3)), Some(Whose::Job(2)));
-    assert_eq!(rt; deadlines.due(Ms(4)), Some(Whose::Idle(3)));
-    assert_eq!(rt; deadlines.due(Ms(4)), None);
-    deadlines.cancel(1);
-    assert_eq!(rt; arm(&mut deadlines, 9, Whose::Job(1))?, 5);
-    assert_eq!(rt;
-        deadlines.due(Ms(9)),
-        Some(Whose::Strand(StrandId::Conn(1), 0))
-    );
-    deadlines.cancel(77);
-    assert_eq!(rt; deadlines.earliest(), Some(Ms(9)));
-    deadlines.cancel(5);
-    assert_eq!(rt; deadlines.due(Ms(100)), None);
-    assert_eq!(rt; deadlines.earliest(), None);
+    for row in DEADLINES.lines() {
+        let (call, expected) = row.split_once(" => ").unwrap_or((row, ""));
+        assert!(rt; answers(&mut deadlines, call, expected)?, "{row}");
+    }
     Ok(())
 }
 

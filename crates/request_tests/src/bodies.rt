@@ -1,5 +1,6 @@
 //! Tests of bodies; the answers were worked out from RFC 9112 by hand.
 use crate::cuts::is_cut_at;
+use crate::rows::{bytes_of, hold};
 use http_bodies::{BodyIn, BodyRead};
 use http_in::BodyKind;
 use std::alloc::{AllocError, Global};
@@ -9,21 +10,11 @@ use std::test::Fail;
 fn in_words(alloc: Global, read: BodyRead, body: &BodyIn) -> Result<String, AllocError> {
     let content = str::from_utf8(body.bytes()).unwrap_or("?");
     match read {
-        BodyRead::More => format!(in alloc; "More {content}"),
+        BodyRead::More => format!(in alloc; "More [{content}]"),
         BodyRead::Memory => format!(in alloc; "Memory"),
         BodyRead::Refused(code) => format!(in alloc; "{code}"),
-        BodyRead::Whole(count) => format!(in alloc; "Whole {count} {content}"),
+        BodyRead::Whole(count) => format!(in alloc; "Whole {count} [{content}]"),
     }
-}
-
-/// The last answer to these pieces.
-fn fed(alloc: Global, kind: BodyKind, max: u64, pieces: &[&[u8]]) -> Result<String, AllocError> {
-    let mut body = BodyIn::new(alloc, kind, max);
-    let mut last = BodyRead::More;
-    for piece in pieces {
-        last = body.feed(piece);
-    }
-    in_words(alloc, last, &body)
 }
 
 /// The answer to these bytes one by one: how many belong to the body is counted from the first.
@@ -73,124 +64,115 @@ fn is_read_at_any_cut(alloc: Global, kind: BodyKind, max: u64, bytes: &[u8]) -> 
     by_bytes(&mut single, bytes) == expected && single.bytes() == joined.bytes()
 }
 
-const C: BodyKind = BodyKind::Chunked;
+/// The answer to a body in one piece, which is the same at any cut.
+fn whole(alloc: Global, kind: BodyKind, max: u64, bytes: &[u8]) -> Result<String, AllocError> {
+    if !is_read_at_any_cut(alloc, kind, max, bytes) {
+        return format!(in alloc; "another answer");
+    }
+    let mut body = BodyIn::new(alloc, kind, max);
+    let read = body.feed(bytes);
+    in_words(alloc, read, &body)
+}
+
+/// The last answer to pieces with a `+` between.
+fn fed(alloc: Global, kind: BodyKind, max: u64, pieces: &str) -> Result<String, AllocError> {
+    let mut body = BodyIn::new(alloc, kind, max);
+    let mut last = BodyRead::More;
+    for piece in pieces.split('+') {
+        last = body.feed(&bytes_of(alloc, &[piece])?);
+    }
+    in_words(alloc, last, &body)
+}
+
+/// The bytes of `FRONT,COUNT,BACK`: so many `x` stand between the two others.
+fn padded(alloc: Global, parts: &str) -> Result<Vec<u8>, AllocError> {
+    let (front, after) = parts.split_once(',').unwrap_or((parts, ""));
+    let (count, back) = after.split_once(',').unwrap_or((after, ""));
+    let middle = "x".repeat(alloc, count.parse().unwrap_or(0))?;
+    bytes_of(alloc, &[front, middle.as_str(), back])
+}
+
+/// The framing that a word says; a number is a length.
+fn kind_of(word: &str) -> BodyKind {
+    match word {
+        "nothing" => BodyKind::Nothing,
+        "chunked" => BodyKind::Chunked,
+        length => BodyKind::Length(length.parse().unwrap_or(0)),
+    }
+}
+
+/// The answer to a body: `padded` has its parts, any other its framing, its limit and its text.
+pub(crate) fn read(alloc: Global, word: &str, given: &str) -> Result<String, AllocError> {
+    if word == "padded" {
+        return whole(alloc, BodyKind::Chunked, 5, &padded(alloc, given)?);
+    }
+    let (kind, after) = given.split_once(' ').unwrap_or((given, ""));
+    let (max, text) = after.split_once(' ').unwrap_or((after, ""));
+    let max = max.parse().unwrap_or(0);
+    if word == "pieces" {
+        return fed(alloc, kind_of(kind), max, text);
+    }
+    whole(alloc, kind_of(kind), max, &bytes_of(alloc, &[text])?)
+}
+
+/// The framing, the limit and the text, and how much is read.
+const BODIES: &str = "\
+body nothing 5 ab => Whole 0 []
+body 0 0 x => Whole 0 []
+body 3 3 abcd => Whole 3 [abc]
+body 3 3 ab => More [ab]
+body 4 3  => 413
+body chunked 9 3 \t␍␊abc␍␊0␍␊␍␊ => Whole 15 [abc]
+body chunked 9 3;a=\"\u{ff}\"␍␊abc␍␊000␍␊X: y␍␊␍␊z => Whole 27 [abc]
+body chunked 9 3␊abc => 400
+body chunked 9 3␍␊abcd => 400
+body chunked 9 3␍␊abc␊ => 400
+body chunked 9 g => 400
+body chunked 9 ␍ => 400
+body chunked 9  3 => 400
+body chunked 9 3 x => 400
+body chunked 9 0x => 400
+body chunked 9 00000000000000003 => 400
+body chunked 9 0000000000000003␍␊abc␍␊0␍␊␍␊ => Whole 28 [abc]
+body chunked 9 000000000000003␍␊abc␍␊0␍␊␍␊ => Whole 27 [abc]
+body chunked 9 ffffffffffffffff␍␊ => 413
+body chunked 4 3␍␊abc␍␊2␍␊ => 413
+body chunked 4 3␍␊abc␍␊2␍ => More [abc]
+body chunked 5 3␍␊abc␍␊2␍␊de␍␊0␊ => 400
+body chunked 5 0␍␊bad\0␊␊ => Whole 9 []
+body chunked 5 0␍␊X␊␍␊ => Whole 7 []
+body chunked 99 a␍␊0123456789␍␊A;x␍␊0123456789␍␊0␍␊␍␊ => Whole 37 [01234567890123456789]";
 
 #[test]
 fn bodies_are_read(rt: HostRuntime) -> Result<(), Fail> {
-    for (kind, max, bytes, expected) in [
-        (BodyKind::Nothing, 5, b"ab".as_slice(), "Whole 0 "),
-        (BodyKind::Length(0), 0, b"x", "Whole 0 "),
-        (BodyKind::Length(3), 3, b"abcd", "Whole 3 abc"),
-        (BodyKind::Length(3), 3, b"ab", "More ab"),
-        (BodyKind::Length(4), 3, b"", "413"),
-        (C, 9, b"3 \x09\r\nabc\r\n0\r\n\r\n", "Whole 15 abc"),
-        (
-            C,
-            9,
-            b"3;a=\"\xff\"\r\nabc\r\n000\r\nX: y\r\n\r\nz",
-            "Whole 27 abc",
-        ),
-        (C, 9, b"3\nabc", "400"),
-        (C, 9, b"3\r\nabcd", "400"),
-        (C, 9, b"3\r\nabc\n", "400"),
-        (C, 9, b"g", "400"),
-        (C, 9, b"\r", "400"),
-        (C, 9, b" 3", "400"),
-        (C, 9, b"3 x", "400"),
-        (C, 9, b"0x", "400"),
-        (C, 9, b"00000000000000003", "400"),
-        (
-            C,
-            9,
-            b"0000000000000003\r\nabc\r\n0\r\n\r\n",
-            "Whole 28 abc",
-        ),
-        (C, 9, b"000000000000003\r\nabc\r\n0\r\n\r\n", "Whole 27 abc"),
-        (C, 9, b"ffffffffffffffff\r\n", "413"),
-        (C, 4, b"3\r\nabc\r\n2\r\n", "413"),
-        (C, 4, b"3\r\nabc\r\n2\r", "More abc"),
-        (C, 5, b"3\r\nabc\r\n2\r\nde\r\n0\n", "400"),
-        (C, 5, b"0\r\nbad\x00\n\n", "Whole 9 "),
-        (C, 5, b"0\r\nX\n\r\n", "Whole 7 "),
-        (
-            C,
-            99,
-            b"a\r\n0123456789\r\nA;x\r\n0123456789\r\n0\r\n\r\n",
-            "Whole 37 01234567890123456789",
-        ),
-    ] {
-        assert_eq!(rt; fed(rt.alloc(), kind, max, &[bytes])?.as_str(), expected);
-        assert!(rt; is_read_at_any_cut(rt.alloc(), kind, max, bytes));
-    }
-    Ok(())
+    hold(&rt, rt.alloc(), BODIES)
 }
+
+const PIECES: &str = "\
+pieces 3 3 a+bcd => Whole 2 [abc]
+pieces 3 3 a+bcd+e => Whole 0 [abc]
+pieces chunked 9 3␍␊ab+c+␍+␊0+␍␊+␍␊x => Whole 2 [abc]
+pieces chunked 5 0␍␊X␊+␍␊ => Whole 2 []
+pieces chunked 9 3␊abc+0␍␊␍␊ => 400
+pieces chunked 2 3␍␊+abc␍␊0␍␊␍␊ => 413
+pieces 4 3 abcd+ => 413";
 
 #[test]
 fn answers_stay(rt: HostRuntime) -> Result<(), Fail> {
-    let alloc = rt.alloc();
-    let pieces = [b"a".as_slice(), b"bcd", b"e"];
-    assert_eq!(rt;
-        fed(alloc, BodyKind::Length(3), 3, &pieces[..2])?.as_str(),
-        "Whole 2 abc"
-    );
-    assert_eq!(rt;
-        fed(alloc, BodyKind::Length(3), 3, &pieces)?.as_str(),
-        "Whole 0 abc"
-    );
-    let chunked = [
-        b"3\r\nab".as_slice(),
-        b"c",
-        b"\r",
-        b"\n0",
-        b"\r\n",
-        b"\r\nx",
-    ];
-    assert_eq!(rt; fed(alloc, C, 9, &chunked)?.as_str(), "Whole 2 abc");
-    assert_eq!(rt;
-        fed(alloc, C, 5, &[b"0\r\nX\n", b"\r\n"])?.as_str(),
-        "Whole 2 "
-    );
-    assert_eq!(rt;
-        fed(alloc, C, 9, &[b"3\nabc", b"0\r\n\r\n"])?.as_str(),
-        "400"
-    );
-    assert_eq!(rt;
-        fed(alloc, C, 2, &[b"3\r\n", b"abc\r\n0\r\n\r\n"])?.as_str(),
-        "413"
-    );
-    assert_eq!(rt;
-        fed(alloc, BodyKind::Length(4), 3, &[b"abcd", b""])?.as_str(),
-        "413"
-    );
-    Ok(())
+    hold(&rt, rt.alloc(), PIECES)
 }
 
-/// A text of so many `x` between these.
-fn padded(alloc: Global, before: &[u8], count: usize, after: &[u8]) -> Result<Vec<u8>, AllocError> {
-    let mut all = Vec::from_slice(alloc, before)?;
-    for _ in 0..count {
-        all.push(b'x')?;
-    }
-    all.extend_from_slice(after)?;
-    Ok(all)
-}
+const PADDED: &str = "\
+padded 1;,16379,␍␊ => More []
+padded 1;,16380,␍␊ => More []
+padded 1;,16381,␍␊ => 400
+padded 1;,16382, => More []
+padded 1;,16383, => 400
+padded 0␍␊,16379,␍␊␍␊ => Whole 16386 []
+padded 0␍␊,16380,␍␊␍␊ => Whole 16387 []
+padded 0␍␊,16381,␍␊␍␊ => 400";
 
 #[test]
 fn lines_have_a_limit(rt: HostRuntime) -> Result<(), Fail> {
-    let alloc = rt.alloc();
-    for (before, count, after, expected) in [
-        (b"1;".as_slice(), 16_379, b"\r\n".as_slice(), "More "),
-        (b"1;", 16_380, b"\r\n", "More "),
-        (b"1;", 16_381, b"\r\n", "400"),
-        (b"1;", 16_382, b"", "More "),
-        (b"1;", 16_383, b"", "400"),
-        (b"0\r\n", 16_379, b"\r\n\r\n", "Whole 16386 "),
-        (b"0\r\n", 16_380, b"\r\n\r\n", "Whole 16387 "),
-        (b"0\r\n", 16_381, b"\r\n\r\n", "400"),
-    ] {
-        let bytes = padded(alloc, before, count, after)?;
-        assert_eq!(rt; fed(alloc, C, 5, &[&bytes])?.as_str(), expected);
-        assert!(rt; is_read_at_any_cut(alloc, C, 5, &bytes));
-    }
-    Ok(())
+    hold(&rt, rt.alloc(), PADDED)
 }

@@ -1,13 +1,14 @@
 //! Tests of heads; the answers were worked out from RFC 9112 by hand.
 use crate::cuts::is_cut_at;
+use crate::rows::hold;
 use http_in::{BodyKind, HeadRead, HeadScan, head_of};
 use std::alloc::{AllocError, Global};
 use std::test::Fail;
 
 /// A request line and a host of 1.1, and a request line of 1.0.
-const A: &[u8] = b"GET / HTTP/1.1\r\nHost: a\r\n";
+pub(crate) const A: &str = "GET / HTTP/1.1␍␊Host: a␍␊";
 
-const B: &[u8] = b"GET / HTTP/1.0\r\n";
+pub(crate) const B: &str = "GET / HTTP/1.0␍␊";
 
 /// The answer in words: the status, or how many bytes the head has, its framing and its options.
 fn in_words(alloc: Global, read: &HeadRead) -> Result<String, AllocError> {
@@ -25,22 +26,6 @@ fn in_words(alloc: Global, read: &HeadRead) -> Result<String, AllocError> {
             }
         }
     }
-}
-
-/// The method, the target and the fields of a whole head.
-fn parts_in_words(alloc: Global, read: &HeadRead) -> Result<Vec<u8>, AllocError> {
-    let mut text = Vec::new(alloc);
-    if let HeadRead::Whole(head, _) = read {
-        for part in [head.method.as_slice(), b" ", &head.target, b" "] {
-            text.extend_from_slice(part)?;
-        }
-        for field in head.headers.as_slice() {
-            for part in [field.name.as_slice(), b"=", &field.value, b";"] {
-                text.extend_from_slice(part)?;
-            }
-        }
-    }
-    Ok(text)
 }
 
 /// Where the head ends, by a scanner that is given these pieces one after the other.
@@ -69,15 +54,6 @@ fn end_by_bytes(bytes: &[u8]) -> Option<usize> {
     None
 }
 
-/// The joined parts.
-fn joined(alloc: Global, parts: &[&[u8]]) -> Result<Vec<u8>, AllocError> {
-    let mut all = Vec::new(alloc);
-    for part in parts {
-        all.extend_from_slice(part)?;
-    }
-    Ok(all)
-}
-
 /// Whether the same end is found at each cut into two pieces, and byte by byte.
 fn ends_at_any_cut(bytes: &[u8]) -> bool {
     let end = end_by_pieces(&[bytes]);
@@ -89,43 +65,49 @@ fn ends_at_any_cut(bytes: &[u8]) -> bool {
     end_by_bytes(bytes) == end
 }
 
-/// The answer to a request line and fields, and the empty line after them.
-fn read_fields(alloc: Global, start: &[u8], fields: &[u8]) -> Result<String, AllocError> {
-    let bytes = joined(alloc, &[start, fields, b"\r\n"])?;
-    in_words(alloc, &head_of(alloc, &bytes))
+/// The answer to a head, which has the same end at any cut.
+pub(crate) fn read(alloc: Global, bytes: &[u8]) -> Result<String, AllocError> {
+    if !ends_at_any_cut(bytes) {
+        return format!(in alloc; "another end");
+    }
+    in_words(alloc, &head_of(alloc, bytes))
 }
+
+/// The method, the target and the fields of a whole head.
+pub(crate) fn parts(alloc: Global, bytes: &[u8]) -> Result<String, AllocError> {
+    match head_of(alloc, bytes) {
+        HeadRead::Whole(head, _) => {
+            let fields = head.headers.as_slice();
+            format!(in alloc; "{:?} {:?} {fields:?}", head.method, head.target)
+        }
+        read => in_words(alloc, &read),
+    }
+}
+
+const HEADS: &str = "\
+head  => More
+head ␍␊␊␍␊GET / HTTP/1.0␊␊ => 21 Nothing
+head ␍␍␊GET / HTTP/1.0␍␊␍␊ => 400
+head GET / HTTP/1.0␍␊␍ => More
+head GET / HTTP/1.0␍␊␍␊GET => 18 Nothing
+head GET / HTTP/1.0␍␊␍␊GET / HTTP/1.1␍␊␍␊ => 18 Nothing
+head GET / HTTP/1.2␍␊␍␊ => 505
+head GET / HTTP/1.10␍␊␍␊ => 400
+head GET / HTTP/2␍␊␍␊ => 400
+head GE(T x y HTTP/3.0␊␊ => 505
+head HTTP/2.0␍␊␍␊ => 400
+head GET /␍␊␍␊ => 400
+head GET  / HTTP/1.0␊␊ => 400
+head GET / HTTP/1.0 ␊␊ => 400
+head G@T / HTTP/1.0␊␊ => 400
+head purge x HTTP/1.0␊␊ => 18 Nothing
+head GET /\u{c3}\u{a9} HTTP/1.0␊␊ => 18 Nothing
+head GET /\u{ff} HTTP/1.0␊␊ => 400
+head GET / HTTP/1.1␍␊X: y␍␊␍␊ => 400";
 
 #[test]
 fn heads_begin_and_end(rt: HostRuntime) -> Result<(), Fail> {
-    for (bytes, expected) in [
-        (b"".as_slice(), "More"),
-        (b"\r\n\n\r\nGET / HTTP/1.0\n\n", "21 Nothing"),
-        (b"\r\r\nGET / HTTP/1.0\r\n\r\n", "400"),
-        (b"GET / HTTP/1.0\r\n\r", "More"),
-        (b"GET / HTTP/1.0\r\n\r\nGET", "18 Nothing"),
-        (
-            b"GET / HTTP/1.0\r\n\r\nGET / HTTP/1.1\r\n\r\n",
-            "18 Nothing",
-        ),
-        (b"GET / HTTP/1.2\r\n\r\n", "505"),
-        (b"GET / HTTP/1.10\r\n\r\n", "400"),
-        (b"GET / HTTP/2\r\n\r\n", "400"),
-        (b"GE(T x y HTTP/3.0\n\n", "505"),
-        (b"HTTP/2.0\r\n\r\n", "400"),
-        (b"GET /\r\n\r\n", "400"),
-        (b"GET  / HTTP/1.0\n\n", "400"),
-        (b"GET / HTTP/1.0 \n\n", "400"),
-        (b"G@T / HTTP/1.0\n\n", "400"),
-        (b"purge x HTTP/1.0\n\n", "18 Nothing"),
-        (b"GET /\xc3\xa9 HTTP/1.0\n\n", "18 Nothing"),
-        (b"GET /\xff HTTP/1.0\n\n", "400"),
-        (b"GET / HTTP/1.1\r\nX: y\r\n\r\n", "400"),
-    ] {
-        let read = head_of(rt.alloc(), bytes);
-        assert_eq!(rt; in_words(rt.alloc(), &read)?.as_str(), expected);
-        assert!(rt; ends_at_any_cut(bytes));
-    }
-    Ok(())
+    hold(&rt, rt.alloc(), HEADS)
 }
 
 #[test]
@@ -139,122 +121,75 @@ fn no_byte_belongs_to_a_head_after_its_end(rt: HostRuntime) -> Result<(), Fail> 
     Ok(())
 }
 
+const FIELDS: &str = "\
+fields-1.0 C:\t d e \t␍␊F:␍␊ => 33 Nothing
+fields-1.0 C : d␍␊ => 400
+fields-1.0 C: d␍␊ e␍␊ => 400
+fields-1.0 : d␍␊ => 400
+fields-1.0 Cd␍␊ => 400
+fields-1.0 C: \0␍␊ => 400
+fields-1.0 C: d␍e␍␊ => 400
+fields-1.0 C: \u{ff}␍␊ => 24 Nothing
+fields-1.0 Host: a␍␊host: a␍␊ => 400
+fields-1.0 Transfer-Encoding: chunked␍␊ => 400
+fields-1.0 Content-Length: 5␍␊Content-Length: 5␍␊ => 56 Length 5
+fields-1.0 Connection: x␍␊Connection: Keep-Alive␍␊ => 57 Nothing keep
+fields-1.0 Connection: keep-alive, close␍␊ => 49 Nothing
+fields-1.0 Expect: 100-continue␍␊ => 40 Nothing";
+
+const PARTS: &str =
+    "parts C:\t d e \t␍␊f:␍␊ => b\"GET\" b\"/\" [Pair2 { name: b\"C\", value: b\"d e\" }, Pair2 { name: b\"f\", value: b\"\" }]";
+
 #[test]
 fn fields_are_read(rt: HostRuntime) -> Result<(), Fail> {
-    for (fields, expected) in [
-        (b"C:\x09 d e \x09\r\nF:\r\n".as_slice(), "33 Nothing"),
-        (b"C : d\r\n", "400"),
-        (b"C: d\r\n e\r\n", "400"),
-        (b": d\r\n", "400"),
-        (b"Cd\r\n", "400"),
-        (b"C: \x00\r\n", "400"),
-        (b"C: d\re\r\n", "400"),
-        (b"C: \xff\r\n", "24 Nothing"),
-        (b"Host: a\r\nhost: a\r\n", "400"),
-        (b"Transfer-Encoding: chunked\r\n", "400"),
-        (b"Content-Length: 5\r\nContent-Length: 5\r\n", "56 Length 5"),
-        (
-            b"Connection: x\r\nConnection: Keep-Alive\r\n",
-            "57 Nothing keep",
-        ),
-        (b"Connection: keep-alive, close\r\n", "49 Nothing"),
-        (b"Expect: 100-continue\r\n", "40 Nothing"),
-    ] {
-        assert_eq!(rt; read_fields(rt.alloc(), B, fields)?.as_str(), expected);
-        assert!(rt; ends_at_any_cut(&joined(rt.alloc(), &[B, fields, b"\r\n"])?));
-    }
-    let bytes = joined(rt.alloc(), &[B, b"C:\x09 d e \x09\r\nf:\r\n\r\n"])?;
-    assert_eq!(rt;
-        parts_in_words(rt.alloc(), &head_of(rt.alloc(), &bytes))?.as_slice(),
-        b"GET / C=d e;f=;".as_slice()
-    );
-    Ok(())
+    hold(&rt, rt.alloc(), FIELDS)?;
+    hold(&rt, rt.alloc(), PARTS)
 }
+
+const FRAMINGS: &str = "\
+fields-1.1 HOST: b␍␊ => 400
+fields-1.1 Transfer-Encoding: Chunked␍␊ => 55 Chunked keep
+fields-1.1 Transfer-Encoding: x, chunked␍␊ => 501
+fields-1.1 Transfer-Encoding: chunked, x␍␊ => 400
+fields-1.1 Transfer-Encoding: chunked,␍␊ => 400
+fields-1.1 Transfer-Encoding: , chunked␍␊ => 501
+fields-1.1 Transfer-Encoding: ␍␊ => 400
+fields-1.1 Transfer-Encoding: chunked;a=1␍␊ => 400
+fields-1.1 Transfer-Encoding: chunked, chunked␍␊ => 501
+fields-1.1 Transfer-Encoding: x␍␊Transfer-Encoding: chunked␍␊ => 501
+fields-1.1 Transfer-Encoding: x␍␊Content-Length: 1␍␊ => 400
+fields-1.1 Transfer-Encoding: chunked␍␊Content-Length: 1␍␊ => 400
+fields-1.1 Content-Length: 007␍␊ => 48 Length 7 keep
+fields-1.1 Content-Length: 5, 5␍␊ => 400
+fields-1.1 Content-Length: ␍␊ => 400
+fields-1.1 Content-Length: 0x1␍␊ => 400
+fields-1.1 Content-Length: 999999999999999␍␊ => 60 Length 999999999999999 keep
+fields-1.1 Content-Length: 1000000000000000␍␊ => 400
+fields-1.1 Content-Length: 0␍␊ => 46 Length 0 keep
+fields-1.1 Content-Length: 5␍␊Content-Length: 05␍␊ => 400
+fields-1.1 Content-Length: 5␍␊Content-Length: 6␍␊ => 400
+fields-1.1 Connection: TE, Close␍␊ => 50 Nothing
+fields-1.1 Connection: closed␍␊ => 47 Nothing keep
+fields-1.1 Expect: 100-Continue␍␊ => 49 Nothing keep expects
+fields-1.1 Expect: x, 100-continue␍␊ => 52 Nothing keep";
 
 #[test]
 fn bodies_are_framed(rt: HostRuntime) -> Result<(), Fail> {
-    for (fields, expected) in [
-        (b"HOST: b\r\n".as_slice(), "400"),
-        (b"Transfer-Encoding: Chunked\r\n", "55 Chunked keep"),
-        (b"Transfer-Encoding: x, chunked\r\n", "501"),
-        (b"Transfer-Encoding: chunked, x\r\n", "400"),
-        (b"Transfer-Encoding: chunked,\r\n", "400"),
-        (b"Transfer-Encoding: , chunked\r\n", "501"),
-        (b"Transfer-Encoding: \r\n", "400"),
-        (b"Transfer-Encoding: chunked;a=1\r\n", "400"),
-        (b"Transfer-Encoding: chunked, chunked\r\n", "501"),
-        (
-            b"Transfer-Encoding: x\r\nTransfer-Encoding: chunked\r\n",
-            "501",
-        ),
-        (b"Transfer-Encoding: x\r\nContent-Length: 1\r\n", "400"),
-        (
-            b"Transfer-Encoding: chunked\r\nContent-Length: 1\r\n",
-            "400",
-        ),
-        (b"Content-Length: 007\r\n", "48 Length 7 keep"),
-        (b"Content-Length: 5, 5\r\n", "400"),
-        (b"Content-Length: \r\n", "400"),
-        (b"Content-Length: 0x1\r\n", "400"),
-        (
-            b"Content-Length: 999999999999999\r\n",
-            "60 Length 999999999999999 keep",
-        ),
-        (b"Content-Length: 1000000000000000\r\n", "400"),
-        (b"Content-Length: 0\r\n", "46 Length 0 keep"),
-        (b"Content-Length: 5\r\nContent-Length: 05\r\n", "400"),
-        (b"Content-Length: 5\r\nContent-Length: 6\r\n", "400"),
-        (b"Connection: TE, Close\r\n", "50 Nothing"),
-        (b"Connection: closed\r\n", "47 Nothing keep"),
-        (b"Expect: 100-Continue\r\n", "49 Nothing keep expects"),
-        (b"Expect: x, 100-continue\r\n", "52 Nothing keep"),
-    ] {
-        assert_eq!(rt; read_fields(rt.alloc(), A, fields)?.as_str(), expected);
-        assert!(rt; ends_at_any_cut(&joined(rt.alloc(), &[A, fields, b"\r\n"])?));
-    }
-    Ok(())
+    hold(&rt, rt.alloc(), FRAMINGS)
 }
 
-/// A text with these bytes so many times between two others.
-fn with_repeated(
-    alloc: Global,
-    front: &[u8],
-    bytes: &[u8],
-    count: usize,
-    back: &[u8],
-) -> Result<Vec<u8>, AllocError> {
-    let mut all = Vec::from_slice(alloc, front)?;
-    for _ in 0..count {
-        all.extend_from_slice(bytes)?;
-    }
-    all.extend_from_slice(back)?;
-    Ok(all)
-}
+/// A front, a text, how often it stands after it, and what follows.
+const LIMITS: &str = "\
+repeated ;␍␊;8192; => 431
+repeated ;␍␊;8191;␍ => More
+repeated GET / HTTP/1.1␍␊Host: a␍␊;X: y␍␊;99;␍␊ => 621 Nothing keep
+repeated GET / HTTP/1.1␍␊Host: a␍␊;X: y␍␊;100;␍␊ => 431
+repeated GET / HTTP/2.0␍␊;X: y␍␊;101;␍␊ => 431
+repeated GET / HTTP/1.1␍␊Host: a␍␊X:;a;16352;␍␊␍␊ => 16383 Nothing keep
+repeated GET / HTTP/1.1␍␊Host: a␍␊X:;a;16353;␍␊␍␊ => 16384 Nothing keep
+repeated GET / HTTP/1.1␍␊Host: a␍␊X:;a;16354;␍␊␍␊ => 431";
 
 #[test]
 fn heads_have_limits(rt: HostRuntime) -> Result<(), Fail> {
-    let alloc = rt.alloc();
-    let other_version = b"GET / HTTP/2.0\r\n".as_slice();
-    let long_line = b"GET / HTTP/1.1\r\nHost: a\r\nX:".as_slice();
-    for (front, bytes, count, back, expected) in [
-        (
-            b"".as_slice(),
-            b"\r\n".as_slice(),
-            8_192,
-            b"".as_slice(),
-            "431",
-        ),
-        (b"", b"\r\n", 8_191, b"\r", "More"),
-        (A, b"X: y\r\n", 99, b"\r\n", "621 Nothing keep"),
-        (A, b"X: y\r\n", 100, b"\r\n", "431"),
-        (other_version, b"X: y\r\n", 101, b"\r\n", "431"),
-        (long_line, b"a", 16_352, b"\r\n\r\n", "16383 Nothing keep"),
-        (long_line, b"a", 16_353, b"\r\n\r\n", "16384 Nothing keep"),
-        (long_line, b"a", 16_354, b"\r\n\r\n", "431"),
-    ] {
-        let head = with_repeated(alloc, front, bytes, count, back)?;
-        assert_eq!(rt; in_words(alloc, &head_of(alloc, &head))?.as_str(), expected);
-        assert!(rt; ends_at_any_cut(&head));
-    }
-    Ok(())
+    hold(&rt, rt.alloc(), LIMITS)
 }

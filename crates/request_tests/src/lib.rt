@@ -1,4 +1,4 @@
-//! Tests of heads and bodies of requests, by their public calls.
+//! Tests of heads and bodies of requests, by their public calls: rows of texts, and what is read of each.
 #![tactic(auto)]
 
 #[cfg(test)]
@@ -7,3 +7,5 @@ mod bodies;
 mod cuts;
 #[cfg(test)]
 mod heads;
+#[cfg(test)]
+mod rows;

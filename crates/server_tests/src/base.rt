@@ -1,38 +1,64 @@
 //! Tests of `resty_base`.
 use resty_base::*;
-use std::alloc::Global;
+use std::alloc::{AllocError, Global};
 use std::process::Abort;
 use std::test::Fail;
 
+/// Numbers, and what they are as whole numbers of Lua.
+const NUMBERS: &str = "\
+0 => 0
+99999999999999 => 99999999999999
+100000000000000 => none
+-99999999999999 => -99999999999999
+-100000000000000 => none";
+
+/// The whole number of a number.
+fn whole_of(number: i64) -> Option<i64> {
+    match whole(number) {
+        Some(number) => Some(number.get()),
+        None => None,
+    }
+}
+
 #[test]
-fn whole_numbers_end_at_the_limit(rt: HostRuntime) -> Result<(), Fail> {
-    for (n, inside) in [
-        (0, true),
-        (99_999_999_999_999, true),
-        (100_000_000_000_000, false),
-        (-99_999_999_999_999, true),
-        (-100_000_000_000_000, false),
-    ] {
+fn whole_numbers_end_at_the_limit(rt: HostRuntime) {
+    for row in NUMBERS.lines() {
+        let (number, expected) = row.split_once(" => ").unwrap_or((row, ""));
         assert_eq!(rt;
-            whole(n).map(|number| number.get()),
-            if inside { Some(n) } else { None }
+            whole_of(number.parse().unwrap_or(1)),
+            expected.parse().ok(),
+            "{row}"
+        );
+    }
+}
+
+/// Tests each row: a name, how long its file may be, and what is fetched.
+fn hold<F: Files>(
+    rt: &impl Abort,
+    alloc: Global,
+    files: &mut F,
+    rows: &str,
+) -> Result<(), AllocError> {
+    for row in rows.lines() {
+        let (given, expected) = row.split_once(" => ").unwrap_or((row, ""));
+        let (name, max) = given.split_once(' ').unwrap_or((given, ""));
+        let fetched = files.fetch(alloc, name, max.parse().unwrap_or(0));
+        assert_eq!(rt;
+            format!(in alloc; "{fetched:?}")?.as_str(),
+            expected,
+            "{row}"
         );
     }
     Ok(())
 }
 
-/// A fetch of the file, as long as this at most, is answered so.
-fn expect_fetched<F: Files>(
-    rt: &impl Abort,
-    alloc: Global,
-    files: &mut F,
-    name: &str,
-    max: usize,
-    expected: &Fetched,
-) {
-    let fetched = files.fetch(alloc, name, max);
-    assert!(rt; fetched == *expected, "{name} {max}");
-}
+/// The file `a` holds `three`, and the fifth fetch fails.
+const IN_MEMORY: &str = r#"a 5 => Text(b"three")
+a 4 => TooLong
+b 5 => Missing
+A 5 => Missing
+a 5 => Failed
+a 6 => Text(b"three")"#;
 
 #[test]
 fn files_in_memory_answer_by_name_and_length(rt: HostRuntime) -> Result<(), Fail> {
@@ -41,28 +67,39 @@ fn files_in_memory_answer_by_name_and_length(rt: HostRuntime) -> Result<(), Fail
     files.add(alloc, "a", b"one")?;
     files.add(alloc, "a", b"three")?;
     files.fail_at(5)?;
-    let three = Fetched::Text(Bytes::from_static(b"three"));
-    expect_fetched(&rt, alloc, &mut files, "a", 5, &three);
-    expect_fetched(&rt, alloc, &mut files, "a", 4, &Fetched::TooLong);
-    expect_fetched(&rt, alloc, &mut files, "b", 5, &Fetched::Missing);
-    expect_fetched(&rt, alloc, &mut files, "A", 5, &Fetched::Missing);
-    expect_fetched(&rt, alloc, &mut files, "a", 5, &Fetched::Failed);
-    expect_fetched(&rt, alloc, &mut files, "a", 6, &three);
-    Ok(())
+    Ok(hold(&rt, alloc, &mut files, IN_MEMORY)?)
 }
+
+const OF_THE_SYSTEM: &str = r#"/proc/sys/kernel/ostype 6 => Text(b"Linux\n")
+/proc/sys/kernel/ostype 5 => TooLong
+/proc/sys/kernel/none 6 => Missing
+/proc 6 => Failed"#;
+
+#[test]
+fn files_of_the_system_answer_by_name_and_length(rt: HostRuntime) -> Result<(), Fail> {
+    Ok(hold(&rt, rt.alloc(), &mut DiskFiles::new(&rt), OF_THE_SYSTEM)?)
+}
+
+/// What puts of these texts answer.
+const PUTS: &str = "\
+one => Ok(())
+ => Ok(())
+two => Ok(())
+three => Err(SinkFault)
+four => Ok(())";
 
 #[test]
 fn a_failed_put_ends_the_bytes_that_are_taken(rt: HostRuntime) -> Result<(), Fail> {
     let mut sink = MemSink::new(rt.alloc());
     sink.fail_at(3)?;
-    for (text, answer) in [
-        ("one", Ok(())),
-        ("", Ok(())),
-        ("two", Ok(())),
-        ("three", Err(SinkFault)),
-        ("four", Ok(())),
-    ] {
-        assert_eq!(rt; put_all(&mut sink, text.as_bytes()), answer);
+    for row in PUTS.lines() {
+        let (text, expected) = row.split_once(" => ").unwrap_or((row, ""));
+        let put = put_all(&mut sink, text.as_bytes());
+        assert_eq!(rt;
+            format!(in rt.alloc(); "{put:?}")?.as_str(),
+            expected,
+            "{row}"
+        );
     }
     assert_eq!(rt; sink.taken(), b"onetwofour".as_slice());
     Ok(())
@@ -78,19 +115,6 @@ fn byte_strings_are_listed_in_order(rt: HostRuntime) -> Result<(), Fail> {
     assert_eq!(rt; lists.as_slice().len(), 2);
     assert_eq!(rt; lists.into_vec()[0].as_slice(), b"b".as_slice());
     Ok(())
-}
-
-#[test]
-fn files_of_the_system_answer_by_name_and_length(rt: HostRuntime) {
-    let alloc = rt.alloc();
-    let mut files = DiskFiles::new(&rt);
-    let name = "/proc/sys/kernel/ostype";
-    let text = Fetched::Text(Bytes::from_static(b"Linux\n"));
-    let none = "/proc/sys/kernel/none";
-    expect_fetched(&rt, alloc, &mut files, name, 6, &text);
-    expect_fetched(&rt, alloc, &mut files, name, 5, &Fetched::TooLong);
-    expect_fetched(&rt, alloc, &mut files, none, 6, &Fetched::Missing);
-    expect_fetched(&rt, alloc, &mut files, "/proc", 6, &Fetched::Failed);
 }
 
 #[test]

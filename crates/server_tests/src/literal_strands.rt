@@ -11,65 +11,44 @@ const CONF: &[u8] =
 const REPLY: &[u8] =
     b"HTTP/1.1 200 OK\r\nServer: resty\r\nDate: Thu, 01 Jan 1970 00:00:01 GMT\r\nContent-Type: text/plain\r\nConnection: close\r\n\r\nhi\n";
 
-/// The line at which the text is refused, 0 where it isn't.
-fn refused_at(rt: &HostRuntime, text: &[u8]) -> u32 {
-    match literal_site(rt.alloc(), text) {
+/// The line at which the text is refused, 0 where it isn't; `|` is the end of a line.
+fn refused_at(alloc: Global, text: &str) -> Result<u32, AllocError> {
+    let text = text.replace(alloc, "|", "\n")?;
+    Ok(match literal_site(alloc, text.as_bytes()) {
         Ok(_) => 0,
         Err(SiteFault::NotYet(line)) => line,
         Err(SiteFault::Memory) => u32::MAX,
-    }
+    })
 }
 
-/// Texts, and the line at which each is refused, 0 where it isn't.
-const CONFIGURATIONS: [(&[u8], u32); 14] = [
-    (CONF, 0),
-    (
-        b"http { server { listen 8080;\nlocation / { content_by_lua_block { ngx.say(\"a\") ngx.say(\"\") ngx.say(\"}\") } }\n} }\n",
-        0,
-    ),
-    (b"", 1),
-    (b"http { server { listen 8080;", 1),
-    (b"http { server { listen 8081;\n", 1),
-    (b"http { server { listen 8080;\n", 2),
-    (
-        b"http { server { listen 8080;\nlocation / { content_by_lua_block { ngx.print(\"x\") } }\n} }\n",
-        2,
-    ),
-    (
-        b"http { server { listen 8080;\nlocation / { content_by_lua_block { } }\n} }\n",
-        2,
-    ),
-    (
-        b"http { server { listen 8080;\nlocation / { content_by_lua_block { ngx.say(\"a\\n\") } }\n} }\n",
-        2,
-    ),
-    (
-        b"http { server { listen 8080;\nlocation / { content_by_lua_block { ngx.say(\"a\")  ngx.say(\"b\") } }\n} }\n",
-        2,
-    ),
-    (
-        b"http { server { listen 8080;\nlocation / { content_by_lua_block { ngx.say(\"hi\") } }\n",
-        3,
-    ),
-    (
-        b"http { server { listen 8080;\nlocation / { content_by_lua_block { ngx.say(\"hi\") } }\n} }",
-        3,
-    ),
-    (
-        b"http { server { listen 8080;\nlocation / { content_by_lua_block { ngx.say(\"hi\") } }\n} }\n\n",
-        4,
-    ),
-    (
-        b"http { server { listen 8080;\nlocation / { content_by_lua_block { ngx.say(\"hi\") } }\n} }\nx",
-        4,
-    ),
-];
+/// Texts, after the line at which each is refused, 0 where it isn't.
+const CONFIGURATIONS: &str = "\
+0 http { server { listen 8080;|location / { content_by_lua_block { ngx.say(\"hi\") } }|} }|
+0 http { server { listen 8080;|location / { content_by_lua_block { ngx.say(\"a\") ngx.say(\"\") ngx.say(\"}\") } }|} }|
+1
+1 http { server { listen 8080;
+1 http { server { listen 8081;|
+2 http { server { listen 8080;|
+2 http { server { listen 8080;|location / { content_by_lua_block { ngx.print(\"x\") } }|} }|
+2 http { server { listen 8080;|location / { content_by_lua_block { } }|} }|
+2 http { server { listen 8080;|location / { content_by_lua_block { ngx.say(\"a\\n\") } }|} }|
+2 http { server { listen 8080;|location / { content_by_lua_block { ngx.say(\"a\")  ngx.say(\"b\") } }|} }|
+3 http { server { listen 8080;|location / { content_by_lua_block { ngx.say(\"hi\") } }|
+3 http { server { listen 8080;|location / { content_by_lua_block { ngx.say(\"hi\") } }|} }
+4 http { server { listen 8080;|location / { content_by_lua_block { ngx.say(\"hi\") } }|} }||
+4 http { server { listen 8080;|location / { content_by_lua_block { ngx.say(\"hi\") } }|} }|x";
 
 #[test]
-fn texts_are_taken_or_refused_at_a_line(rt: HostRuntime) {
-    for (text, line) in CONFIGURATIONS {
-        assert_eq!(rt; refused_at(&rt, text), line);
+fn texts_are_taken_or_refused_at_a_line(rt: HostRuntime) -> Result<(), Fail> {
+    for row in CONFIGURATIONS.lines() {
+        let (line, text) = row.split_once(' ').unwrap_or((row, ""));
+        assert_eq!(rt;
+            Some(refused_at(rt.alloc(), text)?),
+            line.parse().ok(),
+            "{row}"
+        );
     }
+    Ok(())
 }
 
 /// Whether the acts are printed so.

@@ -1,5 +1,4 @@
 //! Tests of `schedule_text`: texts that are read, printed and refused.
-use resty_base::{Bytes, Id};
 use resty_world::{Entry, History};
 use schedule_text::*;
 use std::alloc::{AllocError, Global};
@@ -11,202 +10,181 @@ mod values;
 
 use texts::{HISTORY, OTHER_ENTRIES, OTHER_LINES, SCHEDULE, WHOLE_HISTORY, WHOLE_SCHEDULE};
 
-/// Whether the text is read as a history and printed as it was.
-fn history_comes_back(alloc: Global, text: &[u8]) -> bool {
-    match history_of(alloc, text) {
-        Ok(history) => match history_text(alloc, &history) {
-            Ok(again) => again.as_slice() == text,
-            Err(_) => false,
-        },
-        Err(_) => false,
+/// Tests each row, `WORD TEXT => SEEN`; `;` is the end of a line.
+fn hold(rt: &impl Abort, alloc: Global, rows: &str) -> Result<(), Fail> {
+    for row in rows.lines() {
+        let (given, expected) = row.split_once(" => ").unwrap_or((row, ""));
+        assert_eq!(rt; seen(alloc, given)?.as_str(), expected, "{row}");
+    }
+    Ok(())
+}
+
+/// What is seen of a text: its entries or its lines where it comes back, the line at which it is refused, or the schedule of its events.
+fn seen(alloc: Global, given: &str) -> Result<String, AllocError> {
+    let (word, text) = given.split_once(' ').unwrap_or((given, ""));
+    let text = text.replace(alloc, ";", "\n")?;
+    match word {
+        "entries" => entries(alloc, text.as_bytes()),
+        "lines" => lines(alloc, text.as_bytes()),
+        "events" => events(alloc, text.as_bytes())?.replace(alloc, "\n", ";"),
+        "history" => no_history(alloc, text.as_bytes()),
+        _ => no_schedule(alloc, text.as_bytes()),
     }
 }
 
-/// Whether the text is read as a schedule and printed as it was.
-fn schedule_comes_back(alloc: Global, text: &[u8]) -> bool {
-    match schedule_of(alloc, text) {
-        Ok(schedule) => match schedule_text(alloc, &schedule) {
-            Ok(again) => again.as_slice() == text,
-            Err(_) => false,
-        },
-        Err(_) => false,
+/// The entries of a text in words, where it is printed as it was.
+fn entries(alloc: Global, text: &[u8]) -> Result<String, AllocError> {
+    let Ok(history) = history_of(alloc, text) else {
+        return format!(in alloc; "refused");
+    };
+    if history_text(alloc, &history)?.as_slice() != text {
+        return format!(in alloc; "another text");
+    }
+    in_words(alloc, &history)
+}
+
+/// The entries of a history in words; a single call of a dictionary without what holds it.
+fn in_words(alloc: Global, history: &History) -> Result<String, AllocError> {
+    match history.as_slice() {
+        [Entry::Dict(who, name, call, answer)] => {
+            format!(in alloc; "{who:?} {name:?} {:?} {:?}", call.get(), answer.get())
+        }
+        entries => format!(in alloc; "{entries:?}"),
     }
 }
+
+/// The lines of a text in words, where it is printed as it was.
+fn lines(alloc: Global, text: &[u8]) -> Result<String, AllocError> {
+    let Ok(schedule) = schedule_of(alloc, text) else {
+        return format!(in alloc; "refused");
+    };
+    if schedule_text(alloc, &schedule)?.as_slice() != text {
+        return format!(in alloc; "another text");
+    }
+    format!(in alloc; "{:?}", schedule.as_slice())
+}
+
+/// The schedule of the events that a history gives.
+fn events(alloc: Global, text: &[u8]) -> Result<String, AllocError> {
+    let Ok(history) = history_of(alloc, text) else {
+        return format!(in alloc; "refused");
+    };
+    let printed = schedule_text(alloc, &events_of(alloc, &history)?)?;
+    String::from_utf8_lossy(alloc, &printed)
+}
+
+/// The line at which a text is no history, or `read`.
+fn no_history(alloc: Global, text: &[u8]) -> Result<String, AllocError> {
+    match history_of(alloc, text) {
+        Ok(_) => format!(in alloc; "read"),
+        Err(fault) => format!(in alloc; "{fault:?}"),
+    }
+}
+
+/// The line at which a text is no schedule, or `read`.
+fn no_schedule(alloc: Global, text: &[u8]) -> Result<String, AllocError> {
+    match schedule_of(alloc, text) {
+        Ok(_) => format!(in alloc; "read"),
+        Err(fault) => format!(in alloc; "{fault:?}"),
+    }
+}
+
+const AGAIN: &str = "\
+entries  => []
+lines stop; => [Given(Stop)]";
 
 #[test]
-fn texts_are_read_and_printed_again(rt: HostRuntime) {
-    let a = rt.alloc();
-    for text in [HISTORY, WHOLE_HISTORY, b""] {
-        assert!(rt; history_comes_back(a, text));
-    }
-    for text in [SCHEDULE, WHOLE_SCHEDULE, b"stop\n"] {
-        assert!(rt; schedule_comes_back(a, text));
-    }
+fn texts_are_read_and_printed_again(rt: HostRuntime) -> Result<(), Fail> {
+    let alloc = rt.alloc();
+    hold(&rt, alloc, AGAIN)?;
+    assert!(rt; entries(alloc, HISTORY)?.starts_with('['));
+    assert!(rt; entries(alloc, WHOLE_HISTORY)?.starts_with('['));
+    assert!(rt; lines(alloc, SCHEDULE)?.starts_with('['));
+    assert!(rt; lines(alloc, WHOLE_SCHEDULE)?.starts_with('['));
+    Ok(())
 }
 
-/// The number of the refused line of a history, 0 where it is read.
-fn no_history_at(alloc: Global, text: &[u8]) -> u64 {
-    match history_of(alloc, text) {
-        Ok(_) => 0,
-        Err(SchedFault::BadLine(number)) => number,
-        Err(SchedFault::Memory) => u64::MAX,
-    }
-}
-
-/// The number of the refused line of a schedule, 0 where it is read.
-fn no_schedule_at(alloc: Global, text: &[u8]) -> u64 {
-    match schedule_of(alloc, text) {
-        Ok(_) => 0,
-        Err(SchedFault::BadLine(number)) => number,
-        Err(SchedFault::Memory) => u64::MAX,
-    }
-}
-
-/// The first of the lines that is read as an entry, though it has another spelling or a number out of range.
-fn first_entry(alloc: Global, lines: &[u8]) -> Result<Option<usize>, AllocError> {
-    for (number, line) in lines.split(|byte| *byte == b'\n').enumerate() {
-        let mut text = Vec::from_slice(alloc, line)?;
-        text.push(b'\n')?;
-        if no_history_at(alloc, text.as_slice()) != 1 {
-            return Ok(Some(number + 1));
-        }
-    }
-    Ok(None)
-}
-
-/// The first of the lines that is read as the first line of a schedule.
-fn first_line(alloc: Global, lines: &[u8]) -> Result<Option<usize>, AllocError> {
-    for (number, line) in lines.split(|byte| *byte == b'\n').enumerate() {
-        let mut text = Vec::from_slice(alloc, line)?;
-        text.extend_from_slice(b"\nstop\n")?;
-        if no_schedule_at(alloc, text.as_slice()) != 1 {
-            return Ok(Some(number + 1));
-        }
-    }
-    Ok(None)
-}
-
-/// A line of so many bytes from the first connection.
-fn bytes_line(alloc: Global, count: usize) -> Result<Vec<u8>, AllocError> {
-    let mut line = Vec::from_slice(alloc, b"bytes c1 \"")?;
-    for _ in 0..count {
-        line.push(b'a')?;
-    }
-    line.extend_from_slice(b"\"\n")?;
-    Ok(line)
+/// Whether so many bytes may come at a time.
+fn may_come(alloc: Global, count: usize) -> Result<bool, AllocError> {
+    let bytes = "a".repeat(alloc, count)?;
+    let line = format!(in alloc; "bytes c1 \"{}\"\n", bytes.as_str())?;
+    Ok(no_history(alloc, line.as_bytes())?.as_str() == "read")
 }
 
 #[test]
 fn at_most_65536_bytes_come_at_a_time(rt: HostRuntime) -> Result<(), Fail> {
-    let a = rt.alloc();
-    assert_eq!(rt; no_history_at(a, bytes_line(a, 65_536)?.as_slice()), 0);
-    assert_eq!(rt; no_history_at(a, bytes_line(a, 65_537)?.as_slice()), 1);
+    assert!(rt; may_come(rt.alloc(), 65_536)?);
+    assert!(rt; !may_come(rt.alloc(), 65_537)?);
     Ok(())
+}
+
+/// Whether a text is refused at its first line.
+fn is_refused(alloc: Global, word: &str, line: &str, after: &str) -> Result<bool, AllocError> {
+    let given = format!(in alloc; "{word} {line};{after}")?;
+    Ok(seen(alloc, given.as_str())?.as_str() == "BadLine(1)")
 }
 
 #[test]
 fn other_lines_are_refused(rt: HostRuntime) -> Result<(), Fail> {
-    assert_eq!(rt; first_entry(rt.alloc(), OTHER_ENTRIES)?, None);
-    assert_eq!(rt; first_line(rt.alloc(), OTHER_LINES)?, None);
-    Ok(())
-}
-
-/// Schedules, after the number of the line at which each is refused, 0 where it isn't.
-const SCHEDULES: [(u64, &[u8]); 18] = [
-    (0, b"arrive c1\nbytes c1 \"G\"\nbytes c1 \"ET \"\nstop\n"),
-    (2, b"moment 2\nmoment 1\nstop\n"),
-    (1, b""),
-    (1, b"stop"),
-    (1, b"\nstop\n"),
-    (2, b"stop\nstop\n"),
-    (2, b"stop\n\n"),
-    (2, b"stop\nx"),
-    (2, b"moment 1\n"),
-    (2, b"moment 1\nstop"),
-    (2, b"moment 5\nmoment 4\nstop\n"),
-    (2, b"arrive c1\n"),
-    (2, b"arrive c1\narrive c1\nstop\n"),
-    (2, b"arrive c1\narrive c3\nstop\n"),
-    (1, b"arrive c2\nstop\n"),
-    (3, b"arrive c1\narrive c2\nput c1 \"a\"\nstop\n"),
-    (2, b"stop\nready c1\n"),
-    (1, b"stop\r\n"),
-];
-
-/// The same of histories.
-const HISTORIES: [(u64, &[u8]); 10] = [
-    (1, b"put c1 \"\r\"\n"),
-    (0, b"stop\nmoment 2\nmoment 1\narrive c7\n"),
-    (1, b"\n"),
-    (1, b"stop\r\n"),
-    (1, b"put c1 \"\t\"\n"),
-    (1, b"put c1 \"\xff\"\n"),
-    (1, b"stop"),
-    (2, b"stop\nstop"),
-    (2, b"stop\n\nstop\n"),
-    (3, b"stop\nstop\nroom c1 all\n"),
-];
-
-#[test]
-fn texts_are_refused_at_their_line(rt: HostRuntime) {
-    let a = rt.alloc();
-    for (number, text) in SCHEDULES {
-        assert_eq!(rt; no_schedule_at(a, text), number);
+    let alloc = rt.alloc();
+    for line in OTHER_ENTRIES.split('\n') {
+        assert!(rt; is_refused(alloc, "history", line, "")?, "{line}");
     }
-    for (number, text) in HISTORIES {
-        assert_eq!(rt; no_history_at(a, text), number);
-    }
-}
-
-/// Whether the only entry of the history is that so many bytes were put, and the bytes.
-fn is_put(history: &History, bytes: &[u8]) -> bool {
-    match history.as_slice() {
-        [Entry::Put(Id::Conn(1), put)] => put.as_slice() == bytes,
-        _ => false,
-    }
-}
-
-#[test]
-fn escapes_are_bytes(rt: HostRuntime) -> Result<(), Fail> {
-    let cases: [(&[u8], &[u8]); 2] = [
-        (b"put c1 \"a\\x00\"\n", b"a\x00"),
-        (
-            b"put c1 \"a\\x00\\n\\r\\\"\\\\\\x7f\\xff~ \"\n",
-            b"a\x00\n\r\"\\\x7f\xff~ ",
-        ),
-    ];
-    for (text, bytes) in cases {
-        assert!(rt; is_put(&history_of(rt.alloc(), text)?, bytes));
+    for line in OTHER_LINES.split('\n') {
+        assert!(rt; is_refused(alloc, "schedule", line, "stop;")?, "{line}");
     }
     Ok(())
 }
 
-/// Whether the given events of the history are this schedule.
-fn gives(alloc: Global, history: &[u8], schedule: &[u8]) -> bool {
-    let Ok(history) = history_of(alloc, history) else {
-        return false;
-    };
-    let Ok(events) = events_of(alloc, &history) else {
-        return false;
-    };
-    match schedule_text(alloc, &events) {
-        Ok(text) => text.as_slice() == schedule,
-        Err(_) => false,
-    }
-}
+const SCHEDULES: &str = "\
+schedule arrive c1;bytes c1 \"G\";bytes c1 \"ET \";stop; => read
+schedule moment 2;moment 1;stop; => BadLine(2)
+schedule  => BadLine(1)
+schedule stop => BadLine(1)
+schedule ;stop; => BadLine(1)
+schedule stop;stop; => BadLine(2)
+schedule stop;; => BadLine(2)
+schedule stop;x => BadLine(2)
+schedule moment 1; => BadLine(2)
+schedule moment 1;stop => BadLine(2)
+schedule moment 5;moment 4;stop; => BadLine(2)
+schedule arrive c1; => BadLine(2)
+schedule arrive c1;arrive c1;stop; => BadLine(2)
+schedule arrive c1;arrive c3;stop; => BadLine(2)
+schedule arrive c2;stop; => BadLine(1)
+schedule arrive c1;arrive c2;put c1 \"a\";stop; => BadLine(3)
+schedule stop;ready c1; => BadLine(2)
+schedule stop\r; => BadLine(1)";
+
+const HISTORIES: &str = "\
+history put c1 \"\r\"; => BadLine(1)
+history stop;moment 2;moment 1;arrive c7; => read
+history ; => BadLine(1)
+history stop\r; => BadLine(1)
+history put c1 \"\t\"; => BadLine(1)
+history stop => BadLine(1)
+history stop;stop => BadLine(2)
+history stop;;stop; => BadLine(2)
+history stop;stop;room c1 all; => BadLine(3)";
 
 #[test]
-fn given_events_are_a_schedule(rt: HostRuntime) {
-    let cases: [(&[u8], &[u8]); 4] = [
-        (WHOLE_HISTORY, WHOLE_SCHEDULE),
-        (b"", b"stop\n"),
-        (b"stop\nclose c1\n", b"stop\n"),
-        (
-            b"moment 2\nmoment 1\narrive c1\nlater c1\nready c1\n",
-            b"moment 2\nmoment 2\narrive c1\nready c1\nstop\n",
-        ),
-    ];
-    for (history, schedule) in cases {
-        assert!(rt; gives(rt.alloc(), history, schedule));
-    }
+fn texts_are_refused_at_their_line(rt: HostRuntime) -> Result<(), Fail> {
+    hold(&rt, rt.alloc(), SCHEDULES)?;
+    hold(&rt, rt.alloc(), HISTORIES)?;
+    let fault = no_history(rt.alloc(), b"put c1 \"\xff\"\n")?;
+    assert_eq!(rt; fault.as_str(), "BadLine(1)");
+    Ok(())
+}
+
+const EVENTS: &str = "\
+events  => stop;
+events stop;close c1; => stop;
+events moment 2;moment 1;arrive c1;later c1;ready c1; => moment 2;moment 2;arrive c1;ready c1;stop;";
+
+#[test]
+fn given_events_are_a_schedule(rt: HostRuntime) -> Result<(), Fail> {
+    hold(&rt, rt.alloc(), EVENTS)?;
+    let schedule = events(rt.alloc(), WHOLE_HISTORY)?;
+    assert_eq!(rt; schedule.as_bytes(), WHOLE_SCHEDULE);
+    Ok(())
 }

@@ -123,7 +123,7 @@ stop
 "##;
 
 /// Lines that are no entries.
-pub const OTHER_ENTRIES: &[u8] = br##"
+pub const OTHER_ENTRIES: &str = r##"
  stop
 stop 
 Stop
@@ -306,7 +306,7 @@ dropped t1000000000000000000
 dropped"##;
 
 /// Lines with which no schedule begins.
-pub const OTHER_LINES: &[u8] = br##"
+pub const OTHER_LINES: &str = r##"
 arrive c0
 arrive c01
 arrive c2
