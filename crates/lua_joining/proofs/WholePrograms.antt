@@ -46,7 +46,7 @@ module _ (first second joined : Program) (j : IsJoined first second joined) wher
     params = w.params;
     body = All-weaker (IsWholeStmt first.functions.items f) (IsWholeStmt joined.functions.items f)
         (stmt_stays first.functions.items joined.functions.items f (λ n h. rw j.functions (inner_before f first.functions.items j.raised n h)))
-            f.body.value.items w.body;
+        f.body.value.items w.body;
   }
 
   raised_whole : (f g : Function) → RaisedFunction (length first.functions.items) (length first.files) f g → IsWholeFunction second f → IsWholeFunction joined g
