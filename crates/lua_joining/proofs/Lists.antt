@@ -4,7 +4,8 @@ use Rattle.std.specs.List.{All, AllZip}
 use Rattle.std.proofs.lemmas.List.Elements.{All-cons}
 
 -- related at each index
-pub zipped : {X : Type 0} (R : X → X → Type 0) (xs ys : List X) → length xs ≡ length ys → ((k : ℕ) (d : X) → k < length xs → R (get_or xs k d) (get_or ys k d)) → AllZip R xs ys
+pub zipped : {X : Type 0} (R : X → X → Type 0) (xs ys : List X) → length xs ≡ length ys → ((k : ℕ) (d : X) → k < length xs → R (get_or xs k d) (get_or ys k d))
+    → AllZip R xs ys
 zipped R [] [] e h = tt
 zipped R [] (y ∷ ys) e h = absurd (omega (arith, e))
 zipped R (x ∷ xs) [] e h = absurd (omega (arith, e))
@@ -15,7 +16,8 @@ pub all_zipped : {X : Type 0} (R : X → X → Type 0) (P Q : X → Type 0) (xs 
 all_zipped R P Q [] [] step z h = λ k d p. absurd (omega arith)
 all_zipped R P Q [] (y ∷ ys) step z h = absurd z
 all_zipped R P Q (x ∷ xs) [] step z h = absurd z
-all_zipped R P Q (x ∷ xs) (y ∷ ys) step z h = All-cons Q y ys (step x y z.0 (h 0 x (omega arith))) (all_zipped R P Q xs ys step z.1 (λ k d p. h (suc k) d (omega (arith, p))))
+all_zipped R P Q (x ∷ xs) (y ∷ ys) step z h =
+    All-cons Q y ys (step x y z.0 (h 0 x (omega arith))) (all_zipped R P Q xs ys step z.1 (λ k d p. h (suc k) d (omega (arith, p))))
 
 -- what holds of all elements holds of the first, and of those after it
 pub first_of : {X : Type 0} (P : X → Type 0) (x : X) (xs : List X) → All P (x ∷ xs) → P x

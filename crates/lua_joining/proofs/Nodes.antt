@@ -11,7 +11,8 @@ use Rattle.lua_ast.specs.declared.statements.StmtKind.{StmtKind}
 use Rattle.lua_ast.specs.declared.statements.StmtKind as stmt
 use Rattle.lua_ast.specs.declared.statements.Arm.{Arm, out-Arm}
 use Rattle.lua_ast.specs.declared.statements.Arm as arm
-use Rattle.lua_joining.specs.Raising.{Shared, SharedList, RaisedKind, RaisedRow, RaisedItems, RaisedItem, RaisedExpr, RaisedStep, RaisedStmtKind, RaisedBlock, RaisedArms, RaisedArm, RaisedStmt}
+use Rattle.lua_joining.specs.Raising.{Shared, SharedList, RaisedKind, RaisedRow, RaisedItems, RaisedItem, RaisedExpr, RaisedStep, RaisedStmtKind, RaisedBlock}
+use Rattle.lua_joining.specs.Raising.{RaisedArms, RaisedArm, RaisedStmt}
 
 module _ (by : ℕ) where
   row_raised : {m : _} (r : kind.Row_of-Expr m) (es : List Expr) → AllZip (RaisedExpr by) (kind.items-the_row-Expr _ r) es → RaisedRow by r es
@@ -20,7 +21,8 @@ module _ (by : ℕ) where
   row_raised (kind.more_of-Expr l k row) [] h = absurd h
   row_raised (kind.more_of-Expr l k row) (e ∷ es) h = (h.0, row_raised row es h.1)
 
-  items_raised : {m : _} (r : kind.Row_of-TableItem m) (is : List TableItem) → AllZip (RaisedItem by) (kind.items-the_row-TableItem _ r) is → RaisedItems by r is
+  items_raised : {m : _} (r : kind.Row_of-TableItem m) (is : List TableItem) → AllZip (RaisedItem by) (kind.items-the_row-TableItem _ r) is
+      → RaisedItems by r is
   items_raised kind.end_of-TableItem [] h = refl
   items_raised kind.end_of-TableItem (i ∷ is) h = absurd h
   items_raised (kind.more_of-TableItem i row) [] h = absurd h
@@ -43,7 +45,8 @@ module _ (by : ℕ) where
       let e : kind.items-the_row-Expr _ (kind.TheBlock.hidden-the_row-Expr-0 values) ≡ values.items = search (rules, kind.the_lemmas) in
       row_raised (kind.TheBlock.hidden-the_row-Expr-0 values) es (rw e h)
 
-  items : (values : Vec TableItem Global) (is : List TableItem) → AllZip (RaisedItem by) values.items is → RaisedItems by (kind.TheBlock.hidden-the_row-TableItem-1 values) is
+  items : (values : Vec TableItem Global) (is : List TableItem) → AllZip (RaisedItem by) values.items is
+      → RaisedItems by (kind.TheBlock.hidden-the_row-TableItem-1 values) is
   items values is h =
       let e : kind.items-the_row-TableItem _ (kind.TheBlock.hidden-the_row-TableItem-1 values) ≡ values.items = search (rules, kind.the_lemmas) in
       items_raised (kind.TheBlock.hidden-the_row-TableItem-1 values) is (rw e h)
@@ -53,7 +56,8 @@ module _ (by : ℕ) where
       let e : stmt.items-the_row-Stmt _ (stmt.TheBlock.hidden-the_row-Stmt-0 values) ≡ values.items = search (rules, stmt.the_lemmas) in
       block_raised (stmt.TheBlock.hidden-the_row-Stmt-0 values) ss (rw e h)
 
-  arms : (values : Vec Arm Global) (those : List Arm) → AllZip (RaisedArm by) values.items those → RaisedArms by (stmt.TheBlock.hidden-the_row-Arm-1 values) those
+  arms : (values : Vec Arm Global) (those : List Arm) → AllZip (RaisedArm by) values.items those
+      → RaisedArms by (stmt.TheBlock.hidden-the_row-Arm-1 values) those
   arms values those h =
       let e : stmt.items-the_row-Arm _ (stmt.TheBlock.hidden-the_row-Arm-1 values) ≡ values.items = search (rules, stmt.the_lemmas) in
       arms_raised (stmt.TheBlock.hidden-the_row-Arm-1 values) those (rw e h)
@@ -82,7 +86,8 @@ module _ (by : ℕ) where
     pub call_raised : (v w : SharedList Expr) → AllZip (RaisedExpr by) v.value.items w.value.items → RaisedKind by (kind.Call x v) (kind.Call y w)
     call_raised v w q = (y, w, refl, p, exprs v.value w.value.items q)
 
-    pub method_raised : (name : List ℕ) (v w : SharedList Expr) → AllZip (RaisedExpr by) v.value.items w.value.items → RaisedKind by (kind.Method x name v) (kind.Method y name w)
+    pub method_raised : (name : List ℕ) (v w : SharedList Expr) → AllZip (RaisedExpr by) v.value.items w.value.items
+        → RaisedKind by (kind.Method x name v) (kind.Method y name w)
     method_raised name v w q = (y, w, refl, p, exprs v.value w.value.items q)
 
   pub table_raised : (v w : SharedList TableItem) → AllZip (RaisedItem by) v.value.items w.value.items → RaisedKind by (kind.Table v) (kind.Table w)
@@ -116,7 +121,8 @@ module _ (by : ℕ) where
     pub if_raised : (those bs : SharedList Arm) → AllZip (RaisedArm by) those.value.items bs.value.items → RaisedStmtKind by (stmt.If those v) (stmt.If bs w)
     if_raised those bs p = (bs, w, refl, arms those.value bs.value.items p, block v.value w.value.items q)
 
-    pub numeric_raised : (slot : ℕ) (from to from' to' : Shared) (step step' : Option Shared) → RaisedExpr by from.value from'.value → RaisedExpr by to.value to'.value →
+    pub numeric_raised : (slot : ℕ) (from to from' to' : Shared) (step step' : Option Shared) → RaisedExpr by from.value from'.value
+        → RaisedExpr by to.value to'.value →
         RaisedStep by step step' → RaisedStmtKind by (stmt.NumericFor slot from to step v) (stmt.NumericFor slot from' to' step' w)
     numeric_raised slot from to from' to' step step' a b c = (from', to', step', w, refl, a, b, c, block v.value w.value.items q)
 
@@ -129,7 +135,8 @@ module _ (by : ℕ) where
   unfolding arm.roll-Arm roll
   arm_rolled a b p q = (p, block (out-Arm a).body.value (out-Arm b).body.value.items q)
 
-  pub arm_raised : (a b : Arm) → RaisedExpr by (out-Arm a).test (out-Arm b).test → AllZip (RaisedStmt by) (out-Arm a).body.value.items (out-Arm b).body.value.items → RaisedArm by a b
+  pub arm_raised : (a b : Arm) → RaisedExpr by (out-Arm a).test (out-Arm b).test
+      → AllZip (RaisedStmt by) (out-Arm a).body.value.items (out-Arm b).body.value.items → RaisedArm by a b
   arm_raised a b p q =
       let e : arm.roll-Arm (out-Arm a) ≡ a = search (rules, arm.the_lemmas) in
       subst (λ c. RaisedArm by c b) e (arm_rolled a b p q)

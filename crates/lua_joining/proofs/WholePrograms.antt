@@ -17,7 +17,8 @@ has_variable : (f g : Function) → g.slots ≡ f.slots → g.captures.items ≡
 has_variable f g slots captures (capture.Slot n) h = subst (λ m. n < m) (sym slots) h
 has_variable f g slots captures (capture.Outer n) h = subst (λ cs. n < length cs) (sym captures) h
 
-inner_zipped : (by files : ℕ) (f g : Function) → g.slots ≡ f.slots → g.captures.items ≡ f.captures.items → (fs gs : List Function) → AllZip (RaisedFunction by files) fs gs
+inner_zipped : (by files : ℕ) (f g : Function) → g.slots ≡ f.slots → g.captures.items ≡ f.captures.items → (fs gs : List Function)
+    → AllZip (RaisedFunction by files) fs gs
     → (n : ℕ) → HasInner fs f n → HasInner gs g n
 inner_zipped by files f g slots captures [] gs z n h = absurd h
 inner_zipped by files f g slots captures (x ∷ fs) [] z n h = absurd z
@@ -44,7 +45,8 @@ module _ (first second joined : Program) (j : IsJoined first second joined) wher
     file = file_fits f.file (omega (arith, w.file));
     params = w.params;
     body = All-weaker (IsWholeStmt first.functions.items f) (IsWholeStmt joined.functions.items f)
-        (stmt_stays first.functions.items joined.functions.items f (λ n h. rw j.functions (inner_before f first.functions.items j.raised n h))) f.body.value.items w.body;
+        (stmt_stays first.functions.items joined.functions.items f (λ n h. rw j.functions (inner_before f first.functions.items j.raised n h)))
+        f.body.value.items w.body;
   }
 
   raised_whole : (f g : Function) → RaisedFunction (length first.functions.items) (length first.files) f g → IsWholeFunction second f → IsWholeFunction joined g

@@ -33,13 +33,15 @@ module _ (by : ℕ) where
   abbrev mutual
     pub RaisedKind : ExprKind → ExprKind → Type 0
     RaisedKind (kind.Function n) d = d ≡ kind.Function (n + by)
-    RaisedKind (kind.Index' p l k q m j) d = (x : Shared) × (y : Shared) × (d ≡ kind.Index x y) × OnLine l (RaisedKind k) x.value × OnLine m (RaisedKind j) y.value
+    RaisedKind (kind.Index' p l k q m j) d = (x : Shared) × (y : Shared) × (d ≡ kind.Index x y) × OnLine l (RaisedKind k) x.value
+        × OnLine m (RaisedKind j) y.value
     RaisedKind (kind.Call' p l k q shape row) d =
         (x : Shared) × (values : SharedList Expr) × (d ≡ kind.Call x values) × OnLine l (RaisedKind k) x.value × RaisedRow row values.value.items
     RaisedKind (kind.Method' p l k name q shape row) d =
         (x : Shared) × (values : SharedList Expr) × (d ≡ kind.Method x name values) × OnLine l (RaisedKind k) x.value × RaisedRow row values.value.items
     RaisedKind (kind.Unary' op p l k) d = (x : Shared) × (d ≡ kind.Unary op x) × OnLine l (RaisedKind k) x.value
-    RaisedKind (kind.Binary' op p l k q m j) d = (x : Shared) × (y : Shared) × (d ≡ kind.Binary op x y) × OnLine l (RaisedKind k) x.value × OnLine m (RaisedKind j) y.value
+    RaisedKind (kind.Binary' op p l k q m j) d = (x : Shared) × (y : Shared) × (d ≡ kind.Binary op x y) × OnLine l (RaisedKind k) x.value
+        × OnLine m (RaisedKind j) y.value
     RaisedKind (kind.And' p l k q m j) d = (x : Shared) × (y : Shared) × (d ≡ kind.And x y) × OnLine l (RaisedKind k) x.value × OnLine m (RaisedKind j) y.value
     RaisedKind (kind.Or' p l k q m j) d = (x : Shared) × (y : Shared) × (d ≡ kind.Or x y) × OnLine l (RaisedKind k) x.value × OnLine m (RaisedKind j) y.value
     RaisedKind (kind.Paren' p l k) d = (x : Shared) × (d ≡ kind.Paren x) × OnLine l (RaisedKind k) x.value

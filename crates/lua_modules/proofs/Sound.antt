@@ -136,7 +136,7 @@ module _ (before after : ModuleSet) (line : ℕ) (text file : List ℕ) (chunk :
     (joins : (first second joined : Program) → IsJoined first second joined → IsWholeProgram first → IsWholeProgram second → IsWholeProgram joined)
     (begins_with : (tokens : List Token) (program : Program) → IsProgramOf tokens program → BeginsWithChunk program)
     (r : Result (Unit {0}) ModuleFault) (joined : OnOk r (IsJoined before.program (of_file file chunk) after.program))
-        (kept : OnErr r (IsUnchanged before after))
+    (kept : OnErr r (IsUnchanged before after))
     (sound : IsSound before) where
   all_whole : IsJoined before.program (of_file file chunk) after.program → IsWholeProgram after.program
   all_whole j = joins before.program (of_file file chunk) after.program j sound.whole (named_whole line text file chunk read whole)

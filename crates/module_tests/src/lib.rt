@@ -1,5 +1,7 @@
-//! Tests of the names of modules after `require`: rows of texts.
+//! Tests of modules of Lua: rows of texts, with the names that they require, and sets of modules and blocks.
 #![tactic(auto)]
 
 #[cfg(test)]
 mod names;
+#[cfg(test)]
+mod sets;

@@ -16,4 +16,4 @@ returns-in_err-parse-clause-fault c =
     let same = sym c.as_slice.ensures.value in
     let has = subst (λ tokens. HasTokens c.args.line c.args.text.now tokens) same c.in_ok-tokens.ensures.tokens in
     rw (p.1, p.2) (by_grammar c.args.line c.args.text.now c.as_slice.result.now has _ c.in_err-parse.ensures.unfit c.in_err-parse.ensures.limits
-        c.in_err-parse.ensures.complete)
+    c.in_err-parse.ensures.complete)

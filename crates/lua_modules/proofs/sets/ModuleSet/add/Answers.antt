@@ -11,9 +11,9 @@ returns-then-is_prelude-clause-added c =
 pub returns-then-is_prelude-clause-sound : goal.returns-then-is_prelude-clause-sound
 returns-then-is_prelude-clause-sound c = λ sound.
     after_prelude c.args.self.now c.add_prelude.new.self 1 c.args.text.now c.args.file c.in_ok-chunk.chunk c.in_ok-chunk.ensures.program
-        c.in_ok-chunk.ensures.whole
+    c.in_ok-chunk.ensures.whole
     c.joined_programs_are_whole.ensures c.a_program_begins_with_its_chunk.ensures c.add_prelude.result c.add_prelude.ensures.joined c.add_prelude.ensures.kept
-        sound
+    sound
     c.add_prelude.ensures.lists
 
 pub returns-else-is_prelude-clause-added : goal.returns-else-is_prelude-clause-added
@@ -24,7 +24,7 @@ returns-else-is_prelude-clause-added c =
 pub returns-else-is_prelude-clause-sound : goal.returns-else-is_prelude-clause-sound
 returns-else-is_prelude-clause-sound c = λ sound.
     after_module c.args.self.now c.add_module.new.self 1 c.args.text.now c.args.file c.in_ok-chunk.chunk c.in_ok-chunk.ensures.program
-        c.in_ok-chunk.ensures.whole
+    c.in_ok-chunk.ensures.whole
     c.joined_programs_are_whole.ensures c.a_program_begins_with_its_chunk.ensures c.add_module.result c.add_module.ensures.joined c.add_module.ensures.kept
-        sound
+    sound
     c.args.name c.add_module.ensures.lists
