@@ -1,6 +1,7 @@
 //! Connections: their order, their ends, and what comes of them after they were hung up.
 
 use crate::bench::{Bench, Client, loopback};
+use crate::scenes::{Scene, play};
 use live_world::Live;
 use resty_base::Id;
 use resty_world::{Event, Listened, World};
@@ -8,9 +9,7 @@ use std::alloc::Global;
 use std::net::TcpListener;
 use std::process::Abort;
 
-#[test]
-fn bytes_come_and_then_the_end_of_a_client_that_sends_no_more(rt: HostRuntime) {
-    let mut bench = Bench::new(&rt, &rt);
+pub(crate) fn last_bytes<A: Abort>(bench: &mut Bench<'_, A>) {
     let mut client = bench.arrived(1);
     client.send(b"GET");
     bench.hears(1, b"GET");
@@ -19,6 +18,11 @@ fn bytes_come_and_then_the_end_of_a_client_that_sends_no_more(rt: HostRuntime) {
     let _ = bench.put(1, b"hi");
     bench.finish(1);
     client.reads_whole(2);
+}
+
+#[test]
+fn bytes_come_and_then_the_end_of_a_client_that_sends_no_more(rt: HostRuntime) {
+    play(&rt, &rt, Scene::LastBytes);
 }
 
 /// Two hundred clients, each of which has sent a byte.
@@ -69,17 +73,18 @@ fn count_events<A: Abort>(bench: &mut Bench<'_, A>, rt: &A, events: usize) -> Co
     count
 }
 
-#[test]
-fn two_hundred_connections_arrive_in_order_and_are_heard(rt: HostRuntime) {
-    let mut bench = Bench::new(&rt, &rt);
-    let clients = two_hundred(&bench, &rt, rt.alloc());
-    let count = count_events(&mut bench, &rt, 400);
+pub(crate) fn many<A: Abort>(rt: &A, host: &HostRuntime, bench: &mut Bench<'_, A>) {
+    let clients = two_hundred(bench, rt, host.alloc());
+    let count = count_events(bench, rt, 400);
     assert!(rt; clients.len() == 200 && count.arrived == 200 && count.heard == 200);
 }
 
 #[test]
-fn nothing_of_a_connection_comes_after_it_was_hung_up(rt: HostRuntime) {
-    let mut bench = Bench::new(&rt, &rt);
+fn two_hundred_connections_arrive_in_order_and_are_heard(rt: HostRuntime) {
+    play(&rt, &rt, Scene::Many);
+}
+
+pub(crate) fn hung_up<A: Abort>(bench: &mut Bench<'_, A>) {
     let mut first = bench.arrived(1);
     first.send(b"one");
     bench.finish(1);
@@ -92,8 +97,11 @@ fn nothing_of_a_connection_comes_after_it_was_hung_up(rt: HostRuntime) {
 }
 
 #[test]
-fn connections_that_come_after_others_were_closed_are_new_ones(rt: HostRuntime) {
-    let mut bench = Bench::new(&rt, &rt);
+fn nothing_of_a_connection_comes_after_it_was_hung_up(rt: HostRuntime) {
+    play(&rt, &rt, Scene::HungUp);
+}
+
+pub(crate) fn one_by_one<A: Abort>(bench: &mut Bench<'_, A>) {
     for number in 1..=50u64 {
         let mut client = bench.arrived(number);
         client.send(b"x");
@@ -103,8 +111,11 @@ fn connections_that_come_after_others_were_closed_are_new_ones(rt: HostRuntime) 
 }
 
 #[test]
-fn bytes_that_are_not_wanted_wait_until_they_are(rt: HostRuntime) {
-    let mut bench = Bench::new(&rt, &rt);
+fn connections_that_come_after_others_were_closed_are_new_ones(rt: HostRuntime) {
+    play(&rt, &rt, Scene::OneByOne);
+}
+
+pub(crate) fn held_back<A: Abort>(bench: &mut Bench<'_, A>) {
     let mut first = bench.arrived(1);
     bench.wants(1, false);
     first.send(b"one");
@@ -116,8 +127,11 @@ fn bytes_that_are_not_wanted_wait_until_they_are(rt: HostRuntime) {
 }
 
 #[test]
-fn a_reset_is_a_break(rt: HostRuntime) {
-    let mut bench = Bench::new(&rt, &rt);
+fn bytes_that_are_not_wanted_wait_until_they_are(rt: HostRuntime) {
+    play(&rt, &rt, Scene::HeldBack);
+}
+
+pub(crate) fn reset<A: Abort>(bench: &mut Bench<'_, A>) {
     let client = bench.arrived(1);
     let _ = bench.put(1, b"unread");
     drop(client);
@@ -125,16 +139,19 @@ fn a_reset_is_a_break(rt: HostRuntime) {
     bench.finish(1);
 }
 
+#[test]
+fn a_reset_is_a_break(rt: HostRuntime) {
+    play(&rt, &rt, Scene::Reset);
+}
+
 /// A listener of the system's, for the world to dial.
 fn listener(rt: &impl Abort, host: &HostRuntime) -> TcpListener {
     TcpListener::bind(host, loopback(0)).expect(rt, "not listening")
 }
 
-#[test]
-fn a_socket_is_dialled_or_refused(rt: HostRuntime) {
-    let mut bench = Bench::new(&rt, &rt);
-    let peer = listener(&rt, &rt);
-    let port = peer.local_addr().expect(&rt, "no address").port();
+pub(crate) fn dialled<A: Abort>(rt: &A, host: &HostRuntime, bench: &mut Bench<'_, A>) {
+    let peer = listener(rt, host);
+    let port = peer.local_addr().expect(rt, "no address").port();
     bench.dials(port, 1);
     bench.gives(Event::Dialled(1));
     bench.hang_up(Id::Sock(1));
@@ -145,9 +162,17 @@ fn a_socket_is_dialled_or_refused(rt: HostRuntime) {
 }
 
 #[test]
-fn a_port_that_is_in_use_is_not_listened_on(rt: HostRuntime) {
-    let bench = Bench::new(&rt, &rt);
-    let mut other = Live::new(rt.alloc(), &rt, Vec::<u8>::new(rt.alloc()));
-    let listened = other.listen(rt.alloc(), bench.port());
+fn a_socket_is_dialled_or_refused(rt: HostRuntime) {
+    play(&rt, &rt, Scene::Dialled);
+}
+
+pub(crate) fn in_use<A: Abort>(rt: &A, host: &HostRuntime, bench: &mut Bench<'_, A>) {
+    let mut other = Live::new(host.alloc(), host, Vec::<u8>::new(host.alloc()));
+    let listened = other.listen(host.alloc(), bench.port());
     assert!(rt; listened == Listened::Failed);
+}
+
+#[test]
+fn a_port_that_is_in_use_is_not_listened_on(rt: HostRuntime) {
+    play(&rt, &rt, Scene::InUse);
 }

@@ -9,3 +9,5 @@ mod clocks;
 mod connections;
 #[cfg(test)]
 mod replies;
+#[cfg(test)]
+mod scenes;

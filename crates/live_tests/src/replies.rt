@@ -1,6 +1,7 @@
 //! Long replies.
 
 use crate::bench::{Bench, Client, now};
+use crate::scenes::{Scene, play};
 use resty_base::Id;
 use resty_world::{Event, Wrote};
 use std::alloc::Global;
@@ -100,38 +101,47 @@ fn reply_slowly<A: Abort>(
     (reply.put, read)
 }
 
-#[test]
-fn a_long_reply_reaches_a_client_that_reads_slowly(rt: HostRuntime) {
-    let mut bench = Bench::new(&rt, &rt);
+pub(crate) fn read_slowly<A: Abort>(rt: &A, host: &HostRuntime, bench: &mut Bench<'_, A>) {
     let mut client = bench.arrived(1);
-    let (put, read) = reply_slowly(&rt, rt.alloc(), &mut bench, &mut client);
+    let (put, read) = reply_slowly(rt, host.alloc(), bench, &mut client);
     assert!(rt; put == LONG && read == LONG);
 }
 
 #[test]
-fn bytes_come_while_a_write_is_put_off(rt: HostRuntime) {
-    let mut bench = Bench::new(&rt, &rt);
+fn a_long_reply_reaches_a_client_that_reads_slowly(rt: HostRuntime) {
+    play(&rt, &rt, Scene::ReadSlowly);
+}
+
+pub(crate) fn put_off<A: Abort>(rt: &A, host: &HostRuntime, bench: &mut Bench<'_, A>) {
     let mut client = bench.arrived(1);
-    let piece = piece(&rt, rt.alloc());
+    let piece = piece(rt, host.alloc());
     let start = Reply {
         put: 0,
         waits: false,
     };
-    let reply = put_pieces(&rt, &mut bench, piece.as_slice(), start, usize::MAX);
+    let reply = put_pieces(rt, bench, piece.as_slice(), start, usize::MAX);
     assert!(rt; reply.waits);
     client.send(b"x");
     bench.hears(1, b"x");
 }
 
 #[test]
-fn a_reply_is_read_whole_though_the_client_sent_more_than_was_read(rt: HostRuntime) {
-    let mut bench = Bench::new(&rt, &rt);
+fn bytes_come_while_a_write_is_put_off(rt: HostRuntime) {
+    play(&rt, &rt, Scene::PutOff);
+}
+
+pub(crate) fn unread<A: Abort>(rt: &A, host: &HostRuntime, bench: &mut Bench<'_, A>) {
     let mut client = bench.arrived(1);
     client.send(b"unread by the world");
     let answer = bench.put(1, b"hi");
     assert!(rt; answer == Wrote::Took(2));
     bench.finish(1);
     client.send(b"and more");
-    let _ = bench.next_at(now(&rt, &rt).saturating_add(50));
+    let _ = bench.next_at(now(rt, host).saturating_add(50));
     client.reads_whole(2);
+}
+
+#[test]
+fn a_reply_is_read_whole_though_the_client_sent_more_than_was_read(rt: HostRuntime) {
+    play(&rt, &rt, Scene::Unread);
 }
