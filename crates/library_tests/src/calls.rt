@@ -149,7 +149,7 @@ fn is_answer(alloc: Global, answer: &NativeOut, wanted: &str) -> Result<bool, Wr
 
 /// Does what a line says to the store, and tells whether that succeeds: `table N` makes a table, whose number is that; `share A B`
 /// makes table B the metatable of all values of the type of A, and `globals N` table N the global one; `freeze` freezes all tables;
-/// `leave N` takes all units but N; `count N` counts N steps, and `clear` none.
+/// `leave N` takes all units but N; `count N` counts N steps, and `clear` forgets those that are counted.
 fn prepare(alloc: Global, store: &mut Store, line: &str) -> Result<bool, Wrong> {
     let (word, given) = line.split_once(' ').unwrap_or((line, ""));
     match word {
