@@ -8,3 +8,4 @@ pub mod Accounts
 pub mod Heads
 pub mod Recalling
 pub mod Echoing
+pub mod Bodies

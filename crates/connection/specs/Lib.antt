@@ -6,5 +6,6 @@ pub mod Turns
 pub mod Connections
 pub mod Conditions
 pub mod Accounts
+pub mod InStep
 pub mod Examples
 pub mod Recalls

@@ -1,6 +1,7 @@
 -- What a connection does for each thing that happens: it reads requests in turn, hands each to a run, and does what the run says
 -- (RFC 9112, 9.3 to 9.6; RFC 9110, 10.1.1).
-use Rattle.std.specs.Prelude.{ℕ, zero, suc, Bool, true, false, not, ◌&&◌, ◌||◌, List, [], ◌∷◌, ◌++◌, codes, length, nat_lt, is_some, Option, Some, None, if◌then◌else◌}
+use Rattle.std.specs.Prelude.{ℕ, zero, suc, Bool, true, false, not, ◌&&◌, ◌||◌}
+use Rattle.std.specs.Prelude.{List, [], ◌∷◌, ◌++◌, codes, length, nat_lt, is_some, Option, Some, None, if◌then◌else◌}
 use Rattle.uri_args.specs.declared.targets.Target.{Target}
 use Rattle.http_in.specs.declared.heads.Head.{Head}
 use Rattle.http_bodies.specs.declared.bodies.BodyRead.{BodyRead}
