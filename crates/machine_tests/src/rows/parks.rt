@@ -1,5 +1,5 @@
 //! Threads that park again and again, in any machine.
-use super::programs::{loaded, store_of};
+use super::programs::{loaded, put, store_of};
 use super::toy::Toy;
 use lua_machine::{Machine, Slice};
 use lua_meaning::Resumed;
@@ -26,50 +26,55 @@ fn parks_of<M: Machine>(
     Ok(None)
 }
 
-/// The same of a program, `None` also where it is refused.
-fn parks_of_text(alloc: Global, store: &mut Store, text: &str) -> Result<Option<u64>, AllocError> {
-    match loaded(alloc, text) {
-        Some(host) => parks_of(&host, alloc, store),
-        None => Ok(None),
+/// Writes how often a thread parks, or `not done`, and the steps.
+fn see_parks<M: Machine>(machine: &M, alloc: Global, all: &mut String, store: &mut Store) {
+    match parks_of(machine, alloc, store) {
+        Ok(Some(n)) => {
+            let _ = write!(all, "{n} parks");
+        }
+        Ok(None) => put(all, "not done"),
+        Err(_) => put(all, "memory"),
     }
+    let steps = store.steps();
+    let _ = write!(all, ", {steps} steps; ");
 }
 
-/// The same, and the steps.
-fn parks_and_steps(alloc: Global, text: &str) -> Result<(Option<u64>, u64), StoreFault> {
+/// What is seen of a program.
+fn parks_of_text(alloc: Global, text: &str) -> Result<String, StoreFault> {
     let mut store = store_of(alloc)?;
-    let parks = parks_of_text(alloc, &mut store, text)?;
-    Ok((parks, store.steps()))
+    let mut all = String::new(alloc);
+    match loaded(alloc, text) {
+        Some(host) => see_parks(&host, alloc, &mut all, &mut store),
+        None => put(&mut all, "refused"),
+    }
+    Ok(all)
 }
 
 #[test]
 fn a_thread_parks_50000_times(rt: HostRuntime) -> Result<(), Fail> {
     let text = "local i = 0 while i < 50000 do i = i + 1 w() end return i";
-    assert_eq!(rt; parks_and_steps(rt.alloc(), text)?, (Some(50_000), 650_009));
+    let seen = parks_of_text(rt.alloc(), text)?;
+    assert_eq!(rt; seen.as_str(), "50000 parks, 650009 steps; ");
     Ok(())
 }
 
-/// The same of threads that park three times, in a store in which so many steps are counted before.
-fn toy_parks_and_steps(
-    alloc: Global,
-    store: &mut Store,
-    steps: u64,
-) -> Result<(Option<u64>, u64), AllocError> {
-    let toy = Toy { alloc, parks: 3 };
-    store.add_steps(steps);
-    let parks = parks_of(&toy, alloc, store)?;
-    Ok((parks, store.steps()))
-}
-
-/// The same in one store, at first and after 1,000,000 steps.
-fn toys(alloc: Global) -> Result<[(Option<u64>, u64); 2], AllocError> {
+/// What is seen of threads that park three times in one store, at first and after 1,000,000 steps.
+fn parks_of_toys(alloc: Global) -> Result<String, AllocError> {
     let mut store = Store::new(alloc)?;
-    let first = toy_parks_and_steps(alloc, &mut store, 0)?;
-    let last = toy_parks_and_steps(alloc, &mut store, 1_000_000)?;
-    Ok([first, last])
+    let mut all = String::new(alloc);
+    let toy = Toy { alloc, parks: 3 };
+    see_parks(&toy, alloc, &mut all, &mut store);
+    store.add_steps(1_000_000);
+    see_parks(&toy, alloc, &mut all, &mut store);
+    Ok(all)
 }
 
 #[test]
 fn another_machine_parks_too(rt: HostRuntime) -> Result<(), Fail> {
-    assert_eq!(rt; toys(rt.alloc())?, [(Some(3), 4), (None, 1_000_000)]);
+    let seen = parks_of_toys(rt.alloc())?;
+    assert_eq!(rt;
+        seen.as_str(),
+        "3 parks, 4 steps; not done, 1000000 steps; "
+    );
     Ok(())
 }

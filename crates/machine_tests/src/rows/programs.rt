@@ -28,8 +28,8 @@ fn seen(alloc: Global, given: &str) -> String {
     all
 }
 
-/// Writes a text. Where there is no memory for it, it is left out, and the row doesn't come to what it says.
-fn put(all: &mut String, text: &str) {
+/// Writes a text, or leaves it out where there is no memory for it, so that the row fails.
+pub(super) fn put(all: &mut String, text: &str) {
     let _ = all.push_str(text);
 }
 
@@ -173,19 +173,34 @@ fn see_thread(
     all: &mut String,
     host: &Loaded<WaitAndId>,
     store: &mut Store,
-    mut thread: Thread,
+    thread: Thread,
     answers: &str,
 ) {
-    let mut answers = answers.split(", ");
-    let mut given = resumed(alloc, "nothing");
-    for _ in 0..100 {
-        match host.resume(thread, store, given) {
-            Slice::Parked(parked, op) => {
-                see_op(all, &op, store.steps());
-                thread = parked;
-                given = resumed(alloc, answers.next().unwrap_or("nothing"));
-            }
-            end => return see_end(all, &end),
+    let mut parked = see_resumed(all, host, store, thread, resumed(alloc, "nothing"));
+    for answer in answers.split(", ") {
+        parked = match parked {
+            Some(thread) => see_resumed(all, host, store, thread, resumed(alloc, answer)),
+            None => return,
+        };
+    }
+}
+
+/// Resumes a thread, and writes where it parks or how it ends; gives it where it parks.
+fn see_resumed(
+    all: &mut String,
+    host: &Loaded<WaitAndId>,
+    store: &mut Store,
+    thread: Thread,
+    given: Resumed,
+) -> Option<Thread> {
+    match host.resume(thread, store, given) {
+        Slice::Parked(parked, op) => {
+            see_op(all, &op, store.steps());
+            Some(parked)
+        }
+        end => {
+            see_end(all, &end);
+            None
         }
     }
 }
