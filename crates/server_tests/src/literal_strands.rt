@@ -51,8 +51,8 @@ fn texts_are_taken_or_refused_at_a_line(rt: HostRuntime) -> Result<(), Fail> {
     Ok(())
 }
 
-/// Whether the acts are printed so.
-fn are_printed(alloc: Global, acts: &Acts<NoJob>, text: &str) -> Result<bool, AllocError> {
+/// Whether the acts are printed so. They are dropped here, and not at each end of the test.
+fn are_printed(alloc: Global, acts: Acts<NoJob>, text: &str) -> Result<bool, AllocError> {
     let printed = format!(in alloc; "{acts:?}")?;
     Ok(printed.as_str() == text)
 }
@@ -63,17 +63,17 @@ fn a_request_in_two_pieces_gets_one_reply(rt: HostRuntime) -> Result<(), Fail> {
     let site = literal_site(alloc, CONF)?;
     let now = Ms(1_000);
     let (mut strand, acts) = LiteralStrand::begin(alloc, &site, now, Start::Client(1))?;
-    assert!(rt; acts.is_empty());
+    assert!(rt; are_printed(alloc, acts, "[]")?);
     let line = Bytes::from_static(b"GET / HTTP/1.0\r\n");
     let acts = strand.given(alloc, &site, now, Seen::Bytes(Place::Client, line))?;
-    assert!(rt; acts.is_empty());
+    assert!(rt; are_printed(alloc, acts, "[]")?);
     let empty = Bytes::from_static(b"\r\n");
     let acts = strand.given(alloc, &site, now, Seen::Bytes(Place::Client, empty))?;
-    assert!(rt; are_printed(alloc, &acts, "[Ready(0)]")?);
+    assert!(rt; are_printed(alloc, acts, "[Ready(0)]")?);
     let acts = strand.given(alloc, &site, now, Seen::Run(0))?;
-    assert!(rt; are_printed(alloc, &acts, "[Offer(Client)]")?);
+    assert!(rt; are_printed(alloc, acts, "[Offer(Client)]")?);
     assert_eq!(rt; strand.queued(&site, Place::Client), REPLY);
     let acts = strand.given(alloc, &site, now, Seen::Took(Place::Client, 119))?;
-    assert!(rt; are_printed(alloc, &acts, "[HangUp(Client), Gone]")?);
+    assert!(rt; are_printed(alloc, acts, "[HangUp(Client), Gone]")?);
     Ok(())
 }

@@ -109,22 +109,43 @@ fn call(alloc: Global, all: &mut String, world: &mut Replay, call: &str) -> Resu
     }
 }
 
-/// What the calls answer over a schedule, a `|` and the text of the history; `;` is the end of a line.
-fn played(alloc: Global, schedule: &str, calls: &str) -> Result<String, AllocError> {
-    let mut all = String::new(alloc);
+/// The world of a schedule in which `;` is the end of a line; None where it is refused.
+fn world_of(alloc: Global, schedule: &str) -> Result<Option<Replay>, AllocError> {
     let lines = schedule.replace(alloc, ";", "\n")?;
-    let Ok(schedule) = schedule_of(alloc, lines.as_bytes()) else {
-        return Ok(all);
-    };
-    let mut world = Replay::new(alloc, schedule);
+    match schedule_of(alloc, lines.as_bytes()) {
+        Ok(schedule) => Ok(Some(Replay::new(alloc, schedule))),
+        Err(_) => Ok(None),
+    }
+}
+
+/// Writes what the calls answer, a `|` and the text of the history.
+fn tell(
+    alloc: Global,
+    all: &mut String,
+    world: &mut Replay,
+    calls: &str,
+) -> Result<(), AllocError> {
     for word in calls.split(' ') {
-        call(alloc, &mut all, &mut world, word)?;
+        call(alloc, all, world, word)?;
         all.push(' ')?;
     }
     all.push('|')?;
     let text = history_text(alloc, world.history())?;
-    all.push_str(str::from_utf8(&text).unwrap_or("?"))?;
-    all.replace(alloc, "\n", ";")
+    all.push_str(str::from_utf8(&text).unwrap_or("?"))
+}
+
+/// What the calls answer over a schedule, and the text of the history.
+fn told(alloc: Global, schedule: &str, calls: &str) -> Result<String, AllocError> {
+    let mut all = String::new(alloc);
+    if let Some(mut world) = world_of(alloc, schedule)? {
+        tell(alloc, &mut all, &mut world, calls)?;
+    }
+    Ok(all)
+}
+
+/// The same, with `;` at the end of a line.
+fn played(alloc: Global, schedule: &str, calls: &str) -> Result<String, AllocError> {
+    told(alloc, schedule, calls)?.replace(alloc, "\n", ";")
 }
 
 /// Tests each row, `SCHEDULE > CALLS => ANSWERS |HISTORY`.
