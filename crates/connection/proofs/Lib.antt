@@ -9,3 +9,5 @@ pub mod Heads
 pub mod Recalling
 pub mod Echoing
 pub mod Bodies
+pub mod Readings
+pub mod Ordered

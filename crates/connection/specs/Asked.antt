@@ -1,0 +1,42 @@
+-- What a client asked its connection, beside what all bytes that came from it ask.
+use Rattle.std.specs.Prelude.{ℕ, List, [], ◌∷◌, ◌++◌}
+use Rattle.client_line.specs.declared.requests.LineOut.{LineOut}
+use Rattle.client_line.specs.declared.requests.LineOut.TheVariants as out
+use Rattle.client_line.specs.Messages.{Request}
+use Rattle.line_answers.specs.Messages.{requests, last_answer}
+use Rattle.strand_contract.specs.declared.turns.Place.TheVariants as place
+use Rattle.strand_contract.specs.Actions.{LocalAction, Did, Bytes}
+use Rattle.strand_contract.specs.Alone.{IsPrefixOf}
+use Rattle.moves.specs.Moves.{State}
+use Rattle.connection.specs.Clients.{Exchange}
+use Rattle.connection.specs.Services.{Both}
+
+-- all bytes that came from the client
+abbrev pub bytes_of : {J : Type 0} → List (LocalAction J) → List ℕ
+bytes_of [] = []
+bytes_of (Did (Bytes place.Client bytes) ∷ es) = bytes_of es ++ bytes
+bytes_of (a ∷ es) = bytes_of es
+
+-- a request, or a head that is refused, is asked; while a head is waited for nothing is
+abbrev pub asks : LineOut → List LineOut
+asks (out.Request head target) = out.Request head target ∷ []
+asks (out.Refused code) = out.Refused code ∷ []
+asks answer = []
+
+-- what a connection took from its client so far, in order
+abbrev pub asked_so_far : List Exchange → List LineOut
+asked_so_far [] = []
+asked_so_far (e ∷ es) = asked_so_far es ++ asks e.asked
+
+-- requests, and what is refused after them
+abbrev pub asked_by : List Request → LineOut → List LineOut
+asked_by [] answer = asks answer
+asked_by (r ∷ rs) answer = out.Request r.head r.target ∷ asked_by rs answer
+
+-- what bytes ask in all, by the grammar of a client's messages
+abbrev pub asked_in : List ℕ → List LineOut
+asked_in bytes = asked_by (requests bytes) (last_answer bytes)
+
+-- what was taken so far is a beginning of what all bytes that came ask
+abbrev pub AsksInOrder : {J R : Type 0} → List (LocalAction J) → State J (Both R) → Type 0
+AsksInOrder es st = IsPrefixOf (asked_so_far st.inner.client.exchanges) (asked_in (bytes_of es))
