@@ -71,7 +71,8 @@ pub waited : (came after : Came) (piece all : List ℕ) (between : LineOut) (ask
     → Follows came piece all asked → Follows after [] all asked
 waited came after piece all between asked is plain h later rs answer x = h later rs answer (waits-on came after piece later rs between answer is plain x)
 
-pub requested : (came after : Came) (piece all : List ℕ) (head : Head) (target : Target) (asked : List LineOut) → IsFed came piece (out.Request head target) after
+pub requested : (came after : Came) (piece all : List ℕ) (head : Head) (target : Target) (asked : List LineOut)
+    → IsFed came piece (out.Request head target) after
     → Follows came piece all asked → Follows (done after) [] all (asked ++ out.Request head target ∷ [])
 requested came after piece all head target asked is h later rs answer x =
     let also : AskAlso (all ++ later) asked (record { head = head; target = target } ∷ rs) answer =
@@ -81,7 +82,8 @@ requested came after piece all head target asked is h later rs answer x =
 pub held-on : (came : Came) (bytes piece : List ℕ) (asked : List LineOut) → IsPresent came.at → Follows (done came) [] bytes asked
     → Follows (done (fed came piece).after) [] (bytes ++ piece) asked
 held-on came bytes piece asked is h later rs answer x =
-    followed (done came) bytes piece asked h later rs answer (holds-on came (fed came piece).after piece later rs (fed came piece).answer answer is (is-fed came piece) x)
+    followed (done came) bytes piece asked h later rs answer
+    (holds-on came (fed came piece).after piece later rs (fed came piece).answer answer is (is-fed came piece) x)
 
 pub asked-on : (came : Came) (max : ℕ) (bytes : List ℕ) (asked : List LineOut) → IsInStep came.at → Follows (done came) [] bytes asked
     → Follows (done (after_asked came max)) [] bytes asked

@@ -17,20 +17,15 @@ bytes_of [] = []
 bytes_of (Did (Bytes place.Client bytes) ∷ es) = bytes_of es ++ bytes
 bytes_of (a ∷ es) = bytes_of es
 
--- a request, or a head that is refused, is asked; while a head is waited for nothing is
-abbrev pub asks : LineOut → List LineOut
-asks (out.Request head target) = out.Request head target ∷ []
-asks (out.Refused code) = out.Refused code ∷ []
-asks answer = []
-
--- what a connection took from its client so far, in order
+-- what the client asked so far, in order
 abbrev pub asked_so_far : List Exchange → List LineOut
 asked_so_far [] = []
-asked_so_far (e ∷ es) = asked_so_far es ++ asks e.asked
+asked_so_far (e ∷ es) = asked_so_far es ++ e.asked ∷ []
 
 -- requests, and what is refused after them
 abbrev pub asked_by : List Request → LineOut → List LineOut
-asked_by [] answer = asks answer
+asked_by [] (out.Refused code) = out.Refused code ∷ []
+asked_by [] answer = []
 asked_by (r ∷ rs) answer = out.Request r.head r.target ∷ asked_by rs answer
 
 -- what bytes ask in all, by the grammar of a client's messages

@@ -66,7 +66,8 @@ pub fn replies_are_sent_in_order<S: Lawful>()
 /// In each execution, what a connection takes from its client is a beginning of what all bytes that came ask: their requests in order, and then the head
 /// that is refused, where there is one.
 pub fn requests_are_those_of_the_bytes<J, R>()
-    ensures { (site : Service J R) (es : List (LocalAction J)) → IsExecution (connection_behavior site) es → AsksInOrder es (state_of (connection_plan site) es) }
+    ensures { (site : Service J R) (es : List (LocalAction J)) → IsExecution (connection_behavior site) es
+        → AsksInOrder es (state_of (connection_plan site) es) }
 {}
 
 /// A line on which a body was asked for, under whatever limit, goes on after it as it would without; whatever comes.
