@@ -169,9 +169,13 @@ client-there false b k e = refl
 -- ---- moves
 
 module _ {J R : Type 0} (job : Bool) (all : List ℕ) where
-  -- from where this is known, the moves lead to what is known at the stage then
+  -- what is known at the stage to which the moves lead
+  abbrev After : Move J (Both R) → Ledger J → Both R → Type 0
+  After m b s = Holds job all (perform m b s).state.inner.client
+
+  -- from where this is known
   abbrev From : (Client → Type 0) → Move J (Both R) → Type 0
-  From Q m = (b : Ledger J) (s : Both R) → HasNone job b → Q s.client → Holds job all (perform m b s).state.inner.client
+  From Q m = (b : Ledger J) (s : Both R) → HasNone job b → Q s.client → After m b s
 
   done-from : From (Holds job all) Done
   done-from b s k h = h
@@ -204,9 +208,10 @@ module _ {J R : Type 0} (site : Service J R) (now : ℕ) (job : Bool) (all : Lis
   send-from Q of bytes m f b s k q = by (is_there b) refl
     where
       by : (c : Bool) → is_there b ≡ c
-          → Holds job all (perform (if c then change (λ c. record c { exchanges = with_more bytes c.exchanges }) (Send place.Client bytes m) else m) b s).state.inner.client
+          → After job all (if c then change (λ c. record c { exchanges = with_more bytes c.exchanges }) (Send place.Client bytes m) else m) b s
       by true e =
-          f (with_offer place.Client (with_sent place.Client bytes b)) (record s { client = record s.client { exchanges = with_more bytes s.client.exchanges } }) k
+          let told = record s { client = record s.client { exchanges = with_more bytes s.client.exchanges } } in
+          f (with_offer place.Client (with_sent place.Client bytes b)) told k
           (of bytes s.client (client-there job b k e) q)
       by false e = f b s k q
 
@@ -216,7 +221,7 @@ module _ {J R : Type 0} (site : Service J R) (now : ℕ) (job : Bool) (all : Lis
   end-timer-from : (Q : Client → Type 0) (t : timer.Timer) (m : Move J (Both R)) → Leads Q m → Leads Q (end_timer site now t m)
   end-timer-from Q t m f b s k q = by (has_number (timer.number_of t) (numbers b.armed))
     where
-      by : (c : Bool) → Holds job all (perform (if c then Cancel (timer.number_of t) m else m) b s).state.inner.client
+      by : (c : Bool) → After job all (if c then Cancel (timer.number_of t) m else m) b s
       by true = f (without_deadline (timer.number_of t) b) s k q
       by false = f b s k q
 
@@ -225,12 +230,12 @@ module _ {J R : Type 0} (site : Service J R) (now : ℕ) (job : Bool) (all : Lis
   let-send-from c (Whole closes) m f b s k q = f b s k q
   let-send-from c Unsent m f b s k q = by c.waited
     where
-      asked : (x : Bool) (s : Both R) → Runs job all s.client → Holds job all (perform (if x then send site now continue_reply m else m) b s).state.inner.client
+      asked : (x : Bool) (s : Both R) → Runs job all s.client → After job all (if x then send site now continue_reply m else m) b s
       asked true s q = send-from (Runs job all) (runs-asked job all) continue_reply m f b s k q
       asked false s q = f b s k q
 
       by : (w : Bool)
-          → Holds job all (perform (if w then m else change (λ c. record c { waited = true }) (if c.expects then send site now continue_reply m else m)) b s).state.inner.client
+          → After job all (if w then m else change (λ c. record c { waited = true }) (if c.expects then send site now continue_reply m else m)) b s
       by true = f b s k q
       by false = asked c.expects (record s { client = record s.client { waited = true } }) q
 
@@ -238,7 +243,7 @@ module _ {J R : Type 0} (site : Service J R) (now : ℕ) (job : Bool) (all : Lis
   await-from m f b s k q = by (awaits_body site now b s)
     where
       by : (c : Bool)
-          → Holds job all (perform (if c then let_send site now s.client s.client.reply (begin_timer site now timer.Body m) else m) b s).state.inner.client
+          → After job all (if c then let_send site now s.client s.client.reply (begin_timer site now timer.Body m) else m) b s
       by true = let-send-from s.client s.client.reply (begin_timer site now timer.Body m) (begin-timer-from (Runs job all) timer.Body m f) b s k q
       by false = f b s k q
 
@@ -263,7 +268,7 @@ module _ {J R : Type 0} (site : Service J R) (now : ℕ) (job : Bool) (all : Lis
   ask-from : (x : Question J) (m : Move J (Both R)) → Leads (Holds job all) m → Leads (Holds job all) (ask x m)
   ask-from x m f b s k h = by (is_some (asked_of x b))
     where
-      by : (c : Bool) → Holds job all (perform (if c then Ask x else m) b s).state.inner.client
+      by : (c : Bool) → After job all (if c then Ask x else m) b s
       by true = h
       by false = f b s k h
 
@@ -282,7 +287,7 @@ module _ {J R : Type 0} (site : Service J R) (now : ℕ) (job : Bool) (all : Lis
       gone true = tell-from seen.ClientGone Done (done-from job all)
       gone false = of-runs Done (done-from job all)
 
-      by : (st : Stage) → s.client.stage ≡ st → Holds job all (perform (lose_at site now st s) b s).state.inner.client
+      by : (st : Stage) → s.client.stage ≡ st → After job all (lose_at site now st s) b s
       by stage.Busy e =
           let told = if (site.runs.waits s.run).client then tell site now seen.ClientGone Done else Done in
           end-timer-from (Runs job all) timer.Body (end_timer site now timer.Send told)
@@ -297,7 +302,7 @@ module _ {J R : Type 0} (site : Service J R) (now : ℕ) (job : Bool) (all : Lis
   closing-from : Leads (Closes job all) (close_if_taken site now)
   closing-from b s k q = by (is_all_taken b)
     where
-      by : (c : Bool) → Holds job all (perform (if c then finish else Done) b s).state.inner.client
+      by : (c : Bool) → After job all (if c then finish else Done) b s
       by true = q.1.1.1
       by false = subst (λ (st : Stage). AtStage st job all s.client) (sym q.0) (inr q.1.1)
 
@@ -342,7 +347,7 @@ module _ {J R : Type 0} (site : Service J R) (now : ℕ) (job : Bool) (all : Lis
   heard-from : (anew : Bool) (rest : Move J (Both R)) (came : Came) (piece : List ℕ) (ended : Bool) (b : Ledger J) (s : Both R) → HasNone job b
       → Leads (Holds job all) rest
       → (anew ≡ false → s.client.stage ≡ stage.Head) → IsInStep came.at → Follows came piece all (asked_so_far s.client.exchanges)
-      → Holds job all (perform (heard site now anew rest ended (fed came piece)) b s).state.inner.client
+      → After job all (heard site now anew rest ended (fed came piece)) b s
   heard-from anew rest came piece ended b s k fair at-head x h = by (fed came piece).answer refl
     where
       after : Came
@@ -358,13 +363,13 @@ module _ {J R : Type 0} (site : Service J R) (now : ℕ) (job : Bool) (all : Lis
       is answer e = subst (λ (a : LineOut). IsFed came piece a after) e (is-fed came piece)
 
       more : (c d : Bool) → anew ≡ d → Follows after [] all (asked_so_far s.client.exchanges)
-          → Holds job all (perform (if c then finish else (if d then wait_for site now (held_in after.at after.held) else Done)) b t).state.inner.client
+          → After job all (if c then finish else (if d then wait_for site now (held_in after.at after.held) else Done)) b t
       more true d e h = begins after all (asked_so_far s.client.exchanges) h
       more false true e h = wait-from (held_in after.at after.held) b t k (step, h)
       more false false e h = subst (λ (st : Stage). AtStage st job all t.client) (sym (at-head e)) (step, h)
 
       by : (answer : LineOut) → (fed came piece).answer ≡ answer
-          → Holds job all (perform (heard_by site now anew rest after ended answer) b t).state.inner.client
+          → After job all (heard_by site now anew rest after ended answer) b t
       by (out.Request head target) e =
           end-timer-from (IsBegun head target) timer.Header (begin site now rest head target) (begin-from rest head target fair) b t k (
             fed-present came after piece head target (is (out.Request head target) e),
@@ -386,11 +391,12 @@ module _ {J R : Type 0} (site : Service J R) (now : ℕ) (job : Bool) (all : Lis
       ((λ e. asked-present came.at came.held max (h.0 e)), (asked-in-step came.at came.held max h.1.0, asked-on came max all asked h.1.0 h.1.1))
 
   busy-from : (again : Move J (Both R)) (b : Ledger J) (s : Both R) → HasNone job b → Leads (Holds job all) again → Runs job all s.client
-      → Holds job all (perform (busy site now again b s) b s).state.inner.client
+      → After job all (busy site now again b s) b s
   busy-from again b s k f r = first (is_all_taken b && (site.runs.waits s.run).taken) (is_to_close b s.client) (site.runs.waits s.run).body
     where
       first : (x y z : Bool)
-          → Holds job all (perform (if x then tell site now seen.AllTaken again else (if y then lose site now else (if z then ask_body site now again b s.client else Done))) b s).state.inner.client
+          → After job all
+          (if x then tell site now seen.AllTaken again else (if y then lose site now else (if z then ask_body site now again b s.client else Done))) b s
       first true y z = tell-from seen.AllTaken again f b s k r
       first false true z = lose-from b s k (runs-hold job all s.client r)
       first false false true =
@@ -400,11 +406,11 @@ module _ {J R : Type 0} (site : Service J R) (now : ℕ) (job : Bool) (all : Lis
 
   flush-from : (rest : Move J (Both R)) (b : Ledger J) (s : Both R) → HasNone job b → Leads (Holds job all) rest → s.client.stage ≡ stage.Flush
       → AtStage stage.Flush job all s.client
-      → Holds job all (perform (flush site now rest b s.client) b s).state.inner.client
+      → After job all (flush site now rest b s.client) b s
   flush-from rest b s k f e h = by (not (is_all_taken b)) (not (is_there b) || closes_after s.client.reply) refl
     where
       by : (c d : Bool) → (not (is_there b) || closes_after s.client.reply) ≡ d
-          → Holds job all (perform (if c then Done else (if d then finish else heard site now true rest s.client.ended (fed (done s.client.came) []))) b s).state.inner.client
+          → After job all (if c then Done else (if d then finish else heard site now true rest s.client.ended (fed (done s.client.came) []))) b s
       by true d n = subst (λ (st : Stage). AtStage st job all s.client) (sym e) h
       by false true n = stage-begins stage.Flush job all s.client h
       by false false n = elim h [
@@ -415,7 +421,7 @@ module _ {J R : Type 0} (site : Service J R) (now : ℕ) (job : Bool) (all : Lis
 
   settled-from : (st : Stage) (again rest : Move J (Both R)) (b : Ledger J) (s : Both R) → HasNone job b → s.client.stage ≡ st → Leads (Holds job all) again
       → Leads (Holds job all) rest
-      → Holds job all s.client → Holds job all (perform (settled_at site now st again rest b s) b s).state.inner.client
+      → Holds job all s.client → After job all (settled_at site now st again rest b s) b s
   settled-from stage.Busy again rest b s k e f g h = busy-from again b s k f (e, subst (λ (st : Stage). AtStage st job all s.client) e h)
   settled-from stage.Flush again rest b s k e f g h = flush-from rest b s k g e (subst (λ (st : Stage). AtStage st job all s.client) e h)
   settled-from stage.Idle again rest b s k e f g h = h
@@ -435,7 +441,7 @@ module _ {J R : Type 0} (site : Service J R) (now : ℕ) (job : Bool) (all : Lis
   settle-from b s k h = settle-for-from (suc (length s.client.came.held)) b s k h
 
   ends-from : (st : Stage) (b : Ledger J) (s : Both R) → HasNone job b → s.client.stage ≡ st → Holds job all s.client
-      → Holds job all (perform (ends_at site now st) b s).state.inner.client
+      → After job all (ends_at site now st) b s
   ends-from stage.Busy b s k e h =
       of-runs (settle site now) settle-from b (record s { client = record s.client { ended = true } }) k
       (e, subst (λ (st : Stage). AtStage st job all s.client) e h)
@@ -450,7 +456,7 @@ module _ {J R : Type 0} (site : Service J R) (now : ℕ) (job : Bool) (all : Lis
 
   to-run-from : (m : Move J (Both R)) (st : Stage) (x : RunSeen) (b : Ledger J) (s : Both R) → HasNone job b → Leads (Holds job all) m → s.client.stage ≡ st
       → Holds job all s.client
-      → Holds job all (perform (to_run site now m st x) b s).state.inner.client
+      → After job all (to_run site now m st x) b s
   to-run-from m stage.Busy x b s k f e h = tell-from x m f b s k (e, subst (λ (st : Stage). AtStage st job all s.client) e h)
   to-run-from m stage.Flush x b s k f e h = h
   to-run-from m stage.Idle x b s k f e h = h
@@ -459,11 +465,11 @@ module _ {J R : Type 0} (site : Service J R) (now : ℕ) (job : Bool) (all : Lis
   to-run-from m stage.Over x b s k f e h = h
 
   sock-from : (x : RunSeen) (b : Ledger J) (s : Both R) → HasNone job b → Holds job all s.client
-      → Holds job all (perform (to_run site now (settle site now) s.client.stage x) b s).state.inner.client
+      → After job all (to_run site now (settle site now) s.client.stage x) b s
   sock-from x b s k h = to-run-from (settle site now) s.client.stage x b s k settle-from refl h
 
   answered-from : (st : Stage) (x : Action J) (b : Ledger J) (s : Both R) → HasNone job b → s.client.stage ≡ st → Holds job all s.client
-      → Holds job all (perform (turns.answered site now st x b s) b s).state.inner.client
+      → After job all (turns.answered site now st x b s) b s
   answered-from stage.Busy x b s k e h =
       turn-from (site.runs.answered now x b s.run) (settle site now) settle-from b s k (e, subst (λ (st : Stage). AtStage st job all s.client) e h)
   answered-from stage.Flush x b s k e h = h
@@ -473,7 +479,7 @@ module _ {J R : Type 0} (site : Service J R) (now : ℕ) (job : Bool) (all : Lis
   answered-from stage.Over x b s k e h = h
 
   due-from : (st : Stage) (n : ℕ) (b : Ledger J) (s : Both R) → HasNone job b → s.client.stage ≡ st → Holds job all s.client
-      → Holds job all (perform (is_due site now st n) b s).state.inner.client
+      → After job all (is_due site now st n) b s
   due-from st zero b s k e h = lose-from b s k h
   due-from st (suc zero) b s k e h = lose-from b s k h
   due-from st (suc (suc n)) b s k e h = to-run-from Done st (seen.Due (suc (suc n))) b s k (done-from job all) e h
@@ -487,14 +493,14 @@ module _ {J R : Type 0} (site : Service J R) (now : ℕ) (before piece : List �
 
   heard-so : (anew : Bool) (b : Ledger J) (s : Both R) → HasNone false b → (anew ≡ false → s.client.stage ≡ stage.Head)
       → Waiting before s.client.came (asked_so_far s.client.exchanges)
-      → Holds false (before ++ piece) (perform (heard site now anew (settle site now) s.client.ended (fed s.client.came piece)) b s).state.inner.client
+      → After false (before ++ piece) (heard site now anew (settle site now) s.client.ended (fed s.client.came piece)) b s
   heard-so anew b s k at-head h =
       heard-from site now false (before ++ piece) anew (settle site now) s.client.came piece s.client.ended b s k
       (settle-from site now false (before ++ piece)) at-head h.0
       (followed s.client.came before piece (asked_so_far s.client.exchanges) h.1)
 
   came-from : (st : Stage) (b : Ledger J) (s : Both R) → HasNone false b → s.client.stage ≡ st → AtStage st false before s.client
-      → Holds false (before ++ piece) (perform (came_at site now st (fed s.client.came piece) s) b s).state.inner.client
+      → After false (before ++ piece) (came_at site now st (fed s.client.came piece) s) b s
   came-from stage.Busy b s k e h =
       await-from site now false (before ++ piece) (settle site now)
       (of-runs site now false (before ++ piece) (settle site now) (settle-from site now false (before ++ piece))) b

@@ -34,7 +34,8 @@ AskAlso bytes asked rs answer = (all : List Request) × AreRequests bytes all an
 
 -- so many bytes came in all, with these at last; what a line is still to read, with these and what comes later, was not asked yet, and all else was
 abbrev pub Follows : Came → List ℕ → List ℕ → List LineOut → Type 0
-Follows came piece all asked = (later : List ℕ) (rs : List Request) (answer : LineOut) → ReadsOn came (piece ++ later) rs answer → AskAlso (all ++ later) asked rs answer
+Follows came piece all asked =
+    (later : List ℕ) (rs : List Request) (answer : LineOut) → ReadsOn came (piece ++ later) rs answer → AskAlso (all ++ later) asked rs answer
 
 -- whatever comes later
 abbrev pub Begins : List ℕ → List LineOut → Type 0
