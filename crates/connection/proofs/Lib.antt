@@ -11,3 +11,4 @@ pub mod Echoing
 pub mod Bodies
 pub mod Readings
 pub mod Ordered
+pub mod Fewer

@@ -1,6 +1,8 @@
 //! Laws of the definitions.
 
-ghost use Rattle.std.specs.Prelude.{◌≡◌, ℕ, Bool, true, false, List, [], ◌∷◌, ◌++◌, codes};
+ghost use Rattle.std.specs.Prelude.{◌≡◌, ℕ, ◌<◌, Bool, true, false, List, [], ◌∷◌, ◌++◌, codes, length};
+ghost use Rattle.uri_args.specs.declared.targets.Target.{Target};
+ghost use Rattle.http_in.specs.declared.heads.Head.{Head};
 ghost use Rattle.http_in.specs.declared.framing.BodyKind.TheVariants as kind;
 ghost use Rattle.client_line.specs.declared.requests.LineOut.TheVariants as out;
 ghost use Rattle.client_line.specs.Requests.{IsOf};
@@ -76,6 +78,12 @@ pub fn asking_for_a_body_leaves_what_follows()
     ensures asked { (came : Came) (max : ℕ) → IsInStep came.at → IsInStep (after_asked came max).at }
     ensures fed { (came : Came) (piece : List ℕ) → IsInStep came.at → IsInStep (fed came piece).after.at }
     ensures done { (came : Came) → IsInStep came.at → IsInStep (done came).at }
+{}
+
+/// A request that is there as the one before it is done takes bytes of those that are held.
+pub fn each_request_takes_bytes()
+    ensures { (came : Came) (head : Head) (target : Target) → (fed (done came) []).answer ≡ out.Request head target
+        → length (fed (done came) []).after.held < length came.held }
 {}
 
 /// The runs of the worked rows are lawful.
