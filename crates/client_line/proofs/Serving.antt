@@ -14,24 +14,11 @@ use Rattle.client_line.specs.declared.requests.LineOut.{LineOut}
 use Rattle.client_line.specs.declared.requests.LineOut.TheVariants as out
 use Rattle.client_line.specs.Requests.{answer_to, IsOf}
 use Rattle.client_line.specs.Records.{At, Came, Head, Present, Dropping, Over}
-use Rattle.client_line.specs.Lines.{came_at, after_body, drops, settled, answer_dropping, after_head, LeadsAt, done}
+use Rattle.client_line.specs.Lines.{came_at, after_body, drops, settled, answer_dropping, after_head, LeadsAt, IsFed, done}
 use Rattle.client_line.specs.Messages.{Request, body_state, body_length, HasHead, AreRequests}
 use Rattle.client_line.specs.Serving.{IsNoRequest, Serves}
+use Rattle.client_line.specs.Readings.{ReadsAt, ReadsCame, ReadsOn, IsPresent}
 use Rattle.client_line.proofs.Feeds.{drops-on, joined, stays, ends, after-on}
-
--- what a settled line is at and holds is read as these requests and this answer
-abbrev ReadsAt : At → List ℕ → List Request → LineOut → Type 0
-ReadsAt Head held requests answer = AreRequests held requests answer
-ReadsAt (Present body kind skips) held requests answer = (requests ≡ []) × (answer ≡ out.Waiting)
-ReadsAt (Dropping far) held requests answer = (requests ≡ []) × (answer ≡ answer_dropping far)
-ReadsAt (Over code) held requests answer = (requests ≡ []) × (answer ≡ out.Refused code)
-
-abbrev ReadsCame : Came → List Request → LineOut → Type 0
-ReadsCame came requests answer = ReadsAt came.at came.held requests answer
-
--- with these bytes after it
-abbrev ReadsOn : Came → List ℕ → List Request → LineOut → Type 0
-ReadsOn came bytes requests answer = ReadsCame (settled came.at (came.held ++ bytes)) requests answer
 
 -- ---- an answer that is no request
 
@@ -127,6 +114,40 @@ asks-on (Present body kind skips) held ys head target requests answer after led 
 asks-on (Dropping far) held ys head target requests answer after led more = absurd (asks-nothing far head target led.0)
 asks-on (Over code) held ys head target requests answer after led more = absurd (let f : out.Request head target ≡ out.Refused code = led.0 in cc)
 
+-- ---- a piece
+
+-- that is answered with no request
+pub waits-on : (came after : Came) (piece ys : List ℕ) (requests : List Request) (between answer : LineOut) → IsFed came piece between after → IsNoRequest between
+    → ReadsOn after ys requests answer → ReadsOn came (piece ++ ys) requests answer
+waits-on came after piece ys requests between answer fed plain more =
+    let s = settled came.at (came.held ++ piece) in
+    subst (λ (k : Came). ReadsCame k requests answer) (joined came piece ys) (goes-on s.at s.held ys requests between answer after fed plain more)
+
+-- that is answered with a request
+pub requests-on : (came after : Came) (piece ys : List ℕ) (head : heads.Head) (target : Target) (requests : List Request) (answer : LineOut)
+    → IsFed came piece (out.Request head target) after → ReadsOn (done after) ys requests answer
+    → ReadsOn came (piece ++ ys) (record { head = head; target = target } ∷ requests) answer
+requests-on came after piece ys head target requests answer fed more =
+    let s = settled came.at (came.held ++ piece) in
+    subst (λ (k : Came). ReadsCame k (record { head = head; target = target } ∷ requests) answer) (joined came piece ys)
+    (asks-on s.at s.held ys head target requests answer after fed more)
+
+-- while a request is present
+present-on : (at : At) (held piece ys : List ℕ) (requests : List Request) (between answer : LineOut) (after : Came) → IsPresent at
+    → IsFed (came_at at held) piece between after → ReadsOn (done after) ys requests answer → ReadsOn (done (came_at at held)) (piece ++ ys) requests answer
+present-on (Present body kind skips) held piece ys requests between answer after is fed more =
+    let read : ReadsOn (drops skips (held ++ piece)) ys requests answer = subst (λ (k : Came). ReadsOn (done k) ys requests answer) fed.1 more in
+    let cut : ReadsOn (settled (drops skips held).at ((drops skips held).held ++ piece)) ys requests answer =
+    subst (λ (k : Came). ReadsOn k ys requests answer) (drops-on skips held piece) read in
+    subst (λ (k : Came). ReadsCame k requests answer) (joined (drops skips held) piece ys) cut
+present-on Head held piece ys requests between answer after is fed more = absurd is
+present-on (Dropping far) held piece ys requests between answer after is fed more = absurd is
+present-on (Over code) held piece ys requests between answer after is fed more = absurd is
+
+pub holds-on : (came after : Came) (piece ys : List ℕ) (requests : List Request) (between answer : LineOut) → IsPresent came.at → IsFed came piece between after
+    → ReadsOn (done after) ys requests answer → ReadsOn (done came) (piece ++ ys) requests answer
+holds-on came after piece ys requests between answer is fed more = present-on came.at came.held piece ys requests between answer after is fed more
+
 -- ---- pieces
 
 pub serves : (came : Came) (pieces : List (List ℕ)) (requests : List Request) (answer : LineOut) → Serves came pieces requests answer
@@ -135,13 +156,9 @@ serves came pieces requests answer (Serves.last {piece} after fed plain) =
     let s = settled came.at (came.held ++ piece) in
     subst (λ (b : List ℕ). ReadsOn came b [] answer) (sym (append-nil piece)) (ends-so s.at s.held answer after fed plain)
 serves came pieces requests answer (Serves.more {piece} {pieces = others} between after fed plain rest) =
-    let s = settled came.at (came.held ++ piece) in
-    subst (λ (k : Came). ReadsCame k requests answer) (joined came piece (concat others))
-    (goes-on s.at s.held (concat others) requests between answer after fed plain (serves after others requests answer rest))
+    waits-on came after piece (concat others) requests between answer fed plain (serves after others requests answer rest)
 serves came pieces requests answer (Serves.asks {piece} {pieces = others} {head} {target} {requests = later} after fed rest) =
-    let s = settled came.at (came.held ++ piece) in
-    subst (λ (k : Came). ReadsCame k (record { head = head; target = target } ∷ later) answer) (joined came piece (concat others))
-    (asks-on s.at s.held (concat others) head target later answer after fed (serves (done after) ([] ∷ others) later answer rest))
+    requests-on came after piece (concat others) head target later answer fed (serves (done after) ([] ∷ others) later answer rest)
 
 -- ---- one list of requests
 

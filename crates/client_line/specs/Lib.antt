@@ -4,3 +4,4 @@ pub mod Lines
 pub mod Messages
 pub mod Serving
 pub mod Views
+pub mod Readings

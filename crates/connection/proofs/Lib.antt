@@ -9,3 +9,6 @@ pub mod Heads
 pub mod Recalling
 pub mod Echoing
 pub mod Bodies
+pub mod Readings
+pub mod Ordered
+pub mod Fewer

@@ -6,6 +6,7 @@ pub mod Turns
 pub mod Connections
 pub mod Conditions
 pub mod Accounts
+pub mod Asked
 pub mod InStep
 pub mod Examples
 pub mod Recalls

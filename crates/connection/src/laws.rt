@@ -1,16 +1,18 @@
 //! Laws of the definitions.
 
-ghost use Rattle.std.specs.Prelude.{◌≡◌, ℕ, ◌≤◌, Bool, true, false, List, [], ◌∷◌, ◌++◌, codes};
+ghost use Rattle.std.specs.Prelude.{◌≡◌, ℕ, ◌<◌, Bool, true, false, List, [], ◌∷◌, ◌++◌, codes, length};
+ghost use Rattle.uri_args.specs.declared.targets.Target.{Target};
+ghost use Rattle.http_in.specs.declared.heads.Head.{Head};
 ghost use Rattle.http_in.specs.declared.framing.BodyKind.TheVariants as kind;
 ghost use Rattle.client_line.specs.declared.requests.LineOut.TheVariants as out;
 ghost use Rattle.client_line.specs.Requests.{IsOf};
 ghost use Rattle.client_line.specs.Records.{Came};
 ghost use Rattle.client_line.specs.Lines.{after_asked, done};
-ghost use Rattle.http_bodies.specs.Skips.{no_limit};
 ghost use Rattle.line_answers.specs.Feeding.{fed};
 ghost use Rattle.strand_contract.specs.declared.turns.Place.TheVariants as place;
 ghost use Rattle.strand_contract.specs.declared.turns.Start.TheVariants as start;
 ghost use Rattle.strand_contract.specs.declared.turns.Act.TheVariants as act;
+ghost use Rattle.strand_contract.specs.Alone.{IsExecution};
 ghost use Rattle.strand_contract.specs.Laws.{AsksFit, HangsUpOpen, LeavesNothingOpen, Keeps, WakesQuietly, EndsAtStop};
 ghost use Rattle.strand_contract.specs.Actions.{LocalAction, Did, Began, Ended, Broken, Ready, Later, Close, Run, Due, Offer, Halted};
 ghost use Rattle.moves.specs.Ledgers.{Ledger};
@@ -21,6 +23,7 @@ ghost use Rattle.connection.specs.Services.{Service};
 ghost use Rattle.connection.specs.Connections.{connection_plan, connection_behavior};
 ghost use Rattle.connection.specs.Conditions.{Knows, MayAsk};
 ghost use Rattle.connection.specs.Accounts.{Accounts};
+ghost use Rattle.connection.specs.Asked.{AsksInOrder};
 ghost use Rattle.connection.specs.InStep.{IsInStep};
 ghost use Rattle.connection.specs.Turns.{continue_reply};
 ghost use Rattle.connection.specs.Recalls.{recalls_plan, RecallsHolds, recalled};
@@ -62,12 +65,25 @@ pub fn replies_are_sent_in_order<S: Lawful>()
     ensures { (es : List (LocalAction S.Job)) → Accounts (state_of (connection_plan S.service) es) }
 {}
 
-/// A line on which a body was asked for, under a limit that a number of 64 bits can tell, goes on after it as it would without; whatever comes.
+/// In each execution, what a connection takes from its client is a beginning of what all bytes that came ask: their requests in order, and then the head
+/// that is refused, where there is one.
+pub fn requests_are_those_of_the_bytes<J, R>()
+    ensures { (site : Service J R) (es : List (LocalAction J)) → IsExecution (connection_behavior site) es
+        → AsksInOrder es (state_of (connection_plan site) es) }
+{}
+
+/// A line on which a body was asked for, under whatever limit, goes on after it as it would without; whatever comes.
 pub fn asking_for_a_body_leaves_what_follows()
-    ensures follows { (came : Came) (max : ℕ) → max ≤ no_limit → IsInStep came.at → done (after_asked came max) ≡ done came }
-    ensures asked { (came : Came) (max : ℕ) → max ≤ no_limit → IsInStep came.at → IsInStep (after_asked came max).at }
+    ensures follows { (came : Came) (max : ℕ) → IsInStep came.at → done (after_asked came max) ≡ done came }
+    ensures asked { (came : Came) (max : ℕ) → IsInStep came.at → IsInStep (after_asked came max).at }
     ensures fed { (came : Came) (piece : List ℕ) → IsInStep came.at → IsInStep (fed came piece).after.at }
     ensures done { (came : Came) → IsInStep came.at → IsInStep (done came).at }
+{}
+
+/// A request that is there as the one before it is done takes bytes of those that are held.
+pub fn each_request_takes_bytes()
+    ensures { (came : Came) (head : Head) (target : Target) → (fed (done came) []).answer ≡ out.Request head target
+        → length (fed (done came) []).after.held < length came.held }
 {}
 
 /// The runs of the worked rows are lawful.

@@ -32,7 +32,7 @@ within-some (b ∷ bs) n h = by ((b == line_feed) && begins_empty_line bs) h
     by true e = let f : 1 + empty_line_size bs ≡ n = cc in omega (arith, f)
     by false e = some-more (end_within bs) n e
 
-end-some : (bytes : List ℕ) (n : ℕ) → head_end bytes ≡ Some n → 0 < n
+pub end-some : (bytes : List ℕ) (n : ℕ) → head_end bytes ≡ Some n → 0 < n
 end-some [] n e = cc
 end-some (b ∷ bs) n h = by ((b == line_feed) || ((b == carriage_return) && begins_feed bs)) h
   where
