@@ -6,7 +6,7 @@ use lua_machine::{Machine, Slice};
 use lua_meaning::Resumed;
 use lua_parser::parse;
 use lua_threads::Loaded;
-use lua_values::{Store, Value, Values};
+use lua_values::{Store, StoreFault, Value, Values};
 use resty_base::{ByteLists, Bytes, Whole};
 use std::alloc::{AllocError, Global};
 use std::fmt::Write;
@@ -107,7 +107,7 @@ fn program_of(alloc: Global, text: &str) -> Result<Option<Program>, AllocError> 
     }
 }
 
-/// A store with the natives by their names, and a closure of the chunk.
+/// A store with the natives by their names, a table with a metatable, and a closure of the chunk.
 fn store_of(alloc: Global) -> Result<Option<Store>, AllocError> {
     let mut store = Store::new(alloc)?;
     let globals = store.globals();
@@ -126,10 +126,31 @@ fn store_of(alloc: Global) -> Result<Option<Store>, AllocError> {
             return Ok(None);
         }
     }
+    if add_object(&mut store).is_err() {
+        return Ok(None);
+    }
     match store.make_closure(0, &[]) {
         Ok(_) => Ok(Some(store)),
         Err(_) => Ok(None),
     }
+}
+
+/// A table `o`, whose metatable is the table `m`.
+fn add_object(store: &mut Store) -> Result<(), StoreFault> {
+    let globals = store.globals();
+    let o = store.make_table()?;
+    let m = store.make_table()?;
+    store.set_metatable(o, Some(m))?;
+    store.set(
+        globals,
+        Value::Text(Bytes::from_static(b"o")),
+        Value::Table(o),
+    )?;
+    store.set(
+        globals,
+        Value::Text(Bytes::from_static(b"m")),
+        Value::Table(m),
+    )
 }
 
 /// A program, and the store in which it runs.
