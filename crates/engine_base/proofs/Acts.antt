@@ -111,7 +111,16 @@ module _ {J S : Type 0} (b : Behavior J) (st : S → List (LocalAction J) → Ty
   }
 
   -- the strand is gone
-  pub around-dead : (h : Held S) (book : Book) (ms : List (GlobalAction J)) → Around b st c false false h h.run_queue h.offer_queue book ms → HasCome h.to_come b ms → agenda b ms ≡ h.agenda → deadlines (strand.Conn c) h.agenda ≡ [] → book.has_ended (id.Conn c) ≡ false → (h.in_offers ≡ false → offers_last ms ≡ true → h.offer_queue ≡ []) → (h.in_offers ≡ true → offers_last ms ≡ false → h.run_queue ≡ []) → Standing b st h book ms
+  pub around-dead :
+      (h : Held S) (book : Book) (ms : List (GlobalAction J)) →
+      Around b st c false false h h.run_queue h.offer_queue book ms →
+      HasCome h.to_come b ms →
+      agenda b ms ≡ h.agenda →
+      deadlines (strand.Conn c) h.agenda ≡ [] →
+      book.has_ended (id.Conn c) ≡ false →
+      (h.in_offers ≡ false → offers_last ms ≡ true → h.offer_queue ≡ []) →
+      (h.in_offers ≡ true → offers_last ms ≡ false → h.run_queue ≡ []) →
+      Standing b st h book ms
   around-dead h book ms a comes armed none_armed ended runs_flip offers_flip = record {
     each = λ t live. by_test (t == c)
         (λ e. clash (subst (λ (i : ℕ). lives (projection (strand.Conn i) ms) ≡ true) (eqb-true t c e) live) a.alive)

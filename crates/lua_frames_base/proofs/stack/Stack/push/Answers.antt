@@ -9,4 +9,11 @@ overflow_add-self c = fits_one_more c.args.self.now.frames c.args.self.now.funct
 
 pub invariant_of-self-2 : goal.invariant_of-self-2
 invariant_of-self-2 c =
-    record { counted = ap (λ (n : ℕ). c.args.self.now.functions + n) c.count_of-more.ensures ∙ ap (λ (n : ℕ). n + (if is_lua c.args.frame.kind then 1 else 0)) c.args.self.now.counted ∙ sym (count_push c.args.self.now.frames.items c.args.frame) ∙ ap (λ (fs : List Frame). length (around_of [] fs)) (sym (c.in_ok-push.ensures.items ∙ ap (λ (fs : List Frame). fs ++ c.args.frame ∷ []) c.make_room.ensures)) }
+    record {
+      counted =
+          ap (λ (n : ℕ). c.args.self.now.functions + n) c.count_of-more.ensures
+          ∙ ap (λ (n : ℕ). n + (if is_lua c.args.frame.kind then 1 else 0)) c.args.self.now.counted
+          ∙ sym (count_push c.args.self.now.frames.items c.args.frame)
+          ∙ ap (λ (fs : List Frame). length (around_of [] fs))
+          (sym (c.in_ok-push.ensures.items ∙ ap (λ (fs : List Frame). fs ++ c.args.frame ∷ []) c.make_room.ensures));
+    }
