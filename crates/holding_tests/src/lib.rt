@@ -5,3 +5,5 @@
 mod agendas;
 #[cfg(test)]
 mod seats;
+#[cfg(test)]
+mod sockets;

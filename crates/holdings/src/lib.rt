@@ -2,8 +2,12 @@
 #![tactic(auto)]
 
 mod agenda;
+mod numbered;
 mod numbers;
+mod places;
 mod seats;
+mod sockets;
 
 pub use agenda::Agenda;
 pub use seats::Seats;
+pub use sockets::{Socket, Sockets};

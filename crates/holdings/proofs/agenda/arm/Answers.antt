@@ -1,7 +1,7 @@
 -- The deadline is armed with its number, or neither is there.
 use Rattle.std.proofs.Common.{ℕ, ◌+◌, Some, sym, ap, subst, ◌∙◌}
 use Rattle.wakes.specs.declared.deadlines.Whose.TheVariants as owner
-use Rattle.wakes.specs.Times.{DeadlinesView, armed_with}
+use Rattle.wakes.specs.Times.{DeadlinesView}
 use Rattle.holdings.specs.Agenda.{agenda_of}
 use Rattle.holdings.specs.Numbers.{number_at, changed}
 use Rattle.holdings.specs.Kept.{IsKept, disarmed}

@@ -1,5 +1,5 @@
 -- Where there is no seat, all stays.
-use Rattle.std.proofs.Common.{◌≡◌, Some, None, rules}
+use Rattle.std.proofs.Common.{◌≡◌, None, rules}
 use Rattle.std.specs.Map.{lookup}
 use Rattle.resty_base.specs.contracts.names.StrandIdPartialEq.TheImpl as derived
 use Rattle.holdings.proofs.Strands.{absent-stays}

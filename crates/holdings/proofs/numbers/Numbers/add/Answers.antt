@@ -1,5 +1,5 @@
 -- The strand gets one number of its own.
-use Rattle.std.proofs.Common.{Some, None, nat_eq, if◌then◌else◌, ap, ◌∙◌}
+use Rattle.std.proofs.Common.{Some, nat_eq, if◌then◌else◌, ap, ◌∙◌}
 use Rattle.std.specs.Map.{lookup}
 use Rattle.holdings.proofs.Own.{added, empty-is}
 use Rattle.holdings.proofs.numbers.Numbers.add.Goals as goal
