@@ -5,3 +5,4 @@ pub mod First
 pub mod Rising
 pub mod Held
 pub mod Got
+pub mod Totals

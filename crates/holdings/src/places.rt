@@ -86,7 +86,8 @@ impl Places {
     /// Takes a strand's place out, and returns its number.
     pub fn take(&mut self, who: StrandId, at: u32) -> Option<u64>
         ensures number { result ≡ lookup (nat_eq at) (places_of self.old who) }
-        ensures left { (s : StrandId) → places_of self.new s ≡ (if same_strand s who then remove_entry (nat_eq at) (places_of self.old s) else places_of self.old s) }
+        ensures left { (s : StrandId) → places_of self.new s
+            ≡ (if same_strand s who then remove_entry (nat_eq at) (places_of self.old s) else places_of self.old s) }
     {
         let own = self.by_strand.get_mut(&who)?;
         own.shift_remove(&at)
