@@ -41,7 +41,7 @@ fn arrive<S: StrandContract, W: World>(
                 wanted: true,
             };
             if let Some(next) = turns.carry(connection, seat, acts, false, world) {
-                turns.put_back(connection, next, world);
+                turns.begin(connection, next, world);
             }
         }
         Err(_) => turns.give_up(connection, true, world),
@@ -62,7 +62,7 @@ fn come<S: StrandContract, W: World>(
     ensures to_come { turns.new.to_come ≡ ToCome.Nothing }
 {
     if let Id::Conn(connection) = id {
-        if let Some(seat) = turns.seats.take_out(StrandId::Conn(connection)) {
+        if let Some(seat) = turns.seats.take(StrandId::Conn(connection)) {
             turns.take_turn(site, connection, seat, seen, world);
         }
     }
@@ -81,7 +81,7 @@ fn end_all<S: StrandContract, W: World>(turns: &mut Turns<S>, site: &S::Site, wo
     while let Some(connection) = turns.seats.first_after(last) {
         last = Some(connection);
         turns.to_come = ToCome::Endings(last);
-        if let Some(seat) = turns.seats.take_out(StrandId::Conn(connection)) {
+        if let Some(seat) = turns.seats.take(StrandId::Conn(connection)) {
             turns.take_turn(site, connection, seat, Seen::Stop, world);
         }
     }

@@ -7,7 +7,6 @@ pub mod Events
 pub mod Lists
 pub mod Marks
 pub mod Served
-pub mod Totals
 pub mod Turns
 pub mod Waiting
 pub mod Words

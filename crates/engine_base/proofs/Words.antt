@@ -2,7 +2,7 @@
 use Rattle.engine_base.specs.declared.seats.ToCome.{ToCome}
 use Rattle.engine_base.specs.declared.seats.ToCome.TheVariants as coming
 use Rattle.std.proofs.Common.{◌≡◌, ◌⊎◌, ℕ, ◌&&◌, ◌<◌, ◌≤◌, nat_lt, max, Bool, true, false, ◌==◌, List, [], ◌∷◌, Option, Some, None, if◌then◌else◌, refl, sym, ap, subst, ◌∙◌, append-nil, inl, inr, arith}
-use Rattle.std.proofs.lemmas.Bool.{cases_lt}
+use Rattle.std.proofs.lemmas.Bool.{cases_lt, eqb-true}
 use Rattle.std.proofs.lemmas.Bool.Decides.{nat_tests}
 use Rattle.resty_base.specs.declared.names.Id.TheVariants as id
 use Rattle.resty_base.specs.declared.names.StrandId.{StrandId}
@@ -21,7 +21,7 @@ use Rattle.executions.specs.Queues.{only}
 use Rattle.executions.specs.Histories.{external, offered_lengths, word_entry}
 use Rattle.strand_contract.specs.Laws.{IsLastAct, is_still}
 use Rattle.engine_base.specs.declared.seats.Seat.{Seat}
-use Rattle.engine_base.specs.Slots.{is_after}
+use Rattle.holdings.specs.Seats.{is_after}
 use Rattle.engine_base.specs.Standing.{Held, is_to_end, is_to_wake, phase_at, HasCome, MayWake, said_of, without_dead, Fit, Standing, Turn}
 use Rattle.engine_base.proofs.Lists.{by_test, clash, same-true, tells-more, tells-same}
 use Rattle.engine_base.proofs.Agendas.{come-same}
@@ -171,6 +171,31 @@ module _ {J S : Type 0} (b : Behavior J) (st : S → List (LocalAction J) → Ty
     flip_to_runs = g.flip_to_runs;
     flip_to_offers = g.flip_to_offers;
     comes = λ waking. absurd (let stops : phase_of ms ≡ Stopping = come-same h.to_come (coming.Endings last) b ms (sym to_come) g.comes in let e : Waking ≡ Stopping = sym waking ∙ stops in cc);
+    agenda = g.agenda;
+    disarmed = g.disarmed;
+    common = g.common;
+  })
+
+  -- whoever comes first has no strand any more
+  pub stands-passed : (c : ℕ) (h' : Held S) → is_after last c ≡ true → ((t : ℕ) → is_after last t ≡ true → t < c → h.seats (strand.Conn t) ≡ None) → h.seats (strand.Conn c) ≡ None
+      → h' ≡ record h { to_come = coming.Endings (Some c) } → Standing b st h' book ms
+  stands-passed c h' after before gone held = rw held (record {
+    each = λ t live. fit-same refl refl
+        (by_test (t == c)
+        (λ e. absurd (seated t live (ap (λ i. h.seats (strand.Conn i)) (eqb-true t c e) ∙ gone)))
+        (λ ne. elim (less-or c t ne) [
+          | inl less ↦ not-after c t (omega (arith, less)) ∙ sym (ap (λ o. is_to_end o t) to_come ∙ by_test (is_after last t) (λ on. absurd (seated t live (before t on less))) (λ off. off))
+          | inr more ↦ sym (ap (λ o. is_to_end o t) to_come ∙ after-more last c t after more)
+        ]))
+        (sym (ap is_to_wake to_come)) refl refl refl refl refl refl (g.each t live);
+    dead = g.dead;
+    closed = g.closed;
+    shut = g.shut;
+    aside = g.aside;
+    forgotten = g.forgotten;
+    flip_to_runs = g.flip_to_runs;
+    flip_to_offers = g.flip_to_offers;
+    comes = come-same h.to_come (coming.Endings last) b ms (sym to_come) g.comes;
     agenda = g.agenda;
     disarmed = g.disarmed;
     common = g.common;

@@ -1,4 +1,3 @@
-pub mod Slots
 pub mod Right
 pub mod Standing
 pub mod Shown

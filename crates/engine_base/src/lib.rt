@@ -1,8 +1,6 @@
-//! What the engine stands on: the seats of strands, and what the engine holds against an execution.
+//! What the engine stands on: what is in a strand's seat, and what the engine holds against an execution.
 #![tactic(auto)]
 
 mod seats;
-mod slots;
 
 pub use seats::{Seat, ToCome};
-pub use slots::Slots;

@@ -18,8 +18,8 @@ use Rattle.executions.specs.OwnDeadlines.{deadlines}
 use Rattle.executions.proofs.Strands.{same-is}
 use Rattle.turns.specs.declared.turns.Turns.{Turns}
 use Rattle.engine_base.specs.declared.seats.Seat.{Seat}
-use Rattle.engine_base.specs.declared.slots.Slots.{Slots}
-use Rattle.engine_base.specs.Slots.{slot_at}
+use Rattle.holdings.specs.declared.seats.Seats.{Seats}
+use Rattle.holdings.specs.Seats.{seat_at}
 use Rattle.turns.specs.Turns.{IsBusy, IsDone}
 use Rattle.engine_base.specs.Standing.{Held, is_to_wake, phase_at, share_of, said_of, without_dead, Fit, Busy, Standing, Falls, IsOffer}
 use Rattle.engine_base.proofs.Lists.{by_test, clash, same-true}
@@ -217,10 +217,21 @@ front-of (y ∷ l) x e = ap (λ z. z ∷ l) (let f : y ≡ x = cc in f)
 pub popped : (old new : QueueView) (s : StrandId) (k : ℕ) → Some (s, k) ≡ slice_get old.threads 0 → new ≡ left old (drop 1 old.threads) → old.threads ≡ (s, k) ∷ new.threads
 popped old new s k first rest = front-of old.threads (s, k) first ∙ ap (λ (q : QueueView). (s, k) ∷ q.threads) (sym rest)
 
+-- a vacant seat that is taken away leaves nothing less
+pub vacant-ends : {X : Type 0} (old new : Seats X) (who : StrandId) → ((s : StrandId) → seat_at new s ≡ (if same_strand s who then None else seat_at old s)) → seat_at old who ≡ None → seat_at new ≡ seat_at old
+vacant-ends old new who ended none = λ i s. at s i
+  where
+    pick : (s : StrandId) (v : Bool) → same_strand s who ≡ v → (if v then None else seat_at old s) ≡ seat_at old s
+    pick s true e = sym (ap (seat_at old) (same-is s who e) ∙ none)
+    pick s false e = refl
+
+    at : (s : StrandId) → seat_at new s ≡ seat_at old s
+    at s = ended s ∙ pick s (same_strand s who) refl
+
 -- a strand with a seat is a connection's
-pub seat-conn : {X : Type 0} (slots : Slots X) (who : StrandId) (x : X) → Some x ≡ slot_at slots who → ((c : ℕ) → who ≡ strand.Conn c → ⊥) → ⊥
-seat-conn slots (strand.Conn c) x e other = other c refl
-seat-conn slots (strand.Job n) x e other = let f : Some x ≡ None = e in cc
+pub seat-conn : {X : Type 0} (seats : Seats X) (who : StrandId) (x : X) → Some x ≡ seat_at seats who → ((c : ℕ) → who ≡ strand.Conn c → ⊥) → ⊥
+seat-conn seats (strand.Conn c) x e other = other c refl
+seat-conn seats (strand.Job n) x e other = let f : Some x ≡ None = e in cc
 
 nil-of : {A : Type 0} (l : List A) → None ≡ slice_get l 0 → drop 1 l ≡ []
 nil-of [] e = refl

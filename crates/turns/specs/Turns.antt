@@ -12,13 +12,13 @@ use Rattle.turns.specs.declared.turns.Carried.TheVariants as carried
 use Rattle.engine_base.specs.declared.seats.ToCome.TheVariants as coming
 use Rattle.turns.specs.declared.turns.Turns.{Turns}
 use Rattle.engine_base.specs.declared.seats.Seat.{Seat}
-use Rattle.engine_base.specs.Slots.{slot_at, total}
+use Rattle.holdings.specs.Seats.{seat_at, total}
 use Rattle.engine_base.specs.Standing.{Held, Standing, Busy, Falls, Turn}
 
 -- what the engine holds, in plain values
 abbrev pub view_of : {S : Type 0} → Turns S → Held S
 view_of turns = record {
-  seats = slot_at turns.seats;
+  seats = seat_at turns.seats;
   run_queue = turns.run_queue.threads;
   offer_queue = turns.offer_queue.items;
   in_offers = turns.in_offers;

@@ -1,8 +1,8 @@
 //! The turns of the strands that live: what is held of each, and how its acts are carried out, it is woken, its threads run and its places are
 //! offered.
 
-use engine_base::{Seat, Slots, ToCome};
-use holdings::Agenda;
+use engine_base::{Seat, ToCome};
+use holdings::{Agenda, Seats};
 use resty_base::{Id, Ms, StrandId};
 use resty_world::{Entry, Logged, World, Wrote};
 use std::alloc::Global;
@@ -14,7 +14,7 @@ use wakes::RunQueue;
 #[derive(Drop)]
 pub struct Turns<S> {
     pub alloc: Global,
-    pub seats: Slots<Seat<S>>,
+    pub seats: Seats<Seat<S>>,
     pub run_queue: RunQueue,
     pub offer_queue: VecDeque<(StrandId, Place)>,
     /// Whether places are offered now, and no threads run.
@@ -58,7 +58,7 @@ impl<S: StrandContract> Turns<S> {
     {
         Turns {
             alloc,
-            seats: Slots::new(alloc),
+            seats: Seats::new(alloc),
             run_queue: RunQueue::new(alloc),
             offer_queue: VecDeque::new(alloc),
             in_offers: false,
@@ -70,13 +70,14 @@ impl<S: StrandContract> Turns<S> {
         }
     }
 
-    /// Gives a strand up: notes that it was dropped, closes its connection, and takes its deadlines out.
+    /// Gives a strand up: notes that it was dropped, closes its connection, and takes its seat and its deadlines away.
     pub fn give_up<W: World>(&mut self, connection: u64, is_open: bool, world: &mut W)
         requires { (site : S.Site) × IsFalling (S.meaning site) connection is_open self.old (W.book world.old) }
         ensures standing { (site : S.Site) → IsFalling (S.meaning site) connection is_open self.old (W.book world.old)
             → Stands (S.meaning site) self.new (W.book world.new) }
         ensures works { Works W.same W.book self.old self.new world.old world.new }
         ensures kept { self.new ≡ record self.old {
+          seats = self.new.seats;
           connections = self.new.connections;
           agenda = without_those (is_of (StrandId.Conn connection)) self.old.agenda;
         } }
@@ -85,6 +86,7 @@ impl<S: StrandContract> Turns<S> {
         let who = StrandId::Conn(connection);
         let _ = world.note(Entry::Dropped(who));
         self.agenda.end(who);
+        self.seats.end(who);
         if is_open {
             world.hang_up(Id::Conn(connection));
             self.connections = self.connections.saturating_sub(1);
@@ -160,6 +162,7 @@ impl<S: StrandContract> Turns<S> {
             },
             Act::Gone => {
                 self.agenda.end(StrandId::Conn(connection));
+                self.seats.end(StrandId::Conn(connection));
                 world.forget(StrandId::Conn(connection));
                 Carried::Over
             }
@@ -240,7 +243,24 @@ impl<S: StrandContract> Turns<S> {
         }
     }
 
-    /// Gives a strand its seat again, once its turn is over.
+    /// Gives a strand that began its seat, once its first turn is over; out of memory it is given up.
+    pub fn begin<W: World>(&mut self, connection: u64, mut seat: Seat<S>, world: &mut W)
+        requires { (site : S.Site) × IsDone (S.meaning site) connection seat self.old (W.book world.old) }
+        ensures standing { (site : S.Site) → IsDone (S.meaning site) connection seat self.old (W.book world.old)
+            → Stands (S.meaning site) self.new (W.book world.new) }
+        ensures works { Works W.same W.book self.old self.new world.old world.new }
+        ensures phase { KeepsPhase self.old self.new }
+        ensures work { work S.left self.new ≤ work S.left self.old + S.left seat.strand }
+    {
+        Self::say_wanted(connection, &mut seat, world);
+        let is_open = seat.is_open;
+        match self.seats.begin(connection, seat) {
+            Ok(()) => {}
+            Err(_) => self.give_up(connection, is_open, world),
+        }
+    }
+
+    /// Gives a strand its seat again, once its turn is over. The seat was vacant during the turn, so that it takes no memory.
     pub fn put_back<W: World>(&mut self, connection: u64, mut seat: Seat<S>, world: &mut W)
         requires { (site : S.Site) × IsDone (S.meaning site) connection seat self.old (W.book world.old) }
         ensures standing { (site : S.Site) → IsDone (S.meaning site) connection seat self.old (W.book world.old)
@@ -291,7 +311,7 @@ impl<S: StrandContract> Turns<S> {
             return false;
         };
         // Whose deadline is armed is a connection's strand, and has a seat.
-        let Some(seat) = self.seats.take_out(who) else {
+        let Some(seat) = self.seats.take(who) else {
             return true;
         };
         let StrandId::Conn(connection) = who else {
@@ -328,7 +348,7 @@ impl<S: StrandContract> Turns<S> {
         ensures less { result ≡ true → work S.left self.new < work S.left self.old }
     {
         while let Some((who, thread)) = self.run_queue.pop() {
-            if let Some(seat) = self.seats.take_out(who) {
+            if let Some(seat) = self.seats.take(who) {
                 if let StrandId::Conn(connection) = who {
                     self.take_turn(site, connection, seat, Seen::Run(thread), world);
                     return true;
@@ -394,7 +414,7 @@ impl<S: StrandContract> Turns<S> {
         ensures less { result ≡ true → work S.left self.new < work S.left self.old }
     {
         while let Some((who, place)) = self.offer_queue.pop_front() {
-            if let Some(seat) = self.seats.take_out(who) {
+            if let Some(seat) = self.seats.take(who) {
                 if let StrandId::Conn(connection) = who {
                     self.offer_place(site, connection, place, seat, world);
                     return true;

@@ -1,11 +1,30 @@
-use Rattle.std.proofs.Common.{refl, sym}
-use Rattle.engine_base.proofs.Words.{turn-halt}
+use Rattle.std.proofs.Common.{◌≡◌, ℕ, true, false, Option, Some, None, is_some, refl, sym, rules}
+use Rattle.std.specs.Ordering.{nat_cmp}
+use Rattle.std.specs.BTreeMap.{get}
+use Rattle.resty_base.specs.declared.names.StrandId.TheVariants as strand
+use Rattle.holdings.specs.declared.seats.Seats.{Seats}
+use Rattle.holdings.specs.Seats.{content, seat_at, has_seat}
+use Rattle.engine_base.proofs.Words.{turn-halt, stands-ended, stands-passed}
 use Rattle.engine.proofs.events.end_all.Goals as goal
+
+-- where there is no seat there is no strand
+no-seat : {X : Type 0} (seats : Seats X) (t : ℕ) → has_seat seats t ≡ false → seat_at seats (strand.Conn t) ≡ None
+no-seat {X} seats t h = put (get nat_cmp seats.by_connection t) h
+  where
+    put : (o : Option (Option X)) → is_some o ≡ false → content o ≡ None
+    put None g = refl
+    put (Some x) g = absurd (let e : true ≡ false = g in cc)
 
 pub take_turn-requires : goal.take_turn-requires
 take_turn-requires g c =
     let i = c.loop-connection.invariant in
     let f = c.in-Some.ensures in (
       i.standing.0,
-      turn-halt _ _ i.standing.0 _ _ i.standing.1 c.loop-connection.last i.to_come (g.met.S.StrandContract.asks_last c.args.site.now) c.in-Some.connection c.in-Some-take_out.seat _ f.after f.first (sym c.in-Some-take_out.ensures.value) i.in_offers c.take_out.ensures.rest refl refl refl refl refl refl refl,
+      turn-halt _ _ i.standing.0 _ _ i.standing.1 c.loop-connection.last i.to_come (g.met.S.StrandContract.asks_last c.args.site.now) c.in-Some.connection c.in-Some-take.seat _ f.after (λ t on less. no-seat _ t (f.first t on less)) (sym c.in-Some-take.ensures.value) i.in_offers c.take.ensures.rest refl refl refl refl refl refl refl,
     )
+
+pub loop-connection-preserved : goal.loop-connection-preserved
+loop-connection-preserved g c = ?
+
+pub returns : goal.returns
+returns g c = ?

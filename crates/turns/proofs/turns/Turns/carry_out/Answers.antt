@@ -8,9 +8,10 @@ use Rattle.wakes.specs.Queue.{QueueView}
 use Rattle.executions.specs.Queues.{without_thread}
 use Rattle.engine_base.proofs.Deadlines.{busy-armed, busy-cancelled, falls-disarmed, busy-unready}
 use Rattle.engine_base.proofs.Lists.{told-nothing}
-use Rattle.executions.specs.Agenda.{OfStrand, without_one, is_number, is_of}
+use Rattle.executions.specs.Agenda.{OfStrand, without_one, without_those, is_number, is_of}
 use Rattle.engine_base.proofs.Agendas.{not-longer, all-not-longer}
-use Rattle.turns.proofs.Seats.{without-same, thread-not-longer}
+use Rattle.turns.specs.Turns.{view_of, seat_left}
+use Rattle.turns.proofs.Seats.{without-same, thread-not-longer, vacant-ends}
 use Rattle.engine_base.proofs.Acts.{busy-ready, busy-offer, busy-closed, busy-logged, standing-gone, near-falls, falls-kept, client-open, nothing-open, gone-closed}
 use Rattle.turns.proofs.Going.{forgot-work}
 use Rattle.turns.proofs.turns.Turns.carry_out.Goals as goal
@@ -96,7 +97,9 @@ returns-in-Gone-clause-carried g c = λ site rest go y.
     let z = rw c.in-Gone.is at y.1 in
     let off : c.args.seat.now.is_open ≡ false = nothing-open _ _ c.args.connection (g.met.S.StrandContract.leaves_nothing_open site) _ rest go _ _ _ y.0 z in (
       Of (strand.Conn c.args.connection) Gone None ∷ y.0,
-      standing-gone _ _ c.args.connection (g.met.S.StrandContract.still site) (g.met.S.StrandContract.quiet site) _ rest go _ _ _ _ y.0 (rw off at z) c.forget.ensures.forgets (rw c.end.ensures refl),
+      standing-gone _ _ c.args.connection (g.met.S.StrandContract.still site) (g.met.S.StrandContract.quiet site) _ rest go _ _ _ _ y.0 (rw off at z) c.forget.ensures.forgets
+          (rw c.end.ensures (ap (λ seats. record (view_of c.args.self.now) { seats = seats; agenda = without_those (is_of (strand.Conn c.args.connection)) c.args.self.now.agenda })
+          (vacant-ends c.args.self.now.seats c.end-in-Gone.new.self (strand.Conn c.args.connection) c.end-in-Gone.ensures.seats y.1.near.around.out))),
     )
 
 pub returns-clause-carried : goal.returns-clause-carried
@@ -135,4 +138,4 @@ returns-in-Cancel-clause-work g c =
     omega (arith, ap length c.cancel.ensures, not-longer (is_number (strand.Conn c.args.connection) c.in-Cancel.number) c.args.self.now.agenda)
 
 pub returns-in-Gone-clause-work : goal.returns-in-Gone-clause-work
-returns-in-Gone-clause-work g c = omega (arith, ap length c.end.ensures, all-not-longer (is_of (strand.Conn c.args.connection)) c.args.self.now.agenda)
+returns-in-Gone-clause-work g c = omega (arith, ap length c.end.ensures, all-not-longer (is_of (strand.Conn c.args.connection)) c.args.self.now.agenda, c.end-in-Gone.ensures.total (seat_left g.S.StrandContract.left))
