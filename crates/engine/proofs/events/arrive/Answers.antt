@@ -39,8 +39,8 @@ carry-requires g c =
       ),
     )
 
-pub begin-requires : goal.begin-requires
-begin-requires g c =
+pub begin-requires-in-Some : goal.begin-requires-in-Some
+begin-requires-in-Some g c =
     let r = c.requires.1 in
     let gave = c.requires.2 in
     let room : c.args.turns.now.connections < (g.S.StrandContract.meaning c.args.site.now).behavior.connections = omega (arith) in (
@@ -56,7 +56,7 @@ returns-in-Some-clause-standing g c =
     let r = c.requires.1 in
     let gave = c.requires.2 in
     let room : c.args.turns.now.connections < (g.S.StrandContract.meaning c.args.site.now).behavior.connections = omega (arith) in
-    c.begin-2.ensures.standing c.args.site.now (done-of _ c.args.connection c.in-Some.next c.carry.new.self (g.W.World.book c.carry.new.world) (c.in-Some.ensures.lives c.args.site.now (
+    c.begin-in-Some.ensures.standing c.args.site.now (done-of _ c.args.connection c.in-Some.next c.carry.new.self (g.W.World.book c.carry.new.world) (c.in-Some.ensures.lives c.args.site.now (
       Of (strand.Conn c.args.connection) (Began c.args.turns.now.now.0 (start.Client c.args.connection)) None ∷ r.0,
       busy-begun _ _ r.0 _ c.requires.0 r.1 r.2.0 r.2.1 r.2.2 r.2.3 (g.met.S.StrandContract.keeps c.args.site.now) c.args.connection gave.fit (g.W.World.book c.args.world.now) gave _ room refl (g.met.S.StrandContract.asks_last c.args.site.now) _ _ c.in-Ok.ensures.0 c.in-Ok.ensures.1,
     )))
