@@ -1,5 +1,5 @@
 //! Tests of header fields, names, lists in values and hosts; the values were worked out from RFC 9110 by hand.
-use crate::calls::hold;
+use crate::rows::{Subject, hold};
 use crate::texts::*;
 use http_base::*;
 use std::alloc::{AllocError, Global};
@@ -22,7 +22,7 @@ same @ ` => another";
 
 #[test]
 fn names_have_no_case(rt: HostRuntime) -> Result<(), Fail> {
-    hold(&rt, rt.alloc(), NAMES)
+    hold(&rt, rt.alloc(), Subject::Call, NAMES)
 }
 
 /// Fields, steps on them, and the fields at the end.
@@ -31,7 +31,7 @@ const FIELDS: &str =
 
 #[test]
 fn fields_are_found_and_taken_out_by_name(rt: HostRuntime) -> Result<(), Fail> {
-    hold(&rt, rt.alloc(), FIELDS)
+    hold(&rt, rt.alloc(), Subject::Call, FIELDS)
 }
 
 const LISTS: &str = "\
@@ -48,7 +48,7 @@ trimmed  \t  => []";
 
 #[test]
 fn values_are_lists_of_elements(rt: HostRuntime) -> Result<(), Fail> {
-    hold(&rt, rt.alloc(), LISTS)
+    hold(&rt, rt.alloc(), Subject::Call, LISTS)
 }
 
 const HOSTS: &str = "\
@@ -69,8 +69,8 @@ split a => [a]";
 
 #[test]
 fn hosts_are_plain(rt: HostRuntime) -> Result<(), Fail> {
-    hold(&rt, rt.alloc(), HOSTS)?;
-    hold(&rt, rt.alloc(), SPLITS)
+    hold(&rt, rt.alloc(), Subject::Call, HOSTS)?;
+    hold(&rt, rt.alloc(), Subject::Call, SPLITS)
 }
 
 /// Writes what a call of `http_base` gives.

@@ -1,5 +1,5 @@
 //! Tests of heads, dates, chunks, framings and built-in replies; the values were worked out from RFC 9110 and 9112 by hand.
-use crate::calls::hold;
+use crate::rows::{Subject, hold};
 use crate::texts::*;
 use http_base::Fields;
 use http_reply::*;
@@ -23,7 +23,7 @@ HTTP/1.1 204 No Content␍␊Server: ␍␊Date: Thu, 01 Jan 1970 00:00:00 GMT�
 
 #[test]
 fn heads_are_written(rt: HostRuntime) -> Result<(), Fail> {
-    hold(&rt, rt.alloc(), HEADS)
+    hold(&rt, rt.alloc(), Subject::Call, HEADS)
 }
 
 const DATES: &str = "\
@@ -36,7 +36,7 @@ date 18446744073709551615 => Fri, 31 Dec 9999 23:59:59 GMT";
 
 #[test]
 fn moments_have_dates(rt: HostRuntime) -> Result<(), Fail> {
-    hold(&rt, rt.alloc(), DATES)
+    hold(&rt, rt.alloc(), Subject::Call, DATES)
 }
 
 /// Bodies of built-in replies, with the lengths that their heads say, and a head.
@@ -90,8 +90,8 @@ reason 506 => []";
 
 #[test]
 fn built_in_replies_say_their_status(rt: HostRuntime) -> Result<(), Fail> {
-    hold(&rt, rt.alloc(), BODIES)?;
-    hold(&rt, rt.alloc(), REASONS)
+    hold(&rt, rt.alloc(), Subject::Call, BODIES)?;
+    hold(&rt, rt.alloc(), Subject::Call, REASONS)
 }
 
 const SIZES: &str = "\
@@ -114,8 +114,8 @@ last => 0␍␊␍␊";
 
 #[test]
 fn pieces_are_chunks(rt: HostRuntime) -> Result<(), Fail> {
-    hold(&rt, rt.alloc(), SIZES)?;
-    hold(&rt, rt.alloc(), CHUNKS)
+    hold(&rt, rt.alloc(), Subject::Call, SIZES)?;
+    hold(&rt, rt.alloc(), Subject::Call, CHUNKS)
 }
 
 /// Framings by method, status, minor version and length.
@@ -148,8 +148,8 @@ Connection: close␍␊␍␊404 Not Found␊";
 
 #[test]
 fn bodies_are_sent_by_their_framing(rt: HostRuntime) -> Result<(), Fail> {
-    hold(&rt, rt.alloc(), FRAMINGS)?;
-    hold(&rt, rt.alloc(), SENT)
+    hold(&rt, rt.alloc(), Subject::Call, FRAMINGS)?;
+    hold(&rt, rt.alloc(), Subject::Call, SENT)
 }
 
 /// The number that a text writes, 0 where it writes none.

@@ -1,5 +1,5 @@
 //! Tests of escapes, arguments and targets; the values were worked out from the standards apart from the program.
-use crate::calls::hold;
+use crate::rows::{Subject, hold};
 use crate::texts::*;
 use resty_base::Bytes;
 use std::alloc::{AllocError, Global};
@@ -26,8 +26,8 @@ unescape % => [%]";
 
 #[test]
 fn bytes_are_escaped_and_unescaped(rt: HostRuntime) -> Result<(), Fail> {
-    hold(&rt, rt.alloc(), ESCAPES)?;
-    hold(&rt, rt.alloc(), UNESCAPES)
+    hold(&rt, rt.alloc(), Subject::Call, ESCAPES)?;
+    hold(&rt, rt.alloc(), Subject::Call, UNESCAPES)
 }
 
 const DIGITS: &[u8; 16] = b"0123456789ABCDEF";
@@ -91,8 +91,8 @@ text ;b:=; => [&b=%3D]";
 
 #[test]
 fn arguments_are_read_and_written(rt: HostRuntime) -> Result<(), Fail> {
-    hold(&rt, rt.alloc(), ARGUMENTS)?;
-    hold(&rt, rt.alloc(), PAIRS)
+    hold(&rt, rt.alloc(), Subject::Call, ARGUMENTS)?;
+    hold(&rt, rt.alloc(), Subject::Call, PAIRS)
 }
 
 /// Targets, their paths, their arguments, and the hosts of those that name one.
@@ -143,8 +143,8 @@ target https://h/ => refused";
 
 #[test]
 fn targets_are_read_or_refused(rt: HostRuntime) -> Result<(), Fail> {
-    hold(&rt, rt.alloc(), TARGETS)?;
-    hold(&rt, rt.alloc(), REFUSED)
+    hold(&rt, rt.alloc(), Subject::Call, TARGETS)?;
+    hold(&rt, rt.alloc(), Subject::Call, REFUSED)
 }
 
 /// Writes what a call of `uri_args` gives.
