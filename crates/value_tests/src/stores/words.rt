@@ -1,64 +1,12 @@
-//! Values in a short written form, for tests.
+//! Words of scripts, and what their calls answer as texts.
 
+use crate::values;
 use lua_values::{ObjectKind, TypeKind, Value};
-use resty_base::{Bytes, Whole, whole};
 use std::alloc::Global;
 
-/// `nil`, `true`, `false`, `null`, a number, `'` and a text, or a kind with a number after a colon, as `table:1`.
+/// The value of a word, nil where there is none or no memory for it.
 pub(super) fn value(alloc: Global, word: &str) -> Value {
-    if let Some(text) = word.strip_prefix('\'') {
-        return text_value(alloc, text.as_bytes());
-    }
-    match word.split_once(':') {
-        Some((kind, number)) => reference(kind, id(number)),
-        None => plain(word),
-    }
-}
-
-/// A text as a value, nil where there is no memory for it.
-fn text_value(alloc: Global, text: &[u8]) -> Value {
-    match Bytes::copy_from_slice(alloc, text) {
-        Ok(bytes) => Value::Text(bytes),
-        Err(_) => Value::Nil,
-    }
-}
-
-/// A value that is no text and has no number.
-fn plain(word: &str) -> Value {
-    match word {
-        "true" => Value::Truth(true),
-        "false" => Value::Truth(false),
-        "null" => Value::Null,
-        _ => match number(word) {
-            Some(n) => Value::Number(n),
-            None => Value::Nil,
-        },
-    }
-}
-
-fn number(word: &str) -> Option<Whole> {
-    whole(word.parse().ok()?)
-}
-
-/// The value of a kind that has a number.
-fn reference(kind: &str, n: u32) -> Value {
-    match kind {
-        "table" => Value::Table(n),
-        "closure" => Value::Closure(n),
-        "native" => Value::Native(n),
-        "thread" => Value::Thread(n),
-        _ => Value::Object(object(kind), n),
-    }
-}
-
-/// `socket`, `reader`, `semaphore` or `zone`.
-fn object(word: &str) -> ObjectKind {
-    match word {
-        "socket" => ObjectKind::Socket,
-        "reader" => ObjectKind::Reader,
-        "semaphore" => ObjectKind::Semaphore,
-        _ => ObjectKind::Zone,
-    }
+    values::value(alloc, word).unwrap_or(Value::Nil)
 }
 
 /// `text`, or the kind of an object.
@@ -66,7 +14,7 @@ pub(super) fn type_kind(word: &str) -> TypeKind {
     if word == "text" {
         TypeKind::Text
     } else {
-        TypeKind::Object(object(word))
+        TypeKind::Object(values::object(word).unwrap_or(ObjectKind::Zone))
     }
 }
 

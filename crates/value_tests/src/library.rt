@@ -1,4 +1,7 @@
-//! What the lines say: a call of the library with what it comes to, or what is done to the store before the next one.
+//! Tests of the functions of Lua's library: lines of calls with what they come to, and of what is done to the store before the next one.
+mod arguments;
+mod limits;
+mod tables;
 
 use crate::values::{Wrong, id, text_value, value, values, whether};
 use lua_tables_lib::Library;

@@ -1,6 +1,6 @@
 //! Tests of calls where the units or the steps are at their limit, or the tables are frozen.
 
-use crate::calls::hold;
+use super::hold;
 use std::test::Fail;
 
 /// Calls where no unit is left, and where just enough are left or one is missing. A refused call counts what it took and not what

@@ -1,7 +1,7 @@
 //! Tests of what works on its arguments alone: names of types, equality, `select`, numerals, and what the library's own texts ask.
 //! The answers were worked out by hand; docs/DECISIONS.md says where the interpreter of Lua 5.1.5 gives others.
 
-use crate::calls::hold;
+use super::hold;
 use std::test::Fail;
 
 /// The name of a type is a text that is made; the texts that a call takes and makes are counted together.

@@ -1,7 +1,7 @@
 //! Tests of what reads and writes tables: metatables, raw calls, traversal and `unpack`. The answers were worked out by hand;
 //! docs/DECISIONS.md says where the interpreter of Lua 5.1.5 gives others.
 
-use crate::calls::hold;
+use super::hold;
 use std::test::Fail;
 
 /// A metatable is shown, or else what its `__metatable` says, also false; what it says protects it.

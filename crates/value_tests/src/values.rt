@@ -80,10 +80,17 @@ fn reference(kind: &str, n: u32) -> Result<Value, Wrong> {
         "closure" => Value::Closure(n),
         "native" => Value::Native(n),
         "thread" => Value::Thread(n),
-        "socket" => Value::Object(ObjectKind::Socket, n),
-        "reader" => Value::Object(ObjectKind::Reader, n),
-        "semaphore" => Value::Object(ObjectKind::Semaphore, n),
-        "zone" => Value::Object(ObjectKind::Zone, n),
+        _ => Value::Object(object(kind)?, n),
+    })
+}
+
+/// `socket`, `reader`, `semaphore` or `zone`.
+pub(crate) fn object(word: &str) -> Result<ObjectKind, Wrong> {
+    Ok(match word {
+        "socket" => ObjectKind::Socket,
+        "reader" => ObjectKind::Reader,
+        "semaphore" => ObjectKind::Semaphore,
+        "zone" => ObjectKind::Zone,
         _ => return Err(Wrong::Line),
     })
 }
