@@ -1,47 +1,37 @@
 //! Tests of the names that texts require.
+use crate::rows::{Subject, hold, put};
 use lua_ast::Program;
 use lua_lexer::lex;
 use lua_names::names_in;
 use lua_parser::parse;
 use resty_base::ByteLists;
-use std::alloc::{AllocError, Global};
-use std::process::Abort;
-use std::test::Fail;
-
-/// Tests each row, `TEXT => NAMES`, each name after a blank.
-fn hold(rt: &impl Abort, alloc: Global, rows: &str) -> Result<(), Fail> {
-    for row in rows.lines() {
-        let (text, expected) = row.split_once(" =>").unwrap_or((row, ""));
-        assert_eq!(rt; names_of_text(alloc, text)?.as_str(), expected, "{text}");
-    }
-    Ok(())
-}
+use std::alloc::Global;
 
 /// The program of a text; `None` where it has none.
 fn program_of(alloc: Global, text: &str) -> Option<Program> {
-    match lex(alloc, text.as_bytes(), 1) {
-        Ok(tokens) => parse(alloc, &tokens).ok(),
-        Err(_) => None,
+    let tokens = lex(alloc, text.as_bytes(), 1).ok()?;
+    parse(alloc, &tokens).ok()
+}
+
+/// Writes texts with blanks between them.
+pub(crate) fn see_texts(all: &mut String, texts: &ByteLists) {
+    for text in texts.as_slice() {
+        if !all.is_empty() {
+            put(all, " ");
+        }
+        put(all, str::from_utf8(text.as_slice()).unwrap_or("?"));
     }
 }
 
-/// Writes each name after a blank.
-fn write_names(all: &mut String, names: &ByteLists) -> Result<(), AllocError> {
-    for name in names.as_slice() {
-        all.push(' ')?;
-        all.push_str(str::from_utf8(name.as_slice()).unwrap_or("?"))?;
+/// Writes the names that a text requires.
+pub(crate) fn see_names(alloc: Global, all: &mut String, text: &str) {
+    let Some(program) = program_of(alloc, text) else {
+        return put(all, "no program");
+    };
+    match names_in(alloc, &program) {
+        Ok(names) => see_texts(all, &names),
+        Err(_) => put(all, "memory"),
     }
-    Ok(())
-}
-
-/// The names that a text requires.
-fn names_of_text(alloc: Global, text: &str) -> Result<String, AllocError> {
-    let mut all = String::new(alloc);
-    match program_of(alloc, text) {
-        Some(program) => write_names(&mut all, &names_in(alloc, &program)?)?,
-        None => all.push_str("no program")?,
-    }
-    Ok(all)
 }
 
 const CALLS: &str = "\
@@ -67,14 +57,14 @@ require(function() require 'a' end) require 'b' => a b
 return function() end, function() return function() require 'a' end end => a";
 
 #[test]
-fn names_stand_in_the_order_of_the_text(rt: HostRuntime) -> Result<(), Fail> {
-    hold(&rt, rt.alloc(), CALLS)?;
-    hold(&rt, rt.alloc(), STATEMENTS)
+fn names_stand_in_the_order_of_the_text(rt: HostRuntime) {
+    hold(&rt, rt.alloc(), Subject::Names, CALLS);
+    hold(&rt, rt.alloc(), Subject::Names, STATEMENTS);
 }
 
 #[test]
-fn functions_stand_where_they_are_written(rt: HostRuntime) -> Result<(), Fail> {
-    hold(&rt, rt.alloc(), WITHIN)
+fn functions_stand_where_they_are_written(rt: HostRuntime) {
+    hold(&rt, rt.alloc(), Subject::Names, WITHIN);
 }
 
 const UNSEEN: &str = "\
@@ -85,6 +75,6 @@ m.require 'a' o:require 'a' (require) 'a' requires 'a' =>
 require 'a b' require '' require 'a/b' require 'a\\0' =>";
 
 #[test]
-fn other_calls_and_other_names_are_left_out(rt: HostRuntime) -> Result<(), Fail> {
-    hold(&rt, rt.alloc(), UNSEEN)
+fn other_calls_and_other_names_are_left_out(rt: HostRuntime) {
+    hold(&rt, rt.alloc(), Subject::Names, UNSEEN);
 }
