@@ -1,12 +1,16 @@
-//! What is played on a bench. One function owns it for all tests, since whatever drops it is dear to prove.
+//! Tests of the live world, over loopback sockets of one process: scenes that are played on a bench. One function owns it for all tests, since
+//! whatever drops it is dear to prove.
+mod bench;
+mod clocks;
+mod connections;
+mod replies;
 
-use crate::bench::Bench;
-use crate::{clocks, connections, replies};
+use bench::Bench;
 use std::process::Abort;
 
 /// What is played.
 #[derive(Clone, Copy)]
-pub(crate) enum Scene {
+enum Scene {
     Past,
     ToCome,
     LastBytes,
@@ -23,7 +27,7 @@ pub(crate) enum Scene {
 }
 
 /// Plays a scene on a world that has just begun.
-pub(crate) fn play<A: Abort>(rt: &A, host: &HostRuntime, scene: Scene) {
+fn play<A: Abort>(rt: &A, host: &HostRuntime, scene: Scene) {
     let mut bench = Bench::new(rt, host);
     act(rt, host, &mut bench, scene);
 }

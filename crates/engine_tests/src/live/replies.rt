@@ -1,7 +1,7 @@
 //! Long replies.
 
-use crate::bench::{Bench, Client, now};
-use crate::scenes::{Scene, play};
+use super::bench::{Bench, Client, now};
+use super::{Scene, play};
 use resty_base::Id;
 use resty_world::{Event, Wrote};
 use std::alloc::Global;
@@ -101,7 +101,7 @@ fn reply_slowly<A: Abort>(
     (reply.put, read)
 }
 
-pub(crate) fn read_slowly<A: Abort>(rt: &A, host: &HostRuntime, bench: &mut Bench<'_, A>) {
+pub(super) fn read_slowly<A: Abort>(rt: &A, host: &HostRuntime, bench: &mut Bench<'_, A>) {
     let mut client = bench.arrived(1);
     let (put, read) = reply_slowly(rt, host.alloc(), bench, &mut client);
     assert!(rt; put == LONG && read == LONG);
@@ -112,7 +112,7 @@ fn a_long_reply_reaches_a_client_that_reads_slowly(rt: HostRuntime) {
     play(&rt, &rt, Scene::ReadSlowly);
 }
 
-pub(crate) fn put_off<A: Abort>(rt: &A, host: &HostRuntime, bench: &mut Bench<'_, A>) {
+pub(super) fn put_off<A: Abort>(rt: &A, host: &HostRuntime, bench: &mut Bench<'_, A>) {
     let mut client = bench.arrived(1);
     let piece = piece(rt, host.alloc());
     let start = Reply {
@@ -130,7 +130,7 @@ fn bytes_come_while_a_write_is_put_off(rt: HostRuntime) {
     play(&rt, &rt, Scene::PutOff);
 }
 
-pub(crate) fn unread<A: Abort>(rt: &A, host: &HostRuntime, bench: &mut Bench<'_, A>) {
+pub(super) fn unread<A: Abort>(rt: &A, host: &HostRuntime, bench: &mut Bench<'_, A>) {
     let mut client = bench.arrived(1);
     client.send(b"unread by the world");
     let answer = bench.put(1, b"hi");

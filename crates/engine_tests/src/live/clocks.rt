@@ -1,7 +1,7 @@
 //! Moments, by the clock of the system and by one that is set back.
 
-use crate::bench::{Bench, now};
-use crate::scenes::{Scene, play};
+use super::bench::{Bench, now};
+use super::{Scene, play};
 use live_world::Live;
 use resty_base::Ms;
 use resty_world::{Event, World};
@@ -43,7 +43,7 @@ impl Net for SetClock<'_> {
     }
 }
 
-pub(crate) fn past<A: Abort>(rt: &A, host: &HostRuntime, bench: &mut Bench<'_, A>) {
+pub(super) fn past<A: Abort>(rt: &A, host: &HostRuntime, bench: &mut Bench<'_, A>) {
     let before = now(rt, host);
     assert!(rt; is_moment_from(&bench.next_at(before), before));
     assert!(rt; now(rt, host) < before.saturating_add(1_000));
@@ -54,7 +54,7 @@ fn a_moment_that_is_past_is_given_at_once(rt: HostRuntime) {
     play(&rt, &rt, Scene::Past);
 }
 
-pub(crate) fn to_come<A: Abort>(rt: &A, host: &HostRuntime, bench: &mut Bench<'_, A>) {
+pub(super) fn to_come<A: Abort>(rt: &A, host: &HostRuntime, bench: &mut Bench<'_, A>) {
     let until = now(rt, host).saturating_add(100);
     assert!(rt; is_moment_from(&bench.next_at(until), until));
     assert!(rt; now(rt, host) >= until);

@@ -1,7 +1,7 @@
 //! Connections: their order, their ends, and what comes of them after they were hung up.
 
-use crate::bench::{Bench, Client, loopback};
-use crate::scenes::{Scene, play};
+use super::bench::{Bench, Client, loopback};
+use super::{Scene, play};
 use live_world::Live;
 use resty_base::Id;
 use resty_world::{Event, Listened, World};
@@ -9,7 +9,7 @@ use std::alloc::Global;
 use std::net::TcpListener;
 use std::process::Abort;
 
-pub(crate) fn last_bytes<A: Abort>(bench: &mut Bench<'_, A>) {
+pub(super) fn last_bytes<A: Abort>(bench: &mut Bench<'_, A>) {
     let mut client = bench.arrived(1);
     client.send(b"GET");
     bench.hears(1, b"GET");
@@ -73,7 +73,7 @@ fn count_events<A: Abort>(bench: &mut Bench<'_, A>, rt: &A, events: usize) -> Co
     count
 }
 
-pub(crate) fn many<A: Abort>(rt: &A, host: &HostRuntime, bench: &mut Bench<'_, A>) {
+pub(super) fn many<A: Abort>(rt: &A, host: &HostRuntime, bench: &mut Bench<'_, A>) {
     let clients = two_hundred(bench, rt, host.alloc());
     let count = count_events(bench, rt, 400);
     assert!(rt; clients.len() == 200 && count.arrived == 200 && count.heard == 200);
@@ -84,7 +84,7 @@ fn two_hundred_connections_arrive_in_order_and_are_heard(rt: HostRuntime) {
     play(&rt, &rt, Scene::Many);
 }
 
-pub(crate) fn hung_up<A: Abort>(bench: &mut Bench<'_, A>) {
+pub(super) fn hung_up<A: Abort>(bench: &mut Bench<'_, A>) {
     let mut first = bench.arrived(1);
     first.send(b"one");
     bench.finish(1);
@@ -101,7 +101,7 @@ fn nothing_of_a_connection_comes_after_it_was_hung_up(rt: HostRuntime) {
     play(&rt, &rt, Scene::HungUp);
 }
 
-pub(crate) fn one_by_one<A: Abort>(bench: &mut Bench<'_, A>) {
+pub(super) fn one_by_one<A: Abort>(bench: &mut Bench<'_, A>) {
     for number in 1..=50u64 {
         let mut client = bench.arrived(number);
         client.send(b"x");
@@ -115,7 +115,7 @@ fn connections_that_come_after_others_were_closed_are_new_ones(rt: HostRuntime) 
     play(&rt, &rt, Scene::OneByOne);
 }
 
-pub(crate) fn held_back<A: Abort>(bench: &mut Bench<'_, A>) {
+pub(super) fn held_back<A: Abort>(bench: &mut Bench<'_, A>) {
     let mut first = bench.arrived(1);
     bench.wants(1, false);
     first.send(b"one");
@@ -131,7 +131,7 @@ fn bytes_that_are_not_wanted_wait_until_they_are(rt: HostRuntime) {
     play(&rt, &rt, Scene::HeldBack);
 }
 
-pub(crate) fn reset<A: Abort>(bench: &mut Bench<'_, A>) {
+pub(super) fn reset<A: Abort>(bench: &mut Bench<'_, A>) {
     let client = bench.arrived(1);
     let _ = bench.put(1, b"unread");
     drop(client);
@@ -149,7 +149,7 @@ fn listener(rt: &impl Abort, host: &HostRuntime) -> TcpListener {
     TcpListener::bind(host, loopback(0)).expect(rt, "not listening")
 }
 
-pub(crate) fn dialled<A: Abort>(rt: &A, host: &HostRuntime, bench: &mut Bench<'_, A>) {
+pub(super) fn dialled<A: Abort>(rt: &A, host: &HostRuntime, bench: &mut Bench<'_, A>) {
     let peer = listener(rt, host);
     let port = peer.local_addr().expect(rt, "no address").port();
     bench.dials(port, 1);
@@ -166,7 +166,7 @@ fn a_socket_is_dialled_or_refused(rt: HostRuntime) {
     play(&rt, &rt, Scene::Dialled);
 }
 
-pub(crate) fn in_use<A: Abort>(rt: &A, host: &HostRuntime, bench: &mut Bench<'_, A>) {
+pub(super) fn in_use<A: Abort>(rt: &A, host: &HostRuntime, bench: &mut Bench<'_, A>) {
     let mut other = Live::new(host.alloc(), host, Vec::<u8>::new(host.alloc()));
     let listened = other.listen(host.alloc(), bench.port());
     assert!(rt; listened == Listened::Failed);
