@@ -1,4 +1,5 @@
 //! Tests of the order of handlers: what follows each outcome in each phase, by what of the head was sent.
+use crate::texts::write_number;
 use phases::{Next, Outcome, Phase, Sent, after};
 use resty_base::Bytes;
 use std::alloc::{AllocError, Global};
@@ -48,17 +49,25 @@ fn sent(word: &str) -> Sent {
     }
 }
 
-/// Writes what follows.
-fn write_next(alloc: Global, all: &mut String, next: Next) -> Result<(), AllocError> {
+fn in_words(next: Next) -> &'static str {
     match next {
-        Next::Run(Phase::Access) => all.push_str(" access"),
-        Next::Run(Phase::Content) => all.push_str(" content"),
-        Next::Run(_) => all.push_str(" another phase"),
-        Next::Reply(status) => all.push_str(format!(in alloc; " {status}")?.as_str()),
-        Next::Again => all.push_str(" again"),
-        Next::Finish => all.push_str(" finish"),
-        Next::HangUp => all.push_str(" close"),
+        Next::Run(Phase::Access) => " access",
+        Next::Run(Phase::Content) => " content",
+        Next::Run(_) => " another phase",
+        Next::Reply(_) => " a status",
+        Next::Again => " again",
+        Next::Finish => " finish",
+        Next::HangUp => " close",
     }
+}
+
+/// Writes what follows; of an answer its status.
+fn write_next(alloc: Global, all: &mut String, next: Next) -> Result<(), AllocError> {
+    if let Next::Reply(status) = next {
+        all.push(' ')?;
+        return write_number(alloc, all, u64::from(status));
+    }
+    all.push_str(in_words(next))
 }
 
 /// What follows a handler after so many redirects: `PHASE SENT OUTCOME`, or `PHASE SENT` with each outcome in turn.
