@@ -183,17 +183,25 @@ fn nothing_is_read_after_a_fault_in_a_body(rt: HostRuntime) -> Result<(), Fail> 
     hold(&rt, rt.alloc(), Subject::Line, FAULTS)
 }
 
-/// Feeds a piece, ends each request at once, and writes the answers, `;` after each request.
+/// Writes a request with a `;` after it; whether the answer is one.
+fn is_request(alloc: Global, all: &mut String, out: &LineOut) -> Result<bool, AllocError> {
+    if !matches!(out, LineOut::Request(_, _)) {
+        return Ok(false);
+    }
+    write_answer(alloc, all, out)?;
+    all.push(';')?;
+    Ok(true)
+}
+
+/// Feeds a piece, ends each request at once, and writes the requests.
 fn serve(alloc: Global, line: &mut Line, piece: &[u8], all: &mut String) -> Result<(), AllocError> {
-    let mut out = line.fed(piece);
+    let mut piece = piece;
     for _ in 0..REQUESTS {
-        if !matches!(&out, LineOut::Request(_, _)) {
+        if !is_request(alloc, all, &line.fed(piece))? {
             break;
         }
-        write_answer(alloc, all, &out)?;
-        all.push(';')?;
         line.done();
-        out = line.fed(b"");
+        piece = b"";
     }
     Ok(())
 }

@@ -33,12 +33,7 @@ fn take(alloc: Global, req: &mut Req, step: &str, all: &mut String) -> Result<()
             of_head(alloc, req, word, given, all)
         }
         "path" | "query" | "args" | "form" | "var" => of_target(alloc, req, word, given, all),
-        "head" => write_head(alloc, &handlers(alloc, req, given)?, all),
-        "built-in" => write_head(alloc, &built_in(alloc, req, given)?, all),
-        "connection" => {
-            let head = built_in(alloc, req, "keep 1")?;
-            all.push_str(if head.keep { "keep-alive" } else { "close" })
-        }
+        "head" | "built-in" | "connection" => of_reply_head(alloc, req, word, given, all),
         _ => of_reply(alloc, req, word, given, all),
     }
 }
@@ -83,6 +78,21 @@ fn of_target(
         "args" => write_pairs(all, &req.uri_args(alloc, given.parse().unwrap_or(0))?),
         "form" => write_pairs(all, &req.post_args(alloc, &plain_bytes(alloc, given)?, 0)?),
         _ => write_plain(all, &variable(alloc, req, given)?),
+    }
+}
+
+/// A step that writes the head of the reply, or what it says of the connection.
+fn of_reply_head(
+    alloc: Global,
+    req: &Req,
+    word: &str,
+    given: &str,
+    all: &mut String,
+) -> Result<(), AllocError> {
+    match word {
+        "head" => write_head(alloc, &handlers(alloc, req, given)?, all),
+        "built-in" => write_head(alloc, &built_in(alloc, req, given)?, all),
+        _ => all.push_str(connection(alloc, req)?),
     }
 }
 
@@ -198,6 +208,12 @@ fn built_in(alloc: Global, req: &Req, given: &str) -> Result<ReplyHead, AllocErr
         Some(length),
         keep == "keep",
     )
+}
+
+/// What the head of a built-in reply says of the connection.
+fn connection(alloc: Global, req: &Req) -> Result<&'static str, AllocError> {
+    let head = built_in(alloc, req, "keep 1")?;
+    Ok(if head.keep { "keep-alive" } else { "close" })
 }
 
 /// Writes the lines of the head but its date, each before a `|`.

@@ -7,8 +7,12 @@ use std::test::Fail;
 /// What a row gives.
 #[derive(Clone, Copy)]
 pub(crate) enum Subject<'a> {
-    /// A call, a word, with what it is given.
-    Call,
+    /// A call of `http_base`, a word, with what it is given.
+    Base,
+    /// A call of `uri_args`.
+    Target,
+    /// A call of `http_reply`.
+    Reply,
     /// A word, and the head or the body of a request.
     Request,
     /// Steps on the record of a request that has this head.
@@ -36,26 +40,12 @@ pub(crate) fn hold(
 /// What is seen of a row.
 fn seen(alloc: Global, subject: Subject<'_>, given: &str) -> Result<String, AllocError> {
     match subject {
-        Subject::Call => called(alloc, given),
+        Subject::Base => base::answer(alloc, given),
+        Subject::Target => targets::answer(alloc, given),
+        Subject::Reply => replies::answer(alloc, given),
         Subject::Request => requests::read(alloc, given),
         Subject::Record(head) => records::answers(alloc, head, given),
         Subject::Line => lines::answers(alloc, given),
         Subject::Queue => queues::answers(alloc, given),
     }
-}
-
-/// What a call gives.
-fn called(alloc: Global, call: &str) -> Result<String, AllocError> {
-    let mut all = String::new(alloc);
-    let (word, given) = call.split_once(' ').unwrap_or((call, ""));
-    match word {
-        "lower" | "same" | "fields" | "elements" | "trimmed" | "host" | "split" => {
-            base::write_call(alloc, &mut all, word, given)?
-        }
-        "escape" | "unescape" | "args" | "text" | "target" => {
-            targets::write_call(alloc, &mut all, word, given)?
-        }
-        _ => replies::write_call(alloc, &mut all, word, given)?,
-    }
-    Ok(all)
 }
