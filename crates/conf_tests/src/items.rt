@@ -4,16 +4,16 @@ use conf_text::{Ending, Item, items_of};
 use std::alloc::{AllocError, Global};
 use std::test::Fail;
 
-/// Writes a letter for the ending, with the text of a block of Lua.
-fn put_ending(out: &mut String, ending: &Ending) -> Result<(), AllocError> {
+/// A letter for the ending, or the text of a block of Lua.
+fn in_words(ending: &Ending) -> &str {
     match ending {
-        Ending::Semicolon => out.push(';'),
-        Ending::Open => out.push('{'),
-        Ending::Close => out.push('}'),
-        Ending::Lua(text) => out.push_str(str::from_utf8(text).unwrap_or("?")),
-        Ending::Unclosed => out.push('U'),
-        Ending::End => out.push('$'),
-        Ending::Broken => out.push('!'),
+        Ending::Semicolon => ";",
+        Ending::Open => "{",
+        Ending::Close => "}",
+        Ending::Lua(text) => str::from_utf8(text).unwrap_or("?"),
+        Ending::Unclosed => "U",
+        Ending::End => "$",
+        Ending::Broken => "!",
     }
 }
 
@@ -24,11 +24,8 @@ fn put_item(alloc: Global, out: &mut String, item: &Item) -> Result<(), AllocErr
         out.push_str(str::from_utf8(word).unwrap_or("?"))?;
         out.push(']')?;
     }
-    let line = item.line;
-    let ending_line = item.ending_line;
-    out.push_str(format!(in alloc; "{line}")?.as_str())?;
-    put_ending(out, &item.ending)?;
-    out.push_str(format!(in alloc; "{ending_line},")?.as_str())
+    let (line, ending, ending_line) = (item.line, in_words(&item.ending), item.ending_line);
+    out.push_str(format!(in alloc; "{line}{ending}{ending_line},")?.as_str())
 }
 
 /// The items of a text.

@@ -45,13 +45,14 @@ HSL lua_socket_pool_size 1;";
 
 /// A configuration in which this stands in the main part, in `events`, `http`, `server` or `location`, by its first letter.
 fn placed(alloc: Global, place: char, said: &str) -> Result<String, AllocError> {
-    match place {
-        'M' => format!(in alloc; "{said} http {{ server {{ }} }}"),
-        'E' => format!(in alloc; "events {{ {said} }} http {{ server {{ }} }}"),
-        'H' => format!(in alloc; "http {{ server {{ }} {said} }}"),
-        'S' => format!(in alloc; "http {{ server {{ {said} }} }}"),
-        _ => format!(in alloc; "http {{ server {{ location / {{ {said} }} }} }}"),
-    }
+    let (before, after) = match place {
+        'M' => ("", "http { server { } }"),
+        'E' => ("events {", "} http { server { } }"),
+        'H' => ("http { server { }", "}"),
+        'S' => ("http { server {", "} }"),
+        _ => ("http { server { location / {", "} } }"),
+    };
+    format!(in alloc; "{before} {said} {after}")
 }
 
 /// Whether what stands in this place has this fault.

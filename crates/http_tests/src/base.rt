@@ -1,7 +1,8 @@
 //! Tests of header fields, names, lists in values and hosts; the values were worked out from RFC 9110 by hand.
-use crate::calls::hold;
+use crate::rows::{Subject, hold};
 use crate::texts::*;
 use http_base::*;
+use resty_base::Pair2;
 use std::alloc::{AllocError, Global};
 use std::test::Fail;
 
@@ -22,7 +23,7 @@ same @ ` => another";
 
 #[test]
 fn names_have_no_case(rt: HostRuntime) -> Result<(), Fail> {
-    hold(&rt, rt.alloc(), NAMES)
+    hold(&rt, rt.alloc(), Subject::Base, NAMES)
 }
 
 /// Fields, steps on them, and the fields at the end.
@@ -31,7 +32,7 @@ const FIELDS: &str =
 
 #[test]
 fn fields_are_found_and_taken_out_by_name(rt: HostRuntime) -> Result<(), Fail> {
-    hold(&rt, rt.alloc(), FIELDS)
+    hold(&rt, rt.alloc(), Subject::Base, FIELDS)
 }
 
 const LISTS: &str = "\
@@ -48,7 +49,7 @@ trimmed  \t  => []";
 
 #[test]
 fn values_are_lists_of_elements(rt: HostRuntime) -> Result<(), Fail> {
-    hold(&rt, rt.alloc(), LISTS)
+    hold(&rt, rt.alloc(), Subject::Base, LISTS)
 }
 
 const HOSTS: &str = "\
@@ -69,17 +70,20 @@ split a => [a]";
 
 #[test]
 fn hosts_are_plain(rt: HostRuntime) -> Result<(), Fail> {
-    hold(&rt, rt.alloc(), HOSTS)?;
-    hold(&rt, rt.alloc(), SPLITS)
+    hold(&rt, rt.alloc(), Subject::Base, HOSTS)?;
+    hold(&rt, rt.alloc(), Subject::Base, SPLITS)
 }
 
-/// Writes what a call of `http_base` gives.
-pub(crate) fn write_call(
-    alloc: Global,
-    all: &mut String,
-    word: &str,
-    given: &str,
-) -> Result<(), AllocError> {
+/// What a call of `http_base` gives.
+pub(crate) fn answer(alloc: Global, call: &str) -> Result<String, AllocError> {
+    let mut all = String::new(alloc);
+    let (word, given) = call.split_once(' ').unwrap_or((call, ""));
+    write_call(alloc, &mut all, word, given)?;
+    Ok(all)
+}
+
+/// Writes what a call gives.
+fn write_call(alloc: Global, all: &mut String, word: &str, given: &str) -> Result<(), AllocError> {
     let bytes = bytes_of(alloc, given)?;
     match word {
         "lower" => write_part(all, &lower(alloc, &bytes)?),
@@ -106,14 +110,30 @@ fn compared(names: &[u8]) -> &'static str {
 fn write_steps(alloc: Global, all: &mut String, given: &str) -> Result<(), AllocError> {
     let (fields, steps) = given.split_once("; ").unwrap_or((given, ""));
     let mut fields = fields_of(alloc, fields)?;
-    for step in steps.split(", ") {
-        take(alloc, all, &mut fields, step)?;
-    }
-    for field in fields.into_vec().as_slice() {
+    take_all(alloc, all, &mut fields, steps)?;
+    write_fields(all, fields.into_vec().as_slice())
+}
+
+/// Writes fields, `;` after each.
+fn write_fields(all: &mut String, fields: &[Pair2]) -> Result<(), AllocError> {
+    for field in fields {
         write(all, &field.name)?;
         all.push('=')?;
         write(all, &field.value)?;
         all.push(';')?;
+    }
+    Ok(())
+}
+
+/// Takes steps with `, ` between them.
+fn take_all(
+    alloc: Global,
+    all: &mut String,
+    fields: &mut Fields,
+    steps: &str,
+) -> Result<(), AllocError> {
+    for step in steps.split(", ") {
+        take(alloc, all, fields, step)?;
     }
     Ok(())
 }

@@ -1,5 +1,5 @@
 //! Tests of heads, dates, chunks, framings and built-in replies; the values were worked out from RFC 9110 and 9112 by hand.
-use crate::calls::hold;
+use crate::rows::{Subject, hold};
 use crate::texts::*;
 use http_base::Fields;
 use http_reply::*;
@@ -23,7 +23,7 @@ HTTP/1.1 204 No Content␍␊Server: ␍␊Date: Thu, 01 Jan 1970 00:00:00 GMT�
 
 #[test]
 fn heads_are_written(rt: HostRuntime) -> Result<(), Fail> {
-    hold(&rt, rt.alloc(), HEADS)
+    hold(&rt, rt.alloc(), Subject::Reply, HEADS)
 }
 
 const DATES: &str = "\
@@ -36,7 +36,7 @@ date 18446744073709551615 => Fri, 31 Dec 9999 23:59:59 GMT";
 
 #[test]
 fn moments_have_dates(rt: HostRuntime) -> Result<(), Fail> {
-    hold(&rt, rt.alloc(), DATES)
+    hold(&rt, rt.alloc(), Subject::Reply, DATES)
 }
 
 /// Bodies of built-in replies, with the lengths that their heads say, and a head.
@@ -90,8 +90,8 @@ reason 506 => []";
 
 #[test]
 fn built_in_replies_say_their_status(rt: HostRuntime) -> Result<(), Fail> {
-    hold(&rt, rt.alloc(), BODIES)?;
-    hold(&rt, rt.alloc(), REASONS)
+    hold(&rt, rt.alloc(), Subject::Reply, BODIES)?;
+    hold(&rt, rt.alloc(), Subject::Reply, REASONS)
 }
 
 const SIZES: &str = "\
@@ -114,8 +114,8 @@ last => 0␍␊␍␊";
 
 #[test]
 fn pieces_are_chunks(rt: HostRuntime) -> Result<(), Fail> {
-    hold(&rt, rt.alloc(), SIZES)?;
-    hold(&rt, rt.alloc(), CHUNKS)
+    hold(&rt, rt.alloc(), Subject::Reply, SIZES)?;
+    hold(&rt, rt.alloc(), Subject::Reply, CHUNKS)
 }
 
 /// Framings by method, status, minor version and length.
@@ -148,8 +148,8 @@ Connection: close␍␊␍␊404 Not Found␊";
 
 #[test]
 fn bodies_are_sent_by_their_framing(rt: HostRuntime) -> Result<(), Fail> {
-    hold(&rt, rt.alloc(), FRAMINGS)?;
-    hold(&rt, rt.alloc(), SENT)
+    hold(&rt, rt.alloc(), Subject::Reply, FRAMINGS)?;
+    hold(&rt, rt.alloc(), Subject::Reply, SENT)
 }
 
 /// The number that a text writes, 0 where it writes none.
@@ -162,13 +162,16 @@ fn status(text: &str) -> u16 {
     text.parse().unwrap_or(0)
 }
 
-/// Writes what a call of `http_reply` gives.
-pub(crate) fn write_call(
-    alloc: Global,
-    all: &mut String,
-    word: &str,
-    given: &str,
-) -> Result<(), AllocError> {
+/// What a call of `http_reply` gives.
+pub(crate) fn answer(alloc: Global, call: &str) -> Result<String, AllocError> {
+    let mut all = String::new(alloc);
+    let (word, given) = call.split_once(' ').unwrap_or((call, ""));
+    write_call(alloc, &mut all, word, given)?;
+    Ok(all)
+}
+
+/// Writes what a call gives.
+fn write_call(alloc: Global, all: &mut String, word: &str, given: &str) -> Result<(), AllocError> {
     match word {
         "head" => write_head(alloc, all, given),
         "date" => write(all, &date_text(Ms(number(given)))),
@@ -212,17 +215,23 @@ fn described(alloc: Global, words: &str, others: Fields) -> Result<ReplyHead, Al
         others,
     };
     for word in words.split(' ') {
-        let (name, value) = word.split_once(':').unwrap_or((word, ""));
-        match name {
-            "server" => head.server = bytes_of(alloc, value)?,
-            "type" => head.content_type = Some(bytes_of(alloc, value)?),
-            "length" => head.length = Some(number(value)),
-            "chunked" => head.chunked = true,
-            "keep" => head.keep = true,
-            _ => head.status = status(word),
-        }
+        describe(alloc, &mut head, word)?;
     }
     Ok(head)
+}
+
+/// Sets what a word says of a head.
+fn describe(alloc: Global, head: &mut ReplyHead, word: &str) -> Result<(), AllocError> {
+    let (name, value) = word.split_once(':').unwrap_or((word, ""));
+    match name {
+        "server" => head.server = bytes_of(alloc, value)?,
+        "type" => head.content_type = Some(bytes_of(alloc, value)?),
+        "length" => head.length = Some(number(value)),
+        "chunked" => head.chunked = true,
+        "keep" => head.keep = true,
+        _ => head.status = status(word),
+    }
+    Ok(())
 }
 
 /// Writes the body of a built-in reply, and the length that its head says.
@@ -258,10 +267,30 @@ fn write_body(alloc: Global, all: &mut String, word: &str, given: &str) -> Resul
     let framing = framing_of(framing);
     let pieces = pieces_of(alloc, pieces)?;
     if word == "reply" {
-        let head = built_in(alloc, 404);
-        return write(all, &reply(alloc, &head, framing, &pieces, Ms(0))?);
+        return write_reply(alloc, all, framing, &pieces);
     }
-    write_part(all, &body_bytes(alloc, framing, &pieces)?)?;
+    write_sent(alloc, all, framing, &pieces)
+}
+
+/// Writes a built-in reply with this body.
+fn write_reply(
+    alloc: Global,
+    all: &mut String,
+    framing: Framing,
+    pieces: &[Bytes],
+) -> Result<(), AllocError> {
+    let head = built_in(alloc, 404);
+    write(all, &reply(alloc, &head, framing, pieces, Ms(0))?)
+}
+
+/// Writes a body, and whether five bytes are short of it.
+fn write_sent(
+    alloc: Global,
+    all: &mut String,
+    framing: Framing,
+    pieces: &[Bytes],
+) -> Result<(), AllocError> {
+    write_part(all, &body_bytes(alloc, framing, pieces)?)?;
     all.push_str(if framing.falls_short(5) { " short" } else { "" })
 }
 

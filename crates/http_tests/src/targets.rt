@@ -1,5 +1,5 @@
 //! Tests of escapes, arguments and targets; the values were worked out from the standards apart from the program.
-use crate::calls::hold;
+use crate::rows::{Subject, hold};
 use crate::texts::*;
 use resty_base::Bytes;
 use std::alloc::{AllocError, Global};
@@ -26,8 +26,8 @@ unescape % => [%]";
 
 #[test]
 fn bytes_are_escaped_and_unescaped(rt: HostRuntime) -> Result<(), Fail> {
-    hold(&rt, rt.alloc(), ESCAPES)?;
-    hold(&rt, rt.alloc(), UNESCAPES)
+    hold(&rt, rt.alloc(), Subject::Target, ESCAPES)?;
+    hold(&rt, rt.alloc(), Subject::Target, UNESCAPES)
 }
 
 const DIGITS: &[u8; 16] = b"0123456789ABCDEF";
@@ -91,8 +91,8 @@ text ;b:=; => [&b=%3D]";
 
 #[test]
 fn arguments_are_read_and_written(rt: HostRuntime) -> Result<(), Fail> {
-    hold(&rt, rt.alloc(), ARGUMENTS)?;
-    hold(&rt, rt.alloc(), PAIRS)
+    hold(&rt, rt.alloc(), Subject::Target, ARGUMENTS)?;
+    hold(&rt, rt.alloc(), Subject::Target, PAIRS)
 }
 
 /// Targets, their paths, their arguments, and the hosts of those that name one.
@@ -143,17 +143,20 @@ target https://h/ => refused";
 
 #[test]
 fn targets_are_read_or_refused(rt: HostRuntime) -> Result<(), Fail> {
-    hold(&rt, rt.alloc(), TARGETS)?;
-    hold(&rt, rt.alloc(), REFUSED)
+    hold(&rt, rt.alloc(), Subject::Target, TARGETS)?;
+    hold(&rt, rt.alloc(), Subject::Target, REFUSED)
 }
 
-/// Writes what a call of `uri_args` gives.
-pub(crate) fn write_call(
-    alloc: Global,
-    all: &mut String,
-    word: &str,
-    given: &str,
-) -> Result<(), AllocError> {
+/// What a call of `uri_args` gives.
+pub(crate) fn answer(alloc: Global, call: &str) -> Result<String, AllocError> {
+    let mut all = String::new(alloc);
+    let (word, given) = call.split_once(' ').unwrap_or((call, ""));
+    write_call(alloc, &mut all, word, given)?;
+    Ok(all)
+}
+
+/// Writes what a call gives.
+fn write_call(alloc: Global, all: &mut String, word: &str, given: &str) -> Result<(), AllocError> {
     match word {
         "escape" => write_part(all, &escape(alloc, &bytes_of(alloc, given)?)?),
         "unescape" => write_part(all, &unescape(alloc, &bytes_of(alloc, given)?)?),

@@ -1,4 +1,5 @@
-//! Bytes in the rows of the tests: a character is the byte of its number, `␍` and `␊` are the two bytes of a line's end.
+//! Bytes in the rows of the tests. In those of calls and requests a character is the byte of its number, and `␍` and `␊` are the two bytes of a
+//! line's end; in the others bytes are those of their text.
 use http_base::Fields;
 use resty_base::{Bytes, Pair2};
 use std::alloc::{AllocError, Global};
@@ -19,12 +20,20 @@ fn letter_of(byte: u8) -> char {
     }
 }
 
+/// The joined bytes of texts.
+pub(crate) fn joined(alloc: Global, texts: &[&str]) -> Result<Vec<u8>, AllocError> {
+    let mut bytes = Vec::new(alloc);
+    for text in texts {
+        for letter in text.chars() {
+            bytes.push(byte_of(letter))?;
+        }
+    }
+    Ok(bytes)
+}
+
 /// The bytes of a text.
 pub(crate) fn bytes_of(alloc: Global, text: &str) -> Result<Bytes, AllocError> {
-    let mut bytes = Vec::new(alloc);
-    for letter in text.chars() {
-        bytes.push(byte_of(letter))?;
-    }
+    let bytes = joined(alloc, &[text])?;
     Bytes::copy_from_slice(alloc, bytes.as_slice())
 }
 
@@ -59,4 +68,19 @@ pub(crate) fn fields_of(alloc: Global, text: &str) -> Result<Fields, AllocError>
         fields.push(field_of(alloc, field)?)?;
     }
     Ok(Fields::of(fields))
+}
+
+/// The bytes that are a text.
+pub(crate) fn plain_bytes(alloc: Global, text: &str) -> Result<Bytes, AllocError> {
+    Bytes::copy_from_slice(alloc, text.as_bytes())
+}
+
+/// Writes bytes that are a text, `?` where they are none.
+pub(crate) fn write_plain(all: &mut String, bytes: &[u8]) -> Result<(), AllocError> {
+    all.push_str(str::from_utf8(bytes).unwrap_or("?"))
+}
+
+/// Writes a number.
+pub(crate) fn write_number(alloc: Global, all: &mut String, number: u64) -> Result<(), AllocError> {
+    all.push_str(format!(in alloc; "{number}")?.as_str())
 }

@@ -1,6 +1,10 @@
-//! Tests of the crates that read Lua, by their public calls: numbers, trees, tokens, operators, programs.
+//! Tests of the crates that read Lua, by their public calls: numbers, trees, tokens, operators, programs, and sets of modules.
 #![tactic(auto)]
 
+#[cfg(test)]
+mod module_sets;
+#[cfg(test)]
+mod names;
 #[cfg(test)]
 mod numbers;
 #[cfg(test)]

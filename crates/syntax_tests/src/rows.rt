@@ -1,4 +1,5 @@
 //! Rows of texts, and what is seen of each.
+use crate::names::see_names;
 use crate::numbers::{see_digits, see_numeral, see_result};
 use crate::parsing::see_program;
 use crate::tokens::{see_block_end, see_level, see_places, see_tokens};
@@ -33,6 +34,8 @@ pub(crate) enum Subject {
     Heads,
     /// How high the first value is that the program returns.
     Height,
+    /// The names that the program requires.
+    Names,
     /// Whether parts, with `|` between them, are read. A part stands once, or as often as the number before its `*` says; in
     /// it each `@` is the number of the turn, from 0.
     Limit,
@@ -41,7 +44,8 @@ pub(crate) enum Subject {
 /// Tests each row, `TEXT => WHAT IS SEEN`, where each `¶` of the text is a line end.
 pub(crate) fn hold(rt: &impl Abort, alloc: Global, subject: Subject, rows: &str) {
     for row in rows.lines() {
-        let (given, expected) = row.split_once(" => ").unwrap_or((row, ""));
+        let (given, expected) = row.split_once(" =>").unwrap_or((row, ""));
+        let expected = expected.strip_prefix(' ').unwrap_or(expected);
         assert_eq!(rt; seen(alloc, subject, given).as_str(), expected, "{row}");
     }
 }
@@ -111,6 +115,7 @@ fn see(alloc: Global, all: &mut String, subject: Subject, text: &str) {
         Subject::Places => see_places(alloc, all, text),
         Subject::BlockEnd => see_block_end(all, text),
         Subject::Whole => see_whole(alloc, all, text),
+        Subject::Names => see_names(alloc, all, text),
         _ => see_program(alloc, all, text, subject),
     }
 }

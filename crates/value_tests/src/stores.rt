@@ -2,14 +2,14 @@
 
 mod calls;
 mod shifts;
-mod values;
+mod words;
 
 use calls::hold;
 use lua_values::*;
 use shifts::{SHIFTS as BY, TABLES, is_as_set_of_each};
 use std::alloc::{AllocError, Global};
 use std::test::Fail;
-use values::{put, put_number};
+use words::{put, put_number};
 
 /// Keys of each kind, no two of which are equal.
 const KEYS: &str = "\

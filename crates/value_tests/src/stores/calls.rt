@@ -1,6 +1,6 @@
 //! Calls of a store as lines, each with its answer after ` = `.
 
-use super::values::*;
+use super::words::*;
 use lua_values::{Shift, Store, StoreFault, Value};
 use std::alloc::{AllocError, Global};
 use std::process::Abort;

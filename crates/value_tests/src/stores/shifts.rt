@@ -1,7 +1,7 @@
 //! Shifts of values against `set` of each, one after the other.
 
 use super::calls::{copy_of, see_pairs, shift, shift_of};
-use super::values::{put, put_number, value};
+use super::words::{put, put_number, value};
 use lua_values::{Shift, Store, StoreFault, Value};
 use resty_base::whole;
 use std::alloc::Global;

@@ -1,7 +1,0 @@
-//! Tests of the order of handlers.
-#![tactic(auto)]
-
-#[cfg(test)]
-mod rows;
-#[cfg(test)]
-mod table;
