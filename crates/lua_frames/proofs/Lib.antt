@@ -1,2 +1,5 @@
 pub mod FrameForms
 pub mod ReturnLemmas
+pub mod StepsRise
+pub mod QuietWorks
+pub mod FramesRise

@@ -7,4 +7,4 @@ mod operators;
 mod statements;
 mod turns;
 
-pub use turns::run;
+pub use turns::{run, step};

@@ -1,4 +1,1 @@
-pub mod StepsRise
-pub mod QuietWorks
-pub mod ThreadsRise
 pub mod LeftLemmas

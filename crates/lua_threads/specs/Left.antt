@@ -1,12 +1,10 @@
 -- What is left of a thread, by all with which it will still be resumed.
 use Rattle.std.specs.Prelude.{◌≡◌, nat_lt, List, [], ◌∷◌, if◌then◌else◌}
-use Rattle.lua_values.specs.Heap.{StoreView, step_limit}
+use Rattle.lua_values.specs.Heap.{step_limit}
 use Rattle.lua_meaning.specs.Works.{Sign, Values, Return, Break, Failed}
 use Rattle.lua_meaning.specs.Evaluator.{Resume, Ending, Spent}
 use Rattle.lua_meaning.specs.Setting.{Setting}
 use Rattle.lua_meaning.specs.Life.{Unbegun, outcome_of}
-use Rattle.lua_machine.specs.declared.slices.Slice.{Slice}
-use Rattle.lua_machine.specs.declared.slices.Slice.TheVariants as slice
 use Rattle.lua_machine.specs.Finishes.{Finish}
 use Rattle.lua_frames_base.specs.declared.threads.Frames.{Frames}
 use Rattle.lua_frames_base.specs.Frames.{finish, given}
@@ -26,15 +24,6 @@ resumed_at S fs (stage.Parked position) r resumes =
 abbrev pub left : Setting → Thread → Finish
 left S t [] = Unbegun
 left S t (r ∷ resumes) = outcome_of (resumed_at S t.frames t.stage r resumes)
-
--- where the steps are spent, they are at the limit
-abbrev pub SpendsAll : {T : Type 0} → StoreView → Slice T → Type 0
-SpendsAll store (slice.Parked t op) = Unit {0}
-SpendsAll store (slice.Done vs) = Unit {0}
-SpendsAll store (slice.Failed v) = Unit {0}
-SpendsAll store slice.Spent = store.steps ≡ step_limit
-SpendsAll store slice.Memory = Unit {0}
-SpendsAll store slice.Unsupported = Unit {0}
 
 -- how a thread ended, by what all its calls gave
 abbrev pub HasEnded : Sign → Ended → Type 0

@@ -1,6 +1,6 @@
 //! Threads.
 
-ghost use Rattle.std.specs.Prelude.{List, ◌∷◌, IfOk};
+ghost use Rattle.std.specs.Prelude.{List, ◌∷◌, ◌<◌, IfOk};
 ghost use Rattle.lua_values.specs.Heap.{StoreView};
 ghost use Rattle.lua_meaning.specs.Evaluator.{Resume, Ending};
 ghost use Rattle.lua_meaning.specs.Setting.{Setting};
@@ -8,7 +8,8 @@ ghost use Rattle.lua_meaning.specs.Life.{outcome_of, life};
 ghost use Rattle.lua_machine.specs.Finishes.{IsNew, IsOutcome, Resumes, CountsSteps};
 ghost use Rattle.lua_frames_base.specs.Frames.{finish};
 ghost use Rattle.lua_frames_base.specs.Follows.{Follows, Asks};
-ghost use Rattle.lua_threads.specs.Left.{left, SpendsAll};
+ghost use Rattle.lua_frames.specs.Steps.{RaisesSteps};
+ghost use Rattle.lua_threads.specs.Left.{left};
 
 use crate::ended::{Ended, end_of};
 use lua_frames::run;
@@ -70,7 +71,7 @@ impl Thread {
     ) -> Result<Slice<Thread>, AllocError>
         ensures comes { (resumes : List Resume) → IfOk result (λ slice. IsOutcome (left (H.setting host.now))
             (left (H.setting host.now) self ((record { store = store.old; answer = given }) ∷ resumes)) resumes store.new slice) }
-        ensures spent { IfOk result (SpendsAll store.new) }
+        ensures counts { IfOk result (λ slice. CountsSteps store.old store.new slice) }
     {
         let Thread { frames, stage } = self;
         match stage {
@@ -91,26 +92,22 @@ impl Thread {
 fn run_on<H: Host>(frames: Frames, host: &H, store: &mut Store) -> Result<Slice<Thread>, AllocError>
     ensures comes { (resumes : List Resume) → IfOk result (λ slice. IsOutcome (left (H.setting host.now))
         (outcome_of (finish (H.setting host.now) frames (record { store = store.old; resumes = resumes }))) resumes store.new slice) }
-    ensures spent { IfOk result (SpendsAll store.new) }
+    ensures counts { IfOk result (λ slice. CountsSteps store.old store.new slice) }
 {
     let mut frames = frames;
     let flow = run(&mut frames, host, store)?;
-    slice_of(frames, store, flow)
+    slice_of(frames, flow)
 }
 
-/// What frames came to that were run. Where a step was wanted that isn't left, the steps are at the limit.
-fn slice_of(frames: Frames, store: &mut Store, flow: Flow) -> Result<Slice<Thread>, AllocError>
-    ensures comes { (S : Setting) → (o : List Resume → Ending) → Follows S o store.old frames flow → (resumes : List Resume)
-        → IfOk result (λ slice. IsOutcome (left S) (outcome_of (o resumes)) resumes store.new slice) }
-    ensures spent { IfOk result (SpendsAll store.new) }
+/// What frames came to that were run.
+fn slice_of(frames: Frames, flow: Flow) -> Result<Slice<Thread>, AllocError>
+    ensures comes { (S : Setting) → (o : List Resume → Ending) → (store : StoreView) → Follows S o store frames flow → (resumes : List Resume)
+        → IfOk result (λ slice. IsOutcome (left S) (outcome_of (o resumes)) resumes store slice) }
+    ensures counts { (old : StoreView) → (new : StoreView) → RaisesSteps old new flow → IfOk result (λ slice. CountsSteps old new slice) }
 {
-    let mut frames = frames;
     match flow {
         Flow::Asked => Ok(parked(frames)),
-        Flow::Spent => {
-            store.add_steps(STEP_LIMIT);
-            Ok(Slice::Spent)
-        }
+        Flow::Spent => Ok(Slice::Spent),
         Flow::Over => match end_of(frames.alloc, frames.given)? {
             Ended::Done(values) => Ok(Slice::Done(values)),
             Ended::Failed(value) => Ok(Slice::Failed(value)),
@@ -123,7 +120,7 @@ fn slice_of(frames: Frames, store: &mut Store, flow: Flow) -> Result<Slice<Threa
 fn parked(frames: Frames) -> Slice<Thread>
     ensures comes { (S : Setting) → (o : List Resume → Ending) → (store : StoreView) → Asks S o store frames frames.asked → (resumes : List Resume)
         → IsOutcome (left S) (outcome_of (o resumes)) resumes store result }
-    ensures spent { (store : StoreView) → SpendsAll store result }
+    ensures counts { (old : StoreView) → (new : StoreView) → old.steps < new.steps → CountsSteps old new result }
 {
     let mut frames = frames;
     match frames.asked.take() {

@@ -2,9 +2,8 @@
 use Rattle.std.specs.Prelude.{◌≡◌, ℕ, zero, suc, ◌+◌, ◌≤◌, ◌<◌, [], nat_lt, if◌then◌else◌, true, false}
 use Rattle.std.proofs.Common.{arith}
 use Rattle.lua_values.specs.Heap.{Heap, step_limit}
-use Rattle.lua_meaning.specs.Works.{Places, Node, Sign, Values, Return, Break, Failed, Slots, Work, End, Eval, Outside, Look, Write, Count}
+use Rattle.lua_meaning.specs.Works.{Places, Node, Sign, Slots, Work, End, Eval, Outside, Look, Write, Count}
 use Rattle.lua_meaning.specs.Evaluator.{State, Ending, Ended, Parked, Spent, after, counted, Evaluator, do_work, budget, WorkOf, eval_within, eval_by}
-use Rattle.lua_meaning.specs.Life.{Outcome, Done, Failure, Asks, OutOfSteps, Unbegun, outcome_of}
 
 -- a thread that won't be resumed, in a store with no fewer steps than n
 abbrev pub Starts : ℕ → State → Type 0
@@ -21,13 +20,6 @@ abbrev pub Rises : ℕ → Ending → Type 0
 Rises n (Ended sign s w) = Starts n w
 Rises n (Parked number args position store) = n < store.steps
 Rises n Spent = Unit {0}
-
-abbrev pub OutcomeRises : ℕ → Outcome → Type 0
-OutcomeRises n (Done vs store) = n ≤ store.steps
-OutcomeRises n (Failure v store) = n ≤ store.steps
-OutcomeRises n (Asks number args position store) = n < store.steps
-OutcomeRises n OutOfSteps = Unit {0}
-OutcomeRises n Unbegun = Unit {0}
 
 -- an evaluator that counts a step for each node
 abbrev pub Raises : Evaluator → Type 0
@@ -100,11 +92,3 @@ quiet-rises eval r n (Outside number args position go) w u h = absurd u
 quiet-rises eval r n (Look go) w u h = quiet-rises eval r n (go w.store.heap) w (u w.store.heap) h
 quiet-rises eval r n (Write heap go) w u h = quiet-rises eval r n go (record w { store = record { heap = heap; steps = w.store.steps } }) u h
 quiet-rises eval r n (Count m go) w u h = counted-rises n m w (λ w'. do_work eval go w') h.0 (omega (arith, h.1)) (λ w' h'. quiet-rises eval r n go w' u h')
-
-pub outcome-rises : (n : ℕ) (o : Ending) → Rises n o → OutcomeRises n (outcome_of o)
-outcome-rises n (Ended (Values vs) s w) h = h.1
-outcome-rises n (Ended (Return vs) s w) h = h.1
-outcome-rises n (Ended Break s w) h = h.1
-outcome-rises n (Ended (Failed v) s w) h = h.1
-outcome-rises n (Parked number args position store) h = h
-outcome-rises n Spent h = tt

@@ -1,14 +1,11 @@
--- The steps of a thread that is resumed.
-use Rattle.std.specs.Prelude.{ℕ, nat_lt, List, [], ◌∷◌, if◌then◌else◌, true, false, refl}
+-- The steps of a thread that runs.
+use Rattle.std.specs.Prelude.{◌≡◌, ◌<◌, ℕ, List, [], ◌∷◌, Option, Some, None, refl}
 use Rattle.std.proofs.Common.{subst, arith}
-use Rattle.lua_values.specs.Heap.{StoreView, step_limit}
+use Rattle.lua_values.specs.Heap.{StoreView}
 use Rattle.lua_meaning.specs.Works.{Caller, Places, Sign}
-use Rattle.lua_meaning.specs.Evaluator.{Resume, State, Ending, Ended, Spent, do_work}
+use Rattle.lua_meaning.specs.Evaluator.{Resume, State, Ending, Ended, do_work}
 use Rattle.lua_meaning.specs.Setting.{Setting}
 use Rattle.lua_meaning.specs.Nodes.{work_of, eval}
-use Rattle.lua_machine.specs.declared.slices.Slice.{Slice}
-use Rattle.lua_machine.specs.declared.slices.Slice.TheVariants as slice
-use Rattle.lua_machine.specs.Finishes.{Resumes, CountsSteps}
 use Rattle.lua_frames_base.specs.declared.frames.Frame.{Frame}
 use Rattle.lua_frames_base.specs.declared.frames.Kind.{Kind}
 use Rattle.lua_frames_base.specs.declared.items.Item.{Item}
@@ -16,13 +13,14 @@ use Rattle.lua_frames_base.specs.declared.threads.Frames.{Frames}
 use Rattle.lua_frames_base.specs.Around.{deeper, places_of}
 use Rattle.lua_frames_base.specs.Items.{resume_item}
 use Rattle.lua_frames_base.specs.Signals.{sign_of}
-use Rattle.lua_frames_base.specs.Frames.{closing, finish_items, closed, back, finish_calls, finish_from, around, here, slots_of, answer_sign, given}
-use Rattle.lua_threads.specs.declared.threads.Stage.{Stage}
-use Rattle.lua_threads.specs.declared.threads.Stage.TheVariants as stage
-use Rattle.lua_threads.specs.declared.threads.Thread.{Thread}
-use Rattle.lua_threads.specs.Left.{resumed_at, left, SpendsAll}
-use Rattle.lua_threads.proofs.StepsRise.{Starts, Rises, OutcomeRises, eval-raises, after-rises, quiet-rises, outcome-rises}
-use Rattle.lua_threads.proofs.QuietWorks.{item-quiet, closing-quiet}
+use Rattle.lua_frames_base.specs.Frames.{closing, finish_items, closed, back, finish_calls, finish_from, around, here, slots_of, finish}
+use Rattle.lua_frames_base.specs.declared.flow.Op.{Op}
+use Rattle.lua_frames_base.specs.declared.flow.Flow.{Flow}
+use Rattle.lua_frames_base.specs.declared.flow.Flow.TheVariants as flow
+use Rattle.lua_frames_base.specs.Follows.{Asks, Follows}
+use Rattle.lua_frames.specs.Steps.{RaisesSteps}
+use Rattle.lua_frames.proofs.StepsRise.{Starts, Rises, eval-raises, after-rises, quiet-rises}
+use Rattle.lua_frames.proofs.QuietWorks.{item-quiet, closing-quiet}
 
 items-rise : (S : Setting) (p : Places) (items : List Item) (n : ℕ) (o : Ending) → Rises n o → Rises n (finish_items S p items o)
 items-rise S p [] n o h = h
@@ -49,20 +47,21 @@ frames-rise S fs n sign w h =
     (closed-rises S fs.top.kind (around fs) n (finish_items S (here fs) fs.top.items.items (Ended sign (slots_of fs) w))
     (items-rise S (here fs) fs.top.items.items n (Ended sign (slots_of fs) w) h))
 
-resumed-rises : (S : Setting) (fs : Frames) (at : Stage) (r : Resume) → Rises r.store.steps (resumed_at S fs at r [])
-resumed-rises S fs stage.New r = frames-rise S fs r.store.steps (sign_of fs.given) (record { store = r.store; resumes = [] }) (refl, omega arith)
-resumed-rises S fs (stage.Parked position) r =
-    elim (nat_lt r.store.steps step_limit) as (λ t. Rises r.store.steps (if t then given S fs position r.answer (record { store = r.store; resumes = [] }) else Spent))
-    [ true ↦ frames-rise S fs r.store.steps (answer_sign S position r.answer) (record { store = r.store; resumes = [] }) (refl, omega arith) | false ↦ tt ]
+-- what frames stand for that were run in a store and won't be resumed
+finish-rises : (S : Setting) (fs : Frames) (before : StoreView) → Rises before.steps (finish S fs (record { store = before; resumes = [] }))
+finish-rises S fs before = frames-rise S fs before.steps (sign_of fs.given) (record { store = before; resumes = [] }) (refl, omega arith)
 
-left-rises : (S : Setting) (t : Thread) (r : Resume) → OutcomeRises r.store.steps (left S t (r ∷ []))
-left-rises S t r = outcome-rises r.store.steps (resumed_at S t.frames t.stage r []) (resumed-rises S t.frames t.stage r)
+asked-rises : (S : Setting) (n : ℕ) (o : List Resume → Ending) (fs : Frames) (store : StoreView) (asked : Option Op) → Rises n (o []) → Asks S o store fs asked → n < store.steps
+asked-rises S n o fs store None r h = absurd h
+asked-rises S n o fs store (Some op) r h = subst (Rises n) (h []) r
 
--- a slice that a thread comes to counts its steps
-pub counts_steps : (S : Setting) (t : Thread) (r : Resume) (store : StoreView) (s : Slice Thread) → Resumes (left S) t r store s → SpendsAll store s → CountsSteps r.store store s
-counts_steps S t r store (slice.Parked u op) h spent = subst (OutcomeRises r.store.steps) (h []) (left-rises S t r)
-counts_steps S t r store (slice.Done vs) h spent = subst (OutcomeRises r.store.steps) (h []) (left-rises S t r)
-counts_steps S t r store (slice.Failed v) h spent = subst (OutcomeRises r.store.steps) (h []) (left-rises S t r)
-counts_steps S t r store slice.Spent h spent = spent
-counts_steps S t r store slice.Memory h spent = tt
-counts_steps S t r store slice.Unsupported h spent = tt
+-- a turn, after which the machine doesn't go on, has raised the steps where it asks, and has lowered them nowhere
+pub ends_counted : (S : Setting) (first old fs : Frames) (before mid store : StoreView) (f : Flow)
+    → ((rs : List Resume) → finish S first (record { store = before; resumes = rs }) ≡ finish S old (record { store = mid; resumes = rs }))
+    → Follows S (λ rs. finish S old (record { store = mid; resumes = rs })) store fs f → (f ≡ flow.Went → ⊥) → (f ≡ flow.Spent → ⊥) → RaisesSteps before store f
+ends_counted S first old fs before mid store flow.Went same h w p = absurd (w refl)
+ends_counted S first old fs before mid store flow.Asked same h w p =
+    asked-rises S before.steps (λ rs. finish S old (record { store = mid; resumes = rs })) fs store fs.asked (subst (Rises before.steps) (same []) (finish-rises S first before)) h
+ends_counted S first old fs before mid store flow.Spent same h w p = absurd (p refl)
+ends_counted S first old fs before mid store flow.Over same h w p = (subst (Rises before.steps) (h []) (subst (Rises before.steps) (same []) (finish-rises S first before))).1
+ends_counted S first old fs before mid store flow.Unsupported same h w p = tt

@@ -56,7 +56,7 @@ use Rattle.lua_frames_base.specs.declared.items.Item.{Item}
 use Rattle.lua_frames_base.specs.declared.items.Item.TheVariants as i
 use Rattle.lua_frames_base.specs.Items.{target_of, assign_values, arm_work, resume_item}
 use Rattle.lua_frames_base.specs.Frames.{closing}
-use Rattle.lua_threads.proofs.StepsRise.{IsQuiet}
+use Rattle.lua_frames.proofs.StepsRise.{IsQuiet}
 
 then-quiet : (q : Work) (next : Sign → Slots → Work) → IsQuiet q → ((sign : Sign) (s : Slots) → IsQuiet (next sign s)) → IsQuiet (and_then q next)
 then-quiet (End sign s) next u v = v sign s
