@@ -12,3 +12,6 @@ pub mod Bodies
 pub mod Readings
 pub mod Ordered
 pub mod Fewer
+pub mod Prefixes
+pub mod RunTurns
+pub mod Settling
