@@ -14,4 +14,6 @@ pub mod Ordered
 pub mod Fewer
 pub mod Prefixes
 pub mod RunTurns
+pub mod GoingOn
 pub mod Settling
+pub mod Settles

@@ -1,5 +1,5 @@
--- Settling goes on whatever fuel its definition gives: a run is told less often than it can be, and each request takes bytes.
-use Rattle.std.proofs.Common.{◌≡◌, ℕ, zero, suc, ◌<◌, ◌≤◌, Bool, true, false, ◌&&◌, ◌||◌, List, [], ◌∷◌, length, Option, Some, None, if◌then◌else◌, refl, sym, ap, ◌∙◌, subst, arith, length-drop}
+-- Settling goes on however often its definition lets it: a run that is told of its client can be told so less often, and each request takes bytes.
+use Rattle.std.proofs.Common.{◌≡◌, ℕ, zero, suc, ◌<◌, ◌≤◌, Bool, true, false, ◌&&◌, ◌||◌, List, [], length, Option, Some, None, if◌then◌else◌, refl, sym, ap, ◌∙◌, subst, arith, length-drop}
 use Rattle.std.specs.Prelude.{not}
 use Rattle.uri_args.specs.declared.targets.Target.{Target}
 use Rattle.http_in.specs.declared.heads.Head.{Head}
@@ -13,14 +13,10 @@ use Rattle.client_line.specs.Lines.{came_at, after_asked, body_answer, body_so_f
 use Rattle.line_answers.specs.Feeding.{Fed, fed}
 use Rattle.moves.specs.Questions.{Question}
 use Rattle.moves.specs.Ledgers.{Ledger, has_number, numbers}
-use Rattle.moves.specs.Moves as move
-use Rattle.moves.specs.Moves.{Move, Done, Cancel, Performed, after_act, without_deadline, perform}
+use Rattle.moves.specs.Moves.{Move, Done, Cancel, after_act, without_deadline, perform}
 use Rattle.strand_contract.specs.declared.turns.Act.TheVariants as act
-use Rattle.strand_contract.specs.declared.turns.Place.TheVariants as place
 use Rattle.run_contract.specs.declared.turns.RunSeen.{RunSeen}
 use Rattle.run_contract.specs.declared.turns.RunSeen.TheVariants as seen
-use Rattle.run_contract.specs.declared.turns.Said.{Said}
-use Rattle.run_contract.specs.declared.turns.Said.TheVariants as said
 use Rattle.run_contract.specs.Runs.{Turn, Waits, performed, waits_at_first, waits_told, is_of_client}
 use Rattle.run_contract.specs.Alike.{AreAlike}
 use Rattle.run_contract.specs.Forms.{IsOwn}
@@ -30,14 +26,15 @@ use Rattle.connection.specs.Clients as stage
 use Rattle.connection.specs.Services.{Service, Both}
 use Rattle.connection.specs.Timers.{Timer, number_of}
 use Rattle.connection.specs.Timers as timer
-use Rattle.connection.specs.Turns.{is_there, is_all_taken, change, send, begin_timer, end_timer, continue_reply, let_send, awaits_body, await_body, finish, says, run_turn, tell, lose, begin, heard_by, next, body_told, tell_body, ask_body, is_to_close, busy, flush, settled_at, tells, settle_for, settle}
-use Rattle.connection.specs.Conditions.{Agrees, Knows}
+use Rattle.connection.specs.Turns.{is_there, is_all_taken, end_timer, finish, run_turn, tell, lose, begin, heard_by, next, body_told, tell_body, ask_body, is_to_close, busy, flush, settled_at, tells, settle_for, settle}
+use Rattle.connection.specs.Conditions.{Agrees}
 use Rattle.connection.proofs.Alike.{alike-refl, blank-alike, cancelled-alike}
-use Rattle.connection.proofs.Steps.{own-number, stage_said, Follows, says-leads}
-use Rattle.connection.proofs.Stays.{Known, turn-keeps, busy-holds, done-keeps}
+use Rattle.connection.proofs.Steps.{own-number}
+use Rattle.connection.proofs.Stays.{Known, busy-holds}
 use Rattle.connection.proofs.Fewer.{next-fewer}
-use Rattle.connection.proofs.Prefixes.{before, followed, went, says-precedes}
-use Rattle.connection.proofs.RunTurns.{within, turn-goes-on, turn-asks}
+use Rattle.connection.proofs.Prefixes.{before, went}
+use Rattle.connection.proofs.RunTurns.{turn-precedes, turn-asks}
+use Rattle.connection.proofs.GoingOn.{IsAfter, turn-leaves}
 
 -- a body that is asked for adds nothing to what is held
 asked-fewer : (at : At) (bytes : List ℕ) (max : ℕ) → length (after_asked (came_at at bytes) max).held ≤ length bytes
@@ -45,61 +42,6 @@ asked-fewer line.Head bytes max = omega arith
 asked-fewer (line.Present body kind skips) bytes max = omega (arith, length-drop (taken_count (body_so_far body kind max) bytes) bytes)
 asked-fewer (line.Dropping far) bytes max = omega arith
 asked-fewer (line.Over code) bytes max = omega arith
-
--- ---- what came of the client stays as it is while a run speaks
-
-module _ {J R : Type 0} (site : Service J R) (now : ℕ) (x : Came) where
-  abbrev Kept : Move J (Both R) → Type 0
-  Kept m = (b : Ledger J) (s : Both R) → s.client.came ≡ x → (perform m b s).state.inner.client.came ≡ x
-
-  send-kept : (bytes : List ℕ) (m : Move J (Both R)) → Kept m → Kept (send site now bytes m)
-  send-kept bytes m k b s e = by (is_there b)
-    where
-      by : (c : Bool) → (perform (if c then change (λ c. record c { exchanges = with_more bytes c.exchanges }) (move.Send place.Client bytes m) else m) b s).state.inner.client.came ≡ x
-      by true = k _ (record s { client = record s.client { exchanges = with_more bytes s.client.exchanges } }) e
-      by false = k b s e
-
-  end-kept : (t : Timer) (m : Move J (Both R)) → Kept m → Kept (end_timer site now t m)
-  end-kept t m k b s e = by (has_number (number_of t) (numbers b.armed))
-    where
-      by : (c : Bool) → (perform {S = Both R} (if c then Cancel (number_of t) m else m) b s).state.inner.client.came ≡ x
-      by true = k _ s e
-      by false = k b s e
-
-  let-kept : (c : Client) (r : Reply) (m : Move J (Both R)) → Kept m → Kept (let_send site now c r m)
-  let-kept c Begun m k b s e = k b s e
-  let-kept c (Whole closes) m k b s e = k b s e
-  let-kept c Unsent m k b s e = by c.waited
-    where
-      waiting : Both R
-      waiting = record s { client = record s.client { waited = true } }
-
-      asked : (x' : Bool) → (perform (if x' then send site now continue_reply m else m) b waiting).state.inner.client.came ≡ x
-      asked true = send-kept continue_reply m k b waiting e
-      asked false = k b waiting e
-
-      by : (w : Bool) → (perform (if w then m else change (λ c. record c { waited = true }) (if c.expects then send site now continue_reply m else m)) b s).state.inner.client.came ≡ x
-      by true = k b s e
-      by false = asked c.expects
-
-  await-kept : (m : Move J (Both R)) → Kept m → Kept (await_body site now m)
-  await-kept m k b s e = by (awaits_body site now b s)
-    where
-      by : (c : Bool) → (perform (if c then let_send site now s.client s.client.reply (begin_timer site now timer.Body m) else m) b s).state.inner.client.came ≡ x
-      by true = let-kept s.client s.client.reply (begin_timer site now timer.Body m) (λ c t f. k _ t f) b s e
-      by false = k b s e
-
-  says-kept : (words : List Said) (m : Move J (Both R)) → Kept m → Kept (says site now words m)
-  says-kept [] m k b s e = k b s e
-  says-kept (said.Send bytes ∷ more) m k b s e =
-      send-kept bytes (says site now more m) (says-kept more m k) b (record s { client = record s.client { reply = begun s.client.reply } }) e
-  says-kept (said.WantsBody max ∷ more) m k b s e =
-      await-kept (says site now more m) (says-kept more m k) b (record s { client = record s.client { limit = max } }) e
-  says-kept (said.WantsNoBody ∷ more) m k b s e = end-kept timer.Body (says site now more m) (says-kept more m k) b s e
-  says-kept (said.WantsAllTaken ∷ more) m k b s e = says-kept more m k b s e
-  says-kept (said.Ended closes ∷ more) m k b s e = says-kept more m k b (record s { client = record s.client { reply = Whole closes } }) e
-  says-kept (said.Over ∷ more) m k b s e =
-      end-kept timer.Body (change (λ c. record c { stage = stage.Flush }) m) (λ c t f. k c (record t { client = record t.client { stage = stage.Flush } }) f) b s e
 
 -- ---- moves that come to the same
 
@@ -122,40 +64,18 @@ module _ {J R : Type 0} (site : Service J R) (now : ℕ) (holds : Ledger J → R
   abbrev LessOften : ℕ → ℕ → Both R → Type 0
   LessOften n k s = (held s ≤ n) × (left s < k)
 
-  -- what a turn of the run leads to
-  abbrev Ran : Both R → R → Both R → Type 0
-  Ran s r u = (u.client.came ≡ s.client.came) × (u.run ≡ r)
-
   turn-agrees : (t : Turn J R) (m n : Move J (Both R)) (w : Waits) (b : Ledger J) (s : Both R) → s.client.stage ≡ stage.Busy → IsOwn t.moves
-      → Leaves site.runs holds w t b s.run → b.asked ≡ None → Agree (Ran s (performed t b s.run).state.inner) m n
+      → Leaves site.runs holds w t b s.run → b.asked ≡ None
+      → ((c : Ledger J) (u : Both R) → IsAfter holds t b s c u → perform m c u ≡ perform n c u)
       → perform (run_turn site now t m) b s ≡ perform (run_turn site now t n) b s
   turn-agrees t m n w b s at own leaves none same = by (performed t b s.run).state.ledger.asked refl
     where
-      ran : Performed J (Both R)
-      ran = within s.client (performed t b s.run)
-
-      told : Performed J (Both R)
-      told = went (says site now t.said) ran.state.ledger ran.state.inner
-
-      follows : Follows ran.state.ledger ran.state.inner (stage_said t.said s.client.stage) told.state.ledger told.state.inner
-      follows = says-leads site now (λ st. Follows ran.state.ledger ran.state.inner (stage_said t.said s.client.stage) st.ledger st.inner)
-          t.said Done ran.state.ledger ran.state.inner (λ c u x. x)
-
-      goes : (performed t b s.run).state.ledger.asked ≡ None → (m : Move J (Both R)) → perform (run_turn site now t m) b s ≡ followed ran (says site now t.said m)
-      goes e m = turn-goes-on site now t b s own none e m
-
-      known : (performed t b s.run).state.ledger.asked ≡ None → Known holds told.state.ledger told.state.inner
-      known e = (
-        subst (λ (p : Performed J (Both R)). Knows holds p.state) (goes e Done)
-            (turn-keeps site now holds run t Done w b s at own leaves none (done-keeps site now holds run)),
-        sym follows.alike.asked ∙ e,
-      )
-
       by : (o : Option (Question J)) → (performed t b s.run).state.ledger.asked ≡ o → perform (run_turn site now t m) b s ≡ perform (run_turn site now t n) b s
       by None e =
-          let says-so = says-precedes site now t.said ran.state.ledger ran.state.inner in
-          let came = says-kept site now s.client.came t.said Done (λ c u f. f) ran.state.ledger ran.state.inner refl in
-          goes e m ∙ ap (before ran.acts) (says-so m ∙ ap (before told.acts) (same told.state.ledger told.state.inner (known e) (came, follows.run)) ∙ sym (says-so n)) ∙ sym (goes e n)
+          let d = went (run_turn site now t) b s in
+          let goes = turn-precedes site now t b s own none e in
+          let left = turn-leaves site now holds run t w b s at own leaves none e in
+          goes m ∙ ap (before d.acts) (same d.state.ledger d.state.inner left) ∙ sym (goes n)
       by (Some x) e = let asks = turn-asks site now t b s own none x e in asks.made m ∙ sym (asks.made n)
 
   -- told of its client, in a ledger in which that was entered, it can be told less often
@@ -165,7 +85,7 @@ module _ {J R : Type 0} (site : Service J R) (now : ℕ) (holds : Ledger J → R
   tell-agrees x m n b s at h may none of same =
       let c = entered_as x b in
       turn-agrees (site.runs.turn now x c s.run) m n (waits_told x (site.runs.waits s.run)) c s at (run.moves_by_own now x c s.run) (run.stays now x b s.run h may) none
-      (λ d u k r. same d u k (fewer u r.0, often u r.1))
+      (λ d u r. same d u r.known (fewer u r.came, often u r.run))
     where
       fewer : (u : Both R) → u.client.came ≡ s.client.came → held u ≤ held s
       fewer u e = subst (λ (c : Came). length c.held ≤ held s) (sym e) (omega arith)
@@ -245,7 +165,7 @@ module _ {J R : Type 0} (site : Service J R) (now : ℕ) (holds : Ledger J → R
   begin-agrees m n head target b s h same =
       turn-agrees (site.runs.begun now head target b) m n (waits_at_first true) b
       (record { client = with_request head target (site.times_of head target) s.client; run = site.runs.unborn })
-      refl (run.begins_by_own now head target b) (run.begins now head target b h) h.none_asked (λ c u k r. same c u k r.0)
+      refl (run.begins_by_own now head target b) (run.begins now head target b h) h.none_asked (λ c u r. same c u r.known r.came)
 
   flush-agrees : (m n : Move J (Both R)) (b : Ledger J) (s : Both R) → IsBlank b → Agree (Fewer (held s)) m n
       → perform (flush site now m b s.client) b s ≡ perform (flush site now n b s.client) b s
@@ -282,7 +202,7 @@ module _ {J R : Type 0} (site : Service J R) (now : ℕ) (holds : Ledger J → R
       by stage.Drop e = refl
       by stage.Over e = refl
 
-  -- ---- the fuel
+  -- ---- often enough
 
   -- what follows where the run is told, of so many times
   abbrev again_of : Move J (Both R) → ℕ → Move J (Both R)
