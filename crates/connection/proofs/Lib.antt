@@ -17,3 +17,4 @@ pub mod RunTurns
 pub mod GoingOn
 pub mod Settling
 pub mod Settles
+pub mod OwnMoves
