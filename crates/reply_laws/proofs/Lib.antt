@@ -1,0 +1,5 @@
+pub mod Owns
+pub mod Saying
+pub mod Going
+pub mod Replying
+pub mod Executing
