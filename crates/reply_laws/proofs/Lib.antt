@@ -3,3 +3,4 @@ pub mod Saying
 pub mod Going
 pub mod Replying
 pub mod Executing
+pub mod Blind

@@ -16,7 +16,7 @@ use Rattle.run_contract.specs.Conditions.{IsBlank}
 use Rattle.reply_laws.specs.Own.{IsLive, SameAt, SameOwn}
 use Rattle.reply_laws.specs.Alone.{own_ledger}
 
-own-disarms : (n : ℕ) (ds : List (ℕ × ℕ)) → nat_lt n 2 ≡ false → own_deadlines (disarmed n ds) ≡ disarmed n (own_deadlines ds)
+pub own-disarms : (n : ℕ) (ds : List (ℕ × ℕ)) → nat_lt n 2 ≡ false → own_deadlines (disarmed n ds) ≡ disarmed n (own_deadlines ds)
 own-disarms n [] h = refl
 own-disarms n (d ∷ ds) h = by (own-disarms n ds h) (n == d.0) (nat_lt d.0 2) refl refl
   where
@@ -29,7 +29,7 @@ own-disarms n (d ∷ ds) h = by (own-disarms n ds h) (n == d.0) (nat_lt d.0 2) r
         ap (λ (x : Bool). if x then own_deadlines (disarmed n ds) else d ∷ own_deadlines (disarmed n ds)) l ∙ ap (λ xs. d ∷ xs) rest
         ∙ sym (ap (λ (x : Bool). if x then own_deadlines ds else d ∷ disarmed n (own_deadlines ds)) e)
 
-still-open : (x y : Bool) → (if x then false else y) ≡ true → y ≡ true
+pub still-open : (x y : Bool) → (if x then false else y) ≡ true → y ≡ true
 still-open true y h = absurd (let e : false ≡ true = h in cc)
 still-open false y h = h
 

@@ -1,3 +1,4 @@
 pub mod Own
 pub mod Alone
 pub mod Replies
+pub mod Examples
