@@ -1,5 +1,6 @@
 pub mod Owns
 pub mod Saying
+pub mod Places
 pub mod Going
 pub mod Replying
 pub mod Executing
