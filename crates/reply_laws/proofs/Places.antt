@@ -206,13 +206,31 @@ fed-body all piece older kind line.Head held h = absurd h
 fed-body all piece older kind (line.Dropping far) held h = absurd h
 fed-body all piece older kind (line.Over code) held h = absurd h
 
-pub fed-placed : (all piece : List ℕ) (es older : List Exchange) (kind : BodyKind) (at : At) (held : List ℕ) → BodyIn all older kind at held → Placed all es (done (came_at at held))
+-- a request is present, or nothing is read any more
+abbrev pub IsKept : At → Type 0
+IsKept (line.Present body kind skips) = Unit {0}
+IsKept (line.Over code) = Unit {0}
+IsKept at = ⊥
+
+pub body-kept : (all : List ℕ) (older : List Exchange) (kind : BodyKind) (at : At) (held : List ℕ) → BodyIn all older kind at held → IsKept at
+body-kept all older kind (line.Present body k skips) held b = tt
+body-kept all older kind line.Head held b = absurd b
+body-kept all older kind (line.Dropping far) held b = absurd b
+body-kept all older kind (line.Over code) held b = absurd b
+
+pub fed-kept : (at : At) (held piece : List ℕ) → IsKept at → IsKept (fed (came_at at held) piece).after.at
+fed-kept (line.Present body k skips) held piece is = tt
+fed-kept (line.Over code) held piece is = tt
+fed-kept line.Head held piece is = absurd is
+fed-kept (line.Dropping far) held piece is = absurd is
+
+pub fed-placed : (all piece : List ℕ) (es : List Exchange) (at : At) (held : List ℕ) → IsKept at → Placed all es (done (came_at at held))
     → Placed (all ++ piece) es (done (fed (came_at at held) piece).after)
-fed-placed all piece es older kind (line.Present body k skips) held b h =
+fed-placed all piece es (line.Present body k skips) held is h =
     subst (λ (c : Came). Placed (all ++ piece) es c) (sym (drops-on skips held piece)) (settled-placed all piece es (drops skips held) h)
-fed-placed all piece es older kind line.Head held b h = absurd b
-fed-placed all piece es older kind (line.Dropping far) held b h = absurd b
-fed-placed all piece es older kind (line.Over code) held b h = absurd b
+fed-placed all piece es (line.Over code) held is h = λ l later. absurd (let f : true ≡ false = l in cc)
+fed-placed all piece es line.Head held is h = absurd is
+fed-placed all piece es (line.Dropping far) held is h = absurd is
 
 -- it is asked for
 reads-on : (all : List ℕ) (older : List Exchange) (kind : BodyKind) (y : Body) (held : List ℕ) → (is_refused y.state ≡ false → IsReadOf all older kind y held)
@@ -268,16 +286,15 @@ whole-own all older head y held w h later =
     ∙ ap (λ (z : Body). after_bytes z (held ++ later)) (sym x.is) ∙ pieces.settled-stays y.max y.state y.content (held ++ later) (ap is_settled w) in
     record { max = x.max; whole = ap (λ (z : Body). z.state) same ∙ w; is = sym (ap (λ (z : Body). z.content) same) }
 
-pub told-own : (all : List ℕ) (older : List Exchange) (head : heads.Head) (at : At) (held : List ℕ) (max n : ℕ) → BodyIn all older head.body at held → answer_in at held max ≡ read.Whole n
-    → (later : List ℕ) → IsOwnBody (all ++ later) older head (content (asked_at at held max).at)
-told-own all older head (line.Present None k skips) held max n h e =
-    let y = begun k max in
-    whole-own all older head (after_bytes y held) (drop (taken_count y held) held) (whole-at (after_bytes y held).state (used y held) n e) (asked-body all older head.body (line.Present None k skips) held max h)
-told-own all older head (line.Present (Some y) k skips) held max n h e =
-    whole-own all older head (after_bytes y held) (drop (taken_count y held) held) (whole-at (after_bytes y held).state (used y held) n e) (asked-body all older head.body (line.Present (Some y) k skips) held max h)
-told-own all older head line.Head held max n h e = absurd h
-told-own all older head (line.Dropping far) held max n h e = absurd h
-told-own all older head (line.Over code) held max n h e = absurd h
+pub told-own : (all : List ℕ) (older : List Exchange) (head : heads.Head) (at : At) (held : List ℕ) (max n : ℕ) → answer_in at held max ≡ read.Whole n
+    → BodyAt all older head.body (after_asked (came_at at held) max) → (later : List ℕ) → IsOwnBody (all ++ later) older head (content (asked_at at held max).at)
+told-own all older head (line.Present None k skips) held max n e h =
+    let y = begun k max in whole-own all older head (after_bytes y held) (drop (taken_count y held) held) (whole-at (after_bytes y held).state (used y held) n e) h
+told-own all older head (line.Present (Some y) k skips) held max n e h =
+    whole-own all older head (after_bytes y held) (drop (taken_count y held) held) (whole-at (after_bytes y held).state (used y held) n e) h
+told-own all older head line.Head held max n e h = absurd h
+told-own all older head (line.Dropping far) held max n e h = absurd h
+told-own all older head (line.Over code) held max n e h = absurd h
 
 -- the body of a request that came
 pub begun-body : (all : List ℕ) (es : List Exchange) (came after : Came) (piece : List ℕ) (head : heads.Head) (target : Target) → IsFed came piece (out.Request head target) after

@@ -37,7 +37,7 @@ pub trait Minding {
 /// In each execution every request that was asked has the reply that its run gives alone, and every head that was refused its refusal.
 pub fn replies_are_said_alone<S: Minding>()
     ensures { (es : List (LocalAction S.Job)) → IsExecution (connection_behavior S.service) es
-        → HaveOwnReplies S.service (state_of (connection_plan S.service) es).inner.client.exchanges }
+        → HaveOwnReplies es S.service (state_of (connection_plan S.service) es).inner.client.exchanges }
 {}
 
 /// A run that looks at no ledger minds its own; and so do the runs of the examples, but for the one that tells what was sent before.
