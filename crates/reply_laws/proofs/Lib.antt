@@ -4,4 +4,5 @@ pub mod Places
 pub mod Going
 pub mod Replying
 pub mod Executing
+pub mod Said
 pub mod Blind

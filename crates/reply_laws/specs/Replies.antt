@@ -80,3 +80,8 @@ module _ {J : Type 0} (es : List (LocalAction J)) where
     abbrev pub HaveOwnReplies : List Exchange → Type 0
     HaveOwnReplies [] = Unit {0}
     HaveOwnReplies (e ∷ older) = IsOwnReply older e.asked e.reply × HaveOwnReplies older
+
+-- two runs begin alike and learn the same: at the same moments, after as many sockets, and their clients are let send their bodies in both cases or in none
+abbrev pub LearnTheSame : {J R : Type 0} {site : Service J R} {es fs : List (LocalAction J)} {older others : List Exchange} {head : Head} {target : Target} {reply other : List ℕ}
+    → IsSaidAlone es site older head target reply → IsSaidAlone fs site others head target other → Type 0
+LearnTheSame x y = (x.now ≡ y.now) × (x.sockets ≡ y.sockets) × (x.news ≡ y.news) × (x.continues ≡ y.continues)
