@@ -27,7 +27,7 @@ use Rattle.connection.specs.Clients.{Exchange, exchange}
 use Rattle.connection.specs.InStep.{IsInStep}
 use Rattle.connection.proofs.Bodies.{asking-leaves}
 use Rattle.connection.proofs.Readings.{asks_more, dropping-answers}
-use Rattle.reply_laws.specs.Bodies.{after_the_head, after_message, left_after, IsOwnBody}
+use Rattle.reply_laws.specs.Bodies.{after_the_head, after_message, left_after, IsOwnBody, IsOwnFault}
 
 -- after a fault nothing is read
 abbrev is_refused : BodyState → Bool
@@ -184,9 +184,17 @@ pub record IsReadOf (all : List ℕ) (older : List Exchange) (kind : BodyKind) (
   pub is : y ≡ after_bytes (begun kind max) read
   pub follows : (later : List ℕ) → after_the_head (left_after older (all ++ later)) ≡ read ++ (held ++ later)
 
+-- it is refused, whatever comes later
+abbrev pub IsFault : List ℕ → List Exchange → BodyKind → ℕ → Type 0
+IsFault all older kind code = (max : ℕ) × ((later : List ℕ) → (after_bytes (begun kind max) (after_the_head (left_after older (all ++ later)))).state ≡ state.Refused code)
+
+pub record IsSoFar (all : List ℕ) (older : List Exchange) (kind : BodyKind) (y : Body) (held : List ℕ) : Type 0 where
+  pub goes_on : is_refused y.state ≡ false → IsReadOf all older kind y held
+  pub fault : (code : ℕ) → y.state ≡ state.Refused code → IsFault all older kind code
+
 abbrev pub BodyIn : List ℕ → List Exchange → BodyKind → At → List ℕ → Type 0
 BodyIn all older kind (line.Present None k skips) held = (k ≡ kind) × ((later : List ℕ) → after_the_head (left_after older (all ++ later)) ≡ held ++ later)
-BodyIn all older kind (line.Present (Some y) k skips) held = is_refused y.state ≡ false → IsReadOf all older kind y held
+BodyIn all older kind (line.Present (Some y) k skips) held = IsSoFar all older kind y held
 BodyIn all older kind at held = ⊥
 
 abbrev pub BodyAt : List ℕ → List Exchange → BodyKind → Came → Type 0
@@ -201,7 +209,13 @@ more-follows all piece older front held h later =
 pub fed-body : (all piece : List ℕ) (older : List Exchange) (kind : BodyKind) (at : At) (held : List ℕ) → BodyIn all older kind at held
     → BodyAt (all ++ piece) older kind (fed (came_at at held) piece).after
 fed-body all piece older kind (line.Present None k skips) held h = (h.0, more-follows all piece older [] held h.1)
-fed-body all piece older kind (line.Present (Some y) k skips) held h = λ l. let x = h l in record { max = x.max; read = x.read; is = x.is; follows = more-follows all piece older x.read held x.follows }
+fed-body all piece older kind (line.Present (Some y) k skips) held h = record {
+  goes_on = λ l. let x = h.goes_on l in record { max = x.max; read = x.read; is = x.is; follows = more-follows all piece older x.read held x.follows };
+  fault = λ code e. let x = h.fault code e in (
+    x.0,
+    λ later. ap (λ (bs : List ℕ). (after_bytes (begun kind x.0) (after_the_head (left_after older bs))).state) (append_assoc all piece later) ∙ x.1 (piece ++ later),
+  );
+}
 fed-body all piece older kind line.Head held h = absurd h
 fed-body all piece older kind (line.Dropping far) held h = absurd h
 fed-body all piece older kind (line.Over code) held h = absurd h
@@ -250,11 +264,38 @@ reads-on all older kind y held h l =
           ∙ sym (append_assoc x.read (take n held) (drop n held ++ later));
     }
 
+-- where a body that goes on is refused by the bytes that are held
+faults-on : (all : List ℕ) (older : List Exchange) (kind : BodyKind) (y : Body) (held : List ℕ) → IsReadOf all older kind y held → (code : ℕ) → (after_bytes y held).state ≡ state.Refused code
+    → IsFault all older kind code
+faults-on all older kind y held x code e = (x.max, λ later.
+    let z = after_bytes y held in
+    ap (λ (bs : List ℕ). (after_bytes (begun kind x.max) bs).state) (x.follows later)
+    ∙ ap (λ (b : Body). b.state) (sym (pieces.after_bytes-append (begun kind x.max) x.read (held ++ later)) ∙ ap (λ (b : Body). after_bytes b (held ++ later)) (sym x.is)
+    ∙ sym (pieces.after_bytes-append y held later) ∙ pieces.settled-stays z.max z.state z.content later (ap is_settled e))
+    ∙ e)
+
+fault-stays : (all : List ℕ) (older : List Exchange) (kind : BodyKind) (y : Body) (held : List ℕ) → IsSoFar all older kind y held → (code : ℕ) → (after_bytes y held).state ≡ state.Refused code
+    → IsFault all older kind code
+fault-stays all older kind y held h code e = by (is_refused y.state) refl
+  where
+    by : (c : Bool) → is_refused y.state ≡ c → IsFault all older kind code
+    by true r = h.fault code (sym (ap (λ (b : Body). b.state) (pieces.settled-stays y.max y.state y.content held (refused-settled y.state r))) ∙ e)
+    by false r = faults-on all older kind y held (h.goes_on r) code e
+
+so-far-on : (all : List ℕ) (older : List Exchange) (kind : BodyKind) (y : Body) (held : List ℕ) → IsSoFar all older kind y held
+    → IsSoFar all older kind (after_bytes y held) (drop (taken_count y held) held)
+so-far-on all older kind y held h = record { goes_on = reads-on all older kind y held h.goes_on; fault = fault-stays all older kind y held h }
+
 pub asked-body : (all : List ℕ) (older : List Exchange) (kind : BodyKind) (at : At) (held : List ℕ) (max : ℕ) → BodyIn all older kind at held
     → BodyAt all older kind (after_asked (came_at at held) max)
 asked-body all older kind (line.Present None k skips) held max h =
-    reads-on all older kind (begun k max) held (λ l. record { max = max; read = []; is = ap (λ (x : BodyKind). begun x max) h.0; follows = h.1 })
-asked-body all older kind (line.Present (Some y) k skips) held max h = reads-on all older kind y held h
+    let read : IsReadOf all older kind (begun k max) held = record { max = max; read = []; is = ap (λ (x : BodyKind). begun x max) h.0; follows = h.1 } in
+    so-far-on all older kind (begun k max) held (record {
+      goes_on = λ l. read;
+      fault = λ code e. faults-on all older kind (begun k max) held read code
+          (ap (λ (b : Body). b.state) (pieces.settled-stays max (begun_state k max) [] held (ap is_settled e)) ∙ e);
+    })
+asked-body all older kind (line.Present (Some y) k skips) held max h = so-far-on all older kind y held h
 asked-body all older kind line.Head held max h = absurd h
 asked-body all older kind (line.Dropping far) held max h = absurd h
 asked-body all older kind (line.Over code) held max h = absurd h
@@ -277,10 +318,10 @@ whole-at (state.Trailers k) count n h = absurd (let e : read.More ≡ read.Whole
 whole-at (state.TrailersReturn k) count n h = absurd (let e : read.More ≡ read.Whole n = h in cc)
 whole-at (state.TrailersLine k) count n h = absurd (let e : read.More ≡ read.Whole n = h in cc)
 
-whole-own : (all : List ℕ) (older : List Exchange) (head : heads.Head) (y : Body) (held : List ℕ) → y.state ≡ state.Whole → (is_refused y.state ≡ false → IsReadOf all older head.body y held)
+whole-own : (all : List ℕ) (older : List Exchange) (head : heads.Head) (y : Body) (held : List ℕ) → y.state ≡ state.Whole → IsSoFar all older head.body y held
     → (later : List ℕ) → IsOwnBody (all ++ later) older head y.content
 whole-own all older head y held w h later =
-    let x = h (ap is_refused w) in
+    let x = h.goes_on (ap is_refused w) in
     let same : after_bytes (begun head.body x.max) (after_the_head (left_after older (all ++ later))) ≡ y =
     ap (after_bytes (begun head.body x.max)) (x.follows later) ∙ sym (pieces.after_bytes-append (begun head.body x.max) x.read (held ++ later))
     ∙ ap (λ (z : Body). after_bytes z (held ++ later)) (sym x.is) ∙ pieces.settled-stays y.max y.state y.content (held ++ later) (ap is_settled w) in
@@ -295,6 +336,33 @@ told-own all older head (line.Present (Some y) k skips) held max n e h =
 told-own all older head line.Head held max n e h = absurd h
 told-own all older head (line.Dropping far) held max n e h = absurd h
 told-own all older head (line.Over code) held max n e h = absurd h
+
+-- and it is refused
+refused-at : (far : BodyState) (count code : ℕ) → answer_at far count ≡ read.Refused code → far ≡ state.Refused code
+refused-at (state.Refused was) count code h = ap state.Refused (let e : was ≡ code = (let f : read.Refused was ≡ read.Refused code = h in cc) in e)
+refused-at state.Whole count code h = absurd (let e : read.Whole count ≡ read.Refused code = h in cc)
+refused-at (state.Data more of) count code h = absurd (let e : read.More ≡ read.Refused code = h in cc)
+refused-at (state.Digits size k) count code h = absurd (let e : read.More ≡ read.Refused code = h in cc)
+refused-at (state.Blanks size k) count code h = absurd (let e : read.More ≡ read.Refused code = h in cc)
+refused-at (state.Extension size k) count code h = absurd (let e : read.More ≡ read.Refused code = h in cc)
+refused-at (state.Return size k) count code h = absurd (let e : read.More ≡ read.Refused code = h in cc)
+refused-at state.DataEnd count code h = absurd (let e : read.More ≡ read.Refused code = h in cc)
+refused-at state.DataReturn count code h = absurd (let e : read.More ≡ read.Refused code = h in cc)
+refused-at (state.Trailers k) count code h = absurd (let e : read.More ≡ read.Refused code = h in cc)
+refused-at (state.TrailersReturn k) count code h = absurd (let e : read.More ≡ read.Refused code = h in cc)
+refused-at (state.TrailersLine k) count code h = absurd (let e : read.More ≡ read.Refused code = h in cc)
+
+fault-own : (all : List ℕ) (older : List Exchange) (head : heads.Head) (code : ℕ) → IsFault all older head.body code → (later : List ℕ) → IsOwnFault (all ++ later) older head code
+fault-own all older head code h later = (h.0, h.1 later)
+
+pub told-fault : (all : List ℕ) (older : List Exchange) (head : heads.Head) (at : At) (held : List ℕ) (max code : ℕ) → answer_in at held max ≡ read.Refused code
+    → BodyAt all older head.body (after_asked (came_at at held) max) → (later : List ℕ) → IsOwnFault (all ++ later) older head code
+told-fault all older head (line.Present None k skips) held max code e h =
+    let y = begun k max in fault-own all older head code (h.fault code (refused-at (after_bytes y held).state (used y held) code e))
+told-fault all older head (line.Present (Some y) k skips) held max code e h = fault-own all older head code (h.fault code (refused-at (after_bytes y held).state (used y held) code e))
+told-fault all older head line.Head held max code e h = absurd h
+told-fault all older head (line.Dropping far) held max code e h = absurd h
+told-fault all older head (line.Over status) held max code e h = absurd h
 
 -- the body of a request that came
 pub begun-body : (all : List ℕ) (es : List Exchange) (came after : Came) (piece : List ℕ) (head : heads.Head) (target : Target) → IsFed came piece (out.Request head target) after

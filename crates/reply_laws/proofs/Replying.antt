@@ -1,5 +1,5 @@
 -- Whatever comes to a connection, every reply stays its run's own.
-use Rattle.std.proofs.Common.{◌≡◌, ℕ, zero, suc, ◌≤◌, ◌&&◌, ◌||◌, Bool, true, false, List, [], ◌∷◌, ◌++◌, take, drop, length, Some, None, if◌then◌else◌, refl, sym, ap, ◌∙◌, subst, arith, take-append-drop, append_assoc, append-nil}
+use Rattle.std.proofs.Common.{inl, inr, ◌≡◌, ℕ, zero, suc, ◌≤◌, ◌&&◌, ◌||◌, Bool, true, false, List, [], ◌∷◌, ◌++◌, take, drop, length, Some, None, if◌then◌else◌, refl, sym, ap, ◌∙◌, subst, arith, take-append-drop, append_assoc, append-nil}
 use Rattle.std.proofs.Math.Seq.{take-append_seam}
 use Rattle.std.specs.Prelude.{not}
 use Rattle.uri_args.specs.declared.targets.Target.{Target}
@@ -62,9 +62,9 @@ use Rattle.connection.proofs.Prefixes.{went, await_body-precedes}
 use Rattle.connection.proofs.GoingOn.{LeavesAt, await_body-leaves, says-came}
 use Rattle.reply_laws.specs.Own.{SameOwn, MindsItsOwn}
 use Rattle.reply_laws.specs.Alone.{News, Seen, Given, own_ledger, alone}
-use Rattle.reply_laws.specs.Bodies.{IsOwnBody}
+use Rattle.reply_laws.specs.Bodies.{IsOwnBody, IsOwnFault}
 use Rattle.reply_laws.specs.Replies.{Happened, IsMoment, IsNews}
-use Rattle.reply_laws.proofs.Places.{Placed, BodyAt, IsKept, body-kept, settled-placed, begun-placed, begun-body, waits-placed, fed-body, fed-kept, fed-placed, asked-body, asked-placed, told-own}
+use Rattle.reply_laws.proofs.Places.{Placed, BodyAt, IsKept, body-kept, settled-placed, begun-placed, begun-body, waits-placed, fed-body, fed-kept, fed-placed, asked-body, asked-placed, told-own, told-fault}
 use Rattle.reply_laws.proofs.Owns.{same-alike, blank-same, run-same, due-same, bytes-same, ended-same, broken-same, dialled-same, refused-same, ready-same, later-same, lost-same, took-same, dial-same, take-same, keep-same, dict-same, timer-same}
 use Rattle.reply_laws.proofs.Saying.{IsSaid, await-from}
 use Rattle.reply_laws.proofs.Going.{LineAt, Own, GoesWith, Goes, Good, Fine, good-idle, good-gone, good-alike, said-own, Takes, turn-good, tell-good, answer-good}
@@ -338,7 +338,7 @@ module _ {J R : Type 0} (site : Service J R) (now : ℕ) (es : List (LocalAction
 
       waiting : (c : Bool) → Sound (perform (tell_body site now again (if c then None else Some (seen.BodyRefused 400))) b s).state
       waiting true = h
-      waiting false = told (seen.BodyRefused 400) (λ d n. (n, waits)) (λ d. refl) (λ d g later. here later)
+      waiting false = told (seen.BodyRefused 400) (λ d n. (n, waits)) (λ d. refl) (λ d g later. (here later, inr refl))
 
       own : (n : ℕ) → body_answer c.came c.limit ≡ body.Whole n → (d : Ledger J) → Learned (Seen now (seen.Body (content (after_asked c.came c.limit).at) c.waited)) d s
       own n e d g later = (
@@ -347,9 +347,16 @@ module _ {J R : Type 0} (site : Service J R) (now : ℕ) (es : List (LocalAction
             (told-own (bytes_of es) g.older g.task.head c.came.at c.came.held c.limit n e (subst (λ (x : Came). BodyAt (bytes_of es) g.older g.task.head.body x) came g.with_it.body) (bytes_of later)),
       )
 
+      fault : (code : ℕ) → body_answer c.came c.limit ≡ body.Refused code → (d : Ledger J) → Learned (Seen now (seen.BodyRefused code)) d s
+      fault code e d g later = (
+        here later,
+        inl (subst (λ (bs : List ℕ). IsOwnFault bs g.older g.task.head code) (sym (bytes-append later es))
+            (told-fault (bytes_of es) g.older g.task.head c.came.at c.came.held c.limit code e (subst (λ (x : Came). BodyAt (bytes_of es) g.older g.task.head.body x) came g.with_it.body) (bytes_of later))),
+      )
+
       by : (a : BodyRead) → body_answer c.came c.limit ≡ a → Sound (perform (tell_body site now again (body_told may c a)) b s).state
       by (body.Whole n) e = told _ (λ d k. (k, waits)) (λ d. refl) (own n e)
-      by (body.Refused code) e = told (seen.BodyRefused code) (λ d n. (n, waits)) (λ d. refl) (λ d g later. here later)
+      by (body.Refused code) e = told (seen.BodyRefused code) (λ d n. (n, waits)) (λ d. refl) (fault code e)
       by body.More e = waiting may
       by body.Memory e = waiting may
 

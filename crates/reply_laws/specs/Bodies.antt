@@ -28,3 +28,7 @@ pub record IsOwnBody (all : List ℕ) (older : List Exchange) (head : Head) (con
   pub max : ℕ
   pub whole : (body head.body (after_the_head (left_after older all)) max).state ≡ state.Whole
   pub is : content ≡ (body head.body (after_the_head (left_after older all)) max).content
+
+-- that body is refused with a status, under some limit
+abbrev pub IsOwnFault : List ℕ → List Exchange → Head → ℕ → Type 0
+IsOwnFault all older head code = (max : ℕ) × ((body head.body (after_the_head (left_after older all)) max).state ≡ state.Refused code)

@@ -1,5 +1,5 @@
 -- What the replies of a connection are.
-use Rattle.std.specs.Prelude.{◌≡◌, ℕ, Bool, true, List, [], ◌∷◌, ◌++◌, length, Option, Some, None}
+use Rattle.std.specs.Prelude.{◌≡◌, ◌⊎◌, ℕ, Bool, true, List, [], ◌∷◌, ◌++◌, length, Option, Some, None}
 use Rattle.uri_args.specs.declared.targets.Target.{Target}
 use Rattle.http_in.specs.declared.heads.Head.{Head}
 use Rattle.client_line.specs.declared.requests.LineOut.{LineOut}
@@ -14,7 +14,7 @@ use Rattle.connection.specs.Asked.{bytes_of}
 use Rattle.connection.specs.Clients.{Exchange}
 use Rattle.connection.specs.Services.{Service}
 use Rattle.reply_laws.specs.Alone.{Task, News, Seen, Given, reply_alone}
-use Rattle.reply_laws.specs.Bodies.{IsOwnBody}
+use Rattle.reply_laws.specs.Bodies.{IsOwnBody, IsOwnFault}
 
 -- what an action tells a run by itself
 abbrev pub told_by : {J : Type 0} → LocalAction J → Option RunSeen
@@ -43,11 +43,11 @@ module _ {J : Type 0} (es : List (LocalAction J)) where
   abbrev pub IsMoment : ℕ → Type 0
   IsMoment now = (a : LocalAction J) × Happened now a
 
-  -- What happened bears out the news of a run with this head, after these exchanges: a body is the request's own, and while there is news the client is
-  -- there.
+  -- What happened bears out the news of a run with this head, after these exchanges: a body is the request's own, and so is a fault in it, but for 400 where
+  -- the client sends no more; while there is news the client is there.
   abbrev pub IsNews : List Exchange → Head → News J → Type 0
   IsNews older head (Seen now (seen.Body content waited)) = IsMoment now × IsOwnBody (bytes_of es) older head content
-  IsNews older head (Seen now (seen.BodyRefused code)) = IsMoment now
+  IsNews older head (Seen now (seen.BodyRefused code)) = IsMoment now × (IsOwnFault (bytes_of es) older head code ⊎ (code ≡ 400))
   IsNews older head (Seen now seen.AllTaken) = IsMoment now
   IsNews older head (Seen now seen.ClientGone) = ⊥
   IsNews older head (Seen now s) = (a : LocalAction J) × Happened now a × (told_by a ≡ Some s)
