@@ -16,14 +16,15 @@ use Rattle.moves.specs.Ledgers.{entered}
 use Rattle.connection.specs.Connections.{connection_plan, connection_behavior}
 use Rattle.connection.specs.Conditions.{Knows, MayAsk}
 use Rattle.connection.specs.Asked.{bytes_of}
-use Rattle.connection.specs.Clients.{Exchange}
+use Rattle.connection.specs.Clients.{Stage, Exchange}
+use Rattle.connection.specs.Clients as stage
 use Rattle.connection.proofs.Alike.{still-alike}
 use Rattle.connection.proofs.Lifted.{state}
 use Rattle.moves.specs.Moves.{State}
 use Rattle.connection.proofs.Meets.{meets}
 use Rattle.reply_laws.specs.Own.{MindsItsOwn}
-use Rattle.reply_laws.specs.Replies.{Happened, IsMoment, AreNews, HaveOwnReplies}
-use Rattle.reply_laws.proofs.Going.{Own, Good, good-gone, good-alike}
+use Rattle.reply_laws.specs.Replies.{Happened, IsMoment, AreNews, HaveWholeReplies, HaveOwnReplies}
+use Rattle.reply_laws.proofs.Going.{LineAt, Own, Whole, Good, good-gone, good-alike}
 use Rattle.reply_laws.proofs.Replying.{is_first, bytes-come, step-good}
 
 module _ {J R : Type 0} (site : Service J R) (holds : Ledger J → R → Type 0) (run : IsRun site.runs holds) (minds : MindsItsOwn site.runs) where
@@ -50,7 +51,7 @@ module _ {J R : Type 0} (site : Service J R) (holds : Ledger J → R → Type 0)
       news = g.news;
       older = g.older;
       with_it = record {
-        olds = owns g.older g.with_it.olds;
+        olds = wholes g.older g.with_it.olds;
         begun = λ later. subst (λ xs. IsMoment xs g.task.now) (more later) (g.with_it.begun (later ++ a ∷ []));
         happened = λ later. subst (λ xs. AreNews xs g.older g.task.head g.news) (more later) (g.with_it.happened (later ++ a ∷ []));
         step = g.with_it.step;
@@ -62,11 +63,22 @@ module _ {J R : Type 0} (site : Service J R) (holds : Ledger J → R → Type 0)
       over = g.over;
       says = g.says;
     };
-    line = h.line;
+    line = λ there. line_by st.inner.client.stage (h.line there);
   }
     where
       more : (later : List (LocalAction J)) → (later ++ a ∷ []) ++ es ≡ later ++ a ∷ es
       more later = append_assoc later (a ∷ []) es
+
+      wholes : (xs : List Exchange) → Whole site es all xs → Whole site (a ∷ es) all xs
+      wholes xs h later = subst (λ ys. HaveWholeReplies ys site xs) (more later) (h (later ++ a ∷ []))
+
+      line_by : (at : Stage) → LineAt site es all at st.inner.client → LineAt site (a ∷ es) all at st.inner.client
+      line_by stage.Flush l = (l.0, l.1, l.2, λ e. wholes st.inner.client.exchanges (l.3 e))
+      line_by stage.Idle l = (l.0, l.1, wholes st.inner.client.exchanges l.2)
+      line_by stage.Head l = (l.0, l.1, wholes st.inner.client.exchanges l.2)
+      line_by stage.Drop l = (l.0, l.1, wholes st.inner.client.exchanges l.2)
+      line_by stage.Busy l = tt
+      line_by stage.Over l = tt
 
       owns : (xs : List Exchange) → Own site es all xs → Own site (a ∷ es) all xs
       owns xs h later = subst (λ ys. HaveOwnReplies ys site xs) (more later) (h (later ++ a ∷ []))

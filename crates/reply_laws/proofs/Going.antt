@@ -2,6 +2,7 @@
 use Rattle.std.proofs.Common.{◌≡◌, ℕ, Bool, true, false, List, [], ◌∷◌, ◌++◌, Option, Some, None, if◌then◌else◌, refl, sym, ap, ◌∙◌, subst, append_assoc}
 use Rattle.std.specs.Prelude.{◌&&◌}
 use Rattle.http_in.specs.declared.heads.Head as http
+use Rattle.client_line.specs.declared.requests.LineOut.{LineOut}
 use Rattle.client_line.specs.declared.requests.LineOut.TheVariants as out
 use Rattle.client_line.specs.Records.{At, Came}
 use Rattle.client_line.specs.Lines.{done}
@@ -16,7 +17,7 @@ use Rattle.run_contract.specs.Runs.{Turn, Waits, performed, says_over, waits_tol
 use Rattle.run_contract.specs.Alike.{AreAlike}
 use Rattle.run_contract.specs.Forms.{IsOwn}
 use Rattle.run_contract.specs.Conditions.{IsRun, MayCome, Leaves, entered_as}
-use Rattle.connection.specs.Clients.{Stage, Client, Exchange, exchange}
+use Rattle.connection.specs.Clients.{Stage, Client, Exchange, exchange, closes_after}
 use Rattle.connection.specs.Clients as stage
 use Rattle.connection.specs.Services.{Service, Both}
 use Rattle.connection.specs.Turns.{is_there, says, run_turn, tell}
@@ -29,8 +30,8 @@ use Rattle.connection.proofs.RunTurns.{within, then_asked, turn-goes-on, turn-pr
 use Rattle.connection.proofs.GoingOn.{LeavesAt, says-leaves, says-came, turn-leaves}
 use Rattle.connection.proofs.OwnMoves.{own-leaves-client}
 use Rattle.reply_laws.specs.Own.{SameOwn, SameTurn, MindsItsOwn}
-use Rattle.reply_laws.specs.Alone.{Task, News, Seen, Given, Alone, alone, after_turn}
-use Rattle.reply_laws.specs.Replies.{IsMoment, IsNews, AreNews, HaveOwnReplies}
+use Rattle.reply_laws.specs.Alone.{Task, News, Seen, Given, Alone, alone, after_turn, bytes_said, let_first}
+use Rattle.reply_laws.specs.Replies.{IsMoment, IsNews, AreNews, IsSaidAlone, IsOwnReply, IsWholeReply, HaveWholeReplies, HaveOwnReplies}
 use Rattle.reply_laws.proofs.Owns.{same-alike, same-asking}
 use Rattle.reply_laws.proofs.Places.{Placed, BodyAt, IsKept, body-kept}
 use Rattle.reply_laws.proofs.Saying.{Says, right-of, over-append, says-there, IsSaid, IsUnsaid, says-gone}
@@ -42,19 +43,22 @@ busy-said words st e = by (says_over words) refl
     by true h = absurd (let f : stage.Flush ≡ stage.Busy = sym (ap (λ (x : Bool). if x then stage.Flush else st) h) ∙ e in cc)
     by false h = refl
 
--- what is read next of all bytes that came, where no run goes on
-abbrev pub LineAt : List ℕ → Stage → Client → Type 0
-LineAt all stage.Flush c = IsInStep c.came.at × IsKept c.came.at × Placed all c.exchanges (done c.came)
-LineAt all stage.Idle c = IsInStep c.came.at × Placed all c.exchanges c.came
-LineAt all stage.Head c = IsInStep c.came.at × Placed all c.exchanges c.came
-LineAt all stage.Drop c = IsInStep c.came.at × Placed all c.exchanges c.came
-LineAt all st c = Unit {0}
-
 -- all bytes that came, and what happened
 module _ {J R : Type 0} (site : Service J R) (es : List (LocalAction J)) (all : List ℕ) where
   -- whatever happens later
   abbrev pub Own : List Exchange → Type 0
   Own xs = (later : List (LocalAction J)) → HaveOwnReplies (later ++ es) site xs
+
+  abbrev pub Whole : List Exchange → Type 0
+  Whole xs = (later : List (LocalAction J)) → HaveWholeReplies (later ++ es) site xs
+
+  -- Where no run goes on: what is read next of all bytes that came, and that the replies are whole where it is a request.
+  abbrev pub LineAt : Stage → Client → Type 0
+  LineAt stage.Flush c = IsInStep c.came.at × IsKept c.came.at × Placed all c.exchanges (done c.came) × (closes_after c.reply ≡ false → Whole c.exchanges)
+  LineAt stage.Idle c = IsInStep c.came.at × Placed all c.exchanges c.came × Whole c.exchanges
+  LineAt stage.Head c = IsInStep c.came.at × Placed all c.exchanges c.came × Whole c.exchanges
+  LineAt stage.Drop c = IsInStep c.came.at × Placed all c.exchanges c.came × Whole c.exchanges
+  LineAt st c = Unit {0}
 
   abbrev pub WasMoment : ℕ → Type 0
   WasMoment now = (later : List (LocalAction J)) → IsMoment (later ++ es) now
@@ -64,7 +68,7 @@ module _ {J R : Type 0} (site : Service J R) (es : List (LocalAction J)) (all : 
 
   -- what is known of a request while its run goes on
   pub record GoesWith (task : Task) (news : List (News J)) (older : List Exchange) (came : Came) : Type 0 where
-    pub olds : Own older
+    pub olds : Whole older
     pub begun : WasMoment task.now
     pub happened : WereNews older task.head news
     pub step : IsInStep came.at
@@ -86,10 +90,10 @@ module _ {J R : Type 0} (site : Service J R) (es : List (LocalAction J)) (all : 
   pub record Good (st : State J (Both R)) : Type 0 where
     pub replies : Own st.inner.client.exchanges
     pub goes : st.inner.client.stage ≡ stage.Busy → is_there st.ledger ≡ true → Goes st
-    pub line : is_there st.ledger ≡ true → LineAt all st.inner.client.stage st.inner.client
+    pub line : is_there st.ledger ≡ true → LineAt st.inner.client.stage st.inner.client
 
   -- where no run goes on
-  pub good-idle : (st : State J (Both R)) → (st.inner.client.stage ≡ stage.Busy → ⊥) → Own st.inner.client.exchanges → LineAt all st.inner.client.stage st.inner.client → Good st
+  pub good-idle : (st : State J (Both R)) → (st.inner.client.stage ≡ stage.Busy → ⊥) → Own st.inner.client.exchanges → LineAt st.inner.client.stage st.inner.client → Good st
   good-idle st idle h line = record { replies = h; goes = λ e there. absurd (idle e); line = λ there. line }
 
   -- where the client is gone
@@ -116,19 +120,41 @@ module _ {J R : Type 0} (site : Service J R) (es : List (LocalAction J)) (all : 
     line = λ there. h.line there;
   }
 
-  -- the newest reply is own with the others
-  pub said-own : (task : Task) (news : List (News J)) (older : List Exchange) (came : Came) (c : Client) → GoesWith task news older came
-      → Says task.head task.target older (alone site.runs task news).said c → Own c.exchanges
-  said-own task news older came c g h = λ later. subst (HaveOwnReplies (later ++ es) site) (sym h.newest) (record {
-    now = task.now;
-    sockets = task.sockets;
+  -- the newest reply, as it is said alone
+  abbrev newest-said : (task : Task) (news : List (News J)) (older : List Exchange) (came : Came) (c : Client) → GoesWith task news older came
+      → Says task.head task.target older (alone site.runs task news).said c
+      → (later : List (LocalAction J)) → IsSaidAlone (later ++ es) site older task.head task.target (let_first (c.waited && c.expects) ++ bytes_said (alone site.runs task news).said)
+  newest-said task news older came c g h later = record {
+    task = task;
     news = news;
     continues = c.waited && c.expects;
+    asked = (refl, refl);
     begun = g.begun later;
     happened = g.happened later;
     awaited = λ e. sym h.expects ∙ right-of c.waited c.expects e;
     said = refl;
-  }, g.olds later)
+  }
+
+  -- it is own with the others
+  pub said-own : (task : Task) (news : List (News J)) (older : List Exchange) (came : Came) (c : Client) → GoesWith task news older came
+      → Says task.head task.target older (alone site.runs task news).said c → Own c.exchanges
+  said-own task news older came c g h = λ later. subst (HaveOwnReplies (later ++ es) site) (sym h.newest) (newest-said task news older came c g h later, g.olds later)
+
+  -- and whole, where nothing of the run is left
+  pub said-whole : (task : Task) (news : List (News J)) (older : List Exchange) (came : Came) (c : Client) → GoesWith task news older came
+      → Says task.head task.target older (alone site.runs task news).said c → says_over (alone site.runs task news).said ≡ true → Whole c.exchanges
+  said-whole task news older came c g h over = λ later. subst (HaveWholeReplies (later ++ es) site) (sym h.newest) ((newest-said task news older came c g h later, over), g.olds later)
+
+  own-of : (later : List (LocalAction J)) (asked : LineOut) (reply : List ℕ) (older : List Exchange) → IsWholeReply (later ++ es) site older asked reply → IsOwnReply (later ++ es) site older asked reply
+  own-of later (out.Request head target) reply older x = x.0
+  own-of later (out.Refused code) reply older x = absurd x
+  own-of later out.Waiting reply older x = absurd x
+  own-of later out.Memory reply older x = absurd x
+
+  -- whole replies are own
+  pub whole-owns : (xs : List Exchange) → Whole xs → Own xs
+  whole-owns [] h later = tt
+  whole-owns (e ∷ xs) h later = let x = h later in (own-of later e.asked e.reply xs x.0, x.1)
 
   -- a turn, and the same turn of the run alone
   pub record Takes (t : Turn J R) (b : Ledger J) (s : Both R) : Type 0 where
@@ -160,7 +186,7 @@ module _ {J R : Type 0} (site : Service J R) (now : ℕ) (es : List (LocalAction
       over = ap says_over all_said ∙ over-append x.words t.said x.over ∙ busy-said t.said s.client.stage (sym follows.stage ∙ e);
       says = says_all;
     };
-    line = λ k. subst (λ (st : Stage). LineAt all st d.inner.client) (sym (follows.stage ∙ ap (stage_said t.said) at)) (line_by (says_over t.said));
+    line = λ k. subst (λ (st : Stage). LineAt site es all st d.inner.client) (sym (follows.stage ∙ ap (stage_said t.said) at)) (line_by (says_over t.said) refl);
   }
     where
       u : Both R
@@ -182,14 +208,17 @@ module _ {J R : Type 0} (site : Service J R) (now : ℕ) (es : List (LocalAction
       follows : LeavesAt site now (stage_said t.said s.client.stage) (says site now t.said) l u
       follows = says-leaves site now t.said l u
 
-      flushes : LineAt all stage.Flush d.inner.client
-      flushes = subst (λ (xs : List Exchange). IsInStep d.inner.client.came.at × IsKept d.inner.client.came.at × Placed all xs (done d.inner.client.came)) (sym says_all.newest)
-          (subst (λ (c : Came). IsInStep c.at × IsKept c.at × Placed all (exchange (out.Request x.task.head x.task.target) [] ∷ x.older) (done c)) (sym came)
-          (x.with_it.step, body-kept all x.older x.task.head.body s.client.came.at s.client.came.held x.with_it.body, x.with_it.placed))
+      flushes : says_over t.said ≡ true → LineAt site es all stage.Flush d.inner.client
+      flushes o =
+          let placed = subst (λ (xs : List Exchange). IsInStep d.inner.client.came.at × IsKept d.inner.client.came.at × Placed all xs (done d.inner.client.came)) (sym says_all.newest)
+              (subst (λ (c : Came). IsInStep c.at × IsKept c.at × Placed all (exchange (out.Request x.task.head x.task.target) [] ∷ x.older) (done c)) (sym came)
+              (x.with_it.step, body-kept all x.older x.task.head.body s.client.came.at s.client.came.held x.with_it.body, x.with_it.placed)) in
+          (placed.0, placed.1, placed.2, λ e. said-whole site es all x.task x.news x.older s.client.came d.inner.client x.with_it says_all
+              (ap says_over all_said ∙ over-append x.words t.said x.over ∙ o))
 
-      line_by : (c : Bool) → LineAt all (if c then stage.Flush else stage.Busy) d.inner.client
-      line_by true = flushes
-      line_by false = tt
+      line_by : (c : Bool) → says_over t.said ≡ c → LineAt site es all (if c then stage.Flush else stage.Busy) d.inner.client
+      line_by true o = flushes o
+      line_by false o = tt
 
   gone-good : (t : Turn J R) (b l : Ledger J) (s : Both R) → Own site es all s.client.exchanges → is_there l ≡ false
       → Good site es all (perform (says site now t.said Done) l (record { client = s.client; run = (performed t b s.run).state.inner })).state

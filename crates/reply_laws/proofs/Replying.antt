@@ -44,7 +44,7 @@ use Rattle.run_contract.specs.Runs.{waits_at_first}
 use Rattle.run_contract.specs.Alike.{AreAlike}
 use Rattle.run_contract.specs.Conditions.{IsBlank, IsRun, MayCome, entered_as}
 use Rattle.run_contract.specs.StoredLaws.{not-below}
-use Rattle.connection.specs.Clients.{Stage, Client, Exchange, exchange, Whole, with_more, with_request, with_refusal, closes_after}
+use Rattle.connection.specs.Clients.{Stage, Client, Exchange, exchange, with_more, with_request, with_refusal, closes_after}
 use Rattle.connection.specs.Clients as stage
 use Rattle.connection.specs.Services.{Service, Both}
 use Rattle.connection.specs.Timers.{number_of, time_of, later}
@@ -67,7 +67,7 @@ use Rattle.reply_laws.specs.Replies.{Happened, IsMoment, IsNews}
 use Rattle.reply_laws.proofs.Places.{Placed, BodyAt, IsKept, body-kept, settled-placed, begun-placed, begun-body, waits-placed, fed-body, fed-kept, fed-placed, asked-body, asked-placed, told-own, told-fault}
 use Rattle.reply_laws.proofs.Owns.{same-alike, blank-same, run-same, due-same, bytes-same, ended-same, broken-same, dialled-same, refused-same, ready-same, later-same, lost-same, took-same, dial-same, take-same, keep-same, dict-same, timer-same}
 use Rattle.reply_laws.proofs.Saying.{IsSaid, await-from}
-use Rattle.reply_laws.proofs.Going.{LineAt, Own, GoesWith, Goes, Good, Fine, good-idle, good-gone, good-alike, said-own, Takes, turn-good, tell-good, answer-good}
+use Rattle.reply_laws.proofs.Going.{LineAt, Own, Whole, whole-owns, GoesWith, Goes, Good, Fine, good-idle, good-gone, good-alike, said-own, Takes, turn-good, tell-good, answer-good}
 
 -- the bytes that a place took are the first of what was left
 taken-are : (bytes left : List ℕ) (m : ℕ) → IsPrefixOf bytes (take m left) → take (length bytes) left ≡ bytes
@@ -115,11 +115,18 @@ neither-left : (a b : Bool) → (not a || b) ≡ false → a ≡ true
 neither-left true b h = refl
 neither-left false b h = absurd (let e : true ≡ false = h in cc)
 
+neither-right : (a b : Bool) → (not a || b) ≡ false → b ≡ false
+neither-right true b h = h
+neither-right false b h = absurd (let e : true ≡ false = h in cc)
+
 -- This is the newest action of an execution, and with it these happened.
 module _ {J R : Type 0} (site : Service J R) (now : ℕ) (es : List (LocalAction J)) (holds : Ledger J → R → Type 0) (run : IsRun site.runs holds) (minds : MindsItsOwn site.runs)
     (here : (later : List (LocalAction J)) → IsMoment (later ++ es) now) where
   abbrev Sound : State J (Both R) → Type 0
   Sound st = Good site es (bytes_of es) st
+
+  abbrev Wholes : List Exchange → Type 0
+  Wholes xs = Whole site es (bytes_of es) xs
 
   abbrev Owns : List Exchange → Type 0
   Owns xs = Own site es (bytes_of es) xs
@@ -127,7 +134,7 @@ module _ {J R : Type 0} (site : Service J R) (now : ℕ) (es : List (LocalAction
   abbrev Keeps : Move J (Both R) → Type 0
   Keeps m = Fine site now es (bytes_of es) holds run m
 
-  idle-at : (b : Ledger J) (s : Both R) → IsIdle s.client.stage → Owns s.client.exchanges → LineAt (bytes_of es) s.client.stage s.client → Sound (state b s)
+  idle-at : (b : Ledger J) (s : Both R) → IsIdle s.client.stage → Owns s.client.exchanges → LineAt site es (bytes_of es) s.client.stage s.client → Sound (state b s)
   idle-at b s h own line = good-idle site es (bytes_of es) (state b s) (not-busy s.client.stage h) own line
 
   -- what it learns did happen
@@ -199,7 +206,7 @@ module _ {J R : Type 0} (site : Service J R) (now : ℕ) (es : List (LocalAction
 
   -- ---- requests in turn
 
-  begin-good : (rest : Move J (Both R)) (head : Head) (target : Target) (b : Ledger J) (s : Both R) → Keeps rest → IsBlank b → is_there b ≡ true → Owns s.client.exchanges
+  begin-good : (rest : Move J (Both R)) (head : Head) (target : Target) (b : Ledger J) (s : Both R) → Keeps rest → IsBlank b → is_there b ≡ true → Wholes s.client.exchanges
       → IsInStep s.client.came.at → Placed (bytes_of es) (exchange (out.Request head target) [] ∷ s.client.exchanges) (done s.client.came)
       → BodyAt (bytes_of es) s.client.exchanges head.body s.client.came
       → Sound (perform (begin site now rest head target) b s).state
@@ -225,7 +232,7 @@ module _ {J R : Type 0} (site : Service J R) (now : ℕ) (es : List (LocalAction
         says = record { newest = refl; unsent = λ e. refl; expects = refl };
       }
 
-  closing-good : (b : Ledger J) (s : Both R) → IsIdle s.client.stage → Owns s.client.exchanges → LineAt (bytes_of es) s.client.stage s.client → Sound (perform (close_if_taken site now) b s).state
+  closing-good : (b : Ledger J) (s : Both R) → IsIdle s.client.stage → Owns s.client.exchanges → LineAt site es (bytes_of es) s.client.stage s.client → Sound (perform (close_if_taken site now) b s).state
   closing-good b s idle own line = by (is_all_taken b)
     where
       by : (c : Bool) → Sound (perform (if c then finish else Done) b s).state
@@ -233,14 +240,15 @@ module _ {J R : Type 0} (site : Service J R) (now : ℕ) (es : List (LocalAction
       by false = idle-at b s idle own line
 
   -- nothing more is read
-  over-line : (status : ℕ) (c : Client) → c.came.at ≡ line.Over status → LineAt (bytes_of es) stage.Flush c
-  over-line status c e = (
+  over-line : (status : ℕ) (c : Client) → c.came.at ≡ line.Over status → closes_after c.reply ≡ true → LineAt site es (bytes_of es) stage.Flush c
+  over-line status c e closes = (
     subst IsInStep (sym e) tt,
     subst IsKept (sym e) tt,
     subst (λ (at : At). Placed (bytes_of es) c.exchanges (done (record { at = at; held = c.came.held }))) (sym e) (λ l later. absurd (let f : true ≡ false = l in cc)),
+    λ f. absurd (let g : true ≡ false = sym closes ∙ f in cc),
   )
 
-  refuse-good : (at : At) (code : ℕ) (b : Ledger J) (s : Both R) → s.client.came.at ≡ at → is_there b ≡ true → Owns s.client.exchanges → Sound (perform (refuse site now at code) b s).state
+  refuse-good : (at : At) (code : ℕ) (b : Ledger J) (s : Both R) → s.client.came.at ≡ at → is_there b ≡ true → Wholes s.client.exchanges → Sound (perform (refuse site now at code) b s).state
   refuse-good (line.Over status) code b s at there own = by (is_there b) there
     where
       t : Both R
@@ -250,21 +258,21 @@ module _ {J R : Type 0} (site : Service J R) (now : ℕ) (es : List (LocalAction
           → Sound (perform (if c then change (λ c. record c { exchanges = with_more (site.refusal code now) c.exchanges }) (move.Send place.Client (site.refusal code now) (close_if_taken site now)) else close_if_taken site now) b t).state
       by true e = closing-good (with_offer place.Client (with_sent place.Client (site.refusal code now) b))
           (record t { client = record t.client { exchanges = with_more (site.refusal code now) t.client.exchanges } }) tt (λ later. ((now, here later, refl), own later))
-          (over-line status (record t.client { exchanges = with_more (site.refusal code now) t.client.exchanges }) at)
+          (over-line status (record t.client { exchanges = with_more (site.refusal code now) t.client.exchanges }) at refl)
       by false e = absurd (let n : false ≡ true = e in cc)
-  refuse-good line.Head code b s at there own = finish-good b s own
-  refuse-good (line.Present body kind skips) code b s at there own = finish-good b s own
-  refuse-good (line.Dropping far) code b s at there own = finish-good b s own
+  refuse-good line.Head code b s at there own = finish-good b s (whole-owns site es (bytes_of es) s.client.exchanges own)
+  refuse-good (line.Present body kind skips) code b s at there own = finish-good b s (whole-owns site es (bytes_of es) s.client.exchanges own)
+  refuse-good (line.Dropping far) code b s at there own = finish-good b s (whole-owns site es (bytes_of es) s.client.exchanges own)
 
-  wait-good : (w : Held) (b : Ledger J) (s : Both R) → Owns s.client.exchanges → IsInStep s.client.came.at × Placed (bytes_of es) s.client.exchanges s.client.came
+  wait-good : (w : Held) (b : Ledger J) (s : Both R) → IsInStep s.client.came.at × Placed (bytes_of es) s.client.exchanges s.client.came × Wholes s.client.exchanges
       → Sound (perform (wait_for site now w) b s).state
-  wait-good held.Body b s own line = let t = record s { client = record s.client { stage = stage.Drop } } in begins-good timer.Body b t (idle-at b t tt own line)
-  wait-good held.Nothing b s own line = let t = record s { client = record s.client { stage = stage.Idle } } in begins-good timer.Keepalive b t (idle-at b t tt own line)
-  wait-good held.Begun b s own line = let t = record s { client = record s.client { stage = stage.Head } } in begins-good timer.Header b t (idle-at b t tt own line)
-  wait-good held.Request b s own line = let t = record s { client = record s.client { stage = stage.Head } } in begins-good timer.Header b t (idle-at b t tt own line)
+  wait-good held.Body b s line = let t = record s { client = record s.client { stage = stage.Drop } } in begins-good timer.Body b t (idle-at b t tt (whole-owns site es (bytes_of es) s.client.exchanges line.2) line)
+  wait-good held.Nothing b s line = let t = record s { client = record s.client { stage = stage.Idle } } in begins-good timer.Keepalive b t (idle-at b t tt (whole-owns site es (bytes_of es) s.client.exchanges line.2) line)
+  wait-good held.Begun b s line = let t = record s { client = record s.client { stage = stage.Head } } in begins-good timer.Header b t (idle-at b t tt (whole-owns site es (bytes_of es) s.client.exchanges line.2) line)
+  wait-good held.Request b s line = let t = record s { client = record s.client { stage = stage.Head } } in begins-good timer.Header b t (idle-at b t tt (whole-owns site es (bytes_of es) s.client.exchanges line.2) line)
 
   heard-good : (anew : Bool) (rest : Move J (Both R)) (ended : Bool) (came : Came) (piece : List ℕ) (b : Ledger J) (s : Both R) → Keeps rest → IsBlank b → is_there b ≡ true
-      → (anew ≡ false → s.client.stage ≡ stage.Head) → Owns s.client.exchanges → IsInStep came.at → Placed (bytes_of es) s.client.exchanges (settled came.at (came.held ++ piece))
+      → (anew ≡ false → s.client.stage ≡ stage.Head) → Wholes s.client.exchanges → IsInStep came.at → Placed (bytes_of es) s.client.exchanges (settled came.at (came.held ++ piece))
       → Sound (perform (heard site now anew rest ended (fed came piece)) b s).state
   heard-good anew rest ended came piece b s fine blank there at_head own step placed = by (fed came piece).answer refl
     where
@@ -280,11 +288,11 @@ module _ {J R : Type 0} (site : Service J R) (now : ℕ) (es : List (LocalAction
       is : (answer : LineOut) → (fed came piece).answer ≡ answer → IsFed came piece answer after
       is answer e = subst (λ (a : LineOut). IsFed came piece a after) e (is-fed came piece)
 
-      more : (c d : Bool) → anew ≡ d → IsInStep after.at × Placed (bytes_of es) s.client.exchanges after
+      more : (c d : Bool) → anew ≡ d → IsInStep after.at × Placed (bytes_of es) s.client.exchanges after × Wholes s.client.exchanges
           → Sound (perform (if c then finish else (if d then wait_for site now (held_in after.at after.held) else Done)) b t).state
-      more true d e line = finish-good b t own
-      more false true e line = wait-good (held_in after.at after.held) b t own line
-      more false false e line = idle-at b t (subst IsIdle (sym (at_head e)) tt) own (subst (λ (st : Stage). LineAt (bytes_of es) st t.client) (sym (at_head e)) line)
+      more true d e line = finish-good b t (whole-owns site es (bytes_of es) s.client.exchanges own)
+      more false true e line = wait-good (held_in after.at after.held) b t line
+      more false false e line = idle-at b t (subst IsIdle (sym (at_head e)) tt) (whole-owns site es (bytes_of es) s.client.exchanges own) (subst (λ (st : Stage). LineAt site es (bytes_of es) st t.client) (sym (at_head e)) line)
 
       by : (answer : LineOut) → (fed came piece).answer ≡ answer → Sound (perform (heard_by site now anew rest after ended answer) b t).state
       by (out.Request head target) e = ends-good timer.Header (begin site now rest head target) b t
@@ -292,14 +300,14 @@ module _ {J R : Type 0} (site : Service J R) (now : ℕ) (es : List (LocalAction
           (begun-placed (bytes_of es) s.client.exchanges came after piece head target [] (is (out.Request head target) e) placed)
           (begun-body (bytes_of es) s.client.exchanges came after piece head target (is (out.Request head target) e) placed))
       by (out.Refused code) e = ends-good timer.Header (refuse site now after.at code) b t (λ c like same. refuse-good after.at code c t refl (same ∙ there) own)
-      by out.Waiting e = more ended anew refl (stepped_on, waits-placed (bytes_of es) s.client.exchanges came after piece out.Waiting (is out.Waiting e) refl placed)
+      by out.Waiting e = more ended anew refl (stepped_on, waits-placed (bytes_of es) s.client.exchanges came after piece out.Waiting (is out.Waiting e) refl placed, own)
       by out.Memory e = absurd (fed-has-room came piece e)
 
   -- ---- what a run waits for
 
   -- at a stage of which nothing is said
-  busy-line : (c : Client) → c.stage ≡ stage.Busy → LineAt (bytes_of es) c.stage c
-  busy-line c e = subst (λ (st : Stage). LineAt (bytes_of es) st c) (sym e) tt
+  busy-line : (c : Client) → c.stage ≡ stage.Busy → LineAt site es (bytes_of es) c.stage c
+  busy-line c e = subst (λ (st : Stage). LineAt site es (bytes_of es) st c) (sym e) tt
 
   asked-good : (b : Ledger J) (s : Both R) → s.client.stage ≡ stage.Busy → Sound (state b s)
       → Sound (state b (record s { client = record s.client { came = after_asked s.client.came s.client.limit } }))
@@ -389,9 +397,9 @@ module _ {J R : Type 0} (site : Service J R) (now : ℕ) (es : List (LocalAction
       by false true n = finish-good b s h.replies
       by false false n =
           let there = neither-left (is_there b) (closes_after s.client.reply) n in
-          let at_flush : LineAt (bytes_of es) stage.Flush s.client = subst (λ (st : Stage). LineAt (bytes_of es) st s.client) e (h.line there) in
+          let at_flush : LineAt site es (bytes_of es) stage.Flush s.client = subst (λ (st : Stage). LineAt site es (bytes_of es) st s.client) e (h.line there) in
           let c = done s.client.came in
-          heard-good true rest s.client.ended c [] b s fine (subst (λ (st : Stage). Agrees holds st b s.run) e k.0) there (λ f. absurd (let x : true ≡ false = f in cc)) h.replies
+          heard-good true rest s.client.ended c [] b s fine (subst (λ (st : Stage). Agrees holds st b s.run) e k.0) there (λ f. absurd (let x : true ≡ false = f in cc)) (at_flush.3 (neither-right (is_there b) (closes_after s.client.reply) n))
           (done-in-step s.client.came.at s.client.came.held at_flush.0)
           (subst (λ (bs : List ℕ). Placed bs s.client.exchanges (settled c.at (c.held ++ []))) (append-nil (bytes_of es)) (settled-placed (bytes_of es) [] s.client.exchanges c at_flush.2))
 
@@ -463,13 +471,13 @@ module _ {J R : Type 0} (site : Service J R) (now : ℕ) (es : List (LocalAction
       t : Both R
       t = record s { client = record s.client { came = f.after } }
 
-      here_at : (st : Stage) → s.client.stage ≡ st → LineAt before st s.client
-      here_at st e = subst (λ (st : Stage). LineAt before st s.client) e (h.line there)
+      here_at : (st : Stage) → s.client.stage ≡ st → LineAt site es before st s.client
+      here_at st e = subst (λ (st : Stage). LineAt site es before st s.client) e (h.line there)
 
-      heard-so : (anew : Bool) → (anew ≡ false → s.client.stage ≡ stage.Head) → IsBlank b → IsInStep s.client.came.at × Placed before s.client.exchanges s.client.came
+      heard-so : (anew : Bool) → (anew ≡ false → s.client.stage ≡ stage.Head) → IsBlank b → IsInStep s.client.came.at × Placed before s.client.exchanges s.client.came × Wholes s.client.exchanges
           → Sound (perform (heard site now anew (settle site now) s.client.ended f) b s).state
       heard-so anew at_head blank line =
-          heard-good anew (settle site now) s.client.ended s.client.came piece b s settle-fine blank there at_head h.replies line.0
+          heard-good anew (settle site now) s.client.ended s.client.came piece b s settle-fine blank there at_head line.2 line.0
           (subst (λ (bs : List ℕ). Placed bs s.client.exchanges (settled s.client.came.at (s.client.came.held ++ piece))) (sym all) (settled-placed before piece s.client.exchanges s.client.came line.1))
 
       goes-on : s.client.stage ≡ stage.Busy → Goes site es before (state b s) → Sound (state b t)
@@ -504,12 +512,13 @@ module _ {J R : Type 0} (site : Service J R) (now : ℕ) (es : List (LocalAction
       by stage.Drop e = heard-so true (λ x. absurd (let n : true ≡ false = x in cc)) (subst (λ (st : Stage). Agrees holds st b s.run) e k.0) (here_at stage.Drop e)
       by stage.Flush e =
           let x = here_at stage.Flush e in
-          idle-at b t (subst IsIdle (sym e) tt) h.replies (subst (λ (st : Stage). LineAt (bytes_of es) st t.client) (sym e) (
+          idle-at b t (subst IsIdle (sym e) tt) h.replies (subst (λ (st : Stage). LineAt site es (bytes_of es) st t.client) (sym e) (
             fed-in-step s.client.came piece x.0,
             fed-kept s.client.came.at s.client.came.held piece x.1,
             subst (λ (bs : List ℕ). Placed bs s.client.exchanges (done f.after)) (sym all) (fed-placed before piece s.client.exchanges s.client.came.at s.client.came.held x.1 x.2),
+            x.3,
           ))
-      by stage.Over e = idle-at b t (subst IsIdle (sym e) tt) h.replies (subst (λ (st : Stage). LineAt (bytes_of es) st t.client) (sym e) tt)
+      by stage.Over e = idle-at b t (subst IsIdle (sym e) tt) h.replies (subst (λ (st : Stage). LineAt site es (bytes_of es) st t.client) (sym e) tt)
 
   ended-good : (b : Ledger J) (s : Both R) → Sound (state b s) → Sound (state b (record s { client = record s.client { ended = true } }))
   ended-good b s h = record {
@@ -527,7 +536,7 @@ module _ {J R : Type 0} (site : Service J R) (now : ℕ) (es : List (LocalAction
     line = λ there. by s.client.stage (h.line there);
   }
     where
-      by : (st : Stage) → LineAt (bytes_of es) st s.client → LineAt (bytes_of es) st (record s.client { ended = true })
+      by : (st : Stage) → LineAt site es (bytes_of es) st s.client → LineAt site es (bytes_of es) st (record s.client { ended = true })
       by stage.Busy l = l
       by stage.Flush l = l
       by stage.Idle l = l
@@ -616,7 +625,7 @@ module _ {J R : Type 0} (site : Service J R) (now : ℕ) (es : List (LocalAction
   client-begins begun c none =
       let b = entered (Did (Began begun (start.Client c))) empty_ledger in
       let s = (unborn_state (connection_plan site)).inner in
-      begins-good timer.Header b s (idle-at b s tt (λ later. tt) (tt, λ l later. ap (λ (bs : List ℕ). bs ++ later) none))
+      begins-good timer.Header b s (idle-at b s tt (λ later. tt) (tt, (λ l later. ap (λ (bs : List ℕ). bs ++ later) none), λ later. tt))
 
   job-begins : (begun n : ℕ) (premature : Bool) (job : J) → Sound (stepped (connection_plan site) now (Did (Began begun (start.Job n premature job))) (unborn_state (connection_plan site))).state
   job-begins begun n premature job =

@@ -10,10 +10,11 @@ use Rattle.strand_contract.specs.Alone.{moment}
 use Rattle.run_contract.specs.declared.turns.RunSeen.{RunSeen}
 use Rattle.run_contract.specs.declared.turns.RunSeen.TheVariants as seen
 use Rattle.run_contract.specs.declared.turns.SockSeen.TheVariants as at
+use Rattle.run_contract.specs.Runs.{says_over}
 use Rattle.connection.specs.Asked.{bytes_of}
 use Rattle.connection.specs.Clients.{Exchange}
 use Rattle.connection.specs.Services.{Service}
-use Rattle.reply_laws.specs.Alone.{Task, News, Seen, Given, reply_alone}
+use Rattle.reply_laws.specs.Alone.{Task, News, Seen, Given, alone, reply_alone}
 use Rattle.reply_laws.specs.Bodies.{IsOwnBody, IsOwnFault}
 
 -- what an action tells a run by itself
@@ -61,14 +62,14 @@ module _ {J : Type 0} (es : List (LocalAction J)) where
     -- It is what the run alone says, of the request, that began at a moment and learned what happened; before that the client may have been let send its
     -- body, if it waits for a 100 reply.
     pub record IsSaidAlone (older : List Exchange) (head : Head) (target : Target) (reply : List ℕ) : Type 0 where
-      pub now : ℕ
-      pub sockets : ℕ
+      pub task : Task
       pub news : List (News J)
       pub continues : Bool
-      pub begun : IsMoment now
+      pub asked : (task.head ≡ head) × (task.target ≡ target)
+      pub begun : IsMoment task.now
       pub happened : AreNews older head news
       pub awaited : continues ≡ true → head.expects ≡ true
-      pub said : reply ≡ reply_alone site.runs (record { head = head; target = target; now = now; sockets = sockets }) continues news
+      pub said : reply ≡ reply_alone site.runs task continues news
 
     -- a request gets what its run says, and a head that is refused the refusal of the moment
     abbrev pub IsOwnReply : List Exchange → LineOut → List ℕ → Type 0
@@ -76,12 +77,25 @@ module _ {J : Type 0} (es : List (LocalAction J)) where
     IsOwnReply older (out.Refused code) reply = (now : ℕ) × IsMoment now × (reply ≡ site.refusal code now)
     IsOwnReply older answer reply = ⊥
 
-    -- each of the exchanges, of which the newest comes first
+    -- nothing of the run was left to be done: its reply is whole
+    abbrev pub IsWhole : {older : List Exchange} {head : Head} {target : Target} {reply : List ℕ} → IsSaidAlone older head target reply → Type 0
+    IsWhole x = says_over (alone site.runs x.task x.news).said ≡ true
+
+    -- after what was refused nothing is asked
+    abbrev pub IsWholeReply : List Exchange → LineOut → List ℕ → Type 0
+    IsWholeReply older (out.Request head target) reply = (x : IsSaidAlone older head target reply) × IsWhole x
+    IsWholeReply older answer reply = ⊥
+
+    abbrev pub HaveWholeReplies : List Exchange → Type 0
+    HaveWholeReplies [] = Unit {0}
+    HaveWholeReplies (e ∷ older) = IsWholeReply older e.asked e.reply × HaveWholeReplies older
+
+    -- each of the exchanges, of which the newest comes first: all others are whole
     abbrev pub HaveOwnReplies : List Exchange → Type 0
     HaveOwnReplies [] = Unit {0}
-    HaveOwnReplies (e ∷ older) = IsOwnReply older e.asked e.reply × HaveOwnReplies older
+    HaveOwnReplies (e ∷ older) = IsOwnReply older e.asked e.reply × HaveWholeReplies older
 
 -- two runs begin alike and learn the same: at the same moments, after as many sockets, and their clients are let send their bodies in both cases or in none
 abbrev pub LearnTheSame : {J R : Type 0} {site : Service J R} {es fs : List (LocalAction J)} {older others : List Exchange} {head : Head} {target : Target} {reply other : List ℕ}
     → IsSaidAlone es site older head target reply → IsSaidAlone fs site others head target other → Type 0
-LearnTheSame x y = (x.now ≡ y.now) × (x.sockets ≡ y.sockets) × (x.news ≡ y.news) × (x.continues ≡ y.continues)
+LearnTheSame x y = (x.task.now ≡ y.task.now) × (x.task.sockets ≡ y.task.sockets) × (x.news ≡ y.news) × (x.continues ≡ y.continues)
