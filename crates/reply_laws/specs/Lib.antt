@@ -1,0 +1,5 @@
+pub mod Own
+pub mod Alone
+pub mod Bodies
+pub mod Replies
+pub mod Examples

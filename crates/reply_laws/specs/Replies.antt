@@ -1,0 +1,101 @@
+-- What the replies of a connection are.
+use Rattle.std.specs.Prelude.{◌≡◌, ◌⊎◌, ℕ, Bool, true, List, [], ◌∷◌, ◌++◌, length, Option, Some, None}
+use Rattle.uri_args.specs.declared.targets.Target.{Target}
+use Rattle.http_in.specs.declared.heads.Head.{Head}
+use Rattle.client_line.specs.declared.requests.LineOut.{LineOut}
+use Rattle.client_line.specs.declared.requests.LineOut.TheVariants as out
+use Rattle.strand_contract.specs.declared.turns.Place.TheVariants as place
+use Rattle.strand_contract.specs.Actions.{LocalAction, Did, Bytes, Ended, Broken, Ready, Dialled, Refused, Put, Later, Lost, Run, Due}
+use Rattle.strand_contract.specs.Alone.{moment}
+use Rattle.run_contract.specs.declared.turns.RunSeen.{RunSeen}
+use Rattle.run_contract.specs.declared.turns.RunSeen.TheVariants as seen
+use Rattle.run_contract.specs.declared.turns.SockSeen.TheVariants as at
+use Rattle.run_contract.specs.Runs.{says_over}
+use Rattle.connection.specs.Asked.{bytes_of}
+use Rattle.connection.specs.Clients.{Exchange}
+use Rattle.connection.specs.Services.{Service}
+use Rattle.reply_laws.specs.Alone.{Task, News, Seen, Given, alone, reply_alone}
+use Rattle.reply_laws.specs.Bodies.{IsOwnBody, IsOwnFault}
+
+-- what an action tells a run by itself
+abbrev pub told_by : {J : Type 0} → LocalAction J → Option RunSeen
+told_by (Did (Run k)) = Some (seen.Run k)
+told_by (Did (Due n)) = Some (seen.Due n)
+told_by (Did (Bytes (place.Sock k) bytes)) = Some (seen.Sock k (at.Bytes bytes))
+told_by (Did (Ended (place.Sock k))) = Some (seen.Sock k at.Ended)
+told_by (Did (Broken (place.Sock k))) = Some (seen.Sock k at.Broken)
+told_by (Did (Ready (place.Sock k))) = Some (seen.Sock k at.Ready)
+told_by (Did (Put (place.Sock k) bytes)) = Some (seen.Sock k (at.Took (length bytes)))
+told_by (Did (Later (place.Sock k))) = Some (seen.Sock k at.Later)
+told_by (Did (Lost (place.Sock k))) = Some (seen.Sock k at.Lost)
+told_by (Did (Dialled k)) = Some (seen.Sock k at.Dialled)
+told_by (Did (Refused k)) = Some (seen.Sock k at.Refused)
+told_by a = None
+
+module _ {J : Type 0} (es : List (LocalAction J)) where
+  -- among what happened this did, at the moment
+  pub record Happened (now : ℕ) (a : LocalAction J) : Type 0 where
+    pub before : List (LocalAction J)
+    pub since : List (LocalAction J)
+    pub among : es ≡ since ++ a ∷ before
+    pub at : moment (a ∷ before) ≡ now
+
+  -- something happened at the moment
+  abbrev pub IsMoment : ℕ → Type 0
+  IsMoment now = (a : LocalAction J) × Happened now a
+
+  -- What happened bears out the news of a run with this head, after these exchanges: a body is the request's own, and so is a fault in it, but for 400 where
+  -- the client sends no more; while there is news the client is there.
+  abbrev pub IsNews : List Exchange → Head → News J → Type 0
+  IsNews older head (Seen now (seen.Body content waited)) = IsMoment now × IsOwnBody (bytes_of es) older head content
+  IsNews older head (Seen now (seen.BodyRefused code)) = IsMoment now × (IsOwnFault (bytes_of es) older head code ⊎ (code ≡ 400))
+  IsNews older head (Seen now seen.AllTaken) = IsMoment now
+  IsNews older head (Seen now seen.ClientGone) = ⊥
+  IsNews older head (Seen now s) = (a : LocalAction J) × Happened now a × (told_by a ≡ Some s)
+  IsNews older head (Given now x) = Happened now (Did x)
+
+  abbrev pub AreNews : List Exchange → Head → List (News J) → Type 0
+  AreNews older head [] = Unit {0}
+  AreNews older head (n ∷ news) = IsNews older head n × AreNews older head news
+
+  module _ {R : Type 0} (site : Service J R) where
+    -- It is what the run alone says, of the request, that began at a moment and learned what happened; before that the client may have been let send its
+    -- body, if it waits for a 100 reply.
+    pub record IsSaidAlone (older : List Exchange) (head : Head) (target : Target) (reply : List ℕ) : Type 0 where
+      pub task : Task
+      pub news : List (News J)
+      pub continues : Bool
+      pub asked : (task.head ≡ head) × (task.target ≡ target)
+      pub begun : IsMoment task.now
+      pub happened : AreNews older head news
+      pub awaited : continues ≡ true → head.expects ≡ true
+      pub said : reply ≡ reply_alone site.runs task continues news
+
+    -- a request gets what its run says, and a head that is refused the refusal of the moment
+    abbrev pub IsOwnReply : List Exchange → LineOut → List ℕ → Type 0
+    IsOwnReply older (out.Request head target) reply = IsSaidAlone older head target reply
+    IsOwnReply older (out.Refused code) reply = (now : ℕ) × IsMoment now × (reply ≡ site.refusal code now)
+    IsOwnReply older answer reply = ⊥
+
+    -- nothing of the run was left to be done: its reply is whole
+    abbrev pub IsWhole : {older : List Exchange} {head : Head} {target : Target} {reply : List ℕ} → IsSaidAlone older head target reply → Type 0
+    IsWhole x = says_over (alone site.runs x.task x.news).said ≡ true
+
+    -- after what was refused nothing is asked
+    abbrev pub IsWholeReply : List Exchange → LineOut → List ℕ → Type 0
+    IsWholeReply older (out.Request head target) reply = (x : IsSaidAlone older head target reply) × IsWhole x
+    IsWholeReply older answer reply = ⊥
+
+    abbrev pub HaveWholeReplies : List Exchange → Type 0
+    HaveWholeReplies [] = Unit {0}
+    HaveWholeReplies (e ∷ older) = IsWholeReply older e.asked e.reply × HaveWholeReplies older
+
+    -- each of the exchanges, of which the newest comes first: all others are whole
+    abbrev pub HaveOwnReplies : List Exchange → Type 0
+    HaveOwnReplies [] = Unit {0}
+    HaveOwnReplies (e ∷ older) = IsOwnReply older e.asked e.reply × HaveWholeReplies older
+
+-- two runs begin alike and learn the same: at the same moments, after as many sockets, and their clients are let send their bodies in both cases or in none
+abbrev pub LearnTheSame : {J R : Type 0} {site : Service J R} {es fs : List (LocalAction J)} {older others : List Exchange} {head : Head} {target : Target} {reply other : List ℕ}
+    → IsSaidAlone es site older head target reply → IsSaidAlone fs site others head target other → Type 0
+LearnTheSame x y = (x.task.now ≡ y.task.now) × (x.task.sockets ≡ y.task.sockets) × (x.news ≡ y.news) × (x.continues ≡ y.continues)
