@@ -1,6 +1,6 @@
 //! A client's line.
 
-ghost use Rattle.std.specs.Prelude.{◌≡◌, ◌≢◌, ◌≤◌, ◌↔◌, true, length, OnOk, OnErr};
+ghost use Rattle.std.specs.Prelude.{◌≡◌, ◌≢◌, ◌≤◌, ◌↔◌, ◌==◌, true, length, OnOk, OnErr};
 ghost use Rattle.client_line.specs.Lines as spec;
 ghost use Rattle.send_queue.specs.Queues as queues;
 
@@ -176,6 +176,13 @@ impl Line {
         ensures { result.now ≡ queues.offered self.now.sending }
     {
         self.sending.queued()
+    }
+
+    /// Whether no bytes wait to be sent.
+    pub fn is_all_sent(&self) -> bool
+        ensures { result ≡ (length self.now.sending.bytes == 0) }
+    {
+        self.sending.is_empty()
     }
 
     /// So many of the offered bytes were taken.
