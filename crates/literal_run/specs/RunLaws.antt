@@ -114,7 +114,8 @@ said-waits site now Job client = refl
 said-waits site now Over client = refl
 
 stays : {J : Type 0} (site : LiteralSite) (now : ℕ) (s : RunSeen) (b : Ledger J) (r : Literal) → LiteralHolds b r → MayCome (literal_plan site) now s b r
-    → Leaves (literal_plan site) LiteralHolds (waits_told s ((literal_plan {J = J} site).waits r)) ((literal_plan site).turn now s (entered_as s b) r) (entered_as s b) r
+    → Leaves (literal_plan site) LiteralHolds (waits_told s ((literal_plan {J = J} site).waits r))
+    ((literal_plan site).turn now s (entered_as s b) r) (entered_as s b) r
 stays site now (seen.Run k) b r h x =
     let idle = (runs-once site now k b r h x).1 in
     record {
@@ -171,7 +172,8 @@ falls site now seen.AllTaken b r h x e = never-over x.1
 
 pub literal-is-run : {J : Type 0} (site : LiteralSite) → IsRun {J = J} (literal_plan site) LiteralHolds
 literal-is-run site = record {
-  begins = λ now head target b h. rw h.no_thread (record { known = begins b (Request (request.begun head target 0)) true refl h; waits = refl; over = λ e. never-over e });
+  begins = λ now head target b h.
+    rw h.no_thread (record { known = begins b (Request (request.begun head target 0)) true refl h; waits = refl; over = λ e. never-over e });
   begins_job = λ now premature job b h. rw h.no_thread (record { known = begins b Job false refl h; waits = refl; over = λ e. never-over e });
   stays = λ now s b r h x. stays site now s b r h x;
   answers = λ now x given b r h e. none-answered b r x given h e;
@@ -188,3 +190,7 @@ literal-is-run site = record {
   lost = λ now k b r h x. none-comes b r k at.Lost h x;
   again = λ now k b r h x. none-comes b r k at.Ready h x;
 }
+
+-- the most that one can do
+pub six : 6 ≤ 6
+six = omega arith

@@ -84,13 +84,15 @@ module _ (one_conf : (text : List ℕ) (conf other : site.Conf) → IsConf text 
       let same = one_conf text made.conf other.conf is.read are.read in
       let blocks : length made.conf.blocks ≡ length other.conf.blocks = ap (λ (c : site.Conf). length c.blocks) same in
       let a = is.counted in
-      let b = are.counted in
-      (same, same_list made.outputs other.outputs (omega arith) (λ k x y p q.
-        let block = has_one other.conf.blocks k (let low = within made.outputs k x p in omega arith) in
-        let first = is.built k block.0 x (ap (λ (c : site.Conf). slice_get c.blocks k) same ∙ block.1) p in
-        let second = are.built k block.0 y block.1 q in
-        let first_makes = subst (λ (c : site.Conf). output_at (contents_of c) k first.program ≡ Some x) same first.makes in
-        some_some x y (sym first_makes ∙ one_output (contents_of other.conf) k block.0 first.program second.program first.parsed second.parsed ∙ second.makes)))
+      let b = are.counted in (
+        same,
+        same_list made.outputs other.outputs (omega arith) (λ k x y p q.
+            let block = has_one other.conf.blocks k (let low = within made.outputs k x p in omega arith) in
+            let first = is.built k block.0 x (ap (λ (c : site.Conf). slice_get c.blocks k) same ∙ block.1) p in
+            let second = are.built k block.0 y block.1 q in
+            let first_makes = subst (λ (c : site.Conf). output_at (contents_of c) k first.program ≡ Some x) same first.makes in
+            some_some x y (sym first_makes ∙ one_output (contents_of other.conf) k block.0 first.program second.program first.parsed second.parsed ∙ second.makes)),
+      )
 
   -- a block before the first one that isn't built is
   earlier : (text : List ℕ) (line other : ℕ) (a : IsNotBuiltAt text line) (b : IsNotBuiltAt text other) → a.number < b.number → ⊥

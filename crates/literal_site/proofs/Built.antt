@@ -5,22 +5,12 @@ use Rattle.conf.specs.Reading.{IsConf}
 use Rattle.conf.specs.declared.sites.Block.{Block}
 use Rattle.conf.specs.declared.sites.Conf as site
 use Rattle.site_check.specs.Sites.{HasProgram, IsProgram, IsRead, IsSite, IsSiteFault}
-use Rattle.site_check.specs.declared.faults.CheckFault.{CheckFault}
-use Rattle.site_check.specs.declared.faults.CheckFault.TheVariants as check
 use Rattle.literal_site.specs.Contents.{contents_of}
-use Rattle.literal_site.specs.Faults.{of_check}
 use Rattle.literal_site.specs.Outputs.{output_at}
 use Rattle.literal_site.specs.Sites.{HaveOutputs, IsBuilt, IsUnbuiltAt, IsFirstUnbuilt, IsLiteralSite, IsNotBuiltAt, IsLiteralFault}
 use Rattle.literal_site.specs.declared.faults.LiteralFault.{LiteralFault}
 use Rattle.literal_site.specs.declared.faults.LiteralFault.TheVariants.{Check, NotBuilt, Memory}
 use Rattle.literal_site.specs.declared.sites.LiteralSite.{LiteralSite}
-
--- it is no site
-pub by_check : (text : List ℕ) (fault : CheckFault) → IsSiteFault text fault → IsLiteralFault text (of_check fault)
-by_check text (check.Conf fault) wrong = (λ e. let no : check.Conf fault ≡ check.Memory = e in cc, wrong)
-by_check text (check.Lex fault) wrong = (λ e. let no : check.Lex fault ≡ check.Memory = e in cc, wrong)
-by_check text (check.Parse fault) wrong = (λ e. let no : check.Parse fault ≡ check.Memory = e in cc, wrong)
-by_check text check.Memory wrong = tt
 
 there : {A : Type 0} (xs : List A) (k : ℕ) → k < length xs → (x : A) × (slice_get xs k ≡ Some x)
 there [] k lt = absurd (omega arith)
@@ -39,7 +29,7 @@ module _ (text : List ℕ) (conf : site.Conf) (programs : List Program) (read : 
       let at = there programs k (let low = within conf.blocks k block here in let n = read.each.counted in omega arith) in
       (at.0, (at.1, read.each.parsed k block at.0 here at.1))
 
-  is_site : IsSite text
+  abbrev is_site : IsSite text
   is_site = record { conf = conf; read = read.read; programs = λ i block here. let p = program_of i block here in (p.0, p.1.1) }
 
   -- a block isn't built
@@ -52,9 +42,9 @@ module _ (text : List ℕ) (conf : site.Conf) (programs : List Program) (read : 
     here = first.here;
     unbuilt = record { program = first.program; parsed = read.each.parsed first.number first.block first.program first.here first.there; makes = first.makes };
     before = λ k other lt here.
-      let p = program_of k other here in
-      let made = first.before k p.0 lt p.1.0 in
-      (made.0, record { program = p.0; parsed = p.1.1; makes = made.1 });
+        let p = program_of k other here in
+        let made = first.before k p.0 lt p.1.0 in
+        (made.0, record { program = p.0; parsed = p.1.1; makes = made.1 });
     at = first.at;
   }
   by_block Memory first = tt
@@ -65,6 +55,19 @@ module _ (text : List ℕ) (conf : site.Conf) (programs : List Program) (read : 
     read = subst (λ (c : site.Conf). IsConf text c) (sym same) read.read;
     counted = outputs.counted ∙ read.each.counted ∙ sym (ap (λ (c : site.Conf). length c.blocks) same);
     built = λ k block output here found.
-      let p = program_of k block (sym (ap (λ (c : site.Conf). slice_get c.blocks k) same) ∙ here) in
-      subst (λ (c : site.Conf). IsBuilt c k block output) (sym same) (record { program = p.0; parsed = p.1.1; makes = outputs.each k p.0 output p.1.0 found });
+        let p = program_of k block (sym (ap (λ (c : site.Conf). slice_get c.blocks k) same) ∙ here) in
+        subst (λ (c : site.Conf). IsBuilt c k block output) (sym same) (record { program = p.0; parsed = p.1.1; makes = outputs.each k p.0 output p.1.0 found });
   }
+
+  -- the same of what was lent
+  module _ (blocks : List Block) (contents : List ℕ) (those : List Program) (same : blocks ≡ conf.blocks) (among : contents ≡ contents_of conf) (each : those ≡ programs) where
+    pub by_block_of : (fault : LiteralFault) → IsFirstUnbuilt contents blocks those fault → IsLiteralFault text fault
+    by_block_of fault first =
+        let a = subst (λ (bs : List Block). IsFirstUnbuilt contents bs those fault) same first in
+        let b = subst (λ (cs : List ℕ). IsFirstUnbuilt cs conf.blocks those fault) among a in
+        by_block fault (subst (λ (ps : List Program). IsFirstUnbuilt (contents_of conf) conf.blocks ps fault) each b)
+
+    pub by_outputs_of : (made : LiteralSite) → made.conf ≡ conf → HaveOutputs contents those made.outputs → IsLiteralSite text made
+    by_outputs_of made is outputs =
+        let a = subst (λ (cs : List ℕ). HaveOutputs cs those made.outputs) among outputs in
+        by_outputs made is (subst (λ (ps : List Program). HaveOutputs (contents_of conf) ps made.outputs) each a)

@@ -2,7 +2,6 @@
 use Rattle.std.proofs.Common.{arith}
 use Rattle.std.proofs.lemmas.Result.{err_from_is_err_and}
 use Rattle.site_check.specs.declared.faults.CheckFault.TheVariants.{Memory}
-use Rattle.site_check.specs.Sites.{IsFirstFault}
 use Rattle.site_check.proofs.Pushed.{kept_more, first_fault}
 use Rattle.site_check.proofs.checking.block_programs.Goals as goal
 
