@@ -1,24 +1,22 @@
 -- That the runs of a literal site meet the conditions of a run.
 use Rattle.std.proofs.Common.{◌≡◌, ℕ, ◌≤◌, ◌<◌, Bool, true, false, ◌&&◌, List, [], ◌∷◌, drop, Option, Some, None, refl, sym, ap, ◌∙◌, subst, arith, lit<}
 use Rattle.std.specs.Prelude.{nat_lt, nat_le, if◌then◌else◌}
-use Rattle.uri_args.specs.declared.targets.Target.{Target}
-use Rattle.http_in.specs.declared.heads.Head.{Head}
 use Rattle.strand_contract.specs.declared.turns.Place.TheVariants as place
 use Rattle.strand_contract.specs.declared.turns.Answer.{Answer}
-use Rattle.strand_contract.specs.Actions.{Action, Did}
+use Rattle.strand_contract.specs.Actions.{Action}
 use Rattle.strand_contract.specs.Calls.{answered}
 use Rattle.strand_contract.specs.Alone.{sooner, due}
-use Rattle.moves.specs.Questions.{Question, asking_if}
-use Rattle.moves.specs.Ledgers.{Ledger, has, entered}
+use Rattle.moves.specs.Questions.{asking_if}
+use Rattle.moves.specs.Ledgers.{Ledger, has}
 use Rattle.moves.specs.Turns.{IsDue}
 use Rattle.run_contract.specs.declared.turns.RunSeen.{RunSeen}
 use Rattle.run_contract.specs.declared.turns.RunSeen.TheVariants as seen
 use Rattle.run_contract.specs.declared.turns.SockSeen.{SockSeen}
 use Rattle.run_contract.specs.declared.turns.SockSeen.TheVariants as at
-use Rattle.run_contract.specs.Runs.{performed, waits_at_first, waits_told, waits_said, says_over, is_of_client}
+use Rattle.run_contract.specs.Runs.{performed, waits_at_first, waits_told, waits_said, is_of_client}
 use Rattle.run_contract.specs.Alike.{own_deadlines, AreAlike}
 use Rattle.run_contract.specs.Forms.{IsOwn}
-use Rattle.run_contract.specs.Conditions.{IsBlank, IsLeft, MayComeAt, MayCome, Leaves, Fits, entered_as, IsRun}
+use Rattle.run_contract.specs.Conditions.{IsBlank, MayComeAt, MayCome, Leaves, entered_as, IsRun}
 use Rattle.request_api.specs.Requests as request
 use Rattle.literal_site.specs.declared.sites.LiteralSite.{LiteralSite}
 use Rattle.literal_run.specs.declared.run.Work.{Work}
