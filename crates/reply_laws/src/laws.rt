@@ -20,7 +20,7 @@ ghost use Rattle.connection.specs.Connections.{connection_plan, connection_behav
 ghost use Rattle.connection.specs.Examples.{echo_plan};
 ghost use Rattle.connection.specs.Recalls.{recalls_plan};
 ghost use Rattle.reply_laws.specs.Own.{MindsItsOwn};
-ghost use Rattle.reply_laws.specs.Alone.{Task, Seen, Given, let_first, reply_alone};
+ghost use Rattle.reply_laws.specs.Alone.{Beginning, Seen, Given, let_first, reply_alone};
 ghost use Rattle.reply_laws.specs.Examples.{NeverLooks};
 ghost use Rattle.reply_laws.specs.Replies.{IsSaidAlone, HaveOwnReplies, LearnTheSame};
 
@@ -65,10 +65,10 @@ pub fn runs_that_never_look_mind_their_own<J, R>()
 
 /// What runs of the examples say alone: the path, the body, or what a dictionary keeps.
 pub fn what_is_said_alone<J>()
-    ensures path { (task : Task) → reply_alone {J = J} (echo_plan false) task false [] ≡ task.target.path }
-    ensures body { (task : Task) (continues waited : Bool) (now : ℕ) (content : List ℕ)
-        → reply_alone {J = J} (echo_plan true) task continues (Seen now (seen.Body content waited) ∷ []) ≡ let_first continues ++ content }
-    ensures stored { (task : Task) (name key otherwise : List ℕ) (now later : ℕ) (given : DictAnswer)
-        → reply_alone {J = J} (stored_plan name key otherwise) task false (Given later (Dict 0 (dict.Get key) given) ∷ Seen now (seen.Run 0) ∷ [])
+    ensures path { (beginning : Beginning) → reply_alone {J = J} (echo_plan false) beginning false [] ≡ beginning.target.path }
+    ensures body { (beginning : Beginning) (continues waited : Bool) (now : ℕ) (content : List ℕ)
+        → reply_alone {J = J} (echo_plan true) beginning continues (Seen now (seen.Body content waited) ∷ []) ≡ let_first continues ++ content }
+    ensures stored { (beginning : Beginning) (name key otherwise : List ℕ) (now later : ℕ) (given : DictAnswer)
+        → reply_alone {J = J} (stored_plan name key otherwise) beginning false (Given later (Dict 0 (dict.Get key) given) ∷ Seen now (seen.Run 0) ∷ [])
         ≡ given_text otherwise (answer.Dict given) }
 {}
