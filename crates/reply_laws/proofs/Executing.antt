@@ -1,5 +1,5 @@
 -- In each execution every reply is its run's own.
-use Rattle.std.proofs.Common.{◌≡◌, ℕ, Bool, true, false, List, [], ◌∷◌, ◌++◌, Option, Some, None, refl, sym, ap, ◌∙◌, subst, append_assoc}
+use Rattle.std.proofs.Common.{◌≡◌, ℕ, true, false, List, [], ◌∷◌, ◌++◌, refl, sym, ap, ◌∙◌, subst, append_assoc}
 use Rattle.strand_contract.specs.declared.turns.Act.{Act}
 use Rattle.strand_contract.specs.Actions.{LocalAction, Told, Did, Began, Bytes, Ended, Broken, Ready, Dialled, Refused}
 use Rattle.strand_contract.specs.Actions.{Put, Later, Lost, Close, Log, Dict, Take, Dial, Keep, Timer, Dropped, Run, Offer, Due, Halted, Gone}
@@ -26,7 +26,7 @@ use Rattle.connection.proofs.Meets.{meets}
 use Rattle.reply_laws.specs.Own.{MindsItsOwn}
 use Rattle.reply_laws.specs.Replies.{HaveWholeReplies, HaveOwnReplies}
 use Rattle.reply_laws.proofs.Going.{performs-count, learned-later, LineAt, Own, Whole, Good, good-gone, good-alike}
-use Rattle.reply_laws.proofs.Replying.{is_first, bytes-come, step-good}
+use Rattle.reply_laws.proofs.Coming.{is_first, bytes-come, step-good}
 
 module _ {J R : Type 0} (site : Service J R) (holds : Ledger J → R → Type 0) (run : IsRun site.runs holds) (minds : MindsItsOwn site.runs) where
   -- the ledger agrees with what happened

@@ -1,15 +1,13 @@
 -- A run that goes on has done what it does alone, told the same; and so it is after each of its turns.
 use Rattle.std.proofs.Common.{◌≡◌, ℕ, Bool, true, false, List, [], ◌∷◌, ◌++◌, Option, Some, None, if◌then◌else◌, refl, sym, ap, ◌∙◌, subst, append_assoc}
 use Rattle.std.specs.Prelude.{◌&&◌}
-use Rattle.http_in.specs.declared.heads.Head as http
 use Rattle.client_line.specs.declared.requests.LineOut.{LineOut}
 use Rattle.client_line.specs.declared.requests.LineOut.TheVariants as out
-use Rattle.client_line.specs.Records.{At, Came}
+use Rattle.client_line.specs.Records.{Came}
 use Rattle.client_line.specs.Lines.{done}
-use Rattle.strand_contract.specs.declared.turns.Place.TheVariants as place
 use Rattle.strand_contract.specs.Actions.{Action, LocalAction, Did}
 use Rattle.moves.specs.Questions.{Question}
-use Rattle.moves.specs.Ledgers.{Ledger, has, entered}
+use Rattle.moves.specs.Ledgers.{Ledger, entered}
 use Rattle.moves.specs.Moves.{Move, Done, Unready, Send, Arm, Cancel, HangUp, Log, Set, Look, Ask, End, State, Performed, with_sent, with_offer, with_thread, without_thread, with_deadline, without_deadline, hung_up, perform}
 use Rattle.moves.specs.Moves as move
 use Rattle.strand_contract.specs.Alone.{socket_count}
@@ -27,9 +25,8 @@ use Rattle.connection.specs.Turns.{is_there, says, run_turn, tell}
 use Rattle.connection.specs.InStep.{IsInStep}
 use Rattle.connection.proofs.Lifted.{state}
 use Rattle.connection.proofs.Steps.{stage_said}
-use Rattle.connection.proofs.Stays.{Known}
-use Rattle.connection.proofs.Prefixes.{before, followed, went, says-precedes}
-use Rattle.connection.proofs.RunTurns.{within, then_asked, turn-goes-on, turn-precedes, turn-asks}
+use Rattle.connection.proofs.Prefixes.{before, went}
+use Rattle.connection.proofs.RunTurns.{turn-goes-on, turn-precedes, turn-asks}
 use Rattle.connection.proofs.GoingOn.{LeavesAt, says-leaves, says-came, turn-leaves}
 use Rattle.connection.proofs.OwnMoves.{own-leaves-client}
 use Rattle.reply_laws.specs.Own.{SameOwn, SameTurn, MindsItsOwn}
@@ -37,7 +34,7 @@ use Rattle.reply_laws.specs.Alone.{Beginning, News, Seen, Given, Alone, alone, a
 use Rattle.reply_laws.specs.Replies.{IsNews, IsUpTo, HaveLearned, IsSaidAlone, IsOwnReply, IsWholeReply, HaveWholeReplies, HaveOwnReplies}
 use Rattle.reply_laws.proofs.Owns.{same-alike, same-asking}
 use Rattle.reply_laws.proofs.Places.{Placed, BodyAt, IsKept, body-kept}
-use Rattle.reply_laws.proofs.Saying.{Says, right-of, over-append, says-there, IsSaid, IsUnsaid, says-gone}
+use Rattle.reply_laws.proofs.Saying.{Says, right-of, over-append, says-there, says-gone}
 
 -- no move changes how many sockets there were
 pub performs-count : {J S : Type 0} (m : Move J S) (b : Ledger J) (s : S) → (perform m b s).state.ledger.count ≡ b.count
@@ -233,10 +230,14 @@ module _ {J R : Type 0} (site : Service J R) (now : ℕ) (es : List (LocalAction
       flushes : says_over t.said ≡ true → LineAt site es all stage.Flush d.inner.client
       flushes o =
           let placed = subst (λ (xs : List Exchange). IsInStep d.inner.client.came.at × IsKept d.inner.client.came.at × Placed all xs (done d.inner.client.came)) (sym says_all.newest)
-              (subst (λ (c : Came). IsInStep c.at × IsKept c.at × Placed all (exchange (out.Request x.beginning.head x.beginning.target) [] ∷ x.older) (done c)) (sym came)
-              (x.with_it.step, body-kept all x.older x.beginning.head.body s.client.came.at s.client.came.held x.with_it.body, x.with_it.placed)) in
-          (placed.0, placed.1, placed.2, λ e. said-whole site es all x.beginning x.news x.older s.client.came d.inner.client x.with_it says_all
-              (ap says_over all_said ∙ over-append x.words t.said x.over ∙ o))
+          (subst (λ (c : Came). IsInStep c.at × IsKept c.at × Placed all (exchange (out.Request x.beginning.head x.beginning.target) [] ∷ x.older) (done c)) (sym came)
+          (x.with_it.step, body-kept all x.older x.beginning.head.body s.client.came.at s.client.came.held x.with_it.body, x.with_it.placed)) in (
+            placed.0,
+            placed.1,
+            placed.2,
+            λ e. said-whole site es all x.beginning x.news x.older s.client.came d.inner.client x.with_it says_all
+                (ap says_over all_said ∙ over-append x.words t.said x.over ∙ o),
+          )
 
       line_by : (c : Bool) → says_over t.said ≡ c → LineAt site es all (if c then stage.Flush else stage.Busy) d.inner.client
       line_by true o = flushes o

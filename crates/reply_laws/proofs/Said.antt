@@ -1,11 +1,11 @@
 -- What is said alone is a function of what was asked and learned.
-use Rattle.std.proofs.Common.{◌≡◌, ℕ, Bool, List, sym, ap, ◌∙◌}
+use Rattle.std.proofs.Common.{◌≡◌, ℕ, List, sym, ap, ◌∙◌}
 use Rattle.uri_args.specs.declared.targets.Target.{Target}
 use Rattle.http_in.specs.declared.heads.Head.{Head}
 use Rattle.strand_contract.specs.Actions.{LocalAction}
 use Rattle.connection.specs.Clients.{Exchange}
 use Rattle.connection.specs.Services.{Service}
-use Rattle.reply_laws.specs.Alone.{Beginning, News, reply_alone}
+use Rattle.reply_laws.specs.Alone.{Beginning, reply_alone}
 use Rattle.reply_laws.specs.Replies.{IsSaidAlone, LearnTheSame}
 
 same-beginning : (x y : Beginning) → x.head ≡ y.head → x.target ≡ y.target → x.now ≡ y.now → x.sockets ≡ y.sockets → x ≡ y
