@@ -17,7 +17,7 @@ ghost use Rattle.run_contract.specs.Stored.{stored_plan, given_text};
 ghost use Rattle.connection.specs.Clients.{Exchange};
 ghost use Rattle.connection.specs.Services.{Service};
 ghost use Rattle.connection.specs.Connections.{connection_plan, connection_behavior};
-ghost use Rattle.connection.specs.Examples.{echo_plan};
+ghost use Rattle.connection.specs.Examples.{echo_plan, echo_site};
 ghost use Rattle.connection.specs.Recalls.{recalls_plan};
 ghost use Rattle.reply_laws.specs.Own.{MindsItsOwn};
 ghost use Rattle.reply_laws.specs.Alone.{Beginning, Seen, Given, let_first, reply_alone};
@@ -46,6 +46,12 @@ pub trait Minding {
 pub fn replies_are_said_alone<S: Minding>()
     ensures { (es : List (LocalAction S.Job)) → IsExecution (connection_behavior S.service) es
         → HaveOwnReplies es S.service (state_of (connection_plan S.service) es).inner.client.exchanges }
+{}
+
+/// So it is of the small site that replies with paths or with bodies, whatever happens to a connection of it.
+pub fn replies_of_the_rows_are_said_alone<J>()
+    ensures { (reads : Bool) (es : List (LocalAction J)) → IsExecution (connection_behavior {J = J} (echo_site reads)) es
+        → HaveOwnReplies es (echo_site reads) (state_of (connection_plan {J = J} (echo_site reads)) es).inner.client.exchanges }
 {}
 
 /// Two requests that ask the same, and whose runs learn the same, get the same reply, on whatever connections and after whatever else.
