@@ -1,5 +1,5 @@
 -- Moves that look at no ledger leave the same of what is a run's own; so a run that makes only such moves minds its own.
-use Rattle.std.proofs.Common.{◌≡◌, ◌⊎◌, inl, inr, ℕ, ◌≤◌, nat_lt, ◌==◌, ◌&&◌, Bool, true, false, List, [], ◌∷◌, ◌++◌, Some, None, if◌then◌else◌, refl, sym, ap, ◌∙◌, subst}
+use Rattle.std.proofs.Common.{◌≡◌, inl, inr, ℕ, ◌≤◌, nat_lt, ◌==◌, ◌&&◌, Bool, true, false, List, [], ◌∷◌, ◌++◌, if◌then◌else◌, refl, sym, ap, ◌∙◌, subst}
 use Rattle.std.specs.Prelude.{Option, not}
 use Rattle.resty_base.specs.declared.names.Ms.{Ms}
 use Rattle.uri_args.specs.declared.targets.Target.{Target}
@@ -7,8 +7,8 @@ use Rattle.http_in.specs.declared.heads.Head.{Head}
 use Rattle.http_in.specs.declared.framing.BodyKind.TheVariants as kind
 use Rattle.strand_contract.specs.declared.turns.Place.{Place}
 use Rattle.strand_contract.specs.declared.turns.Place.TheVariants as place
-use Rattle.strand_contract.specs.Actions.{Action, Dict, Take, Dial, Keep, Timer, same_place}
-use Rattle.strand_contract.specs.Alone.{disarmed, without, without_place}
+use Rattle.strand_contract.specs.Actions.{Action, Dict, same_place}
+use Rattle.strand_contract.specs.Alone.{disarmed, without}
 use Rattle.moves.specs.Questions.{Question}
 use Rattle.moves.specs.Ledgers.{Ledger, has, has_number, empty_ledger}
 use Rattle.moves.specs.Moves.{Move, Done, Unready, Send, Arm, Cancel, HangUp, Log, Set, Look, Ask, End, added_if, sends, with_sent, with_offer, with_thread, without_thread, with_deadline, without_deadline, hung_up, asked_of, perform}
@@ -17,16 +17,16 @@ use Rattle.moves.proofs.Places.{has-without}
 use Rattle.run_contract.specs.declared.turns.RunSeen.{RunSeen}
 use Rattle.run_contract.specs.declared.turns.RunSeen.TheVariants as seen
 use Rattle.run_contract.specs.declared.turns.Said.TheVariants as said
-use Rattle.run_contract.specs.Runs.{Turn, RunPlan, performed}
+use Rattle.run_contract.specs.Runs.{Turn, RunPlan}
 use Rattle.run_contract.specs.Alike.{own_deadlines}
 use Rattle.run_contract.specs.Forms.{IsSock}
 use Rattle.run_contract.specs.StoredLaws.{not-below}
 use Rattle.run_contract.specs.Stored.{Stored, stored_plan, stored_turn, stored_answered}
 use Rattle.connection.specs.Examples.{Echo, Reading, Fresh, Replied, Left, echo_plan, echo_begun, echo_turn, request, to}
 use Rattle.connection.specs.Recalls.{recalls_plan}
-use Rattle.reply_laws.specs.Own.{IsLive, SameAt, SameOwn, SameTurn, MindsItsOwn}
+use Rattle.reply_laws.specs.Own.{IsLive, SameOwn, SameTurn, MindsItsOwn}
 use Rattle.reply_laws.specs.Examples.{IsBlind, NeverLooks}
-use Rattle.reply_laws.proofs.Owns.{own-disarms, still-open, same-asking}
+use Rattle.reply_laws.proofs.Owns.{own-disarms, still-open}
 
 own-armed : (n at : ℕ) (ds : List (ℕ × ℕ)) → nat_lt n 2 ≡ false → own_deadlines (ds ++ (n, at) ∷ []) ≡ own_deadlines ds ++ (n, at) ∷ []
 own-armed n at [] h = ap (λ (x : Bool). if x then [] else (n, at) ∷ []) h
@@ -39,34 +39,62 @@ own-armed n at (d ∷ ds) h = by (own-armed n at ds h) (nat_lt d.0 2)
 
 module _ {J : Type 0} (b c : Ledger J) (h : SameOwn b c) where
   ready-both : (k : ℕ) → SameOwn (with_thread k b) (with_thread k c)
-  ready-both k = record { threads = ap (λ (ts : List ℕ). added_if (not (has_number k ts)) k ts) h.threads; armed = h.armed; count = h.count; opened = h.opened;
-    sockets = λ j l. let e = h.sockets j l in record { sent = e.sent; taken = e.taken; put_off = e.put_off } }
+  ready-both k = record {
+    threads = ap (λ (ts : List ℕ). added_if (not (has_number k ts)) k ts) h.threads;
+    armed = h.armed;
+    count = h.count;
+    opened = h.opened;
+    sockets = λ j l. let e = h.sockets j l in record { sent = e.sent; taken = e.taken; put_off = e.put_off };
+  }
 
   unready-both : (k : ℕ) → SameOwn (without_thread k b) (without_thread k c)
-  unready-both k = record { threads = ap (without k) h.threads; armed = h.armed; count = h.count; opened = h.opened;
-    sockets = λ j l. let e = h.sockets j l in record { sent = e.sent; taken = e.taken; put_off = e.put_off } }
+  unready-both k = record {
+    threads = ap (without k) h.threads;
+    armed = h.armed;
+    count = h.count;
+    opened = h.opened;
+    sockets = λ j l. let e = h.sockets j l in record { sent = e.sent; taken = e.taken; put_off = e.put_off };
+  }
 
   arm-both : (n : ℕ) (at : Ms) → 2 ≤ n → SameOwn (with_deadline n at b) (with_deadline n at c)
   arm-both n at low =
       let high = not-below n low in
       let own : (ds : List (ℕ × ℕ)) → own_deadlines (disarmed n ds ++ (n, at.0) ∷ []) ≡ disarmed n (own_deadlines ds) ++ (n, at.0) ∷ [] =
       λ ds. own-armed n at.0 (disarmed n ds) high ∙ ap (λ (xs : List (ℕ × ℕ)). xs ++ (n, at.0) ∷ []) (own-disarms n ds high) in
-      record { threads = h.threads; armed = own b.armed ∙ ap (λ (xs : List (ℕ × ℕ)). disarmed n xs ++ (n, at.0) ∷ []) h.armed ∙ sym (own c.armed); count = h.count; opened = h.opened;
-        sockets = λ j l. let e = h.sockets j l in record { sent = e.sent; taken = e.taken; put_off = e.put_off } }
+      record {
+        threads = h.threads;
+        armed = own b.armed ∙ ap (λ (xs : List (ℕ × ℕ)). disarmed n xs ++ (n, at.0) ∷ []) h.armed ∙ sym (own c.armed);
+        count = h.count;
+        opened = h.opened;
+        sockets = λ j l. let e = h.sockets j l in record { sent = e.sent; taken = e.taken; put_off = e.put_off };
+      }
 
   cancel-both : (n : ℕ) → 2 ≤ n → SameOwn (without_deadline n b) (without_deadline n c)
   cancel-both n low =
       let high = not-below n low in
-      record { threads = h.threads; armed = own-disarms n b.armed high ∙ ap (disarmed n) h.armed ∙ sym (own-disarms n c.armed high); count = h.count; opened = h.opened;
-        sockets = λ j l. let e = h.sockets j l in record { sent = e.sent; taken = e.taken; put_off = e.put_off } }
+      record {
+        threads = h.threads;
+        armed = own-disarms n b.armed high ∙ ap (disarmed n) h.armed ∙ sym (own-disarms n c.armed high);
+        count = h.count;
+        opened = h.opened;
+        sockets = λ j l. let e = h.sockets j l in record { sent = e.sent; taken = e.taken; put_off = e.put_off };
+      }
 
   ask-both : (o p : Option (Question J)) → SameOwn (record b { asked = o }) (record c { asked = p })
-  ask-both o p = record { threads = h.threads; armed = h.armed; count = h.count; opened = h.opened;
-    sockets = λ j l. let e = h.sockets j l in record { sent = e.sent; taken = e.taken; put_off = e.put_off } }
+  ask-both o p = record {
+    threads = h.threads;
+    armed = h.armed;
+    count = h.count;
+    opened = h.opened;
+    sockets = λ j l. let e = h.sockets j l in record { sent = e.sent; taken = e.taken; put_off = e.put_off };
+  }
 
   hang-both : (q : Place) → IsSock q → SameOwn (hung_up q b) (hung_up q c)
   hang-both place.Client s = absurd s
-  hang-both (place.Sock n) s = record { threads = h.threads; armed = h.armed; count = h.count;
+  hang-both (place.Sock n) s = record {
+    threads = h.threads;
+    armed = h.armed;
+    count = h.count;
     opened = λ j. has-without (place.Sock j) (place.Sock n) b.opened ∙ ap (λ (x : Bool). if j == n then false else x) (h.opened j) ∙ sym (has-without (place.Sock j) (place.Sock n) c.opened);
     sockets = λ j l. let e = h.sockets j (kept j l) in record { sent = e.sent; taken = e.taken; put_off = e.put_off };
   }
@@ -79,7 +107,11 @@ module _ {J : Type 0} (b c : Ledger J) (h : SameOwn b c) where
 
   send-both : (q : Place) (bytes : List ℕ) → IsSock q → SameOwn (with_offer q (with_sent q bytes b)) (with_offer q (with_sent q bytes c))
   send-both place.Client bytes s = absurd s
-  send-both (place.Sock n) bytes s = record { threads = h.threads; armed = h.armed; count = h.count; opened = h.opened;
+  send-both (place.Sock n) bytes s = record {
+    threads = h.threads;
+    armed = h.armed;
+    count = h.count;
+    opened = h.opened;
     sockets = λ j l. let e = h.sockets j l in record {
       sent = ap (λ (x : Bool). if x && (j == n) then b.sent (place.Sock j) ++ bytes else b.sent (place.Sock j)) (h.opened n)
           ∙ ap (λ (xs : List ℕ). if has (place.Sock n) c.opened && (j == n) then xs ++ bytes else xs) e.sent;

@@ -1,12 +1,13 @@
 -- In each execution every reply is its run's own.
-use Rattle.std.proofs.Common.{◌≡◌, ℕ, Bool, true, false, List, [], ◌∷◌, ◌++◌, Option, Some, None, refl, ap, subst, append_assoc}
+use Rattle.std.proofs.Common.{◌≡◌, ℕ, true, false, List, [], ◌∷◌, ◌++◌, refl, sym, ap, ◌∙◌, subst, append_assoc}
 use Rattle.strand_contract.specs.declared.turns.Act.{Act}
 use Rattle.strand_contract.specs.Actions.{LocalAction, Told, Did, Began, Bytes, Ended, Broken, Ready, Dialled, Refused}
 use Rattle.strand_contract.specs.Actions.{Put, Later, Lost, Close, Log, Dict, Take, Dial, Keep, Timer, Dropped, Run, Offer, Due, Halted, Gone}
-use Rattle.strand_contract.specs.Alone.{moment, lives, was_dropped, todo, IsExecution}
+use Rattle.strand_contract.specs.Alone.{moment, socket_count, lives, was_dropped, todo, IsExecution}
 use Rattle.moves.specs.Ledgers.{Ledger}
-use Rattle.moves.specs.Plans.{state_of}
+use Rattle.moves.specs.Plans.{state_of, move_of}
 use Rattle.moves.proofs.Executions.{Agrees, agrees, comes}
+use Rattle.moves.proofs.Ledgers.{count-is}
 use Rattle.moves.proofs.PlanLaws.{lived, busy}
 use Rattle.run_contract.specs.Conditions.{IsRun}
 use Rattle.strand_contract.specs.Laws.{is_still}
@@ -23,9 +24,9 @@ use Rattle.connection.proofs.Lifted.{state}
 use Rattle.moves.specs.Moves.{State}
 use Rattle.connection.proofs.Meets.{meets}
 use Rattle.reply_laws.specs.Own.{MindsItsOwn}
-use Rattle.reply_laws.specs.Replies.{Happened, IsMoment, AreNews, HaveWholeReplies, HaveOwnReplies}
-use Rattle.reply_laws.proofs.Going.{LineAt, Own, Whole, Good, good-gone, good-alike}
-use Rattle.reply_laws.proofs.Replying.{is_first, bytes-come, step-good}
+use Rattle.reply_laws.specs.Replies.{HaveWholeReplies, HaveOwnReplies}
+use Rattle.reply_laws.proofs.Going.{performs-count, learned-later, LineAt, Own, Whole, Good, good-gone, good-alike}
+use Rattle.reply_laws.proofs.Coming.{is_first, bytes-come, step-good}
 
 module _ {J R : Type 0} (site : Service J R) (holds : Ledger J → R → Type 0) (run : IsRun site.runs holds) (minds : MindsItsOwn site.runs) where
   -- the ledger agrees with what happened
@@ -38,22 +39,17 @@ module _ {J R : Type 0} (site : Service J R) (holds : Ledger J → R → Type 0)
   busy-so : (es : List (LocalAction J)) (a : Act J) (rest : List (Act J)) → IsExecution (connection_behavior site) es → todo (connection_behavior site) es ≡ a ∷ rest → AgreesAt es
   busy-so es a rest x t = busy (connection_plan site) (Knows holds) (MayAsk site) (meets site holds run) es a rest x t
 
-  -- the newest action happened, and whatever happens later it did
-  here : (a : LocalAction J) (es later : List (LocalAction J)) → Happened (later ++ a ∷ es) (moment (a ∷ es)) a
-  here a es later = record { before = es; since = later; among = refl; at = refl }
-
   -- what is known after some actions is known with one more, before that is entered
   one-more : (a : LocalAction J) (es : List (LocalAction J)) (all : List ℕ) (st : State J (Both R)) → Good site es all st → Good site (a ∷ es) all st
   one-more a es all st h = record {
     replies = owns st.inner.client.exchanges h.replies;
     goes = λ e there. let g = h.goes e there in record {
-      task = g.task;
+      beginning = g.beginning;
       news = g.news;
       older = g.older;
       with_it = record {
         olds = wholes g.older g.with_it.olds;
-        begun = λ later. subst (λ xs. IsMoment xs g.task.now) (more later) (g.with_it.begun (later ++ a ∷ []));
-        happened = λ later. subst (λ xs. AreNews xs g.older g.task.head g.news) (more later) (g.with_it.happened (later ++ a ∷ []));
+        learned = learned-later site es all (a ∷ []) g.beginning g.older g.news g.with_it.learned;
         step = g.with_it.step;
         placed = g.with_it.placed;
         body = g.with_it.body;
@@ -92,9 +88,12 @@ module _ {J R : Type 0} (site : Service J R) (holds : Ledger J → R → Type 0)
   -- a turn begins where the ledger agrees
   turned : (a : LocalAction J) (es : List (LocalAction J)) → IsExecution (connection_behavior site) (a ∷ es) → AgreesAt es → (is_first a ≡ true → bytes_of es ≡ []) → Stays a es
   turned a es x agrees first h =
-      step-good site (moment (a ∷ es)) (a ∷ es) holds run minds (λ later. (a, here a es later)) a (state_of (connection_plan site) es) agrees.inner
+      let st = state_of (connection_plan site) es in
+      let counts : (entered a st.ledger).count ≡ socket_count (a ∷ es) =
+      sym (performs-count (move_of (connection_plan site) (moment (a ∷ es)) a st) (entered a st.ledger) st.inner) ∙ sym (count-is (connection_plan site) (a ∷ es)) in
+      step-good site (moment (a ∷ es)) (a ∷ es) holds run minds refl a (state_of (connection_plan site) es) agrees.inner
       (comes (connection_plan site) (Knows holds) (MayAsk site) (meets site holds run) a es agrees x.1)
-      (bytes_of es) (bytes-come a es, here a es, first) (one-more a es (bytes_of es) (state_of (connection_plan site) es) h)
+      (bytes_of es) (bytes-come a es, record { earlier = es; is = refl }, first, counts) (one-more a es (bytes_of es) (state_of (connection_plan site) es) h)
 
   never : {C : Type 0} → false ≡ true → C
   never e = absurd (cc)

@@ -3,6 +3,7 @@ pub mod Saying
 pub mod Places
 pub mod Going
 pub mod Replying
+pub mod Coming
 pub mod Executing
 pub mod Said
 pub mod Blind

@@ -1,12 +1,11 @@
 -- Where a request's own body stands stays so, whatever comes later.
-use Rattle.std.proofs.Common.{◌≡◌, ◌⊎◌, inl, inr, ℕ, ◌+◌, suc, Bool, true, false, List, [], ◌∷◌, ◌++◌, take, drop, length, Some, None, if◌then◌else◌, refl, sym, ap, ◌∙◌, subst, append_assoc, append-nil, take-append-drop, arith}
+use Rattle.std.proofs.Common.{◌≡◌, ℕ, ◌+◌, suc, Bool, true, false, List, [], ◌∷◌, ◌++◌, take, drop, Some, None, if◌then◌else◌, refl, sym, ap, ◌∙◌, subst, append_assoc, take-append-drop, arith}
 use Rattle.std.proofs.lemmas.List.{drop-append-le}
 use Rattle.std.proofs.Math.Seq.{drop-append-add}
 use Rattle.uri_args.specs.declared.targets.Target.{Target}
 use Rattle.http_in.specs.declared.heads.Head as heads
 use Rattle.http_in.specs.declared.framing.BodyKind.{BodyKind}
 use Rattle.http_in.specs.Ends.{head_end}
-use Rattle.http_bodies.specs.declared.bodies.BodyRead.{BodyRead}
 use Rattle.http_bodies.specs.declared.bodies.BodyRead.TheVariants as read
 use Rattle.http_bodies.specs.declared.states.BodyState.{BodyState}
 use Rattle.http_bodies.specs.declared.states.BodyState.TheVariants as state
@@ -14,14 +13,14 @@ use Rattle.http_bodies.specs.Records.{Body}
 use Rattle.http_bodies.specs.States.{is_settled}
 use Rattle.http_bodies.specs.Bodies.{begun, begun_state, after_one, after_bytes, used, answer_at}
 use Rattle.http_bodies.specs.Skips.{no_limit, skipped, skip_count}
-use Rattle.http_bodies.proofs.Skipping.{skipped-append, settled-stays, settled-counts, counts-append, counts-within, counts-all}
+use Rattle.http_bodies.proofs.Skipping.{settled-stays, settled-counts, counts-append, counts-within, counts-all}
 use Rattle.http_bodies.proofs.Pieces as pieces
 use Rattle.client_line.specs.declared.requests.LineOut.{LineOut}
 use Rattle.client_line.specs.declared.requests.LineOut.TheVariants as out
 use Rattle.client_line.specs.Records.{At, Came}
 use Rattle.client_line.specs.Records as line
-use Rattle.client_line.specs.Lines.{came_at, after_body, drops, settled, after_head, count_by, taken_count, body_so_far, read_answer, reads_body, after_asked, asked_at, body_answer, answer_in, content, done, ended_at, after_answer, LeadsAt, IsFed}
-use Rattle.client_line.proofs.Feeds.{drops-on, settled-on, ends, after-on}
+use Rattle.client_line.specs.Lines.{came_at, after_body, drops, settled, after_head, count_by, taken_count, after_asked, asked_at, answer_in, content, done, after_answer, LeadsAt, IsFed}
+use Rattle.client_line.proofs.Feeds.{drops-on, ends, after-on}
 use Rattle.line_answers.specs.Feeding.{fed}
 use Rattle.connection.specs.Clients.{Exchange, exchange}
 use Rattle.connection.specs.InStep.{IsInStep}
@@ -267,12 +266,15 @@ reads-on all older kind y held h l =
 -- where a body that goes on is refused by the bytes that are held
 faults-on : (all : List ℕ) (older : List Exchange) (kind : BodyKind) (y : Body) (held : List ℕ) → IsReadOf all older kind y held → (code : ℕ) → (after_bytes y held).state ≡ state.Refused code
     → IsFault all older kind code
-faults-on all older kind y held x code e = (x.max, λ later.
-    let z = after_bytes y held in
-    ap (λ (bs : List ℕ). (after_bytes (begun kind x.max) bs).state) (x.follows later)
-    ∙ ap (λ (b : Body). b.state) (sym (pieces.after_bytes-append (begun kind x.max) x.read (held ++ later)) ∙ ap (λ (b : Body). after_bytes b (held ++ later)) (sym x.is)
-    ∙ sym (pieces.after_bytes-append y held later) ∙ pieces.settled-stays z.max z.state z.content later (ap is_settled e))
-    ∙ e)
+faults-on all older kind y held x code e = (
+  x.max,
+  λ later.
+      let z = after_bytes y held in
+      ap (λ (bs : List ℕ). (after_bytes (begun kind x.max) bs).state) (x.follows later)
+      ∙ ap (λ (b : Body). b.state) (sym (pieces.after_bytes-append (begun kind x.max) x.read (held ++ later)) ∙ ap (λ (b : Body). after_bytes b (held ++ later)) (sym x.is)
+      ∙ sym (pieces.after_bytes-append y held later) ∙ pieces.settled-stays z.max z.state z.content later (ap is_settled e))
+      ∙ e,
+)
 
 fault-stays : (all : List ℕ) (older : List Exchange) (kind : BodyKind) (y : Body) (held : List ℕ) → IsSoFar all older kind y held → (code : ℕ) → (after_bytes y held).state ≡ state.Refused code
     → IsFault all older kind code

@@ -1,6 +1,5 @@
--- Whatever comes to a connection, every reply stays its run's own.
-use Rattle.std.proofs.Common.{inl, inr, ◌≡◌, ℕ, zero, suc, ◌≤◌, ◌&&◌, ◌||◌, Bool, true, false, List, [], ◌∷◌, ◌++◌, take, drop, length, Some, None, if◌then◌else◌, refl, sym, ap, ◌∙◌, subst, arith, take-append-drop, append_assoc, append-nil}
-use Rattle.std.proofs.Math.Seq.{take-append_seam}
+-- Whatever a connection does, every reply stays its run's own.
+use Rattle.std.proofs.Common.{inl, inr, ◌≡◌, ℕ, zero, suc, ◌&&◌, ◌||◌, Bool, true, false, List, [], ◌∷◌, ◌++◌, length, Some, None, if◌then◌else◌, refl, sym, ap, ◌∙◌, subst, append-nil}
 use Rattle.std.specs.Prelude.{not}
 use Rattle.uri_args.specs.declared.targets.Target.{Target}
 use Rattle.http_in.specs.declared.heads.Head.{Head}
@@ -12,94 +11,50 @@ use Rattle.client_line.specs.declared.line.Held.{Held}
 use Rattle.client_line.specs.declared.line.Held.TheVariants as held
 use Rattle.client_line.specs.Records.{At, Came}
 use Rattle.client_line.specs.Records as line
-use Rattle.client_line.specs.Lines.{after_asked, asked_at, body_answer, answer_in, content, settled, done, held_in, IsFed}
-use Rattle.line_answers.specs.Feeding.{Fed, fed}
+use Rattle.client_line.specs.Lines.{after_asked, body_answer, content, settled, done, held_in, IsFed}
+use Rattle.line_answers.specs.Feeding.{fed}
 use Rattle.line_answers.proofs.Feeds.{is-fed}
 use Rattle.connection.proofs.Bodies.{asked-in-step, fed-in-step, done-in-step}
 use Rattle.connection.proofs.Readings.{fed-has-room}
 use Rattle.connection.specs.InStep.{IsInStep}
 use Rattle.connection.specs.Asked.{bytes_of}
 use Rattle.strand_contract.specs.declared.turns.Place.TheVariants as place
-use Rattle.strand_contract.specs.declared.turns.Start.TheVariants as start
-use Rattle.strand_contract.specs.declared.turns.Answer.{Answer}
-use Rattle.strand_contract.specs.declared.turns.Answer.TheVariants as answer
-use Rattle.strand_contract.specs.Actions.{Action, LocalAction, Told, Did, Began, Bytes, Ended, Broken, Ready, Dialled, Refused}
-use Rattle.strand_contract.specs.Actions.{Put, Later, Lost, Close, Log, Dict, Take, Dial, Keep, Timer, Dropped, Run, Offer, Due, Halted, Gone}
-use Rattle.strand_contract.specs.Alone.{IsPrefixOf}
-use Rattle.strand_contract.specs.Laws.{is_still}
-use Rattle.strand_contract.specs.Calls.{answered}
-use Rattle.moves.specs.Questions.{asking_if}
-use Rattle.moves.specs.Ledgers.{Ledger, has_number, numbers, left_at, empty_ledger, entered}
+use Rattle.strand_contract.specs.Actions.{LocalAction}
+use Rattle.strand_contract.specs.Alone.{moment, socket_count}
+use Rattle.moves.specs.Ledgers.{Ledger, has_number, numbers}
 use Rattle.moves.specs.Moves.{Move, Done, Cancel, HangUp, State, with_sent, with_offer, with_deadline, without_deadline, hung_up, Performed, perform}
 use Rattle.moves.specs.Moves as move
-use Rattle.moves.specs.Plans.{stepped, unborn_state}
-use Rattle.moves.specs.Turns.{Comes, IsDue}
-use Rattle.moves.proofs.Places.{has-without, has-append}
+use Rattle.moves.proofs.Places.{has-without}
 use Rattle.run_contract.specs.declared.turns.RunSeen.{RunSeen}
 use Rattle.run_contract.specs.declared.turns.RunSeen.TheVariants as seen
-use Rattle.run_contract.specs.declared.turns.Said.TheVariants as said
-use Rattle.run_contract.specs.declared.turns.SockSeen.{SockSeen}
-use Rattle.run_contract.specs.declared.turns.SockSeen.TheVariants as at
 use Rattle.run_contract.specs.Runs.{waits_at_first}
 use Rattle.run_contract.specs.Alike.{AreAlike}
 use Rattle.run_contract.specs.Conditions.{IsBlank, IsRun, MayCome, entered_as}
-use Rattle.run_contract.specs.StoredLaws.{not-below}
 use Rattle.connection.specs.Clients.{Stage, Client, Exchange, exchange, with_more, with_request, with_refusal, closes_after}
 use Rattle.connection.specs.Clients as stage
 use Rattle.connection.specs.Services.{Service, Both}
 use Rattle.connection.specs.Timers.{number_of, time_of, later}
 use Rattle.connection.specs.Timers as timer
-use Rattle.connection.specs.Turns.{is_there, is_all_taken, is_to_close, change, finish, begin_timer, end_timer, await_body, tell, lose_at, lose, begin, close_if_taken, refuse, wait_for, heard_by, heard, next, body_told, tell_body, ask_body, busy, flush, settled_at, tells, settle_for, settle}
-use Rattle.connection.specs.Connections.{came_at, ends_at, to_run, is_due, connection_plan, connection_behavior}
-use Rattle.connection.specs.Connections as turns
-use Rattle.connection.specs.Conditions.{Agrees, Knows}
-use Rattle.connection.proofs.Alike.{alike-refl, alike-trans, sent-alike, armed-alike, cancelled-alike, hung-up-alike, client-alike, due-alike, still-alike, AtClient, blank-alike}
+use Rattle.connection.specs.Turns.{is_there, is_all_taken, is_to_close, change, finish, begin_timer, end_timer, tell, lose_at, lose, begin, close_if_taken, refuse, wait_for, heard_by, heard, next, body_told, tell_body, ask_body, busy, flush, settled_at, tells, settle_for, settle}
+use Rattle.connection.specs.Conditions.{Agrees}
+use Rattle.connection.proofs.Alike.{alike-refl, alike-trans, armed-alike, cancelled-alike, hung-up-alike, blank-alike}
 use Rattle.connection.proofs.Lifted.{state}
 use Rattle.connection.proofs.Steps.{own-number}
-use Rattle.connection.proofs.Meets.{taken-of}
-use Rattle.connection.proofs.Stays.{Known, agrees-alike, known-follows, busy-holds}
-use Rattle.connection.proofs.Prefixes.{went, await_body-precedes}
-use Rattle.connection.proofs.GoingOn.{LeavesAt, await_body-leaves, says-came}
+use Rattle.connection.proofs.Stays.{agrees-alike, busy-holds}
 use Rattle.reply_laws.specs.Own.{SameOwn, MindsItsOwn}
-use Rattle.reply_laws.specs.Alone.{News, Seen, Given, own_ledger, alone}
+use Rattle.reply_laws.specs.Alone.{News, Seen, own_ledger}
 use Rattle.reply_laws.specs.Bodies.{IsOwnBody, IsOwnFault}
-use Rattle.reply_laws.specs.Replies.{Happened, IsMoment, IsNews}
-use Rattle.reply_laws.proofs.Places.{Placed, BodyAt, IsKept, body-kept, settled-placed, begun-placed, begun-body, waits-placed, fed-body, fed-kept, fed-placed, asked-body, asked-placed, told-own, told-fault}
-use Rattle.reply_laws.proofs.Owns.{same-alike, blank-same, run-same, due-same, bytes-same, ended-same, broken-same, dialled-same, refused-same, ready-same, later-same, lost-same, took-same, dial-same, take-same, keep-same, dict-same, timer-same}
-use Rattle.reply_laws.proofs.Saying.{IsSaid, await-from}
-use Rattle.reply_laws.proofs.Going.{LineAt, Own, Whole, whole-owns, GoesWith, Goes, Good, Fine, good-idle, good-gone, good-alike, said-own, Takes, turn-good, tell-good, answer-good}
-
--- the bytes that a place took are the first of what was left
-taken-are : (bytes left : List ℕ) (m : ℕ) → IsPrefixOf bytes (take m left) → take (length bytes) left ≡ bytes
-taken-are bytes left m h =
-    ap (take (length bytes)) (sym (take-append-drop m left) ∙ ap (λ (xs : List ℕ). xs ++ drop m left) (sym h.1) ∙ append_assoc bytes h.0 (drop m left))
-    ∙ take-append_seam bytes (h.0 ++ drop m left)
-
--- the bytes that an action brings of the client
-abbrev pub came_by : {J : Type 0} → LocalAction J → List ℕ
-came_by (Did (Bytes place.Client bytes)) = bytes
-came_by a = []
-
--- it is a beginning
-abbrev pub is_first : {J : Type 0} → LocalAction J → Bool
-is_first (Did (Began now begin)) = true
-is_first a = false
-
-bytes-append : {J : Type 0} (later es : List (LocalAction J)) → bytes_of (later ++ es) ≡ bytes_of es ++ bytes_of later
-bytes-append [] es = sym (append-nil (bytes_of es))
-bytes-append (Did (Bytes place.Client bytes) ∷ later) es = ap (λ bs. bs ++ bytes) (bytes-append later es) ∙ append_assoc (bytes_of es) (bytes_of later) bytes
-bytes-append (a ∷ later) es = bytes-append later es
-
-pub bytes-come : {J : Type 0} (a : LocalAction J) (es : List (LocalAction J)) → bytes_of (a ∷ es) ≡ bytes_of es ++ came_by a
-bytes-come (Did (Bytes place.Client bytes)) es = refl
-bytes-come a es = sym (append-nil (bytes_of es))
+use Rattle.reply_laws.specs.Replies.{IsNews}
+use Rattle.reply_laws.proofs.Places.{Placed, BodyAt, IsKept, settled-placed, begun-placed, begun-body, waits-placed, asked-body, asked-placed, told-own, told-fault}
+use Rattle.reply_laws.proofs.Owns.{blank-same}
+use Rattle.reply_laws.proofs.Going.{here, up-to-later, Counted, LineAt, Own, Whole, whole-owns, Goes, Good, Fine, good-idle, good-gone, good-alike, Takes, turn-good, tell-good}
 
 -- a stage at which no run goes on
-abbrev IsIdle : Stage → Type 0
+abbrev pub IsIdle : Stage → Type 0
 IsIdle stage.Busy = ⊥
 IsIdle st = Unit {0}
 
-not-busy : (st : Stage) → IsIdle st → st ≡ stage.Busy → ⊥
+pub not-busy : (st : Stage) → IsIdle st → st ≡ stage.Busy → ⊥
 not-busy stage.Busy h e = h
 not-busy stage.Idle h e = let f : stage.Idle ≡ stage.Busy = e in cc
 not-busy stage.Head h e = let f : stage.Head ≡ stage.Busy = e in cc
@@ -121,37 +76,41 @@ neither-right false b h = absurd (let e : true ≡ false = h in cc)
 
 -- This is the newest action of an execution, and with it these happened.
 module _ {J R : Type 0} (site : Service J R) (now : ℕ) (es : List (LocalAction J)) (holds : Ledger J → R → Type 0) (run : IsRun site.runs holds) (minds : MindsItsOwn site.runs)
-    (here : (later : List (LocalAction J)) → IsMoment (later ++ es) now) where
-  abbrev Sound : State J (Both R) → Type 0
+    (moment_is : moment es ≡ now) where
+  abbrev pub Sound : State J (Both R) → Type 0
   Sound st = Good site es (bytes_of es) st
 
-  abbrev Wholes : List Exchange → Type 0
+  -- it is known, no question waits, and there were so many sockets as the execution tells
+  abbrev pub Counts : Ledger J → Both R → Type 0
+  Counts b s = Counted site now es (bytes_of es) holds run b s
+
+  abbrev pub Wholes : List Exchange → Type 0
   Wholes xs = Whole site es (bytes_of es) xs
 
-  abbrev Owns : List Exchange → Type 0
+  abbrev pub Owns : List Exchange → Type 0
   Owns xs = Own site es (bytes_of es) xs
 
-  abbrev Keeps : Move J (Both R) → Type 0
+  abbrev pub Keeps : Move J (Both R) → Type 0
   Keeps m = Fine site now es (bytes_of es) holds run m
 
-  idle-at : (b : Ledger J) (s : Both R) → IsIdle s.client.stage → Owns s.client.exchanges → LineAt site es (bytes_of es) s.client.stage s.client → Sound (state b s)
+  pub idle-at : (b : Ledger J) (s : Both R) → IsIdle s.client.stage → Owns s.client.exchanges → LineAt site es (bytes_of es) s.client.stage s.client → Sound (state b s)
   idle-at b s h own line = good-idle site es (bytes_of es) (state b s) (not-busy s.client.stage h) own line
 
   -- what it learns did happen
-  abbrev Learned : News J → Ledger J → Both R → Type 0
-  Learned n b s = (g : Goes site es (bytes_of es) (state b s)) (later : List (LocalAction J)) → IsNews (later ++ es) g.older g.task.head n
+  abbrev pub Learned : News J → Ledger J → Both R → Type 0
+  Learned n b s = (g : Goes site es (bytes_of es) (state b s)) → IsNews g.older g.beginning.head es n
 
-  done-fine : Keeps Done
+  pub done-fine : Keeps Done
   done-fine b s k h = h
 
-  finish-good : (b : Ledger J) (s : Both R) → Owns s.client.exchanges → Sound (perform finish b s).state
+  pub finish-good : (b : Ledger J) (s : Both R) → Owns s.client.exchanges → Sound (perform finish b s).state
   finish-good b s own = good-gone site es (bytes_of es) _ refl own
 
-  known-alike : (b c : Ledger J) (s : Both R) → AreAlike b c → Known holds b s → Known holds c s
-  known-alike b c s like k = (agrees-alike site now holds run s.client.stage b c s.run like k.0, sym like.asked ∙ k.1)
+  known-alike : (b c : Ledger J) (s : Both R) → AreAlike b c → Counts b s → Counts c s
+  known-alike b c s like k = (agrees-alike site now holds run s.client.stage b c s.run like k.0, sym like.asked ∙ k.1, sym like.count ∙ k.2)
 
   -- after the end of a timer
-  ends-good : (t : timer.Timer) (m : Move J (Both R)) (b : Ledger J) (s : Both R) → ((c : Ledger J) → AreAlike b c → is_there c ≡ is_there b → Sound (perform m c s).state)
+  pub ends-good : (t : timer.Timer) (m : Move J (Both R)) (b : Ledger J) (s : Both R) → ((c : Ledger J) → AreAlike b c → is_there c ≡ is_there b → Sound (perform m c s).state)
       → Sound (perform (end_timer site now t m) b s).state
   ends-good t m b s f = by (has_number (number_of t) (numbers b.armed))
     where
@@ -162,18 +121,18 @@ module _ {J R : Type 0} (site : Service J R) (now : ℕ) (es : List (LocalAction
   end-timer-fine : (t : timer.Timer) (m : Move J (Both R)) → Keeps m → Keeps (end_timer site now t m)
   end-timer-fine t m f b s k h = ends-good t m b s (λ c like same. f c s (known-alike b c s like k) (good-alike site es (bytes_of es) b c s like same h))
 
-  begins-good : (t : timer.Timer) (b : Ledger J) (s : Both R) → Sound (state b s) → Sound (perform (begin_timer site now t Done) b s).state
+  pub begins-good : (t : timer.Timer) (b : Ledger J) (s : Both R) → Sound (state b s) → Sound (perform (begin_timer site now t Done) b s).state
   begins-good t b s h =
       let due = later now (time_of site.default_times s.client.times t) in
       good-alike site es (bytes_of es) b (with_deadline (number_of t) due b) s (armed-alike (number_of t) due b (own-number t)) refl h
 
   -- told of its client
-  told-fine : (x : RunSeen) (m : Move J (Both R)) (b : Ledger J) (s : Both R) → s.client.stage ≡ stage.Busy → Known holds b s → MayCome site.runs now x b s.run
+  told-fine : (x : RunSeen) (m : Move J (Both R)) (b : Ledger J) (s : Both R) → s.client.stage ≡ stage.Busy → Counts b s → MayCome site.runs now x b s.run
       → ((c : Ledger J) → entered_as x c ≡ c) → (is_there b ≡ true → Learned (Seen now x) b s) → Sound (state b s) → Keeps m → Sound (perform (tell site now x m) b s).state
   told-fine x m b s at k may enters true_news h fine =
       subst (λ (c : Ledger J). Sound (perform (tell site now x m) c s).state) (enters b)
       (tell-good site now es (bytes_of es) holds run minds x m b s at (busy-holds site now holds run b s s.client.stage at k.0) may
-      (ap (λ (c : Ledger J). c.asked) (enters b) ∙ k.1)
+      (ap (λ (c : Ledger J). c.asked) (enters b) ∙ k.1) (ap (λ (c : Ledger J). c.count) (enters b) ∙ k.2)
       (λ c same. subst (λ (d : Ledger J). SameOwn d (entered_as x c)) (sym (enters b)) (subst (λ (d : Ledger J). SameOwn b d) (sym (enters c)) same))
       (ap (λ (c : Ledger J). is_there c) (enters b)) true_news h fine)
 
@@ -182,7 +141,7 @@ module _ {J R : Type 0} (site : Service J R) (now : ℕ) (es : List (LocalAction
   hung-gone : (b : Ledger J) → is_there (hung_up place.Client b) ≡ false
   hung-gone b = has-without place.Client place.Client b.opened
 
-  lose-fine : Keeps (lose site now)
+  pub lose-fine : Keeps (lose site now)
   lose-fine b s k h = by s.client.stage refl
     where
       gone : (c : Ledger J) → AreAlike b c → is_there c ≡ false → s.client.stage ≡ stage.Busy → (w : Bool) → (site.runs.waits s.run).client ≡ w
@@ -206,23 +165,23 @@ module _ {J R : Type 0} (site : Service J R) (now : ℕ) (es : List (LocalAction
 
   -- ---- requests in turn
 
-  begin-good : (rest : Move J (Both R)) (head : Head) (target : Target) (b : Ledger J) (s : Both R) → Keeps rest → IsBlank b → is_there b ≡ true → Wholes s.client.exchanges
+  begin-good : (rest : Move J (Both R)) (head : Head) (target : Target) (b : Ledger J) (s : Both R) → Keeps rest → IsBlank b → b.count ≡ socket_count es → is_there b ≡ true → Wholes s.client.exchanges
       → IsInStep s.client.came.at → Placed (bytes_of es) (exchange (out.Request head target) [] ∷ s.client.exchanges) (done s.client.came)
       → BodyAt (bytes_of es) s.client.exchanges head.body s.client.came
       → Sound (perform (begin site now rest head target) b s).state
-  begin-good rest head target b s fine blank there own step placed body =
+  begin-good rest head target b s fine blank counts there own step placed body =
       turn-good site now es (bytes_of es) holds run (site.runs.begun now head target b) rest (waits_at_first true) b begun refl
-      (run.begins_by_own now head target b) (run.begins now head target b blank) blank.none_asked (λ e. takes) (λ e. absurd (let n : false ≡ true = sym e ∙ there in cc)) fine
+      (run.begins_by_own now head target b) (run.begins now head target b blank) blank.none_asked counts (λ e. takes) (λ e. absurd (let n : false ≡ true = sym e ∙ there in cc)) fine
     where
       begun : Both R
       begun = record { client = with_request head target (site.times_of head target) s.client; run = site.runs.unborn }
 
       takes : Takes site es (bytes_of es) (site.runs.begun now head target b) b begun
       takes = record {
-        task = record { head = head; target = target; now = now; sockets = b.count };
+        beginning = record { head = head; target = target; now = now; sockets = b.count };
         news = [];
         older = s.client.exchanges;
-        with_it = record { olds = own; begun = here; happened = λ later. tt; step = step; placed = placed; body = body };
+        with_it = record { olds = own; learned = (es, here es, moment_is, sym counts); step = step; placed = placed; body = body };
         words = [];
         own = own_ledger b.count;
         turn = site.runs.begun now head target (own_ledger b.count);
@@ -257,7 +216,7 @@ module _ {J R : Type 0} (site : Service J R) (now : ℕ) (es : List (LocalAction
       by : (c : Bool) → c ≡ true
           → Sound (perform (if c then change (λ c. record c { exchanges = with_more (site.refusal code now) c.exchanges }) (move.Send place.Client (site.refusal code now) (close_if_taken site now)) else close_if_taken site now) b t).state
       by true e = closing-good (with_offer place.Client (with_sent place.Client (site.refusal code now) b))
-          (record t { client = record t.client { exchanges = with_more (site.refusal code now) t.client.exchanges } }) tt (λ later. ((now, here later, refl), own later))
+          (record t { client = record t.client { exchanges = with_more (site.refusal code now) t.client.exchanges } }) tt (λ later. ((es, up-to-later es later es (here es), ap (site.refusal code) (sym moment_is)), own later))
           (over-line status (record t.client { exchanges = with_more (site.refusal code now) t.client.exchanges }) at refl)
       by false e = absurd (let n : false ≡ true = e in cc)
   refuse-good line.Head code b s at there own = finish-good b s (whole-owns site es (bytes_of es) s.client.exchanges own)
@@ -271,10 +230,10 @@ module _ {J R : Type 0} (site : Service J R) (now : ℕ) (es : List (LocalAction
   wait-good held.Begun b s line = let t = record s { client = record s.client { stage = stage.Head } } in begins-good timer.Header b t (idle-at b t tt (whole-owns site es (bytes_of es) s.client.exchanges line.2) line)
   wait-good held.Request b s line = let t = record s { client = record s.client { stage = stage.Head } } in begins-good timer.Header b t (idle-at b t tt (whole-owns site es (bytes_of es) s.client.exchanges line.2) line)
 
-  heard-good : (anew : Bool) (rest : Move J (Both R)) (ended : Bool) (came : Came) (piece : List ℕ) (b : Ledger J) (s : Both R) → Keeps rest → IsBlank b → is_there b ≡ true
+  pub heard-good : (anew : Bool) (rest : Move J (Both R)) (ended : Bool) (came : Came) (piece : List ℕ) (b : Ledger J) (s : Both R) → Keeps rest → IsBlank b → b.count ≡ socket_count es → is_there b ≡ true
       → (anew ≡ false → s.client.stage ≡ stage.Head) → Wholes s.client.exchanges → IsInStep came.at → Placed (bytes_of es) s.client.exchanges (settled came.at (came.held ++ piece))
       → Sound (perform (heard site now anew rest ended (fed came piece)) b s).state
-  heard-good anew rest ended came piece b s fine blank there at_head own step placed = by (fed came piece).answer refl
+  heard-good anew rest ended came piece b s fine blank counts there at_head own step placed = by (fed came piece).answer refl
     where
       after : Came
       after = (fed came piece).after
@@ -296,7 +255,7 @@ module _ {J R : Type 0} (site : Service J R) (now : ℕ) (es : List (LocalAction
 
       by : (answer : LineOut) → (fed came piece).answer ≡ answer → Sound (perform (heard_by site now anew rest after ended answer) b t).state
       by (out.Request head target) e = ends-good timer.Header (begin site now rest head target) b t
-          (λ c like same. begin-good rest head target c t fine (blank-alike b c like blank) (same ∙ there) own stepped_on
+          (λ c like same. begin-good rest head target c t fine (blank-alike b c like blank) (sym like.count ∙ counts) (same ∙ there) own stepped_on
           (begun-placed (bytes_of es) s.client.exchanges came after piece head target [] (is (out.Request head target) e) placed)
           (begun-body (bytes_of es) s.client.exchanges came after piece head target (is (out.Request head target) e) placed))
       by (out.Refused code) e = ends-good timer.Header (refuse site now after.at code) b t (λ c like same. refuse-good after.at code c t refl (same ∙ there) own)
@@ -306,7 +265,7 @@ module _ {J R : Type 0} (site : Service J R) (now : ℕ) (es : List (LocalAction
   -- ---- what a run waits for
 
   -- at a stage of which nothing is said
-  busy-line : (c : Client) → c.stage ≡ stage.Busy → LineAt site es (bytes_of es) c.stage c
+  pub busy-line : (c : Client) → c.stage ≡ stage.Busy → LineAt site es (bytes_of es) c.stage c
   busy-line c e = subst (λ (st : Stage). LineAt site es (bytes_of es) st c) (sym e) tt
 
   asked-good : (b : Ledger J) (s : Both R) → s.client.stage ≡ stage.Busy → Sound (state b s)
@@ -314,16 +273,15 @@ module _ {J R : Type 0} (site : Service J R) (now : ℕ) (es : List (LocalAction
   asked-good b s at h = record {
     replies = h.replies;
     goes = λ e there. let g = h.goes e there in record {
-      task = g.task;
+      beginning = g.beginning;
       news = g.news;
       older = g.older;
       with_it = record {
         olds = g.with_it.olds;
-        begun = g.with_it.begun;
-        happened = g.with_it.happened;
+        learned = g.with_it.learned;
         step = asked-in-step s.client.came.at s.client.came.held s.client.limit g.with_it.step;
-        placed = asked-placed (bytes_of es) (exchange (out.Request g.task.head g.task.target) [] ∷ g.older) s.client.came s.client.limit g.with_it.step g.with_it.placed;
-        body = asked-body (bytes_of es) g.older g.task.head.body s.client.came.at s.client.came.held s.client.limit g.with_it.body;
+        placed = asked-placed (bytes_of es) (exchange (out.Request g.beginning.head g.beginning.target) [] ∷ g.older) s.client.came s.client.limit g.with_it.step g.with_it.placed;
+        body = asked-body (bytes_of es) g.older g.beginning.head.body s.client.came.at s.client.came.held s.client.limit g.with_it.body;
       };
       run = g.run;
       ledger = g.ledger;
@@ -335,7 +293,7 @@ module _ {J R : Type 0} (site : Service J R) (now : ℕ) (es : List (LocalAction
 
   -- what the line was asked for; `c` is the client before
   body-told-good : (may : Bool) (c : Client) (a : BodyRead) → body_answer c.came c.limit ≡ a → (again : Move J (Both R)) (b : Ledger J) (s : Both R)
-      → s.client.came ≡ after_asked c.came c.limit → s.client.stage ≡ stage.Busy → Known holds b s
+      → s.client.came ≡ after_asked c.came c.limit → s.client.stage ≡ stage.Busy → Counts b s
       → (site.runs.waits s.run).body ≡ true → Sound (state b s) → Keeps again → Sound (perform (tell_body site now again (body_told may c a)) b s).state
   body-told-good may c a is again b s came at k waits h fine = by a is
     where
@@ -346,20 +304,24 @@ module _ {J R : Type 0} (site : Service J R) (now : ℕ) (es : List (LocalAction
 
       waiting : (c : Bool) → Sound (perform (tell_body site now again (if c then None else Some (seen.BodyRefused 400))) b s).state
       waiting true = h
-      waiting false = told (seen.BodyRefused 400) (λ d n. (n, waits)) (λ d. refl) (λ d g later. (here later, inr refl))
+      waiting false = told (seen.BodyRefused 400) (λ d n. (n, waits)) (λ d. refl) (λ d g. (moment_is, inr refl))
+
+      -- all bytes that came, and none later
+      whole-bytes : bytes_of es ++ [] ≡ bytes_of es
+      whole-bytes = append-nil (bytes_of es)
 
       own : (n : ℕ) → body_answer c.came c.limit ≡ body.Whole n → (d : Ledger J) → Learned (Seen now (seen.Body (content (after_asked c.came c.limit).at) c.waited)) d s
-      own n e d g later = (
-        here later,
-        subst (λ (bs : List ℕ). IsOwnBody bs g.older g.task.head (content (after_asked c.came c.limit).at)) (sym (bytes-append later es))
-            (told-own (bytes_of es) g.older g.task.head c.came.at c.came.held c.limit n e (subst (λ (x : Came). BodyAt (bytes_of es) g.older g.task.head.body x) came g.with_it.body) (bytes_of later)),
+      own n e d g = (
+        moment_is,
+        subst (λ (bs : List ℕ). IsOwnBody bs g.older g.beginning.head (content (after_asked c.came c.limit).at)) whole-bytes
+            (told-own (bytes_of es) g.older g.beginning.head c.came.at c.came.held c.limit n e (subst (λ (x : Came). BodyAt (bytes_of es) g.older g.beginning.head.body x) came g.with_it.body) []),
       )
 
       fault : (code : ℕ) → body_answer c.came c.limit ≡ body.Refused code → (d : Ledger J) → Learned (Seen now (seen.BodyRefused code)) d s
-      fault code e d g later = (
-        here later,
-        inl (subst (λ (bs : List ℕ). IsOwnFault bs g.older g.task.head code) (sym (bytes-append later es))
-            (told-fault (bytes_of es) g.older g.task.head c.came.at c.came.held c.limit code e (subst (λ (x : Came). BodyAt (bytes_of es) g.older g.task.head.body x) came g.with_it.body) (bytes_of later))),
+      fault code e d g = (
+        moment_is,
+        inl (subst (λ (bs : List ℕ). IsOwnFault bs g.older g.beginning.head code) whole-bytes
+            (told-fault (bytes_of es) g.older g.beginning.head c.came.at c.came.held c.limit code e (subst (λ (x : Came). BodyAt (bytes_of es) g.older g.beginning.head.body x) came g.with_it.body) [])),
       )
 
       by : (a : BodyRead) → body_answer c.came c.limit ≡ a → Sound (perform (tell_body site now again (body_told may c a)) b s).state
@@ -368,7 +330,7 @@ module _ {J R : Type 0} (site : Service J R) (now : ℕ) (es : List (LocalAction
       by body.More e = waiting may
       by body.Memory e = waiting may
 
-  busy-good : (again : Move J (Both R)) (b : Ledger J) (s : Both R) → s.client.stage ≡ stage.Busy → Known holds b s → Sound (state b s) → Keeps again
+  busy-good : (again : Move J (Both R)) (b : Ledger J) (s : Both R) → s.client.stage ≡ stage.Busy → Counts b s → Sound (state b s) → Keeps again
       → Sound (perform (busy site now again b s) b s).state
   busy-good again b s at k h fine = first (is_all_taken b && (site.runs.waits s.run).taken) refl
     where
@@ -385,10 +347,10 @@ module _ {J R : Type 0} (site : Service J R) (now : ℕ) (es : List (LocalAction
 
       first : (c : Bool) → (is_all_taken b && (site.runs.waits s.run).taken) ≡ c → Sound (perform (if c then tell site now seen.AllTaken again
           else (if is_to_close b s.client then lose site now else (if (site.runs.waits s.run).body then ask_body site now again b s.client else Done))) b s).state
-      first true e = told-fine seen.AllTaken again b s at k (k.1, and-right (is_all_taken b) (site.runs.waits s.run).taken e) (λ c. refl) (λ l g later. here later) h fine
+      first true e = told-fine seen.AllTaken again b s at k (k.1, and-right (is_all_taken b) (site.runs.waits s.run).taken e) (λ c. refl) (λ l g. moment_is) h fine
       first false e = second (is_to_close b s.client)
 
-  flush-good : (rest : Move J (Both R)) (b : Ledger J) (s : Both R) → s.client.stage ≡ stage.Flush → Known holds b s → Sound (state b s) → Keeps rest
+  flush-good : (rest : Move J (Both R)) (b : Ledger J) (s : Both R) → s.client.stage ≡ stage.Flush → Counts b s → Sound (state b s) → Keeps rest
       → Sound (perform (flush site now rest b s.client) b s).state
   flush-good rest b s e k h fine = by (not (is_all_taken b)) (not (is_there b) || closes_after s.client.reply) refl
     where
@@ -399,11 +361,11 @@ module _ {J R : Type 0} (site : Service J R) (now : ℕ) (es : List (LocalAction
           let there = neither-left (is_there b) (closes_after s.client.reply) n in
           let at_flush : LineAt site es (bytes_of es) stage.Flush s.client = subst (λ (st : Stage). LineAt site es (bytes_of es) st s.client) e (h.line there) in
           let c = done s.client.came in
-          heard-good true rest s.client.ended c [] b s fine (subst (λ (st : Stage). Agrees holds st b s.run) e k.0) there (λ f. absurd (let x : true ≡ false = f in cc)) (at_flush.3 (neither-right (is_there b) (closes_after s.client.reply) n))
+          heard-good true rest s.client.ended c [] b s fine (subst (λ (st : Stage). Agrees holds st b s.run) e k.0) k.2 there (λ f. absurd (let x : true ≡ false = f in cc)) (at_flush.3 (neither-right (is_there b) (closes_after s.client.reply) n))
           (done-in-step s.client.came.at s.client.came.held at_flush.0)
           (subst (λ (bs : List ℕ). Placed bs s.client.exchanges (settled c.at (c.held ++ []))) (append-nil (bytes_of es)) (settled-placed (bytes_of es) [] s.client.exchanges c at_flush.2))
 
-  settled-good : (st : Stage) (again rest : Move J (Both R)) (b : Ledger J) (s : Both R) → s.client.stage ≡ st → Known holds b s → Sound (state b s) → Keeps again → Keeps rest
+  settled-good : (st : Stage) (again rest : Move J (Both R)) (b : Ledger J) (s : Both R) → s.client.stage ≡ st → Counts b s → Sound (state b s) → Keeps again → Keeps rest
       → Sound (perform (settled_at site now st again rest b s) b s).state
   settled-good stage.Busy again rest b s e k h f g = busy-good again b s e k h f
   settled-good stage.Flush again rest b s e k h f g = flush-good rest b s e k h g
@@ -420,324 +382,5 @@ module _ {J R : Type 0} (site : Service J R) (now : ℕ) (es : List (LocalAction
   settle-for-fine zero b s k h = h
   settle-for-fine (suc n) b s k h = tells-fine (settle_for site now n) (site.runs.tells_left s.run) (settle-for-fine n) b s k h
 
-  settle-fine : Keeps (settle site now)
+  pub settle-fine : Keeps (settle site now)
   settle-fine b s k h = settle-for-fine (suc (length s.client.came.held)) b s k h
-
-  -- ---- what comes to the strand
-
-  -- what the client sends is waited for, and it may be let send it
-  await-good : (b : Ledger J) (s : Both R) → s.client.stage ≡ stage.Busy → Known holds b s → is_there b ≡ true → Sound (state b s)
-      → Sound (perform (await_body site now (settle site now)) b s).state
-  await-good b s at k there h =
-      subst (λ (p : Performed J (Both R)). Sound p.state) (sym (await_body-precedes site now b s (settle site now)))
-      (settle-fine d.ledger d.inner (known-follows site now holds run b d.ledger s d.inner s.client.stage follows k.0 k.1) (good (h.goes at there)))
-    where
-      d : State J (Both R)
-      d = (went (await_body site now) b s).state
-
-      follows : LeavesAt site now s.client.stage (await_body site now) b s
-      follows = await_body-leaves site now b s
-
-      came : d.inner.client.came ≡ s.client.came
-      came = says-came site now (said.WantsBody s.client.limit ∷ []) b s
-
-      good : Goes site es (bytes_of es) (state b s) → Sound d
-      good g =
-          let said = await-from site now g.task.head g.task.target g.older (IsSaid site now g.task.head g.task.target g.older (alone site.runs g.task g.news).said)
-          (alone site.runs g.task g.news).said Done (λ c t k l. (k, l)) b s there g.says in
-          record {
-            replies = said-own site es (bytes_of es) g.task g.news g.older s.client.came d.inner.client g.with_it said.1;
-            goes = λ e l. record {
-              task = g.task;
-              news = g.news;
-              older = g.older;
-              with_it = subst (λ (c : Came). GoesWith site es (bytes_of es) g.task g.news g.older c) (sym came) g.with_it;
-              run = follows.run ∙ g.run;
-              ledger = same-alike b d.ledger _ follows.alike g.ledger;
-              over = g.over;
-              says = said.1;
-            };
-            line = λ l. busy-line d.inner.client (follows.stage ∙ at);
-          }
-
-  -- a piece comes, with which these bytes came in all
-  came-at-good : (before piece : List ℕ) → bytes_of es ≡ before ++ piece → (b : Ledger J) (s : Both R) → Known holds b s → is_there b ≡ true → Good site es before (state b s)
-      → Sound (perform (came_at site now s.client.stage (fed s.client.came piece) s) b s).state
-  came-at-good before piece all b s k there h = by s.client.stage refl
-    where
-      f : Fed
-      f = fed s.client.came piece
-
-      t : Both R
-      t = record s { client = record s.client { came = f.after } }
-
-      here_at : (st : Stage) → s.client.stage ≡ st → LineAt site es before st s.client
-      here_at st e = subst (λ (st : Stage). LineAt site es before st s.client) e (h.line there)
-
-      heard-so : (anew : Bool) → (anew ≡ false → s.client.stage ≡ stage.Head) → IsBlank b → IsInStep s.client.came.at × Placed before s.client.exchanges s.client.came × Wholes s.client.exchanges
-          → Sound (perform (heard site now anew (settle site now) s.client.ended f) b s).state
-      heard-so anew at_head blank line =
-          heard-good anew (settle site now) s.client.ended s.client.came piece b s settle-fine blank there at_head line.2 line.0
-          (subst (λ (bs : List ℕ). Placed bs s.client.exchanges (settled s.client.came.at (s.client.came.held ++ piece))) (sym all) (settled-placed before piece s.client.exchanges s.client.came line.1))
-
-      goes-on : s.client.stage ≡ stage.Busy → Goes site es before (state b s) → Sound (state b t)
-      goes-on e g = record {
-        replies = h.replies;
-        goes = λ x l. record {
-          task = g.task;
-          news = g.news;
-          older = g.older;
-          with_it = record {
-            olds = g.with_it.olds;
-            begun = g.with_it.begun;
-            happened = g.with_it.happened;
-            step = fed-in-step s.client.came piece g.with_it.step;
-            placed = subst (λ (bs : List ℕ). Placed bs (exchange (out.Request g.task.head g.task.target) [] ∷ g.older) (done f.after)) (sym all)
-                (fed-placed before piece (exchange (out.Request g.task.head g.task.target) [] ∷ g.older) s.client.came.at s.client.came.held
-                (body-kept before g.older g.task.head.body s.client.came.at s.client.came.held g.with_it.body) g.with_it.placed);
-            body = subst (λ (bs : List ℕ). BodyAt bs g.older g.task.head.body f.after) (sym all) (fed-body before piece g.older g.task.head.body s.client.came.at s.client.came.held g.with_it.body);
-          };
-          run = g.run;
-          ledger = g.ledger;
-          over = g.over;
-          says = record { newest = g.says.newest; unsent = g.says.unsent; expects = g.says.expects };
-        };
-        line = λ l. busy-line t.client e;
-      }
-
-      by : (st : Stage) → s.client.stage ≡ st → Sound (perform (came_at site now st f s) b s).state
-      by stage.Busy e = await-good b t e k there (goes-on e (h.goes e there))
-      by stage.Head e = heard-so false (λ x. e) (subst (λ (st : Stage). Agrees holds st b s.run) e k.0) (here_at stage.Head e)
-      by stage.Idle e = heard-so true (λ x. absurd (let n : true ≡ false = x in cc)) (subst (λ (st : Stage). Agrees holds st b s.run) e k.0) (here_at stage.Idle e)
-      by stage.Drop e = heard-so true (λ x. absurd (let n : true ≡ false = x in cc)) (subst (λ (st : Stage). Agrees holds st b s.run) e k.0) (here_at stage.Drop e)
-      by stage.Flush e =
-          let x = here_at stage.Flush e in
-          idle-at b t (subst IsIdle (sym e) tt) h.replies (subst (λ (st : Stage). LineAt site es (bytes_of es) st t.client) (sym e) (
-            fed-in-step s.client.came piece x.0,
-            fed-kept s.client.came.at s.client.came.held piece x.1,
-            subst (λ (bs : List ℕ). Placed bs s.client.exchanges (done f.after)) (sym all) (fed-placed before piece s.client.exchanges s.client.came.at s.client.came.held x.1 x.2),
-            x.3,
-          ))
-      by stage.Over e = idle-at b t (subst IsIdle (sym e) tt) h.replies (subst (λ (st : Stage). LineAt site es (bytes_of es) st t.client) (sym e) tt)
-
-  ended-good : (b : Ledger J) (s : Both R) → Sound (state b s) → Sound (state b (record s { client = record s.client { ended = true } }))
-  ended-good b s h = record {
-    replies = h.replies;
-    goes = λ e there. let g = h.goes e there in record {
-      task = g.task;
-      news = g.news;
-      older = g.older;
-      with_it = g.with_it;
-      run = g.run;
-      ledger = g.ledger;
-      over = g.over;
-      says = record { newest = g.says.newest; unsent = g.says.unsent; expects = g.says.expects };
-    };
-    line = λ there. by s.client.stage (h.line there);
-  }
-    where
-      by : (st : Stage) → LineAt site es (bytes_of es) st s.client → LineAt site es (bytes_of es) st (record s.client { ended = true })
-      by stage.Busy l = l
-      by stage.Flush l = l
-      by stage.Idle l = l
-      by stage.Head l = l
-      by stage.Drop l = l
-      by stage.Over l = l
-
-  ends-at-good : (b : Ledger J) (s : Both R) → Known holds b s → Sound (state b s) → Sound (perform (ends_at site now s.client.stage) b s).state
-  ends-at-good b s k h = by s.client.stage
-    where
-      by : (st : Stage) → Sound (perform (ends_at site now st) b s).state
-      by stage.Busy = settle-fine b (record s { client = record s.client { ended = true } }) k (ended-good b s h)
-      by stage.Flush = ended-good b s h
-      by stage.Idle = finish-good b s h.replies
-      by stage.Head = finish-good b s h.replies
-      by stage.Drop = finish-good b s h.replies
-      by stage.Over = finish-good b s h.replies
-
-  -- where no run goes on it is as before
-  quiet-good : (b c : Ledger J) (s : Both R) → IsIdle s.client.stage → is_there c ≡ is_there b → Sound (state b s) → Sound (state c s)
-  quiet-good b c s idle same h = record { replies = h.replies; goes = λ e l. absurd (not-busy s.client.stage idle e); line = λ l. h.line (sym same ∙ l) }
-
-  -- a run is told something
-  run-good : (x : RunSeen) (m : Move J (Both R)) (b : Ledger J) (s : Both R) → Agrees holds s.client.stage b s.run → MayCome site.runs now x b s.run → (entered_as x b).asked ≡ None
-      → ((c : Ledger J) → SameOwn b c → SameOwn (entered_as x b) (entered_as x c)) → is_there (entered_as x b) ≡ is_there b → Learned (Seen now x) b s → Sound (state b s) → Keeps m
-      → Sound (perform (to_run site now m s.client.stage x) (entered_as x b) s).state
-  run-good x m b s agrees may none enters opened true_news h fine = by s.client.stage refl
-    where
-      idle : (st : Stage) → IsIdle st → s.client.stage ≡ st → Sound (state (entered_as x b) s)
-      idle st i e = quiet-good b (entered_as x b) s (subst IsIdle (sym e) i) opened h
-
-      by : (st : Stage) → s.client.stage ≡ st → Sound (perform (to_run site now m st x) (entered_as x b) s).state
-      by stage.Busy e = tell-good site now es (bytes_of es) holds run minds x m b s e (busy-holds site now holds run b s s.client.stage e agrees) may none enters opened (λ l. true_news) h fine
-      by stage.Idle e = idle stage.Idle tt e
-      by stage.Head e = idle stage.Head tt e
-      by stage.Flush e = idle stage.Flush tt e
-      by stage.Drop e = idle stage.Drop tt e
-      by stage.Over e = idle stage.Over tt e
-
-  -- it gets its answer
-  given-good : (x : Action J) (given : Answer) (b : Ledger J) (s : Both R) → Agrees holds s.client.stage b s.run → answered (asking_if b.asked) given ≡ Some x → (entered (Did x) b).asked ≡ None
-      → ((c : Ledger J) → SameOwn b c → SameOwn (entered (Did x) b) (entered (Did x) c)) → is_there (entered (Did x) b) ≡ is_there b → Learned (Given now x) b s → Sound (state b s)
-      → Sound (perform (turns.answered site now s.client.stage x (entered (Did x) b) s) (entered (Did x) b) s).state
-  given-good x given b s agrees is none enters opened true_news h = by s.client.stage refl
-    where
-      idle : (st : Stage) → IsIdle st → s.client.stage ≡ st → Sound (state (entered (Did x) b) s)
-      idle st i e = quiet-good b (entered (Did x) b) s (subst IsIdle (sym e) i) opened h
-
-      by : (st : Stage) → s.client.stage ≡ st → Sound (perform (turns.answered site now st x (entered (Did x) b) s) (entered (Did x) b) s).state
-      by stage.Busy e =
-          answer-good site now es (bytes_of es) holds run minds x (settle site now) b s e (run.answers now x given b s.run (busy-holds site now holds run b s s.client.stage e agrees) is) none enters opened true_news h settle-fine
-      by stage.Idle e = idle stage.Idle tt e
-      by stage.Head e = idle stage.Head tt e
-      by stage.Flush e = idle stage.Flush tt e
-      by stage.Drop e = idle stage.Drop tt e
-      by stage.Over e = idle stage.Over tt e
-
-  sock-good : (k : ℕ) (x : SockSeen) (b : Ledger J) (s : Both R) → Agrees holds s.client.stage b s.run → MayCome site.runs now (seen.Sock k x) b s.run
-      → (entered_as (seen.Sock k x) b).asked ≡ None → ((c : Ledger J) → SameOwn b c → SameOwn (entered_as (seen.Sock k x) b) (entered_as (seen.Sock k x) c))
-      → is_there (entered_as (seen.Sock k x) b) ≡ is_there b → Learned (Seen now (seen.Sock k x)) b s → Sound (state b s)
-      → Sound (perform (to_run site now (settle site now) s.client.stage (seen.Sock k x)) (entered_as (seen.Sock k x) b) s).state
-  sock-good k x b s agrees may none enters opened true_news h = run-good (seen.Sock k x) (settle site now) b s agrees may none enters opened true_news h settle-fine
-
-  due-good : (n : ℕ) (b : Ledger J) (s : Both R) → Agrees holds s.client.stage b s.run → IsDue now b n → Learned (Seen now (seen.Due n)) b s → Sound (state b s)
-      → Sound (perform (is_due site now s.client.stage n) (entered (Did (Due n)) b) s).state
-  due-good zero b s agrees x true_news h =
-      let like = due-alike 0 b refl x.none_asked in
-      lose-fine (entered (Did (Due 0)) b) s (agrees-alike site now holds run s.client.stage b (entered (Did (Due 0)) b) s.run like agrees, refl) (good-alike site es (bytes_of es) b (entered (Did (Due 0)) b) s like refl h)
-  due-good (suc zero) b s agrees x true_news h =
-      let like = due-alike 1 b refl x.none_asked in
-      lose-fine (entered (Did (Due 1)) b) s (agrees-alike site now holds run s.client.stage b (entered (Did (Due 1)) b) s.run like agrees, refl) (good-alike site es (bytes_of es) b (entered (Did (Due 1)) b) s like refl h)
-  due-good (suc (suc n)) b s agrees x true_news h =
-      let low : 2 ≤ suc (suc n) = omega arith in
-      run-good (seen.Due (suc (suc n))) Done b s agrees (x, low) refl (λ c same. due-same (suc (suc n)) b c (not-below (suc (suc n)) low) same) refl true_news h done-fine
-
-  -- something comes at the client's place
-  at-client : (x : Action J) (st : State J (Both R)) → AtClient x → Knows holds st → st.ledger.asked ≡ None → is_there (entered (Did x) st.ledger) ≡ is_there st.ledger → (before : List ℕ) → Good site es before st
-      → Known holds (entered (Did x) st.ledger) st.inner × Good site es before (state (entered (Did x) st.ledger) st.inner)
-  at-client x st at h none same before good =
-      let like = client-alike x st.ledger at none in (
-        (agrees-alike site now holds run st.inner.client.stage st.ledger (entered (Did x) st.ledger) st.inner.run like h, sym like.asked ∙ none),
-        good-alike site es before st.ledger (entered (Did x) st.ledger) st.inner like same good,
-      )
-
-  client-begins : (begun c : ℕ) → bytes_of es ≡ [] → Sound (stepped (connection_plan site) now (Did (Began begun (start.Client c))) (unborn_state (connection_plan site))).state
-  client-begins begun c none =
-      let b = entered (Did (Began begun (start.Client c))) empty_ledger in
-      let s = (unborn_state (connection_plan site)).inner in
-      begins-good timer.Header b s (idle-at b s tt (λ later. tt) (tt, (λ l later. ap (λ (bs : List ℕ). bs ++ later) none), λ later. tt))
-
-  job-begins : (begun n : ℕ) (premature : Bool) (job : J) → Sound (stepped (connection_plan site) now (Did (Began begun (start.Job n premature job))) (unborn_state (connection_plan site))).state
-  job-begins begun n premature job =
-      turn-good site now es (bytes_of es) holds run (site.runs.begun_job now premature job b) Done (waits_at_first false) b s refl
-      (run.begins_job_by_own now premature job b) (run.begins_job now premature job b blank) refl (λ e. absurd (let n : false ≡ true = e in cc)) (λ e later. tt) done-fine
-    where
-      b : Ledger J
-      b = entered (Did (Began begun (start.Job n premature job))) empty_ledger
-
-      s : Both R
-      s = record (unborn_state (connection_plan site)).inner { client = record (unborn_state (connection_plan site)).inner.client { stage = stage.Busy } }
-
-      blank : IsBlank (entered (Did (Began begun (start.Job n premature job))) empty_ledger)
-      blank = record { no_thread = refl; no_deadline = refl; no_socket = λ k. refl; none_asked = refl; unused = λ k low. (refl, refl, refl) }
-
-  -- with the action these bytes came in all
-  abbrev Since : LocalAction J → List ℕ → Type 0
-  Since a before = (bytes_of es ≡ before ++ came_by a) × ((later : List (LocalAction J)) → Happened (later ++ es) now a) × (is_first a ≡ true → before ≡ [])
-
-  as-before : (a : LocalAction J) (st : State J (Both R)) (before : List ℕ) → bytes_of es ≡ before ++ [] → Good site es before st → Sound st
-  as-before a st before e h = subst (λ (bs : List ℕ). Good site es bs st) (sym (e ∙ append-nil before)) h
-
-  pub step-good : (a : LocalAction J) (st : State J (Both R)) → Knows holds st → Comes (connection_plan site) now a st → (before : List ℕ) → Since a before → Good site es before st
-      → Sound (stepped (connection_plan site) now a st).state
-  step-good (Did (Began begun (start.Client c))) st k comes before x h =
-      subst (λ (st : State J (Both R)). Sound (stepped (connection_plan site) now (Did (Began begun (start.Client c))) st).state) (sym comes) (client-begins begun c (x.0 ∙ append-nil before ∙ x.2 refl))
-  step-good (Did (Began begun (start.Job n premature job))) st k comes before x h =
-      subst (λ (st : State J (Both R)). Sound (stepped (connection_plan site) now (Did (Began begun (start.Job n premature job))) st).state) (sym comes) (job-begins begun n premature job)
-  step-good (Did (Bytes place.Client bytes)) st k comes before x h =
-      let y = at-client (Bytes place.Client bytes) st tt k comes.0.free.none_asked refl before h in
-      came-at-good before bytes x.0 (entered (Did (Bytes place.Client bytes)) st.ledger) st.inner y.0 comes.0.opened y.1
-  step-good (Did (Ended place.Client)) st k comes before since g =
-      let h = as-before (Did (Ended place.Client)) st before since.0 g in
-      let x = at-client (Ended place.Client) st tt k comes.free.none_asked refl (bytes_of es) h in ends-at-good (entered (Did (Ended place.Client)) st.ledger) st.inner x.0 x.1
-  step-good (Did (Broken place.Client)) st k comes before since g =
-      let h = as-before (Did (Broken place.Client)) st before since.0 g in
-      let x = at-client (Broken place.Client) st tt k comes.free.none_asked refl (bytes_of es) h in lose-fine (entered (Did (Broken place.Client)) st.ledger) st.inner x.0 x.1
-  step-good (Did (Ready place.Client)) st k comes before since g =
-      let h = as-before (Did (Ready place.Client)) st before since.0 g in
-      let x = at-client (Ready place.Client) st tt k comes.free.none_asked refl (bytes_of es) h in
-      let b = entered (Did (Ready place.Client)) st.ledger in
-      ends-good timer.Send (move.Send place.Client [] Done) b st.inner
-      (λ c like same. good-alike site es (bytes_of es) c (with_offer place.Client (with_sent place.Client [] c)) st.inner (sent-alike [] c) refl (good-alike site es (bytes_of es) b c st.inner like same x.1))
-  step-good (Did (Put place.Client bytes)) st k comes before since g =
-      let h = as-before (Did (Put place.Client bytes)) st before since.0 g in
-      let x = at-client (Put place.Client bytes) st tt k comes.taking.none_asked refl (bytes_of es) h in settle-fine (entered (Did (Put place.Client bytes)) st.ledger) st.inner x.0 x.1
-  step-good (Did (Later place.Client)) st k comes before since g =
-      let h = as-before (Did (Later place.Client)) st before since.0 g in
-      let x = at-client (Later place.Client) st tt k comes.none_asked refl (bytes_of es) h in begins-good timer.Send (entered (Did (Later place.Client)) st.ledger) st.inner x.1
-  step-good (Did (Lost place.Client)) st k comes before since g =
-      let h = as-before (Did (Lost place.Client)) st before since.0 g in
-      let x = at-client (Lost place.Client) st tt k comes.none_asked refl (bytes_of es) h in lose-fine (entered (Did (Lost place.Client)) st.ledger) st.inner x.0 x.1
-  step-good (Did (Bytes (place.Sock n) bytes)) st k comes before since g =
-      let h = as-before (Did (Bytes (place.Sock n) bytes)) st before since.0 g in sock-good n (at.Bytes bytes) st.ledger st.inner k comes refl (λ c same. bytes-same n bytes st.ledger c same) refl (λ g later. (_, since.1 later, refl)) h
-  step-good (Did (Ended (place.Sock n))) st k comes before since g =
-      let h = as-before (Did (Ended (place.Sock n))) st before since.0 g in sock-good n at.Ended st.ledger st.inner k comes refl (λ c same. ended-same n st.ledger c same) refl (λ g later. (_, since.1 later, refl)) h
-  step-good (Did (Broken (place.Sock n))) st k comes before since g =
-      let h = as-before (Did (Broken (place.Sock n))) st before since.0 g in sock-good n at.Broken st.ledger st.inner k comes refl (λ c same. broken-same n st.ledger c same) refl (λ g later. (_, since.1 later, refl)) h
-  step-good (Did (Ready (place.Sock n))) st k comes before since g =
-      let h = as-before (Did (Ready (place.Sock n))) st before since.0 g in sock-good n at.Ready st.ledger st.inner k comes refl (λ c same. ready-same n st.ledger c same) refl (λ g later. (_, since.1 later, refl)) h
-  step-good (Did (Put (place.Sock n) bytes)) st k comes before since g =
-      let h = as-before (Did (Put (place.Sock n) bytes)) st before since.0 g in
-      subst (λ (xs : List ℕ). Sound (perform (to_run site now (settle site now) st.inner.client.stage (seen.Sock n (at.Took (length bytes)))) (entered (Did (Put (place.Sock n) xs)) st.ledger) st.inner).state)
-      (taken-are bytes (left_at (place.Sock n) st.ledger) _ comes.prefix)
-      (sock-good n (at.Took (length bytes)) st.ledger st.inner k (taken-of st.ledger n bytes comes) refl (λ c same. took-same n (length bytes) st.ledger c same) refl (λ g later. (_, since.1 later, refl)) h)
-  step-good (Did (Later (place.Sock n))) st k comes before since g =
-      let h = as-before (Did (Later (place.Sock n))) st before since.0 g in sock-good n at.Later st.ledger st.inner k comes refl (λ c same. later-same n st.ledger c same) refl (λ g later. (_, since.1 later, refl)) h
-  step-good (Did (Lost (place.Sock n))) st k comes before since g =
-      let h = as-before (Did (Lost (place.Sock n))) st before since.0 g in sock-good n at.Lost st.ledger st.inner k comes refl (λ c same. lost-same n st.ledger c same) refl (λ g later. (_, since.1 later, refl)) h
-  step-good (Did (Dialled n)) st k comes before since g =
-      let h = as-before (Did (Dialled n)) st before since.0 g in sock-good n at.Dialled st.ledger st.inner k comes refl (λ c same. dialled-same n st.ledger c same) refl (λ g later. (_, since.1 later, refl)) h
-  step-good (Did (Refused n)) st k comes before since g =
-      let h = as-before (Did (Refused n)) st before since.0 g in sock-good n at.Refused st.ledger st.inner k comes refl (λ c same. refused-same n st.ledger c same) refl (λ g later. (_, since.1 later, refl)) h
-  step-good (Did (Dict zone call given)) st k comes before since g =
-      let h = as-before (Did (Dict zone call given)) st before since.0 g in
-      given-good (Dict zone call given) (answer.Dict given) st.ledger st.inner k (ap (λ o. answered (asking_if o) (answer.Dict given)) comes.0) refl (λ c same. dict-same zone call given st.ledger c same) refl (λ g later. since.1 later) h
-  step-good (Did (Take key None)) st k comes before since g =
-      let h = as-before (Did (Take key None)) st before since.0 g in
-      given-good (Take key None) (answer.Took None) st.ledger st.inner k (ap (λ o. answered (asking_if o) (answer.Took None)) comes) refl (λ c same. take-same key None st.ledger c same) refl (λ g later. since.1 later) h
-  step-good (Did (Take key (Some uses))) st k comes before since g =
-      let h = as-before (Did (Take key (Some uses))) st before since.0 g in
-      given-good (Take key (Some uses)) (answer.Took (Some uses)) st.ledger st.inner k (ap (λ o. answered (asking_if o) (answer.Took (Some uses))) comes) refl
-      (λ c same. take-same key (Some uses) st.ledger c same) (has-append place.Client (place.Sock st.ledger.count) st.ledger.opened) (λ g later. since.1 later) h
-  step-good (Did (Dial host port true)) st k comes before since g =
-      let h = as-before (Did (Dial host port true)) st before since.0 g in
-      given-good (Dial host port true) (answer.Dialled true) st.ledger st.inner k (ap (λ o. answered (asking_if o) (answer.Dialled true)) comes) refl
-      (λ c same. dial-same host port true st.ledger c same) (has-append place.Client (place.Sock st.ledger.count) st.ledger.opened) (λ g later. since.1 later) h
-  step-good (Did (Dial host port false)) st k comes before since g =
-      let h = as-before (Did (Dial host port false)) st before since.0 g in
-      given-good (Dial host port false) (answer.Dialled false) st.ledger st.inner k (ap (λ o. answered (asking_if o) (answer.Dialled false)) comes) refl (λ c same. dial-same host port false st.ledger c same) refl (λ g later. since.1 later) h
-  step-good (Did (Keep n key idle size)) st k comes before since g =
-      let h = as-before (Did (Keep n key idle size)) st before since.0 g in
-      given-good (Keep n key idle size) answer.Kept st.ledger st.inner k (ap (λ o. answered (asking_if o) answer.Kept) comes.0) refl
-      (λ c same. keep-same n key idle size st.ledger c same) (has-without place.Client (place.Sock n) st.ledger.opened) (λ g later. since.1 later) h
-  step-good (Did (Timer due given)) st k comes before since g =
-      let h = as-before (Did (Timer due given)) st before since.0 g in
-      given-good (Timer due given) (answer.Timer given) st.ledger st.inner k (ap (λ o. answered (asking_if o) (answer.Timer given)) comes.1) refl (λ c same. timer-same due given st.ledger c same) refl (λ g later. since.1 later) h
-  step-good (Did (Run n)) st k comes before since g =
-      let h = as-before (Did (Run n)) st before since.0 g in run-good (seen.Run n) (settle site now) st.ledger st.inner k comes refl (λ c same. run-same n st.ledger c same) refl (λ g later. (_, since.1 later, refl)) h settle-fine
-  step-good (Did (Due n)) st k comes before since g =
-      let h = as-before (Did (Due n)) st before since.0 g in due-good n st.ledger st.inner k comes (λ g later. (_, since.1 later, refl)) h
-  step-good (Did Halted) st k comes before since g =
-      let h = as-before (Did Halted) st before since.0 g in finish-good (entered (Did Halted) st.ledger) st.inner h.replies
-  step-good (Told w) st k comes before since g =
-      let h = as-before (Told w) st before since.0 g in good-alike site es (bytes_of es) st.ledger (entered (Told w) st.ledger) st.inner (still-alike (Told w) st.ledger refl) refl h
-  step-good (Did (Close q)) st k comes before since g =
-      let h = as-before (Did (Close q)) st before since.0 g in good-alike site es (bytes_of es) st.ledger (entered (Did (Close q)) st.ledger) st.inner (still-alike (Did (Close q)) st.ledger refl) refl h
-  step-good (Did (Log line done)) st k comes before since g =
-      let h = as-before (Did (Log line done)) st before since.0 g in good-alike site es (bytes_of es) st.ledger (entered (Did (Log line done)) st.ledger) st.inner (still-alike (Did (Log line done)) st.ledger refl) refl h
-  step-good (Did (Offer q)) st k comes before since g =
-      let h = as-before (Did (Offer q)) st before since.0 g in good-alike site es (bytes_of es) st.ledger (entered (Did (Offer q)) st.ledger) st.inner (still-alike (Did (Offer q)) st.ledger refl) refl h
-  step-good (Did Gone) st k comes before since g =
-      let h = as-before (Did Gone) st before since.0 g in good-alike site es (bytes_of es) st.ledger (entered (Did Gone) st.ledger) st.inner (still-alike (Did Gone) st.ledger refl) refl h
-  step-good (Did Dropped) st k comes before since g =
-      let h = as-before (Did Dropped) st before since.0 g in good-alike site es (bytes_of es) st.ledger (entered (Did Dropped) st.ledger) st.inner (still-alike (Did Dropped) st.ledger refl) refl h

@@ -11,8 +11,8 @@ use Rattle.run_contract.specs.Runs.{Turn, RunPlan, performed}
 use Rattle.run_contract.specs.Conditions.{entered_as}
 use Rattle.connection.specs.Turns.{continue_reply}
 
--- what a run has to answer: the request, the moment at which it begins, and how many sockets its connection had before
-pub record Task : Type 0 where
+-- how a run begins: to answer a request, at a moment, after so many sockets of its connection
+pub record Beginning : Type 0 where
   pub head : Head
   pub target : Target
   pub now : ℕ
@@ -38,7 +38,7 @@ abbrev pub after_turn : {J R : Type 0} → Turn J R → Ledger J → R → List 
 after_turn t b r words = let did = performed t b r in record { ledger = did.state.ledger; run = did.state.inner; said = words ++ t.said }
 
 module _ {J R : Type 0} (p : RunPlan J R) where
-  abbrev pub begins : Task → Alone J R
+  abbrev pub begins : Beginning → Alone J R
   begins x = let b = own_ledger x.sockets in after_turn (p.begun x.now x.head x.target b) b p.unborn []
 
   abbrev pub learns : News J → Alone J R → Alone J R
@@ -46,7 +46,7 @@ module _ {J R : Type 0} (p : RunPlan J R) where
   learns (Given now x) a = let b = entered (Did x) a.ledger in after_turn (p.answered now x b a.run) b a.run a.said
 
   -- the run alone, once it learned these, the newest first
-  abbrev pub alone : Task → List (News J) → Alone J R
+  abbrev pub alone : Beginning → List (News J) → Alone J R
   alone x [] = begins x
   alone x (n ∷ news) = learns n (alone x news)
 
@@ -62,5 +62,5 @@ abbrev pub let_first : Bool → List ℕ
 let_first continues = if continues then continue_reply else []
 
 -- the reply of a run alone, after a 100 reply or without one
-abbrev pub reply_alone : {J R : Type 0} → RunPlan J R → Task → (continues : Bool) → List (News J) → List ℕ
+abbrev pub reply_alone : {J R : Type 0} → RunPlan J R → Beginning → (continues : Bool) → List (News J) → List ℕ
 reply_alone p x continues news = let_first continues ++ bytes_said (alone p x news).said

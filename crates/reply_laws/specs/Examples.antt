@@ -7,7 +7,7 @@ use Rattle.moves.specs.Ledgers.{Ledger}
 use Rattle.moves.specs.Moves.{Move, Done, Unready, Send, Arm, Cancel, HangUp, Log, Set, Look, Ask, End}
 use Rattle.moves.specs.Moves as move
 use Rattle.run_contract.specs.declared.turns.RunSeen.{RunSeen}
-use Rattle.run_contract.specs.Runs.{Turn, RunPlan}
+use Rattle.run_contract.specs.Runs.{RunPlan}
 use Rattle.run_contract.specs.Forms.{IsSock}
 
 -- a run's own moves that don't look at the ledger

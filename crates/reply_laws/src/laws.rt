@@ -17,10 +17,10 @@ ghost use Rattle.run_contract.specs.Stored.{stored_plan, given_text};
 ghost use Rattle.connection.specs.Clients.{Exchange};
 ghost use Rattle.connection.specs.Services.{Service};
 ghost use Rattle.connection.specs.Connections.{connection_plan, connection_behavior};
-ghost use Rattle.connection.specs.Examples.{echo_plan};
+ghost use Rattle.connection.specs.Examples.{echo_plan, echo_site};
 ghost use Rattle.connection.specs.Recalls.{recalls_plan};
 ghost use Rattle.reply_laws.specs.Own.{MindsItsOwn};
-ghost use Rattle.reply_laws.specs.Alone.{Task, Seen, Given, let_first, reply_alone};
+ghost use Rattle.reply_laws.specs.Alone.{Beginning, Seen, Given, let_first, reply_alone};
 ghost use Rattle.reply_laws.specs.Examples.{NeverLooks};
 ghost use Rattle.reply_laws.specs.Replies.{IsSaidAlone, HaveOwnReplies, LearnTheSame};
 
@@ -48,6 +48,12 @@ pub fn replies_are_said_alone<S: Minding>()
         → HaveOwnReplies es S.service (state_of (connection_plan S.service) es).inner.client.exchanges }
 {}
 
+/// So it is of the small site that replies with paths or with bodies, whatever happens to a connection of it.
+pub fn replies_of_the_rows_are_said_alone<J>()
+    ensures { (reads : Bool) (es : List (LocalAction J)) → IsExecution (connection_behavior {J = J} (echo_site reads)) es
+        → HaveOwnReplies es (echo_site reads) (state_of (connection_plan {J = J} (echo_site reads)) es).inner.client.exchanges }
+{}
+
 /// Two requests that ask the same, and whose runs learn the same, get the same reply, on whatever connections and after whatever else.
 pub fn who_asks_and_learns_the_same_gets_the_same<S: Minding>()
     ensures { (es fs : List (LocalAction S.Job)) (older others : List Exchange) (head : Head) (target : Target) (reply other : List ℕ)
@@ -65,10 +71,10 @@ pub fn runs_that_never_look_mind_their_own<J, R>()
 
 /// What runs of the examples say alone: the path, the body, or what a dictionary keeps.
 pub fn what_is_said_alone<J>()
-    ensures path { (task : Task) → reply_alone {J = J} (echo_plan false) task false [] ≡ task.target.path }
-    ensures body { (task : Task) (continues waited : Bool) (now : ℕ) (content : List ℕ)
-        → reply_alone {J = J} (echo_plan true) task continues (Seen now (seen.Body content waited) ∷ []) ≡ let_first continues ++ content }
-    ensures stored { (task : Task) (name key otherwise : List ℕ) (now later : ℕ) (given : DictAnswer)
-        → reply_alone {J = J} (stored_plan name key otherwise) task false (Given later (Dict 0 (dict.Get key) given) ∷ Seen now (seen.Run 0) ∷ [])
+    ensures path { (beginning : Beginning) → reply_alone {J = J} (echo_plan false) beginning false [] ≡ beginning.target.path }
+    ensures body { (beginning : Beginning) (continues waited : Bool) (now : ℕ) (content : List ℕ)
+        → reply_alone {J = J} (echo_plan true) beginning continues (Seen now (seen.Body content waited) ∷ []) ≡ let_first continues ++ content }
+    ensures stored { (beginning : Beginning) (name key otherwise : List ℕ) (now later : ℕ) (given : DictAnswer)
+        → reply_alone {J = J} (stored_plan name key otherwise) beginning false (Given later (Dict 0 (dict.Get key) given) ∷ Seen now (seen.Run 0) ∷ [])
         ≡ given_text otherwise (answer.Dict given) }
 {}
