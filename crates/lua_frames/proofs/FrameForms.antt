@@ -1,5 +1,5 @@
 -- What the items of the machine do, and its turns.
-use Rattle.std.specs.Prelude.{◌≡◌, ℕ, ◌+◌, List, [], ◌∷◌, ◌++◌, drop, slice_get, Bool, true, false, if◌then◌else◌, Result, Ok, Err, refl}
+use Rattle.std.specs.Prelude.{◌≡◌, ℕ, ◌+◌, List, [], ◌∷◌, ◌++◌, drop, map, slice_get, Bool, true, false, if◌then◌else◌, Result, Ok, Err, refl}
 use Rattle.std.proofs.Common.{sym, ◌∙◌, ap, Vec, Global}
 use Rattle.std.specs.declared.rc.Rc.{Rc}
 use Rattle.lua_ast.specs.declared.statements.Arm.{Arm, out-Arm}
@@ -22,24 +22,18 @@ use Rattle.lua_frames_base.specs.declared.flow.Flow.{Flow}
 use Rattle.lua_frames_base.specs.declared.flow.Flow.TheVariants as flow
 use Rattle.lua_frames_base.specs.declared.items.Item.{Item}
 use Rattle.lua_frames_base.specs.declared.items.Item.TheVariants as i
+use Rattle.lua_frames_base.specs.declared.targets.Assignment.{Assignment}
+use Rattle.lua_frames_base.specs.declared.targets.Target.{Target}
+use Rattle.lua_frames_base.specs.declared.targets.Target.TheVariants as target
 use Rattle.lua_frames_base.specs.declared.threads.Frames.{Frames}
-use Rattle.lua_frames_base.specs.Signals.{sign_of, HasFirst, HasValues}
-use Rattle.lua_frames_base.specs.Items.{resume_item, assign_values, arm_work}
+use Rattle.lua_frames_base.specs.Signals.{sign_of, HasFirst}
+use Rattle.lua_frames_base.specs.Items.{resume_item, target_of, assign_values, targets_left, found_at, arm_work}
 use Rattle.lua_frames_base.specs.Frames.{closed, finish_items, finish_calls, finish, around, here, slots_of, working}
 use Rattle.lua_frames_base.specs.Follows.{Turns, Enters, Works}
 use Rattle.lua_frames_base.specs.Changes.{Waits, Ends}
 use Rattle.lua_frames_base.proofs.FollowLemmas.{follows_ok, works_as, works_from, work_done, ends_works, finish_waits, step_under}
-use Rattle.lua_nodes.proofs.ListForms.{on_all}
 use Rattle.lua_statements.specs.Assignments.{IsAssigned, Does}
-
--- an item that wants all values goes on with those that are given
-pub takes_all : {E : Type 0} (S : Setting) (go : Places → List Value → Slots → Work) (vs : List Value) (old mid fs : Frames) (before store : StoreView) (r : Result Flow E)
-    → HasValues (sign_of old.given) vs → mid.below ≡ old.below → mid.top ≡ old.top → Works S (go (here mid) vs (slots_of mid)) mid before fs store r
-    → Works S (on_values (go (here old)) (sign_of old.given) (slots_of old)) old before fs store r
-takes_all S go vs old mid fs before store r h b t w =
-    works_as S (on_values (go (here old)) (sign_of old.given) (slots_of old)) (go (here mid) vs (slots_of mid)) old fs before store r
-    (works_from S (go (here mid) vs (slots_of mid)) old mid fs before store r b t w)
-    (on_all (go (here old)) (sign_of old.given) vs (slots_of old) h ∙ rw (b, t) refl)
+use Rattle.lua_statements.proofs.TargetLemmas.{mapped_on}
 
 -- a turn of the innermost item, which is taken off first
 pub item_turns : {E : Type 0} (S : Setting) (item : Item) (old mid fs : Frames) (before store : StoreView) (r : Result Flow E)
@@ -103,6 +97,15 @@ slot_assigned S line n v old mid new before store r h b t d =
     (works_from S (and_then (write_slot S (callers_at (here mid) line) (slice_get (slots_of mid) n) n v (slots_of mid) (give [])) (on_values (λ us s'. give [] s'))) old mid new before store r b t
     (does_alone S (write_slot S (callers_at (here mid) line) (slice_get (slots_of mid) n) n v (slots_of mid) (give [])) mid new before store r d))
     (slot_given S line n (sign_of old.given) v (here old) (slots_of old) h ∙ rw (b, t) refl)
+
+-- one more target of an assignment is found, a value at a key
+pub target_found : {E : Type 0} (S : Setting) (line : ℕ) (object key : Value) (a : Assignment) (longer : Vec Target Global) (old fs : Frames) (before store : StoreView) (r : Result Flow E)
+    → longer.items ≡ a.found.items ++ target.AtKey line object key ∷ []
+    → Works S (targets_left S (record { found = longer; targets = a.targets; next = a.next; values = a.values }) (map target_of longer.items) (here old) (slots_of old)) old before fs store r
+    → Works S (found_at S line object key a (here old) (slots_of old)) old before fs store r
+target_found S line object key a longer old fs before store r e w =
+    works_as S (found_at S line object key a (here old) (slots_of old)) (targets_left S (record { found = longer; targets = a.targets; next = a.next; values = a.values }) (map target_of longer.items) (here old) (slots_of old)) old fs before store r w
+    (ap (λ (ts : List assignment.Target). targets_left S a ts (here old) (slots_of old)) (sym (ap (λ (ts : List Target). map target_of ts) e ∙ mapped_on a.found.items (target.AtKey line object key))))
 
 -- the arms of `if` from one on, whose test gave a value
 pub no_arm : (arms : List Arm) (last : List Stmt) (p : Places) (v : Value) (s : Slots) → arms ≡ [] → arm_work arms last p v s ≡ block last p s

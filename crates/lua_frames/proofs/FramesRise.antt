@@ -20,7 +20,7 @@ use Rattle.lua_frames_base.specs.declared.flow.Flow.TheVariants as flow
 use Rattle.lua_frames_base.specs.Follows.{Asks, Follows}
 use Rattle.lua_frames.specs.Steps.{RaisesSteps}
 use Rattle.lua_frames.proofs.StepsRise.{Starts, Rises, eval-raises, after-rises, quiet-rises}
-use Rattle.lua_frames.proofs.QuietWorks.{item-quiet, closing-quiet}
+use Rattle.lua_frames.proofs.QuietItems.{item-quiet, closing-quiet}
 
 items-rise : (S : Setting) (p : Places) (items : List Item) (n : ℕ) (o : Ending) → Rises n o → Rises n (finish_items S p items o)
 items-rise S p [] n o h = h

@@ -2,4 +2,6 @@ pub mod FrameForms
 pub mod ReturnLemmas
 pub mod StepsRise
 pub mod QuietWorks
+pub mod QuietTables
+pub mod QuietItems
 pub mod FramesRise

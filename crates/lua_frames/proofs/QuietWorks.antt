@@ -1,12 +1,10 @@
 -- The work with which a frame goes on asks nothing of the outside before it evaluates a node: only a call asks.
-use Rattle.std.specs.Prelude.{ℕ, ◌+◌, List, [], ◌∷◌, ◌++◌, drop, map, reverse, length, pos, slice_get, Bool, true, false, if◌then◌else◌, Option, Some, None}
+use Rattle.std.specs.Prelude.{ℕ, ◌+◌, List, [], ◌∷◌, ◌++◌, reverse, length, pos, slice_get, Bool, true, false, if◌then◌else◌, Option, Some, None}
 use Rattle.lua_ast.specs.declared.expressions.Expr.{Expr}
 use Rattle.lua_ast.specs.declared.expressions.BinOp.{BinOp}
 use Rattle.lua_ast.specs.declared.expressions.BinOp.TheVariants as binary
 use Rattle.lua_ast.specs.declared.expressions.UnOp.{UnOp}
 use Rattle.lua_ast.specs.declared.expressions.UnOp.TheVariants as unary
-use Rattle.lua_ast.specs.declared.statements.Arm.{Arm, out-Arm}
-use Rattle.lua_ast.specs.declared.statements.Stmt.{Stmt}
 use Rattle.lua_numbers.specs.Arithmetic.{within_range}
 use Rattle.lua_values.specs.declared.values.Value.{Value}
 use Rattle.lua_values.specs.declared.values.Value.TheVariants as value
@@ -29,15 +27,14 @@ use Rattle.lua_operators.specs.Arithmetic.{computed, negated, outcome_of}
 use Rattle.lua_operators.specs.Comparison.{compared, equality}
 use Rattle.lua_operators.specs.Concatenation.{concatenated}
 use Rattle.lua_operators.specs.OperandFaults.{arithmetic_fault, comparison_fault, concatenation_fault}
-use Rattle.lua_operators.specs.Types.{is_truthy, type_of}
+use Rattle.lua_operators.specs.Types.{type_of}
 use Rattle.lua_meaning.specs.declared.slots.Slot.{Slot}
 use Rattle.lua_meaning.specs.declared.slots.Slot.TheVariants.{Plain, Shared}
-use Rattle.lua_meaning.specs.Works.{Caller, Places, Slots, ATurn, AnIndex, AStore, Sign, Values, Return, Break, Failed, Work, End, Eval, Outside, Look, Write, Count, and_then}
+use Rattle.lua_meaning.specs.Works.{Caller, Places, Slots, AnIndex, AStore, Sign, Values, Return, Break, Failed, Work, End, Eval, Outside, Look, Write, Count, and_then}
 use Rattle.lua_meaning.specs.Setting.{Setting}
 use Rattle.lua_meaning.specs.Positions.{callers_at, raise_operand}
-use Rattle.lua_meaning.specs.Signs.{first, give, give_one, on_values, more, values_of}
-use Rattle.lua_meaning.specs.Signs.{value as one}
-use Rattle.lua_meaning.specs.Variables.{table_fault, variable_fault, unless_refused, write_cell, write_slot, with_locals}
+use Rattle.lua_meaning.specs.Signs.{give, give_one, on_values, more, values_of}
+use Rattle.lua_meaning.specs.Variables.{table_fault, variable_fault, unless_refused, write_cell, write_slot}
 use Rattle.lua_meaning.specs.Calls.{call, tail_call, call_for_one}
 use Rattle.lua_meaning.specs.Metatables.{handler, handler_of_two, handler_of_both, is_function}
 use Rattle.lua_meaning.specs.Arithmetic.{handled, outcome_work, arithmetic_work}
@@ -45,20 +42,13 @@ use Rattle.lua_meaning.specs.Comparison.{count_texts, give_truth, call_for_truth
 use Rattle.lua_meaning.specs.Concatenation.{text_length, with_text, joined, concatenation_work}
 use Rattle.lua_meaning.specs.Operators.{length_work, unary_work, binary_work}
 use Rattle.lua_meaning.specs.Indexing.{raw_value, is_table, index_by, index_without, index_work, set_raw, store_by, store_work}
-use Rattle.lua_meaning.specs.Blocks.{block}
 use Rattle.lua_meaning.specs.Expressions.{call_work}
 use Rattle.lua_meaning.specs.Assignments.{Target, InSlot, InCapture, AtKey, Nowhere, assigned, assign_to, assign_all}
-use Rattle.lua_meaning.specs.Loops.{again, after_body, while_work}
-use Rattle.lua_meaning.specs.Statements.{if_work, tail_work}
-use Rattle.lua_frames_base.specs.declared.frames.Kind.{Kind}
-use Rattle.lua_frames_base.specs.declared.frames.Kind.TheVariants.{Base, Lua, Guard, Handled, Handling}
-use Rattle.lua_frames_base.specs.declared.items.Item.{Item}
-use Rattle.lua_frames_base.specs.declared.items.Item.TheVariants as i
-use Rattle.lua_frames_base.specs.Items.{target_of, assign_values, arm_work, resume_item}
-use Rattle.lua_frames_base.specs.Frames.{closing}
+use Rattle.lua_meaning.specs.Statements.{tail_work}
+use Rattle.lua_frames_base.specs.Items.{assign_values}
 use Rattle.lua_frames.proofs.StepsRise.{IsQuiet}
 
-then-quiet : (q : Work) (next : Sign → Slots → Work) → IsQuiet q → ((sign : Sign) (s : Slots) → IsQuiet (next sign s)) → IsQuiet (and_then q next)
+pub then-quiet : (q : Work) (next : Sign → Slots → Work) → IsQuiet q → ((sign : Sign) (s : Slots) → IsQuiet (next sign s)) → IsQuiet (and_then q next)
 then-quiet (End sign s) next u v = v sign s
 then-quiet (Eval n p s go) next u v = tt
 then-quiet (Outside number args position go) next u v = absurd u
@@ -66,17 +56,17 @@ then-quiet (Look go) next u v = λ h. then-quiet (go h) next (u h) v
 then-quiet (Write h go) next u v = then-quiet go next u v
 then-quiet (Count n go) next u v = then-quiet go next u v
 
-on-quiet : (go : List Value → Slots → Work) (sign : Sign) (s : Slots) → ((vs : List Value) (s' : Slots) → IsQuiet (go vs s')) → IsQuiet (on_values go sign s)
+pub on-quiet : (go : List Value → Slots → Work) (sign : Sign) (s : Slots) → ((vs : List Value) (s' : Slots) → IsQuiet (go vs s')) → IsQuiet (on_values go sign s)
 on-quiet go (Values vs) s u = u vs s
 on-quiet go (Return vs) s u = tt
 on-quiet go Break s u = tt
 on-quiet go (Failed v) s u = tt
 
-either : (t : Bool) (a b : Work) → IsQuiet a → IsQuiet b → IsQuiet (if t then a else b)
+pub either : (t : Bool) (a b : Work) → IsQuiet a → IsQuiet b → IsQuiet (if t then a else b)
 either true a b u v = u
 either false a b u v = v
 
-refused-quiet : (S : Setting) (callers : List Caller) (fault : StoreFault → Fault) (cause : Option StoreFault) (s : Slots) (go : Work) → IsQuiet go → IsQuiet (unless_refused S callers fault cause s go)
+pub refused-quiet : (S : Setting) (callers : List Caller) (fault : StoreFault → Fault) (cause : Option StoreFault) (s : Slots) (go : Work) → IsQuiet go → IsQuiet (unless_refused S callers fault cause s go)
 refused-quiet S callers fault (Some cause) s go u = tt
 refused-quiet S callers fault None s go u = u
 
@@ -152,7 +142,7 @@ concatenation-quiet S callers a b s =
     joined-quiet S callers (text_length a + text_length b) (concatenated a b) s (Look (λ h. handled S callers (handler_of_two h a b Concat) (a ∷ b ∷ []) (concatenation_fault a b) s))
     (λ h. handled-quiet S callers (handler_of_two h a b Concat) (a ∷ b ∷ []) (concatenation_fault a b) s)
 
-binary-quiet : (S : Setting) (callers : List Caller) (o : BinOp) (a b : Value) (s : Slots) → IsQuiet (binary_work S callers o a b s)
+pub binary-quiet : (S : Setting) (callers : List Caller) (o : BinOp) (a b : Value) (s : Slots) → IsQuiet (binary_work S callers o a b s)
 binary-quiet S callers binary.Add a b s = arithmetic-quiet S callers Add a b s
 binary-quiet S callers binary.Sub a b s = arithmetic-quiet S callers Sub a b s
 binary-quiet S callers binary.Mul a b s = arithmetic-quiet S callers Mul a b s
@@ -179,7 +169,7 @@ length-quiet S callers (value.Thread n) s = tt
 length-quiet S callers value.Null s = tt
 length-quiet S callers (value.Object n m) s = tt
 
-unary-quiet : (S : Setting) (callers : List Caller) (o : UnOp) (a : Value) (s : Slots) → IsQuiet (unary_work S callers o a s)
+pub unary-quiet : (S : Setting) (callers : List Caller) (o : UnOp) (a : Value) (s : Slots) → IsQuiet (unary_work S callers o a s)
 unary-quiet S callers unary.Not a s = tt
 unary-quiet S callers unary.Length a s = length-quiet S callers a s
 unary-quiet S callers unary.Minus a s =
@@ -231,88 +221,28 @@ assign-quiet S (InCapture line n) v p s = cell-quiet S (callers_at p line) (slic
 assign-quiet S (AtKey line object key) v p s = store-quiet S line object key v p s
 assign-quiet S Nowhere v p s = tt
 
-assigns-quiet : (S : Setting) (xs : List (Target × Value)) (p : Places) (s : Slots) → IsQuiet (assign_all S xs p s)
+pub assigns-quiet : (S : Setting) (xs : List (Target × Value)) (p : Places) (s : Slots) → IsQuiet (assign_all S xs p s)
 assigns-quiet S [] p s = tt
 assigns-quiet S (a ∷ xs) p s =
     then-quiet (assign_to S a.0 a.1 p s) (on_values (λ vs s'. assign_all S xs p s')) (assign-quiet S a.0 a.1 p s)
     (λ sign s'. on-quiet (λ vs s''. assign_all S xs p s'') sign s' (λ vs s''. assigns-quiet S xs p s''))
 
-values-quiet : (xs : List Expr) (p : Places) (s : Slots) → IsQuiet (values_of xs p s)
+pub assigned-quiet : (S : Setting) (ts : List Target) (vs : List Value) (p : Places) (s : Slots) → IsQuiet (assign_values S ts vs p s)
+assigned-quiet S ts vs p s = assigns-quiet S (reverse (assigned ts vs)) p s
+
+pub values-quiet : (xs : List Expr) (p : Places) (s : Slots) → IsQuiet (values_of xs p s)
 values-quiet [] p s = tt
 values-quiet (x ∷ xs) p s = tt
 
-more-quiet : (xs : List Expr) (p : Places) (done vs : List Value) (s : Slots) → IsQuiet (more xs p done vs s)
+pub more-quiet : (xs : List Expr) (p : Places) (done vs : List Value) (s : Slots) → IsQuiet (more xs p done vs s)
 more-quiet [] p done vs s = tt
 more-quiet (x ∷ xs) p done vs s = tt
 
-calls-quiet : (line : ℕ) (f : Value) (args : List Expr) (p : Places) (s : Slots) → IsQuiet (call_work line f args p s)
+pub calls-quiet : (line : ℕ) (f : Value) (args : List Expr) (p : Places) (s : Slots) → IsQuiet (call_work line f args p s)
 calls-quiet line f args p s =
     then-quiet (values_of args p s) (on_values (λ vs s'. call (callers_at p line) f vs s')) (values-quiet args p s) (λ sign s'. on-quiet (λ vs s''. call (callers_at p line) f vs s'') sign s' (λ vs s''. tt))
 
-tail-quiet : (line : ℕ) (f : Value) (before : List Value) (args : List Expr) (p : Places) (s : Slots) → IsQuiet (tail_work line f before args p s)
+pub tail-quiet : (line : ℕ) (f : Value) (before : List Value) (args : List Expr) (p : Places) (s : Slots) → IsQuiet (tail_work line f before args p s)
 tail-quiet line f before args p s =
     then-quiet (values_of args p s) (on_values (λ vs s'. tail_call (callers_at p line) f (before ++ vs) s')) (values-quiet args p s)
     (λ sign s'. on-quiet (λ vs s''. tail_call (callers_at p line) f (before ++ vs) s'') sign s' (λ vs s''. tt))
-
-block-quiet : (stmts : List Stmt) (p : Places) (s : Slots) → IsQuiet (block stmts p s)
-block-quiet [] p s = tt
-block-quiet (st ∷ stmts) p s = tt
-
-if-quiet : (arms : List Arm) (last : List Stmt) (p : Places) (s : Slots) → IsQuiet (if_work arms last p s)
-if-quiet [] last p s = block-quiet last p s
-if-quiet (a ∷ arms) last p s = tt
-
-arm-quiet : (arms : List Arm) (last : List Stmt) (p : Places) (v : Value) (s : Slots) → IsQuiet (arm_work arms last p v s)
-arm-quiet [] last p v s = block-quiet last p s
-arm-quiet (a ∷ arms) last p v s = either (is_truthy v) (block (out-Arm a).body.value.items p s) (if_work arms last p s) (block-quiet (out-Arm a).body.value.items p s) (if-quiet arms last p s)
-
-body-quiet : (go : Slots → Work) (sign : Sign) (s : Slots) → IsQuiet (go s) → IsQuiet (after_body go sign s)
-body-quiet go (Values vs) s u = u
-body-quiet go (Return vs) s u = tt
-body-quiet go Break s u = tt
-body-quiet go (Failed v) s u = tt
-
-pub item-quiet : (S : Setting) (item : Item) (p : Places) (sign : Sign) (s : Slots) → IsQuiet (resume_item S item p sign s)
-item-quiet S (i.Call line f args) p sign s = on-quiet (λ vs s'. call (callers_at p line) f args.items s') sign s (λ vs s'. tt)
-item-quiet S (i.Right line o b) p sign s = on-quiet (λ vs s'. one b.value p s' (λ x s''. binary_work S (callers_at p line) o (first vs) x s'')) sign s (λ vs s'. tt)
-item-quiet S (i.Operate line o v) p sign s = on-quiet (λ vs s'. binary_work S (callers_at p line) o v (first vs) s') sign s (λ vs s'. binary-quiet S (callers_at p line) o v (first vs) s')
-item-quiet S (i.Unary line o) p sign s = on-quiet (λ vs s'. unary_work S (callers_at p line) o (first vs) s') sign s (λ vs s'. unary-quiet S (callers_at p line) o (first vs) s')
-item-quiet S (i.AndThen b) p sign s =
-    on-quiet (λ vs s'. if is_truthy (first vs) then one b.value p s' give_one else give_one (first vs) s') sign s
-    (λ vs s'. either (is_truthy (first vs)) (one b.value p s' give_one) (give_one (first vs) s') tt tt)
-item-quiet S (i.OrElse b) p sign s =
-    on-quiet (λ vs s'. if is_truthy (first vs) then give_one (first vs) s' else one b.value p s' give_one) sign s
-    (λ vs s'. either (is_truthy (first vs)) (give_one (first vs) s') (one b.value p s' give_one) tt tt)
-item-quiet S i.First p sign s = on-quiet (λ vs s'. give_one (first vs) s') sign s (λ vs s'. tt)
-item-quiet S (i.Callee line args) p sign s = on-quiet (λ vs s'. call_work line (first vs) args.value.items p s') sign s (λ vs s'. calls-quiet line (first vs) args.value.items p s')
-item-quiet S (i.Arguments line f) p sign s = on-quiet (λ vs s'. call (callers_at p line) f vs s') sign s (λ vs s'. tt)
-item-quiet S (i.Key line b) p sign s = on-quiet (λ vs s'. one b.value p s' (λ key s''. index_work S line (first vs) key p s'')) sign s (λ vs s'. tt)
-item-quiet S (i.At line v) p sign s = on-quiet (λ vs s'. index_work S line v (first vs) p s') sign s (λ vs s'. index-quiet S line v (first vs) p s')
-item-quiet S (i.More xs next done) p sign s = on-quiet (more (drop next xs.value.items) p done.items) sign s (λ vs s'. more-quiet (drop next xs.value.items) p done.items vs s')
-item-quiet S (i.Locals slots) p sign s = on-quiet (λ vs s'. give [] (with_locals slots.value.items vs s')) sign s (λ vs s'. tt)
-item-quiet S i.Discard p sign s = on-quiet (λ vs s'. give [] s') sign s (λ vs s'. tt)
-item-quiet S i.Return p sign s = on-quiet (λ vs s'. End (Return vs) s') sign s (λ vs s'. tt)
-item-quiet S (i.TailCallee line args) p sign s = on-quiet (λ vs s'. tail_work line (first vs) [] args.value.items p s') sign s (λ vs s'. tail-quiet line (first vs) [] args.value.items p s')
-item-quiet S (i.TailArguments line f) p sign s = on-quiet (λ vs s'. tail_call (callers_at p line) f vs s') sign s (λ vs s'. tt)
-item-quiet S i.TailReturn p sign s = tt
-item-quiet S (i.Rest stmts next) p sign s = on-quiet (λ vs s'. block (drop next stmts.value.items) p s') sign s (λ vs s'. block-quiet (drop next stmts.value.items) p s')
-item-quiet S (i.Arm arms next last) p sign s =
-    on-quiet (λ vs s'. arm_work (drop next arms.value.items) last.value.items p (first vs) s') sign s (λ vs s'. arm-quiet (drop next arms.value.items) last.value.items p (first vs) s')
-item-quiet S (i.While test body) p sign s =
-    on-quiet (λ vs s'. if is_truthy (first vs) then again (ATurn test.value body.value.items) p s' else give [] s') sign s
-    (λ vs s'. either (is_truthy (first vs)) (again (ATurn test.value body.value.items) p s') (give [] s') tt tt)
-item-quiet S (i.Turned test body) p sign s = body-quiet (while_work test.value body.value.items p) sign s tt
-item-quiet S (i.Assign targets) p sign s =
-    on-quiet (λ vs s'. assign_values S (map target_of targets.items) vs p s') sign s (λ vs s'. assigns-quiet S (reverse (assigned (map target_of targets.items) vs)) p s')
-item-quiet S (i.AssignSlot line n) p sign s =
-    on-quiet (λ vs s'. assign_values S (InSlot line n ∷ []) vs p s') sign s (λ vs s'. assigns-quiet S (reverse (assigned (InSlot line n ∷ []) vs)) p s')
-
-pub closing-quiet : (S : Setting) (kind : Kind) (around : List Caller) (sign : Sign) → IsQuiet (closing S kind around sign)
-closing-quiet S Base around sign = tt
-closing-quiet S Lua around sign = tt
-closing-quiet S Guard around sign = tt
-closing-quiet S (Handled by) around (Values vs) = tt
-closing-quiet S (Handled by) around (Return vs) = tt
-closing-quiet S (Handled by) around Break = tt
-closing-quiet S (Handled by) around (Failed v) = tt
-closing-quiet S Handling around sign = tt

@@ -5,16 +5,21 @@ ghost use Rattle.lua_items.specs.Takes.{Takes};
 use crate::calls::{arguments, call, tail_arguments};
 use crate::operators::{binary, unary};
 use crate::statements::{arm, assign, assign_to_slot, locals, rest};
+use crate::targets::{stores, target_at, target_key};
 use lua_frames_base::{Flow, Frames, Host, Item};
 use lua_items::{
     and_then, callee, discard, first, key, or_else, return_called, return_given, right,
     tail_callee, turned, while_test,
 };
 use lua_nodes::go_on_with_list;
+use lua_tables::{
+    at, item_at_key, item_at_number, item_key, items_at_numbers, method, method_arguments,
+    method_callee, next_items, tail_method, tail_method_arguments, tail_method_callee,
+};
 use lua_values::Store;
 use std::alloc::AllocError;
 
-/// An item, taken off the innermost call, does its work with what is given; that of an index doesn't yet.
+/// An item, taken off the innermost call, does its work with what is given.
 pub(crate) fn apply<H: Host>(
     frames: &mut Frames,
     host: &H,
@@ -34,13 +39,41 @@ pub(crate) fn apply<H: Host>(
         Item::Callee(line, args) => callee(frames, host, store, line, args),
         Item::Arguments(line, f) => arguments(frames, host, store, line, f),
         Item::Key(line, b) => key(frames, host, store, line, b),
-        Item::At(_, _) => Ok(Flow::Unsupported),
+        Item::At(line, value) => at(frames, host, store, line, value),
+        Item::Method(line, name, args) => method(frames, host, store, line, name, args),
+        Item::MethodCallee(line, object, args) => {
+            method_callee(frames, host, store, line, object, args)
+        }
+        Item::MethodArguments(line, f, object) => {
+            method_arguments(
+                frames,
+                host,
+                store,
+                line,
+                f.into_inner(),
+                object.into_inner(),
+            )
+        }
         Item::More(xs, next, done) => go_on_with_list(frames, host, store, xs, next, done),
         Item::Locals(slots) => locals(frames, slots),
         Item::Discard => discard(frames),
         Item::Return => return_given(frames),
         Item::TailCallee(line, args) => tail_callee(frames, host, store, line, args),
         Item::TailArguments(line, f) => tail_arguments(frames, host, store, line, f),
+        Item::TailMethod(line, name, args) => tail_method(frames, host, store, line, name, args),
+        Item::TailMethodCallee(line, object, args) => {
+            tail_method_callee(frames, host, store, line, object, args)
+        }
+        Item::TailMethodArguments(line, f, object) => {
+            tail_method_arguments(
+                frames,
+                host,
+                store,
+                line,
+                f.into_inner(),
+                object.into_inner(),
+            )
+        }
         Item::TailReturn => return_called(frames),
         Item::Rest(stmts, next) => rest(frames, host, store, stmts, next),
         Item::Arm(arms, next, last) => arm(frames, host, store, arms, next, last),
@@ -48,5 +81,22 @@ pub(crate) fn apply<H: Host>(
         Item::Turned(test, body) => turned(frames, host, store, test, body),
         Item::Assign(targets) => assign(frames, host, store, targets),
         Item::AssignSlot(line, i) => assign_to_slot(frames, host, store, line, i),
+        Item::TargetKey(line, b, left) => target_key(frames, host, store, line, b, left),
+        Item::TargetAt(line, object, left) => {
+            target_at(
+                frames,
+                host,
+                store,
+                line,
+                object.into_inner(),
+                left.into_inner(),
+            )
+        },
+        Item::Stores(targets, values) => stores(frames, host, store, targets, values),
+        Item::Items(c) => next_items(frames, host, store, c),
+        Item::ItemKey(c) => item_key(frames, host, store, c),
+        Item::ItemAtKey(c, key) => item_at_key(frames, host, store, c, key.into_inner()),
+        Item::ItemAtNumber(c) => item_at_number(frames, host, store, c),
+        Item::ItemsAtNumbers(c) => items_at_numbers(frames, host, store, c),
     }
 }

@@ -5,6 +5,7 @@ mod applying;
 mod calls;
 mod operators;
 mod statements;
+mod targets;
 mod turns;
 
 pub use turns::{run, step};

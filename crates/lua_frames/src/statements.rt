@@ -141,7 +141,7 @@ pub(crate) fn assign<H: Host>(
 {
     match take_values(frames)? {
         None => Ok(Flow::Went),
-        Some(values) => assign_values(frames, host.program(), store, targets, values),
+        Some(values) => assign_values(frames, host, store, targets, values),
     }
 }
 

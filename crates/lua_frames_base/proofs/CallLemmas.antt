@@ -94,6 +94,20 @@ return_passes S (i.While test body) p vs s = refl
 return_passes S (i.Turned test body) p vs s = refl
 return_passes S (i.Assign targets) p vs s = refl
 return_passes S (i.AssignSlot line n) p vs s = refl
+return_passes S (i.Method line name args) p vs s = refl
+return_passes S (i.MethodCallee line object args) p vs s = refl
+return_passes S (i.MethodArguments line f object) p vs s = refl
+return_passes S (i.TailMethod line name args) p vs s = refl
+return_passes S (i.TailMethodCallee line object args) p vs s = refl
+return_passes S (i.TailMethodArguments line f object) p vs s = refl
+return_passes S (i.TargetKey line b a) p vs s = refl
+return_passes S (i.TargetAt line x a) p vs s = refl
+return_passes S (i.Stores targets values) p vs s = refl
+return_passes S (i.Items c) p vs s = refl
+return_passes S (i.ItemKey c) p vs s = refl
+return_passes S (i.ItemAtKey c key) p vs s = refl
+return_passes S (i.ItemAtNumber c) p vs s = refl
+return_passes S (i.ItemsAtNumbers c) p vs s = refl
 
 pub failed_passes : (S : Setting) (x : Item) (p : Places) (v : Value) (s : Slots) → resume_item S x p (Failed v) s ≡ End (Failed v) s
 failed_passes S (i.Call line f args) p v s = refl
@@ -120,6 +134,20 @@ failed_passes S (i.While test body) p v s = refl
 failed_passes S (i.Turned test body) p v s = refl
 failed_passes S (i.Assign targets) p v s = refl
 failed_passes S (i.AssignSlot line n) p v s = refl
+failed_passes S (i.Method line name args) p v s = refl
+failed_passes S (i.MethodCallee line object args) p v s = refl
+failed_passes S (i.MethodArguments line f object) p v s = refl
+failed_passes S (i.TailMethod line name args) p v s = refl
+failed_passes S (i.TailMethodCallee line object args) p v s = refl
+failed_passes S (i.TailMethodArguments line f object) p v s = refl
+failed_passes S (i.TargetKey line b a) p v s = refl
+failed_passes S (i.TargetAt line x a) p v s = refl
+failed_passes S (i.Stores targets values) p v s = refl
+failed_passes S (i.Items c) p v s = refl
+failed_passes S (i.ItemKey c) p v s = refl
+failed_passes S (i.ItemAtKey c key) p v s = refl
+failed_passes S (i.ItemAtNumber c) p v s = refl
+failed_passes S (i.ItemsAtNumbers c) p v s = refl
 
 items_return : (S : Setting) (p : Places) (items : List Item) (vs : List Value) (s : Slots) (w : State) → finish_items S p items (Ended (Return vs) s w) ≡ Ended (Return vs) s w
 items_return S p [] vs s w = refl

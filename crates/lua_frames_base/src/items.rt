@@ -1,9 +1,9 @@
 //! The items of a frame: operations that wait for what the node above them gives.
 
-use crate::Target;
+use crate::{Assignment, Constructor, Target};
 use lua_ast::{Arm, BinOp, Expr, Stmt, UnOp};
 use lua_values::Value;
-use resty_base::Boxed;
+use resty_base::{Boxed, Bytes};
 use std::rc::Rc;
 
 /// An operation that waits for what is evaluated first. A number before the others is a line.
@@ -28,6 +28,12 @@ pub enum Item {
     Key(u32, Rc<Expr>),
     /// An index of this value.
     At(u32, Value),
+    /// A call of the method of this name, which has its object.
+    Method(u32, Bytes, Rc<Vec<Expr>>),
+    /// A call of a method of this object, which has its arguments still to evaluate.
+    MethodCallee(u32, Boxed<Value>, Rc<Vec<Expr>>),
+    /// A call of this value with this object before the arguments.
+    MethodArguments(u32, Boxed<Value>, Boxed<Value>),
     /// A list of expressions from an index on, and the values of those before.
     More(Rc<Vec<Expr>>, usize, Vec<Value>),
     /// New local variables in these slots.
@@ -40,6 +46,12 @@ pub enum Item {
     TailCallee(u32, Rc<Vec<Expr>>),
     /// A tail call of this value.
     TailArguments(u32, Value),
+    /// A tail call of the method of this name, which has its object.
+    TailMethod(u32, Bytes, Rc<Vec<Expr>>),
+    /// A tail call of a method of this object, which has its arguments still to evaluate.
+    TailMethodCallee(u32, Boxed<Value>, Rc<Vec<Expr>>),
+    /// A tail call of this value with this object before the arguments.
+    TailMethodArguments(u32, Boxed<Value>, Boxed<Value>),
     /// A tail call that runs, whose values are returned.
     TailReturn,
     /// The statements of a block from an index on.
@@ -54,4 +66,20 @@ pub enum Item {
     Assign(Vec<Target>),
     /// The value of an assignment to one slot.
     AssignSlot(u32, u8),
+    /// A target of an assignment, an index which has its key still to evaluate, before the further ones.
+    TargetKey(u32, Rc<Expr>, Boxed<Assignment>),
+    /// A target of an assignment, an index of this value, before the further ones.
+    TargetAt(u32, Boxed<Value>, Boxed<Assignment>),
+    /// The assignments to these targets that are left, after that to the target behind them.
+    Stores(Vec<Target>, Vec<Value>),
+    /// A table constructor, whose next item is still to evaluate.
+    Items(Constructor),
+    /// The key of the next item of a constructor, which has its value still to evaluate.
+    ItemKey(Constructor),
+    /// The value at this key in a constructor.
+    ItemAtKey(Constructor, Boxed<Value>),
+    /// The value at the next number in a constructor.
+    ItemAtNumber(Constructor),
+    /// The values of the last item of a constructor.
+    ItemsAtNumbers(Constructor),
 }

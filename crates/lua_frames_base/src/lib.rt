@@ -36,6 +36,6 @@ pub use signals::Signal;
 pub use stack::Stack;
 pub use starting::{answer, start};
 pub use taking::{take_first, take_values};
-pub use targets::Target;
+pub use targets::{Assignment, Constructor, Target};
 pub use threads::Frames;
 pub use waiting::{begin_block, element, share, wait};

@@ -1,5 +1,5 @@
 -- What items do with what they take.
-use Rattle.std.specs.Prelude.{◌≡◌, ◌+◌, min, nat_lt, Bool, true, if◌then◌else◌, Result, refl}
+use Rattle.std.specs.Prelude.{◌≡◌, ◌+◌, List, min, nat_lt, Bool, true, if◌then◌else◌, Result, refl}
 use Rattle.std.proofs.Common.{sym, ◌∙◌, ap, Vec, Global}
 use Rattle.std.specs.declared.rc.Rc.{Rc}
 use Rattle.lua_ast.specs.declared.expressions.Expr.{Expr}
@@ -14,12 +14,15 @@ use Rattle.lua_frames_base.specs.declared.flow.Flow.{Flow}
 use Rattle.lua_frames_base.specs.declared.items.Item.{Item}
 use Rattle.lua_frames_base.specs.declared.items.Item.TheVariants as i
 use Rattle.lua_frames_base.specs.declared.threads.Frames.{Frames}
-use Rattle.lua_frames_base.specs.Signals.{sign_of, HasFirst}
+use Rattle.lua_frames_base.specs.Signals.{sign_of, HasFirst, HasValues}
 use Rattle.lua_frames_base.specs.Items.{resume_item}
 use Rattle.lua_frames_base.specs.Frames.{here, slots_of}
 use Rattle.lua_frames_base.specs.Follows.{Works, Enters}
 use Rattle.lua_frames_base.specs.Changes.{Waits}
 use Rattle.lua_frames_base.proofs.FollowLemmas.{works_as, works_from, work_under, enters_by}
+use Rattle.lua_nodes.proofs.ListForms.{on_all}
+use Rattle.lua_items.specs.declared.loops.RunEnd.TheVariants as run
+use Rattle.lua_items.specs.Takes.{ends_run}
 
 first_goes : (go : Value → Slots → Work) (sign : Sign) (v : Value) (s : Slots) → HasFirst sign v → on_values (λ vs s'. go (first vs) s') sign s ≡ go v s
 first_goes go (Values vs) v s h = ap (λ (x : Value). go x s) (sym h)
@@ -35,6 +38,15 @@ takes_one S go v old mid fs before store r h b t w =
     works_as S (on_values (λ vs s'. go (here old) (first vs) s') (sign_of old.given) (slots_of old)) (go (here mid) v (slots_of mid)) old fs before store r
     (works_from S (go (here mid) v (slots_of mid)) old mid fs before store r b t w)
     (first_goes (go (here old)) (sign_of old.given) v (slots_of old) h ∙ rw (b, t) refl)
+
+-- an item that wants all values goes on with those that are given
+pub takes_all : {E : Type 0} (S : Setting) (go : Places → List Value → Slots → Work) (vs : List Value) (old mid fs : Frames) (before store : StoreView) (r : Result Flow E)
+    → HasValues (sign_of old.given) vs → mid.below ≡ old.below → mid.top ≡ old.top → Works S (go (here mid) vs (slots_of mid)) mid before fs store r
+    → Works S (on_values (go (here old)) (sign_of old.given) (slots_of old)) old before fs store r
+takes_all S go vs old mid fs before store r h b t w =
+    works_as S (on_values (go (here old)) (sign_of old.given) (slots_of old)) (go (here mid) vs (slots_of mid)) old fs before store r
+    (works_from S (go (here mid) vs (slots_of mid)) old mid fs before store r b t w)
+    (on_all (go (here old)) (sign_of old.given) vs (slots_of old) h ∙ rw (b, t) refl)
 
 -- the first of two works, by a truth
 pub by_truth : {E : Type 0} (S : Setting) (t : Bool) (q q' : Work) (old fs : Frames) (before store : StoreView) (r : Result Flow E)

@@ -1,11 +1,11 @@
 -- Expressions that begin with another one: their works, by the item that waits.
-use Rattle.std.specs.Prelude.{◌≡◌, Option, Some, None, Result, Ok, Err, IfOk, refl}
+use Rattle.std.specs.Prelude.{◌≡◌, ℕ, List, Option, Some, None, Result, Ok, Err, IfOk, refl}
 use Rattle.std.proofs.Common.{sym, ◌∙◌, subst, Vec, Global}
 use Rattle.std.specs.declared.rc.Rc.{Rc}
 use Rattle.lua_ast.specs.declared.expressions.BinOp.{BinOp}
 use Rattle.lua_ast.specs.declared.expressions.UnOp.{UnOp}
 use Rattle.lua_ast.specs.declared.expressions.Expr.{Expr}
-use Rattle.lua_ast.specs.declared.expressions.ExprKind.TheViews.{outs-Binary, outs-Unary, outs-And, outs-Or, outs-Paren, outs-Index, outs-Call}
+use Rattle.lua_ast.specs.declared.expressions.ExprKind.TheViews.{outs-Binary, outs-Unary, outs-And, outs-Or, outs-Paren, outs-Index, outs-Call, outs-Method}
 use Rattle.lua_ast.specs.declared.expressions.ExprKind.TheVariants as v
 use Rattle.lua_frames_base.specs.declared.items.Item.{Item}
 use Rattle.lua_frames_base.specs.declared.items.Item.TheVariants as i
@@ -32,6 +32,10 @@ index_begins x a b b' e h = record { all = λ S p s. rw (e, outs-Index a b, h) r
 
 pub call_begins : (x : Expr) (f : Rc Expr Global) (args args' : Rc (Vec Expr Global) Global) → x.kind ≡ v.Call f args → args'.value ≡ args.value → BeginsWith x (i.Callee x.line args') f.value
 call_begins x f args args' e h = record { all = λ S p s. rw (e, outs-Call f args, h) refl; one = λ S p s. rw (e, outs-Call f args, h) refl }
+
+pub method_begins : (x : Expr) (a : Rc Expr Global) (name copy : List ℕ) (args args' : Rc (Vec Expr Global) Global) → x.kind ≡ v.Method a name args → copy ≡ name → args'.value ≡ args.value
+    → BeginsWith x (i.Method x.line copy args') a.value
+method_begins x a name copy args args' e same h = record { all = λ S p s. rw (e, outs-Method a name args, same, h) refl; one = λ S p s. rw (e, outs-Method a name args, same, h) refl }
 
 -- a child that is an item with an expression
 pub begins_as : {E : Type 0} (x : Expr) (item : Item) (first target : Expr) (r : Result (Option Child) E) → IfOk r (λ child. IsChild item first child) → first ≡ target → BeginsWith x item target → IfOk r (λ child. Begins x child)

@@ -5,3 +5,4 @@ pub mod ChildForms
 pub mod CaptureLemmas
 pub mod LeafForms
 pub mod ListForms
+pub mod TableForms

@@ -28,6 +28,9 @@ pub fn child_of<'a>(x: &'a Expr) -> Result<Option<Child<'a>>, AllocError>
         ExprKind::Paren(a) => begins_with(Item::First, a),
         ExprKind::Index(a, b) => begins_with(Item::Key(x.line, share(b)?), a),
         ExprKind::Call(f, args) => begins_with(Item::Callee(x.line, share(args)?), f),
+        ExprKind::Method(a, name, args) => {
+            begins_with(Item::Method(x.line, name.clone()?, share(args)?), a)
+        }
         _ => Ok(None),
     }
 }

@@ -1,24 +1,25 @@
 //! Global variables (Lua 5.1 Reference Manual, 2.3).
 
-ghost use Rattle.std.specs.Prelude.{ℕ};
 ghost use Rattle.lua_meaning.specs.Setting.{Setting};
 ghost use Rattle.lua_meaning.specs.Expressions.{global_work};
 ghost use Rattle.lua_frames_base.specs.Frames.{here, slots_of};
 ghost use Rattle.lua_frames_base.specs.Follows.{Works};
 
-use lua_frames_base::{Flow, Frames, give_one, handler};
+use lua_frames_base::{Flow, Frames, Item, give_one, handler, wait};
 use lua_operators::Event;
 use lua_values::{Store, Value};
 use resty_base::Bytes;
 use std::alloc::AllocError;
 
-/// Gives a global variable; one that a table with an `__index` hasn't isn't read yet.
+/// Gives a global variable of an expression at a line. For one that the global table hasn't but handles, the index of the table waits
+/// for the name.
 pub(crate) fn give_global(
     frames: &mut Frames,
     store: &Store,
+    line: u32,
     name: &Bytes,
 ) -> Result<Flow, AllocError>
-    ensures { (S : Setting) → (line : ℕ) → Works S (global_work S line name.now (here frames.old) (slots_of frames.old))
+    ensures { (S : Setting) → Works S (global_work S line name.now (here frames.old) (slots_of frames.old))
         frames.old store.now frames.new store.now result }
 {
     let key = Value::Text(name.clone()?);
@@ -28,8 +29,9 @@ pub(crate) fn give_global(
         return give_one(frames, value);
     }
     let by = handler(store, &Value::Table(globals), Event::Index)?;
-    if !by.is_nil() {
-        return Ok(Flow::Unsupported);
+    if by.is_nil() {
+        return give_one(frames, Value::Nil);
     }
-    give_one(frames, Value::Nil)
+    wait(frames, Item::At(line, Value::Table(globals)))?;
+    give_one(frames, key)
 }

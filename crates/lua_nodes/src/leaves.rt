@@ -7,6 +7,7 @@ ghost use Rattle.lua_frames_base.specs.Frames.{here, slots_of};
 ghost use Rattle.lua_frames_base.specs.Follows.{Works};
 
 use crate::closures::give_closure;
+use crate::constructors::begin_table;
 use crate::globals::give_global;
 use crate::varargs::{give_extras, give_first_extra};
 use crate::variables::{captured, slot};
@@ -63,7 +64,8 @@ pub(crate) fn leaf_all<H: Host>(
             let value = captured(&frames.top.cells, *i, store)?;
             give_one(frames, value)
         }
-        ExprKind::Global(name) => give_global(frames, store, name),
+        ExprKind::Global(name) => give_global(frames, store, x.line, name),
+        ExprKind::Table(items) => begin_table(frames, host.program(), store, x.line, items),
         _ => Ok(Flow::Unsupported),
     }
 }

@@ -4,6 +4,7 @@
 mod captures;
 mod children;
 mod closures;
+mod constructors;
 mod expressions;
 mod globals;
 mod leaves;

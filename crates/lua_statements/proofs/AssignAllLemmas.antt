@@ -1,6 +1,6 @@
 -- Assignments one after another, from the last target to the first.
 use Rattle.std.specs.Prelude.{◌≡◌, ℕ, true, false, suc, zero, ◌≤◌, List, [], ◌∷◌, ◌++◌, length, map, reverse, drop, slice_get, slice_set, Result, Ok, refl}
-use Rattle.std.proofs.Common.{sym, ◌∙◌, ap, subst, arith}
+use Rattle.std.proofs.Common.{sym, ◌∙◌, ap, subst, arith, Vec, Global}
 use Rattle.std.proofs.lemmas.List.{reverse-append}
 use Rattle.lua_values.specs.declared.values.Value.{Value}
 use Rattle.lua_values.specs.declared.values.Value.TheVariants.{Nil}
@@ -9,20 +9,23 @@ use Rattle.lua_meaning.specs.Works.{Places, Slots, Sign, Values, Return, Break, 
 use Rattle.lua_meaning.specs.Evaluator.{Resume, Ending, Ended, after, do_work}
 use Rattle.lua_meaning.specs.Setting.{Setting}
 use Rattle.lua_meaning.specs.Signs.{first, or_nil, on_values}
+use Rattle.lua_meaning.specs.Indexing.{store_work}
 use Rattle.lua_meaning.specs.Assignments.{assigned, assign_to, assign_all}
 use Rattle.lua_meaning.specs.Assignments as assignment
 use Rattle.lua_meaning.specs.Nodes.{eval}
 use Rattle.lua_meaning.proofs.EvaluatorLemmas.{work-then}
 use Rattle.lua_frames_base.specs.declared.flow.Flow.{Flow}
 use Rattle.lua_frames_base.specs.declared.flow.Flow.TheVariants as flow
+use Rattle.lua_frames_base.specs.declared.items.Item.TheVariants as i
 use Rattle.lua_frames_base.specs.declared.targets.Target.{Target}
+use Rattle.lua_frames_base.specs.declared.targets.Target.TheVariants as target
 use Rattle.lua_frames_base.specs.declared.threads.Frames.{Frames}
 use Rattle.lua_frames_base.specs.Signals.{sign_of}
-use Rattle.lua_frames_base.specs.Items.{target_of, assign_values}
+use Rattle.lua_frames_base.specs.Items.{target_of, assign_values, resume_item}
 use Rattle.lua_frames_base.specs.Frames.{here, slots_of}
 use Rattle.lua_frames_base.specs.Follows.{Works}
-use Rattle.lua_frames_base.specs.Changes.{Ends}
-use Rattle.lua_frames_base.proofs.FollowLemmas.{ends_works, work_done}
+use Rattle.lua_frames_base.specs.Changes.{Waits, Ends}
+use Rattle.lua_frames_base.proofs.FollowLemmas.{ends_works, work_done, work_under}
 use Rattle.lua_nodes.specs.Captures.{KeepsAllButSlots, ComesTo}
 use Rattle.lua_nodes.proofs.MovedLemmas.{kept_on, stays_here, works_moved}
 use Rattle.lua_statements.specs.Assignments.{IsAssigned, has_failed, Assigns}
@@ -75,14 +78,14 @@ last_done S ts t vs v old new p before store place is d rs =
     same : do_work (eval S) (assign_to S (target_of t) (or_nil (slice_get vs (length ts))) p (slots_of old)) (record { store = before; resumes = rs }) ≡ do_work (eval S) (assign_to S (target_of t) v (here old) (slots_of old)) (record { store = before; resumes = rs })
     same = rw (place, is) refl
 
+at_most : {m n : ℕ} → m ≡ n → m ≤ n
+at_most e = omega (arith, e)
+
 -- a machine's targets before the last, with the values that are left
 values_left : (S : Setting) (ts : List Target) (vs us : List Value) (p : Places) (s : Slots) → us ≡ slice_set vs (length ts) Nil → assign_values S (map target_of ts) us p s ≡ assign_values S (map target_of ts) vs p s
 values_left S ts vs us p s e =
     ap (λ (xs : List Value). assign_values S (map target_of ts) xs p s) e
     ∙ ap (λ (xs : List (assignment.Target × Value)). assign_all S (reverse xs) p s) (set_after (map target_of ts) vs (length ts) Nil (at_most (map_length ts)))
-  where
-    at_most : {m n : ℕ} → m ≡ n → m ≤ n
-    at_most e' = omega (arith, e')
 
 -- The assignment of some targets comes to that of fewer of them.
 abbrev pub Fewer : Setting → List Target → List Value → Frames → StoreView → List Target → List Value → Frames → StoreView → Type 0
@@ -134,6 +137,28 @@ fault_ends S targets ts more t values vs v old mid new before between store h e 
 
     given : sign_of new.given ≡ Failed (failed_with (sign_of new.given) fails).0
     given = (failed_with (sign_of new.given) fails).1
+
+-- one at a key is assigned, and the others wait
+pub at_key : {E : Type 0} (S : Setting) (targets ts : Vec Target Global) (more : List Target) (t : Target) (line : ℕ) (object key : Value) (values vs us : Vec Value Global) (v : Value) (old mid waits fs : Frames) (before between store : StoreView) (r : Result Flow E)
+    → KeepsAllButSlots old mid → Fewer S targets.items values.items old before more vs.items mid between → more ≡ ts.items ++ t ∷ [] → t ≡ target.AtKey line object key
+    → v ≡ or_nil (slice_get vs.items (length ts.items)) → us.items ≡ slice_set vs.items (length ts.items) Nil → Waits mid (i.Stores ts us) waits
+    → Works S (store_work S line object key v (here waits) (slots_of waits)) waits between fs store r
+    → Works S (assign_values S (map target_of targets.items) values.items (here old) (slots_of old)) old before fs store r
+at_key S targets ts more t line object key values vs us v old mid waits fs before between store r h e split there is left k w =
+    works_moved S (assign_values S (map target_of targets.items) values.items (here old) (slots_of old)) (and_then (store_work S line object key v (here mid) (slots_of mid)) (resume_item S (i.Stores ts us) (here mid))) old mid fs before between store r h comes
+    (work_under S mid waits fs (i.Stores ts us) (λ p s. store_work S line object key v p s) between store r k w)
+  where
+    same_values : assigned (map target_of ts.items) vs.items ≡ assigned (map target_of ts.items) us.items
+    same_values = sym (ap (λ (xs : List Value). assigned (map target_of ts.items) xs) left ∙ set_after (map target_of ts.items) vs.items (length ts.items) Nil (at_most (map_length ts.items)))
+
+    comes : ComesTo S (assign_values S (map target_of targets.items) values.items (here old) (slots_of old)) before (and_then (store_work S line object key v (here mid) (slots_of mid)) (resume_item S (i.Stores ts us) (here mid))) between
+    comes rs =
+        e rs ∙ ap (λ (xs : List Target). do_work (eval S) (assign_values S (map target_of xs) vs.items (here old) (slots_of mid)) (record { store = between; resumes = rs })) split
+        ∙ ap (λ (q : Work). do_work (eval S) q (record { store = between; resumes = rs })) (last_first S ts.items t vs.items (here old) (slots_of mid))
+        ∙ ap (λ (x : Value). do_work (eval S) (and_then (assign_to S (target_of t) x (here old) (slots_of mid)) (on_values (λ xs s'. assign_values S (map target_of ts.items) vs.items (here old) s'))) (record { store = between; resumes = rs })) (sym is)
+        ∙ ap (λ (x : Target). do_work (eval S) (and_then (assign_to S (target_of x) v (here old) (slots_of mid)) (on_values (λ xs s'. assign_values S (map target_of ts.items) vs.items (here old) s'))) (record { store = between; resumes = rs })) there
+        ∙ ap (λ (ys : List (assignment.Target × Value)). do_work (eval S) (and_then (store_work S line object key v (here old) (slots_of mid)) (on_values (λ xs s'. assign_all S (reverse ys) (here old) s'))) (record { store = between; resumes = rs })) same_values
+        ∙ ap (λ (p : Places). do_work (eval S) (and_then (store_work S line object key v p (slots_of mid)) (resume_item S (i.Stores ts us) p)) (record { store = between; resumes = rs })) (sym (stays_here old mid h))
 
 -- none is left
 pub none_left : {E : Type 0} (S : Setting) (targets ts : List Target) (values vs : List Value) (old mid new : Frames) (before store : StoreView) (r : Result Flow E)

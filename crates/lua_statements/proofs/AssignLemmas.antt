@@ -1,17 +1,13 @@
 -- Assignments that are done in the frame on top.
-use Rattle.std.specs.Prelude.{◌≡◌, ℕ, Bool, true, false, if◌then◌else◌, List, [], Option, Some, None, slice_get, slice_set, Result, Ok, Err, refl}
+use Rattle.std.specs.Prelude.{◌≡◌, ℕ, List, [], Option, Some, None, slice_get, slice_set, Result, Ok, Err, refl}
 use Rattle.std.proofs.Common.{sym, ◌∙◌, ap, subst}
 use Rattle.lua_ast.specs.declared.programs.Program.{Program}
 use Rattle.lua_values.specs.declared.values.Value.{Value}
-use Rattle.lua_values.specs.declared.values.Value.TheVariants.{Nil, Closure, Table}
+use Rattle.lua_values.specs.declared.values.Value.TheVariants.{Nil, Closure}
 use Rattle.lua_values.specs.declared.faults.StoreFault.{StoreFault}
 use Rattle.lua_values.specs.declared.faults.StoreFault.TheVariants.{Memory}
-use Rattle.lua_values.specs.Heap.{Heap, StoreView}
-use Rattle.lua_values.specs.Values.{is_nil}
-use Rattle.lua_values.specs.Pairs.{value_at}
-use Rattle.lua_operators.specs.declared.events.Event.TheVariants.{NewIndex}
-use Rattle.lua_meaning.specs.Metatables.{handler}
-use Rattle.lua_values.specs.StoreCalls.{pairs_of, frozen_cause, with_cell_value, set_cause, with_pair, IsCause}
+use Rattle.lua_values.specs.Heap.{StoreView}
+use Rattle.lua_values.specs.StoreCalls.{frozen_cause, with_cell_value, IsCause}
 use Rattle.lua_operators.specs.Faults.{fault_text}
 use Rattle.lua_operators.specs.declared.faults.Fault.TheVariants.{StorageLimit}
 use Rattle.lua_meaning.specs.declared.slots.Slot.{Slot}
@@ -21,9 +17,8 @@ use Rattle.lua_meaning.specs.Evaluator.{Resume, do_work}
 use Rattle.lua_meaning.specs.Setting.{Setting}
 use Rattle.lua_meaning.specs.Positions.{callers_at, positioned, raise_fault}
 use Rattle.lua_meaning.specs.Signs.{give}
-use Rattle.lua_meaning.specs.Variables.{table_fault, variable_fault, unless_refused, write_cell, write_slot}
+use Rattle.lua_meaning.specs.Variables.{variable_fault, unless_refused, write_cell, write_slot}
 use Rattle.lua_meaning.specs.Closures.{captures_of, share, close, closure_work}
-use Rattle.lua_meaning.specs.Indexing.{set_raw, store_by, store_work}
 use Rattle.lua_meaning.specs.Statements.{local_function}
 use Rattle.lua_meaning.specs.Nodes.{eval}
 use Rattle.lua_frames_base.specs.declared.flow.Flow.{Flow}
@@ -151,26 +146,6 @@ named : (cause : Option StoreFault) (fault : StoreFault) → IsCause cause fault
 named None fault e h = absurd (h e)
 named (Some f) fault e h = ap (λ (x : StoreFault). Some x) (sym e)
 
--- a pair that is set
-pub pair_set : {E : Type 0} (S : Setting) (line t : ℕ) (key v : Value) (old new : Frames) (before store : StoreView) (r : Result Flow E)
-    → set_cause before.heap t key v ≡ None → store ≡ record { heap = with_pair before.heap t key v; steps = before.steps } → Ends (Values []) old new r
-    → Does S (set_raw S line (Table t) key v (here old) (slots_of old)) old before new store r
-pair_set S line t key v old new before store r allowed is e =
-    does_by S (set_raw S line (Table t) key v (here old) (slots_of old)) (give [] (slots_of old)) old new before store store r
-    (λ rs. ap (λ (cause : Option StoreFault). do_work (eval S) (unless_refused S (callers_at (here old) line) table_fault cause (slots_of old) (Write (with_pair before.heap t key v) (give [] (slots_of old)))) (record { store = before; resumes = rs })) allowed
-    ∙ ap (λ (st : StoreView). do_work (eval S) (give [] (slots_of old)) (record { store = st; resumes = rs })) (sym is))
-    (ends_does S (Values []) old new store r refl e)
-
--- and one that the store refuses to set
-pub pair_refused : {E : Type 0} (S : Setting) (line t : ℕ) (key v : Value) (fault : StoreFault) (old new : Frames) (before store : StoreView) (r : Result Flow E)
-    → IsCause (set_cause before.heap t key v) fault → (fault ≡ Memory → ⊥) → store ≡ before → Fails (positioned S (callers_at (here old) line) (fault_text (table_fault fault))) old new r
-    → Does S (set_raw S line (Table t) key v (here old) (slots_of old)) old before new store r
-pair_refused S line t key v fault old new before store r cause known is e =
-    does_by S (set_raw S line (Table t) key v (here old) (slots_of old)) (raise_fault S (callers_at (here old) line) (table_fault fault) (slots_of old)) old new before store store r
-    (λ rs. ap (λ (x : Option StoreFault). do_work (eval S) (unless_refused S (callers_at (here old) line) table_fault x (slots_of old) (Write (with_pair before.heap t key v) (give [] (slots_of old)))) (record { store = before; resumes = rs })) (named (set_cause before.heap t key v) fault cause known)
-    ∙ ap (λ (st : StoreView). do_work (eval S) (raise_fault S (callers_at (here old) line) (table_fault fault) (slots_of old)) (record { store = st; resumes = rs })) (sym is))
-    (fails_does S (positioned S (callers_at (here old) line) (fault_text (table_fault fault))) old new store r e)
-
 -- a captured variable that isn't there
 pub captured_nowhere : {E : Type 0} (S : Setting) (callers : List Caller) (cell : Option ℕ) (v : Value) (old new : Frames) (store : StoreView) (r : Result Flow E)
     → cell ≡ None → Ends (Values []) old new r → Does S (write_cell S callers cell v (slots_of old) (give [] (slots_of old))) old store new store r
@@ -186,28 +161,6 @@ pub captured_there : {E : Type 0} (S : Setting) (callers : List Caller) (cell : 
 captured_there S callers cell c v old new before store r there d =
     does_by S (write_cell S callers cell v (slots_of old) (give [] (slots_of old))) (write_cell S callers (Some c) v (slots_of old) (give [] (slots_of old))) old new before before store r
     (λ rs. ap (λ (t : Option ℕ). do_work (eval S) (write_cell S callers t v (slots_of old) (give [] (slots_of old))) (record { store = before; resumes = rs })) there) d
-
-abbrev stored : Setting → ℕ → ℕ → Value → Value → Places → Slots → Heap → Bool → Bool → Work
-stored S line t key x p s h absent plain =
-    if absent then (if plain then set_raw S line (Table t) key x p s else store_by (handler h (Table t) NewIndex) line (Table t) key x p s) else set_raw S line (Table t) key x p s
-
--- a key that is there is set
-pub key_there : {E : Type 0} (S : Setting) (line t : ℕ) (key x was : Value) (old new : Frames) (before store : StoreView) (r : Result Flow E)
-    → was ≡ value_at (pairs_of before.heap t) key → is_nil was ≡ false → Does S (set_raw S line (Table t) key x (here old) (slots_of old)) old before new store r
-    → Does S (store_work S line (Table t) key x (here old) (slots_of old)) old before new store r
-key_there S line t key x was old new before store r is there d =
-    does_by S (store_work S line (Table t) key x (here old) (slots_of old)) (set_raw S line (Table t) key x (here old) (slots_of old)) old new before before store r
-    (λ rs. ap (λ (b : Bool). do_work (eval S) (stored S line t key x (here old) (slots_of old) before.heap b (is_nil (handler before.heap (Table t) NewIndex))) (record { store = before; resumes = rs })) (ap is_nil (sym is) ∙ there)) d
-
--- and so is one that isn't, where nothing handles that
-pub key_absent : {E : Type 0} (S : Setting) (line t : ℕ) (key x was by : Value) (old new : Frames) (before store : StoreView) (r : Result Flow E)
-    → was ≡ value_at (pairs_of before.heap t) key → is_nil was ≡ true → by ≡ handler before.heap (Table t) NewIndex → is_nil by ≡ true
-    → Does S (set_raw S line (Table t) key x (here old) (slots_of old)) old before new store r
-    → Does S (store_work S line (Table t) key x (here old) (slots_of old)) old before new store r
-key_absent S line t key x was by old new before store r is absent handles none d =
-    does_by S (store_work S line (Table t) key x (here old) (slots_of old)) (set_raw S line (Table t) key x (here old) (slots_of old)) old new before before store r
-    (λ rs. ap (λ (b : Bool). do_work (eval S) (stored S line t key x (here old) (slots_of old) before.heap b (is_nil (handler before.heap (Table t) NewIndex))) (record { store = before; resumes = rs })) (ap is_nil (sym is) ∙ absent)
-    ∙ ap (λ (b : Bool). do_work (eval S) (stored S line t key x (here old) (slots_of old) before.heap true b) (record { store = before; resumes = rs })) (ap is_nil (sym handles) ∙ none)) d
 
 -- a function's variable is there before its closure is made
 function_begins : (S : Setting) (program : Program) (line i function : ℕ) (old mid : Frames) (go : Value → Slots → Work) (before : StoreView) → S.program ≡ program → PutsPlain i Nil old mid → (rs : List Resume)

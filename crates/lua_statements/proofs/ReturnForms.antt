@@ -9,7 +9,7 @@ use Rattle.lua_ast.specs.declared.expressions.ExprKind as kind
 use Rattle.lua_ast.specs.declared.expressions.ExprKind.TheOpen.{ExprKind-F}
 use Rattle.lua_ast.specs.declared.expressions.ExprKind.TheOpen as e
 use Rattle.lua_ast.specs.declared.expressions.TableItem.{TableItem}
-use Rattle.lua_ast.specs.declared.expressions.ExprKind.TheViews.{outs-Call}
+use Rattle.lua_ast.specs.declared.expressions.ExprKind.TheViews.{outs-Call, outs-Method}
 use Rattle.lua_ast.specs.declared.expressions.ExprKind.TheVariants as v
 use Rattle.lua_values.specs.Heap.{StoreView, step_limit}
 use Rattle.lua_meaning.specs.Works.{Places, Slots, AValue, Eval, Count, and_then}
@@ -24,7 +24,7 @@ use Rattle.lua_frames_base.specs.Follows.{Works}
 use Rattle.lua_frames_base.proofs.FollowLemmas.{works_as, works_by, spends, count_goes, count_spent}
 use Rattle.lua_frames_base.specs.declared.items.Item.TheVariants as i
 use Rattle.lua_frames_base.specs.Items.{resume_item}
-use Rattle.lua_statements.specs.Returns.{tail_begins}
+use Rattle.lua_statements.specs.Returns.{tail_begins, tail_method_begins}
 
 -- a call alone
 pub tail_form : (S : Setting) (xs : List Expr) (x : Expr) (f : Rc Expr Global) (args : Rc (Vec Expr Global) Global) (p : Places) (s : Slots) → xs ≡ x ∷ [] → x.kind ≡ v.Call f args
@@ -104,3 +104,30 @@ pub tail_spent : {E : Type 0} (S : Setting) (line : ℕ) (f : Expr) (args : List
     → below ≡ nat_lt (before.steps + 1) step_limit → below ≡ false → Works {E = E} S (tail_begins line f args (here old) (slots_of old)) old before new store (Ok flow.Spent)
 tail_spent S line f args old new before store below steps fails =
     spends S (tail_begins line f args (here old) (slots_of old)) old new before store (count_spent S 1 (value f (here old) (slots_of old) (λ v s'. tail_work line v [] args (here old) s')) before below steps fails)
+
+-- a call of a method alone
+pub tail_method_form : (S : Setting) (xs : List Expr) (x : Expr) (a : Rc Expr Global) (name : List ℕ) (args : Rc (Vec Expr Global) Global) (p : Places) (s : Slots) → xs ≡ x ∷ [] → x.kind ≡ v.Method a name args
+    → return_work S xs p s ≡ tail_method_begins S x.line a.value name args.value.items p s
+tail_method_form S xs x a name args p s one is = ap (λ (ys : List Expr). return_work S ys p s) one ∙ rw (is, outs-Method a name args) refl
+
+-- it counts its step, and its object is evaluated
+method_counts : (S : Setting) (line : ℕ) (object : Expr) (name other : List ℕ) (args copy : Rc (Vec Expr Global) Global) (p : Places) (s : Slots) → other ≡ name → copy.value ≡ args.value
+    → tail_method_begins S line object name args.value.items p s ≡ Count 1 (Eval (AValue object) p s (resume_item S (i.TailMethod line other copy) p))
+method_counts S line object name other args copy p s e h = rw (e, h) refl
+
+pub tail_method_goes : {E : Type 0} (S : Setting) (line : ℕ) (object x : Expr) (name other : List ℕ) (args copy : Rc (Vec Expr Global) Global) (old new : Frames) (before counted store : StoreView) (below : Bool) (r : Result Flow E)
+    → x ≡ object → other ≡ name → copy.value ≡ args.value → counted ≡ record { heap = before.heap; steps = min step_limit (before.steps + 1) } → below ≡ nat_lt (before.steps + 1) step_limit → below ≡ true
+    → Works S (Eval (AValue x) (here old) (slots_of old) (resume_item S (i.TailMethod line other copy) (here old))) old counted new store r
+    → Works S (tail_method_begins S line object name args.value.items (here old) (slots_of old)) old before new store r
+tail_method_goes S line object x name other args copy old new before counted store below r same e h is steps holds w =
+    works_as S (tail_method_begins S line object name args.value.items (here old) (slots_of old)) (Count 1 (Eval (AValue x) (here old) (slots_of old) (resume_item S (i.TailMethod line other copy) (here old)))) old new before store r
+    (works_by S (Count 1 (Eval (AValue x) (here old) (slots_of old) (resume_item S (i.TailMethod line other copy) (here old)))) (Eval (AValue x) (here old) (slots_of old) (resume_item S (i.TailMethod line other copy) (here old))) old new before counted store r
+    (count_goes S 1 (Eval (AValue x) (here old) (slots_of old) (resume_item S (i.TailMethod line other copy) (here old))) before counted below is steps holds) w)
+    (method_counts S line object name other args copy (here old) (slots_of old) e h
+    ∙ ap (λ (y : Expr). Count 1 (Eval (AValue y) (here old) (slots_of old) (resume_item S (i.TailMethod line other copy) (here old)))) (sym same))
+
+pub tail_method_spent : {E : Type 0} (S : Setting) (line : ℕ) (object : Expr) (name : List ℕ) (args : Rc (Vec Expr Global) Global) (old new : Frames) (before store : StoreView) (below : Bool)
+    → below ≡ nat_lt (before.steps + 1) step_limit → below ≡ false → Works {E = E} S (tail_method_begins S line object name args.value.items (here old) (slots_of old)) old before new store (Ok flow.Spent)
+tail_method_spent S line object name args old new before store below steps fails =
+    spends S (tail_method_begins S line object name args.value.items (here old) (slots_of old)) old new before store
+    (count_spent S 1 (Eval (AValue object) (here old) (slots_of old) (resume_item S (i.TailMethod line name args) (here old))) before below steps fails)

@@ -4,16 +4,17 @@ ghost use Rattle.std.specs.Prelude.{◌≡◌, ◌∷◌, [], length, nat_eq, Ma
 ghost use Rattle.lua_meaning.specs.Statements.{return_work};
 ghost use Rattle.lua_frames_base.specs.Frames.{here, slots_of};
 ghost use Rattle.lua_frames_base.specs.Follows.{Works};
-ghost use Rattle.lua_statements.specs.Returns.{tail_begins};
+ghost use Rattle.lua_statements.specs.Returns.{tail_begins, tail_method_begins};
 
 use lua_ast::{Expr, ExprKind};
 use lua_frames_base::{Flow, Frames, Host, Item, element, share};
 use lua_nodes::{list_under, value_under};
 use lua_values::Store;
+use resty_base::Bytes;
 use std::alloc::AllocError;
 use std::rc::Rc;
 
-/// Begins a `return` of a list; that of a call of a method isn't begun yet.
+/// Begins a `return` of a list.
 pub(crate) fn begin_return<H: Host>(
     frames: &mut Frames,
     host: &H,
@@ -61,7 +62,9 @@ fn return_one<H: Host>(
 {
     match &x.kind {
         ExprKind::Call(f, args) => begin_tail_call(frames, host, store, x.line, f, args),
-        ExprKind::Method(_, _, _) => Ok(Flow::Unsupported),
+        ExprKind::Method(a, name, args) => {
+            begin_tail_method(frames, host, store, x.line, a, name, args)
+        }
         _ => list_under(frames, host, store, Item::Return, xs),
     }
 }
@@ -82,4 +85,31 @@ fn begin_tail_call<H: Host>(
         return Ok(Flow::Spent);
     }
     value_under(frames, host, store, Item::TailCallee(line, share(args)?), f)
+}
+
+/// Begins a tail call of a method, which counts a step as a call does.
+fn begin_tail_method<H: Host>(
+    frames: &mut Frames,
+    host: &H,
+    store: &mut Store,
+    line: u32,
+    object: &Rc<Expr>,
+    name: &Bytes,
+    args: &Rc<Vec<Expr>>,
+) -> Result<Flow, AllocError>
+    ensures { Works (H.setting host.now) (tail_method_begins (H.setting host.now) line object.now.value name.now args.now.value.items
+        (here frames.old) (slots_of frames.old))
+        frames.old store.old frames.new store.new result }
+{
+    if !store.count(1) {
+        return Ok(Flow::Spent);
+    }
+    let copy = name.clone()?;
+    value_under(
+        frames,
+        host,
+        store,
+        Item::TailMethod(line, copy, share(args)?),
+        object,
+    )
 }

@@ -53,13 +53,7 @@ fn begin_stmt<H: Host>(
         StmtKind::LocalFunction(slot, function) => {
             local_function(frames, host.program(), store, stmt.line, *slot, *function)
         }
-        StmtKind::Assign(targets, xs) => begin_assignment(
-            frames,
-            host,
-            store,
-            targets.as_slice(),
-            xs,
-        ),
+        StmtKind::Assign(targets, xs) => begin_assignment(frames, host, store, targets, xs),
         StmtKind::Call(x) => expr_under(frames, host, store, Item::Discard, x),
         StmtKind::Do(body) => begin_block(frames, body),
         StmtKind::While(test, body) => {

@@ -1,15 +1,17 @@
 //! The targets of assignments, which are evaluated before the values (Lua 5.1 Reference Manual, 2.4.3).
 
-ghost use Rattle.std.specs.Prelude.{◌≡◌, ◌∷◌, [], IfOk};
+ghost use Rattle.std.specs.Prelude.{◌≡◌, ◌∷◌, [], map, IfOk};
 ghost use Rattle.lua_meaning.specs.Assignments.{assignment_work};
+ghost use Rattle.lua_frames_base.specs.Items.{target_of, targets_left};
 ghost use Rattle.lua_frames_base.specs.Frames.{here, slots_of};
 ghost use Rattle.lua_frames_base.specs.Follows.{Works};
-ghost use Rattle.lua_statements.specs.Targets.{IsTarget};
+ghost use Rattle.lua_statements.specs.Targets.{Begins};
 
 use lua_ast::{Expr, ExprKind};
-use lua_frames_base::{Flow, Frames, Host, Item, Target};
-use lua_nodes::list_under;
+use lua_frames_base::{Assignment, Flow, Frames, Host, Item, Target, element, share};
+use lua_nodes::{list_under, value_under};
 use lua_values::{Store, Value};
+use resty_base::Boxed;
 use std::alloc::AllocError;
 use std::rc::Rc;
 
@@ -18,14 +20,14 @@ pub(crate) fn begin_assignment<H: Host>(
     frames: &mut Frames,
     host: &H,
     store: &mut Store,
-    targets: &[Expr],
+    targets: &Rc<Vec<Expr>>,
     xs: &Rc<Vec<Expr>>,
 ) -> Result<Flow, AllocError>
-    ensures { Works (H.setting host.now) (assignment_work (H.setting host.now) targets.now xs.now.value.items (here frames.old)
+    ensures { Works (H.setting host.now) (assignment_work (H.setting host.now) targets.now.value.items xs.now.value.items (here frames.old)
         (slots_of frames.old))
         frames.old store.old frames.new store.new result }
 {
-    match targets {
+    match targets.as_slice() {
         [target] => begin_one(frames, host, store, targets, target, xs),
         _ => begin_targets(frames, host, store, targets, xs),
     }
@@ -36,12 +38,12 @@ fn begin_one<H: Host>(
     frames: &mut Frames,
     host: &H,
     store: &mut Store,
-    targets: &[Expr],
+    targets: &Rc<Vec<Expr>>,
     target: &Expr,
     xs: &Rc<Vec<Expr>>,
 ) -> Result<Flow, AllocError>
-    requires { targets.now ≡ target.now ∷ [] }
-    ensures { Works (H.setting host.now) (assignment_work (H.setting host.now) targets.now xs.now.value.items (here frames.old)
+    requires { targets.now.value.items ≡ target.now ∷ [] }
+    ensures { Works (H.setting host.now) (assignment_work (H.setting host.now) targets.now.value.items xs.now.value.items (here frames.old)
         (slots_of frames.old))
         frames.old store.old frames.new store.new result }
 {
@@ -61,39 +63,101 @@ fn begin_targets<H: Host>(
     frames: &mut Frames,
     host: &H,
     store: &mut Store,
-    targets: &[Expr],
+    targets: &Rc<Vec<Expr>>,
     xs: &Rc<Vec<Expr>>,
 ) -> Result<Flow, AllocError>
-    ensures { Works (H.setting host.now) (assignment_work (H.setting host.now) targets.now xs.now.value.items (here frames.old)
+    ensures { Works (H.setting host.now) (assignment_work (H.setting host.now) targets.now.value.items xs.now.value.items (here frames.old)
         (slots_of frames.old))
         frames.old store.old frames.new store.new result }
 {
-    let mut found = Vec::new(frames.alloc);
-    for target in targets {
+    let found = Vec::new(frames.alloc);
+    let targets = share(targets)?;
+    let values = share(xs)?;
+    find_targets(
+        frames,
+        host,
+        store,
+        Assignment {
+            found,
+            targets,
+            next: 0,
+            values,
+        },
+    )
+}
+
+/// Goes on with the targets of an assignment that are left, and then with its values.
+pub fn find_targets<H: Host>(
+    frames: &mut Frames,
+    host: &H,
+    store: &mut Store,
+    assignment: Assignment,
+) -> Result<Flow, AllocError>
+    ensures { Works (H.setting host.now) (targets_left (H.setting host.now) assignment (map target_of assignment.found.items) (here frames.old)
+        (slots_of frames.old))
+        frames.old store.old frames.new store.new result }
+{
+    let Assignment {
+        found,
+        targets,
+        next,
+        values,
+    } = assignment;
+    let mut found = found;
+    let mut next = next;
+    while let Some(target) = element(&targets, next) {
         if !store.count(1) {
             return Ok(Flow::Spent);
         }
-        match target_of(store, target)? {
-            None => return Ok(Flow::Unsupported),
-            Some(t) => found.push(t)?,
+        match begin_target(store, target)? {
+            Begun::Found(target) => found.push(target)?,
+            Begun::Index(line, object, key) => {
+                let left = Assignment {
+                    found,
+                    targets,
+                    next: next + 1,
+                    values,
+                };
+                let left = Boxed::new(frames.alloc, left)?;
+                return value_under(
+                    frames,
+                    host,
+                    store,
+                    Item::TargetKey(line, key, left),
+                    &object,
+                );
+            }
         }
+        next += 1;
     }
-    list_under(frames, host, store, Item::Assign(found), xs)
+    list_under(frames, host, store, Item::Assign(found), &values)
 }
 
-/// A target that takes no evaluation; that of an index isn't evaluated yet.
-fn target_of(store: &Store, target: &Expr) -> Result<Option<Target>, AllocError>
-    ensures { IfOk result (λ found. IsTarget target.now store.now found) }
+/// How the evaluation of a target begins.
+#[derive(Drop)]
+enum Begun {
+    /// It takes none.
+    Found(Target),
+    /// An index at a line, of this object at this key.
+    Index(u32, Rc<Expr>, Rc<Expr>),
+}
+
+/// Begins a target.
+fn begin_target(store: &Store, target: &Expr) -> Result<Begun, AllocError>
+    ensures { IfOk result (λ begun. Begins target.now store.now begun) }
 {
     match &target.kind {
-        ExprKind::Slot(i) => Ok(Some(Target::Slot(target.line, *i))),
-        ExprKind::Captured(i) => Ok(Some(Target::Captured(target.line, *i))),
-        ExprKind::Global(name) => Ok(Some(Target::AtKey(
+        ExprKind::Slot(i) => Ok(Begun::Found(Target::Slot(target.line, *i))),
+        ExprKind::Captured(i) => Ok(Begun::Found(Target::Captured(target.line, *i))),
+        ExprKind::Global(name) => Ok(Begun::Found(Target::AtKey(
             target.line,
             Value::Table(store.globals()),
             Value::Text(name.clone()?),
         ))),
-        ExprKind::Index(_, _) => Ok(None),
-        _ => Ok(Some(Target::Nowhere)),
+        ExprKind::Index(object, key) => {
+            let object = share(object)?;
+            Ok(Begun::Index(target.line, object, share(key)?))
+        }
+        _ => Ok(Begun::Found(Target::Nowhere)),
     }
 }

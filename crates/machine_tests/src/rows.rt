@@ -3,6 +3,7 @@ mod loops;
 mod natives;
 mod parks;
 mod programs;
+mod tables;
 mod toy;
 
 use natives::WaitAndId;

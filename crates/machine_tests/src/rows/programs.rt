@@ -5,11 +5,15 @@ use lua_lexer::lex;
 use lua_machine::{Machine, Op, Slice};
 use lua_meaning::Resumed;
 use lua_parser::parse;
+use lua_tables_lib::Library;
 use lua_threads::{Loaded, Thread};
-use lua_values::{Store, StoreFault, Value, Values};
+use lua_values::{Both, Store, StoreFault, Value, Values};
 use resty_base::{ByteLists, Bytes, Whole};
 use std::alloc::{AllocError, Global};
 use std::process::Abort;
+
+/// The functions of the host: two of these tests, and then those of the library.
+type Functions = Both<WaitAndId, Library>;
 
 /// Tests each row, `TEXT => WHAT IT COMES TO` or `TEXT <- ANSWERS => WHAT IT COMES TO`, where each `¶` of the text is a line end.
 pub(super) fn hold(rt: &impl Abort, alloc: Global, rows: &str) {
@@ -81,12 +85,12 @@ fn files(alloc: Global) -> Result<ByteLists, AllocError> {
 }
 
 /// The program of a row's text, as the file `t.conf`, with the functions of the host; `None` where it is refused.
-pub(super) fn loaded(alloc: Global, text: &str) -> Option<Loaded<WaitAndId>> {
+pub(super) fn loaded(alloc: Global, text: &str) -> Option<Loaded<Functions>> {
     let files = files(alloc).ok()?;
     let Program { functions, .. } = program_of(alloc, &spelled(alloc, text))?;
     Some(Loaded {
         program: Program { files, functions },
-        natives: WaitAndId,
+        natives: Both::new(WaitAndId, Library),
     })
 }
 
@@ -97,10 +101,14 @@ pub(super) fn store_of(alloc: Global) -> Result<Store, StoreFault> {
     Ok(store)
 }
 
+/// The names of the natives, in the order of their numbers.
+const NAMES: &str = "pcall xpcall error assert tostring w id \
+getmetatable setmetatable ipairs next pairs rawequal rawget rawset select tonumber type unpack";
+
 /// Sets the natives by their names, in the order of their numbers, and makes the closure.
 fn fill(alloc: Global, store: &mut Store) -> Result<(), StoreFault> {
     let mut native: u32 = 0;
-    for name in "pcall xpcall error assert tostring w id".split(' ') {
+    for name in NAMES.split(' ') {
         set_native(alloc, store, name, native)?;
         native = native.saturating_add(1);
     }
@@ -154,7 +162,7 @@ fn resumed(alloc: Global, answer: &str) -> Resumed {
 fn see_run(
     alloc: Global,
     all: &mut String,
-    host: &Loaded<WaitAndId>,
+    host: &Loaded<Functions>,
     store: &mut Store,
     answers: &str,
 ) {
@@ -171,7 +179,7 @@ fn see_run(
 fn see_thread(
     alloc: Global,
     all: &mut String,
-    host: &Loaded<WaitAndId>,
+    host: &Loaded<Functions>,
     store: &mut Store,
     thread: Thread,
     answers: &str,
@@ -188,7 +196,7 @@ fn see_thread(
 /// Resumes a thread, and writes where it parks or how it ends; gives it where it parks.
 fn see_resumed(
     all: &mut String,
-    host: &Loaded<WaitAndId>,
+    host: &Loaded<Functions>,
     store: &mut Store,
     thread: Thread,
     given: Resumed,

@@ -1,6 +1,7 @@
 use Rattle.std.proofs.Common.{◌∙◌, ap, sym}
 use Rattle.lua_values.specs.declared.values.Value.{Value}
 use Rattle.lua_frames_base.specs.declared.items.Item.TheVariants as i
+use Rattle.lua_frames_base.specs.declared.targets.Assignment.{Assignment}
 use Rattle.lua_frames.proofs.FrameForms.{as_item}
 use Rattle.lua_frames.proofs.applying.apply.Goals as goal
 
@@ -72,5 +73,54 @@ returns-in-Turned g c = as_item (g.H.Host.setting c.args.host.now) c.args.item _
 pub returns-in-Assign : goal.returns-in-Assign
 returns-in-Assign g c = as_item (g.H.Host.setting c.args.host.now) c.args.item _ c.args.frames.now c.assign.new.frames c.args.store.now c.assign.new.store c.assign.result c.in-Assign.is c.assign.ensures
 
-pub returns : goal.returns
-returns g c = as_item (g.H.Host.setting c.args.host.now) c.args.item _ c.args.frames.now c.assign_to_slot.new.frames c.args.store.now c.assign_to_slot.new.store c.assign_to_slot.result c.in-AssignSlot.is c.assign_to_slot.ensures
+pub returns-in-AssignSlot : goal.returns-in-AssignSlot
+returns-in-AssignSlot g c = as_item (g.H.Host.setting c.args.host.now) c.args.item _ c.args.frames.now c.assign_to_slot.new.frames c.args.store.now c.assign_to_slot.new.store c.assign_to_slot.result c.in-AssignSlot.is c.assign_to_slot.ensures
+
+pub returns-in-At : goal.returns-in-At
+returns-in-At g c = as_item (g.H.Host.setting c.args.host.now) c.args.item _ c.args.frames.now c.at.new.frames c.args.store.now c.at.new.store c.at.result c.in-At.is c.at.ensures
+
+pub returns-in-Method : goal.returns-in-Method
+returns-in-Method g c = as_item (g.H.Host.setting c.args.host.now) c.args.item _ c.args.frames.now c.method.new.frames c.args.store.now c.method.new.store c.method.result c.in-Method.is c.method.ensures
+
+pub returns-in-MethodCallee : goal.returns-in-MethodCallee
+returns-in-MethodCallee g c = as_item (g.H.Host.setting c.args.host.now) c.args.item _ c.args.frames.now c.method_callee.new.frames c.args.store.now c.method_callee.new.store c.method_callee.result c.in-MethodCallee.is c.method_callee.ensures
+
+pub returns-in-MethodArguments : goal.returns-in-MethodArguments
+returns-in-MethodArguments g c = as_item (g.H.Host.setting c.args.host.now) c.args.item _ c.args.frames.now c.method_arguments.new.frames c.args.store.now c.method_arguments.new.store c.method_arguments.result
+    (c.in-MethodArguments.is ∙ ap (λ (f : Value). i.MethodArguments c.in-MethodArguments.line f c.in-MethodArguments.object) (sym c.into_inner-in-MethodArguments.ensures) ∙ ap (λ (o : Value). i.MethodArguments c.in-MethodArguments.line c.into_inner-in-MethodArguments.result o) (sym c.into_inner-in-MethodArguments-2.ensures)) c.method_arguments.ensures
+
+pub returns-in-TailMethod : goal.returns-in-TailMethod
+returns-in-TailMethod g c = as_item (g.H.Host.setting c.args.host.now) c.args.item _ c.args.frames.now c.tail_method.new.frames c.args.store.now c.tail_method.new.store c.tail_method.result c.in-TailMethod.is c.tail_method.ensures
+
+pub returns-in-TailMethodCallee : goal.returns-in-TailMethodCallee
+returns-in-TailMethodCallee g c = as_item (g.H.Host.setting c.args.host.now) c.args.item _ c.args.frames.now c.tail_method_callee.new.frames c.args.store.now c.tail_method_callee.new.store c.tail_method_callee.result c.in-TailMethodCallee.is c.tail_method_callee.ensures
+
+pub returns-in-TailMethodArguments : goal.returns-in-TailMethodArguments
+returns-in-TailMethodArguments g c = as_item (g.H.Host.setting c.args.host.now) c.args.item _ c.args.frames.now c.tail_method_arguments.new.frames c.args.store.now c.tail_method_arguments.new.store c.tail_method_arguments.result
+    (c.in-TailMethodArguments.is ∙ ap (λ (f : Value). i.TailMethodArguments c.in-TailMethodArguments.line f c.in-TailMethodArguments.object) (sym c.into_inner-in-TailMethodArguments.ensures) ∙ ap (λ (o : Value). i.TailMethodArguments c.in-TailMethodArguments.line c.into_inner-in-TailMethodArguments.result o) (sym c.into_inner-in-TailMethodArguments-2.ensures)) c.tail_method_arguments.ensures
+
+pub returns-in-TargetKey : goal.returns-in-TargetKey
+returns-in-TargetKey g c = as_item (g.H.Host.setting c.args.host.now) c.args.item _ c.args.frames.now c.target_key.new.frames c.args.store.now c.target_key.new.store c.target_key.result c.in-TargetKey.is c.target_key.ensures
+
+pub returns-in-TargetAt : goal.returns-in-TargetAt
+returns-in-TargetAt g c = as_item (g.H.Host.setting c.args.host.now) c.args.item _ c.args.frames.now c.target_at.new.frames c.args.store.now c.target_at.new.store c.target_at.result
+    (c.in-TargetAt.is ∙ ap (λ (o : Value). i.TargetAt c.in-TargetAt.line o c.in-TargetAt.left) (sym c.into_inner-in-TargetAt.ensures) ∙ ap (λ (a : Assignment). i.TargetAt c.in-TargetAt.line c.into_inner-in-TargetAt.result a) (sym c.into_inner-in-TargetAt-2.ensures)) c.target_at.ensures
+
+pub returns-in-Stores : goal.returns-in-Stores
+returns-in-Stores g c = as_item (g.H.Host.setting c.args.host.now) c.args.item _ c.args.frames.now c.stores.new.frames c.args.store.now c.stores.new.store c.stores.result c.in-Stores.is c.stores.ensures
+
+pub returns-in-Items : goal.returns-in-Items
+returns-in-Items g c = as_item (g.H.Host.setting c.args.host.now) c.args.item _ c.args.frames.now c.next_items.new.frames c.args.store.now c.next_items.new.store c.next_items.result c.in-Items.is c.next_items.ensures
+
+pub returns-in-ItemKey : goal.returns-in-ItemKey
+returns-in-ItemKey g c = as_item (g.H.Host.setting c.args.host.now) c.args.item _ c.args.frames.now c.item_key.new.frames c.args.store.now c.item_key.new.store c.item_key.result c.in-ItemKey.is c.item_key.ensures
+
+pub returns-in-ItemAtKey : goal.returns-in-ItemAtKey
+returns-in-ItemAtKey g c = as_item (g.H.Host.setting c.args.host.now) c.args.item _ c.args.frames.now c.item_at_key.new.frames c.args.store.now c.item_at_key.new.store c.item_at_key.result
+    (c.in-ItemAtKey.is ∙ ap (λ (k : Value). i.ItemAtKey c.in-ItemAtKey.c k) (sym c.into_inner-in-ItemAtKey.ensures)) c.item_at_key.ensures
+
+pub returns-in-ItemAtNumber : goal.returns-in-ItemAtNumber
+returns-in-ItemAtNumber g c = as_item (g.H.Host.setting c.args.host.now) c.args.item _ c.args.frames.now c.item_at_number.new.frames c.args.store.now c.item_at_number.new.store c.item_at_number.result c.in-ItemAtNumber.is c.item_at_number.ensures
+
+pub returns-in-ItemsAtNumbers : goal.returns-in-ItemsAtNumbers
+returns-in-ItemsAtNumbers g c = as_item (g.H.Host.setting c.args.host.now) c.args.item _ c.args.frames.now c.items_at_numbers.new.frames c.args.store.now c.items_at_numbers.new.store c.items_at_numbers.result c.in-ItemsAtNumbers.is c.items_at_numbers.ensures

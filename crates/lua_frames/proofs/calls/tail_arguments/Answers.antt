@@ -1,6 +1,6 @@
 use Rattle.lua_meaning.specs.Positions.{callers_at}
 use Rattle.lua_meaning.specs.Calls.{tail_call}
-use Rattle.lua_frames.proofs.FrameForms.{takes_all}
+use Rattle.lua_items.proofs.TakeForms.{takes_all}
 use Rattle.lua_frames.proofs.calls.tail_arguments.Goals as goal
 
 pub returns-in-Some : goal.returns-in-Some

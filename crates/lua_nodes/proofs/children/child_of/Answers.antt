@@ -1,4 +1,5 @@
-use Rattle.lua_nodes.proofs.ChildForms.{begins_as, binary_begins, and_begins, or_begins, index_begins}
+use Rattle.std.proofs.Common.{◌≡◌, rules}
+use Rattle.lua_nodes.proofs.ChildForms.{begins_as, binary_begins, and_begins, or_begins, index_begins, method_begins}
 use Rattle.lua_nodes.proofs.children.child_of.Goals as goal
 
 pub returns-in_ok-share-in-Binary : goal.returns-in_ok-share-in-Binary
@@ -16,3 +17,8 @@ returns-in_ok-share-in-Or c =
 pub returns-in_ok-share-in-Index : goal.returns-in_ok-share-in-Index
 returns-in_ok-share-in-Index c =
     begins_as c.args.x.now _ _ _ _ c.begins_with-in-Index.ensures c.deref-in-Index.ensures (index_begins c.args.x.now c.in-Index.a c.in-Index.b c.in_ok-share-in-Index.field-0 c.in-Index.is c.in_ok-share-in-Index.ensures)
+
+pub returns-in_ok-share-in-Method : goal.returns-in_ok-share-in-Method
+returns-in_ok-share-in-Method c =
+    let same : c.in_ok-clone-in-Method.field-0 ≡ c.in-Method.name = search rules in
+    begins_as c.args.x.now _ _ _ _ c.begins_with-in-Method-2.ensures c.deref-in-Method.ensures (method_begins c.args.x.now c.in-Method.a c.in-Method.name c.in_ok-clone-in-Method.field-0 c.in-Method.args c.in_ok-share-in-Method.field-0 c.in-Method.is same c.in_ok-share-in-Method.ensures)

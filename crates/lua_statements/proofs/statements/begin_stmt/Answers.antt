@@ -1,5 +1,4 @@
-use Rattle.std.proofs.Common.{◌∙◌, ap, sym, Vec, Global}
-use Rattle.lua_ast.specs.declared.expressions.Expr.{Expr}
+use Rattle.std.proofs.Common.{refl, sym}
 use Rattle.lua_frames_base.specs.Frames.{here, slots_of}
 use Rattle.lua_frames_base.proofs.FollowLemmas.{works_as}
 use Rattle.lua_statements.proofs.StatementForms.{local_form, local_function_form, assign_form, call_form, do_form, while_form, return_form}
@@ -18,7 +17,7 @@ returns-in-Do g c =
 pub returns-in-Assign : goal.returns-in-Assign
 returns-in-Assign g c =
     works_as _ _ _ _ _ _ _ _ c.begin_assignment.ensures
-    (assign_form (g.H.Host.setting c.args.host.now) c.args.stmt.now.line c.args.stmt.now.kind c.in-Assign.targets c.in-Assign.xs c.as_slice.result.now (here c.args.frames.now) (slots_of c.args.frames.now) c.in-Assign.is (c.as_slice.ensures.value ∙ ap (λ (w : Vec Expr Global). w.items) c.deref.ensures))
+    (assign_form (g.H.Host.setting c.args.host.now) c.args.stmt.now.line c.args.stmt.now.kind c.in-Assign.targets c.in-Assign.xs c.in-Assign.targets.value.items (here c.args.frames.now) (slots_of c.args.frames.now) c.in-Assign.is refl)
 
 pub returns-in_ok-share-in-Local : goal.returns-in_ok-share-in-Local
 returns-in_ok-share-in-Local g c =
@@ -32,7 +31,7 @@ returns-in-Call g c =
 
 pub returns-in_ok-share-in-While-2 : goal.returns-in_ok-share-in-While-2
 returns-in_ok-share-in-While-2 g c =
-    works_as _ _ _ _ _ _ _ _ (rw c.deref-in-While.ensures at c.value_under.ensures)
+    works_as _ _ _ _ _ _ _ _ (rw c.deref.ensures at c.value_under.ensures)
     (while_form (g.H.Host.setting c.args.host.now) c.args.stmt.now.line c.args.stmt.now.kind c.in-While.test c.in_ok-share-in-While.field-0 c.in-While.body c.in_ok-share-in-While-2.field-0 (here c.args.frames.now) (slots_of c.args.frames.now) c.in-While.is c.in_ok-share-in-While.ensures c.in_ok-share-in-While-2.ensures)
 
 pub returns-in-Return : goal.returns-in-Return
