@@ -4,7 +4,7 @@
 #[cfg(test)]
 mod base;
 #[cfg(test)]
-mod literal_strands;
+mod served;
 #[cfg(test)]
 mod mute;
 #[cfg(test)]

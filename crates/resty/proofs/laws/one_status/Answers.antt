@@ -2,4 +2,4 @@ use Rattle.resty.proofs.OneStatus.{one_status}
 use Rattle.resty.proofs.laws.one_status.Goals as goal
 
 pub returns : goal.returns
-returns c = one_status c.site_or_fault.ensures c.no_site_is_refused.ensures c.no_schedule_is_refused.ensures c.a_schedule_is_known_by_its_text.ensures
+returns c = one_status ? (λ text site n is. c.site_or_fault.ensures text site n is) ? c.no_site_is_refused.ensures c.no_schedule_is_refused.ensures c.a_schedule_is_known_by_its_text.ensures
