@@ -44,7 +44,7 @@ own_status : AreOfOneStatus → (words : List (List ℕ)) (held : FileMap) (v w 
 own_status one words held v w e is it at = (one words held v w is it).0 ∙ ap status_of (sym at)
 
 -- what is cut short would have been done
-cut_done : (m : Mode) (v : Verdict) (events : ℕ) (old new : Outside) (e : Ending) → CutsShort m v events old new e → ending_of v ≡ ending.Done
+cut_done : (m : Mode) (v : Verdict) (events : ℕ) (old new : Book) (e : Ending) → CutsShort m v events old new e → ending_of v ≡ ending.Done
 cut_done m Checks events old new e short = refl
 cut_done m (Runs site lines) events old new e short = refl
 cut_done m (Serves site) events old new e short = refl
@@ -78,8 +78,8 @@ module _ (one : AreOfOneStatus) (words : List (List ℕ)) (c : Command) (says : 
   -- what is cut short is what the one verdict asks for
   early : (e : Ending) → IsCutShort c before new e → (v : Verdict) → IsVerdict words held v → EndsEarly words before new v e
   early e d v is =
-      let same = (one words held d.0 v (verdict_of words c says held d.0 d.1) is).1 (cut_done c.mode d.0 c.events before new e d.2) in
-      (c, says, subst (λ (w : Verdict). CutsShort c.mode w c.events before new e) same d.2)
+      let same = (one words held d.0 v (verdict_of words c says held d.0 d.1) is).1 (cut_done c.mode d.0 c.events live new.live e d.2) in
+      (c, says, subst (λ (w : Verdict). CutsShort c.mode w c.events live new.live e) same d.2)
 
   judged_by : (e : Ending) → IsDue c before new e → (v : Verdict) → IsVerdict words held v → IsStatusBy words before new v (status_of e)
   judged_by ending.Done d v is = by d.0 ending.Done d.1 d.2 v is
@@ -94,7 +94,7 @@ module _ (one : AreOfOneStatus) (words : List (List ℕ)) (c : Command) (says : 
   judged_by (ending.NoSuchId n) d v is = inr (n, early (ending.NoSuchId n) d v is)
   judged_by ending.WorldFault d v is = early ending.WorldFault d v is
   judged_by ending.EventsSpent d v is = early ending.EventsSpent d v is
-  judged_by ending.NotWritten d v is = (by d.2.0 ending.Done d.2.1 d.2.2 v is, d.1)
+  judged_by ending.NotWritten d v is = (by d.2.0 ending.Done d.2.1 (sym d.2.2) v is, d.1)
   judged_by ending.Memory d v is = tt
 
 judged_told : AreOfOneStatus → (words : List (List ℕ)) (c : Command) → Says words c → (told : Option FileMap) (faults : List ℕ → ℕ) (live : Book) (out : Account) (new : Outside) (e : Ending)
@@ -108,7 +108,7 @@ judged one words c says old new e s same due = rw same (judged_told one words c 
 
 -- words that are no form are of one verdict
 pub judged_usage : AreOfOneStatus → (words : List (List ℕ)) (old new : Outside) → ¬ (IsForm words) → IsJudged words old new status.Usage
-judged_usage one words old new none = weaker_some old.files.told (λ held. Unit {0}) _ (λ held t v is. one words held v Usage is none) (every old.files.told)
+judged_usage one words old new none = weaker_some old.files.told (λ held. Unit {0}) _ (λ held t v is. (one words held v Usage is none).0) (every old.files.told)
   where
     every : (told : Option FileMap) → IfSome told (λ held. Unit {0})
     every None = tt

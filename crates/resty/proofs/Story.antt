@@ -2,7 +2,7 @@
 use Rattle.std.proofs.Common.{◌≡◌, ◌⊎◌, inl, inr, ℕ, zero, suc, ◌+◌, ◌<◌, ◌≤◌, Bool, true, false, not, ◌||◌, cond, nat_lt, List, [], ◌∷◌, ◌++◌, length, take, drop, refl, Option, Some, None, slice_get, sym, ap, subst, ◌∙◌, arith, length-append}
 use Rattle.std.specs.Prelude.{◌&&◌}
 use Rattle.std.specs.List.{list_any}
-use Rattle.std.proofs.lemmas.Bool.{ltb-lt}
+use Rattle.std.proofs.lemmas.Bool.{ltb-true}
 use Rattle.std.proofs.lemmas.List.{take-append-drop}
 use Rattle.resty_world.specs.declared.event.Event.{Event}
 use Rattle.resty_world.specs.declared.event.Event.TheVariants as event
@@ -255,7 +255,7 @@ failed-log schedule (Passed line.FailLog ∷ steps) right failed = tells-more (l
 failed-log schedule (Passed line.FailListen ∷ steps) right failed = tells-more (lines_of steps) (line.FailListen ∷ []) (failed-log schedule steps right.0 failed)
 failed-log schedule (Passed (line.Room i n) ∷ steps) right failed = tells-more (lines_of steps) (line.Room i n ∷ []) (failed-log schedule steps right.0 failed)
 failed-log schedule (Passed (line.FailPut i) ∷ steps) right failed = tells-more (lines_of steps) (line.FailPut i ∷ []) (failed-log schedule steps right.0 failed)
-failed-log schedule (Answered (entry.Log who text false) n ∷ steps) right failed = unspent-log steps (ltb-lt 0 (unspent Logging steps) (sym right.1.0))
+failed-log schedule (Answered (entry.Log who text false) n ∷ steps) right failed = unspent-log steps (ltb-true 0 (unspent Logging steps) (sym right.1.0))
 failed-log schedule (Answered (entry.Given e) n ∷ steps) right failed = failed-log schedule steps right.0 failed
 failed-log schedule (Answered (entry.Put i bytes) n ∷ steps) right failed = failed-log schedule steps right.0 failed
 failed-log schedule (Answered (entry.Log who text true) n ∷ steps) right failed = failed-log schedule steps right.0 failed
@@ -297,7 +297,7 @@ told-fault schedule (Passed line.FailLog ∷ steps) right none some = wider line
 told-fault schedule (Passed line.FailListen ∷ steps) right none some = wider line.FailListen steps schedule (told-fault schedule steps right.0 none (omega (arith, some)))
 told-fault schedule (Passed (line.Room i n) ∷ steps) right none some = wider (line.Room i n) steps schedule (told-fault schedule steps right.0 none (omega (arith, some)))
 told-fault schedule (Passed (line.FailPut i) ∷ steps) right none some = wider (line.FailPut i) steps schedule (told-fault schedule steps right.0 none (omega (arith, some)))
-told-fault schedule (Answered (entry.Log who text false) n ∷ steps) right none some = inl (unspent-log steps (ltb-lt 0 (unspent Logging steps) (sym right.1.0)))
+told-fault schedule (Answered (entry.Log who text false) n ∷ steps) right none some = inl (unspent-log steps (ltb-true 0 (unspent Logging steps) (sym right.1.0)))
 told-fault schedule (Answered (entry.Given e) n ∷ steps) right none some = absurd right.1.1
 told-fault schedule (Answered (entry.Put i bytes) n ∷ steps) right none some = told-fault schedule steps right.0 none (omega (arith, some))
 told-fault schedule (Answered (entry.Log who text true) n ∷ steps) right none some = told-fault schedule steps right.0 none (omega (arith, some))

@@ -202,11 +202,11 @@ module _ {J : Type 0} (b : Behavior J) where
       → is_open q es ≡ true → was_put_off q es ≡ false → took q es ≡ b.sent q es
 
   pub took-all : TakesAtRest → Grows b → Keeps b → (lines : List SchedLine) (h : List Entry) (run : IsRun b lines h) → TakesAllBytes lines → TookAll b run.execution
-  took-all law grows keeps lines h run takes c later ms same open =
+  took-all law grows keeps lines h run takes c later ms same at =
       let s = strand.Conn c in
       let told = run.told in
       let none : NoLater (external b run.execution) =
           subst NoLater (told.steps_history ∙ run.history) (no-later (lines ++ told.after) told.steps told.steps_right (subst TakesAllBytes (sym told.steps_lines) takes)) in
       let before = earlier-none later ms (subst (λ all. NoLater (external b all)) same none) in
       let alone = earlier-alone s later ms (subst (λ all. IsExecution b (projection s all)) same (run.lawful.alone s)) in
-      law place.Client (projection s ms) grows keeps alone open.living open.rest open.opened (never-put-off s place.Client ms before)
+      law place.Client (projection s ms) grows keeps alone at.living at.rest at.opened (never-put-off s place.Client ms before)

@@ -170,8 +170,8 @@ module _ (c : Command) where
     of_run : (e : Ended) (h : List Entry) → RunsTo (site_behavior site) c.events lines e h → IsRunOf c old.files.told e h
     of_run e h run = record { site = site; lines = lines; files = runs; run = run }
 
-    cut_short : (e : Ending) → CutsShort mode.Replay (Runs site lines) c.events old new e → IsCutShort c old new e
-    cut_short e short = (Runs site lines, runs, subst (λ m. CutsShort m (Runs site lines) c.events old new e) (sym on) short)
+    cut_short : (e : Ending) → CutsShort mode.Replay (Runs site lines) c.events old.live new.live e → IsCutShort c old new e
+    cut_short e short = (Runs site lines, runs, subst (λ m. CutsShort m (Runs site lines) c.events old.live new.live e) (sym on) short)
 
     is_done : IfSome old.files.told (λ held. (v : Verdict) × IsOf c held v × (ending.Done ≡ ending_of v))
     is_done = weaker_some old.files.told _ _ (λ held v. (Runs site lines, v, refl)) runs
@@ -237,9 +237,9 @@ module _ (c : Command) where
     run_works to writes =
         elim writes [
           | inl ran ↦ history_works ran.0 ran.1 to ran.2 ran.3
-          | inr none ↦ rw none.0 (record {
+          | inr nought ↦ rw nought.0 (record {
             due = tt;
-            writes = by_replay status.Memory (inl none.1);
+            writes = by_replay status.Memory (inl nought.1);
             form = λ same. absurd (let no : ending.Memory ≡ ending.Usage = same in cc);
           })
         ]
@@ -249,8 +249,8 @@ module _ (c : Command) where
     silent : (s : Status) → Writes c old.files.told s old.out new.out
     silent s = subst (λ m. WritesBy m c old.files.told s old.out new.out) (sym on) (rw same (nothing old.out))
 
-    cut_off : (e : Ending) → CutsShort mode.Serve (Serves site) c.events old new e → IsCutShort c old new e
-    cut_off e short = (Serves site, serves, subst (λ m. CutsShort m (Serves site) c.events old new e) (sym on) short)
+    cut_off : (e : Ending) → CutsShort mode.Serve (Serves site) c.events old.live new.live e → IsCutShort c old new e
+    cut_off e short = (Serves site, serves, subst (λ m. CutsShort m (Serves site) c.events old.live new.live e) (sym on) short)
 
     memory_works : Works c old new ending.Memory
     memory_works = record { due = tt; writes = silent status.Memory; form = λ no. absurd (let wrong : ending.Memory ≡ ending.Usage = no in cc) }

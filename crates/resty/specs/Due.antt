@@ -2,6 +2,7 @@
 use Rattle.std.specs.Prelude.{◌≡◌, ℕ, ◌+◌, ◌≤◌, List, length, take, IfSome}
 use Rattle.resty_base.specs.Counting.{Rose}
 use Rattle.resty_base.specs.FileMap.{FileMap}
+use Rattle.resty_world.specs.Book.{Book}
 use Rattle.resty_world.specs.Given.{IsBadLine}
 use Rattle.resty_world.specs.declared.entry.Entry.{Entry}
 use Rattle.resty_world.specs.declared.schedule_line.SchedLine.{SchedLine}
@@ -27,18 +28,18 @@ ComesToUnknown site lines n = (passed : ℕ) × (h : List Entry) × (n ≡ passe
 
 -- What may end a run before Stop, and the serving of a live world: so many events were given, of a schedule that has as many lines;
 -- a line tells of a fault, or the faults of the live world rose; a line names an id that was never there.
-abbrev pub CutsShort : Mode → Verdict → ℕ → Outside → Outside → Ending → Type 0
+abbrev pub CutsShort : Mode → Verdict → ℕ → Book → Book → Ending → Type 0
 CutsShort mode.Replay (Runs site lines) events old new ending.EventsSpent = events ≤ length lines
 CutsShort mode.Replay (Runs site lines) events old new ending.WorldFault = TellsFault lines
 CutsShort mode.Replay (Runs site lines) events old new (ending.NoSuchId n) = ComesToUnknown site lines n
 CutsShort mode.Serve (Serves site) events old new ending.EventsSpent = Unit {0}
-CutsShort mode.Serve (Serves site) events old new ending.WorldFault = Rose old.live.faults new.live.faults
-CutsShort mode.Serve (Serves site) events old new (ending.NoSuchId n) = IsBadLine new.live n
+CutsShort mode.Serve (Serves site) events old new ending.WorldFault = Rose old.faults new.faults
+CutsShort mode.Serve (Serves site) events old new (ending.NoSuchId n) = IsBadLine new n
 CutsShort m v events old new e = ⊥
 
 -- it does so by a verdict, which is that of the files where they report what they hold
 abbrev pub IsCutShort : Command → Outside → Outside → Ending → Type 0
-IsCutShort c old new e = (v : Verdict) × IfSome old.files.told (λ held. IsOf c held v) × CutsShort c.mode v c.events old new e
+IsCutShort c old new e = (v : Verdict) × IfSome old.files.told (λ held. IsOf c held v) × CutsShort c.mode v c.events old.live new.live e
 
 -- Why the work ended so; what is said of the files is said where they report what they hold. A file can't be read only where
 -- reading that file failed, of a schedule only where the configuration is a site's; the output of a run or of a check can't be

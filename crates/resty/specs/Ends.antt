@@ -35,7 +35,7 @@ FailedToRead words files files' = (c : Command) × (which : Named) × Says words
 
 -- what the verdict of the words asks for is cut short
 abbrev pub EndsEarly : List (List ℕ) → Outside → Outside → Verdict → Ending → Type 0
-EndsEarly words old new v e = (c : Command) × Says words c × CutsShort c.mode v c.events old new e
+EndsEarly words old new v e = (c : Command) × Says words c × CutsShort c.mode v c.events old.live new.live e
 
 -- a line that names an id that was never there is reached
 abbrev pub ReachesUnknown : List (List ℕ) → Outside → Outside → Verdict → Type 0

@@ -1,0 +1,13 @@
+pub mod Lists
+pub mod Commands
+pub mod Names
+pub mod Lines
+pub mod Story
+pub mod Ranged
+pub mod Taken
+pub mod Served
+pub mod Due
+pub mod Working
+pub mod Listening
+pub mod ByWords
+pub mod OneStatus
