@@ -1,3 +1,4 @@
 mod Entries
 mod Walks
 mod Served
+mod Routed

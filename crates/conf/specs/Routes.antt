@@ -1,7 +1,8 @@
 -- Which server and which location a request is for.
-use Rattle.std.specs.Prelude.{◌≡◌, ◌≤◌, ◌<◌, ℕ, ◌+◌, Bool, false, ◌==◌, List, length, bytes_eq, position, slice_get}
+use Rattle.std.specs.Prelude.{◌≡◌, ◌≤◌, ◌<◌, ℕ, ◌+◌, max, Bool, false, ◌==◌, List, [], length, bytes_eq, position, slice_get}
 use Rattle.std.specs.Prelude.{Option, Some, None, unwrap_or, if◌then◌else◌}
-use Rattle.std.specs.List.{list_any, starts_with}
+use Rattle.std.specs.List.{fold, list_any, starts_with}
+use Rattle.std.specs.Option.{option_map_or}
 use Rattle.http_base.specs.Names.{same_name}
 use Rattle.conf_rules.specs.declared.effects.LocationKind.{LocationKind}
 use Rattle.conf_rules.specs.declared.effects.LocationKind.TheVariants as kind
@@ -55,6 +56,21 @@ pub record IsRoute (conf : Conf) (host path : List ℕ) (route : Route) : Type 0
   pub named : route.server ≡ server_for conf host
   pub there : slice_get conf.servers route.server ≡ Some server
   pub located : IsLocationFor server.locations path route.location
+
+-- the same as a function: the best rank of a location, the first location of this rank, and the route of a request
+abbrev pub best_rank : List LocationConf → List ℕ → ℕ
+best_rank locations path = fold (λ best location. max best (rank path location.kind)) 0 locations
+
+abbrev pub location_for : List LocationConf → List ℕ → Option ℕ
+location_for locations path =
+    let best = best_rank locations path in
+    if best == 0 then None else position (λ location. rank path location.kind == best) locations
+
+abbrev pub route_of : Conf → List ℕ → List ℕ → Route
+route_of conf host path = record {
+  server = server_for conf host;
+  location = location_for (option_map_or (λ server. server.locations) (slice_get conf.servers (server_for conf host)) []) path;
+}
 
 -- the location is one of this kind by the name, which begins with `@`
 abbrev pub is_named_by : List ℕ → LocationKind → Bool

@@ -2,6 +2,8 @@
 
 ghost use Rattle.std.specs.Prelude.{◌≡◌, ℕ, List};
 ghost use Rattle.conf.specs.Reading.{IsConf, IsRefusedAt};
+ghost use Rattle.conf.specs.Routes.{IsRoute, route_of};
+ghost use Rattle.conf.specs.declared.routes.Route.{Route};
 ghost use Rattle.conf.specs.declared.sites.Conf.{Conf};
 ghost use Rattle.conf.specs.declared.faults.ConfFault.{ConfFault};
 
@@ -27,3 +29,8 @@ pub fn a_refused_text_has_one_fault()
 {
     a_text_has_one_list_of_items();
 }
+
+/// A law: a request has one route.
+pub fn a_request_has_one_route()
+    ensures { (conf : Conf) (host path : List ℕ) (route : Route) → IsRoute conf host path route → route ≡ route_of conf host path }
+{}

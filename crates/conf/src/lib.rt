@@ -16,7 +16,8 @@ mod zones;
 pub use conf_rules::LocationKind;
 pub use faults::ConfFault;
 pub use laws::{
-    a_refused_text_has_one_fault, a_text_has_one_configuration, no_configuration_is_refused,
+    a_refused_text_has_one_fault, a_request_has_one_route, a_text_has_one_configuration,
+    no_configuration_is_refused,
 };
 pub use listings::Listing;
 pub use reading::site_text_of;

@@ -19,13 +19,13 @@ module _ (one_conf : (text : List ℕ) (conf other : site.Conf) → IsConf text 
     (one_reading : (line : ℕ) (text : List ℕ) → HasOneReading line text) where
   -- a program has no fault of its tokens
   no_lex : (block : Block) (fault : LexFault) → IsProgram block → HasFault block.line block.text fault → ⊥
-  no_lex block fault is wrong = (one_reading block.line block.text).apart is.tokens fault is.lexed wrong
+  no_lex block fault is wrong = (one_reading block.line block.text).apart is.1.tokens fault is.1.lexed wrong
 
   -- a program has no fault of its grammar
   no_parse : (block : Block) (fault : ParseFault) → IsProgram block → IsUnparsed block fault → ⊥
   no_parse block fault is wrong =
-      let same = (one_reading block.line block.text).tokens is.tokens wrong.0 is.lexed wrong.1 in
-      wrong.2.none is.program (subst (λ t. IsProgramOf t is.program) same is.parsed)
+      let same = (one_reading block.line block.text).tokens is.1.tokens wrong.0 is.1.lexed wrong.1 in
+      wrong.2.none is.0 (subst (λ t. IsProgramOf t is.0) same is.1.parsed)
 
   -- the block of a first fault is one of a site's
   here : (text : List ℕ) (fault : CheckFault) → IsSite text → (at : IsBlocked text fault) → IsProgram at.first.block

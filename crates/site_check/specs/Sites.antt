@@ -1,5 +1,5 @@
 -- Which texts are sites, and why a text is none.
-use Rattle.std.specs.Prelude.{◌≡◌, ℕ, ◌<◌, List, Some, slice_get}
+use Rattle.std.specs.Prelude.{◌≡◌, ℕ, ◌<◌, List, length, Some, slice_get}
 use Rattle.lua_ast.specs.declared.programs.Program.{Program}
 use Rattle.lua_lexer.specs.Lexical.{HasTokens, HasFault}
 use Rattle.lua_lexer.specs.declared.tokens.Token.{Token}
@@ -7,18 +7,20 @@ use Rattle.lua_grammar.specs.Grammar.{IsProgramOf}
 use Rattle.lua_parser_base.specs.Standing.{IsBroken, OnLimit}
 use Rattle.lua_parser_base.specs.declared.faults.ParseFault.{ParseFault}
 use Rattle.lua_parser.specs.Unfit.{IsUnfit, OfAt}
-use Rattle.conf.specs.Reading.{IsConf, IsRefusedAt}
+use Rattle.conf.specs.Reading.{IsConf, IsRefusedAt, IsWhole}
 use Rattle.conf.specs.declared.sites.Block.{Block}
 use Rattle.conf.specs.declared.sites.Conf as site
 use Rattle.site_check.specs.declared.faults.CheckFault.{CheckFault}
 use Rattle.site_check.specs.declared.faults.CheckFault.TheVariants.{Conf, Lex, Parse, Memory}
 
--- the text of a block, from its line on, has tokens, and these have a program
-pub record IsProgram (block : Block) : Type 0 where
+-- the text of a block, from its line on, has tokens, and the program is that of these
+pub record HasProgram (block : Block) (program : Program) : Type 0 where
   pub tokens : List Token
-  pub program : Program
   pub lexed : HasTokens block.line block.text tokens
   pub parsed : IsProgramOf tokens program
+
+abbrev pub IsProgram : Block → Type 0
+IsProgram block = (program : Program) × HasProgram block program
 
 -- each block is a program
 abbrev pub ArePrograms : List Block → Type 0
@@ -54,6 +56,18 @@ pub record IsSite (text : List ℕ) : Type 0 where
   pub conf : site.Conf
   pub read : IsConf text conf
   pub programs : ArePrograms conf.blocks
+
+-- these are the programs of blocks, in order
+pub record HavePrograms (blocks : List Block) (programs : List Program) : Type 0 where
+  pub counted : length programs ≡ length blocks
+  pub parsed : (i : ℕ) (block : Block) (program : Program) → slice_get blocks i ≡ Some block → slice_get programs i ≡ Some program
+      → HasProgram block program
+
+-- the text of a site says this configuration, and these are the programs of its blocks
+pub record IsRead (text : List ℕ) (conf : site.Conf) (programs : List Program) : Type 0 where
+  pub read : IsConf text conf
+  pub whole : IsWhole conf
+  pub programs : HavePrograms conf.blocks programs
 
 -- a text is a configuration, but a block is no program for this reason, the first such one
 pub record IsBlocked (text : List ℕ) (fault : CheckFault) : Type 0 where

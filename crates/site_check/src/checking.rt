@@ -1,10 +1,11 @@
 //! A text, checked: its configuration, and then its blocks of Lua in their order.
 
-ghost use Rattle.std.specs.Prelude.{OnOk, IfErr};
-ghost use Rattle.site_check.specs.Sites.{IsProgram, ArePrograms, IsBlockFault, IsFirstFault, IsSite, IsSiteFault};
+ghost use Rattle.std.specs.Prelude.{IfErr, IfOk, OnOk};
+ghost use Rattle.site_check.specs.Sites.{HasProgram, HavePrograms, IsBlockFault, IsFirstFault, IsRead, IsSite, IsSiteFault};
 
 use crate::CheckFault;
-use conf::{Block, site_text_of};
+use conf::{Block, Conf, site_text_of};
+use lua_ast::Program;
 use lua_lexer::lex;
 use lua_parser::parse;
 use std::alloc::Global;
@@ -12,30 +13,48 @@ use std::alloc::Global;
 /// The last line on which a block of Lua is read.
 const LAST_LINE: u32 = 4_293_918_719;
 
-/// Checks a block of Lua: its tokens, and then their grammar.
-fn check_block(alloc: Global, block: &Block) -> Result<(), CheckFault>
-    ensures ok { OnOk result (IsProgram block.now) }
+/// What the text of a site says: its configuration, and the program of each of its blocks in their order.
+#[derive(Drop)]
+pub struct SiteRead {
+    pub conf: Conf,
+    pub programs: Vec<Program>,
+}
+
+/// The program of a block of Lua: its tokens are read, and then their grammar.
+fn block_program(alloc: Global, block: &Block) -> Result<Program, CheckFault>
+    ensures ok { IfOk result (HasProgram block.now) }
     ensures err { IfErr result (IsBlockFault block.now) }
 {
     if block.line > LAST_LINE {
         return Err(CheckFault::Memory);
     }
     let tokens = lex(alloc, block.text.as_slice(), block.line)?;
-    parse(alloc, tokens.as_slice())?;
-    Ok(())
+    Ok(parse(alloc, tokens.as_slice())?)
 }
 
-/// Checks blocks of Lua, one after another.
-fn check_blocks(alloc: Global, blocks: &[Block]) -> Result<(), CheckFault>
-    ensures ok { OnOk result (ArePrograms blocks.now) }
+/// The programs of blocks of Lua, one after another.
+fn block_programs(alloc: Global, blocks: &[Block]) -> Result<Vec<Program>, CheckFault>
+    ensures ok { IfOk result (λ programs. HavePrograms blocks.now programs.items) }
     ensures err { IfErr result (IsFirstFault blocks.now) }
 {
+    let mut programs = Vec::new(alloc);
     for block in blocks {
-        if let Err(fault) = check_block(alloc, block) {
-            return Err(fault);
+        match block_program(alloc, block) {
+            Ok(program) => programs.push(program)?,
+            Err(fault) => return Err(fault),
         }
     }
-    Ok(())
+    Ok(programs)
+}
+
+/// Reads the text of a site: its configuration, and then its blocks of Lua in their order.
+pub fn read_site(alloc: Global, text: &[u8]) -> Result<SiteRead, CheckFault>
+    ensures ok { IfOk result (λ site. IsRead text.now site.conf site.programs.items) }
+    ensures err { IfErr result (IsSiteFault text.now) }
+{
+    let conf = site_text_of(alloc, text)?;
+    let programs = block_programs(alloc, conf.blocks.as_slice())?;
+    Ok(SiteRead { conf, programs })
 }
 
 /// Checks the text of a site: its configuration, and then the grammar of its blocks of Lua in their order.
@@ -43,6 +62,6 @@ pub fn check_site(alloc: Global, text: &[u8]) -> Result<(), CheckFault>
     ensures ok { OnOk result (IsSite text.now) }
     ensures err { IfErr result (IsSiteFault text.now) }
 {
-    let conf = site_text_of(alloc, text)?;
-    check_blocks(alloc, conf.blocks.as_slice())
+    read_site(alloc, text)?;
+    Ok(())
 }

@@ -6,6 +6,7 @@ ghost use Rattle.site_check.specs.Texts as spec;
 use conf::ConfFault;
 use lua_lexer::LexFault;
 use lua_parser::ParseFault;
+use std::alloc::AllocFailed;
 
 /// Why a text is no site: its configuration is refused, or a block of Lua is, by its tokens or by its grammar.
 #[derive(Clone, Copy, Debug, PartialEq, Eq)]
@@ -56,6 +57,17 @@ impl From<ParseFault> for CheckFault {
             ParseFault::Memory => CheckFault::Memory,
             fault => CheckFault::Parse(fault),
         }
+    }
+}
+
+impl<T: Drop> From<AllocFailed<T>> for CheckFault {
+    ghost use Rattle.std.specs.Prelude.{◌≡◌};
+    ghost use Rattle.site_check.specs.declared.faults.CheckFault.TheVariants.{Memory};
+
+    ghost from_gives = { λ _ fault. fault ≡ Memory };
+
+    fn from(_error: AllocFailed<T>) -> CheckFault {
+        CheckFault::Memory
     }
 }
 

@@ -1,0 +1,9 @@
+//! The runs of a literal site: each request gets the reply that its location's block of Lua makes, or one that the server makes itself.
+#![tactic(auto)]
+
+mod answers;
+mod contract;
+mod run;
+mod scopes;
+
+pub use run::LiteralRun;
