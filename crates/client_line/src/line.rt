@@ -1,6 +1,6 @@
 //! A client's line.
 
-ghost use Rattle.std.specs.Prelude.{◌≡◌, ◌≢◌, ◌≤◌, length, OnOk, OnErr};
+ghost use Rattle.std.specs.Prelude.{◌≡◌, ◌≢◌, ◌≤◌, ◌↔◌, ◌==◌, true, length, OnOk, OnErr};
 ghost use Rattle.client_line.specs.Lines as spec;
 ghost use Rattle.send_queue.specs.Queues as queues;
 
@@ -9,7 +9,7 @@ use crate::bodies::read_body;
 use crate::heads::{fed_head, fed_rest};
 use crate::held::{HeldBytes, advance};
 use crate::requests::LineOut;
-use http_bodies::{BodyRead, BodyState, skip};
+use http_bodies::{BodyIn, BodyRead, BodyState, skip};
 use http_in::HeadScan;
 use resty_base::Bytes;
 use send_queue::SendQueue;
@@ -107,6 +107,17 @@ impl Line {
         }
     }
 
+    /// Whether the present request's body isn't whole, nor refused, with what is there of it. Nothing is taken of it, and no memory.
+    pub fn waits_for_body(&self, max: u64) -> bool
+        ensures { result ≡ true ↔ spec.body_answer self.now.came max ≡ BodyRead.More }
+    {
+        match &self.at {
+            At::Present(Some(body), _, _) => body.waits(&self.held.rest),
+            At::Present(None, kind, _) => BodyIn::new(self.alloc, *kind, max).waits(&self.held.rest),
+            _ => false,
+        }
+    }
+
     /// The content of the present request's body that was taken.
     pub fn body_bytes(&self) -> &[u8]
         ensures { result.now ≡ spec.content self.now.came.at }
@@ -145,6 +156,13 @@ impl Line {
         }
     }
 
+    /// How many bytes are held.
+    pub fn held_len(&self) -> usize
+        ensures { result ≡ length self.now.came.held }
+    {
+        self.held.front.len() + self.held.rest.len()
+    }
+
     /// Puts bytes after those that wait to be sent.
     pub fn queue(&mut self, bytes: &Bytes) -> Result<(), AllocError>
         ensures done { OnOk result (self.new ≡ record self.old { sending = queues.queued self.old.sending bytes.now }) }
@@ -158,6 +176,13 @@ impl Line {
         ensures { result.now ≡ queues.offered self.now.sending }
     {
         self.sending.queued()
+    }
+
+    /// Whether no bytes wait to be sent.
+    pub fn is_all_sent(&self) -> bool
+        ensures { result ≡ (length self.now.sending.bytes == 0) }
+    {
+        self.sending.is_empty()
     }
 
     /// So many of the offered bytes were taken.

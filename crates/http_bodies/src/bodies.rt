@@ -3,6 +3,7 @@
 ghost use Rattle.std.specs.Prelude.{◌≡◌, ◌≢◌, List, [], take, length, IfOk, OnErr};
 ghost use Rattle.http_bodies.specs.Bodies.{begun, begun_state, body_at, after_bytes, used, answer_at};
 
+use crate::ahead::state_after;
 use crate::runs::{after_run, run_length};
 use crate::states::{BodyState, DataOf};
 use http_in::BodyKind;
@@ -40,6 +41,9 @@ impl Model for BodyIn {
 }
 
 impl BodyIn {
+    ghost use Rattle.std.specs.Prelude.{not};
+    ghost use Rattle.http_bodies.specs.States.{is_settled};
+
     /// A body of which no byte came, whose content may have `max` bytes; takes no memory.
     pub fn new(alloc: Global, kind: BodyKind, max: u64) -> BodyIn
         ensures { result ≡ begun kind max }
@@ -68,6 +72,14 @@ impl BodyIn {
                 BodyRead::Memory
             }
         }
+    }
+
+    /// Whether a further piece would leave it neither whole nor refused. Nothing is read, and it takes no memory.
+    pub fn waits(&self, piece: &[u8]) -> bool
+        ensures { result ≡ not (is_settled (after_bytes self.now piece.now).state) }
+    {
+        let room = self.max.saturating_sub(self.content.len() as u64);
+        !state_after(self.state, room, piece).is_settled()
     }
 
     /// The content so far.

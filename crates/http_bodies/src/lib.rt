@@ -1,6 +1,7 @@
 //! Bodies of requests, however their bytes are cut (RFC 9112, sections 6.3 and 7.1).
 #![tactic(auto)]
 
+mod ahead;
 mod bodies;
 mod laws;
 mod runs;

@@ -1,6 +1,6 @@
 //! The bytes that wait to be sent.
 
-ghost use Rattle.std.specs.Prelude.{◌≡◌, ◌≤◌, length, OnOk, OnErr};
+ghost use Rattle.std.specs.Prelude.{◌≡◌, ◌≤◌, ◌==◌, length, OnOk, OnErr};
 ghost use Rattle.send_queue.specs.Queues as spec;
 
 use crate::blocks::{BLOCK, append, filled, first, put, room};
@@ -83,6 +83,13 @@ impl SendQueue {
     {
         let rest = bytes_after(first(&self.pieces, &self.begun), self.taken);
         first_bytes(rest, BLOCK - self.phase)
+    }
+
+    /// Whether no bytes wait.
+    pub fn is_empty(&self) -> bool
+        ensures { result ≡ (length self.now.bytes == 0) }
+    {
+        first(&self.pieces, &self.begun).len() <= self.taken
     }
 
     /// So many of the offered bytes were taken.

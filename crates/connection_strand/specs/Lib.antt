@@ -1,0 +1,4 @@
+pub mod Kept
+pub mod Standing
+pub mod Turns
+pub mod Costs

@@ -1,0 +1,61 @@
+//! The site whose replies are kept in a dictionary meets the contract, so each of its calls can be made.
+
+ghost use Rattle.std.specs.Prelude.{refl};
+
+use crate::{ServiceContract, Times};
+use http_in::Head;
+use resty_base::{Bytes, Ms};
+use run_contract::{StoredReply, StoredSite};
+use std::alloc::{AllocError, Global};
+use uri_args::Target;
+
+/// A minute for all.
+fn minute() -> Times
+    ensures { result ≡ record { header = record { 0 = 60_000 }; keepalive = record { 0 = 60_000 }; body = record { 0 = 60_000 }; send = record { 0 = 60_000 } } }
+{
+    let time = Ms(60_000);
+    Times {
+        header: time,
+        keepalive: time,
+        body: time,
+        send: time,
+    }
+}
+
+impl ServiceContract for StoredReply {
+    ghost use Rattle.std.specs.Prelude.{◌≤◌};
+    ghost use Rattle.std.proofs.Common.{lit<};
+    ghost use Rattle.service_contract.specs.Stored.{stored_service, eight};
+
+    ghost service = { λ site. stored_service site.dictionary site.key site.otherwise };
+
+    ghost bound = { 8 };
+
+    ghost same = { λ site. refl };
+
+    ghost bounded = { λ site. eight };
+
+    fn default_times(site: &StoredSite) -> Times {
+        let _ = site;
+        minute()
+    }
+
+    fn times_of(site: &StoredSite, head: &Head, target: &Target) -> Times {
+        let _ = site;
+        let _ = head;
+        let _ = target;
+        minute()
+    }
+
+    fn refusal(alloc: Global, site: &StoredSite, code: u16, now: Ms) -> Result<Bytes, AllocError> {
+        let _ = alloc;
+        let _ = code;
+        let _ = now;
+        site.otherwise.clone()
+    }
+
+    fn connections(site: &StoredSite) -> u32 {
+        let _ = site;
+        512
+    }
+}
