@@ -10,7 +10,7 @@ use Rattle.resty.specs.declared.endings.Named.TheVariants as named
 use Rattle.resty.specs.declared.endings.Ending.{Ending}
 use Rattle.resty.specs.declared.endings.Ending.TheVariants as ending
 use Rattle.resty.specs.Reading.{IsUnread, EndsReading, OfSchedule, refusal}
-use Rattle.resty.specs.Sites.{IsNotBuiltAt}
+use Rattle.literal_site.specs.Sites.{IsNotBuiltAt}
 use Rattle.resty.specs.Verdict.{Verdict, Missing, TooLong, Refused, NotBuilt, BadLine, Checks, Holds, ServesSite, IsOf, ending_of, most_of}
 use Rattle.resty.specs.Words.{Command}
 use Rattle.resty.proofs.Names.{weaker_some}

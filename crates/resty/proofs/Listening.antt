@@ -9,7 +9,8 @@ use Rattle.engine.specs.declared.server.Ended.{Ended}
 use Rattle.engine.specs.declared.server.Ended.TheVariants as ended
 use Rattle.engine_base.proofs.Lists.{tells-same}
 use Rattle.resty.specs.Live.{IsServed}
-use Rattle.resty.specs.Sites.{SiteOf, site_behavior, site_port}
+use Rattle.literal_site.specs.declared.sites.LiteralSite.{LiteralSite}
+use Rattle.resty.specs.Sites.{site_behavior}
 
 -- a world at which nothing has happened is one after listening
 pub fresh_still : (port : ℕ) (old mid : Book) → Listens port listened.Up old mid → IsFresh old → IsFresh mid
@@ -31,9 +32,9 @@ ends_still events old mid new ended.WorldFault same ends = (record { kept = rw (
 ends_still events old mid new (ended.BadLine n) same ends = (ends.0, ends.1 ∙ same)
 ends_still events old mid new ended.Memory same ends = ends ∙ same
 
-pub served : (site : SiteOf) (events : ℕ) (old mid new : Book) (e : Ended) → Listens (site_port site) listened.Up old mid → IsRight (site_behavior site) new
+pub served_since : (site : LiteralSite) (events : ℕ) (old mid new : Book) (e : Ended) → Listens site.conf.port listened.Up old mid → IsRight (site_behavior site) new
     → new.port ≡ mid.port → EndsBy events mid new e → IsServed site events e old new
-served site events old mid new e l right port ends = record {
+served_since site events old mid new e l right port ends = record {
   port = port ∙ l.listens;
   right = right;
   ends = ends_still events old mid new e l.faults ends;

@@ -14,7 +14,11 @@ use Rattle.resty.specs.declared.endings.Status.{Status}
 use Rattle.resty.specs.declared.endings.Status.TheVariants as status
 use Rattle.resty.specs.Ending.{status_of}
 use Rattle.resty.specs.Ends.{AreOfOneStatus, IsOneVerdict}
-use Rattle.resty.specs.Sites.{SiteOf, IsServable, IsNotBuiltAt}
+use Rattle.literal_site.specs.Sites.{IsLiteralSite, IsLiteralFault}
+use Rattle.literal_site.specs.declared.faults.LiteralFault.{LiteralFault}
+use Rattle.literal_site.specs.declared.faults.LiteralFault.TheVariants.{Check}
+use Rattle.literal_site.specs.declared.faults.LiteralFault.TheVariants as literal
+use Rattle.literal_site.specs.declared.sites.LiteralSite.{LiteralSite}
 use Rattle.resty.specs.Verdict.{Verdict, Usage, Missing, TooLong, Refused, NotBuilt, BadLine, Checks, Runs, Serves, Holds, HasSite, HasSchedule, ServesSite, IsTooLong, IsOf, IsVerdict, AfterSite, ending_of, most_of}
 use Rattle.resty.specs.declared.command_line.Mode.{Mode}
 use Rattle.resty.specs.declared.command_line.Mode.TheVariants as mode
@@ -70,35 +74,28 @@ one_kind Bad Good apart held name most accepted_ accepted_ p q = refl
 abbrev IsBadText : List ℕ → Type 0
 IsBadText text = (fault : CheckFault) × IsSiteFault text fault × (fault ≡ Memory → ⊥)
 
--- a text that can't be served
+-- a text of no site that can be served
 abbrev IsBadSite : List ℕ → Type 0
-IsBadSite text = IsBadText text ⊎ ((n : ℕ) × IsNotBuiltAt text n)
+IsBadSite text = (fault : LiteralFault) × IsLiteralFault text fault × (fault ≡ literal.Memory → ⊥)
 
 abbrev IsGoodSite : List ℕ → Type 0
-IsGoodSite text = (site : SiteOf) × IsServable text site
+IsGoodSite text = (site : LiteralSite) × IsLiteralSite text site
 
--- the text of a site has no fault
+-- the text of a site has no fault, whether it is checked or served; and where it can be served it is that of one site
 abbrev pub TextsHaveNoFault : Type 0
 TextsHaveNoFault = (text : List ℕ) (fault : CheckFault) → IsSite text → IsSiteFault text fault → fault ≡ Memory
 
--- the text of a site that can be served neither, and it is that of one site
 abbrev pub SitesHaveNoFault : Type 0
-SitesHaveNoFault = (text : List ℕ) (site : SiteOf) (fault : CheckFault) → IsServable text site → IsSiteFault text fault → fault ≡ Memory
-
-abbrev pub SitesAreBuilt : Type 0
-SitesAreBuilt = (text : List ℕ) (site : SiteOf) (n : ℕ) → IsServable text site → IsNotBuiltAt text n → ⊥
+SitesHaveNoFault = (text : List ℕ) (site : LiteralSite) (fault : LiteralFault) → IsLiteralSite text site → IsLiteralFault text fault → fault ≡ literal.Memory
 
 abbrev pub SitesAreKnown : Type 0
-SitesAreKnown = (text : List ℕ) (s t : SiteOf) → IsServable text s → IsServable text t → s ≡ t
+SitesAreKnown = (text : List ℕ) (s t : LiteralSite) → IsLiteralSite text s → IsLiteralSite text t → s ≡ t
 
 texts_apart : TextsHaveNoFault → (text : List ℕ) → IsBadText text → IsSite text → ⊥
 texts_apart no-fault text bad good = bad.2 (no-fault text bad.0 good bad.1)
 
-sites_apart : SitesHaveNoFault → SitesAreBuilt → (text : List ℕ) → IsBadSite text → IsGoodSite text → ⊥
-sites_apart no-fault built text bad good = elim bad [
-  | inl wrong ↦ wrong.2 (no-fault text good.0 wrong.0 good.1 wrong.1)
-  | inr unbuilt ↦ built text good.0 unbuilt.0 good.1 unbuilt.1
-]
+sites_apart : SitesHaveNoFault → (text : List ℕ) → IsBadSite text → IsGoodSite text → ⊥
+sites_apart no-fault text bad good = bad.2 (no-fault text good.0 bad.0 good.1 bad.1)
 
 -- schedules
 abbrev IsBadSchedule : List ℕ → Type 0
@@ -140,7 +137,7 @@ CheckKind held name k = IsKind IsBadText IsSite held name (most_of named.Conf) k
 abbrev ScheduleKind : FileMap → List ℕ → Kind → Type 0
 ScheduleKind held name k = IsKind IsBadSchedule IsGoodSchedule held name (most_of named.Schedule) k
 
-site_kind : (held : FileMap) (conf : List ℕ) (site : SiteOf) → HasSite held conf site → ConfKind held conf accepted_
+site_kind : (held : FileMap) (conf : List ℕ) (site : LiteralSite) → HasSite held conf site → ConfKind held conf accepted_
 site_kind held conf site has = (has.text, has.holds, (site, has.accepted))
 
 -- the mode isn't `check`
@@ -151,8 +148,10 @@ conf_is : (c : Command) → IsNoCheck c → (held : FileMap) (v : Verdict) → I
 conf_is c serves held Usage of = absurd of
 conf_is c serves held (Missing named.Conf) of = of
 conf_is c serves held (TooLong named.Conf) of = of
-conf_is c serves held (Refused fault) of = (of.text, of.holds, inl (fault, of.refused, of.known))
-conf_is c serves held (NotBuilt n) of = (of.1.text, of.1.holds, inr (n, of.1.fault))
+conf_is c serves held (Refused fault) of =
+    (of.text, of.holds, (Check fault, (of.known, of.refused), λ is. let no : Check fault ≡ literal.Memory = is in cc))
+conf_is c serves held (NotBuilt n) of =
+    (of.1.text, of.1.holds, (literal.NotBuilt n, of.1.fault, λ is. let no : literal.NotBuilt n ≡ literal.Memory = is in cc))
 conf_is c serves held (Missing named.Schedule) of = site_kind held c.conf of.1 of.2
 conf_is c serves held (TooLong named.Schedule) of = site_kind held c.conf of.1 of.2
 conf_is c serves held (BadLine n) of = site_kind held c.conf of.1 of.2
@@ -249,7 +248,7 @@ check_or_not mode.Check = inl refl
 check_or_not mode.Replay = inr (λ is. let no : mode.Replay ≡ mode.Check = is in cc)
 check_or_not mode.Serve = inr (λ is. let no : mode.Serve ≡ mode.Check = is in cc)
 
-module _ (no-fault : SitesHaveNoFault) (built : SitesAreBuilt) (known : SitesAreKnown) (text-fault : TextsHaveNoFault) (never-refused : SchedulesAreRead) (schedule-alone : SchedulesAreKnown) where
+module _ (no-fault : SitesHaveNoFault) (known : SitesAreKnown) (text-fault : TextsHaveNoFault) (never-refused : SchedulesAreRead) (schedule-alone : SchedulesAreKnown) where
   schedules_same : (c : Command) (held : FileMap) (k l : Kind) → IsAfterSite c held k → IsAfterSite c held l → k ≡ l
   schedules_same c held k l p q = elim p [
     | inl replay ↦ elim q [
@@ -272,7 +271,7 @@ module _ (no-fault : SitesHaveNoFault) (built : SitesAreBuilt) (known : SitesAre
 
   serve_status : (c : Command) → IsNoCheck c → (held : FileMap) (v w : Verdict) → IsOf c held v → IsOf c held w → status_of (ending_of v) ≡ status_of (ending_of w)
   serve_status c serves held v w p q =
-      let confs = one_kind IsBadSite IsGoodSite (sites_apart no-fault built) held c.conf (most_of named.Conf) (conf_kind v) (conf_kind w) (conf_is c serves held v p) (conf_is c serves held w q) in
+      let confs = one_kind IsBadSite IsGoodSite (sites_apart no-fault) held c.conf (most_of named.Conf) (conf_kind v) (conf_kind w) (conf_is c serves held v p) (conf_is c serves held w q) in
       status_by c held v p
       ∙ same_status (conf_kind v) (conf_kind w) (schedule_kind v) (schedule_kind w) confs
       (λ here. schedules_same c held (schedule_kind v) (schedule_kind w) (schedule_is c serves held v p here) (schedule_is c serves held w q (sym confs ∙ here)))
@@ -282,8 +281,8 @@ module _ (no-fault : SitesHaveNoFault) (built : SitesAreBuilt) (known : SitesAre
   command_status c held v w p q = elim (check_or_not c.mode) [ inl on ↦ check_status c on held v w p q | inr serves ↦ serve_status c serves held v w p q ]
 
   -- one site and one schedule
-  one_site : (held : FileMap) (conf : List ℕ) (s t : SiteOf) → HasSite held conf s → HasSite held conf t → s ≡ t
-  one_site held conf s t p q = known p.text s t p.accepted (subst (λ text. IsServable text t) (same_text q.text p.text q.holds.here p.holds.here) q.accepted)
+  one_site : (held : FileMap) (conf : List ℕ) (s t : LiteralSite) → HasSite held conf s → HasSite held conf t → s ≡ t
+  one_site held conf s t p q = known p.text s t p.accepted (subst (λ text. IsLiteralSite text t) (same_text q.text p.text q.holds.here p.holds.here) q.accepted)
 
   one_schedule : (held : FileMap) (name : List ℕ) (xs ys : List SchedLine) → HasSchedule held name xs → HasSchedule held name ys → xs ≡ ys
   one_schedule held name xs ys p q =

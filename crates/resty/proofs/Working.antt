@@ -25,7 +25,8 @@ use Rattle.resty.specs.Live.{IsServed, ServesTo, deaf, unheard, served, IsServed
 use Rattle.resty.specs.Outside.{Outside}
 use Rattle.resty.specs.Reading.{EndsReading, OfSchedule, ReadsWell}
 use Rattle.resty.specs.Run.{IsRun, RunsTo, has_dropped}
-use Rattle.resty.specs.Sites.{SiteOf, site_behavior}
+use Rattle.literal_site.specs.declared.sites.LiteralSite.{LiteralSite}
+use Rattle.resty.specs.Sites.{site_behavior}
 use Rattle.resty.specs.Verdict.{Verdict, Usage, Missing, TooLong, Refused, NotBuilt, BadLine, Checks, Runs, Serves, HasSite, HasSchedule, IsOf, ending_of}
 use Rattle.resty.specs.Words.{Command}
 use Rattle.resty.specs.Works.{Works}
@@ -60,7 +61,7 @@ module _ (c : Command) where
   conf_due old new (ending.BadLine n) reads = absurd (let no : named.Conf ≡ named.Schedule = reads.0 in cc)
 
   -- what ends the reading of the schedule is due, where the configuration is a site's
-  schedule_due : c.mode ≡ mode.Replay → (body : SiteOf) (old new : Outside) (e : Ending) → IfSome old.files.told (λ held. HasSite held c.conf body)
+  schedule_due : c.mode ≡ mode.Replay → (body : LiteralSite) (old new : Outside) (e : Ending) → IfSome old.files.told (λ held. HasSite held c.conf body)
       → EndsReading (OfSchedule c) c.schedule named.Schedule old.files new.files e → IsDue c old new e
   schedule_due on body old new ending.Done site reads = absurd reads
   schedule_due on body old new ending.Usage site reads = absurd reads
@@ -129,7 +130,7 @@ module _ (c : Command) where
     form = not_usage (IsOf c) old.files new.files c.conf named.Conf e reads;
   }
 
-  pub schedule_works : c.mode ≡ mode.Replay → (body : SiteOf) (old new : Outside) (e : Ending) → new.out ≡ old.out → IfSome old.files.told (λ held. HasSite held c.conf body)
+  pub schedule_works : c.mode ≡ mode.Replay → (body : LiteralSite) (old new : Outside) (e : Ending) → new.out ≡ old.out → IfSome old.files.told (λ held. HasSite held c.conf body)
       → EndsReading (OfSchedule c) c.schedule named.Schedule old.files new.files e → Works c old new e
   schedule_works on body old new e same site reads = record {
     due = schedule_due on body old new e site reads;
@@ -163,7 +164,7 @@ module _ (c : Command) where
   }
 
   -- what is said of a run that is served and written
-  module _ (on : c.mode ≡ mode.Replay) (site : SiteOf) (lines : List SchedLine) (old new : Outside) (runs : IfSome old.files.told (λ held. IsOf c held (Runs site lines))) where
+  module _ (on : c.mode ≡ mode.Replay) (site : LiteralSite) (lines : List SchedLine) (old new : Outside) (runs : IfSome old.files.told (λ held. IsOf c held (Runs site lines))) where
     by_replay : (s : Status) → WritesRun c old.files.told s old.out new.out → Writes c old.files.told s old.out new.out
     by_replay s writes = subst (λ m. WritesBy m c old.files.told s old.out new.out) (sym on) writes
 
@@ -245,7 +246,7 @@ module _ (c : Command) where
         ]
 
   -- what is said of a live world that is served
-  module _ (on : c.mode ≡ mode.Serve) (site : SiteOf) (old new : Outside) (serves : IfSome old.files.told (λ held. IsOf c held (Serves site))) (same : new.out ≡ old.out) where
+  module _ (on : c.mode ≡ mode.Serve) (site : LiteralSite) (old new : Outside) (serves : IfSome old.files.told (λ held. IsOf c held (Serves site))) (same : new.out ≡ old.out) where
     silent : (s : Status) → Writes c old.files.told s old.out new.out
     silent s = subst (λ m. WritesBy m c old.files.told s old.out new.out) (sym on) (rw same (nothing old.out))
 
@@ -346,10 +347,10 @@ module _ (c : Command) where
     check_works (ending.BadLine n) writes = absurd writes
 
 -- the files hold what runs, or what is served
-pub runs_held : (c : Command) → c.mode ≡ mode.Replay → (site : SiteOf) (lines : List SchedLine) (told : Option FileMap) → IfSome told (λ held. HasSite held c.conf site)
+pub runs_held : (c : Command) → c.mode ≡ mode.Replay → (site : LiteralSite) (lines : List SchedLine) (told : Option FileMap) → IfSome told (λ held. HasSite held c.conf site)
     → IfSome told (λ held. HasSchedule held c.schedule lines) → IfSome told (λ held. IsOf c held (Runs site lines))
 runs_held c on site lines told has schedule = both_some told _ _ _ (λ held s h. (on, s, h)) has schedule
 
-pub serves_held : (c : Command) → c.mode ≡ mode.Serve → (site : SiteOf) (told : Option FileMap) → IfSome told (λ held. HasSite held c.conf site)
+pub serves_held : (c : Command) → c.mode ≡ mode.Serve → (site : LiteralSite) (told : Option FileMap) → IfSome told (λ held. HasSite held c.conf site)
     → IfSome told (λ held. IsOf c held (Serves site))
 serves_held c on site told has = weaker_some told _ _ (λ held s. (on, s)) has

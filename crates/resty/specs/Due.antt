@@ -13,7 +13,8 @@ use Rattle.resty.specs.declared.endings.Ending.{Ending}
 use Rattle.resty.specs.declared.endings.Ending.TheVariants as ending
 use Rattle.resty.specs.Outside.{Outside}
 use Rattle.resty.specs.Run.{IsRun, IsUnknownAt, TellsFault}
-use Rattle.resty.specs.Sites.{SiteOf, site_behavior}
+use Rattle.literal_site.specs.declared.sites.LiteralSite.{LiteralSite}
+use Rattle.resty.specs.Sites.{site_behavior}
 use Rattle.resty.specs.Verdict.{Verdict, Runs, Serves, HasSite, FailedAt, IsOf, ending_of}
 use Rattle.resty.specs.Words.{Command}
 
@@ -23,7 +24,7 @@ WritesOut mode.Serve = ⊥
 WritesOut other = Unit {0}
 
 -- a run of the lines before line n comes to that line, which names an id that was never there
-abbrev pub ComesToUnknown : SiteOf → List SchedLine → ℕ → Type 0
+abbrev pub ComesToUnknown : LiteralSite → List SchedLine → ℕ → Type 0
 ComesToUnknown site lines n = (passed : ℕ) × (h : List Entry) × (n ≡ passed + 1) × IsRun (site_behavior site) (take passed lines) h × IsUnknownAt lines passed h
 
 -- What may end a run before Stop, and the serving of a live world: so many events were given, of a schedule that has as many lines;
@@ -47,7 +48,7 @@ IsCutShort c old new e = (v : Verdict) × IfSome old.files.told (λ held. IsOf c
 abbrev pub IsDue : Command → Outside → Outside → Ending → Type 0
 IsDue c old new (ending.Unreadable named.Conf) = FailedAt c.conf old.files new.files
 IsDue c old new (ending.Unreadable named.Schedule) =
-    (c.mode ≡ mode.Replay) × FailedAt c.schedule old.files new.files × IfSome old.files.told (λ held. (site : SiteOf) × HasSite held c.conf site)
+    (c.mode ≡ mode.Replay) × FailedAt c.schedule old.files new.files × IfSome old.files.told (λ held. (site : LiteralSite) × HasSite held c.conf site)
 IsDue c old new ending.NotWritten =
     WritesOut c.mode × Rose old.out.faults new.out.faults × IfSome old.files.told (λ held. (v : Verdict) × IsOf c held v × (ending_of v ≡ ending.Done))
 IsDue c old new ending.WorldFault = IsCutShort c old new ending.WorldFault

@@ -7,7 +7,7 @@ use Rattle.resty.specs.declared.endings.Named.{Named}
 use Rattle.resty.specs.declared.endings.Named.TheVariants as named
 use Rattle.resty.specs.declared.endings.Ending.{Ending}
 use Rattle.resty.specs.declared.endings.Ending.TheVariants as ending
-use Rattle.resty.specs.Sites.{SiteOf}
+use Rattle.literal_site.specs.declared.sites.LiteralSite.{LiteralSite}
 use Rattle.resty.specs.Verdict.{Verdict, FailedAt, HasSite, IsOf, IsTooLong, ending_of, most_of}
 use Rattle.resty.specs.Words.{Command}
 
@@ -26,7 +26,7 @@ refusal fault = ending.Refused fault
 
 -- the verdicts of a command, where its configuration is a site's
 abbrev pub OfSchedule : Command → FileMap → Verdict → Type 0
-OfSchedule c files v = (site : SiteOf) → HasSite files c.conf site → IsOf c files v
+OfSchedule c files v = (site : LiteralSite) → HasSite files c.conf site → IsOf c files v
 
 -- where the files report what they hold, the work ended by one of these verdicts
 abbrev pub IsJudgedBy : (FileMap → Verdict → Type 0) → FileAccount → Ending → Type 0

@@ -14,7 +14,8 @@ use Rattle.resty.specs.declared.endings.Ending.{Ending}
 use Rattle.resty.specs.declared.endings.Ending.TheVariants as ending
 use Rattle.resty.specs.declared.command_line.Mode.{Mode}
 use Rattle.resty.specs.declared.command_line.Mode.TheVariants as mode
-use Rattle.resty.specs.Sites.{SiteOf, IsServable, IsNotBuiltAt}
+use Rattle.literal_site.specs.Sites.{IsLiteralSite, IsNotBuiltAt}
+use Rattle.literal_site.specs.declared.sites.LiteralSite.{LiteralSite}
 use Rattle.resty.specs.Words.{Command, Says, IsForm}
 
 -- how many bytes a configuration and a schedule may have
@@ -38,10 +39,10 @@ pub record IsTooLong (files : FileMap) (name : List ℕ) (most : ℕ) : Type 0 w
   pub long : most < length text
 
 -- the file holds the text of this site, which can be served
-pub record HasSite (files : FileMap) (name : List ℕ) (site : SiteOf) : Type 0 where
+pub record HasSite (files : FileMap) (name : List ℕ) (site : LiteralSite) : Type 0 where
   pub text : List ℕ
   pub holds : Holds files name (most_of named.Conf) text
-  pub accepted : IsServable text site
+  pub accepted : IsLiteralSite text site
 
 -- the file holds the text of a site of which a block can't be run yet: the one that begins in this line is the first
 pub record IsNotBuilt (files : FileMap) (name : List ℕ) (n : ℕ) : Type 0 where
@@ -90,12 +91,12 @@ pub data Verdict : Type 0 where
   NotBuilt : ℕ → Verdict
   BadLine : ℕ → Verdict
   Checks : Verdict
-  Runs : SiteOf → List SchedLine → Verdict
-  Serves : SiteOf → Verdict
+  Runs : LiteralSite → List SchedLine → Verdict
+  Serves : LiteralSite → Verdict
 
 -- what is found of a schedule, which only `replay` reads, and only where the configuration can be served
 abbrev pub AfterSite : Command → FileMap → Type 0 → Type 0
-AfterSite c files found = (c.mode ≡ mode.Replay) × (site : SiteOf) × HasSite files c.conf site × found
+AfterSite c files found = (c.mode ≡ mode.Replay) × (site : LiteralSite) × HasSite files c.conf site × found
 
 -- the verdict of a command on files: the first refusal, where the configuration comes first
 abbrev pub IsOf : Command → FileMap → Verdict → Type 0

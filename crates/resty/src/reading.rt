@@ -8,11 +8,11 @@ ghost use Rattle.resty.specs.Verdict.{Checks, Holds, HasSite, HasSchedule, Serve
 
 use crate::command_line::{Command, Mode};
 use crate::endings::{Ending, Named};
+use literal_site::{LiteralFault, LiteralSite, literal_site_of};
 use resty_base::{Bytes, Fetched, Files};
 use schedule::{SchedFault, Schedule, schedule_of};
 use site_check::{CheckFault, check_site};
 use std::alloc::Global;
-use strand::{Site, SiteFault, literal_site};
 
 /// Reads a file that the words name whole, or says how the work ends for it.
 fn read_named<F: Files>(
@@ -81,7 +81,7 @@ pub fn read_site<F: Files>(
     alloc: Global,
     files: &mut F,
     command: &Command<'_>,
-) -> Result<Site, Ending>
+) -> Result<LiteralSite, Ending>
     requires { ServesSite command.now.mode }
     ensures site { IfOk result (λ site. IfSome (F.account files.old).told (λ held. HasSite held command.now.conf.now site)) }
     ensures due { IfErr result (EndsReading (IsOf (said command.now)) command.now.conf.now Named.Conf (F.account files.old) (F.account files.new)) }
@@ -91,10 +91,11 @@ pub fn read_site<F: Files>(
         Ok(text) => text,
         Err(ending) => return Err(ending),
     };
-    match literal_site(alloc, text.as_slice()) {
+    match literal_site_of(alloc, text.as_slice()) {
         Ok(site) => Ok(site),
-        Err(SiteFault::NotYet(line)) => Err(Ending::NotBuilt(u64::from(line))),
-        Err(SiteFault::Memory) => Err(Ending::Memory),
+        Err(LiteralFault::Check(fault)) => Err(refusal(fault)),
+        Err(LiteralFault::NotBuilt(line)) => Err(Ending::NotBuilt(line as u64)),
+        Err(LiteralFault::Memory) => Err(Ending::Memory),
     }
 }
 

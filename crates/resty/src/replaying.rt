@@ -5,10 +5,12 @@ ghost use Rattle.schedule_text.specs.Fitting.{IsSchedule};
 ghost use Rattle.resty.specs.Run.{RunsTo};
 ghost use Rattle.resty.specs.Sites.{site_behavior};
 
+use connection_strand::Connection;
 use engine::{Ended, serve};
+use literal_run::LiteralRun;
+use literal_site::LiteralSite;
 use schedule::{Replay, Schedule, stop_ends_the_schedule};
 use std::alloc::{AllocError, Global};
-use strand::{LiteralStrand, Site};
 
 /// A replay that was served.
 #[derive(Drop)]
@@ -20,7 +22,7 @@ pub struct ServedReplay {
 /// The world of this schedule, once the strands of the site have served at most so many events of it.
 pub fn replayed(
     alloc: Global,
-    site: Site,
+    site: LiteralSite,
     schedule: Schedule,
     events: u64,
 ) -> Result<ServedReplay, AllocError>
@@ -28,7 +30,7 @@ pub fn replayed(
     ensures { IfOk result (λ run. RunsTo (site_behavior site) events schedule run.ended run.world.history.entries) }
 {
     let mut world = Replay::new(alloc, schedule);
-    let ended = serve::<LiteralStrand, Replay>(alloc, site, &mut world, events);
+    let ended = serve::<Connection<LiteralRun>, Replay>(alloc, site, &mut world, events);
     stop_ends_the_schedule();
     match ended {
         Ended::Memory => Err(AllocError),

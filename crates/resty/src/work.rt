@@ -19,11 +19,11 @@ use crate::reading::{read_schedule, read_site};
 use crate::replaying::replayed;
 use crate::serving::serve_live;
 use crate::writing::write_history;
+use literal_site::LiteralSite;
 use resty_base::{Files, Sink};
 use resty_world::World;
 use schedule::Schedule;
 use std::alloc::Global;
-use strand::Site;
 
 /// Does what the mode says with the configuration.
 pub fn work<F: Files, W: World, O: Sink>(
@@ -72,7 +72,7 @@ fn work_on_site<F: Files, W: World, O: Sink>(
 fn replay<F: Files, O: Sink>(
     alloc: Global,
     command: &Command<'_>,
-    site: Site,
+    site: LiteralSite,
     files: &mut F,
     out: &mut O,
 ) -> Ending
@@ -90,7 +90,7 @@ fn replay<F: Files, O: Sink>(
 /// Serves the schedule and writes the history.
 fn serve_and_write<O: Sink>(
     alloc: Global,
-    site: Site,
+    site: LiteralSite,
     schedule: Schedule,
     events: u64,
     out: &mut O,
