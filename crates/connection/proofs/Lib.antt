@@ -12,3 +12,9 @@ pub mod Bodies
 pub mod Readings
 pub mod Ordered
 pub mod Fewer
+pub mod Prefixes
+pub mod RunTurns
+pub mod GoingOn
+pub mod Settling
+pub mod Settles
+pub mod OwnMoves

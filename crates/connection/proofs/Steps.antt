@@ -71,7 +71,7 @@ module _ {J R : Type 0} (site : Service J R) (now : ℕ) (P : State J (Both R) �
           (record { alike = sent-alike bytes b; run = refl; stage = refl })
       by false = f b s (same b s)
 
-  continues-leads : (m : Move J (Both R)) (b : Ledger J) (s : Both R) (c : Client) (r : Reply) → Leads P m b s s.client.stage → P (perform (let_send site now c r m) b s).state
+  pub continues-leads : (m : Move J (Both R)) (b : Ledger J) (s : Both R) (c : Client) (r : Reply) → Leads P m b s s.client.stage → P (perform (let_send site now c r m) b s).state
   continues-leads m b s c Begun f = f b s (same b s)
   continues-leads m b s c (Whole closes) f = f b s (same b s)
   continues-leads m b s c Unsent f = by c.waited

@@ -1,6 +1,6 @@
 //! Laws of the definitions.
 
-ghost use Rattle.std.specs.Prelude.{◌≡◌, ℕ, ◌<◌, Bool, true, false, List, [], ◌∷◌, ◌++◌, codes, length};
+ghost use Rattle.std.specs.Prelude.{◌≡◌, ℕ, ◌<◌, Bool, true, false, List, [], ◌∷◌, ◌++◌, codes, length, None};
 ghost use Rattle.uri_args.specs.declared.targets.Target.{Target};
 ghost use Rattle.http_in.specs.declared.heads.Head.{Head};
 ghost use Rattle.http_in.specs.declared.framing.BodyKind.TheVariants as kind;
@@ -16,16 +16,17 @@ ghost use Rattle.strand_contract.specs.Alone.{IsExecution};
 ghost use Rattle.strand_contract.specs.Laws.{AsksFit, HangsUpOpen, LeavesNothingOpen, Keeps, WakesQuietly, EndsAtStop};
 ghost use Rattle.strand_contract.specs.Actions.{LocalAction, Did, Began, Ended, Broken, Ready, Later, Close, Run, Due, Offer, Halted};
 ghost use Rattle.moves.specs.Ledgers.{Ledger};
+ghost use Rattle.moves.specs.Moves.{perform};
 ghost use Rattle.moves.specs.Plans.{state_of};
 ghost use Rattle.moves.specs.Conditions.{IsPlan};
 ghost use Rattle.run_contract.specs.Conditions.{IsRun};
-ghost use Rattle.connection.specs.Services.{Service};
+ghost use Rattle.connection.specs.Services.{Service, Both};
 ghost use Rattle.connection.specs.Connections.{connection_plan, connection_behavior};
 ghost use Rattle.connection.specs.Conditions.{Knows, MayAsk};
 ghost use Rattle.connection.specs.Accounts.{Accounts};
 ghost use Rattle.connection.specs.Asked.{AsksInOrder};
 ghost use Rattle.connection.specs.InStep.{IsInStep};
-ghost use Rattle.connection.specs.Turns.{continue_reply};
+ghost use Rattle.connection.specs.Turns.{continue_reply, settled_at, settle};
 ghost use Rattle.connection.specs.Recalls.{recalls_plan, RecallsHolds, recalled};
 ghost use Rattle.connection.specs.Examples.{echo_plan, EchoHolds, Asks, began, came, took, acts, sent};
 
@@ -84,6 +85,13 @@ pub fn asking_for_a_body_leaves_what_follows()
 pub fn each_request_takes_bytes()
     ensures { (came : Came) (head : Head) (target : Target) → (fed (done came) []).answer ≡ out.Request head target
         → length (fed (done came) []).after.held < length came.held }
+{}
+
+/// Settling does one thing and settles again: a busy run is told what it waits for, and a reply that is taken is followed by the next request or the end.
+/// So how often the definition lets it go on never shows.
+pub fn settling_goes_on<S: Lawful>()
+    ensures { (now : ℕ) (b : Ledger S.Job) (s : Both S.Inner) → Knows S.holds (record { ledger = b; inner = s }) → b.asked ≡ None
+        → let again = settle S.service now in perform again b s ≡ perform (settled_at S.service now s.client.stage again again b s) b s }
 {}
 
 /// The runs of the worked rows are lawful.

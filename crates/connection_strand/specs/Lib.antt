@@ -1,4 +1,5 @@
 pub mod Kept
+pub mod Acts
 pub mod Standing
 pub mod Turns
 pub mod Costs

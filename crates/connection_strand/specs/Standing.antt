@@ -70,7 +70,7 @@ module _ {R J I : Type 0} (plan : RunPlan J I) (stands : R → Ledger J → I �
   -- between turns: the client, the open sockets and the run are as the plan has them
   pub record Stays (c : Connection R) (b : Ledger J) (s : Both I) : Type 0 where
     pub client : kept c.client ≡ kept_of b s.client
-    pub opened : b.opened ≡ places c.client.is_open c.sockets.items
+    pub sockets : b.opened ≡ places (is_there b) c.sockets.items
     pub count : c.count ≡ b.count
     pub keeping : c.keeping ≡ kept_sock b.asked
     pub on : IsOn s.client.stage
@@ -79,7 +79,7 @@ module _ {R J I : Type 0} (plan : RunPlan J I) (stands : R → Ledger J → I �
 -- within a turn: the client and the sockets are as the plan has them, and so is whether the client's offer is queued or begun
 pub record Serves {R J I : Type 0} (c : Connection R) (u : Turn J) (b : Ledger J) (s : Both I) : Type 0 where
   pub client : kept c.client ≡ kept_of b s.client
-  pub opened : b.opened ≡ places c.client.is_open c.sockets.items
+  pub sockets : b.opened ≡ places (is_there b) c.sockets.items
   pub count : c.count ≡ b.count
   pub keeping : c.keeping ≡ None
   pub offered : is_there b ≡ true → u.is_offered ≡ has_offer place.Client b

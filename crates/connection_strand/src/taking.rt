@@ -28,7 +28,7 @@ fn is_question<J>(act: &Act<J>) -> bool
 }
 
 /// Takes the number out of these.
-fn take_out(numbers: &mut Vec<u32>, number: u32)
+pub(crate) fn take_out(numbers: &mut Vec<u32>, number: u32)
     ensures { numbers.new.items ≡ without_all number numbers.old.items }
 {
     numbers.retain(|n| *n != number);

@@ -1,2 +1,2 @@
-pub mod Waits
+pub mod Serving
 pub mod Stored

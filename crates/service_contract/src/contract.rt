@@ -18,33 +18,29 @@ pub struct Times {
 /// A run, whose site serves the connections that it answers.
 pub trait ServiceContract: RunContract {
     ghost use Rattle.std.specs.Prelude.{◌≡◌, ◌≤◌, ℕ, IfOk};
-    ghost use Rattle.connection.specs.Services.{Service};
-    ghost use Rattle.service_contract.specs.Waits.{times};
+    ghost use Rattle.service_contract.specs.Serving.{Serving, times};
 
-    /// The site, as its connections see it.
-    ghost service: { Self.Site → Service Self.Job Self.Inner };
+    /// What the site is to its connections, beside its runs.
+    ghost serving: { Self.Site → Serving };
 
     /// The most that a run of any site can do from its beginning, until it waits for a socket or the client.
     ghost bound: { ℕ };
 
     /// The times of the default server.
     fn default_times(site: &Self::Site) -> Times
-        ensures { times result ≡ (service site.now).default_times };
+        ensures { times result ≡ (serving site.now).default_times };
 
     /// The times of a request.
     fn times_of(site: &Self::Site, head: &Head, target: &Target) -> Times
-        ensures { times result ≡ (service site.now).times_of head.now target.now };
+        ensures { times result ≡ (serving site.now).times_of head.now target.now };
 
     /// The reply to a head that is refused with this status now.
     fn refusal(alloc: Global, site: &Self::Site, code: u16, now: Ms) -> Result<Bytes, AllocError>
-        ensures { IfOk result (λ reply. reply ≡ (service site.now).refusal code now.0) };
+        ensures { IfOk result (λ reply. reply ≡ (serving site.now).refusal code now.0) };
 
     /// How many connections may be open at a time.
     fn connections(site: &Self::Site) -> u32
-        ensures { result ≡ (service site.now).connections };
-
-    /// What answers requests are these runs.
-    ghost same: { (site : Self.Site) → (service site).runs ≡ Self.plan site };
+        ensures { result ≡ (serving site.now).connections };
 
     /// No run can do more than that.
     ghost bounded: { (site : Self.Site) → Self.most site ≤ bound };

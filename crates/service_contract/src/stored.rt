@@ -1,6 +1,8 @@
 //! The site whose replies are kept in a dictionary meets the contract, so each of its calls can be made.
 
-ghost use Rattle.std.specs.Prelude.{refl};
+ghost use Rattle.std.specs.Prelude.{◌≡◌};
+ghost use Rattle.service_contract.specs.Serving.{times};
+ghost use Rattle.service_contract.specs.Stored.{minute};
 
 use crate::{ServiceContract, Times};
 use http_in::Head;
@@ -11,7 +13,7 @@ use uri_args::Target;
 
 /// A minute for all.
 fn minute() -> Times
-    ensures { result ≡ record { header = record { 0 = 60_000 }; keepalive = record { 0 = 60_000 }; body = record { 0 = 60_000 }; send = record { 0 = 60_000 } } }
+    ensures { times result ≡ minute }
 {
     let time = Ms(60_000);
     Times {
@@ -23,15 +25,11 @@ fn minute() -> Times
 }
 
 impl ServiceContract for StoredReply {
-    ghost use Rattle.std.specs.Prelude.{◌≤◌};
-    ghost use Rattle.std.proofs.Common.{lit<};
-    ghost use Rattle.service_contract.specs.Stored.{stored_service, eight};
+    ghost use Rattle.service_contract.specs.Stored.{stored_serving, eight};
 
-    ghost service = { λ site. stored_service site.dictionary site.key site.otherwise };
+    ghost serving = { λ site. stored_serving site.otherwise };
 
     ghost bound = { 8 };
-
-    ghost same = { λ site. refl };
 
     ghost bounded = { λ site. eight };
 
