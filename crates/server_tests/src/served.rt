@@ -55,9 +55,9 @@ fn hold(rt: &impl Abort, alloc: Global, conf: &str, cases: &str) -> Result<(), F
     Ok(())
 }
 
-/// The case with what the names in it mean.
+/// The case with what the names in it mean, and each line whole: one that begins with two spaces goes on with the line before.
 fn spelled(alloc: Global, case: &str) -> Result<String, AllocError> {
-    let mut text = String::from_str(alloc, case)?;
+    let mut text = case.replace(alloc, "\n  ", "")?;
     for row in NAMES.lines() {
         let (name, meaning) = row.split_once(" => ").unwrap_or((row, ""));
         text = text.replace(alloc, name, meaning)?;

@@ -47,7 +47,8 @@ bytes c1 "<get><get>"
 ended c1
 < room c1 all
 ready c1
-> put c1 "00 OK\r\nServer: resty\r\nDate: Thu, 01 Jan 1970 00:00:00 GMT\r\nContent-Type: text/plain\r\nTransfer-Encoding: chunked\r\nConnection: keep-alive\r\n\r\n<hi>"
+> put c1 "00 OK\r\nServer: resty\r\nDate: Thu, 01 Jan 1970 00:00:00 GMT\r\n
+  Content-Type: text/plain\r\nTransfer-Encoding: chunked\r\nConnection: keep-alive\r\n\r\n<hi>"
 > put c1 "<keep><hi>"
 > close c1
 stop"#;

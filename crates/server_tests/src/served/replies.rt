@@ -6,7 +6,8 @@ use std::test::Fail;
 
 const STATUSES: &str = r#"arrive c1
 bytes c1 "POST / HTTP/1.1\r\nHost: a\r\nContent-Length: 1\r\nTransfer-Encoding: chunked\r\n\r\n"
-> put c1 "HTTP/1.1 400 Bad Request\r\nServer: resty\r\nDate: Thu, 01 Jan 1970 00:00:00 GMT\r\nContent-Type: text/plain\r\nContent-Length: 16\r\nConnection: close\r\n\r\n400 Bad Request\n"
+> put c1 "HTTP/1.1 400 Bad Request\r\nServer: resty\r\nDate: Thu, 01 Jan 1970 00:00:00 GMT\r\n
+  Content-Type: text/plain\r\nContent-Length: 16\r\nConnection: close\r\n\r\n400 Bad Request\n"
 > close c1
 stop
 
@@ -31,13 +32,15 @@ stop
 
 arrive c1
 bytes c1 "<post>Transfer-Encoding: gzip, chunked\r\n\r\n"
-> put c1 "HTTP/1.1 501 Not Implemented\r\nServer: resty\r\nDate: Thu, 01 Jan 1970 00:00:00 GMT\r\nContent-Type: text/plain\r\nContent-Length: 20\r\nConnection: close\r\n\r\n501 Not Implemented\n"
+> put c1 "HTTP/1.1 501 Not Implemented\r\nServer: resty\r\nDate: Thu, 01 Jan 1970 00:00:00 GMT\r\n
+  Content-Type: text/plain\r\nContent-Length: 20\r\nConnection: close\r\n\r\n501 Not Implemented\n"
 > close c1
 stop
 
 arrive c1
 bytes c1 "GET / HTTP/2.0\r\n\r\n"
-> put c1 "HTTP/1.1 505 HTTP Version Not Supported\r\nServer: resty\r\nDate: Thu, 01 Jan 1970 00:00:00 GMT\r\nContent-Type: text/plain\r\nContent-Length: 31\r\nConnection: close\r\n\r\n505 HTTP Version Not Supported\n"
+> put c1 "HTTP/1.1 505 HTTP Version Not Supported\r\nServer: resty\r\nDate: Thu, 01 Jan 1970 00:00:00 GMT\r\n
+  Content-Type: text/plain\r\nContent-Length: 31\r\nConnection: close\r\n\r\n505 HTTP Version Not Supported\n"
 > close c1
 stop"#;
 
@@ -46,24 +49,32 @@ fn a_head_that_is_refused_gets_the_reply_of_its_status(rt: HostRuntime) -> Resul
     hold(&rt, rt.alloc(), HI, STATUSES)
 }
 
-/// A site whose `/a` takes bodies of at most two bytes, and which has nothing else.
-const SMALL: &str = r#"http { server { location /a { client_max_body_size 2; content_by_lua_block { ngx.say("a") } } } }"#;
+/// A site whose `/a` takes bodies of at most two bytes, and has a type of its own; there is nothing else.
+const SMALL: &str = r#"http { server {
+location /a { client_max_body_size 2; default_type application/x; content_by_lua_block { ngx.say("a") } }
+location /a/in { internal; default_type application/x; content_by_lua_block { ngx.say("in") } }
+} }"#;
 
 const FOUND: &str = r#"arrive c1
 bytes c1 "GET /b HTTP/1.1\r\nHost: a\r\n\r\n"
-> put c1 "HTTP/1.1 404 Not Found\r\nServer: resty\r\nDate: Thu, 01 Jan 1970 00:00:00 GMT\r\nContent-Type: text/plain\r\nContent-Length: 14\r\nConnection: keep-alive\r\n\r\n404 Not Found\n"
+> put c1 "HTTP/1.1 404 Not Found\r\nServer: resty\r\nDate: Thu, 01 Jan 1970 00:00:00 GMT\r\n
+  Content-Type: text/plain\r\nContent-Length: 14\r\nConnection: keep-alive\r\n\r\n404 Not Found\n"
 bytes c1 "GET /b HTTP/1.0\r\nConnection: keep-alive\r\n\r\n"
 > put c1 "<404>"
 bytes c1 "HEAD /b HTTP/1.1\r\nHost: a\r\n\r\n"
-> put c1 "HTTP/1.1 404 Not Found\r\nServer: resty\r\nDate: Thu, 01 Jan 1970 00:00:00 GMT\r\nContent-Type: text/plain\r\nContent-Length: 14\r\nConnection: keep-alive\r\n\r\n"
+> put c1 "HTTP/1.1 404 Not Found\r\nServer: resty\r\nDate: Thu, 01 Jan 1970 00:00:00 GMT\r\n
+  Content-Type: text/plain\r\nContent-Length: 14\r\nConnection: keep-alive\r\n\r\n"
+bytes c1 "GET /a/in HTTP/1.1\r\nHost: a\r\n\r\n"
+> put c1 "<404>"
 bytes c1 "POST /a HTTP/1.1\r\nHost: a\r\nContent-Length: 3\r\n\r\nabc"
-> put c1 "HTTP/1.1 413 Content Too Large\r\nServer: resty\r\nDate: Thu, 01 Jan 1970 00:00:00 GMT\r\nContent-Type: text/plain\r\nContent-Length: 22\r\nConnection: close\r\n\r\n413 Content Too Large\n"
+> put c1 "HTTP/1.1 413 Content Too Large\r\nServer: resty\r\nDate: Thu, 01 Jan 1970 00:00:00 GMT\r\n
+  Content-Type: text/plain\r\nContent-Length: 22\r\nConnection: close\r\n\r\n413 Content Too Large\n"
 > close c1
 arrive c2
-bytes c2 "POST /a HTTP/1.1\r\nHost: a\r\nContent-Length: 2\r\n\r\nab"
-> put c2 "<keep>2\r\na\n\r\n0\r\n\r\n"
-stop
-> close c2"#;
+bytes c2 "POST /a HTTP/1.0\r\nContent-Length: 2\r\n\r\nab"
+> put c2 "HTTP/1.1 200 OK\r\nServer: resty\r\nDate: Thu, 01 Jan 1970 00:00:00 GMT\r\nContent-Type: application/x\r\nConnection: close\r\n\r\na\n"
+> close c2
+stop"#;
 
 #[test]
 fn what_is_not_there_and_what_is_too_large_is_refused(rt: HostRuntime) -> Result<(), Fail> {
