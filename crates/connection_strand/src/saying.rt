@@ -22,7 +22,7 @@ impl<R: ServiceContract> Connection<R> {
         ensures { IfOk result (λ done. Goes (R.plan site.now) (R.holds site.now) (R.stands site.now)
             (λ m. Look (λ b s. let_send (service_of (R.plan site.now) (R.serving site.now)) 0 s.client s.client.reply m)) self.old turn.old self.new turn.new) }
     {
-        if self.client.reply == Reply::Unsent && !self.client.waited {
+        if matches!(self.client.reply, Reply::Unsent) && !self.client.waited {
             self.client.waited = true;
             if self.client.expects {
                 self.send(turn, site, &Bytes::from_static(CONTINUE))?;
