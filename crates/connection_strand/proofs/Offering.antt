@@ -48,10 +48,14 @@ or-true : (c : Bool) → (c || true) ≡ true
 or-true true = refl
 or-true false = refl
 
+pub and-none : (c d : Bool) → d ≡ false → (c && d) ≡ false
+and-none true d h = h
+and-none false d h = refl
+
 module _ {R J I : Type 0} (site : Service J I) (holds : Ledger J → I → Type 0) (stands : R → Ledger J → I → Type 0)
     (lawful : IsRun site.runs holds) (apart : (x : R) (b c : Ledger J) (r : I) → AreAlike b c → stands x b r → stands x c r) where
-  Kepts : Moment J → Performed J (Both I) → Connection R → Turn J → Move J (Both I) → Type 0
-  Kepts e did c u m = Toward site.runs holds stands e did c u m
+  abbrev pub To : Moment J → Performed J (Both I) → Connection R → Turn J → Move J (Both I) → Type 0
+  To e did c u m = Toward site.runs holds stands e did c u m
 
   is-wanted : (c : Connection R) (u : Turn J) (b : Ledger J) (s : Both I) → Serves c u b s → ledgers.wants_offer place.Client b ≡ (wants_offer (kept c.client) && not u.is_offered)
   is-wanted c u b s w =
@@ -73,7 +77,7 @@ module _ {R J I : Type 0} (site : Service J I) (holds : Ledger J → I → Type 
   -- the offer is asked for
   pub offers : (e : Moment J) (did : Performed J (Both I)) (c c' : Connection R) (u u' : Turn J) (m : Move J (Both I))
       → IsSameRun c c' → kept c'.client ≡ kept c.client → (wants_offer (kept c.client) && not u.is_offered) ≡ true → u'.is_offered ≡ true
-      → u'.acts.items ≡ u.acts.items ++ act.Offer place.Client ∷ [] → Kepts e did c u (Send place.Client [] m) → Kepts e did c' u' m
+      → u'.acts.items ≡ u.acts.items ++ act.Offer place.Client ∷ [] → To e did c u (Send place.Client [] m) → To e did c' u' m
   offers e did c c' u u' m same client wants offered acts h =
       let b = h.ledger in
       let s = h.inner in
@@ -101,7 +105,7 @@ module _ {R J I : Type 0} (site : Service J I) (holds : Ledger J → I → Type 
 
   -- none is wanted
   pub offers-not : (e : Moment J) (did : Performed J (Both I)) (c : Connection R) (u : Turn J) (m : Move J (Both I))
-      → (wants_offer (kept c.client) && not u.is_offered) ≡ false → Kepts e did c u (Send place.Client [] m) → Kepts e did c u m
+      → (wants_offer (kept c.client) && not u.is_offered) ≡ false → To e did c u (Send place.Client [] m) → To e did c u m
   offers-not e did c u m wants h =
       let b = h.ledger in
       let s = h.inner in
@@ -146,12 +150,12 @@ module _ {R J I : Type 0} (site : Service J I) (holds : Ledger J → I → Type 
   -- bytes are queued, before an offer is asked for
   pub queues-more : (e : Moment J) (did : Performed J (Both I)) (c c' : Connection R) (u : Turn J) (bytes : List ℕ) (m : Move J (Both I))
       → IsSameRun c c' → c.client.is_open ≡ true → kept c'.client ≡ record (kept c.client) { sending = queues.queued (kept c.client).sending bytes }
-      → Kepts e did c u (send site 0 bytes m) → Kepts e did c' u (Send place.Client [] m)
-  queues-more e did c c' u bytes m same open client h =
+      → To e did c u (send site 0 bytes m) → To e did c' u (Send place.Client [] m)
+  queues-more e did c c' u bytes m same opened client h =
       let b = h.ledger in
       let s = h.inner in
       let w = h.within.serves in
-      let there : is_there b ≡ true = sym (ap (λ (k : Kept). k.opened) w.client) ∙ open in
+      let there : is_there b ≡ true = sym (ap (λ (k : Kept). k.opened) w.client) ∙ opened in
       let s' : Both I = record s { client = record s.client { exchanges = with_more bytes s.client.exchanges } } in
       let b' = with_sent place.Client bytes b in
       record {
@@ -177,7 +181,7 @@ module _ {R J I : Type 0} (site : Service J I) (holds : Ledger J → I → Type 
 
   -- a client that isn't there is sent nothing
   pub queues-not : (e : Moment J) (did : Performed J (Both I)) (c : Connection R) (u : Turn J) (bytes : List ℕ) (m : Move J (Both I))
-      → c.client.is_open ≡ false → Kepts e did c u (send site 0 bytes m) → Kepts e did c u m
+      → c.client.is_open ≡ false → To e did c u (send site 0 bytes m) → To e did c u m
   queues-not e did c u bytes m shut h =
       let b = h.ledger in
       let s = h.inner in

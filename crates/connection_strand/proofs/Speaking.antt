@@ -21,13 +21,13 @@ use Rattle.connection_strand.proofs.Moving.{IsSameRun, stays-within}
 
 module _ {R J I : Type 0} (site : Service J I) (holds : Ledger J → I → Type 0) (stands : R → Ledger J → I → Type 0)
     (lawful : IsRun site.runs holds) (apart : (x : R) (b c : Ledger J) (r : I) → AreAlike b c → stands x b r → stands x c r) where
-  Kepts : Moment J → Performed J (Both I) → Connection R → Turn J → Move J (Both I) → Type 0
-  Kepts e did c u m = Toward site.runs holds stands e did c u m
+  abbrev pub To : Moment J → Performed J (Both I) → Connection R → Turn J → Move J (Both I) → Type 0
+  To e did c u m = Toward site.runs holds stands e did c u m
 
   -- the client changes, but for its stage
   pub changes : (f : Client → Client) (k : Kept → Kept) (e : Moment J) (did : Performed J (Both I)) (c c' : Connection R) (u : Turn J) (m : Move J (Both I))
       → ((b : Ledger J) (x : Client) → k (kept_of b x) ≡ kept_of b (f x)) → ((x : Client) → (f x).stage ≡ x.stage)
-      → IsSameRun c c' → kept c'.client ≡ k (kept c.client) → Kepts e did c u (change f m) → Kepts e did c' u m
+      → IsSameRun c c' → kept c'.client ≡ k (kept c.client) → To e did c u (change f m) → To e did c' u m
   changes f k e did c c' u m so stays same client h =
       let b = h.ledger in
       let s = h.inner in
@@ -54,7 +54,7 @@ module _ {R J I : Type 0} (site : Service J I) (holds : Ledger J → I → Type 
   -- while nothing of the reply was sent, the first wait lets the client send the body
   pub lets : (e : Moment J) (did : Performed J (Both I)) (c c' : Connection R) (u : Turn J) (m : Move J (Both I)) (x : Bool)
       → (kept c.client).reply ≡ Unsent → c.client.waited ≡ false → c.client.expects ≡ x → IsSameRun c c' → kept c'.client ≡ record (kept c.client) { waited = true }
-      → Kepts e did c u (Look (λ b s. let_send site 0 s.client s.client.reply m)) → Kepts e did c' u (if x then send site 0 continue_reply m else m)
+      → To e did c u (Look (λ b s. let_send site 0 s.client s.client.reply m)) → To e did c' u (if x then send site 0 continue_reply m else m)
   lets e did c c' u m x unsent unwaited expects same client h =
       let b = h.ledger in
       let s = h.inner in
@@ -80,7 +80,7 @@ module _ {R J I : Type 0} (site : Service J I) (holds : Ledger J → I → Type 
   is-begun (stage.Whole closes) h c m = refl
 
   pub lets-begun : (e : Moment J) (did : Performed J (Both I)) (c : Connection R) (u : Turn J) (m : Move J (Both I)) → ((kept c.client).reply ≡ Unsent → ⊥)
-      → Kepts e did c u (Look (λ b s. let_send site 0 s.client s.client.reply m)) → Kepts e did c u m
+      → To e did c u (Look (λ b s. let_send site 0 s.client s.client.reply m)) → To e did c u m
   lets-begun e did c u m begun h =
       let b = h.ledger in
       let s = h.inner in
@@ -94,7 +94,7 @@ module _ {R J I : Type 0} (site : Service J I) (holds : Ledger J → I → Type 
   waited-sends (stage.Whole closes) c m e = refl
 
   pub lets-waited : (e : Moment J) (did : Performed J (Both I)) (c : Connection R) (u : Turn J) (m : Move J (Both I)) → c.client.waited ≡ true
-      → Kepts e did c u (Look (λ b s. let_send site 0 s.client s.client.reply m)) → Kepts e did c u m
+      → To e did c u (Look (λ b s. let_send site 0 s.client s.client.reply m)) → To e did c u m
   lets-waited e did c u m waited h =
       let b = h.ledger in
       let s = h.inner in
@@ -120,8 +120,8 @@ module _ {R J I : Type 0} (site : Service J I) (holds : Ledger J → I → Type 
       ∙ ap (λ (k : Kept). c.waits.body && (k.opened && not k.ended && is_more (body_answer k.came k.limit))) (sym h.serves.client)
 
   pub awaits-body : (now : ℕ) (q : Option (Question J)) (over : Bool) (did : Performed J (Both I)) (c : Connection R) (u : Turn J) (m : Move J (Both I)) → awaits c ≡ true
-      → Kepts (speaking q over) did c u (await_body site now m)
-      → Kepts (speaking q over) did c u (Look (λ b s. let_send site 0 s.client s.client.reply (begin_timer site now timer.Body m)))
+      → To (speaking q over) did c u (await_body site now m)
+      → To (speaking q over) did c u (Look (λ b s. let_send site 0 s.client s.client.reply (begin_timer site now timer.Body m)))
   awaits-body now q over did c u m is h =
       let b = h.ledger in
       let s = h.inner in
@@ -131,7 +131,7 @@ module _ {R J I : Type 0} (site : Service J I) (holds : Ledger J → I → Type 
       }
 
   pub awaits-none : (now : ℕ) (q : Option (Question J)) (over : Bool) (did : Performed J (Both I)) (c : Connection R) (u : Turn J) (m : Move J (Both I)) → awaits c ≡ false
-      → Kepts (speaking q over) did c u (await_body site now m) → Kepts (speaking q over) did c u m
+      → To (speaking q over) did c u (await_body site now m) → To (speaking q over) did c u m
   awaits-none now q over did c u m is h =
       let b = h.ledger in
       let s = h.inner in
@@ -145,7 +145,7 @@ module _ {R J I : Type 0} (site : Service J I) (holds : Ledger J → I → Type 
   pub flushes : (q : Option (Question J)) (did : Performed J (Both I)) (c c' : Connection R) (u : Turn J) (m : Move J (Both I))
       → c'.sockets.items ≡ c.sockets.items → c'.count ≡ c.count → c'.keeping ≡ c.keeping → c'.is_taking ≡ c.is_taking
       → kept c'.client ≡ record (kept c.client) { stage = stage.Flush }
-      → Kepts (speaking q true) did c u (change (λ k. record k { stage = stage.Flush }) m) → Kepts (asks_at stage.Flush q) did c' u m
+      → To (speaking q true) did c u (change (λ k. record k { stage = stage.Flush }) m) → To (asks_at stage.Flush q) did c' u m
   flushes q did c c' u m socks count keeping taking client h =
       let b = h.ledger in
       let s = h.inner in
