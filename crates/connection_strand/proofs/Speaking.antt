@@ -13,11 +13,20 @@ use Rattle.connection.specs.Services.{Service, Both}
 use Rattle.connection.specs.Timers as timer
 use Rattle.connection.specs.Turns.{is_there, is_more, change, send, begin_timer, continue_reply, let_send, awaits_body, await_body}
 use Rattle.connection.proofs.Alike.{alike-refl}
+use Rattle.connection_strand.specs.declared.client.Reply as code
+use Rattle.connection_strand.specs.declared.client.Reply.TheVariants as own
 use Rattle.connection_strand.specs.declared.state.Connection.{Connection}
 use Rattle.connection_strand.specs.declared.state.Turn.{Turn}
-use Rattle.connection_strand.specs.Kept.{Kept, kept, kept_of}
+use Rattle.connection_strand.specs.Kept.{Kept, kept, kept_of, reply_of}
 use Rattle.connection_strand.specs.Standing.{Moment, asks_at, speaking, IsOn, Within, Toward, before, places}
 use Rattle.connection_strand.proofs.Moving.{IsSameRun, stays-within}
+
+-- some of the reply was sent, in code
+pub begun-is : (r : code.Reply) → r ≡ own.Begun → reply_of r ≡ Unsent → ⊥
+begun-is r e f = let x : stage.Begun ≡ Unsent = sym (ap reply_of e) ∙ f in cc
+
+pub whole-is : (r : code.Reply) (closes : Bool) → r ≡ own.Whole closes → reply_of r ≡ Unsent → ⊥
+whole-is r closes e f = let x : stage.Whole closes ≡ Unsent = sym (ap reply_of e) ∙ f in cc
 
 module _ {R J I : Type 0} (site : Service J I) (holds : Ledger J → I → Type 0) (stands : R → Ledger J → I → Type 0)
     (lawful : IsRun site.runs holds) (apart : (x : R) (b c : Ledger J) (r : I) → AreAlike b c → stands x b r → stands x c r) where
@@ -72,6 +81,12 @@ module _ {R J I : Type 0} (site : Service J I) (holds : Ledger J → I → Type 
             ∙ ap (λ (y : Bool). before u.acts.items (perform (if y then m else change (λ k. record k { waited = true }) (rest s.client.expects)) b s)) waits
             ∙ ap (λ (y : Bool). before u.acts.items (perform (change (λ k. record k { waited = true }) (rest y)) b s)) asks;
       })
+
+  pub lets-reply : (bytes : List ℕ) (e : Moment J) (did : Performed J (Both I)) (c c' : Connection R) (u : Turn J) (m : Move J (Both I)) → bytes ≡ continue_reply
+      → (kept c.client).reply ≡ Unsent → c.client.waited ≡ false → c.client.expects ≡ true → IsSameRun c c' → kept c'.client ≡ record (kept c.client) { waited = true }
+      → To e did c u (Look (λ b s. let_send site 0 s.client s.client.reply m)) → To e did c' u (send site 0 bytes m)
+  lets-reply bytes e did c c' u m is unsent unwaited expects same client h =
+      subst (λ (xs : List ℕ). To e did c' u (send site 0 xs m)) (sym is) (lets e did c c' u m true unsent unwaited expects same client h)
 
   -- some of the reply was sent
   is-begun : (r : Reply) → (r ≡ Unsent → ⊥) → (c : Client) (m : Move J (Both I)) → let_send site 0 c r m ≡ m
