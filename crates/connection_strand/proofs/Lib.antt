@@ -1,0 +1,4 @@
+pub mod Deadlines
+pub mod Moving
+pub mod Offering
+pub mod Speaking

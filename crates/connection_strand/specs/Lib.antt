@@ -3,3 +3,5 @@ pub mod Acts
 pub mod Standing
 pub mod Turns
 pub mod Costs
+pub mod Following
+pub mod FollowingLaws

@@ -1,5 +1,8 @@
 //! What a run says, and what the connection does then.
 
+ghost use Rattle.std.specs.Prelude.{◌≡◌};
+ghost use Rattle.connection.specs.Turns.{continue_reply};
+
 use crate::client::{Reply, Stage, Timer};
 use crate::state::{Connection, Turn};
 use resty_base::{Bytes, Ms};
@@ -8,7 +11,11 @@ use service_contract::ServiceContract;
 use std::alloc::AllocError;
 
 /// The reply that lets a client send the body (RFC 9110, 15.2.1).
-const CONTINUE: &[u8] = b"HTTP/1.1 100 Continue\r\n\r\n";
+fn continue_reply() -> Bytes
+    ensures { result ≡ continue_reply }
+{
+    Bytes::from_static(b"HTTP/1.1 100 Continue\r\n\r\n")
+}
 
 impl<R: ServiceContract> Connection<R> {
     ghost use Rattle.std.specs.Prelude.{IfOk};
@@ -22,13 +29,19 @@ impl<R: ServiceContract> Connection<R> {
         ensures { IfOk result (λ done. Goes (R.plan site.now) (R.holds site.now) (R.stands site.now)
             (λ m. Look (λ b s. let_send (service_of (R.plan site.now) (R.serving site.now)) 0 s.client s.client.reply m)) self.old turn.old self.new turn.new) }
     {
-        if self.client.reply == Reply::Unsent && !self.client.waited {
-            self.client.waited = true;
-            if self.client.expects {
-                self.send(turn, site, &Bytes::from_static(CONTINUE))?;
+        match self.client.reply {
+            Reply::Unsent => {
+                if self.client.waited {
+                    return Ok(());
+                }
+                self.client.waited = true;
+                if self.client.expects {
+                    self.send(turn, site, &continue_reply())?;
+                }
+                Ok(())
             }
+            Reply::Begun | Reply::Whole(_) => Ok(()),
         }
-        Ok(())
     }
 
     /// Where the run waits for more of the body the client may send it, and the timer begins.

@@ -281,9 +281,58 @@ impl<R: ServiceContract> Connection<R> {
 }
 
 impl<R: ServiceContract> StrandContract for Connection<R> {
+    ghost use Rattle.std.specs.Prelude.{◌≡◌, [], ◌∷◌, IfOk};
+    ghost use Rattle.strand_contract.specs.Actions.{Did, Began};
+    ghost use Rattle.moves.proofs.Ledgers.{asks-last};
+    ghost use Rattle.moves.proofs.Grows.{grows};
+    ghost use Rattle.moves.proofs.PlanLaws.{silent, asks-fit, hangs-up-open, leaves-nothing-open, keeps, wakes-quietly, ends-at-stop};
+    ghost use Rattle.moves.proofs.Executions as executions;
+    ghost use Rattle.connection.specs.Conditions.{Knows, MayAsk};
+    ghost use Rattle.connection.specs.Connections.{connection_plan, connection_behavior};
+    ghost use Rattle.connection.proofs.Meets.{meets};
+    ghost use Rattle.service_contract.specs.Serving.{service_of};
+    ghost use Rattle.connection_strand.specs.Costs.{left_of};
+    ghost use Rattle.connection_strand.specs.Following.{Follows};
+    ghost use Rattle.connection_strand.specs.FollowingLaws.{still-follows};
+
     type Site = R::Site;
 
     type Job = R::Job;
+
+    ghost meaning = { λ site. record {
+      behavior = connection_behavior (service_of (R.plan site) (R.serving site));
+      stands = Follows (service_of (R.plan site) (R.serving site)) (R.stands site);
+    } };
+
+    ghost left = { left_of R.left R.bound };
+
+    ghost still = { λ site strand a es. still-follows (service_of (R.plan site) (R.serving site)) (R.stands site) (R.apart site) strand a es };
+
+    ghost quiet = { λ site. executions.quiet (connection_plan (service_of (R.plan site) (R.serving site))) };
+
+    ghost silent = { λ site. silent (connection_plan (service_of (R.plan site) (R.serving site))) };
+
+    ghost grows = { λ site. grows (connection_plan (service_of (R.plan site) (R.serving site))) };
+
+    ghost asks_last = { λ site. asks-last (connection_plan (service_of (R.plan site) (R.serving site))) };
+
+    ghost asks_fit = { λ site. let service = service_of (R.plan site) (R.serving site) in
+        asks-fit (connection_plan service) (Knows (R.holds site)) (MayAsk service) (meets service (R.holds site) (R.meets site)) };
+
+    ghost hangs_up_open = { λ site. let service = service_of (R.plan site) (R.serving site) in
+        hangs-up-open (connection_plan service) (Knows (R.holds site)) (MayAsk service) (meets service (R.holds site) (R.meets site)) };
+
+    ghost leaves_nothing_open = { λ site. let service = service_of (R.plan site) (R.serving site) in
+        leaves-nothing-open (connection_plan service) (Knows (R.holds site)) (MayAsk service) (meets service (R.holds site) (R.meets site)) };
+
+    ghost keeps = { λ site. let service = service_of (R.plan site) (R.serving site) in
+        keeps (connection_plan service) (Knows (R.holds site)) (MayAsk service) (meets service (R.holds site) (R.meets site)) };
+
+    ghost wakes_quietly = { λ site. let service = service_of (R.plan site) (R.serving site) in
+        wakes-quietly (connection_plan service) (Knows (R.holds site)) (MayAsk service) (meets service (R.holds site) (R.meets site)) };
+
+    ghost ends_at_stop = { λ site. let service = service_of (R.plan site) (R.serving site) in
+        ends-at-stop (connection_plan service) (Knows (R.holds site)) (MayAsk service) (meets service (R.holds site) (R.meets site)) };
 
     fn connections(site: &R::Site) -> u32 {
         <R as ServiceContract>::connections(site)
@@ -306,7 +355,11 @@ impl<R: ServiceContract> StrandContract for Connection<R> {
         site: &R::Site,
         now: Ms,
         start: Start<R::Job>,
-    ) -> Result<(Self, Acts<R::Job>), AllocError> {
+    ) -> Result<(Self, Acts<R::Job>), AllocError>
+        ensures { let service = service_of (R.plan site.now) (R.serving site.now) in IfOk result (λ r.
+            Follows service (R.stands site.now) r.0 (Did (Began now.0 start) ∷ [])
+            × (r.1.items ≡ (connection_behavior service).acts (Did (Began now.0 start) ∷ []))) }
+    {
         let mut turn = Turn {
             acts: VecDeque::new(alloc),
             is_offered: false,
