@@ -7,6 +7,7 @@ use Rattle.http_reply.specs.Replies as http
 use Rattle.http_reply.specs.declared.ends.Framing.TheVariants.{Counted}
 use Rattle.connection.specs.Clients.{Times}
 use Rattle.connection.specs.Services.{Service}
+use Rattle.service_contract.specs.Serving.{Serving, service_of}
 use Rattle.conf.specs.declared.sites.Conf.{Conf}
 use Rattle.conf.specs.declared.sites.Settings.{Settings}
 use Rattle.literal_site.specs.declared.sites.LiteralSite.{LiteralSite}
@@ -37,11 +38,15 @@ times_of conf target = option_map_or (λ scope. times_by (default_times conf).he
 abbrev pub refusal : (code now : ℕ) → List ℕ
 refusal code now = http.reply (built_in code) (Counted (length (status_body code))) (status_body code ∷ []) now
 
-abbrev pub literal_service : {J : Type 0} → LiteralSite → Service J Literal
-literal_service site = record {
-  runs = literal_plan site;
+-- beside its runs
+abbrev pub literal_serving : LiteralSite → Serving
+literal_serving site = record {
   default_times = default_times site.conf;
   times_of = λ head target. times_of site.conf target;
   refusal = refusal;
   connections = site.conf.connections;
 }
+
+-- and with them
+abbrev pub literal_service : {J : Type 0} → LiteralSite → Service J Literal
+literal_service site = service_of (literal_plan site) (literal_serving site)

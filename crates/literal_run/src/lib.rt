@@ -5,5 +5,6 @@ mod answers;
 mod contract;
 mod run;
 mod scopes;
+mod serving;
 
 pub use run::LiteralRun;

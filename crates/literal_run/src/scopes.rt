@@ -1,7 +1,6 @@
 //! What holds for a request to a site: its server, its location there, and their settings.
 
-ghost use Rattle.std.specs.Prelude.{◌≡◌, ◌<◌, length, option_copied, slice_get, Some};
-ghost use Rattle.conf.specs.Routes.{route_of};
+ghost use Rattle.std.specs.Prelude.{◌≡◌, ◌<◌, [], length, option_copied, unwrap_or, Some};
 ghost use Rattle.literal_run.specs.Scopes as spec;
 ghost use Rattle.literal_run.specs.Views.{scope_seen};
 
@@ -9,17 +8,23 @@ use conf::{Conf, LocationConf, Route, ServerConf, Settings, a_request_has_one_ro
 use literal_site::LiteralSite;
 use uri_args::Target;
 
-/// The host and the path of the target, where it names a host.
+/// The host of the target, empty where it names none.
+fn host_of(target: &Target) -> &[u8]
+    ensures { result.now ≡ unwrap_or target.now.host [] }
+{
+    match &target.host {
+        Some(host) => host.as_slice(),
+        None => &[],
+    }
+}
+
+/// The route of the target, by its host and its path.
 fn route_to(site: &LiteralSite, target: &Target) -> Route
     ensures value { result ≡ spec.route_to site.now.conf target.now }
     ensures there { result.server < length site.now.conf.servers }
 {
     a_request_has_one_route();
-    let host = match &target.host {
-        Some(host) => host.as_slice(),
-        None => &[],
-    };
-    route_for(&site.conf, host, &target.path)
+    route_for(&site.conf, host_of(target), &target.path)
 }
 
 /// The location of this number.

@@ -1,3 +1,6 @@
 mod Rows
 mod Lines
 mod Pushed
+mod Same
+mod Apart
+mod Built

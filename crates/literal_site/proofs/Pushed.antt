@@ -26,7 +26,7 @@ each_more contents programs outputs program output here makes before number othe
     pushed (λ k o. (p : Program) → slice_get programs k ≡ Some p → output_at contents k p ≡ Some o) outputs output found number there
     (λ e p h. before number p found h e)
     (λ p h. let same : program ≡ p = (let some : Some program ≡ Some p = sym here ∙ h in cc) in
-      subst (λ (x : Program). output_at contents (length outputs) x ≡ Some output) same makes) other at
+    subst (λ (x : Program). output_at contents (length outputs) x ≡ Some output) same makes) other at
 
 has_one : {A : Type 0} (xs : List A) (k : ℕ) → k < length xs → (x : A) × (slice_get xs k ≡ Some x)
 has_one [] k lt = absurd (omega arith)

@@ -24,7 +24,8 @@ pub fn no_literal_site_is_refused()
 
 /// A law: a text is that of one literal site.
 pub fn a_text_has_one_site()
-    ensures { (text : List ℕ) (site other : LiteralSite) → IsLiteralSite text site → IsLiteralSite text other → site ≡ other }
+    ensures { (text : List ℕ) (site other : LiteralSite) → IsLiteralSite text site → IsLiteralSite text other
+        → (site.conf ≡ other.conf) × (site.outputs ≡ other.outputs) }
 {
     a_text_has_one_configuration();
     one_reading();

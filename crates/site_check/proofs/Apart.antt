@@ -1,16 +1,15 @@
 -- A site has no fault.
-use Rattle.std.proofs.Common.{◌≡◌, ℕ, List, Some, slice_get, refl, sym, subst, ◌∙◌, ap}
+use Rattle.std.proofs.Common.{◌≡◌, ℕ, List, slice_get, refl, subst, ◌∙◌, ap}
 use Rattle.lua_lexer.specs.Laws.{HasOneReading}
-use Rattle.lua_lexer.specs.Lexical.{HasTokens, HasFault}
+use Rattle.lua_lexer.specs.Lexical.{HasFault}
 use Rattle.lua_lexer.specs.declared.tokens.LexFault.{LexFault}
-use Rattle.lua_lexer.specs.declared.tokens.Token.{Token}
 use Rattle.lua_grammar.specs.Grammar.{IsProgramOf}
 use Rattle.lua_parser_base.specs.declared.faults.ParseFault.{ParseFault}
 use Rattle.conf.specs.Reading.{IsConf, IsRefusedAt}
 use Rattle.conf.specs.declared.faults.ConfFault.{ConfFault}
 use Rattle.conf.specs.declared.sites.Block.{Block}
 use Rattle.conf.specs.declared.sites.Conf as site
-use Rattle.site_check.specs.Sites.{IsProgram, ArePrograms, IsUnparsed, IsBlockFault, IsFirstFault, IsSite, IsBlocked, IsSiteFault}
+use Rattle.site_check.specs.Sites.{IsProgram, IsUnparsed, IsSite, IsBlocked, IsSiteFault}
 use Rattle.site_check.specs.declared.faults.CheckFault.{CheckFault}
 use Rattle.site_check.specs.declared.faults.CheckFault.TheVariants.{Conf, Lex, Parse, Memory}
 

@@ -67,7 +67,7 @@ pub record HavePrograms (blocks : List Block) (programs : List Program) : Type 0
 pub record IsRead (text : List ℕ) (conf : site.Conf) (programs : List Program) : Type 0 where
   pub read : IsConf text conf
   pub whole : IsWhole conf
-  pub programs : HavePrograms conf.blocks programs
+  pub each : HavePrograms conf.blocks programs
 
 -- a text is a configuration, but a block is no program for this reason, the first such one
 pub record IsBlocked (text : List ℕ) (fault : CheckFault) : Type 0 where

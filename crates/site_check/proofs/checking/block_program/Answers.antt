@@ -4,13 +4,13 @@ use Rattle.std.proofs.lemmas.Result.{err_from_is_err_and}
 use Rattle.lua_lexer.specs.Lexical.{HasTokens}
 use Rattle.lua_grammar.specs.Grammar.{IsProgramOf}
 use Rattle.site_check.proofs.Blocks.{by_tokens, by_grammar}
-use Rattle.site_check.proofs.checking.check_block.Goals as goal
+use Rattle.site_check.proofs.checking.block_program.Goals as goal
 
 pub returns-clause-ok : goal.returns-clause-ok
 returns-clause-ok c =
     let lexed = subst (λ text. HasTokens c.args.block.now.line text c.in_ok-tokens.tokens.items) c.as_slice.ensures c.in_ok-tokens.ensures.tokens in
     let parsed = subst (λ tokens. IsProgramOf tokens c.in_ok-parse.field-0) c.as_slice-2.ensures.value c.in_ok-parse.ensures.program in
-    record { tokens = c.in_ok-tokens.tokens.items; program = c.in_ok-parse.field-0; lexed = lexed; parsed = parsed }
+    record { tokens = c.in_ok-tokens.tokens.items; lexed = lexed; parsed = parsed }
 
 pub returns-in_err-tokens-clause-err : goal.returns-in_err-tokens-clause-err
 returns-in_err-tokens-clause-err c =
