@@ -26,7 +26,7 @@ fn bytes_line(alloc: Global, connection: u64, piece: &[u8]) -> Result<String, Fa
 /// The schedule in which a client sends a text in pieces of so many bytes.
 fn schedule_in_pieces(alloc: Global, text: &str, length: usize) -> Result<String, Fail> {
     let mut schedule = String::from_str(alloc, "arrive c1\n")?;
-    for piece in text.as_bytes().chunks(length) {
+    for piece in text.as_bytes().chunks(length.max(1)) {
         schedule.push_str(bytes_line(alloc, 1, piece)?.as_str())?;
     }
     schedule.push_str("stop\n")?;
