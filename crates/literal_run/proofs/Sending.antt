@@ -44,3 +44,10 @@ answered_is site req now scope settings outputs answer found holds made given =
 -- the route for the same host and path
 pub route_is : (f : List ℕ → List ℕ → Route) (route : Route) (host named path asked : List ℕ) → route ≡ f host path → host ≡ named → path ≡ asked → route ≡ f named asked
 route_is f route host named path asked is same at = is ∙ ap (λ h. f h path) same ∙ ap (f named) at
+
+-- the head, the body and its length
+pub refused_is : {E : Type 0} (r : Result (List ℕ) E) (f : ReplyHead → ℕ → List ℕ → List ℕ) (head built : ReplyHead) (count : ℕ) (body own : List ℕ) → head ≡ built → body ≡ own
+    → count ≡ length body → IfOk r (λ s. s ≡ f head count body) → IfOk r (λ s. s ≡ f built (length own) own)
+refused_is r f head built count body own made same counted h =
+    if_same r (f head count body) (f built (length own) own)
+    (ap (λ x. f x count body) made ∙ ap (λ n. f built n body) (counted ∙ ap length same) ∙ ap (f built (length own)) same) h

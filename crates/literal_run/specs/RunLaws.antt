@@ -173,7 +173,7 @@ falls site now seen.AllTaken b r h x e = never-over x.1
 pub literal-is-run : {J : Type 0} (site : LiteralSite) → IsRun {J = J} (literal_plan site) LiteralHolds
 literal-is-run site = record {
   begins = λ now head target b h.
-    rw h.no_thread (record { known = begins b (Request (request.begun head target 0)) true refl h; waits = refl; over = λ e. never-over e });
+      rw h.no_thread (record { known = begins b (Request (request.begun head target 0)) true refl h; waits = refl; over = λ e. never-over e });
   begins_job = λ now premature job b h. rw h.no_thread (record { known = begins b Job false refl h; waits = refl; over = λ e. never-over e });
   stays = λ now s b r h x. stays site now s b r h x;
   answers = λ now x given b r h e. none-answered b r x given h e;

@@ -1,13 +1,12 @@
 -- What was read of a text makes it a literal site, or says why it is none.
-use Rattle.std.proofs.Common.{◌≡◌, ◌≢◌, ◌<◌, ℕ, zero, suc, List, [], ◌∷◌, length, slice_get, Option, Some, None, refl, sym, subst, ◌∙◌, ap, arith}
+use Rattle.std.proofs.Common.{◌≡◌, ◌<◌, ℕ, zero, suc, List, [], ◌∷◌, length, slice_get, Option, Some, None, refl, sym, subst, ◌∙◌, ap, arith}
 use Rattle.lua_ast.specs.declared.programs.Program.{Program}
 use Rattle.conf.specs.Reading.{IsConf}
 use Rattle.conf.specs.declared.sites.Block.{Block}
 use Rattle.conf.specs.declared.sites.Conf as site
-use Rattle.site_check.specs.Sites.{HasProgram, IsProgram, IsRead, IsSite, IsSiteFault}
+use Rattle.site_check.specs.Sites.{HasProgram, IsRead, IsSite}
 use Rattle.literal_site.specs.Contents.{contents_of}
-use Rattle.literal_site.specs.Outputs.{output_at}
-use Rattle.literal_site.specs.Sites.{HaveOutputs, IsBuilt, IsUnbuiltAt, IsFirstUnbuilt, IsLiteralSite, IsNotBuiltAt, IsLiteralFault}
+use Rattle.literal_site.specs.Sites.{HaveOutputs, IsBuilt, IsFirstUnbuilt, IsLiteralSite, IsLiteralFault}
 use Rattle.literal_site.specs.declared.faults.LiteralFault.{LiteralFault}
 use Rattle.literal_site.specs.declared.faults.LiteralFault.TheVariants.{Check, NotBuilt, Memory}
 use Rattle.literal_site.specs.declared.sites.LiteralSite.{LiteralSite}

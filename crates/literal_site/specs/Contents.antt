@@ -1,5 +1,5 @@
 -- The blocks of Lua that are content handlers.
-use Rattle.std.specs.Prelude.{ℕ, Bool, ◌==◌, List, [], ◌∷◌, ◌++◌, flat_map, Option, Some, None}
+use Rattle.std.specs.Prelude.{ℕ, Bool, ◌==◌, List, [], ◌∷◌, flat_map, Option, Some, None}
 use Rattle.std.specs.List.{list_any}
 use Rattle.conf.specs.declared.sites.Conf.{Conf}
 use Rattle.conf.specs.declared.sites.LocationConf.{LocationConf}

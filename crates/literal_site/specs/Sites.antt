@@ -5,7 +5,6 @@ use Rattle.conf.specs.Reading.{IsConf}
 use Rattle.conf.specs.declared.sites.Block.{Block}
 use Rattle.conf.specs.declared.sites.Conf as site
 use Rattle.site_check.specs.Sites.{HasProgram, IsSite, IsSiteFault}
-use Rattle.site_check.specs.declared.faults.CheckFault.{CheckFault}
 use Rattle.site_check.specs.declared.faults.CheckFault.TheVariants as check
 use Rattle.literal_site.specs.Contents.{contents_of}
 use Rattle.literal_site.specs.Outputs.{output_at}
