@@ -4,14 +4,15 @@ use Rattle.client_line.specs.Lines.{body_answer}
 use Rattle.moves.specs.Questions.{Question}
 use Rattle.moves.specs.Ledgers.{Ledger}
 use Rattle.moves.specs.Moves.{Move, Performed, Look, perform}
-use Rattle.run_contract.specs.Runs.{Waits}
+use Rattle.run_contract.specs.declared.turns.Said.{Said}
+use Rattle.run_contract.specs.Runs.{Waits, says_over}
 use Rattle.run_contract.specs.Alike.{AreAlike}
 use Rattle.run_contract.specs.Conditions.{IsRun}
 use Rattle.connection.specs.Clients.{Stage, Reply, Client, Unsent}
 use Rattle.connection.specs.Clients as stage
 use Rattle.connection.specs.Services.{Service, Both}
 use Rattle.connection.specs.Timers as timer
-use Rattle.connection.specs.Turns.{is_there, is_more, change, send, begin_timer, continue_reply, let_send, awaits_body, await_body}
+use Rattle.connection.specs.Turns.{is_there, is_more, change, send, begin_timer, continue_reply, let_send, awaits_body, await_body, says}
 use Rattle.connection.proofs.Alike.{alike-refl}
 use Rattle.connection_strand.specs.declared.client.Reply as code
 use Rattle.connection_strand.specs.declared.client.Reply.TheVariants as own
@@ -27,6 +28,10 @@ begun-is r e f = let x : stage.Begun ≡ Unsent = sym (ap reply_of e) ∙ f in c
 
 pub whole-is : (r : code.Reply) (closes : Bool) → r ≡ own.Whole closes → reply_of r ≡ Unsent → ⊥
 whole-is r closes e f = let x : stage.Whole closes ≡ Unsent = sym (ap reply_of e) ∙ f in cc
+
+-- more of the body is to come, and may come
+abbrev pub may_come : Kept → Bool
+may_come k = k.opened && not k.ended && is_more (body_answer k.came k.limit)
 
 module _ {R J I : Type 0} (site : Service J I) (holds : Ledger J → I → Type 0) (stands : R → Ledger J → I → Type 0)
     (lawful : IsRun site.runs holds) (apart : (x : R) (b c : Ledger J) (r : I) → AreAlike b c → stands x b r → stands x c r) where
@@ -124,7 +129,7 @@ module _ {R J I : Type 0} (site : Service J I) (holds : Ledger J → I → Type 
 
   -- as the code tells it
   abbrev pub awaits : Connection R → Bool
-  awaits c = c.waits.body && ((kept c.client).opened && not (kept c.client).ended && is_more (body_answer (kept c.client).came (kept c.client).limit))
+  awaits c = c.waits.body && may_come (kept c.client)
 
   awaits-is : (q : Option (Question J)) (over : Bool) (c : Connection R) (u : Turn J) (b : Ledger J) (s : Both I)
       → Within site.runs holds stands (speaking q over) c u b s → awaits_body site 0 b s ≡ awaits c
@@ -157,11 +162,11 @@ module _ {R J I : Type 0} (site : Service J I) (holds : Ledger J → I → Type 
 
   -- ---- the end of the run
 
-  pub flushes : (q : Option (Question J)) (did : Performed J (Both I)) (c c' : Connection R) (u : Turn J) (m : Move J (Both I))
+  pub flushes : (q : Option (Question J)) (over : Bool) (did : Performed J (Both I)) (c c' : Connection R) (u : Turn J) (m : Move J (Both I)) → over ≡ true
       → c'.sockets.items ≡ c.sockets.items → c'.count ≡ c.count → c'.keeping ≡ c.keeping → c'.is_taking ≡ c.is_taking
       → kept c'.client ≡ record (kept c.client) { stage = stage.Flush }
-      → To (speaking q true) did c u (change (λ k. record k { stage = stage.Flush }) m) → To (asks_at stage.Flush q) did c' u m
-  flushes q did c c' u m socks count keeping taking client h =
+      → To (speaking q over) did c u (change (λ k. record k { stage = stage.Flush }) m) → To (asks_at stage.Flush q) did c' u m
+  flushes q over did c c' u m is socks count keeping taking client h =
       let b = h.ledger in
       let s = h.inner in
       let w = h.within.serves in
@@ -184,8 +189,19 @@ module _ {R J I : Type 0} (site : Service J I) (holds : Ledger J → I → Type 
           };
           at = refl;
           run = tt;
-          known = h.within.blank refl;
+          known = h.within.blank is;
           blank = λ over. absurd (let e : false ≡ true = over in cc);
         };
         leads = h.leads;
       }
+
+  -- ---- one word
+
+  pub said-as : (now : ℕ) (word other : Said) (more : List Said) (e : Moment J) (did : Performed J (Both I)) (c : Connection R) (u : Turn J) (m : Move J (Both I)) → word ≡ other
+      → To e did c u (says site now (word ∷ more) m) → To e did c u (says site now (other ∷ more) m)
+  said-as now word other more e did c u m is h = subst (λ w. To e did c u (says site now (w ∷ more) m)) is h
+
+  -- the list is its first word and the others
+  abbrev pub SaidSo : ℕ → List Said → Connection R → Turn J → List Said → Connection R → Turn J → Type 0
+  SaidSo now words c u rest c' u' = (q : Option (Question J)) (over : Bool) (did : Performed J (Both I)) (m : Move J (Both I)) → (says_over words ≡ true → over ≡ true)
+      → To (speaking q over) did c u (says site now words m) → (says_over rest ≡ true → over ≡ true) × To (speaking q over) did c' u' (says site now rest m)
