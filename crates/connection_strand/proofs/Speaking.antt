@@ -1,10 +1,12 @@
 -- What a run says, and what the connection does then.
-use Rattle.std.proofs.Common.{◌≡◌, ℕ, Bool, true, false, not, ◌&&◌, List, [], ◌∷◌, Option, Some, None, if◌then◌else◌, refl, sym, ap, ◌∙◌, subst}
+use Rattle.std.proofs.Common.{◌≡◌, ℕ, ◌≤◌, ◌<◌, ◌-◌, ◌+◌, length, take, drop, get_or, arith, Bool, true, false, not, ◌&&◌, List, [], ◌∷◌, Option, Some, None, if◌then◌else◌, refl, sym, ap, ◌∙◌, subst}
+use Rattle.std.proofs.lemmas.List.{take_all}
 use Rattle.client_line.specs.Lines.{body_answer}
 use Rattle.moves.specs.Questions.{Question}
 use Rattle.moves.specs.Ledgers.{Ledger}
 use Rattle.moves.specs.Moves.{Move, Performed, Look, perform}
 use Rattle.run_contract.specs.declared.turns.Said.{Said}
+use Rattle.run_contract.specs.declared.turns.Said.TheVariants as said
 use Rattle.run_contract.specs.Runs.{Waits, says_over}
 use Rattle.run_contract.specs.Alike.{AreAlike}
 use Rattle.run_contract.specs.Conditions.{IsRun}
@@ -19,7 +21,7 @@ use Rattle.connection_strand.specs.declared.client.Reply.TheVariants as own
 use Rattle.connection_strand.specs.declared.state.Connection.{Connection}
 use Rattle.connection_strand.specs.declared.state.Turn.{Turn}
 use Rattle.connection_strand.specs.Kept.{Kept, kept, kept_of, reply_of}
-use Rattle.connection_strand.specs.Standing.{Moment, asks_at, speaking, IsOn, Within, Toward, before, places}
+use Rattle.connection_strand.specs.Standing.{Moment, asks_at, speaking, SaidTo, SaysOn, IsOn, Within, Toward, before, places}
 use Rattle.connection_strand.proofs.Moving.{IsSameRun, stays-within}
 
 -- some of the reply was sent, in code
@@ -205,3 +207,51 @@ module _ {R J I : Type 0} (site : Service J I) (holds : Ledger J → I → Type 
   abbrev pub SaidSo : ℕ → List Said → Connection R → Turn J → List Said → Connection R → Turn J → Type 0
   SaidSo now words c u rest c' u' = (q : Option (Question J)) (over : Bool) (did : Performed J (Both I)) (m : Move J (Both I)) → (says_over words ≡ true → over ≡ true)
       → To (speaking q over) did c u (says site now words m) → (says_over rest ≡ true → over ≡ true) × To (speaking q over) did c' u' (says site now rest m)
+
+  first-is : (words : List Said) (word : Said) → 1 ≤ length words → word ≡ get_or words 0 word → words ≡ word ∷ take (length words - 1) (drop 1 words)
+  first-is [] word some is = absurd (omega (arith, some))
+  first-is (x ∷ xs) word some is = ap (λ w. w ∷ xs) (sym is) ∙ ap (λ ws. word ∷ ws) (sym (take_all (length (x ∷ xs) - 1) xs (omega arith)))
+
+  parted : (now : ℕ) (words : List Said) (word : Said) (on : Bool) (c c' : Connection R) (u u' : Turn J) → SaysOn site.runs holds stands on (says site now) word c u c' u'
+      → 1 ≤ length words → word ≡ get_or words 0 word
+      → (q : Option (Question J)) (over : Bool) (did : Performed J (Both I)) (m : Move J (Both I)) → (says_over words ≡ true → over ≡ true) → To (speaking q over) did c u (says site now words m)
+      → SaidTo site.runs holds stands on (says site now) q over (take (length words - 1) (drop 1 words)) did c' u' m
+  parted now words word on c c' u u' told some is q over did m ends h =
+      let more = take (length words - 1) (drop 1 words) in
+      let e : words ≡ word ∷ more = first-is words word some is in
+      told q over more did m (subst (λ ws. says_over ws ≡ true → over ≡ true) e ends) (subst (λ ws. To (speaking q over) did c u (says site now ws m)) e h)
+
+  -- after a word the others are said
+  over-later : (word : Said) (more : List Said) (over : Bool) → (says_over (word ∷ more) ≡ true → over ≡ true) → (says_over more ≡ true → over ≡ true)
+  over-later (said.Send bytes) more over h = h
+  over-later (said.WantsBody max) more over h = h
+  over-later said.WantsNoBody more over h = h
+  over-later said.WantsAllTaken more over h = h
+  over-later (said.Ended closes) more over h = h
+  over-later said.Over more over h = λ e. h refl
+
+  pub said-on : (now : ℕ) (words : List Said) (word : Said) (on : Bool) (c c' : Connection R) (u u' : Turn J) → SaysOn site.runs holds stands on (says site now) word c u c' u'
+      → 1 ≤ length words → word ≡ get_or words 0 word → on ≡ true → SaidSo now words c u (take (length words - 1) (drop 1 words)) c' u'
+  said-on now words word on c c' u u' told some is goes q over did m ends h =
+      let more = take (length words - 1) (drop 1 words) in
+      (over-later word more over (subst (λ ws. says_over ws ≡ true → over ≡ true) (first-is words word some is) ends),
+      subst (λ (x : Bool). SaidTo site.runs holds stands x (says site now) q over more did c' u' m) goes (parted now words word on c c' u u' told some is q over did m ends h))
+
+  -- after the last one nothing is said
+  pub said-last : (now : ℕ) (words : List Said) (word : Said) (on : Bool) (c c' : Connection R) (u u' : Turn J) → SaysOn site.runs holds stands on (says site now) word c u c' u'
+      → 1 ≤ length words → word ≡ get_or words 0 word → on ≡ false
+      → (q : Option (Question J)) (over : Bool) (did : Performed J (Both I)) (m : Move J (Both I)) → (says_over words ≡ true → over ≡ true) → To (speaking q over) did c u (says site now words m)
+      → (st : Stage) × To (asks_at st q) did c' u' m
+  said-last now words word on c c' u u' told some is goes q over did m ends h =
+      (stage.Flush, subst (λ (x : Bool). SaidTo site.runs holds stands x (says site now) q over (take (length words - 1) (drop 1 words)) did c' u' m) goes
+      (parted now words word on c c' u u' told some is q over did m ends h))
+
+  pub said-all : (now : ℕ) (words : List Said) (c : Connection R) (u : Turn J) → length words < 1
+      → (q : Option (Question J)) (over : Bool) (did : Performed J (Both I)) (m : Move J (Both I)) → To (speaking q over) did c u (says site now words m) → (st : Stage) × To (asks_at st q) did c u m
+  said-all now [] c u none q over did m h = (stage.Busy, record {
+    ledger = h.ledger;
+    inner = h.inner;
+    within = record { serves = h.within.serves; at = h.within.at; run = h.within.run; known = h.within.known; blank = λ e. absurd (let f : false ≡ true = e in cc) };
+    leads = h.leads;
+  })
+  said-all now (x ∷ xs) c u none q over did m h = absurd (omega (arith, none))
