@@ -1,24 +1,27 @@
 -- What a run says, and what the connection does then.
-use Rattle.std.proofs.Common.{◌≡◌, ℕ, Bool, true, false, not, ◌&&◌, List, [], ◌∷◌, Option, Some, None, if◌then◌else◌, refl, sym, ap, ◌∙◌, subst}
+use Rattle.std.proofs.Common.{◌≡◌, ℕ, ◌≤◌, ◌<◌, ◌-◌, ◌+◌, length, take, drop, get_or, arith, Bool, true, false, not, ◌&&◌, List, [], ◌∷◌, Option, Some, None, if◌then◌else◌, refl, sym, ap, ◌∙◌, subst}
+use Rattle.std.proofs.lemmas.List.{take_all}
 use Rattle.client_line.specs.Lines.{body_answer}
 use Rattle.moves.specs.Questions.{Question}
 use Rattle.moves.specs.Ledgers.{Ledger}
 use Rattle.moves.specs.Moves.{Move, Performed, Look, perform}
-use Rattle.run_contract.specs.Runs.{Waits}
+use Rattle.run_contract.specs.declared.turns.Said.{Said}
+use Rattle.run_contract.specs.declared.turns.Said.TheVariants as said
+use Rattle.run_contract.specs.Runs.{Waits, says_over}
 use Rattle.run_contract.specs.Alike.{AreAlike}
 use Rattle.run_contract.specs.Conditions.{IsRun}
 use Rattle.connection.specs.Clients.{Stage, Reply, Client, Unsent}
 use Rattle.connection.specs.Clients as stage
 use Rattle.connection.specs.Services.{Service, Both}
 use Rattle.connection.specs.Timers as timer
-use Rattle.connection.specs.Turns.{is_there, is_more, change, send, begin_timer, continue_reply, let_send, awaits_body, await_body}
+use Rattle.connection.specs.Turns.{is_there, is_more, change, send, begin_timer, continue_reply, let_send, awaits_body, await_body, says}
 use Rattle.connection.proofs.Alike.{alike-refl}
 use Rattle.connection_strand.specs.declared.client.Reply as code
 use Rattle.connection_strand.specs.declared.client.Reply.TheVariants as own
 use Rattle.connection_strand.specs.declared.state.Connection.{Connection}
 use Rattle.connection_strand.specs.declared.state.Turn.{Turn}
 use Rattle.connection_strand.specs.Kept.{Kept, kept, kept_of, reply_of}
-use Rattle.connection_strand.specs.Standing.{Moment, asks_at, speaking, IsOn, Within, Toward, before, places}
+use Rattle.connection_strand.specs.Standing.{Moment, asks_at, speaking, SaidTo, SaysOn, IsOn, Within, Toward, before, places}
 use Rattle.connection_strand.proofs.Moving.{IsSameRun, stays-within}
 
 -- some of the reply was sent, in code
@@ -27,6 +30,10 @@ begun-is r e f = let x : stage.Begun ≡ Unsent = sym (ap reply_of e) ∙ f in c
 
 pub whole-is : (r : code.Reply) (closes : Bool) → r ≡ own.Whole closes → reply_of r ≡ Unsent → ⊥
 whole-is r closes e f = let x : stage.Whole closes ≡ Unsent = sym (ap reply_of e) ∙ f in cc
+
+-- more of the body is to come, and may come
+abbrev pub may_come : Kept → Bool
+may_come k = k.opened && not k.ended && is_more (body_answer k.came k.limit)
 
 module _ {R J I : Type 0} (site : Service J I) (holds : Ledger J → I → Type 0) (stands : R → Ledger J → I → Type 0)
     (lawful : IsRun site.runs holds) (apart : (x : R) (b c : Ledger J) (r : I) → AreAlike b c → stands x b r → stands x c r) where
@@ -124,7 +131,7 @@ module _ {R J I : Type 0} (site : Service J I) (holds : Ledger J → I → Type 
 
   -- as the code tells it
   abbrev pub awaits : Connection R → Bool
-  awaits c = c.waits.body && ((kept c.client).opened && not (kept c.client).ended && is_more (body_answer (kept c.client).came (kept c.client).limit))
+  awaits c = c.waits.body && may_come (kept c.client)
 
   awaits-is : (q : Option (Question J)) (over : Bool) (c : Connection R) (u : Turn J) (b : Ledger J) (s : Both I)
       → Within site.runs holds stands (speaking q over) c u b s → awaits_body site 0 b s ≡ awaits c
@@ -157,11 +164,11 @@ module _ {R J I : Type 0} (site : Service J I) (holds : Ledger J → I → Type 
 
   -- ---- the end of the run
 
-  pub flushes : (q : Option (Question J)) (did : Performed J (Both I)) (c c' : Connection R) (u : Turn J) (m : Move J (Both I))
+  pub flushes : (q : Option (Question J)) (over : Bool) (did : Performed J (Both I)) (c c' : Connection R) (u : Turn J) (m : Move J (Both I)) → over ≡ true
       → c'.sockets.items ≡ c.sockets.items → c'.count ≡ c.count → c'.keeping ≡ c.keeping → c'.is_taking ≡ c.is_taking
       → kept c'.client ≡ record (kept c.client) { stage = stage.Flush }
-      → To (speaking q true) did c u (change (λ k. record k { stage = stage.Flush }) m) → To (asks_at stage.Flush q) did c' u m
-  flushes q did c c' u m socks count keeping taking client h =
+      → To (speaking q over) did c u (change (λ k. record k { stage = stage.Flush }) m) → To (asks_at stage.Flush q) did c' u m
+  flushes q over did c c' u m is socks count keeping taking client h =
       let b = h.ledger in
       let s = h.inner in
       let w = h.within.serves in
@@ -184,8 +191,67 @@ module _ {R J I : Type 0} (site : Service J I) (holds : Ledger J → I → Type 
           };
           at = refl;
           run = tt;
-          known = h.within.blank refl;
+          known = h.within.blank is;
           blank = λ over. absurd (let e : false ≡ true = over in cc);
         };
         leads = h.leads;
       }
+
+  -- ---- one word
+
+  pub said-as : (now : ℕ) (word other : Said) (more : List Said) (e : Moment J) (did : Performed J (Both I)) (c : Connection R) (u : Turn J) (m : Move J (Both I)) → word ≡ other
+      → To e did c u (says site now (word ∷ more) m) → To e did c u (says site now (other ∷ more) m)
+  said-as now word other more e did c u m is h = subst (λ w. To e did c u (says site now (w ∷ more) m)) is h
+
+  -- the list is its first word and the others
+  abbrev pub SaidSo : ℕ → List Said → Connection R → Turn J → List Said → Connection R → Turn J → Type 0
+  SaidSo now words c u rest c' u' = (q : Option (Question J)) (over : Bool) (did : Performed J (Both I)) (m : Move J (Both I)) → (says_over words ≡ true → over ≡ true)
+      → To (speaking q over) did c u (says site now words m) → (says_over rest ≡ true → over ≡ true) × To (speaking q over) did c' u' (says site now rest m)
+
+  first-is : (words : List Said) (word : Said) → 1 ≤ length words → word ≡ get_or words 0 word → words ≡ word ∷ take (length words - 1) (drop 1 words)
+  first-is [] word some is = absurd (omega (arith, some))
+  first-is (x ∷ xs) word some is = ap (λ w. w ∷ xs) (sym is) ∙ ap (λ ws. word ∷ ws) (sym (take_all (length (x ∷ xs) - 1) xs (omega arith)))
+
+  parted : (now : ℕ) (words : List Said) (word : Said) (on : Bool) (c c' : Connection R) (u u' : Turn J) → SaysOn site.runs holds stands on (says site now) word c u c' u'
+      → 1 ≤ length words → word ≡ get_or words 0 word
+      → (q : Option (Question J)) (over : Bool) (did : Performed J (Both I)) (m : Move J (Both I)) → (says_over words ≡ true → over ≡ true) → To (speaking q over) did c u (says site now words m)
+      → SaidTo site.runs holds stands on (says site now) q over (take (length words - 1) (drop 1 words)) did c' u' m
+  parted now words word on c c' u u' told some is q over did m ends h =
+      let more = take (length words - 1) (drop 1 words) in
+      let e : words ≡ word ∷ more = first-is words word some is in
+      told q over more did m (subst (λ ws. says_over ws ≡ true → over ≡ true) e ends) (subst (λ ws. To (speaking q over) did c u (says site now ws m)) e h)
+
+  -- after a word the others are said
+  over-later : (word : Said) (more : List Said) (over : Bool) → (says_over (word ∷ more) ≡ true → over ≡ true) → (says_over more ≡ true → over ≡ true)
+  over-later (said.Send bytes) more over h = h
+  over-later (said.WantsBody max) more over h = h
+  over-later said.WantsNoBody more over h = h
+  over-later said.WantsAllTaken more over h = h
+  over-later (said.Ended closes) more over h = h
+  over-later said.Over more over h = λ e. h refl
+
+  pub said-on : (now : ℕ) (words : List Said) (word : Said) (on : Bool) (c c' : Connection R) (u u' : Turn J) → SaysOn site.runs holds stands on (says site now) word c u c' u'
+      → 1 ≤ length words → word ≡ get_or words 0 word → on ≡ true → SaidSo now words c u (take (length words - 1) (drop 1 words)) c' u'
+  said-on now words word on c c' u u' told some is goes q over did m ends h =
+      let more = take (length words - 1) (drop 1 words) in
+      (over-later word more over (subst (λ ws. says_over ws ≡ true → over ≡ true) (first-is words word some is) ends),
+      subst (λ (x : Bool). SaidTo site.runs holds stands x (says site now) q over more did c' u' m) goes (parted now words word on c c' u u' told some is q over did m ends h))
+
+  -- after the last one nothing is said
+  pub said-last : (now : ℕ) (words : List Said) (word : Said) (on : Bool) (c c' : Connection R) (u u' : Turn J) → SaysOn site.runs holds stands on (says site now) word c u c' u'
+      → 1 ≤ length words → word ≡ get_or words 0 word → on ≡ false
+      → (q : Option (Question J)) (over : Bool) (did : Performed J (Both I)) (m : Move J (Both I)) → (says_over words ≡ true → over ≡ true) → To (speaking q over) did c u (says site now words m)
+      → (st : Stage) × To (asks_at st q) did c' u' m
+  said-last now words word on c c' u u' told some is goes q over did m ends h =
+      (stage.Flush, subst (λ (x : Bool). SaidTo site.runs holds stands x (says site now) q over (take (length words - 1) (drop 1 words)) did c' u' m) goes
+      (parted now words word on c c' u u' told some is q over did m ends h))
+
+  pub said-all : (now : ℕ) (words : List Said) (c : Connection R) (u : Turn J) → length words < 1
+      → (q : Option (Question J)) (over : Bool) (did : Performed J (Both I)) (m : Move J (Both I)) → To (speaking q over) did c u (says site now words m) → (st : Stage) × To (asks_at st q) did c u m
+  said-all now [] c u none q over did m h = (stage.Busy, record {
+    ledger = h.ledger;
+    inner = h.inner;
+    within = record { serves = h.within.serves; at = h.within.at; run = h.within.run; known = h.within.known; blank = λ e. absurd (let f : false ≡ true = e in cc) };
+    leads = h.leads;
+  })
+  said-all now (x ∷ xs) c u none q over did m h = absurd (omega (arith, none))
