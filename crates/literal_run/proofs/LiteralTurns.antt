@@ -1,5 +1,5 @@
 -- How much is left of a run of a literal site.
-use Rattle.std.proofs.Common.{◌≡◌, ℕ, ◌+◌, ◌<◌, Bool, true, List, [], ◌∷◌, length, if◌then◌else◌, refl, ap, ◌∙◌, arith, Result, Ok, Err, IfOk}
+use Rattle.std.proofs.Common.{◌≡◌, ℕ, ◌+◌, ◌<◌, Bool, true, [], length, if◌then◌else◌, refl, ap, ◌∙◌, arith, Result, Ok, Err, IfOk}
 use Rattle.run_contract.specs.declared.turns.RunTurn.{RunTurn}
 use Rattle.literal_site.specs.declared.sites.LiteralSite.{LiteralSite}
 use Rattle.literal_run.specs.declared.run.Work.{Work}

@@ -1,5 +1,5 @@
 -- What is sent of a reply, part by part.
-use Rattle.std.proofs.Common.{◌≡◌, ℕ, Bool, not, List, [], ◌∷◌, length, Option, Some, None, Result, Ok, Err, IfOk, sym, ap, ◌∙◌}
+use Rattle.std.proofs.Common.{◌≡◌, ℕ, Bool, not, List, length, Some, Result, Ok, Err, IfOk, sym, ap, ◌∙◌}
 use Rattle.http_reply.specs.declared.ends.Framing.{Framing}
 use Rattle.http_reply.specs.declared.heads.ReplyHead.{ReplyHead}
 use Rattle.request_api.specs.declared.requests.Req.{Req}

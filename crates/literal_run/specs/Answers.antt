@@ -1,7 +1,6 @@
 -- What a literal site answers a request with (RFC 9110, 15; RFC 9112, 6.3 and 9.3).
 use Rattle.std.specs.Prelude.{ℕ, Bool, false, not, ◌&&◌, nat_lt, List, [], ◌∷◌, length, slice_get, Option, Some, None, unwrap_or, if◌then◌else◌}
 use Rattle.std.specs.Prelude.{Result, Ok, Err}
-use Rattle.uri_args.specs.declared.targets.Target.{Target}
 use Rattle.http_in.specs.declared.framing.BodyKind.{BodyKind}
 use Rattle.http_in.specs.declared.framing.BodyKind.TheVariants as body
 use Rattle.http_in.specs.declared.heads.Head.{Head}

@@ -1,5 +1,5 @@
 -- What holds for a request to a site: its server, its location there, and their settings.
-use Rattle.std.specs.Prelude.{ℕ, List, [], slice_get, Option, Some, None, unwrap_or, option_map, option_and_then}
+use Rattle.std.specs.Prelude.{ℕ, [], slice_get, Option, Some, None, unwrap_or, option_map, option_and_then}
 use Rattle.uri_args.specs.declared.targets.Target.{Target}
 use Rattle.conf.specs.Routes.{route_of}
 use Rattle.conf.specs.declared.routes.Route.{Route}

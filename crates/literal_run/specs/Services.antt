@@ -1,5 +1,5 @@
 -- A literal site, as its connections see it.
-use Rattle.std.specs.Prelude.{ℕ, List, [], ◌∷◌, length, slice_get, Option, Some, None}
+use Rattle.std.specs.Prelude.{ℕ, List, [], ◌∷◌, length, slice_get}
 use Rattle.std.specs.Option.{option_map_or}
 use Rattle.uri_args.specs.declared.targets.Target.{Target}
 use Rattle.http_reply.specs.BuiltIn.{built_in, status_body}
