@@ -1,6 +1,8 @@
 -- The words and the files have verdicts of one status, and one where nothing is refused.
-use Rattle.std.proofs.Common.{◌≡◌, ℕ, ◌⊎◌, inl, inr, List, length, Option, Some, None, refl, sym, ◌∙◌, ap, subst, arith}
+use Rattle.std.proofs.Common.{◌≡◌, ℕ, ◌<◌, ◌⊎◌, inl, inr, List, length, Option, Some, None, refl, sym, ◌∙◌, ap, subst, arith}
+use Rattle.std.proofs.Math.Bridge.{le_prop}
 use Rattle.resty_base.specs.FileMap.{FileMap}
+use Rattle.conf.specs.declared.sites.Conf.{Conf}
 use Rattle.resty_world.specs.declared.schedule_line.SchedLine.{SchedLine}
 use Rattle.schedule_text.specs.Accepted.{IsRead, IsRefusedAt}
 use Rattle.schedule_text.specs.Fitting.{IsSchedule}
@@ -89,7 +91,20 @@ abbrev pub SitesHaveNoFault : Type 0
 SitesHaveNoFault = (text : List ℕ) (site : LiteralSite) (fault : LiteralFault) → IsLiteralSite text site → IsLiteralFault text fault → fault ≡ literal.Memory
 
 abbrev pub SitesAreKnown : Type 0
-SitesAreKnown = (text : List ℕ) (s t : LiteralSite) → IsLiteralSite text s → IsLiteralSite text t → s ≡ t
+SitesAreKnown = (text : List ℕ) (s t : LiteralSite) → IsLiteralSite text s → IsLiteralSite text t → (s.conf ≡ t.conf) × (s.outputs ≡ t.outputs)
+
+-- a site is known by its configuration and its outputs
+abbrev site_of : (conf : Conf) (outputs : List (List (List ℕ))) → conf.default_server < length conf.servers → LiteralSite
+site_of conf outputs whole = record { conf = conf; outputs = outputs; whole = whole }
+
+same_parts : (conf other : Conf) (outputs others : List (List (List ℕ))) → conf ≡ other → outputs ≡ others → (v : conf.default_server < length conf.servers)
+    (w : other.default_server < length other.servers) → site_of conf outputs v ≡ site_of other others w
+same_parts conf other outputs others same equal v =
+    subst (λ (d : Conf). (w : d.default_server < length d.servers) → site_of conf outputs v ≡ site_of d others w) same
+    (λ w. ap (λ o. site_of conf o v) equal ∙ ap (site_of conf others) (le_prop v w))
+
+same_site : (s t : LiteralSite) → s.conf ≡ t.conf → s.outputs ≡ t.outputs → s ≡ t
+same_site s t conf outputs = same_parts s.conf t.conf s.outputs t.outputs conf outputs s.whole t.whole
 
 texts_apart : TextsHaveNoFault → (text : List ℕ) → IsBadText text → IsSite text → ⊥
 texts_apart no-fault text bad good = bad.2 (no-fault text bad.0 good bad.1)
@@ -282,7 +297,9 @@ module _ (no-fault : SitesHaveNoFault) (known : SitesAreKnown) (text-fault : Tex
 
   -- one site and one schedule
   one_site : (held : FileMap) (conf : List ℕ) (s t : LiteralSite) → HasSite held conf s → HasSite held conf t → s ≡ t
-  one_site held conf s t p q = known p.text s t p.accepted (subst (λ text. IsLiteralSite text t) (same_text q.text p.text q.holds.here p.holds.here) q.accepted)
+  one_site held conf s t p q =
+      let parts = known p.text s t p.accepted (subst (λ text. IsLiteralSite text t) (same_text q.text p.text q.holds.here p.holds.here) q.accepted) in
+      same_site s t parts.0 parts.1
 
   one_schedule : (held : FileMap) (name : List ℕ) (xs ys : List SchedLine) → HasSchedule held name xs → HasSchedule held name ys → xs ≡ ys
   one_schedule held name xs ys p q =
