@@ -84,7 +84,7 @@ module _ {J : Type 0} (b : Behavior J) (lines : List SchedLine) (old world : Rep
         steps_offers = s.offered ∙ right.offered;
       } in
       let ranged : AreRanged (take world.passed lines) =
-          first-ranged (take world.passed lines) (drop world.passed lines) (subst AreRanged (sym (take-append-drop world.passed lines)) (schedule-ranged lines made)) in
+      first-ranged (take world.passed lines) (drop world.passed lines) (subst AreRanged (sym (take-append-drop world.passed lines)) (schedule-ranged lines made)) in
       record {
         execution = right.execution;
         history = right.history;

@@ -206,7 +206,7 @@ module _ {J : Type 0} (b : Behavior J) where
       let s = strand.Conn c in
       let told = run.told in
       let none : NoLater (external b run.execution) =
-          subst NoLater (told.steps_history ∙ run.history) (no-later (lines ++ told.after) told.steps told.steps_right (subst TakesAllBytes (sym told.steps_lines) takes)) in
+      subst NoLater (told.steps_history ∙ run.history) (no-later (lines ++ told.after) told.steps told.steps_right (subst TakesAllBytes (sym told.steps_lines) takes)) in
       let before = earlier-none later ms (subst (λ all. NoLater (external b all)) same none) in
       let alone = earlier-alone s later ms (subst (λ all. IsExecution b (projection s all)) same (run.lawful.alone s)) in
       law place.Client (projection s ms) grows keeps alone at.living at.rest at.opened (never-put-off s place.Client ms before)

@@ -166,7 +166,11 @@ fn a_block_that_is_not_built_is_refused_at_its_line(rt: HostRuntime) -> Result<(
 #[test]
 fn a_text_that_is_no_schedule_is_refused_at_its_line(rt: HostRuntime) -> Result<(), Fail> {
     let line = "resty: t.sched: line 2: not a schedule line\n";
-    for schedule in ["arrive c1\narrive c3\nstop\n", "arrive c1\n", "arrive c1\nfrob\n"] {
+    for schedule in [
+        "arrive c1\narrive c3\nstop\n",
+        "arrive c1\n",
+        "arrive c1\nfrob\n",
+    ] {
         expect_refused(&rt, rt.alloc(), CONF, schedule, Status::Schedule, line)?;
     }
     Ok(())
@@ -192,7 +196,14 @@ fn a_line_that_names_what_was_never_there_ends_the_run(rt: HostRuntime) -> Resul
     let first = "resty: t.sched: line 1: no such id\n";
     expect_cut_short(&rt, a, "bytes s9 \"x\"\nstop\n", status, "", first)?;
     let second = "resty: t.sched: line 2: no such id\n";
-    expect_cut_short(&rt, a, "arrive c1\nroom c2 1\nstop\n", status, "arrive c1\n", second)
+    expect_cut_short(
+        &rt,
+        a,
+        "arrive c1\nroom c2 1\nstop\n",
+        status,
+        "arrive c1\n",
+        second,
+    )
 }
 
 #[test]

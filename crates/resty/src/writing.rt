@@ -13,12 +13,7 @@ use schedule::history_text;
 use std::alloc::Global;
 
 /// Writes the text of the history of a run that ended so.
-pub fn write_history<O: Sink>(
-    alloc: Global,
-    ended: Ended,
-    history: &History,
-    out: &mut O,
-) -> Ending
+pub fn write_history<O: Sink>(alloc: Global, ended: Ended, history: &History, out: &mut O) -> Ending
     ensures { WritesHistory ended history.now.entries result (O.account out.old) (O.account out.new) }
 {
     let text = match history_text(alloc, history) {

@@ -73,7 +73,8 @@ fn a_reply_before_a_body_that_waits_for_leave_is_the_last(rt: HostRuntime) -> Re
 }
 
 /// A site that takes bodies of at most two bytes.
-const SMALL: &str = r#"http { client_max_body_size 2; server { location / { content_by_lua_block { ngx.say("hi") } } } }"#;
+const SMALL: &str =
+    r#"http { client_max_body_size 2; server { location / { content_by_lua_block { ngx.say("hi") } } } }"#;
 
 const LIMITED: &str = r#"arrive c1
 bytes c1 "<post>Content-Length: 3\r\n\r\n"

@@ -45,21 +45,32 @@ fn is_answered(
     let schedule = schedule_in_pieces(alloc, text.as_str(), length)?;
     let history = served(alloc, HI, schedule.as_str())?;
     let sent = sent(alloc, str::from_utf8(history.as_slice())?, 1)?;
-    assert_eq!(rt; sent.as_str(), spelled(alloc, answer)?.as_str(), "pieces of {length}");
+    assert_eq!(rt;
+        sent.as_str(),
+        spelled(alloc, answer)?.as_str(),
+        "pieces of {length}"
+    );
     Ok(())
 }
 
 #[test]
 fn two_requests_are_answered_in_any_cutting(rt: HostRuntime) -> Result<(), Fail> {
     for length in 1..=57 {
-        is_answered(&rt, rt.alloc(), "<get>\\r\\n<get>", length, "<keep><hi><keep><hi>")?;
+        is_answered(
+            &rt,
+            rt.alloc(),
+            "<get>\\r\\n<get>",
+            length,
+            "<keep><hi><keep><hi>",
+        )?;
     }
     Ok(())
 }
 
 #[test]
 fn a_chunked_body_is_dropped_in_any_cutting(rt: HostRuntime) -> Result<(), Fail> {
-    let asked = "<post>Transfer-Encoding: chunked\\r\\n\\r\\n3;a=b\\r\\nabc\\r\\n0\\r\\nX: y\\r\\n\\r\\n<get>";
+    let asked =
+        "<post>Transfer-Encoding: chunked\\r\\n\\r\\n3;a=b\\r\\nabc\\r\\n0\\r\\nX: y\\r\\n\\r\\n<get>";
     for length in [1, 2, 3, 5, 7, 11, 13, 17, 200] {
         is_answered(&rt, rt.alloc(), asked, length, "<keep><hi><keep><hi>")?;
     }

@@ -125,7 +125,8 @@ fn a_write_that_would_wait_goes_on_when_the_client_is_ready(rt: HostRuntime) -> 
 }
 
 /// A site that takes one connection at a time.
-const ONE: &str = r#"events { worker_connections 1; } http { server { location / { content_by_lua_block { ngx.say("hi") } } } }"#;
+const ONE: &str =
+    r#"events { worker_connections 1; } http { server { location / { content_by_lua_block { ngx.say("hi") } } } }"#;
 
 const TURNED: &str = r#"arrive c1
 arrive c2

@@ -101,13 +101,20 @@ fn a_head_that_does_not_end_is_refused_at_its_limit(rt: HostRuntime) -> Result<(
     let alloc = rt.alloc();
     let refused = "> put c1 \"<431>\"\n> close c1\nstop";
     hold(&rt, alloc, HI, long_head(alloc, 16_384, refused)?.as_str())?;
-    hold(&rt, alloc, HI, long_head(alloc, 16_383, "stop\n> close c1")?.as_str())
+    hold(
+        &rt,
+        alloc,
+        HI,
+        long_head(alloc, 16_383, "stop\n> close c1")?.as_str(),
+    )
 }
 
 /// A site that says a text of so many bytes.
 fn site_of_long(alloc: Global, count: usize) -> Result<String, AllocError> {
     let text = many(alloc, count)?;
-    format!(in alloc; "http {{ server {{ location / {{ content_by_lua_block {{ ngx.say(\"{text}\") }} }} }} }}")
+    format!(in alloc;
+        "http {{ server {{ location / {{ content_by_lua_block {{ ngx.say(\"{text}\") }} }} }} }}"
+    )
 }
 
 /// The lines of the puts of a reply: each ends at a multiple of 16,384 of its bytes, or with the last one.
@@ -138,7 +145,9 @@ fn history_of_long(alloc: Global, count: usize) -> Result<String, Fail> {
     let text = many(alloc, count)?;
     let reply = format!(in alloc; "{head}{text}\n")?;
     let puts = puts(alloc, reply.as_str())?;
-    Ok(format!(in alloc; "arrive c1\nbytes c1 \"GET / HTTP/1.0\\r\\n\\r\\n\"\n{puts}close c1\nstop\n")?)
+    Ok(format!(in alloc;
+        "arrive c1\nbytes c1 \"GET / HTTP/1.0\\r\\n\\r\\n\"\n{puts}close c1\nstop\n"
+    )?)
 }
 
 /// A text of so many bytes is said in pieces, up to each multiple.
