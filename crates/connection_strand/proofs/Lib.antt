@@ -2,3 +2,5 @@ pub mod Deadlines
 pub mod Moving
 pub mod Offering
 pub mod Speaking
+pub mod Sockets
+pub mod OwnTurns
