@@ -1,5 +1,5 @@
 -- A run's acts, and the sockets that are open after them.
-use Rattle.std.proofs.Common.{◌≡◌, ℕ, ◌==◌, Bool, true, false, not, ◌||◌, List, [], ◌∷◌, ◌++◌, map, Option, Some, None, if◌then◌else◌, refl, sym, ap, ◌∙◌, subst, append-nil}
+use Rattle.std.proofs.Common.{◌≡◌, ℕ, ◌==◌, Bool, true, false, not, ◌||◌, List, [], ◌∷◌, ◌++◌, map, Option, Some, None, if◌then◌else◌, refl, sym, ap, ◌∙◌, subst, append-nil, eqb-true, eq-eqb, cond}
 use Rattle.strand_contract.specs.declared.turns.Act.{Act}
 use Rattle.strand_contract.specs.declared.turns.Act.TheVariants as act
 use Rattle.strand_contract.specs.declared.turns.Place.{Place}
@@ -26,13 +26,24 @@ without-none q (p ∷ ps) h = by (without-none q ps) (same_place q p) refl h
     by rest true e f = absurd (let x : true ≡ false = f in cc)
     by rest false e f = ap (λ xs. p ∷ xs) (rest f)
 
+same-number : (k j : ℕ) → (k == j) ≡ (j == k)
+same-number k j = by (k == j) refl (j == k) refl
+  where
+    by : (c : Bool) → (k == j) ≡ c → (d : Bool) → (j == k) ≡ d → c ≡ d
+    by true e true f = refl
+    by true e false f = absurd (let x : true ≡ false = sym (eq-eqb j k (sym (eqb-true k j e))) ∙ f in cc)
+    by false e true f = absurd (let x : true ≡ false = sym (eq-eqb k j (sym (eqb-true j k f))) ∙ e in cc)
+    by false e false f = refl
+
 socks-without : (k : ℕ) (ks : List ℕ) → without_place (place.Sock k) (map place.Sock ks) ≡ map place.Sock (without_all k ks)
 socks-without k [] = refl
-socks-without k (j ∷ js) = by (socks-without k js) (k == j)
+socks-without k (j ∷ js) =
+    ap (λ c. if c then without_place (place.Sock k) (map place.Sock js) else place.Sock j ∷ without_place (place.Sock k) (map place.Sock js)) (same-number k j)
+    ∙ by (socks-without k js) (j == k)
   where
     by : without_place (place.Sock k) (map place.Sock js) ≡ map place.Sock (without_all k js) → (c : Bool)
         → (if c then without_place (place.Sock k) (map place.Sock js) else place.Sock j ∷ without_place (place.Sock k) (map place.Sock js))
-        ≡ map place.Sock (if c then without_all k js else j ∷ without_all k js)
+        ≡ map place.Sock (cond (not c) (j ∷ without_all k js) (without_all k js))
     by rest true = rest
     by rest false = ap (λ xs. place.Sock j ∷ xs) rest
 
@@ -62,6 +73,12 @@ module _ {J R : Type 0} where
   abbrev Opens : Move J R → Ledger J → R → Bool → List ℕ → Type 0
   Opens m b r o ks = (perform m b r).state.ledger.opened ≡ places o (sockets_after (done_of (perform m b r).acts) ks)
 
+  hangs : (k : ℕ) (b : Ledger J) (after : List Place) (acts : List (Act J)) (o : Bool) (ks : List ℕ) → b.opened ≡ places o ks → (c : Bool) → has (place.Sock k) b.opened ≡ c
+      → ((js : List ℕ) → without_place (place.Sock k) b.opened ≡ places o js → after ≡ places o (sockets_after (done_of acts) js))
+      → after ≡ places o (sockets_after (done_of (act_if c (act.HangUp (place.Sock k)) acts)) ks)
+  hangs k b after acts o ks e true h f = f (without_all k ks) (ap (without_place (place.Sock k)) e ∙ places-without k o ks)
+  hangs k b after acts o ks e false h f = f ks (without-none (place.Sock k) b.opened h ∙ e)
+
   pub opens : (m : Move J R) (b : Ledger J) (r : R) (o : Bool) (ks : List ℕ) → IsOwn m → b.opened ≡ places o ks → Opens m b r o ks
   opens Done b r o ks own e = e
   opens (move.Ready k m) b r o ks own e =
@@ -73,15 +90,10 @@ module _ {J R : Type 0} where
   opens (Arm n at m) b r o ks own e = opens m (with_deadline n at b) r o ks own.1 e
   opens (Cancel n m) b r o ks own e = opens m (without_deadline n b) r o ks own.1 e
   opens (HangUp place.Client m) b r o ks own e = absurd own.0
-  opens (HangUp (place.Sock k) m) b r o ks own e = by (has (place.Sock k) b.opened) refl
-    where
-      d : Ledger J
-      d = hung_up (place.Sock k) b
-
-      by : (c : Bool) → has (place.Sock k) b.opened ≡ c
-          → (perform m d r).state.ledger.opened ≡ places o (sockets_after (done_of (act_if c (act.HangUp (place.Sock k)) (perform m d r).acts)) ks)
-      by true h = opens m d r o (without_all k ks) own.1 (ap (without_place (place.Sock k)) e ∙ places-without k o ks)
-      by false h = opens m d r o ks own.1 (without-none (place.Sock k) b.opened h ∙ e)
+  opens (HangUp (place.Sock k) m) b r o ks own e =
+      let d = hung_up (place.Sock k) b in
+      hangs k b (perform m d r).state.ledger.opened (perform m d r).acts o ks e (has (place.Sock k) b.opened) refl
+      (λ js f. opens m d r o js own.1 f)
   opens (Log line m) b r o ks own e = opens m b r o ks own e
   opens (Set f m) b r o ks own e = opens m b (f r) o ks own e
   opens (Look go) b r o ks own e = opens (go b r) b r o ks (own b r) e

@@ -1,5 +1,5 @@
 -- The acts of a run's turn: those that are done, and the question at their end.
-use Rattle.std.specs.Prelude.{ℕ, ◌==◌, Bool, true, false, List, [], ◌∷◌, Option, Some, None, if◌then◌else◌}
+use Rattle.std.specs.Prelude.{ℕ, ◌==◌, Bool, true, false, not, filter, List, [], ◌∷◌, Option, Some, None, if◌then◌else◌}
 use Rattle.strand_contract.specs.declared.turns.Place.TheVariants as place
 use Rattle.strand_contract.specs.declared.turns.Act.{Act}
 use Rattle.strand_contract.specs.declared.turns.Act.TheVariants as act
@@ -24,8 +24,7 @@ question_in (a ∷ acts) = if is_question a then Some a else question_in acts
 
 -- numbers without one of them
 abbrev pub without_all : ℕ → List ℕ → List ℕ
-without_all k [] = []
-without_all k (j ∷ js) = if k == j then without_all k js else j ∷ without_all k js
+without_all k ks = filter (λ j. not (j == k)) ks
 
 -- the open sockets after these acts
 abbrev pub sockets_after : {J : Type 0} → List (Act J) → List ℕ → List ℕ
