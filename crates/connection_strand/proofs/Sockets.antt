@@ -68,16 +68,16 @@ offer-if : {J : Type 0} (c : Bool) (q : Place) (acts : List (Act J)) (ks : List 
 offer-if true q acts ks = refl
 offer-if false q acts ks = refl
 
+hangs : {J : Type 0} (k : ℕ) (b : Ledger J) (after : List Place) (acts : List (Act J)) (o : Bool) (ks : List ℕ) → b.opened ≡ places o ks → (c : Bool) → has (place.Sock k) b.opened ≡ c
+    → ((js : List ℕ) → without_place (place.Sock k) b.opened ≡ places o js → after ≡ places o (sockets_after (done_of acts) js))
+    → after ≡ places o (sockets_after (done_of (act_if c (act.HangUp (place.Sock k)) acts)) ks)
+hangs k b after acts o ks e true h f = f (without_all k ks) (ap (without_place (place.Sock k)) e ∙ places-without k o ks)
+hangs k b after acts o ks e false h f = f ks (without-none (place.Sock k) b.opened h ∙ e)
+
 module _ {J R : Type 0} where
   -- the places that are open after moves of a run's own
   abbrev Opens : Move J R → Ledger J → R → Bool → List ℕ → Type 0
   Opens m b r o ks = (perform m b r).state.ledger.opened ≡ places o (sockets_after (done_of (perform m b r).acts) ks)
-
-  hangs : (k : ℕ) (b : Ledger J) (after : List Place) (acts : List (Act J)) (o : Bool) (ks : List ℕ) → b.opened ≡ places o ks → (c : Bool) → has (place.Sock k) b.opened ≡ c
-      → ((js : List ℕ) → without_place (place.Sock k) b.opened ≡ places o js → after ≡ places o (sockets_after (done_of acts) js))
-      → after ≡ places o (sockets_after (done_of (act_if c (act.HangUp (place.Sock k)) acts)) ks)
-  hangs k b after acts o ks e true h f = f (without_all k ks) (ap (without_place (place.Sock k)) e ∙ places-without k o ks)
-  hangs k b after acts o ks e false h f = f ks (without-none (place.Sock k) b.opened h ∙ e)
 
   pub opens : (m : Move J R) (b : Ledger J) (r : R) (o : Bool) (ks : List ℕ) → IsOwn m → b.opened ≡ places o ks → Opens m b r o ks
   opens Done b r o ks own e = e

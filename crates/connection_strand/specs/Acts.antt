@@ -13,6 +13,11 @@ is_question (act.Keep k key idle size) = true
 is_question (act.Timer at job) = true
 is_question a = false
 
+-- the socket that the act gives to the pool
+abbrev pub kept_socket : {J : Type 0} → Act J → Option ℕ
+kept_socket (act.Keep k key idle size) = Some k
+kept_socket a = None
+
 -- what comes before the question, and the question
 abbrev pub done_of : {J : Type 0} → List (Act J) → List (Act J)
 done_of [] = []
