@@ -4,3 +4,5 @@ pub mod Offering
 pub mod Speaking
 pub mod Sockets
 pub mod OwnTurns
+pub mod Telling
+pub mod Losing

@@ -1,5 +1,5 @@
 -- The acts of a run's turn: those that are done, and the question at their end.
-use Rattle.std.specs.Prelude.{ℕ, ◌==◌, Bool, true, false, not, filter, List, [], ◌∷◌, Option, Some, None, if◌then◌else◌}
+use Rattle.std.specs.Prelude.{ℕ, ◌==◌, Bool, true, false, not, filter, map, List, [], ◌∷◌, Option, Some, None, if◌then◌else◌}
 use Rattle.strand_contract.specs.declared.turns.Place.TheVariants as place
 use Rattle.strand_contract.specs.declared.turns.Act.{Act}
 use Rattle.strand_contract.specs.declared.turns.Act.TheVariants as act
@@ -36,3 +36,7 @@ abbrev pub sockets_after : {J : Type 0} → List (Act J) → List ℕ → List �
 sockets_after [] socks = socks
 sockets_after (act.HangUp (place.Sock k) ∷ acts) socks = sockets_after acts (without_all k socks)
 sockets_after (a ∷ acts) socks = sockets_after acts socks
+
+-- the acts that hang them up
+abbrev pub hang_ups : {J : Type 0} → List ℕ → List (Act J)
+hang_ups socks = map (λ k. act.HangUp (place.Sock k)) socks

@@ -13,14 +13,27 @@ use strand_contract::{Act, Place};
 use uri_args::Target;
 
 impl<R: ServiceContract> Connection<R> {
-    ghost use Rattle.std.specs.Prelude.{IfOk, false};
+    ghost use Rattle.std.specs.Prelude.{◌≡◌, ◌++◌, IfOk, false};
     ghost use Rattle.strand_contract.specs.declared.turns.Place.TheVariants as place;
     ghost use Rattle.client_line.specs.Lines.{held_in};
     ghost use Rattle.moves.specs.Moves.{Look, HangUp};
+    ghost use Rattle.connection.specs.Clients as stage;
     ghost use Rattle.connection.specs.Turns.{finish, lose, begin, wait_for, refuse, heard_by, next};
     ghost use Rattle.service_contract.specs.Serving.{service_of};
-    ghost use Rattle.connection_strand.specs.Standing.{Goes, Ends, Hears, IsWithin};
+    ghost use Rattle.connection_strand.specs.Standing.{Goes, Ends, Hears, IsAt, IsWithin};
+    ghost use Rattle.connection_strand.specs.Acts.{hang_ups};
     ghost use Rattle.connection_strand.specs.Turns.{IsAnswered};
+
+    /// Its open sockets are hung up.
+    fn hang_up_sockets(&self, turn: &mut Turn<R::Job>) -> Result<(), AllocError>
+        ensures acts { IfOk result (λ done. turn.new.acts.items ≡ turn.old.acts.items ++ hang_ups self.now.sockets.items) }
+        ensures offered { turn.new.is_offered ≡ turn.old.is_offered }
+    {
+        for socket in &self.sockets {
+            turn.acts.push_back(Act::HangUp(Place::Sock(*socket)))?;
+        }
+        Ok(())
+    }
 
     /// The life is over: what is open is hung up.
     pub(crate) fn finish(&mut self, turn: &mut Turn<R::Job>, site: &R::Site) -> Result<(), AllocError>
@@ -31,9 +44,7 @@ impl<R: ServiceContract> Connection<R> {
         if self.client.is_open {
             turn.acts.push_back(Act::HangUp(Place::Client))?;
         }
-        for socket in &self.sockets {
-            turn.acts.push_back(Act::HangUp(Place::Sock(*socket)))?;
-        }
+        self.hang_up_sockets(turn)?;
         turn.acts.push_back(Act::Gone)?;
         self.client.stage = Stage::Over;
         Ok(())
@@ -52,6 +63,27 @@ impl<R: ServiceContract> Connection<R> {
         Ok(())
     }
 
+    /// The client of a run that goes on is lost: it is hung up, and the run is told so.
+    fn lose_busy(
+        &mut self,
+        turn: &mut Turn<R::Job>,
+        alloc: Global,
+        site: &R::Site,
+        now: Ms,
+    ) -> Result<(), AllocError>
+        requires { IsAt (R.plan site.now) (R.holds site.now) (R.stands site.now) stage.Busy self.old turn.old }
+        ensures { IfOk result (λ done. Ends (R.plan site.now) (R.holds site.now) (R.stands site.now)
+            (lose (service_of (R.plan site.now) (R.serving site.now)) now.0) self.old turn.old self.new turn.new) }
+    {
+        self.hang_up(turn, site)?;
+        self.end_timer(turn, site, Timer::Body)?;
+        self.end_timer(turn, site, Timer::Send)?;
+        if self.waits.client {
+            self.tell(turn, alloc, site, now, RunSeen::ClientGone)?;
+        }
+        Ok(())
+    }
+
     /// The client is lost: it is hung up, and a run that goes on is told so.
     pub(crate) fn lose(
         &mut self,
@@ -64,16 +96,12 @@ impl<R: ServiceContract> Connection<R> {
         ensures { IfOk result (λ done. Ends (R.plan site.now) (R.holds site.now) (R.stands site.now)
             (lose (service_of (R.plan site.now) (R.serving site.now)) now.0) self.old turn.old self.new turn.new) }
     {
-        if self.client.stage != Stage::Busy {
-            return self.finish(turn, site);
+        match self.client.stage {
+            Stage::Busy => self.lose_busy(turn, alloc, site, now),
+            Stage::Idle | Stage::Head | Stage::Flush | Stage::Drop | Stage::Over => {
+                self.finish(turn, site)
+            }
         }
-        self.hang_up(turn, site)?;
-        self.end_timer(turn, site, Timer::Body)?;
-        self.end_timer(turn, site, Timer::Send)?;
-        if self.waits.client {
-            self.tell(turn, alloc, site, now, RunSeen::ClientGone)?;
-        }
-        Ok(())
     }
 
     /// A request begins, and its run takes its first turn. It reports whether the turn goes on.
