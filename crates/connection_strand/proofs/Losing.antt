@@ -7,10 +7,11 @@ use Rattle.strand_contract.specs.declared.turns.Place.{Place}
 use Rattle.strand_contract.specs.declared.turns.Place.TheVariants as place
 use Rattle.strand_contract.specs.Alone.{without_place}
 use Rattle.moves.specs.Questions.{Question}
-use Rattle.moves.specs.Ledgers.{Ledger, has}
+use Rattle.moves.specs.Ledgers.{Ledger, has, left_at}
 use Rattle.moves.specs.Moves.{Move, Done, Performed, HangUp, hung_up, ending, after_act_if, perform}
 use Rattle.moves.proofs.Places.{has-without}
 use Rattle.run_contract.specs.declared.turns.RunSeen.{RunSeen}
+use Rattle.run_contract.specs.declared.turns.RunSeen.TheVariants as seen
 use Rattle.run_contract.specs.Runs.{Waits}
 use Rattle.run_contract.specs.Calls as calls
 use Rattle.run_contract.specs.Alike.{AreAlike}
@@ -18,7 +19,8 @@ use Rattle.run_contract.specs.Conditions.{IsRun, MayCome, entered_as}
 use Rattle.connection.specs.Clients.{Stage, Client}
 use Rattle.connection.specs.Clients as stage
 use Rattle.connection.specs.Services.{Service, Both}
-use Rattle.connection.specs.Turns.{is_there, finish, tell}
+use Rattle.connection.specs.Timers as timer
+use Rattle.connection.specs.Turns.{is_there, finish, tell, end_timer, lose, lose_at}
 use Rattle.connection.proofs.Alike.{hung-up-alike}
 use Rattle.connection_strand.specs.declared.state.Connection.{Connection}
 use Rattle.connection_strand.specs.declared.state.Turn.{Turn}
@@ -28,6 +30,7 @@ use Rattle.connection_strand.specs.Standing.{Moment, plain, HasRun, Serves, With
 use Rattle.connection_strand.specs.Turns.{Told}
 use Rattle.connection_strand.proofs.Moving.{IsSameRun, one-more, stays-within}
 use Rattle.connection_strand.proofs.OwnTurns.{at-stage}
+use Rattle.connection_strand.proofs.Sockets.{without-none}
 
 -- ---- the acts of an end
 
@@ -166,7 +169,7 @@ module _ {R J I : Type 0} (site : Service J I) (holds : Ledger J → I → Type 
           inner = s;
           within = stays-within site holds stands lawful apart e c c' u u' b b' s s h.within (hung-up-alike b) refl refl same.run same.waits (record {
             client = client ∙ ap (λ (k : Kept). record k { opened = false; sending = queues.dropped k.sending }) w.client
-                ∙ sym (ap (λ o. record (kept_of b s.client) { opened = o; sending = record { bytes = if o then (kept_of b' s.client).sending.bytes else []; phase = (kept_of b s.client).sending.phase; gone = not o } }) (gone-client b));
+                ∙ sym (ap (λ o. record (kept_of b s.client) { opened = o; sending = record { bytes = if o then left_at place.Client b else []; phase = (kept_of b s.client).sending.phase; gone = not o } }) (gone-client b));
             sockets = ap (without_place place.Client) w.sockets ∙ places-left (is_there b) c.sockets.items ∙ ap (λ o. places o c.sockets.items) (sym (gone-client b)) ∙ ap (places (is_there b')) (sym same.sockets);
             count = same.count ∙ w.count;
             keeping = same.keeping ∙ w.keeping;
@@ -180,3 +183,68 @@ module _ {R J I : Type 0} (site : Service J I) (holds : Ledger J → I → Type 
           leads = one-more u.acts.items u'.acts.items (act.HangUp place.Client) did (perform m b' s) acts
               (h.leads ∙ ap (λ o. before u.acts.items (after_act_if o (act.HangUp place.Client) (perform m b' s))) there);
         }
+
+    pub hangs-not : (e : Moment J) (did : Performed J (Both I)) (c : Connection R) (u : Turn J) (m : Move J (Both I)) → c.client.is_open ≡ false
+        → To e did c u (HangUp place.Client m) → To e did c u m
+    hangs-not e did c u m shut h =
+        let b = h.ledger in
+        let s = h.inner in
+        let none : is_there b ≡ false = sym (ap (λ (k : Kept). k.opened) h.within.serves.client) ∙ shut in
+        record {
+          ledger = b;
+          inner = s;
+          within = h.within;
+          leads = h.leads ∙ ap (λ o. before u.acts.items (after_act_if o (act.HangUp place.Client) (perform m (hung_up place.Client b) s))) none
+              ∙ ap (λ ps. before u.acts.items (perform m (record b { opened = ps }) s)) (without-none place.Client b.opened none);
+        }
+
+  -- ---- the client is lost
+
+  not-busy : (now : ℕ) (st : Stage) (s : Both I) → (st ≡ stage.Busy → ⊥) → lose_at site now st s ≡ finish
+  not-busy now stage.Busy s h = absurd (h refl)
+  not-busy now stage.Idle s h = refl
+  not-busy now stage.Head s h = refl
+  not-busy now stage.Flush s h = refl
+  not-busy now stage.Drop s h = refl
+  not-busy now stage.Over s h = refl
+
+  -- without a run the life is over
+  pub loses-free : (now : ℕ) (st : Stage) (did : Performed J (Both I)) (c : Connection R) (u : Turn J) (m : Move J (Both I)) → ((kept c.client).stage ≡ stage.Busy → ⊥)
+      → To (plain st) did c u (lose site now) → To (plain st) did c u finish
+  loses-free now st did c u m free h =
+      let b = h.ledger in
+      let s = h.inner in
+      record {
+        ledger = b;
+        inner = s;
+        within = h.within;
+        leads = h.leads ∙ ap (λ (n : Move J (Both I)). before u.acts.items (perform n b s)) (not-busy now s.client.stage s (λ e. free (ap (λ (k : Kept). k.stage) h.within.serves.client ∙ e)));
+      }
+
+  -- with a run: it is told so, if it has a client
+  abbrev pub told_gone : ℕ → Bool → Move J (Both I)
+  told_gone now x = if x then tell site now seen.ClientGone Done else Done
+
+  pub loses-busy : (now : ℕ) (st : Stage) (did : Performed J (Both I)) (c : Connection R) (u : Turn J) → (kept c.client).stage ≡ stage.Busy
+      → To (plain st) did c u (lose site now)
+      → To (plain stage.Busy) did c u (HangUp place.Client (end_timer site now timer.Body (end_timer site now timer.Send (told_gone now c.waits.client))))
+  loses-busy now st did c u busy h =
+      let b = h.ledger in
+      let s = h.inner in
+      let at : s.client.stage ≡ stage.Busy = sym (ap (λ (k : Kept). k.stage) h.within.serves.client) ∙ busy in
+      let w : Within site.runs holds stands (plain stage.Busy) c u b s = subst (λ (x : Stage). Within site.runs holds stands (plain x) c u b s) (sym h.within.at ∙ at) h.within in
+      record {
+        ledger = b;
+        inner = s;
+        within = w;
+        leads = h.leads ∙ ap (λ (x : Stage). before u.acts.items (perform (lose_at site now x s) b s)) at
+            ∙ ap (λ (x : Waits). before u.acts.items (perform (HangUp place.Client (end_timer site now timer.Body (end_timer site now timer.Send (told_gone now x.client)))) b s)) (sym w.run.3);
+      }
+
+  pub busy-at : (st : Stage) (c : Connection R) (u : Turn J) → (kept c.client).stage ≡ stage.Busy → IsAt site.runs holds stands st c u → IsAt site.runs holds stands stage.Busy c u
+  busy-at st c u busy h =
+      let at : st ≡ stage.Busy = sym h.2.at ∙ sym (ap (λ (k : Kept). k.stage) h.2.serves.client) ∙ busy in
+      subst (λ (x : Stage). IsAt site.runs holds stands x c u) at h
+
+  pub may-be-gone : (now : ℕ) (c : Connection R) → c.waits.client ≡ true → MayTell now seen.ClientGone c
+  may-be-gone now c client b r none waits = (refl, (none, sym (ap (λ (w : Waits). w.client) waits) ∙ client))

@@ -167,7 +167,7 @@ kept-asking (questions.Keep k key idle size) = refl
 kept-asking (questions.Timer at job) = refl
 
 module _ {R J I : Type 0} (site : Service J I) (holds : Ledger J → I → Type 0) (stands : R → Ledger J → I → Type 0) where
-  at-stage : (st st' : Stage) (c : Connection R) (b : Ledger J) (r : I) → st ≡ st' → HasRun site.runs stands st c b r → HasRun site.runs stands st' c b r
+  pub at-stage : (st st' : Stage) (c : Connection R) (b : Ledger J) (r : I) → st ≡ st' → HasRun site.runs stands st c b r → HasRun site.runs stands st' c b r
   at-stage st st' c b r e h = subst (λ (x : Stage). HasRun site.runs stands x c b r) e h
 
   has-run : (st : Stage) (c c' : Connection R) (b : Ledger J) (r : I) → c'.run ≡ c.run → c'.waits ≡ c.waits → HasRun site.runs stands st c b r → HasRun site.runs stands st c' b r

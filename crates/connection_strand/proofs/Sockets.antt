@@ -17,7 +17,7 @@ use Rattle.connection.proofs.RunTurns.{awaits, last_awaits, NoneAwaits}
 use Rattle.connection_strand.specs.Acts.{is_question, done_of, question_in, without_all, sockets_after}
 use Rattle.connection_strand.specs.Standing.{places}
 
-without-none : (q : Place) (ps : List Place) → has q ps ≡ false → without_place q ps ≡ ps
+pub without-none : (q : Place) (ps : List Place) → has q ps ≡ false → without_place q ps ≡ ps
 without-none q [] h = refl
 without-none q (p ∷ ps) h = by (without-none q ps) (same_place q p) refl h
   where

@@ -10,7 +10,7 @@ returns g c =
     let r = g.R.RunContract in
     let met = g.met.R.RunContract in
     if-ok c.take_turn.result _ _ c.take_turn.ensures (λ on takes did m h. takes did m
-    (answered-takes (service_of (r.plan site) (g.R.ServiceContract.serving site)) (r.holds site) (r.stands site) (met.meets site) c.args.now.0 c.args.answer c.in_ok-next.next did c.args.self.now _ c.args.turn.now m c.in-Some.run' c.answer.new.self
+    (answered-takes (service_of (r.plan site) (g.R.ServiceContract.serving site)) (r.holds site) (r.stands site) (met.meets site) c.args.now.0 c.args.answer c.in_ok-next.next did c.args.self.now _ c.args.turn.now m c.in-Some.run' c.answer-2.new.self
     (sym c.take.ensures.value ∙ c.in-Some.is) refl c.in_ok-next.ensures.turn (record { client = refl; sockets = refl; count = refl; keeping = refl; taking = refl })
     refl h))
 

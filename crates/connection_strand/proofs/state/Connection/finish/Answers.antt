@@ -1,0 +1,7 @@
+use Rattle.std.proofs.Common.{refl, sym}
+use Rattle.connection_strand.proofs.Losing.{finishes}
+use Rattle.service_contract.specs.Serving.{service_of}
+use Rattle.connection_strand.proofs.state.Connection.finish.Goals as goal
+
+pub returns : goal.returns
+returns g c = ?
