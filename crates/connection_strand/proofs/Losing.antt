@@ -1,5 +1,5 @@
 -- The end of a life, and of a client.
-use Rattle.std.proofs.Common.{◌≡◌, ℕ, Bool, true, false, not, ◌||◌, List, [], ◌∷◌, ◌++◌, map, Option, Some, None, if◌then◌else◌, refl, sym, ap, ◌∙◌, subst, append_assoc, append-nil}
+use Rattle.std.proofs.Common.{◌≡◌, ℕ, Bool, true, false, not, ◌||◌, ◌⊎◌, inl, inr, List, [], ◌∷◌, ◌++◌, map, Option, Some, None, if◌then◌else◌, refl, sym, ap, ◌∙◌, subst, append_assoc, append-nil}
 use Rattle.send_queue.specs.Queues as queues
 use Rattle.strand_contract.specs.declared.turns.Act.{Act}
 use Rattle.strand_contract.specs.declared.turns.Act.TheVariants as act
@@ -7,8 +7,8 @@ use Rattle.strand_contract.specs.declared.turns.Place.{Place}
 use Rattle.strand_contract.specs.declared.turns.Place.TheVariants as place
 use Rattle.strand_contract.specs.Alone.{without_place}
 use Rattle.moves.specs.Questions.{Question}
-use Rattle.moves.specs.Ledgers.{Ledger, has, left_at}
-use Rattle.moves.specs.Moves.{Move, Done, Performed, HangUp, hung_up, ending, after_act_if, perform}
+use Rattle.moves.specs.Ledgers.{Ledger, has, has_number, numbers, left_at}
+use Rattle.moves.specs.Moves.{Move, Done, Performed, HangUp, Cancel, Look, hung_up, without_deadline, ending, after_act, after_act_if, perform}
 use Rattle.moves.proofs.Places.{has-without}
 use Rattle.run_contract.specs.declared.turns.RunSeen.{RunSeen}
 use Rattle.run_contract.specs.declared.turns.RunSeen.TheVariants as seen
@@ -19,18 +19,45 @@ use Rattle.run_contract.specs.Conditions.{IsRun, MayCome, entered_as}
 use Rattle.connection.specs.Clients.{Stage, Client}
 use Rattle.connection.specs.Clients as stage
 use Rattle.connection.specs.Services.{Service, Both}
+use Rattle.connection.specs.Timers.{Timer, number_of}
 use Rattle.connection.specs.Timers as timer
 use Rattle.connection.specs.Turns.{is_there, finish, tell, end_timer, lose, lose_at}
 use Rattle.connection.proofs.Alike.{hung-up-alike}
+use Rattle.connection_strand.specs.declared.client.Stage as code
+use Rattle.connection_strand.specs.declared.client.Stage.TheVariants as own
 use Rattle.connection_strand.specs.declared.state.Connection.{Connection}
 use Rattle.connection_strand.specs.declared.state.Turn.{Turn}
 use Rattle.connection_strand.specs.Acts.{hang_ups, without_all}
-use Rattle.connection_strand.specs.Kept.{Kept, kept, kept_of, waits_of}
+use Rattle.connection_strand.specs.Kept.{Kept, kept, kept_of, waits_of, stage_of}
 use Rattle.connection_strand.specs.Standing.{Moment, plain, HasRun, Serves, Within, Toward, Came, Went, Goes, IsAt, before, places, asking, kept_sock}
 use Rattle.connection_strand.specs.Turns.{Told}
 use Rattle.connection_strand.proofs.Moving.{IsSameRun, one-more, stays-within}
 use Rattle.connection_strand.proofs.OwnTurns.{at-stage}
 use Rattle.connection_strand.proofs.Sockets.{without-none}
+
+-- no run is there, in code
+abbrev pub IsFreeStage : code.Stage → Type 0
+IsFreeStage st = (st ≡ own.Idle) ⊎ ((st ≡ own.Head) ⊎ ((st ≡ own.Flush) ⊎ ((st ≡ own.Drop) ⊎ (st ≡ own.Over))))
+
+pub free-stage : (st : code.Stage) → IsFreeStage st → stage_of st ≡ stage.Busy → ⊥
+free-stage own.Idle h e = let f : stage.Idle ≡ stage.Busy = e in cc
+free-stage own.Head h e = let f : stage.Head ≡ stage.Busy = e in cc
+free-stage own.Flush h e = let f : stage.Flush ≡ stage.Busy = e in cc
+free-stage own.Drop h e = let f : stage.Drop ≡ stage.Busy = e in cc
+free-stage own.Over h e = let f : stage.Over ≡ stage.Busy = e in cc
+free-stage own.Busy h e = elim h [
+  | inl x ↦ let f : own.Busy ≡ own.Idle = x in cc
+  | inr y ↦ elim y [
+    | inl x ↦ let f : own.Busy ≡ own.Head = x in cc
+    | inr z ↦ elim z [
+      | inl x ↦ let f : own.Busy ≡ own.Flush = x in cc
+      | inr w ↦ elim w [
+        | inl x ↦ let f : own.Busy ≡ own.Drop = x in cc
+        | inr x ↦ let f : own.Busy ≡ own.Over = x in cc
+      ]
+    ]
+  ]
+]
 
 -- ---- the acts of an end
 
@@ -209,9 +236,9 @@ module _ {R J I : Type 0} (site : Service J I) (holds : Ledger J → I → Type 
   not-busy now stage.Over s h = refl
 
   -- without a run the life is over
-  pub loses-free : (now : ℕ) (st : Stage) (did : Performed J (Both I)) (c : Connection R) (u : Turn J) (m : Move J (Both I)) → ((kept c.client).stage ≡ stage.Busy → ⊥)
+  pub loses-free : (now : ℕ) (st : Stage) (did : Performed J (Both I)) (c : Connection R) (u : Turn J) → ((kept c.client).stage ≡ stage.Busy → ⊥)
       → To (plain st) did c u (lose site now) → To (plain st) did c u finish
-  loses-free now st did c u m free h =
+  loses-free now st did c u free h =
       let b = h.ledger in
       let s = h.inner in
       record {
@@ -225,20 +252,46 @@ module _ {R J I : Type 0} (site : Service J I) (holds : Ledger J → I → Type 
   abbrev pub told_gone : ℕ → Bool → Move J (Both I)
   told_gone now x = if x then tell site now seen.ClientGone Done else Done
 
+  abbrev pub tells_gone : ℕ → Move J (Both I)
+  tells_gone now = Look (λ b s. told_gone now (site.runs.waits s.run).client)
+
+  ends-same : (now : ℕ) (t : Timer) (m n : Move J (Both I)) (s : Both I) → ((b : Ledger J) → perform m b s ≡ perform n b s)
+      → (b : Ledger J) → perform (end_timer site now t m) b s ≡ perform (end_timer site now t n) b s
+  ends-same now t m n s f b = by (has_number (number_of t) (numbers b.armed))
+    where
+      by : (c : Bool) → perform (if c then Cancel (number_of t) m else m) b s ≡ perform (if c then Cancel (number_of t) n else n) b s
+      by true = ap (after_act (act.Cancel (number_of t))) (f (without_deadline (number_of t) b))
+      by false = f b
+
   pub loses-busy : (now : ℕ) (st : Stage) (did : Performed J (Both I)) (c : Connection R) (u : Turn J) → (kept c.client).stage ≡ stage.Busy
       → To (plain st) did c u (lose site now)
-      → To (plain stage.Busy) did c u (HangUp place.Client (end_timer site now timer.Body (end_timer site now timer.Send (told_gone now c.waits.client))))
+      → To (plain stage.Busy) did c u (HangUp place.Client (end_timer site now timer.Body (end_timer site now timer.Send (tells_gone now))))
   loses-busy now st did c u busy h =
       let b = h.ledger in
       let s = h.inner in
       let at : s.client.stage ≡ stage.Busy = sym (ap (λ (k : Kept). k.stage) h.within.serves.client) ∙ busy in
       let w : Within site.runs holds stands (plain stage.Busy) c u b s = subst (λ (x : Stage). Within site.runs holds stands (plain x) c u b s) (sym h.within.at ∙ at) h.within in
+      let told = told_gone now (site.runs.waits s.run).client in
       record {
         ledger = b;
         inner = s;
         within = w;
         leads = h.leads ∙ ap (λ (x : Stage). before u.acts.items (perform (lose_at site now x s) b s)) at
-            ∙ ap (λ (x : Waits). before u.acts.items (perform (HangUp place.Client (end_timer site now timer.Body (end_timer site now timer.Send (told_gone now x.client)))) b s)) (sym w.run.3);
+            ∙ ap (λ (p : Performed J (Both I)). before u.acts.items (after_act_if (has place.Client b.opened) (act.HangUp place.Client) p))
+                (ends-same now timer.Body (end_timer site now timer.Send told) (end_timer site now timer.Send (tells_gone now)) s
+                (ends-same now timer.Send told (tells_gone now) s (λ l. refl)) (hung_up place.Client b));
+      }
+
+  pub tells-gone : (now : ℕ) (did : Performed J (Both I)) (c : Connection R) (u : Turn J) (x : Bool) → c.waits.client ≡ x
+      → To (plain stage.Busy) did c u (tells_gone now) → To (plain stage.Busy) did c u (told_gone now x)
+  tells-gone now did c u x client h =
+      let b = h.ledger in
+      let s = h.inner in
+      record {
+        ledger = b;
+        inner = s;
+        within = h.within;
+        leads = h.leads ∙ ap (λ (y : Bool). before u.acts.items (perform (told_gone now y) b s)) (sym (ap (λ (w : Waits). w.client) h.within.run.3) ∙ client);
       }
 
   pub busy-at : (st : Stage) (c : Connection R) (u : Turn J) → (kept c.client).stage ≡ stage.Busy → IsAt site.runs holds stands st c u → IsAt site.runs holds stands stage.Busy c u
@@ -248,3 +301,6 @@ module _ {R J I : Type 0} (site : Service J I) (holds : Ledger J → I → Type 
 
   pub may-be-gone : (now : ℕ) (c : Connection R) → c.waits.client ≡ true → MayTell now seen.ClientGone c
   may-be-gone now c client b r none waits = (refl, (none, sym (ap (λ (w : Waits). w.client) waits) ∙ client))
+
+  pub busy-is : (c : Connection R) (u : Turn J) → IsAt site.runs holds stands stage.Busy c u → (kept c.client).stage ≡ stage.Busy
+  busy-is c u h = ap (λ (k : Kept). k.stage) h.2.serves.client ∙ h.2.at
