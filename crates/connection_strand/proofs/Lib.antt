@@ -6,3 +6,4 @@ pub mod Sockets
 pub mod OwnTurns
 pub mod Telling
 pub mod Losing
+pub mod Hearing
