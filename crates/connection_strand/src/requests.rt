@@ -13,14 +13,29 @@ use strand_contract::{Act, Place};
 use uri_args::Target;
 
 impl<R: ServiceContract> Connection<R> {
-    ghost use Rattle.std.specs.Prelude.{IfOk, false};
+    ghost use Rattle.std.specs.Prelude.{◌≡◌, ◌++◌, IfOk, false};
     ghost use Rattle.strand_contract.specs.declared.turns.Place.TheVariants as place;
     ghost use Rattle.client_line.specs.Lines.{held_in};
-    ghost use Rattle.moves.specs.Moves.{Look, HangUp};
-    ghost use Rattle.connection.specs.Turns.{finish, lose, begin, wait_for, refuse, heard_by, next};
+    ghost use Rattle.client_line.specs.Records as line;
+    ghost use Rattle.moves.specs.Moves.{Done, Look, HangUp};
+    ghost use Rattle.connection.specs.Clients as stage;
+    ghost use Rattle.connection.specs.Turns.{change, finish, lose, begin, begin_timer, wait_for, refuse, heard_by, next};
     ghost use Rattle.service_contract.specs.Serving.{service_of};
-    ghost use Rattle.connection_strand.specs.Standing.{Goes, Ends, Hears, IsWithin};
-    ghost use Rattle.connection_strand.specs.Turns.{IsAnswered};
+    ghost use Rattle.connection_strand.specs.Standing.{Goes, Ends, Hears, IsFree, IsAt, IsWithin};
+    ghost use Rattle.connection_strand.specs.Kept.{stage_of, timer_of};
+    ghost use Rattle.connection_strand.specs.Acts.{hang_ups};
+    ghost use Rattle.connection_strand.specs.Turns.{IsAnswered, IsRefusedAt};
+
+    /// Its open sockets are hung up.
+    fn hang_up_sockets(&self, turn: &mut Turn<R::Job>) -> Result<(), AllocError>
+        ensures acts { IfOk result (λ done. turn.new.acts.items ≡ turn.old.acts.items ++ hang_ups self.now.sockets.items) }
+        ensures offered { turn.new.is_offered ≡ turn.old.is_offered }
+    {
+        for socket in &self.sockets {
+            turn.acts.push_back(Act::HangUp(Place::Sock(*socket)))?;
+        }
+        Ok(())
+    }
 
     /// The life is over: what is open is hung up.
     pub(crate) fn finish(&mut self, turn: &mut Turn<R::Job>, site: &R::Site) -> Result<(), AllocError>
@@ -31,9 +46,7 @@ impl<R: ServiceContract> Connection<R> {
         if self.client.is_open {
             turn.acts.push_back(Act::HangUp(Place::Client))?;
         }
-        for socket in &self.sockets {
-            turn.acts.push_back(Act::HangUp(Place::Sock(*socket)))?;
-        }
+        self.hang_up_sockets(turn)?;
         turn.acts.push_back(Act::Gone)?;
         self.client.stage = Stage::Over;
         Ok(())
@@ -52,6 +65,27 @@ impl<R: ServiceContract> Connection<R> {
         Ok(())
     }
 
+    /// The client of a run that goes on is lost: it is hung up, and the run is told so.
+    fn lose_busy(
+        &mut self,
+        turn: &mut Turn<R::Job>,
+        alloc: Global,
+        site: &R::Site,
+        now: Ms,
+    ) -> Result<(), AllocError>
+        requires { IsAt (R.plan site.now) (R.holds site.now) (R.stands site.now) stage.Busy self.old turn.old }
+        ensures { IfOk result (λ done. Ends (R.plan site.now) (R.holds site.now) (R.stands site.now)
+            (lose (service_of (R.plan site.now) (R.serving site.now)) now.0) self.old turn.old self.new turn.new) }
+    {
+        self.hang_up(turn, site)?;
+        self.end_timer(turn, site, Timer::Body)?;
+        self.end_timer(turn, site, Timer::Send)?;
+        if self.waits.client {
+            self.tell(turn, alloc, site, now, RunSeen::ClientGone)?;
+        }
+        Ok(())
+    }
+
     /// The client is lost: it is hung up, and a run that goes on is told so.
     pub(crate) fn lose(
         &mut self,
@@ -64,16 +98,12 @@ impl<R: ServiceContract> Connection<R> {
         ensures { IfOk result (λ done. Ends (R.plan site.now) (R.holds site.now) (R.stands site.now)
             (lose (service_of (R.plan site.now) (R.serving site.now)) now.0) self.old turn.old self.new turn.new) }
     {
-        if self.client.stage != Stage::Busy {
-            return self.finish(turn, site);
+        match self.client.stage {
+            Stage::Busy => self.lose_busy(turn, alloc, site, now),
+            Stage::Idle | Stage::Head | Stage::Flush | Stage::Drop | Stage::Over => {
+                self.finish(turn, site)
+            }
         }
-        self.hang_up(turn, site)?;
-        self.end_timer(turn, site, Timer::Body)?;
-        self.end_timer(turn, site, Timer::Send)?;
-        if self.waits.client {
-            self.tell(turn, alloc, site, now, RunSeen::ClientGone)?;
-        }
-        Ok(())
     }
 
     /// A request begins, and its run takes its first turn. It reports whether the turn goes on.
@@ -100,8 +130,8 @@ impl<R: ServiceContract> Connection<R> {
         self.take_turn(turn, site, now, first)
     }
 
-    /// A head is refused: the client gets the reply, and nothing more is read; after a fault in a body that is dropped the connection closes.
-    fn refuse(
+    /// The client gets the reply to a head that is refused, and the connection closes once that is taken.
+    fn refuse_head(
         &mut self,
         turn: &mut Turn<R::Job>,
         alloc: Global,
@@ -110,11 +140,8 @@ impl<R: ServiceContract> Connection<R> {
         code: u16,
     ) -> Result<(), AllocError>
         ensures { IfOk result (λ done. Hears (R.plan site.now) (R.holds site.now) (R.stands site.now) false
-            (λ rest. Look (λ b s. refuse (service_of (R.plan site.now) (R.serving site.now)) now.0 s.client.came.at code)) self.old turn.old self.new turn.new) }
+            (λ rest. refuse (service_of (R.plan site.now) (R.serving site.now)) now.0 (line.Over code) code) self.old turn.old self.new turn.new) }
     {
-        if self.client.line.held() != Held::Begun {
-            return self.finish(turn, site);
-        }
         self.client.stage = Stage::Flush;
         self.client.times = R::default_times(site);
         self.client.reply = Reply::Whole(true);
@@ -126,18 +153,52 @@ impl<R: ServiceContract> Connection<R> {
         Ok(())
     }
 
+    /// A head is refused: nothing more is read; after a fault in a body that is dropped the connection closes.
+    fn refuse(
+        &mut self,
+        turn: &mut Turn<R::Job>,
+        alloc: Global,
+        site: &R::Site,
+        now: Ms,
+        code: u16,
+    ) -> Result<(), AllocError>
+        ensures { IfOk result (λ done. IsRefusedAt self.old.client.line.came.at → Hears (R.plan site.now) (R.holds site.now) (R.stands site.now) false
+            (λ rest. Look (λ b s. refuse (service_of (R.plan site.now) (R.serving site.now)) now.0 s.client.came.at code)) self.old turn.old self.new turn.new) }
+    {
+        match self.client.line.held() {
+            Held::Begun => self.refuse_head(turn, alloc, site, now, code),
+            Held::Request | Held::Body | Held::Nothing => self.finish(turn, site),
+        }
+    }
+
+    /// It goes to this stage, and the timer begins.
+    fn wait_at(
+        &mut self,
+        turn: &mut Turn<R::Job>,
+        site: &R::Site,
+        now: Ms,
+        stage: Stage,
+        timer: Timer,
+    ) -> Result<(), AllocError>
+        ensures { IfOk result (λ done. IsFree (stage_of stage) → Hears (R.plan site.now) (R.holds site.now) (R.stands site.now) false
+            (λ rest. change (λ c. record c { stage = stage_of stage })
+            (begin_timer (service_of (R.plan site.now) (R.serving site.now)) now.0 (timer_of timer) Done)) self.old turn.old self.new turn.new) }
+    {
+        self.client.stage = stage;
+        self.begin_timer(turn, site, now, timer)
+    }
+
     /// What is waited for: more of a body that is dropped, the first byte of a head, or the rest of one.
     fn wait(&mut self, turn: &mut Turn<R::Job>, site: &R::Site, now: Ms) -> Result<(), AllocError>
         ensures { IfOk result (λ done. Hears (R.plan site.now) (R.holds site.now) (R.stands site.now) false
-            (λ rest. Look (λ b s. wait_for (service_of (R.plan site.now) (R.serving site.now)) now.0 (held_in s.client.came.at s.client.came.held))) self.old turn.old self.new turn.new) }
+            (λ rest. Look (λ b s. wait_for (service_of (R.plan site.now) (R.serving site.now)) now.0 (held_in s.client.came.at s.client.came.held)))
+            self.old turn.old self.new turn.new) }
     {
-        let (stage, timer) = match self.client.line.held() {
-            Held::Body => (Stage::Drop, Timer::Body),
-            Held::Nothing => (Stage::Idle, Timer::Keepalive),
-            Held::Request | Held::Begun => (Stage::Head, Timer::Header),
-        };
-        self.client.stage = stage;
-        self.begin_timer(turn, site, now, timer)
+        match self.client.line.held() {
+            Held::Body => self.wait_at(turn, site, now, Stage::Drop, Timer::Body),
+            Held::Nothing => self.wait_at(turn, site, now, Stage::Idle, Timer::Keepalive),
+            Held::Request | Held::Begun => self.wait_at(turn, site, now, Stage::Head, Timer::Header),
+        }
     }
 
     /// What came was answered so. Where more is waited for, a timer begins, or goes on; a client that ended is hung up.

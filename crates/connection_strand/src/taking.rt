@@ -1,7 +1,7 @@
 //! Turns of the run, and what a connection tells it.
 
 ghost use Rattle.std.specs.Prelude.{◌≡◌};
-ghost use Rattle.connection_strand.specs.Acts.{is_question, without_all};
+ghost use Rattle.connection_strand.specs.Acts.{is_question, kept_socket, without_all};
 
 use crate::state::{Connection, Turn};
 use resty_base::Ms;
@@ -24,6 +24,16 @@ fn is_question<J>(act: &Act<J>) -> bool
         | Act::HangUp(_)
         | Act::Log(_)
         | Act::Gone => false,
+    }
+}
+
+/// The socket that the act gives to the pool.
+fn kept_socket<J>(act: &Act<J>) -> Option<u32>
+    ensures { result ≡ kept_socket act.now }
+{
+    match act {
+        Act::Keep(number, _, _, _) => Some(*number),
+        _ => None,
     }
 }
 
@@ -86,9 +96,7 @@ impl<R: ServiceContract> Connection<R> {
         self.says(turn, site, now, &next.said)?;
         match question {
             Some(question) => {
-                if let Act::Keep(number, _, _, _) = &question {
-                    self.keeping = Some(*number);
-                }
+                self.keeping = kept_socket(&question);
                 turn.acts.push_back(question)?;
                 Ok(false)
             }
