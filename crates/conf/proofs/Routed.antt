@@ -77,7 +77,7 @@ module _ (locations : List LocationConf) (path : List ℕ) where
       let high = top_at rank_of locations 0 index first.location first.there in
       let greatest : best_rank locations path ≡ best = (let r : rank_of first.location ≡ best = first.ranked in omega arith) in
       let found = first_at (λ location. rank_of location == best) locations index first.location first.there (ranks_equal _ _ first.ranked)
-          (λ k other lt there. ranks_differ _ _ (first.first k other lt there)) in
+      (λ k other lt there. ranks_differ _ _ (first.first k other lt there)) in
       sym (ap chosen greatest ∙ ap (λ t. cond t None (position (λ location. rank_of location == best) locations)) (not_none best first.fits)
       ∙ at_position (λ location. rank_of location == best) locations index found)
 
@@ -90,6 +90,6 @@ pub one_route : (conf : Conf) (host path : List ℕ) (route : Route) → IsRoute
 one_route conf host path route is =
     let here : slice_get conf.servers (server_for conf host) ≡ Some is.server = ap (slice_get conf.servers) (sym is.named) ∙ is.there in
     let among : is.server.locations ≡ option_map_or (λ (server : ServerConf). server.locations) (slice_get conf.servers (server_for conf host)) [] =
-        sym (ap (λ found. option_map_or (λ (server : ServerConf). server.locations) found []) here) in
+    sym (ap (λ found. option_map_or (λ (server : ServerConf). server.locations) found []) here) in
     let at : route.location ≡ (route_of conf host path).location = located is.server.locations path route.location is.located ∙ ap (λ locations. location_for locations path) among in
     same_route route (route_of conf host path) is.named at

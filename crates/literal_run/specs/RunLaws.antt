@@ -116,8 +116,8 @@ pub record IsAnswered {J : Type 0} (b : Ledger J) (r : Literal) (x : Action J) :
 some-some : {A : Type 0} (x y : A) → Some x ≡ Some y → y ≡ x
 some-some x y e = cc
 
-answers-of : {J : Type 0} (b : Ledger J) (r : Literal) (x : Action J) (a : Answer) (o : Option (Question J)) → b.threads ≡ threads_of o r.work → IfSome o (MayWait r.work)
-    → answered (asking_if o) a ≡ Some x → IsAnswered b r x
+answers-of : {J : Type 0} (b : Ledger J) (r : Literal) (x : Action J) (a : Answer) (o : Option (Question J))
+    → b.threads ≡ threads_of o r.work → IfSome o (MayWait r.work) → answered (asking_if o) a ≡ Some x → IsAnswered b r x
 answers-of b r x a None h m e = none-some x e
 answers-of b r x (answer.Timer given) (Some (question.Timer at job)) h m e = record { at = at; given = given; action = some-some _ _ e; work = m; idle = h }
 answers-of b r x (answer.Dict given) (Some (question.Timer at job)) h m e = none-some x e
@@ -126,7 +126,8 @@ answers-of b r x (answer.Dialled done) (Some (question.Timer at job)) h m e = no
 answers-of b r x answer.Kept (Some (question.Timer at job)) h m e = none-some x e
 answers-of b r x a (Some q) h m e = absurd m
 
-pub is-answered : {J : Type 0} (b : Ledger J) (r : Literal) (x : Action J) (a : Answer) → LiteralHolds b r → answered (asking_if b.asked) a ≡ Some x → IsAnswered b r x
+pub is-answered : {J : Type 0} (b : Ledger J) (r : Literal) (x : Action J) (a : Answer) → LiteralHolds b r
+    → answered (asking_if b.asked) a ≡ Some x → IsAnswered b r x
 is-answered b r x a h e = answers-of b r x a b.asked h.threads h.asked e
 
 -- ---- the conditions
@@ -161,7 +162,8 @@ stays site now seen.AllTaken b r h x = none-else site now seen.AllTaken b r h x 
 
 answers : {J : Type 0} (site : LiteralSite) (now : ℕ) (x : Action J) (a : Answer) (b : Ledger J) (r : Literal) → LiteralHolds b r
     → answered (asking_if b.asked) a ≡ Some x
-    → Leaves (literal_plan site) LiteralHolds ((literal_plan {J = J} site).waits r) ((literal_plan site).answered now x (entered (Did x) b) r) (entered (Did x) b) r
+    → Leaves (literal_plan site) LiteralHolds ((literal_plan {J = J} site).waits r)
+    ((literal_plan site).answered now x (entered (Did x) b) r) (entered (Did x) b) r
 answers {J} site now x a b r h e =
     let w = is-answered b r x a h e in
     let leaves : Action J → Type 0 = λ y. Leaves (literal_plan site) LiteralHolds ((literal_plan {J = J} site).waits r)
