@@ -10,22 +10,21 @@ use Rattle.moves.specs.Ledgers.{Ledger, has_number, numbers, left_at}
 use Rattle.run_contract.specs.Runs.{Waits}
 use Rattle.connection.specs.Clients.{Stage, Reply, Times, Client}
 use Rattle.connection.specs.Clients as stage
-use Rattle.connection.specs.Clients as reply
 use Rattle.connection.specs.Timers.{Timer}
 use Rattle.connection.specs.Timers as timer
 use Rattle.connection.specs.Turns.{is_there}
-use Rattle.service_contract.specs.Waits.{times}
-use Rattle.connection_strand.specs.declared.client.Stage as declared
+use Rattle.service_contract.specs.Serving.{times}
+use Rattle.connection_strand.specs.declared.client.Stage as code_stage
 use Rattle.connection_strand.specs.declared.client.Stage.TheVariants as own
-use Rattle.connection_strand.specs.declared.client.Reply as declared
+use Rattle.connection_strand.specs.declared.client.Reply as code_reply
 use Rattle.connection_strand.specs.declared.client.Reply.TheVariants as own_reply
-use Rattle.connection_strand.specs.declared.client.Timer as declared
+use Rattle.connection_strand.specs.declared.client.Timer as code_timer
 use Rattle.connection_strand.specs.declared.client.Timer.TheVariants as own_timer
-use Rattle.connection_strand.specs.declared.client.Client as declared
-use Rattle.connection_strand.specs.declared.waits.Waits as declared
+use Rattle.connection_strand.specs.declared.client.Client as code_client
+use Rattle.connection_strand.specs.declared.waits.Waits as code_waits
 
 -- the words of the plan for those of the code
-abbrev pub stage_of : declared.Stage → Stage
+abbrev pub stage_of : code_stage.Stage → Stage
 stage_of own.Idle = stage.Idle
 stage_of own.Head = stage.Head
 stage_of own.Busy = stage.Busy
@@ -33,18 +32,18 @@ stage_of own.Flush = stage.Flush
 stage_of own.Drop = stage.Drop
 stage_of own.Over = stage.Over
 
-abbrev pub reply_of : declared.Reply → Reply
-reply_of own_reply.Unsent = reply.Unsent
-reply_of own_reply.Begun = reply.Begun
-reply_of (own_reply.Whole closes) = reply.Whole closes
+abbrev pub reply_of : code_reply.Reply → Reply
+reply_of own_reply.Unsent = stage.Unsent
+reply_of own_reply.Begun = stage.Begun
+reply_of (own_reply.Whole closes) = stage.Whole closes
 
-abbrev pub timer_of : declared.Timer → Timer
+abbrev pub timer_of : code_timer.Timer → Timer
 timer_of own_timer.Header = timer.Header
 timer_of own_timer.Keepalive = timer.Keepalive
 timer_of own_timer.Body = timer.Body
 timer_of own_timer.Send = timer.Send
 
-abbrev pub waits_of : declared.Waits → Waits
+abbrev pub waits_of : code_waits.Waits → Waits
 waits_of w = record { body = w.body; taken = w.taken; client = w.client }
 
 -- what is kept: the client's line; what the plan has of it but for the exchanges; its place; and whether the deadlines 0 and 1 are armed
@@ -64,7 +63,7 @@ pub record Kept : Type 0 where
   pub sends : Bool
 
 -- by the code
-abbrev pub kept : declared.Client → Kept
+abbrev pub kept : code_client.Client → Kept
 kept c = record {
   came = c.line.came;
   sending = c.line.sending;
@@ -113,7 +112,7 @@ fresh times opened = record {
   sending = record { bytes = []; phase = 0; gone = not opened };
   stage = stage.Head;
   times = times;
-  reply = reply.Unsent;
+  reply = stage.Unsent;
   limit = 0;
   expects = false;
   waited = false;

@@ -1,4 +1,7 @@
 pub mod Kept
+pub mod Acts
 pub mod Standing
 pub mod Turns
 pub mod Costs
+pub mod Following
+pub mod FollowingLaws

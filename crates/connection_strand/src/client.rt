@@ -81,13 +81,12 @@ pub(crate) enum Timer {
 
 impl Timer {
     ghost use Rattle.std.specs.Prelude.{◌≡◌};
-    ghost use Rattle.connection.specs.Timers as spec;
-    ghost use Rattle.service_contract.specs.Waits as waits;
+    ghost use Rattle.service_contract.specs.Serving as serving;
     ghost use Rattle.connection_strand.specs.Kept.{timer_of};
 
     /// The deadline by which it is kept.
     pub(crate) fn number(self) -> u32
-        ensures { result ≡ spec.number_of (timer_of self) }
+        ensures { result ≡ timers.number_of (timer_of self) }
     {
         match self {
             Timer::Send => 1,
@@ -97,7 +96,7 @@ impl Timer {
 
     /// How long it runs, by the times of the default server and those of the request.
     pub(crate) fn time(self, default_times: Times, times: Times) -> Ms
-        ensures { result.0 ≡ spec.time_of (waits.times default_times) (waits.times times) (timer_of self) }
+        ensures { result.0 ≡ timers.time_of (serving.times default_times) (serving.times times) (timer_of self) }
     {
         match self {
             Timer::Header => default_times.header,
@@ -148,12 +147,12 @@ impl Client {
     ghost use Rattle.send_queue.specs.Queues as queues;
     ghost use Rattle.connection.specs.Clients.{is_last};
     ghost use Rattle.connection.specs.Turns.{is_more};
-    ghost use Rattle.service_contract.specs.Waits as waits;
+    ghost use Rattle.service_contract.specs.Serving as serving;
     ghost use Rattle.connection_strand.specs.Kept.{kept, timer_of, fresh, with_armed, is_armed, all_taken, wants_offer};
 
     /// As a connection begins, for a client or for a job; takes no memory.
     pub(crate) fn new(alloc: Global, times: Times, is_open: bool) -> Client
-        ensures { kept result ≡ fresh (waits.times times) is_open }
+        ensures { kept result ≡ fresh (serving.times times) is_open }
     {
         let mut line = Line::new(alloc);
         if !is_open {

@@ -2,7 +2,7 @@
 #![tactic(auto)]
 
 mod client;
-mod connection;
+mod state;
 mod requests;
 mod saying;
 mod sending;
@@ -12,4 +12,4 @@ mod taking;
 mod timers;
 mod waits;
 
-pub use connection::Connection;
+pub use state::Connection;

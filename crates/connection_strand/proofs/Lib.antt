@@ -1,0 +1,9 @@
+pub mod Deadlines
+pub mod Moving
+pub mod Offering
+pub mod Speaking
+pub mod Sockets
+pub mod OwnTurns
+pub mod Telling
+pub mod Losing
+pub mod Hearing
