@@ -1,13 +1,17 @@
 -- That the runs of a literal site meet the conditions of a run.
 use Rattle.std.proofs.Common.{◌≡◌, ℕ, ◌≤◌, ◌<◌, Bool, true, false, ◌&&◌, List, [], ◌∷◌, drop, Option, Some, None, refl, sym, ap, ◌∙◌, subst, arith, lit<}
-use Rattle.std.specs.Prelude.{nat_lt, nat_le, if◌then◌else◌}
+use Rattle.std.specs.Prelude.{nat_lt, nat_le, IfSome, if◌then◌else◌}
+use Rattle.resty_base.specs.declared.names.Ms.{Ms}
+use Rattle.resty_world.specs.declared.answers.TimerAnswer.{TimerAnswer}
 use Rattle.strand_contract.specs.declared.turns.Place.TheVariants as place
 use Rattle.strand_contract.specs.declared.turns.Answer.{Answer}
-use Rattle.strand_contract.specs.Actions.{Action}
+use Rattle.strand_contract.specs.declared.turns.Answer.TheVariants as answer
+use Rattle.strand_contract.specs.Actions.{Action, Did, Timer}
 use Rattle.strand_contract.specs.Calls.{answered}
 use Rattle.strand_contract.specs.Alone.{sooner, due}
-use Rattle.moves.specs.Questions.{asking_if}
-use Rattle.moves.specs.Ledgers.{Ledger, has}
+use Rattle.moves.specs.Questions.{Question, asking_if}
+use Rattle.moves.specs.Questions as question
+use Rattle.moves.specs.Ledgers.{Ledger, has, entered}
 use Rattle.moves.specs.Turns.{IsDue}
 use Rattle.run_contract.specs.declared.turns.RunSeen.{RunSeen}
 use Rattle.run_contract.specs.declared.turns.RunSeen.TheVariants as seen
@@ -16,15 +20,18 @@ use Rattle.run_contract.specs.declared.turns.SockSeen.TheVariants as at
 use Rattle.run_contract.specs.Runs.{performed, waits_at_first, waits_told, waits_said, is_of_client}
 use Rattle.run_contract.specs.Alike.{own_deadlines, AreAlike}
 use Rattle.run_contract.specs.Forms.{IsOwn}
-use Rattle.run_contract.specs.Conditions.{IsBlank, MayComeAt, MayCome, Leaves, entered_as, IsRun}
+use Rattle.run_contract.specs.Conditions.{IsBlank, MayComeAt, MayCome, Leaves, Fits, entered_as, IsRun}
 use Rattle.request_api.specs.Requests as request
 use Rattle.literal_site.specs.declared.sites.LiteralSite.{LiteralSite}
 use Rattle.literal_run.specs.declared.run.Work.{Work}
 use Rattle.literal_run.specs.declared.run.Work.TheVariants.{Request, Job, Over}
-use Rattle.literal_run.specs.Runs.{Literal, LiteralHolds, literal_plan, literal_turn, work_said, threads_of}
+use Rattle.literal_run.specs.Runs.{Literal, LiteralHolds, MayWait, literal_plan, literal_turn, work_said, threads_of}
 
 never-over : {C : Type 0} → false ≡ true → C
 never-over e = absurd (cc)
+
+none-some : {A C : Type 0} (x : A) → None ≡ Some x → C
+none-some x e = absurd (let g : None ≡ Some x = e in cc)
 
 -- nothing comes at a socket where none is open
 shut : (J : Type 0) (b : Ledger J) (k : ℕ) (C : Type 0) → has (place.Sock k) b.opened ≡ false → has (place.Sock k) b.opened ≡ true → C
@@ -71,14 +78,16 @@ none-due b r now n h x low = absurd (own-due now n x.at b.armed x.first (not-bel
 -- ---- what it is told
 
 -- a thread that runs is its own, with work to do
-has-work : (k : ℕ) (rest line : List ℕ) (w : Work) → line ≡ k ∷ rest → line ≡ threads_of w → (w ≡ Over → ⊥) × (drop 1 line ≡ [])
-has-work k rest line (Request req) e h = (λ o. cc, ap (drop 1) h)
-has-work k rest line Job e h = (λ o. cc, ap (drop 1) h)
-has-work k rest line Over e h = absurd (let f : k ∷ rest ≡ [] = sym e ∙ h in cc)
+has-work : {J : Type 0} (k : ℕ) (rest line : List ℕ) (o : Option (Question J)) (w : Work) → line ≡ k ∷ rest → o ≡ None → line ≡ threads_of o w
+    → (w ≡ Over → ⊥) × (drop 1 line ≡ [])
+has-work k rest line (Some x) w e n h = none-some x (sym n)
+has-work k rest line None (Request req) e n h = (λ o. cc, ap (drop 1) h)
+has-work k rest line None Job e n h = (λ o. cc, ap (drop 1) h)
+has-work k rest line None Over e n h = absurd (let f : k ∷ rest ≡ [] = sym e ∙ h in cc)
 
 pub runs-once : {J : Type 0} (site : LiteralSite) (now k : ℕ) (b : Ledger J) (r : Literal) → LiteralHolds b r
     → MayCome (literal_plan site) now (seen.Run k) b r → (r.work ≡ Over → ⊥) × (drop 1 b.threads ≡ [])
-runs-once site now k b r h x = has-work k x.0.0 b.threads r.work (sym x.0.1) h.threads
+runs-once site now k b r h x = has-work k x.0.0 b.threads b.asked r.work (sym x.0.1) x.1 h.threads
 
 -- otherwise it is only told that its client is gone
 abbrev pub IsElse : RunSeen → Type 0
@@ -96,12 +105,30 @@ none-else site now (seen.Body content waited) b r h x e = never-over x.1
 none-else site now (seen.BodyRefused code) b r h x e = never-over x.1
 none-else site now seen.AllTaken b r h x e = never-over x.1
 
-none-some : {A C : Type 0} (x : A) → None ≡ Some x → C
-none-some x e = absurd (let g : None ≡ Some x = e in cc)
+-- an answer is one about a timer, while there is work
+pub record IsAnswered {J : Type 0} (b : Ledger J) (r : Literal) (x : Action J) : Type 0 where
+  pub at : Ms
+  pub given : TimerAnswer
+  pub action : x ≡ Timer at given
+  pub work : r.work ≡ Over → ⊥
+  pub idle : b.threads ≡ []
 
--- it asked nothing, so that nothing is answered
-pub none-answered : {J C : Type 0} (b : Ledger J) (r : Literal) (x : Action J) (a : Answer) → LiteralHolds b r → answered (asking_if b.asked) a ≡ Some x → C
-none-answered b r x a h e = none-some x (sym (ap (λ o. answered (asking_if o) a) h.asked) ∙ e)
+some-some : {A : Type 0} (x y : A) → Some x ≡ Some y → y ≡ x
+some-some x y e = cc
+
+answers-of : {J : Type 0} (b : Ledger J) (r : Literal) (x : Action J) (a : Answer) (o : Option (Question J))
+    → b.threads ≡ threads_of o r.work → IfSome o (MayWait r.work) → answered (asking_if o) a ≡ Some x → IsAnswered b r x
+answers-of b r x a None h m e = none-some x e
+answers-of b r x (answer.Timer given) (Some (question.Timer at job)) h m e = record { at = at; given = given; action = some-some _ _ e; work = m; idle = h }
+answers-of b r x (answer.Dict given) (Some (question.Timer at job)) h m e = none-some x e
+answers-of b r x (answer.Took uses) (Some (question.Timer at job)) h m e = none-some x e
+answers-of b r x (answer.Dialled done) (Some (question.Timer at job)) h m e = none-some x e
+answers-of b r x answer.Kept (Some (question.Timer at job)) h m e = none-some x e
+answers-of b r x a (Some q) h m e = absurd m
+
+pub is-answered : {J : Type 0} (b : Ledger J) (r : Literal) (x : Action J) (a : Answer) → LiteralHolds b r
+    → answered (asking_if b.asked) a ≡ Some x → IsAnswered b r x
+is-answered b r x a h e = answers-of b r x a b.asked h.threads h.asked e
 
 -- ---- the conditions
 
@@ -117,7 +144,7 @@ stays : {J : Type 0} (site : LiteralSite) (now : ℕ) (s : RunSeen) (b : Ledger 
 stays site now (seen.Run k) b r h x =
     let idle = (runs-once site now k b r h x).1 in
     record {
-      known = record { threads = idle; asked = refl; no_deadline = h.no_deadline; no_socket = h.no_socket; unused = h.unused };
+      known = record { threads = idle; asked = tt; no_deadline = h.no_deadline; no_socket = h.no_socket; unused = h.unused };
       waits = said-waits site now r.work r.client;
       over = λ e. record { no_thread = idle; no_deadline = h.no_deadline; no_socket = h.no_socket; unused = h.unused; none_asked = refl };
     }
@@ -133,19 +160,44 @@ stays site now (seen.Body content waited) b r h x = none-else site now (seen.Bod
 stays site now (seen.BodyRefused code) b r h x = none-else site now (seen.BodyRefused code) b r h x tt
 stays site now seen.AllTaken b r h x = none-else site now seen.AllTaken b r h x tt
 
+answers : {J : Type 0} (site : LiteralSite) (now : ℕ) (x : Action J) (a : Answer) (b : Ledger J) (r : Literal) → LiteralHolds b r
+    → answered (asking_if b.asked) a ≡ Some x
+    → Leaves (literal_plan site) LiteralHolds ((literal_plan {J = J} site).waits r)
+    ((literal_plan site).answered now x (entered (Did x) b) r) (entered (Did x) b) r
+answers {J} site now x a b r h e =
+    let w = is-answered b r x a h e in
+    let leaves : Action J → Type 0 = λ y. Leaves (literal_plan site) LiteralHolds ((literal_plan {J = J} site).waits r)
+    ((literal_plan site).answered now y (entered (Did y) b) r) (entered (Did y) b) r in
+    subst leaves (sym w.action) (record {
+      known = record { threads = w.idle; asked = tt; no_deadline = h.no_deadline; no_socket = h.no_socket; unused = h.unused };
+      waits = said-waits site now r.work r.client;
+      over = λ e. record { no_thread = w.idle; no_deadline = h.no_deadline; no_socket = h.no_socket; unused = h.unused; none_asked = refl };
+    })
+
 apart : {J : Type 0} (b c : Ledger J) (r : Literal) → AreAlike b c → LiteralHolds b r → LiteralHolds c r
 apart b c r same h = record {
-  threads = sym same.threads ∙ h.threads;
-  asked = sym same.asked ∙ h.asked;
+  threads = sym same.threads ∙ h.threads ∙ ap (λ o. threads_of o r.work) same.asked;
+  asked = subst (λ o. IfSome o (MayWait r.work)) same.asked h.asked;
   no_deadline = sym same.armed ∙ h.no_deadline;
   no_socket = λ k. sym (same.opened k) ∙ h.no_socket k;
   unused = λ k low. let u = h.unused k (subst (λ (n : ℕ). n ≤ k) (sym same.count) low) in
       (sym (same.sent k) ∙ u.0, sym (same.taken k) ∙ u.1, sym (same.put_off k) ∙ u.2);
 }
 
-begins : {J : Type 0} (b : Ledger J) (w : Work) (client : Bool) → threads_of w ≡ 0 ∷ [] → IsBlank b
+begins : {J : Type 0} (b : Ledger J) (w : Work) (client : Bool) → threads_of {J = J} None w ≡ 0 ∷ [] → IsBlank b
     → LiteralHolds (record b { threads = 0 ∷ [] }) (record { work = w; client = client })
-begins b w client queued h = record { threads = sym queued; asked = h.none_asked; no_deadline = h.no_deadline; no_socket = h.no_socket; unused = h.unused }
+begins {J} b w client queued h = record {
+  threads = sym (ap (λ o. threads_of o w) h.none_asked ∙ queued);
+  asked = subst (λ (o : Option (Question J)). IfSome o (MayWait w)) (sym h.none_asked) tt;
+  no_deadline = h.no_deadline;
+  no_socket = h.no_socket;
+  unused = h.unused;
+}
+
+-- what may wait fits
+fits : {J : Type 0} (site : LiteralSite) (w : Work) (x : Question J) → MayWait w x → Fits (literal_plan site) x
+fits site w (question.Timer at job) m = tt
+fits site w x m = absurd m
 
 own : {J : Type 0} (site : LiteralSite) (now : ℕ) (s : RunSeen) (b : Ledger J) (r : Literal) → IsOwn (literal_turn site now s b r).moves
 own site now (seen.Run k) b r = tt
@@ -174,10 +226,10 @@ literal-is-run site = record {
       rw h.no_thread (record { known = begins b (Request (request.begun head target 0)) true refl h; waits = refl; over = λ e. never-over e });
   begins_job = λ now premature job b h. rw h.no_thread (record { known = begins b Job false refl h; waits = refl; over = λ e. never-over e });
   stays = λ now s b r h x. stays site now s b r h x;
-  answers = λ now x given b r h e. none-answered b r x given h e;
+  answers = λ now x given b r h e. answers site now x given b r h e;
   falls = λ now s b r h x e. falls site now s b r h x e;
   apart = λ b c r same h. apart b c r same h;
-  asks = λ b r x h e. none-some x (sym h.asked ∙ e);
+  asks = λ b r x h e. fits site r.work x (subst (λ o. IfSome o (MayWait r.work)) e h.asked);
   begins_by_own = λ now head target b. tt;
   begins_job_by_own = λ now premature job b. tt;
   moves_by_own = λ now s b r. own site now s b r;

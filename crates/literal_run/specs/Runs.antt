@@ -1,8 +1,10 @@
 -- The runs of a literal site: each answers its request with one reply, once its thread runs.
-use Rattle.std.specs.Prelude.{◌≡◌, ℕ, ◌+◌, ◌≤◌, Bool, true, false, List, [], ◌∷◌, length, slice_get, None, if◌then◌else◌}
+use Rattle.std.specs.Prelude.{◌≡◌, ◌≢◌, ℕ, ◌+◌, ◌≤◌, Bool, true, false, List, [], ◌∷◌, length, slice_get, Option, Some, None, IfSome, if◌then◌else◌}
 use Rattle.std.specs.Option.{option_map_or}
 use Rattle.strand_contract.specs.declared.turns.Place.TheVariants as place
 use Rattle.moves.specs.Ledgers.{Ledger, has}
+use Rattle.moves.specs.Questions.{Question}
+use Rattle.moves.specs.Questions as question
 use Rattle.moves.specs.Moves.{Done, Set}
 use Rattle.moves.specs.Moves as move
 use Rattle.request_api.specs.Requests as request
@@ -35,8 +37,12 @@ work_said site now (Request req) = reply_said (sent_of (reply_of site req) now)
 work_said site now Job = said.Over ∷ []
 work_said site now Over = []
 
+-- the work is done
+abbrev pub literal_works : {J : Type 0} → LiteralSite → ℕ → Literal → Turn J Literal
+literal_works site now r = record { moves = Set (λ r. record r { work = Over }) Done; said = work_said site now r.work }
+
 abbrev pub literal_turn : {J : Type 0} → LiteralSite → ℕ → RunSeen → Ledger J → Literal → Turn J Literal
-literal_turn site now (seen.Run k) b r = record { moves = Set (λ r. record r { work = Over }) Done; said = work_said site now r.work }
+literal_turn site now (seen.Run k) b r = literal_works site now r
 literal_turn site now seen.ClientGone b r = record { moves = Set (λ r. record r { client = false }) Done; said = [] }
 literal_turn site now s b r = record { moves = Done; said = [] }
 
@@ -59,7 +65,7 @@ literal_plan site = record {
   begun = λ now head target b. literal_begins (Request (request.begun head target 0)) true;
   begun_job = λ now premature job b. literal_begins Job false;
   turn = literal_turn site;
-  answered = λ now x b r. record { moves = Done; said = [] };
+  answered = λ now x b r. literal_works site now r;
   zones = length site.conf.zones;
   zone_name = zone_name site.conf;
   zone_size = zone_size site.conf;
@@ -67,15 +73,21 @@ literal_plan site = record {
 
 -- ---- what a run knows
 
--- the threads that are queued
-abbrev pub threads_of : Work → List ℕ
-threads_of Over = []
-threads_of work = 0 ∷ []
+-- It asks nothing; but each call of the contract of runs can be made: an answer about a timer may come while there is work, which is then done.
+abbrev pub MayWait : {J : Type 0} → Work → Question J → Type 0
+MayWait work (question.Timer at job) = work ≢ Over
+MayWait work x = ⊥
 
--- it asks nothing, has no deadline and no socket, and sends to none
+-- the threads that are queued: its own, unless it waits for an answer
+abbrev pub threads_of : {J : Type 0} → Option (Question J) → Work → List ℕ
+threads_of (Some x) work = []
+threads_of None Over = []
+threads_of None work = 0 ∷ []
+
+-- it has no deadline and no socket, and sends to none
 pub record LiteralHolds {J : Type 0} (b : Ledger J) (r : Literal) : Type 0 where
-  pub threads : b.threads ≡ threads_of r.work
-  pub asked : b.asked ≡ None
+  pub threads : b.threads ≡ threads_of b.asked r.work
+  pub asked : IfSome b.asked (MayWait r.work)
   pub no_deadline : own_deadlines b.armed ≡ []
   pub no_socket : (k : ℕ) → has (place.Sock k) b.opened ≡ false
   pub unused : (k : ℕ) → b.count ≤ k → IsUnused (place.Sock k) b

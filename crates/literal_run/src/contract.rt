@@ -122,10 +122,9 @@ impl RunContract for LiteralRun {
         now: Ms,
         answer: Answer,
     ) -> Result<RunTurn<NoJob>, AllocError> {
-        let _ = site;
-        let _ = now;
         let _ = answer;
-        Ok(silent(alloc))
+        let work = replace(&mut self.work, Work::Over);
+        working(alloc, site, now, work)
     }
 
     fn queued(&self, site: &LiteralSite, socket: u32) -> &[u8] {
