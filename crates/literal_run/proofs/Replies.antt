@@ -21,9 +21,9 @@ use Rattle.literal_run.specs.Answers.{reply_of, sent_of}
 use Rattle.literal_run.specs.Runs.{Literal, literal_plan, literal_turn, reply_said, work_said, LiteralHolds}
 use Rattle.literal_run.specs.RunLaws.{literal-is-run}
 use Rattle.literal_run.specs.Services.{literal_service}
-use Rattle.literal_run.specs.Replies.{reply_to_head, MayFollow100, AreMade, IsWhole as IsWholeReply, IsNewest, AreWhole, EachHasItsOwn}
+use Rattle.literal_run.specs.Replies.{reply_to_head, AreMade, IsWhole as IsWholeReply, IsNewest, AreWhole, EachHasItsOwn}
 use Rattle.reply_laws.specs.Own.{MindsItsOwn}
-use Rattle.reply_laws.specs.Alone.{Beginning, News, Seen, Given, Alone, alone, let_first, bytes_said}
+use Rattle.reply_laws.specs.Alone.{Beginning, News, Seen, Given, Alone, alone, let_first, bytes_said, MayWaitForBody}
 use Rattle.reply_laws.specs.Examples.{IsBlind, NeverLooks}
 use Rattle.reply_laws.specs.Replies.{IsUpTo, IsNews, HaveLearned, IsSaidAlone, IsOwnReply, IsWholeReply as IsWholeOwn, HaveWholeReplies, HaveOwnReplies}
 use Rattle.reply_laws.proofs.Blind.{never-looks-minds}
@@ -128,44 +128,37 @@ module _ {J : Type 0} (es : List (LocalAction J)) (site : LiteralSite) where
 
   -- ---- and so its replies
 
-  first : (head : Head) (continues : Bool) (own : List ℕ) → (continues ≡ true → head.expects ≡ true) → MayFollow100 head (let_first continues ++ own) own
-  first head false own h = inl refl
-  first head true own h = inr (h refl, refl)
+  -- no run waits for a body, so no client is let send one
+  none-first : (continues : Bool) (own : List ℕ) → (continues ≡ true → MayWaitForBody (literal_plan {J = J} site)) → let_first continues ++ own ≡ own
+  none-first false own h = refl
+  none-first true own h = absurd (let e : false ≡ true = (h refl).1 in cc)
 
   module _ (older : List Exchange) (head : Head) (target : Target) (reply : List ℕ) (x : IsSaidAlone es (literal_service {J = J} site) older head target reply) where
     abbrev own : List ℕ
     own = bytes_said (alone (literal_plan {J = J} site) x.beginning x.news).said
 
-    follows : MayFollow100 head reply own
-    follows = subst (λ r. MayFollow100 head r own) (sym x.said) (first head x.continues own x.awaited)
+    alone-is : reply ≡ own
+    alone-is = x.said ∙ none-first x.continues own x.waited
 
     stood : Stands head target (alone (literal_plan site) x.beginning x.news)
     stood = subst (λ t. Stands head t (alone (literal_plan site) x.beginning x.news)) x.asked.1
         (subst (λ h. Stands h x.beginning.target (alone (literal_plan site) x.beginning x.news)) x.asked.0
         (stands x.beginning older x.news es (record { since = []; is = refl }) x.learned))
 
-    made : HasSaid head target (alone (literal_plan site) x.beginning x.news) → AreMade es site (reply_to_head site head target) own
-    made h = (h.before, h.up_to, ap bytes_said h.said ∙ append-nil (reply_to_head site head target (moment h.before)))
+    made : HasSaid head target (alone (literal_plan site) x.beginning x.news) → AreMade es site (reply_to_head site head target) reply
+    made h = (h.before, h.up_to, alone-is ∙ ap bytes_said h.said ∙ append-nil (reply_to_head site head target (moment h.before)))
 
     pub newest-own : IsNewest es site (out.Request head target) reply
-    newest-own = (
-      own,
-      follows,
-      elim stood [
-        | inl y ↦ inl (ap bytes_said y.silent)
-        | inr y ↦ inr (made y)
-      ],
-    )
+    newest-own = elim stood [
+      | inl y ↦ inl (alone-is ∙ ap bytes_said y.silent)
+      | inr y ↦ inr (made y)
+    ]
 
     pub whole-own : says_over (alone (literal_plan site) x.beginning x.news).said ≡ true → IsWholeReply es site (out.Request head target) reply
-    whole-own over = (
-      own,
-      follows,
-      elim stood [
-        | inl y ↦ absurd (let e : false ≡ true = ap says_over (sym y.silent) ∙ over in cc)
-        | inr y ↦ made y
-      ],
-    )
+    whole-own over = elim stood [
+      | inl y ↦ absurd (let e : false ≡ true = ap says_over (sym y.silent) ∙ over in cc)
+      | inr y ↦ made y
+    ]
 
   newest : (older : List Exchange) (asked : LineOut) (reply : List ℕ) → IsOwnReply es (literal_service {J = J} site) older asked reply → IsNewest es site asked reply
   newest older (out.Request head target) reply x = newest-own older head target reply x

@@ -1,5 +1,5 @@
 -- What the exchanges of a literal site's connections are: each request's own reply, whatever else came on that connection or on others.
-use Rattle.std.specs.Prelude.{◌≡◌, ◌⊎◌, ℕ, true, List, [], ◌∷◌, ◌++◌}
+use Rattle.std.specs.Prelude.{◌≡◌, ◌⊎◌, ℕ, List, [], ◌∷◌}
 use Rattle.uri_args.specs.declared.targets.Target.{Target}
 use Rattle.http_in.specs.declared.heads.Head.{Head}
 use Rattle.client_line.specs.declared.requests.LineOut.{LineOut}
@@ -8,7 +8,6 @@ use Rattle.strand_contract.specs.Actions.{LocalAction}
 use Rattle.strand_contract.specs.Alone.{moment}
 use Rattle.request_api.specs.Requests as request
 use Rattle.connection.specs.Clients.{Exchange}
-use Rattle.connection.specs.Turns.{continue_reply}
 use Rattle.literal_site.specs.declared.sites.LiteralSite.{LiteralSite}
 use Rattle.literal_run.specs.Answers.{reply_of, bytes_of}
 use Rattle.literal_run.specs.Services.{refusal}
@@ -18,10 +17,6 @@ use Rattle.reply_laws.specs.Replies.{IsUpTo}
 abbrev pub reply_to_head : LiteralSite → Head → Target → ℕ → List ℕ
 reply_to_head site head target now = bytes_of (reply_of site (request.begun head target 0)) now
 
--- after a 100 reply, if the client waits for one
-abbrev pub MayFollow100 : Head → (whole own : List ℕ) → Type 0
-MayFollow100 head whole own = (whole ≡ own) ⊎ ((head.expects ≡ true) × (whole ≡ continue_reply ++ own))
-
 module _ {J : Type 0} (es : List (LocalAction J)) (site : LiteralSite) where
   -- these are what is made at a moment of what happened
   abbrev pub AreMade : (ℕ → List ℕ) → List ℕ → Type 0
@@ -29,12 +24,12 @@ module _ {J : Type 0} (es : List (LocalAction J)) (site : LiteralSite) where
 
   -- the whole reply to what was asked: a request has its own; after a refused head nothing is asked
   abbrev pub IsWhole : LineOut → List ℕ → Type 0
-  IsWhole (out.Request head target) reply = (own : List ℕ) × MayFollow100 head reply own × AreMade (reply_to_head site head target) own
+  IsWhole (out.Request head target) reply = AreMade (reply_to_head site head target) reply
   IsWhole answer reply = ⊥
 
   -- the reply to what was asked last: that of a request may be still to come
   abbrev pub IsNewest : LineOut → List ℕ → Type 0
-  IsNewest (out.Request head target) reply = (own : List ℕ) × MayFollow100 head reply own × ((own ≡ []) ⊎ AreMade (reply_to_head site head target) own)
+  IsNewest (out.Request head target) reply = (reply ≡ []) ⊎ AreMade (reply_to_head site head target) reply
   IsNewest (out.Refused code) reply = AreMade (refusal code) reply
   IsNewest answer reply = ⊥
 
