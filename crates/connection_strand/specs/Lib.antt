@@ -1,4 +1,0 @@
-pub mod Kept
-pub mod Standing
-pub mod Turns
-pub mod Costs
