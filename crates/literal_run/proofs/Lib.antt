@@ -1,2 +1,3 @@
 mod Sending
 mod LiteralTurns
+mod Replies

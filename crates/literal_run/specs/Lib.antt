@@ -4,3 +4,4 @@ pub mod Runs
 pub mod Services
 pub mod Views
 pub mod RunLaws
+pub mod Replies

@@ -3,6 +3,7 @@
 
 mod answers;
 mod contract;
+pub mod laws;
 mod run;
 mod scopes;
 mod serving;

@@ -185,7 +185,7 @@ module _ {J R : Type 0} (site : Service J R) (now : ℕ) (es : List (LocalAction
           run = g.run;
           ledger = g.ledger;
           over = g.over;
-          says = record { newest = g.says.newest; unsent = g.says.unsent; expects = g.says.expects };
+          says = record { newest = g.says.newest; unsent = g.says.unsent; expects = g.says.expects; waits = g.says.waits };
         };
         line = λ l. (busy-line site now es holds run minds moment_is) t.client e;
       }
@@ -216,7 +216,7 @@ module _ {J R : Type 0} (site : Service J R) (now : ℕ) (es : List (LocalAction
       run = g.run;
       ledger = g.ledger;
       over = g.over;
-      says = record { newest = g.says.newest; unsent = g.says.unsent; expects = g.says.expects };
+      says = record { newest = g.says.newest; unsent = g.says.unsent; expects = g.says.expects; waits = g.says.waits };
     };
     line = λ there. by s.client.stage (h.line there);
   }

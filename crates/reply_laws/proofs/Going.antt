@@ -30,11 +30,11 @@ use Rattle.connection.proofs.RunTurns.{turn-goes-on, turn-precedes, turn-asks}
 use Rattle.connection.proofs.GoingOn.{LeavesAt, says-leaves, says-came, turn-leaves}
 use Rattle.connection.proofs.OwnMoves.{own-leaves-client}
 use Rattle.reply_laws.specs.Own.{SameOwn, SameTurn, MindsItsOwn}
-use Rattle.reply_laws.specs.Alone.{Beginning, News, Seen, Given, Alone, alone, after_turn, bytes_said, let_first}
+use Rattle.reply_laws.specs.Alone.{Beginning, News, Seen, Given, Alone, alone, after_turn, bytes_said, let_first, MayWaitForBody}
 use Rattle.reply_laws.specs.Replies.{IsNews, IsUpTo, HaveLearned, IsSaidAlone, IsOwnReply, IsWholeReply, HaveWholeReplies, HaveOwnReplies}
 use Rattle.reply_laws.proofs.Owns.{same-alike, same-asking}
 use Rattle.reply_laws.proofs.Places.{Placed, BodyAt, IsKept, body-kept}
-use Rattle.reply_laws.proofs.Saying.{Says, right-of, over-append, says-there, says-gone}
+use Rattle.reply_laws.proofs.Saying.{Says, left-of, right-of, over-append, says-there, says-gone}
 
 -- no move changes how many sockets there were
 pub performs-count : {J S : Type 0} (m : Move J S) (b : Ledger J) (s : S) → (perform m b s).state.ledger.count ≡ b.count
@@ -99,7 +99,7 @@ module _ {J R : Type 0} (site : Service J R) (es : List (LocalAction J)) (all : 
     pub run : st.inner.run ≡ (alone site.runs beginning news).run
     pub ledger : SameOwn st.ledger (alone site.runs beginning news).ledger
     pub over : says_over (alone site.runs beginning news).said ≡ false
-    pub says : Says beginning.head beginning.target older (alone site.runs beginning news).said st.inner.client
+    pub says : Says (MayWaitForBody site.runs) beginning.head beginning.target older (alone site.runs beginning news).said st.inner.client
 
   -- what is known of the replies, of a run whose client is there, and of what is read next
   pub record Good (st : State J (Both R)) : Type 0 where
@@ -142,7 +142,7 @@ module _ {J R : Type 0} (site : Service J R) (es : List (LocalAction J)) (all : 
 
   -- the newest reply, as it is said alone
   abbrev newest-said : (beginning : Beginning) (news : List (News J)) (older : List Exchange) (came : Came) (c : Client) → GoesWith beginning news older came
-      → Says beginning.head beginning.target older (alone site.runs beginning news).said c
+      → Says (MayWaitForBody site.runs) beginning.head beginning.target older (alone site.runs beginning news).said c
       → (later : List (LocalAction J)) → IsSaidAlone (later ++ es) site older beginning.head beginning.target (let_first (c.waited && c.expects) ++ bytes_said (alone site.runs beginning news).said)
   newest-said beginning news older came c g h later = record {
     beginning = beginning;
@@ -151,17 +151,18 @@ module _ {J R : Type 0} (site : Service J R) (es : List (LocalAction J)) (all : 
     asked = (refl, refl);
     learned = learned-later later beginning older news g.learned;
     awaited = λ e. sym h.expects ∙ right-of c.waited c.expects e;
+    waited = λ e. h.waits (left-of c.waited c.expects e);
     said = refl;
   }
 
   -- it is own with the others
   pub said-own : (beginning : Beginning) (news : List (News J)) (older : List Exchange) (came : Came) (c : Client) → GoesWith beginning news older came
-      → Says beginning.head beginning.target older (alone site.runs beginning news).said c → Own c.exchanges
+      → Says (MayWaitForBody site.runs) beginning.head beginning.target older (alone site.runs beginning news).said c → Own c.exchanges
   said-own beginning news older came c g h = λ later. subst (HaveOwnReplies (later ++ es) site) (sym h.newest) (newest-said beginning news older came c g h later, g.olds later)
 
   -- and whole, where nothing of the run is left
   pub said-whole : (beginning : Beginning) (news : List (News J)) (older : List Exchange) (came : Came) (c : Client) → GoesWith beginning news older came
-      → Says beginning.head beginning.target older (alone site.runs beginning news).said c → says_over (alone site.runs beginning news).said ≡ true → Whole c.exchanges
+      → Says (MayWaitForBody site.runs) beginning.head beginning.target older (alone site.runs beginning news).said c → says_over (alone site.runs beginning news).said ≡ true → Whole c.exchanges
   said-whole beginning news older came c g h over = λ later. subst (HaveWholeReplies (later ++ es) site) (sym h.newest) ((newest-said beginning news older came c g h later, over), g.olds later)
 
   own-of : (later : List (LocalAction J)) (asked : LineOut) (reply : List ℕ) (older : List Exchange) → IsWholeReply (later ++ es) site older asked reply → IsOwnReply (later ++ es) site older asked reply
@@ -187,7 +188,7 @@ module _ {J R : Type 0} (site : Service J R) (es : List (LocalAction J)) (all : 
     pub same : SameTurn t turn b own s.run
     pub is : alone site.runs beginning news ≡ after_turn turn own s.run words
     pub over : says_over words ≡ false
-    pub says : Says beginning.head beginning.target older words s.client
+    pub says : Says (MayWaitForBody site.runs) beginning.head beginning.target older words s.client
 
 module _ {J R : Type 0} (site : Service J R) (now : ℕ) (es : List (LocalAction J)) (all : List ℕ) where
   -- once it said what it says
@@ -220,8 +221,8 @@ module _ {J R : Type 0} (site : Service J R) (now : ℕ) (es : List (LocalAction
       all_said : (alone site.runs x.beginning x.news).said ≡ x.words ++ t.said
       all_said = ap (λ (a : Alone J R). a.said) x.is ∙ ap (λ (ws : List Said). x.words ++ ws) (sym x.same.said)
 
-      says_all : Says x.beginning.head x.beginning.target x.older (alone site.runs x.beginning x.news).said d.inner.client
-      says_all = subst (λ (ws : List Said). Says x.beginning.head x.beginning.target x.older ws d.inner.client) (sym all_said)
+      says_all : Says (MayWaitForBody site.runs) x.beginning.head x.beginning.target x.older (alone site.runs x.beginning x.news).said d.inner.client
+      says_all = subst (λ (ws : List Said). Says (MayWaitForBody site.runs) x.beginning.head x.beginning.target x.older ws d.inner.client) (sym all_said)
           (says-there site now x.beginning.head x.beginning.target x.older t.said x.words l u x.over there x.says).1
 
       follows : LeavesAt site now (stage_said t.said s.client.stage) (says site now t.said) l u

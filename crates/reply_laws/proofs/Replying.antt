@@ -188,7 +188,7 @@ module _ {J R : Type 0} (site : Service J R) (now : ℕ) (es : List (LocalAction
         same = minds.begins now head target b (own_ledger b.count) (blank-same b blank);
         is = refl;
         over = refl;
-        says = record { newest = refl; unsent = λ e. refl; expects = refl };
+        says = record { newest = refl; unsent = λ e. refl; expects = refl; waits = λ e. absurd (let f : false ≡ true = e in cc) };
       }
 
   closing-good : (b : Ledger J) (s : Both R) → IsIdle s.client.stage → Owns s.client.exchanges → LineAt site es (bytes_of es) s.client.stage s.client → Sound (perform (close_if_taken site now) b s).state
@@ -286,7 +286,7 @@ module _ {J R : Type 0} (site : Service J R) (now : ℕ) (es : List (LocalAction
       run = g.run;
       ledger = g.ledger;
       over = g.over;
-      says = record { newest = g.says.newest; unsent = g.says.unsent; expects = g.says.expects };
+      says = record { newest = g.says.newest; unsent = g.says.unsent; expects = g.says.expects; waits = g.says.waits };
     };
     line = λ there. busy-line (record s.client { came = after_asked s.client.came s.client.limit }) at;
   }

@@ -16,7 +16,7 @@ use Rattle.connection.specs.Services.{Service, Both}
 use Rattle.connection.specs.Timers.{Timer, number_of, time_of, later}
 use Rattle.connection.specs.Timers as timer
 use Rattle.connection.specs.Turns.{is_there, change, send, begin_timer, end_timer, continue_reply, let_send, awaits_body, await_body, says}
-use Rattle.reply_laws.specs.Alone.{bytes_said, let_first}
+use Rattle.reply_laws.specs.Alone.{bytes_said, let_first, MayWaitForBody}
 
 -- ---- bytes of words
 
@@ -43,36 +43,39 @@ begun-sent Unsent h = let e : Begun ≡ Unsent = h in cc
 begun-sent Begun h = let e : Begun ≡ Unsent = h in cc
 begun-sent (Whole closes) h = let e : Whole closes ≡ Unsent = h in cc
 
--- ---- the newest exchange, once the run said so much
+-- ---- the newest exchange, once the run said so much; W is what holds where it waited for more of a body
 
-pub record Says (head : Head) (target : Target) (older : List Exchange) (xs : List Said) (c : Client) : Type 0 where
+pub record Says (W : Type 0) (head : Head) (target : Target) (older : List Exchange) (xs : List Said) (c : Client) : Type 0 where
   pub newest : c.exchanges ≡ exchange (out.Request head target) (let_first (c.waited && c.expects) ++ bytes_said xs) ∷ older
   pub unsent : c.reply ≡ Unsent → bytes_said xs ≡ []
   pub expects : c.expects ≡ head.expects
+  pub waits : c.waited ≡ true → W
 
-says-as : (head : Head) (target : Target) (older : List Exchange) (xs ys : List Said) (c : Client) → bytes_said xs ≡ bytes_said ys → Says head target older xs c → Says head target older ys c
-says-as head target older xs ys c e h = record {
+says-as : (W : Type 0) (head : Head) (target : Target) (older : List Exchange) (xs ys : List Said) (c : Client) → bytes_said xs ≡ bytes_said ys → Says W head target older xs c → Says W head target older ys c
+says-as W head target older xs ys c e h = record {
   newest = h.newest ∙ ap (λ bs. exchange (out.Request head target) (let_first (c.waited && c.expects) ++ bs) ∷ older) e;
   unsent = λ u. sym e ∙ h.unsent u;
   expects = h.expects;
+  waits = h.waits;
 }
 
 -- bytes are sent
-says-more : (head : Head) (target : Target) (older : List Exchange) (xs : List Said) (bytes : List ℕ) (c : Client) → says_over xs ≡ false → Says head target older xs c
-    → Says head target older (xs ++ said.Send bytes ∷ []) (record c { reply = begun c.reply; exchanges = with_more bytes c.exchanges })
-says-more head target older xs bytes c over h =
+says-more : (W : Type 0) (head : Head) (target : Target) (older : List Exchange) (xs : List Said) (bytes : List ℕ) (c : Client) → says_over xs ≡ false → Says W head target older xs c
+    → Says W head target older (xs ++ said.Send bytes ∷ []) (record c { reply = begun c.reply; exchanges = with_more bytes c.exchanges })
+says-more W head target older xs bytes c over h =
     let first = let_first (c.waited && c.expects) in
     let more : bytes_said xs ++ bytes ≡ bytes_said (xs ++ said.Send bytes ∷ []) = ap (λ bs. bytes_said xs ++ bs) (sym (append-nil bytes)) ∙ sym (bytes-append xs (said.Send bytes ∷ []) over) in
     record {
       newest = ap (with_more bytes) h.newest ∙ ap (λ bs. exchange (out.Request head target) bs ∷ older) (append_assoc first (bytes_said xs) bytes ∙ ap (λ bs. first ++ bs) more);
       unsent = λ u. absurd (begun-sent c.reply u);
       expects = h.expects;
+      waits = h.waits;
     }
 
 let-on : (w : List ℕ) (e : Bool) → w ≡ [] → e ≡ true → w ++ continue_reply ≡ let_first e ++ w
 let-on w e h k = ap (λ (x : List ℕ). x ++ continue_reply) h ∙ sym (append-nil continue_reply) ∙ ap (λ (x : Bool). let_first x ++ []) (sym k) ∙ ap (λ (x : List ℕ). let_first e ++ x) (sym h)
 
-left-of : (a b : Bool) → (a && b) ≡ true → a ≡ true
+pub left-of : (a b : Bool) → (a && b) ≡ true → a ≡ true
 left-of true b h = refl
 left-of false b h = h
 
@@ -87,10 +90,16 @@ module _ {J R : Type 0} (site : Service J R) (now : ℕ) where
       by : (x y z w : Bool) → (x && y && z && w) ≡ true → y ≡ true
       by x y z w h = right-of x y (left-of (x && y) z (left-of (x && y && z) w h))
 
+  waits-if : (b : Ledger J) (s : Both R) → awaits_body site now b s ≡ true → (site.runs.waits s.run).body ≡ true
+  waits-if b s h = by (site.runs.waits s.run).body (is_there b) _ _ h
+    where
+      by : (x y z w : Bool) → (x && y && z && w) ≡ true → x ≡ true
+      by x y z w h = left-of x y (left-of (x && y) z (left-of (x && y && z) w h))
+
   module _ (head : Head) (target : Target) (older : List Exchange) (P : State J (Both R) → Type 0) where
     -- from where this is said of a client that is there
     abbrev From : List Said → Move J (Both R) → Type 0
-    From xs m = (b : Ledger J) (s : Both R) → is_there b ≡ true → Says head target older xs s.client → P (perform m b s).state
+    From xs m = (b : Ledger J) (s : Both R) → is_there b ≡ true → Says (MayWaitForBody site.runs) head target older xs s.client → P (perform m b s).state
 
     end-from : (xs : List Said) (t : Timer) (m : Move J (Both R)) → From xs m → From xs (end_timer site now t m)
     end-from xs t m f b s there h = by (has_number (number_of t) (numbers b.armed))
@@ -100,7 +109,7 @@ module _ {J R : Type 0} (site : Service J R) (now : ℕ) where
         by false = f b s there h
 
     sends-from : (xs : List Said) (bytes : List ℕ) (m : Move J (Both R)) → says_over xs ≡ false → From (xs ++ said.Send bytes ∷ []) m → (b : Ledger J) (s : Both R) → is_there b ≡ true
-        → Says head target older xs s.client → P (perform (send site now bytes m) b (record s { client = record s.client { reply = begun s.client.reply } })).state
+        → Says (MayWaitForBody site.runs) head target older xs s.client → P (perform (send site now bytes m) b (record s { client = record s.client { reply = begun s.client.reply } })).state
     sends-from xs bytes m over f b s there h = by (is_there b) there
       where
         t : Both R
@@ -108,14 +117,14 @@ module _ {J R : Type 0} (site : Service J R) (now : ℕ) where
 
         by : (c : Bool) → c ≡ true → P (perform (if c then change (λ c. record c { exchanges = with_more bytes c.exchanges }) (move.Send place.Client bytes m) else m) b t).state
         by true e = f (with_offer place.Client (with_sent place.Client bytes b)) (record t { client = record t.client { exchanges = with_more bytes t.client.exchanges } }) there
-            (says-more head target older xs bytes s.client over h)
+            (says-more (MayWaitForBody site.runs) head target older xs bytes s.client over h)
         by false e = absurd (let n : false ≡ true = e in cc)
 
-    let-from : (xs : List Said) (m : Move J (Both R)) → From xs m → (b : Ledger J) (s : Both R) → is_there b ≡ true → Says head target older xs s.client
-        → (r : Reply) → s.client.reply ≡ r → P (perform (let_send site now s.client r m) b s).state
-    let-from xs m f b s there h Begun e = f b s there h
-    let-from xs m f b s there h (Whole closes) e = f b s there h
-    let-from xs m f b s there h Unsent e = by s.client.waited refl
+    let-from : (xs : List Said) (m : Move J (Both R)) → From xs m → (b : Ledger J) (s : Both R) → is_there b ≡ true → Says (MayWaitForBody site.runs) head target older xs s.client
+        → MayWaitForBody site.runs → (r : Reply) → s.client.reply ≡ r → P (perform (let_send site now s.client r m) b s).state
+    let-from xs m f b s there h may Begun e = f b s there h
+    let-from xs m f b s there h may (Whole closes) e = f b s there h
+    let-from xs m f b s there h may Unsent e = by s.client.waited refl
       where
         none : bytes_said xs ≡ []
         none = h.unsent e
@@ -132,6 +141,7 @@ module _ {J R : Type 0} (site : Service J R) (now : ℕ) where
           newest = ap (with_more continue_reply) (first w) ∙ ap (λ bs. exchange (out.Request head target) bs ∷ older) (let-on (bytes_said xs) s.client.expects none x);
           unsent = h.unsent;
           expects = h.expects;
+          waits = λ k. may;
         })
         sent x w false e = absurd (let n : false ≡ true = e in cc)
 
@@ -141,6 +151,7 @@ module _ {J R : Type 0} (site : Service J R) (now : ℕ) where
           newest = first w ∙ ap (λ (e : Bool). exchange (out.Request head target) (let_first e ++ bytes_said xs) ∷ older) (sym x);
           unsent = h.unsent;
           expects = h.expects;
+          waits = λ k. may;
         })
 
         by : (w : Bool) → s.client.waited ≡ w → P (perform (if w then m else change (λ c. record c { waited = true }) (if s.client.expects then send site now continue_reply m else m)) b s).state
@@ -148,28 +159,28 @@ module _ {J R : Type 0} (site : Service J R) (now : ℕ) where
         by false w = asked w s.client.expects refl
 
     pub await-from : (xs : List Said) (m : Move J (Both R)) → From xs m → From xs (await_body site now m)
-    await-from xs m f b s there h = by (awaits_body site now b s)
+    await-from xs m f b s there h = by (awaits_body site now b s) refl
       where
-        by : (c : Bool) → P (perform (if c then let_send site now s.client s.client.reply (begin_timer site now timer.Body m) else m) b s).state
-        by true = let-from xs (begin_timer site now timer.Body m) (λ c t k g. f _ t k g) b s there h s.client.reply refl
-        by false = f b s there h
+        by : (c : Bool) → awaits_body site now b s ≡ c → P (perform (if c then let_send site now s.client s.client.reply (begin_timer site now timer.Body m) else m) b s).state
+        by true e = let-from xs (begin_timer site now timer.Body m) (λ c t k g. f _ t k g) b s there h (s.run, waits-if b s e) s.client.reply refl
+        by false e = f b s there h
 
   module _ (head : Head) (target : Target) (older : List Exchange) where
     -- all of it was said, and the client is there
     abbrev pub IsSaid : List Said → State J (Both R) → Type 0
-    IsSaid xs st = (is_there st.ledger ≡ true) × Says head target older xs st.inner.client
+    IsSaid xs st = (is_there st.ledger ≡ true) × Says (MayWaitForBody site.runs) head target older xs st.inner.client
 
     onward : (w : Said) (more xs : List Said) (st : State J (Both R)) → IsSaid ((xs ++ w ∷ []) ++ more) st → IsSaid (xs ++ w ∷ more) st
     onward w more xs st h = subst (λ (ys : List Said). IsSaid ys st) (append_assoc xs (w ∷ []) more) h
 
     -- a word of no bytes
-    unheard : (w : Said) (xs : List Said) (c : Client) → bytes_said (w ∷ []) ≡ [] → says_over xs ≡ false → Says head target older xs c → Says head target older (xs ++ w ∷ []) c
+    unheard : (w : Said) (xs : List Said) (c : Client) → bytes_said (w ∷ []) ≡ [] → says_over xs ≡ false → Says (MayWaitForBody site.runs) head target older xs c → Says (MayWaitForBody site.runs) head target older (xs ++ w ∷ []) c
     unheard w xs c e over h =
-        says-as head target older xs (xs ++ w ∷ []) c (sym (bytes-append xs (w ∷ []) over ∙ ap (λ bs. bytes_said xs ++ bs) e ∙ append-nil (bytes_said xs))) h
+        says-as (MayWaitForBody site.runs) head target older xs (xs ++ w ∷ []) c (sym (bytes-append xs (w ∷ []) over ∙ ap (λ bs. bytes_said xs ++ bs) e ∙ append-nil (bytes_said xs))) h
 
-    pub says-there : (words xs : List Said) (b : Ledger J) (s : Both R) → says_over xs ≡ false → is_there b ≡ true → Says head target older xs s.client
+    pub says-there : (words xs : List Said) (b : Ledger J) (s : Both R) → says_over xs ≡ false → is_there b ≡ true → Says (MayWaitForBody site.runs) head target older xs s.client
         → IsSaid (xs ++ words) (perform (says site now words Done) b s).state
-    says-there [] xs b s over there h = (there, says-as head target older xs (xs ++ []) s.client (ap bytes_said (sym (append-nil xs))) h)
+    says-there [] xs b s over there h = (there, says-as (MayWaitForBody site.runs) head target older xs (xs ++ []) s.client (ap bytes_said (sym (append-nil xs))) h)
     says-there (said.Send bytes ∷ more) xs b s over there h =
         sends-from head target older (IsSaid (xs ++ said.Send bytes ∷ more)) xs bytes (says site now more Done) over
         (λ c t k g. onward (said.Send bytes) more xs (perform (says site now more Done) c t).state
@@ -178,7 +189,7 @@ module _ {J R : Type 0} (site : Service J R) (now : ℕ) where
         await-from head target older (IsSaid (xs ++ said.WantsBody max ∷ more)) xs (says site now more Done)
         (λ c t k g. let w = said.WantsBody max in onward w more xs (perform (says site now more Done) c t).state
         (says-there more (xs ++ w ∷ []) c t (over-append xs (w ∷ []) over) k (unheard w xs t.client refl over g))) b (record s { client = record s.client { limit = max } }) there
-        (record { newest = h.newest; unsent = h.unsent; expects = h.expects })
+        (record { newest = h.newest; unsent = h.unsent; expects = h.expects; waits = h.waits })
     says-there (said.WantsNoBody ∷ more) xs b s over there h =
         end-from head target older (IsSaid (xs ++ said.WantsNoBody ∷ more)) xs timer.Body (says site now more Done) (λ c t k g. let w = said.WantsNoBody in onward w more xs (perform (says site now more Done) c t).state
         (says-there more (xs ++ w ∷ []) c t (over-append xs (w ∷ []) over) k (unheard w xs t.client refl over g))) b s there h
@@ -190,13 +201,13 @@ module _ {J R : Type 0} (site : Service J R) (now : ℕ) where
         let t : Both R = record s { client = record s.client { reply = Whole closes } } in
         onward w more xs (perform (says site now more Done) b t).state
         (says-there more (xs ++ w ∷ []) b t (over-append xs (w ∷ []) over) there (unheard w xs t.client refl over
-        (record { newest = h.newest; unsent = λ u. absurd (let e : Whole closes ≡ Unsent = u in cc); expects = h.expects })))
+        (record { newest = h.newest; unsent = λ u. absurd (let e : Whole closes ≡ Unsent = u in cc); expects = h.expects; waits = h.waits })))
     says-there (said.Over ∷ more) xs b s over there h =
         end-from head target older (IsSaid (xs ++ said.Over ∷ more)) xs timer.Body (change (λ c. record c { stage = stage.Flush }) Done)
         (λ c t k g. let flushed = record t { client = record t.client { stage = stage.Flush } } in (
           k,
-          says-as head target older xs (xs ++ said.Over ∷ more) flushed.client (sym (bytes-append xs (said.Over ∷ more) over ∙ append-nil (bytes_said xs)))
-              (record { newest = g.newest; unsent = g.unsent; expects = g.expects }),
+          says-as (MayWaitForBody site.runs) head target older xs (xs ++ said.Over ∷ more) flushed.client (sym (bytes-append xs (said.Over ∷ more) over ∙ append-nil (bytes_said xs)))
+              (record { newest = g.newest; unsent = g.unsent; expects = g.expects; waits = g.waits }),
         )) b s there h
 
   -- ---- a client that is gone

@@ -1,5 +1,5 @@
 -- What a run says that is alone in the world: a function of its request and of what it is told.
-use Rattle.std.specs.Prelude.{ℕ, Bool, List, [], ◌∷◌, ◌++◌, if◌then◌else◌}
+use Rattle.std.specs.Prelude.{◌≡◌, ℕ, Bool, true, List, [], ◌∷◌, ◌++◌, if◌then◌else◌}
 use Rattle.uri_args.specs.declared.targets.Target.{Target}
 use Rattle.http_in.specs.declared.heads.Head.{Head}
 use Rattle.strand_contract.specs.Actions.{Action, Did}
@@ -64,3 +64,7 @@ let_first continues = if continues then continue_reply else []
 -- the reply of a run alone, after a 100 reply or without one
 abbrev pub reply_alone : {J R : Type 0} → RunPlan J R → Beginning → (continues : Bool) → List (News J) → List ℕ
 reply_alone p x continues news = let_first continues ++ bytes_said (alone p x news).said
+
+-- some run waits for the body of its request
+abbrev pub MayWaitForBody : {J R : Type 0} → RunPlan J R → Type 0
+MayWaitForBody {J} {R} p = (r : R) × ((p.waits r).body ≡ true)

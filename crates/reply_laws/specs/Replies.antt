@@ -14,7 +14,7 @@ use Rattle.run_contract.specs.Runs.{says_over}
 use Rattle.connection.specs.Asked.{bytes_of}
 use Rattle.connection.specs.Clients.{Exchange}
 use Rattle.connection.specs.Services.{Service}
-use Rattle.reply_laws.specs.Alone.{Beginning, News, Seen, Given, alone, reply_alone}
+use Rattle.reply_laws.specs.Alone.{Beginning, News, Seen, Given, alone, reply_alone, MayWaitForBody}
 use Rattle.reply_laws.specs.Bodies.{IsOwnBody, IsOwnFault}
 
 -- what an action tells a run by itself
@@ -63,7 +63,7 @@ HaveLearned {J} x older (n ∷ news) es = (at : List (LocalAction J)) × IsUpTo 
 
 module _ {J R : Type 0} (es : List (LocalAction J)) (site : Service J R) where
   -- It is what the run alone says, of the request, that began at a moment and learned what happened; before that the client may have been let send its
-  -- body, if it waits for a 100 reply.
+  -- body, if it waits for a 100 reply, and runs of the site may wait for a body.
   pub record IsSaidAlone (older : List Exchange) (head : Head) (target : Target) (reply : List ℕ) : Type 0 where
     pub beginning : Beginning
     pub news : List (News J)
@@ -71,6 +71,7 @@ module _ {J R : Type 0} (es : List (LocalAction J)) (site : Service J R) where
     pub asked : (beginning.head ≡ head) × (beginning.target ≡ target)
     pub learned : HaveLearned beginning older news es
     pub awaited : continues ≡ true → head.expects ≡ true
+    pub waited : continues ≡ true → MayWaitForBody site.runs
     pub said : reply ≡ reply_alone site.runs beginning continues news
 
   -- a request gets what its run says, and a head that is refused the refusal of the moment

@@ -1,3 +1,7 @@
+mod Asking
+mod Computed
+mod Configured
+mod Programmed
 mod Leaves
 mod Peel
 mod Ordered

@@ -14,16 +14,16 @@ use Rattle.executions.specs.Lawful.{IsLawful}
 use Rattle.executions.specs.Plain.{IsPlain}
 use Rattle.executions.specs.Ordered.{was_touched, MayDropLiving, IsOrdered}
 use Rattle.strand_laws.proofs.OwnSteps.{clash, by_test, is_own, none-at-rest, IsStill, still-none, still-at-rest}
-use Rattle.strand.specs.declared.strand.NoJob.{NoJob}
-use Rattle.strand.specs.Laws.{quiet}
-use Rattle.strand.specs.Examples.{hi}
+use Rattle.run_contract.specs.declared.stored.NoJob.{NoJob}
+use Rattle.worked_example.specs.Spoiled.{HasNoOrderedExecution}
+use Rattle.worked_example.proofs.Computed.{behavior, behavior-is, quiet}
 use Rattle.worked_example.specs.Exchange.{at_second_1, arrives}
 use Rattle.worked_example.specs.Spoiled.{at_second_2, dropped_by_others}
 use Rattle.worked_example.proofs.Leaves.{drops, ticks}
 use Rattle.worked_example.proofs.Peel.{Fine, IsInternal, Peeled, fine-tail, peel}
 use Rattle.worked_example.proofs.Run.{begun, idle, rests-begun}
 use Rattle.worked_example.proofs.Seen.{client}
-use Rattle.worked_example.proofs.Spoiled.{behavior, Global, fine, fine-at, begun-part, Before, same}
+use Rattle.worked_example.proofs.Spoiled.{Global, fine, fine-at, begun-part, Before, same}
 
 passes : (c given touched : Bool) → c ≡ false → given ≡ false → (c || (not given && touched)) ≡ touched
 passes c given touched h g = rw (h, g) refl
@@ -80,7 +80,7 @@ told-idle : HasNoWork behavior told
 told-idle = record { no_act = refl; no_thread = refl; no_place = refl; no_offer = refl; no_deadline = λ waking. refl; no_stop = refl; no_end = refl }
 
 still-told : IsStill behavior told
-still-told = still-none behavior (quiet hi) told (is-begun, (refl, idle)) refl (none-at-rest behavior told told-idle)
+still-told = still-none behavior quiet told (is-begun, (refl, idle)) refl (none-at-rest behavior told told-idle)
 
 turns-at : (ms : List Global) (e : Entry) (h : List Entry) (p : Peeled behavior ms e h) → IsOrdered behavior ms → IsOrdered behavior (p.top ∷ p.older)
 turns-at ms e h p t = turns-below behavior p.above (p.top ∷ p.older) (subst (IsOrdered behavior) p.whole t)
@@ -99,14 +99,14 @@ not-his ms f is =
     let k : Fine behavior (Everyone (Moment 2_000) ∷ p.older) = subst (λ m. Fine behavior (m ∷ p.older)) top g in
     let older : Fine behavior p.older = fine-tail behavior (Everyone (Moment 2_000)) p.older k in
     let w : Before (entry.Given arrives ∷ entry.Given at_second_1 ∷ []) = record { ms = p.older; fine = older; rests = k.given.1 refl; history = p.rest } in
-    let seen : projection client p.older ≡ begun = same _ w begun begun (begun-part p.older older p.rest) refl is-begun refl (still-at-rest behavior (quiet hi) begun is-begun refl rests-begun) refl in
+    let seen : projection client p.older ≡ begun = same _ w begun begun (begun-part p.older older p.rest) refl is-begun refl (still-at-rest behavior quiet begun is-begun refl rests-begun) refl in
     let after : projection client (Everyone (Moment 2_000) ∷ p.older) ≡ told = ap (λ es. if lives es then Told (Moment 2_000) ∷ es else es) seen in
     let whole : ms ≡ p.above ++ Everyone (Moment 2_000) ∷ p.older = p.whole ∙ ap (λ m. p.above ++ m ∷ p.older) top in
     let u = untouched behavior p.above (Everyone (Moment 2_000) ∷ p.older) (subst (Fine behavior) whole f) p.internal (subst (IsStill behavior) (sym after) still-told) in
     ap (was_touched client) whole ∙ u.1
 
-pub unordered : (ms : List Global) → IsLawful behavior ms → IsPlain behavior ms → IsOrdered behavior ms → external behavior ms ≡ dropped_by_others → ⊥
-unordered ms lawful plain ordered is =
+unordered-so : (ms : List Global) → IsLawful behavior ms → IsPlain behavior ms → IsOrdered behavior ms → external behavior ms ≡ dropped_by_others → ⊥
+unordered-so ms lawful plain ordered is =
     let f : Fine behavior ms = fine ms lawful plain in
     let p : Peeled behavior ms (entry.Given event.Stop) (entry.Close (id.Conn 1) ∷ entry.Dropped client ∷ entry.Given at_second_2 ∷ entry.Given arrives ∷ entry.Given at_second_1 ∷ []) = peel behavior ms _ _ plain tt is in
     let g : Fine behavior p.older = fine-tail behavior p.top p.older (fine-at ms _ _ p f) in
@@ -118,3 +118,9 @@ unordered ms lawful plain ordered is =
     let turns : IsOrdered behavior q.older = (turns-at p.older _ _ q (turns-at ms _ _ p ordered).0).0 in
     let touched : IsOrdered behavior (Of client Dropped d.0 ∷ r.older) = subst (λ m. IsOrdered behavior (m ∷ r.older)) d.1 (turns-at q.older _ _ r turns) in
     clash (drop-touched (lives (projection client r.older)) r.older touched.1) (not-his r.older (fine-tail behavior r.top r.older l) r.rest)
+
+abbrev HasNone : Behavior NoJob → Type 0
+HasNone b = (ms : List Global) → IsLawful b ms → IsPlain b ms → IsOrdered b ms → external b ms ≡ dropped_by_others → ⊥
+
+pub unordered : HasNoOrderedExecution dropped_by_others
+unordered = subst HasNone behavior-is unordered-so

@@ -17,9 +17,8 @@ use Rattle.executions.specs.Histories.{closing, entries_at, entries_of, external
 use Rattle.executions.specs.Counts.{open_connections}
 use Rattle.executions.specs.Plain.{IsPlain}
 use Rattle.strand_laws.proofs.OwnSteps.{by_test}
-use Rattle.strand.specs.declared.strand.NoJob.{NoJob}
-use Rattle.strand.specs.Examples.{hi}
-use Rattle.strand.specs.Literal.{literal_behavior}
+use Rattle.run_contract.specs.declared.stored.NoJob.{NoJob}
+use Rattle.worked_example.specs.Site.{hi_behavior}
 use Rattle.worked_example.specs.Exchange.{at_second_1, arrives}
 use Rattle.worked_example.specs.Spoiled.{turned_away}
 use Rattle.worked_example.proofs.Peel.{Peeled, peel, no-entry, an-entry}
@@ -88,28 +87,28 @@ module _ {J : Type 0} where
   never-newest b (IdleGave g ∷ ms) c h e = never-turned (closed_by g) g (external b ms) c h e
   never-newest b (IdleClosed n ∷ ms) c h e = cc
 
-room : (ms : List (GlobalAction NoJob)) → IsPlain (literal_behavior hi) ms
-    → external (literal_behavior hi) ms ≡ entry.Close (id.Conn 1) ∷ entry.Turned 1 ∷ entry.Given arrives ∷ entry.Given at_second_1 ∷ [] → ⊥
+room : (ms : List (GlobalAction NoJob)) → IsPlain hi_behavior ms
+    → external hi_behavior ms ≡ entry.Close (id.Conn 1) ∷ entry.Turned 1 ∷ entry.Given arrives ∷ entry.Given at_second_1 ∷ [] → ⊥
 room [] p e = cc
 room (Of s (Keep k key idle size) None ∷ ms) p e = cc
 room (Of s (Keep k key idle size) (Some m) ∷ ms) p e = cc
 room (Of s x n ∷ ms) p e = by_test (is_internal x)
-    (λ on. room ms p.0 (ap (λ l. l ++ external (literal_behavior hi) ms) (sym (no-entry (literal_behavior hi) s x n ms on)) ∙ e))
-    (λ off. let v : (e : Entry) × (entries_at (literal_behavior hi) s x n ms ≡ e ∷ []) = an-entry (literal_behavior hi) s x n ms off refl in
-    let lists : v.0 ∷ external (literal_behavior hi) ms ≡ entry.Close (id.Conn 1) ∷ entry.Turned 1 ∷ entry.Given arrives ∷ entry.Given at_second_1 ∷ [] = ap (λ l. l ++ external (literal_behavior hi) ms) (sym v.1) ∙ e in
-    let tail : external (literal_behavior hi) ms ≡ entry.Turned 1 ∷ entry.Given arrives ∷ entry.Given at_second_1 ∷ [] = cc in
-    never-newest (literal_behavior hi) ms 1 _ tail)
+    (λ on. room ms p.0 (ap (λ l. l ++ external hi_behavior ms) (sym (no-entry hi_behavior s x n ms on)) ∙ e))
+    (λ off. let v : (e : Entry) × (entries_at hi_behavior s x n ms ≡ e ∷ []) = an-entry hi_behavior s x n ms off refl in
+    let lists : v.0 ∷ external hi_behavior ms ≡ entry.Close (id.Conn 1) ∷ entry.Turned 1 ∷ entry.Given arrives ∷ entry.Given at_second_1 ∷ [] = ap (λ l. l ++ external hi_behavior ms) (sym v.1) ∙ e in
+    let tail : external hi_behavior ms ≡ entry.Turned 1 ∷ entry.Given arrives ∷ entry.Given at_second_1 ∷ [] = cc in
+    never-newest hi_behavior ms 1 _ tail)
 room (Everyone Stop ∷ ms) p e = cc
 room (Everyone (Moment t) ∷ ms) p e = cc
 room (TurnedAway c ∷ ms) p e =
-    let tail : external (literal_behavior hi) ms ≡ entry.Given at_second_1 ∷ [] = cc in
-    let none : open_connections ms ≡ 0 = none-open (literal_behavior hi) ms (subst NoArrival (sym tail) tt) in
+    let tail : external hi_behavior ms ≡ entry.Given at_second_1 ∷ [] = cc in
+    let none : open_connections ms ≡ 0 = none-open hi_behavior ms (subst NoArrival (sym tail) tt) in
     let many : 512 ≤ open_connections ms = p.1.1 in
     omega arith
-room (IdleGave g ∷ ms) p e = never-closes (closed_by g) g (external (literal_behavior hi) ms) _ e
+room (IdleGave g ∷ ms) p e = never-closes (closed_by g) g (external hi_behavior ms) _ e
 room (IdleClosed n ∷ ms) p e = cc
 
-pub unplain : (ms : List (GlobalAction NoJob)) → IsPlain (literal_behavior hi) ms → external (literal_behavior hi) ms ≡ turned_away → ⊥
+pub unplain : (ms : List (GlobalAction NoJob)) → IsPlain hi_behavior ms → external hi_behavior ms ≡ turned_away → ⊥
 unplain ms plain is =
-    let p : Peeled (literal_behavior hi) ms (entry.Given event.Stop) (entry.Close (id.Conn 1) ∷ entry.Turned 1 ∷ entry.Given arrives ∷ entry.Given at_second_1 ∷ []) = peel (literal_behavior hi) ms _ _ plain tt is in
-    room p.older (plain-below (literal_behavior hi) p.above (p.top ∷ p.older) (subst (IsPlain (literal_behavior hi)) p.whole plain)).0 p.rest
+    let p : Peeled hi_behavior ms (entry.Given event.Stop) (entry.Close (id.Conn 1) ∷ entry.Turned 1 ∷ entry.Given arrives ∷ entry.Given at_second_1 ∷ []) = peel hi_behavior ms _ _ plain tt is in
+    room p.older (plain-below hi_behavior p.above (p.top ∷ p.older) (subst (IsPlain hi_behavior) p.whole plain)).0 p.rest

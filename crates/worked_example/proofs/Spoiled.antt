@@ -1,5 +1,6 @@
 -- The spoiled histories are of no execution.
 use Rattle.std.proofs.Common.{◌≡◌, ℕ, false, List, [], ◌∷◌, Some, None, max, take, get_or, refl, sym, ap, subst, ◌∙◌, lit<, arith}
+use Rattle.std.specs.Prelude.{codes}
 use Rattle.std.specs.Fmt.{digits}
 use Rattle.resty_base.specs.declared.names.Id.TheVariants as id
 use Rattle.resty_world.specs.declared.event.Event.TheVariants as event
@@ -18,21 +19,15 @@ use Rattle.strand_laws.specs.Inputs.{gave}
 use Rattle.strand_laws.proofs.OwnSteps.{IsStill, still-offered, still-at-rest}
 use Rattle.strand_laws.proofs.Alone.{one}
 use Rattle.strand_laws.proofs.Worlds.{gave-shown, dropped-shown}
-use Rattle.strand.specs.declared.strand.NoJob.{NoJob}
+use Rattle.run_contract.specs.declared.stored.NoJob.{NoJob}
 use Rattle.http_reply.specs.Dates.{date_of, year_of, month_of}
-use Rattle.strand.specs.Examples.{hi, hi_reply}
-use Rattle.strand.specs.Laws.{quiet}
-use Rattle.strand.specs.Literal.{literal_behavior}
-use Rattle.strand.specs.Replies.{reply}
-use Rattle.worked_example.specs.Exchange.{request, asked, at_second_1, arrives as arrival, asks as question}
+use Rattle.worked_example.specs.Exchange.{request, reply_dated, hi_reply, asked, at_second_1, arrives as arrival, asks as question}
 use Rattle.worked_example.specs.Spoiled.{HasNoExecution, byte_lost, put_after_stop, date_late, no_close}
 use Rattle.worked_example.proofs.Leaves.{closes, puts, asks, arrives, ticks, stops}
 use Rattle.worked_example.proofs.Peel.{Fine, StandsAlone, Peeled, fine-tail, fine-below, peel, part-below, present-below, present-none}
 use Rattle.worked_example.proofs.Run.{begun, came, offered, served, is-offered, offered-at, is-served, rests-served}
 use Rattle.worked_example.proofs.Seen.{client}
-
-abbrev pub behavior : Behavior NoJob
-behavior = literal_behavior hi
+use Rattle.worked_example.proofs.Computed.{behavior, behavior-is, quiet}
 
 abbrev pub Global : Type 0
 Global = GlobalAction NoJob
@@ -85,6 +80,13 @@ closed-part bytes ms f is =
     let t = closes behavior p.top p.older g.plain p.left in
     part-at ms _ _ p (Of client (Close place.Client) t.0) t.1 ∙ ap (λ l. Did (Close place.Client) ∷ l) (put-part bytes p.older (fine-tail behavior p.top p.older g) p.rest)
 
+-- no execution of these strands has it
+abbrev HasNone : List Entry → Behavior NoJob → Type 0
+HasNone h b = (ms : List Global) → IsLawful b ms → IsPlain b ms → external b ms ≡ h → ⊥
+
+abbrev late : List ℕ
+late = reply_dated (codes "Thu, 01 Jan 1970 00:00:02 GMT")
+
 -- at Stop all were at rest
 pub record Before (h : List Entry) : Type 0 where
   pub ms : List Global
@@ -106,12 +108,12 @@ pub same : (h : List Entry) (w : Before h) (es fs : List (LocalAction NoJob)) �
     → IsExecution behavior fs → was_dropped fs ≡ false → IsStill behavior fs → gave es ≡ gave fs → projection client w.ms ≡ fs
 same h w es fs seen whole f kept still e =
     let own : was_dropped (projection client w.ms) ≡ false = sym (dropped-shown (projection client w.ms)) ∙ ap was_dropped seen ∙ whole in
-    one behavior (quiet hi) (projection client w.ms) fs (w.fine.alone client) f own kept
-    (still-at-rest behavior (quiet hi) (projection client w.ms) (w.fine.alone client) own (w.rests.each client)) still
+    one behavior quiet (projection client w.ms) fs (w.fine.alone client) f own kept
+    (still-at-rest behavior quiet (projection client w.ms) (w.fine.alone client) own (w.rests.each client)) still
     (sym (gave-shown (projection client w.ms)) ∙ ap gave seen ∙ e)
 
 still-served : IsStill behavior served
-still-served = still-at-rest behavior (quiet hi) served is-served refl rests-served
+still-served = still-at-rest behavior quiet served is-served refl rests-served
 
 abbrev short : List (LocalAction NoJob)
 short = Did (Put place.Client (take 118 hi_reply)) ∷ offered
@@ -122,22 +124,22 @@ is-short = (is-offered, (offered-at, lit< tt, (10 ∷ [], refl)))
 
 short-goes-on : IsStill behavior short
 unfolding digits date_of year_of month_of
-short-goes-on = still-offered behavior (quiet hi) short place.Client is-short refl refl refl
+short-goes-on = still-offered behavior quiet short place.Client is-short refl refl refl
 
-pub no-byte_lost : HasNoExecution byte_lost
-no-byte_lost ms lawful plain is =
+so-byte_lost : HasNone byte_lost behavior
+so-byte_lost ms lawful plain is =
     let w : Before _ = at-stop ms _ (fine ms lawful plain) tt is in
     let seen = closed-part (take 118 hi_reply) w.ms w.fine w.history in
     let e : Did (Close place.Client) ∷ Did (Put place.Client (take 118 hi_reply)) ∷ came ≡ without_internal short = sym seen ∙ ap without_internal (same _ w _ short seen refl is-short refl short-goes-on refl) in
     absurd (cc)
 
-pub no-put_after_stop : HasNoExecution put_after_stop
-no-put_after_stop ms lawful plain is =
+so-put_after_stop : HasNone put_after_stop behavior
+so-put_after_stop ms lawful plain is =
     let p : Peeled behavior ms (entry.Close (id.Conn 1)) (entry.Put (id.Conn 1) hi_reply ∷ entry.Given event.Stop ∷ asked) = peel behavior ms _ _ plain tt is in
     let f : Fine behavior p.older = fine-tail behavior p.top p.older (fine-at ms _ _ p (fine ms lawful plain)) in
     let q : Peeled behavior p.older (entry.Put (id.Conn 1) hi_reply) (entry.Given event.Stop ∷ asked) = peel behavior p.older _ _ f.plain tt p.rest in
     let w : Before asked = at-stop q.older asked (fine-tail behavior q.top q.older (fine-at p.older _ _ q f)) tt q.rest in
-    let e : projection client w.ms ≡ offered = same _ w _ offered (came-part w.ms w.fine w.history) refl is-offered refl (still-offered behavior (quiet hi) offered place.Client is-offered refl refl refl) refl in
+    let e : projection client w.ms ≡ offered = same _ w _ offered (came-part w.ms w.fine w.history) refl is-offered refl (still-offered behavior quiet offered place.Client is-offered refl refl refl) refl in
     let none : None ≡ Some place.Client = sym ((subst (IsQuiescent behavior) e (w.rests.each client)).idle refl).no_offer in
     absurd (cc)
 
@@ -145,21 +147,35 @@ abbrev put_in : List (LocalAction NoJob) → List ℕ
 put_in (Did (Close q) ∷ Did (Put p bytes) ∷ es) = bytes
 put_in es = []
 
-late-differs : reply hi 2_000 ≡ hi_reply → ⊥
+late-differs : late ≡ hi_reply → ⊥
 unfolding digits date_of year_of month_of
 late-differs e = let digit : ◌≡◌ {A = ℕ} 50 49 = ap (λ l. get_or l 62 0) e in absurd (omega arith)
 
-pub no-date_late : HasNoExecution date_late
+so-date_late : HasNone date_late behavior
 unfolding digits date_of year_of month_of
-no-date_late ms lawful plain is =
+so-date_late ms lawful plain is =
     let w : Before _ = at-stop ms _ (fine ms lawful plain) tt is in
-    let seen = closed-part (reply hi 2_000) w.ms w.fine w.history in
-    let e : Did (Close place.Client) ∷ Did (Put place.Client (reply hi 2_000)) ∷ came ≡ without_internal served = sym seen ∙ ap without_internal (same _ w _ served seen refl is-served refl still-served refl) in
+    let seen = closed-part late w.ms w.fine w.history in
+    let e : Did (Close place.Client) ∷ Did (Put place.Client late) ∷ came ≡ without_internal served = sym seen ∙ ap without_internal (same _ w _ served seen refl is-served refl still-served refl) in
     late-differs (ap put_in e)
 
-pub no-no_close : HasNoExecution no_close
-no-no_close ms lawful plain is =
+so-no_close : HasNone no_close behavior
+so-no_close ms lawful plain is =
     let w : Before _ = at-stop ms _ (fine ms lawful plain) tt is in
     let seen = put-part hi_reply w.ms w.fine w.history in
     let e : Did (Put place.Client hi_reply) ∷ came ≡ without_internal served = sym seen ∙ ap without_internal (same _ w _ served seen refl is-served refl still-served refl) in
     absurd (cc)
+
+-- and so none of those of the site
+
+pub no-byte_lost : HasNoExecution byte_lost
+no-byte_lost = subst (HasNone byte_lost) behavior-is so-byte_lost
+
+pub no-put_after_stop : HasNoExecution put_after_stop
+no-put_after_stop = subst (HasNone put_after_stop) behavior-is so-put_after_stop
+
+pub no-date_late : HasNoExecution date_late
+no-date_late = subst (HasNone date_late) behavior-is so-date_late
+
+pub no-no_close : HasNoExecution no_close
+no-no_close = subst (HasNone no_close) behavior-is so-no_close

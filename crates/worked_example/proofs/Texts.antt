@@ -2,18 +2,16 @@
 use Rattle.std.proofs.Common.{◌≡◌, ℕ, zero, suc, ◌<◌, Bool, true, nat_lt, List, [], ◌∷◌, Some, refl, subst, lit<, lit≤, arith}
 use Rattle.std.proofs.lemmas.Bool.{ltb-true}
 use Rattle.std.specs.Fmt.{digits}
-use Rattle.std.specs.Prelude.{◌&&◌, codes}
+use Rattle.std.specs.Prelude.{◌&&◌}
 use Rattle.resty_world.specs.declared.event.Event.TheVariants as event
 use Rattle.resty_world.specs.declared.schedule_line.SchedLine.{SchedLine}
 use Rattle.resty_world.specs.declared.schedule_line.SchedLine.TheVariants as line
 use Rattle.schedule_text.specs.Fitting.{Fits, AllFit}
 use Rattle.schedule_text.specs.Accepted.{IsRead}
 use Rattle.schedule_text.specs.Ranges.{IsBytes}
-use Rattle.strand.specs.Configuration.{IsSite}
-use Rattle.strand.specs.Examples.{hi}
 use Rattle.strand_laws.proofs.OwnSteps.{clash, by_test}
 use Rattle.worked_example.specs.Exchange.{request, at_second_1, arrives, asks, lines}
-use Rattle.worked_example.specs.Texts.{configuration_text, schedule_text}
+use Rattle.worked_example.specs.Texts.{schedule_text}
 
 -- each line fits what stands before it
 same-line : (before : List SchedLine) (l next : SchedLine) → Fits before l → Some l ≡ Some next → Fits before next
@@ -48,6 +46,3 @@ fit (suc (suc (suc (suc i)))) next e = absurd (cc)
 pub schedule : IsRead schedule_text lines
 unfolding digits
 schedule = record { whole = refl; made = record { fit = fit; before = line.Given at_second_1 ∷ line.Given arrives ∷ line.Given asks ∷ []; ends = refl } }
-
-pub site : IsSite configuration_text hi
-site = (codes "hi" ∷ [], record { some = lit< tt; few = lit< tt; literal = refl; short = lit< tt }, refl, refl)

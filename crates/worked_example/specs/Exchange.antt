@@ -1,5 +1,5 @@
 -- One exchange: a client asks, gets its reply, and its connection is closed. Histories and executions have the newest first.
-use Rattle.std.specs.Prelude.{ℕ, List, [], ◌∷◌, None, codes}
+use Rattle.std.specs.Prelude.{ℕ, List, [], ◌∷◌, ◌++◌, None, codes}
 use Rattle.resty_base.specs.declared.names.Id.TheVariants as id
 use Rattle.resty_base.specs.declared.names.StrandId.TheVariants as strand
 use Rattle.resty_world.specs.declared.event.Event.{Event}
@@ -12,12 +12,25 @@ use Rattle.strand_contract.specs.declared.turns.Place.TheVariants as place
 use Rattle.strand_contract.specs.declared.turns.Start.TheVariants as start
 use Rattle.strand_contract.specs.Actions.{Moment, Stop, Action, Began, Bytes, Run, Offer, Put, Close, Gone}
 use Rattle.executions.specs.Executions.{GlobalAction, Of, Everyone}
-use Rattle.strand.specs.declared.strand.NoJob.{NoJob}
-use Rattle.strand.specs.Examples.{hi_reply}
+use Rattle.http_reply.specs.Lines.{line_end}
+use Rattle.run_contract.specs.declared.stored.NoJob.{NoJob}
+use Rattle.worked_example.specs.Site.{hi}
 
 -- what the client asks
 abbrev pub request : List ℕ
 request = codes "GET / HTTP/1.0\r\n\r\n"
+
+-- what it gets, with the date of the second in which the reply is made
+abbrev pub reply_dated : List ℕ → List ℕ
+reply_dated date =
+    codes "HTTP/1.1 200 OK" ++ line_end
+    ++ codes "Server: resty" ++ line_end
+    ++ codes "Date: " ++ date ++ line_end
+    ++ codes "Content-Type: text/plain" ++ line_end
+    ++ codes "Connection: close" ++ line_end ++ line_end ++ hi
+
+abbrev pub hi_reply : List ℕ
+hi_reply = reply_dated (codes "Thu, 01 Jan 1970 00:00:01 GMT")
 
 -- what is given: a moment, the client's arrival and its request
 abbrev pub at_second_1 : Event

@@ -1,3 +1,4 @@
+pub mod Site
 pub mod Exchange
 pub mod Texts
 pub mod Spoiled

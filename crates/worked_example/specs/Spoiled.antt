@@ -1,5 +1,5 @@
 -- Histories that are the exchange's but for one thing.
-use Rattle.std.specs.Prelude.{◌≡◌, List, [], ◌∷◌, take}
+use Rattle.std.specs.Prelude.{◌≡◌, List, [], ◌∷◌, take, codes}
 use Rattle.resty_base.specs.declared.names.Id.TheVariants as id
 use Rattle.resty_base.specs.declared.names.StrandId.TheVariants as strand
 use Rattle.resty_world.specs.declared.event.Event.{Event}
@@ -11,11 +11,9 @@ use Rattle.executions.specs.Histories.{external}
 use Rattle.executions.specs.Lawful.{IsLawful}
 use Rattle.executions.specs.Plain.{IsPlain}
 use Rattle.executions.specs.Ordered.{IsOrdered}
-use Rattle.strand.specs.declared.strand.NoJob.{NoJob}
-use Rattle.strand.specs.Examples.{hi, hi_reply}
-use Rattle.strand.specs.Literal.{literal_behavior}
-use Rattle.strand.specs.Replies.{reply}
-use Rattle.worked_example.specs.Exchange.{at_second_1, arrives, asked}
+use Rattle.run_contract.specs.declared.stored.NoJob.{NoJob}
+use Rattle.worked_example.specs.Site.{hi_behavior}
+use Rattle.worked_example.specs.Exchange.{reply_dated, hi_reply, at_second_1, arrives, asked}
 
 -- the last byte of the reply is lost
 abbrev pub byte_lost : List Entry
@@ -27,7 +25,7 @@ put_after_stop = entry.Close (id.Conn 1) ∷ entry.Put (id.Conn 1) hi_reply ∷ 
 
 -- the reply has the date of a second later
 abbrev pub date_late : List Entry
-date_late = entry.Given event.Stop ∷ entry.Close (id.Conn 1) ∷ entry.Put (id.Conn 1) (reply hi 2_000) ∷ asked
+date_late = entry.Given event.Stop ∷ entry.Close (id.Conn 1) ∷ entry.Put (id.Conn 1) (reply_dated (codes "Thu, 01 Jan 1970 00:00:02 GMT")) ∷ asked
 
 -- the connection isn't closed after the reply
 abbrev pub no_close : List Entry
@@ -36,19 +34,19 @@ no_close = entry.Given event.Stop ∷ entry.Put (id.Conn 1) hi_reply ∷ asked
 -- no execution that is lawful and plain has this history
 abbrev pub HasNoExecution : List Entry → Type 0
 HasNoExecution h =
-    (ms : List (GlobalAction NoJob)) → IsLawful (literal_behavior hi) ms → IsPlain (literal_behavior hi) ms
-    → external (literal_behavior hi) ms ≡ h → ⊥
+    (ms : List (GlobalAction NoJob)) → IsLawful hi_behavior ms → IsPlain hi_behavior ms
+    → external hi_behavior ms ≡ h → ⊥
 
 -- none that is lawful, plain and ordered has it
 abbrev pub HasNoOrderedExecution : List Entry → Type 0
 HasNoOrderedExecution h =
-    (ms : List (GlobalAction NoJob)) → IsLawful (literal_behavior hi) ms → IsPlain (literal_behavior hi) ms → IsOrdered (literal_behavior hi) ms
-    → external (literal_behavior hi) ms ≡ h → ⊥
+    (ms : List (GlobalAction NoJob)) → IsLawful hi_behavior ms → IsPlain hi_behavior ms → IsOrdered hi_behavior ms
+    → external hi_behavior ms ≡ h → ⊥
 
 -- none that is plain has it
 abbrev pub HasNoPlainExecution : List Entry → Type 0
 HasNoPlainExecution h =
-    (ms : List (GlobalAction NoJob)) → IsPlain (literal_behavior hi) ms → external (literal_behavior hi) ms ≡ h → ⊥
+    (ms : List (GlobalAction NoJob)) → IsPlain hi_behavior ms → external hi_behavior ms ≡ h → ⊥
 
 -- the request is never given, though the connection is open: Stop closes it
 abbrev pub not_asked : List Entry

@@ -1,6 +1,7 @@
 //! Laws of one exchange, each the contract of a function that does nothing.
 
 ghost use Rattle.std.specs.Prelude.{◌≡◌, ℕ, List};
+ghost use Rattle.std.specs.Global.{Global};
 ghost use Rattle.schedule_text.specs.EntryTexts.{history_text};
 ghost use Rattle.schedule_text.specs.Accepted.{IsRead};
 ghost use Rattle.schedule.specs.Told.{IsTold};
@@ -8,29 +9,28 @@ ghost use Rattle.executions.specs.Histories.{external, offered_lengths};
 ghost use Rattle.executions.specs.Lawful.{IsLawful, IsKept};
 ghost use Rattle.executions.specs.Plain.{IsPlain};
 ghost use Rattle.executions.specs.Ordered.{IsOrdered};
-ghost use Rattle.strand.specs.Configuration.{IsSite};
-ghost use Rattle.strand.specs.Examples.{hi};
-ghost use Rattle.strand.specs.Literal.{literal_behavior};
+ghost use Rattle.literal_site.specs.Sites.{IsLiteralSite};
+ghost use Rattle.worked_example.specs.Site.{hi_site, hi_behavior};
 ghost use Rattle.worked_example.specs.Exchange.{lines, history, exchange};
 ghost use Rattle.worked_example.specs.Texts.{configuration_text, schedule_text, exchange_text};
 ghost use Rattle.worked_example.specs.Spoiled.{HasNoExecution, HasNoPlainExecution, HasNoOrderedExecution};
 ghost use Rattle.worked_example.specs.Spoiled.{byte_lost, put_after_stop, date_late, no_close, not_asked, turned_away, dropped_by_others};
 
-/// The texts of the exchange are those of its configuration, its schedule and its history.
+/// The texts of the exchange are those of its site, its schedule and its history; a program stands in memory, of which there is some.
 pub fn texts()
-    ensures site { IsSite configuration_text hi }
+    ensures site { (heap : Global) → IsLiteralSite configuration_text hi_site }
     ensures schedule { IsRead schedule_text lines }
     ensures history { history_text history ≡ exchange_text }
 {}
 
 /// The exchange is a run of its schedule: it is told by these lines, lawful, kept, plain and ordered.
 pub fn a_run()
-    ensures history { external (literal_behavior hi) exchange ≡ history }
-    ensures told { IsTold lines history (offered_lengths (literal_behavior hi) exchange) }
-    ensures lawful { IsLawful (literal_behavior hi) exchange }
-    ensures kept { IsKept (literal_behavior hi) exchange }
-    ensures plain { IsPlain (literal_behavior hi) exchange }
-    ensures ordered { IsOrdered (literal_behavior hi) exchange }
+    ensures history { external hi_behavior exchange ≡ history }
+    ensures told { IsTold lines history (offered_lengths hi_behavior exchange) }
+    ensures lawful { IsLawful hi_behavior exchange }
+    ensures kept { IsKept hi_behavior exchange }
+    ensures plain { IsPlain hi_behavior exchange }
+    ensures ordered { IsOrdered hi_behavior exchange }
 {}
 
 /// The spoiled histories are of no execution that is lawful and plain.

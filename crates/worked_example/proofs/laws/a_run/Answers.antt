@@ -1,5 +1,8 @@
-use Rattle.worked_example.proofs.Run.{told, right}
+use Rattle.worked_example.proofs.Run.{shows, told, right}
 use Rattle.worked_example.proofs.laws.a_run.Goals as goal
+
+pub returns-clause-history : goal.returns-clause-history
+returns-clause-history c = shows
 
 pub returns-clause-told : goal.returns-clause-told
 returns-clause-told c = told

@@ -1,6 +1,7 @@
 use Rattle.std.proofs.Common.{refl}
 use Rattle.std.specs.Fmt.{digits}
-use Rattle.worked_example.proofs.Texts.{schedule, site}
+use Rattle.worked_example.proofs.Texts.{schedule}
+use Rattle.worked_example.proofs.Programmed.{site}
 use Rattle.worked_example.proofs.laws.texts.Goals as goal
 
 pub returns-clause-site : goal.returns-clause-site

@@ -25,7 +25,8 @@ returns-clause-standing g c = λ site f.
       )
       | else-is_open w ↦ (
         Of (strand.Conn k) Dropped None ∷ f.0,
-        fallen-shut _ _ k (g.met.S.StrandContract.quiet site) _ _ (g.W.World.book c.args.world.now) (g.W.World.book c.note.new.self) (g.W.World.book c.forget.new.self) _ f.0 (rw w.if-is_open.false at f.1) c.note.ensures.notes (rw w.world-is at c.forget.ensures.forgets) (rw (w.self-is, c.end.ensures) (ap (λ seats. record (view_of c.args.self.now) { seats = seats; agenda = without_those (is_of (strand.Conn k)) c.args.self.now.agenda }) same)),
+        fallen-shut _ _ k (g.met.S.StrandContract.quiet site) _ _ (g.W.World.book c.args.world.now) (g.W.World.book c.note.new.self) (g.W.World.book c.forget.new.self) _ f.0 (rw w.if-is_open.false at f.1)
+            c.note.ensures.notes (rw w.world-is at c.forget.ensures.forgets) (rw (w.self-is, c.end.ensures) (ap (λ seats. record (view_of c.args.self.now) { seats = seats; agenda = without_those (is_of (strand.Conn k)) c.args.self.now.agenda }) same)),
       )
     ]
 
