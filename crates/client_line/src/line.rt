@@ -113,7 +113,9 @@ impl Line {
     {
         match &self.at {
             At::Present(Some(body), _, _) => body.waits(&self.held.rest),
-            At::Present(None, kind, _) => BodyIn::new(self.alloc, *kind, max).waits(&self.held.rest),
+            At::Present(None, kind, _) => BodyIn::new(self.alloc, *kind, max).waits(
+                &self.held.rest,
+            ),
             _ => false,
         }
     }
