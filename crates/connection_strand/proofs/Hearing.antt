@@ -1,5 +1,5 @@
 -- Requests in turn: where no run is, one begins, a head is refused, or more is waited for.
-use Rattle.std.proofs.Common.{◌≡◌, ℕ, ◌==◌, Bool, true, false, not, ◌&&◌, List, [], ◌∷◌, ◌++◌, length, Option, Some, None, if◌then◌else◌, refl, sym, ap, ◌∙◌, subst}
+use Rattle.std.proofs.Common.{◌≡◌, ℕ, ◌==◌, Bool, true, false, not, ◌&&◌, ◌||◌, ◌⊎◌, inl, inr, List, [], ◌∷◌, ◌++◌, length, Option, Some, None, if◌then◌else◌, refl, sym, ap, ◌∙◌, subst}
 use Rattle.uri_args.specs.declared.targets.Target.{Target}
 use Rattle.http_in.specs.declared.heads.Head.{Head}
 use Rattle.client_line.specs.declared.requests.LineOut.{LineOut}
@@ -17,16 +17,17 @@ use Rattle.run_contract.specs.declared.turns.RunTurn.{RunTurn}
 use Rattle.run_contract.specs.Runs.{Waits, waits_at_first, performed}
 use Rattle.run_contract.specs.Calls as calls
 use Rattle.run_contract.specs.Conditions.{IsBlank, IsRun, IsLeft}
-use Rattle.connection.specs.Clients.{Stage, Client, with_request}
+use Rattle.connection.specs.Clients.{Stage, Client, with_request, with_refusal, closes_after}
 use Rattle.connection.specs.Clients as stage
 use Rattle.connection.specs.Services.{Service, Both}
+use Rattle.connection.specs.Timers as timer
 use Rattle.connection.specs.Conditions.{Agrees}
-use Rattle.connection.specs.Turns.{is_there, is_all_taken, change, begin, finish, close_if_taken, refuse, wait_for}
+use Rattle.connection.specs.Turns.{is_there, is_all_taken, change, send, begin, end_timer, finish, close_if_taken, refuse, wait_for, heard_by, next, flush}
 use Rattle.connection_strand.specs.declared.state.Connection.{Connection}
 use Rattle.connection_strand.specs.declared.state.Turn.{Turn}
 use Rattle.connection_strand.specs.Kept.{Kept, kept, kept_of, waits_of, all_taken}
 use Rattle.connection_strand.specs.Standing.{Moment, plain, HasRun, Serves, Within, Toward, IsOn, IsFree, before, places, asking}
-use Rattle.connection_strand.specs.Turns.{Took, IsRefusedAt}
+use Rattle.connection_strand.specs.Turns.{Took, IsRefusedAt, IsAnswered}
 use Rattle.connection_strand.proofs.Moving.{IsSameRun}
 
 module _ {R J I : Type 0} (site : Service J I) (holds : Ledger J → I → Type 0) (stands : R → Ledger J → I → Type 0) where
@@ -141,7 +142,7 @@ module _ {R J I : Type 0} (site : Service J I) (holds : Ledger J → I → Type 
 
   -- ---- what is waited for
 
-  looks : (go : Ledger J → Both I → Move J (Both I)) (n : Move J (Both I)) (e : Moment J) (did : Performed J (Both I)) (c : Connection R) (u : Turn J)
+  abbrev looks : (go : Ledger J → Both I → Move J (Both I)) (n : Move J (Both I)) (e : Moment J) (did : Performed J (Both I)) (c : Connection R) (u : Turn J)
       → (h : To e did c u (Look go)) → go h.ledger h.inner ≡ n → To e did c u n
   looks go n e did c u h is = record {
     ledger = h.ledger;
@@ -164,19 +165,41 @@ module _ {R J I : Type 0} (site : Service J I) (holds : Ledger J → I → Type 
   refused-at now code line.Head bytes x h e = absurd h
   refused-at now code (line.Present body kind skips) bytes x h e = absurd h
 
+  abbrev pub Refuses : ℕ → ℕ → Moment J → Performed J (Both I) → Connection R → Turn J → Type 0
+  Refuses now code e did c u = To e did c u (Look (λ b s. end_timer site now timer.Header (refuse site now s.client.came.at code)))
+
   pub refuses-head : (now code : ℕ) (e : Moment J) (did : Performed J (Both I)) (c : Connection R) (u : Turn J) (x : Held) → IsRefusedAt (kept c.client).came.at
       → x ≡ held_in (kept c.client).came.at (kept c.client).came.held → x ≡ held.Begun
-      → To e did c u (Look (λ b s. refuse site now s.client.came.at code)) → To e did c u (refuse site now (line.Over code) code)
+      → Refuses now code e did c u → To e did c u (end_timer site now timer.Header (refuse site now (line.Over code) code))
   refuses-head now code e did c u x at is begun h =
       let came = ap (λ (k : Kept). k.came) h.within.serves.client in
-      looks _ _ e did c u h (ap (λ (k : Came). refuse site now k.at code) (sym came) ∙ (refused-at now code (kept c.client).came.at (kept c.client).came.held x at is).0 begun)
+      looks _ _ e did c u h (ap (end_timer site now timer.Header)
+      (ap (λ (k : Came). refuse site now k.at code) (sym came) ∙ (refused-at now code (kept c.client).came.at (kept c.client).came.held x at is).0 begun))
 
   pub refuses-body : (now code : ℕ) (e : Moment J) (did : Performed J (Both I)) (c : Connection R) (u : Turn J) (x : Held) → IsRefusedAt (kept c.client).came.at
       → x ≡ held_in (kept c.client).came.at (kept c.client).came.held → (x ≡ held.Begun → ⊥)
-      → To e did c u (Look (λ b s. refuse site now s.client.came.at code)) → To e did c u finish
+      → Refuses now code e did c u → To e did c u (end_timer site now timer.Header finish)
   refuses-body now code e did c u x at is begun h =
       let came = ap (λ (k : Kept). k.came) h.within.serves.client in
-      looks _ _ e did c u h (ap (λ (k : Came). refuse site now k.at code) (sym came) ∙ (refused-at now code (kept c.client).came.at (kept c.client).came.held x at is).1 begun)
+      looks _ _ e did c u h (ap (end_timer site now timer.Header)
+      (ap (λ (k : Came). refuse site now k.at code) (sym came) ∙ (refused-at now code (kept c.client).came.at (kept c.client).came.held x at is).1 begun))
+
+  pub refuses-now : (now code : ℕ) (st : Stage) (did : Performed J (Both I)) (c c' : Connection R) (u : Turn J) (bytes : List ℕ) → IsFree st → IsSameRun c c'
+      → kept c'.client ≡ record (kept c.client) { stage = stage.Flush; times = site.default_times; reply = stage.Whole true } → bytes ≡ site.refusal code now
+      → To (plain st) did c u (refuse site now (line.Over code) code) → To (plain stage.Flush) did c' u (send site 0 bytes (close_if_taken site now))
+  refuses-now now code st did c c' u bytes free same client is h =
+      subst (λ (xs : List ℕ). To (plain stage.Flush) did c' u (send site 0 xs (close_if_taken site now))) (sym is)
+      (restages (with_refusal code site.default_times) (λ k. record k { stage = stage.Flush; times = site.default_times; reply = stage.Whole true }) st stage.Flush did c c' u
+      (send site now (site.refusal code now) (close_if_taken site now)) free tt (λ b x. refl) (λ x. refl) same client h)
+
+  pub not-begun : (x : Held) → (x ≡ held.Request) ⊎ ((x ≡ held.Body) ⊎ (x ≡ held.Nothing)) → x ≡ held.Begun → ⊥
+  not-begun x h e = elim h [
+    | inl f ↦ let g : held.Request ≡ held.Begun = sym f ∙ e in cc
+    | inr y ↦ elim y [
+      | inl f ↦ let g : held.Body ≡ held.Begun = sym f ∙ e in cc
+      | inr f ↦ let g : held.Nothing ≡ held.Begun = sym f ∙ e in cc
+    ]
+  ]
 
   -- all is taken, by what is kept
   pub taken-is : (c : Connection R) (u : Turn J) (b : Ledger J) (s : Both I) → Serves c u b s → all_taken (kept c.client) ≡ is_all_taken b
@@ -190,3 +213,80 @@ module _ {R J I : Type 0} (site : Service J I) (holds : Ledger J → I → Type 
       → To e did c u (close_if_taken site now) → To e did c u (if x then finish else Done)
   closes now e did c u x is h =
       looks _ _ e did c u h (ap (λ (y : Bool). if y then finish else Done) (sym (taken-is c u h.ledger h.inner h.within.serves) ∙ is))
+
+  -- ---- what is heard
+
+  abbrev pub Heard : ℕ → Bool → Move J (Both I) → LineOut → Moment J → Performed J (Both I) → Connection R → Turn J → Type 0
+  Heard now anew rest answer e did c u = To e did c u (Look (λ b s. heard_by site now anew rest s.client.came s.client.ended answer))
+
+  abbrev heard-as : (now : ℕ) (anew : Bool) (rest : Move J (Both I)) (x y : LineOut) (e : Moment J) (did : Performed J (Both I)) (c : Connection R) (u : Turn J) → x ≡ y
+      → Heard now anew rest x e did c u → Heard now anew rest y e did c u
+  heard-as now anew rest x y e did c u is h = subst (λ (z : LineOut). Heard now anew rest z e did c u) is h
+
+  pub hears-request : (now : ℕ) (anew : Bool) (rest : Move J (Both I)) (x : LineOut) (head : Head) (target : Target) (e : Moment J) (did : Performed J (Both I)) (c : Connection R) (u : Turn J)
+      → x ≡ out.Request head target → Heard now anew rest x e did c u → To e did c u (end_timer site now timer.Header (begin site now rest head target))
+  hears-request now anew rest x head target e did c u is h =
+      let g = heard-as now anew rest x (out.Request head target) e did c u is h in
+      record { ledger = g.ledger; inner = g.inner; within = g.within; leads = g.leads }
+
+  pub hears-refusal : (now : ℕ) (anew : Bool) (rest : Move J (Both I)) (x : LineOut) (code : ℕ) (e : Moment J) (did : Performed J (Both I)) (c : Connection R) (u : Turn J)
+      → x ≡ out.Refused code → Heard now anew rest x e did c u → Refuses now code e did c u
+  hears-refusal now anew rest x code e did c u is h =
+      let g = heard-as now anew rest x (out.Refused code) e did c u is h in
+      record { ledger = g.ledger; inner = g.inner; within = g.within; leads = g.leads }
+
+  pub hears-end : (now : ℕ) (anew : Bool) (rest : Move J (Both I)) (x : LineOut) (e : Moment J) (did : Performed J (Both I)) (c : Connection R) (u : Turn J)
+      → x ≡ out.Waiting → c.client.has_ended ≡ true → Heard now anew rest x e did c u → To e did c u finish
+  hears-end now anew rest x e did c u is ended h =
+      let g = heard-as now anew rest x out.Waiting e did c u is h in
+      looks _ _ e did c u g (ap (λ (y : Bool). if y then finish else (if anew then wait_for site now (held_in g.inner.client.came.at g.inner.client.came.held) else Done))
+      (sym (ap (λ (k : Kept). k.ended) g.within.serves.client) ∙ ended))
+
+  pub hears-waiting : (now : ℕ) (anew y : Bool) (rest : Move J (Both I)) (x : LineOut) (e : Moment J) (did : Performed J (Both I)) (c : Connection R) (u : Turn J)
+      → x ≡ out.Waiting → c.client.has_ended ≡ false → anew ≡ y → Heard now anew rest x e did c u
+      → To e did c u (Look (λ b s. if y then wait_for site now (held_in s.client.came.at s.client.came.held) else Done))
+  hears-waiting now anew y rest x e did c u is ended anew-is h =
+      let g = heard-as now anew rest x out.Waiting e did c u is h in
+      let waits : Bool → Move J (Both I) = λ z. if z then wait_for site now (held_in g.inner.client.came.at g.inner.client.came.held) else Done in
+      let n = looks _ (waits y) e did c u g (ap (λ (z : Bool). if z then finish else waits anew) (sym (ap (λ (k : Kept). k.ended) g.within.serves.client) ∙ ended) ∙ ap waits anew-is) in
+      record { ledger = n.ledger; inner = n.inner; within = n.within; leads = n.leads }
+
+  pub hears-nothing : (now : ℕ) (anew : Bool) (rest : Move J (Both I)) (x : LineOut) (e : Moment J) (did : Performed J (Both I)) (c : Connection R) (u : Turn J)
+      → x ≡ out.Waiting → c.client.has_ended ≡ false → anew ≡ false → Heard now anew rest x e did c u → To e did c u Done
+  hears-nothing now anew rest x e did c u is ended anew-is h =
+      let n = hears-waiting now anew false rest x e did c u is ended anew-is h in
+      record { ledger = n.ledger; inner = n.inner; within = n.within; leads = n.leads }
+
+  -- ---- a reply that is to be taken
+
+  abbrev pub Flushes : ℕ → Move J (Both I) → Moment J → Performed J (Both I) → Connection R → Turn J → Type 0
+  Flushes now rest e did c u = To e did c u (Look (λ b s. flush site now rest b s.client))
+
+  pub flushes-not : (now : ℕ) (rest : Move J (Both I)) (e : Moment J) (did : Performed J (Both I)) (c : Connection R) (u : Turn J) → all_taken (kept c.client) ≡ false
+      → Flushes now rest e did c u → To e did c u Done
+  flushes-not now rest e did c u is h =
+      looks _ _ e did c u h (ap (λ (x : Bool). if not x then Done else (if not (is_there h.ledger) || closes_after h.inner.client.reply then finish else next site now rest h.inner.client))
+      (sym (taken-is c u h.ledger h.inner h.within.serves) ∙ is))
+
+  pub flushes-end : (now : ℕ) (y : Bool) (rest : Move J (Both I)) (e : Moment J) (did : Performed J (Both I)) (c : Connection R) (u : Turn J) → all_taken (kept c.client) ≡ true
+      → (not (kept c.client).opened || closes_after (kept c.client).reply) ≡ y
+      → Flushes now rest e did c u → To e did c u (Look (λ b s. if y then finish else next site now rest s.client))
+  flushes-end now y rest e did c u is ends h =
+      let n = looks _ (if y then finish else next site now rest h.inner.client) e did c u h
+      (ap (λ (x : Bool). if not x then Done else (if not (is_there h.ledger) || closes_after h.inner.client.reply then finish else next site now rest h.inner.client))
+      (sym (taken-is c u h.ledger h.inner h.within.serves) ∙ is)
+      ∙ ap (λ (x : Bool). if x then finish else next site now rest h.inner.client) (sym (ap (λ (k : Kept). not k.opened || closes_after k.reply) h.within.serves.client) ∙ ends)) in
+      record { ledger = n.ledger; inner = n.inner; within = n.within; leads = n.leads }
+
+  pub flushes-finish : (now : ℕ) (rest : Move J (Both I)) (e : Moment J) (did : Performed J (Both I)) (c : Connection R) (u : Turn J) → all_taken (kept c.client) ≡ true
+      → (not (kept c.client).opened || closes_after (kept c.client).reply) ≡ true → Flushes now rest e did c u → To e did c u finish
+  flushes-finish now rest e did c u is ends h =
+      let n = flushes-end now true rest e did c u is ends h in record { ledger = n.ledger; inner = n.inner; within = n.within; leads = n.leads }
+
+  pub flushes-next : (now : ℕ) (rest : Move J (Both I)) (e : Moment J) (did : Performed J (Both I)) (c : Connection R) (u : Turn J) → all_taken (kept c.client) ≡ true
+      → (not (kept c.client).opened || closes_after (kept c.client).reply) ≡ false → Flushes now rest e did c u → To e did c u (Look (λ b s. next site now rest s.client))
+  flushes-next now rest e did c u is ends h =
+      let n = flushes-end now false rest e did c u is ends h in record { ledger = n.ledger; inner = n.inner; within = n.within; leads = n.leads }
+
+pub refused-so : (x : LineOut) (code : ℕ) (at : At) → x ≡ out.Refused code → IsAnswered x at → IsRefusedAt at
+refused-so x code at e h = subst (λ (y : LineOut). IsAnswered y at) e h

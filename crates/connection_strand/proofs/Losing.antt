@@ -84,13 +84,13 @@ module _ {R J I : Type 0} (site : Service J I) (holds : Ledger J → I → Type 
       let w = h.within.serves in
       let open_is : is_there b ≡ c.client.is_open = sym (ap (λ (k : Kept). k.opened) w.client) in
       let all : u.acts.items ++ ending b.opened ≡ u'.acts.items =
-          ap (λ ps. u.acts.items ++ ending ps) w.sockets
-          ∙ ap (λ xs. u.acts.items ++ xs) (ending-places (is_there b) c.sockets.items)
-          ∙ ap (λ o. u.acts.items ++ (client_act o ++ (hang_ups c.sockets.items ++ act.Gone ∷ []))) open_is
-          ∙ sym (append_assoc u.acts.items (client_act c.client.is_open) (hang_ups c.sockets.items ++ act.Gone ∷ []))
-          ∙ ap (λ xs. xs ++ (hang_ups c.sockets.items ++ act.Gone ∷ [])) (sym first)
-          ∙ sym (append_assoc acts (hang_ups c.sockets.items) (act.Gone ∷ []))
-          ∙ ap (λ xs. xs ++ act.Gone ∷ []) (sym others) ∙ sym gone in
+      ap (λ ps. u.acts.items ++ ending ps) w.sockets
+      ∙ ap (λ xs. u.acts.items ++ xs) (ending-places (is_there b) c.sockets.items)
+      ∙ ap (λ o. u.acts.items ++ (client_act o ++ (hang_ups c.sockets.items ++ act.Gone ∷ []))) open_is
+      ∙ sym (append_assoc u.acts.items (client_act c.client.is_open) (hang_ups c.sockets.items ++ act.Gone ∷ []))
+      ∙ ap (λ xs. xs ++ (hang_ups c.sockets.items ++ act.Gone ∷ [])) (sym first)
+      ∙ sym (append_assoc acts (hang_ups c.sockets.items) (act.Gone ∷ []))
+      ∙ ap (λ xs. xs ++ act.Gone ∷ []) (sym others) ∙ sym gone in
       subst (λ (p : Performed J (Both I)). Came site.runs holds stands p c' u') (sym h.leads) (record {
         acts = all;
         stays = λ on. absurd (let e : true ≡ false = on in cc);
@@ -142,9 +142,13 @@ module _ {R J I : Type 0} (site : Service J I) (holds : Ledger J → I → Type 
       → (run : R) → c.run ≡ Some run → calls.MayBeTold site.runs holds stands now x run
   may-tell now x c u may h run is =
       let same = unasked c u h.0 h.1 h.2 in
-      let mine : h.2.run.0 ≡ run = (let g : Some h.2.run.0 ≡ Some run = sym h.2.run.1 ∙ is in cc) in
-      (h.0, h.1.run, subst (λ (y : R). stands y h.0 h.1.run) mine (subst (λ (l : Ledger J). stands h.2.run.0 l h.1.run) same h.2.run.2),
-      subst (λ (l : Ledger J). holds l h.1.run) same h.2.known, (may h.0 h.1.run h.2.serves.none_asked h.2.run.3).1)
+      let mine : h.2.run.0 ≡ run = (let g : Some h.2.run.0 ≡ Some run = sym h.2.run.1 ∙ is in cc) in (
+        h.0,
+        h.1.run,
+        subst (λ (y : R). stands y h.0 h.1.run) mine (subst (λ (l : Ledger J). stands h.2.run.0 l h.1.run) same h.2.run.2),
+        subst (λ (l : Ledger J). holds l h.1.run) same h.2.known,
+        (may h.0 h.1.run h.2.serves.none_asked h.2.run.3).1,
+      )
 
   pub tells : (now : ℕ) (x : RunSeen) (did : Performed J (Both I)) (c : Connection R) (u : Turn J) (m : Move J (Both I)) → MayTell now x c
       → To (plain stage.Busy) did c u (tell site now x m) → Told site holds stands now x did c u m
@@ -278,8 +282,8 @@ module _ {R J I : Type 0} (site : Service J I) (holds : Ledger J → I → Type 
         within = w;
         leads = h.leads ∙ ap (λ (x : Stage). before u.acts.items (perform (lose_at site now x s) b s)) at
             ∙ ap (λ (p : Performed J (Both I)). before u.acts.items (after_act_if (has place.Client b.opened) (act.HangUp place.Client) p))
-                (ends-same now timer.Body (end_timer site now timer.Send told) (end_timer site now timer.Send (tells_gone now)) s
-                (ends-same now timer.Send told (tells_gone now) s (λ l. refl)) (hung_up place.Client b));
+            (ends-same now timer.Body (end_timer site now timer.Send told) (end_timer site now timer.Send (tells_gone now)) s
+            (ends-same now timer.Send told (tells_gone now) s (λ l. refl)) (hung_up place.Client b));
       }
 
   pub tells-gone : (now : ℕ) (did : Performed J (Both I)) (c : Connection R) (u : Turn J) (x : Bool) → c.waits.client ≡ x
@@ -301,6 +305,9 @@ module _ {R J I : Type 0} (site : Service J I) (holds : Ledger J → I → Type 
 
   pub may-be-gone : (now : ℕ) (c : Connection R) → c.waits.client ≡ true → MayTell now seen.ClientGone c
   may-be-gone now c client b r none waits = (refl, (none, sym (ap (λ (w : Waits). w.client) waits) ∙ client))
+
+  pub has-run : (c : Connection R) (u : Turn J) → IsAt site.runs holds stands stage.Busy c u → c.run ≡ None → ⊥
+  has-run c u h e = let f : None ≡ Some h.2.run.0 = sym e ∙ h.2.run.1 in cc
 
   pub busy-is : (c : Connection R) (u : Turn J) → IsAt site.runs holds stands stage.Busy c u → (kept c.client).stage ≡ stage.Busy
   busy-is c u h = ap (λ (k : Kept). k.stage) h.2.serves.client ∙ h.2.at

@@ -57,7 +57,7 @@ one-more acts acts' a did done e h =
 
 module _ {R J I : Type 0} (site : Service J I) (holds : Ledger J → I → Type 0) (stands : R → Ledger J → I → Type 0)
     (lawful : IsRun site.runs holds) (apart : (x : R) (b c : Ledger J) (r : I) → AreAlike b c → stands x b r → stands x c r) where
-  run-alike : (st : Stage) (c c' : Connection R) (b b' : Ledger J) (r : I) → c'.run ≡ c.run → c'.waits ≡ c.waits → AreAlike b b'
+  pub run-alike : (st : Stage) (c c' : Connection R) (b b' : Ledger J) (r : I) → c'.run ≡ c.run → c'.waits ≡ c.waits → AreAlike b b'
       → HasRun site.runs stands st c b r → HasRun site.runs stands st c' b' r
   run-alike stage.Busy c c' b b' r e f same h = (h.0, e ∙ h.1, apart h.0 b b' r same h.2, ap (λ w. record { body = w.body; taken = w.taken; client = w.client }) f ∙ h.3)
   run-alike stage.Idle c c' b b' r e f same h = tt

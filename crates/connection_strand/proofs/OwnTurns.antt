@@ -93,8 +93,12 @@ module _ {R J I : Type 0} (site : Service J I) (holds : Ledger J → I → Type 
         record {
           serves = serves;
           at = h.busy;
-          run = (h.run, x.run ∙ h.is, subst (λ (l : Ledger J). stands h.run l made.state.inner) same h.standing,
-              x.waits ∙ ap (λ words. waits_said words (waits_of c.waits)) h.said ∙ sym h.left.waits);
+          run = (
+            h.run,
+            x.run ∙ h.is,
+            subst (λ (l : Ledger J). stands h.run l made.state.inner) same h.standing,
+            x.waits ∙ ap (λ words. waits_said words (waits_of c.waits)) h.said ∙ sym h.left.waits,
+          );
           known = subst (λ (l : Ledger J). holds l made.state.inner) same h.left.known;
           blank = λ over. subst IsBlank same (h.left.over over);
         }
@@ -116,15 +120,14 @@ module _ {R J I : Type 0} (site : Service J I) (holds : Ledger J → I → Type 
               let none-waits = asked-none None e refl in
               let rest = perform (says site now h.turn.said m) d s in
               h.leads ∙ ap (before u.acts.items) (turn-goes-on site now h.turn b h.inner h.own h.serves.none_asked e m
-                  ∙ ap (λ (l : Ledger J). before made.acts (perform (says site now h.turn.said m) l s)) (ap (λ a. record made.state.ledger { asked = a }) e))
+              ∙ ap (λ (l : Ledger J). before made.acts (perform (says site now h.turn.said m) l s)) (ap (λ a. record made.state.ledger { asked = a }) e))
               ∙ ap (λ xs. record { state = rest.state; acts = xs })
-                  (ap (λ xs. u.acts.items ++ (xs ++ rest.acts)) (sym (acts-are ∙ done-all made.acts none-waits)) ∙ sym (append_assoc u.acts.items (done_of next.acts.items) rest.acts)
-                  ∙ ap (λ xs. xs ++ rest.acts) (sym x.acts));
+              (ap (λ xs. u.acts.items ++ (xs ++ rest.acts)) (sym (acts-are ∙ done-all made.acts none-waits)) ∙ sym (append_assoc u.acts.items (done_of next.acts.items) rest.acts)
+              ∙ ap (λ xs. xs ++ rest.acts) (sym x.acts));
         }
         by (Some y) e = absurd (
             let asks = turn-asks site now h.turn b h.inner h.own h.serves.none_asked y e in
             let f : None ≡ Some (questions.asking y) = sym none ∙ ap question_in (h.acts ∙ asks.all_acts) ∙ question-is asks.acts y asks.none in cc)
-
 
     -- it asks something, after what it says
     pub record Questions (a : Act J) : Type 0 where
@@ -154,9 +157,9 @@ module _ {R J I : Type 0} (site : Service J I) (holds : Ledger J → I → Type 
               toward = record { ledger = d; inner = s; within = within-by (Some y) e; leads = refl };
               leads = h.leads ∙ ap (before u.acts.items) (ends.made m)
                   ∙ ap (λ xs. record { state = state; acts = xs })
-                    (sym (append_assoc u.acts.items ends.acts (rest.acts ++ questions.asking y ∷ []))
-                    ∙ sym (append_assoc (u.acts.items ++ ends.acts) rest.acts (questions.asking y ∷ []))
-                    ∙ ap (λ xs. (xs ++ rest.acts) ++ questions.asking y ∷ []) (ap (λ xs. u.acts.items ++ xs) (sym done) ∙ sym x.acts));
+                  (sym (append_assoc u.acts.items ends.acts (rest.acts ++ questions.asking y ∷ []))
+                  ∙ sym (append_assoc (u.acts.items ++ ends.acts) rest.acts (questions.asking y ∷ []))
+                  ∙ ap (λ xs. (xs ++ rest.acts) ++ questions.asking y ∷ []) (ap (λ xs. u.acts.items ++ xs) (sym done) ∙ sym x.acts));
             }
 
 kept-asking : {J : Type 0} (x : Question J) → kept_socket (questions.asking x) ≡ kept_sock (Some x)
@@ -189,7 +192,7 @@ module _ {R J I : Type 0} (site : Service J I) (holds : Ledger J → I → Type 
       let s = h.inner in
       let w = h.within.serves in
       let to : did ≡ record { state = record { ledger = asking (Some y) b; inner = s }; acts = (u.acts.items ++ []) ++ questions.asking y ∷ [] } =
-          leads ∙ ap (λ (p : Performed J (Both I)). record { state = record { ledger = asking (Some y) p.state.ledger; inner = p.state.inner }; acts = p.acts ++ questions.asking y ∷ [] }) h.leads in
+      leads ∙ ap (λ (p : Performed J (Both I)). record { state = record { ledger = asking (Some y) p.state.ledger; inner = p.state.inner }; acts = p.acts ++ questions.asking y ∷ [] }) h.leads in
       subst (λ (p : Performed J (Both I)). Came site.runs holds stands p c' u') (sym to) (record {
         acts = ap (λ xs. xs ++ questions.asking y ∷ []) (append-nil u.acts.items) ∙ ap (λ x. u.acts.items ++ x ∷ []) (sym is) ∙ sym acts;
         stays = λ on. record {

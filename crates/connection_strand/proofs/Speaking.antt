@@ -148,7 +148,9 @@ module _ {R J I : Type 0} (site : Service J I) (holds : Ledger J → I → Type 
       let b = h.ledger in
       let s = h.inner in
       record {
-        ledger = b; inner = s; within = h.within;
+        ledger = b;
+        inner = s;
+        within = h.within;
         leads = h.leads ∙ ap (λ (x : Bool). before u.acts.items (perform (if x then let_send site now s.client s.client.reply (begin_timer site now timer.Body m) else m) b s)) (awaits-is q over c u b s h.within ∙ is);
       }
 
@@ -158,7 +160,9 @@ module _ {R J I : Type 0} (site : Service J I) (holds : Ledger J → I → Type 
       let b = h.ledger in
       let s = h.inner in
       record {
-        ledger = b; inner = s; within = h.within;
+        ledger = b;
+        inner = s;
+        within = h.within;
         leads = h.leads ∙ ap (λ (x : Bool). before u.acts.items (perform (if x then let_send site now s.client s.client.reply (begin_timer site now timer.Body m) else m) b s)) (awaits-is q over c u b s h.within ∙ is);
       }
 
@@ -233,25 +237,31 @@ module _ {R J I : Type 0} (site : Service J I) (holds : Ledger J → I → Type 
   pub said-on : (now : ℕ) (words : List Said) (word : Said) (on : Bool) (c c' : Connection R) (u u' : Turn J) → SaysOn site.runs holds stands on (says site now) word c u c' u'
       → 1 ≤ length words → word ≡ get_or words 0 word → on ≡ true → SaidSo now words c u (take (length words - 1) (drop 1 words)) c' u'
   said-on now words word on c c' u u' told some is goes q over did m ends h =
-      let more = take (length words - 1) (drop 1 words) in
-      (over-later word more over (subst (λ ws. says_over ws ≡ true → over ≡ true) (first-is words word some is) ends),
-      subst (λ (x : Bool). SaidTo site.runs holds stands x (says site now) q over more did c' u' m) goes (parted now words word on c c' u u' told some is q over did m ends h))
+      let more = take (length words - 1) (drop 1 words) in (
+        over-later word more over (subst (λ ws. says_over ws ≡ true → over ≡ true) (first-is words word some is) ends),
+        subst (λ (x : Bool). SaidTo site.runs holds stands x (says site now) q over more did c' u' m) goes (parted now words word on c c' u u' told some is q over did m ends h),
+      )
 
   -- after the last one nothing is said
   pub said-last : (now : ℕ) (words : List Said) (word : Said) (on : Bool) (c c' : Connection R) (u u' : Turn J) → SaysOn site.runs holds stands on (says site now) word c u c' u'
       → 1 ≤ length words → word ≡ get_or words 0 word → on ≡ false
       → (q : Option (Question J)) (over : Bool) (did : Performed J (Both I)) (m : Move J (Both I)) → (says_over words ≡ true → over ≡ true) → To (speaking q over) did c u (says site now words m)
       → (st : Stage) × To (asks_at st q) did c' u' m
-  said-last now words word on c c' u u' told some is goes q over did m ends h =
-      (stage.Flush, subst (λ (x : Bool). SaidTo site.runs holds stands x (says site now) q over (take (length words - 1) (drop 1 words)) did c' u' m) goes
-      (parted now words word on c c' u u' told some is q over did m ends h))
+  said-last now words word on c c' u u' told some is goes q over did m ends h = (
+    stage.Flush,
+    subst (λ (x : Bool). SaidTo site.runs holds stands x (says site now) q over (take (length words - 1) (drop 1 words)) did c' u' m) goes
+        (parted now words word on c c' u u' told some is q over did m ends h),
+  )
 
   pub said-all : (now : ℕ) (words : List Said) (c : Connection R) (u : Turn J) → length words < 1
       → (q : Option (Question J)) (over : Bool) (did : Performed J (Both I)) (m : Move J (Both I)) → To (speaking q over) did c u (says site now words m) → (st : Stage) × To (asks_at st q) did c u m
-  said-all now [] c u none q over did m h = (stage.Busy, record {
-    ledger = h.ledger;
-    inner = h.inner;
-    within = record { serves = h.within.serves; at = h.within.at; run = h.within.run; known = h.within.known; blank = λ e. absurd (let f : false ≡ true = e in cc) };
-    leads = h.leads;
-  })
+  said-all now [] c u none q over did m h = (
+    stage.Busy,
+    record {
+      ledger = h.ledger;
+      inner = h.inner;
+      within = record { serves = h.within.serves; at = h.within.at; run = h.within.run; known = h.within.known; blank = λ e. absurd (let f : false ≡ true = e in cc) };
+      leads = h.leads;
+    },
+  )
   said-all now (x ∷ xs) c u none q over did m h = absurd (omega (arith, none))

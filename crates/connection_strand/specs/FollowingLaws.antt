@@ -27,20 +27,82 @@ module _ {R J I : Type 0} (site : Service J I) (stands : R → Ledger J → I �
   has-still stage.Over c b b' r same h = tt
 
   -- of the ledger in which such an action was entered
-  stays-by : (c : Connection R) (a : LocalAction J) (b : Ledger J) (s : Both I) → is_still a ≡ true → Stays site.runs stands c b s → Stays site.runs stands c (entered a b) s
-  stays-by c (Told w) b s h x = record { client = x.client; sockets = x.sockets; count = x.count; keeping = x.keeping; on = x.on; run = has-still s.client.stage c b (entered (Told w) b) s.run (still-alike (Told w) b h) x.run }
-  stays-by c (Did (Close q)) b s h x = record { client = x.client; sockets = x.sockets; count = x.count; keeping = x.keeping; on = x.on; run = has-still s.client.stage c b (entered (Did (Close q)) b) s.run (still-alike (Did (Close q)) b h) x.run }
-  stays-by c (Did (Log line done)) b s h x = record { client = x.client; sockets = x.sockets; count = x.count; keeping = x.keeping; on = x.on; run = has-still s.client.stage c b (entered (Did (Log line done)) b) s.run (still-alike (Did (Log line done)) b h) x.run }
-  stays-by c (Did (Offer q)) b s h x = record { client = x.client; sockets = x.sockets; count = x.count; keeping = x.keeping; on = x.on; run = has-still s.client.stage c b (entered (Did (Offer q)) b) s.run (still-alike (Did (Offer q)) b h) x.run }
-  stays-by c (Did Gone) b s h x = record { client = x.client; sockets = x.sockets; count = x.count; keeping = x.keeping; on = x.on; run = has-still s.client.stage c b (entered (Did Gone) b) s.run (still-alike (Did Gone) b h) x.run }
-  stays-by c (Did Dropped) b s h x = record { client = x.client; sockets = x.sockets; count = x.count; keeping = x.keeping; on = x.on; run = has-still s.client.stage c b (entered (Did Dropped) b) s.run (still-alike (Did Dropped) b h) x.run }
+  stays-by : (c : Connection R) (a : LocalAction J) (b : Ledger J) (s : Both I)
+      → is_still a ≡ true → Stays site.runs stands c b s → Stays site.runs stands c (entered a b) s
+  stays-by c (Told w) b s h x = record {
+    client = x.client;
+    sockets = x.sockets;
+    count = x.count;
+    keeping = x.keeping;
+    on = x.on;
+    run = has-still s.client.stage c b (entered (Told w) b) s.run (still-alike (Told w) b h) x.run;
+  }
+  stays-by c (Did (Close q)) b s h x = record {
+    client = x.client;
+    sockets = x.sockets;
+    count = x.count;
+    keeping = x.keeping;
+    on = x.on;
+    run = has-still s.client.stage c b (entered (Did (Close q)) b) s.run (still-alike (Did (Close q)) b h) x.run;
+  }
+  stays-by c (Did (Log line done)) b s h x = record {
+    client = x.client;
+    sockets = x.sockets;
+    count = x.count;
+    keeping = x.keeping;
+    on = x.on;
+    run = has-still s.client.stage c b (entered (Did (Log line done)) b) s.run (still-alike (Did (Log line done)) b h) x.run;
+  }
+  stays-by c (Did (Offer q)) b s h x = record {
+    client = x.client;
+    sockets = x.sockets;
+    count = x.count;
+    keeping = x.keeping;
+    on = x.on;
+    run = has-still s.client.stage c b (entered (Did (Offer q)) b) s.run (still-alike (Did (Offer q)) b h) x.run;
+  }
+  stays-by c (Did Gone) b s h x = record {
+    client = x.client;
+    sockets = x.sockets;
+    count = x.count;
+    keeping = x.keeping;
+    on = x.on;
+    run = has-still s.client.stage c b (entered (Did Gone) b) s.run (still-alike (Did Gone) b h) x.run;
+  }
+  stays-by c (Did Dropped) b s h x = record {
+    client = x.client;
+    sockets = x.sockets;
+    count = x.count;
+    keeping = x.keeping;
+    on = x.on;
+    run = has-still s.client.stage c b (entered (Did Dropped) b) s.run (still-alike (Did Dropped) b h) x.run;
+  }
   stays-by c a b s h x = clash false h refl
 
-  pub still-follows : (c : Connection R) (a : LocalAction J) (es : List (LocalAction J)) → is_still a ≡ true → Follows site stands c es → Follows site stands c (a ∷ es)
-  still-follows c (Told w) es h x = record { stays = λ on. stays-by c (Told w) (state_of (connection_plan site) es).ledger (state_of (connection_plan site) es).inner h (x.stays on); taking = x.taking }
-  still-follows c (Did (Close q)) es h x = record { stays = λ on. stays-by c (Did (Close q)) (state_of (connection_plan site) es).ledger (state_of (connection_plan site) es).inner h (x.stays on); taking = x.taking }
-  still-follows c (Did (Log line done)) es h x = record { stays = λ on. stays-by c (Did (Log line done)) (state_of (connection_plan site) es).ledger (state_of (connection_plan site) es).inner h (x.stays on); taking = x.taking }
-  still-follows c (Did (Offer q)) es h x = record { stays = λ on. stays-by c (Did (Offer q)) (state_of (connection_plan site) es).ledger (state_of (connection_plan site) es).inner h (x.stays on); taking = x.taking }
-  still-follows c (Did Gone) es h x = record { stays = λ on. stays-by c (Did Gone) (state_of (connection_plan site) es).ledger (state_of (connection_plan site) es).inner h (x.stays on); taking = x.taking }
-  still-follows c (Did Dropped) es h x = record { stays = λ on. stays-by c (Did Dropped) (state_of (connection_plan site) es).ledger (state_of (connection_plan site) es).inner h (x.stays on); taking = x.taking }
+  pub still-follows : (c : Connection R) (a : LocalAction J) (es : List (LocalAction J))
+      → is_still a ≡ true → Follows site stands c es → Follows site stands c (a ∷ es)
+  still-follows c (Told w) es h x = record {
+    stays = λ on. stays-by c (Told w) (state_of (connection_plan site) es).ledger (state_of (connection_plan site) es).inner h (x.stays on);
+    taking = x.taking;
+  }
+  still-follows c (Did (Close q)) es h x = record {
+    stays = λ on. stays-by c (Did (Close q)) (state_of (connection_plan site) es).ledger (state_of (connection_plan site) es).inner h (x.stays on);
+    taking = x.taking;
+  }
+  still-follows c (Did (Log line done)) es h x = record {
+    stays = λ on. stays-by c (Did (Log line done)) (state_of (connection_plan site) es).ledger (state_of (connection_plan site) es).inner h (x.stays on);
+    taking = x.taking;
+  }
+  still-follows c (Did (Offer q)) es h x = record {
+    stays = λ on. stays-by c (Did (Offer q)) (state_of (connection_plan site) es).ledger (state_of (connection_plan site) es).inner h (x.stays on);
+    taking = x.taking;
+  }
+  still-follows c (Did Gone) es h x = record {
+    stays = λ on. stays-by c (Did Gone) (state_of (connection_plan site) es).ledger (state_of (connection_plan site) es).inner h (x.stays on);
+    taking = x.taking;
+  }
+  still-follows c (Did Dropped) es h x = record {
+    stays = λ on. stays-by c (Did Dropped) (state_of (connection_plan site) es).ledger (state_of (connection_plan site) es).inner h (x.stays on);
+    taking = x.taking;
+  }
   still-follows c a es h x = clash false h refl

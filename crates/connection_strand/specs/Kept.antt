@@ -2,17 +2,18 @@
 use Rattle.std.specs.Prelude.{ℕ, ◌-◌, ◌+◌, ◌%◌, Bool, true, false, not, ◌&&◌, List, [], ◌∷◌, Option, Some, None, if◌then◌else◌}
 use Rattle.resty_base.specs.declared.names.Ms.{Ms}
 use Rattle.client_line.specs.Records.{Came}
-use Rattle.client_line.specs.Lines.{nothing}
+use Rattle.client_line.specs.Lines.{nothing, body_answer}
 use Rattle.send_queue.specs.Records.{Sending}
 use Rattle.strand_contract.specs.declared.turns.Place.TheVariants as place
 use Rattle.strand_contract.specs.Alone.{is_some_left}
 use Rattle.moves.specs.Ledgers.{Ledger, has_number, numbers, left_at}
+use Rattle.run_contract.specs.declared.turns.RunSeen.{RunSeen}
 use Rattle.run_contract.specs.Runs.{Waits}
 use Rattle.connection.specs.Clients.{Stage, Reply, Times, Client}
 use Rattle.connection.specs.Clients as stage
 use Rattle.connection.specs.Timers.{Timer}
 use Rattle.connection.specs.Timers as timer
-use Rattle.connection.specs.Turns.{is_there}
+use Rattle.connection.specs.Turns.{is_there, body_told}
 use Rattle.service_contract.specs.Serving.{times}
 use Rattle.connection_strand.specs.declared.client.Stage as code_stage
 use Rattle.connection_strand.specs.declared.client.Stage.TheVariants as own
@@ -141,3 +142,21 @@ all_taken k = not (k.opened && is_some_left k.sending.bytes)
 -- something of it is left, and the client takes bytes
 abbrev pub wants_offer : Kept → Bool
 wants_offer k = k.opened && is_some_left k.sending.bytes && not k.off
+
+-- the client of a plan that keeps this, where nothing was asked
+abbrev pub client_of : Kept → Client
+client_of k = record {
+  came = k.came;
+  stage = k.stage;
+  times = k.times;
+  reply = k.reply;
+  limit = k.limit;
+  expects = k.expects;
+  waited = k.waited;
+  ended = k.ended;
+  exchanges = [];
+}
+
+-- what a run is told of the body that it waits for
+abbrev pub seen_of_body : Kept → Option RunSeen
+seen_of_body k = body_told (k.opened && not k.ended) (client_of k) (body_answer k.came k.limit)

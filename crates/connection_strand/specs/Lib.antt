@@ -5,3 +5,4 @@ pub mod Turns
 pub mod Costs
 pub mod Following
 pub mod FollowingLaws
+pub mod Shown

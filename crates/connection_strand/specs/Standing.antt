@@ -109,6 +109,10 @@ module _ {R J I : Type 0} (plan : RunPlan J I) (holds : Ledger J → I → Type 
   abbrev pub IsWithin : Connection R → Turn J → Type 0
   IsWithin c u = (st : Stage) × IsAt st c u
 
+  -- while no run is there
+  abbrev pub IsFreeAt : Connection R → Turn J → Type 0
+  IsFreeAt c u = (st : Stage) × IsFree st × IsAt st c u
+
   -- a turn that comes to `did`: its acts so far, and then these moves
   pub record Toward (e : Moment J) (did : Performed J (Both I)) (c : Connection R) (u : Turn J) (m : Move J (Both I)) : Type 0 where
     pub ledger : Ledger J
@@ -169,5 +173,6 @@ module _ {R J I : Type 0} (plan : RunPlan J I) (holds : Ledger J → I → Type 
 
   -- it said all of these
   abbrev pub Says : (List Said → Move J (Both I) → Move J (Both I)) → List Said → Connection R → Turn J → Connection R → Turn J → Type 0
-  Says says words c u c' u' = (q : Option (Question J)) (over : Bool) (did : Performed J (Both I)) (m : Move J (Both I)) → (says_over words ≡ true → over ≡ true)
+  Says says words c u c' u' = (q : Option (Question J)) (over : Bool) (did : Performed J (Both I)) (m : Move J (Both I))
+      → (says_over words ≡ true → over ≡ true)
       → Toward (speaking q over) did c u (says words m) → (st : Stage) × Toward (asks_at st q) did c' u' m

@@ -4,9 +4,11 @@ ghost use Rattle.std.specs.Prelude.{◌≡◌};
 ghost use Rattle.connection.specs.Timers as timers;
 
 use client_line::Line;
-use resty_base::Ms;
+use http_bodies::BodyRead;
+use resty_base::{Bytes, Ms};
+use run_contract::RunSeen;
 use service_contract::Times;
-use std::alloc::Global;
+use std::alloc::{AllocError, Global};
 
 /// How far the client's request is.
 #[derive(Clone, Copy, Debug, PartialEq, Eq)]
@@ -142,13 +144,13 @@ pub(crate) struct Client {
 }
 
 impl Client {
-    ghost use Rattle.std.specs.Prelude.{not, false, ◌≡◌, ◌&&◌};
-    ghost use Rattle.client_line.specs.Lines.{body_answer};
+    ghost use Rattle.std.specs.Prelude.{not, false, ◌≡◌, ◌&&◌, IfOk};
+    ghost use Rattle.client_line.specs.Lines.{after_asked, body_answer};
     ghost use Rattle.send_queue.specs.Queues as queues;
     ghost use Rattle.connection.specs.Clients.{is_last};
     ghost use Rattle.connection.specs.Turns.{is_more};
     ghost use Rattle.service_contract.specs.Serving as serving;
-    ghost use Rattle.connection_strand.specs.Kept.{kept, timer_of, fresh, with_armed, is_armed, all_taken, wants_offer};
+    ghost use Rattle.connection_strand.specs.Kept.{kept, timer_of, fresh, with_armed, is_armed, all_taken, wants_offer, seen_of_body};
 
     /// As a connection begins, for a client or for a job; takes no memory.
     pub(crate) fn new(alloc: Global, times: Times, is_open: bool) -> Client
@@ -220,6 +222,23 @@ impl Client {
         ensures { result ≡ ((kept self.now).opened && not (kept self.now).ended && is_more (body_answer (kept self.now).came (kept self.now).limit)) }
     {
         self.is_open && !self.has_ended && self.line.waits_for_body(self.limit)
+    }
+
+    /// What a run is told of the body that it waits for: nothing while more may come. What is there of the body is taken.
+    pub(crate) fn body_seen(&mut self, alloc: Global) -> Result<Option<RunSeen>, AllocError>
+        ensures seen { IfOk result (λ seen. seen ≡ seen_of_body (kept self.old)) }
+        ensures taken { IfOk result (λ seen. kept self.new ≡ record (kept self.old) { came = after_asked (kept self.old).came (kept self.old).limit }) }
+    {
+        match self.line.body(self.limit) {
+            BodyRead::Whole(_) => {
+                let content = Bytes::copy_from_slice(alloc, self.line.body_bytes())?;
+                Ok(Some(RunSeen::Body(content, self.waited)))
+            }
+            BodyRead::Refused(code) => Ok(Some(RunSeen::BodyRefused(code))),
+            BodyRead::More if self.is_open && !self.has_ended => Ok(None),
+            BodyRead::More => Ok(Some(RunSeen::BodyRefused(400))),
+            BodyRead::Memory => Err(AllocError),
+        }
     }
 
     /// It is hung up.

@@ -2,11 +2,12 @@
 #![tactic(auto)]
 
 mod client;
-mod state;
 mod requests;
 mod saying;
 mod sending;
 mod settling;
+mod shown;
+mod state;
 mod strand;
 mod taking;
 mod timers;

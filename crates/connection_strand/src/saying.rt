@@ -18,16 +18,22 @@ fn continue_reply() -> Bytes
 }
 
 impl<R: ServiceContract> Connection<R> {
-    ghost use Rattle.std.specs.Prelude.{IfOk};
+    ghost use Rattle.std.specs.Prelude.{IfOk, ◌*◌, length};
     ghost use Rattle.moves.specs.Moves.{Look};
     ghost use Rattle.connection.specs.Turns.{let_send, await_body, says};
     ghost use Rattle.service_contract.specs.Serving.{service_of};
+    ghost use Rattle.connection_strand.specs.Costs.{unit, Spends};
     ghost use Rattle.connection_strand.specs.Standing.{Goes, Speaks, Says, SaysOn};
 
     /// While nothing of the reply was sent, the first wait for more of a body lets the client send it.
-    pub(crate) fn let_send(&mut self, turn: &mut Turn<R::Job>, site: &R::Site) -> Result<(), AllocError>
-        ensures { IfOk result (λ done. Goes (R.plan site.now) (R.holds site.now) (R.stands site.now)
+    pub(crate) fn let_send(
+        &mut self,
+        turn: &mut Turn<R::Job>,
+        site: &R::Site,
+    ) -> Result<(), AllocError>
+        ensures moves { IfOk result (λ done. Goes (R.plan site.now) (R.holds site.now) (R.stands site.now)
             (λ m. Look (λ b s. let_send (service_of (R.plan site.now) (R.serving site.now)) 0 s.client s.client.reply m)) self.old turn.old self.new turn.new) }
+        ensures costs { IfOk result (λ done. Spends R.left R.bound 401 self.old turn.old self.new turn.new) }
     {
         match self.client.reply {
             Reply::Unsent => {
@@ -45,9 +51,15 @@ impl<R: ServiceContract> Connection<R> {
     }
 
     /// Where the run waits for more of the body the client may send it, and the timer begins.
-    pub(crate) fn await_body(&mut self, turn: &mut Turn<R::Job>, site: &R::Site, now: Ms) -> Result<(), AllocError>
-        ensures { IfOk result (λ done. Speaks (R.plan site.now) (R.holds site.now) (R.stands site.now)
+    pub(crate) fn await_body(
+        &mut self,
+        turn: &mut Turn<R::Job>,
+        site: &R::Site,
+        now: Ms,
+    ) -> Result<(), AllocError>
+        ensures moves { IfOk result (λ done. Speaks (R.plan site.now) (R.holds site.now) (R.stands site.now)
             (await_body (service_of (R.plan site.now) (R.serving site.now)) now.0) self.old turn.old self.new turn.new) }
+        ensures costs { IfOk result (λ done. Spends R.left R.bound 406 self.old turn.old self.new turn.new) }
     {
         if self.waits.body && self.client.awaits_body() {
             self.let_send(turn, site)?;
@@ -64,11 +76,13 @@ impl<R: ServiceContract> Connection<R> {
         now: Ms,
         word: &Said,
     ) -> Result<bool, AllocError>
-        ensures { IfOk result (λ on. SaysOn (R.plan site.now) (R.holds site.now) (R.stands site.now) on
+        ensures moves { IfOk result (λ on. SaysOn (R.plan site.now) (R.holds site.now) (R.stands site.now) on
             (says (service_of (R.plan site.now) (R.serving site.now)) now.0) word.now self.old turn.old self.new turn.new) }
+        ensures costs { IfOk result (λ done. Spends R.left R.bound unit self.old turn.old self.new turn.new) }
     {
         match word {
             Said::Send(bytes) => {
+                let _ = bytes.len();
                 self.client.reply = self.client.reply.begun();
                 self.send(turn, site, bytes)?;
             }
@@ -97,8 +111,9 @@ impl<R: ServiceContract> Connection<R> {
         now: Ms,
         words: &[Said],
     ) -> Result<(), AllocError>
-        ensures { IfOk result (λ done. Says (R.plan site.now) (R.holds site.now) (R.stands site.now)
+        ensures moves { IfOk result (λ done. Says (R.plan site.now) (R.holds site.now) (R.stands site.now)
             (says (service_of (R.plan site.now) (R.serving site.now)) now.0) words.now self.old turn.old self.new turn.new) }
+        ensures costs { IfOk result (λ done. Spends R.left R.bound (unit * length words.now) self.old turn.old self.new turn.new) }
     {
         let mut rest = words;
         while let [word, others @ ..] = rest {

@@ -2,18 +2,18 @@
 
 use crate::client::{Stage, Timer};
 use crate::state::{Connection, Turn};
-use http_bodies::BodyRead;
-use resty_base::{Bytes, Ms};
+use resty_base::Ms;
 use run_contract::RunSeen;
 use service_contract::ServiceContract;
 use std::alloc::{AllocError, Global};
 
 impl<R: ServiceContract> Connection<R> {
-    ghost use Rattle.std.specs.Prelude.{IfOk};
+    ghost use Rattle.std.specs.Prelude.{◌≡◌, true, IfOk};
     ghost use Rattle.moves.specs.Moves.{Look};
     ghost use Rattle.connection.specs.Turns.{busy, ask_body, flush, settle};
     ghost use Rattle.connection.specs.Clients as stage;
     ghost use Rattle.service_contract.specs.Serving.{service_of};
+    ghost use Rattle.connection_strand.specs.Costs.{Costs, Settles};
     ghost use Rattle.connection_strand.specs.Standing.{Ends, GoesOn, Hears, Steps, IsAt, IsWithin};
 
     /// The run gets the body that it waits for, or its refusal, unless more may come.
@@ -24,22 +24,19 @@ impl<R: ServiceContract> Connection<R> {
         site: &R::Site,
         now: Ms,
     ) -> Result<bool, AllocError>
-        requires { IsAt (R.plan site.now) (R.holds site.now) (R.stands site.now) stage.Busy self.old turn.old }
-        ensures { IfOk result (λ on. GoesOn (R.plan site.now) (R.holds site.now) (R.stands site.now) stage.Busy on
+        requires within { IsAt (R.plan site.now) (R.holds site.now) (R.stands site.now) stage.Busy self.old turn.old }
+        requires body { self.old.waits.body ≡ true }
+        ensures moves { IfOk result (λ on. GoesOn (R.plan site.now) (R.holds site.now) (R.stands site.now) stage.Busy on
             (λ again. Look (λ b s. ask_body (service_of (R.plan site.now) (R.serving site.now)) now.0 again b s.client)) self.old turn.old self.new turn.new) }
+        ensures costs { IfOk result (λ on. Settles R.left R.bound on self.old turn.old self.new turn.new) }
     {
-        let seen = match self.client.line.body(self.client.limit) {
-            BodyRead::Whole(_) => {
-                let content = Bytes::copy_from_slice(alloc, self.client.line.body_bytes())?;
-                RunSeen::Body(content, self.client.waited)
+        match self.client.body_seen(alloc)? {
+            Some(seen) => {
+                self.end_timer(turn, site, Timer::Body)?;
+                self.tell(turn, alloc, site, now, seen)
             }
-            BodyRead::Refused(code) => RunSeen::BodyRefused(code),
-            BodyRead::More if self.client.is_open && !self.client.has_ended => return Ok(false),
-            BodyRead::More => RunSeen::BodyRefused(400),
-            BodyRead::Memory => return Err(AllocError),
-        };
-        self.end_timer(turn, site, Timer::Body)?;
-        self.tell(turn, alloc, site, now, seen)
+            None => Ok(false),
+        }
     }
 
     /// A run that goes on is told what it waits for; a client that took the last reply is hung up.
@@ -51,8 +48,9 @@ impl<R: ServiceContract> Connection<R> {
         now: Ms,
     ) -> Result<bool, AllocError>
         requires { IsAt (R.plan site.now) (R.holds site.now) (R.stands site.now) stage.Busy self.old turn.old }
-        ensures { IfOk result (λ on. GoesOn (R.plan site.now) (R.holds site.now) (R.stands site.now) stage.Busy on
+        ensures moves { IfOk result (λ on. GoesOn (R.plan site.now) (R.holds site.now) (R.stands site.now) stage.Busy on
             (λ again. Look (λ b s. busy (service_of (R.plan site.now) (R.serving site.now)) now.0 again b s)) self.old turn.old self.new turn.new) }
+        ensures costs { IfOk result (λ on. Settles R.left R.bound on self.old turn.old self.new turn.new) }
     {
         if self.client.is_all_taken() && self.waits.taken {
             return self.tell(turn, alloc, site, now, RunSeen::AllTaken);
@@ -75,8 +73,9 @@ impl<R: ServiceContract> Connection<R> {
         site: &R::Site,
         now: Ms,
     ) -> Result<bool, AllocError>
-        ensures { IfOk result (λ on. Hears (R.plan site.now) (R.holds site.now) (R.stands site.now) on
+        ensures moves { IfOk result (λ on. Hears (R.plan site.now) (R.holds site.now) (R.stands site.now) on
             (λ again. Look (λ b s. flush (service_of (R.plan site.now) (R.serving site.now)) now.0 again b s.client)) self.old turn.old self.new turn.new) }
+        ensures costs { IfOk result (λ on. Settles R.left R.bound on self.old turn.old self.new turn.new) }
     {
         if !self.client.is_all_taken() {
             return Ok(false);
@@ -97,8 +96,9 @@ impl<R: ServiceContract> Connection<R> {
         now: Ms,
     ) -> Result<bool, AllocError>
         requires { IsWithin (R.plan site.now) (R.holds site.now) (R.stands site.now) self.old turn.old }
-        ensures { IfOk result (λ on. Steps (R.plan site.now) (R.holds site.now) (R.stands site.now) on
+        ensures moves { IfOk result (λ on. Steps (R.plan site.now) (R.holds site.now) (R.stands site.now) on
             (settle (service_of (R.plan site.now) (R.serving site.now)) now.0) self.old turn.old self.new turn.new) }
+        ensures costs { IfOk result (λ on. Settles R.left R.bound on self.old turn.old self.new turn.new) }
     {
         match self.client.stage {
             Stage::Busy => self.busy(turn, alloc, site, now),
@@ -116,8 +116,9 @@ impl<R: ServiceContract> Connection<R> {
         now: Ms,
     ) -> Result<(), AllocError>
         requires { IsWithin (R.plan site.now) (R.holds site.now) (R.stands site.now) self.old turn.old }
-        ensures { IfOk result (λ done. Ends (R.plan site.now) (R.holds site.now) (R.stands site.now)
+        ensures moves { IfOk result (λ done. Ends (R.plan site.now) (R.holds site.now) (R.stands site.now)
             (settle (service_of (R.plan site.now) (R.serving site.now)) now.0) self.old turn.old self.new turn.new) }
+        ensures costs { IfOk result (λ done. Costs R.left R.bound 5 self.old turn.old self.new turn.new) }
     {
         let mut goes_on = true;
         while goes_on {

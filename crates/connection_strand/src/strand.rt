@@ -4,9 +4,7 @@ use crate::client::{Client, Stage, Timer};
 use crate::state::{Connection, Turn};
 use crate::taking::take_out;
 use crate::waits::Waits;
-use client_line::LineOut;
 use resty_base::{Bytes, Ms};
-use run_contract::{RunSeen, SockSeen};
 use service_contract::ServiceContract;
 use std::alloc::{AllocError, Global};
 use std::collections::VecDeque;
@@ -16,21 +14,22 @@ use strand_contract::{Acts, Answer, Place, Seen, Start, StrandContract};
 const ENOUGH: usize = 65_536;
 
 impl<R: ServiceContract> Connection<R> {
-    ghost use Rattle.std.specs.Prelude.{IfOk, Some, [], List};
-    ghost use Rattle.strand_contract.specs.declared.turns.Seen.{Seen};
-    ghost use Rattle.strand_contract.specs.declared.turns.Place.TheVariants as place;
-    ghost use Rattle.moves.specs.Moves.{Performed, Look, Done};
-    ghost use Rattle.run_contract.specs.Calls as runs;
-    ghost use Rattle.line_answers.specs.Feeding.{fed};
-    ghost use Rattle.connection.specs.Services.{Both};
-    ghost use Rattle.connection.specs.Turns.{settle};
-    ghost use Rattle.connection.specs.Connections.{came_at, ends_at};
-    ghost use Rattle.service_contract.specs.Serving.{service_of};
-    ghost use Rattle.connection_strand.specs.Standing.{Ends, IsWithin, Came};
-    ghost use Rattle.connection_strand.specs.Turns.{Tells, Shown, IsShown};
+    ghost use Rattle.std.specs.Prelude.{◌≡◌, ◌++◌, ◌+◌, ◌∷◌, [], IfOk, true, false, None};
+    ghost use Rattle.run_contract.specs.Runs.{waits_at_first};
+    ghost use Rattle.connection_strand.specs.Kept.{kept, fresh, waits_of};
+    ghost use Rattle.connection_strand.specs.Acts.{sockets_with, count_with};
+    ghost use Rattle.connection_strand.specs.Shown.{HasPieceAt, offered_as};
 
     /// A connection that begins, with or without a client; takes no memory.
-    fn new(alloc: Global, site: &R::Site, is_open: bool) -> Connection<R> {
+    fn new(alloc: Global, site: &R::Site, is_open: bool) -> Connection<R>
+        ensures client { kept result.client ≡ fresh (R.serving site.now).default_times is_open }
+        ensures run { result.run ≡ None }
+        ensures waits { waits_of result.waits ≡ waits_at_first is_open }
+        ensures sockets { result.sockets.items ≡ [] }
+        ensures count { result.count ≡ 0 }
+        ensures keeping { result.keeping ≡ None }
+        ensures taking { result.is_taking ≡ false }
+    {
         Connection {
             client: Client::new(alloc, R::default_times(site), is_open),
             run: None,
@@ -42,212 +41,22 @@ impl<R: ServiceContract> Connection<R> {
         }
     }
 
-    /// The client sent bytes.
-    fn came(
-        &mut self,
-        turn: &mut Turn<R::Job>,
-        alloc: Global,
-        site: &R::Site,
-        now: Ms,
-        bytes: &[u8],
-    ) -> Result<(), AllocError>
-        requires { IsWithin (R.plan site.now) (R.holds site.now) (R.stands site.now) self.old turn.old }
-        ensures { IfOk result (λ done. Ends (R.plan site.now) (R.holds site.now) (R.stands site.now)
-            (Look (λ b s. came_at (service_of (R.plan site.now) (R.serving site.now)) now.0 s.client.stage (fed s.client.came bytes.now) s))
-            self.old turn.old self.new turn.new) }
-    {
-        let out = self.client.line.fed(bytes);
-        if matches!(out, LineOut::Memory) {
-            return Err(AllocError);
-        }
-        let goes_on = match self.client.stage {
-            Stage::Busy => {
-                self.await_body(turn, site, now)?;
-                true
-            }
-            Stage::Head => self.heard(turn, alloc, site, now, false, out)?,
-            Stage::Idle | Stage::Drop => self.heard(turn, alloc, site, now, true, out)?,
-            Stage::Flush | Stage::Over => false,
-        };
-        if goes_on {
-            self.settle(turn, alloc, site, now)?;
-        }
-        Ok(())
-    }
-
-    /// The client sends no more: what it asked for is still answered.
-    fn hear_end(
-        &mut self,
-        turn: &mut Turn<R::Job>,
-        alloc: Global,
-        site: &R::Site,
-        now: Ms,
-    ) -> Result<(), AllocError>
-        requires { IsWithin (R.plan site.now) (R.holds site.now) (R.stands site.now) self.old turn.old }
-        ensures { IfOk result (λ done. Ends (R.plan site.now) (R.holds site.now) (R.stands site.now)
-            (Look (λ b s. ends_at (service_of (R.plan site.now) (R.serving site.now)) now.0 s.client.stage))
-            self.old turn.old self.new turn.new) }
-    {
-        match self.client.stage {
-            Stage::Busy => {
-                self.client.has_ended = true;
-                self.settle(turn, alloc, site, now)
-            }
-            Stage::Flush => {
-                self.client.has_ended = true;
-                Ok(())
-            }
-            Stage::Idle | Stage::Head | Stage::Drop | Stage::Over => self.finish(turn, site),
-        }
-    }
-
-    /// A run that goes on is told this. It reports whether the turn goes on.
-    fn to_run(
-        &mut self,
-        turn: &mut Turn<R::Job>,
-        alloc: Global,
-        site: &R::Site,
-        now: Ms,
-        seen: RunSeen,
-    ) -> Result<bool, AllocError> {
-        match self.client.stage {
-            Stage::Busy => self.tell(turn, alloc, site, now, seen),
-            Stage::Idle | Stage::Head | Stage::Flush | Stage::Drop | Stage::Over => Ok(false),
-        }
-    }
-
     /// The piece that is offered next at the socket.
-    fn piece_at(&self, site: &R::Site, socket: u32) -> &[u8] {
-        match &self.run {
-            Some(run) => run.queued(site, socket),
-            None => &[],
-        }
-    }
-
-    /// What comes at a socket of the run: the run is told, and what is there is settled.
-    fn sock(
-        &mut self,
-        turn: &mut Turn<R::Job>,
-        alloc: Global,
-        site: &R::Site,
-        now: Ms,
-        socket: u32,
-        seen: SockSeen,
-    ) -> Result<(), AllocError> {
-        let seen = match seen {
-            SockSeen::Took(count) => SockSeen::Took(self.piece_at(site, socket).len().min(count)),
-            _ => seen,
-        };
-        if self.to_run(turn, alloc, site, now, RunSeen::Sock(socket, seen))? {
-            self.settle(turn, alloc, site, now)?;
-        }
-        Ok(())
-    }
-
-    /// A deadline is due: one of the connection's own timers ran out, or one of the run's, which only wakes.
-    fn due(
-        &mut self,
-        turn: &mut Turn<R::Job>,
-        alloc: Global,
-        site: &R::Site,
-        now: Ms,
-        number: u32,
-    ) -> Result<(), AllocError> {
-        match number {
-            0 => {
-                self.client.is_waiting = false;
-                self.lose(turn, alloc, site, now)
-            }
-            1 => {
-                self.client.is_sending = false;
-                self.lose(turn, alloc, site, now)
-            }
-            _ => {
-                self.to_run(turn, alloc, site, now, RunSeen::Due(number))?;
-                Ok(())
-            }
-        }
-    }
-
-    /// What comes at the client's place.
-    fn client(
-        &mut self,
-        turn: &mut Turn<R::Job>,
-        alloc: Global,
-        site: &R::Site,
-        now: Ms,
-        seen: SockSeen,
-    ) -> Result<(), AllocError> {
-        match seen {
-            SockSeen::Bytes(bytes) => self.came(turn, alloc, site, now, &bytes),
-            SockSeen::Ended => self.hear_end(turn, alloc, site, now),
-            SockSeen::Ready => {
-                self.client.is_put_off = false;
-                self.end_timer(turn, site, Timer::Send)?;
-                self.offer(turn, site)
-            }
-            SockSeen::Took(count) => {
-                let count = self.client.line.queued().len().min(count);
-                self.client.line.took(count);
-                self.settle(turn, alloc, site, now)
-            }
-            SockSeen::Later => {
-                self.client.is_put_off = true;
-                self.begin_timer(turn, site, now, Timer::Send)
-            }
-            SockSeen::Broken | SockSeen::Lost => self.lose(turn, alloc, site, now),
-            SockSeen::Dialled | SockSeen::Refused => Ok(()),
-        }
-    }
-
-    /// What comes at a place.
-    fn at(
-        &mut self,
-        turn: &mut Turn<R::Job>,
-        alloc: Global,
-        site: &R::Site,
-        now: Ms,
-        place: Place,
-        seen: SockSeen,
-    ) -> Result<(), AllocError> {
-        match place {
-            Place::Client => self.client(turn, alloc, site, now, seen),
-            Place::Sock(socket) => self.sock(turn, alloc, site, now, socket, seen),
-        }
-    }
-
-    /// Takes the turn that begins with what it is shown.
-    fn see(
-        &mut self,
-        turn: &mut Turn<R::Job>,
-        alloc: Global,
-        site: &R::Site,
-        now: Ms,
-        seen: Seen,
-    ) -> Result<(), AllocError> {
-        match seen {
-            Seen::Bytes(place, bytes) => self.at(turn, alloc, site, now, place, SockSeen::Bytes(bytes)),
-            Seen::Ended(place) => self.at(turn, alloc, site, now, place, SockSeen::Ended),
-            Seen::Broken(place) => self.at(turn, alloc, site, now, place, SockSeen::Broken),
-            Seen::Ready(place) => self.at(turn, alloc, site, now, place, SockSeen::Ready),
-            Seen::Took(place, count) => self.at(turn, alloc, site, now, place, SockSeen::Took(count)),
-            Seen::Later(place) => self.at(turn, alloc, site, now, place, SockSeen::Later),
-            Seen::Lost(place) => self.at(turn, alloc, site, now, place, SockSeen::Lost),
-            Seen::Dialled(socket) => self.sock(turn, alloc, site, now, socket, SockSeen::Dialled),
-            Seen::Refused(socket) => self.sock(turn, alloc, site, now, socket, SockSeen::Refused),
-            Seen::Due(number) => self.due(turn, alloc, site, now, number),
-            Seen::Run(thread) => {
-                if self.to_run(turn, alloc, site, now, RunSeen::Run(thread))? {
-                    self.settle(turn, alloc, site, now)?;
-                }
-                Ok(())
-            }
-            Seen::Stop => self.finish(turn, site),
+    pub(crate) fn piece_at(&self, site: &R::Site, socket: u32) -> &[u8]
+        ensures { HasPieceAt (R.plan site.now) (R.holds site.now) (R.stands site.now) self.now socket result.now }
+    {
+        match (&self.run, self.client.stage) {
+            (Some(run), Stage::Busy) => run.queued(site, socket),
+            _ => &[],
         }
     }
 
     /// A socket opens: it has the next number.
-    fn open_socket(&mut self) -> Result<(), AllocError> {
+    fn open_socket(&mut self) -> Result<(), AllocError>
+        ensures sockets { IfOk result (λ done. self.new.sockets.items ≡ self.old.sockets.items ++ self.old.count ∷ []) }
+        ensures count { IfOk result (λ done. self.new.count ≡ self.old.count + 1) }
+        ensures kept { IfOk result (λ done. self.new ≡ record self.old { sockets = self.new.sockets; count = self.new.count }) }
+    {
         let Some(count) = self.count.checked_add(1) else {
             return Err(AllocError);
         };
@@ -257,7 +66,11 @@ impl<R: ServiceContract> Connection<R> {
     }
 
     /// What the answer does to the sockets: one that was dialled or taken opens, one that was kept is the pool's.
-    fn take_in(&mut self, answer: &Answer) -> Result<(), AllocError> {
+    fn take_in(&mut self, answer: &Answer) -> Result<(), AllocError>
+        ensures sockets { IfOk result (λ done. self.new.sockets.items ≡ sockets_with answer.now self.old.keeping self.old.count self.old.sockets.items) }
+        ensures count { IfOk result (λ done. self.new.count ≡ count_with answer.now self.old.count) }
+        ensures kept { IfOk result (λ done. self.new ≡ record self.old { sockets = self.new.sockets; count = self.new.count }) }
+    {
         match answer {
             Answer::Dialled(true) | Answer::Took(Some(_)) => self.open_socket(),
             Answer::Kept => {
@@ -266,15 +79,20 @@ impl<R: ServiceContract> Connection<R> {
                 }
                 Ok(())
             }
-            Answer::Dialled(false) | Answer::Took(None) | Answer::Dict(_) | Answer::Timer(_) => Ok(()),
+            Answer::Dialled(false) | Answer::Took(None) | Answer::Dict(_) | Answer::Timer(_) => Ok(
+                (),
+            ),
         }
     }
 
     /// Whether an offer of the client is queued or goes on as the turn begins.
-    fn is_offered(&self, seen: &Seen) -> bool {
+    fn is_offered(&self, seen: &Seen) -> bool
+        ensures { result ≡ offered_as seen.now (kept self.now.client) }
+    {
         match seen {
             Seen::Took(Place::Client, _) => true,
-            Seen::Ready(Place::Client) | Seen::Later(Place::Client) | Seen::Lost(Place::Client) => false,
+            Seen::Ready(Place::Client) | Seen::Later(Place::Client) | Seen::Lost(Place::Client) =>
+                false,
             _ => self.client.wants_offer(),
         }
     }

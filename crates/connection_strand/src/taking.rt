@@ -15,7 +15,11 @@ fn is_question<J>(act: &Act<J>) -> bool
     ensures { result ≡ is_question act.now }
 {
     match act {
-        Act::Dict(_, _) | Act::Take(_) | Act::Dial(_, _) | Act::Keep(_, _, _, _) | Act::Timer(_, _) => true,
+        Act::Dict(_, _)
+        | Act::Take(_)
+        | Act::Dial(_, _)
+        | Act::Keep(_, _, _, _)
+        | Act::Timer(_, _) => true,
         Act::Ready(_)
         | Act::Unready(_)
         | Act::Offer(_)
@@ -45,11 +49,12 @@ pub(crate) fn take_out(numbers: &mut Vec<u32>, number: u32)
 }
 
 impl<R: ServiceContract> Connection<R> {
-    ghost use Rattle.std.specs.Prelude.{◌++◌, IfOk, Some};
+    ghost use Rattle.std.specs.Prelude.{◌++◌, ◌+◌, ◌*◌, length, true, IfOk, Some, None};
     ghost use Rattle.run_contract.specs.Calls as runs;
     ghost use Rattle.moves.specs.Moves.{Performed, Move};
     ghost use Rattle.connection.specs.Services.{Both};
     ghost use Rattle.service_contract.specs.Serving.{service_of};
+    ghost use Rattle.connection_strand.specs.Costs.{unit, Spends, Pays};
     ghost use Rattle.connection_strand.specs.Standing.{Went};
     ghost use Rattle.connection_strand.specs.Turns.{Told, Took, Answered};
     ghost use Rattle.connection_strand.specs.Acts.{done_of, question_in, sockets_after};
@@ -87,9 +92,11 @@ impl<R: ServiceContract> Connection<R> {
         now: Ms,
         next: RunTurn<R::Job>,
     ) -> Result<bool, AllocError>
-        ensures { IfOk result (λ on. (did : Performed R.Job (Both R.Inner)) (m : Move R.Job (Both R.Inner))
+        ensures moves { IfOk result (λ on. (did : Performed R.Job (Both R.Inner)) (m : Move R.Job (Both R.Inner))
             → Took (service_of (R.plan site.now) (R.serving site.now)) (R.holds site.now) (R.stands site.now) now.0 next did self.old turn.old m
             → Went (R.plan site.now) (R.holds site.now) (R.stands site.now) on did self.new turn.new m) }
+        ensures costs { IfOk result (λ done. Spends R.left R.bound (unit * (length next.acts.items + length next.said.items))
+            self.old turn.old self.new turn.new) }
     {
         self.waits = self.waits.said(&next.said);
         let question = self.carry(turn, next.acts)?;
@@ -115,9 +122,11 @@ impl<R: ServiceContract> Connection<R> {
     ) -> Result<bool, AllocError>
         requires { (run : R) → self.old.run ≡ Some run
             → runs.MayBeTold (R.plan site.now) (R.holds site.now) (R.stands site.now) now.0 seen run }
-        ensures { IfOk result (λ on. (did : Performed R.Job (Both R.Inner)) (m : Move R.Job (Both R.Inner))
+        ensures moves { IfOk result (λ on. (did : Performed R.Job (Both R.Inner)) (m : Move R.Job (Both R.Inner))
             → Told (service_of (R.plan site.now) (R.serving site.now)) (R.holds site.now) (R.stands site.now) now.0 seen did self.old turn.old m
             → Went (R.plan site.now) (R.holds site.now) (R.stands site.now) on did self.new turn.new m) }
+        ensures costs { runs.is_own_turn seen ≡ true → (self.old.run ≡ None → ⊥) →
+            IfOk result (λ on. Pays R.left R.bound unit self.old turn.old self.new turn.new) }
     {
         let Some(mut run) = self.run.take() else {
             return Ok(false);
@@ -139,9 +148,10 @@ impl<R: ServiceContract> Connection<R> {
     ) -> Result<bool, AllocError>
         requires { (run : R) → self.old.run ≡ Some run
             → runs.MayBeAnswered (R.plan site.now) (R.holds site.now) (R.stands site.now) answer run }
-        ensures { IfOk result (λ on. (did : Performed R.Job (Both R.Inner)) (m : Move R.Job (Both R.Inner))
+        ensures moves { IfOk result (λ on. (did : Performed R.Job (Both R.Inner)) (m : Move R.Job (Both R.Inner))
             → Answered (service_of (R.plan site.now) (R.serving site.now)) (R.holds site.now) (R.stands site.now) now.0 answer did self.old turn.old m
             → Went (R.plan site.now) (R.holds site.now) (R.stands site.now) on did self.new turn.new m) }
+        ensures costs { (self.old.run ≡ None → ⊥) → IfOk result (λ on. Pays R.left R.bound unit self.old turn.old self.new turn.new) }
     {
         let Some(mut run) = self.run.take() else {
             return Ok(false);

@@ -5,8 +5,8 @@ use Rattle.connection_strand.proofs.state.Connection.finish.Goals.{then-self+in_
 use Rattle.service_contract.specs.Serving.{service_of}
 use Rattle.connection_strand.proofs.state.Connection.finish.Goals as goal
 
-pub returns : goal.returns
-returns g c = λ st did h.
+pub returns-clause-moves : goal.returns-clause-moves
+returns-clause-moves g c = λ st did h.
     let site = c.args.site.now in
     let r = g.R.RunContract in
     let met = g.met.R.RunContract in

@@ -12,10 +12,10 @@ lose_busy-requires g c =
     let met = g.met.R.RunContract in
     busy-at (service_of (r.plan site) (g.R.ServiceContract.serving site)) (r.holds site) (r.stands site) c.requires.0 c.args.self.now c.args.turn.now (ap stage_of c.in-Busy.is) c.requires.1
 
-pub returns-in-Idle : goal.returns-in-Idle
-returns-in-Idle g c =
+pub returns-in-Idle-clause-moves : goal.returns-in-Idle-clause-moves
+returns-in-Idle-clause-moves g c =
     let site = c.args.site.now in
     let r = g.R.RunContract in
     let met = g.met.R.RunContract in
-    if-ok c.finish.result _ _ c.finish.ensures (λ done ends st did h. ends st did
+    if-ok c.finish.result _ _ c.finish.ensures.moves (λ done ends st did h. ends st did
     (loses-free (service_of (r.plan site) (g.R.ServiceContract.serving site)) (r.holds site) (r.stands site) c.args.now.0 st did c.args.self.now c.args.turn.now (free-stage c.args.self.now.client.stage c.in-Idle.is) h))

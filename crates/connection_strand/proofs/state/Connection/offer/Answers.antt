@@ -5,8 +5,8 @@ use Rattle.connection_strand.proofs.state.Connection.offer.Goals.{else-wants_off
 use Rattle.service_contract.specs.Serving.{service_of}
 use Rattle.connection_strand.proofs.state.Connection.offer.Goals as goal
 
-pub returns-in_ok-push_back : goal.returns-in_ok-push_back
-returns-in_ok-push_back g c = λ e did m h.
+pub returns-in_ok-push_back-clause-moves : goal.returns-in_ok-push_back-clause-moves
+returns-in_ok-push_back-clause-moves g c = λ e did m h.
     let site = c.args.site.now in
     let r = g.R.RunContract in
     let met = g.met.R.RunContract in
@@ -14,8 +14,8 @@ returns-in_ok-push_back g c = λ e did m h.
     e did c.args.self.now _ c.args.turn.now _ m (record { run = refl; waits = refl; sockets = refl; count = refl; keeping = refl; taking = refl }) refl
     (ap (λ x. x && not c.args.turn.now.is_offered) (sym c.wants_offer.ensures ∙ c.if-wants_offer.true) ∙ ap not c.if-not-turn.true) refl c.in_ok-push_back.ensures.items h
 
-pub returns-else-wants_offer : goal.returns-else-wants_offer
-returns-else-wants_offer g c = λ e did m h.
+pub returns-else-wants_offer-clause-moves : goal.returns-else-wants_offer-clause-moves
+returns-else-wants_offer-clause-moves g c = λ e did m h.
     let site = c.args.site.now in
     let r = g.R.RunContract in
     let met = g.met.R.RunContract in
