@@ -1,12 +1,16 @@
 -- Items and ends of calls ask nothing of the outside before they evaluate a node.
-use Rattle.std.specs.Prelude.{◌+◌, List, [], ◌∷◌, drop, map, if◌then◌else◌}
+use Rattle.std.specs.Prelude.{ℕ, ◌+◌, List, [], ◌∷◌, drop, map, ℤ, pos, Option, Some, None, Result, Ok, Err, if◌then◌else◌}
+use Rattle.std.specs.Ordering.{int_eq}
+use Rattle.std.proofs.Common.{Global}
+use Rattle.std.specs.declared.rc.Rc.{Rc}
+use Rattle.lua_ast.specs.declared.expressions.Expr.{Expr}
 use Rattle.lua_ast.specs.declared.statements.Arm.{Arm, out-Arm}
 use Rattle.lua_ast.specs.declared.statements.Stmt.{Stmt}
 use Rattle.lua_values.specs.declared.values.Value.{Value}
 use Rattle.lua_values.specs.declared.values.Value.TheVariants as value
-use Rattle.lua_values.specs.Values.{number}
+use Rattle.lua_values.specs.Values.{number, is_nil}
 use Rattle.lua_operators.specs.Types.{is_truthy}
-use Rattle.lua_meaning.specs.Works.{Caller, Places, Slots, ATurn, Sign, Values, Return, Break, Failed, Work, End, and_then}
+use Rattle.lua_meaning.specs.Works.{Caller, Places, Slots, ATurn, ARepeat, AFor, AnIter, Sign, Values, Return, Break, Failed, Work, End, and_then}
 use Rattle.lua_meaning.specs.Setting.{Setting}
 use Rattle.lua_meaning.specs.Positions.{callers_at}
 use Rattle.lua_meaning.specs.Signs.{first, give, give_one, more}
@@ -18,8 +22,16 @@ use Rattle.lua_meaning.specs.Indexing.{index_work}
 use Rattle.lua_meaning.specs.Blocks.{block}
 use Rattle.lua_meaning.specs.Expressions.{call_work}
 use Rattle.lua_meaning.specs.Assignments.{InSlot}
-use Rattle.lua_meaning.specs.Loops.{again, after_body, while_work}
-use Rattle.lua_meaning.specs.Statements.{if_work, tail_work}
+use Rattle.lua_numbers.specs.declared.faults.NumFault.{NumFault}
+use Rattle.lua_operators.specs.declared.arithmetic.ArithmeticOperator.TheVariants.{Add}
+use Rattle.lua_operators.specs.declared.faults.Fault.{Fault}
+use Rattle.lua_operators.specs.declared.faults.Fault.TheVariants.{ForInitial, ForLimit, ForStep, ForStepZero}
+use Rattle.lua_operators.specs.ArithmeticOperators.{result_of}
+use Rattle.lua_operators.specs.Conversions.{number_of}
+use Rattle.lua_meaning.specs.Positions.{raise_fault}
+use Rattle.lua_meaning.specs.Comparison.{give_truth}
+use Rattle.lua_meaning.specs.Loops.{again, after_body, while_work, is_within, for_from, for_next, bound, for_work, iterate}
+use Rattle.lua_meaning.specs.Statements.{if_work, tail_work, step_of}
 use Rattle.lua_frames_base.specs.declared.frames.Kind.{Kind}
 use Rattle.lua_frames_base.specs.declared.frames.Kind.TheVariants.{Base, Lua, Guard, Handled, Handling}
 use Rattle.lua_frames_base.specs.declared.items.Item.{Item}
@@ -30,7 +42,8 @@ use Rattle.lua_frames.proofs.StepsRise.{IsQuiet}
 use Rattle.lua_meaning.specs.Expressions.{method_work}
 use Rattle.lua_meaning.specs.Tables.{fill}
 use Rattle.lua_meaning.specs.Indexing.{set_work}
-use Rattle.lua_frames_base.specs.Items.{on_value, found_at, items_left, value_at_key}
+use Rattle.lua_frames_base.specs.declared.loops.Bounds.{Bounds}
+use Rattle.lua_frames_base.specs.Items.{on_value, found_at, items_left, value_at_key, until, counting, with_step, counted, iterating, passing}
 use Rattle.lua_frames.proofs.QuietWorks.{on-quiet, either, binary-quiet, unary-quiet, index-quiet, assigned-quiet, more-quiet, calls-quiet, tail-quiet}
 use Rattle.lua_frames.proofs.QuietTables.{named-quiet, callee-quiet, tail-named-quiet, found-quiet, items-quiet, value-quiet, set-items-quiet, fill-quiet}
 
@@ -51,6 +64,28 @@ body-quiet go (Values vs) s u = u
 body-quiet go (Return vs) s u = tt
 body-quiet go Break s u = tt
 body-quiet go (Failed v) s u = tt
+
+from-quiet : (line slot : ℕ) (i limit step : ℤ) (body : List Stmt) (p : Places) (s : Slots) → IsQuiet (for_from line slot i limit step body p s)
+from-quiet line slot i limit step body p s = either (is_within i limit step) (again (AFor line slot i limit step body) p s) (give [] s) tt tt
+
+next-quiet : (S : Setting) (line slot : ℕ) (next : Result ℤ NumFault) (limit step : ℤ) (body : List Stmt) (p : Places) (s : Slots) → IsQuiet (for_next S line slot next limit step body p s)
+next-quiet S line slot (Ok i) limit step body p s = from-quiet line slot i limit step body p s
+next-quiet S line slot (Err fault) limit step body p s = tt
+
+bound-quiet : (S : Setting) (callers : List Caller) (fault : Fault) (n : Option ℤ) (s : Slots) (go : ℤ → Work) → ((i : ℤ) → IsQuiet (go i)) → IsQuiet (bound S callers fault n s go)
+bound-quiet S callers fault (Some n) s go h = h n
+bound-quiet S callers fault None s go h = tt
+
+for-quiet : (S : Setting) (line slot : ℕ) (from to by : Value) (body : List Stmt) (p : Places) (s : Slots) → IsQuiet (for_work S line slot from to by body p s)
+for-quiet S line slot from to by body p s =
+    bound-quiet S (callers_at p line) ForInitial (number_of from) s (λ i. bound S (callers_at p line) ForLimit (number_of to) s (λ limit. bound S (callers_at p line) ForStep (number_of by) s (λ step. if int_eq step (pos 0) then raise_fault S (callers_at p line) ForStepZero s else for_from line slot i limit step body p s)))
+    (λ i. bound-quiet S (callers_at p line) ForLimit (number_of to) s (λ limit. bound S (callers_at p line) ForStep (number_of by) s (λ step. if int_eq step (pos 0) then raise_fault S (callers_at p line) ForStepZero s else for_from line slot i limit step body p s))
+    (λ limit. bound-quiet S (callers_at p line) ForStep (number_of by) s (λ step. if int_eq step (pos 0) then raise_fault S (callers_at p line) ForStepZero s else for_from line slot i limit step body p s)
+    (λ step. either (int_eq step (pos 0)) (raise_fault S (callers_at p line) ForStepZero s) (for_from line slot i limit step body p s) tt (from-quiet line slot i limit step body p s))))
+
+step-quiet : (S : Setting) (b : Bounds) (p : Places) (from to : Value) (s : Slots) (step : Option (Rc Expr Global)) → IsQuiet (step_of step p s (counting S b p from to))
+step-quiet S b p from to s None = for-quiet S b.line b.slot from to (value.Number (pos 1)) b.body.value.items p s
+step-quiet S b p from to s (Some x) = tt
 
 pub item-quiet : (S : Setting) (item : Item) (p : Places) (sign : Sign) (s : Slots) → IsQuiet (resume_item S item p sign s)
 item-quiet S (i.Call line f args) p sign s = on-quiet (λ vs s'. call (callers_at p line) f args.items s') sign s (λ vs s'. tt)
@@ -82,6 +117,23 @@ item-quiet S (i.While test body) p sign s =
     on-quiet (λ vs s'. if is_truthy (first vs) then again (ATurn test.value body.value.items) p s' else give [] s') sign s
     (λ vs s'. either (is_truthy (first vs)) (again (ATurn test.value body.value.items) p s') (give [] s') tt tt)
 item-quiet S (i.Turned test body) p sign s = body-quiet (while_work test.value body.value.items p) sign s tt
+item-quiet S (i.Truth wanted) p sign s = on-quiet (λ vs s'. give_truth wanted (is_truthy (first vs)) s') sign s (λ vs s'. tt)
+item-quiet S (i.Repeated body test) p sign s = body-quiet (λ s'. one test.value p s' (until body.value.items test.value p)) sign s tt
+item-quiet S (i.Until body test) p sign s =
+    on-quiet (λ vs s'. until body.value.items test.value p (first vs) s') sign s
+    (λ vs s'. either (is_truthy (first vs)) (give [] s') (again (ARepeat body.value.items test.value) p s') tt tt)
+item-quiet S (i.ForFrom b) p sign s = on-quiet (λ vs s'. one b.to.value p s' (λ to s''. with_step S b p (first vs) to s'')) sign s (λ vs s'. tt)
+item-quiet S (i.ForTo b from) p sign s = on-quiet (λ vs s'. with_step S b p from (first vs) s') sign s (λ vs s'. step-quiet S b p from (first vs) s' b.step)
+item-quiet S (i.ForStep b from to) p sign s =
+    on-quiet (λ vs s'. counting S b p from to (first vs) s') sign s (λ vs s'. for-quiet S b.line b.slot from to (first vs) b.body.value.items p s')
+item-quiet S (i.Counted c) p sign s =
+    body-quiet (counted S c p) sign s (next-quiet S c.line c.slot (result_of Add c.at c.step) c.limit c.step c.body.value.items p s)
+item-quiet S (i.Iterate line slots body) p sign s =
+    on-quiet (λ vs s'. iterate line slots.value.items (first vs) (first (drop 1 vs)) (first (drop 2 vs)) body.value.items p s') sign s (λ vs s'. tt)
+item-quiet S (i.Iterated it) p sign s =
+    on-quiet (passing it p) sign s
+    (λ vs s'. either (is_nil (first vs)) (give [] s') (again (AnIter it.line it.slots.value.items it.function it.state vs it.body.value.items) p s') tt tt)
+item-quiet S (i.Passed it control) p sign s = body-quiet (iterating it control p) sign s tt
 item-quiet S (i.Assign targets) p sign s =
     on-quiet (λ vs s'. assign_values S (map target_of targets.items) vs p s') sign s (λ vs s'. assigned-quiet S (map target_of targets.items) vs p s')
 item-quiet S (i.AssignSlot line n) p sign s =

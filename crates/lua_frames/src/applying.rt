@@ -79,6 +79,16 @@ pub(crate) fn apply<H: Host>(
         Item::Arm(arms, next, last) => arm(frames, host, store, arms, next, last),
         Item::While(test, body) => while_test(frames, store, test, body),
         Item::Turned(test, body) => turned(frames, host, store, test, body),
+        Item::Truth(_)
+        | Item::Repeated(_, _)
+        | Item::Until(_, _)
+        | Item::ForFrom(_)
+        | Item::ForTo(_, _)
+        | Item::ForStep(_, _, _)
+        | Item::Counted(_)
+        | Item::Iterate(_, _, _)
+        | Item::Iterated(_)
+        | Item::Passed(_, _) => Ok(Flow::Unsupported),
         Item::Assign(targets) => assign(frames, host, store, targets),
         Item::AssignSlot(line, i) => assign_to_slot(frames, host, store, line, i),
         Item::TargetKey(line, b, left) => target_key(frames, host, store, line, b, left),

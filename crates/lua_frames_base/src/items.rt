@@ -1,6 +1,6 @@
 //! The items of a frame: operations that wait for what the node above them gives.
 
-use crate::{Assignment, Constructor, Target};
+use crate::{Assignment, Bounds, Constructor, Counter, Iteration, Target};
 use lua_ast::{Arm, BinOp, Expr, Stmt, UnOp};
 use lua_values::Value;
 use resty_base::{Boxed, Bytes};
@@ -20,6 +20,8 @@ pub enum Item {
     OrElse(Rc<Expr>),
     /// One value of many.
     First,
+    /// The truth of one value of many, or its opposite where false is wanted.
+    Truth(bool),
     /// A call, which has its arguments still to evaluate.
     Callee(u32, Rc<Vec<Expr>>),
     /// A call of this value.
@@ -62,6 +64,24 @@ pub enum Item {
     While(Rc<Expr>, Rc<Vec<Stmt>>),
     /// A run of the body of `while`.
     Turned(Rc<Expr>, Rc<Vec<Stmt>>),
+    /// A run of the body of `repeat`, before its test.
+    Repeated(Rc<Vec<Stmt>>, Rc<Expr>),
+    /// The test of `repeat`.
+    Until(Rc<Vec<Stmt>>, Rc<Expr>),
+    /// The first bound of a numeric `for`, which has the others still to evaluate.
+    ForFrom(Bounds),
+    /// The second bound of one that has the first.
+    ForTo(Bounds, Boxed<Value>),
+    /// The step of one that has its bounds.
+    ForStep(Bounds, Boxed<Value>, Boxed<Value>),
+    /// A run of the body of a numeric `for`.
+    Counted(Counter),
+    /// The values of a generic `for` at this line, with its variables and its body.
+    Iterate(u32, Rc<Vec<u8>>, Rc<Vec<Stmt>>),
+    /// The call of the function of a generic `for`.
+    Iterated(Boxed<Iteration>),
+    /// A run of the body of a generic `for`, with the control value.
+    Passed(Boxed<Iteration>, Value),
     /// The values of an assignment to these targets.
     Assign(Vec<Target>),
     /// The value of an assignment to one slot.
