@@ -9,7 +9,7 @@ use crate::targets::{stores, target_at, target_key};
 use lua_frames_base::{Flow, Frames, Host, Item};
 use lua_items::{
     and_then, callee, discard, first, key, or_else, return_called, return_given, right,
-    tail_callee, turned, while_test,
+    tail_callee, truth, turned, while_test,
 };
 use lua_nodes::go_on_with_list;
 use lua_tables::{
@@ -36,6 +36,7 @@ pub(crate) fn apply<H: Host>(
         Item::AndThen(b) => and_then(frames, host, store, b),
         Item::OrElse(b) => or_else(frames, host, store, b),
         Item::First => first(frames),
+        Item::Truth(wanted) => truth(frames, wanted),
         Item::Callee(line, args) => callee(frames, host, store, line, args),
         Item::Arguments(line, f) => arguments(frames, host, store, line, f),
         Item::Key(line, b) => key(frames, host, store, line, b),
@@ -79,8 +80,7 @@ pub(crate) fn apply<H: Host>(
         Item::Arm(arms, next, last) => arm(frames, host, store, arms, next, last),
         Item::While(test, body) => while_test(frames, store, test, body),
         Item::Turned(test, body) => turned(frames, host, store, test, body),
-        Item::Truth(_)
-        | Item::Repeated(_, _)
+        Item::Repeated(_, _)
         | Item::Until(_, _)
         | Item::ForFrom(_)
         | Item::ForTo(_, _)

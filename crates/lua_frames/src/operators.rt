@@ -21,7 +21,7 @@ pub(crate) fn binary<H: Host>(
 {
     match take_first(frames) {
         None => Ok(Flow::Went),
-        Some(b) => operate(frames, host.program(), store, line, operator, a, b),
+        Some(b) => operate(frames, host, store, line, operator, a, b),
     }
 }
 
@@ -37,6 +37,6 @@ pub(crate) fn unary<H: Host>(
 {
     match take_first(frames) {
         None => Ok(Flow::Went),
-        Some(a) => operate_one(frames, host.program(), store, line, operator, a),
+        Some(a) => operate_one(frames, host, store, line, operator, a),
     }
 }

@@ -8,5 +8,5 @@ mod returning;
 
 pub use callees::{callee, tail_callee};
 pub use loops::{turned, while_test};
-pub use operands::{and_then, first, key, or_else, right};
+pub use operands::{and_then, first, key, or_else, right, truth};
 pub use returning::{discard, return_called, return_given};

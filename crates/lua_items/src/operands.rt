@@ -1,5 +1,6 @@
 //! The items of operators and of parentheses.
 
+ghost use Rattle.std.specs.Prelude.{◌≡◌, not, if◌then◌else◌};
 ghost use Rattle.lua_values.specs.Heap.{StoreView};
 ghost use Rattle.lua_meaning.specs.Setting.{Setting};
 ghost use Rattle.lua_items.specs.Takes.{Takes};
@@ -8,7 +9,7 @@ use lua_ast::{BinOp, Expr};
 use lua_frames_base::{Flow, Frames, Host, Item, give_one, take_first};
 use lua_nodes::value_under;
 use lua_operators::is_truthy;
-use lua_values::Store;
+use lua_values::{Store, Value};
 use std::alloc::AllocError;
 use std::rc::Rc;
 
@@ -103,4 +104,21 @@ pub fn first(frames: &mut Frames) -> Result<Flow, AllocError>
         None => Ok(Flow::Went),
         Some(value) => give_one(frames, value),
     }
+}
+
+/// The truth of one value of those that are given, or its opposite where false is wanted.
+pub fn truth(frames: &mut Frames, wanted: bool) -> Result<Flow, AllocError>
+    ensures { (S : Setting) → (store : StoreView) → Takes S (Item.Truth wanted) frames.old store frames.new store result }
+{
+    match take_first(frames) {
+        None => Ok(Flow::Went),
+        Some(value) => give_one(frames, Value::Truth(holds_as(wanted, is_truthy(&value)))),
+    }
+}
+
+/// Whether a truth holds, or where false is wanted, whether it doesn't.
+fn holds_as(wanted: bool, holds: bool) -> bool
+    ensures { result ≡ (if wanted then holds else not holds) }
+{
+    if wanted { holds } else { !holds }
 }

@@ -1,11 +1,14 @@
-//! Calls of any value: of the program's functions, and of the host's, of which `pcall`, `error` and `assert` are the machine's own.
+//! Calls of any value: of the program's functions, and of the host's, of which `pcall`, `error` and `assert` are the machine's own;
+//! and calls of the handlers of metatables.
 #![tactic(auto)]
 
 mod arguments;
 mod entering;
 mod errors;
+mod handlers;
 mod library;
 mod natives;
 mod protected;
 
 pub use entering::{enter_call, enter_tail_call};
+pub use handlers::{call_for_one, call_for_truth, one, three, two};

@@ -1,27 +1,25 @@
 -- Comparisons: steps for the bytes of texts, and the handlers that both operands have.
-use Rattle.std.specs.Prelude.{◌≡◌, ℕ, ◌+◌, ◌/◌, List, [], ◌∷◌, length, nat_lt, min, not, ◌&&◌, if◌then◌else◌, Bool, true, false, Result, Ok, refl}
-use Rattle.std.proofs.Common.{sym, ◌∙◌, ap}
+use Rattle.std.specs.Prelude.{◌≡◌, ℕ, ◌+◌, ◌/◌, List, [], ◌∷◌, length, nat_lt, min, not, if◌then◌else◌, Bool, true, false, Result, Ok, refl}
+use Rattle.std.proofs.Common.{sym, ◌∙◌, ap, subst}
 use Rattle.lua_values.specs.declared.values.Value.{Value}
 use Rattle.lua_values.specs.declared.values.Value.TheVariants as value
-use Rattle.lua_values.specs.Values.{is_nil, same}
+use Rattle.lua_values.specs.Values.{is_nil}
 use Rattle.lua_values.specs.Heap.{Heap, StoreView, step_limit}
 use Rattle.lua_operators.specs.declared.comparison.ComparisonOperator.{ComparisonOperator}
-use Rattle.lua_operators.specs.declared.comparison.ComparisonOperator.TheVariants.{Less, LessOrEqual}
 use Rattle.lua_numbers.specs.declared.faults.NumFault.{NumFault}
 use Rattle.lua_operators.specs.declared.faults.Fault.TheVariants as fault
-use Rattle.lua_operators.specs.declared.events.Event.{Event}
 use Rattle.lua_operators.specs.declared.events.Event.TheVariants.{Eq, Lt, Le}
 use Rattle.lua_operators.specs.declared.outcome.Outcome.{Outcome}
 use Rattle.lua_operators.specs.declared.outcome.Outcome.TheVariants.{Gives, NeedsEvent, Faults}
-use Rattle.lua_operators.specs.OperandFaults.{same_type, comparison_fault}
-use Rattle.lua_operators.specs.Types.{is_truthy, type_of}
-use Rattle.lua_meaning.specs.Works.{Caller, Values, Work, Look}
+use Rattle.lua_operators.specs.OperandFaults.{comparison_fault}
+use Rattle.lua_operators.specs.Types.{is_truthy}
+use Rattle.lua_meaning.specs.Works.{Caller, Values, Slots, Work, Look}
 use Rattle.lua_meaning.specs.Evaluator.{do_work}
 use Rattle.lua_meaning.specs.Setting.{Setting}
 use Rattle.lua_meaning.specs.Positions.{raise_fault, raise_operand}
 use Rattle.lua_meaning.specs.Signs.{give_one}
-use Rattle.lua_meaning.specs.Metatables.{handler, handler_of_both}
-use Rattle.lua_meaning.specs.Comparison.{count_texts, give_truth, call_for_truth, truth_work, compared_by_handler}
+use Rattle.lua_meaning.specs.Metatables.{handler_of_both}
+use Rattle.lua_meaning.specs.Comparison.{count_texts, give_truth, call_for_truth, truth_work, less_by_handler, at_most_by_handler, compared_by_handler}
 use Rattle.lua_meaning.specs.Nodes.{eval}
 use Rattle.lua_frames_base.specs.declared.flow.Flow.{Flow}
 use Rattle.lua_frames_base.specs.declared.flow.Flow.TheVariants as flow
@@ -30,7 +28,7 @@ use Rattle.lua_frames_base.specs.Frames.{slots_of}
 use Rattle.lua_frames_base.specs.Follows.{Works}
 use Rattle.lua_frames_base.specs.Changes.{Ends}
 use Rattle.lua_frames_base.proofs.FollowLemmas.{works_as, works_by, ends_works, spends, count_goes, count_spent}
-use Rattle.lua_operands.specs.Comparisons.{CountsTexts}
+use Rattle.lua_operands.specs.Comparisons.{CountsTexts, equality_handled, less_handled, at_most_handled}
 use Rattle.lua_operands.proofs.OutcomeLemmas.{looked}
 
 -- two texts are counted
@@ -71,10 +69,10 @@ none_counted a b store k = λ S q rs. ap (λ (t : Work). do_work (eval S) t (rec
     same_work (value.Object n m) b q k = refl
 
 -- a comparison whose bytes are counted goes on, and one with no step left ends
-pub counted_goes : {E : Type 0} (S : Setting) (a b : Value) (q : Work) (old new : Frames) (before mid : StoreView) (below : Bool) (r : Result Flow E)
-    → CountsTexts a b before mid below → below ≡ true → Works S q old mid new mid r → Works S (count_texts a b q) old before new mid r
-counted_goes S a b q old new before mid true r h e w = works_by S (count_texts a b q) q old new before mid mid r (h S q) w
-counted_goes S a b q old new before mid false r h e w = absurd (cc)
+pub counted_goes : {E : Type 0} (S : Setting) (a b : Value) (q : Work) (old new : Frames) (before mid store : StoreView) (below : Bool) (r : Result Flow E)
+    → CountsTexts a b before mid below → below ≡ true → Works S q old mid new store r → Works S (count_texts a b q) old before new store r
+counted_goes S a b q old new before mid store true r h e w = works_by S (count_texts a b q) q old new before mid store r (h S q) w
+counted_goes S a b q old new before mid store false r h e w = absurd (cc)
 
 pub counted_spent : {E : Type 0} (S : Setting) (a b : Value) (q : Work) (old new : Frames) (before store : StoreView) (below : Bool)
     → CountsTexts a b before store below → below ≡ false → Works {E = E} S (count_texts a b q) old before new store (Ok flow.Spent)
@@ -93,59 +91,84 @@ pub truth_faults : {E : Type 0} (S : Setting) (callers : List Caller) (wanted : 
 truth_faults S callers wanted o f event old new store r e w =
     works_as S (truth_work S callers wanted o (slots_of old) event) (raise_fault S callers (fault.Number f) (slots_of old)) old new store store r w (ap (λ (x : Outcome). truth_work S callers wanted x (slots_of old) event) e)
 
--- without a handler that both have, an equality of two tables is false
-no_both : (h : Heap) (a b : Value) (event : Event) → (is_nil (handler h a event) ≡ false → same (handler h a event) (handler h b event) ≡ true → ⊥) → is_nil (handler_of_both h a b event) ≡ true
-no_both h a b event k = by_type (same_type (type_of a) (type_of b)) (same (handler h a event) (handler h b event)) (is_nil (handler h a event)) refl refl
-  where
-    by_type : (t u n : Bool) → same (handler h a event) (handler h b event) ≡ u → is_nil (handler h a event) ≡ n → is_nil (if t then (if u then handler h a event else value.Nil) else value.Nil) ≡ true
-    by_type false u n s e = refl
-    by_type true false n s e = refl
-    by_type true true true s e = e
-    by_type true true false s e = absurd (k e s)
+-- an equality of two tables asks for the handler that both have
+pub truth_event : {E : Type 0} (S : Setting) (callers : List Caller) (wanted : Bool) (o : Outcome) (event : Work) (old new : Frames) (before store : StoreView) (r : Result Flow E)
+    → o ≡ NeedsEvent → Works S event old before new store r → Works S (truth_work S callers wanted o (slots_of old) event) old before new store r
+truth_event S callers wanted o event old new before store r e w =
+    works_as S (truth_work S callers wanted o (slots_of old) event) event old new before store r w (ap (λ (x : Outcome). truth_work S callers wanted x (slots_of old) event) e)
 
-not_one : (n s one : Bool) → one ≡ (not n && s) → one ≡ false → n ≡ false → s ≡ true → ⊥
-not_one true s one e f g h = absurd (cc)
-not_one false true one e f g h = absurd (cc)
-not_one false false one e f g h = absurd (cc)
+abbrev equality_by : List Caller → Bool → Value → Value → Slots → Heap → Work
+equality_by callers wanted a b s h = if is_nil (handler_of_both h a b Eq) then give_truth wanted false s else call_for_truth callers (handler_of_both h a b Eq) a b wanted s
 
-pub unequal : {E : Type 0} (S : Setting) (callers : List Caller) (wanted one : Bool) (told a b : Value) (o : Outcome) (old new : Frames) (store : StoreView) (r : Result Flow E)
-    → o ≡ NeedsEvent → one ≡ (not (is_nil (handler store.heap a Eq)) && same (handler store.heap a Eq) (handler store.heap b Eq)) → one ≡ false
-    → told ≡ value.Truth (if wanted then false else not false) → Ends (Values (told ∷ [])) old new r
-    → Works S (truth_work S callers wanted o (slots_of old)
-    (Look (λ h. if is_nil (handler_of_both h a b Eq) then give_truth wanted false (slots_of old) else call_for_truth callers (handler_of_both h a b Eq) a b wanted (slots_of old)))) old store new store r
-unequal S callers wanted one told a b o old new store r e is fails t w =
-    works_as S (truth_work S callers wanted o (slots_of old) (Look go)) (Look go) old new store store r
-    (looked S go (give_one told (slots_of old)) old new store store r
-    (ap (λ (u : Bool). if u then give_truth wanted false (slots_of old) else call_for_truth callers (handler_of_both store.heap a b Eq) a b wanted (slots_of old))
-    (no_both store.heap a b Eq (not_one (is_nil (handler store.heap a Eq)) (same (handler store.heap a Eq) (handler store.heap b Eq)) one is fails))
-    ∙ ap (λ (x : Value). give_one x (slots_of old)) (sym t))
-    (ends_works S (Values (told ∷ [])) old new store r w))
-    (ap (λ (x : Outcome). truth_work S callers wanted x (slots_of old) (Look go)) e)
-  where
-    go : Heap → Work
-    go h = if is_nil (handler_of_both h a b Eq) then give_truth wanted false (slots_of old) else call_for_truth callers (handler_of_both h a b Eq) a b wanted (slots_of old)
+abbrev not_less : Setting → List Caller → Heap → Value → Value → Slots → Work
+not_less S callers h a b s = if is_nil (handler_of_both h a b Lt) then raise_operand S callers (comparison_fault a b) s else call_for_truth callers (handler_of_both h a b Lt) b a false s
 
--- an order of values that have no handler for it
-nil_both : (h : Heap) (a b : Value) (event : Event) → is_nil (handler h a event) ≡ true → is_nil (handler_of_both h a b event) ≡ true
-nil_both h a b event e = no_both h a b event (λ f s. absurd (cc))
+-- by a handler, or by its absence
+by_absence : (go : Value → Work) (q : Work) (found by : Value) → by ≡ found → is_nil by ≡ true → (if is_nil found then q else go found) ≡ q
+by_absence go q found by e n = ap (λ (t : Bool). if t then q else go found) (ap is_nil (sym e) ∙ n)
 
-pub unordered : {E : Type 0} (S : Setting) (callers : List Caller) (operator : ComparisonOperator) (a b : Value) (old new : Frames) (store : StoreView) (r : Result Flow E)
-    → (is_nil (handler store.heap a Lt) && is_nil (handler store.heap a Le)) ≡ true → Works S (raise_operand S callers (comparison_fault a b) (slots_of old)) old store new store r
-    → Works S (Look (λ h. compared_by_handler operator S callers h a b (slots_of old))) old store new store r
-unordered S callers operator a b old new store r none w =
-    looked S (λ h. compared_by_handler operator S callers h a b (slots_of old)) (raise_operand S callers (comparison_fault a b) (slots_of old)) old new store store r (by_operator operator) w
-  where
-    both : (t u : Bool) → (t && u) ≡ true → (t ≡ true) × (u ≡ true)
-    both true true e = (refl, refl)
-    both true false e = absurd (cc)
-    both false u e = absurd (cc)
+by_presence : (go : Value → Work) (q : Work) (found by : Value) → by ≡ found → is_nil by ≡ false → (if is_nil found then q else go found) ≡ go by
+by_presence go q found by e n = ap (λ (t : Bool). if t then q else go found) (ap is_nil (sym e) ∙ n) ∙ ap go (sym e)
 
-    no_lt : is_nil (handler_of_both store.heap a b Lt) ≡ true
-    no_lt = nil_both store.heap a b Lt ((both (is_nil (handler store.heap a Lt)) (is_nil (handler store.heap a Le)) none).0)
+-- without one it is false
+pub unequal : {E : Type 0} (S : Setting) (callers : List Caller) (wanted : Bool) (by told a b : Value) (old new : Frames) (store : StoreView) (r : Result Flow E)
+    → by ≡ handler_of_both store.heap a b Eq → is_nil by ≡ true → told ≡ value.Truth (if wanted then false else not false) → Ends (Values (told ∷ [])) old new r
+    → Works S (equality_handled callers wanted a b (slots_of old)) old store new store r
+unequal S callers wanted by told a b old new store r e n t w =
+    looked S (equality_by callers wanted a b (slots_of old)) (give_one told (slots_of old)) old new store store r
+    (by_absence (λ v. call_for_truth callers v a b wanted (slots_of old)) (give_truth wanted false (slots_of old)) (handler_of_both store.heap a b Eq) by e n ∙ ap (λ (x : Value). give_one x (slots_of old)) (sym t))
+    (ends_works S (Values (told ∷ [])) old new store r w)
 
-    no_le : is_nil (handler_of_both store.heap a b Le) ≡ true
-    no_le = nil_both store.heap a b Le ((both (is_nil (handler store.heap a Lt)) (is_nil (handler store.heap a Le)) none).1)
+-- and otherwise the handler tells
+pub equal_by_handler : {E : Type 0} (S : Setting) (callers : List Caller) (wanted : Bool) (by a b : Value) (old new : Frames) (before store : StoreView) (r : Result Flow E)
+    → by ≡ handler_of_both before.heap a b Eq → is_nil by ≡ false → Works S (call_for_truth callers by a b wanted (slots_of old)) old before new store r
+    → Works S (equality_handled callers wanted a b (slots_of old)) old before new store r
+equal_by_handler S callers wanted by a b old new before store r e n w =
+    looked S (equality_by callers wanted a b (slots_of old)) (call_for_truth callers by a b wanted (slots_of old)) old new before store r
+    (by_presence (λ v. call_for_truth callers v a b wanted (slots_of old)) (give_truth wanted false (slots_of old)) (handler_of_both before.heap a b Eq) by e n) w
 
-    by_operator : (o : ComparisonOperator) → compared_by_handler o S callers store.heap a b (slots_of old) ≡ raise_operand S callers (comparison_fault a b) (slots_of old)
-    by_operator Less = rw no_lt refl
-    by_operator LessOrEqual = rw (no_le, no_lt) refl
+-- an order by the operator
+pub order_as : {E : Type 0} (S : Setting) (callers : List Caller) (o o' : ComparisonOperator) (a b : Value) (old new : Frames) (before store : StoreView) (r : Result Flow E)
+    → o ≡ o' → Works S (Look (λ h. compared_by_handler o' S callers h a b (slots_of old))) old before new store r → Works S (Look (λ h. compared_by_handler o S callers h a b (slots_of old))) old before new store r
+order_as S callers o o' a b old new before store r e w = subst (λ (x : ComparisonOperator). Works S (Look (λ h. compared_by_handler x S callers h a b (slots_of old))) old before new store r) (sym e) w
+
+-- `<` without a handler, and with one
+pub unordered : {E : Type 0} (S : Setting) (callers : List Caller) (by a b : Value) (old new : Frames) (before store : StoreView) (r : Result Flow E)
+    → by ≡ handler_of_both before.heap a b Lt → is_nil by ≡ true → Works S (raise_operand S callers (comparison_fault a b) (slots_of old)) old before new store r
+    → Works S (less_handled S callers a b (slots_of old)) old before new store r
+unordered S callers by a b old new before store r e n w =
+    looked S (λ h. less_by_handler S callers h a b (slots_of old)) (raise_operand S callers (comparison_fault a b) (slots_of old)) old new before store r
+    (by_absence (λ v. call_for_truth callers v a b true (slots_of old)) (raise_operand S callers (comparison_fault a b) (slots_of old)) (handler_of_both before.heap a b Lt) by e n) w
+
+pub less_called : {E : Type 0} (S : Setting) (callers : List Caller) (by a b : Value) (old new : Frames) (before store : StoreView) (r : Result Flow E)
+    → by ≡ handler_of_both before.heap a b Lt → is_nil by ≡ false → Works S (call_for_truth callers by a b true (slots_of old)) old before new store r
+    → Works S (less_handled S callers a b (slots_of old)) old before new store r
+less_called S callers by a b old new before store r e n w =
+    looked S (λ h. less_by_handler S callers h a b (slots_of old)) (call_for_truth callers by a b true (slots_of old)) old new before store r
+    (by_presence (λ v. call_for_truth callers v a b true (slots_of old)) (raise_operand S callers (comparison_fault a b) (slots_of old)) (handler_of_both before.heap a b Lt) by e n) w
+
+-- `<=` with a handler of its own
+pub at_most_called : {E : Type 0} (S : Setting) (callers : List Caller) (by a b : Value) (old new : Frames) (before store : StoreView) (r : Result Flow E)
+    → by ≡ handler_of_both before.heap a b Le → is_nil by ≡ false → Works S (call_for_truth callers by a b true (slots_of old)) old before new store r
+    → Works S (at_most_handled S callers a b (slots_of old)) old before new store r
+at_most_called S callers by a b old new before store r e n w =
+    looked S (λ h. at_most_by_handler S callers h a b (slots_of old)) (call_for_truth callers by a b true (slots_of old)) old new before store r
+    (by_presence (λ v. call_for_truth callers v a b true (slots_of old)) (not_less S callers before.heap a b (slots_of old)) (handler_of_both before.heap a b Le) by e n) w
+
+-- without one it is `not (b < a)`
+pub at_most_swapped : {E : Type 0} (S : Setting) (callers : List Caller) (own by a b : Value) (old new : Frames) (before store : StoreView) (r : Result Flow E)
+    → own ≡ handler_of_both before.heap a b Le → is_nil own ≡ true → by ≡ handler_of_both before.heap a b Lt → is_nil by ≡ false
+    → Works S (call_for_truth callers by b a false (slots_of old)) old before new store r → Works S (at_most_handled S callers a b (slots_of old)) old before new store r
+at_most_swapped S callers own by a b old new before store r o m e n w =
+    looked S (λ h. at_most_by_handler S callers h a b (slots_of old)) (call_for_truth callers by b a false (slots_of old)) old new before store r
+    (by_absence (λ v. call_for_truth callers v a b true (slots_of old)) (not_less S callers before.heap a b (slots_of old)) (handler_of_both before.heap a b Le) own o m
+    ∙ by_presence (λ v. call_for_truth callers v b a false (slots_of old)) (raise_operand S callers (comparison_fault a b) (slots_of old)) (handler_of_both before.heap a b Lt) by e n) w
+
+-- and without either it fails
+pub at_most_unordered : {E : Type 0} (S : Setting) (callers : List Caller) (own by a b : Value) (old new : Frames) (before store : StoreView) (r : Result Flow E)
+    → own ≡ handler_of_both before.heap a b Le → is_nil own ≡ true → by ≡ handler_of_both before.heap a b Lt → is_nil by ≡ true
+    → Works S (raise_operand S callers (comparison_fault a b) (slots_of old)) old before new store r → Works S (at_most_handled S callers a b (slots_of old)) old before new store r
+at_most_unordered S callers own by a b old new before store r o m e n w =
+    looked S (λ h. at_most_by_handler S callers h a b (slots_of old)) (raise_operand S callers (comparison_fault a b) (slots_of old)) old new before store r
+    (by_absence (λ v. call_for_truth callers v a b true (slots_of old)) (not_less S callers before.heap a b (slots_of old)) (handler_of_both before.heap a b Le) own o m
+    ∙ by_absence (λ v. call_for_truth callers v b a false (slots_of old)) (raise_operand S callers (comparison_fault a b) (slots_of old)) (handler_of_both before.heap a b Lt) by e n) w

@@ -11,7 +11,7 @@ use Rattle.lua_meaning.specs.Evaluator.{Resume, Spent, do_work}
 use Rattle.lua_meaning.specs.Setting.{Setting}
 use Rattle.lua_meaning.specs.Metatables.{handler_of_both}
 use Rattle.lua_meaning.specs.Arithmetic.{outcome_work}
-use Rattle.lua_meaning.specs.Comparison.{count_texts, give_truth, call_for_truth, truth_work, compared_by_handler}
+use Rattle.lua_meaning.specs.Comparison.{count_texts, give_truth, call_for_truth, truth_work, less_by_handler, at_most_by_handler, compared_by_handler}
 use Rattle.lua_meaning.specs.Nodes.{eval}
 
 -- the bytes of two texts are counted, and what is compared goes on, or no step is left
@@ -21,11 +21,21 @@ CountsTexts a b before store true = (S : Setting) (q : Work) (resumes : List Res
 CountsTexts a b before store false = (S : Setting) (q : Work) (resumes : List Resume)
     → do_work (eval S) (count_texts a b q) (record { store = before; resumes = resumes }) ≡ Spent
 
+-- `a == b` of two tables that aren't the same, by the handler that both have
+abbrev pub equality_handled : List Caller → Bool → Value → Value → Slots → Work
+equality_handled callers wanted a b s =
+    Look (λ h. if is_nil (handler_of_both h a b Eq) then give_truth wanted false s else call_for_truth callers (handler_of_both h a b Eq) a b wanted s)
+
 -- `a == b` once its bytes are counted
 abbrev pub equality_told : Setting → List Caller → Bool → Value → Value → Slots → Work
-equality_told S callers wanted a b s =
-    truth_work S callers wanted (equality a b) s
-    (Look (λ h. if is_nil (handler_of_both h a b Eq) then give_truth wanted false s else call_for_truth callers (handler_of_both h a b Eq) a b wanted s))
+equality_told S callers wanted a b s = truth_work S callers wanted (equality a b) s (equality_handled callers wanted a b s)
+
+-- `a < b`, and `a <= b`, of values that are no numbers and no texts, by the handlers that both have
+abbrev pub less_handled : Setting → List Caller → Value → Value → Slots → Work
+less_handled S callers a b s = Look (λ h. less_by_handler S callers h a b s)
+
+abbrev pub at_most_handled : Setting → List Caller → Value → Value → Slots → Work
+at_most_handled S callers a b s = Look (λ h. at_most_by_handler S callers h a b s)
 
 -- `a < b` or `a <= b` once its bytes are counted
 abbrev pub comparison_told : Setting → List Caller → ComparisonOperator → Value → Value → Slots → Work

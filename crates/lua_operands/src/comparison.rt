@@ -1,19 +1,16 @@
 //! Comparison (Lua 5.1 Reference Manual, 2.5.2).
 
-ghost use Rattle.std.specs.Prelude.{◌≡◌, ◌&&◌, not, if◌then◌else◌, IfOk};
+ghost use Rattle.std.specs.Prelude.{◌≡◌, not, if◌then◌else◌};
 ghost use Rattle.lua_values.specs.declared.values.Value.TheVariants.{Truth};
-ghost use Rattle.lua_values.specs.Values.{is_nil, same};
-ghost use Rattle.lua_operators.specs.declared.events.Event.TheVariants.{Eq, Lt, Le};
-ghost use Rattle.lua_meaning.specs.Metatables.{handler};
-ghost use Rattle.lua_meaning.specs.Setting.{Setting};
 ghost use Rattle.lua_meaning.specs.Positions.{callers_at};
 ghost use Rattle.lua_meaning.specs.Comparison.{equality_work, comparison_work};
 ghost use Rattle.lua_frames_base.specs.Frames.{here, slots_of};
 ghost use Rattle.lua_frames_base.specs.Follows.{Works};
-ghost use Rattle.lua_operands.specs.Comparisons.{CountsTexts, equality_told, comparison_told};
+ghost use Rattle.lua_operands.specs.Comparisons.{CountsTexts, equality_told, comparison_told, less_handled, at_most_handled};
 
-use lua_ast::Program;
-use lua_frames_base::{Flow, Frames, give_one, handler, raise_fault, raise_operand};
+use crate::handlers::handler_of_both;
+use lua_frames_base::{Flow, Frames, Host, give_one, raise_fault, raise_operand};
+use lua_natives::call_for_truth;
 use lua_operators::{
     ComparisonOperator, Event, Fault, Outcome, compared, comparison_fault, equality, is_truthy,
 };
@@ -36,48 +33,47 @@ fn count_texts(store: &mut Store, a: &Value, b: &Value) -> bool
 }
 
 /// `a == b`, or `a ~= b` where false is wanted.
-pub(crate) fn equal(
+pub(crate) fn equal<H: Host>(
     frames: &mut Frames,
-    program: &Program,
+    host: &H,
     store: &mut Store,
     line: u32,
     wanted: bool,
-    a: &Value,
-    b: &Value,
+    a: Value,
+    b: Value,
 ) -> Result<Flow, AllocError>
-    ensures { (S : Setting) → S.program ≡ program.now
-        → Works S (equality_work S (callers_at (here frames.old) line) wanted a.now b.now (slots_of frames.old))
+    ensures { Works (H.setting host.now) (equality_work (H.setting host.now) (callers_at (here frames.old) line) wanted a b (slots_of frames.old))
         frames.old store.old frames.new store.new result }
 {
-    if count_texts(store, a, b) {
-        tell_equal(frames, program, store, line, wanted, a, b)
+    if count_texts(store, &a, &b) {
+        tell_equal(frames, host, store, line, wanted, a, b)
     } else {
         Ok(Flow::Spent)
     }
 }
 
 /// It once the bytes are counted.
-fn tell_equal(
+fn tell_equal<H: Host>(
     frames: &mut Frames,
-    program: &Program,
-    store: &Store,
+    host: &H,
+    store: &mut Store,
     line: u32,
     wanted: bool,
-    a: &Value,
-    b: &Value,
+    a: Value,
+    b: Value,
 ) -> Result<Flow, AllocError>
-    ensures { (S : Setting) → S.program ≡ program.now
-        → Works S (equality_told S (callers_at (here frames.old) line) wanted a.now b.now (slots_of frames.old))
-        frames.old store.now frames.new store.now result }
+    ensures { Works (H.setting host.now) (equality_told (H.setting host.now) (callers_at (here frames.old) line) wanted a b (slots_of frames.old))
+        frames.old store.old frames.new store.new result }
 {
-    match equality(a, b) {
+    match equality(&a, &b) {
         Outcome::Gives(value) => give_one(frames, truth_as(wanted, is_truthy(&value))),
-        Outcome::Faults(fault) => raise_fault(frames, program, line, Fault::Number(fault)),
+        Outcome::Faults(fault) => raise_fault(frames, host.program(), line, Fault::Number(fault)),
         Outcome::NeedsEvent => {
-            if has_one_handler(store, a, b)? {
-                Ok(Flow::Unsupported)
-            } else {
+            let by = handler_of_both(store, &a, &b, Event::Eq)?;
+            if by.is_nil() {
                 give_one(frames, truth_as(wanted, false))
+            } else {
+                call_for_truth(frames, host, store, line, wanted, by, a, b)
             }
         }
     }
@@ -94,69 +90,89 @@ fn truth_as(wanted: bool, holds: bool) -> Value
     }
 }
 
-/// Whether two values have one and the same handler of `==`.
-fn has_one_handler(store: &Store, a: &Value, b: &Value) -> Result<bool, AllocError>
-    ensures { IfOk result (λ one. one ≡ not (is_nil (handler store.now.heap a.now Eq))
-        && same (handler store.now.heap a.now Eq) (handler store.now.heap b.now Eq)) }
-{
-    let by = handler(store, a, Event::Eq)?;
-    let other = handler(store, b, Event::Eq)?;
-    Ok(!by.is_nil() && by == other)
-}
-
 /// `a < b` or `a <= b`.
-pub(crate) fn comparison(
+pub(crate) fn comparison<H: Host>(
     frames: &mut Frames,
-    program: &Program,
+    host: &H,
     store: &mut Store,
     line: u32,
     operator: ComparisonOperator,
-    a: &Value,
-    b: &Value,
+    a: Value,
+    b: Value,
 ) -> Result<Flow, AllocError>
-    ensures { (S : Setting) → S.program ≡ program.now
-        → Works S (comparison_work S (callers_at (here frames.old) line) operator a.now b.now (slots_of frames.old))
+    ensures { Works (H.setting host.now) (comparison_work (H.setting host.now) (callers_at (here frames.old) line) operator a b (slots_of frames.old))
         frames.old store.old frames.new store.new result }
 {
-    if count_texts(store, a, b) {
-        tell_order(frames, program, store, line, operator, a, b)
+    if count_texts(store, &a, &b) {
+        tell_order(frames, host, store, line, operator, a, b)
     } else {
         Ok(Flow::Spent)
     }
 }
 
 /// It once the bytes are counted.
-fn tell_order(
+fn tell_order<H: Host>(
     frames: &mut Frames,
-    program: &Program,
-    store: &Store,
+    host: &H,
+    store: &mut Store,
     line: u32,
     operator: ComparisonOperator,
-    a: &Value,
-    b: &Value,
+    a: Value,
+    b: Value,
 ) -> Result<Flow, AllocError>
-    ensures { (S : Setting) → S.program ≡ program.now
-        → Works S (comparison_told S (callers_at (here frames.old) line) operator a.now b.now (slots_of frames.old))
-        frames.old store.now frames.new store.now result }
+    ensures { Works (H.setting host.now) (comparison_told (H.setting host.now) (callers_at (here frames.old) line) operator a b (slots_of frames.old))
+        frames.old store.old frames.new store.new result }
 {
-    match compared(operator, a, b) {
+    match compared(operator, &a, &b) {
         Outcome::Gives(value) => give_one(frames, value),
-        Outcome::Faults(fault) => raise_fault(frames, program, line, Fault::Number(fault)),
-        Outcome::NeedsEvent => {
-            if has_no_order(store, a)? {
-                raise_operand(frames, program, line, comparison_fault(a, b))
-            } else {
-                Ok(Flow::Unsupported)
-            }
-        }
+        Outcome::Faults(fault) => raise_fault(frames, host.program(), line, Fault::Number(fault)),
+        Outcome::NeedsEvent => match operator {
+            ComparisonOperator::Less => less(frames, host, store, line, a, b),
+            ComparisonOperator::LessOrEqual => at_most(frames, host, store, line, a, b),
+        },
     }
 }
 
-/// Whether a value has neither handler of an order.
-fn has_no_order(store: &Store, value: &Value) -> Result<bool, AllocError>
-    ensures { IfOk result (λ none. none ≡ is_nil (handler store.now.heap value.now Lt) && is_nil (handler store.now.heap value.now Le)) }
+/// `a < b` of values that are no numbers and no texts.
+fn less<H: Host>(
+    frames: &mut Frames,
+    host: &H,
+    store: &mut Store,
+    line: u32,
+    a: Value,
+    b: Value,
+) -> Result<Flow, AllocError>
+    ensures { Works (H.setting host.now) (less_handled (H.setting host.now) (callers_at (here frames.old) line) a b (slots_of frames.old))
+        frames.old store.old frames.new store.new result }
 {
-    let less = handler(store, value, Event::Lt)?;
-    let at_most = handler(store, value, Event::Le)?;
-    Ok(less.is_nil() && at_most.is_nil())
+    let by = handler_of_both(store, &a, &b, Event::Lt)?;
+    if by.is_nil() {
+        raise_operand(frames, host.program(), line, comparison_fault(&a, &b))
+    } else {
+        call_for_truth(frames, host, store, line, true, by, a, b)
+    }
+}
+
+/// `a <= b` of such values: without a handler of its own it is `not (b < a)`.
+fn at_most<H: Host>(
+    frames: &mut Frames,
+    host: &H,
+    store: &mut Store,
+    line: u32,
+    a: Value,
+    b: Value,
+) -> Result<Flow, AllocError>
+    ensures { Works (H.setting host.now) (at_most_handled (H.setting host.now) (callers_at (here frames.old) line) a b (slots_of frames.old))
+        frames.old store.old frames.new store.new result }
+{
+    let by = handler_of_both(store, &a, &b, Event::Le)?;
+    if !by.is_nil() {
+        return call_for_truth(frames, host, store, line, true, by, a, b);
+    }
+    let by = handler_of_both(store, &a, &b, Event::Lt)?;
+    if by.is_nil() {
+        raise_operand(frames, host.program(), line, comparison_fault(&a, &b))
+    } else {
+        call_for_truth(frames, host, store, line, false, by, b, a)
+    }
 }

@@ -10,7 +10,8 @@ ghost use Rattle.lua_frames_base.specs.Follows.{Works};
 
 use crate::handlers::{handle, handler_of_two};
 use lua_ast::Program;
-use lua_frames_base::{Flow, Frames, give_one, raise_fault};
+use lua_frames_base::{Flow, Frames, Host, give_one, raise_fault};
+use lua_natives::two;
 use lua_operators::{Event, Fault, Outcome, concatenated, concatenation_fault};
 use lua_values::{Store, StoreFault, Value};
 use std::alloc::AllocError;
@@ -32,31 +33,32 @@ fn text_length(value: &Value) -> u64
 }
 
 /// `a .. b`.
-pub(crate) fn concatenation(
+pub(crate) fn concatenation<H: Host>(
     frames: &mut Frames,
-    program: &Program,
+    host: &H,
     store: &mut Store,
     line: u32,
-    a: &Value,
-    b: &Value,
+    a: Value,
+    b: Value,
 ) -> Result<Flow, AllocError>
-    ensures { (S : Setting) → S.program ≡ program.now
-        → Works S (concatenation_work S (callers_at (here frames.old) line) a.now b.now (slots_of frames.old))
+    ensures { Works (H.setting host.now) (concatenation_work (H.setting host.now) (callers_at (here frames.old) line) a b (slots_of frames.old))
         frames.old store.old frames.new store.new result }
 {
-    match concatenated(frames.alloc, a, b)? {
+    match concatenated(frames.alloc, &a, &b)? {
         Outcome::Gives(value) => {
-            let bytes = (text_length(a) + text_length(b)).saturating_add(text_length(&value));
+            let bytes = (text_length(&a) + text_length(&b)).saturating_add(text_length(&value));
             if store.count(bytes / BYTES_OF_A_STEP) {
-                give_text(frames, program, store, line, value)
+                give_text(frames, host.program(), store, line, value)
             } else {
                 Ok(Flow::Spent)
             }
         }
-        Outcome::Faults(fault) => raise_fault(frames, program, line, Fault::Number(fault)),
+        Outcome::Faults(fault) => raise_fault(frames, host.program(), line, Fault::Number(fault)),
         Outcome::NeedsEvent => {
-            let by = handler_of_two(store, a, b, Event::Concat)?;
-            handle(frames, program, line, &by, concatenation_fault(a, b))
+            let by = handler_of_two(store, &a, &b, Event::Concat)?;
+            let fault = concatenation_fault(&a, &b);
+            let operands = two(&mut frames.lists, a, b)?;
+            handle(frames, host, store, line, by, operands, fault)
         }
     }
 }

@@ -1,18 +1,15 @@
 //! The handlers of operators.
 
-ghost use Rattle.std.specs.Prelude.{◌≡◌, List, IfOk};
-ghost use Rattle.lua_values.specs.declared.values.Value.{Value as LuaValue};
-ghost use Rattle.lua_values.specs.Heap.{StoreView};
-ghost use Rattle.lua_meaning.specs.Setting.{Setting};
+ghost use Rattle.std.specs.Prelude.{◌≡◌, IfOk};
 ghost use Rattle.lua_meaning.specs.Positions.{callers_at};
-ghost use Rattle.lua_meaning.specs.Metatables.{handler_of_two};
+ghost use Rattle.lua_meaning.specs.Metatables.{handler_of_two, handler_of_both};
 ghost use Rattle.lua_meaning.specs.Arithmetic.{handled};
 ghost use Rattle.lua_frames_base.specs.Frames.{here, slots_of};
 ghost use Rattle.lua_frames_base.specs.Follows.{Works};
 
-use lua_ast::Program;
-use lua_frames_base::{Flow, Frames, handler, raise_operand};
-use lua_operators::{Event, OperandFault};
+use lua_frames_base::{Flow, Frames, Host, handler, raise_operand};
+use lua_natives::call_for_one;
+use lua_operators::{Event, OperandFault, type_of};
 use lua_values::{Store, Value};
 use std::alloc::AllocError;
 
@@ -33,20 +30,42 @@ pub(crate) fn handler_of_two(
     }
 }
 
-/// An operator that isn't defined on its operands fails where it has no handler; a handler isn't called yet.
-pub(crate) fn handle(
+/// The handler of a comparison: the one that both operands have, where they are of one type, and nil otherwise.
+pub(crate) fn handler_of_both(
+    store: &Store,
+    a: &Value,
+    b: &Value,
+    event: Event,
+) -> Result<Value, AllocError>
+    ensures { IfOk result (λ by. by ≡ handler_of_both store.now.heap a.now b.now event) }
+{
+    if type_of(a) != type_of(b) {
+        return Ok(Value::Nil);
+    }
+    let shared = handler(store, a, event)?;
+    if shared == handler(store, b, event)? {
+        Ok(shared)
+    } else {
+        Ok(Value::Nil)
+    }
+}
+
+/// Calls a handler with the operands for one value; without one the operator isn't defined on them.
+pub(crate) fn handle<H: Host>(
     frames: &mut Frames,
-    program: &Program,
+    host: &H,
+    store: &mut Store,
     line: u32,
-    by: &Value,
+    by: Value,
+    operands: Vec<Value>,
     fault: OperandFault,
 ) -> Result<Flow, AllocError>
-    ensures { (S : Setting) → (store : StoreView) → (operands : List LuaValue) → S.program ≡ program.now
-        → Works S (handled S (callers_at (here frames.old) line) by.now operands fault (slots_of frames.old)) frames.old store frames.new store result }
+    ensures { Works (H.setting host.now) (handled (H.setting host.now) (callers_at (here frames.old) line) by operands.items fault (slots_of frames.old))
+        frames.old store.old frames.new store.new result }
 {
     if by.is_nil() {
-        raise_operand(frames, program, line, fault)
+        raise_operand(frames, host.program(), line, fault)
     } else {
-        Ok(Flow::Unsupported)
+        call_for_one(frames, host, store, line, by, operands)
     }
 }

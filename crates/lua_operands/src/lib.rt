@@ -1,5 +1,5 @@
-//! Operators of the machine that evaluate all of their operands, on values: each does the evaluator's work. A handler of a
-//! metatable is looked for, and isn't called yet.
+//! Operators of the machine that evaluate all of their operands, on values: each does the evaluator's work, by way of the handlers
+//! of metatables where it isn't defined on its operands.
 #![tactic(auto)]
 
 mod arithmetic;

@@ -23,15 +23,7 @@ use Rattle.lua_tables.specs.declared.destinations.Destination.TheVariants as to
 use Rattle.lua_tables.specs.declared.chains.Read.TheVariants as read
 use Rattle.lua_tables.specs.Chains.{Reads, Leads, dropping}
 
--- a handler of which one value is wanted
-pub one_wanted : {E : Type 0} (S : Setting) (line : ℕ) (by : Value) (args : List Value) (old mid fs : Frames) (before store : StoreView) (r : Result Flow E)
-    → Waits old i.First mid → Works S (call (callers_at (here mid) line) by args (slots_of mid)) mid before fs store r
-    → Works S (call_for_one (callers_at (here old) line) by args (slots_of old) give_one) old before fs store r
-one_wanted S line by args old mid fs before store r h w =
-    works_as S (call_for_one (callers_at (here old) line) by args (slots_of old) give_one) (and_then (call (callers_at (here old) line) by args (slots_of old)) (resume_item S i.First (here old))) old fs before store r
-    (work_under S old mid fs i.First (λ p s. call (callers_at p line) by args s) before store r h w) refl
-
--- and one of which none is
+-- a handler of which no value is wanted
 pub none_wanted : {E : Type 0} (S : Setting) (line : ℕ) (by : Value) (args : List Value) (old mid fs : Frames) (before store : StoreView) (r : Result Flow E)
     → Waits old i.Discard mid → Works S (call (callers_at (here mid) line) by args (slots_of mid)) mid before fs store r
     → Works S (call_for_one (callers_at (here old) line) by args (slots_of old) dropping) old before fs store r

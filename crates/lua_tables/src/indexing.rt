@@ -1,9 +1,8 @@
 //! `t[k]` and `t[k] = x` (Lua 5.1 Reference Manual, 2.3 and 2.8).
 
-ghost use Rattle.std.specs.Prelude.{◌≡◌, ◌∷◌, [], IfOk};
+ghost use Rattle.std.specs.Prelude.{◌≡◌};
 ghost use Rattle.lua_meaning.specs.Setting.{Setting};
 ghost use Rattle.lua_meaning.specs.Positions.{callers_at};
-ghost use Rattle.lua_meaning.specs.Signs.{give_one};
 ghost use Rattle.lua_meaning.specs.Calls.{call_for_one};
 ghost use Rattle.lua_meaning.specs.Indexing.{index_work, set_raw, store_work};
 ghost use Rattle.lua_frames_base.specs.Frames.{here, slots_of};
@@ -16,50 +15,12 @@ use crate::destinations::{Destination, find_destination};
 use crate::setting::set_pair;
 use lua_ast::Program;
 use lua_frames_base::{
-    Flow, Frames, Host, Item, Lists, give_nothing, give_one, raise_fault, raise_operand,
-    take_first, wait,
+    Flow, Frames, Host, Item, give_nothing, give_one, raise_fault, raise_operand, take_first, wait,
 };
-use lua_natives::enter_call;
+use lua_natives::{call_for_one, enter_call, three, two};
 use lua_operators::{OperandFault, type_of};
 use lua_values::{Store, Value};
 use std::alloc::AllocError;
-
-/// The arguments of a handler of `__index`.
-fn two(lists: &mut Lists, a: Value, b: Value) -> Result<Vec<Value>, AllocError>
-    ensures { IfOk result (λ args. args.items ≡ a ∷ b ∷ []) }
-{
-    let mut args = lists.values.fresh();
-    args.push(a)?;
-    args.push(b)?;
-    Ok(args)
-}
-
-/// The arguments of a handler of `__newindex`.
-fn three(lists: &mut Lists, a: Value, b: Value, c: Value) -> Result<Vec<Value>, AllocError>
-    ensures { IfOk result (λ args. args.items ≡ a ∷ b ∷ c ∷ []) }
-{
-    let mut args = lists.values.fresh();
-    args.push(a)?;
-    args.push(b)?;
-    args.push(c)?;
-    Ok(args)
-}
-
-/// Calls a handler of which one value is wanted.
-fn call_for_one<H: Host>(
-    frames: &mut Frames,
-    host: &H,
-    store: &mut Store,
-    line: u32,
-    by: Value,
-    args: Vec<Value>,
-) -> Result<Flow, AllocError>
-    ensures { Works (H.setting host.now) (call_for_one (callers_at (here frames.old) line) by args.items (slots_of frames.old) give_one)
-        frames.old store.old frames.new store.new result }
-{
-    wait(frames, Item::First)?;
-    enter_call(frames, host, store, line, by, args)
-}
 
 /// Calls a handler whose values are dropped.
 fn call_for_none<H: Host>(

@@ -1,6 +1,7 @@
 //! What small programs come to, with their steps and the units that they take.
 mod loops;
 mod natives;
+mod operators;
 mod parks;
 mod programs;
 mod tables;

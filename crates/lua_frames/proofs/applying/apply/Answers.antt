@@ -28,6 +28,9 @@ returns-in-OrElse g c = as_item (g.H.Host.setting c.args.host.now) c.args.item _
 pub returns-in-First : goal.returns-in-First
 returns-in-First g c = as_item (g.H.Host.setting c.args.host.now) c.args.item _ c.args.frames.now c.first.new.frames c.args.store.now c.args.store.now c.first.result c.in-First.is (c.first.ensures (g.H.Host.setting c.args.host.now) c.args.store.now)
 
+pub returns-in-Truth : goal.returns-in-Truth
+returns-in-Truth g c = as_item (g.H.Host.setting c.args.host.now) c.args.item _ c.args.frames.now c.truth.new.frames c.args.store.now c.args.store.now c.truth.result c.in-Truth.is (c.truth.ensures (g.H.Host.setting c.args.host.now) c.args.store.now)
+
 pub returns-in-Callee : goal.returns-in-Callee
 returns-in-Callee g c = as_item (g.H.Host.setting c.args.host.now) c.args.item _ c.args.frames.now c.callee.new.frames c.args.store.now c.callee.new.store c.callee.result c.in-Callee.is c.callee.ensures
 

@@ -1,4 +1,4 @@
-use Rattle.std.proofs.Common.{[], ◌∷◌, sym}
+use Rattle.std.proofs.Common.{[], ◌∷◌, sym, refl}
 use Rattle.lua_values.specs.Heap.{Heap}
 use Rattle.lua_operators.specs.declared.events.Event.TheVariants.{Unm}
 use Rattle.lua_operators.specs.OperandFaults.{arithmetic_fault}
@@ -7,13 +7,14 @@ use Rattle.lua_operands.proofs.OutcomeLemmas.{outcome_gives, outcome_faults, out
 use Rattle.lua_operands.proofs.arithmetic.negation.Goals as goal
 
 pub returns-in-Gives : goal.returns-in-Gives
-returns-in-Gives c = λ S e. outcome_gives S _ _ c.in-Gives.value _ c.args.frames.now _ c.args.store.now _ (sym c.in-Gives.ensures) c.give_one.ensures
+returns-in-Gives g c = outcome_gives (g.H.Host.setting c.args.host.now) _ _ c.in-Gives.value _ c.args.frames.now _ c.args.store.now _ (sym c.in-Gives.ensures) c.give_one.ensures
 
 pub returns-in-Faults : goal.returns-in-Faults
-returns-in-Faults c = λ S e. outcome_faults S _ _ c.in-Faults.fault _ c.args.frames.now _ c.args.store.now _ (sym c.in-Faults.ensures) (c.raise_fault.ensures S c.args.store.now e)
+returns-in-Faults g c =
+    outcome_faults (g.H.Host.setting c.args.host.now) _ _ c.in-Faults.fault _ c.args.frames.now _ c.args.store.now _ (sym c.in-Faults.ensures) (c.raise_fault.ensures (g.H.Host.setting c.args.host.now) c.args.store.now (sym c.program.ensures))
 
-pub returns-in_ok-by-in-NeedsEvent : goal.returns-in_ok-by-in-NeedsEvent
-returns-in_ok-by-in-NeedsEvent c = λ S e.
-    outcome_event S _ _ _ c.args.frames.now _ c.args.store.now c.args.store.now _ (sym c.in-NeedsEvent.ensures)
-    (event_handled S _ (λ (h : Heap). handler h c.args.a.now Unm) _ (c.args.a.now ∷ []) (arithmetic_fault c.args.a.now c.args.a.now) c.args.frames.now _ c.args.store.now _
-    c.in_ok-by-in-NeedsEvent.ensures (rw c.arithmetic_fault.ensures at (c.handle.ensures S c.args.store.now (c.args.a.now ∷ []) e)))
+pub returns-in_ok-operands-in-NeedsEvent : goal.returns-in_ok-operands-in-NeedsEvent
+returns-in_ok-operands-in-NeedsEvent g c =
+    outcome_event (g.H.Host.setting c.args.host.now) _ _ _ c.args.frames.now _ c.args.store.now _ _ (sym c.in-NeedsEvent.ensures)
+    (event_handled (g.H.Host.setting c.args.host.now) c.args.line (λ (h : Heap). handler h c.args.a Unm) _ c.in_ok-operands-in-NeedsEvent.operands.items (c.args.a ∷ []) _ (arithmetic_fault c.args.a c.args.a)
+    c.args.frames.now _ c.handle.new.frames c.args.store.now c.handle.new.store c.handle.result c.in_ok-by-in-NeedsEvent.ensures c.in_ok-operands-in-NeedsEvent.ensures c.arithmetic_fault.ensures refl refl c.handle.ensures)

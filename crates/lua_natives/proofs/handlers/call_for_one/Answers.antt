@@ -1,5 +1,5 @@
-use Rattle.lua_tables.proofs.CallLemmas.{one_wanted}
-use Rattle.lua_tables.proofs.indexing.call_for_one.Goals as goal
+use Rattle.lua_natives.proofs.HandlerLemmas.{one_wanted}
+use Rattle.lua_natives.proofs.handlers.call_for_one.Goals as goal
 
 pub returns : goal.returns
 returns g c =

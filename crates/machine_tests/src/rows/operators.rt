@@ -1,0 +1,39 @@
+//! What operators come to that a metatable has handlers of.
+use super::programs::hold;
+
+const ARITHMETIC: &str = "\
+return \"10\" + 5, \"0x10\" * \"2\", 10 .. 20 => Done 15, 32, \"1020\" | 11, 20
+return -{} => Failed \"t.conf:1: attempt to perform arithmetic on a table value\" | 4, 32
+local t¶t = t ..¶\"a\" => Failed \"t.conf:2: attempt to concatenate a nil value\" | 7, 0
+local t = setmetatable({}, {__add = function(a, b) return b end}) return 3 + t == t, t + \"4\" => Done true, \"4\" | 24, 128
+local t = setmetatable({}, {__unm = function(...) return select(\"#\", ...) end}) return -t => Done 1 | 20, 128
+local t = setmetatable({}, {__concat = function(a, b) return type(a) .. type(b) end}) return 1 .. t, t .. \"x\" .. \"y\" \
+=> Done \"numbertable\", \"tablestring\" | 40, 286
+local a, b = setmetatable({}, {__sub = function() return 1 end}), setmetatable({}, {__sub = function() return 2 end}) \
+return a - b, b - a, 5 - b => Done 1, 2, 2 | 35, 256
+local t = setmetatable({}, {__add = error}) return t + 1 => Failed table | 14, 96
+local t = setmetatable({}, {__add = 5}) return t + 1 => Failed \"t.conf:1: attempt to call a number value\" | 14, 96";
+
+const COMPARISON: &str = "\
+local m = {__eq = function() return 1 end} local a, b = setmetatable({}, m), setmetatable({}, m) return a == b, a ~= b, a == {} \
+=> Done true, false, false | 32, 192
+local a, b = setmetatable({}, {__eq = id}), setmetatable({}, {__eq = w}) return a == b, a ~= b => Done false, true | 23, 192
+local m = {__lt = function(a, b) return nil end} local a, b = setmetatable({}, m), setmetatable({}, m) \
+return a < b, a <= b, a > b, a >= b => Done false, true, false, true | 41, 160
+local m = {__lt = function(a, b) return a.x end} local a, b = setmetatable({x = 1}, m), setmetatable({}, m) \
+return a <= b, b <= a => Done true, false | 35, 192
+local m = {__le = function(a, b) return a.x end} local a, b = setmetatable({x = 1}, m), setmetatable({}, m) \
+return a <= b, b <= a, b >= a => Done true, false, true | 43, 192
+local a, b = setmetatable({}, {__lt = id}), setmetatable({}, {__lt = w}) return a < b \
+=> Failed \"t.conf:1: attempt to compare two table values\" | 20, 192";
+
+const PARKS: &str = "\
+local t = setmetatable({}, {__index = w, __add = function(a, b) return w(b) end}) return t.x, t + 5 <- 7 8, 9 \
+=> Parked(0: table, \"x\") at 16; Parked(0: 5) at 25; Done 7, 9 | 25, 160";
+
+#[test]
+fn metatables_handle_operators(rt: HostRuntime) {
+    hold(&rt, rt.alloc(), ARITHMETIC);
+    hold(&rt, rt.alloc(), COMPARISON);
+    hold(&rt, rt.alloc(), PARKS);
+}
