@@ -17,4 +17,4 @@ pub returns-in_ok-operands-in-NeedsEvent : goal.returns-in_ok-operands-in-NeedsE
 returns-in_ok-operands-in-NeedsEvent g c =
     outcome_event (g.H.Host.setting c.args.host.now) _ _ _ c.args.frames.now _ c.args.store.now _ _ (sym c.in-NeedsEvent.ensures)
     (event_handled (g.H.Host.setting c.args.host.now) c.args.line (λ (h : Heap). handler_of_two h c.args.a c.args.b (event_of c.args.operator)) _ c.in_ok-operands-in-NeedsEvent.operands.items (c.args.a ∷ c.args.b ∷ []) _ (arithmetic_fault c.args.a c.args.b)
-    c.args.frames.now _ c.handle.new.frames c.args.store.now c.handle.new.store c.handle.result (rw c.event.ensures at c.in_ok-by-in-NeedsEvent.ensures) c.in_ok-operands-in-NeedsEvent.ensures c.arithmetic_fault.ensures refl refl c.handle.ensures)
+    c.args.frames.now _ c.handle.new.frames c.args.store.now c.handle.new.store c.handle.result (rw c.event.ensures at c.in_ok-by-in-NeedsEvent.ensures) c.in_ok-operands-in-NeedsEvent.ensures c.arithmetic_fault-fault.ensures refl refl c.handle.ensures)

@@ -13,4 +13,4 @@ returns-then-is_nil g c =
 pub returns-else-is_nil : goal.returns-else-is_nil
 returns-else-is_nil g c =
     at_most_swapped (g.H.Host.setting c.args.host.now) _ c.in_ok-by.by c.in_ok-by-2.by c.args.a c.args.b c.args.frames.now _ c.args.store.now _ _ c.in_ok-by.ensures (sym c.is_nil.ensures ∙ c.if-not-is_nil.false)
-    c.in_ok-by-2.ensures (sym c.is_nil-2.ensures ∙ c.if-is_nil.false) c.call_for_truth-2.ensures
+    c.in_ok-by-2.ensures (sym c.is_nil-2.ensures ∙ c.if-is_nil.false) c.call_for_truth-else-is_nil.ensures

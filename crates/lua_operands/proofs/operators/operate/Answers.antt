@@ -37,5 +37,5 @@ returns-in-Le g c = binary_as (g.H.Host.setting c.args.host.now) _ _ _ c.args.a 
 pub returns-in-Gt : goal.returns-in-Gt
 returns-in-Gt g c = binary_as (g.H.Host.setting c.args.host.now) _ _ _ c.args.a c.args.b c.args.frames.now _ c.args.store.now _ _ c.in-Gt.is c.comparison-in-Gt.ensures
 
-pub returns : goal.returns
-returns g c = binary_as (g.H.Host.setting c.args.host.now) _ _ _ c.args.a c.args.b c.args.frames.now _ c.args.store.now _ _ c.in-Ge.is c.comparison-in-Ge.ensures
+pub returns-in-Ge : goal.returns-in-Ge
+returns-in-Ge g c = binary_as (g.H.Host.setting c.args.host.now) _ _ _ c.args.a c.args.b c.args.frames.now _ c.args.store.now _ _ c.in-Ge.is c.comparison-in-Ge.ensures

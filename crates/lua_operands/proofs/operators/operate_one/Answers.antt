@@ -6,5 +6,5 @@ pub returns-in-Length : goal.returns-in-Length
 returns-in-Length g c =
     unary_as (g.H.Host.setting c.args.host.now) _ _ _ c.args.a c.args.frames.now _ c.args.store.now _ _ c.in-Length.is (c.length_of.ensures (g.H.Host.setting c.args.host.now) (sym c.program.ensures))
 
-pub returns : goal.returns
-returns g c = unary_as (g.H.Host.setting c.args.host.now) _ _ _ c.args.a c.args.frames.now _ c.args.store.now _ _ c.in-Minus.is c.negation.ensures
+pub returns-in-Minus : goal.returns-in-Minus
+returns-in-Minus g c = unary_as (g.H.Host.setting c.args.host.now) _ _ _ c.args.a c.args.frames.now _ c.args.store.now _ _ c.in-Minus.is c.negation.ensures
