@@ -3,3 +3,4 @@ pub mod CountLemmas
 pub mod EnterLemmas
 pub mod GuardLemmas
 pub mod ErrorLemmas
+pub mod TextLemmas

@@ -1,4 +1,5 @@
-//! Calls of any value: of the program's functions, and of the host's, of which `pcall`, `error` and `assert` are the machine's own.
+//! Calls of any value: of the program's functions, and of the host's, of which `pcall`, `xpcall`, `error`, `assert` and
+//! `tostring` are the machine's own.
 #![tactic(auto)]
 
 mod arguments;
@@ -7,5 +8,6 @@ mod errors;
 mod library;
 mod natives;
 mod protected;
+mod texts;
 
 pub use entering::{enter_call, enter_tail_call};

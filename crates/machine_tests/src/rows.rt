@@ -3,6 +3,8 @@ mod loops;
 mod natives;
 mod parks;
 mod programs;
+mod protected;
+mod snippets;
 mod tables;
 mod toy;
 
