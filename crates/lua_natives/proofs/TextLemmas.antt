@@ -1,6 +1,6 @@
 -- `tostring`.
-use Rattle.std.specs.Prelude.{◌≡◌, ℕ, ◌+◌, ◌-◌, ◌/◌, ◌^◌, ◌<◌, ◌≤◌, List, [], ◌∷◌, drop, length, codes, nat_lt, nat_eq, min, if◌then◌else◌, Bool, true, false, Result, Ok, Option, Some, None, refl}
-use Rattle.std.proofs.Common.{sym, ◌∙◌, ap, subst, arith, get_or}
+use Rattle.std.specs.Prelude.{◌≡◌, ℕ, ◌+◌, ◌-◌, ◌/◌, ◌^◌, List, [], ◌∷◌, length, codes, nat_lt, min, if◌then◌else◌, Bool, true, false, Result, Ok, Some, None, refl}
+use Rattle.std.proofs.Common.{sym, ◌∙◌, ap, subst, arith, Vec, Global}
 use Rattle.lua_values.specs.declared.values.Value.{Value}
 use Rattle.lua_values.specs.declared.values.Value.TheVariants as value
 use Rattle.lua_values.specs.declared.faults.StoreFault.{StoreFault}
@@ -11,8 +11,8 @@ use Rattle.lua_values.specs.Values.{is_nil}
 use Rattle.lua_operators.specs.declared.events.Event.TheVariants.{ToString}
 use Rattle.lua_operators.specs.declared.faults.Fault.TheVariants.{StorageLimit}
 use Rattle.lua_operators.specs.Conversions.{text_of}
-use Rattle.lua_meaning.specs.Works.{Caller, Values, Return, Break, Failed, ACall, Slots, Work, Look, Write, Count, and_then}
-use Rattle.lua_meaning.specs.Evaluator.{Resume, State, Ending, Ended, Parked, Spent, after, do_work}
+use Rattle.lua_meaning.specs.Works.{Caller, Values, Return, Break, Failed, ACall, Slots, Work, Write, Count, and_then}
+use Rattle.lua_meaning.specs.Evaluator.{State, Ending, Ended, Parked, Spent, after, do_work}
 use Rattle.lua_meaning.specs.Setting.{Setting}
 use Rattle.lua_meaning.specs.Positions.{callers_at, raise_fault}
 use Rattle.lua_meaning.specs.Signs.{first, give, give_one, on_values}
@@ -63,8 +63,12 @@ pub told_bytes : (told : ℕ) (args lent : List Value) → lent ≡ args → tol
 told_bytes told args lent e t = record { is = t ∙ ap (λ (vs : List Value). min (texts_length vs) (2 ^ 64 - 1)) e }
 
 -- and of as many more
-pub told_more : (bytes told more sum : ℕ) → Told bytes told → sum ≡ min (told + more) (2 ^ 64 - 1) → Told (bytes + more) sum
-told_more bytes told more sum t e = record { is = omega (arith, t.is, e) }
+pub told_more : (bytes told more size sum : ℕ) → Told bytes told → size ≡ more → sum ≡ min (told + size) (2 ^ 64 - 1) → Told (bytes + more) sum
+told_more bytes told more size sum t s e = record { is = omega (arith, t.is, s, e) }
+
+-- the bytes of a text that is lent
+pub length_told : (lent text : List ℕ) → lent ≡ text → length lent ≡ length text
+length_told lent text e = ap (λ (t : List ℕ). length t) e
 
 -- the steps of bytes are counted, and the work goes on
 pub told_goes : {E : Type 0} (S : Setting) (bytes told : ℕ) (q : Work) (below : Bool) (old new : Frames) (before mid store : StoreView) (r : Result Flow E)
@@ -120,16 +124,19 @@ given_back S s (Parked number args position store) = refl
 given_back S s Spent = refl
 
 -- a value with a handler tells what that gives
-pub tells_by : {E : Type 0} (S : Setting) (callers : List Caller) (bytes : ℕ) (v by : Value) (old new : Frames) (before store : StoreView) (r : Result Flow E)
-    → by ≡ handler before.heap v ToString → is_nil by ≡ false → Works S (Count (bytes / 64) (call_for_one callers by (v ∷ []) (slots_of old) give_one)) old before new store r
+pub tells_by : {E : Type 0} (S : Setting) (callers : List Caller) (bytes : ℕ) (v copy by : Value) (old new : Frames) (before store : StoreView) (r : Result Flow E)
+    → by ≡ handler before.heap v ToString → is_nil by ≡ false → copy ≡ v → Works S (Count (bytes / 64) (call_for_one callers by (copy ∷ []) (slots_of old) give_one)) old before new store r
     → Works S (and_then (tostring_of S callers bytes v []) (back_in false (slots_of old))) old before new store r
-tells_by S callers bytes v by old new before store r e some w =
+tells_by S callers bytes v copy by old new before store r e some same given =
     works_by S (and_then (tostring_of S callers bytes v []) (back_in false (slots_of old))) (Count (bytes / 64) (call_for_one callers by (v ∷ []) (slots_of old) give_one)) old new before before store r
     (λ rs. ap (λ (t : Bool). do_work (eval S) (and_then (if t then make_text_of S callers bytes before.heap v [] else Count (bytes / 64) (call_for_one callers (handler before.heap v ToString) (v ∷ []) [] give_one)) (back_in false (slots_of old))) (record { store = before; resumes = rs }))
     (ap is_nil (sym e) ∙ some)
     ∙ ap (λ (x : Value). do_work (eval S) (and_then (Count (bytes / 64) (call_for_one callers x (v ∷ []) [] give_one)) (back_in false (slots_of old))) (record { store = before; resumes = rs })) (sym e)
     ∙ by_test (nat_lt (before.steps + bytes / 64) step_limit) (record { store = record { heap = before.heap; steps = before.steps + bytes / 64 }; resumes = rs })) w
   where
+    w : Works S (Count (bytes / 64) (call_for_one callers by (v ∷ []) (slots_of old) give_one)) old before new store r
+    w = subst (λ (x : Value). Works S (Count (bytes / 64) (call_for_one callers by (x ∷ []) (slots_of old) give_one)) old before new store r) same given
+
     by_test : (t : Bool) (w' : State) → (if t then do_work (eval S) (and_then (call_for_one callers by (v ∷ []) [] give_one) (back_in false (slots_of old))) w' else Spent) ≡ (if t then do_work (eval S) (call_for_one callers by (v ∷ []) (slots_of old) give_one) w' else Spent)
     by_test true w' = given_back S (slots_of old) (eval S (ACall by (v ∷ [])) (calling callers false) [] w')
     by_test false w' = refl
@@ -180,29 +187,6 @@ with_room S callers bytes h text s size e fits =
     ap (λ (t : Bool). if t then Count (bytes / 64) (raise_fault S callers StorageLimit s) else Count ((bytes + length text) / 64) (Write (with_text h (length text)) (give_one (value.Text text) s)))
     (room h (length text + 16) (ap (λ (k : ℕ). full_cause h (k + 16)) (sym e) ∙ fits))
 
-pub made_text : {E : Type 0} (S : Setting) (callers : List Caller) (bytes told size : ℕ) (text : List ℕ) (below : Bool) (old new : Frames) (before mid store : StoreView) (r : Result Flow E)
-    → size ≡ length text → full_cause before.heap (size + 16) ≡ None → mid ≡ record { heap = record before.heap { units = before.heap.units + (size + 16) }; steps = before.steps }
-    → Told (bytes + length text) told → store ≡ record { heap = mid.heap; steps = min step_limit (mid.steps + told / 64) } → below ≡ nat_lt (mid.steps + told / 64) step_limit → below ≡ true
-    → Ends (Values (value.Text text ∷ [])) old new r → Works S (text_made S callers bytes before.heap text (slots_of old)) old before new store r
-made_text S callers bytes told size text below old new before mid store r e fits is t is' b holds w =
-    works_as S (text_made S callers bytes before.heap text (slots_of old)) (Count ((bytes + length text) / 64) q) old new before store r
-    (works_by S (Count ((bytes + length text) / 64) q) (give_one (value.Text text) (slots_of old)) old new before store store r
-    (λ rs. bytes_go S (bytes + length text) told q before counted below t.is refl (b ∙ ap (λ (st : StoreView). nat_lt (st.steps + told / 64) step_limit) is) holds rs
-    ∙ ap (λ (st : StoreView). do_work (eval S) (give_one (value.Text text) (slots_of old)) (record { store = st; resumes = rs })) (sym left))
-    (ends_works S (Values (value.Text text ∷ [])) old new store r w))
-    (with_room S callers bytes before.heap text (slots_of old) size e fits)
-  where
-    q : Work
-    q = Write (with_text before.heap (length text)) (give_one (value.Text text) (slots_of old))
-
-    counted : StoreView
-    counted = record { heap = before.heap; steps = min step_limit (before.steps + told / 64) }
-
-    left : store ≡ record { heap = with_text before.heap (length text); steps = min step_limit (before.steps + told / 64) }
-    left =
-        is' ∙ ap (λ (st : StoreView). record { heap = st.heap; steps = min step_limit (st.steps + told / 64) }) is
-        ∙ ap (λ (k : ℕ). record { heap = with_text before.heap k; steps = min step_limit (before.steps + told / 64) }) e
-
 pub made_spent : {E : Type 0} (S : Setting) (callers : List Caller) (bytes told size : ℕ) (text : List ℕ) (below : Bool) (old new : Frames) (before mid store : StoreView)
     → size ≡ length text → full_cause before.heap (size + 16) ≡ None → mid ≡ record { heap = record before.heap { units = before.heap.units + (size + 16) }; steps = before.steps }
     → Told (bytes + length text) told → below ≡ nat_lt (mid.steps + told / 64) step_limit → below ≡ false → Works {E = E} S (text_made S callers bytes before.heap text (slots_of old)) old before new store (Ok flow.Spent)
@@ -223,14 +207,15 @@ made_refused S callers bytes size text cause old new before same store r e full 
     (no_room before.heap (length text + 16) cause (ap (λ (k : ℕ). full_cause before.heap (k + 16)) (sym e) ∙ full)))
 
 -- a call that waits begins next
-pub call_waits : {E : Type 0} (S : Setting) (line : ℕ) (by : Value) (args : List Value) (kept : _) (old same mid new : Frames) (store : StoreView) (r : Result Flow E)
-    → same.below ≡ old.below → same.top ≡ old.top → Waits same (i.Call line by kept) mid → kept.items ≡ args → Ends (Values []) mid new r
+pub call_waits : {E : Type 0} (S : Setting) (line : ℕ) (boxed by : Value) (args : List Value) (kept : Vec Value Global) (old same mid new : Frames) (store : StoreView) (r : Result Flow E)
+    → same.below ≡ old.below → same.top ≡ old.top → Waits same (i.Call line boxed kept) mid → boxed ≡ by → kept.items ≡ args → Ends (Values []) mid new r
     → Works S (call (callers_at (here old) line) by args (slots_of old)) old store new store r
-call_waits S line by args kept old same mid new store r b t h e w =
-    works_from S (call (callers_at (here old) line) by args (slots_of old)) old same new store store r b t
-    (works_as S (call (callers_at (here old) line) by args (slots_of old)) (and_then (give [] (slots_of same)) (resume_item S (i.Call line by kept) (here same))) same new store store r
-    (work_under S same mid new (i.Call line by kept) (λ p s. give [] s) store store r h (ends_works S (Values []) mid new store r w))
-    (rw (b, t, e) refl))
+call_waits S line boxed by args kept old same mid new store r b t h x e w =
+    works_as S (call (callers_at (here old) line) by args (slots_of old)) (call (callers_at (here same) line) boxed kept.items (slots_of same)) old new store store r
+    (works_from S (call (callers_at (here same) line) boxed kept.items (slots_of same)) old same new store store r b t
+    (works_as S (call (callers_at (here same) line) boxed kept.items (slots_of same)) (and_then (give [] (slots_of same)) (resume_item S (i.Call line boxed kept) (here same))) same new store store r
+    (work_under S same mid new (i.Call line boxed kept) (λ p s. give [] s) store store r h (ends_works S (Values []) mid new store r w)) refl))
+    (rw (b, t, x, e) refl)
 
 -- one value of it is wanted
 pub one_wanted : {E : Type 0} (S : Setting) (line : ℕ) (by : Value) (args : List Value) (old mid fs : Frames) (before store : StoreView) (r : Result Flow E)

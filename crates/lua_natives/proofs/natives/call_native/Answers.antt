@@ -13,7 +13,7 @@ returns-then-not-count g c =
 pub returns : goal.returns
 returns g c =
     own_goes _ c.args.number _ c.args.args.items _ _ c.args.frames.now _ c.args.store.now _ _ (omega (arith, c.if-number-ge-LIBRARY.false)) (λ e. c.if-number-eq-TOSTRING.false e) (lent_length _ _ _ c.deref.ensures.value c.texts_length.ensures) c.count.ensures.counted c.count.ensures.below c.if-not-count.false
-    (c.call_own.ensures _ _ (sym c.program.ensures))
+    (c.call_own.ensures _ _ (sym c.program-2.ensures))
 
 pub returns-then-number-eq-TOSTRING : goal.returns-then-number-eq-TOSTRING
 returns-then-number-eq-TOSTRING g c =
