@@ -149,7 +149,8 @@ fn tail_function(
     begin_block(frames, &f.body)
 }
 
-/// Begins a function; in a tail call in place of its caller. No program has a tail call outside of a Lua function.
+/// Begins a function; in a tail call in place of its caller. No program has a tail call outside of a Lua function: frames can't
+/// stand for one, and it would end as if memory didn't suffice.
 fn begin_function(
     frames: &mut Frames,
     line: u32,
@@ -168,7 +169,7 @@ fn begin_function(
     }
     match frames.top.kind {
         Kind::Lua => tail_function(frames, line, number, f, cells, args),
-        _ => Ok(Flow::Unsupported),
+        _ => Err(AllocError),
     }
 }
 

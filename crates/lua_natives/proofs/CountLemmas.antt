@@ -21,13 +21,13 @@ use Rattle.lua_calls.specs.CallEnds.{back_in}
 use Rattle.lua_natives.specs.NativeParts.{own_work}
 
 -- the machine's own functions count the bytes of their arguments
-counted_own : (S : Setting) (n : ℕ) (args : List Value) (callers : List Caller) (s : Slots) → n < 5 → (n ≡ 4 → ⊥) → (n ≡ 1 → ⊥) → native_work S n args callers s ≡ Count (texts_length args / 64) (own_work S n args callers s)
-counted_own S zero args callers s h f o = refl
-counted_own S (suc zero) args callers s h f o = absurd (o refl)
-counted_own S (suc (suc zero)) args callers s h f o = refl
-counted_own S (suc (suc (suc zero))) args callers s h f o = refl
-counted_own S (suc (suc (suc (suc zero)))) args callers s h f o = absurd (f refl)
-counted_own S (suc (suc (suc (suc (suc n))))) args callers s h f o = absurd (omega (arith, h))
+counted_own : (S : Setting) (n : ℕ) (args : List Value) (callers : List Caller) (s : Slots) → n < 5 → (n ≡ 4 → ⊥) → native_work S n args callers s ≡ Count (texts_length args / 64) (own_work S n args callers s)
+counted_own S zero args callers s h f = refl
+counted_own S (suc zero) args callers s h f = refl
+counted_own S (suc (suc zero)) args callers s h f = refl
+counted_own S (suc (suc (suc zero))) args callers s h f = refl
+counted_own S (suc (suc (suc (suc zero)))) args callers s h f = absurd (f refl)
+counted_own S (suc (suc (suc (suc (suc n))))) args callers s h f = absurd (omega (arith, h))
 
 -- and from 5 on they are the host's
 pub native_library : (S : Setting) (n : ℕ) (args : List Value) (callers : List Caller) (s : Slots) → 5 ≤ n → native_work S n args callers s ≡ library_work S (n - 5) args callers s
@@ -62,18 +62,18 @@ lent_length told args lent e t = t ∙ ap (λ (vs : List Value). min (texts_leng
 
 -- the steps of a function of the machine's own are counted, and it does its work
 pub own_goes : {E : Type 0} (S : Setting) (n told : ℕ) (args : List Value) (callers : List Caller) (below : Bool) (old new : Frames) (before mid : StoreView) (r : Result Flow E)
-    → n < 5 → (n ≡ 4 → ⊥) → (n ≡ 1 → ⊥) → told ≡ min (texts_length args) (2 ^ 64 - 1) → mid ≡ record { heap = before.heap; steps = min step_limit (before.steps + told / 64) } → below ≡ nat_lt (before.steps + told / 64) step_limit → below ≡ true
+    → n < 5 → (n ≡ 4 → ⊥) → told ≡ min (texts_length args) (2 ^ 64 - 1) → mid ≡ record { heap = before.heap; steps = min step_limit (before.steps + told / 64) } → below ≡ nat_lt (before.steps + told / 64) step_limit → below ≡ true
     → Works S (and_then (own_work S n args callers []) (back_in false (slots_of old))) old mid new mid r → Works S (and_then (native_work S n args callers []) (back_in false (slots_of old))) old before new mid r
-own_goes S n told args callers below old new before mid r h f o t is e holds w =
+own_goes S n told args callers below old new before mid r h f t is e holds w =
     works_by S (and_then (native_work S n args callers []) (back_in false (slots_of old))) (and_then (own_work S n args callers []) (back_in false (slots_of old))) old new before mid mid r
-    (λ rs. ap (λ (q : Work). do_work (eval S) (and_then q (back_in false (slots_of old))) (record { store = before; resumes = rs })) (counted_own S n args callers [] h f o)
+    (λ rs. ap (λ (q : Work). do_work (eval S) (and_then q (back_in false (slots_of old))) (record { store = before; resumes = rs })) (counted_own S n args callers [] h f)
     ∙ bytes_go S (texts_length args) told (and_then (own_work S n args callers []) (back_in false (slots_of old))) before mid below t is e holds rs) w
 
 -- or none is left
 pub own_spent : {E : Type 0} (S : Setting) (n told : ℕ) (args : List Value) (callers : List Caller) (below : Bool) (old new : Frames) (before store : StoreView)
-    → n < 5 → (n ≡ 4 → ⊥) → (n ≡ 1 → ⊥) → told ≡ min (texts_length args) (2 ^ 64 - 1) → below ≡ nat_lt (before.steps + told / 64) step_limit → below ≡ false
+    → n < 5 → (n ≡ 4 → ⊥) → told ≡ min (texts_length args) (2 ^ 64 - 1) → below ≡ nat_lt (before.steps + told / 64) step_limit → below ≡ false
     → Works {E = E} S (and_then (native_work S n args callers []) (back_in false (slots_of old))) old before new store (Ok flow.Spent)
-own_spent S n told args callers below old new before store h f o t e fails =
+own_spent S n told args callers below old new before store h f t e fails =
     spends S (and_then (native_work S n args callers []) (back_in false (slots_of old))) old new before store
-    (λ rs. ap (λ (q : Work). do_work (eval S) (and_then q (back_in false (slots_of old))) (record { store = before; resumes = rs })) (counted_own S n args callers [] h f o)
+    (λ rs. ap (λ (q : Work). do_work (eval S) (and_then q (back_in false (slots_of old))) (record { store = before; resumes = rs })) (counted_own S n args callers [] h f)
     ∙ bytes_spent S (texts_length args) told (and_then (own_work S n args callers []) (back_in false (slots_of old))) before below t e fails rs)

@@ -12,7 +12,7 @@ use Rattle.lua_meaning.specs.Works.{Caller, Failed, Slots, Work, End, and_then}
 use Rattle.lua_meaning.specs.Setting.{Setting}
 use Rattle.lua_meaning.specs.Positions.{raise}
 use Rattle.lua_meaning.specs.Signs.{first, give}
-use Rattle.lua_meaning.specs.ProtectedCalls.{pcall_work, raise_missing}
+use Rattle.lua_meaning.specs.ProtectedCalls.{pcall_work, xpcall_work, raise_missing}
 use Rattle.lua_meaning.specs.Natives.{raise_value, raise_at, error_work, assert_work}
 use Rattle.lua_frames_base.specs.declared.flow.Flow.{Flow}
 use Rattle.lua_frames_base.specs.declared.threads.Frames.{Frames}
@@ -30,6 +30,19 @@ pub nothing_called : {E : Type 0} (S : Setting) (args : List Value) (callers : L
 nothing_called S args callers old new store r e w =
     works_as S (and_then (pcall_work S args callers []) (back_in false (slots_of old))) (raise_missing S callers 1 (codes "pcall") (slots_of old)) old new store store r w
     (ap (λ (vs : List Value). and_then (pcall_work S vs callers []) (back_in false (slots_of old))) e)
+
+-- `xpcall` with nothing to call, or with no handler
+pub nothing_handled : {E : Type 0} (S : Setting) (args : List Value) (callers : List Caller) (old new : Frames) (store : StoreView) (r : Result Flow E)
+    → args ≡ [] → Works S (raise_missing S callers 1 (codes "xpcall") (slots_of old)) old store new store r → Works S (and_then (xpcall_work S args callers []) (back_in false (slots_of old))) old store new store r
+nothing_handled S args callers old new store r e w =
+    works_as S (and_then (xpcall_work S args callers []) (back_in false (slots_of old))) (raise_missing S callers 1 (codes "xpcall") (slots_of old)) old new store store r w
+    (ap (λ (vs : List Value). and_then (xpcall_work S vs callers []) (back_in false (slots_of old))) e)
+
+pub no_handler : {E : Type 0} (S : Setting) (args : List Value) (f : Value) (others : List Value) (callers : List Caller) (old new : Frames) (store : StoreView) (r : Result Flow E)
+    → args ≡ f ∷ others → others ≡ [] → Works S (raise_missing S callers 2 (codes "xpcall") (slots_of old)) old store new store r → Works S (and_then (xpcall_work S args callers []) (back_in false (slots_of old))) old store new store r
+no_handler S args f others callers old new store r e none w =
+    works_as S (and_then (xpcall_work S args callers []) (back_in false (slots_of old))) (raise_missing S callers 2 (codes "xpcall") (slots_of old)) old new store store r w
+    (ap (λ (vs : List Value). and_then (xpcall_work S vs callers []) (back_in false (slots_of old))) (e ∙ ap (λ (us : List Value). f ∷ us) none))
 
 -- a value that is raised at a level goes past the call
 level_back : (S : Setting) (callers : List Caller) (n : Option ℤ) (level v : Value) (s : Slots) → and_then (raise_at S callers n level v []) (back_in false s) ≡ raise_at S callers n level v s
@@ -146,10 +159,17 @@ own_error S n args callers old new store r e w =
     works_as S (and_then (own_work S n args callers []) (back_in false (slots_of old))) (and_then (error_work S args callers []) (back_in false (slots_of old))) old new store store r w
     (ap (λ (k : ℕ). and_then (own_work S k args callers []) (back_in false (slots_of old))) e)
 
+pub own_xpcall : {E : Type 0} (S : Setting) (n : ℕ) (args : List Value) (callers : List Caller) (old new : Frames) (store : StoreView) (r : Result Flow E)
+    → n ≡ 1 → Works S (and_then (xpcall_work S args callers []) (back_in false (slots_of old))) old store new store r → Works S (and_then (own_work S n args callers []) (back_in false (slots_of old))) old store new store r
+own_xpcall S n args callers old new store r e w =
+    works_as S (and_then (own_work S n args callers []) (back_in false (slots_of old))) (and_then (xpcall_work S args callers []) (back_in false (slots_of old))) old new store store r w
+    (ap (λ (k : ℕ). and_then (own_work S k args callers []) (back_in false (slots_of old))) e)
+
 pub own_assert : {E : Type 0} (S : Setting) (n : ℕ) (args : List Value) (callers : List Caller) (old new : Frames) (store : StoreView) (r : Result Flow E)
-    → (n ≡ 0 → ⊥) → (n ≡ 2 → ⊥) → Works S (and_then (assert_work S args callers []) (back_in false (slots_of old))) old store new store r → Works S (and_then (own_work S n args callers []) (back_in false (slots_of old))) old store new store r
-own_assert S n args callers old new store r z t w =
+    → (n ≡ 0 → ⊥) → (n ≡ 1 → ⊥) → (n ≡ 2 → ⊥) → Works S (and_then (assert_work S args callers []) (back_in false (slots_of old))) old store new store r → Works S (and_then (own_work S n args callers []) (back_in false (slots_of old))) old store new store r
+own_assert S n args callers old new store r z o t w =
     works_as S (and_then (own_work S n args callers []) (back_in false (slots_of old))) (and_then (assert_work S args callers []) (back_in false (slots_of old))) old new store store r w
     (ap (λ (q : Work). and_then q (back_in false (slots_of old)))
-    (ap (λ (u : Bool). if u then pcall_work S args callers [] else if nat_eq n 2 then error_work S args callers [] else assert_work S args callers []) (ne_eqb n 0 z)
+    (ap (λ (u : Bool). if u then pcall_work S args callers [] else if nat_eq n 1 then xpcall_work S args callers [] else if nat_eq n 2 then error_work S args callers [] else assert_work S args callers []) (ne_eqb n 0 z)
+    ∙ ap (λ (u : Bool). if u then xpcall_work S args callers [] else if nat_eq n 2 then error_work S args callers [] else assert_work S args callers []) (ne_eqb n 1 o)
     ∙ ap (λ (u : Bool). if u then error_work S args callers [] else assert_work S args callers []) (ne_eqb n 2 t)))

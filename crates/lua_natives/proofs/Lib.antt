@@ -4,3 +4,4 @@ pub mod EnterLemmas
 pub mod GuardLemmas
 pub mod ErrorLemmas
 pub mod HandlerLemmas
+pub mod TextLemmas

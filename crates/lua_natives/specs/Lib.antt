@@ -1,1 +1,2 @@
 pub mod NativeParts
+pub mod TextParts

@@ -1,11 +1,12 @@
 //! Arguments of the machine's own functions.
 
-ghost use Rattle.std.specs.Prelude.{◌≡◌, drop};
+ghost use Rattle.std.specs.Prelude.{◌≡◌, drop, min, ◌-◌, ◌^◌};
 ghost use Rattle.lua_values.specs.Heap.{StoreView};
 ghost use Rattle.lua_meaning.specs.Setting.{Setting};
 ghost use Rattle.lua_meaning.specs.Signs.{first};
 ghost use Rattle.lua_meaning.specs.Positions.{callers_at};
 ghost use Rattle.lua_meaning.specs.ProtectedCalls.{raise_missing};
+ghost use Rattle.lua_meaning.specs.Natives.{texts_length};
 ghost use Rattle.lua_frames_base.specs.Frames.{here, slots_of};
 ghost use Rattle.lua_frames_base.specs.Follows.{Works};
 
@@ -14,6 +15,22 @@ use lua_frames_base::{Flow, Frames, raise};
 use lua_operators::argument_fault;
 use lua_values::Value;
 use std::alloc::AllocError;
+
+/// How many bytes of text one step pays for.
+pub(crate) const BYTES_OF_A_STEP: u64 = 64;
+
+/// The bytes of the texts among some values, at most 2^64 - 1.
+pub(crate) fn texts_length(values: &[Value]) -> u64
+    ensures { result ≡ min (texts_length values.now) (2 ^ 64 - 1) }
+{
+    let mut length: u64 = 0;
+    for value in values {
+        if let Value::Text(text) = value {
+            length = length.saturating_add(text.as_slice().len() as u64);
+        }
+    }
+    length
+}
 
 /// Takes the first of some values, nil of none.
 pub(crate) fn take(values: &mut Vec<Value>) -> Value

@@ -1,5 +1,5 @@
-//! Calls of any value: of the program's functions, and of the host's, of which `pcall`, `error` and `assert` are the machine's own;
-//! and calls of the handlers of metatables.
+//! Calls of any value: of the program's functions, and of the host's, of which `pcall`, `xpcall`, `error`, `assert` and
+//! `tostring` are the machine's own; and calls of the handlers of metatables.
 #![tactic(auto)]
 
 mod arguments;
@@ -9,6 +9,7 @@ mod handlers;
 mod library;
 mod natives;
 mod protected;
+mod texts;
 
 pub use entering::{enter_call, enter_tail_call};
 pub use handlers::{call_for_one, call_for_truth, one, three, two};

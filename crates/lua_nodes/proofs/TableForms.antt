@@ -1,5 +1,5 @@
 -- Tables that are made, and globals that are handled.
-use Rattle.std.specs.Prelude.{◌≡◌, ℕ, List, [], ◌∷◌, length, Bool, true, false, if◌then◌else◌, Option, Some, None, Result, refl}
+use Rattle.std.specs.Prelude.{◌≡◌, ℕ, List, [], ◌∷◌, length, Option, None, Result, refl}
 use Rattle.std.proofs.Common.{sym, ◌∙◌, ap, Vec, Global}
 use Rattle.std.specs.declared.rc.Rc.{Rc}
 use Rattle.lua_ast.specs.declared.expressions.Expr.{Expr}
@@ -7,14 +7,13 @@ use Rattle.lua_ast.specs.declared.expressions.ExprKind.{out-ExprKind}
 use Rattle.lua_ast.specs.declared.expressions.ExprKind.TheViews.{outs-Table}
 use Rattle.lua_ast.specs.declared.expressions.ExprKind.TheVariants as v
 use Rattle.lua_ast.specs.declared.expressions.TableItem.{TableItem}
-use Rattle.lua_values.specs.declared.values.Value.{Value}
 use Rattle.lua_values.specs.declared.values.Value.TheVariants.{Text, Table}
 use Rattle.lua_values.specs.declared.faults.StoreFault.{StoreFault}
 use Rattle.lua_values.specs.declared.faults.StoreFault.TheVariants.{Full}
 use Rattle.lua_values.specs.Heap.{StoreView}
 use Rattle.lua_values.specs.StoreCalls.{IsCause, full_cause, with_table}
 use Rattle.lua_operators.specs.declared.faults.Fault.TheVariants.{StorageLimit}
-use Rattle.lua_meaning.specs.Works.{Places, Slots, Values, Work, Write, and_then}
+use Rattle.lua_meaning.specs.Works.{Places, Slots, Values, Write, and_then}
 use Rattle.lua_meaning.specs.Evaluator.{Resume, do_work}
 use Rattle.lua_meaning.specs.Setting.{Setting}
 use Rattle.lua_meaning.specs.Positions.{callers_at, raise_fault}
@@ -25,13 +24,12 @@ use Rattle.lua_meaning.specs.Variables.{unless_refused, table_fault}
 use Rattle.lua_meaning.specs.Nodes.{eval}
 use Rattle.lua_frames_base.specs.declared.flow.Flow.{Flow}
 use Rattle.lua_frames_base.specs.declared.items.Item.TheVariants as i
-use Rattle.lua_frames_base.specs.declared.targets.Constructor.{Constructor}
 use Rattle.lua_frames_base.specs.declared.threads.Frames.{Frames}
 use Rattle.lua_frames_base.specs.Items.{resume_item}
 use Rattle.lua_frames_base.specs.Frames.{here, slots_of}
 use Rattle.lua_frames_base.specs.Follows.{Works}
 use Rattle.lua_frames_base.specs.Changes.{Waits, Ends}
-use Rattle.lua_frames_base.proofs.FollowLemmas.{works_as, works_by, ends_works, work_under}
+use Rattle.lua_frames_base.proofs.FollowLemmas.{works_by, ends_works, work_under}
 use Rattle.lua_nodes.proofs.CaptureLemmas.{full_there}
 
 pub table_form : (S : Setting) (x : Expr) (items : Rc (Vec TableItem Global) Global) (p : Places) (s : Slots) → x.kind ≡ v.Table items → expr_work S x.line (out-ExprKind x.kind) p s ≡ constructor_work S x.line items.value.items p s

@@ -31,7 +31,17 @@ pub fn child_of<'a>(x: &'a Expr) -> Result<Option<Child<'a>>, AllocError>
         ExprKind::Method(a, name, args) => {
             begins_with(Item::Method(x.line, name.clone()?, share(args)?), a)
         }
-        _ => Ok(None),
+        ExprKind::Nil
+        | ExprKind::True
+        | ExprKind::False
+        | ExprKind::Number(_)
+        | ExprKind::Text(_)
+        | ExprKind::Vararg
+        | ExprKind::Function(_)
+        | ExprKind::Slot(_)
+        | ExprKind::Captured(_)
+        | ExprKind::Global(_)
+        | ExprKind::Table(_) => Ok(None),
     }
 }
 

@@ -5,6 +5,7 @@ ghost use Rattle.lua_ast.specs.declared.expressions.ExprKind.{out-ExprKind};
 ghost use Rattle.lua_meaning.specs.Expressions.{expr_work, value_work};
 ghost use Rattle.lua_frames_base.specs.Frames.{here, slots_of};
 ghost use Rattle.lua_frames_base.specs.Follows.{Works};
+ghost use Rattle.lua_nodes.specs.Children.{IsLeaf};
 
 use crate::closures::give_closure;
 use crate::constructors::begin_table;
@@ -23,6 +24,7 @@ pub(crate) fn leaf_one<H: Host>(
     store: &mut Store,
     x: &Expr,
 ) -> Result<Flow, AllocError>
+    requires { IsLeaf (out-ExprKind x.now.kind) }
     ensures { Works (H.setting host.now) (value_work (H.setting host.now) x.now.line (out-ExprKind x.now.kind) (here frames.old) (slots_of frames.old))
         frames.old store.old frames.new store.new result }
 {
@@ -39,6 +41,7 @@ pub(crate) fn leaf_all<H: Host>(
     store: &mut Store,
     x: &Expr,
 ) -> Result<Flow, AllocError>
+    requires { IsLeaf (out-ExprKind x.now.kind) }
     ensures { Works (H.setting host.now) (expr_work (H.setting host.now) x.now.line (out-ExprKind x.now.kind) (here frames.old) (slots_of frames.old))
         frames.old store.old frames.new store.new result }
 {
@@ -66,6 +69,13 @@ pub(crate) fn leaf_all<H: Host>(
         }
         ExprKind::Global(name) => give_global(frames, store, x.line, name),
         ExprKind::Table(items) => begin_table(frames, host.program(), store, x.line, items),
-        _ => Ok(Flow::Unsupported),
+        ExprKind::Index(_, _)
+        | ExprKind::Call(_, _)
+        | ExprKind::Method(_, _, _)
+        | ExprKind::Unary(_, _)
+        | ExprKind::Binary(_, _, _)
+        | ExprKind::And(_, _)
+        | ExprKind::Or(_, _)
+        | ExprKind::Paren(_) => unreachable!(),
     }
 }

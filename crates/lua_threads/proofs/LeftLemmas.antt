@@ -1,5 +1,5 @@
 -- What is left of a thread that was resumed.
-use Rattle.std.specs.Prelude.{◌≡◌, ◌≤◌, ◌<◌, nat_lt, List, Bool, true, false, if◌then◌else◌, Option, Result, IfOk, refl}
+use Rattle.std.specs.Prelude.{◌≡◌, ◌≤◌, ◌<◌, nat_lt, List, Bool, true, false, if◌then◌else◌, Option, Some, None, IsSome, Result, IfOk, refl}
 use Rattle.std.proofs.Common.{sym, subst, arith}
 use Rattle.std.proofs.lemmas.Bool.{ltb-false}
 use borrow.Author.Tests.{ltb-true}
@@ -7,17 +7,21 @@ use Rattle.lua_ast.specs.declared.programs.Program.{Program}
 use Rattle.lua_values.specs.Heap.{StoreView, step_limit}
 use Rattle.lua_meaning.specs.declared.positions.Position.{Position}
 use Rattle.lua_meaning.specs.declared.resumes.Resumed.{Resumed}
-use Rattle.lua_meaning.specs.Evaluator.{Resume, Spent}
+use Rattle.lua_meaning.specs.Evaluator.{Resume, Ending, Spent}
 use Rattle.lua_meaning.specs.Setting.{Setting}
 use Rattle.lua_meaning.specs.Life.{Outcome}
 use Rattle.lua_machine.specs.declared.slices.Slice.{Slice}
 use Rattle.lua_machine.specs.Finishes.{IsOutcome}
+use Rattle.lua_frames_base.specs.declared.flow.Flow.{Flow}
+use Rattle.lua_frames_base.specs.declared.flow.Flow.TheVariants as flow
+use Rattle.lua_frames_base.specs.declared.flow.Op.{Op}
 use Rattle.lua_frames_base.specs.declared.threads.Frames.{Frames}
 use Rattle.lua_frames_base.specs.Frames.{finish, given}
+use Rattle.lua_frames_base.specs.Follows.{Follows, Asks}
 use Rattle.lua_frames_base.specs.Starting.{Answers}
 use Rattle.lua_threads.specs.declared.threads.Stage.TheVariants as stage
 use Rattle.lua_threads.specs.declared.threads.Thread.{Thread}
-use Rattle.lua_threads.specs.Left.{resumed_at, left}
+use Rattle.lua_threads.specs.Left.{resumed_at, left, Stops}
 
 -- the same outcome in another form
 pub comes_as : {E : Type 0} (S : Setting) (o same : Outcome) (rs : List Resume) (store : StoreView) (r : Result (Slice Thread) E) → o ≡ same → IfOk r (λ s. IsOutcome (left S) same rs store s) → IfOk r (λ s. IsOutcome (left S) o rs store s)
@@ -42,3 +46,16 @@ no_steps_left S fs position r rs none = by_test (nat_lt r.store.steps step_limit
     by_test : (t : Bool) → nat_lt r.store.steps step_limit ≡ t → (if t then given S fs position r.answer (record { store = r.store; resumes = rs }) else Spent) ≡ Spent
     by_test true e = absurd (omega (arith, ltb-true _ _ e, none))
     by_test false e = refl
+
+-- what is asked is there
+asked_there : (S : Setting) (o : List Resume → Ending) (store : StoreView) (fs : Frames) (op : Option Op) → Asks S o store fs op → IsSome op
+asked_there S o store fs None h = absurd h
+asked_there S o store fs (Some op) h = tt
+
+-- frames stop that follow something and don't go on
+pub stops : (S : Setting) (o : List Resume → Ending) (store : StoreView) (fs : Frames) (f : Flow) → Follows S o store fs f → (f ≡ flow.Went → ⊥) → Stops fs f
+stops S o store fs flow.Went h k = absurd (k refl)
+stops S o store fs flow.Asked h k = asked_there S o store fs fs.asked h
+stops S o store fs flow.Spent h k = tt
+stops S o store fs flow.Over h k = tt
+stops S o store fs flow.Unsupported h k = tt

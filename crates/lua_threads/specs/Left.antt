@@ -1,11 +1,13 @@
 -- What is left of a thread, by all with which it will still be resumed.
-use Rattle.std.specs.Prelude.{◌≡◌, nat_lt, List, [], ◌∷◌, if◌then◌else◌}
+use Rattle.std.specs.Prelude.{◌≡◌, nat_lt, List, [], ◌∷◌, IsSome, if◌then◌else◌}
 use Rattle.lua_values.specs.Heap.{step_limit}
 use Rattle.lua_meaning.specs.Works.{Sign, Values, Return, Break, Failed}
 use Rattle.lua_meaning.specs.Evaluator.{Resume, Ending, Spent}
 use Rattle.lua_meaning.specs.Setting.{Setting}
 use Rattle.lua_meaning.specs.Life.{Unbegun, outcome_of}
 use Rattle.lua_machine.specs.Finishes.{Finish}
+use Rattle.lua_frames_base.specs.declared.flow.Flow.{Flow}
+use Rattle.lua_frames_base.specs.declared.flow.Flow.TheVariants as flow
 use Rattle.lua_frames_base.specs.declared.threads.Frames.{Frames}
 use Rattle.lua_frames_base.specs.Frames.{finish, given}
 use Rattle.lua_threads.specs.declared.ended.Ended.{Ended}
@@ -31,3 +33,11 @@ HasEnded (Values vs) e = e ≡ ended.Done vs
 HasEnded (Return vs) e = e ≡ ended.Done vs
 HasEnded Break e = e ≡ ended.Done []
 HasEnded (Failed v) e = e ≡ ended.Failed v
+
+-- frames that were run until they stop don't go on, and what they ask is there
+abbrev pub Stops : Frames → Flow → Type 0
+Stops fs flow.Went = ⊥
+Stops fs flow.Asked = IsSome fs.asked
+Stops fs flow.Spent = Unit {0}
+Stops fs flow.Over = Unit {0}
+Stops fs flow.Unsupported = Unit {0}

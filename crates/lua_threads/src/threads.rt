@@ -1,6 +1,6 @@
 //! Threads.
 
-ghost use Rattle.std.specs.Prelude.{List, ◌∷◌, ◌<◌, IfOk};
+ghost use Rattle.std.specs.Prelude.{List, ◌∷◌, ◌<◌, IfOk, IsSome};
 ghost use Rattle.lua_values.specs.Heap.{StoreView};
 ghost use Rattle.lua_meaning.specs.Evaluator.{Resume, Ending};
 ghost use Rattle.lua_meaning.specs.Setting.{Setting};
@@ -9,7 +9,7 @@ ghost use Rattle.lua_machine.specs.Finishes.{IsNew, IsOutcome, Resumes, CountsSt
 ghost use Rattle.lua_frames_base.specs.Frames.{finish};
 ghost use Rattle.lua_frames_base.specs.Follows.{Follows, Asks};
 ghost use Rattle.lua_frames.specs.Steps.{RaisesSteps};
-ghost use Rattle.lua_threads.specs.Left.{left};
+ghost use Rattle.lua_threads.specs.Left.{left, Stops};
 
 use crate::ended::{Ended, end_of};
 use lua_frames::run;
@@ -101,6 +101,7 @@ fn run_on<H: Host>(frames: Frames, host: &H, store: &mut Store) -> Result<Slice<
 
 /// What frames came to that were run.
 fn slice_of(frames: Frames, flow: Flow) -> Result<Slice<Thread>, AllocError>
+    requires { Stops frames flow }
     ensures comes { (S : Setting) → (o : List Resume → Ending) → (store : StoreView) → Follows S o store frames flow → (resumes : List Resume)
         → IfOk result (λ slice. IsOutcome (left S) (outcome_of (o resumes)) resumes store slice) }
     ensures counts { (old : StoreView) → (new : StoreView) → RaisesSteps old new flow → IfOk result (λ slice. CountsSteps old new slice) }
@@ -112,19 +113,21 @@ fn slice_of(frames: Frames, flow: Flow) -> Result<Slice<Thread>, AllocError>
             Ended::Done(values) => Ok(Slice::Done(values)),
             Ended::Failed(value) => Ok(Slice::Failed(value)),
         },
-        Flow::Went | Flow::Unsupported => Ok(Slice::Unsupported),
+        Flow::Went => unreachable!(),
+        Flow::Unsupported => Ok(Slice::Unsupported),
     }
 }
 
 /// A thread that is parked at what its frames ask.
 fn parked(frames: Frames) -> Slice<Thread>
+    requires { IsSome frames.asked }
     ensures comes { (S : Setting) → (o : List Resume → Ending) → (store : StoreView) → Asks S o store frames frames.asked → (resumes : List Resume)
         → IsOutcome (left S) (outcome_of (o resumes)) resumes store result }
     ensures counts { (old : StoreView) → (new : StoreView) → old.steps < new.steps → CountsSteps old new result }
 {
     let mut frames = frames;
     match frames.asked.take() {
-        None => Slice::Unsupported,
+        None => unreachable!(),
         Some(op) => {
             let stage = Stage::Parked(op.position);
             let op = Op {

@@ -4,6 +4,8 @@ mod natives;
 mod operators;
 mod parks;
 mod programs;
+mod protected;
+mod snippets;
 mod tables;
 mod toy;
 

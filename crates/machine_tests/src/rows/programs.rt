@@ -23,6 +23,20 @@ pub(super) fn hold(rt: &impl Abort, alloc: Global, rows: &str) {
     }
 }
 
+/// Tests each row, `TEXT => WHAT IT COMES TO`, whatever steps and units it takes.
+pub(super) fn hold_answers(rt: &impl Abort, alloc: Global, rows: &str) {
+    for row in rows.lines() {
+        let (text, expected) = row.split_once(" => ").unwrap_or((row, ""));
+        assert_eq!(rt; without_counts(seen(alloc, text).as_str()), expected, "{row}");
+    }
+}
+
+/// What a text comes to, without its steps and units.
+fn without_counts(seen: &str) -> &str {
+    let (answer, _) = seen.split_once(" | ").unwrap_or((seen, ""));
+    answer
+}
+
 /// What the text of a row comes to.
 fn seen(alloc: Global, given: &str) -> String {
     let mut all = String::new(alloc);

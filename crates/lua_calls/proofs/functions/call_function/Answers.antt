@@ -1,4 +1,4 @@
-use Rattle.std.proofs.Common.{List, Some, None, slice_get, refl, sym, ap, ◌∙◌}
+use Rattle.std.proofs.Common.{List, None, slice_get, refl, sym, ap, ◌∙◌}
 use Rattle.std.proofs.lemmas.Option.{slice_get_read, slice_get_past}
 use Rattle.lua_ast.specs.declared.programs.Function.{Function}
 use Rattle.lua_calls.proofs.BodyLemmas.{function_missing, function_begun, function_refused, in_setting}
