@@ -1,2 +1,3 @@
 pub mod TakeForms
 pub mod LoopForms
+pub mod LocalLemmas

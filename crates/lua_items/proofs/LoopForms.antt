@@ -79,9 +79,12 @@ ran go (Return vs) s e = absurd (cc)
 ran go Break s e = absurd (cc)
 ran go (Failed v) s e = absurd (cc)
 
+pub body_ran : {E : Type 0} (S : Setting) (go : Places → Slots → Work) (old fs : Frames) (before store : StoreView) (r : Result Flow E)
+    → ends_run (sign_of old.given) ≡ run.Ran → Works S (go (here old) (slots_of old)) old before fs store r → Works S (after_body (go (here old)) (sign_of old.given) (slots_of old)) old before fs store r
+body_ran S go old fs before store r e w =
+    works_as S (after_body (go (here old)) (sign_of old.given) (slots_of old)) (go (here old) (slots_of old)) old fs before store r w (ran (go (here old)) (sign_of old.given) (slots_of old) e)
+
 pub loop_again : {E : Type 0} (S : Setting) (test : Rc Expr Global) (body : Rc (Vec Stmt Global) Global) (old fs : Frames) (before store : StoreView) (r : Result Flow E)
     → ends_run (sign_of old.given) ≡ run.Ran → Works S (while_work test.value body.value.items (here old) (slots_of old)) old before fs store r
     → Works S (after_body (while_work test.value body.value.items (here old)) (sign_of old.given) (slots_of old)) old before fs store r
-loop_again S test body old fs before store r e w =
-    works_as S (after_body (while_work test.value body.value.items (here old)) (sign_of old.given) (slots_of old)) (while_work test.value body.value.items (here old) (slots_of old)) old fs before store r w
-    (ran (while_work test.value body.value.items (here old)) (sign_of old.given) (slots_of old) e)
+loop_again S test body old fs before store r e w = body_ran S (while_work test.value body.value.items) old fs before store r e w

@@ -61,7 +61,7 @@ pub fn while_test(
 }
 
 /// How a run of a loop's body ended.
-enum RunEnd {
+pub enum RunEnd {
     /// The loop goes on.
     Ran,
     /// The loop ends.
@@ -70,7 +70,8 @@ enum RunEnd {
     Left,
 }
 
-fn end_of_run(given: &Signal) -> RunEnd
+/// How a run of a loop's body ended, by what it gave.
+pub fn end_of_run(given: &Signal) -> RunEnd
     ensures { result ≡ ends_run (sign_of given.now) }
 {
     match given {
@@ -81,7 +82,11 @@ fn end_of_run(given: &Signal) -> RunEnd
 }
 
 /// The statements of a block from an index on wait.
-fn begin_rest(frames: &mut Frames, stmts: Rc<Vec<Stmt>>, next: usize) -> Result<Flow, AllocError>
+pub fn begin_rest(
+    frames: &mut Frames,
+    stmts: Rc<Vec<Stmt>>,
+    next: usize,
+) -> Result<Flow, AllocError>
     ensures { (S : Setting) → (store : StoreView) → Works S (block (drop next stmts.value.items) (here frames.old) (slots_of frames.old))
         frames.old store frames.new store result }
 {

@@ -55,7 +55,7 @@ dropped_all [] (suc n) h = refl
 dropped_all (x ∷ xs) zero h = absurd (omega (arith, h))
 dropped_all (x ∷ xs) (suc n) h = dropped_all xs n (omega (arith, h))
 
-after_ended : (o : Ending) → after o (λ sign s w. Ended sign s w) ≡ o
+pub after_ended : (o : Ending) → after o (λ sign s w. Ended sign s w) ≡ o
 after_ended (Ended sign s w) = refl
 after_ended (Parked number args position store) = refl
 after_ended Spent = refl
@@ -65,7 +65,7 @@ ends_later : (s : Slots) (w : State) (j k : ℕ) → j ≡ k → Ended (Values [
 ends_later s w j k e = ap (λ (n : ℕ). Ended (Values []) s (later n w)) e
 
 -- a node's step is counted, and its work begins
-entered : (S : Setting) (n : Node) (p : Places) (s : Slots) (w : State) → nat_lt (w.store.steps + 1) step_limit ≡ true → eval S n p s w ≡ do_work (eval S) (work_of S n p s) (later 1 w)
+pub entered : (S : Setting) (n : Node) (p : Places) (s : Slots) (w : State) → nat_lt (w.store.steps + 1) step_limit ≡ true → eval S n p s w ≡ do_work (eval S) (work_of S n p s) (later 1 w)
 entered S n p s w few = eval-law (work_of S) n p s w ∙ ap (λ (t : Bool). if t then do_work (eval S) (work_of S n p s) (later 1 w) else Spent) few
 
 -- `local NAME = x`

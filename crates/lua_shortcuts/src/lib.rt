@@ -1,6 +1,7 @@
 //! Shortcuts of the machine: expressions of numbers, and statements and loops that want no other, are run at once.
 #![tactic(auto)]
 
+mod counting;
 mod loops;
 mod numbers;
 mod operators;
@@ -8,5 +9,6 @@ mod statements;
 mod steps;
 mod tests;
 
+pub use counting::{CountEnd, Counting, run_for};
 pub use loops::{LoopEnd, run_loop};
 pub use statements::run_block;

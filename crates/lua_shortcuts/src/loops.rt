@@ -13,7 +13,7 @@ use lua_values::Store;
 use std::rc::Rc;
 
 /// As many turns as a run has steps.
-const MOST_TURNS: u64 = 1_000_000;
+pub(crate) const MOST_TURNS: u64 = 1_000_000;
 
 /// Where a loop stands.
 pub enum LoopEnd {

@@ -18,7 +18,7 @@ use resty_base::Whole;
 use std::rc::Rc;
 
 /// A slot has a number of its own from now on, if it is there.
-fn put(slots: &mut Vec<Slot>, i: u8, number: Whole)
+pub(crate) fn put(slots: &mut Vec<Slot>, i: u8, number: Whole)
     ensures { slots.new.items ≡ slice_set slots.old.items i (Plain (Number number)) }
 {
     if let Some(slot) = slots.get_mut(i as usize) {
