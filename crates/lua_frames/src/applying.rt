@@ -11,6 +11,9 @@ use lua_items::{
     and_then, callee, discard, first, key, or_else, return_called, return_given, right,
     tail_callee, truth, turned, while_test,
 };
+use lua_loops::{
+    counted, for_from, for_step, for_to, iterate, iterated, passed, repeated, until,
+};
 use lua_nodes::go_on_with_list;
 use lua_tables::{
     at, item_at_key, item_at_number, item_key, items_at_numbers, method, method_arguments,
@@ -80,15 +83,15 @@ pub(crate) fn apply<H: Host>(
         Item::Arm(arms, next, last) => arm(frames, host, store, arms, next, last),
         Item::While(test, body) => while_test(frames, store, test, body),
         Item::Turned(test, body) => turned(frames, host, store, test, body),
-        Item::Repeated(_, _)
-        | Item::Until(_, _)
-        | Item::ForFrom(_)
-        | Item::ForTo(_, _)
-        | Item::ForStep(_, _, _)
-        | Item::Counted(_)
-        | Item::Iterate(_, _, _)
-        | Item::Iterated(_)
-        | Item::Passed(_, _) => Ok(Flow::Unsupported),
+        Item::Repeated(body, test) => repeated(frames, host, store, body, test),
+        Item::Until(body, test) => until(frames, store, body, test),
+        Item::ForFrom(bounds) => for_from(frames, host, store, bounds),
+        Item::ForTo(bounds, from) => for_to(frames, host, store, bounds, from),
+        Item::ForStep(bounds, from, to) => for_step(frames, host, store, bounds, from, to),
+        Item::Counted(counter) => counted(frames, host.program(), store, counter),
+        Item::Iterate(line, slots, body) => iterate(frames, host, store, line, slots, body),
+        Item::Iterated(iteration) => iterated(frames, store, iteration),
+        Item::Passed(iteration, control) => passed(frames, host, store, iteration, control),
         Item::Assign(targets) => assign(frames, host, store, targets),
         Item::AssignSlot(line, i) => assign_to_slot(frames, host, store, line, i),
         Item::TargetKey(line, b, left) => target_key(frames, host, store, line, b, left),

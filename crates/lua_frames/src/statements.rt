@@ -14,9 +14,10 @@ use lua_frames_base::{
     Flow, Frames, Host, Item, Target, begin_block, element, give_nothing, share, take_first,
     take_values, wait,
 };
+use lua_items::set_locals;
 use lua_operators::is_truthy;
 use lua_shortcuts::run_block;
-use lua_statements::{assign_slot, assign_values, begin_arm, enter_stmt, set_locals};
+use lua_statements::{assign_slot, assign_values, begin_arm, enter_stmt};
 use lua_values::{Store, Value};
 use std::alloc::AllocError;
 use std::rc::Rc;
@@ -28,7 +29,9 @@ pub(crate) fn locals(frames: &mut Frames, slots: Rc<Vec<u8>>) -> Result<Flow, Al
     match take_values(frames)? {
         None => Ok(Flow::Went),
         Some(values) => {
-            set_locals(&mut frames.top.slots, &slots, values);
+            let mut values = values;
+            set_locals(&mut frames.top.slots, &slots, &mut values);
+            frames.lists.values.spare(values);
             give_nothing(frames)
         }
     }

@@ -31,7 +31,8 @@ use Rattle.lua_frames_base.proofs.FollowLemmas.{work_done}
 use Rattle.lua_nodes.specs.Captures.{KeepsAllButSlots, ComesTo, Makes}
 use Rattle.lua_nodes.proofs.MovedLemmas.{kept_on, stays_here, works_moved}
 use Rattle.lua_nodes.proofs.CaptureLemmas.{kept_all, closure_as}
-use Rattle.lua_statements.specs.Assignments.{PutsPlain, Fails, IsAssigned, Assigns, IsDone, Does}
+use Rattle.lua_items.specs.Locals.{PutsPlain}
+use Rattle.lua_statements.specs.Assignments.{Fails, IsAssigned, Assigns, IsDone, Does}
 
 -- work that ends at once is done
 pub ends_does : {E : Type 0} (S : Setting) (sign : Sign) (old new : Frames) (store : StoreView) (r : Result Flow E) → IsAssigned sign → Ends sign old new r → Does S (End sign (slots_of old)) old store new store r

@@ -1,6 +1,5 @@
 pub mod StatementForms
 pub mod AssignLemmas
 pub mod AssignAllLemmas
-pub mod LocalLemmas
 pub mod TargetLemmas
 pub mod ReturnForms

@@ -1,8 +1,7 @@
 -- Assignments that are done at once, in the frame on top.
-use Rattle.std.specs.Prelude.{◌≡◌, ℕ, Bool, true, false, [], Result, Ok, IfOk, slice_set}
+use Rattle.std.specs.Prelude.{◌≡◌, Bool, true, false, [], Result, Ok, IfOk}
 use Rattle.lua_values.specs.declared.values.Value.{Value}
 use Rattle.lua_values.specs.Heap.{StoreView}
-use Rattle.lua_meaning.specs.declared.slots.Slot.TheVariants.{Plain}
 use Rattle.lua_meaning.specs.Works.{Sign, Values, Return, Break, Failed, Work, End}
 use Rattle.lua_meaning.specs.Setting.{Setting}
 use Rattle.lua_frames_base.specs.declared.flow.Flow.{Flow}
@@ -12,11 +11,6 @@ use Rattle.lua_frames_base.specs.Signals.{sign_of}
 use Rattle.lua_frames_base.specs.Frames.{slots_of}
 use Rattle.lua_frames_base.specs.Changes.{Ends}
 use Rattle.lua_nodes.specs.Captures.{KeepsAllButSlots, ComesTo}
-
--- a slot of the frame on top has a value of its own from now on
-pub record PutsPlain (i : ℕ) (value : Value) (old new : Frames) : Type 0 where
-  pub keeps : KeepsAllButSlots old new
-  pub slots : slots_of new ≡ slice_set (slots_of old) i (Plain value)
 
 -- a call that fails with a value
 pub record Fails {E : Type 0} (v : Value) (old new : Frames) (r : Result Flow E) : Type 0 where

@@ -14,9 +14,9 @@ ghost use Rattle.lua_frames_base.specs.Signals.{sign_of};
 ghost use Rattle.lua_statements.specs.Assignments.{Does, has_failed};
 
 use crate::faults::fail;
-use crate::locals::{put_plain, take_value};
 use lua_ast::Program;
 use lua_frames_base::{Flow, Frames, Host, Item, Signal, Target, give_nothing, wait};
+use lua_items::{put_plain, take_value};
 use lua_meaning::Slot;
 use lua_operators::Fault;
 use lua_tables::store_at;

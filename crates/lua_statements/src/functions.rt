@@ -7,9 +7,9 @@ ghost use Rattle.lua_frames_base.specs.Frames.{here, slots_of};
 ghost use Rattle.lua_frames_base.specs.Follows.{Works};
 
 use crate::assigning::assign_slot;
-use crate::locals::put_plain;
 use lua_ast::Program;
 use lua_frames_base::{Flow, Frames, raise_fault};
+use lua_items::put_plain;
 use lua_nodes::make_closure;
 use lua_operators::Fault;
 use lua_values::{Store, Value};

@@ -4,12 +4,10 @@
 mod assigning;
 mod faults;
 mod functions;
-mod locals;
 mod returns;
 mod statements;
 mod targets;
 
 pub use assigning::{assign_slot, assign_values};
-pub use locals::{put_plain, set_locals};
 pub use statements::{begin_arm, enter_stmt};
 pub use targets::find_targets;

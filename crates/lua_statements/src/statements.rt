@@ -12,6 +12,7 @@ use crate::returns::begin_return;
 use crate::targets::begin_assignment;
 use lua_ast::{Arm, Stmt, StmtKind};
 use lua_frames_base::{Flow, Frames, Host, Item, begin_block, element, give_break, share};
+use lua_loops::{begin_repeat, bounds_of};
 use lua_nodes::{expr_under, list_under, value_under};
 use lua_values::Store;
 use std::alloc::AllocError;
@@ -65,10 +66,36 @@ fn begin_stmt<H: Host>(
                 test,
             )
         }
+        StmtKind::Repeat(body, test) => {
+            let test = share(test)?;
+            begin_repeat(frames, store, share(body)?, test)
+        }
         StmtKind::If(arms, last) => begin_arm(frames, host, store, arms, 0, last),
+        StmtKind::NumericFor {
+            slot,
+            from,
+            to,
+            step,
+            body,
+        } => {
+            let bounds = bounds_of(stmt.line, *slot, to, step, body)?;
+            value_under(frames, host, store, Item::ForFrom(bounds), from)
+        }
+        StmtKind::GenericFor {
+            slots,
+            values,
+            body,
+        } => {
+            list_under(
+                frames,
+                host,
+                store,
+                Item::Iterate(stmt.line, share(slots)?, share(body)?),
+                values,
+            )
+        }
         StmtKind::Return(xs) => begin_return(frames, host, store, xs),
         StmtKind::Break => give_break(frames),
-        _ => Ok(Flow::Unsupported),
     }
 }
 

@@ -127,3 +127,30 @@ returns-in-ItemAtNumber g c = as_item (g.H.Host.setting c.args.host.now) c.args.
 
 pub returns-in-ItemsAtNumbers : goal.returns-in-ItemsAtNumbers
 returns-in-ItemsAtNumbers g c = as_item (g.H.Host.setting c.args.host.now) c.args.item _ c.args.frames.now c.items_at_numbers.new.frames c.args.store.now c.items_at_numbers.new.store c.items_at_numbers.result c.in-ItemsAtNumbers.is c.items_at_numbers.ensures
+
+pub returns-in-Repeated : goal.returns-in-Repeated
+returns-in-Repeated g c = as_item (g.H.Host.setting c.args.host.now) c.args.item _ c.args.frames.now c.repeated.new.frames c.args.store.now c.repeated.new.store c.repeated.result c.in-Repeated.is c.repeated.ensures
+
+pub returns-in-Until : goal.returns-in-Until
+returns-in-Until g c = as_item (g.H.Host.setting c.args.host.now) c.args.item _ c.args.frames.now c.until.new.frames c.args.store.now c.until.new.store c.until.result c.in-Until.is (c.until.ensures (g.H.Host.setting c.args.host.now))
+
+pub returns-in-ForFrom : goal.returns-in-ForFrom
+returns-in-ForFrom g c = as_item (g.H.Host.setting c.args.host.now) c.args.item _ c.args.frames.now c.for_from.new.frames c.args.store.now c.for_from.new.store c.for_from.result c.in-ForFrom.is c.for_from.ensures
+
+pub returns-in-ForTo : goal.returns-in-ForTo
+returns-in-ForTo g c = as_item (g.H.Host.setting c.args.host.now) c.args.item _ c.args.frames.now c.for_to.new.frames c.args.store.now c.for_to.new.store c.for_to.result c.in-ForTo.is c.for_to.ensures
+
+pub returns-in-ForStep : goal.returns-in-ForStep
+returns-in-ForStep g c = as_item (g.H.Host.setting c.args.host.now) c.args.item _ c.args.frames.now c.for_step.new.frames c.args.store.now c.for_step.new.store c.for_step.result c.in-ForStep.is c.for_step.ensures
+
+pub returns-in-Counted : goal.returns-in-Counted
+returns-in-Counted g c = as_item (g.H.Host.setting c.args.host.now) c.args.item _ c.args.frames.now c.counted.new.frames c.args.store.now c.counted.new.store c.counted.result c.in-Counted.is (c.counted.ensures (g.H.Host.setting c.args.host.now) (sym c.program.ensures))
+
+pub returns-in-Iterate : goal.returns-in-Iterate
+returns-in-Iterate g c = as_item (g.H.Host.setting c.args.host.now) c.args.item _ c.args.frames.now c.iterate.new.frames c.args.store.now c.iterate.new.store c.iterate.result c.in-Iterate.is c.iterate.ensures
+
+pub returns-in-Iterated : goal.returns-in-Iterated
+returns-in-Iterated g c = as_item (g.H.Host.setting c.args.host.now) c.args.item _ c.args.frames.now c.iterated.new.frames c.args.store.now c.iterated.new.store c.iterated.result c.in-Iterated.is (c.iterated.ensures (g.H.Host.setting c.args.host.now))
+
+pub returns-in-Passed : goal.returns-in-Passed
+returns-in-Passed g c = as_item (g.H.Host.setting c.args.host.now) c.args.item _ c.args.frames.now c.passed.new.frames c.args.store.now c.passed.new.store c.passed.result c.in-Passed.is c.passed.ensures

@@ -1,7 +1,7 @@
 use Rattle.std.proofs.Common.{refl, sym}
 use Rattle.lua_frames_base.specs.Frames.{here, slots_of}
 use Rattle.lua_frames_base.proofs.FollowLemmas.{works_as}
-use Rattle.lua_statements.proofs.StatementForms.{local_form, local_function_form, assign_form, call_form, do_form, while_form, return_form}
+use Rattle.lua_statements.proofs.StatementForms.{local_form, local_function_form, assign_form, call_form, do_form, while_form, repeat_form, numeric_for_form, generic_for_form, return_form}
 use Rattle.lua_statements.proofs.statements.begin_stmt.Goals as goal
 
 pub returns-in-LocalFunction : goal.returns-in-LocalFunction
@@ -38,3 +38,18 @@ pub returns-in-Return : goal.returns-in-Return
 returns-in-Return g c =
     works_as _ _ _ _ _ _ _ _ c.begin_return.ensures
     (return_form (g.H.Host.setting c.args.host.now) c.args.stmt.now.line c.args.stmt.now.kind c.in-Return.xs (here c.args.frames.now) (slots_of c.args.frames.now) c.in-Return.is)
+
+pub returns-in_ok-share-in-Repeat : goal.returns-in_ok-share-in-Repeat
+returns-in_ok-share-in-Repeat g c =
+    works_as _ _ _ _ _ _ _ _ (c.begin_repeat.ensures (g.H.Host.setting c.args.host.now))
+    (repeat_form (g.H.Host.setting c.args.host.now) c.args.stmt.now.line c.args.stmt.now.kind c.in-Repeat.body c.in_ok-share-in-Repeat.field-0 c.in-Repeat.test c.in_ok-test-in-Repeat.test (here c.args.frames.now) (slots_of c.args.frames.now) c.in-Repeat.is c.in_ok-share-in-Repeat.ensures c.in_ok-test-in-Repeat.ensures)
+
+pub returns-in_ok-bounds-in-NumericFor : goal.returns-in_ok-bounds-in-NumericFor
+returns-in_ok-bounds-in-NumericFor g c =
+    works_as _ _ _ _ _ _ _ _ (rw c.deref-in-NumericFor.ensures at c.value_under-in-NumericFor.ensures)
+    (numeric_for_form (g.H.Host.setting c.args.host.now) c.args.stmt.now.line c.args.stmt.now.kind c.in-NumericFor.slot c.in-NumericFor.from c.in-NumericFor.to c.in-NumericFor.step c.in-NumericFor.body c.in_ok-bounds-in-NumericFor.bounds (here c.args.frames.now) (slots_of c.args.frames.now) c.in-NumericFor.is c.in_ok-bounds-in-NumericFor.ensures)
+
+pub returns-in_ok-share-in-GenericFor-2 : goal.returns-in_ok-share-in-GenericFor-2
+returns-in_ok-share-in-GenericFor-2 g c =
+    works_as _ _ _ _ _ _ _ _ c.list_under-in-GenericFor.ensures
+    (generic_for_form (g.H.Host.setting c.args.host.now) c.args.stmt.now.line c.args.stmt.now.kind c.in-GenericFor.slots c.in_ok-share-in-GenericFor.field-0 c.in-GenericFor.values c.in-GenericFor.body c.in_ok-share-in-GenericFor-2.field-0 (here c.args.frames.now) (slots_of c.args.frames.now) c.in-GenericFor.is c.in_ok-share-in-GenericFor.ensures c.in_ok-share-in-GenericFor-2.ensures)

@@ -1,0 +1,4 @@
+pub mod RunForms
+pub mod RangeForms
+pub mod CountForms
+pub mod IterationForms
