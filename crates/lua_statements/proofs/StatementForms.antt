@@ -54,7 +54,10 @@ same_step : (a b : Option (Rc Expr Global)) → step_expr a ≡ step_expr b → 
 same_step None None e = refl
 same_step None (Some y) e = absurd (cc)
 same_step (Some x) None e = absurd (cc)
-same_step (Some x) (Some y) e = let h : x.value ≡ y.value = cc in ap (λ (z : Expr) (p : Places) (s : Slots) (go : Value → Slots → Work). value z p s go) h
+same_step (Some x) (Some y) e =
+    let h : x.value ≡ y.value = cc in
+    let steps : Expr → Places → Slots → (Value → Slots → Work) → Work = λ z p s go. value z p s go in
+    ap steps h
 
 -- a `for` from its first bound on, by what evaluates its step
 abbrev for_begins : Setting → ℕ → ℕ → Expr → Expr → (Places → Slots → (Value → Slots → Work) → Work) → List Stmt → Places → Slots → Work
