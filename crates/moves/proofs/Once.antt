@@ -41,7 +41,7 @@ once-without n [] o = tt
 once-without n (j ∷ js) o = once-if (n == j) j js (without n js) o.1 (fewer n j js o.0, once-without n js o.1)
 
 -- taken out, a number is there no more
-none-without : (n : ℕ) (js : List ℕ) → NumbersOnce js → has_number n (without n js) ≡ false
+pub none-without : (n : ℕ) (js : List ℕ) → NumbersOnce js → has_number n (without n js) ≡ false
 none-without n [] o = refl
 none-without n (j ∷ js) o = test (none-without n js o.1) (n == j) refl
   where
@@ -80,18 +80,18 @@ numbers-if : (c : Bool) (d : ℕ × ℕ) (ds es : List (ℕ × ℕ)) → numbers
 numbers-if true d ds es = refl
 numbers-if false d ds es = refl
 
-numbers-disarmed : (n : ℕ) (ds : List (ℕ × ℕ)) → numbers (disarmed n ds) ≡ without n (numbers ds)
+pub numbers-disarmed : (n : ℕ) (ds : List (ℕ × ℕ)) → numbers (disarmed n ds) ≡ without n (numbers ds)
 numbers-disarmed n [] = refl
 numbers-disarmed n (d ∷ ds) = rw (numbers-if (n == d.0) d ds (disarmed n ds), numbers-disarmed n ds) refl
 
-numbers-last : (n at : ℕ) (ds : List (ℕ × ℕ)) → numbers (ds ++ (n, at) ∷ []) ≡ numbers ds ++ n ∷ []
+pub numbers-last : (n at : ℕ) (ds : List (ℕ × ℕ)) → numbers (ds ++ (n, at) ∷ []) ≡ numbers ds ++ n ∷ []
 numbers-last n at [] = refl
 numbers-last n at (d ∷ ds) = ap (λ js. d.0 ∷ js) (numbers-last n at ds)
 
-once-disarmed : (n : ℕ) (ds : List (ℕ × ℕ)) → NumbersOnce (numbers ds) → NumbersOnce (numbers (disarmed n ds))
+pub once-disarmed : (n : ℕ) (ds : List (ℕ × ℕ)) → NumbersOnce (numbers ds) → NumbersOnce (numbers (disarmed n ds))
 once-disarmed n ds o = subst NumbersOnce (sym (numbers-disarmed n ds)) (once-without n (numbers ds) o)
 
-once-armed : (n at : ℕ) (ds : List (ℕ × ℕ)) → NumbersOnce (numbers ds) → NumbersOnce (numbers (disarmed n ds ++ (n, at) ∷ []))
+pub once-armed : (n at : ℕ) (ds : List (ℕ × ℕ)) → NumbersOnce (numbers ds) → NumbersOnce (numbers (disarmed n ds ++ (n, at) ∷ []))
 once-armed n at ds o = subst NumbersOnce (sym (numbers-last n at (disarmed n ds)))
     (once-last n (numbers (disarmed n ds)) (subst (λ js. has_number n js ≡ false) (sym (numbers-disarmed n ds)) (none-without n (numbers ds) o)) (once-disarmed n ds o))
 
@@ -110,7 +110,7 @@ module _ {J S : Type 0} where
   performed-threads (Ask x) b s o = o
   performed-threads End b s o = o
 
-  performed-deadlines : (m : Move J S) (b : Ledger J) (s : S) → NumbersOnce (numbers b.armed) → NumbersOnce (numbers (perform m b s).state.ledger.armed)
+  pub performed-deadlines : (m : Move J S) (b : Ledger J) (s : S) → NumbersOnce (numbers b.armed) → NumbersOnce (numbers (perform m b s).state.ledger.armed)
   performed-deadlines Done b s o = o
   performed-deadlines (Ready k m) b s o = performed-deadlines m (with_thread k b) s o
   performed-deadlines (Unready k m) b s o = performed-deadlines m (without_thread k b) s o
@@ -136,7 +136,7 @@ threads : {J S : Type 0} (p : Plan J S) (es : List (LocalAction J)) → NumbersO
 threads p [] = tt
 threads p (a ∷ es) = let st = state_of p es in performed-threads (move_of p (moment (a ∷ es)) a st) (entered a st.ledger) st.inner (run-once a st.ledger.threads (threads p es))
 
-deadlines : {J S : Type 0} (p : Plan J S) (es : List (LocalAction J)) → NumbersOnce (numbers (state_of p es).ledger.armed)
+pub deadlines : {J S : Type 0} (p : Plan J S) (es : List (LocalAction J)) → NumbersOnce (numbers (state_of p es).ledger.armed)
 deadlines p [] = tt
 deadlines p (a ∷ es) = let st = state_of p es in performed-deadlines (move_of p (moment (a ∷ es)) a st) (entered a st.ledger) st.inner (taken-once a st.ledger.armed (deadlines p es))
 

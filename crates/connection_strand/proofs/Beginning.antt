@@ -1,0 +1,117 @@
+-- How a connection begins, for a client or for a job.
+use Rattle.std.proofs.Common.{◌≡◌, ℕ, Bool, true, false, [], ◌∷◌, Some, None, refl, sym, ap, ◌∙◌, subst, arith}
+use Rattle.strand_contract.specs.declared.turns.Place.TheVariants as place
+use Rattle.strand_contract.specs.declared.turns.Start.{Start}
+use Rattle.strand_contract.specs.declared.turns.Start.TheVariants as start
+use Rattle.strand_contract.specs.Actions.{Did, Began}
+use Rattle.moves.specs.Ledgers.{Ledger, empty_ledger, entered, is_place}
+use Rattle.moves.specs.Moves.{Done, Performed, perform}
+use Rattle.moves.specs.Plans.{unborn_state, stepped}
+use Rattle.moves.proofs.Ledgers.{begun-is}
+use Rattle.run_contract.specs.declared.turns.RunTurn.{RunTurn}
+use Rattle.run_contract.specs.Runs.{Waits, waits_at_first, performed}
+use Rattle.run_contract.specs.Calls as calls
+use Rattle.run_contract.specs.Conditions.{IsRun, IsBlank, IsLeft}
+use Rattle.connection.specs.Clients.{new_client}
+use Rattle.connection.specs.Clients as stage
+use Rattle.connection.specs.Services.{Service, Both}
+use Rattle.connection.specs.Timers as timer
+use Rattle.connection.specs.Turns.{begin_timer, run_turn}
+use Rattle.connection.specs.Connections.{connection_plan}
+use Rattle.connection_strand.specs.declared.state.Connection.{Connection}
+use Rattle.connection_strand.specs.declared.state.Turn.{Turn}
+use Rattle.connection_strand.specs.Kept.{Kept, kept, fresh, waits_of}
+use Rattle.connection_strand.specs.Standing.{plain, places, Came, before}
+use Rattle.connection_strand.specs.Turns.{Took}
+use Rattle.connection_strand.specs.Following.{Follows}
+use Rattle.connection_strand.proofs.Losing.{To}
+
+-- the ledger as it begins
+abbrev pub first : {J : Type 0} → ℕ → Start J → Ledger J
+first now begin = entered (Did (Began now begin)) empty_ledger
+
+client-blank : {J : Type 0} (now n : ℕ) → IsBlank {J = J} (first now (start.Client n))
+client-blank now n = record { no_thread = refl; no_deadline = refl; no_socket = λ k. refl; none_asked = refl; unused = λ k l. (refl, refl, refl) }
+
+job-blank : {J : Type 0} (now n : ℕ) (premature : Bool) (job : J) → IsBlank (first now (start.Job n premature job))
+job-blank now n premature job = record { no_thread = refl; no_deadline = refl; no_socket = λ k. refl; none_asked = refl; unused = λ k l. (refl, refl, refl) }
+
+module _ {R J I : Type 0} (site : Service J I) (holds : Ledger J → I → Type 0) (stands : R → Ledger J → I → Type 0) (now : ℕ) where
+  -- to what the first turn comes
+  abbrev pub begun : Start J → Performed J (Both I)
+  begun begin = stepped (connection_plan site) now (Did (Began now begin)) (unborn_state (connection_plan site))
+
+  pub follows : (begin : Start J) (c : Connection R) (u : Turn J) → Came site.runs holds stands (begun begin) c u
+      → Follows site stands c (Did (Began now begin) ∷ []) × (u.acts.items ≡ (begun begin).acts)
+  follows begin c u x = (
+    record { stays = x.stays; taking = λ there. x.taking there ∙ ap (is_place place.Client) (sym (begun-is (connection_plan site) (Did (Began now begin) ∷ []))) },
+    sym x.acts,
+  )
+
+  pub begins-client : (n : ℕ) (c : Connection R) (u : Turn J) → kept c.client ≡ fresh site.default_times true → c.sockets.items ≡ [] → c.count ≡ 0 → c.keeping ≡ None
+      → c.is_taking ≡ false → u.acts.items ≡ [] → u.is_offered ≡ false
+      → To site holds stands (plain stage.Head) (begun (start.Client n)) c u (begin_timer site now timer.Header Done)
+  begins-client n c u client socks count keeping taking acts offered =
+      let b : Ledger J = first now (start.Client n) in
+      let s : Both I = record { client = new_client site.default_times; run = site.runs.unborn } in
+      record {
+        ledger = b;
+        inner = s;
+        within = record {
+          serves = record {
+            client = client;
+            sockets = sym (ap (places true) socks);
+            count = count;
+            keeping = keeping;
+            offered = λ there. offered;
+            taking = λ there. taking;
+            counted = omega arith;
+            once = tt;
+            none_asked = refl;
+            on = tt;
+          };
+          at = refl;
+          run = tt;
+          known = client-blank now n;
+          blank = λ e. absurd (let f : false ≡ true = e in cc);
+        };
+        leads = ap (λ xs. before xs (perform (begin_timer site now timer.Header Done) b s)) (sym acts);
+      }
+
+  pub begins-job : IsRun site.runs holds → (n : ℕ) (premature : Bool) (job : J) (run : R) (turn : RunTurn J) (c c' : Connection R) (u : Turn J)
+      → calls.BeginsJob site.runs holds stands now premature job run turn
+      → kept c.client ≡ fresh site.default_times false → waits_of c.waits ≡ waits_at_first false → c.sockets.items ≡ [] → c.count ≡ 0 → c.keeping ≡ None
+      → kept c'.client ≡ record (kept c.client) { stage = stage.Busy } → c'.run ≡ Some run → c'.waits ≡ c.waits → c'.sockets ≡ c.sockets → c'.count ≡ c.count → c'.keeping ≡ c.keeping
+      → u.acts.items ≡ [] → Took site holds stands now turn (begun (start.Job n premature job)) c' u Done
+  begins-job lawful n premature job run turn c c' u begins client waits socks count keeping client' is waits' socks' count' keeping' acts =
+      let b : Ledger J = first now (start.Job n premature job) in
+      let s : Both I = record { client = record (new_client site.default_times) { stage = stage.Busy }; run = site.runs.unborn } in
+      let t = site.runs.begun_job now premature job b in
+      let took = begins b (job-blank now n premature job) refl in
+      record {
+        ledger = b;
+        inner = s;
+        turn = t;
+        serves = record {
+          client = client' ∙ ap (λ (k : Kept). record k { stage = stage.Busy }) client;
+          sockets = sym (ap (places false) (ap (λ v. v.items) socks' ∙ socks));
+          count = count' ∙ count;
+          keeping = keeping' ∙ keeping;
+          offered = λ there. absurd (let f : false ≡ true = there in cc);
+          taking = λ there. absurd (let f : false ≡ true = there in cc);
+          counted = omega arith;
+          once = tt;
+          none_asked = refl;
+          on = tt;
+        };
+        busy = refl;
+        run = run;
+        is = is;
+        standing = took.0;
+        acts = took.1;
+        said = took.2;
+        left = subst (λ (w : Waits). IsLeft site.runs holds w t.said (performed t b site.runs.unborn)) (sym (ap waits_of waits' ∙ waits))
+            (lawful.begins_job now premature job b (job-blank now n premature job));
+        own = lawful.begins_job_by_own now premature job b;
+        leads = ap (λ xs. before xs (perform (run_turn site now t Done) b s)) (sym acts);
+      }

@@ -1,0 +1,105 @@
+-- How a turn comes to its end.
+use Rattle.std.specs.Prelude.{IfOk, Result, Ok, Err}
+use Rattle.std.proofs.Common.{◌≡◌, ℕ, ◌≤◌, ◌+◌, ◌*◌, Bool, true, false, List, [], ◌∷◌, ◌++◌, map, length, Option, None, if◌then◌else◌, refl, sym, ap, ◌∙◌, subst, append-nil, append_assoc, arith, length-append}
+use Rattle.strand_contract.specs.declared.turns.Act.{Act}
+use Rattle.strand_contract.specs.declared.turns.Act.TheVariants as act
+use Rattle.strand_contract.specs.declared.turns.Place.TheVariants as place
+use Rattle.moves.specs.Questions.{Question}
+use Rattle.moves.specs.Ledgers.{Ledger}
+use Rattle.moves.specs.Moves.{Done, Performed, ending}
+use Rattle.run_contract.specs.Runs.{RunPlan}
+use Rattle.connection.specs.Clients.{Stage}
+use Rattle.connection.specs.Services.{Both}
+use Rattle.connection.specs.Turns.{finish}
+use Rattle.connection_strand.specs.declared.state.Connection.{Connection}
+use Rattle.connection_strand.specs.declared.state.Turn.{Turn}
+use Rattle.connection_strand.specs.Kept.{Kept, kept}
+use Rattle.connection_strand.specs.Standing.{plain, kept_sock, HasRun, Toward, Came, Went, asking, places}
+use Rattle.connection_strand.specs.Costs.{weight_if}
+
+-- the acts of an end
+pub ending-socks : {J : Type 0} (socks : List ℕ) → ending {J = J} (map place.Sock socks) ≡ map (λ (k : ℕ). act.HangUp (place.Sock k)) socks ++ act.Gone ∷ []
+ending-socks [] = refl
+ending-socks (k ∷ ks) = ap (λ acts. act.HangUp (place.Sock k) ∷ acts) (ending-socks ks)
+
+pub no-question : {J : Type 0} (b : Ledger J) → b.asked ≡ None → asking None b ≡ b
+no-question {J} b e = ap (λ (q : Option (Question J)). record b { asked = q }) (sym e)
+
+module _ {R J I : Type 0} (plan : RunPlan J I) (holds : Ledger J → I → Type 0) (stands : R → Ledger J → I → Type 0) where
+  -- nothing more is done
+  pub done-came : (st : Stage) (did : Performed J (Both I)) (c : Connection R) (u : Turn J) → Toward plan holds stands (plain st) did c u Done → Came plan holds stands did c u
+  done-came st did c u h =
+      let b = h.ledger in
+      let s = h.inner in
+      let w = h.within.serves in
+      subst (λ (d : Performed J (Both I)). Came plan holds stands d c u) (sym h.leads) (record {
+        acts = append-nil u.acts.items;
+        stays = λ on. record {
+          client = w.client;
+          sockets = w.sockets;
+          count = w.count;
+          keeping = w.keeping ∙ ap kept_sock (sym w.none_asked);
+          on = w.on;
+          run = subst (λ (l : Ledger J). HasRun plan stands s.client.stage c l s.run) (no-question b w.none_asked)
+              (subst (λ (st : Stage). HasRun plan stands st c (asking None b) s.run) (sym h.within.at) h.within.run);
+        };
+        taking = w.taking;
+      })
+
+  pub went-came : (on : Bool) (did : Performed J (Both I)) (c : Connection R) (u : Turn J) → Went plan holds stands on did c u Done → Came plan holds stands did c u
+  went-came true did c u w = done-came w.0 did c u w.1
+  went-came false did c u w = w
+
+  -- the life is over
+  pub finishes : (st : Stage) (did : Performed J (Both I)) (c c' : Connection R) (u u' : Turn J)
+      → u'.acts.items ≡ u.acts.items ++ ending (places (kept c.client).opened c.sockets.items)
+      → Toward plan holds stands (plain st) did c u finish → Came plan holds stands did c' u'
+  finishes st did c c' u u' acts h =
+      let b = h.ledger in
+      let s = h.inner in
+      let w = h.within.serves in
+      let opens : b.opened ≡ places (kept c.client).opened c.sockets.items = w.sockets ∙ ap (λ (k : Kept). places k.opened c.sockets.items) (sym w.client) in
+      subst (λ (d : Performed J (Both I)). Came plan holds stands d c' u') (sym h.leads) (record {
+        acts = ap (λ qs. u.acts.items ++ ending qs) opens ∙ sym acts;
+        stays = λ on. absurd (let e : true ≡ false = on in cc);
+        taking = λ there. absurd (let e : false ≡ true = there in cc);
+      })
+
+-- what is hung up, before the life is over
+abbrev pub hung : {J : Type 0} → List ℕ → List (Act J)
+hung socks = map (λ (k : ℕ). act.HangUp (place.Sock k)) socks
+
+socks-length : (J : Type 0) (socks : List ℕ) → length (ending {J = J} (map place.Sock socks)) ≡ length socks + 1
+socks-length J [] = refl
+socks-length J (k ∷ ks) = let e = socks-length J ks in omega arith
+
+pub ending-length : (J : Type 0) (o : Bool) (socks : List ℕ) → length (ending {J = J} (places o socks)) ≡ (if o then 1 else 0) + length socks + 1
+ending-length J true socks = let e = socks-length J socks in omega arith
+ending-length J false socks = let e = socks-length J socks in omega arith
+
+module _ {J : Type 0} where
+  pub closing : (o : Bool) (acts first more last : List (Act J)) (socks : List ℕ) → first ≡ acts ++ (if o then act.HangUp place.Client ∷ [] else [])
+      → more ≡ first ++ hung socks → last ≡ more ++ act.Gone ∷ [] → last ≡ acts ++ ending (places o socks)
+  closing o acts first more last socks e f g =
+      g ∙ ap (λ xs. xs ++ act.Gone ∷ []) (f ∙ ap (λ xs. xs ++ hung socks) e) ∙ by o
+    where
+      by : (o : Bool) → ((acts ++ (if o then act.HangUp place.Client ∷ [] else [])) ++ hung socks) ++ act.Gone ∷ [] ≡ acts ++ ending (places o socks)
+      by true = append_assoc (acts ++ act.HangUp place.Client ∷ []) (hung socks) (act.Gone ∷ [])
+          ∙ append_assoc acts (act.HangUp place.Client ∷ []) (hung socks ++ act.Gone ∷ [])
+          ∙ ap (λ xs. acts ++ act.HangUp place.Client ∷ xs) (sym (ending-socks socks))
+      by false = append_assoc (acts ++ []) (hung socks) (act.Gone ∷ [])
+          ∙ ap (λ xs. xs ++ (hung socks ++ act.Gone ∷ [])) (append-nil acts)
+          ∙ ap (λ xs. acts ++ xs) (sym (ending-socks socks))
+
+  -- it costs no more than was left
+  pub closing-costs : (o : Bool) (x n : ℕ) (acts last : List (Act J)) (socks : List ℕ) → last ≡ acts ++ ending (places o socks) → n ≡ x + weight_if o 4 + 2 * length socks + 2
+      → 0 + length last ≤ n + length acts + 0
+  closing-costs o x n acts last socks e f = by o (ap length e ∙ length-append acts (ending (places o socks)) ∙ ap (λ k. length acts + k) (ending-length J o socks)) f
+    where
+      by : (o : Bool) → length last ≡ length acts + ((if o then 1 else 0) + length socks + 1) → n ≡ x + weight_if o 4 + 2 * length socks + 2 → 0 + length last ≤ n + length acts + 0
+      by true e f = omega arith
+      by false e f = omega arith
+
+pub ok-map : {T F : Type 0} (r : Result T F) (P Q : T → Type 0) → ((x : T) → P x → Q x) → IfOk r P → IfOk r Q
+ok-map (Ok x) P Q f h = f x h
+ok-map (Err e) P Q f h = tt

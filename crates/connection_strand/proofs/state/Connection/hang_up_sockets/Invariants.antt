@@ -1,0 +1,9 @@
+use Rattle.std.proofs.Common.{◌≡◌, ◌++◌, take}
+use Rattle.connection_strand.specs.Acts.{hang_ups}
+use Rattle.connection_strand.proofs.state.Connection.hang_up_sockets.Given as goal
+
+abbrev pub invariant-loop-socket : goal.invariant-loop-socket
+invariant-loop-socket g l = record {
+  acts : l.turn.acts.items ≡ l.fn.turn.acts.items ++ hang_ups (take l.socket-index l.self.sockets.items);
+  offered : l.turn.is_offered ≡ l.fn.turn.is_offered;
+}

@@ -1,0 +1,124 @@
+use Rattle.std.proofs.Common.{None, ap, false}
+use Rattle.moves.specs.Moves.{Look}
+use Rattle.connection.specs.Clients as stage
+use Rattle.connection.specs.Turns.{settle}
+use Rattle.connection_strand.specs.Kept.{stage_of}
+use Rattle.connection_strand.specs.Shown.{heard_at}
+use Rattle.connection_strand.proofs.Ends.{ok-map, done-came}
+use Rattle.connection_strand.proofs.Facing.{from-here}
+use Rattle.connection_strand.proofs.Coming.{hears-at}
+use Rattle.service_contract.specs.Serving.{service_of}
+use Rattle.connection_strand.proofs.state.Connection.hear_at.Goals as goal
+
+pub settle-requires : goal.settle-requires
+settle-requires g c =
+    let site = c.args.site.now in
+    let r = g.R.RunContract in
+    let met = g.met.R.RunContract in
+    let service = service_of (r.plan site) (g.R.ServiceContract.serving site) in
+    let now = c.args.now.0 in
+    let x = from-here service (r.holds site) (r.stands site) (met.meets site) (met.apart site) c.requires.within.0 c.args.self.now c.args.turn.now c.requires.within.1
+    (Look (λ b s. heard_at service now s.client.stage c.args.out s.client.came s.client.ended)) in
+    let t = hears-at service (r.holds site) (r.stands site) (met.meets site) (met.apart site) now stage.Busy c.args.out c.requires.within.0 x.0 c.args.self.now c.args.turn.now (ap stage_of c.in-Busy.is) x.1 in
+    let h = c.in_ok-await_body-in-Busy.ensures.moves None false x.0 (settle service now) (record { ledger = t.ledger; inner = t.inner; within = t.within; leads = t.leads }) in
+    (stage.Busy, (h.ledger, h.inner, h.within))
+
+pub returns-in_ok-await_body-in-Busy : goal.returns-in_ok-await_body-in-Busy
+returns-in_ok-await_body-in-Busy g c =
+    let site = c.args.site.now in
+    let r = g.R.RunContract in
+    let met = g.met.R.RunContract in
+    let service = service_of (r.plan site) (g.R.ServiceContract.serving site) in
+    let now = c.args.now.0 in
+    ok-map c.settle.result _ _ (λ done ends. λ st did h.
+    let t = hears-at service (r.holds site) (r.stands site) (met.meets site) (met.apart site) now stage.Busy c.args.out st did c.args.self.now c.args.turn.now (ap stage_of c.in-Busy.is) h in
+    ends stage.Busy did (c.in_ok-await_body-in-Busy.ensures.moves None false did (settle service now) (record { ledger = t.ledger; inner = t.inner; within = t.within; leads = t.leads }))) c.settle.ensures.moves
+
+pub hear-requires-clause-within : goal.hear-requires-clause-within
+hear-requires-clause-within g c =
+    let site = c.args.site.now in
+    let r = g.R.RunContract in
+    let met = g.met.R.RunContract in
+    let service = service_of (r.plan site) (g.R.ServiceContract.serving site) in
+    let now = c.args.now.0 in
+    let x = from-here service (r.holds site) (r.stands site) (met.meets site) (met.apart site) c.requires.within.0 c.args.self.now c.args.turn.now c.requires.within.1
+    (Look (λ b s. heard_at service now s.client.stage c.args.out s.client.came s.client.ended)) in
+    let t = hears-at service (r.holds site) (r.stands site) (met.meets site) (met.apart site) now stage.Head c.args.out c.requires.within.0 x.0 c.args.self.now c.args.turn.now (ap stage_of c.in-Head.is) x.1 in
+    (stage.Head, tt, (t.ledger, t.inner, t.within))
+
+pub returns-in-Head : goal.returns-in-Head
+returns-in-Head g c =
+    let site = c.args.site.now in
+    let r = g.R.RunContract in
+    let met = g.met.R.RunContract in
+    let service = service_of (r.plan site) (g.R.ServiceContract.serving site) in
+    let now = c.args.now.0 in
+    ok-map c.hear.result _ _ (λ done hears. λ st did h. hears stage.Head tt did (settle service now)
+    (let t = hears-at service (r.holds site) (r.stands site) (met.meets site) (met.apart site) now stage.Head c.args.out st did c.args.self.now c.args.turn.now (ap stage_of c.in-Head.is) h in
+    record { ledger = t.ledger; inner = t.inner; within = t.within; leads = t.leads })) c.hear.ensures
+
+pub hear-requires-in-Idle-clause-within : goal.hear-requires-in-Idle-clause-within
+hear-requires-in-Idle-clause-within g c =
+    let site = c.args.site.now in
+    let r = g.R.RunContract in
+    let met = g.met.R.RunContract in
+    let service = service_of (r.plan site) (g.R.ServiceContract.serving site) in
+    let now = c.args.now.0 in
+    let x = from-here service (r.holds site) (r.stands site) (met.meets site) (met.apart site) c.requires.within.0 c.args.self.now c.args.turn.now c.requires.within.1
+    (Look (λ b s. heard_at service now s.client.stage c.args.out s.client.came s.client.ended)) in
+    let t = hears-at service (r.holds site) (r.stands site) (met.meets site) (met.apart site) now stage.Idle c.args.out c.requires.within.0 x.0 c.args.self.now c.args.turn.now (ap stage_of c.in-Idle.is) x.1 in
+    (stage.Idle, tt, (t.ledger, t.inner, t.within))
+
+pub returns-in-Idle : goal.returns-in-Idle
+returns-in-Idle g c =
+    let site = c.args.site.now in
+    let r = g.R.RunContract in
+    let met = g.met.R.RunContract in
+    let service = service_of (r.plan site) (g.R.ServiceContract.serving site) in
+    let now = c.args.now.0 in
+    ok-map c.hear-in-Idle.result _ _ (λ done hears. λ st did h. hears stage.Idle tt did (settle service now)
+    (let t = hears-at service (r.holds site) (r.stands site) (met.meets site) (met.apart site) now stage.Idle c.args.out st did c.args.self.now c.args.turn.now (ap stage_of c.in-Idle.is) h in
+    record { ledger = t.ledger; inner = t.inner; within = t.within; leads = t.leads })) c.hear-in-Idle.ensures
+
+pub hear-requires-in-Drop-clause-within : goal.hear-requires-in-Drop-clause-within
+hear-requires-in-Drop-clause-within g c =
+    let site = c.args.site.now in
+    let r = g.R.RunContract in
+    let met = g.met.R.RunContract in
+    let service = service_of (r.plan site) (g.R.ServiceContract.serving site) in
+    let now = c.args.now.0 in
+    let x = from-here service (r.holds site) (r.stands site) (met.meets site) (met.apart site) c.requires.within.0 c.args.self.now c.args.turn.now c.requires.within.1
+    (Look (λ b s. heard_at service now s.client.stage c.args.out s.client.came s.client.ended)) in
+    let t = hears-at service (r.holds site) (r.stands site) (met.meets site) (met.apart site) now stage.Drop c.args.out c.requires.within.0 x.0 c.args.self.now c.args.turn.now (ap stage_of c.in-Drop.is) x.1 in
+    (stage.Drop, tt, (t.ledger, t.inner, t.within))
+
+pub returns-in-Drop : goal.returns-in-Drop
+returns-in-Drop g c =
+    let site = c.args.site.now in
+    let r = g.R.RunContract in
+    let met = g.met.R.RunContract in
+    let service = service_of (r.plan site) (g.R.ServiceContract.serving site) in
+    let now = c.args.now.0 in
+    ok-map c.hear-in-Drop.result _ _ (λ done hears. λ st did h. hears stage.Drop tt did (settle service now)
+    (let t = hears-at service (r.holds site) (r.stands site) (met.meets site) (met.apart site) now stage.Drop c.args.out st did c.args.self.now c.args.turn.now (ap stage_of c.in-Drop.is) h in
+    record { ledger = t.ledger; inner = t.inner; within = t.within; leads = t.leads })) c.hear-in-Drop.ensures
+
+pub returns-in-Flush : goal.returns-in-Flush
+returns-in-Flush g c = λ st did h.
+    let site = c.args.site.now in
+    let r = g.R.RunContract in
+    let met = g.met.R.RunContract in
+    let service = service_of (r.plan site) (g.R.ServiceContract.serving site) in
+    let now = c.args.now.0 in
+    let t = hears-at service (r.holds site) (r.stands site) (met.meets site) (met.apart site) now stage.Flush c.args.out st did c.args.self.now c.args.turn.now (ap stage_of c.in-Flush.is) h in
+    done-came (r.plan site) (r.holds site) (r.stands site) stage.Flush did c.args.self.now c.args.turn.now (record { ledger = t.ledger; inner = t.inner; within = t.within; leads = t.leads })
+
+pub returns-in-Over : goal.returns-in-Over
+returns-in-Over g c = λ st did h.
+    let site = c.args.site.now in
+    let r = g.R.RunContract in
+    let met = g.met.R.RunContract in
+    let service = service_of (r.plan site) (g.R.ServiceContract.serving site) in
+    let now = c.args.now.0 in
+    let t = hears-at service (r.holds site) (r.stands site) (met.meets site) (met.apart site) now stage.Over c.args.out st did c.args.self.now c.args.turn.now (ap stage_of c.in-Over.is) h in
+    done-came (r.plan site) (r.holds site) (r.stands site) stage.Over did c.args.self.now c.args.turn.now (record { ledger = t.ledger; inner = t.inner; within = t.within; leads = t.leads })

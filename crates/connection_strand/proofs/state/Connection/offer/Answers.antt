@@ -1,0 +1,27 @@
+use Rattle.std.proofs.Common.{refl, sym, ap, ◌∙◌, not, ◌&&◌}
+use Rattle.connection_strand.specs.Kept.{kept, wants_offer}
+use Rattle.connection_strand.proofs.Offering.{offers, offers-not, and-none}
+use Rattle.connection_strand.proofs.state.Connection.offer.Goals.{else-wants_offer-via-then-wants_offer+else-not-turn, else-wants_offer-via-else-wants_offer}
+use Rattle.service_contract.specs.Serving.{service_of}
+use Rattle.connection_strand.proofs.state.Connection.offer.Goals as goal
+
+pub returns-in_ok-push_back-clause-moves : goal.returns-in_ok-push_back-clause-moves
+returns-in_ok-push_back-clause-moves g c = λ e did m h.
+    let site = c.args.site.now in
+    let r = g.R.RunContract in
+    let met = g.met.R.RunContract in
+    offers (service_of (r.plan site) (g.R.ServiceContract.serving site)) (r.holds site) (r.stands site) (met.meets site) (met.apart site)
+    e did c.args.self.now _ c.args.turn.now _ m (record { run = refl; waits = refl; sockets = refl; count = refl; keeping = refl; taking = refl }) refl
+    (ap (λ x. x && not c.args.turn.now.is_offered) (sym c.wants_offer.ensures ∙ c.if-wants_offer.true) ∙ ap not c.if-not-turn.true) refl c.in_ok-push_back.ensures.items h
+
+pub returns-else-wants_offer-clause-moves : goal.returns-else-wants_offer-clause-moves
+returns-else-wants_offer-clause-moves g c = λ e did m h.
+    let site = c.args.site.now in
+    let r = g.R.RunContract in
+    let met = g.met.R.RunContract in
+    offers-not (service_of (r.plan site) (g.R.ServiceContract.serving site)) (r.holds site) (r.stands site) (met.meets site) (met.apart site)
+    e did c.args.self.now c.args.turn.now m
+    (elim c.else-wants_offer.branch [
+      | else-wants_offer-via-then-wants_offer+else-not-turn w ↦ and-none (wants_offer (kept c.args.self.now.client)) (not c.args.turn.now.is_offered) (ap not w.if-not-turn.false)
+      | else-wants_offer-via-else-wants_offer w ↦ ap (λ x. x && not c.args.turn.now.is_offered) (sym c.wants_offer.ensures ∙ w.if-wants_offer.false)
+    ]) h

@@ -1,0 +1,39 @@
+use Rattle.std.proofs.Common.{ap, ◌∙◌}
+use Rattle.strand_contract.proofs.Results.{if-ok}
+use Rattle.client_line.specs.Records as line
+use Rattle.connection.specs.Turns.{refuse, finish}
+use Rattle.connection_strand.specs.Standing.{plain}
+use Rattle.connection_strand.proofs.Hearing.{refuses-head, refuses-body, not-begun}
+use Rattle.service_contract.specs.Serving.{service_of}
+use Rattle.connection.specs.Clients.{is_last}
+use Rattle.connection_strand.specs.Kept.{reply_of}
+use Rattle.connection_strand.proofs.Costing.{costs-after}
+use Rattle.connection_strand.proofs.state.Connection.refuse.Goals as goal
+
+pub returns-in-Begun-clause-moves : goal.returns-in-Begun-clause-moves
+returns-in-Begun-clause-moves g c =
+    let site = c.args.site.now in
+    let r = g.R.RunContract in
+    let met = g.met.R.RunContract in
+    let service = service_of (r.plan site) (g.R.ServiceContract.serving site) in
+    if-ok c.refuse_head.result _ _ c.refuse_head.ensures.moves (λ ends refuses at st free did m h. refuses st free did m
+    (c.in_ok-end_timer.ensures.moves (plain st) did (refuse service c.args.now.0 (line.Over c.args.code) c.args.code)
+    (refuses-head (service_of (r.plan site) (g.R.ServiceContract.serving site)) (r.holds site) (r.stands site) c.args.now.0 c.args.code (plain st) did c.args.self.now c.args.turn.now c.held-held.result at c.held-held.ensures c.in-Begun.is h)))
+
+pub returns-in-Request-clause-moves : goal.returns-in-Request-clause-moves
+returns-in-Request-clause-moves g c =
+    let site = c.args.site.now in
+    let r = g.R.RunContract in
+    let met = g.met.R.RunContract in
+    if-ok c.finish.result _ _ c.finish.ensures.moves (λ done ends at st free did m h. ends st did
+    (c.in_ok-end_timer.ensures.moves (plain st) did finish
+    (refuses-body (service_of (r.plan site) (g.R.ServiceContract.serving site)) (r.holds site) (r.stands site) c.args.now.0 c.args.code (plain st) did c.args.self.now c.args.turn.now c.held-held.result at c.held-held.ensures (not-begun (service_of (r.plan site) (g.R.ServiceContract.serving site)) (r.holds site) (r.stands site) c.held-held.result c.in-Request.is) h)))
+
+pub returns-in-Begun-clause-costs : goal.returns-in-Begun-clause-costs
+returns-in-Begun-clause-costs g c last =
+    if-ok c.refuse_head.result _ _ (c.refuse_head.ensures.costs (ap (λ y. is_last (reply_of y)) c.in_ok-end_timer.ensures.reply ∙ last)) (λ done costs.
+    costs-after g.R.RunContract.left g.R.ServiceContract.bound 0 0 c.args.self.now c.end_timer.new.self c.refuse_head.new.self c.args.turn.now c.end_timer.new.turn c.refuse_head.new.turn c.in_ok-end_timer.ensures.costs costs)
+
+pub returns-in-Request-clause-costs : goal.returns-in-Request-clause-costs
+returns-in-Request-clause-costs g c last = if-ok c.finish.result _ _ c.finish.ensures.costs (λ done costs.
+    costs-after g.R.RunContract.left g.R.ServiceContract.bound 0 0 c.args.self.now c.end_timer.new.self c.finish.new.self c.args.turn.now c.end_timer.new.turn c.finish.new.turn c.in_ok-end_timer.ensures.costs costs)

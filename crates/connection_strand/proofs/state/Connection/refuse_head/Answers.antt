@@ -1,0 +1,55 @@
+use Rattle.std.proofs.Common.{refl, ap, sym, ◌∙◌, true, false}
+use Rattle.strand_contract.proofs.Results.{if-ok}
+use Rattle.connection.specs.Clients as stage
+use Rattle.connection.specs.Turns.{close_if_taken}
+use Rattle.connection_strand.specs.Kept.{kept}
+use Rattle.connection_strand.specs.Standing.{plain}
+use Rattle.connection_strand.proofs.Losing.{done}
+use Rattle.connection_strand.proofs.Hearing.{refuses-now, closes}
+use Rattle.service_contract.specs.Serving.{service_of}
+use Rattle.std.proofs.Common.{length, arith}
+use Rattle.service_contract.specs.Serving.{times}
+use Rattle.connection_strand.specs.declared.client.Stage.TheVariants as code
+use Rattle.connection_strand.specs.declared.client.Reply.TheVariants as replies
+use Rattle.connection_strand.proofs.Costing.{costs-after, ends-within}
+use Rattle.connection_strand.proofs.Paying.{refuses-costs}
+use Rattle.connection_strand.proofs.state.Connection.refuse_head.Goals as goal
+
+pub returns-then-is_all_taken-clause-moves : goal.returns-then-is_all_taken-clause-moves
+returns-then-is_all_taken-clause-moves g c =
+    let site = c.args.site.now in
+    let r = g.R.RunContract in
+    let met = g.met.R.RunContract in
+    if-ok c.finish.result _ _ c.finish.ensures.moves (λ over ends st free did m h.
+    let service = service_of (r.plan site) (g.R.ServiceContract.serving site) in
+    ends stage.Flush did (closes (service_of (r.plan site) (g.R.ServiceContract.serving site)) (r.holds site) (r.stands site) c.args.now.0 (plain stage.Flush) did c.send.new.self c.send.new.turn true (sym c.is_all_taken.ensures ∙ c.if-is_all_taken.true)
+    (c.in_ok-send.ensures.moves (plain stage.Flush) did (close_if_taken service c.args.now.0)
+    (refuses-now (service_of (r.plan site) (g.R.ServiceContract.serving site)) (r.holds site) (r.stands site) c.args.now.0 c.args.code st did c.args.self.now _ c.args.turn.now c.in_ok-reply.reply free (record { run = refl; waits = refl; sockets = refl; count = refl; keeping = refl; taking = refl })
+    (ap (λ t. record (kept c.args.self.now.client) { stage = stage.Flush; times = t; reply = stage.Whole true }) c.default_times-self.ensures) c.in_ok-reply.ensures h))))
+
+pub returns-clause-moves : goal.returns-clause-moves
+returns-clause-moves g c = λ st free did m h.
+    let site = c.args.site.now in
+    let r = g.R.RunContract in
+    let met = g.met.R.RunContract in
+    let service = service_of (r.plan site) (g.R.ServiceContract.serving site) in
+    done (service_of (r.plan site) (g.R.ServiceContract.serving site)) (r.holds site) (r.stands site) stage.Flush did c.send.new.self c.send.new.turn
+    (closes (service_of (r.plan site) (g.R.ServiceContract.serving site)) (r.holds site) (r.stands site) c.args.now.0 (plain stage.Flush) did c.send.new.self c.send.new.turn false (sym c.is_all_taken.ensures ∙ c.if-is_all_taken.false)
+    (c.in_ok-send.ensures.moves (plain stage.Flush) did (close_if_taken service c.args.now.0)
+    (refuses-now (service_of (r.plan site) (g.R.ServiceContract.serving site)) (r.holds site) (r.stands site) c.args.now.0 c.args.code st did c.args.self.now _ c.args.turn.now c.in_ok-reply.reply free (record { run = refl; waits = refl; sockets = refl; count = refl; keeping = refl; taking = refl })
+    (ap (λ t. record (kept c.args.self.now.client) { stage = stage.Flush; times = t; reply = stage.Whole true }) c.default_times-self.ensures) c.in_ok-reply.ensures h)))
+
+pub returns-then-is_all_taken-clause-costs : goal.returns-then-is_all_taken-clause-costs
+returns-then-is_all_taken-clause-costs g c last =
+    let now = record c.args.self.now { client = record c.args.self.now.client { stage = code.Flush; times = c.default_times-self.result; reply = replies.Whole true } } in
+    if-ok c.finish.result _ _ c.finish.ensures.costs (λ done costs.
+    costs-after g.R.RunContract.left g.R.ServiceContract.bound 0 0 c.args.self.now c.send.new.self c.finish.new.self c.args.turn.now c.send.new.turn c.finish.new.turn
+    (refuses-costs g.R.RunContract.left g.R.ServiceContract.bound (length c.in_ok-reply.reply) (times c.default_times-self.result) c.args.self.now now c.send.new.self c.args.turn.now c.send.new.turn refl refl refl last
+    (let e = c.len.ensures.value in let l = c.len.ensures.bound in omega arith) c.in_ok-send.ensures.costs) costs)
+
+pub returns-clause-costs : goal.returns-clause-costs
+returns-clause-costs g c last =
+    let now = record c.args.self.now { client = record c.args.self.now.client { stage = code.Flush; times = c.default_times-self.result; reply = replies.Whole true } } in
+    ends-within g.R.RunContract.left g.R.ServiceContract.bound 0 c.args.self.now c.send.new.self c.args.turn.now c.send.new.turn
+    (refuses-costs g.R.RunContract.left g.R.ServiceContract.bound (length c.in_ok-reply.reply) (times c.default_times-self.result) c.args.self.now now c.send.new.self c.args.turn.now c.send.new.turn refl refl refl last
+    (let e = c.len.ensures.value in let l = c.len.ensures.bound in omega arith) c.in_ok-send.ensures.costs)

@@ -1,0 +1,25 @@
+-- To which executions of its own a connection may have come.
+use Rattle.std.specs.Prelude.{◌≡◌, true, false, List, [], ◌∷◌, Option, None, if◌then◌else◌}
+use Rattle.strand_contract.specs.declared.turns.Place.{Place}
+use Rattle.strand_contract.specs.declared.turns.Place.TheVariants as place
+use Rattle.strand_contract.specs.Actions.{LocalAction}
+use Rattle.strand_contract.specs.Alone.{begun_offer}
+use Rattle.strand_contract.specs.Laws.{is_still}
+use Rattle.moves.specs.Ledgers.{Ledger, is_place}
+use Rattle.moves.specs.Plans.{state_of}
+use Rattle.connection.specs.Services.{Service}
+use Rattle.connection.specs.Turns.{is_there}
+use Rattle.connection.specs.Connections.{connection_plan}
+use Rattle.connection_strand.specs.declared.state.Connection.{Connection}
+use Rattle.connection_strand.specs.Standing.{Stays}
+
+-- the place whose offer was begun as the newest turn began, or went on
+abbrev pub turn_begun : {J : Type 0} → List (LocalAction J) → Option Place
+turn_begun [] = None
+turn_begun (a ∷ es) = if is_still a then turn_begun es else begun_offer (a ∷ es)
+
+-- while the life goes on, it is as the plan has it after what happened to it; and it knows whether its client's offer goes on
+pub record Follows {R J I : Type 0} (site : Service J I) (stands : R → Ledger J → I → Type 0) (c : Connection R) (es : List (LocalAction J)) : Type 0 where
+  pub stays : (state_of (connection_plan site) es).ledger.ended ≡ false
+      → Stays site.runs stands c (state_of (connection_plan site) es).ledger (state_of (connection_plan site) es).inner
+  pub taking : is_there (state_of (connection_plan site) es).ledger ≡ true → c.is_taking ≡ is_place place.Client (turn_begun es)

@@ -1,0 +1,134 @@
+-- What a connection knows as it is shown something, and to what its turn comes.
+use Rattle.std.specs.Prelude.{◌≡◌, ℕ, ◌-◌, ◌%◌, ◌≤◌, Bool, true, false, List, [], length, take, None, if◌then◌else◌}
+use Rattle.strand_contract.specs.declared.turns.Place.TheVariants as place
+use Rattle.strand_contract.specs.declared.turns.Seen.{Seen}
+use Rattle.strand_contract.specs.declared.turns.Seen.TheVariants as seen
+use Rattle.strand_contract.specs.Actions.{Action, Did, Bytes, Ended, Broken, Ready, Dialled, Refused, Put, Later, Lost, Run, Due, Halted}
+use Rattle.moves.specs.Ledgers.{Ledger, has, numbers, is_place, left_at, has_offer, entered}
+use Rattle.moves.specs.Moves.{Move, Done, Performed, perform}
+use Rattle.moves.specs.Tidiness.{NumbersOnce}
+use Rattle.moves.specs.Turns.{Comes}
+use Rattle.run_contract.specs.declared.turns.RunSeen.{RunSeen}
+use Rattle.run_contract.specs.declared.turns.SockSeen.{SockSeen}
+use Rattle.run_contract.specs.declared.turns.SockSeen.TheVariants as at
+use Rattle.run_contract.specs.Runs.{RunPlan}
+use Rattle.run_contract.specs.Conditions.{MayCome, entered_as, next_piece}
+use Rattle.connection.specs.Services.{Service, Both}
+use Rattle.client_line.specs.declared.requests.LineOut.{LineOut}
+use Rattle.client_line.specs.Records as line
+use Rattle.connection.specs.Clients.{Stage}
+use Rattle.connection.specs.Clients as stage
+use Rattle.connection.specs.Turns.{is_there, await_body, heard_by, settle}
+use Rattle.connection.specs.Connections.{connection_plan, connection_turn, to_run}
+use Rattle.connection.specs.Conditions.{Agrees}
+use Rattle.connection_strand.specs.declared.state.Connection.{Connection}
+use Rattle.connection_strand.specs.declared.state.Turn.{Turn}
+use Rattle.connection_strand.specs.Kept.{Kept, kept, kept_of, wants_offer}
+use Rattle.connection_strand.specs.Standing.{IsOn, HasRun, Serves, Came, Went, before, places}
+
+-- what comes at a socket, as it is shown
+abbrev pub sock_seen : ℕ → SockSeen → Seen
+sock_seen k (at.Bytes bytes) = seen.Bytes (place.Sock k) bytes
+sock_seen k at.Ended = seen.Ended (place.Sock k)
+sock_seen k at.Broken = seen.Broken (place.Sock k)
+sock_seen k at.Ready = seen.Ready (place.Sock k)
+sock_seen k (at.Took n) = seen.Took (place.Sock k) n
+sock_seen k at.Later = seen.Later (place.Sock k)
+sock_seen k at.Lost = seen.Lost (place.Sock k)
+sock_seen k at.Dialled = seen.Dialled k
+sock_seen k at.Refused = seen.Refused k
+
+-- the action that is shown: of a write, the bytes that were taken of the next piece
+abbrev pub action_by : {J : Type 0} → Ledger J → Seen → Action J
+action_by b (seen.Bytes q bytes) = Bytes q bytes
+action_by b (seen.Ended q) = Ended q
+action_by b (seen.Broken q) = Broken q
+action_by b (seen.Ready q) = Ready q
+action_by b (seen.Took q n) = Put q (take n (take (16_384 - b.taken q % 16_384) (left_at q b)))
+action_by b (seen.Later q) = Later q
+action_by b (seen.Lost q) = Lost q
+action_by b (seen.Dialled k) = Dialled k
+action_by b (seen.Refused k) = Refused k
+action_by b (seen.Due n) = Due n
+action_by b (seen.Run k) = Run k
+action_by b seen.Stop = Halted
+
+-- whether an offer of the client is queued or goes on as the turn begins, by what is kept
+abbrev pub offered_as : Seen → Kept → Bool
+offered_as (seen.Took place.Client n) k = true
+offered_as (seen.Ready place.Client) k = false
+offered_as (seen.Later place.Client) k = false
+offered_as (seen.Lost place.Client) k = false
+offered_as s k = wants_offer k
+
+-- the turn began as the client took bytes
+abbrev pub takes_as : Seen → Bool
+takes_as (seen.Took place.Client n) = true
+takes_as s = false
+
+module _ {R J I : Type 0} (plan : RunPlan J I) (holds : Ledger J → I → Type 0) (stands : R → Ledger J → I → Type 0) where
+  -- while no question waits, the next piece of what is left of an open socket
+  abbrev pub HasPieceAt : Connection R → ℕ → List ℕ → Type 0
+  HasPieceAt c k bytes = (b : Ledger J) (s : Both I) → (kept c.client).stage ≡ s.client.stage → HasRun plan stands s.client.stage c b s.run
+      → Agrees holds s.client.stage b s.run → b.asked ≡ None → bytes ≡ (if has (place.Sock k) b.opened then next_piece k b else [])
+
+module _ {R J I : Type 0} (site : Service J I) (holds : Ledger J → I → Type 0) (stands : R → Ledger J → I → Type 0) (now : ℕ) where
+  -- a turn that begins with what it is shown; the ledger is that before this was entered
+  pub record Shown (x : Seen) (did : Performed J (Both I)) (c : Connection R) (u : Turn J) : Type 0 where
+    pub ledger : Ledger J
+    pub inner : Both I
+    pub client : kept c.client ≡ kept_of ledger inner.client
+    pub sockets : ledger.opened ≡ places (is_there ledger) c.sockets.items
+    pub count : c.count ≡ ledger.count
+    pub keeping : c.keeping ≡ None
+    pub offered : is_there ledger ≡ true → u.is_offered ≡ has_offer place.Client (entered (Did (action_by ledger x)) ledger)
+    pub taking : is_there ledger ≡ true → c.is_taking ≡ is_place place.Client (entered (Did (action_by ledger x)) ledger).begun
+    pub takes : is_place place.Client ledger.begun ≡ true → ledger.put_off place.Client ≡ false
+    pub counted : ledger.taken place.Client ≤ length (ledger.sent place.Client)
+    pub once : NumbersOnce (numbers ledger.armed)
+    pub none_asked : ledger.asked ≡ None
+    pub on : IsOn inner.client.stage
+    pub run : HasRun site.runs stands inner.client.stage c ledger inner.run
+    pub known : Agrees holds inner.client.stage ledger inner.run
+    pub comes : Comes (connection_plan site) now (Did (action_by ledger x)) (record { ledger = ledger; inner = inner })
+    pub leads : did ≡ before u.acts.items
+        (let b = entered (Did (action_by ledger x)) ledger in perform (connection_turn site now (Did (action_by ledger x)) b inner) b inner)
+
+  abbrev pub MayShow : Seen → Connection R → Turn J → Type 0
+  MayShow x c u = (did : Performed J (Both I)) × Shown x did c u
+
+  -- its turn comes to its end
+  abbrev pub Shows : Seen → Connection R → Turn J → Connection R → Turn J → Type 0
+  Shows x c u c' u' = (did : Performed J (Both I)) → Shown x did c u → Came site.runs holds stands did c' u'
+
+  -- a turn in which a run that goes on is told this, and then these moves come
+  pub record ToRun (x : RunSeen) (did : Performed J (Both I)) (c : Connection R) (u : Turn J) (m : Move J (Both I)) : Type 0 where
+    pub ledger : Ledger J
+    pub inner : Both I
+    pub serves : Serves c u (entered_as x ledger) inner
+    pub run : HasRun site.runs stands inner.client.stage c ledger inner.run
+    pub known : Agrees holds inner.client.stage ledger inner.run
+    pub comes : MayCome site.runs now x ledger inner.run
+    pub leads : did ≡ before u.acts.items (perform (to_run site now m inner.client.stage x) (entered_as x ledger) inner)
+
+  abbrev pub MayTellRun : RunSeen → Connection R → Turn J → Type 0
+  MayTellRun x c u = (did : Performed J (Both I)) × (m : Move J (Both I)) × ToRun x did c u m
+
+  abbrev pub TellsRun : RunSeen → Bool → Connection R → Turn J → Connection R → Turn J → Type 0
+  TellsRun x on c u c' u' = (did : Performed J (Both I)) (m : Move J (Both I)) → ToRun x did c u m → Went site.runs holds stands on did c' u' m
+
+  -- and then what is there is settled
+  abbrev pub MayGoOn : RunSeen → Connection R → Turn J → Type 0
+  MayGoOn x c u = (did : Performed J (Both I)) × ToRun x did c u (settle site now)
+
+  abbrev pub GoesOn : RunSeen → Connection R → Turn J → Connection R → Turn J → Type 0
+  GoesOn x c u c' u' = (did : Performed J (Both I)) → ToRun x did c u (settle site now) → Came site.runs holds stands did c' u'
+
+module _ {J I : Type 0} (site : Service J I) (now : ℕ) where
+  -- at a stage, after bytes that were answered so: a run that waits for more of the body may get it, else the answer is heard; and what is there is settled
+  abbrev pub heard_at : Stage → LineOut → line.Came → Bool → Move J (Both I)
+  heard_at stage.Busy out came ended = await_body site now (settle site now)
+  heard_at stage.Head out came ended = heard_by site now false (settle site now) came ended out
+  heard_at stage.Idle out came ended = heard_by site now true (settle site now) came ended out
+  heard_at stage.Drop out came ended = heard_by site now true (settle site now) came ended out
+  heard_at st out came ended = Done

@@ -1,0 +1,178 @@
+-- How a connection in code stands to a state of its plan, between turns and within one.
+use Rattle.std.specs.Prelude.{◌≡◌, ℕ, ◌≤◌, Bool, true, false, map, List, [], ◌∷◌, ◌++◌, length, Option, Some, None, if◌then◌else◌}
+use Rattle.strand_contract.specs.declared.turns.Act.{Act}
+use Rattle.strand_contract.specs.declared.turns.Place.{Place}
+use Rattle.strand_contract.specs.declared.turns.Place.TheVariants as place
+use Rattle.moves.specs.Questions.{Question}
+use Rattle.moves.specs.Questions as question
+use Rattle.moves.specs.Ledgers.{Ledger, numbers, is_place, has_offer}
+use Rattle.moves.specs.Moves.{Move, Performed, perform}
+use Rattle.moves.specs.Tidiness.{NumbersOnce}
+use Rattle.run_contract.specs.declared.turns.Said.{Said}
+use Rattle.run_contract.specs.Runs.{RunPlan, says_over}
+use Rattle.run_contract.specs.Conditions.{IsBlank}
+use Rattle.connection.specs.Clients.{Stage}
+use Rattle.connection.specs.Clients as stage
+use Rattle.connection.specs.Services.{Both}
+use Rattle.connection.specs.Turns.{is_there}
+use Rattle.connection.specs.Conditions.{Agrees}
+use Rattle.connection_strand.specs.declared.state.Connection.{Connection}
+use Rattle.connection_strand.specs.declared.state.Turn.{Turn}
+use Rattle.connection_strand.specs.Kept.{kept, kept_of, waits_of}
+
+-- what is open: the client's place first, then the run's sockets as it got them
+abbrev pub places : Bool → List ℕ → List Place
+places opened socks = (if opened then place.Client ∷ [] else []) ++ map place.Sock socks
+
+-- the socket that is given to the pool
+abbrev pub kept_sock : {J : Type 0} → Option (Question J) → Option ℕ
+kept_sock (Some (question.Keep k key idle size)) = Some k
+kept_sock x = None
+
+-- the life goes on
+abbrev pub IsOn : Stage → Type 0
+IsOn stage.Over = ⊥
+IsOn st = Unit {0}
+
+-- and no run is there
+abbrev pub IsFree : Stage → Type 0
+IsFree stage.Busy = ⊥
+IsFree stage.Over = ⊥
+IsFree st = Unit {0}
+
+-- How far a turn is: the stage; of the turn that the run took the question with which it ends, and whether the run is over then.
+pub record Moment (J : Type 0) : Type 0 where
+  pub stage : Stage
+  pub asks : Option (Question J)
+  pub over : Bool
+
+-- the run took no turn, or it is done but for its question
+abbrev pub asks_at : {J : Type 0} → Stage → Option (Question J) → Moment J
+asks_at st q = record { stage = st; asks = q; over = false }
+
+abbrev pub plain : {J : Type 0} → Stage → Moment J
+plain st = asks_at st None
+
+-- the run still says something
+abbrev pub speaking : {J : Type 0} → Option (Question J) → Bool → Moment J
+speaking q over = record { stage = stage.Busy; asks = q; over = over }
+
+-- the ledger, once the question is asked
+abbrev pub asking : {J : Type 0} → Option (Question J) → Ledger J → Ledger J
+asking q b = record b { asked = q }
+
+module _ {R J I : Type 0} (plan : RunPlan J I) (stands : R → Ledger J → I → Type 0) where
+  -- a busy connection has a run, which stands for the plan's, and waits as it does
+  abbrev pub HasRun : Stage → Connection R → Ledger J → I → Type 0
+  HasRun stage.Busy c b r = (run : R) × (c.run ≡ Some run) × stands run b r × (waits_of c.waits ≡ plan.waits r)
+  HasRun st c b r = Unit {0}
+
+  -- between turns: the client, the open sockets and the run are as the plan has them
+  pub record Stays (c : Connection R) (b : Ledger J) (s : Both I) : Type 0 where
+    pub client : kept c.client ≡ kept_of b s.client
+    pub sockets : b.opened ≡ places (is_there b) c.sockets.items
+    pub count : c.count ≡ b.count
+    pub keeping : c.keeping ≡ kept_sock b.asked
+    pub on : IsOn s.client.stage
+    pub run : HasRun s.client.stage c b s.run
+
+-- within a turn: the client and the sockets are as the plan has them, and so is whether the client's offer is queued or begun
+pub record Serves {R J I : Type 0} (c : Connection R) (u : Turn J) (b : Ledger J) (s : Both I) : Type 0 where
+  pub client : kept c.client ≡ kept_of b s.client
+  pub sockets : b.opened ≡ places (is_there b) c.sockets.items
+  pub count : c.count ≡ b.count
+  pub keeping : c.keeping ≡ None
+  pub offered : is_there b ≡ true → u.is_offered ≡ has_offer place.Client b
+  pub taking : is_there b ≡ true → c.is_taking ≡ is_place place.Client b.begun
+  pub counted : b.taken place.Client ≤ length (b.sent place.Client)
+  pub once : NumbersOnce (numbers b.armed)
+  pub none_asked : b.asked ≡ None
+  pub on : IsOn s.client.stage
+
+-- the acts so far come before those that are still to be performed
+abbrev pub before : {J S : Type 0} → List (Act J) → Performed J S → Performed J S
+before acts did = record { state = did.state; acts = acts ++ did.acts }
+
+module _ {R J I : Type 0} (plan : RunPlan J I) (holds : Ledger J → I → Type 0) (stands : R → Ledger J → I → Type 0) where
+  -- and the run
+  pub record Within (e : Moment J) (c : Connection R) (u : Turn J) (b : Ledger J) (s : Both I) : Type 0 where
+    pub serves : Serves c u b s
+    pub at : s.client.stage ≡ e.stage
+    pub run : HasRun plan stands e.stage c (asking e.asks b) s.run
+    pub known : Agrees holds e.stage (asking e.asks b) s.run
+    pub blank : e.over ≡ true → IsBlank (asking e.asks b)
+
+  -- at some moment of a turn, at this stage or another
+  abbrev pub IsAt : Stage → Connection R → Turn J → Type 0
+  IsAt st c u = (b : Ledger J) × (s : Both I) × Within (plain st) c u b s
+
+  abbrev pub IsWithin : Connection R → Turn J → Type 0
+  IsWithin c u = (st : Stage) × IsAt st c u
+
+  -- while no run is there
+  abbrev pub IsFreeAt : Connection R → Turn J → Type 0
+  IsFreeAt c u = (st : Stage) × IsFree st × IsAt st c u
+
+  -- a turn that comes to `did`: its acts so far, and then these moves
+  pub record Toward (e : Moment J) (did : Performed J (Both I)) (c : Connection R) (u : Turn J) (m : Move J (Both I)) : Type 0 where
+    pub ledger : Ledger J
+    pub inner : Both I
+    pub within : Within e c u ledger inner
+    pub leads : did ≡ before u.acts.items (perform m ledger inner)
+
+  -- a turn that came to it: nothing is left of it
+  pub record Came (did : Performed J (Both I)) (c : Connection R) (u : Turn J) : Type 0 where
+    pub acts : did.acts ≡ u.acts.items
+    pub stays : did.state.ledger.ended ≡ false → Stays plan stands c did.state.ledger did.state.inner
+    pub taking : is_there did.state.ledger ≡ true → c.is_taking ≡ is_place place.Client did.state.ledger.begun
+
+  -- a turn that goes on with these moves, or came to its end
+  abbrev pub Went : Bool → Performed J (Both I) → Connection R → Turn J → Move J (Both I) → Type 0
+  Went true did c u m = (st : Stage) × Toward (plain st) did c u m
+  Went false did c u m = Came did c u
+
+  -- ---- what a call does
+
+  -- it makes these moves, whatever comes after them
+  abbrev pub Goes : (Move J (Both I) → Move J (Both I)) → Connection R → Turn J → Connection R → Turn J → Type 0
+  Goes f c u c' u' = (e : Moment J) (did : Performed J (Both I)) (m : Move J (Both I)) → Toward e did c u (f m) → Toward e did c' u' m
+
+  -- it makes them, while the run speaks
+  abbrev pub Speaks : (Move J (Both I) → Move J (Both I)) → Connection R → Turn J → Connection R → Turn J → Type 0
+  Speaks f c u c' u' = (q : Option (Question J)) (over : Bool) (did : Performed J (Both I)) (m : Move J (Both I))
+      → Toward (speaking q over) did c u (f m) → Toward (speaking q over) did c' u' m
+
+  -- its turn ends with them
+  abbrev pub Ends : Move J (Both I) → Connection R → Turn J → Connection R → Turn J → Type 0
+  Ends m c u c' u' = (st : Stage) (did : Performed J (Both I)) → Toward (plain st) did c u m → Came did c' u'
+
+  -- it makes them at this stage, and goes on with what comes after them, or its turn ends
+  abbrev pub GoesOn : Stage → Bool → (Move J (Both I) → Move J (Both I)) → Connection R → Turn J → Connection R → Turn J → Type 0
+  GoesOn st on f c u c' u' = (did : Performed J (Both I)) (m : Move J (Both I)) → Toward (plain st) did c u (f m) → Went on did c' u' m
+
+  -- the same where no run is
+  abbrev pub Hears : Bool → (Move J (Both I) → Move J (Both I)) → Connection R → Turn J → Connection R → Turn J → Type 0
+  Hears on f c u c' u' = (st : Stage) → IsFree st → GoesOn st on f c u c' u'
+
+  -- it makes some of these moves, and goes on with them, or its turn ends
+  abbrev pub Steps : Bool → Move J (Both I) → Connection R → Turn J → Connection R → Turn J → Type 0
+  Steps on m c u c' u' = (st : Stage) (did : Performed J (Both I)) → Toward (plain st) did c u m → Went on did c' u' m
+
+  -- ---- what a run says
+
+  -- it goes on saying these, or said its last word
+  abbrev pub SaidTo : Bool → (List Said → Move J (Both I) → Move J (Both I)) → Option (Question J) → Bool → List Said → Performed J (Both I)
+      → Connection R → Turn J → Move J (Both I) → Type 0
+  SaidTo true says q over more did c u m = Toward (speaking q over) did c u (says more m)
+  SaidTo false says q over more did c u m = Toward (asks_at stage.Flush q) did c u m
+
+  -- it said this, before it says more
+  abbrev pub SaysOn : Bool → (List Said → Move J (Both I) → Move J (Both I)) → Said → Connection R → Turn J → Connection R → Turn J → Type 0
+  SaysOn on says word c u c' u' = (q : Option (Question J)) (over : Bool) (more : List Said) (did : Performed J (Both I)) (m : Move J (Both I))
+      → (says_over (word ∷ more) ≡ true → over ≡ true) → Toward (speaking q over) did c u (says (word ∷ more) m) → SaidTo on says q over more did c' u' m
+
+  -- it said all of these
+  abbrev pub Says : (List Said → Move J (Both I) → Move J (Both I)) → List Said → Connection R → Turn J → Connection R → Turn J → Type 0
+  Says says words c u c' u' = (q : Option (Question J)) (over : Bool) (did : Performed J (Both I)) (m : Move J (Both I))
+      → (says_over words ≡ true → over ≡ true)
+      → Toward (speaking q over) did c u (says words m) → (st : Stage) × Toward (asks_at st q) did c' u' m

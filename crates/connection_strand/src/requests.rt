@@ -1,0 +1,289 @@
+//! Requests in turn: heads that are heard, and what is waited for; and the end of a client.
+
+use crate::client::{Reply, Stage, Timer};
+use crate::state::{Connection, Turn};
+use crate::waits::Waits;
+use client_line::{Held, LineOut};
+use http_in::Head;
+use resty_base::Ms;
+use run_contract::RunSeen;
+use service_contract::ServiceContract;
+use std::alloc::{AllocError, Global};
+use strand_contract::{Act, Place};
+use uri_args::Target;
+
+impl<R: ServiceContract> Connection<R> {
+    ghost use Rattle.std.specs.Prelude.{◌≡◌, ◌++◌, ◌+◌, ◌*◌, IfOk, true, false};
+    ghost use Rattle.strand_contract.specs.declared.turns.Place.TheVariants as place;
+    ghost use Rattle.client_line.specs.Lines.{held_in};
+    ghost use Rattle.client_line.specs.Records as line;
+    ghost use Rattle.moves.specs.Moves.{Done, Look, HangUp};
+    ghost use Rattle.connection.specs.Clients.{is_last};
+    ghost use Rattle.connection.specs.Clients as stage;
+    ghost use Rattle.connection.specs.Timers as timer;
+    ghost use Rattle.connection.specs.Turns.{change, finish, lose, begin, begin_timer, end_timer, wait_for, refuse, heard_by, next};
+    ghost use Rattle.service_contract.specs.Serving.{service_of};
+    ghost use Rattle.connection_strand.specs.Standing.{Goes, Ends, Hears, IsFree, IsAt, IsWithin};
+    ghost use Rattle.connection_strand.specs.Kept.{kept, stage_of, timer_of};
+    ghost use Rattle.connection_strand.specs.Costs.{unit, Spends, Pays, Costs, Heard, Settles, Falls};
+    ghost use Rattle.connection_strand.specs.Acts.{hang_ups};
+    ghost use Rattle.connection_strand.specs.Turns.{IsAnswered, IsRefusedAt};
+
+    /// Its open sockets are hung up.
+    fn hang_up_sockets(&self, turn: &mut Turn<R::Job>) -> Result<(), AllocError>
+        ensures acts { IfOk result (λ done. turn.new.acts.items ≡ turn.old.acts.items ++ hang_ups self.now.sockets.items) }
+        ensures offered { turn.new.is_offered ≡ turn.old.is_offered }
+    {
+        for socket in &self.sockets {
+            turn.acts.push_back(Act::HangUp(Place::Sock(*socket)))?;
+        }
+        Ok(())
+    }
+
+    /// The life is over: what is open is hung up.
+    pub(crate) fn finish(
+        &mut self,
+        turn: &mut Turn<R::Job>,
+        site: &R::Site,
+    ) -> Result<(), AllocError>
+        ensures moves { IfOk result (λ done. Ends (R.plan site.now) (R.holds site.now) (R.stands site.now)
+            finish self.old turn.old self.new turn.new) }
+        ensures costs { IfOk result (λ done. Costs R.left R.bound 0 self.old turn.old self.new turn.new) }
+        ensures falls { IfOk result (λ done. Falls R.left R.bound self.old turn.old self.new turn.new) }
+    {
+        let _ = site;
+        if self.client.is_open {
+            turn.acts.push_back(Act::HangUp(Place::Client))?;
+        }
+        self.hang_up_sockets(turn)?;
+        turn.acts.push_back(Act::Gone)?;
+        self.client.stage = Stage::Over;
+        Ok(())
+    }
+
+    /// The client is hung up, where it is there.
+    fn hang_up(&mut self, turn: &mut Turn<R::Job>, site: &R::Site) -> Result<(), AllocError>
+        ensures moves { IfOk result (λ done. Goes (R.plan site.now) (R.holds site.now) (R.stands site.now)
+            (HangUp place.Client) self.old turn.old self.new turn.new) }
+        ensures costs { IfOk result (λ done. Spends R.left R.bound 0 self.old turn.old self.new turn.new) }
+        ensures pays { self.old.client.is_open ≡ true → IfOk result (λ done. Pays R.left R.bound 3 self.old turn.old self.new turn.new) }
+    {
+        let _ = site;
+        if self.client.is_open {
+            turn.acts.push_back(Act::HangUp(Place::Client))?;
+            self.client.hang_up();
+        }
+        Ok(())
+    }
+
+    /// The client of a run that goes on is lost: it is hung up, and the run is told so.
+    fn lose_busy(
+        &mut self,
+        turn: &mut Turn<R::Job>,
+        alloc: Global,
+        site: &R::Site,
+        now: Ms,
+    ) -> Result<(), AllocError>
+        requires { IsAt (R.plan site.now) (R.holds site.now) (R.stands site.now) stage.Busy self.old turn.old }
+        ensures moves { IfOk result (λ done. Ends (R.plan site.now) (R.holds site.now) (R.stands site.now)
+            (lose (service_of (R.plan site.now) (R.serving site.now)) now.0) self.old turn.old self.new turn.new) }
+        ensures costs { IfOk result (λ done. Costs R.left R.bound 0 self.old turn.old self.new turn.new) }
+        ensures falls { self.old.client.is_open ≡ true → IfOk result (λ done. Falls R.left R.bound self.old turn.old self.new turn.new) }
+    {
+        self.hang_up(turn, site)?;
+        self.end_timer(turn, site, Timer::Body)?;
+        self.end_timer(turn, site, Timer::Send)?;
+        if self.waits.client {
+            self.tell(turn, alloc, site, now, RunSeen::ClientGone)?;
+        }
+        Ok(())
+    }
+
+    /// The client is lost: it is hung up, and a run that goes on is told so.
+    pub(crate) fn lose(
+        &mut self,
+        turn: &mut Turn<R::Job>,
+        alloc: Global,
+        site: &R::Site,
+        now: Ms,
+    ) -> Result<(), AllocError>
+        requires { IsWithin (R.plan site.now) (R.holds site.now) (R.stands site.now) self.old turn.old }
+        ensures moves { IfOk result (λ done. Ends (R.plan site.now) (R.holds site.now) (R.stands site.now)
+            (lose (service_of (R.plan site.now) (R.serving site.now)) now.0) self.old turn.old self.new turn.new) }
+        ensures costs { IfOk result (λ done. Costs R.left R.bound 0 self.old turn.old self.new turn.new) }
+        ensures falls { self.old.client.is_open ≡ true → IfOk result (λ done. Falls R.left R.bound self.old turn.old self.new turn.new) }
+    {
+        match self.client.stage {
+            Stage::Busy => self.lose_busy(turn, alloc, site, now),
+            Stage::Idle | Stage::Head | Stage::Flush | Stage::Drop | Stage::Over => {
+                self.finish(turn, site)
+            }
+        }
+    }
+
+    /// A request begins, and its run takes its first turn. It reports whether the turn goes on.
+    fn begin_request(
+        &mut self,
+        turn: &mut Turn<R::Job>,
+        alloc: Global,
+        site: &R::Site,
+        now: Ms,
+        head: Head,
+        target: Target,
+    ) -> Result<bool, AllocError>
+        ensures moves { IfOk result (λ on. Hears (R.plan site.now) (R.holds site.now) (R.stands site.now) on
+            (λ rest. begin (service_of (R.plan site.now) (R.serving site.now)) now.0 rest head target) self.old turn.old self.new turn.new) }
+        ensures costs { IfOk result (λ done. Spends R.left R.bound (unit * (R.bound + 1)) self.old turn.old self.new turn.new) }
+    {
+        self.client.stage = Stage::Busy;
+        self.client.times = R::times_of(site, &head, &target);
+        self.client.reply = Reply::Unsent;
+        self.client.expects = head.expects;
+        self.client.waited = false;
+        let (run, first) = R::begin(alloc, site, now, self.count, head, target)?;
+        self.run = Some(run);
+        self.waits = Waits::at_first(true);
+        self.take_turn(turn, site, now, first)
+    }
+
+    /// The client gets the reply to a head that is refused, and the connection closes once that is taken.
+    fn refuse_head(
+        &mut self,
+        turn: &mut Turn<R::Job>,
+        alloc: Global,
+        site: &R::Site,
+        now: Ms,
+        code: u16,
+    ) -> Result<(), AllocError>
+        ensures moves { IfOk result (λ done. Hears (R.plan site.now) (R.holds site.now) (R.stands site.now) false
+            (λ rest. refuse (service_of (R.plan site.now) (R.serving site.now)) now.0 (line.Over code) code) self.old turn.old self.new turn.new) }
+        ensures costs { is_last (kept self.old.client).reply ≡ false → IfOk result (λ done. Costs R.left R.bound 0 self.old turn.old self.new turn.new) }
+    {
+        self.client.stage = Stage::Flush;
+        self.client.times = R::default_times(site);
+        self.client.reply = Reply::Whole(true);
+        let reply = R::refusal(alloc, site, code, now)?;
+        let _ = reply.len();
+        self.send(turn, site, &reply)?;
+        if self.client.is_all_taken() {
+            return self.finish(turn, site);
+        }
+        Ok(())
+    }
+
+    /// A head is refused: nothing more is read; after a fault in a body that is dropped the connection closes.
+    fn refuse(
+        &mut self,
+        turn: &mut Turn<R::Job>,
+        alloc: Global,
+        site: &R::Site,
+        now: Ms,
+        code: u16,
+    ) -> Result<(), AllocError>
+        ensures moves { IfOk result (λ done. IsRefusedAt self.old.client.line.came.at → Hears (R.plan site.now) (R.holds site.now) (R.stands site.now) false
+            (λ rest. let service = service_of (R.plan site.now) (R.serving site.now) in
+            Look (λ b s. end_timer service now.0 timer.Header (refuse service now.0 s.client.came.at code))) self.old turn.old self.new turn.new) }
+        ensures costs { is_last (kept self.old.client).reply ≡ false → IfOk result (λ done. Costs R.left R.bound 0 self.old turn.old self.new turn.new) }
+    {
+        let held = self.client.line.held();
+        self.end_timer(turn, site, Timer::Header)?;
+        match held {
+            Held::Begun => self.refuse_head(turn, alloc, site, now, code),
+            Held::Request | Held::Body | Held::Nothing => self.finish(turn, site),
+        }
+    }
+
+    /// It goes to this stage, and the timer begins.
+    fn wait_at(
+        &mut self,
+        turn: &mut Turn<R::Job>,
+        site: &R::Site,
+        now: Ms,
+        stage: Stage,
+        timer: Timer,
+    ) -> Result<(), AllocError>
+        ensures moves { IfOk result (λ done. IsFree (stage_of stage) → Hears (R.plan site.now) (R.holds site.now) (R.stands site.now) false
+            (λ rest. change (λ c. record c { stage = stage_of stage })
+            (begin_timer (service_of (R.plan site.now) (R.serving site.now)) now.0 (timer_of timer) Done)) self.old turn.old self.new turn.new) }
+        ensures costs { IfOk result (λ done. Spends R.left R.bound 5 self.old turn.old self.new turn.new) }
+    {
+        self.client.stage = stage;
+        self.begin_timer(turn, site, now, timer)
+    }
+
+    /// What is waited for: more of a body that is dropped, the first byte of a head, or the rest of one.
+    fn wait(&mut self, turn: &mut Turn<R::Job>, site: &R::Site, now: Ms) -> Result<(), AllocError>
+        ensures moves { IfOk result (λ done. Hears (R.plan site.now) (R.holds site.now) (R.stands site.now) false
+            (λ rest. Look (λ b s. wait_for (service_of (R.plan site.now) (R.serving site.now)) now.0 (held_in s.client.came.at s.client.came.held)))
+            self.old turn.old self.new turn.new) }
+        ensures costs { IfOk result (λ done. Spends R.left R.bound 5 self.old turn.old self.new turn.new) }
+    {
+        match self.client.line.held() {
+            Held::Body => self.wait_at(turn, site, now, Stage::Drop, Timer::Body),
+            Held::Nothing => self.wait_at(turn, site, now, Stage::Idle, Timer::Keepalive),
+            Held::Request | Held::Begun => self.wait_at(
+                turn,
+                site,
+                now,
+                Stage::Head,
+                Timer::Header,
+            ),
+        }
+    }
+
+    /// What came was answered so. Where more is waited for, a timer begins, or goes on; a client that ended is hung up.
+    pub(crate) fn heard(
+        &mut self,
+        turn: &mut Turn<R::Job>,
+        alloc: Global,
+        site: &R::Site,
+        now: Ms,
+        anew: bool,
+        out: LineOut,
+    ) -> Result<bool, AllocError>
+        ensures moves { IfOk result (λ on. IsAnswered out self.old.client.line.came.at → Hears (R.plan site.now) (R.holds site.now) (R.stands site.now) on
+            (λ rest. Look (λ b s. heard_by (service_of (R.plan site.now) (R.serving site.now)) now.0 anew rest s.client.came s.client.ended out))
+            self.old turn.old self.new turn.new) }
+        ensures costs { is_last (kept self.old.client).reply ≡ false →
+            IfOk result (λ on. Heard R.left R.bound out on self.old turn.old self.new turn.new) }
+    {
+        match out {
+            LineOut::Request(head, target) => {
+                self.end_timer(turn, site, Timer::Header)?;
+                self.begin_request(turn, alloc, site, now, head, target)
+            }
+            LineOut::Refused(code) => {
+                self.refuse(turn, alloc, site, now, code)?;
+                Ok(false)
+            }
+            LineOut::Waiting => {
+                if self.client.has_ended {
+                    self.finish(turn, site)?;
+                } else if anew {
+                    self.wait(turn, site, now)?;
+                }
+                Ok(false)
+            }
+            LineOut::Memory => Err(AllocError),
+        }
+    }
+
+    /// The reply is taken: the rest of the body is dropped, and what follows it is read.
+    pub(crate) fn next(
+        &mut self,
+        turn: &mut Turn<R::Job>,
+        alloc: Global,
+        site: &R::Site,
+        now: Ms,
+    ) -> Result<bool, AllocError>
+        ensures moves { IfOk result (λ on. Hears (R.plan site.now) (R.holds site.now) (R.stands site.now) on
+            (λ rest. Look (λ b s. next (service_of (R.plan site.now) (R.serving site.now)) now.0 rest s.client)) self.old turn.old self.new turn.new) }
+        ensures costs { is_last (kept self.old.client).reply ≡ false → IfOk result (λ on. Settles R.left R.bound on self.old turn.old self.new turn.new) }
+    {
+        self.client.line.done();
+        match self.client.line.fed(&[]) {
+            LineOut::Memory => Err(AllocError),
+            out => self.heard(turn, alloc, site, now, true, out),
+        }
+    }
+}

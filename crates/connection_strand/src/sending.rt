@@ -1,0 +1,53 @@
+//! What is sent to the client, and offers of it.
+
+use crate::state::{Connection, Turn};
+use resty_base::Bytes;
+use service_contract::ServiceContract;
+use std::alloc::AllocError;
+use strand_contract::{Act, Place};
+
+impl<R: ServiceContract> Connection<R> {
+    ghost use Rattle.std.specs.Prelude.{IfOk, [], ◌+◌, ◌*◌, length};
+    ghost use Rattle.strand_contract.specs.declared.turns.Place.TheVariants as place;
+    ghost use Rattle.moves.specs.Moves.{Send};
+    ghost use Rattle.connection.specs.Turns.{send};
+    ghost use Rattle.service_contract.specs.Serving.{service_of};
+    ghost use Rattle.connection_strand.specs.Costs.{Spends};
+    ghost use Rattle.connection_strand.specs.Standing.{Goes};
+
+    /// Asks for an offer, where something is left, the client takes bytes, and no offer is queued or goes on.
+    pub(crate) fn offer(
+        &mut self,
+        turn: &mut Turn<R::Job>,
+        site: &R::Site,
+    ) -> Result<(), AllocError>
+        ensures moves { IfOk result (λ done. Goes (R.plan site.now) (R.holds site.now) (R.stands site.now)
+            (Send place.Client []) self.old turn.old self.new turn.new) }
+        ensures costs { IfOk result (λ done. Spends R.left R.bound 1 self.old turn.old self.new turn.new) }
+    {
+        let _ = site;
+        if self.client.wants_offer() && !turn.is_offered {
+            turn.acts.push_back(Act::Offer(Place::Client))?;
+            turn.is_offered = true;
+        }
+        Ok(())
+    }
+
+    /// Sends bytes to the client, where it is there.
+    pub(crate) fn send(
+        &mut self,
+        turn: &mut Turn<R::Job>,
+        site: &R::Site,
+        bytes: &Bytes,
+    ) -> Result<(), AllocError>
+        ensures moves { IfOk result (λ done. Goes (R.plan site.now) (R.holds site.now) (R.stands site.now)
+            (send (service_of (R.plan site.now) (R.serving site.now)) 0 bytes.now) self.old turn.old self.new turn.new) }
+        ensures costs { IfOk result (λ done. Spends R.left R.bound (16 * length bytes.now + 1) self.old turn.old self.new turn.new) }
+    {
+        if self.client.is_open {
+            self.client.line.queue(bytes)?;
+            self.offer(turn, site)?;
+        }
+        Ok(())
+    }
+}

@@ -1,0 +1,325 @@
+//! What a connection is shown: its client, its sockets, its run's threads and deadlines.
+
+use crate::client::{Stage, Timer};
+use crate::state::{Connection, Turn};
+use client_line::LineOut;
+use resty_base::Ms;
+use run_contract::{RunSeen, SockSeen};
+use service_contract::ServiceContract;
+use std::alloc::{AllocError, Global};
+use strand_contract::{Place, Seen};
+
+impl<R: ServiceContract> Connection<R> {
+    ghost use Rattle.std.specs.Prelude.{◌≡◌, IfOk, true, false};
+    ghost use Rattle.strand_contract.specs.declared.turns.Place.TheVariants as place;
+    ghost use Rattle.strand_contract.specs.declared.turns.Seen.TheVariants as seens;
+    ghost use Rattle.strand_contract.specs.Calls.{is_own_turn};
+    ghost use Rattle.line_answers.specs.Feeding.{fed};
+    ghost use Rattle.moves.specs.Moves.{Look};
+    ghost use Rattle.run_contract.specs.Calls as runs;
+    ghost use Rattle.run_contract.specs.Runs.{is_of_client};
+    ghost use Rattle.connection.specs.Connections.{came_at, ends_at};
+    ghost use Rattle.service_contract.specs.Serving.{service_of};
+    ghost use Rattle.connection_strand.specs.Costs.{unit, Pays, Falls};
+    ghost use Rattle.connection_strand.specs.Standing.{Ends, Hears, IsWithin, IsFreeAt};
+    ghost use Rattle.connection_strand.specs.Turns.{IsAnswered};
+    ghost use Rattle.connection.specs.Turns.{heard_by, settle};
+    ghost use Rattle.connection_strand.specs.Shown.{heard_at, sock_seen, MayShow, Shows, MayTellRun, TellsRun, MayGoOn, GoesOn};
+
+    /// The answer to what came is heard, and what is there is settled.
+    fn hear(
+        &mut self,
+        turn: &mut Turn<R::Job>,
+        alloc: Global,
+        site: &R::Site,
+        now: Ms,
+        anew: bool,
+        out: LineOut,
+    ) -> Result<(), AllocError>
+        requires answered { IsAnswered out self.old.client.line.came.at }
+        requires within { IsFreeAt (R.plan site.now) (R.holds site.now) (R.stands site.now) self.old turn.old }
+        ensures { IfOk result (λ done. Hears (R.plan site.now) (R.holds site.now) (R.stands site.now) false
+            (λ rest. Look (λ b s. let service = service_of (R.plan site.now) (R.serving site.now) in
+            heard_by service now.0 anew (settle service now.0) s.client.came s.client.ended out)) self.old turn.old self.new turn.new) }
+    {
+        let goes_on = self.heard(turn, alloc, site, now, anew, out)?;
+        if !goes_on {
+            return Ok(());
+        }
+        self.settle(turn, alloc, site, now)
+    }
+
+    /// Bytes came that are answered so.
+    fn hear_at(
+        &mut self,
+        turn: &mut Turn<R::Job>,
+        alloc: Global,
+        site: &R::Site,
+        now: Ms,
+        out: LineOut,
+    ) -> Result<(), AllocError>
+        requires answered { IsAnswered out self.old.client.line.came.at }
+        requires within { IsWithin (R.plan site.now) (R.holds site.now) (R.stands site.now) self.old turn.old }
+        ensures { IfOk result (λ done. Ends (R.plan site.now) (R.holds site.now) (R.stands site.now)
+            (Look (λ b s. heard_at (service_of (R.plan site.now) (R.serving site.now)) now.0 s.client.stage out s.client.came s.client.ended))
+            self.old turn.old self.new turn.new) }
+    {
+        match self.client.stage {
+            Stage::Busy => {
+                self.await_body(turn, site, now)?;
+                self.settle(turn, alloc, site, now)
+            }
+            Stage::Head => self.hear(turn, alloc, site, now, false, out),
+            Stage::Idle => self.hear(turn, alloc, site, now, true, out),
+            Stage::Drop => self.hear(turn, alloc, site, now, true, out),
+            Stage::Flush => Ok(()),
+            Stage::Over => Ok(()),
+        }
+    }
+
+    /// The client sent bytes.
+    fn came(
+        &mut self,
+        turn: &mut Turn<R::Job>,
+        alloc: Global,
+        site: &R::Site,
+        now: Ms,
+        bytes: &[u8],
+    ) -> Result<(), AllocError>
+        requires { IsWithin (R.plan site.now) (R.holds site.now) (R.stands site.now) self.old turn.old }
+        ensures { IfOk result (λ done. Ends (R.plan site.now) (R.holds site.now) (R.stands site.now)
+            (Look (λ b s. came_at (service_of (R.plan site.now) (R.serving site.now)) now.0 s.client.stage (fed s.client.came bytes.now) s))
+            self.old turn.old self.new turn.new) }
+    {
+        match self.client.line.fed(bytes) {
+            LineOut::Memory => Err(AllocError),
+            out => self.hear_at(turn, alloc, site, now, out),
+        }
+    }
+
+    /// The client sends no more: what it asked for is still answered.
+    fn hear_end(
+        &mut self,
+        turn: &mut Turn<R::Job>,
+        alloc: Global,
+        site: &R::Site,
+        now: Ms,
+    ) -> Result<(), AllocError>
+        requires { IsWithin (R.plan site.now) (R.holds site.now) (R.stands site.now) self.old turn.old }
+        ensures { IfOk result (λ done. Ends (R.plan site.now) (R.holds site.now) (R.stands site.now)
+            (Look (λ b s. ends_at (service_of (R.plan site.now) (R.serving site.now)) now.0 s.client.stage))
+            self.old turn.old self.new turn.new) }
+    {
+        match self.client.stage {
+            Stage::Busy => {
+                self.client.has_ended = true;
+                self.settle(turn, alloc, site, now)
+            }
+            Stage::Flush => {
+                self.client.has_ended = true;
+                Ok(())
+            }
+            _ => self.finish(turn, site),
+        }
+    }
+
+    /// The client takes bytes again.
+    fn resume(&mut self, turn: &mut Turn<R::Job>, site: &R::Site, now: Ms) -> Result<(), AllocError>
+        ensures { IfOk result (λ done. Shows (service_of (R.plan site.now) (R.serving site.now)) (R.holds site.now) (R.stands site.now) now.0
+            (seens.Ready place.Client) self.old turn.old self.new turn.new) }
+    {
+        let _ = now;
+        self.client.is_put_off = false;
+        self.end_timer(turn, site, Timer::Send)?;
+        self.offer(turn, site)
+    }
+
+    /// The client took so many of the bytes that it was offered.
+    fn took(
+        &mut self,
+        turn: &mut Turn<R::Job>,
+        alloc: Global,
+        site: &R::Site,
+        now: Ms,
+        count: usize,
+    ) -> Result<(), AllocError>
+        requires { MayShow (service_of (R.plan site.now) (R.serving site.now)) (R.holds site.now) (R.stands site.now) now.0
+            (seens.Took place.Client count) self.old turn.old }
+        ensures moves { IfOk result (λ done. Shows (service_of (R.plan site.now) (R.serving site.now)) (R.holds site.now) (R.stands site.now) now.0
+            (seens.Took place.Client count) self.old turn.old self.new turn.new) }
+        ensures falls { IfOk result (λ done. Falls R.left R.bound self.old turn.old self.new turn.new) }
+    {
+        let count = self.client.line.queued().len().min(count);
+        self.client.line.took(count);
+        self.settle(turn, alloc, site, now)
+    }
+
+    /// The client takes no bytes for now.
+    fn put_off(
+        &mut self,
+        turn: &mut Turn<R::Job>,
+        site: &R::Site,
+        now: Ms,
+    ) -> Result<(), AllocError>
+        requires { MayShow (service_of (R.plan site.now) (R.serving site.now)) (R.holds site.now) (R.stands site.now) now.0
+            (seens.Later place.Client) self.old turn.old }
+        ensures moves { IfOk result (λ done. Shows (service_of (R.plan site.now) (R.serving site.now)) (R.holds site.now) (R.stands site.now) now.0
+            (seens.Later place.Client) self.old turn.old self.new turn.new) }
+        ensures falls { IfOk result (λ done. Falls R.left R.bound self.old turn.old self.new turn.new) }
+    {
+        self.client.is_put_off = true;
+        self.begin_timer(turn, site, now, Timer::Send)
+    }
+
+    /// A run that goes on is told this. It reports whether the turn goes on.
+    fn to_run(
+        &mut self,
+        turn: &mut Turn<R::Job>,
+        alloc: Global,
+        site: &R::Site,
+        now: Ms,
+        seen: RunSeen,
+    ) -> Result<bool, AllocError>
+        requires { MayTellRun (service_of (R.plan site.now) (R.serving site.now)) (R.holds site.now) (R.stands site.now) now.0 seen self.old turn.old }
+        ensures moves { IfOk result (λ on. TellsRun (service_of (R.plan site.now) (R.serving site.now)) (R.holds site.now) (R.stands site.now) now.0 seen on
+            self.old turn.old self.new turn.new) }
+        ensures costs { is_of_client seen ≡ false → runs.is_own_turn seen ≡ true →
+            IfOk result (λ on. Pays R.left R.bound unit self.old turn.old self.new turn.new) }
+    {
+        match self.client.stage {
+            Stage::Busy => self.tell(turn, alloc, site, now, seen),
+            _ => Ok(false),
+        }
+    }
+
+    /// A run that goes on is told this, and what is there is settled.
+    fn go_on(
+        &mut self,
+        turn: &mut Turn<R::Job>,
+        alloc: Global,
+        site: &R::Site,
+        now: Ms,
+        seen: RunSeen,
+    ) -> Result<(), AllocError>
+        requires { MayGoOn (service_of (R.plan site.now) (R.serving site.now)) (R.holds site.now) (R.stands site.now) now.0 seen self.old turn.old }
+        ensures moves { IfOk result (λ done. GoesOn (service_of (R.plan site.now) (R.serving site.now)) (R.holds site.now) (R.stands site.now) now.0 seen
+            self.old turn.old self.new turn.new) }
+        ensures falls { is_of_client seen ≡ false → runs.is_own_turn seen ≡ true →
+            IfOk result (λ done. Falls R.left R.bound self.old turn.old self.new turn.new) }
+    {
+        let goes_on = self.to_run(turn, alloc, site, now, seen)?;
+        if !goes_on {
+            return Ok(());
+        }
+        self.settle(turn, alloc, site, now)
+    }
+
+    /// What comes at a socket of the run.
+    fn sock(
+        &mut self,
+        turn: &mut Turn<R::Job>,
+        alloc: Global,
+        site: &R::Site,
+        now: Ms,
+        socket: u32,
+        seen: SockSeen,
+    ) -> Result<(), AllocError>
+        requires { MayShow (service_of (R.plan site.now) (R.serving site.now)) (R.holds site.now) (R.stands site.now) now.0
+            (sock_seen socket seen) self.old turn.old }
+        ensures moves { IfOk result (λ done. Shows (service_of (R.plan site.now) (R.serving site.now)) (R.holds site.now) (R.stands site.now) now.0
+            (sock_seen socket seen) self.old turn.old self.new turn.new) }
+        ensures falls { runs.is_own_at seen ≡ true → IfOk result (λ done. Falls R.left R.bound self.old turn.old self.new turn.new) }
+    {
+        match seen {
+            SockSeen::Took(count) => {
+                let count = self.piece_at(site, socket).len().min(count);
+                self.go_on(
+                    turn,
+                    alloc,
+                    site,
+                    now,
+                    RunSeen::Sock(socket, SockSeen::Took(count)),
+                )
+            }
+            _ => self.go_on(turn, alloc, site, now, RunSeen::Sock(socket, seen)),
+        }
+    }
+
+    /// A deadline is due: one of the connection's own timers ran out, or one of the run's, which only wakes.
+    fn due(
+        &mut self,
+        turn: &mut Turn<R::Job>,
+        alloc: Global,
+        site: &R::Site,
+        now: Ms,
+        number: u32,
+    ) -> Result<(), AllocError>
+        requires { MayShow (service_of (R.plan site.now) (R.serving site.now)) (R.holds site.now) (R.stands site.now) now.0
+            (seens.Due number) self.old turn.old }
+        ensures moves { IfOk result (λ done. Shows (service_of (R.plan site.now) (R.serving site.now)) (R.holds site.now) (R.stands site.now) now.0
+            (seens.Due number) self.old turn.old self.new turn.new) }
+        ensures falls { IfOk result (λ done. Falls R.left R.bound self.old turn.old self.new turn.new) }
+    {
+        if number == 0 {
+            self.client.is_waiting = false;
+            return self.lose(turn, alloc, site, now);
+        }
+        if number == 1 {
+            self.client.is_sending = false;
+            return self.lose(turn, alloc, site, now);
+        }
+        self.to_run(turn, alloc, site, now, RunSeen::Due(number))?;
+        Ok(())
+    }
+
+    /// Takes the turn that begins with what it is shown.
+    pub(crate) fn see(
+        &mut self,
+        turn: &mut Turn<R::Job>,
+        alloc: Global,
+        site: &R::Site,
+        now: Ms,
+        seen: Seen,
+    ) -> Result<(), AllocError>
+        requires { MayShow (service_of (R.plan site.now) (R.serving site.now)) (R.holds site.now) (R.stands site.now) now.0 seen self.old turn.old }
+        ensures moves { IfOk result (λ done. Shows (service_of (R.plan site.now) (R.serving site.now)) (R.holds site.now) (R.stands site.now) now.0
+            seen self.old turn.old self.new turn.new) }
+        ensures falls { is_own_turn seen ≡ true → IfOk result (λ done. Falls R.left R.bound self.old turn.old self.new turn.new) }
+    {
+        match seen {
+            Seen::Bytes(place, bytes) => match place {
+                Place::Client => self.came(turn, alloc, site, now, &bytes),
+                Place::Sock(k) => self.sock(turn, alloc, site, now, k, SockSeen::Bytes(bytes)),
+            },
+            Seen::Ended(place) => match place {
+                Place::Client => self.hear_end(turn, alloc, site, now),
+                Place::Sock(k) => self.sock(turn, alloc, site, now, k, SockSeen::Ended),
+            },
+            Seen::Broken(place) => match place {
+                Place::Client => self.lose(turn, alloc, site, now),
+                Place::Sock(k) => self.sock(turn, alloc, site, now, k, SockSeen::Broken),
+            },
+            Seen::Ready(place) => match place {
+                Place::Client => self.resume(turn, site, now),
+                Place::Sock(k) => self.sock(turn, alloc, site, now, k, SockSeen::Ready),
+            },
+            Seen::Took(place, count) => match place {
+                Place::Client => self.took(turn, alloc, site, now, count),
+                Place::Sock(k) => self.sock(turn, alloc, site, now, k, SockSeen::Took(count)),
+            },
+            Seen::Later(place) => match place {
+                Place::Client => self.put_off(turn, site, now),
+                Place::Sock(k) => self.sock(turn, alloc, site, now, k, SockSeen::Later),
+            },
+            Seen::Lost(place) => match place {
+                Place::Client => self.lose(turn, alloc, site, now),
+                Place::Sock(k) => self.sock(turn, alloc, site, now, k, SockSeen::Lost),
+            },
+            Seen::Dialled(k) => self.sock(turn, alloc, site, now, k, SockSeen::Dialled),
+            Seen::Refused(k) => self.sock(turn, alloc, site, now, k, SockSeen::Refused),
+            Seen::Due(number) => self.due(turn, alloc, site, now, number),
+            Seen::Run(thread) => self.go_on(turn, alloc, site, now, RunSeen::Run(thread)),
+            Seen::Stop => self.finish(turn, site),
+        }
+    }
+}

@@ -1,0 +1,57 @@
+//! Timers of a connection begin and end.
+
+use crate::client::{Timer, later};
+use crate::state::{Connection, Turn};
+use resty_base::Ms;
+use service_contract::ServiceContract;
+use std::alloc::AllocError;
+use strand_contract::Act;
+
+impl<R: ServiceContract> Connection<R> {
+    ghost use Rattle.std.specs.Prelude.{◌≡◌, IfOk};
+    ghost use Rattle.connection.specs.Turns.{begin_timer, end_timer};
+    ghost use Rattle.connection_strand.specs.Kept.{timer_of};
+    ghost use Rattle.service_contract.specs.Serving.{service_of};
+    ghost use Rattle.connection_strand.specs.Costs.{Spends};
+    ghost use Rattle.connection_strand.specs.Standing.{Goes};
+
+    /// A timer begins, also anew.
+    pub(crate) fn begin_timer(
+        &mut self,
+        turn: &mut Turn<R::Job>,
+        site: &R::Site,
+        now: Ms,
+        timer: Timer,
+    ) -> Result<(), AllocError>
+        ensures moves { IfOk result (λ done. Goes (R.plan site.now) (R.holds site.now) (R.stands site.now)
+            (begin_timer (service_of (R.plan site.now) (R.serving site.now)) now.0 (timer_of timer)) self.old turn.old self.new turn.new) }
+        ensures costs { IfOk result (λ done. Spends R.left R.bound 5 self.old turn.old self.new turn.new) }
+    {
+        let time = timer.time(R::default_times(site), self.client.times);
+        turn.acts
+            .push_back(Act::Arm(timer.number(), later(now, time)))?;
+        self.client.set_armed(timer, true);
+        Ok(())
+    }
+
+    /// What it waited for is there.
+    pub(crate) fn end_timer(
+        &mut self,
+        turn: &mut Turn<R::Job>,
+        site: &R::Site,
+        timer: Timer,
+    ) -> Result<(), AllocError>
+        ensures moves { IfOk result (λ done. Goes (R.plan site.now) (R.holds site.now) (R.stands site.now)
+            (end_timer (service_of (R.plan site.now) (R.serving site.now)) 0 (timer_of timer)) self.old turn.old self.new turn.new) }
+        ensures waits { self.new.waits ≡ self.old.waits }
+        ensures reply { self.new.client.reply ≡ self.old.client.reply }
+        ensures costs { IfOk result (λ done. Spends R.left R.bound 0 self.old turn.old self.new turn.new) }
+    {
+        let _ = site;
+        if self.client.is_armed(timer) {
+            turn.acts.push_back(Act::Cancel(timer.number()))?;
+            self.client.set_armed(timer, false);
+        }
+        Ok(())
+    }
+}
