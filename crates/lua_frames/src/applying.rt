@@ -11,9 +11,7 @@ use lua_items::{
     and_then, callee, discard, first, key, or_else, return_called, return_given, right,
     tail_callee, truth, turned, while_test,
 };
-use lua_loops::{
-    counted, for_from, for_step, for_to, iterate, iterated, passed, repeated, until,
-};
+use lua_loops::{counted, for_from, for_step, for_to, iterate, iterated, passed, repeated, until};
 use lua_nodes::go_on_with_list;
 use lua_tables::{
     at, item_at_key, item_at_number, item_key, items_at_numbers, method, method_arguments,

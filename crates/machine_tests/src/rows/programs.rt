@@ -27,7 +27,11 @@ pub(super) fn hold(rt: &impl Abort, alloc: Global, rows: &str) {
 pub(super) fn hold_answers(rt: &impl Abort, alloc: Global, rows: &str) {
     for row in rows.lines() {
         let (text, expected) = row.split_once(" => ").unwrap_or((row, ""));
-        assert_eq!(rt; without_counts(seen(alloc, text).as_str()), expected, "{row}");
+        assert_eq!(rt;
+            without_counts(seen(alloc, text).as_str()),
+            expected,
+            "{row}"
+        );
     }
 }
 
