@@ -50,7 +50,7 @@ no_steps_left S fs position r rs none = by_test (nat_lt r.store.steps step_limit
 -- what is asked is there
 asked_there : (S : Setting) (o : List Resume → Ending) (store : StoreView) (fs : Frames) (op : Option Op) → Asks S o store fs op → IsSome op
 asked_there S o store fs None h = absurd h
-asked_there S o store fs (Some op) h = tt
+asked_there S o store fs (Some op) h = refl
 
 -- frames stop that follow something and don't go on
 pub stops : (S : Setting) (o : List Resume → Ending) (store : StoreView) (fs : Frames) (f : Flow) → Follows S o store fs f → (f ≡ flow.Went → ⊥) → Stops fs f
