@@ -2,3 +2,4 @@ mod StoreLemmas
 mod KnownLemmas
 mod WriteLemmas
 mod LawLemmas
+mod TypeLemmas
