@@ -6,6 +6,7 @@ use Rattle.lua_ast.specs.declared.programs.Function.{Function}
 use Rattle.lua_ast.specs.declared.programs.Program.{Program}
 use Rattle.lua_joining.specs.Joining.{HasSameLists, IsJoined}
 use Rattle.lua_modules.specs.Texts.{HasProgram}
+use Rattle.lua_modules.specs.declared.sets.Chunks.{Chunks}
 use Rattle.lua_modules.specs.declared.sets.Module.{Module}
 use Rattle.lua_modules.specs.declared.sets.ModuleSet.{ModuleSet}
 
@@ -17,6 +18,10 @@ pub record Lists : Type 0 where
 
 abbrev pub lists_of : ModuleSet → Lists
 lists_of set = record { preludes = set.preludes.items; modules = set.modules.items; blocks = set.blocks.items }
+
+-- the same of chunks that stand apart from their program
+abbrev pub chunks_of : Chunks → Lists
+chunks_of chunks = record { preludes = chunks.preludes.items; modules = chunks.modules.items; blocks = chunks.blocks.items }
 
 abbrev pub with_prelude : ℕ → Lists → Lists
 with_prelude function lists = record lists { preludes = lists.preludes ++ function ∷ [] }

@@ -11,4 +11,4 @@ pub use faults::ModuleFault;
 pub use files::file_of;
 pub use freezing::freeze;
 pub use lua_names::{names_in, names_of};
-pub use sets::{Module, ModuleSet};
+pub use sets::{Chunks, Module, ModuleSet};

@@ -22,6 +22,14 @@ pub struct Module {
     pub built_in: bool,
 }
 
+/// The chunks of a site, by the numbers of their functions: those of its preludes, its modules, and those of its blocks.
+#[derive(Debug, Drop)]
+pub struct Chunks {
+    pub preludes: Vec<u32>,
+    pub modules: Vec<Module>,
+    pub blocks: Vec<u32>,
+}
+
 /// The modules and blocks of Lua of a site: one program, and the numbers of their chunks among its functions, each list in the
 /// order of adding.
 #[derive(Drop)]
@@ -70,7 +78,7 @@ fn join_file(
 impl ModuleSet {
     ghost use Rattle.std.specs.Prelude.{◌≡◌, ◌≤◌, [], OnOk, OnErr, IfOk, IfErr, length};
     ghost use Rattle.lua_joining.specs.Joining.{IsJoined};
-    ghost use Rattle.lua_modules.specs.Sets.{Adds, AddsBlock, IsSound, IsUnchanged, has_module, lists_of, of_file, with_block, with_module, with_prelude};
+    ghost use Rattle.lua_modules.specs.Sets.{Adds, AddsBlock, IsSound, IsUnchanged, chunks_of, has_module, lists_of, of_file, with_block, with_module, with_prelude};
     ghost use Rattle.lua_modules.specs.declared.faults.ModuleFault.TheVariants.{Memory};
     ghost use Rattle.lua_modules.specs.Texts.{IsTextFault};
 
@@ -118,6 +126,25 @@ impl ModuleSet {
         ensures { result.now ≡ self.now.blocks.items }
     {
         self.blocks.as_slice()
+    }
+
+    /// The program of all chunks, and the chunks; takes no memory.
+    pub fn into_parts(self) -> (Program, Chunks)
+        ensures program { result.0 ≡ self.program }
+        ensures chunks { chunks_of result.1 ≡ lists_of self }
+    {
+        let ModuleSet {
+            program,
+            preludes,
+            modules,
+            blocks,
+        } = self;
+        let chunks = Chunks {
+            preludes,
+            modules,
+            blocks,
+        };
+        (program, chunks)
     }
 
     /// Whether it has a module of this name.

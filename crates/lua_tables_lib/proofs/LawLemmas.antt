@@ -1,5 +1,5 @@
 -- Each function of the library leaves a heap as it may.
-use Rattle.std.proofs.Common.{ℕ, Bool, true, false, List, [], ◌∷◌, length, drop, get_or, Option, None, Some, IfSome, Result, Ok, Err, All, if◌then◌else◌, arith, ℤ, pos, ◌+ℤ◌}
+use Rattle.std.proofs.Common.{ℕ, zero, suc, ◌<◌, Bool, true, false, List, [], ◌∷◌, length, drop, get_or, Option, None, Some, IfSome, Result, Ok, Err, All, if◌then◌else◌, arith, ℤ, pos, ◌+ℤ◌}
 use Rattle.std.proofs.lemmas.List.Elements.{All-nil, All-cons, All-map, All-drop}
 use Rattle.std.specs.List.{range_with_len}
 use Rattle.std.specs.Ordering.{int_eq}
@@ -35,7 +35,7 @@ use Rattle.lua_tables_lib.specs.Traversal.{values_of, next_values, or_nil, next,
 use Rattle.lua_tables_lib.specs.Raw.{rawequal, rawget, rawset}
 use Rattle.lua_tables_lib.specs.Lists.{asks_count, passed, selected_after, selected, select, elements, count_between, unpack}
 use Rattle.lua_tables_lib.specs.Conversions.{number_or_nil, as_base, numeral, in_base, tonumber, type_}
-use Rattle.lua_tables_lib.specs.Modules.{is_text, module_name}
+use Rattle.lua_tables_lib.specs.Modules.{is_text, module_name, modules_before}
 use Rattle.lua_tables_lib.specs.Meaning.{basic_result, prelude_result, call_result, call_name}
 use Rattle.lua_tables_lib.specs.Laws.{LibraryIsLawful}
 use Rattle.lua_tables_lib.proofs.KnownLemmas.{Setup, NamedPair, any_known, table_known, meta_known, table_named, next_named, value_known}
@@ -180,6 +180,10 @@ name_lawful bound heap args s = with_lawful bound heap args (text_at args 1) _ s
     by text true = (kept bound heap args s, one bound heap (Text text) (tt, tt))
     by text false = made_lawful bound heap args text s
 
+modules_known : (bound : ℕ) (heap : Heap) (globals : ℕ) → globals < length heap.tables → IsKnown bound heap (modules_before globals)
+modules_known bound heap zero there = (tt, tt)
+modules_known bound heap (suc t) there = (omega (arith, there), tt)
+
 basic_lawful : (bound : ℕ) (heap : Heap) (args : List Value) (function : BasicFunction) → Setup bound heap args → IsLawfulResult bound heap (basic_result function args heap)
 basic_lawful bound heap args basic.GetMetatable s = getmetatable_lawful bound heap args s
 basic_lawful bound heap args basic.SetMetatable s = setmetatable_lawful bound heap args s
@@ -198,6 +202,7 @@ prelude_lawful : (bound : ℕ) (heap : Heap) (args : List Value) (function : Pre
 prelude_lawful bound heap args prelude.IpairsStep s = step_lawful bound heap args s
 prelude_lawful bound heap args prelude.Globals s = (kept bound heap args s, one bound heap (Table heap.globals) (s.fits.globals, tt))
 prelude_lawful bound heap args prelude.ModuleName s = name_lawful bound heap args s
+prelude_lawful bound heap args prelude.RunModules s = (kept bound heap args s, one bound heap (modules_before heap.globals) (modules_known bound heap heap.globals s.fits.globals))
 
 call_lawful : (bound : ℕ) (heap : Heap) (args : List Value) (o : Option Function) → Setup bound heap args → IsLawfulResult bound heap (call_result o args heap)
 call_lawful bound heap args (Some (Basic function)) s = basic_lawful bound heap args function s

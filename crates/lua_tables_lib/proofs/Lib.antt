@@ -1,4 +1,5 @@
 mod StoreLemmas
-mod KnownLemmas
+pub mod KnownLemmas
 mod WriteLemmas
 mod LawLemmas
+mod TypeLemmas

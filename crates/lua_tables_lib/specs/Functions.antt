@@ -4,7 +4,7 @@ use Rattle.lua_tables_lib.specs.declared.functions.BasicFunction.{BasicFunction}
 use Rattle.lua_tables_lib.specs.declared.functions.BasicFunction.TheVariants.{GetMetatable, SetMetatable, Ipairs, Next, Pairs, RawEqual, RawGet}
 use Rattle.lua_tables_lib.specs.declared.functions.BasicFunction.TheVariants.{RawSet, Select, ToNumber, TypeName, Unpack}
 use Rattle.lua_tables_lib.specs.declared.functions.PreludeFunction.{PreludeFunction}
-use Rattle.lua_tables_lib.specs.declared.functions.PreludeFunction.TheVariants.{IpairsStep, Globals, ModuleName}
+use Rattle.lua_tables_lib.specs.declared.functions.PreludeFunction.TheVariants.{IpairsStep, Globals, ModuleName, RunModules}
 use Rattle.lua_tables_lib.specs.declared.functions.Function.{Function}
 use Rattle.lua_tables_lib.specs.declared.functions.Function.TheVariants.{Basic, Prelude}
 
@@ -46,6 +46,7 @@ prelude_at n =
     if nat_eq n 46 then Some IpairsStep
     else if nat_eq n 53 then Some Globals
     else if nat_eq n 54 then Some ModuleName
+    else if nat_eq n 55 then Some RunModules
     else None
 
 -- the name of the function for which it is called
@@ -53,6 +54,7 @@ abbrev pub prelude_name : PreludeFunction → List ℕ
 prelude_name IpairsStep = codes "ipairs"
 prelude_name Globals = codes "_G"
 prelude_name ModuleName = codes "require"
+prelude_name RunModules = codes "require"
 
 -- the function of a number, none where it isn't built
 abbrev pub prelude_function : Option PreludeFunction → Option Function

@@ -16,7 +16,7 @@ use Rattle.lua_tables_lib.specs.Traversal.{ipairs, next, pairs, ipairs_step}
 use Rattle.lua_tables_lib.specs.Raw.{rawequal, rawget, rawset}
 use Rattle.lua_tables_lib.specs.Lists.{select, unpack}
 use Rattle.lua_tables_lib.specs.Conversions.{tonumber, type_}
-use Rattle.lua_tables_lib.specs.Modules.{globals, module_name}
+use Rattle.lua_tables_lib.specs.Modules.{globals, module_name, run_modules}
 
 abbrev pub basic_result : BasicFunction → List Value → Heap → LibraryResult
 basic_result basic.GetMetatable args heap = getmetatable args heap
@@ -36,6 +36,7 @@ abbrev pub prelude_result : PreludeFunction → List Value → Heap → LibraryR
 prelude_result prelude.IpairsStep args heap = ipairs_step args heap
 prelude_result prelude.Globals args heap = globals heap
 prelude_result prelude.ModuleName args heap = module_name args heap
+prelude_result prelude.RunModules args heap = run_modules heap
 
 abbrev pub function_result : Function → List Value → Heap → LibraryResult
 function_result (Basic function) args heap = basic_result function args heap

@@ -8,7 +8,7 @@ use crate::conversions::{tonumber, type_name};
 use crate::functions::Function;
 use crate::lists::{select, unpack};
 use crate::metatables::{getmetatable, setmetatable};
-use crate::modules::{globals, module_name};
+use crate::modules::{globals, module_name, run_modules};
 use crate::raw::{rawequal, rawget, rawset};
 use crate::traversal::{ipairs, ipairs_step, next, pairs};
 use crate::{BasicFunction, PreludeFunction};
@@ -69,5 +69,6 @@ fn call_prelude(
         PreludeFunction::IpairsStep => ipairs_step(alloc, args, store),
         PreludeFunction::Globals => globals(alloc, store),
         PreludeFunction::ModuleName => module_name(alloc, args, store),
+        PreludeFunction::RunModules => run_modules(alloc, store),
     }
 }

@@ -63,7 +63,7 @@ impl BasicFunction {
     }
 }
 
-/// A function that the library's own texts alone call: numbers 46, 53 and 54.
+/// A function that the library's own texts alone call: numbers 46 and 53 to 55.
 #[derive(Clone, Copy, Debug, PartialEq, Eq)]
 pub enum PreludeFunction {
     /// What `ipairs` gives.
@@ -72,6 +72,8 @@ pub enum PreludeFunction {
     Globals,
     /// The argument of `require`.
     ModuleName,
+    /// The table of the modules that a run has required.
+    RunModules,
 }
 
 impl PreludeFunction {
@@ -83,6 +85,7 @@ impl PreludeFunction {
             46 => PreludeFunction::IpairsStep,
             53 => PreludeFunction::Globals,
             54 => PreludeFunction::ModuleName,
+            55 => PreludeFunction::RunModules,
             _ => return None,
         })
     }
@@ -95,6 +98,7 @@ impl PreludeFunction {
             PreludeFunction::IpairsStep => b"ipairs",
             PreludeFunction::Globals => b"_G",
             PreludeFunction::ModuleName => b"require",
+            PreludeFunction::RunModules => b"require",
         }
     }
 }

@@ -1,6 +1,6 @@
-//! A law of the definitions, as the contract of a function.
+//! Laws of the definitions, each the contract of a function.
 
-ghost use Rattle.lua_tables_lib.specs.Laws.{LibraryIsLawful};
+ghost use Rattle.lua_tables_lib.specs.Laws.{LibraryIsLawful, OnlyOneSharesMetatables};
 
 use lua_lib_base::counting_keeps_lawful;
 use lua_values::{reads_fit, writes_keep_fitting};
@@ -13,3 +13,8 @@ pub fn library_is_lawful()
     reads_fit();
     writes_keep_fitting();
 }
+
+/// The metatables of types are written by one function alone, which the library's own texts call.
+pub fn only_one_shares_metatables()
+    ensures { OnlyOneSharesMetatables }
+{}

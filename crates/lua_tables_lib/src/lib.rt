@@ -11,9 +11,11 @@ mod lists;
 mod metatables;
 mod modules;
 mod numerals;
+mod own_text;
 mod raw;
 mod traversal;
 
 pub use functions::{BasicFunction, Function, PreludeFunction};
-pub use laws::library_is_lawful;
+pub use laws::{library_is_lawful, only_one_shares_metatables};
 pub use library::Library;
+pub use own_text::prelude;

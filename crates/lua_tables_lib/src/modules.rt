@@ -3,7 +3,7 @@
 ghost use Rattle.std.specs.Prelude.{◌≡◌};
 ghost use Rattle.lua_lib_base.specs.Arguments.{argument};
 ghost use Rattle.lua_lib_base.specs.Results.{IsOutcome};
-ghost use Rattle.lua_tables_lib.specs.Modules.{globals, is_text, module_name};
+ghost use Rattle.lua_tables_lib.specs.Modules.{globals, is_text, module_name, modules_before, run_modules};
 
 use lua_lib_base::{Args, Given, Unanswered, give_made};
 use lua_values::{Store, Value};
@@ -42,5 +42,23 @@ fn is_text(args: &Args<'_>) -> bool
             Value::Text(_) => true,
             _ => false,
         },
+    }
+}
+
+/// The table of the modules that a run has required, which stands before its global table; nil before any run.
+pub(crate) fn run_modules(alloc: Global, store: &Store) -> Result<Given, Unanswered>
+    ensures { IsOutcome (run_modules store.now.heap) store.now result store.now }
+{
+    Ok(Given::one(alloc, modules_before(store.globals()))?)
+}
+
+/// The table before a global table, nil before the store's first one.
+fn modules_before(globals: u32) -> Value
+    ensures { result ≡ modules_before globals }
+{
+    if globals == 0 {
+        Value::Nil
+    } else {
+        Value::Table(globals - 1)
     }
 }

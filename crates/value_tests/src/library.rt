@@ -133,6 +133,7 @@ fn number_of(name: &str) -> Result<u32, Wrong> {
         "ipairs_step" => 174,
         "globals" => 181,
         "module_name" => 182,
+        "run_modules" => 183,
         _ => id(name)?,
     })
 }

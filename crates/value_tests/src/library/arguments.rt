@@ -208,12 +208,19 @@ fn numerals_are_read_in_a_base(rt: HostRuntime) -> Result<(), Fail> {
     hold(&rt, rt.alloc(), REFUSED_NUMERALS)
 }
 
-/// What `_G` and `require` ask for: the present global table, and a name as a text, which is made where it is a number's.
+/// What `_G` and `require` ask for: the present global table, the table before it, and a name as a text, which is made where it is a
+/// number's.
 const OWN_TEXTS: &str = "\
 globals() => table:0 | 0 | 0
 globals(x64) => table:0 | 1 | 0
+run_modules() => nil | 0 | 0
+run_modules(x64) => nil | 1 | 0
 globals 2
 globals() => table:2 | 0 | 0
+run_modules() => table:1 | 0 | 0
+run_modules(x64) => table:1 | 1 | 0
+globals 1
+run_modules() => table:0 | 0 | 0
 module_name('a) => 'a | 0 | 0
 module_name('a\0b, 'c) => 'a\0b | 0 | 0
 module_name(x64) => x64 | 1 | 0
@@ -243,7 +250,7 @@ const NUMBERS: &str = "\
 180(0, table:1) => outside | 0 | 0
 181() => table:0 | 0 | 0
 182(1) => '1 | 0 | 17
-183() => outside | 0 | 0";
+183() => nil | 0 | 0";
 
 #[test]
 fn own_texts_are_answered_and_what_isnt_built_is_left(rt: HostRuntime) -> Result<(), Fail> {

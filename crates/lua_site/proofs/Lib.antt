@@ -1,0 +1,4 @@
+mod GivesLemmas
+mod RunTableLemmas
+mod AgreeLemmas
+mod StandingLemmas
