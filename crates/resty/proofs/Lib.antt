@@ -1,9 +1,9 @@
-pub mod AskingLemmas
 pub mod Commands
 pub mod Names
 pub mod Lines
 pub mod Story
-pub mod Built
+pub mod Ranged
+pub mod Taken
 pub mod Served
 pub mod Due
 pub mod Working

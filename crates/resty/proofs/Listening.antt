@@ -1,5 +1,5 @@
 -- A world that was listened on, and then served.
-use Rattle.std.proofs.Common.{◌≡◌, ℕ, List, ◌∙◌}
+use Rattle.std.proofs.Common.{◌≡◌, ℕ, ◌∙◌}
 use Rattle.resty_world.specs.Book.{Book}
 use Rattle.resty_world.specs.Contract.{Listens}
 use Rattle.resty_world.specs.declared.answers.Listened.TheVariants as listened
@@ -8,13 +8,13 @@ use Rattle.engine.specs.Endings.{EndsBy}
 use Rattle.engine.specs.declared.server.Ended.{Ended}
 use Rattle.engine.specs.declared.server.Ended.TheVariants as ended
 use Rattle.engine_base.proofs.Lists.{tells-same}
-use Rattle.strand.specs.declared.strand.NoJob.{NoJob}
-use Rattle.strand.specs.Literal.{literal_behavior}
-use Rattle.resty.specs.Live.{IsServed, site_port}
+use Rattle.resty.specs.Live.{IsServed}
+use Rattle.literal_site.specs.declared.sites.LiteralSite.{LiteralSite}
+use Rattle.resty.specs.Sites.{site_behavior}
 
 -- a world at which nothing has happened is one after listening
-pub fresh_still : (old mid : Book) → Listens site_port listened.Up old mid → IsFresh old → IsFresh mid
-fresh_still old mid l f = record {
+pub fresh_still : (port : ℕ) (old mid : Book) → Listens port listened.Up old mid → IsFresh old → IsFresh mid
+fresh_still port old mid l f = record {
   history = tells-same old.history mid.history _ f.history l.entered.history;
   offered = tells-same old.offered mid.offered _ f.offered l.entered.offered;
   arrivals = l.ids.arrivals ∙ f.arrivals;
@@ -32,9 +32,9 @@ ends_still events old mid new ended.WorldFault same ends = (record { kept = rw (
 ends_still events old mid new (ended.BadLine n) same ends = (ends.0, ends.1 ∙ same)
 ends_still events old mid new ended.Memory same ends = ends ∙ same
 
-pub served : (body : List ℕ) (events : ℕ) (old mid new : Book) (e : Ended) → Listens site_port listened.Up old mid → IsRight {J = NoJob} (literal_behavior body) new
-    → new.port ≡ mid.port → EndsBy events mid new e → IsServed body events e old new
-served body events old mid new e l right port ends = record {
+pub served_since : (site : LiteralSite) (events : ℕ) (old mid new : Book) (e : Ended) → Listens site.conf.port listened.Up old mid → IsRight (site_behavior site) new
+    → new.port ≡ mid.port → EndsBy events mid new e → IsServed site events e old new
+served_since site events old mid new e l right port ends = record {
   port = port ∙ l.listens;
   right = right;
   ends = ends_still events old mid new e l.faults ends;

@@ -1,24 +1,26 @@
 -- How serving a schedule ends.
-use Rattle.std.proofs.Common.{◌≡◌, ℕ, ◌≤◌, inl, inr, List, length, take, drop, Some, sym, ap, subst, ◌∙◌, arith}
-use Rattle.std.proofs.lemmas.List.{length-take-le, take-append-drop}
+use Rattle.std.proofs.Common.{◌≡◌, ℕ, ◌<◌, List, length, take, drop, Some, refl, sym, ap, subst, ◌∙◌, arith}
+use Rattle.std.proofs.lemmas.List.{take-append-drop}
 use Rattle.resty_base.specs.Counting.{Rose}
 use Rattle.resty_world.specs.declared.entry.Entry.{Entry}
 use Rattle.resty_world.specs.declared.event.Event.TheVariants as event
 use Rattle.resty_world.specs.declared.schedule_line.SchedLine.{SchedLine}
-use Rattle.resty_world.specs.Given.{IsBadLine}
+use Rattle.resty_world.specs.Given.{IsBadLine, named_id, names_absent}
 use Rattle.schedule_text.specs.Fitting.{IsSchedule}
 use Rattle.schedule.specs.declared.replay.Replay.{Replay}
+use Rattle.schedule.specs.Counts.{counted}
 use Rattle.schedule.specs.ReplayBook.{book_of, Stands, IsFresh, IsLater}
-use Rattle.schedule.specs.Steps.{newest_given}
-use Rattle.schedule.specs.Told.{IsTold}
+use Rattle.schedule.specs.Steps.{newest_given, faults_in, history_of}
+use Rattle.schedule.specs.Told.{IsTold, StopEndsSchedules}
 use Rattle.executions.specs.Histories.{offered_lengths}
-use Rattle.strand.specs.Literal.{literal_behavior}
+use Rattle.strand_contract.specs.Behaviors.{Behavior}
 use Rattle.engine_base.specs.Right.{IsRight}
-use Rattle.engine.specs.Endings.{events_of, IsStopped, IsSpent, IsFaulted}
-use Rattle.resty.specs.Form.{IsServed}
-use Rattle.resty.specs.Run.{IsRun, IsWhole, IsCutShort}
-use Rattle.resty.proofs.Built.{history-fit}
-use Rattle.resty.proofs.Story.{AreEventLines, served-events, first-events, entries-told, no-failed-log, no-fault, no-failing-first, few-events, never-absent, stopped-newest}
+use Rattle.engine.specs.declared.server.Ended.{Ended}
+use Rattle.engine.specs.declared.server.Ended.TheVariants as ended
+use Rattle.engine.specs.Endings.{EndsBy, HasFailedLog, IsFaulted, IsStopped}
+use Rattle.resty.specs.Run.{IsRun, RunsTo, EndsRun, IsUnknownAt, TellsFault}
+use Rattle.resty.proofs.Ranged.{history-ranged}
+use Rattle.resty.proofs.Story.{AreRanged, schedule-ranged, first-ranged, no-failed-log, faults-told, stopped-newest}
 
 -- the world still goes by these lines, and tells those that were passed
 pub record Tells (lines : List SchedLine) (world : Replay) : Type 0 where
@@ -31,88 +33,81 @@ tells lines old world fresh stands later = record {
   stands = later.stands stands;
 }
 
--- no more events are given than there are lines
-pub never_more : (lines : List SchedLine) (world : Replay) (events : ℕ) → Tells lines world → IsSpent events world.history.entries → events ≤ length lines
-never_more lines world events tells spent =
-    let s = tells.stands in
-    let most = few-events world.course s.steps s.right in
-    let same = ap (λ h. length (events_of h)) s.history in
-    let passed = ap length s.passed in
-    let bound = ap length tells.course in
-    omega (arith, most, same, passed, bound, spent.count, length-take-le world.passed world.course, world.passed_lines)
+none-counted : (n : ℕ) → counted n ≡ 0 → n ≡ 0
+none-counted n none = omega (arith, none)
 
--- the events of the lines that were passed
-events-passed : (lines : List SchedLine) (world : Replay) → Tells lines world → IsServed lines → (s : Stands world) → AreEventLines (take world.passed world.course)
-events-passed lines world tells served s =
-    let all : AreEventLines world.course = subst AreEventLines (sym tells.course) (served-events lines served) in
-    first-events (take world.passed world.course) (drop world.passed world.course) (subst AreEventLines (sym (take-append-drop world.passed world.course)) all)
+some-counted : (n : ℕ) → 0 < counted n → 0 < n
+some-counted n some = omega (arith, some)
 
--- the world fails only after its last line, which is `stop`
-pub never_faulted : (lines : List SchedLine) (old world : Replay) → IsFresh lines (book_of old) → Tells lines world → IsServed lines
-    → Rose old.faults world.faults → IsFaulted world.history.entries → ⊥
-never_faulted lines old world fresh tells served rose faulted =
-    let s = tells.stands in
-    let events = subst AreEventLines (sym s.passed) (events-passed lines world tells served s) in
-    elim faulted [
-      | inl none ↦
-          let begins = no-failing-first world.course (subst AreEventLines (sym tells.course) (served-events lines served)) in
-          let quiet = no-fault world.course s.steps begins events s.right (rw s.history none) in
-          absurd (omega (arith, rose.risen, fresh.faults, s.faults, quiet))
-      | inr failed ↦ no-failed-log world.history.entries (rw s.history at (entries-told world.course s.steps events s.right)) failed
-    ]
+module _ {J : Type 0} (b : Behavior J) (lines : List SchedLine) (old world : Replay) (fresh : IsFresh lines (book_of old)) (told : Tells lines world) where
+  abbrev history : List Entry
+  history = world.history.entries
 
--- no line names an id that was never there
-pub never_bad : (lines : List SchedLine) (world : Replay) (n : ℕ) → Tells lines world → IsServed lines → IsBadLine (book_of world) n → ⊥
-never_bad lines world n tells served bad =
-    let same : bad.lines ≡ lines = let schedule = bad.schedule in let course = tells.course in cc in
-    let here = rw same at bad.here in
-    let arrivals = world.numbered in
-    never-absent (take world.passed lines) (book_of world).arrivals (book_of world).dials bad.bad (rw tells.course at arrivals) (served.made.fit world.passed bad.bad here)
-    (served.each world.passed bad.bad here) bad.absent
+  -- where no fault was counted each log line was written
+  all-written : (book_of world).faults ≡ (book_of old).faults → ¬ (HasFailedLog history)
+  all-written same =
+      let s = told.stands in
+      let none : counted (faults_in s.steps) ≡ 0 = sym s.faults ∙ same ∙ fresh.faults in
+      rw (← s.history) (no-failed-log s.steps (none-counted (faults_in s.steps) none))
 
--- where Stop was given, all lines were passed
-abbrev AllPassed : Type 0
-AllPassed = (lines : List SchedLine) (passed : ℕ) (history : List Entry) (offered : List ℕ) → IsSchedule lines → IsTold (take passed lines) history offered
-    → newest_given history ≡ Some event.Stop → take passed lines ≡ lines
+  -- a fault is one of which a line tells
+  told-by-line : Rose (book_of old).faults (book_of world).faults → IsFaulted history → TellsFault lines
+  told-by-line rose faulted =
+      let s = told.stands in
+      let was = fresh.faults in
+      let rises = rose.risen in
+      let is = s.faults in
+      let some : 0 < counted (faults_in s.steps) = omega (arith, was, rises, is) in
+      faults-told lines world.passed s.steps (rw told.course at s.passed) (rw told.course at s.right) (some-counted (faults_in s.steps) some) (rw s.history faulted)
 
--- the history is that of a run of the lines that were passed
-pub passed_run : {J : Type 0} → (body : List ℕ) (lines : List SchedLine) (world : Replay) → Tells lines world → IsServed lines
-    → IsRight {J = J} (literal_behavior body) (book_of world) → IsRun {J = J} (literal_behavior body) (take world.passed lines) world.history.entries
-passed_run body lines world tells served right =
-    let s = tells.stands in
-    let told : IsTold (take world.passed lines) world.history.entries (offered_lengths (literal_behavior body) right.execution) = record {
-      steps = s.steps;
-      after = drop world.passed lines;
-      steps_right = rw (take-append-drop world.passed lines, ← tells.course) s.right;
-      steps_lines = rw tells.course at s.passed;
-      steps_history = s.history;
-      steps_offers = s.offered ∙ right.offered;
-    } in
-    let events : AreEventLines (take world.passed lines) = rw (← tells.course) (events-passed lines world tells served s) in
-    let fit = history-fit body (take world.passed lines) world.history.entries (offered_lengths (literal_behavior body) right.execution) right.execution events told right.history right.lawful.alone right.lawful.begins right.ordered right.served in
-    record {
-      execution = right.execution;
-      history = right.history;
-      told = told;
-      lawful = right.lawful;
-      kept = right.kept;
-      plain = right.plain;
-      ordered = right.ordered;
-      built = fit.0;
-      ranged = fit.1;
-    }
+  -- a bad line names an id that was never there
+  unknown-at : (n : ℕ) → IsBadLine (book_of world) n → IsUnknownAt lines world.passed history
+  unknown-at n bad =
+      let same : bad.lines ≡ lines = let schedule = bad.schedule in let course = told.course in cc in
+      let known = world.known in
+      record {
+        bad = bad.bad;
+        here = rw same at bad.here;
+        unknown = rw (← known.arrived, ← known.dialled) bad.absent;
+      }
 
--- where Stop was given, it is a run of all the lines
-pub whole_run : {J : Type 0} → AllPassed → (body : List ℕ) (lines : List SchedLine) (world : Replay) → Tells lines world → IsServed lines
-    → IsStopped world.history.entries → IsRight {J = J} (literal_behavior body) (book_of world) → IsWhole {J = J} (literal_behavior body) lines world.history.entries
-whole_run {J} all-passed body lines world tells served stopped right =
-    let run = passed_run {J = J} body lines world tells served right in
-    let all = all-passed lines world.passed world.history.entries _ served.made run.told (stopped-newest world.history.entries stopped) in
-    (subst (λ ls. IsRun {J = J} (literal_behavior body) ls world.history.entries) all run, stopped)
+  -- the history is that of a run of the lines that were passed
+  pub passed_run : IsSchedule lines → IsRight b (book_of world) → IsRun b (take world.passed lines) history
+  passed_run made right =
+      let s = told.stands in
+      let is_told : IsTold (take world.passed lines) history (offered_lengths b right.execution) = record {
+        steps = s.steps;
+        after = drop world.passed lines;
+        steps_right = rw (take-append-drop world.passed lines, ← told.course) s.right;
+        steps_lines = rw told.course at s.passed;
+        steps_history = s.history;
+        steps_offers = s.offered ∙ right.offered;
+      } in
+      let ranged : AreRanged (take world.passed lines) =
+      first-ranged (take world.passed lines) (drop world.passed lines) (subst AreRanged (sym (take-append-drop world.passed lines)) (schedule-ranged lines made)) in
+      record {
+        execution = right.execution;
+        history = right.history;
+        told = is_told;
+        lawful = right.lawful;
+        kept = right.kept;
+        plain = right.plain;
+        ordered = right.ordered;
+        ranged = history-ranged b (take world.passed lines) history (offered_lengths b right.execution) right.execution ranged is_told right.history right.lawful.alone right.lawful.begins right.ordered right.served;
+      }
 
--- where the events were spent, it is cut short
-pub cut_short : {J : Type 0} → (body : List ℕ) (lines : List SchedLine) (events : ℕ) (world : Replay) → Tells lines world → IsServed lines
-    → IsSpent events world.history.entries → IsRight {J = J} (literal_behavior body) (book_of world)
-    → IsCutShort {J = J} (literal_behavior body) events lines world.history.entries
-cut_short {J} body lines events world tells served spent right =
-    (world.passed, passed_run {J = J} body lines world tells served right, spent, never_more lines world events tells spent)
+  -- how a run ends
+  ends_run : StopEndsSchedules → IsSchedule lines → IsRun b (take world.passed lines) history → (events : ℕ) (e : Ended) → EndsBy events (book_of old) (book_of world) e
+      → ¬ (e ≡ ended.Memory) → EndsRun events lines world.passed history e
+  ends_run stop made run events ended.Stopped ends some =
+      (stop lines world.passed history _ made run.told (stopped-newest history ends.0), ends.0, all-written ends.1)
+  ends_run stop made run events (ended.Spent n) ends some = (ends.0, ends.1)
+  ends_run stop made run events ended.WorldFault ends some = (told-by-line ends.0 ends.1, ends.1)
+  ends_run stop made run events (ended.BadLine n) ends some = (ends.0.next, unknown-at n ends.0)
+  ends_run stop made run events ended.Memory ends some = absurd (some refl)
+
+  pub runs_to : StopEndsSchedules → IsSchedule lines → IsRight b (book_of world) → (events : ℕ) (e : Ended) → EndsBy events (book_of old) (book_of world) e
+      → ¬ (e ≡ ended.Memory) → RunsTo b events lines e history
+  runs_to stop made right events e ends some =
+      let run = passed_run made right in
+      (world.passed, run, ends_run stop made run events e ends some)

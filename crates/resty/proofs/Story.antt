@@ -1,142 +1,74 @@
--- What the steps of a replay make of lines that are events alone.
-use Rattle.std.proofs.Common.{◌≡◌, ℕ, zero, suc, ◌+◌, ◌≤◌, Bool, true, false, not, cond, nat_lt, nat_le, List, [], ◌∷◌, ◌++◌, length, take, refl, Option, Some, None, slice_get, sym, ap, subst, ◌∙◌, arith, length-append}
-use Rattle.std.specs.Bool.{if◌then◌else◌}
+-- What the steps of a replay make of the lines that it passes.
+use Rattle.std.proofs.Common.{◌≡◌, ◌⊎◌, inl, inr, ℕ, zero, suc, ◌+◌, ◌<◌, ◌≤◌, Bool, true, false, not, ◌||◌, cond, nat_lt, List, [], ◌∷◌, ◌++◌, length, take, drop, refl, Option, Some, None, slice_get, sym, ap, subst, ◌∙◌, arith, length-append}
 use Rattle.std.specs.Prelude.{◌&&◌}
-use Rattle.std.proofs.lemmas.Bool.{lt-ltb, le-leb}
-use Rattle.resty_base.specs.declared.names.Id.{Id}
-use Rattle.resty_base.specs.declared.names.Id.TheVariants as id
+use Rattle.std.specs.List.{list_any}
+use Rattle.std.proofs.lemmas.Bool.{ltb-true}
+use Rattle.std.proofs.lemmas.List.{take-append-drop}
 use Rattle.resty_world.specs.declared.event.Event.{Event}
 use Rattle.resty_world.specs.declared.event.Event.TheVariants as event
 use Rattle.resty_world.specs.declared.entry.Entry.{Entry}
 use Rattle.resty_world.specs.declared.entry.Entry.TheVariants as entry
 use Rattle.resty_world.specs.declared.schedule_line.SchedLine.{SchedLine}
 use Rattle.resty_world.specs.declared.schedule_line.SchedLine.TheVariants as line
-use Rattle.resty_world.specs.Given.{named_id, names_absent}
-use Rattle.resty_world.specs.Ids.{same_id}
-use Rattle.schedule_text.specs.Fitting.{Fits}
-use Rattle.schedule_text.specs.Lines.{arrivals_in}
-use Rattle.schedule_text.specs.Ranges.{IsBytes, IsEvent}
-use Rattle.schedule.specs.Steps.{Step, Call, Passed, Answered, Listened, AskedAtBadLine, AskedAtEnd, Writing, AreSteps, history_of, lines_of, is_skipped, unspent, one_if, room_of, room_after, begins_by_failing, has_listened_in_vain, newest_given, is_failed_log, IsAnswer, faults_in}
-use Rattle.engine.specs.Endings.{events_of, HasNoStop, HasFailedLog, IsStopped}
-use Rattle.resty.specs.Built.{IsBuiltEvent}
-use Rattle.resty.specs.Form.{IsServed, IsServedLine}
+use Rattle.schedule_text.specs.Fitting.{IsSchedule}
+use Rattle.schedule_text.specs.Ranges.{IsBytes, IsEvent, IsLine}
+use Rattle.schedule.specs.Steps.{Step, Passed, Answered, Listened, AskedAtBadLine, AskedAtEnd, Logging, AreSteps, history_of, lines_of, is_skipped, unspent, one_if, begins_by_failing, has_listened_in_vain, newest_given, is_call, failing_by, IsAnswer, faults_in}
+use Rattle.engine.specs.Endings.{events_of, HasNoStop, HasFailedLog, IsFaulted, IsStopped}
+use Rattle.resty.specs.Run.{TellsFault, is_fault_line}
 
--- the line is an event that is built, within its ranges
-abbrev pub IsEventLine : SchedLine → Type 0
-IsEventLine (line.Given e) = IsBuiltEvent e × IsEvent e
-IsEventLine l = ⊥
+-- each line is within its ranges
+abbrev pub AreRanged : List SchedLine → Type 0
+AreRanged [] = Unit {0}
+AreRanged (l ∷ lines) = IsLine l × AreRanged lines
 
-abbrev pub AreEventLines : List SchedLine → Type 0
-AreEventLines [] = Unit {0}
-AreEventLines (l ∷ lines) = IsEventLine l × AreEventLines lines
+pub last-ranged : (lines : List SchedLine) (l : SchedLine) → AreRanged (lines ++ l ∷ []) → AreRanged lines × IsLine l
+last-ranged [] l all = (tt, all.0)
+last-ranged (x ∷ lines) l all = let rest = last-ranged lines l all.1 in ((all.0, rest.0), rest.1)
 
-pub last-event : (lines : List SchedLine) (l : SchedLine) → AreEventLines (lines ++ l ∷ []) → AreEventLines lines × IsEventLine l
-last-event [] l all = (tt, all.0)
-last-event (x ∷ lines) l all = let rest = last-event lines l all.1 in ((all.0, rest.0), rest.1)
+pub first-ranged : (xs ys : List SchedLine) → AreRanged (xs ++ ys) → AreRanged xs
+first-ranged [] ys all = tt
+first-ranged (x ∷ xs) ys all = (all.0, first-ranged xs ys all.1)
 
-pub first-events : (xs ys : List SchedLine) → AreEventLines (xs ++ ys) → AreEventLines xs
-first-events [] ys all = tt
-first-events (x ∷ xs) ys all = (all.0, first-events xs ys all.1)
+all-ranged : (lines : List SchedLine) → ((i : ℕ) (l : SchedLine) → slice_get lines i ≡ Some l → IsLine l) → AreRanged lines
+all-ranged [] each = tt
+all-ranged (l ∷ lines) each = (each 0 l refl, all-ranged lines (λ i m here. each (suc i) m here))
 
-pub event-at : (lines : List SchedLine) (at : ℕ) (l : SchedLine) → AreEventLines lines → slice_get lines at ≡ Some l → IsEventLine l
-event-at [] at l all here = absurd (let wrong : None ≡ Some l = here in cc)
-event-at (x ∷ lines) zero l all here = let same : x ≡ l = let is : Some x ≡ Some l = here in cc in subst IsEventLine same all.0
-event-at (x ∷ lines) (suc at) l all here = event-at lines at l all.1 here
+pub schedule-ranged : (lines : List SchedLine) → IsSchedule lines → AreRanged lines
+schedule-ranged lines made = all-ranged lines (λ i l here. (made.fit i l here).ranged)
 
--- no `fail` line is unspent
-pub none-unspent : (c : Call) (steps : List Step) → AreEventLines (lines_of steps) → unspent c steps ≡ 0
-none-unspent c [] all = refl
-none-unspent c (Passed (line.Given e) ∷ steps) all = let before = none-unspent c steps (last-event (lines_of steps) (line.Given e) all).0 in omega (arith, before)
-none-unspent c (Passed (line.Room i n) ∷ steps) all = absurd (last-event (lines_of steps) (line.Room i n) all).1
-none-unspent c (Passed line.FailNext ∷ steps) all = absurd (last-event (lines_of steps) line.FailNext all).1
-none-unspent c (Passed line.FailDial ∷ steps) all = absurd (last-event (lines_of steps) line.FailDial all).1
-none-unspent c (Passed line.FailLog ∷ steps) all = absurd (last-event (lines_of steps) line.FailLog all).1
-none-unspent c (Passed line.FailListen ∷ steps) all = absurd (last-event (lines_of steps) line.FailListen all).1
-none-unspent c (Passed (line.FailPut i) ∷ steps) all = absurd (last-event (lines_of steps) (line.FailPut i) all).1
-none-unspent c (Answered e n ∷ steps) all = let before = none-unspent c steps all in omega (arith, before)
-none-unspent c (Listened port failed ∷ steps) all = none-unspent c steps all
-none-unspent c (AskedAtBadLine ∷ steps) all = none-unspent c steps all
-none-unspent c (AskedAtEnd ∷ steps) all = none-unspent c steps all
-
-both-same : (b : Bool) (r : Option ℕ) → (if b then r else r) ≡ r
-both-same true r = refl
-both-same false r = refl
-
-none-after : (e : Entry) (x : Id) → room_after e x None ≡ None
-none-after (entry.Given e) x = refl
-none-after (entry.Put i bytes) x = both-same (same_id x i) None
-none-after (entry.Later i) x = refl
-none-after (entry.Lost i) x = refl
-none-after (entry.Close i) x = refl
-none-after (entry.Dial who host port n) x = refl
-none-after (entry.Log who text written) x = refl
-none-after (entry.Dict who zone call answer) x = refl
-none-after (entry.Take who key got) x = refl
-none-after (entry.Keep who k key idle size closed) x = refl
-none-after (entry.Timer who due answer) x = refl
-none-after (entry.Start k) x = refl
-none-after (entry.Turned c) x = refl
-none-after (entry.Dropped who) x = refl
-
--- no place has a room of its own
-pub no-room : (x : Id) (steps : List Step) → AreEventLines (lines_of steps) → room_of x steps ≡ None
-no-room x [] all = refl
-no-room x (Passed (line.Given e) ∷ steps) all = no-room x steps (last-event (lines_of steps) (line.Given e) all).0
-no-room x (Passed (line.Room i n) ∷ steps) all = absurd (last-event (lines_of steps) (line.Room i n) all).1
-no-room x (Passed line.FailNext ∷ steps) all = absurd (last-event (lines_of steps) line.FailNext all).1
-no-room x (Passed line.FailDial ∷ steps) all = absurd (last-event (lines_of steps) line.FailDial all).1
-no-room x (Passed line.FailLog ∷ steps) all = absurd (last-event (lines_of steps) line.FailLog all).1
-no-room x (Passed line.FailListen ∷ steps) all = absurd (last-event (lines_of steps) line.FailListen all).1
-no-room x (Passed (line.FailPut i) ∷ steps) all = absurd (last-event (lines_of steps) (line.FailPut i) all).1
-no-room x (Answered e n ∷ steps) all = ap (room_after e x) (no-room x steps all) ∙ none-after e x
-no-room x (Listened port failed ∷ steps) all = no-room x steps all
-no-room x (AskedAtBadLine ∷ steps) all = no-room x steps all
-no-room x (AskedAtEnd ∷ steps) all = no-room x steps all
-
--- no call fails, and no write is put off
-never-fails : {C : Type 0} (c : Call) (steps : List Step) → AreEventLines (lines_of steps) → true ≡ nat_lt 0 (unspent c steps) → C
-never-fails c steps all is = absurd (let wrong : true ≡ false = is ∙ ap (nat_lt 0) (none-unspent c steps all) in cc)
-
-never-waits : {C : Type 0} (x : Id) (steps : List Step) → AreEventLines (lines_of steps) → room_of x steps ≡ Some 0 → C
-never-waits x steps all is = absurd (let wrong : None ≡ Some 0 = sym (no-room x steps all) ∙ is in cc)
-
--- what a schedule makes of the entries that tell it: its events are built and within their ranges, writes are taken, which are bytes, and log
--- lines are written
+-- what a schedule makes of the entries that tell it: its events are within their ranges, and what is taken and what is logged are bytes
 abbrev pub IsToldEntry : Entry → Type 0
-IsToldEntry (entry.Given e) = IsBuiltEvent e × IsEvent e
+IsToldEntry (entry.Given e) = IsEvent e
 IsToldEntry (entry.Put i bytes) = IsBytes bytes
-IsToldEntry (entry.Later i) = ⊥
-IsToldEntry (entry.Lost i) = ⊥
-IsToldEntry (entry.Log who text written) = written ≡ true
+IsToldEntry (entry.Log who text written) = IsBytes text
 IsToldEntry e = Unit {0}
 
 abbrev pub AreToldEntries : List Entry → Type 0
 AreToldEntries [] = Unit {0}
 AreToldEntries (e ∷ h) = IsToldEntry e × AreToldEntries h
 
-told-line : (b : Bool) (e : Event) (h : List Entry) → IsBuiltEvent e × IsEvent e → AreToldEntries h → AreToldEntries ((cond b [] (entry.Given e ∷ [])) ++ h)
-told-line true e h built told = told
-told-line false e h built told = (built, told)
+told-line : (b : Bool) (e : Event) (h : List Entry) → IsEvent e → AreToldEntries h → AreToldEntries ((cond b [] (entry.Given e ∷ [])) ++ h)
+told-line true e h ranged told = told
+told-line false e h ranged told = (ranged, told)
 
-pub entries-told : (schedule : List SchedLine) (steps : List Step) → AreEventLines (lines_of steps) → AreSteps schedule steps → AreToldEntries (history_of steps)
+pub entries-told : (schedule : List SchedLine) (steps : List Step) → AreRanged (lines_of steps) → AreSteps schedule steps → AreToldEntries (history_of steps)
 entries-told schedule [] all right = tt
 entries-told schedule (Passed (line.Given e) ∷ steps) all right =
-    let events = last-event (lines_of steps) (line.Given e) all in
-    told-line (is_skipped (history_of steps) (line.Given e)) e (history_of steps) events.1 (entries-told schedule steps events.0 right.0)
-entries-told schedule (Passed (line.Room i n) ∷ steps) all right = absurd (last-event (lines_of steps) (line.Room i n) all).1
-entries-told schedule (Passed line.FailNext ∷ steps) all right = absurd (last-event (lines_of steps) line.FailNext all).1
-entries-told schedule (Passed line.FailDial ∷ steps) all right = absurd (last-event (lines_of steps) line.FailDial all).1
-entries-told schedule (Passed line.FailLog ∷ steps) all right = absurd (last-event (lines_of steps) line.FailLog all).1
-entries-told schedule (Passed line.FailListen ∷ steps) all right = absurd (last-event (lines_of steps) line.FailListen all).1
-entries-told schedule (Passed (line.FailPut i) ∷ steps) all right = absurd (last-event (lines_of steps) (line.FailPut i) all).1
+    let lines = last-ranged (lines_of steps) (line.Given e) all in
+    told-line (is_skipped (history_of steps) (line.Given e)) e (history_of steps) lines.1 (entries-told schedule steps lines.0 right.0)
+entries-told schedule (Passed line.FailNext ∷ steps) all right = entries-told schedule steps (last-ranged (lines_of steps) line.FailNext all).0 right.0
+entries-told schedule (Passed line.FailDial ∷ steps) all right = entries-told schedule steps (last-ranged (lines_of steps) line.FailDial all).0 right.0
+entries-told schedule (Passed line.FailLog ∷ steps) all right = entries-told schedule steps (last-ranged (lines_of steps) line.FailLog all).0 right.0
+entries-told schedule (Passed line.FailListen ∷ steps) all right = entries-told schedule steps (last-ranged (lines_of steps) line.FailListen all).0 right.0
+entries-told schedule (Passed (line.Room i n) ∷ steps) all right = entries-told schedule steps (last-ranged (lines_of steps) (line.Room i n) all).0 right.0
+entries-told schedule (Passed (line.FailPut i) ∷ steps) all right = entries-told schedule steps (last-ranged (lines_of steps) (line.FailPut i) all).0 right.0
 entries-told schedule (Answered (entry.Given e) n ∷ steps) all right = absurd right.1.1
 entries-told schedule (Answered (entry.Put i bytes) n ∷ steps) all right = (right.1.1.1, entries-told schedule steps all right.0)
-entries-told schedule (Answered (entry.Later i) n ∷ steps) all right = never-waits i steps all right.1.1
-entries-told schedule (Answered (entry.Lost i) n ∷ steps) all right = never-fails (Writing i) steps all right.1.0
+entries-told schedule (Answered (entry.Log who text written) n ∷ steps) all right = (right.1.1, entries-told schedule steps all right.0)
+entries-told schedule (Answered (entry.Later i) n ∷ steps) all right = (tt, entries-told schedule steps all right.0)
+entries-told schedule (Answered (entry.Lost i) n ∷ steps) all right = (tt, entries-told schedule steps all right.0)
 entries-told schedule (Answered (entry.Close i) n ∷ steps) all right = (tt, entries-told schedule steps all right.0)
 entries-told schedule (Answered (entry.Dial who host port k) n ∷ steps) all right = (tt, entries-told schedule steps all right.0)
-entries-told schedule (Answered (entry.Log who text true) n ∷ steps) all right = (refl, entries-told schedule steps all right.0)
-entries-told schedule (Answered (entry.Log who text false) n ∷ steps) all right = never-fails _ steps all right.1.0
 entries-told schedule (Answered (entry.Dict who zone call answer) n ∷ steps) all right = (tt, entries-told schedule steps all right.0)
 entries-told schedule (Answered (entry.Take who key got) n ∷ steps) all right = (tt, entries-told schedule steps all right.0)
 entries-told schedule (Answered (entry.Keep who k key idle size closed) n ∷ steps) all right = (tt, entries-told schedule steps all right.0)
@@ -147,25 +79,6 @@ entries-told schedule (Answered (entry.Dropped who) n ∷ steps) all right = (tt
 entries-told schedule (Listened port failed ∷ steps) all right = entries-told schedule steps all right.0
 entries-told schedule (AskedAtBadLine ∷ steps) all right = entries-told schedule steps all right.0
 entries-told schedule (AskedAtEnd ∷ steps) all right = entries-told schedule steps all right.0
-
--- each log line was written
-pub no-failed-log : (h : List Entry) → AreToldEntries h → HasFailedLog h → ⊥
-no-failed-log [] told failed = failed
-no-failed-log (entry.Given e ∷ h) told failed = no-failed-log h told.1 failed
-no-failed-log (entry.Put i bytes ∷ h) told failed = no-failed-log h told.1 failed
-no-failed-log (entry.Later i ∷ h) told failed = told.0
-no-failed-log (entry.Lost i ∷ h) told failed = told.0
-no-failed-log (entry.Close i ∷ h) told failed = no-failed-log h told.1 failed
-no-failed-log (entry.Dial who host port n ∷ h) told failed = no-failed-log h told.1 failed
-no-failed-log (entry.Log who text true ∷ h) told failed = no-failed-log h told.1 failed
-no-failed-log (entry.Log who text false ∷ h) told failed = let wrong : false ≡ true = told.0 in cc
-no-failed-log (entry.Dict who zone call answer ∷ h) told failed = no-failed-log h told.1 failed
-no-failed-log (entry.Take who key got ∷ h) told failed = no-failed-log h told.1 failed
-no-failed-log (entry.Keep who n key idle size closed ∷ h) told failed = no-failed-log h told.1 failed
-no-failed-log (entry.Timer who due answer ∷ h) told failed = no-failed-log h told.1 failed
-no-failed-log (entry.Start n ∷ h) told failed = no-failed-log h told.1 failed
-no-failed-log (entry.Turned c ∷ h) told failed = no-failed-log h told.1 failed
-no-failed-log (entry.Dropped s ∷ h) told failed = no-failed-log h told.1 failed
 
 -- the newest event
 abbrev newest : List Event → Option Event
@@ -219,23 +132,6 @@ older-none : (b : Bool) (e : Event) (h : List Entry) → HasNoStop (events_of ((
 older-none true e h none = none
 older-none false e h none = no-stop-rest e (events_of h) none
 
-no-failed-answer : (e : Entry) → IsToldEntry e → is_failed_log e ≡ false
-no-failed-answer (entry.Given e) told = refl
-no-failed-answer (entry.Put i bytes) told = refl
-no-failed-answer (entry.Later i) told = refl
-no-failed-answer (entry.Lost i) told = refl
-no-failed-answer (entry.Close i) told = refl
-no-failed-answer (entry.Dial who host port n) told = refl
-no-failed-answer (entry.Log who text true) told = refl
-no-failed-answer (entry.Log who text false) told = sym told
-no-failed-answer (entry.Dict who zone call answer) told = refl
-no-failed-answer (entry.Take who key got) told = refl
-no-failed-answer (entry.Keep who k key idle size closed) told = refl
-no-failed-answer (entry.Timer who due answer) told = refl
-no-failed-answer (entry.Start k) told = refl
-no-failed-answer (entry.Turned c) told = refl
-no-failed-answer (entry.Dropped who) told = refl
-
 answer-events : (steps : List Step) (e : Entry) (n : ℕ) (h : List Entry) → IsAnswer steps e n → events_of (e ∷ h) ≡ events_of h
 answer-events steps (entry.Given e) n h right = absurd right
 answer-events steps (entry.Put i bytes) n h right = refl
@@ -251,32 +147,6 @@ answer-events steps (entry.Timer who due answer) n h right = refl
 answer-events steps (entry.Start k) n h right = refl
 answer-events steps (entry.Turned c) n h right = refl
 answer-events steps (entry.Dropped who) n h right = refl
-
--- as long as Stop is to be given there is no fault
-pub no-fault : (schedule : List SchedLine) (steps : List Step) → begins_by_failing schedule ≡ false → AreEventLines (lines_of steps) → AreSteps schedule steps
-    → HasNoStop (events_of (history_of steps)) → faults_in steps ≡ 0
-no-fault schedule [] begins all right none = refl
-no-fault schedule (Passed (line.Given e) ∷ steps) begins all right none =
-    let events = last-event (lines_of steps) (line.Given e) all in
-    let before = no-fault schedule steps begins events.0 right.0 (older-none (is_skipped (history_of steps) (line.Given e)) e (history_of steps) none) in
-    omega (arith, before)
-no-fault schedule (Passed (line.Room i n) ∷ steps) begins all right none = absurd (last-event (lines_of steps) (line.Room i n) all).1
-no-fault schedule (Passed line.FailNext ∷ steps) begins all right none = absurd (last-event (lines_of steps) line.FailNext all).1
-no-fault schedule (Passed line.FailDial ∷ steps) begins all right none = absurd (last-event (lines_of steps) line.FailDial all).1
-no-fault schedule (Passed line.FailLog ∷ steps) begins all right none = absurd (last-event (lines_of steps) line.FailLog all).1
-no-fault schedule (Passed line.FailListen ∷ steps) begins all right none = absurd (last-event (lines_of steps) line.FailListen all).1
-no-fault schedule (Passed (line.FailPut i) ∷ steps) begins all right none = absurd (last-event (lines_of steps) (line.FailPut i) all).1
-no-fault schedule (Answered e n ∷ steps) begins all right none =
-    let told = entries-told schedule (Answered e n ∷ steps) all right in
-    let before = no-fault schedule steps begins all right.0 (subst HasNoStop (answer-events steps e n (history_of steps) right.1.1) none) in
-    let works = ap one_if (no-failed-answer e told.0) in
-    omega (arith, before, works)
-no-fault schedule (Listened port failed ∷ steps) begins all right none =
-    let before = no-fault schedule steps begins all right.0 none in
-    let works : failed ≡ false = right.1.0 ∙ ap (λ b. b && not (has_listened_in_vain steps)) begins in
-    omega (arith, before, ap one_if works)
-no-fault schedule (AskedAtBadLine ∷ steps) begins all right none = let before = no-fault schedule steps begins all right.0 none in omega (arith, before)
-no-fault schedule (AskedAtEnd ∷ steps) begins all right none = absurd (no-stop (history_of steps) none right.1)
 
 few-given : (b : Bool) (e : Event) (h : List Entry) → length (events_of ((cond b [] (entry.Given e ∷ [])) ++ h)) ≤ length (events_of h) + 1
 few-given true e h = omega arith
@@ -298,68 +168,165 @@ few-events schedule (Listened port failed ∷ steps) right = few-events schedule
 few-events schedule (AskedAtBadLine ∷ steps) right = few-events schedule steps right.0
 few-events schedule (AskedAtEnd ∷ steps) right = few-events schedule steps right.0
 
--- a line that is served is an event that is built
-served-line : (before : List SchedLine) (l : SchedLine) → Fits before l → IsServedLine before l → IsEventLine l
-served-line before (line.Given (event.Arrive k)) fits served = (tt, fits.ranged)
-served-line before (line.Given (event.Bytes (id.Conn c) bytes)) fits served = (tt, fits.ranged)
-served-line before (line.Given (event.Bytes (id.Sock n) bytes)) fits served = absurd served
-served-line before (line.Given (event.Ended i)) fits served = absurd served
-served-line before (line.Given (event.Broken i)) fits served = absurd served
-served-line before (line.Given (event.Ready i)) fits served = absurd served
-served-line before (line.Given (event.Dialled n)) fits served = absurd served
-served-line before (line.Given (event.Refused n)) fits served = absurd served
-served-line before (line.Given (event.Moment t)) fits served = (tt, fits.ranged)
-served-line before (line.Given event.Stop) fits served = (tt, tt)
-served-line before (line.Given event.Fault) fits served = absurd served
-served-line before (line.Given (event.BadLine n)) fits served = absurd served
-served-line before (line.Given event.Memory) fits served = absurd served
-served-line before (line.Room i n) fits served = absurd served
-served-line before line.FailNext fits served = absurd served
-served-line before line.FailDial fits served = absurd served
-served-line before line.FailLog fits served = absurd served
-served-line before line.FailListen fits served = absurd served
-served-line before (line.FailPut i) fits served = absurd served
+-- without a fault each log line was written
+failed-given : (b : Bool) (e : Event) (h : List Entry) → HasFailedLog ((cond b [] (entry.Given e ∷ [])) ++ h) → HasFailedLog h
+failed-given true e h failed = failed
+failed-given false e h failed = failed
 
-all-events : (lines : List SchedLine) → ((i : ℕ) (l : SchedLine) → slice_get lines i ≡ Some l → IsEventLine l) → AreEventLines lines
-all-events [] each = tt
-all-events (l ∷ lines) each = (each 0 l refl, all-events lines (λ i m here. each (suc i) m here))
+pub no-failed-log : (steps : List Step) → faults_in steps ≡ 0 → HasFailedLog (history_of steps) → ⊥
+no-failed-log [] none failed = failed
+no-failed-log (Passed (line.Given e) ∷ steps) none failed = no-failed-log steps (omega (arith, none)) (failed-given (is_skipped (history_of steps) (line.Given e)) e (history_of steps) failed)
+no-failed-log (Passed line.FailNext ∷ steps) none failed = absurd (omega (arith, none))
+no-failed-log (Passed line.FailDial ∷ steps) none failed = no-failed-log steps (omega (arith, none)) failed
+no-failed-log (Passed line.FailLog ∷ steps) none failed = no-failed-log steps (omega (arith, none)) failed
+no-failed-log (Passed line.FailListen ∷ steps) none failed = no-failed-log steps (omega (arith, none)) failed
+no-failed-log (Passed (line.Room i n) ∷ steps) none failed = no-failed-log steps (omega (arith, none)) failed
+no-failed-log (Passed (line.FailPut i) ∷ steps) none failed = no-failed-log steps (omega (arith, none)) failed
+no-failed-log (Answered (entry.Log who text false) n ∷ steps) none failed = absurd (omega (arith, none))
+no-failed-log (Answered (entry.Given e) n ∷ steps) none failed = no-failed-log steps (omega (arith, none)) failed
+no-failed-log (Answered (entry.Put i bytes) n ∷ steps) none failed = no-failed-log steps (omega (arith, none)) failed
+no-failed-log (Answered (entry.Log who text true) n ∷ steps) none failed = no-failed-log steps (omega (arith, none)) failed
+no-failed-log (Answered (entry.Later i) n ∷ steps) none failed = no-failed-log steps (omega (arith, none)) failed
+no-failed-log (Answered (entry.Lost i) n ∷ steps) none failed = no-failed-log steps (omega (arith, none)) failed
+no-failed-log (Answered (entry.Close i) n ∷ steps) none failed = no-failed-log steps (omega (arith, none)) failed
+no-failed-log (Answered (entry.Dial who host port k) n ∷ steps) none failed = no-failed-log steps (omega (arith, none)) failed
+no-failed-log (Answered (entry.Dict who zone call answer) n ∷ steps) none failed = no-failed-log steps (omega (arith, none)) failed
+no-failed-log (Answered (entry.Take who key got) n ∷ steps) none failed = no-failed-log steps (omega (arith, none)) failed
+no-failed-log (Answered (entry.Keep who k key idle size closed) n ∷ steps) none failed = no-failed-log steps (omega (arith, none)) failed
+no-failed-log (Answered (entry.Timer who due answer) n ∷ steps) none failed = no-failed-log steps (omega (arith, none)) failed
+no-failed-log (Answered (entry.Start k) n ∷ steps) none failed = no-failed-log steps (omega (arith, none)) failed
+no-failed-log (Answered (entry.Turned c) n ∷ steps) none failed = no-failed-log steps (omega (arith, none)) failed
+no-failed-log (Answered (entry.Dropped who) n ∷ steps) none failed = no-failed-log steps (omega (arith, none)) failed
+no-failed-log (Listened port true ∷ steps) none failed = absurd (omega (arith, none))
+no-failed-log (Listened port false ∷ steps) none failed = no-failed-log steps (omega (arith, none)) failed
+no-failed-log (AskedAtBadLine ∷ steps) none failed = no-failed-log steps (omega (arith, none)) failed
+no-failed-log (AskedAtEnd ∷ steps) none failed = absurd (omega (arith, none))
 
-pub served-events : (lines : List SchedLine) → IsServed lines → AreEventLines lines
-served-events lines served = all-events lines (λ i l here. served-line (take i lines) l (served.made.fit i l here) (served.each i l here))
+-- a line that tells of a fault is one of more lines
+tells-more : (xs ys : List SchedLine) → TellsFault xs → TellsFault (xs ++ ys)
+tells-more [] ys tells = absurd (let no : false ≡ true = tells in cc)
+tells-more (x ∷ xs) ys tells = either (is_fault_line x) (list_any is_fault_line xs) _ tells (λ rest. tells-more xs ys rest)
+  where
+    either : (b c d : Bool) → (b || c) ≡ true → (c ≡ true → d ≡ true) → (b || d) ≡ true
+    either true c d is more = refl
+    either false c d is more = more is
 
-pub no-failing-first : (lines : List SchedLine) → AreEventLines lines → begins_by_failing lines ≡ false
-no-failing-first [] all = refl
-no-failing-first (line.Given e ∷ lines) all = refl
-no-failing-first (line.Room i n ∷ lines) all = absurd all.0
-no-failing-first (line.FailNext ∷ lines) all = absurd all.0
-no-failing-first (line.FailDial ∷ lines) all = absurd all.0
-no-failing-first (line.FailLog ∷ lines) all = absurd all.0
-no-failing-first (line.FailListen ∷ lines) all = absurd all.0
-no-failing-first (line.FailPut i ∷ lines) all = absurd all.0
+tells-last : (xs : List SchedLine) (l : SchedLine) → is_fault_line l ≡ true → TellsFault (xs ++ l ∷ [])
+tells-last [] l is = ap (λ b. b || false) is
+tells-last (x ∷ xs) l is = later (is_fault_line x) (list_any is_fault_line (xs ++ l ∷ [])) (tells-last xs l is)
+  where
+    later : (b c : Bool) → c ≡ true → (b || c) ≡ true
+    later true c is = refl
+    later false c is = is
 
--- the lines that are served name no id that was never there
-pub never-absent : (before : List SchedLine) (arrivals dials : ℕ) (l : SchedLine) → arrivals ≡ arrivals_in before → Fits before l → IsServedLine before l
-    → names_absent arrivals dials (named_id l) ≡ true → ⊥
-never-absent before arrivals dials (line.Given (event.Arrive k)) count fits served absent = let wrong : false ≡ true = absent in cc
-never-absent before arrivals dials (line.Given (event.Bytes (id.Conn c) bytes)) count fits served absent =
-    let low : nat_lt 0 c ≡ true = lt-ltb 0 c fits.ranged.0.0 in
-    let high : nat_le c arrivals ≡ true = le-leb c arrivals (omega (arith, served.arrived)) in
-    let wrong : false ≡ true = rw (low, high) at absent in
-    cc
-never-absent before arrivals dials (line.Given (event.Bytes (id.Sock n) bytes)) count fits served absent = served
-never-absent before arrivals dials (line.Given (event.Ended i)) count fits served absent = served
-never-absent before arrivals dials (line.Given (event.Broken i)) count fits served absent = served
-never-absent before arrivals dials (line.Given (event.Ready i)) count fits served absent = served
-never-absent before arrivals dials (line.Given (event.Dialled n)) count fits served absent = served
-never-absent before arrivals dials (line.Given (event.Refused n)) count fits served absent = served
-never-absent before arrivals dials (line.Given (event.Moment t)) count fits served absent = let wrong : false ≡ true = absent in cc
-never-absent before arrivals dials (line.Given event.Stop) count fits served absent = let wrong : false ≡ true = absent in cc
-never-absent before arrivals dials (line.Given event.Fault) count fits served absent = served
-never-absent before arrivals dials (line.Given (event.BadLine n)) count fits served absent = served
-never-absent before arrivals dials (line.Given event.Memory) count fits served absent = served
-never-absent before arrivals dials (line.Room i n) count fits served absent = served
-never-absent before arrivals dials line.FailNext count fits served absent = served
-never-absent before arrivals dials line.FailDial count fits served absent = served
-never-absent before arrivals dials line.FailLog count fits served absent = served
-never-absent before arrivals dials line.FailListen count fits served absent = served
-never-absent before arrivals dials (line.FailPut i) count fits served absent = served
+tells-begun : (lines : List SchedLine) → begins_by_failing lines ≡ true → TellsFault lines
+tells-begun [] begins = absurd (let no : false ≡ true = begins in cc)
+tells-begun (line.FailListen ∷ lines) begins = refl
+tells-begun ((line.Given e) ∷ lines) begins = absurd (let no : false ≡ true = begins in cc)
+tells-begun (line.FailNext ∷ lines) begins = absurd (let no : false ≡ true = begins in cc)
+tells-begun (line.FailDial ∷ lines) begins = absurd (let no : false ≡ true = begins in cc)
+tells-begun (line.FailLog ∷ lines) begins = absurd (let no : false ≡ true = begins in cc)
+tells-begun ((line.Room i n) ∷ lines) begins = absurd (let no : false ≡ true = begins in cc)
+tells-begun ((line.FailPut i) ∷ lines) begins = absurd (let no : false ≡ true = begins in cc)
+
+-- a `fail log` line that isn't spent was passed
+unspent-log : (steps : List Step) → 0 < unspent Logging steps → TellsFault (lines_of steps)
+unspent-log [] some = absurd (omega (arith, some))
+unspent-log (Passed line.FailLog ∷ steps) some = tells-last (lines_of steps) line.FailLog refl
+unspent-log (Passed (line.Given e) ∷ steps) some = tells-more (lines_of steps) (line.Given e ∷ []) (unspent-log steps (omega (arith, some)))
+unspent-log (Passed line.FailNext ∷ steps) some = tells-more (lines_of steps) (line.FailNext ∷ []) (unspent-log steps (omega (arith, some)))
+unspent-log (Passed line.FailDial ∷ steps) some = tells-more (lines_of steps) (line.FailDial ∷ []) (unspent-log steps (omega (arith, some)))
+unspent-log (Passed line.FailListen ∷ steps) some = tells-more (lines_of steps) (line.FailListen ∷ []) (unspent-log steps (omega (arith, some)))
+unspent-log (Passed (line.Room i n) ∷ steps) some = tells-more (lines_of steps) (line.Room i n ∷ []) (unspent-log steps (omega (arith, some)))
+unspent-log (Passed (line.FailPut i) ∷ steps) some = tells-more (lines_of steps) (line.FailPut i ∷ []) (unspent-log steps (omega (arith, some)))
+unspent-log (Answered e n ∷ steps) some = unspent-log steps (omega (arith, some))
+unspent-log (Listened port failed ∷ steps) some = unspent-log steps some
+unspent-log (AskedAtBadLine ∷ steps) some = unspent-log steps some
+unspent-log (AskedAtEnd ∷ steps) some = unspent-log steps some
+
+-- a log line that wasn't written
+failed-log : (schedule : List SchedLine) (steps : List Step) → AreSteps schedule steps → HasFailedLog (history_of steps) → TellsFault (lines_of steps)
+failed-log schedule [] right failed = absurd failed
+failed-log schedule (Passed (line.Given e) ∷ steps) right failed =
+    tells-more (lines_of steps) (line.Given e ∷ []) (failed-log schedule steps right.0 (failed-given (is_skipped (history_of steps) (line.Given e)) e (history_of steps) failed))
+failed-log schedule (Passed line.FailNext ∷ steps) right failed = tells-more (lines_of steps) (line.FailNext ∷ []) (failed-log schedule steps right.0 failed)
+failed-log schedule (Passed line.FailDial ∷ steps) right failed = tells-more (lines_of steps) (line.FailDial ∷ []) (failed-log schedule steps right.0 failed)
+failed-log schedule (Passed line.FailLog ∷ steps) right failed = tells-more (lines_of steps) (line.FailLog ∷ []) (failed-log schedule steps right.0 failed)
+failed-log schedule (Passed line.FailListen ∷ steps) right failed = tells-more (lines_of steps) (line.FailListen ∷ []) (failed-log schedule steps right.0 failed)
+failed-log schedule (Passed (line.Room i n) ∷ steps) right failed = tells-more (lines_of steps) (line.Room i n ∷ []) (failed-log schedule steps right.0 failed)
+failed-log schedule (Passed (line.FailPut i) ∷ steps) right failed = tells-more (lines_of steps) (line.FailPut i ∷ []) (failed-log schedule steps right.0 failed)
+failed-log schedule (Answered (entry.Log who text false) n ∷ steps) right failed = unspent-log steps (ltb-true 0 (unspent Logging steps) (sym right.1.0))
+failed-log schedule (Answered (entry.Given e) n ∷ steps) right failed = failed-log schedule steps right.0 failed
+failed-log schedule (Answered (entry.Put i bytes) n ∷ steps) right failed = failed-log schedule steps right.0 failed
+failed-log schedule (Answered (entry.Log who text true) n ∷ steps) right failed = failed-log schedule steps right.0 failed
+failed-log schedule (Answered (entry.Later i) n ∷ steps) right failed = failed-log schedule steps right.0 failed
+failed-log schedule (Answered (entry.Lost i) n ∷ steps) right failed = failed-log schedule steps right.0 failed
+failed-log schedule (Answered (entry.Close i) n ∷ steps) right failed = failed-log schedule steps right.0 failed
+failed-log schedule (Answered (entry.Dial who host port k) n ∷ steps) right failed = failed-log schedule steps right.0 failed
+failed-log schedule (Answered (entry.Dict who zone call answer) n ∷ steps) right failed = failed-log schedule steps right.0 failed
+failed-log schedule (Answered (entry.Take who key got) n ∷ steps) right failed = failed-log schedule steps right.0 failed
+failed-log schedule (Answered (entry.Keep who k key idle size closed) n ∷ steps) right failed = failed-log schedule steps right.0 failed
+failed-log schedule (Answered (entry.Timer who due answer) n ∷ steps) right failed = failed-log schedule steps right.0 failed
+failed-log schedule (Answered (entry.Start k) n ∷ steps) right failed = failed-log schedule steps right.0 failed
+failed-log schedule (Answered (entry.Turned c) n ∷ steps) right failed = failed-log schedule steps right.0 failed
+failed-log schedule (Answered (entry.Dropped who) n ∷ steps) right failed = failed-log schedule steps right.0 failed
+failed-log schedule (Listened port failed ∷ steps) right log = failed-log schedule steps right.0 log
+failed-log schedule (AskedAtBadLine ∷ steps) right failed = failed-log schedule steps right.0 failed
+failed-log schedule (AskedAtEnd ∷ steps) right failed = failed-log schedule steps right.0 failed
+
+wider : (l : SchedLine) (steps : List Step) (schedule : List SchedLine) → TellsFault (lines_of steps) ⊎ TellsFault schedule
+    → TellsFault (lines_of steps ++ l ∷ []) ⊎ TellsFault schedule
+wider l steps schedule tells = elim tells [
+  | inl first ↦ inl (tells-more (lines_of steps) (l ∷ []) first)
+  | inr all ↦ inr all
+]
+
+first : (b c : Bool) → (b && c) ≡ true → b ≡ true
+first true c is = refl
+first false c is = absurd (let no : false ≡ true = is in cc)
+
+-- a fault before Stop is one of which a line tells
+told-fault : (schedule : List SchedLine) (steps : List Step) → AreSteps schedule steps → HasNoStop (events_of (history_of steps)) → 0 < faults_in steps
+    → TellsFault (lines_of steps) ⊎ TellsFault schedule
+told-fault schedule [] right none some = absurd (omega (arith, some))
+told-fault schedule (Passed (line.Given e) ∷ steps) right none some =
+    wider (line.Given e) steps schedule (told-fault schedule steps right.0 (older-none (is_skipped (history_of steps) (line.Given e)) e (history_of steps) none) (omega (arith, some)))
+told-fault schedule (Passed line.FailNext ∷ steps) right none some = inl (tells-last (lines_of steps) line.FailNext refl)
+told-fault schedule (Passed line.FailDial ∷ steps) right none some = wider line.FailDial steps schedule (told-fault schedule steps right.0 none (omega (arith, some)))
+told-fault schedule (Passed line.FailLog ∷ steps) right none some = wider line.FailLog steps schedule (told-fault schedule steps right.0 none (omega (arith, some)))
+told-fault schedule (Passed line.FailListen ∷ steps) right none some = wider line.FailListen steps schedule (told-fault schedule steps right.0 none (omega (arith, some)))
+told-fault schedule (Passed (line.Room i n) ∷ steps) right none some = wider (line.Room i n) steps schedule (told-fault schedule steps right.0 none (omega (arith, some)))
+told-fault schedule (Passed (line.FailPut i) ∷ steps) right none some = wider (line.FailPut i) steps schedule (told-fault schedule steps right.0 none (omega (arith, some)))
+told-fault schedule (Answered (entry.Log who text false) n ∷ steps) right none some = inl (unspent-log steps (ltb-true 0 (unspent Logging steps) (sym right.1.0)))
+told-fault schedule (Answered (entry.Given e) n ∷ steps) right none some = absurd right.1.1
+told-fault schedule (Answered (entry.Put i bytes) n ∷ steps) right none some = told-fault schedule steps right.0 none (omega (arith, some))
+told-fault schedule (Answered (entry.Log who text true) n ∷ steps) right none some = told-fault schedule steps right.0 none (omega (arith, some))
+told-fault schedule (Answered (entry.Later i) n ∷ steps) right none some = told-fault schedule steps right.0 none (omega (arith, some))
+told-fault schedule (Answered (entry.Lost i) n ∷ steps) right none some = told-fault schedule steps right.0 none (omega (arith, some))
+told-fault schedule (Answered (entry.Close i) n ∷ steps) right none some = told-fault schedule steps right.0 none (omega (arith, some))
+told-fault schedule (Answered (entry.Dial who host port k) n ∷ steps) right none some = told-fault schedule steps right.0 none (omega (arith, some))
+told-fault schedule (Answered (entry.Dict who zone call answer) n ∷ steps) right none some = told-fault schedule steps right.0 none (omega (arith, some))
+told-fault schedule (Answered (entry.Take who key got) n ∷ steps) right none some = told-fault schedule steps right.0 none (omega (arith, some))
+told-fault schedule (Answered (entry.Keep who k key idle size closed) n ∷ steps) right none some = told-fault schedule steps right.0 none (omega (arith, some))
+told-fault schedule (Answered (entry.Timer who due answer) n ∷ steps) right none some = told-fault schedule steps right.0 none (omega (arith, some))
+told-fault schedule (Answered (entry.Start k) n ∷ steps) right none some = told-fault schedule steps right.0 none (omega (arith, some))
+told-fault schedule (Answered (entry.Turned c) n ∷ steps) right none some = told-fault schedule steps right.0 none (omega (arith, some))
+told-fault schedule (Answered (entry.Dropped who) n ∷ steps) right none some = told-fault schedule steps right.0 none (omega (arith, some))
+told-fault schedule (Listened port false ∷ steps) right none some = told-fault schedule steps right.0 none (omega (arith, some))
+told-fault schedule (Listened port true ∷ steps) right none some = inr (tells-begun schedule (first (begins_by_failing schedule) _ (sym right.1.0)))
+told-fault schedule (AskedAtBadLine ∷ steps) right none some = told-fault schedule steps right.0 none (omega (arith, some))
+told-fault schedule (AskedAtEnd ∷ steps) right none some = absurd (no-stop (history_of steps) none right.1)
+
+-- a fault at which serving ends is one of which a line of the schedule tells
+pub faults-told : (lines : List SchedLine) (passed : ℕ) (steps : List Step) → lines_of steps ≡ take passed lines → AreSteps lines steps → 0 < faults_in steps
+    → IsFaulted (history_of steps) → TellsFault lines
+faults-told lines passed steps here right some faulted = elim faulted [
+  | inl none ↦ elim (told-fault lines steps right none some) [
+    | inl first ↦ in-all first
+    | inr all ↦ all
+  ]
+  | inr failed ↦ in-all (failed-log lines steps right failed)
+]
+  where
+    in-all : TellsFault (lines_of steps) → TellsFault lines
+    in-all first = subst TellsFault (take-append-drop passed lines) (tells-more (take passed lines) (drop passed lines) (subst TellsFault here first))

@@ -1,6 +1,8 @@
 -- How the program ends, and what it says of it.
 use Rattle.std.specs.Prelude.{ℕ, List, [], ◌++◌, codes, decimal}
 use Rattle.site_check.specs.Texts as check
+use Rattle.engine.specs.declared.server.Ended.{Ended}
+use Rattle.engine.specs.declared.server.Ended.TheVariants as ended
 use Rattle.resty.specs.declared.endings.Named.{Named}
 use Rattle.resty.specs.declared.endings.Named.TheVariants as named
 use Rattle.resty.specs.declared.endings.Ending.{Ending}
@@ -28,8 +30,7 @@ status_of (ending.Missing which) = status.ReadFault
 status_of (ending.TooLong which) = status.ReadFault
 status_of (ending.Unreadable which) = status.ReadFault
 status_of (ending.Refused fault) = status.Conf
-status_of (ending.NotBuilt named.Conf line) = status.Conf
-status_of (ending.NotBuilt named.Schedule line) = status.Schedule
+status_of (ending.NotBuilt line) = status.Conf
 status_of (ending.BadLine line) = status.Schedule
 status_of (ending.NoSuchId line) = status.Schedule
 status_of ending.WorldFault = status.WorldFault
@@ -49,10 +50,18 @@ line_of names (ending.Missing which) = codes "resty: no file " ++ names which ++
 line_of names (ending.TooLong which) = codes "resty: " ++ names which ++ codes " is too long\n"
 line_of names (ending.Unreadable which) = codes "resty: cannot read " ++ names which ++ codes "\n"
 line_of names (ending.Refused fault) = fault_line (names named.Conf) (decimal (check.line_of fault)) (check.text_of fault)
-line_of names (ending.NotBuilt which line) = fault_line (names which) (decimal line) (codes "not built yet")
+line_of names (ending.NotBuilt line) = fault_line (names named.Conf) (decimal line) (codes "not built yet")
 line_of names (ending.BadLine line) = fault_line (names named.Schedule) (decimal line) (codes "not a schedule line")
 line_of names (ending.NoSuchId line) = fault_line (names named.Schedule) (decimal line) (codes "no such id")
 line_of names ending.WorldFault = codes "resty: world fault\n"
 line_of names ending.EventsSpent = codes "resty: events spent\n"
 line_of names ending.NotWritten = codes "resty: cannot write\n"
 line_of names ending.Memory = codes "resty: out of memory\n"
+
+-- how the work ends where serving ended so
+abbrev pub ending_by : Ended → Ending
+ending_by ended.Stopped = ending.Done
+ending_by (ended.Spent n) = ending.EventsSpent
+ending_by ended.WorldFault = ending.WorldFault
+ending_by (ended.BadLine n) = ending.NoSuchId n
+ending_by ended.Memory = ending.Memory

@@ -4,13 +4,12 @@ use Rattle.resty_base.specs.Accounts.{Account}
 use Rattle.resty_base.specs.Counting.{Rose}
 use Rattle.resty_base.specs.FileMap.{FileMap, FileAccount}
 use Rattle.resty_base.specs.Taking.{Takes}
-use Rattle.resty_world.specs.Given.{IsBadLine}
 use Rattle.resty.specs.declared.endings.Named.{Named}
 use Rattle.resty.specs.declared.endings.Ending.{Ending}
 use Rattle.resty.specs.declared.endings.Ending.TheVariants as ending
 use Rattle.resty.specs.declared.endings.Status.{Status}
 use Rattle.resty.specs.declared.endings.Status.TheVariants as status
-use Rattle.resty.specs.Due.{IsDue}
+use Rattle.resty.specs.Due.{CutsShort, IsDue}
 use Rattle.resty.specs.Ending.{status_of, line_of}
 use Rattle.resty.specs.Outside.{Outside}
 use Rattle.resty.specs.Saying.{name_of}
@@ -23,29 +22,34 @@ pub data Ends (words : List (List ℕ)) (old new : Outside) (err err' : Account)
   worked : (c : Command) (e : Ending) → Says words c → s ≡ status_of e → IsDue c old new e → Takes (line_of (name_of c) e) err err'
       → Ends words old new err err' s
 
--- all verdicts of the same words and files are of one status
+-- all verdicts of the same words and files are of one status; and where something is checked, run or served there is only one
+abbrev pub IsOneVerdict : Verdict → Verdict → Type 0
+IsOneVerdict v w = (status_of (ending_of v) ≡ status_of (ending_of w)) × (ending_of v ≡ ending.Done → v ≡ w)
+
 abbrev pub AreOfOneStatus : Type 0
-AreOfOneStatus = (words : List (List ℕ)) (files : FileMap) (v w : Verdict) → IsVerdict words files v → IsVerdict words files w
-    → status_of (ending_of v) ≡ status_of (ending_of w)
+AreOfOneStatus = (words : List (List ℕ)) (files : FileMap) (v w : Verdict) → IsVerdict words files v → IsVerdict words files w → IsOneVerdict v w
 
 -- reading one of the files that the words name failed
 abbrev pub FailedToRead : List (List ℕ) → FileAccount → FileAccount → Type 0
 FailedToRead words files files' = (c : Command) × (which : Named) × Says words c × FailedAt (name_of c which) files files'
 
--- a line of the world is bad
-abbrev pub HasBadLine : Outside → Type 0
-HasBadLine new = (n : ℕ) × IsBadLine new.live n
+-- what the verdict of the words asks for is cut short
+abbrev pub EndsEarly : List (List ℕ) → Outside → Outside → Verdict → Ending → Type 0
+EndsEarly words old new v e = (c : Command) × Says words c × CutsShort c.mode v c.events old.live new.live e
+
+-- a line that names an id that was never there is reached
+abbrev pub ReachesUnknown : List (List ℕ) → Outside → Outside → Verdict → Type 0
+ReachesUnknown words old new v = (n : ℕ) × EndsEarly words old new v (ending.NoSuchId n)
 
 -- The status that a verdict brings: its own. But memory may run out, and reading may fail; where something runs or is served the
--- writing or the world may fail, the world may have a bad line, and the events may be spent.
+-- writing may fail, and it may be cut short.
 abbrev pub IsStatusBy : List (List ℕ) → Outside → Outside → Verdict → Status → Type 0
 IsStatusBy words old new v status.Memory = Unit {0}
 IsStatusBy words old new v status.ReadFault = (status_of (ending_of v) ≡ status.ReadFault) ⊎ FailedToRead words old.files new.files
-IsStatusBy words old new v status.Schedule =
-    (status_of (ending_of v) ≡ status.Schedule) ⊎ ((status_of (ending_of v) ≡ status.Done) × HasBadLine new)
+IsStatusBy words old new v status.Schedule = (status_of (ending_of v) ≡ status.Schedule) ⊎ ReachesUnknown words old new v
 IsStatusBy words old new v status.WriteFault = (status_of (ending_of v) ≡ status.Done) × Rose old.out.faults new.out.faults
-IsStatusBy words old new v status.WorldFault = (status_of (ending_of v) ≡ status.Done) × Rose old.live.faults new.live.faults
-IsStatusBy words old new v status.EventsSpent = status_of (ending_of v) ≡ status.Done
+IsStatusBy words old new v status.WorldFault = EndsEarly words old new v ending.WorldFault
+IsStatusBy words old new v status.EventsSpent = EndsEarly words old new v ending.EventsSpent
 IsStatusBy words old new v s = status_of (ending_of v) ≡ s
 
 -- where the files report what they hold, the status is one that their verdict brings
@@ -56,8 +60,9 @@ IsJudged words old new s = IfSome old.files.told (λ held. (v : Verdict) → IsV
 abbrev pub IsDoneOr : Status → Type 0
 IsDoneOr s = (s ≡ status.Done) ⊎ (s ≡ status.EventsSpent) ⊎ (s ≡ status.Memory)
 
--- where the files hold what the words ask for, and nothing fails, the work was done, the events were spent, or memory ran out
+-- where the files hold what the words ask for, nothing fails, and each id that a line names was there, the work was done, the events
+-- were spent, or memory ran out
 abbrev pub IsComplete : List (List ℕ) → Outside → Outside → Status → Type 0
 IsComplete words old new s =
     IfSome old.files.told (λ held. (v : Verdict) → IsVerdict words held v → ending_of v ≡ ending.Done → ¬ (FailedToRead words old.files new.files)
-    → ¬ (Rose old.out.faults new.out.faults) → ¬ (Rose old.live.faults new.live.faults) → ¬ (HasBadLine new) → IsDoneOr s)
+    → ¬ (Rose old.out.faults new.out.faults) → ¬ (EndsEarly words old new v ending.WorldFault) → ¬ (ReachesUnknown words old new v) → IsDoneOr s)

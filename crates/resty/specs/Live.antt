@@ -1,5 +1,5 @@
 -- What becomes of the live world.
-use Rattle.std.specs.Prelude.{◌≡◌, ◌⊎◌, ℕ, List, Option, Some, IfSome}
+use Rattle.std.specs.Prelude.{◌≡◌, ◌⊎◌, ℕ, Option, Some, IfSome}
 use Rattle.resty_base.specs.FileMap.{FileMap}
 use Rattle.resty_world.specs.Book.{Book}
 use Rattle.resty_world.specs.Contract.{Listens}
@@ -7,41 +7,34 @@ use Rattle.resty_world.specs.declared.answers.Listened.TheVariants as listened
 use Rattle.engine_base.specs.Right.{IsRight}
 use Rattle.engine.specs.Endings.{EndsBy}
 use Rattle.engine.specs.declared.server.Ended.{Ended}
-use Rattle.engine.specs.declared.server.Ended.TheVariants as ended
-use Rattle.strand.specs.declared.strand.NoJob.{NoJob}
-use Rattle.strand.specs.Literal.{literal_behavior}
 use Rattle.resty.specs.declared.command_line.Mode.{Mode}
 use Rattle.resty.specs.declared.command_line.Mode.TheVariants as mode
 use Rattle.resty.specs.declared.endings.Ending.{Ending}
 use Rattle.resty.specs.declared.endings.Ending.TheVariants as ending
 use Rattle.resty.specs.declared.endings.Status.{Status}
 use Rattle.resty.specs.declared.endings.Status.TheVariants as status
+use Rattle.resty.specs.Ending.{ending_by}
+use Rattle.literal_site.specs.declared.sites.LiteralSite.{LiteralSite}
+use Rattle.resty.specs.Sites.{site_behavior}
 use Rattle.resty.specs.Verdict.{Serves, IsOf}
 use Rattle.resty.specs.Words.{Command}
 
--- the port of a literal site
-abbrev pub site_port : ℕ
-site_port = 8080
-
 -- The world listens on the site's port, and was served. Its history, where it is reported, is that of one execution of the site's
 -- strands, which is lawful, kept, plain and ordered; and serving ended so, for a cause that the world shows.
-pub record IsServed (body : List ℕ) (events : ℕ) (ended : Ended) (old new : Book) : Type 0 where
-  pub port : new.port ≡ Some site_port
-  pub right : IsRight {J = NoJob} (literal_behavior body) new
-  pub ends : EndsBy events old new ended
+pub record IsServed (site : LiteralSite) (events : ℕ) (e : Ended) (old new : Book) : Type 0 where
+  pub port : new.port ≡ Some site.conf.port
+  pub right : IsRight (site_behavior site) new
+  pub ends : EndsBy events old new e
 
--- how the serving of a site ends, and what becomes of the world
-abbrev pub ServesTo : List ℕ → ℕ → Ending → Book → Book → Type 0
-ServesTo body events ending.Done old new = IsServed body events ended.Stopped old new
-ServesTo body events ending.EventsSpent old new = IsServed body events (ended.Spent events) old new
-ServesTo body events (ending.NoSuchId n) old new = IsServed body events (ended.BadLine n) old new
-ServesTo body events ending.WorldFault old new = Listens site_port listened.Failed old new ⊎ IsServed body events ended.WorldFault old new
-ServesTo body events ending.Memory old new = Listens site_port listened.Memory old new ⊎ IsServed body events ended.Memory old new
-ServesTo body events e old new = ⊥
+-- how the serving of a site ends, and what becomes of the world: it doesn't listen, or it was served
+pub data ServesTo (site : LiteralSite) (events : ℕ) (to : Ending) (old new : Book) : Type 0 where
+  deaf : to ≡ ending.WorldFault → Listens site.conf.port listened.Failed old new → ServesTo site events to old new
+  unheard : to ≡ ending.Memory → Listens site.conf.port listened.Memory old new → ServesTo site events to old new
+  served : (e : Ended) → to ≡ ending_by e → IsServed site events e old new → ServesTo site events to old new
 
 -- a site is served for a command; where the files report what they hold, it is what they hold
 abbrev pub IsServedFor : Command → Option FileMap → Ending → Book → Book → Type 0
-IsServedFor c told e old new = (body : List ℕ) × IfSome told (λ held. IsOf c held (Serves body)) × ServesTo body c.events e old new
+IsServedFor c told e old new = (site : LiteralSite) × IfSome told (λ held. IsOf c held (Serves site)) × ServesTo site c.events e old new
 
 -- what a command that serves leaves of the world, by its status: the world is served, or it is as it was
 abbrev pub LeavesServed : Command → Option FileMap → Status → Book → Book → Type 0

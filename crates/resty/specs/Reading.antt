@@ -7,6 +7,7 @@ use Rattle.resty.specs.declared.endings.Named.{Named}
 use Rattle.resty.specs.declared.endings.Named.TheVariants as named
 use Rattle.resty.specs.declared.endings.Ending.{Ending}
 use Rattle.resty.specs.declared.endings.Ending.TheVariants as ending
+use Rattle.literal_site.specs.declared.sites.LiteralSite.{LiteralSite}
 use Rattle.resty.specs.Verdict.{Verdict, FailedAt, HasSite, IsOf, IsTooLong, ending_of, most_of}
 use Rattle.resty.specs.Words.{Command}
 
@@ -25,7 +26,7 @@ refusal fault = ending.Refused fault
 
 -- the verdicts of a command, where its configuration is a site's
 abbrev pub OfSchedule : Command → FileMap → Verdict → Type 0
-OfSchedule c files v = (body : List ℕ) → HasSite files c.conf body → IsOf c files v
+OfSchedule c files v = (site : LiteralSite) → HasSite files c.conf site → IsOf c files v
 
 -- where the files report what they hold, the work ended by one of these verdicts
 abbrev pub IsJudgedBy : (FileMap → Verdict → Type 0) → FileAccount → Ending → Type 0
@@ -43,7 +44,7 @@ EndsReading verdict name which old new ending.Memory = Unit {0}
 EndsReading verdict name which old new (ending.Unreadable w) = (w ≡ which) × FailedAt name old new
 EndsReading verdict name which old new (ending.Missing w) = (w ≡ which) × IsJudgedBy verdict old (ending.Missing w)
 EndsReading verdict name which old new (ending.TooLong w) = (w ≡ which) × IsJudgedBy verdict old (ending.TooLong w)
-EndsReading verdict name which old new (ending.NotBuilt w n) = (w ≡ which) × IsJudgedBy verdict old (ending.NotBuilt w n)
+EndsReading verdict name which old new (ending.NotBuilt n) = (which ≡ named.Conf) × IsJudgedBy verdict old (ending.NotBuilt n)
 EndsReading verdict name which old new (ending.Refused fault) = (which ≡ named.Conf) × IsJudgedBy verdict old (ending.Refused fault)
 EndsReading verdict name which old new (ending.BadLine n) = (which ≡ named.Schedule) × IsJudgedBy verdict old (ending.BadLine n)
 

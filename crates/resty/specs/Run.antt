@@ -1,12 +1,14 @@
 -- The run of a schedule.
-use Rattle.std.specs.Prelude.{◌≡◌, ℕ, Bool, true, false, List, All, take, length, ◌≤◌}
+use Rattle.std.specs.Prelude.{◌≡◌, ℕ, ◌+◌, Bool, true, false, List, take, slice_get, Some}
 use Rattle.std.specs.List.{list_any}
+use Rattle.resty_world.specs.Given.{named_id, names_absent}
 use Rattle.resty_world.specs.declared.entry.Entry.{Entry}
 use Rattle.resty_world.specs.declared.entry.Entry.TheVariants as entry
 use Rattle.resty_world.specs.declared.schedule_line.SchedLine.{SchedLine}
-use Rattle.resty.specs.Built.{IsBuilt}
+use Rattle.resty_world.specs.declared.schedule_line.SchedLine.TheVariants as line
 use Rattle.schedule_text.specs.Accepted.{IsHistory, IsHistoryOf}
 use Rattle.schedule_text.specs.EntryTexts.{history_text}
+use Rattle.schedule.specs.Counts.{arrived_in, dials_in}
 use Rattle.schedule.specs.Told.{IsTold}
 use Rattle.executions.specs.Executions.{GlobalAction}
 use Rattle.strand_contract.specs.Behaviors.{Behavior}
@@ -14,10 +16,12 @@ use Rattle.executions.specs.Histories.{external, offered_lengths}
 use Rattle.executions.specs.Lawful.{IsLawful, IsKept}
 use Rattle.executions.specs.Plain.{IsPlain}
 use Rattle.executions.specs.Ordered.{IsOrdered}
-use Rattle.engine.specs.Endings.{IsStopped, IsSpent}
+use Rattle.engine.specs.Endings.{HasFailedLog, IsStopped, IsSpent, IsFaulted}
+use Rattle.engine.specs.declared.server.Ended.{Ended}
+use Rattle.engine.specs.declared.server.Ended.TheVariants as ended
 
 -- The history of a run of these lines: it is that of one execution, which is lawful, kept, plain and ordered, and it tells the
--- lines. Its entries are all built, and within the ranges of the text.
+-- lines. Its entries are within the ranges of the text.
 pub record IsRun {J : Type 0} (b : Behavior J) (lines : List SchedLine) (h : List Entry) : Type 0 where
   pub execution : List (GlobalAction J)
   pub history : h ≡ external b execution
@@ -26,21 +30,36 @@ pub record IsRun {J : Type 0} (b : Behavior J) (lines : List SchedLine) (h : Lis
   pub kept : IsKept b execution
   pub plain : IsPlain b execution
   pub ordered : IsOrdered b execution
-  pub built : All IsBuilt h
   pub ranged : IsHistory h
 
--- a run of all lines, the last of which was Stop
-abbrev pub IsWhole : {J : Type 0} → Behavior J → List SchedLine → List Entry → Type 0
-IsWhole b lines h = IsRun b lines h × IsStopped h
+-- a line that tells of a fault of the world
+abbrev pub is_fault_line : SchedLine → Bool
+is_fault_line line.FailNext = true
+is_fault_line line.FailLog = true
+is_fault_line line.FailListen = true
+is_fault_line l = false
 
--- a run of the first lines, in which so many events were given, none of which was Stop
-abbrev pub IsCutShort : {J : Type 0} → Behavior J → ℕ → List SchedLine → List Entry → Type 0
-IsCutShort b events lines h = (passed : ℕ) × IsRun b (take passed lines) h × IsSpent events h × (events ≤ length lines)
+abbrev pub TellsFault : List SchedLine → Type 0
+TellsFault lines = list_any is_fault_line lines ≡ true
 
--- the one or the other
-abbrev pub RunsTo : {J : Type 0} → Behavior J → ℕ → List SchedLine → Bool → List Entry → Type 0
-RunsTo b events lines true h = IsWhole b lines h
-RunsTo b events lines false h = IsCutShort b events lines h
+-- the line after so many names a connection that didn't arrive before, or a socket that wasn't dialled
+pub record IsUnknownAt (lines : List SchedLine) (passed : ℕ) (h : List Entry) : Type 0 where
+  pub bad : SchedLine
+  pub here : slice_get lines passed ≡ Some bad
+  pub unknown : names_absent (arrived_in h) (dials_in h) (named_id bad) ≡ true
+
+-- How a run ends after so many lines: by Stop, where these are all the lines and each log line was written; once so many events
+-- were given; by a fault of which a line tells; or where the line after them names an id that was never there.
+abbrev pub EndsRun : ℕ → List SchedLine → ℕ → List Entry → Ended → Type 0
+EndsRun events lines passed h ended.Stopped = (take passed lines ≡ lines) × IsStopped h × ¬ (HasFailedLog h)
+EndsRun events lines passed h (ended.Spent n) = (n ≡ events) × IsSpent events h
+EndsRun events lines passed h ended.WorldFault = TellsFault lines × IsFaulted h
+EndsRun events lines passed h (ended.BadLine n) = (n ≡ passed + 1) × IsUnknownAt lines passed h
+EndsRun events lines passed h ended.Memory = ⊥
+
+-- the run of the first of these lines, which ended so
+abbrev pub RunsTo : {J : Type 0} → Behavior J → ℕ → List SchedLine → Ended → List Entry → Type 0
+RunsTo b events lines e h = (passed : ℕ) × IsRun b (take passed lines) h × EndsRun events lines passed h e
 
 -- no other history has the text of this one
 abbrev pub IsKnownByItsText : List Entry → Type 0

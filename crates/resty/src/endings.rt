@@ -1,8 +1,9 @@
 //! How the work ends, and the statuses of the program.
 
 ghost use Rattle.std.specs.Prelude.{◌≡◌};
-ghost use Rattle.resty.specs.Ending.{code_of, status_of};
+ghost use Rattle.resty.specs.Ending.{code_of, ending_by, status_of};
 
+use engine::Ended;
 use site_check::CheckFault;
 
 /// How the program ended; its exit code is the index in this list, from 0.
@@ -54,13 +55,13 @@ pub enum Ending {
     Unreadable(Named),
     /// The text of the configuration is no site's.
     Refused(CheckFault),
-    /// This line of the file is of no form that is built yet; lines are numbered from 1.
-    NotBuilt(Named, u64),
+    /// The block of Lua that begins in this line of the configuration can't be run yet; lines are numbered from 1.
+    NotBuilt(u64),
     /// This line of the schedule is no line of a schedule; lines are numbered from 1.
     BadLine(u64),
-    /// This line of the live world names an id that was never there.
+    /// This line of the schedule or of the live world names an id that was never there.
     NoSuchId(u64),
-    /// The live world failed.
+    /// The world failed.
     WorldFault,
     /// As many events as were asked for were given, and none of them was Stop.
     EventsSpent,
@@ -70,6 +71,19 @@ pub enum Ending {
 }
 
 impl Ending {
+    /// How the work ends where serving ended so.
+    pub fn by(ended: Ended) -> Ending
+        ensures { result ≡ ending_by ended }
+    {
+        match ended {
+            Ended::Stopped => Ending::Done,
+            Ended::Spent(_) => Ending::EventsSpent,
+            Ended::WorldFault => Ending::WorldFault,
+            Ended::BadLine(line) => Ending::NoSuchId(line),
+            Ended::Memory => Ending::Memory,
+        }
+    }
+
     /// The status that the program ends with.
     pub fn status(self) -> Status
         ensures { result ≡ status_of self }
@@ -78,10 +92,8 @@ impl Ending {
             Ending::Done => Status::Done,
             Ending::Usage => Status::Usage,
             Ending::Missing(_) | Ending::TooLong(_) | Ending::Unreadable(_) => Status::ReadFault,
-            Ending::Refused(_) | Ending::NotBuilt(Named::Conf, _) => Status::Conf,
-            Ending::NotBuilt(Named::Schedule, _) | Ending::BadLine(_) | Ending::NoSuchId(_) => {
-                Status::Schedule
-            }
+            Ending::Refused(_) | Ending::NotBuilt(_) => Status::Conf,
+            Ending::BadLine(_) | Ending::NoSuchId(_) => Status::Schedule,
             Ending::WorldFault => Status::WorldFault,
             Ending::EventsSpent => Status::EventsSpent,
             Ending::NotWritten => Status::WriteFault,

@@ -3,30 +3,41 @@
 ghost use Rattle.std.specs.Prelude.{List};
 ghost use Rattle.resty_world.specs.declared.entry.Entry.{Entry};
 ghost use Rattle.resty_world.specs.declared.schedule_line.SchedLine.{SchedLine};
-ghost use Rattle.strand.specs.declared.strand.NoJob.{NoJob};
 ghost use Rattle.strand_contract.specs.Behaviors.{Behavior};
 ghost use Rattle.resty.specs.Ends.{AreOfOneStatus};
 ghost use Rattle.resty.specs.Run.{IsRun, IsKnownByItsText};
+ghost use Rattle.resty.specs.Taken.{TakesAllBytes, TookAll};
 
+use literal_site::{a_text_has_one_site, no_literal_site_is_refused};
 use schedule::{
     a_history_is_known_by_its_text, a_schedule_is_known_by_its_text, no_schedule_is_refused,
 };
 use site_check::no_site_is_refused;
-use strand::laws::site_or_fault;
+use strand_contract::StrandContract;
+use strand_laws::laws::what_was_taken;
 
-/// All verdicts of the same words and files are of one status.
+/// All verdicts of the same words and files are of one status; and where something is checked, run or served there is only one.
 pub fn one_status()
     ensures { AreOfOneStatus }
 {
-    site_or_fault();
+    no_literal_site_is_refused();
+    a_text_has_one_site();
     no_site_is_refused();
     no_schedule_is_refused();
     a_schedule_is_known_by_its_text();
 }
 
 /// The history of a run is the only one with its text.
-pub fn a_run_is_known_by_its_text()
-    ensures { (b : Behavior NoJob) (lines : List SchedLine) (h : List Entry) → IsRun b lines h → IsKnownByItsText h }
+pub fn a_run_is_known_by_its_text<J>()
+    ensures { (b : Behavior J) (lines : List SchedLine) (h : List Entry) → IsRun b lines h → IsKnownByItsText h }
 {
     a_history_is_known_by_its_text();
+}
+
+/// In the run of a schedule that bounds nothing, each connection took every byte that was sent to it, wherever it is open and at rest.
+pub fn each_reply_is_taken<S: StrandContract>()
+    ensures { (site : S.Site) (lines : List SchedLine) (h : List Entry) (run : IsRun (S.meaning site).behavior lines h) → TakesAllBytes lines
+        → TookAll (S.meaning site).behavior run.execution }
+{
+    what_was_taken::<S::Job>();
 }

@@ -9,8 +9,6 @@ mod messages;
 mod program;
 mod reading;
 mod replaying;
-mod served_form;
-pub mod server;
 mod serving;
 mod work;
 mod writing;

@@ -40,8 +40,8 @@ pub fn put_line<E: Sink>(
             let line = buffer.format(fault.line() as u64).as_bytes();
             put_fault(err, name, line, fault.text())
         }
-        Ending::NotBuilt(which, line) => {
-            let name = command.name(which).as_bytes();
+        Ending::NotBuilt(line) => {
+            let name = command.name(Named::Conf).as_bytes();
             let line = buffer.format(line).as_bytes();
             put_fault(err, name, line, b"not built yet")
         }

@@ -1,19 +1,18 @@
 //! The reading of the files that the words name.
 
-ghost use Rattle.std.specs.Prelude.{◌≡◌, ◌≤◌, IfSome, IfOk, IfErr, OnOk, length};
-ghost use Rattle.resty.specs.Form.{IsServed};
+ghost use Rattle.std.specs.Prelude.{◌≡◌, IfSome, IfOk, IfErr, OnOk};
+ghost use Rattle.schedule_text.specs.Fitting.{IsSchedule};
 ghost use Rattle.resty.specs.Reading.{IsUnread, EndsReading, OfSchedule, ReadsWell, refusal};
 ghost use Rattle.resty.specs.Saying.{said, name_of};
-ghost use Rattle.resty.specs.Verdict.{Checks, Holds, HasSite, HasSchedule, TakesLiteral, IsOf, most_of};
+ghost use Rattle.resty.specs.Verdict.{Checks, Holds, HasSite, HasSchedule, ServesSite, IsOf, most_of};
 
 use crate::command_line::{Command, Mode};
 use crate::endings::{Ending, Named};
-use crate::served_form::first_unserved;
+use literal_site::{LiteralFault, LiteralSite, literal_site_of};
 use resty_base::{Bytes, Fetched, Files};
 use schedule::{SchedFault, Schedule, schedule_of};
 use site_check::{CheckFault, check_site};
 use std::alloc::Global;
-use strand::{Site, SiteFault, literal_site};
 
 /// Reads a file that the words name whole, or says how the work ends for it.
 fn read_named<F: Files>(
@@ -24,7 +23,6 @@ fn read_named<F: Files>(
 ) -> Result<Bytes, Ending>
     ensures text { IfOk result (λ text. IfSome (F.account files.old).told
         (λ held. Holds held (name_of (said command.now) which) (most_of which) text)) }
-    ensures within { IfOk result (λ text. length text ≤ most_of which) }
     ensures unread { IfErr result (IsUnread (name_of (said command.now) which) which (F.account files.old) (F.account files.new)) }
     ensures well { OnOk result (ReadsWell (F.account files.old) (F.account files.new)) }
 {
@@ -83,8 +81,8 @@ pub fn read_site<F: Files>(
     alloc: Global,
     files: &mut F,
     command: &Command<'_>,
-) -> Result<Site, Ending>
-    requires { TakesLiteral command.now.mode }
+) -> Result<LiteralSite, Ending>
+    requires { ServesSite command.now.mode }
     ensures site { IfOk result (λ site. IfSome (F.account files.old).told (λ held. HasSite held command.now.conf.now site)) }
     ensures due { IfErr result (EndsReading (IsOf (said command.now)) command.now.conf.now Named.Conf (F.account files.old) (F.account files.new)) }
     ensures well { OnOk result (ReadsWell (F.account files.old) (F.account files.new)) }
@@ -93,10 +91,11 @@ pub fn read_site<F: Files>(
         Ok(text) => text,
         Err(ending) => return Err(ending),
     };
-    match literal_site(alloc, text.as_slice()) {
+    match literal_site_of(alloc, text.as_slice()) {
         Ok(site) => Ok(site),
-        Err(SiteFault::NotYet(line)) => Err(Ending::NotBuilt(Named::Conf, u64::from(line))),
-        Err(SiteFault::Memory) => Err(Ending::Memory),
+        Err(LiteralFault::Check(fault)) => Err(refusal(fault)),
+        Err(LiteralFault::NotBuilt(line)) => Err(Ending::NotBuilt(line as u64)),
+        Err(LiteralFault::Memory) => Err(Ending::Memory),
     }
 }
 
@@ -108,8 +107,7 @@ pub fn read_schedule<F: Files>(
 ) -> Result<Schedule, Ending>
     requires { command.now.mode ≡ Mode.Replay }
     ensures schedule { IfOk result (λ lines. IfSome (F.account files.old).told (λ held. HasSchedule held command.now.schedule.now lines)) }
-    ensures served { IfOk result IsServed }
-    ensures few { IfOk result (λ lines. length lines ≤ 67_108_864) }
+    ensures made { IfOk result IsSchedule }
     ensures due { IfErr result (EndsReading (OfSchedule (said command.now)) command.now.schedule.now Named.Schedule
         (F.account files.old) (F.account files.new)) }
     ensures well { OnOk result (ReadsWell (F.account files.old) (F.account files.new)) }
@@ -119,11 +117,7 @@ pub fn read_schedule<F: Files>(
         Err(ending) => return Err(ending),
     };
     match schedule_of(alloc, text.as_slice()) {
-        Ok(schedule) => match first_unserved(alloc, &schedule) {
-            Ok(None) => Ok(schedule),
-            Ok(Some(line)) => Err(Ending::NotBuilt(Named::Schedule, line)),
-            Err(_) => Err(Ending::Memory),
-        },
+        Ok(schedule) => Ok(schedule),
         Err(SchedFault::BadLine(line)) => Err(Ending::BadLine(line)),
         Err(SchedFault::Memory) => Err(Ending::Memory),
     }

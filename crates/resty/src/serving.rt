@@ -4,31 +4,23 @@ ghost use Rattle.engine_base.specs.Right.{IsFresh};
 ghost use Rattle.resty.specs.Live.{ServesTo};
 
 use crate::endings::Ending;
-use crate::server::serve;
-use engine::Ended;
+use connection_strand::Connection;
+use engine::serve;
+use literal_run::LiteralRun;
+use literal_site::LiteralSite;
 use resty_world::{Listened, World};
 use std::alloc::Global;
-use strand::Site;
-
-/// The port of a literal site.
-const SITE_PORT: u16 = 8080;
 
 /// Listens on the site's port, and serves at most so many events of the world.
-pub fn serve_live<W: World>(alloc: Global, site: Site, live: &mut W, events: u64) -> Ending
+pub fn serve_live<W: World>(alloc: Global, site: LiteralSite, live: &mut W, events: u64) -> Ending
     requires { IsFresh (W.book live.old) }
     ensures serves { ServesTo site events result (W.book live.old) (W.book live.new) }
     ensures same { W.same live.old live.new }
 {
-    match live.listen(alloc, SITE_PORT) {
+    match live.listen(alloc, site.conf.port) {
         Listened::Up => {}
         Listened::Failed => return Ending::WorldFault,
         Listened::Memory => return Ending::Memory,
     }
-    match serve(alloc, site, live, events) {
-        Ended::Stopped => Ending::Done,
-        Ended::Spent(_) => Ending::EventsSpent,
-        Ended::WorldFault => Ending::WorldFault,
-        Ended::BadLine(line) => Ending::NoSuchId(line),
-        Ended::Memory => Ending::Memory,
-    }
+    Ending::by(serve::<Connection<LiteralRun>, W>(alloc, site, live, events))
 }

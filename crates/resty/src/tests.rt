@@ -151,43 +151,68 @@ fn stop_closes_what_is_open(rt: HostRuntime) -> Result<(), Fail> {
 }
 
 #[test]
-fn what_is_not_built_is_refused_at_its_line(rt: HostRuntime) -> Result<(), Fail> {
+fn a_block_that_is_not_built_is_refused_at_its_line(rt: HostRuntime) -> Result<(), Fail> {
     let print =
         "http { server { listen 8080;\nlocation / { content_by_lua_block { ngx.print(\"x\") } }\n} }\n";
-    let conf_line = "resty: t.conf: line 2: not built yet\n";
+    let line = "resty: t.conf: line 2: not built yet\n";
     for schedule in ["stop\n", "frob\n"] {
-        expect_refused(&rt, rt.alloc(), print, schedule, Status::Conf, conf_line)?;
+        expect_refused(&rt, rt.alloc(), print, schedule, Status::Conf, line)?;
     }
-    let unserved = "resty: t.sched: line 2: not built yet\n";
-    let bad = "resty: t.sched: line 2: not a schedule line\n";
-    for (schedule, line) in [
-        ("arrive c1\nended c1\nstop\n", unserved),
-        ("arrive c1\nbytes c1 \"X\"\nstop\n", unserved),
-        ("arrive c1\nmoment 5\nstop\n", unserved),
-        (
-            "arrive c1\nbytes c1 \"GET / HTTP/1.0\\r\\n\\r\\n\\n\"\nstop\n",
-            unserved,
-        ),
-        (
-            "bytes c1 \"G\"\nstop\n",
-            "resty: t.sched: line 1: not built yet\n",
-        ),
-        (
-            "arrive c1\nbytes c1 \"G\"\nbytes c1 \"X\"\nstop\n",
-            "resty: t.sched: line 3: not built yet\n",
-        ),
-        (
-            "arrive c1\narrive c2\nbytes c1 \"G\"\nbytes c2 \"E\"\nstop\n",
-            "resty: t.sched: line 4: not built yet\n",
-        ),
-        ("moment 1\nfail log\nstop\n", unserved),
-        ("arrive c1\narrive c3\nstop\n", bad),
-        ("arrive c1\n", bad),
-        ("arrive c1\nfrob\n", bad),
+    let twice = "http { server { listen 0;\n} }\n";
+    let value = "resty: t.conf: line 1: bad value\n";
+    expect_refused(&rt, rt.alloc(), twice, "stop\n", Status::Conf, value)
+}
+
+#[test]
+fn a_text_that_is_no_schedule_is_refused_at_its_line(rt: HostRuntime) -> Result<(), Fail> {
+    let line = "resty: t.sched: line 2: not a schedule line\n";
+    for schedule in [
+        "arrive c1\narrive c3\nstop\n",
+        "arrive c1\n",
+        "arrive c1\nfrob\n",
     ] {
         expect_refused(&rt, rt.alloc(), CONF, schedule, Status::Schedule, line)?;
     }
     Ok(())
+}
+
+/// The replay of this schedule ends with this status and this line, and writes the history so far.
+fn expect_cut_short(
+    rt: &impl Abort,
+    alloc: Global,
+    schedule: &str,
+    status: Status,
+    history: &str,
+    line: &str,
+) -> Result<(), Fail> {
+    let ran = replay(alloc, CONF, schedule)?;
+    expect(rt, &ran, status, history, line);
+    Ok(())
+}
+
+#[test]
+fn a_line_that_names_what_was_never_there_ends_the_run(rt: HostRuntime) -> Result<(), Fail> {
+    let (a, status) = (rt.alloc(), Status::Schedule);
+    let first = "resty: t.sched: line 1: no such id\n";
+    expect_cut_short(&rt, a, "bytes s9 \"x\"\nstop\n", status, "", first)?;
+    let second = "resty: t.sched: line 2: no such id\n";
+    expect_cut_short(
+        &rt,
+        a,
+        "arrive c1\nroom c2 1\nstop\n",
+        status,
+        "arrive c1\n",
+        second,
+    )
+}
+
+#[test]
+fn a_fault_of_the_world_ends_the_run(rt: HostRuntime) -> Result<(), Fail> {
+    let (a, fault) = (rt.alloc(), "resty: world fault\n");
+    let schedule = "arrive c1\nfail next\nstop\n";
+    expect_cut_short(&rt, a, schedule, Status::WorldFault, "arrive c1\n", fault)?;
+    expect_cut_short(&rt, a, "fail listen\nstop\n", Status::Done, "stop\n", "")?;
+    expect_cut_short(&rt, a, "fail log\nstop\n", Status::Done, "stop\n", "")
 }
 
 /// Adds a file of so many bytes.
@@ -327,6 +352,4 @@ fn statuses_are_numbered_in_order(rt: HostRuntime) {
 }
 
 mod checking;
-mod connections;
-mod replies;
 mod serving;

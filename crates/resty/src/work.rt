@@ -1,14 +1,14 @@
 //! The work on a command: its files are read, and then it does what its mode says.
 
-ghost use Rattle.std.specs.Prelude.{◌≡◌, ◌≤◌, IfSome, length};
+ghost use Rattle.std.specs.Prelude.{◌≡◌, IfSome};
 ghost use Rattle.engine_base.specs.Right.{IsFresh};
 ghost use Rattle.resty_world.specs.Book.{Book};
+ghost use Rattle.schedule_text.specs.Fitting.{IsSchedule};
 ghost use Rattle.resty.specs.Ending.{status_of};
-ghost use Rattle.resty.specs.Form.{IsServed};
 ghost use Rattle.resty.specs.Live.{Leaves};
 ghost use Rattle.resty.specs.Outside.{outside};
 ghost use Rattle.resty.specs.Saying.{said};
-ghost use Rattle.resty.specs.Verdict.{HasSite, TakesLiteral};
+ghost use Rattle.resty.specs.Verdict.{HasSite, ServesSite};
 ghost use Rattle.resty.specs.Works.{Works};
 ghost use Rattle.resty.specs.Writing.{WritesHistoryOf};
 
@@ -19,11 +19,11 @@ use crate::reading::{read_schedule, read_site};
 use crate::replaying::replayed;
 use crate::serving::serve_live;
 use crate::writing::write_history;
+use literal_site::LiteralSite;
 use resty_base::{Files, Sink};
 use resty_world::World;
 use schedule::Schedule;
 use std::alloc::Global;
-use strand::Site;
 
 /// Does what the mode says with the configuration.
 pub fn work<F: Files, W: World, O: Sink>(
@@ -44,7 +44,7 @@ pub fn work<F: Files, W: World, O: Sink>(
     }
 }
 
-/// Reads the configuration of a literal site, and does what the mode says.
+/// Reads the site of the configuration, and does what the mode says.
 fn work_on_site<F: Files, W: World, O: Sink>(
     alloc: Global,
     command: &Command<'_>,
@@ -53,7 +53,7 @@ fn work_on_site<F: Files, W: World, O: Sink>(
     out: &mut O,
 ) -> Ending
     requires fresh { IsFresh (W.book live.old) }
-    requires literal { TakesLiteral command.now.mode }
+    requires serves { ServesSite command.now.mode }
     ensures works { Works (said command.now) (outside (F.account files.old) (W.book live.old) (O.account out.old))
         (outside (F.account files.new) (W.book live.new) (O.account out.new)) result }
     ensures live { Leaves W.same W.book (said command.now) (F.account files.old).told (status_of result) live.old live.new }
@@ -72,7 +72,7 @@ fn work_on_site<F: Files, W: World, O: Sink>(
 fn replay<F: Files, O: Sink>(
     alloc: Global,
     command: &Command<'_>,
-    site: Site,
+    site: LiteralSite,
     files: &mut F,
     out: &mut O,
 ) -> Ending
@@ -90,17 +90,16 @@ fn replay<F: Files, O: Sink>(
 /// Serves the schedule and writes the history.
 fn serve_and_write<O: Sink>(
     alloc: Global,
-    site: Site,
+    site: LiteralSite,
     schedule: Schedule,
     events: u64,
     out: &mut O,
 ) -> Ending
-    requires served { IsServed schedule }
-    requires few { length schedule ≤ 67_108_864 }
+    requires { IsSchedule schedule }
     ensures { WritesHistoryOf site events schedule result (O.account out.old) (O.account out.new) }
 {
     match replayed(alloc, site, schedule, events) {
-        Ok(run) => write_history(alloc, run.is_whole, run.world.history(), out),
+        Ok(run) => write_history(alloc, run.ended, run.world.history(), out),
         Err(_) => Ending::Memory,
     }
 }

@@ -3,22 +3,18 @@
 ghost use Rattle.std.specs.Prelude.{◌≡◌};
 ghost use Rattle.std.specs.List.{list_any};
 ghost use Rattle.resty.specs.Run.{has_dropped, is_dropped};
-ghost use Rattle.resty.specs.Writing.{WritesHistory};
+ghost use Rattle.resty.specs.Writing.{WritesHistory, ending_with};
 
 use crate::endings::Ending;
+use engine::Ended;
 use resty_base::{Sink, put_all};
 use resty_world::{Entry, History};
 use schedule::history_text;
 use std::alloc::Global;
 
-/// Writes the text of the history of a run that was served up to Stop, or of one that was cut short.
-pub fn write_history<O: Sink>(
-    alloc: Global,
-    is_whole: bool,
-    history: &History,
-    out: &mut O,
-) -> Ending
-    ensures { WritesHistory is_whole history.now.entries result (O.account out.old) (O.account out.new) }
+/// Writes the text of the history of a run that ended so.
+pub fn write_history<O: Sink>(alloc: Global, ended: Ended, history: &History, out: &mut O) -> Ending
+    ensures { WritesHistory ended history.now.entries result (O.account out.old) (O.account out.new) }
 {
     let text = match history_text(alloc, history) {
         Ok(text) => text,
@@ -27,12 +23,16 @@ pub fn write_history<O: Sink>(
     if put_all(out, text.as_slice()).is_err() {
         return Ending::NotWritten;
     }
-    if !is_whole {
-        Ending::EventsSpent
-    } else if drops_strand(history) {
-        Ending::Memory
-    } else {
-        Ending::Done
+    ending_with(ended, drops_strand(history))
+}
+
+/// How the work ends where a run ended so and its history is written.
+fn ending_with(ended: Ended, drops: bool) -> Ending
+    ensures { result ≡ ending_with ended drops }
+{
+    match ended {
+        Ended::Stopped if drops => Ending::Memory,
+        other => Ending::by(other),
     }
 }
 

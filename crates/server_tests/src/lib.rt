@@ -4,12 +4,12 @@
 #[cfg(test)]
 mod base;
 #[cfg(test)]
-mod literal_strands;
-#[cfg(test)]
 mod mute;
 #[cfg(test)]
 mod replays;
 #[cfg(test)]
 mod schedule_texts;
+#[cfg(test)]
+mod served;
 #[cfg(test)]
 mod world;

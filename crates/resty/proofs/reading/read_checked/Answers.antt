@@ -10,11 +10,11 @@ pub returns-clause-due : goal.returns-clause-due
 returns-clause-due g c =
     let fault = c.in-Err-check_site.ensures.err in
     let refused = rw c.as_slice.ensures at fault in
-    rw c.refusal.ensures (check_refused (said c.args.command.now) c.requires c.in-Ok.text (g.F.Files.account c.args.files.now) (g.F.Files.account c.read_named.new.files)
+    rw c.refusal.ensures (check_refused (said c.args.command.now) c.in-Ok.text (g.F.Files.account c.args.files.now) (g.F.Files.account c.read_named.new.files)
     c.in-Err-check_site.fault c.in-Ok.ensures.text refused)
 
 pub returns-in-Ok-check_site-clause-site : goal.returns-in-Ok-check_site-clause-site
 returns-in-Ok-check_site-clause-site g c =
     let is = c.in-Ok-check_site.ensures.ok in
     let accepted = rw c.as_slice.ensures at is in
-    check_accepted (said c.args.command.now) c.requires c.in-Ok.text (g.F.Files.account c.args.files.now).told c.in-Ok.ensures.text accepted
+    check_accepted (said c.args.command.now) c.in-Ok.text c.requires (g.F.Files.account c.args.files.now).told c.in-Ok.ensures.text accepted

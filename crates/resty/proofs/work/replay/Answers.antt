@@ -16,5 +16,5 @@ returns-in-Ok g c = λ live.
     run_works (said c.args.command.now) c.requires.mode c.args.site c.in-Ok.schedule
     (outside (g.F.Files.account c.args.files.now) live (g.O.Sink.account c.args.out.now))
     (outside (g.F.Files.account c.read_schedule.new.files) live (g.O.Sink.account c.serve_and_write.new.out))
-    c.in-Ok.ensures.few (runs_held (said c.args.command.now) c.requires.mode c.args.site c.in-Ok.schedule (g.F.Files.account c.args.files.now).told c.requires.site c.in-Ok.ensures.schedule)
+    (runs_held (said c.args.command.now) c.requires.mode c.args.site c.in-Ok.schedule (g.F.Files.account c.args.files.now).told c.requires.site c.in-Ok.ensures.schedule)
     c.serve_and_write.result c.serve_and_write.ensures
