@@ -14,7 +14,7 @@ use Rattle.resty.specs.declared.endings.Status.{Status}
 use Rattle.resty.specs.declared.endings.Status.TheVariants as status
 use Rattle.resty.specs.Due.{CutsShort, IsCutShort, IsDue}
 use Rattle.resty.specs.Ending.{status_of}
-use Rattle.resty.specs.Ends.{AreOfOneStatus, IsOneVerdict, IsStatusBy, IsJudged, IsComplete, IsDoneOr, EndsEarly, FailedToRead, ReachesUnknown}
+use Rattle.resty.specs.Ends.{AreOfOneStatus, IsStatusBy, IsJudged, IsComplete, IsDoneOr, EndsEarly, FailedToRead, ReachesUnknown}
 use Rattle.resty.specs.Outside.{Outside}
 use Rattle.resty.specs.Verdict.{Verdict, Usage, Missing, TooLong, Refused, NotBuilt, BadLine, Checks, Runs, Serves, IsOf, IsVerdict, ending_of}
 use Rattle.resty.specs.Words.{Command, Says, IsForm}

@@ -21,7 +21,7 @@ use Rattle.literal_site.specs.declared.faults.LiteralFault.{LiteralFault}
 use Rattle.literal_site.specs.declared.faults.LiteralFault.TheVariants.{Check}
 use Rattle.literal_site.specs.declared.faults.LiteralFault.TheVariants as literal
 use Rattle.literal_site.specs.declared.sites.LiteralSite.{LiteralSite}
-use Rattle.resty.specs.Verdict.{Verdict, Usage, Missing, TooLong, Refused, NotBuilt, BadLine, Checks, Runs, Serves, Holds, HasSite, HasSchedule, ServesSite, IsTooLong, IsOf, IsVerdict, AfterSite, ending_of, most_of}
+use Rattle.resty.specs.Verdict.{Verdict, Usage, Missing, TooLong, Refused, NotBuilt, BadLine, Checks, Runs, Serves, Holds, HasSite, HasSchedule, ServesSite, IsTooLong, IsOf, IsVerdict, ending_of, most_of}
 use Rattle.resty.specs.declared.command_line.Mode.{Mode}
 use Rattle.resty.specs.declared.command_line.Mode.TheVariants as mode
 use Rattle.resty.specs.Words.{Command, Says, IsForm}

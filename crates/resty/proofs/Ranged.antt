@@ -11,7 +11,7 @@ use Rattle.resty_world.specs.declared.entry.Entry.TheVariants as entry
 use Rattle.resty_world.specs.declared.schedule_line.SchedLine.{SchedLine}
 use Rattle.resty.proofs.Story.{AreRanged, AreToldEntries, entries-told}
 use Rattle.schedule_text.specs.Accepted.{IsHistory}
-use Rattle.schedule_text.specs.Ranges.{IsBytes, IsEntry, IsId, IsOrdinal, IsStrand}
+use Rattle.schedule_text.specs.Ranges.{IsEntry, IsId, IsOrdinal, IsStrand}
 use Rattle.schedule.specs.Told.{IsTold}
 use Rattle.strand_contract.specs.declared.turns.Place.{Place}
 use Rattle.strand_contract.specs.declared.turns.Place.TheVariants as place

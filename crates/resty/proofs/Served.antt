@@ -1,23 +1,22 @@
 -- How serving a schedule ends.
-use Rattle.std.proofs.Common.{◌≡◌, ℕ, ◌<◌, List, length, take, drop, Some, refl, sym, ap, subst, ◌∙◌, arith}
+use Rattle.std.proofs.Common.{◌≡◌, ℕ, ◌<◌, List, take, drop, refl, sym, subst, ◌∙◌, arith}
 use Rattle.std.proofs.lemmas.List.{take-append-drop}
 use Rattle.resty_base.specs.Counting.{Rose}
 use Rattle.resty_world.specs.declared.entry.Entry.{Entry}
-use Rattle.resty_world.specs.declared.event.Event.TheVariants as event
 use Rattle.resty_world.specs.declared.schedule_line.SchedLine.{SchedLine}
-use Rattle.resty_world.specs.Given.{IsBadLine, named_id, names_absent}
+use Rattle.resty_world.specs.Given.{IsBadLine}
 use Rattle.schedule_text.specs.Fitting.{IsSchedule}
 use Rattle.schedule.specs.declared.replay.Replay.{Replay}
 use Rattle.schedule.specs.Counts.{counted}
 use Rattle.schedule.specs.ReplayBook.{book_of, Stands, IsFresh, IsLater}
-use Rattle.schedule.specs.Steps.{newest_given, faults_in, history_of}
+use Rattle.schedule.specs.Steps.{faults_in}
 use Rattle.schedule.specs.Told.{IsTold, StopEndsSchedules}
 use Rattle.executions.specs.Histories.{offered_lengths}
 use Rattle.strand_contract.specs.Behaviors.{Behavior}
 use Rattle.engine_base.specs.Right.{IsRight}
 use Rattle.engine.specs.declared.server.Ended.{Ended}
 use Rattle.engine.specs.declared.server.Ended.TheVariants as ended
-use Rattle.engine.specs.Endings.{EndsBy, HasFailedLog, IsFaulted, IsStopped}
+use Rattle.engine.specs.Endings.{EndsBy, HasFailedLog, IsFaulted}
 use Rattle.resty.specs.Run.{IsRun, RunsTo, EndsRun, IsUnknownAt, TellsFault}
 use Rattle.resty.proofs.Ranged.{history-ranged}
 use Rattle.resty.proofs.Story.{AreRanged, schedule-ranged, first-ranged, no-failed-log, faults-told, stopped-newest}

@@ -1,5 +1,5 @@
 -- What the steps of a replay make of the lines that it passes.
-use Rattle.std.proofs.Common.{◌≡◌, ◌⊎◌, inl, inr, ℕ, zero, suc, ◌+◌, ◌<◌, ◌≤◌, Bool, true, false, not, ◌||◌, cond, nat_lt, List, [], ◌∷◌, ◌++◌, length, take, drop, refl, Option, Some, None, slice_get, sym, ap, subst, ◌∙◌, arith, length-append}
+use Rattle.std.proofs.Common.{◌≡◌, ◌⊎◌, inl, inr, ℕ, suc, ◌+◌, ◌<◌, ◌≤◌, Bool, true, false, ◌||◌, cond, List, [], ◌∷◌, ◌++◌, length, take, drop, refl, Option, Some, None, slice_get, sym, ap, subst, ◌∙◌, arith, length-append}
 use Rattle.std.specs.Prelude.{◌&&◌}
 use Rattle.std.specs.List.{list_any}
 use Rattle.std.proofs.lemmas.Bool.{ltb-true}
@@ -12,7 +12,7 @@ use Rattle.resty_world.specs.declared.schedule_line.SchedLine.{SchedLine}
 use Rattle.resty_world.specs.declared.schedule_line.SchedLine.TheVariants as line
 use Rattle.schedule_text.specs.Fitting.{IsSchedule}
 use Rattle.schedule_text.specs.Ranges.{IsBytes, IsEvent, IsLine}
-use Rattle.schedule.specs.Steps.{Step, Passed, Answered, Listened, AskedAtBadLine, AskedAtEnd, Logging, AreSteps, history_of, lines_of, is_skipped, unspent, one_if, begins_by_failing, has_listened_in_vain, newest_given, is_call, failing_by, IsAnswer, faults_in}
+use Rattle.schedule.specs.Steps.{Step, Passed, Answered, Listened, AskedAtBadLine, AskedAtEnd, Logging, AreSteps, history_of, lines_of, is_skipped, unspent, begins_by_failing, newest_given, IsAnswer, faults_in}
 use Rattle.engine.specs.Endings.{events_of, HasNoStop, HasFailedLog, IsFaulted, IsStopped}
 use Rattle.resty.specs.Run.{TellsFault, is_fault_line}
 

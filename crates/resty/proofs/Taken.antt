@@ -13,18 +13,16 @@ use Rattle.resty_world.specs.declared.schedule_line.SchedLine.TheVariants as lin
 use Rattle.schedule.specs.Steps.{Step, Passed, Answered, Listened, AskedAtBadLine, AskedAtEnd, AreSteps, history_of, lines_of, is_skipped, room_of, room_after}
 use Rattle.strand_contract.specs.declared.turns.Place.{Place}
 use Rattle.strand_contract.specs.declared.turns.Place.TheVariants as place
-use Rattle.strand_contract.specs.declared.turns.Start.TheVariants as start
-use Rattle.strand_contract.specs.Actions.{Moment, Stop, Action, same_place, Began, Bytes, Ended, Broken, Ready, Dialled, Refused, Put, Later, Lost, Close, Log, Dict, Take, Dial, Keep, Timer, Dropped, Run, Offer, Due, Halted, Gone, LocalAction, Told, Did}
+use Rattle.strand_contract.specs.Actions.{Action, same_place, Ready, Put, Later, Lost, LocalAction, Told, Did}
 use Rattle.strand_contract.specs.Behaviors.{Behavior}
 use Rattle.strand_contract.specs.Alone.{lives, is_open, was_put_off, IsExecution, IsQuiescent}
 use Rattle.strand_contract.specs.Laws.{Grows, Keeps}
 use Rattle.executions.specs.Executions.{GlobalAction, Of, Everyone, TurnedAway, IdleGave, IdleClosed, projection}
 use Rattle.executions.specs.Histories.{entries_at, entries_of, external}
-use Rattle.executions.specs.Sockets.{id_at}
 use Rattle.strand_laws.specs.Taken.{took}
 use Rattle.resty.specs.Run.{IsRun}
 use Rattle.resty.specs.Taken.{TakesAllBytes, TookAll, bounds}
-use Rattle.resty.proofs.Names.{by_test, same_strand-eq, strand-true}
+use Rattle.resty.proofs.Names.{by_test}
 use Rattle.resty.proofs.Ranged.{alone-tail}
 
 -- no write was put off

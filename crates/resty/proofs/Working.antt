@@ -1,5 +1,5 @@
 -- From what each step says to what is said of the work.
-use Rattle.std.proofs.Common.{◌≡◌, ◌≢◌, ◌≤◌, ◌⊎◌, ℕ, inl, inr, List, ◌++◌, length, take, Option, IfSome, refl, sym, ap, subst, ◌∙◌, arith}
+use Rattle.std.proofs.Common.{◌≡◌, ◌≢◌, ◌≤◌, ℕ, inl, inr, List, ◌++◌, length, take, Option, IfSome, refl, sym, ap, subst, ◌∙◌, arith}
 use Rattle.std.proofs.lemmas.List.{length-take}
 use Rattle.resty_base.specs.Accounts.{Account}
 use Rattle.resty_base.specs.Counting.{Rose}

@@ -1,7 +1,6 @@
 -- Why the work on a command ends as it does.
 use Rattle.std.specs.Prelude.{◌≡◌, ℕ, ◌+◌, ◌≤◌, List, length, take, IfSome}
 use Rattle.resty_base.specs.Counting.{Rose}
-use Rattle.resty_base.specs.FileMap.{FileMap}
 use Rattle.resty_world.specs.Book.{Book}
 use Rattle.resty_world.specs.Given.{IsBadLine}
 use Rattle.resty_world.specs.declared.entry.Entry.{Entry}
