@@ -1,0 +1,4 @@
+pub mod Natives
+pub mod Printing
+pub mod Operations
+pub mod Answers

@@ -1,0 +1,37 @@
+//! What a call of `ngx` is given, as values.
+
+ghost use Rattle.std.specs.Prelude.{◌≡◌, IfOk, Some, None};
+ghost use Rattle.ngx_calls.specs.Answers.{values_of, IsGiven};
+
+use lua_lib_base::reserve_text;
+use lua_values::{Store, StoreFault, Value, Values};
+use resty_base::{Bytes, Whole};
+use std::alloc::{AllocError, Global};
+
+/// What a call is given.
+#[derive(Debug, Drop)]
+pub enum Given {
+    Nothing,
+    One,
+    /// Nil and this text.
+    Fault(Bytes),
+}
+
+/// The values of what is given, whose texts are made; none where the store has no room for them, which is then as before.
+pub fn give(alloc: Global, store: &mut Store, given: Given) -> Result<Option<Values>, AllocError>
+    ensures { IfOk result (IsGiven (values_of given store.old.heap) store.old store.new) }
+{
+    let mut values = Vec::new(alloc);
+    match given {
+        Given::Nothing => {}
+        Given::One => values.push(one())?,
+        Given::Fault(text) => {
+            if reserve_text(store, text.len()).is_err() {
+                return Ok(None);
+            }
+            values.push(Value::Nil)?;
+            values.push(Value::Text(text))?;
+        }
+    }
+    Ok(Some(Values::of(values)))
+}

@@ -1,0 +1,86 @@
+//! A handler of a request, which runs until it ends.
+
+ghost use Rattle.std.specs.Prelude.{◌≡◌, [], IfOk};
+ghost use Rattle.lua_values.specs.declared.values.Value.TheVariants.{Closure};
+ghost use Rattle.run_threads.specs.Handlers as spec;
+ghost use Rattle.run_threads.specs.Views.{handled_seen};
+
+use crate::answering::{Answered, Running, answer_call};
+use lua_machine::{Machine, Op, Slice};
+use lua_meaning::Resumed;
+use lua_values::{Store, Value, Values};
+use request_api::Req;
+use resty_base::Bytes;
+use std::alloc::{AllocError, Global};
+
+/// How a handler ended.
+#[derive(Debug, Drop)]
+pub enum End {
+    Ended,
+    Failed(Value),
+    /// The steps reached 1,000,000.
+    Spent,
+}
+
+/// What came of a handler: the bytes of each of its output calls, in order, and how it ended.
+#[derive(Debug, Drop)]
+pub struct Handled {
+    pub pieces: Vec<Bytes>,
+    pub end: End,
+}
+
+/// Runs the handler that a function is, for a request, in a store of its own.
+pub fn run_handler<M: Machine>(
+    alloc: Global,
+    machine: &M,
+    function: Value,
+    store: Store,
+    req: Req,
+) -> Result<(Req, Handled), AllocError>
+    ensures { IfOk result (λ r. handled_seen r.1 ≡ spec.handled (M.life machine.now function []) store req) }
+{
+    let thread = machine.start(alloc, function, Values::of(Vec::new(alloc)))?;
+    let running = Running {
+        req,
+        pieces: Vec::new(alloc),
+        store,
+    };
+    let answered = Answered {
+        answer: Resumed::Values(Values::of(Vec::new(alloc))),
+        running,
+    };
+    go_on(alloc, machine, thread, answered)
+}
+
+/// Resumes the thread with its answer, and so on until it ends.
+fn go_on<M: Machine>(
+    alloc: Global,
+    machine: &M,
+    thread: M::Thread,
+    answered: Answered,
+) -> Result<(Req, Handled), AllocError> {
+    let mut thread = thread;
+    let mut answered = answered;
+    loop {
+        let Answered {
+            answer,
+            mut running,
+        } = answered;
+        match machine.resume(thread, &mut running.store, answer) {
+            Slice::Parked(left, op) => {
+                thread = left;
+                answered = answer_call(alloc, running, op.number, op.args.as_slice())?;
+            }
+            Slice::Done(_) => return Ok(ended(running, End::Ended)),
+            Slice::Failed(value) => return Ok(ended(running, End::Failed(value))),
+            Slice::Spent => return Ok(ended(running, End::Spent)),
+            Slice::Memory | Slice::Unsupported => return Err(AllocError),
+        }
+    }
+}
+
+/// A handler has ended.
+fn ended(running: Running, end: End) -> (Req, Handled) {
+    let Running { req, pieces, .. } = running;
+    (req, Handled { pieces, end })
+}

@@ -1,0 +1,7 @@
+//! The threads of a run: a handler of a request runs in one thread, which is resumed with what its calls give until it ends.
+#![tactic(auto)]
+
+mod answering;
+mod handlers;
+
+pub use handlers::{End, Handled, run_handler};
