@@ -20,17 +20,8 @@ use Rattle.request_api.specs.declared.replies.Printed.{Printed}
 use Rattle.request_api.specs.declared.replies.Printed.TheVariants.{Took, SeenEof, OverLimit}
 use Rattle.request_api.specs.declared.requests.Req.{Req}
 use Rattle.request_api.specs.Replies.{printed, after_print}
-
--- how a handler ended: its function returned, failed with a value, or spent the steps
-pub data End : Type 0 where
-  Ended : End
-  Failed : (v : Value) → End
-  Spent : End
-
--- what came of it: the bytes of each of its output calls, in order, and how it ended
-pub record Handled : Type 0 where
-  pub pieces : List (List ℕ)
-  pub end : End
+use Rattle.run_threads.specs.declared.handlers.End.TheVariants.{Ended, Failed, Spent}
+use Rattle.run_threads.specs.declared.handlers.Handled.{Handled}
 
 -- a handler that runs: its request, the bytes of its output calls so far, and its store
 pub record Running : Type 0 where

@@ -3,14 +3,13 @@
 ghost use Rattle.std.specs.Prelude.{◌≡◌, [], IfOk};
 ghost use Rattle.lua_values.specs.declared.values.Value.TheVariants.{Closure};
 ghost use Rattle.run_threads.specs.Handlers as spec;
-ghost use Rattle.run_threads.specs.Views.{handled_seen};
 
 use crate::answering::{Answered, Running, answer_call};
 use lua_machine::{Machine, Op, Slice};
 use lua_meaning::Resumed;
 use lua_values::{Store, Value, Values};
 use request_api::Req;
-use resty_base::Bytes;
+use resty_base::ByteLists;
 use std::alloc::{AllocError, Global};
 
 /// How a handler ended.
@@ -25,7 +24,7 @@ pub enum End {
 /// What came of a handler: the bytes of each of its output calls, in order, and how it ended.
 #[derive(Debug, Drop)]
 pub struct Handled {
-    pub pieces: Vec<Bytes>,
+    pub pieces: ByteLists,
     pub end: End,
 }
 
@@ -37,7 +36,7 @@ pub fn run_handler<M: Machine>(
     store: Store,
     req: Req,
 ) -> Result<(Req, Handled), AllocError>
-    ensures { IfOk result (λ r. handled_seen r.1 ≡ spec.handled (M.life machine.now function []) store req) }
+    ensures { IfOk result (λ r. r.1 ≡ spec.handled (M.life machine.now function []) store req) }
 {
     let thread = machine.start(alloc, function, Values::of(Vec::new(alloc)))?;
     let running = Running {
@@ -82,5 +81,9 @@ fn go_on<M: Machine>(
 /// A handler has ended.
 fn ended(running: Running, end: End) -> (Req, Handled) {
     let Running { req, pieces, .. } = running;
-    (req, Handled { pieces, end })
+    let handled = Handled {
+        pieces: ByteLists::of(pieces),
+        end,
+    };
+    (req, handled)
 }

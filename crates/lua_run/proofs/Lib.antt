@@ -1,0 +1,3 @@
+mod Sending
+mod LiteralTurns
+mod Replies
