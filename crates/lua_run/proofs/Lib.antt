@@ -1,3 +1,2 @@
-mod Sending
-mod LiteralTurns
+mod RunTurns
 mod Replies

@@ -45,12 +45,12 @@ pub record Replied : Type 0 where
   pub sent : Sent
 
 -- what a handler came to, as a reply of this type
-abbrev pub replied_by : ℕ → Req → List ℕ → Handled → ℕ → Replied
-replied_by level req default_type h now = record { line = line_of level now h.end; sent = by_handler req default_type h now }
+abbrev pub replied_by : ℕ → List ℕ → Handled → ℕ → Replied
+replied_by level default_type h now = record { line = line_of level now h.end; sent = by_handler default_type h now }
 
 -- the handler of a number, run alone for the request, or the server's own reply
 abbrev pub replied : Site → Req → List ℕ → Result ℕ ℕ → ℕ → Replied
-replied site req default_type (Ok number) now = replied_by site.conf.log_level req default_type (handled (site.handler number) site.store req) now
+replied site req default_type (Ok number) now = replied_by site.conf.log_level default_type (handled (site.handler number) site.store req) now
 replied site req default_type (Err status) now = record { line = None; sent = of_status req default_type status now }
 
 abbrev pub reply_in : Site → Req → Scope → ℕ → Replied

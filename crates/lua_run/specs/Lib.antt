@@ -1,7 +1,6 @@
-pub mod Scopes
 pub mod Answers
+pub mod Views
 pub mod Runs
 pub mod Services
-pub mod Views
 pub mod RunLaws
 pub mod Replies

@@ -1,4 +1,4 @@
--- What the exchanges of a literal site's connections are: each request's own reply, whatever else came on that connection or on others.
+-- What the exchanges of connections to a site of Lua are: each request's own reply, whatever else came on that connection or on others.
 use Rattle.std.specs.Prelude.{◌≡◌, ◌⊎◌, ℕ, List, [], ◌∷◌}
 use Rattle.uri_args.specs.declared.targets.Target.{Target}
 use Rattle.http_in.specs.declared.heads.Head.{Head}
@@ -8,16 +8,15 @@ use Rattle.strand_contract.specs.Actions.{LocalAction}
 use Rattle.strand_contract.specs.Alone.{moment}
 use Rattle.request_api.specs.Requests as request
 use Rattle.connection.specs.Clients.{Exchange}
-use Rattle.literal_site.specs.declared.sites.LiteralSite.{LiteralSite}
-use Rattle.lua_run.specs.Answers.{reply_of, bytes_of}
-use Rattle.lua_run.specs.Services.{refusal}
+use Rattle.reply_stages.specs.Replies.{refusal}
+use Rattle.lua_run.specs.Answers.{Site, reply_of}
 use Rattle.reply_laws.specs.Replies.{IsUpTo}
 
 -- the bytes of the site's reply to a request, at a moment
-abbrev pub reply_to_head : LiteralSite → Head → Target → ℕ → List ℕ
-reply_to_head site head target now = bytes_of (reply_of site (request.begun head target 0)) now
+abbrev pub reply_to_head : Site → Head → Target → ℕ → List ℕ
+reply_to_head site head target now = (reply_of site (request.begun head target 0) now).sent.bytes
 
-module _ {J : Type 0} (es : List (LocalAction J)) (site : LiteralSite) where
+module _ {J : Type 0} (es : List (LocalAction J)) (site : Site) where
   -- these are what is made at a moment of what happened
   abbrev pub AreMade : (ℕ → List ℕ) → List ℕ → Type 0
   AreMade made bytes = (before : List (LocalAction J)) × IsUpTo es before × (bytes ≡ made (moment before))

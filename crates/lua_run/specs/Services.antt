@@ -1,18 +1,16 @@
--- A literal site, as its connections see it.
-use Rattle.std.specs.Prelude.{ℕ, List, [], ◌∷◌, length, slice_get}
+-- A site of Lua, as its connections see it.
+use Rattle.std.specs.Prelude.{ℕ, slice_get}
 use Rattle.std.specs.Option.{option_map_or}
 use Rattle.uri_args.specs.declared.targets.Target.{Target}
-use Rattle.http_reply.specs.BuiltIn.{built_in, status_body}
-use Rattle.http_reply.specs.Replies as http
-use Rattle.http_reply.specs.declared.ends.Framing.TheVariants.{Counted}
 use Rattle.connection.specs.Clients.{Times}
 use Rattle.connection.specs.Services.{Service}
 use Rattle.service_contract.specs.Serving.{Serving, service_of}
 use Rattle.conf.specs.declared.sites.Conf.{Conf}
 use Rattle.conf.specs.declared.sites.Settings.{Settings}
-use Rattle.literal_site.specs.declared.sites.LiteralSite.{LiteralSite}
-use Rattle.lua_run.specs.Runs.{Literal, literal_plan}
-use Rattle.lua_run.specs.Scopes.{settings_of, scope_of}
+use Rattle.reply_stages.specs.Replies.{refusal}
+use Rattle.reply_stages.specs.Scopes.{settings_of, scope_of}
+use Rattle.lua_run.specs.Answers.{Site}
+use Rattle.lua_run.specs.Runs.{Run, lua_plan}
 
 -- the header timer has the default server's setting, the others those of a request
 abbrev pub times_by : ℕ → Settings → Times
@@ -34,13 +32,9 @@ default_times conf = option_map_or (λ server. times_by server.header_timeout.0 
 abbrev pub times_of : Conf → Target → Times
 times_of conf target = option_map_or (λ scope. times_by (default_times conf).header (settings_of scope)) (scope_of conf target) no_times
 
--- the reply to a head that is refused
-abbrev pub refusal : (code now : ℕ) → List ℕ
-refusal code now = http.reply (built_in code) (Counted (length (status_body code))) (status_body code ∷ []) now
-
 -- beside its runs
-abbrev pub literal_serving : LiteralSite → Serving
-literal_serving site = record {
+abbrev pub lua_serving : Site → Serving
+lua_serving site = record {
   default_times = default_times site.conf;
   times_of = λ head target. times_of site.conf target;
   refusal = refusal;
@@ -48,5 +42,5 @@ literal_serving site = record {
 }
 
 -- and with them
-abbrev pub literal_service : {J : Type 0} → LiteralSite → Service J Literal
-literal_service site = service_of (literal_plan site) (literal_serving site)
+abbrev pub lua_service : {J : Type 0} → Site → Service J Run
+lua_service site = service_of (lua_plan site) (lua_serving site)

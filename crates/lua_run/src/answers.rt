@@ -79,11 +79,10 @@ fn replied_by<M: Machine>(
     ensures { IfOk result (λ r. r ≡ spec.replied (site_seen M.life site.now) req default_type.now (Ok number) now.0) }
 {
     let store = site.store.copy_store()?;
-    let (req, handled) = run_handler(alloc, &site.machine, handler(site, number), store, req)?;
-    Ok(Replied {
-        line: line_of(alloc, site.conf.log_level, now, &handled.end)?,
-        sent: by_handler(alloc, req, default_type, &handled, now)?,
-    })
+    let handled = run_handler(alloc, &site.machine, handler(site, number), store, req)?;
+    let line = line_of(alloc, site.conf.log_level, now, &handled.end)?;
+    let sent = by_handler(alloc, default_type, handled, now)?;
+    Ok(Replied { line, sent })
 }
 
 /// The server's own reply of this status.

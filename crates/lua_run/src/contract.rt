@@ -1,54 +1,56 @@
 //! The contract of a run, met.
 
-use crate::LiteralRun;
+use crate::{LuaRun, Site};
 use crate::run::{Work, queueing, silent, working};
 use http_in::Head;
-use literal_site::LiteralSite;
+use lua_machine::Machine;
 use request_api::Req;
 use resty_base::{Bytes, Ms};
 use run_contract::{NoJob, RunContract, RunSeen, RunTurn};
 use std::alloc::{AllocError, Global};
+use std::marker::PhantomData;
 use std::mem::replace;
 use strand_contract::Answer;
 use uri_args::Target;
 
-impl RunContract for LiteralRun {
+impl<M: Machine> RunContract for LuaRun<M> {
     ghost use Rattle.std.specs.Prelude.{◌≡◌, ◌+◌, if◌then◌else◌};
-    ghost use Rattle.lua_run.specs.Runs.{Literal, literal_plan, LiteralHolds, left_of_work};
-    ghost use Rattle.lua_run.specs.RunLaws.{literal-is-run};
+    ghost use Rattle.lua_run.specs.Runs.{Run, lua_plan, LuaHolds, left_of_work};
+    ghost use Rattle.lua_run.specs.RunLaws.{lua-is-run};
+    ghost use Rattle.lua_run.specs.Views.{site_seen};
 
-    type Site = LiteralSite;
+    type Site = Site<M>;
 
     type Job = NoJob;
 
-    ghost Inner = { Literal };
+    ghost Inner = { Run };
 
-    ghost plan = { λ site. literal_plan site };
+    ghost plan = { λ site. lua_plan (site_seen M.life site) };
 
-    ghost holds = { λ site b r. LiteralHolds b r };
+    ghost holds = { λ site b r. LuaHolds b r };
 
     ghost stands = { λ site run b r. (run.work ≡ r.work) × (run.has_client ≡ r.client) };
 
     ghost left = { λ run. left_of_work run.work + (if run.has_client then 1 else 0) };
 
-    ghost most = { λ site. 6 };
+    ghost most = { λ site. 7 };
 
-    ghost meets = { λ site. literal-is-run site };
+    ghost meets = { λ site. lua-is-run (site_seen M.life site) };
 
     ghost apart = { λ site run b c r same stands. stands };
 
-    fn zones(site: &LiteralSite) -> u32 {
+    fn zones(site: &Site<M>) -> u32 {
         site.conf.zones.len()
     }
 
-    fn zone_name(site: &LiteralSite, zone: u32) -> Option<&Bytes> {
+    fn zone_name(site: &Site<M>, zone: u32) -> Option<&Bytes> {
         match site.conf.zones.as_slice().get(zone as usize) {
             Some(zone) => Some(&zone.name),
             None => None,
         }
     }
 
-    fn zone_size(site: &LiteralSite, zone: u32) -> u64 {
+    fn zone_size(site: &Site<M>, zone: u32) -> u64 {
         match site.conf.zones.as_slice().get(zone as usize) {
             Some(zone) => zone.size,
             None => 0,
@@ -57,7 +59,7 @@ impl RunContract for LiteralRun {
 
     fn begin(
         alloc: Global,
-        site: &LiteralSite,
+        site: &Site<M>,
         now: Ms,
         sockets: u32,
         head: Head,
@@ -66,16 +68,17 @@ impl RunContract for LiteralRun {
         let _ = site;
         let _ = now;
         let _ = sockets;
-        let run = LiteralRun {
+        let run = LuaRun {
             work: Work::Request(Req::begin(alloc, head, target, 0)),
             has_client: true,
+            machine: PhantomData,
         };
         Ok((run, queueing(alloc)?))
     }
 
     fn begin_job(
         alloc: Global,
-        site: &LiteralSite,
+        site: &Site<M>,
         now: Ms,
         premature: bool,
         job: NoJob,
@@ -84,9 +87,10 @@ impl RunContract for LiteralRun {
         let _ = now;
         let _ = premature;
         let _ = job;
-        let run = LiteralRun {
+        let run = LuaRun {
             work: Work::Job,
             has_client: false,
+            machine: PhantomData,
         };
         Ok((run, queueing(alloc)?))
     }
@@ -94,7 +98,7 @@ impl RunContract for LiteralRun {
     fn given(
         &mut self,
         alloc: Global,
-        site: &LiteralSite,
+        site: &Site<M>,
         now: Ms,
         seen: RunSeen,
     ) -> Result<RunTurn<NoJob>, AllocError> {
@@ -118,7 +122,7 @@ impl RunContract for LiteralRun {
     fn answer(
         &mut self,
         alloc: Global,
-        site: &LiteralSite,
+        site: &Site<M>,
         now: Ms,
         answer: Answer,
     ) -> Result<RunTurn<NoJob>, AllocError> {
@@ -127,7 +131,7 @@ impl RunContract for LiteralRun {
         working(alloc, site, now, work)
     }
 
-    fn queued(&self, site: &LiteralSite, socket: u32) -> &[u8] {
+    fn queued(&self, site: &Site<M>, socket: u32) -> &[u8] {
         let _ = site;
         let _ = socket;
         &[]

@@ -2,14 +2,14 @@
 
 ghost use Rattle.std.specs.Prelude.{◌≡◌, slice_get, Some};
 ghost use Rattle.service_contract.specs.Serving.{times};
+ghost use Rattle.conf.specs.Reading.{IsWhole};
 ghost use Rattle.lua_run.specs.Services as spec;
 
-use crate::LiteralRun;
-use crate::answers::refusal;
-use crate::scopes::scope_of;
-use conf::{ServerConf, Settings};
+use crate::{LuaRun, Site};
+use conf::{Conf, ServerConf, Settings};
 use http_in::Head;
-use literal_site::LiteralSite;
+use lua_machine::Machine;
+use reply_stages::{refusal, scope_of};
 use resty_base::{Bytes, Ms};
 use service_contract::{ServiceContract, Times};
 use std::alloc::{AllocError, Global};
@@ -28,54 +28,58 @@ fn times_by(header: Ms, settings: &Settings) -> Times
 }
 
 /// The server of requests whose host no server names.
-fn default_server(site: &LiteralSite) -> &ServerConf
-    ensures { slice_get site.now.conf.servers site.now.conf.default_server ≡ Some result.now }
+fn default_server(conf: &Conf) -> &ServerConf
+    requires { IsWhole conf.now }
+    ensures { slice_get conf.now.servers conf.now.default_server ≡ Some result.now }
 {
-    &site.conf.servers.as_slice()[site.conf.default_server as usize]
+    &conf.servers.as_slice()[conf.default_server as usize]
 }
 
 /// The times of that server.
-fn default_times(site: &LiteralSite) -> Times
-    ensures { times result ≡ spec.default_times site.now.conf }
+fn default_times(conf: &Conf) -> Times
+    requires { IsWhole conf.now }
+    ensures { times result ≡ spec.default_times conf.now }
 {
-    let server = default_server(site);
+    let server = default_server(conf);
     times_by(server.header_timeout, &server.settings)
 }
 
 /// The times of a request.
-fn times_of(site: &LiteralSite, target: &Target) -> Times
-    ensures { times result ≡ spec.times_of site.now.conf target.now }
+fn times_of(conf: &Conf, target: &Target) -> Times
+    requires { IsWhole conf.now }
+    ensures { times result ≡ spec.times_of conf.now target.now }
 {
-    let header = default_times(site).header;
-    let scope = scope_of(site, target);
+    let header = default_times(conf).header;
+    let scope = scope_of(conf, target);
     times_by(header, scope.settings())
 }
 
-impl ServiceContract for LiteralRun {
-    ghost use Rattle.lua_run.specs.Services.{literal_serving};
-    ghost use Rattle.lua_run.specs.RunLaws.{six};
+impl<M: Machine> ServiceContract for LuaRun<M> {
+    ghost use Rattle.lua_run.specs.Services.{lua_serving};
+    ghost use Rattle.lua_run.specs.Views.{site_seen};
+    ghost use Rattle.lua_run.specs.RunLaws.{seven};
 
-    ghost serving = { λ site. literal_serving site };
+    ghost serving = { λ site. lua_serving (site_seen M.life site) };
 
-    ghost bound = { 6 };
+    ghost bound = { 7 };
 
-    ghost bounded = { λ site. six };
+    ghost bounded = { λ site. seven };
 
-    fn default_times(site: &LiteralSite) -> Times {
-        default_times(site)
+    fn default_times(site: &Site<M>) -> Times {
+        default_times(&site.conf)
     }
 
-    fn times_of(site: &LiteralSite, head: &Head, target: &Target) -> Times {
+    fn times_of(site: &Site<M>, head: &Head, target: &Target) -> Times {
         let _ = head;
-        times_of(site, target)
+        times_of(&site.conf, target)
     }
 
-    fn refusal(alloc: Global, site: &LiteralSite, code: u16, now: Ms) -> Result<Bytes, AllocError> {
+    fn refusal(alloc: Global, site: &Site<M>, code: u16, now: Ms) -> Result<Bytes, AllocError> {
         let _ = site;
         refusal(alloc, code, now)
     }
 
-    fn connections(site: &LiteralSite) -> u32 {
+    fn connections(site: &Site<M>) -> u32 {
         site.conf.connections
     }
 }

@@ -62,8 +62,8 @@ by_end req default_type pieces Ended now = whole req default_type None pieces no
 by_end req default_type pieces (Failed v) now = broken_off req default_type pieces now
 by_end req default_type pieces Spent now = broken_off req default_type pieces now
 
-abbrev pub by_handler : Req → List ℕ → Handled → ℕ → Sent
-by_handler req default_type h now = by_end req default_type h.pieces h.end now
+abbrev pub by_handler : List ℕ → Handled → ℕ → Sent
+by_handler default_type h now = by_end h.req default_type h.pieces h.end now
 
 -- the reply to a head that is refused
 abbrev pub refusal : (code now : ℕ) → List ℕ

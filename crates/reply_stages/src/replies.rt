@@ -145,17 +145,16 @@ fn broken_off(
 /// The reply of a handler, by what it printed and how it ended.
 pub fn by_handler(
     alloc: Global,
-    req: Req,
     default_type: &Bytes,
-    handled: &Handled,
+    handled: Handled,
     now: Ms,
 ) -> Result<Sent, AllocError>
-    ensures { IfOk result (λ sent. sent ≡ spec.by_handler req default_type.now handled.now now.0) }
+    ensures { IfOk result (λ sent. sent ≡ spec.by_handler default_type.now handled now.0) }
 {
-    let pieces = handled.pieces.as_slice();
-    match handled.end {
-        End::Ended => whole(alloc, &req, default_type, None, pieces, now),
-        End::Failed(_) | End::Spent => broken_off(alloc, req, default_type, pieces, now),
+    let Handled { req, pieces, end } = handled;
+    match end {
+        End::Ended => whole(alloc, &req, default_type, None, pieces.as_slice(), now),
+        End::Failed(_) | End::Spent => broken_off(alloc, req, default_type, pieces.as_slice(), now),
     }
 }
 

@@ -20,6 +20,7 @@ use Rattle.request_api.specs.declared.replies.Printed.{Printed}
 use Rattle.request_api.specs.declared.replies.Printed.TheVariants.{Took, SeenEof, OverLimit}
 use Rattle.request_api.specs.declared.requests.Req.{Req}
 use Rattle.request_api.specs.Replies.{printed, after_print}
+use Rattle.run_threads.specs.declared.handlers.End.{End}
 use Rattle.run_threads.specs.declared.handlers.End.TheVariants.{Ended, Failed, Spent}
 use Rattle.run_threads.specs.declared.handlers.Handled.{Handled}
 
@@ -73,20 +74,24 @@ answers_read read r = answers read.wanted (with_store r (with_steps read.steps r
 abbrev pub answers_call : ℕ → List Value → Running → Answered
 answers_call number args r = answers_read (read_operation number args r.store.heap) r
 
+-- a handler has ended
+abbrev pub came_to : Running → End → Handled
+came_to r end = record { req = r.req; pieces = r.pieces; end = end }
+
 -- The thread is resumed with an answer, after what it was resumed with in the past, and so on until it ends. A handler parks at most as often as it has
 -- steps, n times or fewer.
 abbrev pub goes_on : ℕ → Finish → List Resume → Answered → Handled
 abbrev pub comes_to : ℕ → Finish → List Resume → Running → Outcome → Handled
 
-goes_on zero life past a = record { pieces = a.running.pieces; end = Spent }
+goes_on zero life past a = came_to a.running Spent
 goes_on (suc n) life past a =
     let now = past ++ (record { store = a.running.store; answer = a.answer }) ∷ [] in comes_to n life now a.running (life now)
 
 comes_to n life past r (Asks number args position store) = goes_on n life past (answers_call number args (with_store r store))
-comes_to n life past r (Done vs store) = record { pieces = r.pieces; end = Ended }
-comes_to n life past r (Failure v store) = record { pieces = r.pieces; end = Failed v }
-comes_to n life past r OutOfSteps = record { pieces = r.pieces; end = Spent }
-comes_to n life past r Unbegun = record { pieces = r.pieces; end = Ended }
+comes_to n life past r (Done vs store) = came_to r Ended
+comes_to n life past r (Failure v store) = came_to r (Failed v)
+comes_to n life past r OutOfSteps = came_to r Spent
+comes_to n life past r Unbegun = came_to r Ended
 
 -- what comes of a handler that begins for a request in a store; what a thread is given as it begins isn't used
 abbrev pub handled : Finish → StoreView → Req → Handled

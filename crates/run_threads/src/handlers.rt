@@ -21,9 +21,10 @@ pub enum End {
     Spent,
 }
 
-/// What came of a handler: the bytes of each of its output calls, in order, and how it ended.
+/// What came of a handler: its request, with what was said of the reply, the bytes of each of its output calls, in order, and how it ended.
 #[derive(Debug, Drop)]
 pub struct Handled {
+    pub req: Req,
     pub pieces: ByteLists,
     pub end: End,
 }
@@ -35,8 +36,8 @@ pub fn run_handler<M: Machine>(
     function: Value,
     store: Store,
     req: Req,
-) -> Result<(Req, Handled), AllocError>
-    ensures { IfOk result (λ r. r.1 ≡ spec.handled (M.life machine.now function []) store req) }
+) -> Result<Handled, AllocError>
+    ensures { IfOk result (λ came. came ≡ spec.handled (M.life machine.now function []) store req) }
 {
     let thread = machine.start(alloc, function, Values::of(Vec::new(alloc)))?;
     let running = Running {
@@ -57,7 +58,7 @@ fn go_on<M: Machine>(
     machine: &M,
     thread: M::Thread,
     answered: Answered,
-) -> Result<(Req, Handled), AllocError> {
+) -> Result<Handled, AllocError> {
     let mut thread = thread;
     let mut answered = answered;
     loop {
@@ -79,11 +80,11 @@ fn go_on<M: Machine>(
 }
 
 /// A handler has ended.
-fn ended(running: Running, end: End) -> (Req, Handled) {
+fn ended(running: Running, end: End) -> Handled {
     let Running { req, pieces, .. } = running;
-    let handled = Handled {
+    Handled {
+        req,
         pieces: ByteLists::of(pieces),
         end,
-    };
-    (req, handled)
+    }
 }
