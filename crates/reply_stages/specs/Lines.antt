@@ -1,13 +1,12 @@
 -- Lines of the log (lua-nginx-module manual, `ngx.log`): the moment, the level and a text whose control bytes are escaped.
-use Rattle.std.specs.Prelude.{ℕ, ◌/◌, ◌%◌, ◌==◌, ◌||◌, nat_lt, nat_le, List, [], ◌∷◌, ◌++◌, codes, decimal, flat_map, if◌then◌else◌}
+use Rattle.std.specs.Prelude.{ℕ, ◌/◌, ◌%◌, ◌==◌, ◌||◌, nat_lt, nat_le, true, List, [], ◌∷◌, ◌++◌, codes, decimal, flat_map, Option, Some, None, if◌then◌else◌}
 use Rattle.std.specs.Fmt.{digit_glyph}
-use Rattle.std.specs.Prelude.{true, Option, Some, None}
 use Rattle.lua_values.specs.declared.values.Value.{Value}
 use Rattle.lua_values.specs.declared.values.Value.TheVariants.{Text}
 use Rattle.run_threads.specs.declared.handlers.End.{End}
 use Rattle.run_threads.specs.declared.handlers.End.TheVariants.{Ended, Failed, Spent}
 
--- a control byte is written as `\x` and two digits
+-- a control byte is written as `\x` and two upper-case hex digits
 abbrev pub escaped_byte : ℕ → List ℕ
 escaped_byte b = if nat_lt b 32 || b == 127 then codes "\\x" ++ digit_glyph true (b / 16) ∷ digit_glyph true (b % 16) ∷ [] else b ∷ []
 
@@ -19,7 +18,7 @@ error_line now text = decimal now ++ codes " [error] " ++ flat_map escaped_byte 
 abbrev pub error_level : ℕ
 error_level = 4
 
--- what a fault says: a text, or nothing that is known
+-- what is said of a fault: its text, where it is one
 abbrev pub message_of : Value → List ℕ
 message_of (Text text) = text
 message_of v = codes "unknown reason"

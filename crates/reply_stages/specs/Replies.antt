@@ -1,7 +1,8 @@
--- The reply to a request (RFC 9110, 15; RFC 9112, 6.3 and 9.3): its handler's, or one that the server makes itself.
-use Rattle.std.specs.Prelude.{ℕ, Bool, true, not, ◌&&◌, List, [], ◌∷◌, ◌++◌, length, flat_map, Option, Some, None}
+-- The reply to a request (RFC 9110, 15; RFC 9112, 6.3, 8 and 9.3): its handler's, or one that the server makes itself.
+use Rattle.std.specs.Prelude.{ℕ, Bool, true, not, ◌&&◌, ◌||◌, List, [], ◌∷◌, ◌++◌, length, flat_map, Option, Some, None}
+use Rattle.std.specs.List.{concat}
 use Rattle.http_in.specs.declared.heads.Head.{Head}
-use Rattle.http_reply.specs.Bodies.{framing, body_bytes}
+use Rattle.http_reply.specs.Bodies.{framing, body_bytes, falls_short}
 use Rattle.http_reply.specs.BuiltIn.{built_in, status_body}
 use Rattle.http_reply.specs.Chunks.{chunk}
 use Rattle.http_reply.specs.Heads.{head_text}
@@ -24,17 +25,21 @@ may_keep head = head.keep && not head.expects
 abbrev pub with_status : Req → ℕ → Req
 with_status req status = record req { reply = record req.reply { status = status } }
 
--- the head of its reply, of this type and length
+-- the head of its reply: a handler's has the type and the length that it set, or this type; the server's own has this length
 abbrev pub head_of : Req → List ℕ → Option ℕ → ReplyHead
 head_of req default_type length = reply_head req default_type length (may_keep req.head)
 
-abbrev pub framing_of : Req → Option ℕ → Framing
-framing_of req length = framing req.head.method req.reply.status req.head.minor length
+-- how the end of the body is told under such a head
+abbrev pub framing_of : Req → ReplyHead → Framing
+framing_of req head = framing req.head.method req.reply.status req.head.minor head.length
 
--- a whole reply at a moment: its head, and its body in pieces
+-- a whole reply under a head at a moment, its body in pieces: the connection closes also where these are fewer bytes than the head says
+abbrev pub whole_under : Req → ReplyHead → List (List ℕ) → ℕ → Sent
+whole_under req head pieces now = let told = framing_of req head in
+    record { bytes = http.reply head told pieces now; closes = not head.keep || falls_short told (length (concat pieces)) }
+
 abbrev pub whole : Req → List ℕ → Option ℕ → List (List ℕ) → ℕ → Sent
-whole req default_type length pieces now = let head = head_of req default_type length in
-    record { bytes = http.reply head (framing_of req length) pieces now; closes = not head.keep }
+whole req default_type length pieces now = whole_under req (head_of req default_type length) pieces now
 
 -- the server's own of a status, with the body of the status
 abbrev pub of_status : Req → List ℕ → ℕ → ℕ → Sent
@@ -47,16 +52,18 @@ unended_body Chunked pieces = flat_map chunk pieces
 unended_body told pieces = body_bytes told pieces
 
 -- a reply that isn't ended: the connection closes after what was sent
-abbrev pub unended : Req → List ℕ → List (List ℕ) → ℕ → Sent
-unended req default_type pieces now =
-    record { bytes = head_text (head_of req default_type None) now ++ unended_body (framing_of req None) pieces; closes = true }
+abbrev pub unended_under : Req → ReplyHead → List (List ℕ) → ℕ → Sent
+unended_under req head pieces now = record { bytes = head_text head now ++ unended_body (framing_of req head) pieces; closes = true }
 
--- the reply of a handler that failed: the server's own where it had no output, else what there was
+abbrev pub unended : Req → List ℕ → List (List ℕ) → ℕ → Sent
+unended req default_type pieces now = unended_under req (head_of req default_type None) pieces now
+
+-- the reply of a handler that failed: the server's own before any output, which would have sent the head; else what there was
 abbrev pub broken_off : Req → List ℕ → List (List ℕ) → ℕ → Sent
 broken_off req default_type [] now = of_status req default_type 500 now
 broken_off req default_type (piece ∷ pieces) now = unended req default_type (piece ∷ pieces) now
 
--- the reply of a handler, by how it ended
+-- the reply of a handler, by what it made and how it ended
 abbrev pub by_end : Req → List ℕ → List (List ℕ) → End → ℕ → Sent
 by_end req default_type pieces Ended now = whole req default_type None pieces now
 by_end req default_type pieces (Failed v) now = broken_off req default_type pieces now

@@ -32,10 +32,11 @@ fn put_escaped(line: &mut Vec<u8>, byte: u8) -> Result<(), AllocError>
     if byte < 32 || byte == 127 {
         line.extend_from_slice(b"\\x")?;
         line.push(hex_digit(byte / 16))?;
-        line.push(hex_digit(byte % 16))
+        line.push(hex_digit(byte % 16))?;
     } else {
-        line.push(byte)
+        line.push(byte)?;
     }
+    Ok(())
 }
 
 /// Puts a text with its control bytes escaped.

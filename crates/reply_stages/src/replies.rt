@@ -1,6 +1,8 @@
 //! The reply to a request.
 
-ghost use Rattle.std.specs.Prelude.{◌≡◌, ◌++◌, None, flat_map, IfOk, OnOk};
+ghost use Rattle.std.specs.Prelude.{◌≡◌, ◌++◌, length, nat_lt, flat_map, IfOk, OnOk};
+ghost use Rattle.std.specs.List.{concat};
+ghost use Rattle.http_reply.specs.Bodies as bodies;
 ghost use Rattle.http_reply.specs.Chunks.{chunk};
 ghost use Rattle.reply_stages.specs.Replies as spec;
 
@@ -27,7 +29,7 @@ fn may_keep(head: &Head) -> bool
     head.keep && !head.expects
 }
 
-/// The head of the reply, of this type and length.
+/// The head of the reply: a handler's has the type and the length that it set, or this type; the server's own has this length.
 fn head_of(
     alloc: Global,
     req: &Req,
@@ -39,10 +41,54 @@ fn head_of(
     req.reply_head(alloc, default_type, length, may_keep(&req.head))
 }
 
-fn framing_of(req: &Req, length: Option<u64>) -> Framing
-    ensures { result ≡ spec.framing_of req.now length }
+/// How the end of the body is told under such a head.
+fn framing_of(req: &Req, head: &ReplyHead) -> Framing
+    ensures { result ≡ spec.framing_of req.now head.now }
 {
-    framing(&req.head.method, req.reply.status, req.head.minor, length)
+    framing(
+        &req.head.method,
+        req.reply.status,
+        req.head.minor,
+        head.length,
+    )
+}
+
+/// Whether the pieces have fewer bytes than so many.
+fn are_fewer(pieces: &[Bytes], count: u64) -> bool
+    ensures { result ≡ nat_lt (length (concat pieces.now)) count }
+{
+    let mut missing = count;
+    for piece in pieces {
+        missing = missing.saturating_sub(piece.len() as u64);
+    }
+    missing > 0
+}
+
+/// Whether the pieces have fewer bytes than the head says.
+fn fall_short(pieces: &[Bytes], told: Framing) -> bool
+    ensures { result ≡ bodies.falls_short told (length (concat pieces.now)) }
+{
+    match told {
+        Framing::Counted(count) => are_fewer(pieces, count),
+        Framing::Bodiless | Framing::Chunked | Framing::UntilClose => false,
+    }
+}
+
+/// A whole reply under this head.
+fn whole_under(
+    alloc: Global,
+    req: &Req,
+    head: &ReplyHead,
+    pieces: &[Bytes],
+    now: Ms,
+) -> Result<Sent, AllocError>
+    ensures { IfOk result (λ sent. sent ≡ spec.whole_under req.now head.now pieces.now now.0) }
+{
+    let told = framing_of(req, head);
+    Ok(Sent {
+        bytes: reply(alloc, head, told, pieces, now)?,
+        closes: !head.keep || fall_short(pieces, told),
+    })
 }
 
 /// A whole reply of this type, length and body.
@@ -57,11 +103,7 @@ fn whole(
     ensures { IfOk result (λ sent. sent ≡ spec.whole req.now default_type.now length pieces.now now.0) }
 {
     let head = head_of(alloc, req, default_type, length)?;
-    let bytes = reply(alloc, &head, framing_of(req, length), pieces, now)?;
-    Ok(Sent {
-        bytes,
-        closes: !head.keep,
-    })
+    whole_under(alloc, req, &head, pieces, now)
 }
 
 /// The reply of this status that the server makes itself.
@@ -105,7 +147,26 @@ fn put_unended(
     }
 }
 
-/// A reply that isn't ended: the connection closes after what was sent.
+/// A reply under this head that isn't ended: the connection closes after what was sent.
+fn unended_under(
+    alloc: Global,
+    req: &Req,
+    head: &ReplyHead,
+    pieces: &[Bytes],
+    now: Ms,
+) -> Result<Sent, AllocError>
+    ensures { IfOk result (λ sent. sent ≡ spec.unended_under req.now head.now pieces.now now.0) }
+{
+    let mut bytes = Vec::new(alloc);
+    bytes.extend_from_slice(&head_text(alloc, head, now)?)?;
+    put_unended(alloc, &mut bytes, framing_of(req, head), pieces)?;
+    Ok(Sent {
+        bytes: Bytes::from_vec(bytes)?,
+        closes: true,
+    })
+}
+
+/// A reply of this type that isn't ended.
 fn unended(
     alloc: Global,
     req: &Req,
@@ -116,16 +177,10 @@ fn unended(
     ensures { IfOk result (λ sent. sent ≡ spec.unended req.now default_type.now pieces.now now.0) }
 {
     let head = head_of(alloc, req, default_type, None)?;
-    let mut bytes = Vec::new(alloc);
-    bytes.extend_from_slice(&head_text(alloc, &head, now)?)?;
-    put_unended(alloc, &mut bytes, framing_of(req, None), pieces)?;
-    Ok(Sent {
-        bytes: Bytes::from_vec(bytes)?,
-        closes: true,
-    })
+    unended_under(alloc, req, &head, pieces, now)
 }
 
-/// The reply of a handler that failed: the server's own where it had no output, else what there was.
+/// The reply of a handler that failed: the server's own before any output, which would have sent the head; else what there was.
 fn broken_off(
     alloc: Global,
     req: Req,
@@ -142,7 +197,7 @@ fn broken_off(
     }
 }
 
-/// The reply of a handler, by what it printed and how it ended.
+/// The reply of a handler, by what it made and how it ended.
 pub fn by_handler(
     alloc: Global,
     default_type: &Bytes,
