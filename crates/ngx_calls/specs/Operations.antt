@@ -1,6 +1,5 @@
 -- What a call of `ngx` asks for.
-use Rattle.std.specs.Prelude.{ℕ, ◌+◌, ◌/◌, List, [], ◌++◌, take, codes, min, if◌then◌else◌}
-use Rattle.std.specs.Ordering.{nat_eq}
+use Rattle.std.specs.Prelude.{ℕ, ◌/◌, List, [], ◌++◌, take, codes, min, nat_eq, if◌then◌else◌}
 use Rattle.lua_lib_base.specs.Refusals.{expected_text}
 use Rattle.lua_lib_base.specs.declared.refusals.Expected.TheVariants.{String}
 use Rattle.lua_operators.specs.NamedFaults.{argument_text}

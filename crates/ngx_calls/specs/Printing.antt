@@ -1,5 +1,8 @@
 -- What `ngx.print` and `ngx.say` print of their arguments (lua-nginx-module manual, `ngx.print`): each value by its text, and an array by its elements.
-use Rattle.std.specs.Prelude.{ℕ, zero, suc, ◌+◌, nat_lt, Bool, true, false, List, [], ◌∷◌, ◌++◌, length, codes, flat_map, sum_by, Option, Some, None, option_map, if◌then◌else◌}
+use Rattle.std.specs.Prelude.{ℕ, zero, suc, ◌+◌, nat_lt, List, [], ◌∷◌, drop, length, map, codes, flat_map, sum_by}
+use Rattle.std.specs.Prelude.{Option, Some, None, unwrap_or, option_map, option_and_then, if◌then◌else◌}
+use Rattle.std.specs.List.{range_with_len}
+use Rattle.std.specs.Option.{is_some, option_or}
 use Rattle.lua_lib_base.specs.Work.{texts_length}
 use Rattle.lua_operators.specs.Conversions.{text_of}
 use Rattle.lua_operators.specs.Types.{type_of}
@@ -19,80 +22,63 @@ most_levels = 200
 abbrev pub most_values : ℕ
 most_values = 1_000_000
 
--- the values of a table at the numbers after i, n of them
-abbrev pub elements_after : List (Value × Value) → ℕ → ℕ → List Value
-elements_after ps i zero = []
-elements_after ps i (suc n) = value_at ps (number (i + 1)) ∷ elements_after ps (i + 1) n
+-- the values of a table at n numbers after i
+abbrev pub elements_from : List (Value × Value) → (i n : ℕ) → List Value
+elements_from ps i n = map (λ k. value_at ps (number (k + 1))) (range_with_len i n)
 
--- the elements of a table as an array: those at the numbers from 1 to its length
+-- its elements as an array: the values at the numbers from 1 to its length
 abbrev pub elements_of : Heap → ℕ → List Value
-elements_of h t = elements_after (pairs_of h t) 0 (border_of (pairs_of h t))
+elements_of h t = elements_from (pairs_of h t) 0 (border_of (pairs_of h t))
 
--- two lists of values that are met, one after the other, if both are there
-abbrev pub both_met : Option (List Value) → Option (List Value) → Option (List Value)
-both_met None more = None
-both_met (Some vs) None = None
-both_met (Some vs) (Some ws) = Some (vs ++ ws)
+-- what is met in each of some values, if that can be told of all
+abbrev pub met_in_each : (Value → Option (List Value)) → List Value → Option (List (List Value))
+met_in_each met [] = Some []
+met_in_each met (v ∷ vs) = option_and_then (λ first. option_map (λ others. first ∷ others) (met_in_each met vs)) (met v)
 
-abbrev pub met_in : (Value → Option (List Value)) → List Value → Option (List Value)
-met_in met [] = Some []
-met_in met (v ∷ vs) = both_met (met v) (met_in met vs)
+-- all together, in order
+abbrev pub together : List (List Value) → List Value
+together met = flat_map (λ vs. vs) met
 
--- The values that are met in one: itself, and in a table those that are met in its elements. There are none where arrays are in one another more than
--- k levels deep.
-abbrev pub met_within : ℕ → Heap → Value → Option (List Value)
-met_within zero h (Table t) = None
-met_within (suc k) h (Table t) = option_map (λ vs. Table t ∷ vs) (met_in (met_within k h) (elements_of h t))
-met_within k h v = Some (v ∷ [])
+-- The values that are met in one: itself, and after a table what is met in its elements. It can't be told where arrays are in one another more than k
+-- levels deep.
+unfoldable pub met_in : ℕ → Heap → Value → Option (List Value)
+met_in zero h (Table t) = None
+met_in (suc k) h (Table t) = option_map (λ met. Table t ∷ together met) (met_in_each (met_in k h) (elements_of h t))
+met_in k h v = Some (v ∷ [])
 
-abbrev pub met_in_all : Heap → List Value → Option (List Value)
-met_in_all h args = met_in (met_within most_levels h) args
+-- the text of a value that is met, if it can be printed; that of an array is nothing beside those of its elements
+abbrev pub text_printed : Value → Option (List ℕ)
+text_printed Nil = Some (text_of Nil)
+text_printed (Truth truth) = Some (text_of (Truth truth))
+text_printed (Number n) = Some (text_of (Number n))
+text_printed (Text text) = Some text
+text_printed (Table t) = Some []
+text_printed Null = Some (codes "null")
+text_printed v = None
 
--- the text of a value that is met: of an array those of its elements stand for it
 abbrev pub printed_text : Value → List ℕ
-printed_text (Table t) = []
-printed_text Null = codes "null"
-printed_text v = text_of v
+printed_text v = unwrap_or (text_printed v) []
 
--- whether it can be printed
-abbrev pub is_printed : Value → Bool
-is_printed Nil = true
-is_printed (Truth truth) = true
-is_printed (Number n) = true
-is_printed (Text text) = true
-is_printed (Table t) = true
-is_printed Null = true
-is_printed v = false
-
--- the type of the first value of a list that can't be printed
+-- the type of the first value that can't be printed
 abbrev pub unprinted : List Value → Option LuaType
 unprinted [] = None
-unprinted (v ∷ vs) = if is_printed v then unprinted vs else Some (type_of v)
+unprinted (v ∷ vs) = if is_some (text_printed v) then unprinted vs else Some (type_of v)
 
--- what is met in an argument, if it can be told
-abbrev pub met_or_none : Option (List Value) → List Value
-met_or_none None = []
-met_or_none (Some vs) = vs
+-- with the number of the argument in which it is met
+abbrev pub unprinted_in : ℕ → List Value → Option (ℕ × LuaType)
+unprinted_in i met = option_map (λ found. (i, found)) (unprinted met)
 
-abbrev pub at_argument : ℕ → Option LuaType → Option (ℕ × LuaType) → Option (ℕ × LuaType)
-at_argument i None later = later
-at_argument i (Some found) later = Some (i, found)
+-- the first of all arguments, which are numbered from i on
+abbrev pub wrong_argument : ℕ → List (List Value) → Option (ℕ × LuaType)
+wrong_argument i [] = None
+wrong_argument i (met ∷ more) = option_or (unprinted_in i met) (wrong_argument (i + 1) more)
 
--- the first argument in which there is a value that can't be printed, counted from i, with the type of that value
-abbrev pub wrong_argument : ℕ → Heap → List Value → Option (ℕ × LuaType)
-wrong_argument i h [] = None
-wrong_argument i h (v ∷ vs) = at_argument i (unprinted (met_or_none (met_within most_levels h v))) (wrong_argument (i + 1) h vs)
+-- how many bytes of text are taken out of arrays: those of all that is met in an argument but itself
+abbrev pub taken_out : List Value → ℕ
+taken_out met = texts_length (drop 1 met)
 
--- the bytes of the texts that are taken out of an array
-abbrev pub taken_out : Value → List Value → ℕ
-taken_out (Table t) vs = texts_length vs
-taken_out v vs = 0
-
-abbrev pub taken_from : Heap → List Value → ℕ
-taken_from h args = sum_by (λ v. taken_out v (met_or_none (met_within most_levels h v))) args
-
--- what a call comes to: it is refused, since its arrays are too deep or hold too much, or since an argument can't be printed; or it prints bytes, and took
--- so many bytes of text out of arrays
+-- What a call comes to: it is refused, since its arrays are too deep or hold too much, or since an argument can't be printed; or it prints bytes, and took
+-- so many bytes of text out of arrays.
 pub data Printing : Type 0 where
   BadRequest : Printing
   BadArgument : (number : ℕ) (found : LuaType) → Printing
@@ -102,10 +88,12 @@ abbrev pub unless_wrong : Option (ℕ × LuaType) → Printing → Printing
 unless_wrong None p = p
 unless_wrong (Some wrong) p = BadArgument wrong.0 wrong.1
 
-abbrev pub printing_of : Option (ℕ × LuaType) → ℕ → Option (List Value) → Printing
-printing_of wrong taken None = BadRequest
-printing_of wrong taken (Some vs) = if nat_lt most_values (length vs) then BadRequest else unless_wrong wrong (Prints (flat_map printed_text vs) taken)
+abbrev pub printing_of : Option (List (List Value)) → Printing
+printing_of None = BadRequest
+printing_of (Some met) =
+    if nat_lt most_values (length (together met)) then BadRequest
+    else unless_wrong (wrong_argument 1 met) (Prints (flat_map printed_text (together met)) (sum_by taken_out met))
 
 -- what the arguments come to
 abbrev pub printing : Heap → List Value → Printing
-printing h args = printing_of (wrong_argument 1 h args) (taken_from h args) (met_in_all h args)
+printing h args = printing_of (met_in_each (met_in most_levels h) args)

@@ -1,11 +1,11 @@
 //! What a call of `ngx` is given, as values.
 
-ghost use Rattle.std.specs.Prelude.{◌≡◌, IfOk, Some, None};
+ghost use Rattle.std.specs.Prelude.{IfOk};
 ghost use Rattle.ngx_calls.specs.Answers.{values_of, IsGiven};
 
-use lua_lib_base::reserve_text;
-use lua_values::{Store, StoreFault, Value, Values};
-use resty_base::{Bytes, Whole};
+use lua_lib_base::{reserve_text, small_number};
+use lua_values::{Store, Value, Values};
+use resty_base::Bytes;
 use std::alloc::{AllocError, Global};
 
 /// What a call is given.
@@ -21,17 +21,14 @@ pub enum Given {
 pub fn give(alloc: Global, store: &mut Store, given: Given) -> Result<Option<Values>, AllocError>
     ensures { IfOk result (IsGiven (values_of given store.old.heap) store.old store.new) }
 {
-    let mut values = Vec::new(alloc);
     match given {
-        Given::Nothing => {}
-        Given::One => values.push(one())?,
+        Given::Nothing => Ok(Some(Values::of(Vec::new(alloc)))),
+        Given::One => Ok(Some(Values::of(vec![in alloc; Value::Number(small_number(1))]?))),
         Given::Fault(text) => {
             if reserve_text(store, text.len()).is_err() {
                 return Ok(None);
             }
-            values.push(Value::Nil)?;
-            values.push(Value::Text(text))?;
+            Ok(Some(Values::of(vec![in alloc; Value::Nil, Value::Text(text)]?)))
         }
     }
-    Ok(Some(Values::of(values)))
 }

@@ -8,7 +8,7 @@ use Rattle.lua_meaning.specs.declared.resumes.Resumed.TheVariants as resumed
 use Rattle.lua_operators.specs.Faults.{fault_text}
 use Rattle.lua_operators.specs.declared.faults.Fault.TheVariants.{StorageLimit}
 use Rattle.lua_values.specs.declared.values.Value.{Value}
-use Rattle.lua_values.specs.Heap.{Heap, StoreView, step_limit}
+use Rattle.lua_values.specs.Heap.{StoreView, step_limit}
 use Rattle.ngx_calls.specs.declared.answers.Given.{Given}
 use Rattle.ngx_calls.specs.declared.answers.Given.TheVariants as given
 use Rattle.ngx_calls.specs.declared.operations.Read.{Read}
@@ -78,22 +78,26 @@ answers_call number args r = answers_read (read_operation number args r.store.he
 abbrev pub came_to : Running → End → Handled
 came_to r end = record { req = r.req; pieces = r.pieces; end = end }
 
--- The thread is resumed with an answer, after what it was resumed with in the past, and so on until it ends. A handler parks at most as often as it has
--- steps, n times or fewer.
-abbrev pub goes_on : ℕ → Finish → List Resume → Answered → Handled
-abbrev pub comes_to : ℕ → Finish → List Resume → Running → Outcome → Handled
+-- what comes of a handler whose thread came to this; at a call of `ngx` it goes on with the answer
+abbrev pub after_resume : (Answered → Handled) → Running → Outcome → Handled
+after_resume go r (Asks number args position store) = go (answers_call number args (with_store r store))
+after_resume go r (Done vs store) = came_to r Ended
+after_resume go r (Failure v store) = came_to r (Failed v)
+after_resume go r OutOfSteps = came_to r Spent
+after_resume go r Unbegun = came_to r Ended
 
+abbrev pub resume_with : Answered → Resume
+resume_with a = record { store = a.running.store; answer = a.answer }
+
+-- What comes of a handler whose thread was resumed with these in the past and is now resumed with an answer, and so on until it ends, n times at most.
+unfoldable pub goes_on : ℕ → Finish → List Resume → Answered → Handled
 goes_on zero life past a = came_to a.running Spent
-goes_on (suc n) life past a =
-    let now = past ++ (record { store = a.running.store; answer = a.answer }) ∷ [] in comes_to n life now a.running (life now)
+goes_on (suc n) life past a = let resumes = past ++ resume_with a ∷ [] in after_resume (goes_on n life resumes) a.running (life resumes)
 
-comes_to n life past r (Asks number args position store) = goes_on n life past (answers_call number args (with_store r store))
-comes_to n life past r (Done vs store) = came_to r Ended
-comes_to n life past r (Failure v store) = came_to r (Failed v)
-comes_to n life past r OutOfSteps = came_to r Spent
-comes_to n life past r Unbegun = came_to r Ended
+-- what a thread is given as it begins, which isn't used
+abbrev pub begun : StoreView → Req → Answered
+begun store req = record { answer = resumed.Values []; running = record { req = req; pieces = []; store = store } }
 
--- what comes of a handler that begins for a request in a store; what a thread is given as it begins isn't used
+-- What comes of a handler that begins for a request in a store. Its thread is resumed once, and once for each call of `ngx`, each of which counts a step.
 abbrev pub handled : Finish → StoreView → Req → Handled
-handled life store req =
-    goes_on (suc step_limit) life [] (record { answer = resumed.Values []; running = record { req = req; pieces = []; store = store } })
+handled life store req = goes_on (suc step_limit) life [] (begun store req)

@@ -1,2 +1,3 @@
 pub mod Handlers
 pub mod Views
+pub mod Threads

@@ -1,7 +1,9 @@
 //! What a call of a running handler is given.
 
-ghost use Rattle.std.specs.Prelude.{◌≡◌, IfOk};
+ghost use Rattle.std.specs.Prelude.{◌≡◌, ◌≤◌, IfOk};
+ghost use Rattle.lua_values.specs.Heap.{step_limit};
 ghost use Rattle.run_threads.specs.Handlers as spec;
+ghost use Rattle.run_threads.specs.Views.{answered_seen, running_seen};
 
 use lua_meaning::Resumed;
 use lua_operators::Fault;
@@ -32,10 +34,19 @@ pub(crate) fn answer_call(
     running: Running,
     number: u32,
     args: &[Value],
-) -> Result<Answered, AllocError> {
+) -> Result<Answered, AllocError>
+    ensures { IfOk result (λ a. answered_seen a ≡ spec.answers_call number args.now (running_seen running)) }
+{
     let mut running = running;
     let Read { wanted, steps } = read_operation(alloc, number, args, &running.store)?;
     running.store.add_steps(steps);
+    answer(alloc, running, wanted)
+}
+
+/// What a call is given, by what it asks for.
+fn answer(alloc: Global, running: Running, wanted: Wanted) -> Result<Answered, AllocError>
+    ensures { IfOk result (λ a. answered_seen a ≡ spec.answers wanted (running_seen running)) }
+{
     match wanted {
         Wanted::Print(bytes) => print(alloc, running, bytes),
         Wanted::Refused(text) => Ok(raise(running, text)),
@@ -44,26 +55,31 @@ pub(crate) fn answer_call(
 }
 
 /// An output call of these bytes.
-fn print(alloc: Global, running: Running, bytes: Bytes) -> Result<Answered, AllocError> {
+fn print(alloc: Global, running: Running, bytes: Bytes) -> Result<Answered, AllocError>
+    ensures { IfOk result (λ a. answered_seen a ≡ spec.answers (Wanted.Print bytes) (running_seen running)) }
+{
     let mut running = running;
     match running.req.print(&bytes) {
         Printed::Took => {
             running.pieces.push(bytes)?;
             give_to(alloc, running, Given::One)
         }
-        Printed::SeenEof => {
-            let text = Bytes::from_static(b"seen eof");
-            give_to(alloc, running, Given::Fault(text))
-        }
-        Printed::OverLimit => {
-            let text = Bytes::from_static(b"output limit");
-            give_to(alloc, running, Given::Fault(text))
-        }
+        Printed::SeenEof => refuse(alloc, running, b"seen eof"),
+        Printed::OverLimit => refuse(alloc, running, b"output limit"),
     }
 }
 
+/// The call is given nil and this text.
+fn refuse(alloc: Global, running: Running, text: &'static [u8]) -> Result<Answered, AllocError>
+    ensures { IfOk result (λ a. answered_seen a ≡ spec.is_given (Given.Fault text.now) (running_seen running)) }
+{
+    give_to(alloc, running, Given::Fault(Bytes::from_static(text)))
+}
+
 /// The call is given this; where the store has no room for it the call fails.
-fn give_to(alloc: Global, running: Running, given: Given) -> Result<Answered, AllocError> {
+fn give_to(alloc: Global, running: Running, given: Given) -> Result<Answered, AllocError>
+    ensures { IfOk result (λ a. answered_seen a ≡ spec.is_given given (running_seen running)) }
+{
     let mut running = running;
     match give(alloc, &mut running.store, given)? {
         Some(values) => Ok(Answered {
@@ -75,7 +91,9 @@ fn give_to(alloc: Global, running: Running, given: Given) -> Result<Answered, Al
 }
 
 /// The call fails with a text.
-fn raise(running: Running, text: Bytes) -> Answered {
+fn raise(running: Running, text: Bytes) -> Answered
+    ensures { answered_seen result ≡ spec.raises text (running_seen running) }
+{
     Answered {
         answer: Resumed::Raise(text),
         running,

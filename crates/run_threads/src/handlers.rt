@@ -1,11 +1,14 @@
 //! A handler of a request, which runs until it ends.
 
-ghost use Rattle.std.specs.Prelude.{◌≡◌, [], IfOk};
-ghost use Rattle.lua_values.specs.declared.values.Value.TheVariants.{Closure};
+ghost use Rattle.std.specs.Prelude.{◌≡◌, ◌≤◌, [], IfOk};
+ghost use Rattle.lua_machine.specs.Finishes.{Resumes, CountsSteps};
+ghost use Rattle.lua_values.specs.Heap.{step_limit};
 ghost use Rattle.run_threads.specs.Handlers as spec;
+ghost use Rattle.run_threads.specs.Threads.{IsCome};
+ghost use Rattle.run_threads.specs.Views.{answered_seen, running_seen};
 
 use crate::answering::{Answered, Running, answer_call};
-use lua_machine::{Machine, Op, Slice};
+use lua_machine::{Machine, Slice};
 use lua_meaning::Resumed;
 use lua_values::{Store, Value, Values};
 use request_api::Req;
@@ -40,16 +43,22 @@ pub fn run_handler<M: Machine>(
     ensures { IfOk result (λ came. came ≡ spec.handled (M.life machine.now function []) store req) }
 {
     let thread = machine.start(alloc, function, Values::of(Vec::new(alloc)))?;
+    go_on(alloc, machine, thread, begun(alloc, store, req))
+}
+
+/// A handler that begins.
+fn begun(alloc: Global, store: Store, req: Req) -> Answered
+    ensures { answered_seen result ≡ spec.begun store req }
+{
     let running = Running {
         req,
         pieces: Vec::new(alloc),
         store,
     };
-    let answered = Answered {
+    Answered {
         answer: Resumed::Values(Values::of(Vec::new(alloc))),
         running,
-    };
-    go_on(alloc, machine, thread, answered)
+    }
 }
 
 /// Resumes the thread with its answer, and so on until it ends.
@@ -58,7 +67,9 @@ fn go_on<M: Machine>(
     machine: &M,
     thread: M::Thread,
     answered: Answered,
-) -> Result<Handled, AllocError> {
+) -> Result<Handled, AllocError>
+    ensures { IfOk result (IsCome (M.finish machine.now thread) (answered_seen answered)) }
+{
     let mut thread = thread;
     let mut answered = answered;
     loop {
@@ -66,7 +77,7 @@ fn go_on<M: Machine>(
             answer,
             mut running,
         } = answered;
-        match machine.resume(thread, &mut running.store, answer) {
+        match resume(machine, thread, &mut running.store, answer) {
             Slice::Parked(left, op) => {
                 thread = left;
                 answered = answer_call(alloc, running, op.number, op.args.as_slice())?;
@@ -79,8 +90,26 @@ fn go_on<M: Machine>(
     }
 }
 
+/// Resumes the thread with an answer.
+fn resume<M: Machine>(
+    machine: &M,
+    thread: M::Thread,
+    store: &mut Store,
+    answer: Resumed,
+) -> Slice<M::Thread>
+    ensures goes_on { Resumes (M.finish machine.now) thread (record { store = store.old; answer = answer }) store.new result }
+    ensures counts { CountsSteps store.old store.new result }
+    ensures within { store.new.steps ≤ step_limit }
+{
+    let slice = machine.resume(thread, store, answer);
+    let _steps = store.steps();
+    slice
+}
+
 /// A handler has ended.
-fn ended(running: Running, end: End) -> Handled {
+fn ended(running: Running, end: End) -> Handled
+    ensures { result ≡ spec.came_to (running_seen running) end }
+{
     let Running { req, pieces, .. } = running;
     Handled {
         req,

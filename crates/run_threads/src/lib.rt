@@ -3,5 +3,7 @@
 
 mod answering;
 mod handlers;
+mod laws;
 
 pub use handlers::{End, Handled, run_handler};
+pub use laws::times_never_show;
