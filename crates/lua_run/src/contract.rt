@@ -1,0 +1,144 @@
+//! The contract of a run, met.
+
+use crate::{LuaRun, Site};
+use crate::run::{Work, queueing, silent, working};
+use http_in::Head;
+use lua_machine::Machine;
+use request_api::Req;
+use resty_base::{Bytes, Ms};
+use run_contract::{NoJob, RunContract, RunSeen, RunTurn};
+use std::alloc::{AllocError, Global};
+use std::marker::PhantomData;
+use std::mem::replace;
+use strand_contract::Answer;
+use uri_args::Target;
+
+impl<M: Machine> RunContract for LuaRun<M> {
+    ghost use Rattle.std.specs.Prelude.{◌≡◌, ◌+◌, if◌then◌else◌};
+    ghost use Rattle.lua_run.specs.Runs.{Run, lua_plan, LuaHolds, left_of_work};
+    ghost use Rattle.lua_run.specs.RunLaws.{lua-is-run};
+    ghost use Rattle.lua_run.specs.Views.{site_seen};
+
+    type Site = Site<M>;
+
+    type Job = NoJob;
+
+    ghost Inner = { Run };
+
+    ghost plan = { λ site. lua_plan (site_seen M.life site) };
+
+    ghost holds = { λ site b r. LuaHolds b r };
+
+    ghost stands = { λ site run b r. (run.work ≡ r.work) × (run.has_client ≡ r.client) };
+
+    ghost left = { λ run. left_of_work run.work + (if run.has_client then 1 else 0) };
+
+    ghost most = { λ site. 7 };
+
+    ghost meets = { λ site. lua-is-run (site_seen M.life site) };
+
+    ghost apart = { λ site run b c r same stands. stands };
+
+    fn zones(site: &Site<M>) -> u32 {
+        site.conf.zones.len()
+    }
+
+    fn zone_name(site: &Site<M>, zone: u32) -> Option<&Bytes> {
+        match site.conf.zones.as_slice().get(zone as usize) {
+            Some(zone) => Some(&zone.name),
+            None => None,
+        }
+    }
+
+    fn zone_size(site: &Site<M>, zone: u32) -> u64 {
+        match site.conf.zones.as_slice().get(zone as usize) {
+            Some(zone) => zone.size,
+            None => 0,
+        }
+    }
+
+    fn begin(
+        alloc: Global,
+        site: &Site<M>,
+        now: Ms,
+        sockets: u32,
+        head: Head,
+        target: Target,
+    ) -> Result<(Self, RunTurn<NoJob>), AllocError> {
+        let _ = site;
+        let _ = now;
+        let _ = sockets;
+        let run = LuaRun {
+            work: Work::Request(Req::begin(alloc, head, target, 0)),
+            has_client: true,
+            machine: PhantomData,
+        };
+        Ok((run, queueing(alloc)?))
+    }
+
+    fn begin_job(
+        alloc: Global,
+        site: &Site<M>,
+        now: Ms,
+        premature: bool,
+        job: NoJob,
+    ) -> Result<(Self, RunTurn<NoJob>), AllocError> {
+        let _ = site;
+        let _ = now;
+        let _ = premature;
+        let _ = job;
+        let run = LuaRun {
+            work: Work::Job,
+            has_client: false,
+            machine: PhantomData,
+        };
+        Ok((run, queueing(alloc)?))
+    }
+
+    fn given(
+        &mut self,
+        alloc: Global,
+        site: &Site<M>,
+        now: Ms,
+        seen: RunSeen,
+    ) -> Result<RunTurn<NoJob>, AllocError> {
+        match seen {
+            RunSeen::Run(_) => {
+                let work = replace(&mut self.work, Work::Over);
+                working(alloc, site, now, work)
+            }
+            RunSeen::ClientGone => {
+                self.has_client = false;
+                Ok(silent(alloc))
+            }
+            RunSeen::Due(_)
+            | RunSeen::Body(_, _)
+            | RunSeen::BodyRefused(_)
+            | RunSeen::AllTaken
+            | RunSeen::Sock(_, _) => Ok(silent(alloc)),
+        }
+    }
+
+    fn answer(
+        &mut self,
+        alloc: Global,
+        site: &Site<M>,
+        now: Ms,
+        answer: Answer,
+    ) -> Result<RunTurn<NoJob>, AllocError> {
+        let _ = answer;
+        let work = replace(&mut self.work, Work::Over);
+        working(alloc, site, now, work)
+    }
+
+    fn queued(&self, site: &Site<M>, socket: u32) -> &[u8] {
+        let _ = site;
+        let _ = socket;
+        &[]
+    }
+
+    fn wants(&self, socket: u32) -> bool {
+        let _ = socket;
+        false
+    }
+}

@@ -1,0 +1,17 @@
+//! A site of Lua, as its runs know it.
+
+ghost use Rattle.std.specs.Prelude.{◌<◌, length};
+
+use conf::{Conf, Listing};
+use lua_machine::Machine;
+use lua_values::Store;
+
+/// A configuration, the machine that runs its program, the store in which each run begins, and the closure of each block.
+#[derive(Drop)]
+pub struct Site<M: Machine> {
+    pub conf: Conf,
+    pub machine: M,
+    pub store: Store,
+    pub blocks: Listing<u32>,
+    pub ghost whole: { conf.default_server < length conf.servers },
+}

@@ -1,0 +1,5 @@
+pub mod Natives
+pub mod Printing
+pub mod Operations
+pub mod Walks
+pub mod Answers

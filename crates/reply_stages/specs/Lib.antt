@@ -1,0 +1,4 @@
+pub mod Scopes
+pub mod Lines
+pub mod Replies
+pub mod Views

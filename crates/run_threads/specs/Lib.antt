@@ -1,0 +1,3 @@
+pub mod Handlers
+pub mod Views
+pub mod Threads
