@@ -1,9 +1,11 @@
 //! What small programs come to, with their steps and the units that they take.
+mod handlers;
 mod iterations;
 mod loops;
 mod natives;
 mod operators;
 mod parks;
+mod printing;
 mod programs;
 mod protected;
 mod snippets;

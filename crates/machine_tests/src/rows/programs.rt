@@ -104,12 +104,17 @@ fn files(alloc: Global) -> Result<ByteLists, AllocError> {
 
 /// The program of a row's text, as the file `t.conf`, with the functions of the host; `None` where it is refused.
 pub(super) fn loaded(alloc: Global, text: &str) -> Option<Loaded<Functions>> {
-    let files = files(alloc).ok()?;
-    let Program { functions, .. } = program_of(alloc, &spelled(alloc, text))?;
     Some(Loaded {
-        program: Program { files, functions },
+        program: program(alloc, &spelled(alloc, text))?,
         natives: Both::new(WaitAndId, Library),
     })
+}
+
+/// The program of a text, as the file `t.conf`; `None` where it is refused.
+pub(super) fn program(alloc: Global, text: &str) -> Option<Program> {
+    let files = files(alloc).ok()?;
+    let Program { functions, .. } = program_of(alloc, text)?;
+    Some(Program { files, functions })
 }
 
 /// A store with the natives by their names, and a closure of the chunk.
@@ -123,14 +128,20 @@ pub(super) fn store_of(alloc: Global) -> Result<Store, StoreFault> {
 const NAMES: &str = "pcall xpcall error assert tostring w id \
 getmetatable setmetatable ipairs next pairs rawequal rawget rawset select tonumber type unpack";
 
-/// Sets the natives by their names, in the order of their numbers, and makes the closure.
+/// Sets the natives by their names, and makes the closure.
 fn fill(alloc: Global, store: &mut Store) -> Result<(), StoreFault> {
+    set_natives(alloc, store, NAMES)?;
+    store.make_closure(0, &[])?;
+    Ok(())
+}
+
+/// Sets the natives by these names, in the order of their numbers.
+pub(super) fn set_natives(alloc: Global, store: &mut Store, names: &str) -> Result<(), StoreFault> {
     let mut native: u32 = 0;
-    for name in NAMES.split(' ') {
+    for name in names.split(' ') {
         set_native(alloc, store, name, native)?;
         native = native.saturating_add(1);
     }
-    store.make_closure(0, &[])?;
     Ok(())
 }
 
@@ -270,7 +281,7 @@ fn see_values(all: &mut String, values: &[Value]) {
 }
 
 /// Writes a value.
-fn see_value(all: &mut String, value: &Value) {
+pub(super) fn see_value(all: &mut String, value: &Value) {
     match value {
         Value::Nil => put(all, "nil"),
         Value::Truth(true) => put(all, "true"),
