@@ -1,2 +1,3 @@
+mod Answering
 mod RunTurns
 mod Replies

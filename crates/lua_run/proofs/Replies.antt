@@ -1,23 +1,25 @@
 -- What a run of a site of Lua says alone: nothing, or the reply to its request.
-use Rattle.std.proofs.Common.{◌≡◌, ◌⊎◌, inl, inr, ℕ, true, false, List, [], ◌∷◌, ◌++◌, refl, sym, ap, ◌∙◌, subst, append-nil, append_assoc}
+use Rattle.std.proofs.Common.{◌≡◌, ◌⊎◌, inl, inr, ℕ, true, false, List, [], ◌∷◌, ◌++◌, Option, Some, None, refl, sym, ap, ◌∙◌, subst, append-nil, append_assoc}
 use Rattle.std.specs.Prelude.{Bool}
 use Rattle.uri_args.specs.declared.targets.Target.{Target}
 use Rattle.http_in.specs.declared.heads.Head.{Head}
 use Rattle.client_line.specs.declared.requests.LineOut.{LineOut}
 use Rattle.client_line.specs.declared.requests.LineOut.TheVariants as out
-use Rattle.strand_contract.specs.Actions.{LocalAction}
+use Rattle.strand_contract.specs.Actions.{LocalAction, Did}
 use Rattle.strand_contract.specs.Alone.{moment, IsExecution}
-use Rattle.moves.specs.Ledgers.{Ledger}
+use Rattle.moves.specs.Ledgers.{Ledger, entered}
+use Rattle.moves.specs.Moves.{Move, Done, Set, perform}
 use Rattle.moves.specs.Plans.{state_of}
 use Rattle.run_contract.specs.declared.turns.RunSeen.{RunSeen}
 use Rattle.run_contract.specs.declared.turns.RunSeen.TheVariants as seen
 use Rattle.run_contract.specs.Runs.{says_over}
+use Rattle.run_contract.specs.Conditions.{entered_as}
 use Rattle.request_api.specs.Requests as request
 use Rattle.connection.specs.Clients.{Exchange}
 use Rattle.connection.specs.Connections.{connection_plan, connection_behavior}
 use Rattle.lua_run.specs.declared.run.Work.TheVariants.{Request, Over}
-use Rattle.lua_run.specs.Answers.{reply_of, sent_of}
-use Rattle.lua_run.specs.Runs.{Run, lua_plan, lua_turn, reply_said, work_said, LuaHolds}
+use Rattle.lua_run.specs.Answers.{Site, reply_of}
+use Rattle.lua_run.specs.Runs.{Run, lua_plan, lua_turn, lua_works, logging, reply_said, work_line, work_said, LuaHolds}
 use Rattle.lua_run.specs.RunLaws.{lua-is-run}
 use Rattle.lua_run.specs.Services.{lua_service}
 use Rattle.lua_run.specs.Replies.{reply_to_head, AreMade, IsWhole as IsWholeReply, IsNewest, AreWhole, EachHasItsOwn}
@@ -30,9 +32,16 @@ use Rattle.reply_laws.proofs.Executing.{replies-said-alone}
 
 -- ---- no run looks at its ledger
 
+blind-logged : {J : Type 0} (line : Option (List ℕ)) (m : Move J Run) → IsBlind m → IsBlind (logging line m)
+blind-logged None m h = h
+blind-logged (Some line) m h = h
+
+blind-work : (J : Type 0) (site : Site) (now : ℕ) (r : Run) → IsBlind {J = J} (lua_works site now r).moves
+blind-work J site now r = blind-logged (work_line site now r.work) (Set (λ r. record r { work = Over }) Done) tt
+
 turns : {J : Type 0} (site : Site) (now : ℕ) (s : RunSeen) (b c : Ledger J) (r : Run)
     → (lua_turn site now s b r ≡ lua_turn site now s c r) × IsBlind (lua_turn site now s b r).moves
-turns site now (seen.Run k) b c r = (refl, tt)
+turns site now (seen.Run k) b c r = (refl, blind-work _ site now r)
 turns site now seen.ClientGone b c r = (refl, tt)
 turns site now (seen.Due n) b c r = (refl, tt)
 turns site now (seen.Body content waited) b c r = (refl, tt)
@@ -47,7 +56,7 @@ never-looks site = record {
   turns = λ now s b c r. (turns site now s b c r).0;
   turns_blind = λ now s b r. (turns site now s b b r).1;
   answers = λ now x b c r. refl;
-  answers_blind = λ now x b r. tt;
+  answers_blind = λ now x b r. blind-work _ site now r;
 }
 
 pub minds : {J : Type 0} (site : Site) → MindsItsOwn {J = J} (lua_plan site)
@@ -65,7 +74,7 @@ module _ {J : Type 0} (es : List (LocalAction J)) (site : Site) where
     work : a.run.work ≡ Over
     before : List (LocalAction J)
     up_to : IsUpTo es before
-    said : a.said ≡ reply_said (sent_of (reply_of site (request.begun head target 0)) (moment before))
+    said : a.said ≡ reply_said (reply_of site (request.begun head target 0) (moment before)).sent
 
   abbrev Stands : Head → Target → Alone J Run → Type 0
   Stands head target a = IsToCome head target a ⊎ HasSaid head target a
@@ -86,7 +95,7 @@ module _ {J : Type 0} (es : List (LocalAction J)) (site : Site) where
       before = at;
       up_to = up;
       said = sym said ∙ ap (λ ws. ws ++ work_said site now a.run.work) x.silent ∙ ap (work_said site now) x.work
-          ∙ ap (λ n. reply_said (sent_of (reply_of site (request.begun head target 0)) n)) (sym e);
+          ∙ ap (λ n. reply_said (reply_of site (request.begun head target 0) n).sent) (sym e);
     })
     | inr x ↦ inr (record {
       work = work;
@@ -96,12 +105,22 @@ module _ {J : Type 0} (es : List (LocalAction J)) (site : Site) where
     })
   ]
 
+  -- its work is done, with a line of the log or without one
+  over-logged : (line : Option (List ℕ)) (b : Ledger J) (r : Run) → (perform (logging line (Set (λ r. record r { work = Over }) Done)) b r).state.inner.work ≡ Over
+  over-logged None b r = refl
+  over-logged (Some line) b r = refl
+
+  over : (now : ℕ) (b : Ledger J) (r : Run) → (perform (lua_works site now r).moves b r).state.inner.work ≡ Over
+  over now b r = over-logged (work_line site now r.work) b r
+
   learns : (x : Beginning) (older : List Exchange) (n : News J) (news : List (News J)) (at : List (LocalAction J)) → IsUpTo es at → IsNews older x.head at n
       → Stands x.head x.target (alone (lua_plan site) x news) → Stands x.head x.target (alone (lua_plan site) x (n ∷ news))
   learns x older (Seen now (seen.Run k)) news at up is h =
-      works x.head x.target now at up is.0 (alone (lua_plan site) x news) (alone (lua_plan site) x (Seen now (seen.Run k) ∷ news)) refl refl h
+      works x.head x.target now at up is.0 (alone (lua_plan site) x news) (alone (lua_plan site) x (Seen now (seen.Run k) ∷ news))
+      (over now (entered_as (seen.Run k) (alone (lua_plan site) x news).ledger) (alone (lua_plan site) x news).run) refl h
   learns x older (Given now y) news at up is h =
-      works x.head x.target now at up is.0 (alone (lua_plan site) x news) (alone (lua_plan site) x (Given now y ∷ news)) refl refl h
+      works x.head x.target now at up is.0 (alone (lua_plan site) x news) (alone (lua_plan site) x (Given now y ∷ news))
+      (over now (entered (Did y) (alone (lua_plan site) x news).ledger) (alone (lua_plan site) x news).run) refl h
   learns x older (Seen now seen.ClientGone) news at up is h =
       idles x.head x.target (alone (lua_plan site) x news) (alone (lua_plan site) x (Seen now seen.ClientGone ∷ news)) refl refl h
   learns x older (Seen now (seen.Due k)) news at up is h =

@@ -9,10 +9,10 @@ use Rattle.lua_values.specs.Heap.{StoreView}
 use Rattle.request_api.specs.declared.requests.Req.{Req}
 use Rattle.run_threads.specs.declared.handlers.Handled.{Handled}
 use Rattle.run_threads.specs.Handlers.{handled}
-use Rattle.reply_stages.specs.declared.replies.Sent.{Sent}
 use Rattle.reply_stages.specs.Lines.{line_of}
 use Rattle.reply_stages.specs.Replies.{of_status, by_handler}
 use Rattle.reply_stages.specs.Scopes.{Scope, settings_of, scope_of}
+use Rattle.lua_run.specs.declared.answers.Replied.{Replied}
 
 -- a site: its configuration, what comes of the thread that runs a block, by the block's number, and the store in which each run begins
 pub record Site : Type 0 where
@@ -39,19 +39,18 @@ located (Some location) = if location.internal then Err 404 else content_of loca
 abbrev pub answer_in : BodyKind → Scope → Result ℕ ℕ
 answer_in kind scope = if is_too_long kind (settings_of scope).max_body then Err 413 else located scope.location
 
--- what is sent, and the line of the log that is written before it, if any
-pub record Replied : Type 0 where
-  pub line : Option (List ℕ)
-  pub sent : Sent
-
 -- what a handler came to, as a reply of this type
 abbrev pub replied_by : ℕ → List ℕ → Handled → ℕ → Replied
 replied_by level default_type h now = record { line = line_of level now h.end; sent = by_handler default_type h now }
 
+-- the server's own reply of a status
+abbrev pub replied_status : Req → List ℕ → ℕ → ℕ → Replied
+replied_status req default_type status now = record { line = None; sent = of_status req default_type status now }
+
 -- the handler of a number, run alone for the request, or the server's own reply
 abbrev pub replied : Site → Req → List ℕ → Result ℕ ℕ → ℕ → Replied
 replied site req default_type (Ok number) now = replied_by site.conf.log_level default_type (handled (site.handler number) site.store req) now
-replied site req default_type (Err status) now = record { line = None; sent = of_status req default_type status now }
+replied site req default_type (Err status) now = replied_status req default_type status now
 
 abbrev pub reply_in : Site → Req → Scope → ℕ → Replied
 reply_in site req scope now = replied site req (settings_of scope).default_type (answer_in req.head.body scope) now

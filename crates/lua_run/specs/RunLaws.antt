@@ -12,19 +12,22 @@ use Rattle.strand_contract.specs.Alone.{sooner, due}
 use Rattle.moves.specs.Questions.{Question, asking_if}
 use Rattle.moves.specs.Questions as question
 use Rattle.moves.specs.Ledgers.{Ledger, has, entered}
+use Rattle.moves.specs.Moves.{Move, Done, Set, perform}
 use Rattle.moves.specs.Turns.{IsDue}
 use Rattle.run_contract.specs.declared.turns.RunSeen.{RunSeen}
 use Rattle.run_contract.specs.declared.turns.RunSeen.TheVariants as seen
 use Rattle.run_contract.specs.declared.turns.SockSeen.{SockSeen}
 use Rattle.run_contract.specs.declared.turns.SockSeen.TheVariants as at
-use Rattle.run_contract.specs.Runs.{performed, waits_at_first, waits_told, waits_said, is_of_client}
+use Rattle.run_contract.specs.declared.turns.Said.{Said}
+use Rattle.run_contract.specs.Runs.{Waits, RunPlan, performed, waits_at_first, waits_told, waits_said, is_of_client}
 use Rattle.run_contract.specs.Alike.{own_deadlines, AreAlike}
 use Rattle.run_contract.specs.Forms.{IsOwn}
-use Rattle.run_contract.specs.Conditions.{IsBlank, MayComeAt, MayCome, Leaves, Fits, entered_as, IsRun}
+use Rattle.run_contract.specs.Conditions.{IsBlank, MayComeAt, MayCome, IsLeft, Leaves, Fits, entered_as, IsRun}
 use Rattle.request_api.specs.Requests as request
 use Rattle.lua_run.specs.declared.run.Work.{Work}
 use Rattle.lua_run.specs.declared.run.Work.TheVariants.{Request, Job, Over}
-use Rattle.lua_run.specs.Runs.{Run, LuaHolds, MayWait, lua_plan, lua_turn, work_said, threads_of}
+use Rattle.lua_run.specs.Answers.{Site}
+use Rattle.lua_run.specs.Runs.{Run, LuaHolds, MayWait, lua_plan, lua_turn, lua_works, logging, work_line, work_said, threads_of}
 
 never-over : {C : Type 0} → false ≡ true → C
 never-over e = absurd (cc)
@@ -137,16 +140,47 @@ said-waits site now (Request req) client = refl
 said-waits site now Job client = refl
 said-waits site now Over client = refl
 
+-- a line of the log changes nothing of what a turn leaves, nor of whose its moves are
+left-logged : {J : Type 0} (p : RunPlan J Run) (holds : Ledger J → Run → Type 0) (w : Waits) (words : List Said) (line : Option (List ℕ)) (m : Move J Run)
+    (b : Ledger J) (r : Run) → IsLeft p holds w words (perform m b r) → IsLeft p holds w words (perform (logging line m) b r)
+left-logged p holds w words None m b r h = h
+left-logged p holds w words (Some line) m b r h = record { known = h.known; waits = h.waits; over = h.over }
+
+own-logged : {J : Type 0} (line : Option (List ℕ)) (m : Move J Run) → IsOwn m → IsOwn (logging line m)
+own-logged None m h = h
+own-logged (Some line) m h = h
+
+-- where nothing of it is left it may have no work
+idles : {J : Type 0} (b : Ledger J) (client : Bool) → IsBlank b → LuaHolds b (record { work = Over; client = client })
+idles {J} b client h = record {
+  threads = h.no_thread ∙ sym (ap (λ o. threads_of o Over) h.none_asked);
+  asked = subst (λ (o : Option (Question J)). IfSome o (MayWait Over)) (sym h.none_asked) tt;
+  no_deadline = h.no_deadline;
+  no_socket = h.no_socket;
+  unused = h.unused;
+}
+
+-- it does its work where nothing else is left of it
+works : {J : Type 0} (site : Site) (now : ℕ) (b : Ledger J) (r : Run) → IsBlank b
+    → Leaves (lua_plan site) LuaHolds (waits_at_first r.client) (lua_works site now r) b r
+works site now b r h =
+    left-logged (lua_plan site) LuaHolds (waits_at_first r.client) (work_said site now r.work) (work_line site now r.work)
+    (Set (λ r. record r { work = Over }) Done) b r (record {
+      known = idles b r.client h;
+      waits = said-waits site now r.work r.client;
+      over = λ e. h;
+    })
+
 stays : {J : Type 0} (site : Site) (now : ℕ) (s : RunSeen) (b : Ledger J) (r : Run) → LuaHolds b r → MayCome (lua_plan site) now s b r
     → Leaves (lua_plan site) LuaHolds (waits_told s ((lua_plan {J = J} site).waits r))
     ((lua_plan site).turn now s (entered_as s b) r) (entered_as s b) r
-stays site now (seen.Run k) b r h x =
-    let idle = (runs-once site now k b r h x).1 in
-    record {
-      known = record { threads = idle; asked = tt; no_deadline = h.no_deadline; no_socket = h.no_socket; unused = h.unused };
-      waits = said-waits site now r.work r.client;
-      over = λ e. record { no_thread = idle; no_deadline = h.no_deadline; no_socket = h.no_socket; unused = h.unused; none_asked = refl };
-    }
+stays site now (seen.Run k) b r h x = works site now (entered_as (seen.Run k) b) r (record {
+  no_thread = (runs-once site now k b r h x).1;
+  no_deadline = h.no_deadline;
+  no_socket = h.no_socket;
+  none_asked = refl;
+  unused = h.unused;
+})
 stays site now seen.ClientGone b r h x =
     record {
       known = record { threads = h.threads; asked = h.asked; no_deadline = h.no_deadline; no_socket = h.no_socket; unused = h.unused };
@@ -167,11 +201,13 @@ answers {J} site now x a b r h e =
     let w = is-answered b r x a h e in
     let leaves : Action J → Type 0 = λ y. Leaves (lua_plan site) LuaHolds ((lua_plan {J = J} site).waits r)
     ((lua_plan site).answered now y (entered (Did y) b) r) (entered (Did y) b) r in
-    subst leaves (sym w.action) (record {
-      known = record { threads = w.idle; asked = tt; no_deadline = h.no_deadline; no_socket = h.no_socket; unused = h.unused };
-      waits = said-waits site now r.work r.client;
-      over = λ e. record { no_thread = w.idle; no_deadline = h.no_deadline; no_socket = h.no_socket; unused = h.unused; none_asked = refl };
-    })
+    subst leaves (sym w.action) (works site now (entered (Did (Timer w.at w.given)) b) r (record {
+      no_thread = w.idle;
+      no_deadline = h.no_deadline;
+      no_socket = h.no_socket;
+      none_asked = refl;
+      unused = h.unused;
+    }))
 
 apart : {J : Type 0} (b c : Ledger J) (r : Run) → AreAlike b c → LuaHolds b r → LuaHolds c r
 apart b c r same h = record {
@@ -199,7 +235,7 @@ fits site w (question.Timer at job) m = tt
 fits site w x m = absurd m
 
 own : {J : Type 0} (site : Site) (now : ℕ) (s : RunSeen) (b : Ledger J) (r : Run) → IsOwn (lua_turn site now s b r).moves
-own site now (seen.Run k) b r = tt
+own site now (seen.Run k) b r = own-logged (work_line site now r.work) (Set (λ r. record r { work = Over }) Done) tt
 own site now seen.ClientGone b r = tt
 own site now s b r = tt
 
@@ -232,7 +268,7 @@ lua-is-run site = record {
   begins_by_own = λ now head target b. tt;
   begins_job_by_own = λ now premature job b. tt;
   moves_by_own = λ now s b r. own site now s b r;
-  answers_by_own = λ now x b r. tt;
+  answers_by_own = λ now x b r. own-logged (work_line site now r.work) (Set (λ r. record r { work = Over }) Done) tt;
   job = λ now premature job b. (tt, refl);
   due = λ now n b r. (tt, refl);
   gone = λ now b r. (tt, refl);

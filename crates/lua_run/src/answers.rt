@@ -92,7 +92,9 @@ fn replied_status(
     default_type: &Bytes,
     status: u16,
     now: Ms,
-) -> Result<Replied, AllocError> {
+) -> Result<Replied, AllocError>
+    ensures { IfOk result (λ r. r ≡ spec.replied_status req default_type.now status now.0) }
+{
     Ok(Replied {
         line: None,
         sent: of_status(alloc, req, default_type, status, now)?,

@@ -1,7 +1,7 @@
 //! The contract of a run, met.
 
-use crate::{LuaRun, Site};
 use crate::run::{Work, queueing, silent, working};
+use crate::{LuaRun, Site};
 use http_in::Head;
 use lua_machine::Machine;
 use request_api::Req;

@@ -31,7 +31,7 @@ pub(crate) enum Work {
 
 /// A run of a site of Lua, over a machine.
 #[derive(Drop)]
-pub struct LuaRun<M: Machine> {
+pub struct LuaRun<M> {
     pub(crate) work: Work,
     pub(crate) has_client: bool,
     pub(crate) machine: PhantomData<M>,
@@ -58,12 +58,16 @@ pub(crate) fn queueing(alloc: Global) -> Result<RunTurn<NoJob>, AllocError>
     Ok(turn)
 }
 
-/// Writes the line into the log, if there is one.
-fn logging(turn: &mut RunTurn<NoJob>, line: Option<Bytes>) -> Result<(), AllocError> {
-    match line {
-        Some(line) => turn.acts.push_back(Act::Log(line)),
-        None => Ok(()),
+/// A turn that writes the line into the log, if there is one, and says nothing.
+fn logging(alloc: Global, line: Option<Bytes>) -> Result<RunTurn<NoJob>, AllocError>
+    ensures acts { IfOk result (λ turn. turn.acts.items ≡ spec.line_acts line) }
+    ensures said { IfOk result (λ turn. turn.said.items ≡ []) }
+{
+    let mut turn = silent(alloc);
+    if let Some(line) = line {
+        turn.acts.push_back(Act::Log(line))?;
     }
+    Ok(turn)
 }
 
 /// A turn that sends this as the whole reply.
@@ -73,8 +77,7 @@ fn replying(alloc: Global, replied: Replied) -> Result<RunTurn<NoJob>, AllocErro
 {
     let Replied { line, sent } = replied;
     let Sent { bytes, closes } = sent;
-    let mut turn = silent(alloc);
-    logging(&mut turn, line)?;
+    let mut turn = logging(alloc, line)?;
     turn.said.push(Said::Send(bytes))?;
     turn.said.push(Said::Ended(closes))?;
     turn.said.push(Said::Over)?;

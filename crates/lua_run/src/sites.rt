@@ -3,12 +3,11 @@
 ghost use Rattle.std.specs.Prelude.{◌<◌, length};
 
 use conf::{Conf, Listing};
-use lua_machine::Machine;
 use lua_values::Store;
 
 /// A configuration, the machine that runs its program, the store in which each run begins, and the closure of each block.
 #[derive(Drop)]
-pub struct Site<M: Machine> {
+pub struct Site<M> {
     pub conf: Conf,
     pub machine: M,
     pub store: Store,

@@ -1,14 +1,10 @@
-use Rattle.lua_run.proofs.Sending.{if_same, answered_is}
+use Rattle.std.proofs.Common.{Ok}
+use Rattle.reply_stages.specs.Views.{scope_seen}
+use Rattle.lua_run.specs.Views.{site_seen}
+use Rattle.lua_run.proofs.Answering.{reply-is}
 use Rattle.lua_run.proofs.answers.reply_of.Goals as goal
 
 pub returns-in-Ok : goal.returns-in-Ok
-returns-in-Ok c =
-    if_same c.reply_with.result _ _
-    (answered_is c.args.site.now c.args.req c.args.now.0 _ c.settings.result.now c.as_slice.result.now _ c.scope_of-scope.ensures c.settings.ensures c.as_slice.ensures.value c.in-Ok.ensures.ok)
-    c.reply_with.ensures
-
-pub returns-in-Err : goal.returns-in-Err
-returns-in-Err c =
-    if_same c.own_reply.result _ _
-    (answered_is c.args.site.now c.args.req c.args.now.0 _ c.settings.result.now c.as_slice.result.now _ c.scope_of-scope.ensures c.settings.ensures c.as_slice.ensures.value c.in-Err.ensures.err)
-    c.own_reply.ensures
+returns-in-Ok g c =
+    reply-is c.replied_by.result (site_seen g.M.Machine.life c.args.site.now) c.args.req c.args.now.0 (scope_seen c.scope_of-scope.result) c.settings.result.now (Ok c.in-Ok.number)
+    c.scope_of-scope.ensures c.settings.ensures c.in-Ok.ensures.ok c.replied_by.ensures

@@ -2,16 +2,17 @@ use Rattle.std.proofs.Common.{◌≡◌, ◌∙◌, sym, subst, inl, inr}
 use Rattle.run_contract.specs.declared.turns.RunSeen.{RunSeen}
 use Rattle.run_contract.specs.declared.turns.RunSeen.TheVariants as seen
 use Rattle.run_contract.specs.Conditions.{MayCome}
-use Rattle.lua_run.specs.Runs.{literal_plan}
+use Rattle.lua_run.specs.Runs.{lua_plan}
+use Rattle.lua_run.specs.Views.{site_seen}
 use Rattle.lua_run.specs.RunLaws.{IsElse, runs-once, none-else}
-use Rattle.lua_run.proofs.LiteralTurns.{works-falls, gone-falls}
-use Rattle.lua_run.proofs.contract.LiteralRunRunContract.given.Goals.{in-Run, in-ClientGone, in-Due}
-use Rattle.lua_run.proofs.contract.LiteralRunRunContract.given.Goals as goal
+use Rattle.lua_run.proofs.RunTurns.{works-falls, gone-falls}
+use Rattle.lua_run.proofs.contract.LuaRunRunContract.given.Goals.{in-Run, in-ClientGone, in-Due}
+use Rattle.lua_run.proofs.contract.LuaRunRunContract.given.Goals as goal
 
 pub returns-clause-left : goal.returns-clause-left
-returns-clause-left c =
-    let site = c.args.site.now in
-    let p = literal_plan site in
+returns-clause-left g c =
+    let site = site_seen g.M.Machine.life c.args.site.now in
+    let p = lua_plan site in
     let may : (s : RunSeen) → c.args.seen ≡ s → MayCome p c.args.now.0 s c.requires.0 c.requires.1 =
     λ s e. subst (λ s. MayCome p c.args.now.0 s c.requires.0 c.requires.1) e c.requires.4 in
     let other : (s : RunSeen) → c.args.seen ≡ s → IsElse s → ⊥ =
