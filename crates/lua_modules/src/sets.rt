@@ -78,7 +78,8 @@ fn join_file(
 impl ModuleSet {
     ghost use Rattle.std.specs.Prelude.{◌≡◌, ◌≤◌, [], OnOk, OnErr, IfOk, IfErr, length};
     ghost use Rattle.lua_joining.specs.Joining.{IsJoined};
-    ghost use Rattle.lua_modules.specs.Sets.{Adds, AddsBlock, IsSound, IsUnchanged, chunks_of, has_module, lists_of, of_file, with_block, with_module, with_prelude};
+    ghost use Rattle.lua_modules.specs.Sets.{Adds, AddsBlock, IsSound, IsUnchanged, chunks_of};
+    ghost use Rattle.lua_modules.specs.Sets.{has_module, lists_of, of_file, with_block, with_module, with_prelude};
     ghost use Rattle.lua_modules.specs.declared.faults.ModuleFault.TheVariants.{Memory};
     ghost use Rattle.lua_modules.specs.Texts.{IsTextFault};
 
