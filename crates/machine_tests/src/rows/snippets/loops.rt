@@ -26,10 +26,10 @@ local fs = {} for i = 1, 3 do local j = i * 10 fs[i] = function() j = j + 1 retu
 local a, b = \"3\", \"1\" local s = \"\" for i = a, b, \"-1\" do s = s .. i end return s => Done \"321\"
 local s = \"\" for i = -2, 2 do s = s .. i end return s => Done \"-2-1012\"
 local function f() return 1, 3 end local n = 0 for i = f() - 1, 2 do n = n + 1 end return n => Done 3
-local s = 0 for i, v in ipairs({10, 20, 30}) do s = s + i * v end return s => Done 140
-local n = 0 for i, v in ipairs({1, 2, nil, 4}) do n = n + v end return n => Done 3
-local n = 0 for k, v in pairs({1, 2, x = 3}) do n = n + v end return n => Done 6
-local n = 0 for k in pairs({}) do n = n + 1 end return n => Done 0
+local s = 0 for i, v in function(t, i) if t[i + 1] then return i + 1, t[i + 1] end end, {10, 20, 30}, 0 do s = s + i * v end return s => Done 140
+local n = 0 for i, v in function(t, i) if t[i + 1] then return i + 1, t[i + 1] end end, {1, 2, nil, 4}, 0 do n = n + v end return n => Done 3
+local n = 0 for k, v in next, {1, 2, x = 3} do n = n + v end return n => Done 6
+local n = 0 for k in next, {} do n = n + 1 end return n => Done 0
 local n = 0 for k, v in next, {5, 6} do n = n + k * v end return n => Done 17
 local function iter(n, i) if i < n then return i + 1, i * i end end local s = \"\" for i, sq in iter, 4, 0 do s = s .. i .. \":\" .. sq .. \" \" end return s \
 => Done \"1:0 2:1 3:4 4:9 \"
@@ -37,11 +37,12 @@ local function range(n) local i = 0 return function() i = i + 1 if i <= n then r
 => Done 15
 local s = \"\" for a, b, c in function(t, k) if k == nil then return 1, 2 end end do s = s .. tostring(a) .. tostring(b) .. tostring(c) end return s => Done \
 \"12nil\"
-for k in pairs({a = 1}) do return k end => Done \"a\"
+for k in next, {a = 1} do return k end => Done \"a\"
 local t = {1, 2, 3} for i = 1, #t do t[i] = t[i] * 2 end return t[1], t[2], t[3] => Done 2, 4, 6
-local t = {1, 2, 3, 4} for k in pairs(t) do t[k] = nil end return next(t), #t => Done nil, 0
+local t = {1, 2, 3, 4} for k in next, t do t[k] = nil end return next(t), #t => Done nil, 0
 local t = {} for i = 1, 5 do t[#t + 1] = i * i end return #t, t[5] => Done 5, 25
-local n = 0 for _, row in ipairs({{1, 2}, {3}, {}}) do for _, v in ipairs(row) do n = n + v end end return n => Done 6
+local step, n = function(t, i) if t[i + 1] then return i + 1, t[i + 1] end end, 0 for _, row in step, {{1, 2}, {3}, {}}, 0 do \
+for _, v in step, row, 0 do n = n + v end end return n => Done 6
 local s = \"\" for i = 1, 3 do local x = i if x == 2 then x = \"two\" end s = s .. x end return s => Done \"1two3\"
 local t = {3, 1, 2} for i = 1, #t do for j = i + 1, #t do if t[j] < t[i] then t[i], t[j] = t[j], t[i] end end end return t[1], t[2], t[3] => Done 1, 2, 3
 local a, b = 48, 18 while b ~= 0 do a, b = b, a % b end return a => Done 6
