@@ -4,7 +4,6 @@ ghost use Rattle.std.specs.Prelude.{◌≡◌, [], ◌∷◌, OnOk, OnErr, IfOk,
 ghost use Rattle.lua_joining.specs.Joining.{HasSameLists, IsJoined};
 ghost use Rattle.lua_modules.specs.Sets as spec;
 ghost use Rattle.lua_modules.specs.Sets.{of_file};
-ghost use Rattle.lua_modules.specs.declared.faults.ModuleFault.TheVariants.{Memory};
 
 use crate::ModuleFault;
 use crate::texts::program_of;
@@ -61,18 +60,17 @@ fn join_file(
     program: &mut Program,
     file: Bytes,
     chunk: Program,
-) -> Result<u32, ModuleFault>
+) -> Result<u32, AllocError>
     ensures joined { OnOk result (IsJoined program.old (of_file file chunk) program.new) }
     ensures number { IfOk result (λ number. number ≡ length program.old.functions.items) }
     ensures kept { OnErr result (HasSameLists program.old program.new) }
-    ensures fault { IfErr result (λ fault. fault ≡ Memory) }
 {
     let files = one_file(alloc, file)?;
     let chunk = Program {
         files,
         functions: chunk.functions,
     };
-    Ok(join(alloc, program, chunk)?)
+    join(alloc, program, chunk)
 }
 
 impl ModuleSet {
@@ -218,11 +216,10 @@ impl ModuleSet {
         Ok(())
     }
 
-    /// Adds the chunk of a block.
-    fn add_chunk(&mut self, alloc: Global, file: Bytes, chunk: Program) -> Result<(), ModuleFault>
+    /// Adds the next block by its program, which has been read. Only memory may be wanting, and leaves the set as it was.
+    pub fn add_chunk(&mut self, alloc: Global, file: Bytes, chunk: Program) -> Result<(), AllocError>
         ensures joined { OnOk result (IsJoined self.old.program (of_file file chunk) self.new.program) }
         ensures lists { OnOk result (lists_of self.new ≡ with_block (length self.old.program.functions.items) (lists_of self.old)) }
-        ensures fault { IfErr result (λ fault. fault ≡ Memory) }
         ensures kept { OnErr result (IsUnchanged self.old self.new) }
     {
         self.blocks.reserve(1)?;

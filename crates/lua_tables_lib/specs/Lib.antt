@@ -7,3 +7,4 @@ pub mod Modules
 pub mod Functions
 pub mod Meaning
 pub mod Laws
+pub mod OwnText

@@ -1,6 +1,7 @@
 //! The library's own text in Lua: what it names for programs, and its functions that call Lua functions.
 
 ghost use Rattle.std.specs.Prelude.{◌≡◌};
+ghost use Rattle.lua_tables_lib.specs.OwnText.{library_text};
 
 /// The chunk is called with the table of the host's functions, where each stands at the number after its own. `require` (Lua 5.1
 /// Reference Manual, 5.3) finds the closures of modules there too, by their names, and at the closure of a built-in one what this is
@@ -27,8 +28,9 @@ _G = N[182]() _VERSION = \"Lua 5.1\"
 ";
 
 /// The library's own text.
+#[tactic(auto, unfolding(crate::specs::OwnText::library_text))]
 pub fn prelude() -> &'static [u8]
-    ensures { result.now ≡ PRELUDE.now }
+    ensures { result.now ≡ library_text }
 {
     PRELUDE
 }

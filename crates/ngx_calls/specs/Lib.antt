@@ -3,3 +3,4 @@ pub mod Printing
 pub mod Operations
 pub mod Walks
 pub mod Answers
+pub mod OwnText

@@ -4,8 +4,10 @@
 mod answers;
 mod natives;
 mod operations;
+mod own_text;
 mod printing;
 
 pub use answers::{Given, give};
 pub use natives::NgxNatives;
 pub use operations::{Read, Wanted, read_operation};
+pub use own_text::prelude;

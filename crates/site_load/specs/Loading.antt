@@ -1,0 +1,149 @@
+-- The site that files hold, or why they hold none.
+use Rattle.std.specs.Prelude.{◌≡◌, ◌≢◌, ◌⊎◌, ℕ, ◌<◌, ◌≤◌, List, length, codes, Some, None, IfSome}
+use Rattle.resty_base.specs.Counting.{Rose}
+use Rattle.resty_base.specs.FileMap.{FileMap, FileAccount}
+use Rattle.conf.specs.declared.sites.Conf.{Conf}
+use Rattle.lua_ast.specs.declared.programs.Program.{Program}
+use Rattle.lua_modules.specs.Texts.{IsTextFault}
+use Rattle.lua_modules.specs.declared.faults.ModuleFault.{ModuleFault}
+use Rattle.lua_modules.specs.declared.faults.ModuleFault.TheVariants as chunk
+use Rattle.lua_modules.specs.declared.sets.ModuleSet.{ModuleSet}
+use Rattle.lua_run.specs.Answers.{Site}
+use Rattle.lua_tables_lib.specs.OwnText.{library_text}
+use Rattle.ngx_calls.specs.OwnText.{ngx_text}
+use Rattle.site_check.specs.Sites.{IsRead, IsSiteFault}
+use Rattle.site_check.specs.declared.faults.CheckFault.{CheckFault}
+use Rattle.site_check.specs.declared.faults.CheckFault.TheVariants as check
+use Rattle.site_load.specs.Chunks.{HasChunks}
+use Rattle.site_load.specs.Handlers.{unbuilt_line}
+use Rattle.site_load.specs.Starts.{StartsAs, FailsToStart}
+use Rattle.site_load.specs.declared.faults.SiteFault.{SiteFault}
+use Rattle.site_load.specs.declared.faults.SiteFault.TheVariants.{Missing, TooLong, Unreadable, Refused, NotBuilt, Init, Memory}
+
+-- how many bytes a configuration may have
+abbrev pub most_bytes : ℕ
+most_bytes = 1_048_576
+
+-- the file holds this text, which isn't too long
+pub record Holds (files : FileMap) (name : List ℕ) (most : ℕ) (text : List ℕ) : Type 0 where
+  pub here : files name ≡ Some text
+  pub short : length text ≤ most
+
+-- the file is too long
+pub record IsTooLong (files : FileMap) (name : List ℕ) (most : ℕ) : Type 0 where
+  pub text : List ℕ
+  pub here : files name ≡ Some text
+  pub long : most < length text
+
+-- the file of this name holds a configuration whose blocks have these programs
+pub record HasConf (files : FileMap) (name : List ℕ) (conf : Conf) (programs : List Program) : Type 0 where
+  pub text : List ℕ
+  pub holds : Holds files name most_bytes text
+  pub read : IsRead text conf programs
+
+-- It holds one whose blocks are all run, and this is the set of its chunks. Positions in them name the file.
+pub record HasTexts (files : FileMap) (name : List ℕ) (conf : Conf) (set : ModuleSet) : Type 0 where
+  pub programs : List Program
+  pub has : HasConf files name conf programs
+  pub built : unbuilt_line conf ≡ None
+  pub chunks : HasChunks name conf.blocks set
+
+-- the site whose configuration the file of this name holds
+pub record HasSite (files : FileMap) (name : List ℕ) (site : Site) : Type 0 where
+  pub conf : Conf
+  pub set : ModuleSet
+  pub texts : HasTexts files name conf set
+  pub starts : StartsAs conf set site
+
+-- ---- why there is none
+
+-- the text in the file is refused
+pub record HasFault (files : FileMap) (name : List ℕ) (fault : CheckFault) : Type 0 where
+  pub text : List ℕ
+  pub holds : Holds files name most_bytes text
+  pub wrong : IsSiteFault text fault
+  pub known : fault ≢ check.Memory
+
+-- the first block that isn't run begins in this line
+pub record HasUnbuilt (files : FileMap) (name : List ℕ) (line : ℕ) : Type 0 where
+  pub conf : Conf
+  pub programs : List Program
+  pub has : HasConf files name conf programs
+  pub first : unbuilt_line conf ≡ Some line
+
+-- a prelude or the init block failed with this message
+pub record HasFailed (files : FileMap) (name message : List ℕ) : Type 0 where
+  pub conf : Conf
+  pub set : ModuleSet
+  pub texts : HasTexts files name conf set
+  pub fails : FailsToStart conf set message
+
+-- a built-in text is no chunk, so that no site starts
+pub record IsNoChunk (text : List ℕ) : Type 0 where
+  pub fault : ModuleFault
+  pub wrong : IsTextFault 1 text fault
+  pub known : fault ≢ chunk.Memory
+
+abbrev pub IsBuiltInRefused : List ℕ → Type 0
+IsBuiltInRefused message = (message ≡ codes "built-in text refused") × (IsNoChunk library_text ⊎ IsNoChunk ngx_text)
+
+-- why files hold no site of which the configuration has this name
+abbrev pub IsFault : FileMap → List ℕ → SiteFault → Type 0
+IsFault files name (Missing file) = (file ≡ name) × (files name ≡ None)
+IsFault files name (TooLong file) = (file ≡ name) × IsTooLong files name most_bytes
+IsFault files name (Refused file fault) = (file ≡ name) × HasFault files name fault
+IsFault files name (NotBuilt file line) = (file ≡ name) × HasUnbuilt files name line
+IsFault files name (Init message) = IsBuiltInRefused message ⊎ HasFailed files name message
+IsFault files name fault = ⊥
+
+-- Why a site isn't loaded: where the files report what they hold, this is wrong with them. Reading may fail, and memory run out.
+abbrev pub NotLoaded : List ℕ → FileAccount → FileAccount → SiteFault → Type 0
+NotLoaded name old new (Unreadable file) = Rose (old.faults file) (new.faults file)
+NotLoaded name old new Memory = Unit {0}
+NotLoaded name old new fault = IfSome old.told (λ files. IsFault files name fault)
+
+-- reading brought no fault
+pub record ReadsWell (old new : FileAccount) : Type 0 where
+  pub told : new.told ≡ old.told
+  pub faults : (name : List ℕ) → new.faults name ≡ old.faults name
+
+-- ---- what is known on the way
+
+-- a text that is built in is refused, or memory ran out
+abbrev pub IsRefusedText : List ℕ → SiteFault → Type 0
+IsRefusedText text (Init message) = (message ≡ codes "built-in text refused") × IsNoChunk text
+IsRefusedText text Memory = Unit {0}
+IsRefusedText text fault = ⊥
+
+-- one of them
+abbrev pub IsBuiltInFault : SiteFault → Type 0
+IsBuiltInFault (Init message) = IsBuiltInRefused message
+IsBuiltInFault Memory = Unit {0}
+IsBuiltInFault fault = ⊥
+
+-- why there is no text of the file of this name
+abbrev pub IsUnread : List ℕ → FileAccount → FileAccount → SiteFault → Type 0
+IsUnread name old new (Missing file) = (file ≡ name) × IfSome old.told (λ files. files name ≡ None)
+IsUnread name old new (TooLong file) = (file ≡ name) × IfSome old.told (λ files. IsTooLong files name most_bytes)
+IsUnread name old new (Unreadable file) = Rose (old.faults file) (new.faults file)
+IsUnread name old new Memory = Unit {0}
+IsUnread name old new fault = ⊥
+
+-- what the fault of the text of a file is as one of a site
+abbrev pub refusal : List ℕ → CheckFault → SiteFault
+refusal file check.Memory = Memory
+refusal file fault = Refused file fault
+
+-- what a text says, under this name
+pub record Says (name text : List ℕ) (conf : Conf) (set : ModuleSet) : Type 0 where
+  pub programs : List Program
+  pub read : IsRead text conf programs
+  pub built : unbuilt_line conf ≡ None
+  pub chunks : HasChunks name conf.blocks set
+
+-- why a text says nothing
+abbrev pub IsRefusedAs : List ℕ → List ℕ → SiteFault → Type 0
+IsRefusedAs name text (Refused file fault) = (file ≡ name) × IsSiteFault text fault × (fault ≢ check.Memory)
+IsRefusedAs name text (NotBuilt file line) =
+    (file ≡ name) × (conf : Conf) × (programs : List Program) × IsRead text conf programs × (unbuilt_line conf ≡ Some line)
+IsRefusedAs name text fault = IsBuiltInFault fault

@@ -1,0 +1,89 @@
+//! The loading of a site.
+
+ghost use Rattle.std.specs.Prelude.{◌≡◌, IfOk, IfErr, OnOk, IfSome};
+ghost use Rattle.conf.specs.Reading.{IsWhole};
+ghost use Rattle.site_load.specs.Loading as spec;
+ghost use Rattle.site_load.specs.Loading.{Holds, HasSite, NotLoaded, ReadsWell, Says, IsRefusedAs, IsUnread, most_bytes};
+ghost use Rattle.site_load.specs.Views.{site_of};
+
+use crate::SiteFault;
+use crate::chunks::set_of;
+use crate::handlers::unbuilt_line;
+use crate::machine::SiteMachine;
+use crate::starting::start_site;
+use conf::Conf;
+use lua_modules::ModuleSet;
+use lua_run::Site;
+use resty_base::{Bytes, Fetched, Files};
+use site_check::{CheckFault, SiteRead, read_site};
+use std::alloc::Global;
+
+/// How many bytes a configuration may have.
+const MOST_BYTES: usize = 1_048_576;
+
+/// Reads the file of a configuration whole.
+fn read_file<F: Files>(alloc: Global, files: &mut F, name: &str, file: &Bytes) -> Result<Bytes, SiteFault>
+    requires { file.now ≡ name.now }
+    ensures ok { IfOk result (λ text. IfSome (F.account files.old).told (λ held. Holds held name.now most_bytes text)) }
+    ensures err { IfErr result (IsUnread name.now (F.account files.old) (F.account files.new)) }
+    ensures well { OnOk result (ReadsWell (F.account files.old) (F.account files.new)) }
+{
+    match files.fetch(alloc, name, MOST_BYTES) {
+        Fetched::Text(text) => Ok(text),
+        Fetched::Missing => Err(SiteFault::Missing(file.clone()?)),
+        Fetched::TooLong => Err(SiteFault::TooLong(file.clone()?)),
+        Fetched::Failed => Err(SiteFault::Unreadable(file.clone()?)),
+        Fetched::Memory => Err(SiteFault::Memory),
+    }
+}
+
+/// A configuration, and the set of its chunks.
+#[derive(Drop)]
+struct SiteTexts {
+    conf: Conf,
+    set: ModuleSet,
+}
+
+/// What the fault of a text is as one of a site.
+fn refusal(file: Bytes, fault: CheckFault) -> SiteFault
+    ensures { result ≡ spec.refusal file fault }
+{
+    match fault {
+        CheckFault::Memory => SiteFault::Memory,
+        fault => SiteFault::Refused(file, fault),
+    }
+}
+
+/// Reads the text of a configuration, of which `file` is the name.
+fn read_texts(alloc: Global, file: Bytes, text: &[u8]) -> Result<SiteTexts, SiteFault>
+    ensures ok { IfOk result (λ texts. Says file text.now texts.conf texts.set) }
+    ensures whole { IfOk result (λ texts. IsWhole texts.conf) }
+    ensures err { IfErr result (IsRefusedAs file text.now) }
+{
+    let SiteRead { conf, programs } = match read_site(alloc, text) {
+        Ok(read) => read,
+        Err(fault) => return Err(refusal(file, fault)),
+    };
+    if let Some(line) = unbuilt_line(alloc, &conf)? {
+        return Err(SiteFault::NotBuilt(file, line));
+    }
+    let set = set_of(alloc, &file, programs)?;
+    Ok(SiteTexts { conf, set })
+}
+
+/// Loads the site of which the file of this name holds the configuration: reads it, checks its grammar and that of its blocks of Lua,
+/// and starts it.
+pub fn load_site<F: Files>(
+    alloc: Global,
+    files: &mut F,
+    name: &str,
+) -> Result<Site<SiteMachine>, SiteFault>
+    ensures ok { IfOk result (λ site. IfSome (F.account files.old).told (λ held. HasSite held name.now (site_of site))) }
+    ensures err { IfErr result (NotLoaded name.now (F.account files.old) (F.account files.new)) }
+    ensures well { OnOk result (ReadsWell (F.account files.old) (F.account files.new)) }
+{
+    let file = Bytes::from_vec(Vec::from_slice(alloc, name.as_bytes())?)?;
+    let text = read_file(alloc, files, name, &file)?;
+    let SiteTexts { conf, set } = read_texts(alloc, file, text.as_slice())?;
+    start_site(alloc, conf, set)
+}
