@@ -74,7 +74,6 @@ does_alone S q old new before store (Ok flow.Went) d =
     (λ rs. work-then (eval S) q (on_values (λ us s'. give [] s')) (record { store = before; resumes = rs })
     ∙ ap (λ (o : Ending). after o (λ sign s w. do_work (eval S) (on_values (λ us s'. give [] s') sign s) w)) (d.done.comes rs)
     ∙ alone S (sign_of new.given) (slots_of new) (record { store = store; resumes = rs }) d.done.ends)
-does_alone S q old new before store (Ok flow.Unsupported) d = record { follows = tt }
 does_alone S q old new before store (Ok flow.Asked) d = absurd d.done
 does_alone S q old new before store (Ok flow.Spent) d = absurd d.done
 does_alone S q old new before store (Ok flow.Over) d = absurd d.done

@@ -64,4 +64,3 @@ ends_counted S first old fs before mid store flow.Asked same h w p =
     asked-rises S before.steps (λ rs. finish S old (record { store = mid; resumes = rs })) fs store fs.asked (subst (Rises before.steps) (same []) (finish-rises S first before)) h
 ends_counted S first old fs before mid store flow.Spent same h w p = absurd (p refl)
 ends_counted S first old fs before mid store flow.Over same h w p = (subst (Rises before.steps) (h []) (subst (Rises before.steps) (same []) (finish-rises S first before))).1
-ends_counted S first old fs before mid store flow.Unsupported same h w p = tt

@@ -10,4 +10,3 @@ RaisesSteps old new flow.Went = (old.steps < new.steps) × (new.steps ≤ step_l
 RaisesSteps old new flow.Asked = old.steps < new.steps
 RaisesSteps old new flow.Spent = new.steps ≡ step_limit
 RaisesSteps old new flow.Over = old.steps ≤ new.steps
-RaisesSteps old new flow.Unsupported = Unit {0}

@@ -1,6 +1,6 @@
 -- Frames that come and go: what is left of a thread before and after.
 use Rattle.std.specs.Prelude.{◌≡◌, ℕ, List, [], ◌∷◌, ◌++◌, nat_lt, if◌then◌else◌, Bool, true, false, Result, Ok, Option, Some, None, refl}
-use Rattle.std.proofs.Common.{sym, ◌∙◌, ap, subst, Vec, Global}
+use Rattle.std.proofs.Common.{sym, ◌∙◌, ap, subst, inl, inr, Vec, Global}
 use Rattle.lua_values.specs.declared.values.Value.{Value}
 use Rattle.lua_values.specs.Heap.{StoreView, step_limit}
 use Rattle.lua_meaning.specs.declared.resumes.Resumed.{Resumed}
@@ -27,7 +27,7 @@ use Rattle.lua_frames_base.specs.Signals.{sign_of}
 use Rattle.lua_frames_base.specs.Items.{resume_item}
 use Rattle.lua_frames_base.specs.Frames.{closing, closed, back, finish_items, finish_calls, finish_from, finish, around, here, slots_of, working, answer_sign, given}
 use Rattle.lua_frames_base.specs.Follows.{Follows, Turns, Works}
-use Rattle.lua_frames_base.specs.Changes.{Pushes, Replaces, GoesBack, Handles}
+use Rattle.lua_frames_base.specs.Changes.{Pushes, Replaces, GoesBack, Handles, CallsHandler, Leaves}
 use Rattle.lua_frames_base.specs.Ending.{Closes}
 use Rattle.lua_frames_base.proofs.FinishLemmas.{around_push, finish_call, items_spent, items_parked, spent_through, parked_through}
 use Rattle.lua_frames_base.proofs.FollowLemmas.{follows_ok}
@@ -260,7 +260,12 @@ back_turns {E} S old mid new signal store f none closes below given went = recor
         ∙ ap (λ (g' : _). Ended (sign_of g') [] (record { store = store; resumes = rs })) (sym (h.1))
     follows flow.Asked h = absurd h
     follows flow.Spent h = absurd h
-    follows flow.Unsupported h = absurd h
+
+pub back_leaves : (old mid new : Frames) (f : Flow) → mid.below ≡ old.below → GoesBack mid new f → Leaves old new f
+back_leaves old mid new flow.Went e h = inl (ap (λ (b : Stack). b.frames.items) (sym e) ∙ h.0)
+back_leaves old mid new flow.Over e h = ap (λ (b : Stack). b.frames.items) (sym e) ∙ h.0
+back_leaves old mid new flow.Asked e h = absurd h
+back_leaves old mid new flow.Spent e h = absurd h
 
 handled_after : (o : Ending) (s : Slots) → after (after o (λ sign s' w. Ended (call_end sign) s w)) (λ sign s' w. Ended (Values (handled_fault sign)) [] w) ≡ after o (λ sign s' w. Ended (Values (handled_fault (call_end sign))) [] w)
 handled_after (Ended sign s' w) s = refl
@@ -296,3 +301,13 @@ handle_turns {E} S old mid new handler fault store none kind failed below top h 
         ∙ ap (λ (k : Kind). finish_calls S [] old.below.frames.items (closed S k (around old) (after (eval S (ACall handler args.items) (calling (if is_lua k then (record { function = new.top.function; line = 0 }) ∷ around old else around old) false) [] (w_of rs)) (λ sign s' w. Ended (call_end sign) (slots_of new) w)))) h.kind
         ∙ ap (finish_calls S [] old.below.frames.items) (handled_after (eval S (ACall handler args.items) (calling (around old) false) [] (w_of rs)) (slots_of new))
         ∙ ap (λ (vs : List Value). finish_calls S [] old.below.frames.items (after (eval S (ACall handler vs) (calling (around old) false) [] (w_of rs)) (λ sign s' w. Ended (Values (handled_fault (call_end sign))) [] w))) h.items.1
+
+pub handle_leaves : (old mid new : Frames) (handler fault : Value) → old.top.kind ≡ Handled handler → sign_of old.given ≡ Failed fault → mid.below ≡ old.below → mid.top ≡ old.top
+    → Handles mid handler fault new → Leaves old new flow.Went
+handle_leaves old mid new handler fault kind failed below top h = inr (record {
+  handler = handler;
+  fault = fault;
+  kind = kind;
+  ended = failed;
+  handles = record { below = h.below ∙ below; kind = h.kind; given = h.given; items = (h.items.0, h.items.1, h.items.2 ∙ ap (λ (f : Frame). f.items.items ++ i.Call 0 handler h.items.0 ∷ []) top) };
+})

@@ -34,7 +34,6 @@ follows_along S o o' store fs flow.Went e h = λ rs. e rs ∙ h rs
 follows_along S o o' store fs flow.Asked e h = asks_along S o o' store fs fs.asked e h
 follows_along S o o' store fs flow.Spent e h = λ rs. e rs ∙ h rs
 follows_along S o o' store fs flow.Over e h = λ rs. e rs ∙ h rs
-follows_along S o o' store fs flow.Unsupported e h = h
 
 pub follows_ok : {E : Type 0} (S : Setting) (o o' : List Resume → Ending) (store : StoreView) (fs : Frames) (r : Result Flow E) → ((rs : List Resume) → o rs ≡ o' rs) → IfOk r (λ f. Follows S o' store fs f) → IfOk r (λ f. Follows S o store fs f)
 follows_ok S o o' store fs (Ok f) e h = follows_along S o o' store fs f e h

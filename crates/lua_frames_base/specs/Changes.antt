@@ -1,13 +1,13 @@
 -- What the parts of the machine change of its frames, and what they leave.
-use Rattle.std.specs.Prelude.{◌≡◌, ℕ, List, [], ◌∷◌, ◌++◌, Result, IfOk, Option, MatchOption}
+use Rattle.std.specs.Prelude.{◌≡◌, ◌⊎◌, ℕ, List, [], ◌∷◌, ◌++◌, Result, IfOk, Option, MatchOption}
 use Rattle.std.specs.declared.alloc.Global.{Global}
 use Rattle.std.specs.declared.vec.Vec.{Vec}
 use Rattle.lua_values.specs.declared.values.Value.{Value}
-use Rattle.lua_meaning.specs.Works.{Sign}
+use Rattle.lua_meaning.specs.Works.{Sign, Failed}
 use Rattle.lua_frames_base.specs.declared.flow.Flow.{Flow}
 use Rattle.lua_frames_base.specs.declared.flow.Flow.TheVariants as flow
 use Rattle.lua_frames_base.specs.declared.frames.Frame.{Frame}
-use Rattle.lua_frames_base.specs.declared.frames.Kind.TheVariants.{Handling}
+use Rattle.lua_frames_base.specs.declared.frames.Kind.TheVariants.{Handled, Handling}
 use Rattle.lua_frames_base.specs.declared.items.Item.{Item}
 use Rattle.lua_frames_base.specs.declared.items.Item.TheVariants as i
 use Rattle.lua_frames_base.specs.declared.signals.Signal.TheVariants as signal
@@ -62,7 +62,6 @@ GoesBack old new flow.Went = (old.below.frames.items ≡ new.below.frames.items 
 GoesBack old new flow.Over = (old.below.frames.items ≡ []) × (new.given ≡ old.given)
 GoesBack old new flow.Asked = ⊥
 GoesBack old new flow.Spent = ⊥
-GoesBack old new flow.Unsupported = ⊥
 
 -- the frame on top calls its handler with a fault as it goes on
 pub record Handles (old : Frames) (handler fault : Value) (new : Frames) : Type 0 where
@@ -70,3 +69,18 @@ pub record Handles (old : Frames) (handler fault : Value) (new : Frames) : Type 
   pub kind : new.top.kind ≡ Handling
   pub given : new.given ≡ signal.Nothing
   pub items : (args : Vec Value Global) × (args.items ≡ fault ∷ []) × (new.top.items.items ≡ old.top.items.items ++ i.Call 0 handler args ∷ [])
+
+-- the handler of `xpcall`, under which the frame on top runs, is called with the fault in which it ended
+pub record CallsHandler (old new : Frames) : Type 0 where
+  pub handler : Value
+  pub fault : Value
+  pub kind : old.top.kind ≡ Handled handler
+  pub ended : sign_of old.given ≡ Failed fault
+  pub handles : Handles old handler fault new
+
+-- the innermost call has ended: the frame below is on top again, or the handler is called, or all calls have ended
+abbrev pub Leaves : Frames → Frames → Flow → Type 0
+Leaves old new flow.Went = (old.below.frames.items ≡ new.below.frames.items ++ new.top ∷ []) ⊎ CallsHandler old new
+Leaves old new flow.Over = old.below.frames.items ≡ []
+Leaves old new flow.Asked = ⊥
+Leaves old new flow.Spent = ⊥

@@ -22,7 +22,6 @@ Follows S o store fs flow.Went = (resumes : List Resume) → o resumes ≡ finis
 Follows S o store fs flow.Asked = Asks S o store fs fs.asked
 Follows S o store fs flow.Spent = (resumes : List Resume) → o resumes ≡ Spent
 Follows S o store fs flow.Over = (resumes : List Resume) → o resumes ≡ Ended (sign_of fs.given) [] (record { store = store; resumes = resumes })
-Follows S o store fs flow.Unsupported = Unit {0}
 
 -- a call that goes on from what is given
 pub record Turns {E : Type 0} (S : Setting) (old : Frames) (before : StoreView) (new : Frames) (store : StoreView)

@@ -1,9 +1,9 @@
 //! Frames that come and go.
 
-ghost use Rattle.std.specs.Prelude.{◌≡◌, [], OnOk};
+ghost use Rattle.std.specs.Prelude.{◌≡◌, [], IfOk, OnOk};
 ghost use Rattle.lua_values.specs.Heap.{StoreView};
 ghost use Rattle.lua_meaning.specs.Setting.{Setting};
-ghost use Rattle.lua_frames_base.specs.Changes.{Pushes, Replaces, GoesBack, Handles};
+ghost use Rattle.lua_frames_base.specs.Changes.{Pushes, Replaces, GoesBack, Handles, Leaves};
 ghost use Rattle.lua_frames_base.specs.Follows.{Turns};
 
 use crate::ending::{Closing, closing_of};
@@ -50,7 +50,8 @@ pub fn replace_frame(frames: &mut Frames, frame: Frame)
 /// The innermost call, in which nothing waits, ends.
 pub fn leave(frames: &mut Frames) -> Result<Flow, AllocError>
     requires { frames.old.top.items.items ≡ [] }
-    ensures { (S : Setting) → (store : StoreView) → Turns S frames.old store frames.new store result }
+    ensures turns { (S : Setting) → (store : StoreView) → Turns S frames.old store frames.new store result }
+    ensures leaves { IfOk result (λ flow. Leaves frames.old frames.new flow) }
 {
     let given = mem::replace(&mut frames.given, Signal::Nothing);
     match closing_of(&mut frames.lists, &frames.top.kind, given)? {

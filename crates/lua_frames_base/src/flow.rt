@@ -11,8 +11,6 @@ pub enum Flow {
     Asked,
     Spent,
     Over,
-    /// It came to a part of the language that the machine doesn't run yet.
-    Unsupported,
 }
 
 /// A call of the host's functions that is left to the outside, from the position at which it is called.

@@ -23,7 +23,6 @@ IsOutcome finish o resumes store (slice.Done vs) = o ≡ Done vs store
 IsOutcome finish o resumes store (slice.Failed v) = o ≡ Failure v store
 IsOutcome finish o resumes store slice.Spent = o ≡ OutOfSteps
 IsOutcome finish o resumes store slice.Memory = Unit {0}
-IsOutcome finish o resumes store slice.Unsupported = Unit {0}
 
 -- a thread is resumed with r, and will be with any others: the slice, which left a store, is what comes of it
 abbrev pub Resumes : {T : Type 0} → (T → Finish) → T → Resume → StoreView → Slice T → Type 0
@@ -36,4 +35,3 @@ CountsSteps old new (slice.Done vs) = old.steps ≤ new.steps
 CountsSteps old new (slice.Failed v) = old.steps ≤ new.steps
 CountsSteps old new slice.Spent = new.steps ≡ step_limit
 CountsSteps old new slice.Memory = Unit {0}
-CountsSteps old new slice.Unsupported = Unit {0}

@@ -22,6 +22,4 @@ pub enum Slice<T> {
     Spent,
     /// Out of memory; the thread is gone.
     Memory,
-    /// The program came to a part of the language that the machine doesn't run yet.
-    Unsupported,
 }

@@ -1,6 +1,6 @@
 //! `#` (Lua 5.1 Reference Manual, 2.5.5).
 
-ghost use Rattle.std.specs.Prelude.{◌≡◌};
+ghost use Rattle.std.specs.Prelude.{◌≡◌, ◌≤◌};
 ghost use Rattle.lua_values.specs.Heap.{StoreView};
 ghost use Rattle.lua_values.specs.Values.{number};
 ghost use Rattle.lua_meaning.specs.Setting.{Setting};
@@ -38,15 +38,13 @@ pub(crate) fn length_of(
     }
 }
 
-/// Gives a border. No table has more pairs than a number tells.
+/// Gives a border.
 fn give_border(frames: &mut Frames, border: u64) -> Result<Flow, AllocError>
+    requires { border ≤ 32_768 }
     ensures { (S : Setting) → (store : StoreView) → Works S (give_one (number border) (slots_of frames.old)) frames.old store frames.new store result }
 {
-    match i64::try_from(border) {
-        Ok(n) => match Whole::new(n) {
-            Some(n) => give_one(frames, Value::Number(n)),
-            None => Ok(Flow::Unsupported),
-        },
-        Err(_) => Ok(Flow::Unsupported),
+    match Whole::new(border as i64) {
+        Some(n) => give_one(frames, Value::Number(n)),
+        None => unreachable!(),
     }
 }

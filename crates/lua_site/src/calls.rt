@@ -39,7 +39,7 @@ fn end_of<T: Drop>(slice: Slice<T>) -> Result<(), LuaSiteFault>
         Slice::Failed(value) => Err(LuaSiteFault::Init(failure_text(value))),
         Slice::Parked(_, _) => Err(LuaSiteFault::Init(Bytes::from_static(PARKED))),
         Slice::Spent => Err(LuaSiteFault::Init(Bytes::from_static(SPENT))),
-        Slice::Memory | Slice::Unsupported => Err(LuaSiteFault::Memory),
+        Slice::Memory => Err(LuaSiteFault::Memory),
     }
 }
 

@@ -57,7 +57,6 @@ pub does_moved : {E : Type 0} (S : Setting) (q q' : Work) (old mid new : Frames)
     → KeepsAllButSlots old mid → ComesTo S q before q' between → Does S q' mid between new store r → Does S q old before new store r
 does_moved S q q' old mid new before between store (Ok flow.Went) h e d =
     record { done = record { keeps = kept_on old mid new h d.done.keeps; comes = λ rs. e rs ∙ d.done.comes rs; ends = d.done.ends } }
-does_moved S q q' old mid new before between store (Ok flow.Unsupported) h e d = record { done = tt }
 does_moved S q q' old mid new before between store (Ok flow.Asked) h e d = absurd d.done
 does_moved S q q' old mid new before between store (Ok flow.Spent) h e d = absurd d.done
 does_moved S q q' old mid new before between store (Ok flow.Over) h e d = absurd d.done
@@ -70,7 +69,6 @@ does_by S q q' old new before between store r e d = does_moved S q q' old old ne
 -- a call that did an assignment's work and went on
 pub assigns_of : {E : Type 0} (S : Setting) (q : Work) (old new : Frames) (before store : StoreView) (r : Result Flow E) (f : Flow) → Does S q old before new store r → r ≡ Ok f → f ≡ flow.Went → Assigns S q old before new store
 assigns_of S q old new before store (Ok flow.Went) f d is w = d.done
-assigns_of S q old new before store (Ok flow.Unsupported) f d is w = absurd (cc)
 assigns_of S q old new before store (Ok flow.Asked) f d is w = absurd d.done
 assigns_of S q old new before store (Ok flow.Spent) f d is w = absurd d.done
 assigns_of S q old new before store (Ok flow.Over) f d is w = absurd d.done
@@ -80,7 +78,6 @@ assigns_of S q old new before store (Err x) f d is w = absurd (cc)
 pub stops_at : {E : Type 0} (S : Setting) (q q' : Work) (old mid new : Frames) (before between store : StoreView) (r : Result Flow E) (f : Flow) → Does S q' mid between new store r → r ≡ Ok f → (f ≡ flow.Went → ⊥)
     → Works {E = E} S q old before new store (Ok f)
 stops_at S q q' old mid new before between store (Ok flow.Went) f d is w = absurd (w cc)
-stops_at S q q' old mid new before between store (Ok flow.Unsupported) f d is w = subst (λ (t : Result Flow _). Works S q old before new store t) is (record { follows = tt })
 stops_at S q q' old mid new before between store (Ok flow.Asked) f d is w = absurd d.done
 stops_at S q q' old mid new before between store (Ok flow.Spent) f d is w = absurd d.done
 stops_at S q q' old mid new before between store (Ok flow.Over) f d is w = absurd d.done
@@ -90,7 +87,6 @@ stops_at S q q' old mid new before between store (Err x) f d is w = absurd (cc)
 pub does_works : {E : Type 0} (S : Setting) (q : Work) (old new : Frames) (before store : StoreView) (r : Result Flow E) → Does S q old before new store r → Works S q old before new store r
 does_works S q old new before store (Ok flow.Went) d =
     work_done S q old new before store d.done.keeps.below d.done.keeps.kind d.done.keeps.function d.done.keeps.cells d.done.keeps.extras d.done.keeps.items d.done.comes
-does_works S q old new before store (Ok flow.Unsupported) d = record { follows = tt }
 does_works S q old new before store (Ok flow.Asked) d = absurd d.done
 does_works S q old new before store (Ok flow.Spent) d = absurd d.done
 does_works S q old new before store (Ok flow.Over) d = absurd d.done

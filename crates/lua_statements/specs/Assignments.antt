@@ -38,7 +38,6 @@ pub record Assigns (S : Setting) (q : Work) (old : Frames) (before : StoreView) 
 
 abbrev pub IsDone : Setting → Work → Frames → StoreView → Frames → StoreView → Flow → Type 0
 IsDone S q old before new store flow.Went = Assigns S q old before new store
-IsDone S q old before new store flow.Unsupported = Unit {0}
 IsDone S q old before new store flow.Asked = ⊥
 IsDone S q old before new store flow.Spent = ⊥
 IsDone S q old before new store flow.Over = ⊥

@@ -58,4 +58,3 @@ stops S o store fs flow.Went h k = absurd (k refl)
 stops S o store fs flow.Asked h k = asked_there S o store fs fs.asked h
 stops S o store fs flow.Spent h k = tt
 stops S o store fs flow.Over h k = tt
-stops S o store fs flow.Unsupported h k = tt

@@ -40,4 +40,3 @@ Stops fs flow.Went = ⊥
 Stops fs flow.Asked = IsSome fs.asked
 Stops fs flow.Spent = Unit {0}
 Stops fs flow.Over = Unit {0}
-Stops fs flow.Unsupported = Unit {0}

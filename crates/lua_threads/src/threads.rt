@@ -114,7 +114,6 @@ fn slice_of(frames: Frames, flow: Flow) -> Result<Slice<Thread>, AllocError>
             Ended::Failed(value) => Ok(Slice::Failed(value)),
         },
         Flow::Went => unreachable!(),
-        Flow::Unsupported => Ok(Slice::Unsupported),
     }
 }
 

@@ -165,6 +165,18 @@ border-some ps holes j are first =
     border-stop ps 0 (length ps) j (omega arith) (omega arith) at.1 (λ k c d. let off : nat_lt k (length ps) && is_nil (value_at ps (number (k + 1))) ≡ false = sym (are k) ∙ first.before k (omega arith) d in
     sym (ap (λ b. b && is_nil (value_at ps (number (k + 1)))) (lt-ltb k (length ps) (omega arith))) ∙ off)
 
+-- the border is no more than there are pairs
+pub border_from-most : (ps : List (Value × Value)) (n more : ℕ) → border_from ps n more ≤ n + more
+border_from-most ps n zero = omega arith
+border_from-most ps n (suc more) = by_hole (is_nil (value_at ps (number (n + 1)))) (border_from-most ps (n + 1) more)
+  where
+    by_hole : (hole : Bool) → border_from ps (n + 1) more ≤ n + 1 + more → (if hole then n else border_from ps (n + 1) more) ≤ n + suc more
+    by_hole true h = omega arith
+    by_hole false h = omega (arith, h)
+
+pub border-few : (ps : List (Value × Value)) (entries border : ℕ) → entries ≡ length ps → entries ≤ 32_768 → border ≡ border_of ps → border ≤ 32_768
+border-few ps entries border e few is = omega (arith, border_from-most ps 0 (length ps), e, few, is)
+
 pub live-some : (ps : List (Value × Value)) (live : List Bool) → ((k : ℕ) → flag_at live k ≡ flag_at (lives ps) k) → (from index : ℕ) → IsFirstAt live from index
     → first_live (drop from ps) ≡ slice_get ps index
 live-some ps live marks from index h =

@@ -281,12 +281,25 @@ impl Table {
 
     /// The least n with nothing at n + 1.
     pub fn border(&self) -> u64
-        ensures { result ≡ border_of self.now.pairs }
+        ensures least { result ≡ border_of self.now.pairs }
+        ensures few { result ≤ 32_768 }
     {
+        let entries = self.entries();
         match self.holes.first_from(0) {
             Some(hole) => hole as u64,
-            None => self.pairs.len() as u64,
+            None => entries as u64,
         }
+    }
+
+    /// How many entries there are.
+    fn entries(&self) -> usize
+        ensures entries { result ≡ length self.now.pairs }
+        ensures few { result ≤ 32_768 }
+    {
+        let entries = self.pairs.len();
+        let within = entries <= self.live.len();
+        prove!(within);
+        entries
     }
 
     /// The metatable.

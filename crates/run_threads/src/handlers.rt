@@ -85,7 +85,7 @@ fn go_on<M: Machine>(
             Slice::Done(_) => return Ok(ended(running, End::Ended)),
             Slice::Failed(value) => return Ok(ended(running, End::Failed(value))),
             Slice::Spent => return Ok(ended(running, End::Spent)),
-            Slice::Memory | Slice::Unsupported => return Err(AllocError),
+            Slice::Memory => return Err(AllocError),
         }
     }
 }

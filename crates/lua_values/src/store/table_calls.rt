@@ -168,7 +168,8 @@ impl Store {
 
     /// The least border of a table (section 2.5.5): the least n with nil at n + 1.
     pub fn border(&self, t: u32) -> u64
-        ensures { result ≡ border_of (calls.pairs_of self.now.heap t) }
+        ensures least { result ≡ border_of (calls.pairs_of self.now.heap t) }
+        ensures few { result ≤ 32_768 }
     {
         match self.tables.get(t as usize) {
             None => 0,

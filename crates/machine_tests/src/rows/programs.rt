@@ -264,7 +264,6 @@ fn see_end<T>(all: &mut String, end: &Slice<T>) {
         }
         Slice::Spent => put(all, "Spent"),
         Slice::Memory => put(all, "Memory"),
-        Slice::Unsupported => put(all, "Unsupported"),
     }
 }
 

@@ -9,4 +9,4 @@ returns-in-Some g c =
 
 pub returns-in-None : goal.returns-in-None
 returns-in-None g c =
-    same_turns (g.H.Host.setting c.args.host.now) c.args.frames.now c.leave.new.frames c.pop.new.self c.args.store.now c.args.store.now c.leave.result (rw c.in-None.is at c.pop.ensures.items) (c.leave.ensures (g.H.Host.setting c.args.host.now) c.args.store.now)
+    same_turns (g.H.Host.setting c.args.host.now) c.args.frames.now c.leave.new.frames c.pop.new.self c.args.store.now c.args.store.now c.leave.result (rw c.in-None.is at c.pop.ensures.items) (c.leave.ensures.turns (g.H.Host.setting c.args.host.now) c.args.store.now)

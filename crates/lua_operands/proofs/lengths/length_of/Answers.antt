@@ -9,7 +9,7 @@ returns-in-Err c = λ S e.
     text_too_long S _ c.args.a.now c.in-Text.text c.as_slice.result.now c.in-Err.fault c.args.frames.now _ c.args.store.now _ c.in-Text.is c.as_slice.ensures c.in-Err.ensures (c.raise_fault.ensures S c.args.store.now e)
 
 pub returns-in-Table : goal.returns-in-Table
-returns-in-Table c = λ S e. table_measured S _ c.args.a.now c.in-Table.t c.border.result c.args.frames.now _ c.args.store.now _ c.in-Table.is c.border.ensures (c.give_border.ensures S c.args.store.now)
+returns-in-Table c = λ S e. table_measured S _ c.args.a.now c.in-Table.t c.border.result c.args.frames.now _ c.args.store.now _ c.in-Table.is c.border.ensures.least (c.give_border.ensures S c.args.store.now)
 
 pub returns-in_default : goal.returns-in_default
 returns-in_default c = λ S e.

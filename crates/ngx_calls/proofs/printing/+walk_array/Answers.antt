@@ -19,7 +19,7 @@ pub returns-in_err-walk_array-in-Table : goal.returns-in_err-walk_array-in-Table
 returns-in_err-walk_array-in-Table t c =
     let begun = comes_some _ c.count.new.walk c.count.result c.in_ok-count.field-0 c.count.ensures c.in_ok-count.was in
     comes_none _ _ _ _ c.from_residual-in_err-walk_array-in-Table.result c.in_err-walk_array-in-Table.field-0.0 c.in_err-walk_array-in-Table.ensures c.from_residual-in_err-walk_array-in-Table.ensures.1
-    (λ none. element_ends c.args.levels c.args.store.now.heap c.args.t c.args.number c.loop-index.index c.border-index-end.result (Table c.in-Table.inner) _ _ _ c.if-levels-eq0.false begun c.border-index-end.ensures
+    (λ none. element_ends c.args.levels c.args.store.now.heap c.args.t c.args.number c.loop-index.index c.border-index-end.result (Table c.in-Table.inner) _ _ _ c.if-levels-eq0.false begun c.border-index-end.ensures.least
     c.loop-index.invariant c.loop-index-test.true (sym c.in-Table.is ∙ c.in_ok-other.ensures) none)
 
 pub returns-in_err-meet-in_default : goal.returns-in_err-meet-in_default
@@ -27,7 +27,7 @@ returns-in_err-meet-in_default t c =
     let begun = comes_some _ c.count.new.walk c.count.result c.in_ok-count.field-0 c.count.ensures c.in_ok-count.was in
     let met = meets_plain (c.args.levels - 1) c.args.number c.text_length.result c.args.store.now.heap c.in_ok-other.other.now (seen c.loop-index.walk) c.meet.new.walk (Err c.in_err-meet-in_default.field-0.0) c.in_default.not-Table c.text_length.ensures c.in_err-meet-in_default.ensures in
     comes_none _ _ c.meet.new.walk c.meet.new.walk c.from_residual-in_err-meet-in_default.result c.in_err-meet-in_default.field-0.0 met c.from_residual-in_err-meet-in_default.ensures.1
-    (λ none. element_ends c.args.levels c.args.store.now.heap c.args.t c.args.number c.loop-index.index c.border-index-end.result c.in_ok-other.other.now _ _ _ c.if-levels-eq0.false begun c.border-index-end.ensures
+    (λ none. element_ends c.args.levels c.args.store.now.heap c.args.t c.args.number c.loop-index.index c.border-index-end.result c.in_ok-other.other.now _ _ _ c.if-levels-eq0.false begun c.border-index-end.ensures.least
     c.loop-index.invariant c.loop-index-test.true c.in_ok-other.ensures none)
 
 pub loop-index-preserved : goal.loop-index-preserved
@@ -44,5 +44,5 @@ pub returns : goal.returns
 returns t c =
     let begun = comes_some _ c.count.new.walk c.count.result c.in_ok-count.field-0 c.count.ensures c.in_ok-count.was in
     comes_as _ c.loop-index.walk tt
-    (array_left c.args.levels c.args.store.now.heap c.args.t c.args.number c.loop-index.index c.border-index-end.result _ _ _ c.if-levels-eq0.false begun c.border-index-end.ensures c.loop-index.invariant
+    (array_left c.args.levels c.args.store.now.heap c.args.t c.args.number c.loop-index.index c.border-index-end.result _ _ _ c.if-levels-eq0.false begun c.border-index-end.ensures.least c.loop-index.invariant
     ∙ elements_done (met_in (c.args.levels - 1) c.args.store.now.heap) c.args.number (pairs_of c.args.store.now.heap c.args.t) c.loop-index.index c.border-index-end.result _ c.loop-index-test.false)
