@@ -1,6 +1,8 @@
-//! Tests of the crates that read Lua, by their public calls: numbers, trees, tokens, operators, programs, and sets of modules.
+//! Tests of the crates that read Lua, by their public calls: numbers, trees, tokens, operators, programs, and sets of modules and the reading of their files.
 #![tactic(auto)]
 
+#[cfg(test)]
+mod module_reading;
 #[cfg(test)]
 mod module_sets;
 #[cfg(test)]

@@ -30,7 +30,7 @@ fn hold_in(rt: &impl Abort, alloc: Global, set: &mut ModuleSet, rows: &str) -> R
 
 /// The answer to a call: `block LINE TEXT`, `module NAME TEXT` with the file NAME, `built-in NAME TEXT`, which has no file, or what is asked
 /// of the set. In a text `\r` ends a line.
-fn answer(alloc: Global, set: &mut ModuleSet, call: &str) -> Result<String, AllocError> {
+pub(crate) fn answer(alloc: Global, set: &mut ModuleSet, call: &str) -> Result<String, AllocError> {
     let mut all = String::new(alloc);
     let (kind, words) = call.split_once(' ').unwrap_or((call, ""));
     let (name, text) = words.split_once(' ').unwrap_or((words, ""));

@@ -1,0 +1,44 @@
+-- The files of modules, and what reading one gives.
+use Rattle.std.specs.Prelude.{◌≡◌, ℕ, ◌≤◌, ◌<◌, List, length, Option, Some, None, Result, Err, if◌then◌else◌}
+use Rattle.std.specs.Str.{is_utf8}
+use Rattle.resty_base.specs.Counting.{Rose}
+use Rattle.resty_base.specs.FileMap.{FileMap, FileAccount}
+use Rattle.module_files.specs.declared.faults.ModuleFileFault.{ModuleFileFault}
+use Rattle.module_files.specs.declared.faults.ModuleFileFault.TheVariants.{Missing, TooLong, Unreadable, Memory}
+
+-- how many bytes the file of a module may have
+abbrev pub most_bytes : ℕ
+most_bytes = 1_048_576
+
+-- what the file of this name holds; a name that isn't UTF-8 is that of no file
+abbrev pub file_in : FileMap → List ℕ → Option (List ℕ)
+file_in held file = if is_utf8 file then held file else None
+
+-- the file holds this text, which isn't too long
+pub record Holds (held : FileMap) (file text : List ℕ) : Type 0 where
+  pub here : file_in held file ≡ Some text
+  pub short : length text ≤ most_bytes
+
+-- the file is too long
+pub record IsTooLong (held : FileMap) (file : List ℕ) : Type 0 where
+  pub text : List ℕ
+  pub here : file_in held file ≡ Some text
+  pub long : most_bytes < length text
+
+-- why there is no text of this file
+abbrev pub IsUnread : FileMap → List ℕ → ModuleFileFault → Type 0
+IsUnread held file (Missing f) = (f ≡ file) × (file_in held file ≡ None)
+IsUnread held file (TooLong f) = (f ≡ file) × IsTooLong held file
+IsUnread held file (Unreadable f) = f ≡ file
+IsUnread held file Memory = Unit {0}
+IsUnread held file other = ⊥
+
+-- reading brought no fault
+pub record ReadsWell (old new : FileAccount) : Type 0 where
+  pub told : new.told ≡ old.told
+  pub faults : (name : List ℕ) → new.faults name ≡ old.faults name
+
+-- where the answer names a file that can't be read, reading it failed; any other brought no fault
+abbrev pub Fares : {T : Type 0} → Result T ModuleFileFault → FileAccount → FileAccount → Type 0
+Fares (Err (Unreadable file)) old new = Rose (old.faults file) (new.faults file)
+Fares answer old new = ReadsWell old new

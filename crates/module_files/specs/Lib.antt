@@ -1,0 +1,3 @@
+pub mod Files
+pub mod Finding
+pub mod Reading
