@@ -1,0 +1,2 @@
+pub mod SameSet
+pub mod Laws
