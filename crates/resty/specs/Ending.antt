@@ -29,6 +29,7 @@ site_status (fault.TooLong file) = status.ReadFault
 site_status (fault.Unreadable file) = status.ReadFault
 site_status (fault.Refused file wrong) = status.Conf
 site_status (fault.NotBuilt file line) = status.Conf
+site_status fault.TooManyModules = status.Conf
 site_status (fault.Init message) = status.Conf
 site_status fault.Memory = status.Memory
 
@@ -68,6 +69,7 @@ site_line (fault.TooLong file) = too_long_line file
 site_line (fault.Unreadable file) = unreadable_line file
 site_line (fault.Refused file wrong) = fault_line file (decimal (check.line_of wrong)) (check.text_of wrong)
 site_line (fault.NotBuilt file line) = fault_line file (decimal line) (codes "not built yet")
+site_line fault.TooManyModules = codes "resty: too many modules\n"
 site_line (fault.Init message) = codes "resty: init failed: " ++ message ++ codes "\n"
 site_line fault.Memory = codes "resty: out of memory\n"
 

@@ -103,7 +103,10 @@ fn site_status(fault: &SiteFault) -> Status
         SiteFault::Missing(_) | SiteFault::TooLong(_) | SiteFault::Unreadable(_) => {
             Status::ReadFault
         }
-        SiteFault::Refused(_, _) | SiteFault::NotBuilt(_, _) | SiteFault::Init(_) => Status::Conf,
+        SiteFault::Refused(_, _)
+        | SiteFault::NotBuilt(_, _)
+        | SiteFault::TooManyModules
+        | SiteFault::Init(_) => Status::Conf,
         SiteFault::Memory => Status::Memory,
     }
 }

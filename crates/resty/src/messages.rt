@@ -46,6 +46,7 @@ fn put_site_fault<E: Sink>(err: &mut E, fault: &SiteFault) -> Result<(), SinkFau
         SiteFault::NotBuilt(file, line) => {
             put_fault(err, file.as_slice(), u64::from(*line), b"not built yet")
         }
+        SiteFault::TooManyModules => put_all(err, b"resty: too many modules\n"),
         SiteFault::Init(message) => {
             put_pieces(err, &[b"resty: init failed: ", message.as_slice(), b"\n"])
         }

@@ -2,7 +2,7 @@
 
 ghost use Rattle.std.specs.Prelude.{IfSome, IfOk, IfErr, OnOk};
 ghost use Rattle.schedule_text.specs.Fitting.{IsSchedule};
-ghost use Rattle.site_load.specs.Loading.{ReadsWell};
+ghost use Rattle.module_files.specs.Files.{ReadsWell};
 ghost use Rattle.resty.specs.Reading.{EndsAtSchedule};
 ghost use Rattle.resty.specs.Verdict.{HasSchedule};
 

@@ -9,6 +9,9 @@ use Rattle.lua_modules.specs.declared.faults.ModuleFault.{ModuleFault}
 use Rattle.lua_modules.specs.declared.faults.ModuleFault.TheVariants as chunk
 use Rattle.lua_modules.specs.declared.sets.ModuleSet.{ModuleSet}
 use Rattle.lua_run.specs.Answers.{Site}
+use Rattle.module_files.specs.Reading.{ReadsModules, Stops, start}
+use Rattle.module_files.specs.declared.faults.ModuleFileFault.{ModuleFileFault}
+use Rattle.module_files.specs.declared.faults.ModuleFileFault.TheVariants as module
 use Rattle.lua_tables_lib.specs.OwnText.{library_text}
 use Rattle.ngx_calls.specs.OwnText.{ngx_text}
 use Rattle.site_check.specs.Sites.{IsRead, IsSiteFault}
@@ -18,7 +21,7 @@ use Rattle.site_load.specs.Chunks.{HasChunks}
 use Rattle.site_load.specs.Handlers.{unbuilt_line}
 use Rattle.site_load.specs.Starts.{StartsAs, FailsToStart}
 use Rattle.site_load.specs.declared.faults.SiteFault.{SiteFault}
-use Rattle.site_load.specs.declared.faults.SiteFault.TheVariants.{Missing, TooLong, Unreadable, Refused, NotBuilt, Init, Memory}
+use Rattle.site_load.specs.declared.faults.SiteFault.TheVariants.{Missing, TooLong, Unreadable, Refused, NotBuilt, TooManyModules, Init, Memory}
 
 -- how many bytes a configuration may have
 abbrev pub most_bytes : ℕ
@@ -41,12 +44,18 @@ pub record HasConf (files : FileMap) (name : List ℕ) (conf : Conf) (programs :
   pub holds : Holds files name most_bytes text
   pub read : IsRead text conf programs
 
--- It holds one whose blocks are all run, and this is the set of its chunks. Positions in them name the file.
-pub record HasTexts (files : FileMap) (name : List ℕ) (conf : Conf) (set : ModuleSet) : Type 0 where
+-- It holds one whose blocks are all run, and these are the chunks of the built-in texts and of the blocks. Positions in them name the file.
+pub record HasBlocks (files : FileMap) (name : List ℕ) (conf : Conf) (set : ModuleSet) : Type 0 where
   pub programs : List Program
   pub has : HasConf files name conf programs
   pub built : unbuilt_line conf ≡ None
   pub chunks : HasChunks name conf.blocks set
+
+-- the same with the modules that are required, which the files hold too
+pub record HasTexts (files : FileMap) (name : List ℕ) (conf : Conf) (set : ModuleSet) : Type 0 where
+  pub own : ModuleSet
+  pub blocks : HasBlocks files name conf own
+  pub modules : ReadsModules files conf.package own set
 
 -- the site whose configuration the file of this name holds
 pub record HasSite (files : FileMap) (name : List ℕ) (site : Site) : Type 0 where
@@ -56,6 +65,12 @@ pub record HasSite (files : FileMap) (name : List ℕ) (site : Site) : Type 0 wh
   pub starts : StartsAs conf set site
 
 -- ---- why there is none
+
+-- the fault of a chunk as one of a text of a site
+abbrev pub of_chunk : ModuleFault → CheckFault
+of_chunk (chunk.Lex fault) = check.Lex fault
+of_chunk (chunk.Parse fault) = check.Parse fault
+of_chunk chunk.Memory = check.Memory
 
 -- the text in the file is refused
 pub record HasFault (files : FileMap) (name : List ℕ) (fault : CheckFault) : Type 0 where
@@ -70,6 +85,20 @@ pub record HasUnbuilt (files : FileMap) (name : List ℕ) (line : ℕ) : Type 0 
   pub programs : List Program
   pub has : HasConf files name conf programs
   pub first : unbuilt_line conf ≡ Some line
+
+-- the modules that are required can't be read, for this reason
+pub record LacksModules (files : FileMap) (name : List ℕ) (fault : ModuleFileFault) : Type 0 where
+  pub conf : Conf
+  pub own : ModuleSet
+  pub left : ModuleSet
+  pub blocks : HasBlocks files name conf own
+  pub stops : Stops files conf.package (start own) left fault
+
+-- the text of a module is refused
+pub record HasBadModule (files : FileMap) (name file : List ℕ) (fault : CheckFault) : Type 0 where
+  pub wrong : ModuleFault
+  pub lacks : LacksModules files name (module.Refused file wrong)
+  pub is : fault ≡ of_chunk wrong
 
 -- a prelude or the init block failed with this message
 pub record HasFailed (files : FileMap) (name message : List ℕ) : Type 0 where
@@ -89,10 +118,11 @@ IsBuiltInRefused message = (message ≡ codes "built-in text refused") × (IsNoC
 
 -- why files hold no site of which the configuration has this name
 abbrev pub IsFault : FileMap → List ℕ → SiteFault → Type 0
-IsFault files name (Missing file) = (file ≡ name) × (files name ≡ None)
-IsFault files name (TooLong file) = (file ≡ name) × IsTooLong files name most_bytes
-IsFault files name (Refused file fault) = (file ≡ name) × HasFault files name fault
+IsFault files name (Missing file) = ((file ≡ name) × (files name ≡ None)) ⊎ LacksModules files name (module.Missing file)
+IsFault files name (TooLong file) = ((file ≡ name) × IsTooLong files name most_bytes) ⊎ LacksModules files name (module.TooLong file)
+IsFault files name (Refused file fault) = ((file ≡ name) × HasFault files name fault) ⊎ HasBadModule files name file fault
 IsFault files name (NotBuilt file line) = (file ≡ name) × HasUnbuilt files name line
+IsFault files name TooManyModules = LacksModules files name module.TooMany
 IsFault files name (Init message) = IsBuiltInRefused message ⊎ HasFailed files name message
 IsFault files name fault = ⊥
 
@@ -102,10 +132,6 @@ NotLoaded name old new (Unreadable file) = Rose (old.faults file) (new.faults fi
 NotLoaded name old new Memory = Unit {0}
 NotLoaded name old new fault = IfSome old.told (λ files. IsFault files name fault)
 
--- reading brought no fault
-pub record ReadsWell (old new : FileAccount) : Type 0 where
-  pub told : new.told ≡ old.told
-  pub faults : (name : List ℕ) → new.faults name ≡ old.faults name
 
 -- ---- what is known on the way
 
@@ -133,6 +159,15 @@ IsUnread name old new fault = ⊥
 abbrev pub refusal : List ℕ → CheckFault → SiteFault
 refusal file check.Memory = Memory
 refusal file fault = Refused file fault
+
+-- what a fault of modules is as one of a site
+abbrev pub of_modules : ModuleFileFault → SiteFault
+of_modules (module.Missing file) = Missing file
+of_modules (module.TooLong file) = TooLong file
+of_modules (module.Unreadable file) = Unreadable file
+of_modules (module.Refused file wrong) = refusal file (of_chunk wrong)
+of_modules module.TooMany = TooManyModules
+of_modules module.Memory = Memory
 
 -- what a text says, under this name
 pub record Says (name text : List ℕ) (conf : Conf) (set : ModuleSet) : Type 0 where

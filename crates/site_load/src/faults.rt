@@ -17,6 +17,8 @@ pub enum SiteFault {
     Refused(Bytes, CheckFault),
     /// The block of Lua that begins in this line of the file is a handler of a phase in which none is run yet.
     NotBuilt(Bytes, u32),
+    /// More than 256 modules are required.
+    TooManyModules,
     /// A prelude or the init block failed, with this message.
     Init(Bytes),
     /// Memory ran out.

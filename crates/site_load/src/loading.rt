@@ -3,7 +3,8 @@
 ghost use Rattle.std.specs.Prelude.{◌≡◌, IfOk, IfErr, OnOk, IfSome};
 ghost use Rattle.conf.specs.Reading.{IsWhole};
 ghost use Rattle.site_load.specs.Loading as spec;
-ghost use Rattle.site_load.specs.Loading.{Holds, HasSite, NotLoaded, ReadsWell, Says, IsRefusedAs, IsUnread, most_bytes};
+ghost use Rattle.site_load.specs.Loading.{Holds, HasSite, NotLoaded, Says, IsRefusedAs, IsUnread, most_bytes};
+ghost use Rattle.module_files.specs.Files.{ReadsWell};
 ghost use Rattle.site_load.specs.Views.{site_of};
 
 use crate::SiteFault;
@@ -12,8 +13,9 @@ use crate::handlers::unbuilt_line;
 use crate::machine::SiteMachine;
 use crate::starting::start_site;
 use conf::Conf;
-use lua_modules::ModuleSet;
+use lua_modules::{ModuleFault, ModuleSet};
 use lua_run::Site;
+use module_files::{ModuleFileFault, read_modules};
 use resty_base::{Bytes, Fetched, Files};
 use site_check::{CheckFault, SiteRead, read_site};
 use std::alloc::Global;
@@ -44,7 +46,7 @@ struct SiteTexts {
     set: ModuleSet,
 }
 
-/// What the fault of a text is as one of a site.
+/// What the fault of the text of a file is as one of a site.
 fn refusal(file: Bytes, fault: CheckFault) -> SiteFault
     ensures { result ≡ spec.refusal file fault }
 {
@@ -71,8 +73,29 @@ fn read_texts(alloc: Global, file: Bytes, text: &[u8]) -> Result<SiteTexts, Site
     Ok(SiteTexts { conf, set })
 }
 
-/// Loads the site of which the file of this name holds the configuration: reads it, checks its grammar and that of its blocks of Lua,
-/// and starts it.
+/// What a fault of modules is as one of a site.
+fn of_modules(fault: ModuleFileFault) -> SiteFault
+    ensures { result ≡ spec.of_modules fault }
+{
+    match fault {
+        ModuleFileFault::Missing(file) => SiteFault::Missing(file),
+        ModuleFileFault::TooLong(file) => SiteFault::TooLong(file),
+        ModuleFileFault::Unreadable(file) => SiteFault::Unreadable(file),
+        ModuleFileFault::Refused(file, ModuleFault::Lex(fault)) => {
+            SiteFault::Refused(file, CheckFault::Lex(fault))
+        }
+        ModuleFileFault::Refused(file, ModuleFault::Parse(fault)) => {
+            SiteFault::Refused(file, CheckFault::Parse(fault))
+        }
+        ModuleFileFault::TooMany => SiteFault::TooManyModules,
+        ModuleFileFault::Refused(_, ModuleFault::Memory) | ModuleFileFault::Memory => {
+            SiteFault::Memory
+        }
+    }
+}
+
+/// Loads the site of which the file of this name holds the configuration: reads it, the grammar of its blocks of Lua
+/// and the modules that these require, and starts it.
 pub fn load_site<F: Files>(
     alloc: Global,
     files: &mut F,
@@ -84,6 +107,9 @@ pub fn load_site<F: Files>(
 {
     let file = Bytes::from_vec(Vec::from_slice(alloc, name.as_bytes())?)?;
     let text = read_file(alloc, files, name, &file)?;
-    let SiteTexts { conf, set } = read_texts(alloc, file, text.as_slice())?;
-    start_site(alloc, conf, set)
+    let SiteTexts { conf, mut set } = read_texts(alloc, file, text.as_slice())?;
+    match read_modules(alloc, files, &conf.package, &mut set) {
+        Ok(()) => start_site(alloc, conf, set),
+        Err(fault) => Err(of_modules(fault)),
+    }
 }
