@@ -11,13 +11,15 @@ ghost use Rattle.resty.specs.Taken.{TakesAllBytes, TookAll};
 use schedule::{
     a_history_is_known_by_its_text, a_schedule_is_known_by_its_text, no_schedule_is_refused,
 };
+use site_load::sites_are_known;
 use strand_contract::StrandContract;
 use strand_laws::laws::what_was_taken;
 
-/// All verdicts of the same words and files are of one status; and where something is checked, run or served there is only one.
+/// All verdicts of the same words and files are of one status; and where something is checked, run or served they say the same.
 pub fn one_status()
     ensures { AreOfOneStatus }
 {
+    sites_are_known();
     no_schedule_is_refused();
     a_schedule_is_known_by_its_text();
 }

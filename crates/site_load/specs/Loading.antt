@@ -116,6 +116,14 @@ pub record IsNoChunk (text : List ℕ) : Type 0 where
 abbrev pub IsBuiltInRefused : List ℕ → Type 0
 IsBuiltInRefused message = (message ≡ codes "built-in text refused") × (IsNoChunk library_text ⊎ IsNoChunk ngx_text)
 
+-- and so is that of this configuration
+pub record HasBadBuiltIn (files : FileMap) (name message : List ℕ) : Type 0 where
+  pub conf : Conf
+  pub programs : List Program
+  pub has : HasConf files name conf programs
+  pub built : unbuilt_line conf ≡ None
+  pub refused : IsBuiltInRefused message
+
 -- why files hold no site of which the configuration has this name
 abbrev pub IsFault : FileMap → List ℕ → SiteFault → Type 0
 IsFault files name (Missing file) = ((file ≡ name) × (files name ≡ None)) ⊎ LacksModules files name (module.Missing file)
@@ -123,7 +131,7 @@ IsFault files name (TooLong file) = ((file ≡ name) × IsTooLong files name mos
 IsFault files name (Refused file fault) = ((file ≡ name) × HasFault files name fault) ⊎ HasBadModule files name file fault
 IsFault files name (NotBuilt file line) = (file ≡ name) × HasUnbuilt files name line
 IsFault files name TooManyModules = LacksModules files name module.TooMany
-IsFault files name (Init message) = IsBuiltInRefused message ⊎ HasFailed files name message
+IsFault files name (Init message) = HasBadBuiltIn files name message ⊎ HasFailed files name message
 IsFault files name fault = ⊥
 
 -- Why a site isn't loaded: where the files report what they hold, this is wrong with them. Reading may fail, and memory run out.
@@ -181,4 +189,7 @@ abbrev pub IsRefusedAs : List ℕ → List ℕ → SiteFault → Type 0
 IsRefusedAs name text (Refused file fault) = (file ≡ name) × IsSiteFault text fault × (fault ≢ check.Memory)
 IsRefusedAs name text (NotBuilt file line) =
     (file ≡ name) × (conf : Conf) × (programs : List Program) × IsRead text conf programs × (unbuilt_line conf ≡ Some line)
-IsRefusedAs name text fault = IsBuiltInFault fault
+IsRefusedAs name text (Init message) =
+    (conf : Conf) × (programs : List Program) × IsRead text conf programs × (unbuilt_line conf ≡ None) × IsBuiltInRefused message
+IsRefusedAs name text Memory = Unit {0}
+IsRefusedAs name text fault = ⊥

@@ -1,10 +1,32 @@
 -- Sites that are the same: where the trees of their programs stand in memory makes no difference.
-use Rattle.std.specs.Prelude.{◌≡◌, ℕ, List}
+use Rattle.std.specs.Prelude.{◌≡◌, ℕ, Bool, true, false, List}
+use Rattle.resty_base.specs.FileMap.{FileMap}
 use Rattle.lua_meaning.specs.Evaluator.{Resume}
 use Rattle.lua_run.specs.Answers.{Site}
+use Rattle.site_load.specs.Loading.{HasSite, IsFault}
+use Rattle.site_load.specs.declared.faults.SiteFault.{SiteFault}
+use Rattle.site_load.specs.declared.faults.SiteFault.TheVariants.{Missing, TooLong}
 
 -- one configuration, one store, and the same comes of each thread that runs a handler
 pub record IsSameSite (site other : Site) : Type 0 where
   pub conf : site.conf ≡ other.conf
   pub store : site.store ≡ other.store
   pub handlers : (number : ℕ) (resumes : List Resume) → site.handler number resumes ≡ other.handler number resumes
+
+-- files hold one site under a name
+abbrev pub SitesAreKnown : Type 0
+SitesAreKnown = (files : FileMap) (name : List ℕ) (site other : Site) → HasSite files name site → HasSite files name other → IsSameSite site other
+
+-- and have no fault where they hold one
+abbrev pub NoSiteIsRefused : Type 0
+NoSiteIsRefused = (files : FileMap) (name : List ℕ) (site : Site) (fault : SiteFault) → HasSite files name site → ¬ (IsFault files name fault)
+
+-- a file isn't there, or is too long
+abbrev pub is_unread : SiteFault → Bool
+is_unread (Missing file) = true
+is_unread (TooLong file) = true
+is_unread fault = false
+
+-- where they hold none they have one kind of fault: a file is missing or too long, or what the files hold is refused
+abbrev pub FaultsAreAlike : Type 0
+FaultsAreAlike = (files : FileMap) (name : List ℕ) (fault other : SiteFault) → IsFault files name fault → IsFault files name other → is_unread fault ≡ is_unread other

@@ -4,10 +4,12 @@
 mod chunks;
 mod faults;
 mod handlers;
+mod laws;
 mod loading;
 mod machine;
 mod starting;
 
 pub use faults::SiteFault;
+pub use laws::{readings_are_known, sites_are_known};
 pub use loading::load_site;
 pub use machine::{HostFunctions, SiteMachine};

@@ -73,6 +73,17 @@ fn read_texts(alloc: Global, file: Bytes, text: &[u8]) -> Result<SiteTexts, Site
     Ok(SiteTexts { conf, set })
 }
 
+/// What the fault of a chunk is as one of a text of a site.
+fn of_chunk(fault: ModuleFault) -> CheckFault
+    ensures { result ≡ spec.of_chunk fault }
+{
+    match fault {
+        ModuleFault::Lex(fault) => CheckFault::Lex(fault),
+        ModuleFault::Parse(fault) => CheckFault::Parse(fault),
+        ModuleFault::Memory => CheckFault::Memory,
+    }
+}
+
 /// What a fault of modules is as one of a site.
 fn of_modules(fault: ModuleFileFault) -> SiteFault
     ensures { result ≡ spec.of_modules fault }
@@ -81,16 +92,9 @@ fn of_modules(fault: ModuleFileFault) -> SiteFault
         ModuleFileFault::Missing(file) => SiteFault::Missing(file),
         ModuleFileFault::TooLong(file) => SiteFault::TooLong(file),
         ModuleFileFault::Unreadable(file) => SiteFault::Unreadable(file),
-        ModuleFileFault::Refused(file, ModuleFault::Lex(fault)) => {
-            SiteFault::Refused(file, CheckFault::Lex(fault))
-        }
-        ModuleFileFault::Refused(file, ModuleFault::Parse(fault)) => {
-            SiteFault::Refused(file, CheckFault::Parse(fault))
-        }
+        ModuleFileFault::Refused(file, fault) => refusal(file, of_chunk(fault)),
         ModuleFileFault::TooMany => SiteFault::TooManyModules,
-        ModuleFileFault::Refused(_, ModuleFault::Memory) | ModuleFileFault::Memory => {
-            SiteFault::Memory
-        }
+        ModuleFileFault::Memory => SiteFault::Memory,
     }
 }
 

@@ -1,0 +1,3 @@
+pub mod Joins
+pub mod Progress
+pub mod OneSite
