@@ -1,0 +1,5 @@
+pub mod SameWorks
+pub mod SameTrees
+pub mod SamePositions
+pub mod SameCalls
+pub mod SameNodes
