@@ -14,7 +14,6 @@ use Rattle.lua_joining.specs.Joining.{IsJoined}
 use Rattle.lua_modules.specs.Texts.{HasProgram}
 use Rattle.lua_modules.specs.Sets.{IsChunk, IsOutermost, IsSound, IsUnchanged, Lists, lists_of, next_function, module_of, of_file, with_block, with_module}
 use Rattle.lua_modules.specs.Sets.{with_prelude}
-use Rattle.lua_modules.specs.declared.faults.ModuleFault.{ModuleFault}
 use Rattle.lua_modules.specs.declared.sets.Module.{Module}
 use Rattle.lua_modules.specs.declared.sets.ModuleSet.{ModuleSet}
 
@@ -63,7 +62,7 @@ named_whole line text file chunk read whole =
     whole_alike chunk (of_file file chunk) refl count whole
 
 -- what holds in both ends
-ended : (r : Result (Unit {0}) ModuleFault) (P Q R G : Type 0) → (P → Q → G) → (R → G) → OnOk r P → OnOk r Q → OnErr r R → G
+ended : {E : Type 0} (r : Result (Unit {0}) E) (P Q R G : Type 0) → (P → Q → G) → (R → G) → OnOk r P → OnOk r Q → OnErr r R → G
 ended (Ok u) P Q R G done failed p q k = done p q
 ended (Err e) P Q R G done failed p q k = failed k
 
@@ -135,7 +134,7 @@ module _ (before after : ModuleSet) (chunk : Program) (joined : IsJoined before.
 module _ (before after : ModuleSet) (line : ℕ) (text file : List ℕ) (chunk : Program) (read : HasProgram line text chunk) (whole : IsWholeProgram chunk)
     (joins : (first second joined : Program) → IsJoined first second joined → IsWholeProgram first → IsWholeProgram second → IsWholeProgram joined)
     (begins_with : (tokens : List Token) (program : Program) → IsProgramOf tokens program → BeginsWithChunk program)
-    (r : Result (Unit {0}) ModuleFault) (joined : OnOk r (IsJoined before.program (of_file file chunk) after.program))
+    {E : Type 0} (r : Result (Unit {0}) E) (joined : OnOk r (IsJoined before.program (of_file file chunk) after.program))
     (kept : OnErr r (IsUnchanged before after))
     (sound : IsSound before) where
   all_whole : IsJoined before.program (of_file file chunk) after.program → IsWholeProgram after.program
