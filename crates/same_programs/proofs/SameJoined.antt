@@ -1,5 +1,5 @@
 -- What is joined of programs that are the same is the same.
-use Rattle.std.proofs.Common.{◌≡◌, ℕ, ◌+◌, List, [], ◌∷◌, ◌++◌, length, Vec, Global, Option, Some, None, refl, sym, ap, ap₂, ◌∙◌, subst, subst₂}
+use Rattle.std.proofs.Common.{◌≡◌, ℕ, ◌+◌, List, [], ◌∷◌, ◌++◌, length, Option, Some, None, refl, sym, ap, ap₂, ◌∙◌, subst, subst₂}
 use Rattle.std.specs.List.{AllZip}
 use Rattle.std.proofs.lemmas.List.Elements.{length_all_zip}
 use Rattle.lua_ast.specs.declared.expressions.Expr.{Expr}
@@ -19,7 +19,7 @@ use Rattle.lua_ast.specs.SameProgram.{SameKind, SameRow, SameItems, SameItem, Sa
 use Rattle.lua_grammar.proofs.SameNodes.{zip_append, unary_same, paren_same, index_same, call_same, method_same, table_same, pair_same, item_same}
 use Rattle.lua_grammar.proofs.SameNodes.{local_same, local_function_same, assign_same, call_statement_same, return_same, do_same, while_same, repeat_same, if_same, numeric_same, generic_same, arm_same}
 use Rattle.lua_joining.specs.Joining.{IsJoined}
-use Rattle.lua_joining.specs.Raising.{Shared, SharedList, OnLine, RaisedKind, RaisedRow, RaisedItems, RaisedItem, RaisedExpr, RaisedStep, RaisedStmtKind, RaisedBlock, RaisedArms, RaisedArm, RaisedStmt, RaisedFunction}
+use Rattle.lua_joining.specs.Raising.{Shared, RaisedKind, RaisedRow, RaisedItems, RaisedItem, RaisedExpr, RaisedStep, RaisedStmtKind, RaisedBlock, RaisedArms, RaisedArm, RaisedStmt, RaisedFunction}
 use Rattle.same_programs.proofs.SameTrees.{kind_self}
 
 -- what is the same of equal things
@@ -27,15 +27,15 @@ told : {X : Type 0} (R : X → X → Type 0) {x y z w : X} → z ≡ x → w ≡
 told R p q h = subst₂ R (sym p) (sym q) h
 
 -- things that are related to the same one by one are the same one by one
-zips : {X : Type 0} (S R : X → X → Type 0) → ((a b x y : X) → S a b → R a x → R b y → S x y) → (as bs xs ys : List X) → AllZip S as bs → AllZip R as xs → AllZip R bs ys → AllZip S xs ys
+zips : {X : Type 0} (S R : X → X → Type 0) → ((a b x y : X) → S a b → R a x → R b y → S x y) → (us vs xs ys : List X) → AllZip S us vs → AllZip R us xs → AllZip R vs ys → AllZip S xs ys
 zips S R step [] [] [] [] h r t = tt
 zips S R step [] [] [] (y ∷ ys) h r t = absurd t
 zips S R step [] [] (x ∷ xs) ys h r t = absurd r
-zips S R step [] (b ∷ bs) xs ys h r t = absurd h
-zips S R step (a ∷ as) [] xs ys h r t = absurd h
-zips S R step (a ∷ as) (b ∷ bs) [] ys h r t = absurd r
-zips S R step (a ∷ as) (b ∷ bs) (x ∷ xs) [] h r t = absurd t
-zips S R step (a ∷ as) (b ∷ bs) (x ∷ xs) (y ∷ ys) h r t = (step a b x y h.0 r.0 t.0, zips S R step as bs xs ys h.1 r.1 t.1)
+zips S R step [] (v ∷ vs) xs ys h r t = absurd h
+zips S R step (u ∷ us) [] xs ys h r t = absurd h
+zips S R step (u ∷ us) (v ∷ vs) [] ys h r t = absurd r
+zips S R step (u ∷ us) (v ∷ vs) (x ∷ xs) [] h r t = absurd t
+zips S R step (u ∷ us) (v ∷ vs) (x ∷ xs) (y ∷ ys) h r t = (step u v x y h.0 r.0 t.0, zips S R step us vs xs ys h.1 r.1 t.1)
 
 binary_op : (op : BinOp) (x x' y y' : Shared) → SameExpr x.value x'.value → SameExpr y.value y'.value → SameKind (kind.Binary op x y) (kind.Binary op x' y')
 unfolding SameKind

@@ -1,5 +1,5 @@
 -- Programs that are the same mention the same, so their functions require the same names.
-use Rattle.std.proofs.Common.{◌≡◌, ℕ, zero, suc, List, [], ◌∷◌, ◌++◌, Option, Some, None, flat_map, slice_get, unwrap_or, if◌then◌else◌, refl, sym, ap, ap₂, ◌∙◌}
+use Rattle.std.proofs.Common.{◌≡◌, ℕ, suc, List, [], ◌∷◌, ◌++◌, Option, Some, None, flat_map, slice_get, unwrap_or, refl, sym, ap, ap₂, ◌∙◌}
 use Rattle.std.specs.List.{AllZip}
 use Rattle.std.specs.Global.{Global}
 use Rattle.std.specs.declared.rc.Rc.{Rc}
@@ -16,10 +16,8 @@ use Rattle.lua_ast.specs.declared.statements.Arm as arm
 use Rattle.lua_ast.specs.declared.programs.Function.{Function}
 use Rattle.lua_ast.specs.declared.programs.Program.{Program}
 use Rattle.lua_ast.specs.SameProgram.{SameKind, SameRow, SameItems, SameItem, SameExpr, SameStep, SameStmtKind, SameBlock, SameArms, SameArm, SameStmt, SameFunction, SameProgram}
-use Rattle.lua_names.specs.declared.mentions.Mention.{Mention}
-use Rattle.lua_names.specs.declared.mentions.Mention.TheVariants.{Module, Inner}
-use Rattle.lua_names.specs.Mentions.{is_required, module_of, row_head, kind_mentions, row_mentions, items_mentions, mentions_in_item, mentions_in, mentions_in_step, mentions_in_range, stmt_mentions, block_mentions, arms_mentions, mentions_in_arm, mentions_in_stmt}
-use Rattle.lua_names.specs.Names.{Names, named_by, names_in_function, with_names, names_in_each, names_of}
+use Rattle.lua_names.specs.Mentions.{module_of, row_head, kind_mentions, row_mentions, items_mentions, mentions_in_item, mentions_in, mentions_in_step, stmt_mentions, block_mentions, arms_mentions, mentions_in_arm, mentions_in_stmt}
+use Rattle.lua_names.specs.Names.{Names, named_by, with_names, names_in_each}
 use Rattle.same_programs.specs.Laws.{HaveSameNames}
 
 -- ---- what a call names by its function and its first argument
@@ -63,34 +61,33 @@ head_text : Option ExprKind → Option (List ℕ)
 head_text None = None
 head_text (Some k) = text_of k
 
-module_named : Option (List ℕ) → Option (List ℕ) → List Mention
-module_named (Some function) (Some text) = if is_required function text then Module text ∷ [] else []
-module_named function text = []
+-- an expression that names as much, and an argument
+global_again : Option (List ℕ) → ExprKind
+global_again None = kind.Nil
+global_again (Some name) = kind.Global name
 
--- none where the first argument is no text
-no_text : (o : Option (List ℕ)) → module_named o None ≡ []
-unfolding module_named
-no_text None = refl
-no_text (Some name) = refl
+text_again : Option (List ℕ) → Option ExprKind
+text_again None = None
+text_again (Some text) = Some (kind.Text text)
 
-by_texts : (k : ExprKind) (v : Option ExprKind) → module_of k v ≡ module_named (global_of k) (head_text v)
-unfolding text_of global_of head_text module_named
-by_texts (kind.Global name) (Some (kind.Text text)) = refl
-by_texts (kind.Global name) v = sym (global_without name v)
-  where
-    global_without : (name : List ℕ) (v : Option ExprKind) → module_named (global_of (kind.Global name)) (head_text v) ≡ module_of (kind.Global name) v
-    global_without name None = refl
-    global_without name (Some (kind.Text text)) = refl
-    global_without name (Some k) = refl
+by_head : (name : List ℕ) (v : Option ExprKind) → module_of (kind.Global name) v ≡ module_of (kind.Global name) (text_again (head_text v))
+unfolding text_of head_text text_again
+by_head name None = refl
+by_head name (Some (kind.Text text)) = refl
+by_head name (Some k) = refl
+
+by_texts : (k : ExprKind) (v : Option ExprKind) → module_of k v ≡ module_of (global_again (global_of k)) (text_again (head_text v))
+unfolding global_of global_again
+by_texts (kind.Global name) v = by_head name v
 by_texts k v = refl
 
 module_same : {n m : _} (k j : ExprKind) (row : kind.Row_of-Expr n) (row' : kind.Row_of-Expr m) → SameKind k j → SameRow row row' → module_of k (row_head row) ≡ module_of j (row_head row')
 unfolding SameKind head_text
-module_same k j kind.end_of-Expr kind.end_of-Expr h g = by_texts k None ∙ ap (λ o. module_named o None) (global_same k j h) ∙ sym (by_texts j None)
+module_same k j kind.end_of-Expr kind.end_of-Expr h g = by_texts k None ∙ ap (λ o. module_of (global_again o) (text_again (head_text None))) (global_same k j h) ∙ sym (by_texts j None)
 module_same k j kind.end_of-Expr (kind.more_of-Expr l' i' row') h g = absurd g
 module_same k j (kind.more_of-Expr l i row) kind.end_of-Expr h g = absurd g
 module_same k j (kind.more_of-Expr l i row) (kind.more_of-Expr l' i' row') h g =
-    by_texts k (Some i) ∙ ap₂ module_named (global_same k j h) (text_same i i' g.1) ∙ sym (by_texts j (Some i'))
+    by_texts k (Some i) ∙ ap₂ (λ o w. module_of (global_again o) (text_again w)) (global_same k j h) (text_same i i' g.1) ∙ sym (by_texts j (Some i'))
 
 -- ---- what expressions mention
 
@@ -129,7 +126,7 @@ mutual
   item_same (item.Pair' l k m j) (item.Pair' l' k' m' j') h = ap₂ (λ xs ys. xs ++ ys) (kind_same k k' h.1) (kind_same j j' h.3)
 
 -- what the same things mention one by one is the same
-mentions_zip : {X : Type 0} (S : X → X → Type 0) (f : X → List Mention) → ((x y : X) → S x y → f x ≡ f y) → (xs ys : List X) → AllZip S xs ys → flat_map f xs ≡ flat_map f ys
+mentions_zip : {X M : Type 0} (S : X → X → Type 0) (f : X → List M) → ((x y : X) → S x y → f x ≡ f y) → (xs ys : List X) → AllZip S xs ys → flat_map f xs ≡ flat_map f ys
 mentions_zip S f each [] [] h = refl
 mentions_zip S f each [] (y ∷ ys) h = absurd h
 mentions_zip S f each (x ∷ xs) [] h = absurd h
@@ -154,7 +151,7 @@ mutual
 
   stmt_same : (k j : StmtKind) → SameStmtKind k j → stmt_mentions k ≡ stmt_mentions j
   stmt_same (stmt.Local slots values) (stmt.Local slots' values') h = exprs_same values.value.items values'.value.items h.1
-  stmt_same (stmt.LocalFunction i n) (stmt.LocalFunction i' n') h = ap (λ z. Inner z ∷ []) h.1
+  stmt_same (stmt.LocalFunction i n) (stmt.LocalFunction i' n') h = ap (λ z. stmt_mentions (stmt.LocalFunction i z)) h.1
   stmt_same (stmt.Assign targets values) (stmt.Assign targets' values') h =
       ap₂ (λ xs ys. xs ++ ys) (exprs_same targets.value.items targets'.value.items h.0) (exprs_same values.value.items values'.value.items h.1)
   stmt_same (stmt.Call x) (stmt.Call y) h = expr_same x y h
@@ -197,7 +194,7 @@ each_same [] (g ∷ gs) n h = absurd h
 each_same (f ∷ fs) [] n h = absurd h
 each_same (f ∷ fs) (g ∷ gs) n h =
     ap (with_names n f) (each_same fs gs (suc n) h.1)
-    ∙ ap (λ (mentions : List Mention). flat_map (named_by (suc n) (names_in_each (suc n) gs)) mentions ∷ names_in_each (suc n) gs) (body_same f.body.value.items g.body.value.items h.0.body)
+    ∙ ap (λ mentions. flat_map (named_by (suc n) (names_in_each (suc n) gs)) mentions ∷ names_in_each (suc n) gs) (body_same f.body.value.items g.body.value.items h.0.body)
 
 pub same_names : (p q : Program) → SameProgram p q → HaveSameNames p q
 same_names p q same n = ap (λ (known : List Names). unwrap_or (slice_get known n) []) (each_same p.functions.items q.functions.items 0 same.functions)
