@@ -3,3 +3,5 @@ pub mod SameTrees
 pub mod SamePositions
 pub mod SameCalls
 pub mod SameNodes
+pub mod SameJoined
+pub mod SameNames

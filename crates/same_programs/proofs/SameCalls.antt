@@ -1,5 +1,5 @@
 -- Works without trees: what programs that are the same do with variables, tables, operators and the functions of the host.
-use Rattle.std.proofs.Common.{◌≡◌, ℕ, ◌+◌, ◌-◌, ◌/◌, ◌++◌, nat_eq, nat_lt, Bool, true, false, List, [], ◌∷◌, length, drop, ℤ, pos, negsuc, Option, Some, None, slice_get, slice_set, codes, if◌then◌else◌, refl, ap, ◌∙◌, subst}
+use Rattle.std.proofs.Common.{ℕ, ◌+◌, ◌-◌, ◌/◌, ◌++◌, nat_eq, nat_lt, Bool, true, false, List, [], ◌∷◌, length, drop, ℤ, pos, negsuc, Option, Some, None, slice_get, codes, if◌then◌else◌, refl, subst}
 use Rattle.lua_operators.specs.Arithmetic.{outcome_of}
 use Rattle.lua_ast.specs.declared.expressions.BinOp.{BinOp}
 use Rattle.lua_ast.specs.declared.expressions.BinOp.TheVariants as binary
@@ -34,7 +34,7 @@ use Rattle.lua_meaning.specs.Natives.{answer_of, assert_work, error_work, librar
 use Rattle.lua_meaning.specs.Operators.{binary_work, length_work, unary_work}
 use Rattle.lua_meaning.specs.Positions.{callers_at, raise_fault}
 use Rattle.lua_meaning.specs.ProtectedCalls.{pcall_work, protected_by, raise_missing, xpcall_work}
-use Rattle.lua_meaning.specs.Signs.{first, give, give_one, more, value}
+use Rattle.lua_meaning.specs.Signs.{first, give, give_one, more}
 use Rattle.lua_meaning.specs.Variables.{table_fault, unless_refused, variable_fault, write_cell, write_slot}
 use Rattle.lua_meaning.specs.Works.{Break, Caller, Count, Failed, Places, Return, Sign, Slots, Values, Work, Write}
 use Rattle.lua_numbers.specs.Arithmetic.{within_range}

@@ -1,5 +1,5 @@
 -- The works of nodes of the same trees, in programs that are the same, are the same; so threads have the same lives in them.
-use Rattle.std.proofs.Common.{◌≡◌, ℕ, ◌+◌, ◌++◌, nat_lt, Bool, true, false, List, [], ◌∷◌, length, drop, reverse, ℤ, pos, Vec, Global, Option, Some, None, Result, Ok, Err, slice_get, slice_set, int_eq, if◌then◌else◌, refl, ap, ◌∙◌, subst, subst₂}
+use Rattle.std.proofs.Common.{◌≡◌, ℕ, ◌+◌, ◌++◌, nat_lt, Bool, true, false, List, [], ◌∷◌, length, drop, reverse, ℤ, pos, Global, Option, Some, None, Result, Ok, Err, slice_get, slice_set, int_eq, if◌then◌else◌, refl, ap, ◌∙◌, subst, subst₂}
 use Rattle.std.specs.List.{AllZip}
 use Rattle.std.specs.declared.rc.Rc.{Rc}
 use Rattle.lua_numbers.specs.declared.faults.NumFault.{NumFault}
@@ -15,19 +15,17 @@ use Rattle.lua_ast.specs.declared.programs.Function.{Function}
 use Rattle.lua_ast.specs.declared.programs.Program.{Program}
 use Rattle.lua_values.specs.declared.values.Value.{Value}
 use Rattle.lua_values.specs.declared.values.Value.TheVariants as value_of
-use Rattle.lua_values.specs.NativeCalls.{Meaning}
 use Rattle.lua_operators.specs.declared.faults.Fault.{Fault}
 use Rattle.lua_operators.specs.declared.faults.Fault.TheVariants as fault
 use Rattle.lua_operators.specs.declared.faults.OperandFault.TheVariants as operand
 use Rattle.lua_operators.specs.Types.{type_of, is_truthy}
 use Rattle.lua_meaning.specs.declared.slots.Slot.TheVariants.{Plain}
-use Rattle.lua_meaning.specs.Works.{Caller, Places, Slots, Node, AValue, AnExpr, AStmt, ATurn, ARepeat, AFor, AnIter, ACall, AnIndex, AStore, Sign, Values, Return, Break, Failed, Work, End, and_then}
-use Rattle.lua_meaning.specs.Evaluator.{Resume}
-use Rattle.lua_meaning.specs.Life.{life, outcome_of}
+use Rattle.lua_meaning.specs.Works.{Caller, Places, Slots, Node, ATurn, ARepeat, AFor, AnIter, ACall, Sign, Values, Return, Break, Failed, Work, End, and_then}
+use Rattle.lua_meaning.specs.Life.{outcome_of}
 use Rattle.same_programs.specs.Laws.{LiveAlike, in_setting}
 use Rattle.same_programs.proofs.SameWorks.{SameNode, one_value, all_values, statement, turn, once_more, counting, iterating, called, indexed, stored, SameWork, ends, evals, looks, writes, counts, then_same, on_same, if_same, eval_same}
-use Rattle.same_programs.proofs.SameTrees.{Out, Shared, SharedList, OutStmt, SameOut, index, call as call_out, method, unary, binary, both, either, paren, table, nil, yes, no, vararg, number as number_out, text, function, slot, captured, global, out_same}
-use Rattle.same_programs.proofs.SameTrees.{SameOutStmt, local, local_function as local_function_out, assign, called_alone, do_block, while_loop, repeat_loop, choice, numeric, generic, returned_values, broken, out_stmt, SameOutArm, out_arm}
+use Rattle.same_programs.proofs.SameTrees.{Out, OutStmt, SameOut, index, call as call_out, method, unary, binary, both, either, paren, table, nil, yes, no, vararg, number as number_out, text, function, slot, captured, global, out_same}
+use Rattle.same_programs.proofs.SameTrees.{SameOutStmt, local, local_function as local_function_out, assign, called_alone, do_block, while_loop, repeat_loop, choice, numeric, generic, returned_values, broken, out_stmt, out_arm}
 use Rattle.same_programs.proofs.SamePositions.{Twins, left, right, SameFound, neither, found, function_same, fault_same, operand_same}
 use Rattle.same_programs.proofs.SameCalls.{unless_same, cell_write_same, slot_write_same, closure_same, index_same, set_same, store_same, binary_same, unary_same, native_same}
 use Rattle.lua_meaning.specs.Assignments.{AtKey, InCapture, InSlot, Nowhere, Target, assign_all, assign_to, assigned, assignment_work, target_of, targets_of}

@@ -26,7 +26,7 @@ use Rattle.lua_ast.specs.declared.statements.Arm as arm
 mutual
   unfolding SameKind
 
-  kind_self : (k : ExprKind) → SameKind k k
+  pub kind_self : (k : ExprKind) → SameKind k k
   kind_self (kind.Index' p l k q m j) = (refl, kind_self k, refl, kind_self j)
   kind_self (kind.Call' p l k q shape row) = (refl, kind_self k, row_self row)
   kind_self (kind.Method' p l k name q shape row) = (refl, kind_self k, refl, row_self row)

@@ -10,8 +10,7 @@ use Rattle.lua_meaning.specs.declared.positions.Position.{Position}
 use Rattle.lua_meaning.specs.declared.resumes.Resumed.{Resumed}
 use Rattle.lua_meaning.specs.Works.{Places, Slots, Node, AValue, AnExpr, AStmt, ATurn, ARepeat, AFor, AnIter, ACall, AnIndex, AStore, Sign, Values, Return, Break, Failed, Work, End, Eval, Outside, Look, Write, Count, and_then}
 use Rattle.lua_meaning.specs.Evaluator.{Resume, State, Ending, Ended, Parked, Spent, after, answered, counted, Evaluator, do_work, budget, WorkOf, eval_within, eval_by}
-use Rattle.lua_meaning.specs.Signs.{first, give_one, on_values}
-use Rattle.lua_meaning.specs.Calls.{call_end}
+use Rattle.lua_meaning.specs.Signs.{on_values}
 
 -- nodes of the same trees
 pub data SameNode : Node → Node → Type 0 where

@@ -28,7 +28,8 @@ AreEqualLives life other = (f : Value) (args : List Value) (resumes : List Resum
 -- by equal lives a site starts alike: with equal stores and blocks, or with one message
 abbrev pub EqualLivesStartAlike : Type 0
 EqualLivesStartAlike =
-    (life other : Life) (natives : ℕ) (lists : Lists) (init : Option ℕ) → AreEqualLives life other → started life natives lists init ≡ started other natives lists init
+    (life other : Life) (natives : ℕ) (lists : Lists) (init : Option ℕ) → AreEqualLives life other
+    → started life natives lists init ≡ started other natives lists init
 
 -- the lives of a set's program with functions of the host
 abbrev pub life_of : ModuleSet → ℕ → Meaning → Life
