@@ -217,7 +217,12 @@ impl ModuleSet {
     }
 
     /// Adds the next block by its program, which has been read. Only memory may be wanting, and leaves the set as it was.
-    pub fn add_chunk(&mut self, alloc: Global, file: Bytes, chunk: Program) -> Result<(), AllocError>
+    pub fn add_chunk(
+        &mut self,
+        alloc: Global,
+        file: Bytes,
+        chunk: Program,
+    ) -> Result<(), AllocError>
         ensures joined { OnOk result (IsJoined self.old.program (of_file file chunk) self.new.program) }
         ensures lists { OnOk result (lists_of self.new ≡ with_block (length self.old.program.functions.items) (lists_of self.old)) }
         ensures kept { OnErr result (IsUnchanged self.old self.new) }

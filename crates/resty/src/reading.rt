@@ -15,11 +15,7 @@ use std::alloc::Global;
 const MOST_BYTES: usize = 67_108_864;
 
 /// Reads the schedule of this name, or says how the work ends for it.
-pub fn read_schedule<F: Files>(
-    alloc: Global,
-    files: &mut F,
-    name: &str,
-) -> Result<Schedule, Ending>
+pub fn read_schedule<F: Files>(alloc: Global, files: &mut F, name: &str) -> Result<Schedule, Ending>
     ensures schedule { IfOk result (λ lines. IfSome (F.account files.old).told (λ held. HasSchedule held name.now lines)) }
     ensures made { IfOk result IsSchedule }
     ensures ends { IfErr result (EndsAtSchedule name.now (F.account files.old) (F.account files.new)) }

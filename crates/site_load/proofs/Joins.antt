@@ -22,11 +22,14 @@ blocks_join file [] (p ∷ ps) a b count parsed joins = absurd (omega (arith, co
 blocks_join file (block ∷ blocks) [] a b count parsed joins = absurd (omega (arith, count))
 blocks_join file (block ∷ blocks) (p ∷ ps) a b count parsed joins =
     let has = parsed 0 block p refl refl in
-    let joined = joins.1 in
-    (joins.0, record {
-      program = record { chunk = p; read = record { tokens = has.tokens; lexed = has.lexed; parsed = has.parsed }; joined = joined.joined };
-      lists = joined.lists;
-    }, blocks_join file blocks ps joins.0 b (omega (arith, count)) (λ i d q here there. parsed (suc i) d q here there) joins.2)
+    let joined = joins.1 in (
+      joins.0,
+      record {
+        program = record { chunk = p; read = record { tokens = has.tokens; lexed = has.lexed; parsed = has.parsed }; joined = joined.joined };
+        lists = joined.lists;
+      },
+      blocks_join file blocks ps joins.0 b (omega (arith, count)) (λ i d q here there. parsed (suc i) d q here there) joins.2,
+    )
 
 pub blocks_added : (file : List ℕ) (blocks : List Block) (programs : List Program) (a b : ModuleSet) → HavePrograms blocks programs → JoinsPrograms file programs a b → AddsBlocks file blocks a b
 blocks_added file blocks programs a b have joins = blocks_join file blocks programs a b have.counted have.parsed joins

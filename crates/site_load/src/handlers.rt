@@ -63,9 +63,5 @@ pub(crate) fn unbuilt_line(alloc: Global, conf: &Conf) -> Result<Option<u32>, Al
     ensures { IfOk result (λ line. line ≡ spec.unbuilt_line conf.now) }
 {
     let contents = contents_of(alloc, conf)?;
-    Ok(first_unbuilt(
-        conf.blocks.as_slice(),
-        conf.init,
-        contents.as_slice(),
-    ))
+    Ok(first_unbuilt(conf.blocks.as_slice(), conf.init, contents.as_slice()))
 }

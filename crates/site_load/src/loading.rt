@@ -24,7 +24,12 @@ use std::alloc::Global;
 const MOST_BYTES: usize = 1_048_576;
 
 /// Reads the file of a configuration whole.
-fn read_file<F: Files>(alloc: Global, files: &mut F, name: &str, file: &Bytes) -> Result<Bytes, SiteFault>
+fn read_file<F: Files>(
+    alloc: Global,
+    files: &mut F,
+    name: &str,
+    file: &Bytes,
+) -> Result<Bytes, SiteFault>
     requires { file.now ≡ name.now }
     ensures ok { IfOk result (λ text. IfSome (F.account files.old).told (λ held. Holds held name.now most_bytes text)) }
     ensures err { IfErr result (IsUnread name.now (F.account files.old) (F.account files.new)) }

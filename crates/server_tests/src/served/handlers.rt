@@ -7,7 +7,8 @@ use std::process::Abort;
 use std::test::Fail;
 
 /// A site with one handler, which begins in line 2.
-const SITE: &str = "http { server { listen 8080;\nlocation / { content_by_lua_block { BODY } }\n} }\n";
+const SITE: &str =
+    "http { server { listen 8080;\nlocation / { content_by_lua_block { BODY } }\n} }\n";
 
 /// A request, and what is done then.
 const CASE: &str = "arrive c1\nbytes c1 \"GET / HTTP/1.0\\r\\n\\r\\n\"\nDONE\n> close c1\nstop";
@@ -120,7 +121,8 @@ fn runs_have_globals_of_their_own(rt: HostRuntime) -> Result<(), Fail> {
 const MODULAR: &str = r#"http { lua_package_path "m/?.lua"; server {
 location / { content_by_lua_block { local greet = require "text.greet" ngx.say(greet.hello("you"), greet == require("text.greet")) } } } }"#;
 
-const GREET: &str = "local mark = require('mark')\nlocal M = {}\nfunction M.hello(name) return 'hello ' .. name .. mark end\nreturn M\n";
+const GREET: &str =
+    "local mark = require('mark')\nlocal M = {}\nfunction M.hello(name) return 'hello ' .. name .. mark end\nreturn M\n";
 
 const MODULE_CASE: &str = r#"arrive c1
 bytes c1 "GET / HTTP/1.0\r\n\r\n"
@@ -139,6 +141,9 @@ fn modules_are_required_by_name(rt: HostRuntime) -> Result<(), Fail> {
     let schedule = lines(alloc, case.as_str(), "< ", "> ")?;
     let history = served_from(alloc, &mut files, schedule.as_str())?;
     let expected = lines(alloc, case.as_str(), "> ", "< ")?;
-    assert_eq!(&rt; str::from_utf8(history.as_slice()).unwrap_or("?"), expected.as_str());
+    assert_eq!(&rt;
+        str::from_utf8(history.as_slice()).unwrap_or("?"),
+        expected.as_str()
+    );
     Ok(())
 }
