@@ -1,5 +1,5 @@
 -- The names of modules that are found, each once, in the order of finding.
-use Rattle.std.specs.Prelude.{◌≡◌, ℕ, ◌<◌, Bool, ◌||◌, List, [], ◌∷◌, ◌++◌, length, flat_map, bytes_eq, if◌then◌else◌}
+use Rattle.std.specs.Prelude.{ℕ, ◌<◌, Bool, ◌||◌, List, [], ◌∷◌, ◌++◌, length, flat_map, bytes_eq, if◌then◌else◌}
 use Rattle.std.specs.List.{list_any}
 use Rattle.lua_names.specs.Names.{Names, names_of}
 use Rattle.lua_modules.specs.Sets.{has_module}

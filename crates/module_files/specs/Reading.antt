@@ -6,7 +6,7 @@ use Rattle.lua_modules.specs.Files.{file_of}
 use Rattle.lua_modules.specs.Sets.{Adds, IsUnchanged, next_function}
 use Rattle.lua_modules.specs.Texts.{IsTextFault}
 use Rattle.lua_modules.specs.declared.faults.ModuleFault.{ModuleFault}
-use Rattle.lua_modules.specs.declared.faults.ModuleFault.TheVariants as text
+use Rattle.lua_modules.specs.declared.faults.ModuleFault.TheVariants as chunk
 use Rattle.lua_modules.specs.declared.sets.ModuleSet.{ModuleSet}
 use Rattle.module_files.specs.Files.{Holds, IsUnread}
 use Rattle.module_files.specs.Finding.{most_modules, found_in, found_in_blocks}
@@ -60,12 +60,12 @@ pub record ReadsModules (held : FileMap) (pattern : List ℕ) (old new : ModuleS
 pub record IsRefused (held : FileMap) (file : List ℕ) (fault : ModuleFault) : Type 0 where
   pub text : List ℕ
   pub holds : Holds held file text
-  pub fault : IsTextFault 1 text fault
-  pub known : fault ≢ text.Memory
+  pub refused : IsTextFault 1 text fault
+  pub known : fault ≢ chunk.Memory
 
 -- the fault of the text of this file
 abbrev pub refusal : List ℕ → ModuleFault → ModuleFileFault
-refusal file text.Memory = Memory
+refusal file chunk.Memory = Memory
 refusal file fault = Refused file fault
 
 -- why there is no module in this file

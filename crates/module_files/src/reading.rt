@@ -76,6 +76,7 @@ fn read_next<F: Files>(
     ensures read { OnOk result (IfSome (F.account files.old).told (λ held. ReadsNext held pattern.now (progress set.old names.old.items read)
         (progress set.new names.new.items (read + 1)))) }
     ensures few { OnOk result (length names.new.items ≤ most_modules) }
+    ensures grows { OnOk result (length names.old.items ≤ length names.new.items) }
     ensures stops { IfErr result (λ fault. IfSome (F.account files.old).told (λ held. Stops held pattern.now (progress set.old names.old.items read)
         set.new fault)) }
     ensures fares { Fares result (F.account files.old) (F.account files.new) }
