@@ -177,7 +177,7 @@ module _ (same_names : SameProgramsHaveSameNames) (modules_keep : ModulesKeepSet
         omega (arith, long, short, same)
     fault_apart name a b (Refused f wrong) known r no =
         let same : no.1.text ≡ r.text = some_same no.1.text r.text (sym no.1.holds.here ∙ r.holds.here) in
-        apart r.text r.adds.program.chunk wrong r.adds.program.read (subst (λ t. IsTextFault 1 t wrong) same no.1.fault) no.1.known
+        apart r.text r.adds.program.chunk wrong r.adds.program.read (subst (λ t. IsTextFault 1 t wrong) same no.1.refused) no.1.known
     fault_apart name a b (Unreadable f) known r no = absurd known
     fault_apart name a b TooMany known r no = absurd no
     fault_apart name a b Memory known r no = absurd known

@@ -1,0 +1,12 @@
+pub mod Parts
+pub mod Known
+pub mod Readings
+pub mod Writes
+pub mod Going
+pub mod Indexing
+pub mod Operators
+pub mod Closures
+pub mod Natives
+pub mod Statements
+pub mod Expressions
+pub mod Nodes

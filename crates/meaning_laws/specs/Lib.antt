@@ -1,0 +1,2 @@
+-- What is said of a call's heap.
+pub mod Standing

@@ -1,0 +1,6 @@
+//! Laws of what a whole Lua program means: what a call leaves of the heap in which it ran.
+#![tactic(auto)]
+
+mod laws;
+
+pub use laws::calls_keep_standing;
