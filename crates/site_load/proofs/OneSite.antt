@@ -5,10 +5,6 @@ use Rattle.conf.specs.Reading.{IsConf}
 use Rattle.conf.specs.declared.sites.Block.{Block}
 use Rattle.conf.specs.declared.sites.Conf as site
 use Rattle.lua_ast.specs.declared.programs.Program.{Program}
-use Rattle.lua_grammar.specs.Grammar.{IsProgramOf}
-use Rattle.lua_lexer.specs.Laws.{HasOneReading}
-use Rattle.lua_lexer.specs.declared.tokens.LexFault.{LexFault}
-use Rattle.lua_parser_base.specs.declared.faults.ParseFault.{ParseFault}
 use Rattle.lua_meaning.specs.Evaluator.{Resume}
 use Rattle.lua_modules.specs.Sets.{Adds, AddsBlock, lists_of}
 use Rattle.lua_modules.specs.Texts.{HasProgram, IsTextFault}
@@ -33,7 +29,7 @@ use Rattle.site_load.specs.Chunks.{IsEmpty, HasBuiltIn, AddsBlocks, HasChunks}
 use Rattle.site_load.specs.Handlers.{unbuilt_line}
 use Rattle.site_load.specs.Loading.{Holds, IsTooLong, HasConf, HasBlocks, HasTexts, HasSite, HasFault, HasUnbuilt, LacksModules, HasBadModule, HasFailed, IsNoChunk, HasBadBuiltIn, IsFault, most_bytes}
 use Rattle.site_load.specs.Programs.{life_of, natives_of, setting_of}
-use Rattle.site_load.specs.Readings.{ReadingsAgree, NoReadingIsRefused, RefusalsAreAlike, IsOfFiles, lacks_text}
+use Rattle.same_readings.specs.Readings.{ReadingsAgree, NoReadingIsRefused, RefusalsAreAlike, IsOfFiles, lacks_text}
 use Rattle.site_load.specs.Same.{IsSameSite, SitesAreKnown, NoSiteIsRefused, FaultsAreAlike, is_unread}
 use Rattle.site_load.specs.Starts.{StartsAs, start_of, site_with, init_among}
 use Rattle.site_load.specs.declared.faults.SiteFault.{SiteFault}
@@ -51,15 +47,6 @@ long_and_short : {C : Type 0} (held : FileMap) (name text : List ℕ) → IsTooL
 long_and_short held name text long holds =
     let same = ap length (same_text long.text text long.here holds.here) in
     absurd (omega (arith, long.long, holds.short, same))
-
--- a chunk has no fault
-module _ (one_reading : (line : ℕ) (text : List ℕ) → HasOneReading line text) where
-  pub chunk_apart : (line : ℕ) (text : List ℕ) (program : Program) (fault : ModuleFault) → HasProgram line text program → IsTextFault line text fault → fault ≢ chunk.Memory → ⊥
-  chunk_apart line text program (chunk.Lex fault) has wrong known = (one_reading line text).apart has.tokens fault has.lexed wrong
-  chunk_apart line text program (chunk.Parse fault) has wrong known =
-      let same = (one_reading line text).tokens has.tokens wrong.tokens has.lexed wrong.lexed in
-      wrong.none program (subst (λ t. IsProgramOf t program) same has.parsed)
-  chunk_apart line text program chunk.Memory has wrong known = known refl
 
 -- ---- sets
 

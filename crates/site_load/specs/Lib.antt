@@ -4,5 +4,4 @@ pub mod Chunks
 pub mod Starts
 pub mod Views
 pub mod Loading
-pub mod Readings
 pub mod Same

@@ -1,24 +1,12 @@
-//! Laws of the sites that files hold, each the contract of a function.
+//! What is known of the sites that files hold: laws, as the contract of a function.
 
-ghost use Rattle.site_load.specs.Readings.{ReadingsAgree, NoReadingIsRefused, RefusalsAreAlike};
 ghost use Rattle.site_load.specs.Same.{SitesAreKnown, NoSiteIsRefused, FaultsAreAlike};
 
 use conf::a_text_has_one_configuration;
 use lua_lexer::one_reading;
-use same_programs::{same_programs_have_same_names, same_programs_live_alike};
+use same_programs::same_programs_live_alike;
+use same_readings::readings_are_known;
 use same_sites::{same_sets_start_alike, same_sets_stay_same};
-
-/// Readings of modules that begin with sets that are the same agree: in the sets that they leave, in whether they are refused, and in
-/// whether that is for a file that isn't there or is too long.
-pub fn readings_are_known()
-    ensures agree { ReadingsAgree }
-    ensures none { NoReadingIsRefused }
-    ensures alike { RefusalsAreAlike }
-{
-    one_reading();
-    same_programs_have_same_names();
-    same_sets_stay_same();
-}
 
 /// Files hold one site under a name, up to where the trees of its program stand in memory; where they hold a site, none is refused; and
 /// where they hold none, a file is missing or too long, or what the files hold is refused, and not both.

@@ -10,6 +10,6 @@ mod machine;
 mod starting;
 
 pub use faults::SiteFault;
-pub use laws::{readings_are_known, sites_are_known};
+pub use laws::sites_are_known;
 pub use loading::load_site;
 pub use machine::{HostFunctions, SiteMachine};

@@ -1,4 +1,5 @@
-use Rattle.site_load.proofs.OneSite.{chunk_apart, sites_are_known, no_site_is_refused, faults_are_alike}
+use Rattle.same_readings.proofs.Apart.{chunk_apart}
+use Rattle.site_load.proofs.OneSite.{sites_are_known, no_site_is_refused, faults_are_alike}
 use Rattle.site_load.proofs.laws.sites_are_known.Goals as goal
 
 pub returns-clause-one : goal.returns-clause-one

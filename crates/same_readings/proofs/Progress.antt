@@ -22,18 +22,18 @@ use Rattle.module_files.specs.declared.faults.ModuleFileFault.TheVariants.{Missi
 use Rattle.same_programs.specs.Laws.{SameProgramsHaveSameNames}
 use Rattle.same_sites.specs.Laws.{ModulesKeepSetsSame}
 use Rattle.same_sites.specs.SameSet.{SameSet}
-use Rattle.site_load.specs.Readings.{IsOfFiles, lacks_text, ReadingsAgree, NoReadingIsRefused, RefusalsAreAlike}
+use Rattle.same_readings.specs.Readings.{IsOfFiles, lacks_text, ReadingsAgree, NoReadingIsRefused, RefusalsAreAlike}
 
 -- ---- lists
 
 some_same : {A : Type 0} (x y : A) → ◌≡◌ {A = Option A} (Some x) (Some y) → x ≡ y
 some_same {A} x y e = let both : ◌≡◌ {A = Option A} (Some x) (Some y) = e in cc
 
-zip_length : {A B : Type 0} {R : A → B → Type 0} (xs : List A) (ys : List B) → AllZip R xs ys → length xs ≡ length ys
-zip_length [] [] z = refl
-zip_length (x ∷ xs) [] z = absurd z
-zip_length [] (y ∷ ys) z = absurd z
-zip_length (x ∷ xs) (y ∷ ys) z = let rest = zip_length xs ys z.1 in omega (arith, rest)
+zip_length : {A B : Type 0} (R : A → B → Type 0) (xs : List A) (ys : List B) → AllZip R xs ys → length xs ≡ length ys
+zip_length R [] [] z = refl
+zip_length R (x ∷ xs) [] z = absurd z
+zip_length R [] (y ∷ ys) z = absurd z
+zip_length R (x ∷ xs) (y ∷ ys) z = let rest = zip_length R xs ys z.1 in omega (arith, rest)
 
 -- the item at the length of a list isn't there
 no_item : {A : Type 0} (xs : List A) (x : A) → slice_get xs (length xs) ≡ Some x → ⊥
@@ -65,7 +65,7 @@ names_same a b same names (name ∷ after) =
     ap (λ ns. with_names a ns after) (name_same a b same names name) ∙ names_same a b same (with_name b names name) after
 
 next_same : (a b : ModuleSet) → SameSet a b → next_function a ≡ next_function b
-next_same a b same = zip_length a.program.functions.items b.program.functions.items same.program.functions
+next_same a b same = zip_length SameFunction a.program.functions.items b.program.functions.items same.program.functions
 
 -- how far two readings are
 pub record SameProgress (p q : Progress) : Type 0 where
@@ -167,20 +167,20 @@ module _ (same_names : SameProgramsHaveSameNames) (modules_keep : ModulesKeepSet
 
     -- where a module is there, its file says no fault
     fault_apart : (name : List ℕ) (a b : ModuleSet) (fault : ModuleFileFault) → IsOfFiles fault → ReadsModule files pattern name a b → HasNoModule files (file_of pattern name) fault → ⊥
-    fault_apart name a b (Missing f) known r no =
-        let e : ◌≡◌ {A = Option (List ℕ)} None (Some r.text) = sym no.1 ∙ r.holds.here in
+    fault_apart name a b (Missing f) known r lack =
+        let e : ◌≡◌ {A = Option (List ℕ)} None (Some r.text) = sym lack.1 ∙ r.holds.here in
         cc
-    fault_apart name a b (TooLong f) known r no =
-        let long = no.1.long in
+    fault_apart name a b (TooLong f) known r lack =
+        let long = lack.1.long in
         let short = r.holds.short in
-        let same = ap length (some_same no.1.text r.text (sym no.1.here ∙ r.holds.here)) in
+        let same = ap length (some_same lack.1.text r.text (sym lack.1.here ∙ r.holds.here)) in
         omega (arith, long, short, same)
-    fault_apart name a b (Refused f wrong) known r no =
-        let same : no.1.text ≡ r.text = some_same no.1.text r.text (sym no.1.holds.here ∙ r.holds.here) in
-        apart r.text r.adds.program.chunk wrong r.adds.program.read (subst (λ t. IsTextFault 1 t wrong) same no.1.refused) no.1.known
-    fault_apart name a b (Unreadable f) known r no = absurd known
-    fault_apart name a b TooMany known r no = absurd no
-    fault_apart name a b Memory known r no = absurd known
+    fault_apart name a b (Refused f wrong) known r lack =
+        let same : lack.1.text ≡ r.text = some_same lack.1.text r.text (sym lack.1.holds.here ∙ r.holds.here) in
+        apart r.text r.adds.program.chunk wrong r.adds.program.read (subst (λ t. IsTextFault 1 t wrong) same lack.1.refused) lack.1.known
+    fault_apart name a b (Unreadable f) known r lack = absurd known
+    fault_apart name a b TooMany known r lack = absurd lack
+    fault_apart name a b Memory known r lack = absurd known
 
     -- one that goes on isn't stuck
     goes_on : (p q p' : Progress) → SameProgress p q → ReadsNext files pattern p p' → (fault : ModuleFileFault) → IsOfFiles fault → IsStuck files pattern q fault → ⊥
@@ -271,19 +271,19 @@ module _ (same_names : SameProgramsHaveSameNames) (modules_keep : ModulesKeepSet
     -- at one progress there is one kind of reason
     text_there : (name other : List ℕ) → name ≡ other → (fault : ModuleFileFault) → lacks_text fault ≡ true → HasNoModule files (file_of pattern name) fault
         → (text : List ℕ) → file_in files (file_of pattern other) ≡ Some text → length text ≤ most_bytes → ⊥
-    text_there name other e (Missing f) lacks no text here short =
+    text_there name other e (Missing f) lacks lack text here short =
         let there : file_in files (file_of pattern name) ≡ Some text = ap (λ n. file_in files (file_of pattern n)) e ∙ here in
-        let clash : ◌≡◌ {A = Option (List ℕ)} None (Some text) = sym no.1 ∙ there in
+        let clash : ◌≡◌ {A = Option (List ℕ)} None (Some text) = sym lack.1 ∙ there in
         cc
-    text_there name other e (TooLong f) lacks no text here short =
+    text_there name other e (TooLong f) lacks lack text here short =
         let there : file_in files (file_of pattern name) ≡ Some text = ap (λ n. file_in files (file_of pattern n)) e ∙ here in
-        let long = no.1.long in
-        let same = ap length (some_same no.1.text text (sym no.1.here ∙ there)) in
+        let long = lack.1.long in
+        let same = ap length (some_same lack.1.text text (sym lack.1.here ∙ there)) in
         omega (arith, long, short, same)
-    text_there name other e (Unreadable f) lacks no text here short = absurd (let clash : false ≡ true = lacks in cc)
-    text_there name other e (Refused f wrong) lacks no text here short = absurd (let clash : false ≡ true = lacks in cc)
-    text_there name other e TooMany lacks no text here short = absurd (let clash : false ≡ true = lacks in cc)
-    text_there name other e Memory lacks no text here short = absurd (let clash : false ≡ true = lacks in cc)
+    text_there name other e (Unreadable f) lacks lack text here short = absurd (let clash : false ≡ true = lacks in cc)
+    text_there name other e (Refused f wrong) lacks lack text here short = absurd (let clash : false ≡ true = lacks in cc)
+    text_there name other e TooMany lacks lack text here short = absurd (let clash : false ≡ true = lacks in cc)
+    text_there name other e Memory lacks lack text here short = absurd (let clash : false ≡ true = lacks in cc)
 
     -- too many names, and a next one
     too_many : (p q : Progress) → SameProgress p q → most_modules < length p.names → (name : List ℕ) → IsNext q name → ⊥

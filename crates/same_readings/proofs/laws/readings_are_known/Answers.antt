@@ -1,6 +1,6 @@
-use Rattle.site_load.proofs.OneSite.{chunk_apart}
-use Rattle.site_load.proofs.Progress.{readings_agree, no_reading_is_refused, refusals_are_alike}
-use Rattle.site_load.proofs.laws.readings_are_known.Goals as goal
+use Rattle.same_readings.proofs.Apart.{chunk_apart}
+use Rattle.same_readings.proofs.Progress.{readings_agree, no_reading_is_refused, refusals_are_alike}
+use Rattle.same_readings.proofs.laws.readings_are_known.Goals as goal
 
 pub returns-clause-agree : goal.returns-clause-agree
 returns-clause-agree c = readings_agree c.same_programs_have_same_names.ensures c.same_sets_stay_same.ensures.modules (chunk_apart c.one_reading.ensures 1)
