@@ -65,8 +65,8 @@ cut_done mode.Serve Missing events old new e short = absurd short
 cut_done mode.Serve TooLong events old new e short = absurd short
 cut_done mode.Serve (BadLine n) events old new e short = absurd short
 
--- a verdict of the status of what is done is one of something that is done
-no_fault_done : {C : Type 0} (why : SiteFault) → site_status why ≡ status.Done → C
+-- where files hold no site, nothing is done
+pub no_fault_done : {C : Type 0} (why : SiteFault) → site_status why ≡ status.Done → C
 no_fault_done (fault.Missing file) e = absurd (let no : status.ReadFault ≡ status.Done = e in cc)
 no_fault_done (fault.TooLong file) e = absurd (let no : status.ReadFault ≡ status.Done = e in cc)
 no_fault_done (fault.Unreadable file) e = absurd (let no : status.ReadFault ≡ status.Done = e in cc)
@@ -76,16 +76,6 @@ no_fault_done fault.TooManyModules e = absurd (let no : status.Conf ≡ status.D
 no_fault_done (fault.Init message) e = absurd (let no : status.Conf ≡ status.Done = e in cc)
 no_fault_done fault.Memory e = absurd (let no : status.Memory ≡ status.Done = e in cc)
 
-done_by : (v : Verdict) → status_of (ending_of v) ≡ status.Done → ending_of v ≡ ending.Done
-done_by Usage e = absurd (let no : status.Usage ≡ status.Done = e in cc)
-done_by (NoSite why) e = no_fault_done why e
-done_by Missing e = absurd (let no : status.ReadFault ≡ status.Done = e in cc)
-done_by TooLong e = absurd (let no : status.ReadFault ≡ status.Done = e in cc)
-done_by (BadLine n) e = absurd (let no : status.Schedule ≡ status.Done = e in cc)
-done_by Checks e = refl
-done_by (Runs site lines) e = refl
-done_by (Serves site) e = refl
-
 -- what is due where the files report what they hold
 module _ (one : AreOfOneStatus) (words : List (List ℕ)) (c : Command) (says : Says words c) (held : FileMap) (faults : List ℕ → ℕ) (live : Book) (out : Account) (new : Outside) where
   abbrev before : Outside
@@ -94,14 +84,11 @@ module _ (one : AreOfOneStatus) (words : List (List ℕ)) (c : Command) (says : 
   by : (w : Verdict) (e : Ending) → IsOf c held w → e ≡ ending_of w → (v : Verdict) → IsVerdict words held v → status_of (ending_of v) ≡ status_of e
   by w e of at v is = own_status one words held v w e is (verdict_of words c says held w of) at
 
-  -- what is cut short is what a verdict asks for that says the same
+  -- what is cut short is what the one verdict asks for
   early : (e : Ending) → IsCutShort c before new e → (v : Verdict) → IsVerdict words held v → EndsEarly words before new v e
   early e d v is =
-      let mine = verdict_of words c says held d.0 d.1 in
-      let done = cut_done c.mode d.0 c.events live new.live e d.2 in
-      let alike = (one words held v d.0 is mine).1 in
-      let also = (one words held d.0 v mine is).0 in
-      (c, d.0, says, alike (done_by v (sym also ∙ ap status_of done)), d.2)
+      let same = (one words held d.0 v (verdict_of words c says held d.0 d.1) is).1 (cut_done c.mode d.0 c.events live new.live e d.2) in
+      (c, says, subst (λ (w : Verdict). CutsShort c.mode w c.events live new.live e) same d.2)
 
   -- why files hold no site
   judged_site : (why : SiteFault) → NotLoaded c.conf before.files new.files why → (v : Verdict) → IsVerdict words held v → IsStatusBy words before new v (site_status why)

@@ -1,4 +1,4 @@
--- The words and the files have verdicts of one status, and where nothing is refused these say the same.
+-- The words and the files have verdicts of one status, and one where nothing is refused.
 use Rattle.std.proofs.Common.{◌≡◌, ℕ, ◌<◌, Bool, true, false, ◌⊎◌, inl, inr, List, length, Option, Some, None, refl, sym, ◌∙◌, ap, subst, arith, if◌then◌else◌}
 use Rattle.resty_base.specs.FileMap.{FileMap}
 use Rattle.resty_world.specs.declared.schedule_line.SchedLine.{SchedLine}
@@ -15,7 +15,7 @@ use Rattle.resty.specs.declared.endings.Status.{Status}
 use Rattle.resty.specs.declared.endings.Status.TheVariants as status
 use Rattle.resty.specs.Ending.{site_status, status_of}
 use Rattle.resty.specs.Ends.{AreOfOneStatus, IsOneVerdict}
-use Rattle.resty.specs.Verdict.{Verdict, Usage, NoSite, Missing, TooLong, BadLine, Checks, Runs, Serves, AreAlike, HasSchedule, IsChecked, IsOf, IsVerdict, ending_of, most_bytes}
+use Rattle.resty.specs.Verdict.{Verdict, Usage, NoSite, Missing, TooLong, BadLine, Checks, Runs, Serves, HasSchedule, IsChecked, IsOf, IsVerdict, ending_of, most_bytes}
 use Rattle.resty.specs.declared.command_line.Mode.{Mode}
 use Rattle.resty.specs.declared.command_line.Mode.TheVariants as mode
 use Rattle.resty.specs.Words.{Command, Says, IsForm}
@@ -217,8 +217,8 @@ module _ (known : SitesAreKnown) (none_refused : NoSiteIsRefused) (alike : Fault
   one_schedule held name xs ys p q =
       schedule_alone xs ys p.accepted.made q.accepted.made (sym p.accepted.whole ∙ same_text p.text q.text p.holds.here q.holds.here ∙ q.accepted.whole)
 
-  -- where nothing is refused the verdicts say the same
-  same_done : (c : Command) (held : FileMap) (v w : Verdict) → IsOf c held v → IsOf c held w → ending_of v ≡ ending.Done → status_of (ending_of w) ≡ status.Done → AreAlike v w
+  -- where nothing is refused there is one verdict
+  same_done : (c : Command) (held : FileMap) (v w : Verdict) → IsOf c held v → IsOf c held w → ending_of v ≡ ending.Done → status_of (ending_of w) ≡ status.Done → v ≡ w
   same_done c held Usage w p q done also = absurd p
   same_done c held (NoSite why) w p q done also = absurd (let no : ending.NoSite why ≡ ending.Done = done in cc)
   same_done c held Missing w p q done also = absurd (let no : ending.Missing ≡ ending.Done = done in cc)
@@ -239,16 +239,18 @@ module _ (known : SitesAreKnown) (none_refused : NoSiteIsRefused) (alike : Fault
   same_done c held (Serves site) Missing p q done also = absurd (let no : status.ReadFault ≡ status.Done = also in cc)
   same_done c held (Serves site) TooLong p q done also = absurd (let no : status.ReadFault ≡ status.Done = also in cc)
   same_done c held (Serves site) (BadLine n) p q done also = absurd (let no : status.Schedule ≡ status.Done = also in cc)
-  same_done c held Checks Checks p q done also = tt
+  same_done c held Checks Checks p q done also = refl
   same_done c held Checks (Runs site lines) p q done also = check_replay c.mode p.0 q.0
   same_done c held Checks (Serves site) p q done also = check_serve c.mode p.0 q.0
   same_done c held (Runs site lines) Checks p q done also = check_replay c.mode q.0 p.0
   same_done c held (Runs site lines) (Serves other) p q done also = one_mode c.mode p.0 q.0
   same_done c held (Runs site lines) (Runs other others) p q done also =
-      (known held c.conf site other p.1 q.1, one_schedule held c.schedule lines others p.2 q.2)
+      let same = known held c.conf site other p.1 q.1 in
+      let lines_same = one_schedule held c.schedule lines others p.2 q.2 in
+      cc
   same_done c held (Serves site) Checks p q done also = check_serve c.mode q.0 p.0
   same_done c held (Serves site) (Runs other lines) p q done also = one_mode c.mode q.0 p.0
-  same_done c held (Serves site) (Serves other) p q done also = known held c.conf site other p.1 q.1
+  same_done c held (Serves site) (Serves other) p q done also = let same = known held c.conf site other p.1 q.1 in cc
 
   command_verdict : (c : Command) (held : FileMap) (v w : Verdict) → IsOf c held v → IsOf c held w → IsOneVerdict v w
   command_verdict c held v w p q =
@@ -272,12 +274,8 @@ module _ (known : SitesAreKnown) (none_refused : NoSiteIsRefused) (alike : Fault
   after_form words held v (Runs site lines) p q = form_verdict words held v (Runs site lines) p q
   after_form words held v (Serves site) p q = form_verdict words held v (Serves site) p q
 
-  -- words that are no form have one verdict
-  no_form_alike : ending_of Usage ≡ ending.Done → AreAlike Usage Usage
-  no_form_alike done = absurd (let no : ending.Usage ≡ ending.Done = done in cc)
-
   pub one_status : AreOfOneStatus
-  one_status words held Usage Usage p q = (refl, no_form_alike)
+  one_status words held Usage Usage p q = (refl, λ done. refl)
   one_status words held Usage (NoSite why) p q = absurd (p (has_form words held (NoSite why) q))
   one_status words held Usage Missing p q = absurd (p (has_form words held Missing q))
   one_status words held Usage TooLong p q = absurd (p (has_form words held TooLong q))

@@ -12,7 +12,7 @@ use Rattle.resty.specs.Due.{CutsShort, IsDue}
 use Rattle.resty.specs.Ending.{status_of, line_of}
 use Rattle.resty.specs.Outside.{Outside}
 use Rattle.resty.specs.Reading.{FailedAt}
-use Rattle.resty.specs.Verdict.{Verdict, AreAlike, IsVerdict, ending_of}
+use Rattle.resty.specs.Verdict.{Verdict, IsVerdict, ending_of}
 use Rattle.resty.specs.Words.{Command, Says, IsForm}
 
 -- the words are no command; or they are one, and the work on it ended as is due. The error output took the line that says so.
@@ -21,9 +21,9 @@ pub data Ends (words : List (List ℕ)) (old new : Outside) (err err' : Account)
   worked : (c : Command) (e : Ending) → Says words c → s ≡ status_of e → IsDue c old new e → Takes (line_of c.schedule e) err err'
       → Ends words old new err err' s
 
--- all verdicts of the same words and files are of one status; and where something is checked, run or served they say the same
+-- all verdicts of the same words and files are of one status; and where something is checked, run or served there is only one
 abbrev pub IsOneVerdict : Verdict → Verdict → Type 0
-IsOneVerdict v w = (status_of (ending_of v) ≡ status_of (ending_of w)) × (ending_of v ≡ ending.Done → AreAlike v w)
+IsOneVerdict v w = (status_of (ending_of v) ≡ status_of (ending_of w)) × (ending_of v ≡ ending.Done → v ≡ w)
 
 abbrev pub AreOfOneStatus : Type 0
 AreOfOneStatus = (words : List (List ℕ)) (files : FileMap) (v w : Verdict) → IsVerdict words files v → IsVerdict words files w → IsOneVerdict v w
@@ -32,9 +32,9 @@ AreOfOneStatus = (words : List (List ℕ)) (files : FileMap) (v w : Verdict) →
 abbrev pub FailedToRead : FileAccount → FileAccount → Type 0
 FailedToRead files files' = (name : List ℕ) × FailedAt name files files'
 
--- what the verdict of the words asks for, or one that says the same, is cut short
+-- what the verdict of the words asks for is cut short
 abbrev pub EndsEarly : List (List ℕ) → Outside → Outside → Verdict → Ending → Type 0
-EndsEarly words old new v e = (c : Command) × (w : Verdict) × Says words c × AreAlike v w × CutsShort c.mode w c.events old.live new.live e
+EndsEarly words old new v e = (c : Command) × Says words c × CutsShort c.mode v c.events old.live new.live e
 
 -- a line that names an id that was never there is reached
 abbrev pub ReachesUnknown : List (List ℕ) → Outside → Outside → Verdict → Type 0

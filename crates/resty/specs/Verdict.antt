@@ -5,7 +5,6 @@ use Rattle.resty_world.specs.declared.schedule_line.SchedLine.{SchedLine}
 use Rattle.schedule_text.specs.Accepted.{IsRead, IsRefusedAt}
 use Rattle.lua_run.specs.Answers.{Site}
 use Rattle.site_load.specs.Loading.{Holds, IsTooLong, HasSite, IsFault}
-use Rattle.site_load.specs.Same.{IsSameSite}
 use Rattle.site_load.specs.declared.faults.SiteFault.{SiteFault}
 use Rattle.resty.specs.declared.endings.Ending.{Ending}
 use Rattle.resty.specs.declared.endings.Ending.TheVariants as ending
@@ -74,10 +73,3 @@ ending_of (BadLine n) = ending.BadLine n
 ending_of Checks = ending.Done
 ending_of (Runs site lines) = ending.Done
 ending_of (Serves site) = ending.Done
-
--- two verdicts that say the same of what is done: the same is checked, run, or served
-abbrev pub AreAlike : Verdict → Verdict → Type 0
-AreAlike Checks Checks = Unit {0}
-AreAlike (Runs site lines) (Runs other others) = IsSameSite site other × (lines ≡ others)
-AreAlike (Serves site) (Serves other) = IsSameSite site other
-AreAlike v w = ⊥

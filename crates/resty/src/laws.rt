@@ -15,7 +15,7 @@ use site_load::sites_are_known;
 use strand_contract::StrandContract;
 use strand_laws::laws::what_was_taken;
 
-/// All verdicts of the same words and files are of one status; and where something is checked, run or served they say the same.
+/// All verdicts of the same words and files are of one status; and where something is checked, run or served there is only one.
 pub fn one_status()
     ensures { AreOfOneStatus }
 {

@@ -1,5 +1,6 @@
 -- Files hold one site under a name, or have one kind of fault.
 use Rattle.std.proofs.Common.{◌≡◌, ◌≢◌, ◌⊎◌, inl, inr, ◌<◌, ◌≤◌, ℕ, Bool, true, false, List, [], ◌∷◌, length, codes, Option, Some, None, Result, Ok, Err, refl, sym, ◌∙◌, ap, subst, arith}
+use Rattle.std.proofs.Math.Path.{fun_ext}
 use Rattle.resty_base.specs.FileMap.{FileMap}
 use Rattle.conf.specs.Reading.{IsConf}
 use Rattle.conf.specs.declared.sites.Block.{Block}
@@ -11,6 +12,8 @@ use Rattle.lua_modules.specs.Texts.{HasProgram, IsTextFault}
 use Rattle.lua_modules.specs.declared.faults.ModuleFault.{ModuleFault}
 use Rattle.lua_modules.specs.declared.faults.ModuleFault.TheVariants as chunk
 use Rattle.lua_modules.specs.declared.sets.ModuleSet.{ModuleSet}
+use Rattle.lua_machine.specs.Finishes.{Finish}
+use Rattle.lua_values.specs.Heap.{StoreView}
 use Rattle.lua_run.specs.Answers.{Site}
 use Rattle.lua_run.specs.Views.{handler_at}
 use Rattle.lua_site.specs.Starting.{Start}
@@ -30,7 +33,7 @@ use Rattle.site_load.specs.Handlers.{unbuilt_line}
 use Rattle.site_load.specs.Loading.{Holds, IsTooLong, HasConf, HasBlocks, HasTexts, HasSite, HasFault, HasUnbuilt, LacksModules, HasBadModule, HasFailed, IsNoChunk, HasBadBuiltIn, IsFault, most_bytes}
 use Rattle.site_load.specs.Programs.{life_of, natives_of, setting_of}
 use Rattle.same_readings.specs.Readings.{ReadingsAgree, NoReadingIsRefused, RefusalsAreAlike, IsOfFiles, lacks_text}
-use Rattle.site_load.specs.Same.{IsSameSite, SitesAreKnown, NoSiteIsRefused, FaultsAreAlike, is_unread}
+use Rattle.site_load.specs.Same.{SitesAreKnown, NoSiteIsRefused, FaultsAreAlike, is_unread}
 use Rattle.site_load.specs.Starts.{StartsAs, start_of, site_with, init_among}
 use Rattle.site_load.specs.declared.faults.SiteFault.{SiteFault}
 use Rattle.site_load.specs.declared.faults.SiteFault.TheVariants.{Missing, TooLong, Unreadable, Refused, NotBuilt, TooManyModules, Init, Memory}
@@ -109,17 +112,24 @@ module _ (one_conf : (text : List ℕ) (conf other : site.Conf) → IsConf text 
         ap (λ (x : Start). life_of a.program (handler_at x.blocks number) [] resumes) same
         ∙ live_alike a.program b.program sets.program S.count S.lib (handler_at t.blocks number) [] resumes
 
-    site_same : (x y : Site) → HasSite files name x → HasSite files name y → IsSameSite x y
+    -- a site is known by its parts
+    abbrev site_of : (conf : site.Conf) → (ℕ → Finish) → StoreView → Site
+    site_of conf handler store = record { conf = conf; handler = handler; store = store }
+
+    parts_same : (conf other : site.Conf) (g h : ℕ → Finish) (s t : StoreView) → conf ≡ other → g ≡ h → s ≡ t → site_of conf g s ≡ site_of other h t
+    parts_same conf other g h s t c f e = ap (λ (x : site.Conf). site_of x g s) c ∙ ap (λ (x : ℕ → Finish). site_of other x s) f ∙ ap (site_of other h) e
+
+    site_same : (x y : Site) → HasSite files name x → HasSite files name y → x ≡ y
     site_same x y p q =
         let conf = conf_same p.conf q.conf p.texts.blocks.programs q.texts.blocks.programs p.texts.blocks.has q.texts.blocks.has in
         let sets = texts_same p.conf q.conf p.set q.set p.texts q.texts in
         let ok : Ok p.starts.start ≡ Ok q.starts.start = sym p.starts.begins ∙ starts_same p.conf q.conf p.set q.set p.texts q.texts ∙ q.starts.begins in
         let start : p.starts.start ≡ q.starts.start = cc in
-        rw (p.starts.is, q.starts.is) (record {
-          conf = conf;
-          store = ap (λ (s : Start). s.store) start;
-          handlers = handlers_same p.set q.set sets p.starts.start q.starts.start start;
-        })
+        let handlers = fun_ext λ number. fun_ext λ resumes. handlers_same p.set q.set sets p.starts.start q.starts.start start number resumes in
+        p.starts.is
+        ∙ parts_same p.conf q.conf (site_with p.conf p.set.program p.starts.start).handler (site_with q.conf q.set.program q.starts.start).handler
+            p.starts.start.store q.starts.start.store conf handlers (ap (λ (s : Start). s.store) start)
+        ∙ sym q.starts.is
 
     -- ---- what excludes what
 

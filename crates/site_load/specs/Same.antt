@@ -1,21 +1,15 @@
--- Sites that are the same: where the trees of their programs stand in memory makes no difference.
+-- What files hold is one site, or is refused for one kind of reason.
 use Rattle.std.specs.Prelude.{◌≡◌, ℕ, Bool, true, false, List}
 use Rattle.resty_base.specs.FileMap.{FileMap}
-use Rattle.lua_meaning.specs.Evaluator.{Resume}
 use Rattle.lua_run.specs.Answers.{Site}
 use Rattle.site_load.specs.Loading.{HasSite, IsFault}
 use Rattle.site_load.specs.declared.faults.SiteFault.{SiteFault}
 use Rattle.site_load.specs.declared.faults.SiteFault.TheVariants.{Missing, TooLong}
 
--- one configuration, one store, and the same comes of each thread that runs a handler
-pub record IsSameSite (site other : Site) : Type 0 where
-  pub conf : site.conf ≡ other.conf
-  pub store : site.store ≡ other.store
-  pub handlers : (number : ℕ) (resumes : List Resume) → site.handler number resumes ≡ other.handler number resumes
-
--- files hold one site under a name
+-- Files hold one site under a name: one configuration, one store, and what comes of the threads that run a handler. Where the trees of its
+-- program stand in memory makes no difference.
 abbrev pub SitesAreKnown : Type 0
-SitesAreKnown = (files : FileMap) (name : List ℕ) (site other : Site) → HasSite files name site → HasSite files name other → IsSameSite site other
+SitesAreKnown = (files : FileMap) (name : List ℕ) (site other : Site) → HasSite files name site → HasSite files name other → site ≡ other
 
 -- and have no fault where they hold one
 abbrev pub NoSiteIsRefused : Type 0
