@@ -7,7 +7,7 @@ use Rattle.lua_lexer.specs.Laws.{HasOneReading}
 use Rattle.lua_lexer.specs.declared.tokens.Token.{Token}
 use Rattle.lua_grammar.specs.Grammar.{IsProgramOf}
 use Rattle.lua_modules.specs.Texts.{HasProgram}
-use Rattle.lua_modules.specs.Sets.{Adds, AddsBlock, JoinsText, Lists, next_function, of_file, with_block, with_chunk}
+use Rattle.lua_modules.specs.Sets.{JoinsText, Lists, next_function, of_file, with_block, with_chunk}
 use Rattle.lua_modules.specs.declared.sets.ModuleSet.{ModuleSet}
 use Rattle.same_programs.specs.Laws.{JoinedProgramsAreSame}
 use Rattle.same_sites.specs.SameSet.{SameSet}

@@ -1,9 +1,7 @@
 -- A site starts alike by equal lives, so two sets that are the same start the same site.
-use Rattle.std.proofs.Common.{◌≡◌, ℕ, List, Option, ap, ◌∙◌}
+use Rattle.std.proofs.Common.{◌≡◌, ap, ◌∙◌}
 use Rattle.std.proofs.Math.Path.{fun_ext}
-use Rattle.lua_values.specs.NativeCalls.{Meaning}
 use Rattle.lua_modules.specs.Sets.{Lists, lists_of}
-use Rattle.lua_modules.specs.declared.sets.ModuleSet.{ModuleSet}
 use Rattle.lua_site.specs.Calls.{Life}
 use Rattle.lua_site.specs.Starting.{started}
 use Rattle.same_programs.specs.Laws.{SameProgramsLiveAlike}
