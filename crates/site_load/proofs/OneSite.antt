@@ -19,7 +19,7 @@ use Rattle.lua_run.specs.Views.{handler_at}
 use Rattle.lua_site.specs.Starting.{Start}
 use Rattle.lua_tables_lib.specs.OwnText.{library_text}
 use Rattle.module_files.specs.declared.faults.ModuleFileFault.{ModuleFileFault}
-use Rattle.module_files.specs.declared.faults.ModuleFileFault.TheVariants as module
+use Rattle.module_files.specs.declared.faults.ModuleFileFault.TheVariants as reading
 use Rattle.ngx_calls.specs.OwnText.{ngx_text}
 use Rattle.same_programs.specs.Laws.{SameProgramsLiveAlike}
 use Rattle.same_sites.specs.Laws.{ModulesKeepSetsSame, BlocksKeepSetsSame, SameSetsStartAlike}
@@ -177,13 +177,13 @@ module _ (one_conf : (text : List ℕ) (conf other : site.Conf) → IsConf text 
 
     apart : (s : Site) (fault : SiteFault) → HasSite files name s → IsFault files name fault → ⊥
     apart s (Missing file) x (inl none) = absent x.texts.blocks.has.text none.1 x.texts.blocks.has.holds.here
-    apart s (Missing file) x (inr lacks) = modules_there x.conf x.set (module.Missing file) x.texts lacks tt
+    apart s (Missing file) x (inr lacks) = modules_there x.conf x.set (reading.Missing file) x.texts lacks tt
     apart s (TooLong file) x (inl long) = long_and_short files name x.texts.blocks.has.text long.1 x.texts.blocks.has.holds
-    apart s (TooLong file) x (inr lacks) = modules_there x.conf x.set (module.TooLong file) x.texts lacks tt
+    apart s (TooLong file) x (inr lacks) = modules_there x.conf x.set (reading.TooLong file) x.texts lacks tt
     apart s (Refused file fault) x (inl wrong) = conf_fault x.conf x.texts.blocks.programs fault x.texts.blocks.has wrong.1
-    apart s (Refused file fault) x (inr bad) = modules_there x.conf x.set (module.Refused file bad.wrong) x.texts bad.lacks tt
+    apart s (Refused file fault) x (inr bad) = modules_there x.conf x.set (reading.Refused file bad.wrong) x.texts bad.lacks tt
     apart s (NotBuilt file line) x unbuilt = built_unbuilt x.conf x.texts.blocks.programs line x.texts.blocks.has x.texts.blocks.built unbuilt.1
-    apart s TooManyModules x lacks = modules_there x.conf x.set module.TooMany x.texts lacks tt
+    apart s TooManyModules x lacks = modules_there x.conf x.set reading.TooMany x.texts lacks tt
     apart s (Init message) x (inl bad) = built_in_fault x.texts.blocks.chunks.own x.texts.blocks.chunks.built_in bad.refused.1
     apart s (Init message) x (inr failed) =
         let no : Ok x.starts.start ≡ Err message = sym x.starts.begins ∙ starts_same x.conf failed.conf x.set failed.set x.texts failed.texts ∙ failed.fails in
@@ -231,9 +231,9 @@ module _ (one_conf : (text : List ℕ) (conf other : site.Conf) → IsConf text 
 
     lacks_of : (fault : SiteFault) → IsFault files name fault → is_unread fault ≡ true → LacksText
     lacks_of (Missing file) (inl none) e = inl none.1
-    lacks_of (Missing file) (inr x) e = inr (inr (module.Missing file, x, tt, refl))
+    lacks_of (Missing file) (inr x) e = inr (inr (reading.Missing file, x, tt, refl))
     lacks_of (TooLong file) (inl long) e = inr (inl long.1)
-    lacks_of (TooLong file) (inr x) e = inr (inr (module.TooLong file, x, tt, refl))
+    lacks_of (TooLong file) (inr x) e = inr (inr (reading.TooLong file, x, tt, refl))
     lacks_of (Refused file fault) x e = absurd (let no : false ≡ true = e in cc)
     lacks_of (NotBuilt file line) x e = absurd (let no : false ≡ true = e in cc)
     lacks_of TooManyModules x e = absurd (let no : false ≡ true = e in cc)
@@ -245,9 +245,9 @@ module _ (one_conf : (text : List ℕ) (conf other : site.Conf) → IsConf text 
     wrong_of (Missing file) x e = absurd (let no : true ≡ false = e in cc)
     wrong_of (TooLong file) x e = absurd (let no : true ≡ false = e in cc)
     wrong_of (Refused file fault) (inl x) e = text fault x.1
-    wrong_of (Refused file fault) (inr x) e = modules (module.Refused file x.wrong) x.lacks tt refl
+    wrong_of (Refused file fault) (inr x) e = modules (reading.Refused file x.wrong) x.lacks tt refl
     wrong_of (NotBuilt file line) x e = unbuilt line x.1
-    wrong_of TooManyModules x e = modules module.TooMany x tt refl
+    wrong_of TooManyModules x e = modules reading.TooMany x tt refl
     wrong_of (Init message) (inl x) e = built_in message x
     wrong_of (Init message) (inr x) e = start message x
     wrong_of (Unreadable file) x e = absurd x

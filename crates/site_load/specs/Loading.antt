@@ -11,7 +11,7 @@ use Rattle.lua_modules.specs.declared.sets.ModuleSet.{ModuleSet}
 use Rattle.lua_run.specs.Answers.{Site}
 use Rattle.module_files.specs.Reading.{ReadsModules, Stops, start}
 use Rattle.module_files.specs.declared.faults.ModuleFileFault.{ModuleFileFault}
-use Rattle.module_files.specs.declared.faults.ModuleFileFault.TheVariants as module
+use Rattle.module_files.specs.declared.faults.ModuleFileFault.TheVariants as reading
 use Rattle.lua_tables_lib.specs.OwnText.{library_text}
 use Rattle.ngx_calls.specs.OwnText.{ngx_text}
 use Rattle.site_check.specs.Sites.{IsRead, IsSiteFault}
@@ -97,7 +97,7 @@ pub record LacksModules (files : FileMap) (name : List ℕ) (fault : ModuleFileF
 -- the text of a module is refused
 pub record HasBadModule (files : FileMap) (name file : List ℕ) (fault : CheckFault) : Type 0 where
   pub wrong : ModuleFault
-  pub lacks : LacksModules files name (module.Refused file wrong)
+  pub lacks : LacksModules files name (reading.Refused file wrong)
   pub is : fault ≡ of_chunk wrong
 
 -- a prelude or the init block failed with this message
@@ -126,11 +126,11 @@ pub record HasBadBuiltIn (files : FileMap) (name message : List ℕ) : Type 0 wh
 
 -- why files hold no site of which the configuration has this name
 abbrev pub IsFault : FileMap → List ℕ → SiteFault → Type 0
-IsFault files name (Missing file) = ((file ≡ name) × (files name ≡ None)) ⊎ LacksModules files name (module.Missing file)
-IsFault files name (TooLong file) = ((file ≡ name) × IsTooLong files name most_bytes) ⊎ LacksModules files name (module.TooLong file)
+IsFault files name (Missing file) = ((file ≡ name) × (files name ≡ None)) ⊎ LacksModules files name (reading.Missing file)
+IsFault files name (TooLong file) = ((file ≡ name) × IsTooLong files name most_bytes) ⊎ LacksModules files name (reading.TooLong file)
 IsFault files name (Refused file fault) = ((file ≡ name) × HasFault files name fault) ⊎ HasBadModule files name file fault
 IsFault files name (NotBuilt file line) = (file ≡ name) × HasUnbuilt files name line
-IsFault files name TooManyModules = LacksModules files name module.TooMany
+IsFault files name TooManyModules = LacksModules files name reading.TooMany
 IsFault files name (Init message) = HasBadBuiltIn files name message ⊎ HasFailed files name message
 IsFault files name fault = ⊥
 
@@ -170,12 +170,12 @@ refusal file fault = Refused file fault
 
 -- what a fault of modules is as one of a site
 abbrev pub of_modules : ModuleFileFault → SiteFault
-of_modules (module.Missing file) = Missing file
-of_modules (module.TooLong file) = TooLong file
-of_modules (module.Unreadable file) = Unreadable file
-of_modules (module.Refused file wrong) = refusal file (of_chunk wrong)
-of_modules module.TooMany = TooManyModules
-of_modules module.Memory = Memory
+of_modules (reading.Missing file) = Missing file
+of_modules (reading.TooLong file) = TooLong file
+of_modules (reading.Unreadable file) = Unreadable file
+of_modules (reading.Refused file wrong) = refusal file (of_chunk wrong)
+of_modules reading.TooMany = TooManyModules
+of_modules reading.Memory = Memory
 
 -- what a text says, under this name
 pub record Says (name text : List ℕ) (conf : Conf) (set : ModuleSet) : Type 0 where

@@ -1,6 +1,6 @@
 //! The chunks of a site, joined into one program.
 
-ghost use Rattle.std.specs.Prelude.{◌≡◌, [], OnOk, OnErr, IfOk, IfErr};
+ghost use Rattle.std.specs.Prelude.{◌≡◌, List, [], OnOk, IfOk, IfErr};
 ghost use Rattle.conf.specs.declared.sites.Block.{Block};
 ghost use Rattle.site_check.specs.Sites.{HavePrograms};
 ghost use Rattle.lua_modules.specs.Sets.{Adds};
