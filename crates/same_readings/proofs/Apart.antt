@@ -1,16 +1,11 @@
 -- A chunk has no fault.
-use Rattle.std.proofs.Common.{◌≡◌, ◌≢◌, ◌⊎◌, inl, inr, ◌<◌, ◌≤◌, ℕ, Bool, true, false, List, [], ◌∷◌, length, codes, Option, Some, None, Result, Ok, Err, refl, sym, ◌∙◌, ap, subst, arith}
-use Rattle.resty_base.specs.FileMap.{FileMap}
+use Rattle.std.proofs.Common.{◌≢◌, ℕ, List, refl, subst}
 use Rattle.lua_ast.specs.declared.programs.Program.{Program}
 use Rattle.lua_grammar.specs.Grammar.{IsProgramOf}
 use Rattle.lua_lexer.specs.Laws.{HasOneReading}
-use Rattle.lua_lexer.specs.declared.tokens.LexFault.{LexFault}
-use Rattle.lua_parser_base.specs.declared.faults.ParseFault.{ParseFault}
-use Rattle.lua_modules.specs.Sets.{Adds, AddsBlock, lists_of}
 use Rattle.lua_modules.specs.Texts.{HasProgram, IsTextFault}
 use Rattle.lua_modules.specs.declared.faults.ModuleFault.{ModuleFault}
 use Rattle.lua_modules.specs.declared.faults.ModuleFault.TheVariants as chunk
-use Rattle.lua_modules.specs.declared.sets.ModuleSet.{ModuleSet}
 
 -- a chunk has no fault
 module _ (one_reading : (line : ℕ) (text : List ℕ) → HasOneReading line text) where
@@ -20,4 +15,3 @@ module _ (one_reading : (line : ℕ) (text : List ℕ) → HasOneReading line te
       let same = (one_reading line text).tokens has.tokens wrong.tokens has.lexed wrong.lexed in
       wrong.none program (subst (λ t. IsProgramOf t program) same has.parsed)
   chunk_apart line text program chunk.Memory has wrong known = known refl
-

@@ -1,21 +1,20 @@
 -- Readings of modules that begin with sets that are the same stay the same as far as they go.
-use Rattle.std.proofs.Common.{◌≡◌, ◌≢◌, ◌⊎◌, inl, inr, ◌<◌, ◌≤◌, ℕ, zero, suc, ◌+◌, ◌||◌, Bool, true, false, List, [], ◌∷◌, ◌++◌, length, flat_map, slice_get, bytes_eq, Option, Some, None, refl, sym, ◌∙◌, ap, subst, arith, if◌then◌else◌}
+use Rattle.std.proofs.Common.{◌≡◌, ◌≢◌, inl, inr, ◌<◌, ◌≤◌, ℕ, zero, suc, ◌+◌, ◌||◌, true, false, List, [], ◌∷◌, ◌++◌, length, flat_map, slice_get, bytes_eq, Option, Some, None, refl, sym, ◌∙◌, ap, subst, arith, if◌then◌else◌}
 use Rattle.std.specs.List.{AllZip, list_any}
 use Rattle.std.proofs.lemmas.Bool.Decides.{leb_tells, eqb_tells}
 use Rattle.resty_base.specs.FileMap.{FileMap}
-use Rattle.lua_ast.specs.SameProgram.{SameProgram, SameFunction}
-use Rattle.lua_ast.specs.declared.programs.Function.{Function}
+use Rattle.lua_ast.specs.SameProgram.{SameFunction}
 use Rattle.lua_ast.specs.declared.programs.Program.{Program}
 use Rattle.lua_names.specs.Names.{Names, names_of}
 use Rattle.lua_modules.specs.Files.{file_of}
-use Rattle.lua_modules.specs.Sets.{Adds, has_module, lists_of, next_function}
+use Rattle.lua_modules.specs.Sets.{Adds, has_module, next_function}
 use Rattle.lua_modules.specs.Texts.{HasProgram, IsTextFault}
 use Rattle.lua_modules.specs.declared.faults.ModuleFault.{ModuleFault}
 use Rattle.lua_modules.specs.declared.faults.ModuleFault.TheVariants as chunk
 use Rattle.lua_modules.specs.declared.sets.Module.{Module}
 use Rattle.lua_modules.specs.declared.sets.ModuleSet.{ModuleSet}
 use Rattle.module_files.specs.Files.{file_in, most_bytes}
-use Rattle.module_files.specs.Finding.{most_modules, with_name, with_names, found_in, found_in_blocks}
+use Rattle.module_files.specs.Finding.{most_modules, with_name, with_names, found_in}
 use Rattle.module_files.specs.Reading.{Progress, progress, start, ReadsModule, IsNext, ReadsNext, Reads, none, more, ReadsModules, HasNoModule, IsStuck, Stops}
 use Rattle.module_files.specs.declared.faults.ModuleFileFault.{ModuleFileFault}
 use Rattle.module_files.specs.declared.faults.ModuleFileFault.TheVariants.{Missing, TooLong, Unreadable, Refused, TooMany, Memory}

@@ -10,7 +10,8 @@ use Rattle.same_sites.specs.SameSet.{SameSet}
 -- they leave sets that are the same
 abbrev pub ReadingsAgree : Type 0
 ReadingsAgree =
-    (files : FileMap) (pattern : List ℕ) (a b a' b' : ModuleSet) → SameSet a b → ReadsModules files pattern a a' → ReadsModules files pattern b b' → SameSet a' b'
+    (files : FileMap) (pattern : List ℕ) (a b a' b' : ModuleSet)
+    → SameSet a b → ReadsModules files pattern a a' → ReadsModules files pattern b b' → SameSet a' b'
 
 -- the files say why reading goes no further
 abbrev pub IsOfFiles : ModuleFileFault → Type 0

@@ -22,9 +22,13 @@ abbrev pub is_init : Option ℕ → ℕ → Bool
 is_init None number = false
 is_init (Some init) number = init == number
 
+-- the number is one of these
+abbrev pub is_content : List ℕ → ℕ → Bool
+is_content contents number = list_any (λ content. content == number) contents
+
 -- the block of this number is run
 abbrev pub is_run : Option ℕ → List ℕ → ℕ → Bool
-is_run init contents number = is_init init number || list_any (λ content. content == number) contents
+is_run init contents number = is_init init number || is_content contents number
 
 -- the line of the first of these blocks that isn't, where they are numbered from this number on
 abbrev pub first_unbuilt : Option ℕ → List ℕ → ℕ → List Block → Option ℕ

@@ -29,11 +29,18 @@ fn contents_of(alloc: Global, conf: &Conf) -> Result<Vec<u32>, AllocError>
     Ok(contents)
 }
 
+/// Whether the block of this number is one of these content handlers.
+fn is_content(contents: &[u32], number: usize) -> bool
+    ensures { result ≡ spec.is_content contents.now number }
+{
+    contents.iter().any(|content| *content as usize == number)
+}
+
 /// Whether the block of this number is run, where these are the content handlers.
 fn is_run(init: Option<u32>, contents: &[u32], number: usize) -> bool
     ensures { result ≡ spec.is_run init contents.now number }
 {
-    is_init(init, number) || contents.iter().any(|content| *content as usize == number)
+    is_init(init, number) || is_content(contents, number)
 }
 
 /// Whether the block of this number is the init block.
