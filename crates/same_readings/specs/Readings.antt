@@ -4,7 +4,7 @@ use Rattle.resty_base.specs.FileMap.{FileMap}
 use Rattle.lua_modules.specs.declared.sets.ModuleSet.{ModuleSet}
 use Rattle.module_files.specs.Reading.{ReadsModules, Stops, start}
 use Rattle.module_files.specs.declared.faults.ModuleFileFault.{ModuleFileFault}
-use Rattle.module_files.specs.declared.faults.ModuleFileFault.TheVariants.{Missing, TooLong, Unreadable, Refused, TooMany, Memory}
+use Rattle.module_files.specs.declared.faults.ModuleFileFault.TheVariants.{Missing, TooLong, Unreadable, Memory}
 use Rattle.same_sites.specs.SameSet.{SameSet}
 
 -- they leave sets that are the same

@@ -1,3 +1,4 @@
 pub mod Joins
 pub mod Begun
+pub mod Loads
 pub mod OneSite

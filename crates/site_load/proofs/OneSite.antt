@@ -7,7 +7,7 @@ use Rattle.conf.specs.declared.sites.Block.{Block}
 use Rattle.conf.specs.declared.sites.Conf as site
 use Rattle.lua_ast.specs.declared.programs.Program.{Program}
 use Rattle.lua_meaning.specs.Evaluator.{Resume}
-use Rattle.lua_modules.specs.Sets.{Adds, AddsBlock, lists_of}
+use Rattle.lua_modules.specs.Sets.{Adds, AddsBlock, Lists, lists_of}
 use Rattle.lua_modules.specs.Texts.{HasProgram, IsTextFault}
 use Rattle.lua_modules.specs.declared.faults.ModuleFault.{ModuleFault}
 use Rattle.lua_modules.specs.declared.faults.ModuleFault.TheVariants as chunk
@@ -16,7 +16,7 @@ use Rattle.lua_machine.specs.Finishes.{Finish}
 use Rattle.lua_values.specs.Heap.{StoreView}
 use Rattle.lua_run.specs.Answers.{Site}
 use Rattle.lua_run.specs.Views.{handler_at}
-use Rattle.lua_site.specs.Starting.{Start}
+use Rattle.lua_site.specs.Starting.{Start, started}
 use Rattle.lua_tables_lib.specs.OwnText.{library_text}
 use Rattle.module_files.specs.declared.faults.ModuleFileFault.{ModuleFileFault}
 use Rattle.module_files.specs.declared.faults.ModuleFileFault.TheVariants as reading
@@ -119,6 +119,7 @@ module _ (one_conf : (text : List ℕ) (conf other : site.Conf) → IsConf text 
         let sets = texts_same conf other a b x y in
         let S = setting_of a.program in
         start_alike a b S.count S.lib (natives_of a.program) (init_among (length (lists_of a).blocks) conf.init) sets
+        ∙ ap (λ (l : Lists). started (life_of b.program) (natives_of b.program) (lists_of b) (init_among (length l.blocks) conf.init)) sets.lists
         ∙ ap (λ (c : site.Conf). start_of c b.program (lists_of b)) same
 
     handlers_same : (a b : ModuleSet) → SameSet a b → (s t : Start) → s ≡ t → (number : ℕ) (resumes : List Resume)
@@ -227,15 +228,15 @@ module _ (one_conf : (text : List ℕ) (conf other : site.Conf) → IsConf text 
     wrong_text : IsWrong → HasText
     wrong_text (text fault x) = (x.text, x.holds)
     wrong_text (unbuilt line x) = (x.has.text, x.has.holds)
-    wrong_text (modules m x known no) = (x.blocks.has.text, x.blocks.has.holds)
+    wrong_text (modules m x known lacks) = (x.blocks.has.text, x.blocks.has.holds)
     wrong_text (built_in message x) = (x.has.text, x.has.holds)
     wrong_text (start message x) = (x.texts.blocks.has.text, x.texts.blocks.has.holds)
 
     wrong_modules : (m : ModuleFileFault) → LacksModules files name m → IsOfFiles m → lacks_text m ≡ true → IsWrong → ⊥
     wrong_modules m x known lacks (text fault y) = conf_fault x.conf x.blocks.programs fault x.blocks.has y
     wrong_modules m x known lacks (unbuilt line y) = built_unbuilt x.conf x.blocks.programs line x.blocks.has x.blocks.built y
-    wrong_modules m x known lacks (modules other y of no) =
-        let clash : true ≡ false = sym lacks ∙ modules_alike m other x y known of ∙ no in
+    wrong_modules m x known lacks (modules other y of has) =
+        let clash : true ≡ false = sym lacks ∙ modules_alike m other x y known of ∙ has in
         cc
     wrong_modules m x known lacks (built_in message y) = built_in_fault x.blocks.chunks.own x.blocks.chunks.built_in y.refused.1
     wrong_modules m x known lacks (start message y) = modules_there y.conf y.set m y.texts x known

@@ -37,7 +37,7 @@ pub(crate) fn start_site(
 {
     let (program, chunks) = set.into_parts();
     let machine = machine_of(program);
-    let init = init_among(chunks.blocks.len(), conf.init);
+    let init = init_among(chunks.blocks.as_slice().len(), conf.init);
     match start_lua(alloc, &machine, NATIVES, &chunks, init) {
         Ok(LuaSite { store, blocks }) => {
             let mut closures = Listing::new(alloc);
