@@ -14,6 +14,7 @@ use Rattle.site_load.specs.Starts.{init_among, start_of, site_with}
 -- what a start of the program comes to, it comes to for the set
 pub starts : (conf : Conf) (set : ModuleSet) (p : Program) (lists : Lists) (count : ℕ) (init : Option ℕ) (r : Result Start (List ℕ)) → p ≡ set.program → lists ≡ lists_of set
     → count ≡ length lists.blocks → init ≡ init_among count conf.init → started (life_of p) 184 lists init ≡ r → start_of conf set.program (lists_of set) ≡ r
+unfolding start_of
 starts conf set p lists count init r is_p is_lists is_count is_init e =
     ap (λ (q : Program). started (life_of q) 184 (lists_of set) (init_among (length (lists_of set).blocks) conf.init)) (sym is_p)
     ∙ ap (λ (l : Lists). started (life_of p) 184 l (init_among (length l.blocks) conf.init)) (sym is_lists)

@@ -61,11 +61,15 @@ module _ (name text : List ℕ) (conf : Conf) (own : ModuleSet) (says : Says nam
   no_modules set new (reading.Unreadable file) stops fares = rw (← well.faults file) fares
   no_modules set new (reading.Refused file (chunk.Lex wrong)) stops fares =
       both_some old.told _ _ _ (λ held h s. inr (record {
-        wrong = chunk.Lex wrong; lacks = record { conf = conf; own = own; left = set; blocks = blocks held h; stops = s }; is = refl
+        wrong = chunk.Lex wrong;
+        lacks = record { conf = conf; own = own; left = set; blocks = blocks held h; stops = s };
+        is = refl;
       })) holds (rw well.told at stops)
   no_modules set new (reading.Refused file (chunk.Parse wrong)) stops fares =
       both_some old.told _ _ _ (λ held h s. inr (record {
-        wrong = chunk.Parse wrong; lacks = record { conf = conf; own = own; left = set; blocks = blocks held h; stops = s }; is = refl
+        wrong = chunk.Parse wrong;
+        lacks = record { conf = conf; own = own; left = set; blocks = blocks held h; stops = s };
+        is = refl;
       })) holds (rw well.told at stops)
   no_modules set new (reading.Refused file chunk.Memory) stops fares = tt
   no_modules set new reading.TooMany stops fares =

@@ -114,6 +114,7 @@ module _ (one_conf : (text : List ℕ) (conf other : site.Conf) → IsConf text 
     -- one start
     starts_same : (conf other : site.Conf) (a b : ModuleSet) → HasTexts files name conf a → HasTexts files name other b
         → start_of conf a.program (lists_of a) ≡ start_of other b.program (lists_of b)
+    unfolding start_of
     starts_same conf other a b x y =
         let same = conf_same conf other x.blocks.programs y.blocks.programs x.blocks.has y.blocks.has in
         let sets = texts_same conf other a b x y in
@@ -145,7 +146,7 @@ module _ (one_conf : (text : List ℕ) (conf other : site.Conf) → IsConf text 
         let handlers = fun_ext λ number. fun_ext λ resumes. handlers_same p.set q.set sets p.starts.start q.starts.start start number resumes in
         p.starts.is
         ∙ parts_same p.conf q.conf (site_with p.conf p.set.program p.starts.start).handler (site_with q.conf q.set.program q.starts.start).handler
-            p.starts.start.store q.starts.start.store conf handlers (ap (λ (s : Start). s.store) start)
+        p.starts.start.store q.starts.start.store conf handlers (ap (λ (s : Start). s.store) start)
         ∙ sym q.starts.is
 
     -- ---- what excludes what

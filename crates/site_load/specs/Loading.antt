@@ -140,7 +140,6 @@ NotLoaded name old new (Unreadable file) = Rose (old.faults file) (new.faults fi
 NotLoaded name old new Memory = Unit {0}
 NotLoaded name old new fault = IfSome old.told (λ files. IsFault files name fault)
 
-
 -- ---- what is known on the way
 
 -- a text that is built in is refused, or memory ran out

@@ -23,4 +23,6 @@ is_unread fault = false
 
 -- where they hold none they have one kind of fault: a file is missing or too long, or what the files hold is refused
 abbrev pub FaultsAreAlike : Type 0
-FaultsAreAlike = (files : FileMap) (name : List ℕ) (fault other : SiteFault) → IsFault files name fault → IsFault files name other → is_unread fault ≡ is_unread other
+FaultsAreAlike =
+    (files : FileMap) (name : List ℕ) (fault other : SiteFault)
+    → IsFault files name fault → IsFault files name other → is_unread fault ≡ is_unread other

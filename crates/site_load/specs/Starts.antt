@@ -17,7 +17,7 @@ init_among count None = None
 init_among count (Some block) = if nat_lt block count then Some block else None
 
 -- the start of a program with these chunks
-abbrev pub start_of : Conf → Program → Lists → Result Start (List ℕ)
+unfoldable pub start_of : Conf → Program → Lists → Result Start (List ℕ)
 start_of conf program lists = started (life_of program) (natives_of program) lists (init_among (length lists.blocks) conf.init)
 
 -- the site that has started so

@@ -21,5 +21,5 @@ returns-in-Err-Init-clause-err c =
     let program = c.machine_of-machine.ensures ∙ c.into_parts-program.ensures.program in
     let chunks = c.into_parts-program.result.1 in
     let fails = rw c.in-Err-Init.field-0-is at c.in-Err-Init.ensures in
-    starts c.args.conf c.args.set c.machine_of-machine.result.program (chunks_of chunks) (length c.as_slice.result.now) c.init_among-init.result (Err c.in-Err-Init.message) program
-    c.into_parts-program.ensures.chunks (ap length c.as_slice.ensures.value) c.init_among-init.ensures fails
+    rw c.in-Err-Init.message-is (starts c.args.conf c.args.set c.machine_of-machine.result.program (chunks_of chunks) (length c.as_slice.result.now) c.init_among-init.result (Err c.in-Err-Init.message) program
+    c.into_parts-program.ensures.chunks (ap length c.as_slice.ensures.value) c.init_among-init.ensures fails)
