@@ -1,6 +1,7 @@
 //! What small programs come to, with their steps and the units that they take.
 mod handlers;
 mod iterations;
+mod library;
 mod loops;
 mod natives;
 mod operators;
@@ -8,7 +9,9 @@ mod parks;
 mod printing;
 mod programs;
 mod protected;
+mod sites;
 mod snippets;
+mod starting;
 mod tables;
 mod toy;
 

@@ -6,7 +6,7 @@ use lua_machine::{Machine, Op, Slice};
 use lua_meaning::Resumed;
 use lua_parser::parse;
 use lua_tables_lib::Library;
-use lua_threads::{Loaded, Thread};
+use lua_threads::Loaded;
 use lua_values::{Both, Store, StoreFault, Value, Values};
 use resty_base::{ByteLists, Bytes, Whole};
 use std::alloc::{AllocError, Global};
@@ -36,7 +36,7 @@ pub(super) fn hold_answers(rt: &impl Abort, alloc: Global, rows: &str) {
 }
 
 /// What a text comes to, without its steps and units.
-fn without_counts(seen: &str) -> &str {
+pub(super) fn without_counts(seen: &str) -> &str {
     let (answer, _) = seen.split_once(" | ").unwrap_or((seen, ""));
     answer
 }
@@ -195,9 +195,21 @@ fn see_run(
     store: &mut Store,
     answers: &str,
 ) {
+    see_call(alloc, all, host, store, 0, answers);
+}
+
+/// Writes what a call of a closure comes to, with its steps and the units that it takes.
+pub(super) fn see_call<M: Machine>(
+    alloc: Global,
+    all: &mut String,
+    machine: &M,
+    store: &mut Store,
+    closure: u32,
+    answers: &str,
+) {
     let before = store.units();
-    match host.start(alloc, Value::Closure(0), Values::of(Vec::new(alloc))) {
-        Ok(thread) => see_thread(alloc, all, host, store, thread, answers),
+    match machine.start(alloc, Value::Closure(closure), Values::of(Vec::new(alloc))) {
+        Ok(thread) => see_thread(alloc, all, machine, store, thread, answers),
         Err(_) => put(all, "memory"),
     }
     let (steps, units) = (store.steps(), store.units().saturating_sub(before));
@@ -205,32 +217,32 @@ fn see_run(
 }
 
 /// Writes where a thread parks, which gets these answers, and how it ends.
-fn see_thread(
+fn see_thread<M: Machine>(
     alloc: Global,
     all: &mut String,
-    host: &Loaded<Functions>,
+    machine: &M,
     store: &mut Store,
-    thread: Thread,
+    thread: M::Thread,
     answers: &str,
 ) {
-    let mut parked = see_resumed(all, host, store, thread, resumed(alloc, "nothing"));
+    let mut parked = see_resumed(all, machine, store, thread, resumed(alloc, "nothing"));
     for answer in answers.split(", ") {
         parked = match parked {
-            Some(thread) => see_resumed(all, host, store, thread, resumed(alloc, answer)),
+            Some(thread) => see_resumed(all, machine, store, thread, resumed(alloc, answer)),
             None => return,
         };
     }
 }
 
 /// Resumes a thread, and writes where it parks or how it ends; gives it where it parks.
-fn see_resumed(
+fn see_resumed<M: Machine>(
     all: &mut String,
-    host: &Loaded<Functions>,
+    machine: &M,
     store: &mut Store,
-    thread: Thread,
+    thread: M::Thread,
     given: Resumed,
-) -> Option<Thread> {
-    match host.resume(thread, store, given) {
+) -> Option<M::Thread> {
+    match machine.resume(thread, store, given) {
         Slice::Parked(parked, op) => {
             see_op(all, &op, store.steps());
             Some(parked)
