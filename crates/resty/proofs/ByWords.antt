@@ -7,30 +7,31 @@ use Rattle.resty_base.specs.Taking.{TakesAll, TakesPart, Takes}
 use Rattle.resty_world.specs.Book.{Book}
 use Rattle.resty.specs.declared.command_line.Mode.{Mode}
 use Rattle.resty.specs.declared.command_line.Mode.TheVariants as mode
-use Rattle.resty.specs.declared.endings.Named.TheVariants as named
 use Rattle.resty.specs.declared.endings.Ending.{Ending}
 use Rattle.resty.specs.declared.endings.Ending.TheVariants as ending
 use Rattle.resty.specs.declared.endings.Status.{Status}
 use Rattle.resty.specs.declared.endings.Status.TheVariants as status
 use Rattle.resty.specs.Due.{CutsShort, IsCutShort, IsDue}
-use Rattle.resty.specs.Ending.{status_of}
+use Rattle.resty.specs.Ending.{site_status, status_of}
 use Rattle.resty.specs.Ends.{AreOfOneStatus, IsStatusBy, IsJudged, IsComplete, IsDoneOr, EndsEarly, FailedToRead, ReachesUnknown}
 use Rattle.resty.specs.Outside.{Outside}
-use Rattle.resty.specs.Verdict.{Verdict, Usage, Missing, TooLong, Refused, NotBuilt, BadLine, Checks, Runs, Serves, IsOf, IsVerdict, ending_of}
+use Rattle.site_load.specs.Loading.{IsFault, NotLoaded}
+use Rattle.site_load.specs.declared.faults.SiteFault.{SiteFault}
+use Rattle.site_load.specs.declared.faults.SiteFault.TheVariants as fault
+use Rattle.resty.specs.Verdict.{Verdict, Usage, NoSite, Missing, TooLong, BadLine, Checks, Runs, Serves, IsOf, IsVerdict, ending_of}
 use Rattle.resty.specs.Words.{Command, Says, IsForm}
 use Rattle.resty.proofs.Names.{weaker_some}
 
 -- a verdict of a command is one of the words that say it
 pub verdict_of : (words : List (List ℕ)) (c : Command) → Says words c → (held : FileMap) (v : Verdict) → IsOf c held v → IsVerdict words held v
 verdict_of words c says held Usage of = absurd of
-verdict_of words c says held (Missing w) of = (c, says, of)
-verdict_of words c says held (TooLong w) of = (c, says, of)
-verdict_of words c says held (Refused fault) of = (c, says, of)
-verdict_of words c says held (NotBuilt n) of = (c, says, of)
-verdict_of words c says held Checks of = (c, says, of)
+verdict_of words c says held (NoSite why) of = (c, says, of)
+verdict_of words c says held Missing of = (c, says, of)
+verdict_of words c says held TooLong of = (c, says, of)
 verdict_of words c says held (BadLine n) of = (c, says, of)
-verdict_of words c says held (Runs body lines) of = (c, says, of)
-verdict_of words c says held (Serves body) of = (c, says, of)
+verdict_of words c says held Checks of = (c, says, of)
+verdict_of words c says held (Runs site lines) of = (c, says, of)
+verdict_of words c says held (Serves site) of = (c, says, of)
 
 -- a line was put, or a first part of it
 pub takes : {T E : Type 0} (r : Result T E) (bytes : List ℕ) (old new : Account) → OnOk r (TakesAll bytes old new) → OnErr r (TakesPart bytes old new)
@@ -49,23 +50,31 @@ cut_done m Checks events old new e short = refl
 cut_done m (Runs site lines) events old new e short = refl
 cut_done m (Serves site) events old new e short = refl
 cut_done mode.Check Usage events old new e short = absurd short
-cut_done mode.Check (Missing w) events old new e short = absurd short
-cut_done mode.Check (TooLong w) events old new e short = absurd short
-cut_done mode.Check (Refused fault) events old new e short = absurd short
-cut_done mode.Check (NotBuilt n) events old new e short = absurd short
+cut_done mode.Check (NoSite why) events old new e short = absurd short
+cut_done mode.Check Missing events old new e short = absurd short
+cut_done mode.Check TooLong events old new e short = absurd short
 cut_done mode.Check (BadLine n) events old new e short = absurd short
 cut_done mode.Replay Usage events old new e short = absurd short
-cut_done mode.Replay (Missing w) events old new e short = absurd short
-cut_done mode.Replay (TooLong w) events old new e short = absurd short
-cut_done mode.Replay (Refused fault) events old new e short = absurd short
-cut_done mode.Replay (NotBuilt n) events old new e short = absurd short
+cut_done mode.Replay (NoSite why) events old new e short = absurd short
+cut_done mode.Replay Missing events old new e short = absurd short
+cut_done mode.Replay TooLong events old new e short = absurd short
 cut_done mode.Replay (BadLine n) events old new e short = absurd short
 cut_done mode.Serve Usage events old new e short = absurd short
-cut_done mode.Serve (Missing w) events old new e short = absurd short
-cut_done mode.Serve (TooLong w) events old new e short = absurd short
-cut_done mode.Serve (Refused fault) events old new e short = absurd short
-cut_done mode.Serve (NotBuilt n) events old new e short = absurd short
+cut_done mode.Serve (NoSite why) events old new e short = absurd short
+cut_done mode.Serve Missing events old new e short = absurd short
+cut_done mode.Serve TooLong events old new e short = absurd short
 cut_done mode.Serve (BadLine n) events old new e short = absurd short
+
+-- where files hold no site, nothing is done
+pub no_fault_done : {C : Type 0} (why : SiteFault) → site_status why ≡ status.Done → C
+no_fault_done (fault.Missing file) e = absurd (let no : status.ReadFault ≡ status.Done = e in cc)
+no_fault_done (fault.TooLong file) e = absurd (let no : status.ReadFault ≡ status.Done = e in cc)
+no_fault_done (fault.Unreadable file) e = absurd (let no : status.ReadFault ≡ status.Done = e in cc)
+no_fault_done (fault.Refused file wrong) e = absurd (let no : status.Conf ≡ status.Done = e in cc)
+no_fault_done (fault.NotBuilt file line) e = absurd (let no : status.Conf ≡ status.Done = e in cc)
+no_fault_done fault.TooManyModules e = absurd (let no : status.Conf ≡ status.Done = e in cc)
+no_fault_done (fault.Init message) e = absurd (let no : status.Conf ≡ status.Done = e in cc)
+no_fault_done fault.Memory e = absurd (let no : status.Memory ≡ status.Done = e in cc)
 
 -- what is due where the files report what they hold
 module _ (one : AreOfOneStatus) (words : List (List ℕ)) (c : Command) (says : Says words c) (held : FileMap) (faults : List ℕ → ℕ) (live : Book) (out : Account) (new : Outside) where
@@ -81,15 +90,24 @@ module _ (one : AreOfOneStatus) (words : List (List ℕ)) (c : Command) (says : 
       let same = (one words held d.0 v (verdict_of words c says held d.0 d.1) is).1 (cut_done c.mode d.0 c.events live new.live e d.2) in
       (c, says, subst (λ (w : Verdict). CutsShort c.mode w c.events live new.live e) same d.2)
 
+  -- why files hold no site
+  judged_site : (why : SiteFault) → NotLoaded c.conf before.files new.files why → (v : Verdict) → IsVerdict words held v → IsStatusBy words before new v (site_status why)
+  judged_site (fault.Missing file) d v is = inl (by (NoSite (fault.Missing file)) (ending.NoSite (fault.Missing file)) d refl v is)
+  judged_site (fault.TooLong file) d v is = inl (by (NoSite (fault.TooLong file)) (ending.NoSite (fault.TooLong file)) d refl v is)
+  judged_site (fault.Unreadable file) d v is = inr (file, d)
+  judged_site (fault.Refused file wrong) d v is = by (NoSite (fault.Refused file wrong)) (ending.NoSite (fault.Refused file wrong)) d refl v is
+  judged_site (fault.NotBuilt file line) d v is = by (NoSite (fault.NotBuilt file line)) (ending.NoSite (fault.NotBuilt file line)) d refl v is
+  judged_site fault.TooManyModules d v is = by (NoSite fault.TooManyModules) (ending.NoSite fault.TooManyModules) d refl v is
+  judged_site (fault.Init message) d v is = by (NoSite (fault.Init message)) (ending.NoSite (fault.Init message)) d refl v is
+  judged_site fault.Memory d v is = tt
+
   judged_by : (e : Ending) → IsDue c before new e → (v : Verdict) → IsVerdict words held v → IsStatusBy words before new v (status_of e)
   judged_by ending.Done d v is = by d.0 ending.Done d.1 d.2 v is
   judged_by ending.Usage d v is = by d.0 ending.Usage d.1 d.2 v is
-  judged_by (ending.Missing w) d v is = inl (by d.0 (ending.Missing w) d.1 d.2 v is)
-  judged_by (ending.TooLong w) d v is = inl (by d.0 (ending.TooLong w) d.1 d.2 v is)
-  judged_by (ending.Unreadable named.Conf) d v is = inr (c, named.Conf, says, d)
-  judged_by (ending.Unreadable named.Schedule) d v is = inr (c, named.Schedule, says, d.1)
-  judged_by (ending.Refused fault) d v is = by d.0 (ending.Refused fault) d.1 d.2 v is
-  judged_by (ending.NotBuilt n) d v is = by d.0 (ending.NotBuilt n) d.1 d.2 v is
+  judged_by (ending.NoSite why) d v is = judged_site why d v is
+  judged_by ending.Missing d v is = inl (by d.0 ending.Missing d.1 d.2 v is)
+  judged_by ending.TooLong d v is = inl (by d.0 ending.TooLong d.1 d.2 v is)
+  judged_by ending.Unreadable d v is = inr (c.schedule, d.1)
   judged_by (ending.BadLine n) d v is = inl (by d.0 (ending.BadLine n) d.1 d.2 v is)
   judged_by (ending.NoSuchId n) d v is = inr (n, early (ending.NoSuchId n) d v is)
   judged_by ending.WorldFault d v is = early ending.WorldFault d v is
@@ -115,7 +133,7 @@ judged_usage one words old new none = weaker_some old.files.told (λ held. Unit 
     every (Some held) = tt
 
 -- what was asked for is done, the events were spent, or memory ran out, where nothing fails and each id that a line names was there
-module _ (words : List (List ℕ)) (old new : Outside) (v : Verdict) (well : ending_of v ≡ ending.Done) (read : ¬ (FailedToRead words old.files new.files))
+module _ (words : List (List ℕ)) (old new : Outside) (v : Verdict) (well : ending_of v ≡ ending.Done) (read : ¬ (FailedToRead old.files new.files))
     (written : ¬ (Rose old.out.faults new.out.faults)) (lasts : ¬ (EndsEarly words old new v ending.WorldFault)) (known : ¬ (ReachesUnknown words old new v)) where
   done : status_of (ending_of v) ≡ status.Done
   done = ap status_of well

@@ -5,7 +5,6 @@ pub mod Story
 pub mod Ranged
 pub mod Taken
 pub mod Served
-pub mod Due
 pub mod Working
 pub mod Listening
 pub mod ByWords

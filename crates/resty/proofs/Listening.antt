@@ -9,7 +9,7 @@ use Rattle.engine.specs.declared.server.Ended.{Ended}
 use Rattle.engine.specs.declared.server.Ended.TheVariants as ended
 use Rattle.engine_base.proofs.Lists.{tells-same}
 use Rattle.resty.specs.Live.{IsServed}
-use Rattle.literal_site.specs.declared.sites.LiteralSite.{LiteralSite}
+use Rattle.lua_run.specs.Answers.{Site}
 use Rattle.resty.specs.Sites.{site_behavior}
 
 -- a world at which nothing has happened is one after listening
@@ -32,7 +32,7 @@ ends_still events old mid new ended.WorldFault same ends = (record { kept = rw (
 ends_still events old mid new (ended.BadLine n) same ends = (ends.0, ends.1 ∙ same)
 ends_still events old mid new ended.Memory same ends = ends ∙ same
 
-pub served_since : (site : LiteralSite) (events : ℕ) (old mid new : Book) (e : Ended) → Listens site.conf.port listened.Up old mid → IsRight (site_behavior site) new
+pub served_since : (site : Site) (events : ℕ) (old mid new : Book) (e : Ended) → Listens site.conf.port listened.Up old mid → IsRight (site_behavior site) new
     → new.port ≡ mid.port → EndsBy events mid new e → IsServed site events e old new
 served_since site events old mid new e l right port ends = record {
   port = port ∙ l.listens;

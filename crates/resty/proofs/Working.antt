@@ -14,135 +14,120 @@ use Rattle.engine.specs.declared.server.Ended.{Ended}
 use Rattle.engine.specs.declared.server.Ended.TheVariants as ended
 use Rattle.resty.specs.declared.command_line.Mode.{Mode}
 use Rattle.resty.specs.declared.command_line.Mode.TheVariants as mode
-use Rattle.resty.specs.declared.endings.Named.TheVariants as named
 use Rattle.resty.specs.declared.endings.Ending.{Ending}
 use Rattle.resty.specs.declared.endings.Ending.TheVariants as ending
 use Rattle.resty.specs.declared.endings.Status.{Status}
 use Rattle.resty.specs.declared.endings.Status.TheVariants as status
 use Rattle.resty.specs.Due.{CutsShort, IsCutShort, IsDue, WritesOut}
-use Rattle.resty.specs.Ending.{ending_by, status_of}
+use Rattle.resty.specs.Ending.{ending_by, site_status, status_of}
 use Rattle.resty.specs.Live.{IsServed, ServesTo, deaf, unheard, served, IsServedFor, LeavesServed, LeavesBy}
 use Rattle.resty.specs.Outside.{Outside}
-use Rattle.resty.specs.Reading.{EndsReading, OfSchedule, ReadsWell}
+use Rattle.resty.specs.Reading.{EndsAtSchedule}
 use Rattle.resty.specs.Run.{IsRun, RunsTo, has_dropped}
-use Rattle.literal_site.specs.declared.sites.LiteralSite.{LiteralSite}
+use Rattle.lua_run.specs.Answers.{Site}
+use Rattle.module_files.specs.Files.{ReadsWell}
+use Rattle.site_load.specs.Loading.{HasSite, NotLoaded}
+use Rattle.site_load.specs.declared.faults.SiteFault.{SiteFault}
+use Rattle.site_load.specs.declared.faults.SiteFault.TheVariants as fault
 use Rattle.resty.specs.Sites.{site_behavior}
-use Rattle.resty.specs.Verdict.{Verdict, Usage, Missing, TooLong, Refused, NotBuilt, BadLine, Checks, Runs, Serves, HasSite, HasSchedule, IsOf, ending_of}
+use Rattle.resty.specs.Verdict.{Verdict, Missing, TooLong, BadLine, Checks, Runs, Serves, IsChecked, HasSchedule, IsOf, ending_of}
 use Rattle.resty.specs.Words.{Command}
 use Rattle.resty.specs.Works.{Works}
 use Rattle.resty.specs.Writing.{Writes, WritesBy, WritesRun, WritesCheck, WritesHistory, whole, cut, none, WritesHistoryOf, WritesOk, HasBadSchedule, IsRunOf, ending_with}
 use Rattle.resty.proofs.Names.{by_test, weaker_some, both_some}
 use Rattle.resty.proofs.Story.{few-events}
 
--- reading isn't the end of a run
-not_usage : (V : FileMap → Verdict → Type 0) (old new : FileAccount) (name : List ℕ) (which : _) (e : Ending) → EndsReading V name which old new e → e ≢ ending.Usage
-not_usage V old new name which e reads same = rw same at reads
-
 nothing : (out : Account) → TakesNothing out out
 nothing out = record { told = refl; faults = refl }
 
 -- a first part of the work, in which nothing is written
 module _ (c : Command) where
-  -- what ends the reading of the configuration is due
-  conf_due : (old new : Outside) (e : Ending) → EndsReading (IsOf c) c.conf named.Conf old.files new.files e → IsDue c old new e
-  conf_due old new ending.Done reads = absurd reads
-  conf_due old new ending.Usage reads = absurd reads
-  conf_due old new ending.NotWritten reads = absurd reads
-  conf_due old new ending.WorldFault reads = absurd reads
-  conf_due old new ending.EventsSpent reads = absurd reads
-  conf_due old new (ending.NoSuchId n) reads = absurd reads
-  conf_due old new ending.Memory reads = tt
-  conf_due old new (ending.Unreadable named.Conf) reads = reads.1
-  conf_due old new (ending.Unreadable named.Schedule) reads = absurd (let no : named.Schedule ≡ named.Conf = reads.0 in cc)
-  conf_due old new (ending.Missing w) reads = reads.1
-  conf_due old new (ending.TooLong w) reads = reads.1
-  conf_due old new (ending.Refused fault) reads = reads.1
-  conf_due old new (ending.NotBuilt n) reads = reads.1
-  conf_due old new (ending.BadLine n) reads = absurd (let no : named.Conf ≡ named.Schedule = reads.0 in cc)
+  -- where files hold no site, nothing is written
+  fault_writes : (told : Option FileMap) (m : Mode) (why : SiteFault) (out : Account) → WritesBy m c told (site_status why) out out
+  fault_writes told mode.Serve why out = nothing out
+  fault_writes told mode.Check (fault.Missing file) out = nothing out
+  fault_writes told mode.Check (fault.TooLong file) out = nothing out
+  fault_writes told mode.Check (fault.Unreadable file) out = nothing out
+  fault_writes told mode.Check (fault.Refused file wrong) out = nothing out
+  fault_writes told mode.Check (fault.NotBuilt file line) out = nothing out
+  fault_writes told mode.Check fault.TooManyModules out = nothing out
+  fault_writes told mode.Check (fault.Init message) out = nothing out
+  fault_writes told mode.Check fault.Memory out = nothing out
+  fault_writes told mode.Replay (fault.Missing file) out = nothing out
+  fault_writes told mode.Replay (fault.TooLong file) out = nothing out
+  fault_writes told mode.Replay (fault.Unreadable file) out = nothing out
+  fault_writes told mode.Replay (fault.Refused file wrong) out = nothing out
+  fault_writes told mode.Replay (fault.NotBuilt file line) out = nothing out
+  fault_writes told mode.Replay fault.TooManyModules out = nothing out
+  fault_writes told mode.Replay (fault.Init message) out = nothing out
+  fault_writes told mode.Replay fault.Memory out = inl (nothing out)
 
-  -- what ends the reading of the schedule is due, where the configuration is a site's
-  schedule_due : c.mode ≡ mode.Replay → (body : LiteralSite) (old new : Outside) (e : Ending) → IfSome old.files.told (λ held. HasSite held c.conf body)
-      → EndsReading (OfSchedule c) c.schedule named.Schedule old.files new.files e → IsDue c old new e
-  schedule_due on body old new ending.Done site reads = absurd reads
-  schedule_due on body old new ending.Usage site reads = absurd reads
-  schedule_due on body old new ending.NotWritten site reads = absurd reads
-  schedule_due on body old new ending.WorldFault site reads = absurd reads
-  schedule_due on body old new ending.EventsSpent site reads = absurd reads
-  schedule_due on body old new (ending.NoSuchId n) site reads = absurd reads
-  schedule_due on body old new ending.Memory site reads = tt
-  schedule_due on body old new (ending.Unreadable named.Conf) site reads = absurd (let no : named.Conf ≡ named.Schedule = reads.0 in cc)
-  schedule_due on body old new (ending.Unreadable named.Schedule) site reads = (on, reads.1, weaker_some old.files.told _ _ (λ held has. (body, has)) site)
-  schedule_due on body old new (ending.Missing w) site reads = both_some old.files.told _ _ _ (λ held has v. (v.0, v.1 body has, v.2)) site reads.1
-  schedule_due on body old new (ending.TooLong w) site reads = both_some old.files.told _ _ _ (λ held has v. (v.0, v.1 body has, v.2)) site reads.1
-  schedule_due on body old new (ending.Refused fault) site reads = absurd (let no : named.Schedule ≡ named.Conf = reads.0 in cc)
-  schedule_due on body old new (ending.NotBuilt n) site reads = absurd (let no : named.Schedule ≡ named.Conf = reads.0 in cc)
-  schedule_due on body old new (ending.BadLine n) site reads = both_some old.files.told _ _ _ (λ held has v. (v.0, v.1 body has, v.2)) site reads.1
-
-  -- where reading ended, nothing is written
-  reading_writes : (V : FileMap → Verdict → Type 0) (name : List ℕ) (which : _) (old new : FileAccount) (told : Option FileMap) (m : Mode) (e : Ending) (out : Account)
-      → EndsReading V name which old new e → ((n : ℕ) → e ≡ ending.BadLine n → HasBadSchedule c told) → WritesBy m c told (status_of e) out out
-  reading_writes V name which old new told mode.Serve e out reads bad = nothing out
-  reading_writes V name which old new told mode.Check ending.Done out reads bad = absurd reads
-  reading_writes V name which old new told mode.Check ending.Usage out reads bad = absurd reads
-  reading_writes V name which old new told mode.Check ending.NotWritten out reads bad = absurd reads
-  reading_writes V name which old new told mode.Check ending.WorldFault out reads bad = absurd reads
-  reading_writes V name which old new told mode.Check ending.EventsSpent out reads bad = absurd reads
-  reading_writes V name which old new told mode.Check (ending.NoSuchId n) out reads bad = absurd reads
-  reading_writes V name which old new told mode.Check ending.Memory out reads bad = nothing out
-  reading_writes V name which old new told mode.Check (ending.Unreadable w) out reads bad = nothing out
-  reading_writes V name which old new told mode.Check (ending.Missing w) out reads bad = nothing out
-  reading_writes V name which old new told mode.Check (ending.TooLong w) out reads bad = nothing out
-  reading_writes V name which old new told mode.Check (ending.Refused fault) out reads bad = nothing out
-  reading_writes V name which old new told mode.Check (ending.NotBuilt n) out reads bad = nothing out
-  reading_writes V name which old new told mode.Check (ending.BadLine n) out reads bad = nothing out
-  reading_writes V name which old new told mode.Replay (ending.Refused fault) out reads bad = nothing out
-  reading_writes V name which old new told mode.Replay ending.Done out reads bad = absurd reads
-  reading_writes V name which old new told mode.Replay ending.Usage out reads bad = absurd reads
-  reading_writes V name which old new told mode.Replay ending.NotWritten out reads bad = absurd reads
-  reading_writes V name which old new told mode.Replay ending.WorldFault out reads bad = absurd reads
-  reading_writes V name which old new told mode.Replay ending.EventsSpent out reads bad = absurd reads
-  reading_writes V name which old new told mode.Replay (ending.NoSuchId n) out reads bad = absurd reads
-  reading_writes V name which old new told mode.Replay ending.Memory out reads bad = inl (nothing out)
-  reading_writes V name which old new told mode.Replay (ending.Unreadable w) out reads bad = nothing out
-  reading_writes V name which old new told mode.Replay (ending.Missing w) out reads bad = nothing out
-  reading_writes V name which old new told mode.Replay (ending.TooLong w) out reads bad = nothing out
-  reading_writes V name which old new told mode.Replay (ending.NotBuilt n) out reads bad = nothing out
-  reading_writes V name which old new told mode.Replay (ending.BadLine n) out reads bad = inl (bad n refl, nothing out)
-
-  -- the verdict of a line that is no schedule's
-  is_bad_line : (v : Verdict) (n : ℕ) → ending.BadLine n ≡ ending_of v → v ≡ BadLine n
-  is_bad_line (BadLine m) n is = let same : ending.BadLine n ≡ ending.BadLine m = is in cc
-  is_bad_line Usage n is = absurd (let no : ending.BadLine n ≡ ending.Usage = is in cc)
-  is_bad_line (Missing w) n is = absurd (let no : ending.BadLine n ≡ ending.Missing w = is in cc)
-  is_bad_line (TooLong w) n is = absurd (let no : ending.BadLine n ≡ ending.TooLong w = is in cc)
-  is_bad_line (Refused fault) n is = absurd (let no : ending.BadLine n ≡ ending.Refused fault = is in cc)
-  is_bad_line (NotBuilt m) n is = absurd (let no : ending.BadLine n ≡ ending.NotBuilt m = is in cc)
-  is_bad_line Checks n is = absurd (let no : ending.BadLine n ≡ ending.Done = is in cc)
-  is_bad_line (Runs site lines) n is = absurd (let no : ending.BadLine n ≡ ending.Done = is in cc)
-  is_bad_line (Serves site) n is = absurd (let no : ending.BadLine n ≡ ending.Done = is in cc)
-
-  -- the work ends at the reading of the configuration, or at that of the schedule
-  pub conf_works : (old new : Outside) (e : Ending) → new.out ≡ old.out → EndsReading (IsOf c) c.conf named.Conf old.files new.files e → Works c old new e
-  conf_works old new e same reads = record {
-    due = conf_due old new e reads;
-    writes = rw same (reading_writes (IsOf c) c.conf named.Conf old.files new.files old.files.told c.mode e old.out reads
-        (λ n is. absurd (let which = (rw is at reads).0 in let no : named.Conf ≡ named.Schedule = which in cc)));
-    form = not_usage (IsOf c) old.files new.files c.conf named.Conf e reads;
+  pub site_works : (old new : Outside) (why : SiteFault) → new.out ≡ old.out → NotLoaded c.conf old.files new.files why → Works c old new (ending.NoSite why)
+  site_works old new why same none = record {
+    due = none;
+    writes = rw same (fault_writes old.files.told c.mode why old.out);
+    form = λ is. let no : ending.NoSite why ≡ ending.Usage = is in cc;
   }
 
-  pub schedule_works : c.mode ≡ mode.Replay → (body : LiteralSite) (old new : Outside) (e : Ending) → new.out ≡ old.out → IfSome old.files.told (λ held. HasSite held c.conf body)
-      → EndsReading (OfSchedule c) c.schedule named.Schedule old.files new.files e → Works c old new e
-  schedule_works on body old new e same site reads = record {
-    due = schedule_due on body old new e site reads;
-    writes = rw same (reading_writes (OfSchedule c) c.schedule named.Schedule old.files new.files old.files.told c.mode e old.out reads
-        (λ n is. both_some old.files.told _ _ _ (λ held has v. (n, subst (IsOf c held) (is_bad_line v.0 n v.2) (v.1 body has))) site (rw is at reads).1));
-    form = not_usage (OfSchedule c) old.files new.files c.schedule named.Schedule e reads;
-  }
+  -- what ends at the schedule is due, where the files hold a site
+  schedule_due : c.mode ≡ mode.Replay → (old new : Outside) (e : Ending) → IfSome old.files.told (λ held. IsChecked held c.conf)
+      → EndsAtSchedule c.schedule old.files new.files e → IsDue c old new e
+  schedule_due on old new ending.Missing there ends = both_some old.files.told _ _ _ (λ held has none. (Missing, (on, has, none), refl)) there ends
+  schedule_due on old new ending.TooLong there ends = both_some old.files.told _ _ _ (λ held has long. (TooLong, (on, has, long), refl)) there ends
+  schedule_due on old new (ending.BadLine n) there ends = both_some old.files.told _ _ _ (λ held has bad. (BadLine n, (on, has, bad), refl)) there ends
+  schedule_due on old new ending.Unreadable there ends = (on, ends, there)
+  schedule_due on old new ending.Memory there ends = tt
+  schedule_due on old new ending.Done there ends = absurd ends
+  schedule_due on old new ending.Usage there ends = absurd ends
+  schedule_due on old new (ending.NoSite why) there ends = absurd ends
+  schedule_due on old new (ending.NoSuchId n) there ends = absurd ends
+  schedule_due on old new ending.WorldFault there ends = absurd ends
+  schedule_due on old new ending.EventsSpent there ends = absurd ends
+  schedule_due on old new ending.NotWritten there ends = absurd ends
+
+  -- and nothing is written
+  schedule_writes : c.mode ≡ mode.Replay → (old new : FileAccount) (e : Ending) (out : Account) → IfSome old.told (λ held. IsChecked held c.conf)
+      → EndsAtSchedule c.schedule old new e → WritesRun c old.told (status_of e) out out
+  schedule_writes on old new ending.Missing out there ends = nothing out
+  schedule_writes on old new ending.TooLong out there ends = nothing out
+  schedule_writes on old new (ending.BadLine n) out there ends = inl (both_some old.told _ _ _ (λ held has bad. (n, (on, has, bad))) there ends, nothing out)
+  schedule_writes on old new ending.Unreadable out there ends = nothing out
+  schedule_writes on old new ending.Memory out there ends = inl (nothing out)
+  schedule_writes on old new ending.Done out there ends = absurd ends
+  schedule_writes on old new ending.Usage out there ends = absurd ends
+  schedule_writes on old new (ending.NoSite why) out there ends = absurd ends
+  schedule_writes on old new (ending.NoSuchId n) out there ends = absurd ends
+  schedule_writes on old new ending.WorldFault out there ends = absurd ends
+  schedule_writes on old new ending.EventsSpent out there ends = absurd ends
+  schedule_writes on old new ending.NotWritten out there ends = absurd ends
+
+  not_usage : (old new : FileAccount) (e : Ending) → EndsAtSchedule c.schedule old new e → e ≢ ending.Usage
+  not_usage old new e ends same = rw same at ends
+
+  pub schedule_works : c.mode ≡ mode.Replay → (site : Site) (old new : Outside) (e : Ending) → new.out ≡ old.out → IfSome old.files.told (λ held. HasSite held c.conf site)
+      → EndsAtSchedule c.schedule old.files new.files e → Works c old new e
+  schedule_works on site old new e same has ends =
+      let there = weaker_some old.files.told _ _ (λ held h. (site, h)) has in
+      record {
+        due = schedule_due on old new e there ends;
+        writes = subst (λ m. WritesBy m c old.files.told (status_of e) old.out new.out) (sym on) (rw same (schedule_writes on old.files new.files e old.out there ends));
+        form = not_usage old.files new.files e ends;
+      }
 
   -- what is due since the files were read well was due before
+  site_before : (old mid new : FileAccount) (why : SiteFault) → ReadsWell old mid → NotLoaded c.conf mid new why → NotLoaded c.conf old new why
+  site_before old mid new (fault.Missing file) well none = rw (← well.told) none
+  site_before old mid new (fault.TooLong file) well none = rw (← well.told) none
+  site_before old mid new (fault.Unreadable file) well none = rw (← well.faults file) none
+  site_before old mid new (fault.Refused file wrong) well none = rw (← well.told) none
+  site_before old mid new (fault.NotBuilt file line) well none = rw (← well.told) none
+  site_before old mid new fault.TooManyModules well none = rw (← well.told) none
+  site_before old mid new (fault.Init message) well none = rw (← well.told) none
+  site_before old mid new fault.Memory well none = tt
+
   due_before : (old : Outside) (mid : FileAccount) (new : Outside) (e : Ending) → ReadsWell old.files mid → IsDue c (record old { files = mid }) new e → IsDue c old new e
-  due_before old mid new (ending.Unreadable named.Conf) well due = rw (← well.faults c.conf) due
-  due_before old mid new (ending.Unreadable named.Schedule) well due = (due.0, rw (← well.faults c.schedule) due.1, rw (← well.told) due.2)
+  due_before old mid new (ending.NoSite why) well due = site_before old.files mid new.files why well due
+  due_before old mid new ending.Unreadable well due = (due.0, rw (← well.faults c.schedule) due.1, rw (← well.told) due.2)
   due_before old mid new ending.NotWritten well due = (due.0, due.1, rw (← well.told) due.2)
   due_before old mid new ending.WorldFault well due = (due.0, rw (← well.told) due.1, due.2)
   due_before old mid new (ending.NoSuchId n) well due = (due.0, rw (← well.told) due.1, due.2)
@@ -150,10 +135,8 @@ module _ (c : Command) where
   due_before old mid new ending.Memory well due = tt
   due_before old mid new ending.Done well due = rw (← well.told) due
   due_before old mid new ending.Usage well due = rw (← well.told) due
-  due_before old mid new (ending.Missing w) well due = rw (← well.told) due
-  due_before old mid new (ending.TooLong w) well due = rw (← well.told) due
-  due_before old mid new (ending.Refused fault) well due = rw (← well.told) due
-  due_before old mid new (ending.NotBuilt n) well due = rw (← well.told) due
+  due_before old mid new ending.Missing well due = rw (← well.told) due
+  due_before old mid new ending.TooLong well due = rw (← well.told) due
   due_before old mid new (ending.BadLine n) well due = rw (← well.told) due
 
   pub works_before : (old : Outside) (mid : FileAccount) (new : Outside) (e : Ending) → ReadsWell old.files mid → Works c (record old { files = mid }) new e → Works c old new e
@@ -164,7 +147,7 @@ module _ (c : Command) where
   }
 
   -- what is said of a run that is served and written
-  module _ (on : c.mode ≡ mode.Replay) (site : LiteralSite) (lines : List SchedLine) (old new : Outside) (runs : IfSome old.files.told (λ held. IsOf c held (Runs site lines))) where
+  module _ (on : c.mode ≡ mode.Replay) (site : Site) (lines : List SchedLine) (old new : Outside) (runs : IfSome old.files.told (λ held. IsOf c held (Runs site lines))) where
     by_replay : (s : Status) → WritesRun c old.files.told s old.out new.out → Writes c old.files.told s old.out new.out
     by_replay s writes = subst (λ m. WritesBy m c old.files.told s old.out new.out) (sym on) writes
 
@@ -246,7 +229,7 @@ module _ (c : Command) where
         ]
 
   -- what is said of a live world that is served
-  module _ (on : c.mode ≡ mode.Serve) (site : LiteralSite) (old new : Outside) (serves : IfSome old.files.told (λ held. IsOf c held (Serves site))) (same : new.out ≡ old.out) where
+  module _ (on : c.mode ≡ mode.Serve) (site : Site) (old new : Outside) (serves : IfSome old.files.told (λ held. IsOf c held (Serves site))) (same : new.out ≡ old.out) where
     silent : (s : Status) → Writes c old.files.told s old.out new.out
     silent s = subst (λ m. WritesBy m c old.files.told s old.out new.out) (sym on) (rw same (nothing old.out))
 
@@ -299,24 +282,22 @@ module _ (c : Command) where
     serve_leaves to (unheard is listens) = rw is (inr (site, serves, unheard refl listens))
     serve_leaves to (served e is s) = rw is (ended_leaves e (site, serves, served e refl s))
 
-  -- where the reading of the configuration ended, the world is as it was
-  pub conf_leaves : {V : Type 0} (name : List ℕ) (old new : FileAccount) (told : Option FileMap) (same : V → V → Type 0) (book : V → Book) (live : V) → same live live
-      → (m : Mode) (e : Ending) → EndsReading (IsOf c) name named.Conf old new e → LeavesBy m same book c told (status_of e) live live
-  conf_leaves name old new told same book live is mode.Check e reads = refl
-  conf_leaves name old new told same book live is mode.Replay e reads = refl
-  conf_leaves name old new told same book live is mode.Serve (ending.Refused fault) reads = (is, refl)
-  conf_leaves name old new told same book live is mode.Serve ending.Done reads = absurd reads
-  conf_leaves name old new told same book live is mode.Serve ending.Usage reads = absurd reads
-  conf_leaves name old new told same book live is mode.Serve ending.NotWritten reads = absurd reads
-  conf_leaves name old new told same book live is mode.Serve ending.WorldFault reads = absurd reads
-  conf_leaves name old new told same book live is mode.Serve ending.EventsSpent reads = absurd reads
-  conf_leaves name old new told same book live is mode.Serve (ending.NoSuchId n) reads = absurd reads
-  conf_leaves name old new told same book live is mode.Serve ending.Memory reads = (is, inl refl)
-  conf_leaves name old new told same book live is mode.Serve (ending.Unreadable w) reads = (is, refl)
-  conf_leaves name old new told same book live is mode.Serve (ending.Missing w) reads = (is, refl)
-  conf_leaves name old new told same book live is mode.Serve (ending.TooLong w) reads = (is, refl)
-  conf_leaves name old new told same book live is mode.Serve (ending.NotBuilt n) reads = (is, refl)
-  conf_leaves name old new told same book live is mode.Serve (ending.BadLine n) reads = absurd (let no : named.Conf ≡ named.Schedule = reads.0 in cc)
+  -- where files hold no site, the world is as it was
+  fault_leaves : (told : Option FileMap) (why : SiteFault) (world : Book) → LeavesServed c told (site_status why) world world
+  fault_leaves told (fault.Missing file) world = refl
+  fault_leaves told (fault.TooLong file) world = refl
+  fault_leaves told (fault.Unreadable file) world = refl
+  fault_leaves told (fault.Refused file wrong) world = refl
+  fault_leaves told (fault.NotBuilt file line) world = refl
+  fault_leaves told fault.TooManyModules world = refl
+  fault_leaves told (fault.Init message) world = refl
+  fault_leaves told fault.Memory world = inl refl
+
+  pub site_leaves : {V : Type 0} (told : Option FileMap) (same : V → V → Type 0) (book : V → Book) (live : V) → same live live → (m : Mode) (why : SiteFault)
+      → LeavesBy m same book c told (site_status why) live live
+  site_leaves told same book live is mode.Check why = refl
+  site_leaves told same book live is mode.Replay why = refl
+  site_leaves told same book live is mode.Serve why = (is, fault_leaves told why (book live))
 
   -- what is said of a site that is checked
   module _ (on : c.mode ≡ mode.Check) (old new : Outside) (checks : IfSome old.files.told (λ held. IsOf c held Checks)) where
@@ -339,18 +320,20 @@ module _ (c : Command) where
     check_works ending.WorldFault writes = absurd writes
     check_works ending.EventsSpent writes = absurd writes
     check_works (ending.NoSuchId n) writes = absurd writes
-    check_works (ending.Missing w) writes = absurd writes
-    check_works (ending.TooLong w) writes = absurd writes
-    check_works (ending.Unreadable w) writes = absurd writes
-    check_works (ending.Refused fault) writes = absurd writes
-    check_works (ending.NotBuilt n) writes = absurd writes
+    check_works (ending.NoSite why) writes = absurd writes
+    check_works ending.Missing writes = absurd writes
+    check_works ending.TooLong writes = absurd writes
+    check_works ending.Unreadable writes = absurd writes
     check_works (ending.BadLine n) writes = absurd writes
 
 -- the files hold what runs, or what is served
-pub runs_held : (c : Command) → c.mode ≡ mode.Replay → (site : LiteralSite) (lines : List SchedLine) (told : Option FileMap) → IfSome told (λ held. HasSite held c.conf site)
+pub runs_held : (c : Command) → c.mode ≡ mode.Replay → (site : Site) (lines : List SchedLine) (told : Option FileMap) → IfSome told (λ held. HasSite held c.conf site)
     → IfSome told (λ held. HasSchedule held c.schedule lines) → IfSome told (λ held. IsOf c held (Runs site lines))
 runs_held c on site lines told has schedule = both_some told _ _ _ (λ held s h. (on, s, h)) has schedule
 
-pub serves_held : (c : Command) → c.mode ≡ mode.Serve → (site : LiteralSite) (told : Option FileMap) → IfSome told (λ held. HasSite held c.conf site)
+pub serves_held : (c : Command) → c.mode ≡ mode.Serve → (site : Site) (told : Option FileMap) → IfSome told (λ held. HasSite held c.conf site)
     → IfSome told (λ held. IsOf c held (Serves site))
 serves_held c on site told has = weaker_some told _ _ (λ held s. (on, s)) has
+
+pub checks_held : (c : Command) → c.mode ≡ mode.Check → (site : Site) (told : Option FileMap) → IfSome told (λ held. HasSite held c.conf site) → IfSome told (λ held. IsOf c held Checks)
+checks_held c on site told has = weaker_some told _ _ (λ held s. (on, (site, s))) has

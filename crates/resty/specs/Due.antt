@@ -7,14 +7,15 @@ use Rattle.resty_world.specs.declared.entry.Entry.{Entry}
 use Rattle.resty_world.specs.declared.schedule_line.SchedLine.{SchedLine}
 use Rattle.resty.specs.declared.command_line.Mode.{Mode}
 use Rattle.resty.specs.declared.command_line.Mode.TheVariants as mode
-use Rattle.resty.specs.declared.endings.Named.TheVariants as named
 use Rattle.resty.specs.declared.endings.Ending.{Ending}
 use Rattle.resty.specs.declared.endings.Ending.TheVariants as ending
 use Rattle.resty.specs.Outside.{Outside}
 use Rattle.resty.specs.Run.{IsRun, IsUnknownAt, TellsFault}
-use Rattle.literal_site.specs.declared.sites.LiteralSite.{LiteralSite}
+use Rattle.lua_run.specs.Answers.{Site}
+use Rattle.site_load.specs.Loading.{NotLoaded}
+use Rattle.resty.specs.Reading.{FailedAt}
 use Rattle.resty.specs.Sites.{site_behavior}
-use Rattle.resty.specs.Verdict.{Verdict, Runs, Serves, HasSite, FailedAt, IsOf, ending_of}
+use Rattle.resty.specs.Verdict.{Verdict, Runs, Serves, IsChecked, IsOf, ending_of}
 use Rattle.resty.specs.Words.{Command}
 
 -- a mode that writes on the output
@@ -23,7 +24,7 @@ WritesOut mode.Serve = ⊥
 WritesOut other = Unit {0}
 
 -- a run of the lines before line n comes to that line, which names an id that was never there
-abbrev pub ComesToUnknown : LiteralSite → List SchedLine → ℕ → Type 0
+abbrev pub ComesToUnknown : Site → List SchedLine → ℕ → Type 0
 ComesToUnknown site lines n = (passed : ℕ) × (h : List Entry) × (n ≡ passed + 1) × IsRun (site_behavior site) (take passed lines) h × IsUnknownAt lines passed h
 
 -- What may end a run before Stop, and the serving of a live world: so many events were given, of a schedule that has as many lines;
@@ -42,12 +43,12 @@ abbrev pub IsCutShort : Command → Outside → Outside → Ending → Type 0
 IsCutShort c old new e = (v : Verdict) × IfSome old.files.told (λ held. IsOf c held v) × CutsShort c.mode v c.events old.live new.live e
 
 -- Why the work ended so; what is said of the files is said where they report what they hold. A file can't be read only where
--- reading that file failed, of a schedule only where the configuration is a site's; the output of a run or of a check can't be
--- written only where writing failed; memory may run out at any time; else it is the verdict.
+-- reading that file failed, of a schedule only where the files hold a site; the output of a run or of a check can't be written only
+-- where writing failed; memory may run out at any time; else it is the verdict.
 abbrev pub IsDue : Command → Outside → Outside → Ending → Type 0
-IsDue c old new (ending.Unreadable named.Conf) = FailedAt c.conf old.files new.files
-IsDue c old new (ending.Unreadable named.Schedule) =
-    (c.mode ≡ mode.Replay) × FailedAt c.schedule old.files new.files × IfSome old.files.told (λ held. (site : LiteralSite) × HasSite held c.conf site)
+IsDue c old new (ending.NoSite fault) = NotLoaded c.conf old.files new.files fault
+IsDue c old new ending.Unreadable =
+    (c.mode ≡ mode.Replay) × FailedAt c.schedule old.files new.files × IfSome old.files.told (λ held. IsChecked held c.conf)
 IsDue c old new ending.NotWritten =
     WritesOut c.mode × Rose old.out.faults new.out.faults × IfSome old.files.told (λ held. (v : Verdict) × IsOf c held v × (ending_of v ≡ ending.Done))
 IsDue c old new ending.WorldFault = IsCutShort c old new ending.WorldFault

@@ -4,7 +4,6 @@ use Rattle.resty_base.specs.Accounts.{Account}
 use Rattle.resty_base.specs.Counting.{Rose}
 use Rattle.resty_base.specs.FileMap.{FileMap, FileAccount}
 use Rattle.resty_base.specs.Taking.{Takes}
-use Rattle.resty.specs.declared.endings.Named.{Named}
 use Rattle.resty.specs.declared.endings.Ending.{Ending}
 use Rattle.resty.specs.declared.endings.Ending.TheVariants as ending
 use Rattle.resty.specs.declared.endings.Status.{Status}
@@ -12,14 +11,14 @@ use Rattle.resty.specs.declared.endings.Status.TheVariants as status
 use Rattle.resty.specs.Due.{CutsShort, IsDue}
 use Rattle.resty.specs.Ending.{status_of, line_of}
 use Rattle.resty.specs.Outside.{Outside}
-use Rattle.resty.specs.Saying.{name_of}
-use Rattle.resty.specs.Verdict.{Verdict, IsVerdict, FailedAt, ending_of}
+use Rattle.resty.specs.Reading.{FailedAt}
+use Rattle.resty.specs.Verdict.{Verdict, IsVerdict, ending_of}
 use Rattle.resty.specs.Words.{Command, Says, IsForm}
 
 -- the words are no command; or they are one, and the work on it ended as is due. The error output took the line that says so.
 pub data Ends (words : List (List ℕ)) (old new : Outside) (err err' : Account) (s : Status) : Type 0 where
   no_command : ¬ (IsForm words) → s ≡ status.Usage → Takes (codes "resty: usage: resty MODE [options]\n") err err' → Ends words old new err err' s
-  worked : (c : Command) (e : Ending) → Says words c → s ≡ status_of e → IsDue c old new e → Takes (line_of (name_of c) e) err err'
+  worked : (c : Command) (e : Ending) → Says words c → s ≡ status_of e → IsDue c old new e → Takes (line_of c.schedule e) err err'
       → Ends words old new err err' s
 
 -- all verdicts of the same words and files are of one status; and where something is checked, run or served there is only one
@@ -29,9 +28,9 @@ IsOneVerdict v w = (status_of (ending_of v) ≡ status_of (ending_of w)) × (end
 abbrev pub AreOfOneStatus : Type 0
 AreOfOneStatus = (words : List (List ℕ)) (files : FileMap) (v w : Verdict) → IsVerdict words files v → IsVerdict words files w → IsOneVerdict v w
 
--- reading one of the files that the words name failed
-abbrev pub FailedToRead : List (List ℕ) → FileAccount → FileAccount → Type 0
-FailedToRead words files files' = (c : Command) × (which : Named) × Says words c × FailedAt (name_of c which) files files'
+-- reading one of the files of a command failed: a text of the site, or the schedule
+abbrev pub FailedToRead : FileAccount → FileAccount → Type 0
+FailedToRead files files' = (name : List ℕ) × FailedAt name files files'
 
 -- what the verdict of the words asks for is cut short
 abbrev pub EndsEarly : List (List ℕ) → Outside → Outside → Verdict → Ending → Type 0
@@ -45,7 +44,7 @@ ReachesUnknown words old new v = (n : ℕ) × EndsEarly words old new v (ending.
 -- writing may fail, and it may be cut short.
 abbrev pub IsStatusBy : List (List ℕ) → Outside → Outside → Verdict → Status → Type 0
 IsStatusBy words old new v status.Memory = Unit {0}
-IsStatusBy words old new v status.ReadFault = (status_of (ending_of v) ≡ status.ReadFault) ⊎ FailedToRead words old.files new.files
+IsStatusBy words old new v status.ReadFault = (status_of (ending_of v) ≡ status.ReadFault) ⊎ FailedToRead old.files new.files
 IsStatusBy words old new v status.Schedule = (status_of (ending_of v) ≡ status.Schedule) ⊎ ReachesUnknown words old new v
 IsStatusBy words old new v status.WriteFault = (status_of (ending_of v) ≡ status.Done) × Rose old.out.faults new.out.faults
 IsStatusBy words old new v status.WorldFault = EndsEarly words old new v ending.WorldFault
@@ -64,5 +63,5 @@ IsDoneOr s = (s ≡ status.Done) ⊎ (s ≡ status.EventsSpent) ⊎ (s ≡ statu
 -- were spent, or memory ran out
 abbrev pub IsComplete : List (List ℕ) → Outside → Outside → Status → Type 0
 IsComplete words old new s =
-    IfSome old.files.told (λ held. (v : Verdict) → IsVerdict words held v → ending_of v ≡ ending.Done → ¬ (FailedToRead words old.files new.files)
+    IfSome old.files.told (λ held. (v : Verdict) → IsVerdict words held v → ending_of v ≡ ending.Done → ¬ (FailedToRead old.files new.files)
     → ¬ (Rose old.out.faults new.out.faults) → ¬ (EndsEarly words old new v ending.WorldFault) → ¬ (ReachesUnknown words old new v) → IsDoneOr s)

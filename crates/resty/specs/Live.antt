@@ -14,27 +14,27 @@ use Rattle.resty.specs.declared.endings.Ending.TheVariants as ending
 use Rattle.resty.specs.declared.endings.Status.{Status}
 use Rattle.resty.specs.declared.endings.Status.TheVariants as status
 use Rattle.resty.specs.Ending.{ending_by}
-use Rattle.literal_site.specs.declared.sites.LiteralSite.{LiteralSite}
+use Rattle.lua_run.specs.Answers.{Site}
 use Rattle.resty.specs.Sites.{site_behavior}
 use Rattle.resty.specs.Verdict.{Serves, IsOf}
 use Rattle.resty.specs.Words.{Command}
 
 -- The world listens on the site's port, and was served. Its history, where it is reported, is that of one execution of the site's
 -- strands, which is lawful, kept, plain and ordered; and serving ended so, for a cause that the world shows.
-pub record IsServed (site : LiteralSite) (events : ℕ) (e : Ended) (old new : Book) : Type 0 where
+pub record IsServed (site : Site) (events : ℕ) (e : Ended) (old new : Book) : Type 0 where
   pub port : new.port ≡ Some site.conf.port
   pub right : IsRight (site_behavior site) new
   pub ends : EndsBy events old new e
 
 -- how the serving of a site ends, and what becomes of the world: it doesn't listen, or it was served
-pub data ServesTo (site : LiteralSite) (events : ℕ) (to : Ending) (old new : Book) : Type 0 where
+pub data ServesTo (site : Site) (events : ℕ) (to : Ending) (old new : Book) : Type 0 where
   deaf : to ≡ ending.WorldFault → Listens site.conf.port listened.Failed old new → ServesTo site events to old new
   unheard : to ≡ ending.Memory → Listens site.conf.port listened.Memory old new → ServesTo site events to old new
   served : (e : Ended) → to ≡ ending_by e → IsServed site events e old new → ServesTo site events to old new
 
 -- a site is served for a command; where the files report what they hold, it is what they hold
 abbrev pub IsServedFor : Command → Option FileMap → Ending → Book → Book → Type 0
-IsServedFor c told e old new = (site : LiteralSite) × IfSome told (λ held. IsOf c held (Serves site)) × ServesTo site c.events e old new
+IsServedFor c told e old new = (site : Site) × IfSome told (λ held. IsOf c held (Serves site)) × ServesTo site c.events e old new
 
 -- what a command that serves leaves of the world, by its status: the world is served, or it is as it was
 abbrev pub LeavesServed : Command → Option FileMap → Status → Book → Book → Type 0

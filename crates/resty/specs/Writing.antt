@@ -16,14 +16,14 @@ use Rattle.resty.specs.declared.endings.Ending.{Ending}
 use Rattle.resty.specs.declared.endings.Ending.TheVariants as ending
 use Rattle.resty.specs.Ending.{ending_by}
 use Rattle.resty.specs.Run.{RunsTo, has_dropped}
-use Rattle.literal_site.specs.declared.sites.LiteralSite.{LiteralSite}
+use Rattle.lua_run.specs.Answers.{Site}
 use Rattle.resty.specs.Sites.{site_behavior}
 use Rattle.resty.specs.Verdict.{BadLine, Runs, IsOf}
 use Rattle.resty.specs.Words.{Command}
 
 -- the history of a run that a command asks for, which ended so; where the files report what they hold, these are what they hold
 pub record IsRunOf (c : Command) (told : Option FileMap) (e : Ended) (h : List Entry) : Type 0 where
-  pub site : LiteralSite
+  pub site : Site
   pub lines : List SchedLine
   pub files : IfSome told (λ files. IsOf c files (Runs site lines))
   pub run : RunsTo (site_behavior site) c.events lines e h
@@ -90,7 +90,7 @@ pub data WritesHistory (e : Ended) (h : List Entry) (to : Ending) (out out' : Ac
   none : to ≡ ending.Memory → TakesNothing out out' → WritesHistory e h to out out'
 
 -- the writing of the run of a site and a schedule, or of none as memory ran out
-abbrev pub WritesHistoryOf : LiteralSite → ℕ → List SchedLine → Ending → Account → Account → Type 0
+abbrev pub WritesHistoryOf : Site → ℕ → List SchedLine → Ending → Account → Account → Type 0
 WritesHistoryOf site events lines to out out' =
     ((e : Ended) × (h : List Entry) × RunsTo (site_behavior site) events lines e h × WritesHistory e h to out out')
     ⊎ ((to ≡ ending.Memory) × TakesNothing out out')

@@ -3,9 +3,8 @@
 ghost use Rattle.std.specs.Prelude.{◌≡◌, ◌≢◌, ◌↔◌, ◌∷◌, ℕ, List, IfSome, IfNone, IsTrue, MatchOption, decimal};
 ghost use Rattle.resty.specs.declared.command_line.Mode.{Mode};
 ghost use Rattle.resty.specs.Words.{texts, IsValue, HasSchedule, IsCount, AsksEvents, Says, IsForm, mode_name, row_of};
-ghost use Rattle.resty.specs.Saying.{said, name_of};
+ghost use Rattle.resty.specs.Saying.{said};
 
-use crate::endings::Named;
 use itoa::Buffer;
 
 /// What the program does.
@@ -75,18 +74,6 @@ pub struct Command<'a> {
     pub schedule: &'a str,
     /// How many events are given at most.
     pub events: u64,
-}
-
-impl<'a> Command<'a> {
-    /// The name of the file.
-    pub fn name(&self, which: Named) -> &'a str
-        ensures { result.now ≡ name_of (said self.now) which }
-    {
-        match which {
-            Named::Conf => self.conf,
-            Named::Schedule => self.schedule,
-        }
-    }
 }
 
 /// How many events are given at most where the words don't say it.

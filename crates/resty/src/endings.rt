@@ -1,10 +1,10 @@
 //! How the work ends, and the statuses of the program.
 
 ghost use Rattle.std.specs.Prelude.{◌≡◌};
-ghost use Rattle.resty.specs.Ending.{code_of, ending_by, status_of};
+ghost use Rattle.resty.specs.Ending.{code_of, ending_by, site_status, status_of};
 
 use engine::Ended;
-use site_check::CheckFault;
+use site_load::SiteFault;
 
 /// How the program ended; its exit code is the index in this list, from 0.
 #[derive(Clone, Copy, Debug, PartialEq, Eq)]
@@ -37,26 +37,19 @@ impl Status {
     }
 }
 
-/// A file that the words name.
-#[derive(Clone, Copy, Debug, PartialEq, Eq)]
-pub enum Named {
-    Conf,
-    Schedule,
-}
-
 /// How the work ended.
-#[derive(Clone, Copy, Debug, PartialEq, Eq)]
+#[derive(Debug, PartialEq, Eq, Drop)]
 pub enum Ending {
     Done,
     Usage,
-    Missing(Named),
-    TooLong(Named),
-    /// The file can't be read.
-    Unreadable(Named),
-    /// The text of the configuration is no site's.
-    Refused(CheckFault),
-    /// The block of Lua that begins in this line of the configuration can't be run yet; lines are numbered from 1.
-    NotBuilt(u64),
+    /// The files hold no site.
+    NoSite(SiteFault),
+    /// There is no such schedule.
+    Missing,
+    /// The schedule has more bytes than it may.
+    TooLong,
+    /// The schedule can't be read.
+    Unreadable,
     /// This line of the schedule is no line of a schedule; lines are numbered from 1.
     BadLine(u64),
     /// This line of the schedule or of the live world names an id that was never there.
@@ -85,19 +78,35 @@ impl Ending {
     }
 
     /// The status that the program ends with.
-    pub fn status(self) -> Status
-        ensures { result ≡ status_of self }
+    pub fn status(&self) -> Status
+        ensures { result ≡ status_of self.now }
     {
         match self {
             Ending::Done => Status::Done,
             Ending::Usage => Status::Usage,
-            Ending::Missing(_) | Ending::TooLong(_) | Ending::Unreadable(_) => Status::ReadFault,
-            Ending::Refused(_) | Ending::NotBuilt(_) => Status::Conf,
+            Ending::NoSite(fault) => site_status(fault),
+            Ending::Missing | Ending::TooLong | Ending::Unreadable => Status::ReadFault,
             Ending::BadLine(_) | Ending::NoSuchId(_) => Status::Schedule,
             Ending::WorldFault => Status::WorldFault,
             Ending::EventsSpent => Status::EventsSpent,
             Ending::NotWritten => Status::WriteFault,
             Ending::Memory => Status::Memory,
         }
+    }
+}
+
+/// The status that the program ends with where the files hold no site.
+fn site_status(fault: &SiteFault) -> Status
+    ensures { result ≡ site_status fault.now }
+{
+    match fault {
+        SiteFault::Missing(_) | SiteFault::TooLong(_) | SiteFault::Unreadable(_) => {
+            Status::ReadFault
+        }
+        SiteFault::Refused(_, _)
+        | SiteFault::NotBuilt(_, _)
+        | SiteFault::TooManyModules
+        | SiteFault::Init(_) => Status::Conf,
+        SiteFault::Memory => Status::Memory,
     }
 }

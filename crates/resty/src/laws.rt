@@ -8,11 +8,10 @@ ghost use Rattle.resty.specs.Ends.{AreOfOneStatus};
 ghost use Rattle.resty.specs.Run.{IsRun, IsKnownByItsText};
 ghost use Rattle.resty.specs.Taken.{TakesAllBytes, TookAll};
 
-use literal_site::{a_text_has_one_site, no_literal_site_is_refused};
 use schedule::{
     a_history_is_known_by_its_text, a_schedule_is_known_by_its_text, no_schedule_is_refused,
 };
-use site_check::no_site_is_refused;
+use site_load::sites_are_known;
 use strand_contract::StrandContract;
 use strand_laws::laws::what_was_taken;
 
@@ -20,9 +19,7 @@ use strand_laws::laws::what_was_taken;
 pub fn one_status()
     ensures { AreOfOneStatus }
 {
-    no_literal_site_is_refused();
-    a_text_has_one_site();
-    no_site_is_refused();
+    sites_are_known();
     no_schedule_is_refused();
     a_schedule_is_known_by_its_text();
 }

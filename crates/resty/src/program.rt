@@ -20,9 +20,9 @@ use std::alloc::Global;
 
 /// Does what the words say: it reads files, writes its results on `out`, and on `err` one line that says why it failed.
 ///
-/// `check --conf CONF` says whether a configuration is one, with its blocks of Lua. `replay --conf CONF --schedule SCHEDULE`
-/// serves the events of a schedule by the site of a configuration, and writes the history. `serve --conf CONF` listens on the
-/// site's port, serves the live world, and writes nothing. With `--events N` these two give at most so many events.
+/// `check --conf CONF` says whether a configuration is that of a site that starts. `replay --conf CONF --schedule SCHEDULE` serves the
+/// events of a schedule by the site of a configuration, and writes the history. `serve --conf CONF` listens on the site's port, serves the
+/// live world, and writes nothing. With `--events N` these two give at most so many events.
 pub fn resty<F: Files, W: World, O: Sink, E: Sink>(
     alloc: Global,
     words: &[String],
@@ -49,6 +49,6 @@ pub fn resty<F: Files, W: World, O: Sink, E: Sink>(
         return Status::Usage;
     };
     let ending = work(alloc, &command, files, live, out);
-    let _ = put_line(err, &command, ending);
+    let _ = put_line(err, command.schedule, &ending);
     ending.status()
 }

@@ -4,12 +4,13 @@ ghost use Rattle.std.specs.Prelude.{IfOk};
 ghost use Rattle.schedule_text.specs.Fitting.{IsSchedule};
 ghost use Rattle.resty.specs.Run.{RunsTo};
 ghost use Rattle.resty.specs.Sites.{site_behavior};
+ghost use Rattle.site_load.specs.Views.{site_of};
 
 use connection_strand::Connection;
 use engine::{Ended, serve};
-use literal_run::LiteralRun;
-use literal_site::LiteralSite;
+use lua_run::{LuaRun, Site};
 use schedule::{Replay, Schedule, stop_ends_the_schedule};
+use site_load::SiteMachine;
 use std::alloc::{AllocError, Global};
 
 /// A replay that was served.
@@ -22,15 +23,15 @@ pub struct ServedReplay {
 /// The world of this schedule, once the strands of the site have served at most so many events of it.
 pub fn replayed(
     alloc: Global,
-    site: LiteralSite,
+    site: Site<SiteMachine>,
     schedule: Schedule,
     events: u64,
 ) -> Result<ServedReplay, AllocError>
     requires { IsSchedule schedule }
-    ensures { IfOk result (λ run. RunsTo (site_behavior site) events schedule run.ended run.world.history.entries) }
+    ensures { IfOk result (λ run. RunsTo (site_behavior (site_of site)) events schedule run.ended run.world.history.entries) }
 {
     let mut world = Replay::new(alloc, schedule);
-    let ended = serve::<Connection<LiteralRun>, Replay>(alloc, site, &mut world, events);
+    let ended = serve::<Connection<LuaRun<SiteMachine>>, Replay>(alloc, site, &mut world, events);
     stop_ends_the_schedule();
     match ended {
         Ended::Memory => Err(AllocError),

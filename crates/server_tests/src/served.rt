@@ -1,10 +1,10 @@
 //! Connections over a site, as cases: what comes, and what is done then. Expected replies are those of RFC 9112 and of the formats of the manual.
 use connection_strand::Connection;
 use engine::serve;
-use literal_run::LiteralRun;
-use literal_site::literal_site_of;
-use resty_base::Bytes;
+use lua_run::LuaRun;
+use resty_base::{Bytes, MemFiles};
 use schedule::{Replay, history_text, schedule_of};
+use site_load::{SiteMachine, load_site};
 use std::alloc::{AllocError, Global};
 use std::process::Abort;
 use std::test::Fail;
@@ -12,6 +12,7 @@ use std::test::Fail;
 mod bodies;
 mod cuttings;
 mod ends;
+mod handlers;
 mod replies;
 mod requests;
 mod routes;
@@ -34,6 +35,7 @@ const NAMES: &str = r#"<keep> => <chunked>Connection: keep-alive\r\n\r\n
 <431> => HTTP/1.1 431 Request Header Fields Too Large<built-in>36\r\nConnection: close\r\n\r\n431 Request Header Fields Too Large\n
 <501> => HTTP/1.1 501 Not Implemented<built-in>20\r\nConnection: close\r\n\r\n501 Not Implemented\n
 <505> => HTTP/1.1 505 HTTP Version Not Supported<built-in>31\r\nConnection: close\r\n\r\n505 HTTP Version Not Supported\n
+<500> => HTTP/1.1 500 Internal Server Error<built-in>26\r\nConnection: close\r\n\r\n500 Internal Server Error\n
 <built-in> => \r\nServer: resty\r\nDate: Thu, 01 Jan 1970 00:00:00 GMT\r\nContent-Type: text/plain\r\nContent-Length: 
 <close> => HTTP/1.1 200 OK\r\nServer: resty\r\nDate: Thu, 01 Jan 1970 00:00:00 GMT\r\nContent-Type: text/plain\r\nConnection: close\r\n\r\n
 <hi> => 3\r\nhi\n\r\n0\r\n\r\n
@@ -79,8 +81,15 @@ fn lines(alloc: Global, case: &str, mark: &str, other: &str) -> Result<String, A
 
 /// The history that is left once the schedule was served by the site of this configuration.
 fn served(alloc: Global, conf: &str, schedule: &str) -> Result<Bytes, Fail> {
-    let site = literal_site_of(alloc, conf.as_bytes())?;
+    let mut files = MemFiles::new(alloc);
+    files.add(alloc, "t.conf", conf.as_bytes())?;
+    served_from(alloc, &mut files, schedule)
+}
+
+/// The same of a site of which these files hold the configuration, as `t.conf`, and the modules.
+fn served_from(alloc: Global, files: &mut MemFiles, schedule: &str) -> Result<Bytes, Fail> {
+    let site = load_site(alloc, files, "t.conf")?;
     let mut world = Replay::new(alloc, schedule_of(alloc, schedule.as_bytes())?);
-    let _ = serve::<Connection<LiteralRun>, Replay>(alloc, site, &mut world, EVENTS);
+    let _ = serve::<Connection<LuaRun<SiteMachine>>, Replay>(alloc, site, &mut world, EVENTS);
     Ok(history_text(alloc, world.history())?)
 }
