@@ -8,7 +8,7 @@ use Rattle.lua_modules.specs.Texts.{IsTextFault}
 use Rattle.lua_modules.specs.declared.faults.ModuleFault.{ModuleFault}
 use Rattle.lua_modules.specs.declared.faults.ModuleFault.TheVariants as chunk
 use Rattle.lua_modules.specs.declared.sets.ModuleSet.{ModuleSet}
-use Rattle.module_files.specs.Files.{Holds, IsUnread, ReadsWell}
+use Rattle.module_files.specs.Files.{HoldsModule, IsUnread, ReadsWell}
 use Rattle.module_files.specs.Finding.{IsOverLimit, found_in, found_in_blocks, most_modules}
 use Rattle.module_files.specs.Reading.{Progress, HasNoModule, IsNext, IsStuck, Reads, ReadsModule, ReadsModules, ReadsNext, Stops, none, more, progress, refusal, start}
 use Rattle.module_files.proofs.Growing.{grows}
@@ -44,7 +44,7 @@ module_unread held file (Refused f fault) is = absurd is
 module_unread held file TooMany is = is
 module_unread held file Memory is = is
 
-pub module_refused : (held : FileMap) (file text : List ℕ) (fault : ModuleFault) → Holds held file text → IsTextFault 1 text fault
+pub module_refused : (held : FileMap) (file text : List ℕ) (fault : ModuleFault) → HoldsModule held file text → IsTextFault 1 text fault
     → HasNoModule held file (refusal file fault)
 module_refused held file text (chunk.Lex fault) holds is = (refl, record { text = text; holds = holds; refused = is; known = λ e. cc })
 module_refused held file text (chunk.Parse fault) holds is = (refl, record { text = text; holds = holds; refused = is; known = λ e. cc })
@@ -144,20 +144,20 @@ module _ (told : Option FileMap) (pattern : List ℕ) where
       (λ held r. record { names = names; few = few; reads = subst (λ n. Reads held pattern (start old) (progress new names n)) e r }) is
 
   pub module_read : (name n f g text t : List ℕ) (old new : ModuleSet) → f ≡ file_of pattern name → g ≡ file_of pattern name → t ≡ text → n ≡ name
-      → IfSome told (λ held. Holds held f text) → Adds n g t old new → IfSome told (λ held. ReadsModule held pattern name old new)
-  module_read name n f g text t old new is_f is_g is_t is_n holds adds = where_told told told (λ held. Holds held f text) (λ held. ReadsModule held pattern name old new) refl
+      → IfSome told (λ held. HoldsModule held f text) → Adds n g t old new → IfSome told (λ held. ReadsModule held pattern name old new)
+  module_read name n f g text t old new is_f is_g is_t is_n holds adds = where_told told told (λ held. HoldsModule held f text) (λ held. ReadsModule held pattern name old new) refl
       (λ held h. record {
         text = text;
-        holds = subst (λ x. Holds held x text) is_f h;
+        holds = subst (λ x. HoldsModule held x text) is_f h;
         adds = subst (λ x. Adds name x text old new) is_g (subst (λ x. Adds name g x old new) is_t (subst (λ x. Adds x g t old new) is_n adds));
       }) holds
 
   pub module_none : (name f g text t : List ℕ) (fault : ModuleFault) → f ≡ file_of pattern name → g ≡ file_of pattern name → t ≡ text
-      → IfSome told (λ held. Holds held f text) → IsTextFault 1 t fault → IfSome told (λ held. HasNoModule held (file_of pattern name) (refusal g fault))
-  module_none name f g text t fault is_f is_g is_t holds bad = where_told told told (λ held. Holds held f text)
+      → IfSome told (λ held. HoldsModule held f text) → IsTextFault 1 t fault → IfSome told (λ held. HasNoModule held (file_of pattern name) (refusal g fault))
+  module_none name f g text t fault is_f is_g is_t holds bad = where_told told told (λ held. HoldsModule held f text)
       (λ held. HasNoModule held (file_of pattern name) (refusal g fault)) refl
       (λ held h. subst (λ x. HasNoModule held (file_of pattern name) (refusal x fault)) (sym is_g)
-      (module_refused held (file_of pattern name) text fault (subst (λ x. Holds held x text) is_f h) (subst (λ x. IsTextFault 1 x fault) is_t bad))) holds
+      (module_refused held (file_of pattern name) text fault (subst (λ x. HoldsModule held x text) is_f h) (subst (λ x. IsTextFault 1 x fault) is_t bad))) holds
 
 pub found_longer : (set : ModuleSet) (names new : Names) (function : ℕ) (r : Result (Unit {0}) ModuleFileFault) → OnOk r (new ≡ found_in set names function)
     → OnOk r (length names ≤ length new)

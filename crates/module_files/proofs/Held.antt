@@ -6,7 +6,7 @@ use Rattle.std.specs.Str.{IsUtf8, is_utf8}
 use Rattle.resty_base.specs.FileMap.{FileMap, IsAnswer}
 use Rattle.resty_base.specs.declared.files.Fetched.{Fetched}
 use Rattle.resty_base.specs.declared.files.Fetched.TheVariants as fetched
-use Rattle.module_files.specs.Files.{Holds, IsTooLong, IsUnread, file_in, most_bytes}
+use Rattle.module_files.specs.Files.{HoldsModule, IsTooLong, IsUnread, file_in, most_bytes}
 use Rattle.module_files.specs.declared.faults.ModuleFileFault.TheVariants.{Missing, TooLong, Unreadable, Memory}
 
 pub named : (held : FileMap) (file : List ℕ) → IsUtf8 file → file_in held file ≡ held file
@@ -20,17 +20,17 @@ not_named held file bad = by (is_utf8 file) refl
     by false e = refl
 
 -- what an answer says
-pub text_held : (held : FileMap) (file text : List ℕ) → IsAnswer (file_in held file) most_bytes (fetched.Text text) → Holds held file text
+pub text_held : (held : FileMap) (file text : List ℕ) → IsAnswer (file_in held file) most_bytes (fetched.Text text) → HoldsModule held file text
 text_held held file text is = by (file_in held file) refl is
   where
-    by : (o : Option (List ℕ)) → file_in held file ≡ o → IsAnswer o most_bytes (fetched.Text text) → Holds held file text
+    by : (o : Option (List ℕ)) → file_in held file ≡ o → IsAnswer o most_bytes (fetched.Text text) → HoldsModule held file text
     by (Some bytes) e a = record { here = e ∙ ap Some (sym a.0); short = rw a.0 a.1 }
     by None e a = absurd a
 
-pub long_held : (held : FileMap) (file : List ℕ) → IsAnswer (file_in held file) most_bytes fetched.TooLong → IsTooLong held file
+pub long_held : (held : FileMap) (file : List ℕ) → IsAnswer (file_in held file) most_bytes fetched.TooLong → IsTooLong (file_in held) file most_bytes
 long_held held file is = by (file_in held file) refl is
   where
-    by : (o : Option (List ℕ)) → file_in held file ≡ o → IsAnswer o most_bytes fetched.TooLong → IsTooLong held file
+    by : (o : Option (List ℕ)) → file_in held file ≡ o → IsAnswer o most_bytes fetched.TooLong → IsTooLong (file_in held) file most_bytes
     by (Some bytes) e a = record { text = bytes; here = e; long = a }
     by None e a = absurd a
 
@@ -53,7 +53,7 @@ fetched_unnamed None file bad = tt
 fetched_unnamed (Some held) file bad = rw (not_named held file bad) tt
 
 pub told_text : (told : Option FileMap) (file text : List ℕ) → IfSome told (λ held. IsAnswer (file_in held file) most_bytes (fetched.Text text))
-    → IfSome told (λ held. Holds held file text)
+    → IfSome told (λ held. HoldsModule held file text)
 told_text None file text a = tt
 told_text (Some held) file text a = text_held held file text a
 

@@ -10,25 +10,29 @@ use Rattle.module_files.specs.declared.faults.ModuleFileFault.TheVariants.{Missi
 abbrev pub most_bytes : ℕ
 most_bytes = 1_048_576
 
--- what the file of this name holds; a name that isn't UTF-8 is that of no file
-abbrev pub file_in : FileMap → List ℕ → Option (List ℕ)
+-- the file of this name holds this text, of at most so many bytes
+pub record Holds (files : FileMap) (name : List ℕ) (most : ℕ) (text : List ℕ) : Type 0 where
+  pub here : files name ≡ Some text
+  pub short : length text ≤ most
+
+-- the file of this name has more than so many bytes
+pub record IsTooLong (files : FileMap) (name : List ℕ) (most : ℕ) : Type 0 where
+  pub text : List ℕ
+  pub here : files name ≡ Some text
+  pub long : most < length text
+
+-- the files of modules; a name that isn't UTF-8 is that of no file
+abbrev pub file_in : FileMap → FileMap
 file_in held file = if is_utf8 file then held file else None
 
--- the file holds this text, which isn't too long
-pub record Holds (held : FileMap) (file text : List ℕ) : Type 0 where
-  pub here : file_in held file ≡ Some text
-  pub short : length text ≤ most_bytes
-
--- the file is too long
-pub record IsTooLong (held : FileMap) (file : List ℕ) : Type 0 where
-  pub text : List ℕ
-  pub here : file_in held file ≡ Some text
-  pub long : most_bytes < length text
+-- the file holds the text of a module
+abbrev pub HoldsModule : FileMap → List ℕ → List ℕ → Type 0
+HoldsModule held file text = Holds (file_in held) file most_bytes text
 
 -- why there is no text of this file
 abbrev pub IsUnread : FileMap → List ℕ → ModuleFileFault → Type 0
 IsUnread held file (Missing f) = (f ≡ file) × (file_in held file ≡ None)
-IsUnread held file (TooLong f) = (f ≡ file) × IsTooLong held file
+IsUnread held file (TooLong f) = (f ≡ file) × IsTooLong (file_in held) file most_bytes
 IsUnread held file (Unreadable f) = f ≡ file
 IsUnread held file Memory = Unit {0}
 IsUnread held file other = ⊥

@@ -8,7 +8,7 @@ use Rattle.lua_modules.specs.Texts.{IsTextFault}
 use Rattle.lua_modules.specs.declared.faults.ModuleFault.{ModuleFault}
 use Rattle.lua_modules.specs.declared.faults.ModuleFault.TheVariants as chunk
 use Rattle.lua_modules.specs.declared.sets.ModuleSet.{ModuleSet}
-use Rattle.module_files.specs.Files.{Holds, IsUnread}
+use Rattle.module_files.specs.Files.{HoldsModule, IsUnread}
 use Rattle.module_files.specs.Finding.{most_modules, found_in, found_in_blocks}
 use Rattle.module_files.specs.declared.faults.ModuleFileFault.{ModuleFileFault}
 use Rattle.module_files.specs.declared.faults.ModuleFileFault.TheVariants.{Refused, TooMany, Memory}
@@ -29,7 +29,7 @@ start set = progress set (found_in_blocks set) 0
 -- the module of this name is added by the text of its file
 pub record ReadsModule (held : FileMap) (pattern name : List ℕ) (old new : ModuleSet) : Type 0 where
   pub text : List ℕ
-  pub holds : Holds held (file_of pattern name) text
+  pub holds : HoldsModule held (file_of pattern name) text
   pub adds : Adds name (file_of pattern name) text old new
 
 -- the module of this name is read next; no more are found than a site may have
@@ -59,7 +59,7 @@ pub record ReadsModules (held : FileMap) (pattern : List ℕ) (old new : ModuleS
 -- the text of the file is no chunk
 pub record IsRefused (held : FileMap) (file : List ℕ) (fault : ModuleFault) : Type 0 where
   pub text : List ℕ
-  pub holds : Holds held file text
+  pub holds : HoldsModule held file text
   pub refused : IsTextFault 1 text fault
   pub known : fault ≢ chunk.Memory
 

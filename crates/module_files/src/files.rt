@@ -2,7 +2,7 @@
 
 ghost use Rattle.std.specs.Prelude.{◌≡◌, IfOk, IfErr, IfSome};
 ghost use Rattle.resty_base.specs.FileMap.{FailsWhere, IsAnswer, is_failed};
-ghost use Rattle.module_files.specs.Files.{Fares, Holds, IsUnread, file_in, most_bytes};
+ghost use Rattle.module_files.specs.Files.{Fares, HoldsModule, IsUnread, file_in, most_bytes};
 
 use crate::ModuleFileFault;
 use resty_base::{Bytes, Fetched, Files};
@@ -29,7 +29,7 @@ pub(crate) fn text_of<F: Files>(
     files: &mut F,
     file: Bytes,
 ) -> Result<Bytes, ModuleFileFault>
-    ensures text { IfOk result (λ text. IfSome (F.account files.old).told (λ held. Holds held file text)) }
+    ensures text { IfOk result (λ text. IfSome (F.account files.old).told (λ held. HoldsModule held file text)) }
     ensures unread { IfErr result (λ fault. IfSome (F.account files.old).told (λ held. IsUnread held file fault)) }
     ensures fares { Fares result (F.account files.old) (F.account files.new) }
 {

@@ -1,6 +1,6 @@
 pub mod Commands
+pub mod Schedules
 pub mod Names
-pub mod Lines
 pub mod Story
 pub mod Ranged
 pub mod Taken

@@ -6,7 +6,8 @@ use Rattle.schedule_text.specs.Accepted.{IsRead, IsRefusedAt}
 use Rattle.schedule_text.specs.Fitting.{IsSchedule}
 use Rattle.schedule_text.specs.LineTexts.{schedule_text}
 use Rattle.lua_run.specs.Answers.{Site}
-use Rattle.site_load.specs.Loading.{Holds, IsTooLong, HasSite, IsFault}
+use Rattle.module_files.specs.Files.{Holds, IsTooLong}
+use Rattle.site_load.specs.Loading.{HasSite, IsFault}
 use Rattle.site_load.specs.Same.{SitesAreKnown, NoSiteIsRefused, FaultsAreAlike, is_unread}
 use Rattle.site_load.specs.declared.faults.SiteFault.{SiteFault}
 use Rattle.site_load.specs.declared.faults.SiteFault.TheVariants as fault

@@ -152,15 +152,14 @@ fn stop_closes_what_is_open(rt: HostRuntime) -> Result<(), Fail> {
 
 #[test]
 fn a_block_that_is_not_built_is_refused_at_its_line(rt: HostRuntime) -> Result<(), Fail> {
-    let print =
-        "http { server { listen 8080;\nlocation / { content_by_lua_block { ngx.print(\"x\") } }\n} }\n";
+    let access = "http { server { listen 8080;\nlocation / { access_by_lua_block { } }\n} }\n";
     let line = "resty: t.conf: line 2: not built yet\n";
     for schedule in ["stop\n", "frob\n"] {
-        expect_refused(&rt, rt.alloc(), print, schedule, Status::Conf, line)?;
+        expect_refused(&rt, rt.alloc(), access, schedule, Status::Conf, line)?;
     }
-    let twice = "http { server { listen 0;\n} }\n";
+    let listens = "http { server { listen 0;\n} }\n";
     let value = "resty: t.conf: line 1: bad value\n";
-    expect_refused(&rt, rt.alloc(), twice, "stop\n", Status::Conf, value)
+    expect_refused(&rt, rt.alloc(), listens, "stop\n", Status::Conf, value)
 }
 
 #[test]

@@ -5,12 +5,12 @@ use Rattle.conf.specs.declared.sites.Conf.{Conf}
 use Rattle.lua_modules.specs.declared.faults.ModuleFault.TheVariants as chunk
 use Rattle.lua_modules.specs.declared.sets.ModuleSet.{ModuleSet}
 use Rattle.lua_run.specs.Answers.{Site}
-use Rattle.module_files.specs.Files.{ReadsWell, Fares}
+use Rattle.module_files.specs.Files.{Holds, ReadsWell, Fares}
 use Rattle.module_files.specs.Reading.{ReadsModules, Stops, start}
 use Rattle.module_files.specs.declared.faults.ModuleFileFault.{ModuleFileFault}
 use Rattle.module_files.specs.declared.faults.ModuleFileFault.TheVariants as reading
 use Rattle.site_check.specs.declared.faults.CheckFault.TheVariants as check
-use Rattle.site_load.specs.Loading.{Holds, HasBlocks, HasTexts, HasSite, NotLoaded, Says, IsRefusedAs, most_bytes, of_modules}
+use Rattle.site_load.specs.Loading.{HasBlocks, HasTexts, HasSite, NotLoaded, Says, IsRefusedAs, most_bytes, of_modules}
 use Rattle.site_load.specs.Starts.{StartsAs, IsStartFault}
 use Rattle.site_load.specs.declared.faults.SiteFault.{SiteFault}
 use Rattle.site_load.specs.declared.faults.SiteFault.TheVariants.{Missing, TooLong, Unreadable, Refused, NotBuilt, TooManyModules, Init, Memory}

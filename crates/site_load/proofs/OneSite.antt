@@ -18,6 +18,7 @@ use Rattle.lua_run.specs.Answers.{Site}
 use Rattle.lua_run.specs.Views.{handler_at}
 use Rattle.lua_site.specs.Starting.{Start, started}
 use Rattle.lua_tables_lib.specs.OwnText.{library_text}
+use Rattle.module_files.specs.Files.{Holds, IsTooLong}
 use Rattle.module_files.specs.declared.faults.ModuleFileFault.{ModuleFileFault}
 use Rattle.module_files.specs.declared.faults.ModuleFileFault.TheVariants as reading
 use Rattle.ngx_calls.specs.OwnText.{ngx_text}
@@ -29,7 +30,7 @@ use Rattle.site_check.specs.declared.faults.CheckFault.{CheckFault}
 use Rattle.site_check.specs.declared.faults.CheckFault.TheVariants as check
 use Rattle.site_load.specs.Chunks.{IsEmpty, HasBuiltIn, AddsBlocks, HasChunks}
 use Rattle.site_load.specs.Handlers.{unbuilt_line}
-use Rattle.site_load.specs.Loading.{Holds, IsTooLong, HasConf, HasBlocks, HasTexts, HasSite, HasFault, HasUnbuilt, LacksModules, HasBadModule, HasFailed, IsNoChunk, HasBadBuiltIn, IsFault, most_bytes}
+use Rattle.site_load.specs.Loading.{HasConf, HasBlocks, HasTexts, HasSite, HasFault, HasUnbuilt, LacksModules, HasBadModule, HasFailed, IsNoChunk, HasBadBuiltIn, IsFault, most_bytes}
 use Rattle.site_load.specs.Programs.{life_of, natives_of, setting_of}
 use Rattle.same_readings.specs.Readings.{ReadingsAgree, NoReadingIsRefused, RefusalsAreAlike, IsOfFiles, lacks_text}
 use Rattle.site_load.specs.Same.{SitesAreKnown, NoSiteIsRefused, FaultsAreAlike, is_unread}

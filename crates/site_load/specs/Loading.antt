@@ -1,5 +1,5 @@
 -- The site that files hold, or why they hold none.
-use Rattle.std.specs.Prelude.{◌≡◌, ◌≢◌, ◌⊎◌, ℕ, ◌<◌, ◌≤◌, List, length, codes, Some, None, IfSome}
+use Rattle.std.specs.Prelude.{◌≡◌, ◌≢◌, ◌⊎◌, ℕ, List, codes, Some, None, IfSome}
 use Rattle.resty_base.specs.Counting.{Rose}
 use Rattle.resty_base.specs.FileMap.{FileMap, FileAccount}
 use Rattle.conf.specs.declared.sites.Conf.{Conf}
@@ -9,6 +9,7 @@ use Rattle.lua_modules.specs.declared.faults.ModuleFault.{ModuleFault}
 use Rattle.lua_modules.specs.declared.faults.ModuleFault.TheVariants as chunk
 use Rattle.lua_modules.specs.declared.sets.ModuleSet.{ModuleSet}
 use Rattle.lua_run.specs.Answers.{Site}
+use Rattle.module_files.specs.Files.{Holds, IsTooLong}
 use Rattle.module_files.specs.Reading.{ReadsModules, Stops, start}
 use Rattle.module_files.specs.declared.faults.ModuleFileFault.{ModuleFileFault}
 use Rattle.module_files.specs.declared.faults.ModuleFileFault.TheVariants as reading
@@ -26,17 +27,6 @@ use Rattle.site_load.specs.declared.faults.SiteFault.TheVariants.{Missing, TooLo
 -- how many bytes a configuration may have
 abbrev pub most_bytes : ℕ
 most_bytes = 1_048_576
-
--- the file holds this text, which isn't too long
-pub record Holds (files : FileMap) (name : List ℕ) (most : ℕ) (text : List ℕ) : Type 0 where
-  pub here : files name ≡ Some text
-  pub short : length text ≤ most
-
--- the file is too long
-pub record IsTooLong (files : FileMap) (name : List ℕ) (most : ℕ) : Type 0 where
-  pub text : List ℕ
-  pub here : files name ≡ Some text
-  pub long : most < length text
 
 -- the file of this name holds a configuration whose blocks have these programs
 pub record HasConf (files : FileMap) (name : List ℕ) (conf : Conf) (programs : List Program) : Type 0 where

@@ -3,8 +3,8 @@
 ghost use Rattle.std.specs.Prelude.{◌≡◌, IfOk, IfErr, OnOk, IfSome};
 ghost use Rattle.conf.specs.Reading.{IsWhole};
 ghost use Rattle.site_load.specs.Loading as spec;
-ghost use Rattle.site_load.specs.Loading.{Holds, HasSite, NotLoaded, Says, IsRefusedAs, IsUnread, most_bytes};
-ghost use Rattle.module_files.specs.Files.{ReadsWell};
+ghost use Rattle.site_load.specs.Loading.{HasSite, NotLoaded, Says, IsRefusedAs, IsUnread, most_bytes};
+ghost use Rattle.module_files.specs.Files.{Holds, ReadsWell};
 ghost use Rattle.site_load.specs.Views.{site_of};
 
 use crate::SiteFault;

@@ -46,6 +46,142 @@ fn a_site_is_refused_at_its_first_fault(rt: HostRuntime) -> Result<(), Fail> {
     Ok(())
 }
 
+/// How most configurations here begin.
+const HTTP: &str = "http { lua_package_path \"m/?.lua\"; server { }";
+
+/// The files of this row, each `NAME: TEXT`, where `^` stands for the end of a line and `HTTP` for a block that its text goes on with.
+fn files_in(alloc: Global, row: &str) -> Result<MemFiles, Fail> {
+    let mut files = MemFiles::new(alloc);
+    for file in row.split(" | ") {
+        let (name, text) = file.split_once(": ").unwrap_or((file, ""));
+        let text = text.replace(alloc, "^", "\n")?;
+        let text = text.replace(alloc, "HTTP", HTTP)?;
+        files.add(alloc, name, text.as_bytes())?;
+    }
+    Ok(files)
+}
+
+/// A check of these files ends so, with these lines on both outputs.
+fn expect_checked(
+    rt: &impl Abort,
+    alloc: Global,
+    files: &mut MemFiles,
+    status: Status,
+    out: &str,
+    err: &str,
+) -> Result<(), Fail> {
+    let (first, second) = (MemSink::new(alloc), MemSink::new(alloc));
+    let ran = call(alloc, &["check", "--conf", "t.conf"], files, first, second)?;
+    expect(rt, &ran, status, out, err);
+    Ok(())
+}
+
+/// A check of the files of each row ends with this status, and with the line of the row.
+fn expect_refusals(rt: &impl Abort, alloc: Global, rows: &str, status: Status) -> Result<(), Fail> {
+    for row in rows.lines() {
+        let (files, line) = row.split_once(" => ").unwrap_or((row, ""));
+        let mut files = files_in(alloc, files)?;
+        let line = format!(in alloc; "resty: {line}\n")?;
+        expect_checked(rt, alloc, &mut files, status, "", line.as_str())?;
+    }
+    Ok(())
+}
+
+/// Sites with modules. A name that stands in no call of `require` is that of no module.
+const SITES: &str = r#"t.conf: HTTP init_by_lua_block { a = require "a" } } | m/a.lua: return 1
+t.conf: HTTP init_by_lua_block { pcall(function() require "a" end) } } | m/a.lua: return require "b" | m/b.lua: return require "a"
+t.conf: HTTP init_by_lua_block { function f() return function() return require("a.b") end end } } | m/a/b.lua: return 1
+t.conf: HTTP init_by_lua_block { local r = require pcall(r, "none") } } | m/none.lua: )
+t.conf: HTTP init_by_lua_block { shared = {} function shared.f() return shared end count = 1 } }"#;
+
+/// Sites that are refused: at their start, in a module, or at a block that isn't run yet.
+const REFUSED_SITES: &str =
+    r#"t.conf: HTTP init_by_lua_block { local r = require r("none") } } => init failed: t.conf:1: module 'none' not found
+t.conf: HTTP^init_by_lua_block { error("no") } } => init failed: t.conf:2: no
+t.conf: HTTP init_by_lua_block { error({}) } } => init failed: unknown reason
+t.conf: HTTP init_by_lua_block { while true do end } } => init failed: step budget of 1000000 spent
+t.conf: HTTP init_by_lua_block { ngx.say("x") } } => init failed: API disabled in the context of init_by_lua*
+t.conf: HTTP init_by_lua_block { require "a" } } | m/a.lua: ^error("no") => init failed: m/a.lua:2: no
+t.conf: HTTP init_by_lua_block { require "a" } } | m/a.lua: local x^local y^x = = y => m/a.lua: line 3: lua: At
+t.conf: HTTP init_by_lua_block { require "a" } } | m/a.lua: ^return 1.5 => m/a.lua: line 2: lua: Fraction
+t.conf: HTTP server {^location / { access_by_lua_block { } } } } => t.conf: line 2: not built yet
+t.conf: HTTP init_by_lua_block { require "a" } server {^^location / { log_by_lua_block { } } } } => t.conf: line 3: not built yet"#;
+
+/// Sites of which a file isn't there.
+const SITES_WITHOUT_A_FILE: &str =
+    r#"t.conf: HTTP init_by_lua_block { require "a" } } => no file m/a.lua
+t.conf: HTTP init_by_lua_block { require "a" } } | m/a.lua: local function f() return require "b.c" end => no file m/b/c.lua
+t.conf: HTTP init_by_lua_block { error("no") require "b" require "a" } } | m/a.lua: ) => no file m/b.lua
+u.conf: HTTP } => no file t.conf"#;
+
+#[test]
+fn modules_and_init_are_looked_at(rt: HostRuntime) -> Result<(), Fail> {
+    for row in SITES.lines() {
+        let mut files = files_in(rt.alloc(), row)?;
+        expect_checked(&rt, rt.alloc(), &mut files, Status::Done, "site ok\n", "")?;
+    }
+    expect_refusals(&rt, rt.alloc(), REFUSED_SITES, Status::Conf)?;
+    expect_refusals(&rt, rt.alloc(), SITES_WITHOUT_A_FILE, Status::ReadFault)
+}
+
+/// A configuration whose init block requires modules from `m1` on, so many, and the files of these.
+fn with_modules(alloc: Global, count: usize) -> Result<MemFiles, Fail> {
+    let mut files = MemFiles::new(alloc);
+    let mut conf = String::from_str(
+        alloc,
+        "http { lua_package_path \"?.lua\"; init_by_lua_block {\n",
+    )?;
+    for number in 1..=count {
+        let line = format!(in alloc; "require \"m{number}\"\n")?;
+        conf.push_str(line.as_str())?;
+        let name = format!(in alloc; "m{number}.lua")?;
+        files.add(alloc, name.as_str(), b"")?;
+    }
+    conf.push_str("} }\n")?;
+    files.add(alloc, "t.conf", conf.as_bytes())?;
+    Ok(files)
+}
+
+#[test]
+fn a_site_has_at_most_256_modules(rt: HostRuntime) -> Result<(), Fail> {
+    let a = rt.alloc();
+    let mut files = with_modules(a, 256)?;
+    expect_checked(&rt, a, &mut files, Status::Done, "site ok\n", "")?;
+    let mut files = with_modules(a, 257)?;
+    expect_checked(
+        &rt,
+        a,
+        &mut files,
+        Status::Conf,
+        "",
+        "resty: too many modules\n",
+    )
+}
+
+#[test]
+fn a_module_that_fails_is_a_read_fault(rt: HostRuntime) -> Result<(), Fail> {
+    let a = rt.alloc();
+    let mut files = with_modules(a, 2)?;
+    files.fail_at(3)?;
+    expect_checked(
+        &rt,
+        a,
+        &mut files,
+        Status::ReadFault,
+        "",
+        "resty: cannot read m2.lua\n",
+    )?;
+    add_long(a, &mut files, "m1.lua", 1_048_577)?;
+    expect_checked(
+        &rt,
+        a,
+        &mut files,
+        Status::ReadFault,
+        "",
+        "resty: m1.lua is too long\n",
+    )
+}
+
 #[test]
 fn a_check_takes_one_option(rt: HostRuntime) -> Result<(), Fail> {
     let words = ["check", "--conf", "t.conf", "--events", "1"];
