@@ -115,26 +115,32 @@ t.conf: HTTP init_by_lua_block { error("no") require "b" require "a" } } | m/a.l
 u.conf: HTTP } => no file t.conf"#;
 
 #[test]
-fn modules_and_init_are_looked_at(rt: HostRuntime) -> Result<(), Fail> {
+fn modules_are_read_and_init_is_run(rt: HostRuntime) -> Result<(), Fail> {
     for row in SITES.lines() {
         let mut files = files_in(rt.alloc(), row)?;
         expect_checked(&rt, rt.alloc(), &mut files, Status::Done, "site ok\n", "")?;
     }
-    expect_refusals(&rt, rt.alloc(), REFUSED_SITES, Status::Conf)?;
+    Ok(())
+}
+
+#[test]
+fn sites_are_refused_in_modules_and_by_init(rt: HostRuntime) -> Result<(), Fail> {
+    expect_refusals(&rt, rt.alloc(), REFUSED_SITES, Status::Conf)
+}
+
+#[test]
+fn modules_that_are_missing_are_named(rt: HostRuntime) -> Result<(), Fail> {
     expect_refusals(&rt, rt.alloc(), SITES_WITHOUT_A_FILE, Status::ReadFault)
 }
 
-/// A configuration whose init block requires modules from `m1` on, so many, and the files of these.
+/// A site whose init block requires so many modules, from `m1` on.
 fn with_modules(alloc: Global, count: usize) -> Result<MemFiles, Fail> {
     let mut files = MemFiles::new(alloc);
-    let mut conf = String::from_str(
-        alloc,
-        "http { lua_package_path \"?.lua\"; init_by_lua_block {\n",
-    )?;
+    let mut conf = format!(in alloc; "{HTTP} init_by_lua_block {{\n")?;
     for number in 1..=count {
         let line = format!(in alloc; "require \"m{number}\"\n")?;
         conf.push_str(line.as_str())?;
-        let name = format!(in alloc; "m{number}.lua")?;
+        let name = format!(in alloc; "m/m{number}.lua")?;
         files.add(alloc, name.as_str(), b"")?;
     }
     conf.push_str("} }\n")?;
@@ -148,38 +154,20 @@ fn a_site_has_at_most_256_modules(rt: HostRuntime) -> Result<(), Fail> {
     let mut files = with_modules(a, 256)?;
     expect_checked(&rt, a, &mut files, Status::Done, "site ok\n", "")?;
     let mut files = with_modules(a, 257)?;
-    expect_checked(
-        &rt,
-        a,
-        &mut files,
-        Status::Conf,
-        "",
-        "resty: too many modules\n",
-    )
+    let line = "resty: too many modules\n";
+    expect_checked(&rt, a, &mut files, Status::Conf, "", line)
 }
 
 #[test]
-fn a_module_that_fails_is_a_read_fault(rt: HostRuntime) -> Result<(), Fail> {
+fn a_module_that_cannot_be_read_is_named(rt: HostRuntime) -> Result<(), Fail> {
     let a = rt.alloc();
     let mut files = with_modules(a, 2)?;
     files.fail_at(3)?;
-    expect_checked(
-        &rt,
-        a,
-        &mut files,
-        Status::ReadFault,
-        "",
-        "resty: cannot read m2.lua\n",
-    )?;
-    add_long(a, &mut files, "m1.lua", 1_048_577)?;
-    expect_checked(
-        &rt,
-        a,
-        &mut files,
-        Status::ReadFault,
-        "",
-        "resty: m1.lua is too long\n",
-    )
+    let line = "resty: cannot read m/m2.lua\n";
+    expect_checked(&rt, a, &mut files, Status::ReadFault, "", line)?;
+    add_long(a, &mut files, "m/m1.lua", 1_048_577)?;
+    let line = "resty: m/m1.lua is too long\n";
+    expect_checked(&rt, a, &mut files, Status::ReadFault, "", line)
 }
 
 #[test]
