@@ -63,8 +63,8 @@ module _ (c : Command) where
   fault_writes told mode.Replay fault.Memory out = inl (nothing out)
 
   pub site_works : (old new : Outside) (why : SiteFault) → new.out ≡ old.out → NotLoaded c.conf old.files new.files why → Works c old new (ending.NoSite why)
-  site_works old new why same none = record {
-    due = none;
+  site_works old new why same unloaded = record {
+    due = unloaded;
     writes = rw same (fault_writes old.files.told c.mode why old.out);
     form = λ is. let no : ending.NoSite why ≡ ending.Usage = is in cc;
   }
@@ -116,14 +116,14 @@ module _ (c : Command) where
 
   -- what is due since the files were read well was due before
   site_before : (old mid new : FileAccount) (why : SiteFault) → ReadsWell old mid → NotLoaded c.conf mid new why → NotLoaded c.conf old new why
-  site_before old mid new (fault.Missing file) well none = rw (← well.told) none
-  site_before old mid new (fault.TooLong file) well none = rw (← well.told) none
-  site_before old mid new (fault.Unreadable file) well none = rw (← well.faults file) none
-  site_before old mid new (fault.Refused file wrong) well none = rw (← well.told) none
-  site_before old mid new (fault.NotBuilt file line) well none = rw (← well.told) none
-  site_before old mid new fault.TooManyModules well none = rw (← well.told) none
-  site_before old mid new (fault.Init message) well none = rw (← well.told) none
-  site_before old mid new fault.Memory well none = tt
+  site_before old mid new (fault.Missing file) well unloaded = rw (← well.told) unloaded
+  site_before old mid new (fault.TooLong file) well unloaded = rw (← well.told) unloaded
+  site_before old mid new (fault.Unreadable file) well unloaded = rw (← well.faults file) unloaded
+  site_before old mid new (fault.Refused file wrong) well unloaded = rw (← well.told) unloaded
+  site_before old mid new (fault.NotBuilt file line) well unloaded = rw (← well.told) unloaded
+  site_before old mid new fault.TooManyModules well unloaded = rw (← well.told) unloaded
+  site_before old mid new (fault.Init message) well unloaded = rw (← well.told) unloaded
+  site_before old mid new fault.Memory well unloaded = tt
 
   due_before : (old : Outside) (mid : FileAccount) (new : Outside) (e : Ending) → ReadsWell old.files mid → IsDue c (record old { files = mid }) new e → IsDue c old new e
   due_before old mid new (ending.NoSite why) well due = site_before old.files mid new.files why well due
