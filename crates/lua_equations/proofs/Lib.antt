@@ -1,0 +1,5 @@
+pub mod Following
+pub mod Expressions
+pub mod Loops
+pub mod Statements
+pub mod Calls
