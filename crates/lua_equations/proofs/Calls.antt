@@ -1,33 +1,37 @@
 -- What a call comes to of what is no closure, and what an index or an assignment leads on to.
-use Rattle.std.proofs.Common.{◌≡◌, ℕ, ◌+◌, ◌-◌, ◌/◌, ◌<◌, ◌≤◌, nat_lt, nat_eq, Bool, true, false, List, [], ◌∷◌, length, Option, Some, None, refl, sym, ap, ◌∙◌, arith, slice_get, if◌then◌else◌}
+use Rattle.std.proofs.Common.{◌≡◌, ℕ, ◌+◌, ◌-◌, ◌/◌, ◌<◌, ◌≤◌, nat_lt, nat_eq, Bool, true, false, List, [], ◌∷◌, length, drop, ℤ, pos, negsuc, Option, Some, None, refl, sym, ap, ◌∙◌, arith, slice_get, codes, if◌then◌else◌}
 use borrow.Author.Tests.{lt-ltb, le-ltb, ne_eqb}
 use Rattle.lua_ast.specs.declared.programs.Function.{Function}
 use Rattle.lua_values.specs.declared.values.Value.{Value}
 use Rattle.lua_values.specs.declared.values.Value.TheVariants.{Nil, Truth, Number, Text, Table, Closure, Native, Thread, Null, Object}
 use Rattle.lua_values.specs.Values.{is_nil}
 use Rattle.lua_values.specs.Heap.{Heap, StoreView, ClosureView, step_limit}
+use Rattle.lua_values.specs.StoreCalls.{is_full}
 use Rattle.lua_values.specs.NativeCalls.{NativeResult, Gives, Faults, Leaves}
-use Rattle.lua_operators.specs.declared.events.Event.TheVariants.{Call}
-use Rattle.lua_operators.specs.declared.faults.Fault.TheVariants.{StackOverflow}
+use Rattle.lua_operators.specs.declared.events.Event.TheVariants.{Call, ToString}
+use Rattle.lua_operators.specs.declared.faults.Fault.TheVariants.{StackOverflow, StorageLimit}
 use Rattle.lua_operators.specs.declared.faults.OperandFault.TheVariants as operand
-use Rattle.lua_operators.specs.Types.{type_of}
+use Rattle.lua_operators.specs.Conversions.{number_of, text_of}
+use Rattle.lua_operators.specs.Types.{type_of, is_truthy}
 use Rattle.lua_meaning.specs.declared.positions.Position.{Position}
 use Rattle.lua_meaning.specs.declared.resumes.Resumed.{Resumed}
 use Rattle.lua_meaning.specs.declared.resumes.Resumed.TheVariants as resumed
-use Rattle.lua_meaning.specs.Works.{Caller, Places, Slots, ACall, AnIndex, AStore, Sign, Values, Return, Break, Failed, Work, End, Eval, Look, Count, and_then}
+use Rattle.lua_meaning.specs.Works.{Caller, Places, Slots, ACall, AnIndex, AStore, Sign, Values, Return, Break, Failed, Work, End, Eval, Look, Write, Count, and_then}
 use Rattle.lua_meaning.specs.Evaluator.{Resume, State, Ending, Ended, Parked, Spent, after, answered, counted, do_work}
 use Rattle.lua_meaning.specs.Laws.{EvaluatorEvaluates}
 use Rattle.lua_meaning.specs.Setting.{Setting}
-use Rattle.lua_meaning.specs.Positions.{position_of, raise_fault, raise_operand}
+use Rattle.lua_meaning.specs.Positions.{position_of, raise, raise_fault, raise_operand}
+use Rattle.lua_meaning.specs.Signs.{first, give, give_one}
+use Rattle.lua_meaning.specs.Concatenation.{with_text}
 use Rattle.lua_meaning.specs.Metatables.{handler}
 use Rattle.lua_meaning.specs.Blocks.{block}
-use Rattle.lua_meaning.specs.Calls.{calling, call_end, call_closure, run, around_callee, inside, slots_from, function_end, most_callers}
+use Rattle.lua_meaning.specs.Calls.{calling, call_end, call_for_one, call_closure, run, around_callee, inside, slots_from, function_end, most_callers}
 use Rattle.lua_meaning.specs.ProtectedCalls.{protected_by, handled_fault}
-use Rattle.lua_meaning.specs.Natives.{texts_length, raise_value, answer_of, result_work, library_work, native_work}
+use Rattle.lua_meaning.specs.Natives.{texts_length, raise_value, raise_at, assert_work, make_text_of, tostring_work, answer_of, result_work, library_work, native_work}
 use Rattle.lua_meaning.specs.Nodes.{call_by, callee_work, work_of, eval}
-use Rattle.lua_equations.specs.Parts.{gives, faults, call_in}
-use Rattle.lua_equations.specs.Calls.{is_callable, call_by_in, handled_in, raised, answer_in, result_in, CallsAre, EachCallIs}
-use Rattle.lua_equations.proofs.Following.{after_same, counted_then, counted_there, work_if, index_then, store_then}
+use Rattle.lua_equations.specs.Parts.{gives, gives_one, faults, call_in, with_heap}
+use Rattle.lua_equations.specs.Calls.{is_callable, call_by_in, handled_in, raised, error_value, assert_in, text_in, tostring_in, answer_in, result_in, CallsAre, EachCallIs}
+use Rattle.lua_equations.proofs.Following.{after_same, counted_then, counted_there, call_then, work_if, index_then, store_then}
 
 module _ (S : Setting) where
   -- ---- by a handler
@@ -91,6 +95,51 @@ module _ (S : Setting) where
   raised_then callers Null s w = refl
   raised_then callers (Object o n) s w = refl
 
+  -- ---- `error`, `assert` and `tostring`
+  error_then : (callers : List Caller) (level : Option ℤ) (given v : Value) (s : Slots) (w : State)
+      → do_work (eval S) (raise_at S callers level given v s) w ≡ Ended (Failed (error_value S callers level given v)) s w
+  error_then callers (Some (pos n)) given v s w = by (nat_eq n 0)
+    where
+      by : (b : Bool) → do_work (eval S) (if b then End (Failed v) s else raise_value S (drop (n - 1) callers) v s) w ≡ Ended (Failed (if b then v else raised S (drop (n - 1) callers) v)) s w
+      by true = refl
+      by false = raised_then (drop (n - 1) callers) v s w
+  error_then callers (Some (negsuc n)) given v s w = refl
+  error_then callers None given v s w = refl
+
+  assert_then : (v : Value) (more : List Value) (callers : List Caller) (s : Slots) (w : State) → do_work (eval S) (assert_work S (v ∷ more) callers s) w ≡ assert_in S v more callers s w
+  assert_then v more callers s w =
+      work_if S (is_truthy v) (give (v ∷ more) s) (if is_nil (first more) then raise S callers (codes "assertion failed!") s else raise_value S callers (first more) s) w _ _ refl
+      (work_if S (is_nil (first more)) (raise S callers (codes "assertion failed!") s) (raise_value S callers (first more) s) w _ _ refl (raised_then callers (first more) s w))
+
+  made_then : (callers : List Caller) (taken : ℕ) (v : Value) (s : Slots) (w : State)
+      → do_work (eval S) (if is_full w.store.heap (length (text_of v) + 16) then Count (taken / 64) (raise_fault S callers StorageLimit s)
+      else Count ((taken + length (text_of v)) / 64) (Write (with_text w.store.heap (length (text_of v))) (give_one (Text (text_of v)) s))) w
+      ≡ (if is_full w.store.heap (length (text_of v) + 16) then counted (taken / 64) w (λ w2. faults S callers StorageLimit s w2)
+      else counted ((taken + length (text_of v)) / 64) w (λ w2. gives_one (Text (text_of v)) s (with_heap w2 (with_text w.store.heap (length (text_of v))))))
+  made_then callers taken v s w =
+      work_if S (is_full w.store.heap (length (text_of v) + 16)) (Count (taken / 64) (raise_fault S callers StorageLimit s))
+      (Count ((taken + length (text_of v)) / 64) (Write (with_text w.store.heap (length (text_of v))) (give_one (Text (text_of v)) s))) w _ _ refl refl
+
+  text_then : (callers : List Caller) (taken : ℕ) (v : Value) (s : Slots) (w : State) → do_work (eval S) (make_text_of S callers taken w.store.heap v s) w ≡ text_in S callers taken v s w
+  text_then callers taken (Text t) s w = refl
+  text_then callers taken Nil s w = made_then callers taken Nil s w
+  text_then callers taken (Truth b) s w = made_then callers taken (Truth b) s w
+  text_then callers taken (Number n) s w = made_then callers taken (Number n) s w
+  text_then callers taken (Table t) s w = made_then callers taken (Table t) s w
+  text_then callers taken (Closure n) s w = made_then callers taken (Closure n) s w
+  text_then callers taken (Native n) s w = made_then callers taken (Native n) s w
+  text_then callers taken (Thread n) s w = made_then callers taken (Thread n) s w
+  text_then callers taken Null s w = made_then callers taken Null s w
+  text_then callers taken (Object o n) s w = made_then callers taken (Object o n) s w
+
+  tostring_then : (v : Value) (more : List Value) (callers : List Caller) (s : Slots) (w : State)
+      → do_work (eval S) (tostring_work S (v ∷ more) callers s) w ≡ tostring_in S (handler w.store.heap v ToString) v more callers s w
+  tostring_then v more callers s w =
+      let by : Value = handler w.store.heap v ToString in
+      let taken : ℕ = texts_length (v ∷ more) in
+      work_if S (is_nil by) (make_text_of S callers taken w.store.heap v s) (Count (taken / 64) (call_for_one callers by (v ∷ []) s give_one)) w _ _ (text_then callers taken v s w)
+      (counted_then (taken / 64) w _ _ (λ w2. call_then (eval S (ACall by (v ∷ [])) (calling callers false) [] w2) s (eval S) (λ vs s'. give_one (first vs) s') _ (λ vs s' w'. refl)))
+
   answer_then : (callers : List Caller) (answer : Resumed) (s : Slots) (w : State) → do_work (eval S) (answer_of S callers s answer) w ≡ answer_in S callers answer s w
   answer_then callers (resumed.Values vs) s w = refl
   answer_then callers (resumed.Raise text) s w = refl
@@ -136,6 +185,15 @@ module _ (S : Setting) where
     xpcall = λ f by args q s w.
         evaluates (work_of S) (ACall (Native 1) (f ∷ by ∷ args)) q s w
         ∙ counted_then 1 w _ _ (λ w1. counted_then (texts_length (f ∷ by ∷ args) / 64) w1 _ _ (λ w2. protected_then by q.around s (eval S (ACall f []) (calling q.around false) [] w2)));
+    error = λ args q s w.
+        evaluates (work_of S) (ACall (Native 2) args) q s w
+        ∙ counted_then 1 w _ _ (λ w1. counted_then (texts_length args / 64) w1 _ _ (λ w2.
+        error_then q.around (if is_nil (first (drop 1 args)) then Some (pos 1) else number_of (first (drop 1 args))) (first (drop 1 args)) (first args) s w2));
+    assert = λ v more q s w.
+        evaluates (work_of S) (ACall (Native 3) (v ∷ more)) q s w
+        ∙ counted_then 1 w _ _ (λ w1. counted_then (texts_length (v ∷ more) / 64) w1 _ _ (λ w2. assert_then v more q.around s w2));
+    tostring = λ v more q s w.
+        evaluates (work_of S) (ACall (Native 4) (v ∷ more)) q s w ∙ counted_then 1 w _ _ (λ w1. tostring_then v more q.around s w1);
     of_host = λ n args q s w five less.
         evaluates (work_of S) (ACall (Native n) args) q s w ∙ counted_then 1 w _ _ (λ w1. library_then n args q.around s w1 five less);
     index = λ line v key p s w. evaluates (work_of S) (AnIndex line v key) p s w ∙ counted_then 1 w _ _ (λ w1. index_then S line v key p s w1);

@@ -1,3 +1,4 @@
--- What is said of heaps of threads of a machine and of sites.
+-- What is said of heaps of threads of a machine, of sites and of handlers.
 pub mod Threads
 pub mod Sites
+pub mod Handlers
