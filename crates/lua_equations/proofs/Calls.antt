@@ -1,5 +1,5 @@
 -- What a call comes to of what is no closure, and what an index or an assignment leads on to.
-use Rattle.std.proofs.Common.{◌≡◌, ℕ, ◌+◌, ◌-◌, ◌/◌, ◌<◌, ◌≤◌, nat_lt, nat_eq, Bool, true, false, List, [], ◌∷◌, length, drop, ℤ, pos, negsuc, Option, Some, None, refl, sym, ap, ◌∙◌, arith, slice_get, codes, if◌then◌else◌}
+use Rattle.std.proofs.Common.{◌≡◌, ℕ, ◌+◌, ◌-◌, ◌/◌, ◌<◌, ◌≤◌, nat_lt, nat_eq, Bool, true, false, List, [], ◌∷◌, length, drop, ℤ, pos, negsuc, Option, Some, None, refl, ap, ◌∙◌, arith, slice_get, codes, if◌then◌else◌}
 use borrow.Author.Tests.{lt-ltb, le-ltb, ne_eqb}
 use Rattle.lua_ast.specs.declared.programs.Function.{Function}
 use Rattle.lua_values.specs.declared.values.Value.{Value}
@@ -29,7 +29,7 @@ use Rattle.lua_meaning.specs.Calls.{calling, call_end, call_for_one, call_closur
 use Rattle.lua_meaning.specs.ProtectedCalls.{protected_by, handled_fault}
 use Rattle.lua_meaning.specs.Natives.{texts_length, raise_value, raise_at, assert_work, make_text_of, tostring_work, answer_of, result_work, library_work, native_work}
 use Rattle.lua_meaning.specs.Nodes.{call_by, callee_work, work_of, eval}
-use Rattle.lua_equations.specs.Parts.{gives, gives_one, faults, call_in, with_heap}
+use Rattle.lua_equations.specs.Parts.{gives, gives_one, faults, with_heap}
 use Rattle.lua_equations.specs.Calls.{is_callable, call_by_in, handled_in, raised, error_value, assert_in, text_in, tostring_in, answer_in, result_in, CallsAre, EachCallIs}
 use Rattle.lua_equations.proofs.Following.{after_same, counted_then, counted_there, call_then, work_if, index_then, store_then}
 

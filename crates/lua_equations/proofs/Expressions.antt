@@ -1,5 +1,5 @@
 -- What each expression comes to.
-use Rattle.std.proofs.Common.{◌≡◌, ℕ, ◌+◌, Bool, true, false, List, [], ◌∷◌, ◌++◌, length, refl, sym, ap, ◌∙◌, append_assoc, if◌then◌else◌}
+use Rattle.std.proofs.Common.{◌≡◌, ℕ, ◌+◌, List, [], ◌∷◌, ◌++◌, length, refl, sym, ap, ◌∙◌, append_assoc, if◌then◌else◌}
 use Rattle.lua_ast.specs.declared.expressions.Expr.{Expr}
 use Rattle.lua_ast.specs.declared.expressions.ExprKind.{ExprKind, out-ExprKind}
 use Rattle.lua_ast.specs.declared.expressions.ExprKind.TheOpen.{ExprKind-F}
@@ -11,7 +11,7 @@ use Rattle.lua_values.specs.declared.values.Value.TheVariants.{Table, Text}
 use Rattle.lua_values.specs.Values.{number}
 use Rattle.lua_values.specs.StoreCalls.{full_cause, set_cause, with_pair, with_table}
 use Rattle.lua_operators.specs.Types.{is_truthy}
-use Rattle.lua_meaning.specs.Works.{Caller, Places, Slots, AValue, AnExpr, Sign, Values, Return, Break, Failed, Work, and_then}
+use Rattle.lua_meaning.specs.Works.{Caller, Places, Slots, AValue, AnExpr, Values, Return, Break, Failed, Work, and_then}
 use Rattle.lua_meaning.specs.Evaluator.{State, Ending, Ended, Parked, Spent, after, counted, do_work}
 use Rattle.lua_meaning.specs.Laws.{EvaluatorEvaluates, WorksInOrder}
 use Rattle.lua_meaning.specs.Setting.{Setting}
@@ -23,8 +23,8 @@ use Rattle.lua_meaning.specs.Operators.{unary_work, binary_work}
 use Rattle.lua_meaning.specs.Tables.{fill, expr_of, items_work}
 use Rattle.lua_meaning.specs.Expressions.{first_extra, call_work, method_work, expr_work, value_work}
 use Rattle.lua_meaning.specs.Nodes.{work_of, eval}
-use Rattle.lua_meaning.specs.DirectEquations.{with_values, eval_list}
-use Rattle.lua_equations.specs.Parts.{gives, gives_one}
+use Rattle.lua_meaning.specs.DirectEquations.{with_values}
+use Rattle.lua_equations.specs.Parts.{gives}
 use Rattle.lua_equations.specs.Expressions.{Coming, ExprIs, fill_in, items_in, ExpressionsAre, first_extra_in, ValuesAre, ListsAre, EachExpressionIs}
 use Rattle.lua_equations.proofs.Following.{values_then, counted_then, work_if, one, work_then, list_then, written_then, index_then}
 

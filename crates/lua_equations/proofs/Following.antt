@@ -1,7 +1,6 @@
 -- From works to evaluations that go on with what others gave.
-use Rattle.std.proofs.Common.{◌≡◌, ℕ, ◌+◌, nat_lt, Bool, true, false, List, [], ◌∷◌, ◌++◌, Option, Some, None, refl, ap, ◌∙◌, if◌then◌else◌}
+use Rattle.std.proofs.Common.{◌≡◌, ℕ, ◌+◌, nat_lt, Bool, true, false, List, [], ◌∷◌, Option, Some, None, refl, ap, ◌∙◌, if◌then◌else◌}
 use Rattle.lua_ast.specs.declared.expressions.Expr.{Expr}
-use Rattle.lua_ast.specs.declared.statements.Stmt.{Stmt}
 use Rattle.lua_values.specs.declared.values.Value.{Value}
 use Rattle.lua_values.specs.declared.values.Value.TheVariants.{Nil, Truth, Number, Text, Table, Closure, Native, Thread, Null, Object}
 use Rattle.lua_values.specs.declared.faults.StoreFault.{StoreFault}
@@ -11,20 +10,20 @@ use Rattle.lua_values.specs.StoreCalls.{set_cause, with_pair}
 use Rattle.lua_operators.specs.declared.events.Event.TheVariants.{Index, NewIndex}
 use Rattle.lua_operators.specs.declared.faults.OperandFault.TheVariants as operand
 use Rattle.lua_operators.specs.Types.{type_of}
-use Rattle.lua_meaning.specs.Works.{Caller, Places, Slots, AValue, ACall, AnIndex, AStore, Sign, Values, Return, Break, Failed, Work, End, Eval, Write, and_then}
+use Rattle.lua_meaning.specs.Works.{Caller, Places, Slots, AValue, ACall, AnIndex, AStore, Values, Return, Break, Failed, Work, End, Eval, Write, and_then}
 use Rattle.lua_meaning.specs.Evaluator.{State, Ending, Ended, Parked, Spent, Evaluator, after, counted, do_work}
-use Rattle.lua_meaning.specs.Laws.{EvaluatorEvaluates, WorksInOrder}
+use Rattle.lua_meaning.specs.Laws.{WorksInOrder}
 use Rattle.lua_meaning.specs.Setting.{Setting}
 use Rattle.lua_meaning.specs.Positions.{callers_at, raise_operand}
 use Rattle.lua_meaning.specs.Signs.{first, give, give_one, on_values, values_of}
 use Rattle.lua_meaning.specs.Variables.{table_fault, unless_refused}
 use Rattle.lua_meaning.specs.Metatables.{handler, is_function}
 use Rattle.lua_meaning.specs.Indexing.{raw_value, is_table, index_by, index_without, index_work, set_raw, store_by, store_work}
-use Rattle.lua_meaning.specs.Calls.{calling, call_end, call_at, call_for_one}
+use Rattle.lua_meaning.specs.Calls.{calling, call_end, call_for_one}
 use Rattle.lua_meaning.specs.Loops.{after_body}
 use Rattle.lua_meaning.specs.Nodes.{eval}
 use Rattle.lua_meaning.specs.DirectEquations.{with_values, with_body, eval_list}
-use Rattle.lua_equations.specs.Parts.{gives, gives_one, call_in, call_one, with_heap, written, set_in, index_else, index_in, set_raw_in, store_else, store_in}
+use Rattle.lua_equations.specs.Parts.{gives, gives_one, call_one, with_heap, written, index_else, index_in, set_raw_in, store_in}
 
 -- ---- endings
 pub values_then : (ev : Evaluator) (x : Ending) (f : List Value → Slots → Work) (go : List Value → Slots → State → Ending)

@@ -1,8 +1,7 @@
 -- What a run of a loop's body comes to.
-use Rattle.std.proofs.Common.{◌≡◌, ℕ, Bool, true, false, List, [], ◌∷◌, ℤ, pos, Option, Some, None, Result, Ok, Err, refl, ◌∙◌, if◌then◌else◌}
+use Rattle.std.proofs.Common.{◌≡◌, ℕ, false, List, [], ◌∷◌, ℤ, pos, Option, Some, None, Result, Ok, Err, refl, ◌∙◌, if◌then◌else◌}
 use Rattle.std.specs.Prelude.{slice_set}
 use Rattle.std.specs.Ordering.{int_eq}
-use Rattle.lua_ast.specs.declared.expressions.Expr.{Expr}
 use Rattle.lua_ast.specs.declared.statements.Stmt.{Stmt}
 use Rattle.lua_numbers.specs.declared.faults.NumFault.{NumFault}
 use Rattle.lua_values.specs.declared.values.Value.{Value}
@@ -16,7 +15,7 @@ use Rattle.lua_operators.specs.Conversions.{number_of}
 use Rattle.lua_operators.specs.Types.{is_truthy}
 use Rattle.lua_meaning.specs.declared.slots.Slot.TheVariants.{Plain}
 use Rattle.lua_meaning.specs.Works.{Caller, Places, Slots, ARepeat, AFor, AnIter, ACall, Work, and_then}
-use Rattle.lua_meaning.specs.Evaluator.{State, Ending, counted, do_work}
+use Rattle.lua_meaning.specs.Evaluator.{State, Ending, do_work}
 use Rattle.lua_meaning.specs.Laws.{EvaluatorEvaluates, WorksInOrder}
 use Rattle.lua_meaning.specs.Setting.{Setting}
 use Rattle.lua_meaning.specs.Positions.{callers_at, raise_fault}
@@ -27,7 +26,6 @@ use Rattle.lua_meaning.specs.Calls.{calling}
 use Rattle.lua_meaning.specs.Loops.{again, after_body, is_within, for_from, for_next, bound, for_work, iterate}
 use Rattle.lua_meaning.specs.Nodes.{work_of, eval}
 use Rattle.lua_meaning.specs.DirectEquations.{with_body, eval_block}
-use Rattle.lua_equations.specs.Parts.{gives, faults}
 use Rattle.lua_equations.specs.Loops.{for_from_in, for_next_in, bound_in, for_in, iterate_in, LoopsAre, EachLoopIs}
 use Rattle.lua_equations.proofs.Following.{body_then, after_same, counted_then, call_then, work_if, one}
 

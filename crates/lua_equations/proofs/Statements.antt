@@ -1,8 +1,7 @@
 -- What each statement comes to.
-use Rattle.std.proofs.Common.{◌≡◌, ℕ, ◌+◌, Bool, true, false, List, [], ◌∷◌, ◌++◌, length, reverse, drop, Option, Some, None, refl, ap, ◌∙◌, if◌then◌else◌}
+use Rattle.std.proofs.Common.{◌≡◌, ℕ, false, List, [], ◌∷◌, ◌++◌, length, reverse, drop, Option, Some, None, refl, ap, ◌∙◌, if◌then◌else◌}
 use Rattle.std.specs.Prelude.{slice_get, slice_set}
 use Rattle.std.specs.declared.rc.Rc.{Rc}
-use Rattle.std.specs.declared.vec.Vec.{Vec}
 use Rattle.std.specs.declared.alloc.Global.{Global}
 use Rattle.lua_ast.specs.declared.expressions.Expr.{Expr}
 use Rattle.lua_ast.specs.declared.expressions.ExprKind.{ExprKind, out-ExprKind}
@@ -12,7 +11,7 @@ use Rattle.lua_ast.specs.declared.expressions.TableItem.{TableItem}
 use Rattle.lua_ast.specs.declared.programs.Capture.{Capture}
 use Rattle.lua_ast.specs.declared.statements.Stmt.{Stmt}
 use Rattle.lua_ast.specs.declared.statements.Arm.{Arm, out-Arm}
-use Rattle.lua_ast.specs.declared.statements.StmtKind.{StmtKind, out-StmtKind}
+use Rattle.lua_ast.specs.declared.statements.StmtKind.{StmtKind}
 use Rattle.lua_ast.specs.declared.statements.StmtKind.TheOpen.{StmtKind-F}
 use Rattle.lua_values.specs.declared.values.Value.{Value}
 use Rattle.lua_values.specs.declared.values.Value.TheVariants.{Nil, Text, Closure}
@@ -21,7 +20,7 @@ use Rattle.lua_values.specs.Heap.{Heap}
 use Rattle.lua_values.specs.StoreCalls.{full_cause, closure_units}
 use Rattle.lua_operators.specs.Types.{is_truthy}
 use Rattle.lua_meaning.specs.declared.slots.Slot.TheVariants.{Plain}
-use Rattle.lua_meaning.specs.Works.{Caller, Places, Slots, AnExpr, AStmt, ATurn, ARepeat, ACall, Return, Work, End, Write, and_then}
+use Rattle.lua_meaning.specs.Works.{Caller, Places, Slots, AnExpr, AStmt, ATurn, ARepeat, Return, Work, End, Write, and_then}
 use Rattle.lua_meaning.specs.Evaluator.{State, Ending, Ended, counted, do_work}
 use Rattle.lua_meaning.specs.Laws.{EvaluatorEvaluates, WorksInOrder}
 use Rattle.lua_meaning.specs.Setting.{Setting}
@@ -38,7 +37,6 @@ use Rattle.lua_meaning.specs.Statements.{if_work, step_of, tail_work, return_one
 use Rattle.lua_meaning.specs.Statements as statement
 use Rattle.lua_meaning.specs.Nodes.{work_of, eval}
 use Rattle.lua_meaning.specs.DirectEquations.{with_values, eval_list}
-use Rattle.lua_equations.specs.Parts.{gives}
 use Rattle.lua_equations.specs.Expressions.{Coming, closure_in}
 use Rattle.lua_equations.specs.Statements.{StmtIs, target_in, targets_in, assign_in, assign_each, arms_in, step_in, is_call, is_tail, StatementsAre, EachStatementIs}
 use Rattle.lua_equations.proofs.Following.{values_then, after_same, counted_then, work_if, one, work_then, list_then, index_then, store_then}

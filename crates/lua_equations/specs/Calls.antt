@@ -18,7 +18,7 @@ use Rattle.lua_operators.specs.TypeNames.{type_name}
 use Rattle.lua_operators.specs.Types.{type_of, is_truthy}
 use Rattle.lua_meaning.specs.declared.resumes.Resumed.{Resumed}
 use Rattle.lua_meaning.specs.declared.resumes.Resumed.TheVariants as resumed
-use Rattle.lua_meaning.specs.Works.{Caller, Places, Slots, ACall, AnIndex, AStore, Sign, Values, Return, Break, Failed}
+use Rattle.lua_meaning.specs.Works.{Caller, Places, Slots, ACall, AnIndex, AStore, Sign, Failed}
 use Rattle.lua_meaning.specs.Evaluator.{State, Ending, Ended, after, answered, counted}
 use Rattle.lua_meaning.specs.Setting.{Setting}
 use Rattle.lua_meaning.specs.Positions.{position_of, positioned}

@@ -1,11 +1,10 @@
 -- What evaluations come to keeps standing, by an outside that keeps to what is there.
-use Rattle.std.proofs.Common.{◌≡◌, ℕ, zero, suc, ◌+◌, nat_lt, Bool, true, false, List, [], ◌∷◌, ◌++◌, Option, All, refl, sym, ap, ◌∙◌, append_assoc, subst, if◌then◌else◌}
+use Rattle.std.proofs.Common.{◌≡◌, ℕ, zero, suc, ◌+◌, nat_lt, Bool, true, false, List, [], ◌∷◌, ◌++◌, Option, All, refl, sym, ap, ◌∙◌, append_assoc, if◌then◌else◌}
 use Rattle.lua_values.specs.declared.values.Value.{Value}
 use Rattle.lua_values.specs.Heap.{Heap, StoreView, step_limit}
 use Rattle.lua_meaning.specs.declared.positions.Position.{Position}
-use Rattle.lua_meaning.specs.declared.resumes.Resumed.{Resumed}
 use Rattle.lua_meaning.specs.Works.{Places, Slots, Node, Sign, Work, End, Eval, Outside, Look, Write, Count}
-use Rattle.lua_meaning.specs.Evaluator.{Resume, State, Ending, Ended, Parked, Spent, after, answered, counted, Evaluator, do_work, eval_within}
+use Rattle.lua_meaning.specs.Evaluator.{Resume, State, Ending, Ended, Parked, Spent, after, Evaluator, do_work, eval_within}
 use Rattle.lua_meaning.specs.Setting.{Setting}
 use Rattle.lua_meaning.specs.Nodes.{work_of}
 use Rattle.meaning_laws.specs.Standing.{Stands, Known, StandsAfter}

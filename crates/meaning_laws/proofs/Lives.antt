@@ -1,19 +1,19 @@
 -- Whole lives of threads keep standing.
-use Rattle.std.proofs.Common.{◌≡◌, ℕ, ◌+◌, ◌-◌, ◌*◌, ◌≤◌, false, List, [], ◌∷◌, ◌++◌, length, Option, All, refl, sym, ap, ◌∙◌, arith, length-append}
+use Rattle.std.proofs.Common.{◌≡◌, ℕ, ◌+◌, ◌≤◌, false, List, [], ◌∷◌, ◌++◌, length, Option, refl, sym, ap, ◌∙◌, arith, length-append}
 use Rattle.std.proofs.lemmas.List.Elements.{All-nil}
 use Rattle.lua_values.specs.declared.values.Value.{Value}
-use Rattle.lua_values.specs.Heap.{Heap, StoreView, step_limit}
+use Rattle.lua_values.specs.Heap.{Heap, StoreView}
 use Rattle.lua_values.specs.Laws.{StillFits, WritesKeepFitting, ReadsFit}
 use Rattle.lua_meaning.specs.declared.positions.Position.{Position}
-use Rattle.lua_meaning.specs.Works.{Node, ACall, Places, Sign, Values, Return, Break, Failed}
-use Rattle.lua_meaning.specs.Evaluator.{Resume, State, Ending, Ended, Parked, Spent, budget, eval_within, eval_by}
+use Rattle.lua_meaning.specs.Works.{ACall, Values, Return, Break, Failed}
+use Rattle.lua_meaning.specs.Evaluator.{Resume, Ending, Ended, Parked, Spent, budget, eval_within, eval_by}
 use Rattle.lua_meaning.specs.Laws.{DepthNeverShows}
 use Rattle.lua_meaning.specs.Setting.{Setting}
 use Rattle.lua_meaning.specs.Calls.{calling}
 use Rattle.lua_meaning.specs.Nodes.{work_of, eval}
-use Rattle.lua_meaning.specs.Life.{Outcome, Done, Failure, Asks, OutOfSteps, Unbegun, life, outcome_of}
+use Rattle.lua_meaning.specs.Life.{Asks, life, outcome_of}
 use Rattle.meaning_laws.specs.Standing.{Known, LeavesStanding, CallsKeepStanding}
-use Rattle.meaning_laws.specs.Lives.{CanBegin, OutsideKeeps, LivesKeepStanding, ResumesKeepStanding}
+use Rattle.meaning_laws.specs.Lives.{OutsideKeeps, LivesKeepStanding, ResumesKeepStanding}
 use Rattle.meaning_laws.proofs.Known.{Given, SlotKnown}
 use Rattle.meaning_laws.proofs.Going.{calling_known}
 use Rattle.meaning_laws.proofs.Taking.{at, Run}

@@ -1,29 +1,25 @@
 -- Nodes keep to what is known.
-use Rattle.std.proofs.Common.{◌≡◌, ℕ, zero, suc, ◌+◌, nat_lt, false, List, [], ◌∷◌, slice_get, All, refl}
-use Rattle.std.proofs.lemmas.List.Elements.{All-nil, All-cons}
+use Rattle.std.proofs.Common.{List, ◌∷◌, slice_get, All}
+use Rattle.std.proofs.lemmas.List.Elements.{All-cons}
 use Rattle.lua_ast.specs.declared.expressions.ExprKind.{out-ExprKind}
 use Rattle.lua_ast.specs.declared.statements.StmtKind.{out-StmtKind}
 use Rattle.lua_values.specs.declared.values.Value.{Value}
 use Rattle.lua_values.specs.declared.values.Value.TheVariants.{Nil, Truth, Number, Text, Table, Closure, Native, Thread, Null, Object}
 use Rattle.lua_values.specs.Values.{is_nil}
-use Rattle.lua_values.specs.Heap.{Heap, step_limit}
-use Rattle.lua_values.specs.Laws.{StillFits, WritesKeepFitting, ReadsFit}
+use Rattle.lua_values.specs.Heap.{Heap}
 use Rattle.lua_operators.specs.declared.events.Event.TheVariants.{Call}
 use Rattle.lua_operators.specs.declared.faults.OperandFault.TheVariants as operand
 use Rattle.lua_operators.specs.Types.{type_of}
-use Rattle.lua_meaning.specs.Works.{Places, Slots, Node, AValue, AnExpr, AStmt, ATurn, ARepeat, AFor, AnIter, ACall, AnIndex, AStore, Sign, Values, Return, Break, Failed, Work, End, Eval, Outside, Look, Write, Count}
-use Rattle.lua_meaning.specs.Evaluator.{State, Ending, Ended, Parked, Spent, after, counted, Evaluator, do_work, budget, eval_within, eval_by}
+use Rattle.lua_meaning.specs.Works.{Places, Slots, Node, AValue, AnExpr, AStmt, ATurn, ARepeat, AFor, AnIter, ACall, AnIndex, AStore, End, Eval}
 use Rattle.lua_meaning.specs.Setting.{Setting}
 use Rattle.lua_meaning.specs.Positions.{raise_operand}
 use Rattle.lua_meaning.specs.Metatables.{handler}
-use Rattle.lua_meaning.specs.Calls.{calling}
-use Rattle.lua_meaning.specs.Nodes.{call_by, callee_work, work_of, eval}
-use Rattle.lua_meaning.specs.Life.{outcome_of}
-use Rattle.meaning_laws.specs.Standing.{Stands, Known, StandsAfter, LeavesStanding, CallsKeepStanding}
-use Rattle.meaning_laws.proofs.Known.{Given, SlotKnown, SlotsKnown, SignKnown, PlacesKnown, NodeKnown, WorkKnown, same_heap, later_heap}
+use Rattle.lua_meaning.specs.Nodes.{call_by, callee_work, work_of}
+use Rattle.meaning_laws.specs.Standing.{Stands, Known}
+use Rattle.meaning_laws.proofs.Known.{Given, SlotsKnown, PlacesKnown, NodeKnown, WorkKnown}
 use Rattle.meaning_laws.proofs.Parts.{stmt_parts}
 use Rattle.meaning_laws.proofs.Readings.{either, handler_known}
-use Rattle.meaning_laws.proofs.Going.{ends_known, calling_known}
+use Rattle.meaning_laws.proofs.Going.{ends_known}
 use Rattle.meaning_laws.proofs.Indexing.{index_known, store_known}
 use Rattle.meaning_laws.proofs.Closures.{called_known}
 use Rattle.meaning_laws.proofs.Natives.{native_known}

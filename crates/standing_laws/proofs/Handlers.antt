@@ -1,5 +1,5 @@
 -- Handlers keep to what is there, and leave what init left as it was.
-use Rattle.std.proofs.Common.{◌≡◌, ℕ, zero, suc, ◌+◌, ◌<◌, ◌≤◌, List, [], ◌∷◌, ◌++◌, length, codes, Option, None, Some, Ok, IfSome, All, refl, sym, ap, ◌∙◌, append_assoc, length-append, subst, arith}
+use Rattle.std.proofs.Common.{◌≡◌, ℕ, zero, suc, ◌+◌, ◌<◌, ◌≤◌, List, [], ◌∷◌, ◌++◌, length, codes, Option, None, Some, IfSome, All, refl, sym, ap, ◌∙◌, append_assoc, length-append, subst, arith}
 use Rattle.std.proofs.lemmas.List.Elements.{All-nil, All-cons}
 use Rattle.lua_values.specs.declared.values.Value.{Value}
 use Rattle.lua_values.specs.declared.values.Value.TheVariants.{Nil, Text, Closure}
@@ -11,9 +11,8 @@ use Rattle.lua_values.specs.Laws.{Keeps, WritesKeepFitting, BothAreLawful}
 use Rattle.lua_ast.specs.declared.programs.Program.{Program}
 use Rattle.lua_modules.specs.Sets.{lists_of, IsSound}
 use Rattle.lua_modules.specs.declared.sets.ModuleSet.{ModuleSet}
-use Rattle.lua_meaning.specs.declared.positions.Position.{Position}
 use Rattle.lua_meaning.specs.Evaluator.{Resume}
-use Rattle.lua_meaning.specs.Life.{Outcome, Asks, life}
+use Rattle.lua_meaning.specs.Life.{Asks, life}
 use Rattle.lua_meaning.specs.Setting.{Setting}
 use Rattle.lua_meaning.specs.Over.{native_count}
 use Rattle.meaning_laws.specs.Standing.{Stands, Known, StandsAfter, LeavesStanding}
@@ -30,10 +29,8 @@ use Rattle.ngx_calls.specs.Answers.{GivenValues, unless_full, values_of}
 use Rattle.ngx_calls.specs.Operations.{read_operation}
 use Rattle.request_api.specs.declared.replies.Printed.{Printed}
 use Rattle.request_api.specs.declared.replies.Printed.TheVariants.{Took, SeenEof, OverLimit}
-use Rattle.request_api.specs.declared.requests.Req.{Req}
 use Rattle.request_api.specs.Replies.{printed, after_print}
-use Rattle.run_threads.specs.Handlers.{Running, with_store, with_steps, gives, is_given, prints, answers, answers_call, resume_with, begun}
-use Rattle.lua_site.specs.Starting.{Start, started}
+use Rattle.run_threads.specs.Handlers.{Running, with_store, with_steps, gives, is_given, prints, answers, resume_with, begun}
 use Rattle.lua_site.specs.Standing.{IsStanding}
 use Rattle.standing_laws.specs.Sites.{CanStart, StartedSitesStand, RunsLeaveInit}
 use Rattle.standing_laws.specs.Handlers.{own_setting, SoundSetsStand, IsAnswer, HandlerAnswers, HandlersKeep, HandlersLeaveInit}

@@ -1,5 +1,5 @@
 -- Sites that have started, by the evaluator.
-use Rattle.std.proofs.Common.{◌≡◌, ◌≢◌, ℕ, zero, suc, ◌+◌, ◌<◌, ◌≤◌, Bool, true, false, ◌&&◌, nat_lt, List, [], ◌∷◌, length, take, Option, None, Some, Result, Ok, Err, All, refl, sym, ap, ◌∙◌, subst, arith, if◌then◌else◌}
+use Rattle.std.proofs.Common.{◌≡◌, ◌≢◌, ℕ, ◌+◌, ◌<◌, ◌≤◌, Bool, true, false, ◌&&◌, nat_lt, List, ◌∷◌, length, take, Option, None, Some, Result, Ok, Err, refl, sym, ap, ◌∙◌, subst, arith, if◌then◌else◌}
 use Rattle.std.specs.Prelude.{codes}
 use Rattle.std.proofs.lemmas.Bool.{lt-ltb}
 use Rattle.std.proofs.lemmas.List.{take-take, take_all}
@@ -9,18 +9,17 @@ use Rattle.lua_values.specs.declared.values.Value.TheVariants.{Text, Table}
 use Rattle.lua_values.specs.declared.faults.StoreFault.{StoreFault}
 use Rattle.lua_values.specs.declared.faults.StoreFault.TheVariants.{Full, Frozen, BadKey}
 use Rattle.lua_values.specs.Values.{is_nil}
-use Rattle.lua_values.specs.Heap.{Heap, StoreView, Base, TableView, ClosureView}
+use Rattle.lua_values.specs.Heap.{Heap, StoreView}
 use Rattle.lua_values.specs.NativeCalls.{IsLawful, KeepsFrozen}
 use Rattle.lua_values.specs.StoreCalls.{new_store, full_cause, set_cause, frozen_cause, takes_entry, is_full, with_table, with_pair, with_metatable, frozen}
 use Rattle.lua_operators.specs.declared.events.Event.TheVariants.{Index}
 use Rattle.lua_operators.specs.Events.{key_of}
 use Rattle.lua_modules.specs.Sets.{Lists}
-use Rattle.lua_meaning.specs.Evaluator.{Resume}
 use Rattle.lua_meaning.specs.Life.{Outcome, Done, Failure, Asks, OutOfSteps, Unbegun, life}
 use Rattle.lua_meaning.specs.Setting.{Setting}
 use Rattle.lua_meaning.specs.Over.{native_count}
-use Rattle.meaning_laws.specs.Standing.{LeavesStanding, StandsAfter, CallsKeepStanding}
-use Rattle.meaning_laws.specs.Lives.{CanBegin, OutsideKeeps, LivesKeepStanding}
+use Rattle.meaning_laws.specs.Standing.{LeavesStanding, CallsKeepStanding}
+use Rattle.meaning_laws.specs.Lives.{LivesKeepStanding}
 use Rattle.lua_site.specs.Making.{and_then, unless, table_made, entry_set, metatable_set}
 use Rattle.lua_site.specs.Calls.{Life}
 use Rattle.lua_site.specs.Loading.{Loaded, loaded, init_run}
@@ -28,7 +27,7 @@ use Rattle.lua_site.specs.RunTables.{three_made, names_set, globals_set, with_gl
 use Rattle.lua_site.specs.Starting.{Start, begun, begun_with, started}
 use Rattle.lua_site.specs.Standing.{KeepsStanding, StartsStand}
 use Rattle.lua_site.specs.Laws.{InitIsFrozen, IsFrozenIn}
-use Rattle.standing_laws.specs.Sites.{CanStart, StartedSitesStand, init_left, FreezesInit, StartsFreezeInit, StaysFrozen, LeavesFrozen, RunsLeaveInit}
+use Rattle.standing_laws.specs.Sites.{StartedSitesStand, init_left, StartsFreezeInit, StaysFrozen, LeavesFrozen, RunsLeaveInit}
 
 -- ---- started stores stand
 keeps_standing : CallsKeepStanding → (S : Setting) → IsWholeProgram S.program → IsLawful (native_count S) S.count S.lib → KeepsStanding S (life S)
@@ -66,12 +65,12 @@ start_made life natives lists init start e =
     let left = then_made (init_run life site.part.blocks init site.part.heap) (begun_with site.part.blocks) start site.others in
     let with_store = then_made (begun left.part) (λ store. Ok (record { store = store; blocks = site.part.blocks })) start left.others in
     let made = then_made (run_tables_made (frozen left.part)) (λ h. Ok (record { heap = h; steps = 0 })) with_store.part with_store.made in
-    let store : with_store.part ≡ record { heap = made.part; steps = 0 } = sym (cc) in
-    let is : start ≡ record { store = with_store.part; blocks = site.part.blocks } = sym (cc) in
-    let heap : start.store.heap ≡ made.part = ap (λ (s : Start). s.store.heap) is ∙ ap (λ (v : StoreView). v.heap) store in record {
+    let store : record { heap = made.part; steps = 0 } ≡ with_store.part = cc in
+    let is : record { store = with_store.part; blocks = site.part.blocks } ≡ start = cc in
+    let heap : made.part ≡ start.store.heap = ap (λ (v : StoreView). v.heap) store ∙ ap (λ (s : Start). s.store.heap) is in record {
       heap = left.part;
       left = ap (λ (m : Result Loaded (List ℕ)). and_then m (λ site. init_run life site.blocks init site.heap)) site.made ∙ left.made;
-      made = subst (λ (h : Heap). run_tables_made (frozen left.part) ≡ Ok h) (sym heap) made.made;
+      made = subst (λ (h : Heap). run_tables_made (frozen left.part) ≡ Ok h) heap made.made;
     }
 
 pub starts_freeze : InitIsFrozen → StartsFreezeInit
@@ -106,8 +105,8 @@ run_base old new e =
     let named = then_made (names_set three.part g m old.globals) (λ h. globals_set h g m) new three.others in
     let first = then_made (entry_set three.part g (Text (codes "_G")) (Table g)) (λ h. entry_set h m (Text (key_of Index)) (Table old.globals)) named.part named.made in
     let last = then_made (metatable_set named.part g m) (λ h. Ok (record h { globals = g })) new named.others in
-    let is : new ≡ record last.part { globals = g } = sym (cc) in
-    ap (λ (h : Heap). h.base) is ∙ meta_base named.part last.part g m last.made ∙ entry_base first.part named.part m (Text (key_of Index)) (Table old.globals) first.others
+    let same : record last.part { globals = g } ≡ new = cc in
+    sym (ap (λ (h : Heap). h.base) same) ∙ meta_base named.part last.part g m last.made ∙ entry_base first.part named.part m (Text (key_of Index)) (Table old.globals) first.others
     ∙ entry_base three.part first.part g (Text (codes "_G")) (Table g) first.made ∙ three_base old three.part three.made
 
 -- ---- what is frozen stays

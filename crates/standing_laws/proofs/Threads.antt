@@ -1,8 +1,7 @@
 -- What each resume of a thread of a machine leaves.
-use Rattle.std.proofs.Common.{◌≡◌, ◌⊎◌, inl, inr, ℕ, List, [], ◌∷◌, ◌++◌, Option, All, refl, sym, ap, ◌∙◌, append_assoc, subst}
+use Rattle.std.proofs.Common.{◌≡◌, ◌⊎◌, inl, inr, List, [], ◌∷◌, ◌++◌, refl, sym, ap, ◌∙◌, append_assoc, subst}
 use Rattle.lua_values.specs.declared.values.Value.{Value}
 use Rattle.lua_values.specs.Heap.{Heap, StoreView}
-use Rattle.lua_meaning.specs.declared.positions.Position.{Position}
 use Rattle.lua_meaning.specs.Evaluator.{Resume}
 use Rattle.lua_meaning.specs.Life.{Outcome, Asks, life}
 use Rattle.lua_meaning.specs.Setting.{Setting}

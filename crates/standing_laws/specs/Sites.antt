@@ -1,5 +1,5 @@
 -- Sites that have started, by the evaluator, and what init left in the heaps of their runs.
-use Rattle.std.specs.Prelude.{◌≡◌, ◌≢◌, ℕ, ◌≤◌, ◌<◌, List, ◌∷◌, length, take, Option, Some, None, Ok, IfSome, All}
+use Rattle.std.specs.Prelude.{◌≡◌, ◌≢◌, ℕ, ◌≤◌, ◌<◌, List, ◌∷◌, length, take, Option, Some, None, Ok, IfSome}
 use Rattle.lua_ast.specs.WholeProgram.{IsWholeProgram}
 use Rattle.lua_values.specs.declared.values.Value.{Value}
 use Rattle.lua_values.specs.declared.faults.StoreFault.TheVariants.{Frozen}

@@ -1,5 +1,5 @@
 -- Threads of a machine: what each resume leaves.
-use Rattle.std.specs.Prelude.{◌≡◌, ℕ, List, [], ◌∷◌, ◌++◌, Option, All}
+use Rattle.std.specs.Prelude.{◌≡◌, ℕ, List, ◌∷◌, ◌++◌, Option, All}
 use Rattle.lua_values.specs.declared.values.Value.{Value}
 use Rattle.lua_values.specs.Heap.{Heap, StoreView}
 use Rattle.lua_meaning.specs.declared.positions.Position.{Position}

@@ -4,4 +4,7 @@
 
 mod laws;
 
-pub use laws::{handlers_leave_what_init_made, runs_leave_what_init_made, sound_sets_stand, started_sites_stand, threads_keep_standing};
+pub use laws::{
+    handlers_leave_what_init_made, runs_leave_what_init_made, sound_sets_stand,
+    started_sites_stand, threads_keep_standing,
+};
