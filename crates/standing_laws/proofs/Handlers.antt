@@ -1,22 +1,24 @@
 -- Handlers keep to what is there, and leave what init left as it was.
-use Rattle.std.proofs.Common.{◌≡◌, ℕ, zero, suc, ◌+◌, ◌<◌, ◌≤◌, List, [], ◌∷◌, ◌++◌, length, codes, Option, None, Some, IfSome, All, refl, sym, ap, ◌∙◌, append_assoc, length-append, subst, arith}
+use Rattle.std.proofs.Common.{◌≡◌, ◌⊎◌, inl, inr, ℕ, zero, suc, ◌+◌, ◌<◌, ◌≤◌, List, [], ◌∷◌, ◌++◌, length, codes, Option, None, Some, IfSome, All, refl, sym, ap, ◌∙◌, append_assoc, length-append, subst, arith}
 use Rattle.std.proofs.lemmas.List.Elements.{All-nil, All-cons}
 use Rattle.lua_values.specs.declared.values.Value.{Value}
 use Rattle.lua_values.specs.declared.values.Value.TheVariants.{Nil, Text, Closure}
 use Rattle.lua_values.specs.declared.faults.StoreFault.{StoreFault}
 use Rattle.lua_values.specs.Values.{number}
-use Rattle.lua_values.specs.Heap.{Heap, StoreView}
+use Rattle.lua_values.specs.Heap.{Heap, StoreView, step_limit}
 use Rattle.lua_values.specs.NativeCalls.{IsLawful}
 use Rattle.lua_values.specs.Laws.{Keeps, WritesKeepFitting, BothAreLawful}
 use Rattle.lua_ast.specs.declared.programs.Program.{Program}
 use Rattle.lua_modules.specs.Sets.{lists_of, IsSound}
 use Rattle.lua_modules.specs.declared.sets.ModuleSet.{ModuleSet}
+use Rattle.lua_meaning.specs.declared.positions.Position.{Position}
 use Rattle.lua_meaning.specs.Evaluator.{Resume}
-use Rattle.lua_meaning.specs.Life.{Asks, life}
+use Rattle.lua_meaning.specs.Life.{Outcome, Done, Failure, Asks, OutOfSteps, Unbegun, life}
 use Rattle.lua_meaning.specs.Setting.{Setting}
 use Rattle.lua_meaning.specs.Over.{native_count}
 use Rattle.meaning_laws.specs.Standing.{Stands, Known, StandsAfter, LeavesStanding}
 use Rattle.meaning_laws.specs.Lives.{CanBegin, ComesAfter, OutsideKeeps, LivesKeepStanding}
+use Rattle.lua_machine.specs.Finishes.{Finish}
 use Rattle.lua_lib_base.specs.Texts.{text_cause, with_text}
 use Rattle.lua_tables_lib.specs.Meaning.{library_count, library_meaning}
 use Rattle.lua_tables_lib.specs.Laws.{LibraryIsLawful}
@@ -30,10 +32,11 @@ use Rattle.ngx_calls.specs.Operations.{read_operation}
 use Rattle.request_api.specs.declared.replies.Printed.{Printed}
 use Rattle.request_api.specs.declared.replies.Printed.TheVariants.{Took, SeenEof, OverLimit}
 use Rattle.request_api.specs.Replies.{printed, after_print}
-use Rattle.run_threads.specs.Handlers.{Running, with_store, with_steps, gives, is_given, prints, answers, resume_with, begun}
+use Rattle.run_threads.specs.Handlers.{Running, Answered, with_store, with_steps, gives, is_given, prints, answers, answers_call, resume_with, begun}
 use Rattle.lua_site.specs.Standing.{IsStanding}
-use Rattle.standing_laws.specs.Sites.{CanStart, StartedSitesStand, RunsLeaveInit}
-use Rattle.standing_laws.specs.Handlers.{own_setting, SoundSetsStand, IsAnswer, HandlerAnswers, HandlersKeep, HandlersLeaveInit}
+use Rattle.standing_laws.specs.Sites.{LeavesFrozen, CanStart, StartedSitesStand, RunsLeaveInit}
+use Rattle.standing_laws.specs.Handlers.{own_setting, SoundSetsStand, IsAnswer, HandlerAnswers, HandlersKeep, OfAnswer, OfEachOutcome, HandlersLeaveInit}
+use Rattle.standing_laws.proofs.Threads.{IsLast, IsBefore, none_in, among}
 
 -- ---- the functions of the host
 own_lawful : LibraryIsLawful → BothAreLawful → (program : Program) → IsLawful (native_count (own_setting program)) (own_setting program).count (own_setting program).lib
@@ -123,8 +126,59 @@ module _ (S : Setting) (writes : WritesKeepFitting) where
 pub handlers_keep : WritesKeepFitting → LivesKeepStanding → HandlersKeep
 handlers_keep writes lives S f args first resumes begins answer = kept_by S writes lives f args first begins (length resumes) resumes (omega arith) answer
 
+-- ---- the outcomes that `handled` looks at
+module _ (life' : Finish) (first : Resume) (holds : Outcome → Type 0) where
+  -- one answer more
+  answers_on : (past : List Resume) (number : ℕ) (args : List Value) (position : Option Position) (store : StoreView) (r : Resume) → HandlerAnswers life' first past
+      → life' (first ∷ past) ≡ Asks number args position store → IsAnswer number args store r → HandlerAnswers life' first (past ++ r ∷ [])
+  answers_on past number args position store r answer asks is before more r' number' args' position' store' e asks' = by (among past before more r r' e)
+    where
+      by : IsLast past before r r' ⊎ IsBefore past before r' → IsAnswer number' args' store' r'
+      by (inl l) =
+          let asked : life' (first ∷ past) ≡ Asks number' args' position' store' = subst (λ (rs : List Resume). life' (first ∷ rs) ≡ Asks number' args' position' store') l.same asks' in
+          let same : Asks number args position store ≡ Asks number' args' position' store' = sym asks ∙ asked in
+          let n : number' ≡ number = cc in
+          let a : args' ≡ args = cc in
+          let s : store' ≡ store = cc in
+          rw (l.is, n, a, s) is
+      by (inr l) = answer before l.more r' number' args' position' store' l.split asks'
+
+  asked_on : (go : Answered → Type 0) (running : Running) (o : Outcome) → ((number : ℕ) (args : List Value) (position : Option Position) (store : StoreView) → o ≡ Asks number args position store
+      → go (answers_call number args (with_store running store))) → OfAnswer go running o
+  asked_on go running (Asks number args position store) each = each number args position store refl
+  asked_on go running (Done vs store) each = tt
+  asked_on go running (Failure v store) each = tt
+  asked_on go running OutOfSteps each = tt
+  asked_on go running Unbegun each = tt
+
+  outcomes_on : ((resumes : List Resume) → HandlerAnswers life' first resumes → holds (life' (first ∷ resumes))) → (n : ℕ) (past : List Resume) (a : Answered)
+      → HandlerAnswers life' first (past ++ resume_with a ∷ []) → OfEachOutcome holds n life' (first ∷ past) a
+  unfolding OfEachOutcome
+  outcomes_on each zero past a answer = tt
+  outcomes_on each (suc n) past a answer =
+      let resumes : List Resume = past ++ resume_with a ∷ [] in
+      (
+        each resumes answer,
+        asked_on (OfEachOutcome holds n life' (first ∷ resumes)) a.running (life' (first ∷ resumes)) (λ number args position store asks.
+            let b : Answered = answers_call number args (with_store a.running store) in
+            outcomes_on each n resumes b (answers_on resumes number args position store (resume_with b) answer asks (record { running = a.running; is = refl }))),
+      )
+
+  pub outcomes_from : ((resumes : List Resume) → HandlerAnswers life' first resumes → holds (life' (first ∷ resumes))) → (n : ℕ) (a : Answered) → first ≡ resume_with a → OfEachOutcome holds n life' [] a
+  unfolding OfEachOutcome
+  outcomes_from each zero a is = tt
+  outcomes_from each (suc n) a is =
+      let none : HandlerAnswers life' first [] = λ past more r number args position store e asks. absurd (none_in r past more e) in
+      subst (λ (r : Resume). holds (life' (r ∷ [])) × OfAnswer (OfEachOutcome holds n life' (r ∷ [])) a.running (life' (r ∷ []))) is
+      (
+        each [] none,
+        asked_on (OfEachOutcome holds n life' (first ∷ [])) a.running (life' (first ∷ [])) (λ number args position store asks.
+            let b : Answered = answers_call number args (with_store a.running store) in
+            outcomes_on each n [] b (answers_on [] number args position store (resume_with b) none asks (record { running = a.running; is = refl }))),
+      )
+
 pub handlers_leave : LibraryIsLawful → BothAreLawful → WritesKeepFitting → LivesKeepStanding → StartedSitesStand → RunsLeaveInit → HandlersLeaveInit
-handlers_leave library both_lawful writes lives stand leave set init start heap closure req resumes sound block e left there answer =
+handlers_leave library both_lawful writes lives stand leave set init start heap closure req sound block e left there =
     let S : Setting = own_setting set.program in
     let first : Resume = resume_with (begun start.store req) in
     let can : CanStart S (native_count S) (lists_of set) init = can_start library both_lawful set init sound block in
@@ -132,5 +186,6 @@ handlers_leave library both_lawful writes lives stand leave set init start heap 
     let stands : Stands S start.store.heap = record { fits = standing.store.fits; over = standing.store.over } in
     let begins : CanBegin S (Closure closure) [] first.store.heap =
     record { whole = can.whole; lawful = can.lawful; stands = stands; function = (there, tt); arguments = All-nil (Known S start.store.heap) } in
+    outcomes_from (life S (Closure closure) []) first (LeavesFrozen heap) (λ resumes answer.
     leave S (native_count S) (lists_of set) init start heap (Closure closure) [] first resumes e left (same_heap S writes start.store.heap stands) begins
-    (handlers_keep writes lives S (Closure closure) [] first resumes begins answer)
+    (handlers_keep writes lives S (Closure closure) [] first resumes begins answer)) (suc step_limit) (begun start.store req) refl

@@ -14,20 +14,20 @@ use Rattle.lua_machine.specs.declared.slices.Op.{Op}
 use Rattle.standing_laws.specs.Threads.{HasAsked, SliceStands, KeepStanding}
 
 -- ---- lists of resumes
-none_in : (r : Resume) (past more : List Resume) → [] ≡ past ++ r ∷ more → ⊥
+pub none_in : (r : Resume) (past more : List Resume) → [] ≡ past ++ r ∷ more → ⊥
 none_in r [] more e = absurd (cc)
 none_in r (p ∷ past) more e = absurd (cc)
 
 -- a resume of those up to the last: it is the last, or one of those before
-record IsLast (past before : List Resume) (last r : Resume) : Type 0 where
-  same : before ≡ past
-  is : r ≡ last
+pub record IsLast (past before : List Resume) (last r : Resume) : Type 0 where
+  pub same : before ≡ past
+  pub is : r ≡ last
 
-record IsBefore (past before : List Resume) (r : Resume) : Type 0 where
-  more : List Resume
-  split : past ≡ before ++ r ∷ more
+pub record IsBefore (past before : List Resume) (r : Resume) : Type 0 where
+  pub more : List Resume
+  pub split : past ≡ before ++ r ∷ more
 
-among : (past before more : List Resume) (last r : Resume) → past ++ last ∷ [] ≡ before ++ r ∷ more → IsLast past before last r ⊎ IsBefore past before r
+pub among : (past before more : List Resume) (last r : Resume) → past ++ last ∷ [] ≡ before ++ r ∷ more → IsLast past before last r ⊎ IsBefore past before r
 among [] [] more last r e = inl (record { same = refl; is = cc })
 among [] (b ∷ before) more last r e = let tail : [] ≡ before ++ r ∷ more = cc in absurd (none_in r before more tail)
 among (p ∷ past) [] more last r e = let is : p ≡ r = cc in inr (record { more = past; split = rw is refl })

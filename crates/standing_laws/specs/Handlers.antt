@@ -1,9 +1,9 @@
 -- Handlers of requests, in sites with the functions of the host that this server has: what init left stays as it was.
-use Rattle.std.specs.Prelude.{◌≡◌, ℕ, ◌+◌, ◌<◌, List, [], ◌∷◌, ◌++◌, length, Option, Ok, IfSome}
+use Rattle.std.specs.Prelude.{◌≡◌, ℕ, zero, suc, ◌+◌, ◌<◌, List, [], ◌∷◌, ◌++◌, length, Option, Ok, IfSome}
 use Rattle.lua_ast.specs.declared.programs.Program.{Program}
 use Rattle.lua_values.specs.declared.values.Value.{Value}
 use Rattle.lua_values.specs.declared.values.Value.TheVariants.{Closure}
-use Rattle.lua_values.specs.Heap.{Heap, StoreView}
+use Rattle.lua_values.specs.Heap.{Heap, StoreView, step_limit}
 use Rattle.lua_values.specs.NativeCalls.{both}
 use Rattle.lua_modules.specs.Sets.{lists_of, IsSound}
 use Rattle.lua_modules.specs.declared.sets.ModuleSet.{ModuleSet}
@@ -13,10 +13,11 @@ use Rattle.lua_meaning.specs.Life.{Outcome, Asks, life}
 use Rattle.lua_meaning.specs.Setting.{Setting}
 use Rattle.lua_meaning.specs.Over.{native_count}
 use Rattle.meaning_laws.specs.Lives.{CanBegin, OutsideKeeps}
+use Rattle.lua_machine.specs.Finishes.{Finish}
 use Rattle.lua_tables_lib.specs.Meaning.{library_count, library_meaning}
 use Rattle.ngx_calls.specs.Natives.{ngx_count, ngx_meaning}
 use Rattle.request_api.specs.declared.requests.Req.{Req}
-use Rattle.run_threads.specs.Handlers.{Running, with_store, answers_call, resume_with, begun}
+use Rattle.run_threads.specs.Handlers.{Running, Answered, with_store, answers_call, resume_with, begun}
 use Rattle.lua_site.specs.Starting.{Start, started}
 use Rattle.lua_site.specs.Standing.{IsStanding}
 use Rattle.standing_laws.specs.Sites.{init_left, LeavesFrozen}
@@ -49,14 +50,25 @@ HandlersKeep =
     (S : Setting) (f : Value) (args : List Value) (first : Resume) (resumes : List Resume) → CanBegin S f args first.store.heap
     → HandlerAnswers (life S f args) first resumes → OutsideKeeps S (life S f args) first resumes
 
--- So in every heap that the thread of a handler leaves, which is one of the closures of a site that has started, all that init
--- left is as it was, and refuses every write.
+-- what holds of the answer to a call, if the thread asked
+abbrev pub OfAnswer : (Answered → Type 0) → Running → Outcome → Type 0
+OfAnswer holds running (Asks number args position store) = holds (answers_call number args (with_store running store))
+OfAnswer holds running outcome = Unit {0}
+
+-- Of each outcome that `goes_on` looks at it holds: a thread that was resumed with these in the past is now resumed with an answer, and
+-- so on, n times at most.
+unfoldable pub OfEachOutcome : (Outcome → Type 0) → ℕ → Finish → List Resume → Answered → Type 0
+OfEachOutcome holds zero life past a = Unit {0}
+OfEachOutcome holds (suc n) life past a =
+    let resumes = past ++ resume_with a ∷ [] in
+    holds (life resumes) × OfAnswer (OfEachOutcome holds n life resumes) a.running (life resumes)
+
+-- A handler is a closure of a site that has started. As often as `handled` resumes its thread, in the heap that this leaves all that
+-- init left is as it was, and refuses every write.
 abbrev pub HandlersLeaveInit : Type 0
 HandlersLeaveInit =
-    (set : ModuleSet) (init : Option ℕ) (start : Start) (heap : Heap) (closure : ℕ) (req : Req) (resumes : List Resume)
-    → IsSound set → IfSome init (λ b. b < length set.blocks.items)
+    (set : ModuleSet) (init : Option ℕ) (start : Start) (heap : Heap) (closure : ℕ) (req : Req) → IsSound set → IfSome init (λ b. b < length set.blocks.items)
     → started (life (own_setting set.program)) (native_count (own_setting set.program)) (lists_of set) init ≡ Ok start
     → init_left (life (own_setting set.program)) (native_count (own_setting set.program)) (lists_of set) init ≡ Ok heap
     → closure < length start.store.heap.closures
-    → HandlerAnswers (life (own_setting set.program) (Closure closure) []) (resume_with (begun start.store req)) resumes
-    → LeavesFrozen heap (life (own_setting set.program) (Closure closure) [] (resume_with (begun start.store req) ∷ resumes))
+    → OfEachOutcome (LeavesFrozen heap) (suc step_limit) (life (own_setting set.program) (Closure closure) []) [] (begun start.store req)
