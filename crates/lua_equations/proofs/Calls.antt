@@ -30,7 +30,7 @@ use Rattle.lua_meaning.specs.ProtectedCalls.{protected_by, handled_fault}
 use Rattle.lua_meaning.specs.Natives.{texts_length, raise_value, raise_at, assert_work, make_text_of, tostring_work, answer_of, result_work, library_work, native_work}
 use Rattle.lua_meaning.specs.Nodes.{call_by, callee_work, work_of, eval}
 use Rattle.lua_equations.specs.Parts.{gives, gives_one, faults, with_heap}
-use Rattle.lua_equations.specs.Calls.{is_callable, call_by_in, handled_in, raised, error_value, assert_in, text_in, tostring_in, answer_in, result_in, CallsAre, EachCallIs}
+use Rattle.lua_equations.specs.Calls.{is_callable, call_by_in, protected_in, raised, error_value, assert_in, text_in, tostring_in, answer_in, result_in, CallsAre, EachCallIs}
 use Rattle.lua_equations.proofs.Following.{after_same, counted_then, counted_there, call_then, work_if, index_then, store_then}
 
 module _ (S : Setting) where
@@ -70,14 +70,14 @@ module _ (S : Setting) where
   end_then sign s (Parked number args position store) = refl
   end_then sign s Spent = refl
 
-  handled_then : (by : Value) (callers : List Caller) (s : Slots) (sign : Sign) (w : State) → do_work (eval S) (protected_by by callers s sign) w ≡ handled_in S by callers s sign w
+  handled_then : (by : Value) (callers : List Caller) (s : Slots) (sign : Sign) (w : State) → do_work (eval S) (protected_by by callers s sign) w ≡ protected_in S by callers s sign w
   handled_then by callers s (Failed v) w = end_then (Failed v) s (eval S (ACall by (v ∷ [])) (calling callers false) [] w)
   handled_then by callers s (Values vs) w = refl
   handled_then by callers s (Return vs) w = refl
   handled_then by callers s Break w = refl
 
   protected_then : (by : Value) (callers : List Caller) (s : Slots) (x : Ending) → after x (λ sign s' w'. do_work (eval S) (protected_by by callers s (call_end sign)) w')
-      ≡ after (after x (λ sign s' w'. Ended (call_end sign) s w')) (λ sign s' w'. handled_in S by callers s sign w')
+      ≡ after (after x (λ sign s' w'. Ended (call_end sign) s w')) (λ sign s' w'. protected_in S by callers s sign w')
   protected_then by callers s (Ended sign s' w') = handled_then by callers s (call_end sign) w'
   protected_then by callers s (Parked number args position store) = refl
   protected_then by callers s Spent = refl

@@ -43,10 +43,10 @@ call_by_in S by f args q s w =
     if is_nil by then faults_at S q.around (operand.Call (type_of f)) s w else eval S (ACall by (f ∷ args)) q s w
 
 -- true and the values of a call, or what the handler makes of its fault once the call is over
-abbrev pub handled_in : Setting → Value → List Caller → Slots → Sign → State → Ending
-handled_in S by callers s (Failed v) w =
+abbrev pub protected_in : Setting → Value → List Caller → Slots → Sign → State → Ending
+protected_in S by callers s (Failed v) w =
     after (call_in S callers by (v ∷ []) s w) (λ sign s' w'. gives (handled_fault sign) s' w')
-handled_in S by callers s sign w = gives (protected sign) s w
+protected_in S by callers s sign w = gives (protected sign) s w
 
 -- a value that is raised: a text stands after the position of these callers
 abbrev pub raised : Setting → List Caller → Value → Value
@@ -109,7 +109,7 @@ pub record CallsAre (S : Setting) : Type 0 where
       → eval S (ACall f args) q s w ≡ counted 1 w (λ w1. call_by_in S (handler w1.store.heap f Call) f args q s w1)
   pub xpcall : (f by : Value) (args : List Value) (q : Places) (s : Slots) (w : State) → eval S (ACall (Native 1) (f ∷ by ∷ args)) q s w
       ≡ counted 1 w (λ w1. counted (texts_length (f ∷ by ∷ args) / 64) w1
-      (λ w2. after (call_in S q.around f [] s w2) (λ sign s3 w3. handled_in S by q.around s sign w3)))
+      (λ w2. after (call_in S q.around f [] s w2) (λ sign s3 w3. protected_in S by q.around s sign w3)))
   pub error : (args : List Value) (q : Places) (s : Slots) (w : State) → eval S (ACall (Native 2) args) q s w
       ≡ counted 1 w (λ w1. counted (texts_length args / 64) w1 (λ w2. error_in S args q.around s w2))
   pub assert : (v : Value) (more : List Value) (q : Places) (s : Slots) (w : State) → eval S (ACall (Native 3) (v ∷ more)) q s w

@@ -1,6 +1,7 @@
 //! What each construct comes to, as laws.
 
 ghost use Rattle.lua_equations.specs.Expressions.{EachExpressionIs};
+ghost use Rattle.lua_equations.specs.Operators.{EachOperatorIs};
 ghost use Rattle.lua_equations.specs.Statements.{EachStatementIs};
 ghost use Rattle.lua_equations.specs.Loops.{EachLoopIs};
 ghost use Rattle.lua_equations.specs.Calls.{EachCallIs};
@@ -14,6 +15,11 @@ pub fn expressions_are()
     evaluator_evaluates();
     works_in_order();
 }
+
+/// What each operator comes to on values, with the handlers of their metatables.
+pub fn operators_are()
+    ensures { EachOperatorIs }
+{}
 
 /// What each statement comes to.
 pub fn statements_are()

@@ -3,4 +3,4 @@
 
 mod laws;
 
-pub use laws::{calls_are, expressions_are, loops_are, statements_are};
+pub use laws::{calls_are, expressions_are, loops_are, operators_are, statements_are};

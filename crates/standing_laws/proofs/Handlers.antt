@@ -156,8 +156,7 @@ module _ (life' : Finish) (first : Resume) (holds : Outcome → Type 0) where
   unfolding OfEachOutcome
   outcomes_on each zero past a answer = tt
   outcomes_on each (suc n) past a answer =
-      let resumes : List Resume = past ++ resume_with a ∷ [] in
-      (
+      let resumes : List Resume = past ++ resume_with a ∷ [] in (
         each resumes answer,
         asked_on (OfEachOutcome holds n life' (first ∷ resumes)) a.running (life' (first ∷ resumes)) (λ number args position store asks.
             let b : Answered = answers_call number args (with_store a.running store) in
@@ -169,8 +168,7 @@ module _ (life' : Finish) (first : Resume) (holds : Outcome → Type 0) where
   outcomes_from each zero a is = tt
   outcomes_from each (suc n) a is =
       let none : HandlerAnswers life' first [] = λ past more r number args position store e asks. absurd (none_in r past more e) in
-      subst (λ (r : Resume). holds (life' (r ∷ [])) × OfAnswer (OfEachOutcome holds n life' (r ∷ [])) a.running (life' (r ∷ []))) is
-      (
+      subst (λ (r : Resume). holds (life' (r ∷ [])) × OfAnswer (OfEachOutcome holds n life' (r ∷ [])) a.running (life' (r ∷ []))) is (
         each [] none,
         asked_on (OfEachOutcome holds n life' (first ∷ [])) a.running (life' (first ∷ [])) (λ number args position store asks.
             let b : Answered = answers_call number args (with_store a.running store) in

@@ -91,6 +91,9 @@ meta_base : (h new : Heap) (t meta : ℕ) → metatable_set h t meta ≡ Ok new 
 meta_base h new t meta e =
     ap (λ (h' : Heap). h'.base) (unless_made (frozen_cause h.base.tables t) (with_metatable h t (Some meta)) new e)
 
+globals_base : (h new : Heap) (g : ℕ) → unless None (record h { globals = g }) ≡ Ok new → new.base ≡ h.base
+globals_base h new g e = ap (λ (h' : Heap). h'.base) (unless_made None (record h { globals = g }) new e)
+
 three_base : (old new : Heap) → three_made old ≡ Ok new → new.base ≡ old.base
 three_base old new e =
     let a = then_made (table_made old) (λ h. and_then (table_made h) table_made) new e in
@@ -105,8 +108,7 @@ run_base old new e =
     let named = then_made (names_set three.part g m old.globals) (λ h. globals_set h g m) new three.others in
     let first = then_made (entry_set three.part g (Text (codes "_G")) (Table g)) (λ h. entry_set h m (Text (key_of Index)) (Table old.globals)) named.part named.made in
     let last = then_made (metatable_set named.part g m) (λ h. Ok (record h { globals = g })) new named.others in
-    let same : record last.part { globals = g } ≡ new = cc in
-    sym (ap (λ (h : Heap). h.base) same) ∙ meta_base named.part last.part g m last.made ∙ entry_base first.part named.part m (Text (key_of Index)) (Table old.globals) first.others
+    globals_base last.part new g last.others ∙ meta_base named.part last.part g m last.made ∙ entry_base first.part named.part m (Text (key_of Index)) (Table old.globals) first.others
     ∙ entry_base three.part first.part g (Text (codes "_G")) (Table g) first.made ∙ three_base old three.part three.made
 
 -- ---- what is frozen stays
