@@ -55,7 +55,8 @@ module _ (S : Setting) (G : Given S) where
   then_known h (End sign s) next st k each = each h sign s (same_heap S G h st) k.0 k.1
   then_known h (Eval n p s go) next st k each =
       (k.0, k.1, k.2, λ g sign s' l sg sk. then_known g (go sign s') next l.stands (k.3 g sign s' l sg sk) (λ g' sign' s'' l'. each g' sign' s'' (later_heap S G h g g' l l')))
-  then_known h (Outside number args position go) next st k each = k
+  then_known h (Outside number args position go) next st k each =
+      (k.0, λ g answer l ak. then_known g (go answer) next l.stands (k.1 g answer l ak) (λ g' sign s l'. each g' sign s (later_heap S G h g g' l l')))
   then_known h (Look go) next st k each = then_known h (go h) next st k each
   then_known h (Write g go) next st k each = (k.0, then_known g go next k.0.stands k.1 (λ g' sign s l'. each g' sign s (later_heap S G h g g' k.0 l')))
   then_known h (Count n go) next st k each = then_known h go next st k each

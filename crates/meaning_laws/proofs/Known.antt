@@ -11,12 +11,14 @@ use Rattle.lua_values.specs.Heap.{Heap, Base}
 use Rattle.lua_values.specs.Fits.{FitCells}
 use Rattle.lua_values.specs.NativeCalls.{IsLawful}
 use Rattle.lua_values.specs.Laws.{StillFits, WritesKeepFitting, ReadsFit}
+use Rattle.lua_meaning.specs.declared.resumes.Resumed.{Resumed}
 use Rattle.lua_meaning.specs.declared.slots.Slot.{Slot}
 use Rattle.lua_meaning.specs.declared.slots.Slot.TheVariants.{Plain, Shared}
 use Rattle.lua_meaning.specs.Works.{Places, Slots, Node, AValue, AnExpr, AStmt, ATurn, ARepeat, AFor, AnIter, ACall, AnIndex, AStore, Sign, Values, Return, Break, Failed, Work, End, Eval, Outside, Look, Write, Count}
 use Rattle.lua_meaning.specs.Setting.{Setting}
 use Rattle.lua_meaning.specs.Over.{native_count}
 use Rattle.meaning_laws.specs.Standing.{Stands, Known, StandsAfter}
+use Rattle.meaning_laws.specs.Lives.{AnswerKnown}
 
 -- what the law is told under
 pub record Given (S : Setting) : Type 0 where
@@ -67,14 +69,15 @@ NodeKnown S h (ACall f args) = Known S h f × All (Known S h) args
 NodeKnown S h (AnIndex line v key) = Known S h v × Known S h key
 NodeKnown S h (AStore line v key x) = Known S h v × Known S h key × Known S h x
 
--- work that keeps to what is known: it evaluates what is known, writes heaps that keep standing, and goes on so with what is
--- given, in whatever heap that keeps standing
+-- work that keeps to what is known: it evaluates and asks what is known, writes heaps that keep standing, and goes on so with
+-- what is given, in whatever heap that keeps standing
 abbrev pub WorkKnown : Setting → Heap → Work → Type 0
 WorkKnown S h (End sign s) = SignKnown S h sign × SlotsKnown S h s
 WorkKnown S h (Eval n p s go) =
     NodeKnown S h n × PlacesKnown S h p × SlotsKnown S h s
     × ((g : Heap) (sign : Sign) (s' : Slots) → StandsAfter S h g → SignKnown S g sign → SlotsKnown S g s' → WorkKnown S g (go sign s'))
-WorkKnown S h (Outside number args position go) = All (Known S h) args
+WorkKnown S h (Outside number args position go) =
+    All (Known S h) args × ((g : Heap) (answer : Resumed) → StandsAfter S h g → AnswerKnown S g answer → WorkKnown S g (go answer))
 WorkKnown S h (Look go) = WorkKnown S h (go h)
 WorkKnown S h (Write g go) = StandsAfter S h g × WorkKnown S g go
 WorkKnown S h (Count n go) = WorkKnown S h go

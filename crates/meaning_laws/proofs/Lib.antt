@@ -10,3 +10,7 @@ pub mod Natives
 pub mod Statements
 pub mod Expressions
 pub mod Nodes
+pub mod Taking
+pub mod Ends
+pub mod Resumed
+pub mod Lives

@@ -14,6 +14,8 @@ use Rattle.lua_operators.specs.declared.faults.Fault.TheVariants.{StorageLimit}
 use Rattle.lua_operators.specs.declared.faults.OperandFault.TheVariants as operand
 use Rattle.lua_operators.specs.Conversions.{number_of, text_of}
 use Rattle.lua_operators.specs.Types.{type_of, is_truthy}
+use Rattle.lua_meaning.specs.declared.resumes.Resumed.{Resumed}
+use Rattle.lua_meaning.specs.declared.resumes.Resumed.TheVariants as resumed
 use Rattle.lua_meaning.specs.Works.{Caller, Slots, Sign, Values, Return, Break, Failed, End, Look, Write, Count}
 use Rattle.lua_meaning.specs.Setting.{Setting}
 use Rattle.lua_meaning.specs.Over.{native_count}
@@ -23,8 +25,9 @@ use Rattle.lua_meaning.specs.Metatables.{handler}
 use Rattle.lua_meaning.specs.Concatenation.{with_text}
 use Rattle.lua_meaning.specs.Calls.{calling, call_for_one}
 use Rattle.lua_meaning.specs.ProtectedCalls.{protected, pcall_work, handled_fault, protected_by, xpcall_work}
-use Rattle.lua_meaning.specs.Natives.{texts_length, raise_value, raise_at, error_work, assert_work, make_text_of, tostring_work, result_work, library_work, native_work}
+use Rattle.lua_meaning.specs.Natives.{texts_length, raise_value, raise_at, error_work, assert_work, make_text_of, tostring_work, answer_of, result_work, library_work, native_work}
 use Rattle.meaning_laws.specs.Standing.{Stands, Known, StandsAfter}
+use Rattle.meaning_laws.specs.Lives.{AnswerKnown}
 use Rattle.meaning_laws.proofs.Known.{Given, SlotsKnown, SignKnown, WorkKnown, value_later, slots_later}
 use Rattle.meaning_laws.proofs.Readings.{either, first_known, handler_known}
 use Rattle.meaning_laws.proofs.Writes.{units_keep}
@@ -131,11 +134,15 @@ module _ (S : Setting) (G : Given S) where
   left_standing : (h g : Heap) → Stands S h → LeavesHeap (native_count S) h g → StandsAfter S h g
   left_standing h g st l = record { stands = record { fits = l.fits; over = record { closures = rw l.closures st.over.closures; natives = l.natives } }; frozen = l.frozen }
 
+  answer_known : (h : Heap) (callers : List Caller) (answer : Resumed) (s : Slots) → AnswerKnown S h answer → SlotsKnown S h s → WorkKnown S h (answer_of S callers s answer)
+  answer_known h callers (resumed.Values vs) s k sk = (k, sk)
+  answer_known h callers (resumed.Raise text) s k sk = ((tt, tt), sk)
+
   result_known : (h : Heap) (number : ℕ) (args : List Value) (callers : List Caller) (r : NativeResult) (s : Slots) → Stands S h → All (Known S h) args → LeavesLawfully (native_count S) h r → SlotsKnown S h s
       → WorkKnown S h (result_work S number args callers r s)
   result_known h number args callers (Gives vs g n) s st ak l sk = let m = left_standing h g st l.0 in (m, (l.1, slots_later S G h g s m sk))
   result_known h number args callers (Faults v g n) s st ak l sk = let m = left_standing h g st l.0 in (m, value_raised g callers v s l.1 (slots_later S G h g s m sk))
-  result_known h number args callers (Leaves n) s st ak l sk = ak
+  result_known h number args callers (Leaves n) s st ak l sk = (ak, λ g answer m gk. answer_known g callers answer s gk (slots_later S G h g s m sk))
 
   library_known : (h : Heap) (number : ℕ) (args : List Value) (callers : List Caller) (s : Slots) → Stands S h → All (Known S h) args → SlotsKnown S h s → WorkKnown S h (library_work S number args callers s)
   library_known h number args callers s st ak sk = by (nat_lt number S.count) refl

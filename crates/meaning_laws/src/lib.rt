@@ -3,4 +3,4 @@
 
 mod laws;
 
-pub use laws::calls_keep_standing;
+pub use laws::{calls_keep_standing, lives_keep_standing, resumes_keep_standing};
