@@ -10,5 +10,5 @@ mod texts;
 pub use faults::ModuleFault;
 pub use files::file_of;
 pub use freezing::freeze;
-pub use lua_names::{names_in, names_of};
+pub use lua_names::{names_in, names_of, names_of_each};
 pub use sets::{Chunks, Module, ModuleSet};

@@ -1,5 +1,5 @@
 -- What the rows of a tree mention, as lists.
-use Rattle.std.proofs.Common.{◌≡◌, ℕ, List, [], ◌∷◌, ◌++◌, Vec, Global, rules, refl, ap, sym, ◌∙◌, subst}
+use Rattle.std.proofs.Common.{◌≡◌, ℕ, List, ◌++◌, Vec, Global, rules, refl, ap, ◌∙◌, subst}
 use denote.Hole.Carrier.{roll}
 use Rattle.std.specs.Prelude.{flat_map, Option}
 use Rattle.std.specs.declared.rc.Rc.{Rc}

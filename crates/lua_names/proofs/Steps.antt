@@ -1,8 +1,12 @@
 -- The names in functions, from the last to the first.
-use Rattle.std.proofs.Common.{◌≡◌, ℕ, zero, suc, ◌+◌, ◌<◌, ◌≤◌, List, [], ◌∷◌, length, get_or, drop, refl, ap, sym, subst, ◌∙◌, arith, add-one}
-use Rattle.std.specs.Prelude.{slice_get, unwrap_or}
+use Rattle.std.proofs.Common.{◌≡◌, ℕ, zero, suc, ◌+◌, ◌<◌, ◌≤◌, List, [], ◌∷◌, length, ◌++◌, get_or, drop, take, refl, ap, sym, subst, ◌∙◌, arith, add-one}
+use Rattle.std.proofs.Math.Nat.{sub-zero}
+use Rattle.std.proofs.lemmas.Bool.{le-ltb}
+use Rattle.std.proofs.lemmas.Grind.{flat_map-append}
+use Rattle.std.proofs.lemmas.List.{append-nil, take_more}
+use Rattle.std.specs.Prelude.{flat_map, slice_get, unwrap_or}
 use Rattle.lua_ast.specs.declared.programs.Function.{Function}
-use Rattle.lua_names.specs.Names.{Names, names_in_function, names_in_each, names_of}
+use Rattle.lua_names.specs.Names.{Names, names_at, names_in_function, names_in_each, names_of}
 
 more : (m : ℕ) (fs : List Function) (n : ℕ) (f : Function) → n < length fs → get_or fs n f ≡ f → names_in_each m (drop n fs)
     ≡ names_in_function (suc m) (names_in_each (suc m) (drop (suc n) fs)) f ∷ names_in_each (suc m) (drop (suc n) fs)
@@ -39,3 +43,15 @@ names_of_first fs n = ap (λ o. unwrap_or o []) (found 0 fs n n (omega arith))
 
 pub names_of_none : (fs : List Function) (n : ℕ) → length fs ≤ n → names_of fs n ≡ []
 names_of_none fs n h = names_of_first fs n ∙ ap (λ each. unwrap_or (slice_get each 0) []) (names_end fs n n h)
+
+-- where the names in all functions are known
+names_at_all : (fs : List Function) (known : List Names) (n : ℕ) → known ≡ names_in_each 0 (drop 0 fs) → names_at 0 known n ≡ names_of fs n
+names_at_all fs known n e = rw (e, le-ltb n 0 (omega arith), sub-zero n) refl
+
+-- the names in one of these functions more
+pub names_after : (fs : List Function) (known : List Names) (ns : List ℕ) (i n d : ℕ) (names others new : Names) → known ≡ names_in_each 0 (drop 0 fs) → i < length ns
+    → n ≡ get_or ns i d → names ≡ flat_map (names_of fs) (take i ns) → others ≡ names_at 0 known n → new ≡ names ++ others → new ≡ flat_map (names_of fs) (take (i + 1) ns)
+names_after fs known ns i n d names others new all less at before one next =
+    let here : others ≡ names_of fs n = one ∙ names_at_all fs known n all in
+    let longer : take (i + 1) ns ≡ take i ns ++ n ∷ [] = rw at (take_more ns i d less) in
+    next ∙ ap (λ xs. xs ++ others) before ∙ ap (λ ys. flat_map (names_of fs) (take i ns) ++ ys) here ∙ rw (longer, flat_map-append, append-nil) refl

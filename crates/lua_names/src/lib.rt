@@ -6,4 +6,4 @@ mod mentions;
 mod names;
 mod statements;
 
-pub use names::{names_in, names_of};
+pub use names::{names_in, names_of, names_of_each};

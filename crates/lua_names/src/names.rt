@@ -117,6 +117,23 @@ pub fn names_of(alloc: Global, program: &Program, number: u32) -> Result<ByteLis
     }
 }
 
+/// The names of the modules that each of these functions requires, as `names_of` lists them, one function after the other. It takes
+/// time for all functions of the program once, however many are asked for.
+pub fn names_of_each(
+    alloc: Global,
+    program: &Program,
+    numbers: &[u32],
+) -> Result<ByteLists, AllocError>
+    ensures { IfOk result (λ names. names ≡ flat_map (spec.names_of program.now.functions.items) numbers.now) }
+{
+    let known = names_in_each(alloc, program.functions.as_slice(), 0)?;
+    let mut names = Vec::new(alloc);
+    for number in numbers {
+        append_names(&mut names, names_at(&known, 0, *number as usize))?;
+    }
+    Ok(ByteLists::of(names))
+}
+
 /// The names of the modules that a chunk requires, in the order of its text. The chunk is function 0, as `parse` gives it.
 pub fn names_in(alloc: Global, program: &Program) -> Result<ByteLists, AllocError>
     ensures { IfOk result (λ names. names ≡ spec.names_of program.now.functions.items 0) }

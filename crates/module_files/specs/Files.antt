@@ -1,5 +1,5 @@
 -- The files of modules, and what reading one gives.
-use Rattle.std.specs.Prelude.{◌≡◌, ℕ, ◌≤◌, ◌<◌, List, length, Option, Some, None, Result, Err, if◌then◌else◌}
+use Rattle.std.specs.Prelude.{◌≡◌, ℕ, ◌≤◌, ◌<◌, List, length, Some, None, Result, Err, if◌then◌else◌}
 use Rattle.std.specs.Str.{is_utf8}
 use Rattle.resty_base.specs.Counting.{Rose}
 use Rattle.resty_base.specs.FileMap.{FileMap, FileAccount}

@@ -5,7 +5,7 @@ ghost use Rattle.module_files.specs.Finding as spec;
 ghost use Rattle.module_files.specs.Finding.{IsOverLimit, most_modules};
 
 use crate::ModuleFileFault;
-use lua_modules::{ModuleSet, names_of};
+use lua_modules::{ModuleSet, names_of, names_of_each};
 use resty_base::Bytes;
 use std::alloc::Global;
 
@@ -36,6 +36,23 @@ fn find(set: &ModuleSet, names: &mut Vec<Bytes>, name: &Bytes) -> Result<(), Mod
     Ok(())
 }
 
+/// Puts each of these names last that isn't known.
+fn find_each(
+    set: &ModuleSet,
+    names: &mut Vec<Bytes>,
+    required: &[Bytes],
+) -> Result<(), ModuleFileFault>
+    requires { length names.old.items ≤ most_modules }
+    ensures found { OnOk result (names.new.items ≡ spec.with_names set.now names.old.items required.now) }
+    ensures few { OnOk result (length names.new.items ≤ most_modules) }
+    ensures fault { IfErr result (IsOverLimit (spec.with_names set.now names.old.items required.now)) }
+{
+    for name in required {
+        find(set, names, name)?;
+    }
+    Ok(())
+}
+
 /// Puts the names last that a function requires and that aren't known.
 pub(crate) fn find_in(
     alloc: Global,
@@ -49,10 +66,7 @@ pub(crate) fn find_in(
     ensures fault { IfErr result (IsOverLimit (spec.found_in set.now names.old.items function)) }
 {
     let required = names_of(alloc, set.program(), function)?;
-    for name in required.as_slice() {
-        find(set, names, name)?;
-    }
-    Ok(())
+    find_each(set, names, required.as_slice())
 }
 
 /// The names that the blocks of a set require, but for those of its modules.
@@ -61,9 +75,8 @@ pub(crate) fn names_of_blocks(alloc: Global, set: &ModuleSet) -> Result<Vec<Byte
     ensures few { IfOk result (λ names. length names.items ≤ most_modules) }
     ensures fault { IfErr result (IsOverLimit (spec.found_in_blocks set.now)) }
 {
+    let required = names_of_each(alloc, set.program(), set.blocks())?;
     let mut names = Vec::new(alloc);
-    for block in set.blocks() {
-        find_in(alloc, set, *block, &mut names)?;
-    }
+    find_each(set, &mut names, required.as_slice())?;
     Ok(names)
 }
