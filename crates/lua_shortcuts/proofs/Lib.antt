@@ -1,3 +1,5 @@
 pub mod ValueLemmas
 pub mod RunLemmas
 pub mod CountLemmas
+pub mod PlaceLemmas
+pub mod EntryLemmas

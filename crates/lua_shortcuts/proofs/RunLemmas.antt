@@ -16,7 +16,7 @@ use Rattle.lua_ast.specs.declared.statements.StmtKind.TheOpen as sk
 use Rattle.lua_ast.specs.declared.statements.StmtKind.TheViews.{outs-Local, outs-Assign}
 use Rattle.lua_ast.specs.declared.statements.StmtKind.TheVariants as sv
 use Rattle.lua_values.specs.declared.values.Value.{Value}
-use Rattle.lua_values.specs.declared.values.Value.TheVariants.{Nil, Truth, Number, Text, Table, Closure, Native, Thread, Null, Object}
+use Rattle.lua_values.specs.declared.values.Value.TheVariants.{Truth}
 use Rattle.lua_values.specs.Heap.{StoreView, step_limit}
 use Rattle.lua_operators.specs.Types.{is_truthy}
 use Rattle.lua_meaning.specs.declared.slots.Slot.{Slot}
@@ -36,7 +36,7 @@ use Rattle.lua_meaning.proofs.EvaluatorLemmas.{eval-law, work-then}
 use Rattle.lua_meaning.proofs.Running.{Does, stmt, seq, count, target, end}
 use Rattle.lua_shortcuts.specs.declared.loops.LoopEnd.{LoopEnd}
 use Rattle.lua_shortcuts.specs.Gives.{counting, later, Gives}
-use Rattle.lua_shortcuts.specs.Runs.{state, Becomes, RunsIf, IsLocals, IsAssignments, IsAssignment, Tests, left_of, has_number}
+use Rattle.lua_shortcuts.specs.Runs.{state, Becomes, RunsIf, IsLocals, IsAssignments, IsAssignment, Tests, left_of, is_plain}
 
 -- counted steps that stay below the limit
 pub counted : (n : ℕ) (before store : StoreView) → store ≡ record { heap = before.heap; steps = min step_limit (before.steps + n) } → nat_lt (before.steps + n) step_limit ≡ true → store ≡ counting n before
@@ -69,12 +69,12 @@ pub entered : (S : Setting) (n : Node) (p : Places) (s : Slots) (w : State) → 
 entered S n p s w few = eval-law (work_of S) n p s w ∙ ap (λ (t : Bool). if t then do_work (eval S) (work_of S n p s) (later 1 w) else Spent) few
 
 -- `local NAME = x`
-local_ends : (S : Setting) (xs : List Expr) (places : List ℕ) (x : Expr) (i n : ℕ) (v : Value) (s : Slots) (p : Places) (w : State) → places ≡ i ∷ [] → xs ≡ x ∷ [] → Gives x s v n → w.store.steps + n < step_limit
+local_ends : (S : Setting) (xs : List Expr) (places : List ℕ) (x : Expr) (i n : ℕ) (v : Value) (s : Slots) (p : Places) (w : State) → places ≡ i ∷ [] → xs ≡ x ∷ [] → Gives x s w.store.heap v n → w.store.steps + n < step_limit
     → Does S (with_values xs p s (λ vs s'. give [] (with_locals places vs s'))) w (Ended (Values []) (slice_set s i (Plain v)) (later n w))
 local_ends S xs places x i n v s p w slots values g few =
-    rw (slots, values) (seq {n = AnExpr x} (record { is = g.all S p w few }) end)
+    rw (slots, values) (seq {n = AnExpr x} (record { is = g.all S p w refl few }) end)
 
-pub local_runs : (st : Stmt) (x : Expr) (i n : ℕ) (v : Value) (s s' : Slots) (before store : StoreView) → IsLocals (i ∷ []) (x ∷ []) st → Gives x s v n → nat_lt (before.steps + (n + 1)) step_limit ≡ true
+pub local_runs : (st : Stmt) (x : Expr) (i n : ℕ) (v : Value) (s s' : Slots) (before store : StoreView) → IsLocals (i ∷ []) (x ∷ []) st → Gives x s before.heap v n → nat_lt (before.steps + (n + 1)) step_limit ≡ true
     → s' ≡ slice_set s i (Plain v) → store ≡ counting (n + 1) before → RunsIf true st s before s' store
 local_runs st x i n v s s' before store is g few set steps S p rs =
     (stmt {k = sk.Local is.slots is.values} is.is_local (lt-ltb _ _ (omega (arith, below))) (local_ends S is.values.value.items is.slots.value.items x i n v s p (later 1 (state before rs)) is.in_slots is.listed g (omega (arith, below)))).is
@@ -93,34 +93,25 @@ written : (S : Setting) (line i n : ℕ) (v old : Value) (s : Slots) (p : Places
 written S line i n v old s p w plain =
     record { is = ap (λ (t : Option Slot). do_work (eval S) (and_then (write_slot S (callers_at p line) t i v s (give [])) (on_values (λ us s'. give [] s'))) w) plain }
 
-number_there : (s : Slots) (i : ℕ) → has_number (slice_get s i) ≡ true → (n : ℤ) × (slice_get s i ≡ Some (Plain (Number n)))
-number_there s i h = by_slot (slice_get s i) h
+plain_there : (s : Slots) (i : ℕ) → is_plain (slice_get s i) ≡ true → (old : Value) × (slice_get s i ≡ Some (Plain old))
+plain_there s i h = by_slot (slice_get s i) h
   where
-    by_slot : (t : Option Slot) → has_number t ≡ true → (n : ℤ) × (t ≡ Some (Plain (Number n)))
-    by_slot (Some (Plain (Number n))) h = (n, refl)
-    by_slot (Some (Plain Nil)) h = absurd (cc)
-    by_slot (Some (Plain (Truth t))) h = absurd (cc)
-    by_slot (Some (Plain (Text t))) h = absurd (cc)
-    by_slot (Some (Plain (Table t))) h = absurd (cc)
-    by_slot (Some (Plain (Closure t))) h = absurd (cc)
-    by_slot (Some (Plain (Native t))) h = absurd (cc)
-    by_slot (Some (Plain (Thread t))) h = absurd (cc)
-    by_slot (Some (Plain Null)) h = absurd (cc)
-    by_slot (Some (Plain (Object k t))) h = absurd (cc)
+    by_slot : (t : Option Slot) → is_plain t ≡ true → (old : Value) × (t ≡ Some (Plain old))
+    by_slot (Some (Plain old)) h = (old, refl)
     by_slot (Some (Shared c)) h = absurd (cc)
     by_slot None h = absurd (cc)
 
 assignment_ends : (S : Setting) (targets xs : List Expr) (target' x : Expr) (i n : ℕ) (v old : Value) (s : Slots) (p : Places) (w : State) → targets ≡ target' ∷ [] → xs ≡ x ∷ [] → out-ExprKind target'.kind ≡ e.Slot i
-    → Gives x s v n → slice_get s i ≡ Some (Plain old) → w.store.steps + (n + 1) < step_limit
+    → Gives x s w.store.heap v n → slice_get s i ≡ Some (Plain old) → w.store.steps + (n + 1) < step_limit
     → Does S (assignment_work S targets xs p s) w (Ended (Values []) (slice_set s i (Plain v)) (later n (later 1 w)))
 assignment_ends S targets xs target' x i n v old s p w one values is g plain few =
-    rw (one, values) (count (lt-ltb _ _ (omega (arith, few))) (target {k = e.Slot i} target' p s _ is (seq {n = AnExpr x} (record { is = g.all S p (later 1 w) (omega (arith, few)) }) (written S target'.line i n v old s p (later n (later 1 w)) plain))))
+    rw (one, values) (count (lt-ltb _ _ (omega (arith, few))) (target {k = e.Slot i} target' p s _ is (seq {n = AnExpr x} (record { is = g.all S p (later 1 w) refl (omega (arith, few)) }) (written S target'.line i n v old s p (later n (later 1 w)) plain))))
 
-pub assignment_runs : (st : Stmt) (x : Expr) (i n : ℕ) (v : Value) (s s' : Slots) (before store : StoreView) → IsAssignment i x st → Gives x s v n → nat_lt (before.steps + (n + 2)) step_limit ≡ true
-    → has_number (slice_get s i) ≡ true → s' ≡ slice_set s i (Plain v) → store ≡ counting (n + 2) before → RunsIf true st s before s' store
+pub assignment_runs : (st : Stmt) (x : Expr) (i n : ℕ) (v : Value) (s s' : Slots) (before store : StoreView) → IsAssignment i x st → Gives x s before.heap v n → nat_lt (before.steps + (n + 2)) step_limit ≡ true
+    → is_plain (slice_get s i) ≡ true → s' ≡ slice_set s i (Plain v) → store ≡ counting (n + 2) before → RunsIf true st s before s' store
 assignment_runs st x i n v s s' before store is g few had set steps S p rs =
     (stmt {k = sk.Assign is.assignments.targets is.assignments.values} is.assignments.is_assignment (lt-ltb _ _ (omega (arith, below)))
-    (assignment_ends S is.assignments.targets.value.items is.assignments.values.value.items is.target x i n v (Number (number_there s i had).0) s p (later 1 (state before rs)) is.assignments.aimed is.assignments.listed is.is_slot g (number_there s i had).1 (omega (arith, below)))).is
+    (assignment_ends S is.assignments.targets.value.items is.assignments.values.value.items is.target x i n v (plain_there s i had).0 s p (later 1 (state before rs)) is.assignments.aimed is.assignments.listed is.is_slot g (plain_there s i had).1 (omega (arith, below)))).is
     ∙ ap (λ (k : ℕ). Ended (Values []) (slice_set s i (Plain v)) (state (record { heap = before.heap; steps = k }) rs)) sums
     ∙ ap (λ (t : Slots). Ended (Values []) t (state (counting (n + 2) before) rs)) (sym set) ∙ ap (λ (st' : StoreView). Ended (Values []) s' (state st' rs)) (sym steps)
   where
@@ -143,9 +134,9 @@ pub block_stays : (S : Setting) (p : Places) (q : Work) (st : Stmt) (stmts : Lis
 block_stays S p q st stmts next s s' first before store h run rs = h rs ∙ rw (run.0, run.1) refl
 
 -- the test of a loop that holds
-pub test_holds : (x : Expr) (s : Slots) (n : ℕ) (before store : StoreView) → Gives x s (Truth true) n → nat_lt (before.steps + (n + 1)) step_limit ≡ true → store ≡ counting (n + 1) before → Tests x s true before store
+pub test_holds : (x : Expr) (s : Slots) (n : ℕ) (before store : StoreView) → Gives x s before.heap (Truth true) n → nat_lt (before.steps + (n + 1)) step_limit ≡ true → store ≡ counting (n + 1) before → Tests x s true before store
 test_holds x s n before store g few steps S body p rs =
-    ap (λ (o : Ending). after o (λ sign s2 w2. do_work (eval S) (on_values (λ vs s3. if is_truthy (first vs) then again (ATurn x body) p s3 else give [] s3) sign s2) w2)) (g.one S p (state before rs) (omega (arith, below)))
+    ap (λ (o : Ending). after o (λ sign s2 w2. do_work (eval S) (on_values (λ vs s3. if is_truthy (first vs) then again (ATurn x body) p s3 else give [] s3) sign s2) w2)) (g.one S p (state before rs) refl (omega (arith, below)))
     ∙ after_ended (eval S (ATurn x body) p s (later n (state before rs)))
     ∙ entered S (ATurn x body) p s (later n (state before rs)) (lt-ltb _ _ (omega (arith, below)))
     ∙ ap (λ (k : ℕ). do_work (eval S) (turn_work x body p s) (state (record { heap = before.heap; steps = k }) rs)) sums
@@ -158,12 +149,12 @@ test_holds x s n before store g few steps S body p rs =
     sums = omega arith
 
 -- and one that doesn't
-pub test_fails : (x : Expr) (s : Slots) (n : ℕ) (before store : StoreView) → Gives x s (Truth false) n → nat_lt (before.steps + n) step_limit ≡ true → store ≡ counting n before → Tests x s false before store
+pub test_fails : (x : Expr) (s : Slots) (n : ℕ) (before store : StoreView) → Gives x s before.heap (Truth false) n → nat_lt (before.steps + n) step_limit ≡ true → store ≡ counting n before → Tests x s false before store
 test_fails x s n before store g few steps S body p rs =
-    ap (λ (o : Ending). after o (λ sign s2 w2. do_work (eval S) (on_values (λ vs s3. if is_truthy (first vs) then again (ATurn x body) p s3 else give [] s3) sign s2) w2)) (g.one S p (state before rs) (ltb-true _ _ few))
+    ap (λ (o : Ending). after o (λ sign s2 w2. do_work (eval S) (on_values (λ vs s3. if is_truthy (first vs) then again (ATurn x body) p s3 else give [] s3) sign s2) w2)) (g.one S p (state before rs) refl (ltb-true _ _ few))
     ∙ ap (λ (st : StoreView). Ended (Values []) s (state st rs)) (sym steps)
 
-pub test_is : (x : Expr) (s : Slots) (holds : Bool) (n k : ℕ) (before store : StoreView) → Gives x s (Truth holds) n → k ≡ (if holds then n + 1 else n) → nat_lt (before.steps + k) step_limit ≡ true
+pub test_is : (x : Expr) (s : Slots) (holds : Bool) (n k : ℕ) (before store : StoreView) → Gives x s before.heap (Truth holds) n → k ≡ (if holds then n + 1 else n) → nat_lt (before.steps + k) step_limit ≡ true
     → store ≡ record { heap = before.heap; steps = min step_limit (before.steps + k) } → Tests x s holds before store
 test_is x s true n k before store g is few steps = test_holds x s n before store g (rw is at few) (rw is at (counted k before store steps few))
 test_is x s false n k before store g is few steps = test_fails x s n before store g (rw is at few) (rw is at (counted k before store steps few))

@@ -1,4 +1,4 @@
--- Expressions whose value is known from the local variables alone (Lua 5.1 Reference Manual, 2.5).
+-- Expressions whose value is known from the local variables and the heap alone (Lua 5.1 Reference Manual, 2.5).
 use Rattle.std.specs.Prelude.{◌≡◌, ℕ, ◌+◌, ◌<◌, List, [], ◌∷◌, ℤ}
 use Rattle.std.specs.declared.rc.Rc.{Rc}
 use Rattle.std.specs.declared.alloc.Global.{Global}
@@ -8,7 +8,7 @@ use Rattle.lua_ast.specs.declared.expressions.ExprKind.{out-ExprKind}
 use Rattle.lua_ast.specs.declared.expressions.ExprKind.TheOpen as e
 use Rattle.lua_values.specs.declared.values.Value.{Value}
 use Rattle.lua_values.specs.declared.values.Value.TheVariants.{Number}
-use Rattle.lua_values.specs.Heap.{StoreView, step_limit}
+use Rattle.lua_values.specs.Heap.{Heap, StoreView, step_limit}
 use Rattle.lua_meaning.specs.Works.{Caller, Places, Slots, AValue, AnExpr, Values}
 use Rattle.lua_meaning.specs.Evaluator.{State, Ended}
 use Rattle.lua_meaning.specs.Setting.{Setting}
@@ -23,17 +23,24 @@ counting n store = record { heap = store.heap; steps = store.steps + n }
 abbrev pub later : ℕ → State → State
 later n w = record w { store = counting n w.store }
 
--- An expression gives a value and counts n steps, wherever it is evaluated with these variables, if the steps are left. Nothing else is
--- changed.
-pub record Gives (x : Expr) (s : Slots) (v : Value) (n : ℕ) : Type 0 where
-  pub one : (S : Setting) (p : Places) (w : State) → w.store.steps + n < step_limit → eval S (AValue x) p s w ≡ Ended (Values (v ∷ [])) s (later n w)
-  pub all : (S : Setting) (p : Places) (w : State) → w.store.steps + n < step_limit → eval S (AnExpr x) p s w ≡ Ended (Values (v ∷ [])) s (later n w)
+-- An expression gives a value and counts n steps, wherever it is evaluated with these variables and this heap, if the steps are left.
+-- Nothing else is changed.
+pub record Gives (x : Expr) (s : Slots) (h : Heap) (v : Value) (n : ℕ) : Type 0 where
+  pub one : (S : Setting) (p : Places) (w : State) → w.store.heap ≡ h → w.store.steps + n < step_limit
+      → eval S (AValue x) p s w ≡ Ended (Values (v ∷ [])) s (later n w)
+  pub all : (S : Setting) (p : Places) (w : State) → w.store.heap ≡ h → w.store.steps + n < step_limit
+      → eval S (AnExpr x) p s w ≡ Ended (Values (v ∷ [])) s (later n w)
 
 -- an operator gives a value on two numbers, without a fault
 abbrev pub Operates : BinOp → ℤ → ℤ → Value → Type 0
 Operates o a b v = (S : Setting) (callers : List Caller) (s : Slots) → binary_work S callers o (Number a) (Number b) s ≡ give_one v s
 
 -- `a OPERATOR b` gives a value
-abbrev pub GivesBinary : BinOp → Expr → Expr → Slots → Value → ℕ → Type 0
-GivesBinary o a b s v n =
-    (x : Expr) (left right : Rc Expr Global) → out-ExprKind x.kind ≡ e.Binary o left right → left.value ≡ a → right.value ≡ b → Gives x s v n
+abbrev pub GivesBinary : BinOp → Expr → Expr → Slots → Heap → Value → ℕ → Type 0
+GivesBinary o a b s h v n =
+    (x : Expr) (left right : Rc Expr Global) → out-ExprKind x.kind ≡ e.Binary o left right → left.value ≡ a → right.value ≡ b → Gives x s h v n
+
+-- `a[b]` gives a value
+abbrev pub GivesIndex : Expr → Expr → Slots → Heap → Value → ℕ → Type 0
+GivesIndex a b s h v n =
+    (x : Expr) (left right : Rc Expr Global) → out-ExprKind x.kind ≡ e.Index left right → left.value ≡ a → right.value ≡ b → Gives x s h v n

@@ -9,7 +9,6 @@ use Rattle.lua_ast.specs.declared.expressions.ExprKind.TheOpen as e
 use Rattle.lua_ast.specs.declared.statements.Stmt.{Stmt}
 use Rattle.lua_ast.specs.declared.statements.StmtKind.{out-StmtKind}
 use Rattle.lua_ast.specs.declared.statements.StmtKind.TheOpen as k
-use Rattle.lua_values.specs.declared.values.Value.TheVariants.{Number}
 use Rattle.lua_values.specs.Heap.{StoreView}
 use Rattle.lua_meaning.specs.declared.slots.Slot.{Slot}
 use Rattle.lua_meaning.specs.declared.slots.Slot.TheVariants.{Plain}
@@ -70,7 +69,7 @@ left_of loop_end.Over test body p s = give [] s
 left_of loop_end.Test test body p s = while_work test body p s
 left_of (loop_end.Body next) test body p s = and_then (block (drop next body) p s) (after_body (while_work test body p))
 
--- a slot has a number of its own
-abbrev pub has_number : Option Slot → Bool
-has_number (Some (Plain (Number n))) = true
-has_number slot = false
+-- a slot has a value of its own
+abbrev pub is_plain : Option Slot → Bool
+is_plain (Some (Plain v)) = true
+is_plain slot = false

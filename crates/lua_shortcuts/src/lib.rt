@@ -2,9 +2,11 @@
 #![tactic(auto)]
 
 mod counting;
+mod entries;
 mod loops;
 mod numbers;
 mod operators;
+mod places;
 mod statements;
 mod steps;
 mod tests;

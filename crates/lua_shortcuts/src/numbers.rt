@@ -1,4 +1,4 @@
-//! Expressions of numbers: literals, local variables that hold numbers, and arithmetic on these.
+//! Expressions of numbers: literals, variables and entries of tables that hold numbers, and arithmetic on these.
 
 ghost use Rattle.std.specs.Prelude.{◌≡◌, ◌<◌, IfSome};
 ghost use Rattle.std.specs.Prelude.{slice_get, Some};
@@ -8,10 +8,11 @@ ghost use Rattle.lua_meaning.specs.declared.slots.Slot.TheVariants.{Plain};
 ghost use Rattle.lua_shortcuts.specs.Gives.{Gives, GivesBinary};
 
 use crate::operators::computed;
+use crate::places::seen_of;
 use crate::steps::STEP_LIMIT;
 use lua_ast::{BinOp, Expr, ExprKind};
 use lua_meaning::Slot;
-use lua_values::Value;
+use lua_values::{Store, Value};
 use resty_base::Whole;
 
 /// How many operators may be within one another.
@@ -28,8 +29,8 @@ pub(crate) struct Counted {
 /// faults.
 #[cycle(numbers)]
 #[inline(always)]
-pub(crate) fn number_of(slots: &[Slot], x: &Expr, levels: u8) -> Option<Counted>
-    ensures gives { IfSome result (λ c. Gives x.now slots.now (Number c.number) c.steps) }
+pub(crate) fn number_of(slots: &[Slot], store: &Store, x: &Expr, levels: u8) -> Option<Counted>
+    ensures gives { IfSome result (λ c. Gives x.now slots.now store.now.heap (Number c.number) c.steps) }
     ensures few { IfSome result (λ c. c.steps < step_limit) }
 {
     match &x.kind {
@@ -38,24 +39,48 @@ pub(crate) fn number_of(slots: &[Slot], x: &Expr, levels: u8) -> Option<Counted>
             steps: 1,
         }),
         ExprKind::Slot(i) => in_slot(slots, *i),
-        ExprKind::Binary(operator, a, b) => operated(slots, *operator, a, b, levels),
+        ExprKind::Binary(operator, a, b) => operated(slots, store, *operator, a, b, levels),
+        ExprKind::Index(_, _) | ExprKind::Global(_) => number_seen(slots, store, x, levels),
         _ => None,
     }
 }
 
 /// The number that an operator gives on two such expressions.
 #[cycle(numbers)]
-fn operated(slots: &[Slot], operator: BinOp, a: &Expr, b: &Expr, levels: u8) -> Option<Counted>
-    ensures gives { IfSome result (λ c. GivesBinary operator a.now b.now slots.now (Number c.number) c.steps) }
+fn operated(
+    slots: &[Slot],
+    store: &Store,
+    operator: BinOp,
+    a: &Expr,
+    b: &Expr,
+    levels: u8,
+) -> Option<Counted>
+    ensures gives { IfSome result (λ c. GivesBinary operator a.now b.now slots.now store.now.heap (Number c.number) c.steps) }
     ensures few { IfSome result (λ c. c.steps < step_limit) }
 {
     if levels == 0 {
         return None;
     }
-    let a = number_of(slots, a, levels - 1)?;
-    let b = number_of(slots, b, levels - 1)?;
+    let a = number_of(slots, store, a, levels - 1)?;
+    let b = number_of(slots, store, b, levels - 1)?;
     let number = computed(operator, a.number, b.number)?;
     with_steps(number, a.steps + b.steps + 1)
+}
+
+/// The number that a global variable or an entry of a table holds.
+#[cycle(numbers)]
+fn number_seen(slots: &[Slot], store: &Store, x: &Expr, levels: u8) -> Option<Counted>
+    ensures gives { IfSome result (λ c. Gives x.now slots.now store.now.heap (Number c.number) c.steps) }
+    ensures few { IfSome result (λ c. c.steps < step_limit) }
+{
+    let seen = seen_of(slots, store, x, levels)?;
+    match seen.value {
+        Value::Number(n) => Some(Counted {
+            number: *n,
+            steps: seen.steps,
+        }),
+        _ => None,
+    }
 }
 
 /// The number in a slot, if it has one of its own.

@@ -1,15 +1,19 @@
-//! Statements that are run at once: a local variable gets a number.
+//! Statements that are run at once: a variable or an entry of a table gets a value.
 
-ghost use Rattle.std.specs.Prelude.{◌≡◌, ◌∷◌, ◌+◌, [], true, false, drop, slice_get, slice_set, IfSome, MatchOption};
+ghost use Rattle.std.specs.Prelude.{◌≡◌, ◌<◌, ◌∷◌, ◌+◌, [], true, false, drop, slice_get, slice_set, IfSome, MatchOption};
 ghost use Rattle.lua_ast.specs.declared.statements.Stmt.{Stmt as LuaStmt};
 ghost use Rattle.lua_values.specs.declared.values.Value.TheVariants.{Number};
 ghost use Rattle.lua_meaning.specs.declared.slots.Slot.TheVariants.{Plain};
 ghost use Rattle.lua_meaning.specs.Works.{Places};
 ghost use Rattle.lua_meaning.specs.Setting.{Setting};
 ghost use Rattle.lua_meaning.specs.Blocks.{block};
-ghost use Rattle.lua_shortcuts.specs.Runs.{Becomes, RunsIf, IsLocals, IsAssignments, IsAssignment, has_number};
+ghost use Rattle.lua_values.specs.Heap.{step_limit};
+ghost use Rattle.lua_shortcuts.specs.Gives.{Gives};
+ghost use Rattle.lua_shortcuts.specs.Runs.{Becomes, RunsIf, IsLocals, IsAssignments, IsAssignment, is_plain};
 
+use crate::entries::{run_global, run_store};
 use crate::numbers::{LEVELS, number_of};
+use crate::places::{Valued, value_of};
 use crate::steps::affords;
 use lua_ast::{Expr, ExprKind, Stmt, StmtKind};
 use lua_meaning::Slot;
@@ -21,19 +25,38 @@ use std::rc::Rc;
 pub(crate) fn put(slots: &mut Vec<Slot>, i: u8, number: Whole)
     ensures { slots.new.items ≡ slice_set slots.old.items i (Plain (Number number)) }
 {
+    put_value(slots, i, Value::Number(number));
+}
+
+/// A slot has a value of its own from now on, if it is there.
+#[inline(always)]
+fn put_value(slots: &mut Vec<Slot>, i: u8, value: Value)
+    ensures { slots.new.items ≡ slice_set slots.old.items i (Plain value) }
+{
     if let Some(slot) = slots.get_mut(i as usize) {
-        *slot = Slot::Plain(Value::Number(number));
+        *slot = Slot::Plain(value);
     }
 }
 
-/// Whether a slot has a number of its own.
+/// Whether a slot has a value of its own.
 #[inline(always)]
-fn has_number(slots: &[Slot], i: u8) -> bool
-    ensures { result ≡ has_number (slice_get slots.now i) }
+fn is_plain(slots: &[Slot], i: u8) -> bool
+    ensures { result ≡ is_plain (slice_get slots.now i) }
 {
     match slots.get(i as usize) {
-        Some(Slot::Plain(Value::Number(_))) => true,
+        Some(Slot::Plain(_)) => true,
         _ => false,
+    }
+}
+
+/// The value of an expression that is no expression of numbers, as `value_of` has it.
+fn other_value_of(slots: &[Slot], store: &Store, x: &Expr) -> Option<Valued>
+    ensures gives { IfSome result (λ v. Gives x.now slots.now store.now.heap v.value v.steps) }
+    ensures few { IfSome result (λ v. v.steps < step_limit) }
+{
+    match &x.kind {
+        ExprKind::Number(_) | ExprKind::Binary(_, _, _) => None,
+        _ => value_of(slots, store, x, LEVELS),
     }
 }
 
@@ -41,8 +64,8 @@ fn has_number(slots: &[Slot], i: u8) -> bool
 fn run_local(slots: &mut Vec<Slot>, store: &mut Store, i: u8, x: &Expr) -> bool
     ensures { (stmt : LuaStmt) → IsLocals (i ∷ []) (x.now ∷ []) stmt → RunsIf result stmt slots.old.items store.old slots.new.items store.new }
 {
-    match number_of(slots, x, LEVELS) {
-        None => false,
+    match number_of(slots, store, x, LEVELS) {
+        None => run_other_local(slots, store, i, x),
         Some(n) => {
             if !affords(store, n.steps + 1) {
                 return false;
@@ -54,22 +77,59 @@ fn run_local(slots: &mut Vec<Slot>, store: &mut Store, i: u8, x: &Expr) -> bool
     }
 }
 
-/// `NAME = x` of a local variable with a number that no closure shares, which counts a step, and one for its target.
+/// The same of an expression that is no expression of numbers.
+fn run_other_local(slots: &mut Vec<Slot>, store: &mut Store, i: u8, x: &Expr) -> bool
+    ensures { (stmt : LuaStmt) → IsLocals (i ∷ []) (x.now ∷ []) stmt → RunsIf result stmt slots.old.items store.old slots.new.items store.new }
+{
+    match other_value_of(slots, store, x) {
+        None => false,
+        Some(v) => {
+            let Valued { value, steps } = v;
+            if !affords(store, steps + 1) {
+                return false;
+            }
+            put_value(slots, i, value);
+            let _ = store.count(steps + 1);
+            true
+        }
+    }
+}
+
+/// `NAME = x` of a local variable that no closure shares, which counts a step, and one for its target.
 #[inline(always)]
 fn run_assignment(slots: &mut Vec<Slot>, store: &mut Store, i: u8, x: &Expr) -> bool
     ensures { (stmt : LuaStmt) → IsAssignment i x.now stmt → RunsIf result stmt slots.old.items store.old slots.new.items store.new }
 {
-    if !has_number(slots, i) {
+    if !is_plain(slots, i) {
         return false;
     }
-    match number_of(slots, x, LEVELS) {
-        None => false,
+    match number_of(slots, store, x, LEVELS) {
+        None => run_other_assignment(slots, store, i, x),
         Some(n) => {
             if !affords(store, n.steps + 2) {
                 return false;
             }
             put(slots, i, n.number);
             let _ = store.count(n.steps + 2);
+            true
+        }
+    }
+}
+
+/// The same of an expression that is no expression of numbers.
+fn run_other_assignment(slots: &mut Vec<Slot>, store: &mut Store, i: u8, x: &Expr) -> bool
+    requires { is_plain (slice_get slots.old.items i) ≡ true }
+    ensures { (stmt : LuaStmt) → IsAssignment i x.now stmt → RunsIf result stmt slots.old.items store.old slots.new.items store.new }
+{
+    match other_value_of(slots, store, x) {
+        None => false,
+        Some(v) => {
+            let Valued { value, steps } = v;
+            if !affords(store, steps + 2) {
+                return false;
+            }
+            put_value(slots, i, value);
+            let _ = store.count(steps + 2);
             true
         }
     }
@@ -126,13 +186,15 @@ fn run_locals(
     }
 }
 
-/// `TARGET = x`, where the target is a local variable.
+/// `TARGET = x`.
 #[inline(always)]
 fn run_target(slots: &mut Vec<Slot>, store: &mut Store, target: &Expr, x: &Expr) -> bool
     ensures { (stmt : LuaStmt) → IsAssignments (target.now ∷ []) (x.now ∷ []) stmt → RunsIf result stmt slots.old.items store.old slots.new.items store.new }
 {
     match &target.kind {
         ExprKind::Slot(i) => run_assignment(slots, store, *i, x),
+        ExprKind::Index(a, b) => run_store(slots, store, a, b, x),
+        ExprKind::Global(name) => run_global(slots, store, name, x),
         _ => false,
     }
 }

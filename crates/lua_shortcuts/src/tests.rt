@@ -22,12 +22,12 @@ struct Tested {
 
 /// Whether a comparison of two expressions of numbers holds; `None` of any other operator.
 #[inline(always)]
-fn compared_of(slots: &[Slot], operator: BinOp, a: &Expr, b: &Expr) -> Option<Tested>
-    ensures gives { IfSome result (λ t. GivesBinary operator a.now b.now slots.now (Truth t.holds) t.steps) }
+fn compared_of(slots: &[Slot], store: &Store, operator: BinOp, a: &Expr, b: &Expr) -> Option<Tested>
+    ensures gives { IfSome result (λ t. GivesBinary operator a.now b.now slots.now store.now.heap (Truth t.holds) t.steps) }
     ensures few { IfSome result (λ t. t.steps < 2 * step_limit) }
 {
-    let a = number_of(slots, a, LEVELS)?;
-    let b = number_of(slots, b, LEVELS)?;
+    let a = number_of(slots, store, a, LEVELS)?;
+    let b = number_of(slots, store, b, LEVELS)?;
     let holds = compared(operator, a.number, b.number)?;
     Some(Tested {
         holds,
@@ -37,8 +37,8 @@ fn compared_of(slots: &[Slot], operator: BinOp, a: &Expr, b: &Expr) -> Option<Te
 
 /// Whether a constant holds, or a comparison of expressions of numbers; `None` of any other test.
 #[inline(always)]
-fn test_of(slots: &[Slot], x: &Expr) -> Option<Tested>
-    ensures gives { IfSome result (λ t. Gives x.now slots.now (Truth t.holds) t.steps) }
+fn test_of(slots: &[Slot], store: &Store, x: &Expr) -> Option<Tested>
+    ensures gives { IfSome result (λ t. Gives x.now slots.now store.now.heap (Truth t.holds) t.steps) }
     ensures few { IfSome result (λ t. t.steps < 2 * step_limit) }
 {
     match &x.kind {
@@ -50,7 +50,7 @@ fn test_of(slots: &[Slot], x: &Expr) -> Option<Tested>
             holds: false,
             steps: 1,
         }),
-        ExprKind::Binary(operator, a, b) => compared_of(slots, *operator, a, b),
+        ExprKind::Binary(operator, a, b) => compared_of(slots, store, *operator, a, b),
         _ => None,
     }
 }
@@ -74,7 +74,7 @@ fn steps_of(test: Tested) -> u64
 pub(crate) fn take_test(slots: &[Slot], store: &mut Store, x: &Expr) -> Option<bool>
     ensures { MatchOption result (store.new ≡ store.old) (λ holds. Tests x.now slots.now holds store.old store.new) }
 {
-    let test = test_of(slots, x)?;
+    let test = test_of(slots, store, x)?;
     let steps = steps_of(test);
     if !affords(store, steps) {
         return None;

@@ -1,0 +1,99 @@
+-- What expressions give whose values stand somewhere.
+use Rattle.std.specs.Prelude.{◌≡◌, ℕ, ◌+◌, ◌<◌, Bool, true, false, if◌then◌else◌, List, [], ◌∷◌, Option, Some, None, IfSome, slice_get, refl}
+use Rattle.std.specs.declared.rc.Rc.{Rc}
+use Rattle.std.specs.declared.alloc.Global.{Global}
+use Rattle.std.proofs.Common.{sym, ◌∙◌, ap, subst, arith}
+use Rattle.std.proofs.lemmas.Bool.{lt-ltb}
+use Rattle.lua_ast.specs.declared.expressions.Expr.{Expr}
+use Rattle.lua_ast.specs.declared.expressions.ExprKind.{out-ExprKind}
+use Rattle.lua_ast.specs.declared.expressions.ExprKind.TheOpen as e
+use Rattle.lua_ast.specs.declared.expressions.ExprKind.TheViews.{outs-Global, outs-Index}
+use Rattle.lua_ast.specs.declared.expressions.ExprKind.TheVariants as v
+use Rattle.lua_values.specs.declared.values.Value.{Value}
+use Rattle.lua_values.specs.declared.values.Value.TheVariants.{Number, Table, Text}
+use Rattle.lua_values.specs.Heap.{Heap, step_limit}
+use Rattle.lua_values.specs.Pairs.{value_at}
+use Rattle.lua_values.specs.Values.{is_nil}
+use Rattle.lua_values.specs.StoreCalls.{pairs_of}
+use Rattle.lua_operators.specs.declared.events.Event.TheVariants.{Index}
+use Rattle.lua_meaning.specs.Works.{Places, Slots, Values, Work}
+use Rattle.lua_meaning.specs.Evaluator.{State, Ended, do_work}
+use Rattle.lua_meaning.specs.Setting.{Setting}
+use Rattle.lua_meaning.specs.Signs.{give_one, value}
+use Rattle.lua_meaning.specs.Metatables.{handler}
+use Rattle.lua_meaning.specs.Indexing.{index_work, index_without}
+use Rattle.lua_meaning.specs.Variables.{in_slot}
+use Rattle.lua_meaning.specs.Nodes.{eval}
+use Rattle.lua_meaning.proofs.Running.{Does, val, exp, seq, look, end}
+use Rattle.lua_shortcuts.specs.declared.places.Seen.{Seen}
+use Rattle.lua_shortcuts.specs.declared.places.Valued.{Valued}
+use Rattle.lua_shortcuts.specs.Gives.{later, Gives, GivesIndex}
+use Rattle.lua_shortcuts.proofs.ValueLemmas.{slot_gives, text_gives}
+
+-- local variables
+pub slot_seen : (x : Expr) (s : Slots) (h : Heap) (i : ℕ) (r : Option Seen) → x.kind ≡ v.Slot i → IfSome r (λ c. c.value.now ≡ in_slot (slice_get s i) h) → IfSome r (λ c. c.steps ≡ 1)
+    → IfSome r (λ c. Gives x s h c.value.now c.steps)
+slot_seen x s h i (Some c) is there steps =
+    subst (λ (k : ℕ). Gives x s h c.value.now k) (sym steps) (subst (λ (t : Value). Gives x s h t 1) (sym there) (slot_gives x s h i is))
+slot_seen x s h i None is there steps = tt
+
+-- what a table has at a key
+pub indexed : (S : Setting) (line t : ℕ) (key u : Value) (p : Places) (s : Slots) (w : State) → u ≡ value_at (pairs_of w.store.heap t) key → is_nil u ≡ false
+    → Does S (index_work S line (Table t) key p s) w (Ended (Values (u ∷ [])) s w)
+indexed S line t key u p s w is there = record {
+  is =
+      ap (λ (x : Value). do_work (eval S) (if is_nil x then index_without S (handler w.store.heap (Table t) Index) line (Table t) key p s else give_one x s) w) (sym is)
+      ∙ ap (λ (b : Bool). do_work (eval S) (if b then index_without S (handler w.store.heap (Table t) Index) line (Table t) key p s else give_one u s) w) there;
+}
+
+-- global variables
+pub global_gives : (x : Expr) (s : Slots) (h : Heap) (name : List ℕ) (u : Value) → x.kind ≡ v.Global name → u ≡ value_at (pairs_of h h.globals) (Text name) → is_nil u ≡ false → Gives x s h u 1
+global_gives x s h name u is at there = record {
+  one = λ S p w same few. (val {S = S} {x = x} {k = e.Global name} {p = p} {s = s} {w = w} (rw (is, outs-Global name) refl) (lt-ltb _ _ few) (look (indexed S x.line w.store.heap.globals (Text name) u p s (later 1 w) (subst (λ (g : Heap). u ≡ value_at (pairs_of g g.globals) (Text name)) (sym same) at) there))).is;
+  all = λ S p w same few. (exp {S = S} {x = x} {k = e.Global name} {p = p} {s = s} {w = w} (rw (is, outs-Global name) refl) (lt-ltb _ _ few) (look (indexed S x.line w.store.heap.globals (Text name) u p s (later 1 w) (subst (λ (g : Heap). u ≡ value_at (pairs_of g g.globals) (Text name)) (sym same) at) there))).is;
+}
+
+pub global_seen : (x : Expr) (s : Slots) (h : Heap) (name : List ℕ) (r : Option Seen) → x.kind ≡ v.Global name → IfSome r (λ c. c.value.now ≡ value_at (pairs_of h h.globals) (Text name)) → IfSome r (λ c. is_nil c.value.now ≡ false)
+    → IfSome r (λ c. c.steps ≡ 1) → IfSome r (λ c. Gives x s h c.value.now c.steps)
+global_seen x s h name (Some c) is at there steps = subst (λ (k : ℕ). Gives x s h c.value.now k) (sym steps) (global_gives x s h name c.value.now is at there)
+global_seen x s h name None is at there steps = tt
+
+-- entries of tables
+index_does : (S : Setting) (line : ℕ) (a b : Expr) (s : Slots) (h : Heap) (t : ℕ) (key u : Value) (i j : ℕ) (p : Places) (w : State) → w.store.heap ≡ h → Gives a s h (Table t) i → Gives b s h key j → u ≡ value_at (pairs_of h t) key → is_nil u ≡ false
+    → w.store.steps + (i + j + 1) < step_limit
+    → Does S (value a p s (λ x s'. value b p s' (λ y s''. index_work S line x y p s''))) (later 1 w) (Ended (Values (u ∷ [])) s (later (i + j + 1) w))
+index_does S line a b s h t key u i j p w same ga gb at there few =
+    seq (record { is = ga.one S p (later 1 w) same (omega (arith, few)) }) (seq (record { is = gb.one S p (later i (later 1 w)) same (omega (arith, few)) })
+    (record { is = (indexed S line t key u p s (later j (later i (later 1 w))) (subst (λ (g : Heap). u ≡ value_at (pairs_of g t) key) (sym same) at) there).is ∙ ap (λ (k : ℕ). Ended (Values (u ∷ [])) s (record w { store = record { heap = w.store.heap; steps = k } })) sums }))
+  where
+    sums : w.store.steps + 1 + i + j ≡ w.store.steps + (i + j + 1)
+    sums = omega arith
+
+pub index_gives : (x : Expr) (a b : Rc Expr Global) (s : Slots) (h : Heap) (t : ℕ) (key u : Value) (i j : ℕ) → out-ExprKind x.kind ≡ e.Index a b → Gives a.value s h (Table t) i → Gives b.value s h key j → u ≡ value_at (pairs_of h t) key → is_nil u ≡ false
+    → Gives x s h u (i + j + 1)
+index_gives x a b s h t key u i j is ga gb at there = record {
+  one = λ S p w same few. (val {S = S} {x = x} {k = e.Index a b} {p = p} {s = s} {w = w} is (lt-ltb _ _ (omega (arith, few))) (index_does S x.line a.value b.value s h t key u i j p w same ga gb at there few)).is;
+  all = λ S p w same few. (exp {S = S} {x = x} {k = e.Index a b} {p = p} {s = s} {w = w} is (lt-ltb _ _ (omega (arith, few))) (index_does S x.line a.value b.value s h t key u i j p w same ga gb at there few)).is;
+}
+
+pub index_seen : (a b : Expr) (s : Slots) (h : Heap) (t : ℕ) (object key found : Value) (i j : ℕ) (r : Option Seen) → object ≡ Table t → Gives a s h object i → Gives b s h key j → found ≡ value_at (pairs_of h t) key → IfSome r (λ c. c.value.now ≡ found) → IfSome r (λ c. is_nil c.value.now ≡ false)
+    → IfSome r (λ c. c.steps ≡ i + j + 1) → IfSome r (λ c. GivesIndex a b s h c.value.now c.steps)
+index_seen a b s h t object key found i j (Some c) table ga gb is_found at there sum = λ x left right is l r.
+    subst (λ (k : ℕ). Gives x s h c.value.now k) (sym sum)
+    (index_gives x left right s h t key c.value.now i j is (subst (λ (z : Expr). Gives z s h (Table t) i) (sym l) (subst (λ (o : Value). Gives a s h o i) table ga)) (subst (λ (z : Expr). Gives z s h key j) (sym r) gb) (at ∙ is_found) there)
+index_seen a b s h t object key found i j None table ga gb is_found at there sum = tt
+
+pub index_found : (x : Expr) (a b : Rc Expr Global) (y z : Expr) (s : Slots) (h : Heap) (r : Option Seen) → x.kind ≡ v.Index a b → y ≡ a.value → z ≡ b.value → IfSome r (λ c. GivesIndex y z s h c.value.now c.steps) → IfSome r (λ c. Gives x s h c.value.now c.steps)
+index_found x a b y z s h (Some c) is l r g = g x a b (rw (is, outs-Index a b) refl) (sym l) (sym r)
+index_found x a b y z s h None is l r g = tt
+
+-- values that are copied
+pub seen_copied : (x : Expr) (s : Slots) (h : Heap) (c : Seen) (value : Value) (steps : ℕ) (r : Option Valued) → value ≡ c.value.now → steps ≡ c.steps → Gives x s h c.value.now c.steps → IfSome r (λ v. v.value ≡ value) → IfSome r (λ v. v.steps ≡ steps)
+    → IfSome r (λ v. Gives x s h v.value v.steps)
+seen_copied x s h c value steps (Some v) same many g is sum =
+    subst (λ (k : ℕ). Gives x s h v.value k) (sym (sum ∙ many)) (subst (λ (u : Value). Gives x s h u c.steps) (sym (is ∙ same)) g)
+seen_copied x s h c value steps None same many g is sum = tt
+
+pub text_seen : (x : Expr) (s : Slots) (h : Heap) (t : List ℕ) (r : Option Valued) → x.kind ≡ v.Text t → IfSome r (λ v. v.value ≡ Text t) → IfSome r (λ v. v.steps ≡ 1) → IfSome r (λ v. Gives x s h v.value v.steps)
+text_seen x s h t (Some c) is value steps = subst (λ (k : ℕ). Gives x s h c.value k) (sym steps) (subst (λ (u : Value). Gives x s h u 1) (sym value) (text_gives x s h t is))
+text_seen x s h t None is value steps = tt

@@ -1,0 +1,177 @@
+//! Expressions whose values stand somewhere: local and global variables, and entries of tables.
+
+ghost use Rattle.std.specs.Prelude.{◌≡◌, ◌<◌, false, slice_get, IfSome};
+ghost use Rattle.lua_values.specs.declared.values.Value.TheVariants.{Text};
+ghost use Rattle.lua_values.specs.Pairs.{value_at};
+ghost use Rattle.lua_values.specs.StoreCalls.{pairs_of};
+ghost use Rattle.lua_values.specs.Values.{is_nil};
+ghost use Rattle.lua_meaning.specs.Variables.{in_slot};
+ghost use Rattle.lua_values.specs.Heap.{step_limit};
+ghost use Rattle.lua_shortcuts.specs.Gives.{Gives, GivesIndex};
+
+use crate::numbers::number_of;
+use crate::steps::STEP_LIMIT;
+use lua_ast::{Expr, ExprKind};
+use lua_meaning::Slot;
+use lua_values::{Store, Value};
+use resty_base::Bytes;
+
+/// A value where it stands, and how many steps its expression counts.
+#[derive(Clone, Copy)]
+pub(crate) struct Seen<'a> {
+    pub value: &'a Value,
+    pub steps: u64,
+}
+
+/// A value of its own, and how many steps its expression counts.
+#[derive(Drop)]
+pub(crate) struct Valued {
+    pub value: Value,
+    pub steps: u64,
+}
+
+/// Where the value of a variable or of an entry of a table stands. `None` of any other expression, and where a metatable may be asked.
+#[cycle(numbers)]
+pub(crate) fn seen_of<'a>(
+    slots: &'a [Slot],
+    store: &'a Store,
+    x: &Expr,
+    levels: u8,
+) -> Option<Seen<'a>>
+    ensures gives { IfSome result (λ seen. Gives x.now slots.now store.now.heap seen.value.now seen.steps) }
+    ensures few { IfSome result (λ seen. seen.steps < step_limit) }
+{
+    match &x.kind {
+        ExprKind::Slot(i) => seen_in_slot(slots, store, *i),
+        ExprKind::Global(name) => seen_global(store, name),
+        ExprKind::Index(a, b) => seen_at(slots, store, a, b, levels),
+        _ => None,
+    }
+}
+
+/// What stands in a slot, or in the cell that it shares.
+#[inline(always)]
+fn seen_in_slot<'a>(slots: &'a [Slot], store: &'a Store, i: u8) -> Option<Seen<'a>>
+    ensures value { IfSome result (λ seen. seen.value.now ≡ in_slot (slice_get slots.now i) store.now.heap) }
+    ensures steps { IfSome result (λ seen. seen.steps ≡ 1) }
+{
+    match slots.get(i as usize) {
+        Some(Slot::Plain(value)) => Some(Seen { value, steps: 1 }),
+        Some(Slot::Shared(c)) => Some(Seen {
+            value: store.cell(*c),
+            steps: 1,
+        }),
+        None => None,
+    }
+}
+
+/// What the global table has at a name, if it has something.
+fn seen_global<'a>(store: &'a Store, name: &Bytes) -> Option<Seen<'a>>
+    ensures value { IfSome result (λ seen. seen.value.now ≡ value_at (pairs_of store.now.heap store.now.heap.globals) (Text name.now)) }
+    ensures there { IfSome result (λ seen. is_nil seen.value.now ≡ false) }
+    ensures steps { IfSome result (λ seen. seen.steps ≡ 1) }
+{
+    match name.clone() {
+        Ok(name) => there(store.get(store.globals(), &Value::Text(name)), 1),
+        Err(_) => None,
+    }
+}
+
+/// What a table has at a key, if it has something.
+#[cycle(numbers)]
+fn seen_at<'a>(
+    slots: &'a [Slot],
+    store: &'a Store,
+    a: &Expr,
+    b: &Expr,
+    levels: u8,
+) -> Option<Seen<'a>>
+    ensures gives { IfSome result (λ seen. GivesIndex a.now b.now slots.now store.now.heap seen.value.now seen.steps) }
+    ensures few { IfSome result (λ seen. seen.steps < step_limit) }
+{
+    if levels == 0 {
+        return None;
+    }
+    let object = seen_of(slots, store, a, levels - 1)?;
+    match object.value {
+        Value::Table(t) => {
+            let key = value_of(slots, store, b, levels - 1)?;
+            there(store.get(*t, &key.value), object.steps + key.steps + 1)
+        }
+        _ => None,
+    }
+}
+
+/// A value that isn't nil, if its steps are few enough for a run.
+#[inline(always)]
+fn there(value: &Value, steps: u64) -> Option<Seen<'_>>
+    ensures value { IfSome result (λ seen. seen.value.now ≡ value.now) }
+    ensures there { IfSome result (λ seen. is_nil seen.value.now ≡ false) }
+    ensures steps { IfSome result (λ seen. seen.steps ≡ steps) }
+    ensures few { IfSome result (λ seen. seen.steps < step_limit) }
+{
+    if value.is_nil() || steps >= STEP_LIMIT {
+        None
+    } else {
+        Some(Seen { value, steps })
+    }
+}
+
+/// The value of a constant, of a variable, of an entry of a table, or of an expression of numbers. `None` of any other expression.
+#[cycle(numbers)]
+pub(crate) fn value_of(slots: &[Slot], store: &Store, x: &Expr, levels: u8) -> Option<Valued>
+    ensures gives { IfSome result (λ v. Gives x.now slots.now store.now.heap v.value v.steps) }
+    ensures few { IfSome result (λ v. v.steps < step_limit) }
+{
+    match &x.kind {
+        ExprKind::Nil => Some(Valued {
+            value: Value::Nil,
+            steps: 1,
+        }),
+        ExprKind::True => Some(Valued {
+            value: Value::Truth(true),
+            steps: 1,
+        }),
+        ExprKind::False => Some(Valued {
+            value: Value::Truth(false),
+            steps: 1,
+        }),
+        ExprKind::Text(text) => text_value(text),
+        ExprKind::Number(_) | ExprKind::Binary(_, _, _) => {
+            let n = number_of(slots, store, x, levels)?;
+            Some(Valued {
+                value: Value::Number(n.number),
+                steps: n.steps,
+            })
+        }
+        _ => {
+            let seen = seen_of(slots, store, x, levels)?;
+            copied(seen.value, seen.steps)
+        }
+    }
+}
+
+/// A text.
+fn text_value(text: &Bytes) -> Option<Valued>
+    ensures value { IfSome result (λ v. v.value ≡ Text text.now) }
+    ensures steps { IfSome result (λ v. v.steps ≡ 1) }
+{
+    match text.clone() {
+        Ok(text) => Some(Valued {
+            value: Value::Text(text),
+            steps: 1,
+        }),
+        Err(_) => None,
+    }
+}
+
+/// A value of its own, of one that stands somewhere.
+fn copied(value: &Value, steps: u64) -> Option<Valued>
+    ensures value { IfSome result (λ v. v.value ≡ value.now) }
+    ensures steps { IfSome result (λ v. v.steps ≡ steps) }
+{
+    match value.clone() {
+        Ok(value) => Some(Valued { value, steps }),
+        Err(_) => None,
+    }
+}
