@@ -15,7 +15,7 @@ use Rattle.resty.specs.Due.{CutsShort, IsCutShort, IsDue}
 use Rattle.resty.specs.Ending.{site_status, status_of}
 use Rattle.resty.specs.Ends.{AreOfOneStatus, IsStatusBy, IsJudged, IsComplete, IsDoneOr, EndsEarly, FailedToRead, ReachesUnknown}
 use Rattle.resty.specs.Outside.{Outside}
-use Rattle.site_load.specs.Loading.{IsFault, NotLoaded}
+use Rattle.site_load.specs.Loading.{NotLoaded}
 use Rattle.site_load.specs.declared.faults.SiteFault.{SiteFault}
 use Rattle.site_load.specs.declared.faults.SiteFault.TheVariants as fault
 use Rattle.resty.specs.Verdict.{Verdict, Usage, NoSite, Missing, TooLong, BadLine, Checks, Runs, Serves, IsOf, IsVerdict, ending_of}

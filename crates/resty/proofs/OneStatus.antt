@@ -1,13 +1,12 @@
 -- The words and the files have verdicts of one status, and one where nothing is refused.
-use Rattle.std.proofs.Common.{◌≡◌, ℕ, ◌<◌, Bool, true, false, ◌⊎◌, inl, inr, List, length, Option, Some, None, refl, sym, ◌∙◌, ap, subst, arith, if◌then◌else◌}
+use Rattle.std.proofs.Common.{◌≡◌, ℕ, Bool, true, false, ◌⊎◌, inl, inr, List, length, Option, Some, None, refl, sym, ◌∙◌, ap, subst, arith}
 use Rattle.resty_base.specs.FileMap.{FileMap}
 use Rattle.resty_world.specs.declared.schedule_line.SchedLine.{SchedLine}
 use Rattle.schedule_text.specs.Accepted.{IsRead, IsRefusedAt}
 use Rattle.schedule_text.specs.Fitting.{IsSchedule}
 use Rattle.schedule_text.specs.LineTexts.{schedule_text}
-use Rattle.lua_run.specs.Answers.{Site}
 use Rattle.module_files.specs.Files.{Holds, IsTooLong}
-use Rattle.site_load.specs.Loading.{HasSite, IsFault}
+use Rattle.site_load.specs.Loading.{IsFault}
 use Rattle.site_load.specs.Same.{SitesAreKnown, NoSiteIsRefused, FaultsAreAlike, is_unread}
 use Rattle.site_load.specs.declared.faults.SiteFault.{SiteFault}
 use Rattle.site_load.specs.declared.faults.SiteFault.TheVariants as fault

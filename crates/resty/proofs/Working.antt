@@ -33,7 +33,7 @@ use Rattle.resty.specs.Sites.{site_behavior}
 use Rattle.resty.specs.Verdict.{Verdict, Missing, TooLong, BadLine, Checks, Runs, Serves, IsChecked, HasSchedule, IsOf, ending_of}
 use Rattle.resty.specs.Words.{Command}
 use Rattle.resty.specs.Works.{Works}
-use Rattle.resty.specs.Writing.{Writes, WritesBy, WritesRun, WritesCheck, WritesHistory, whole, cut, none, WritesHistoryOf, WritesOk, HasBadSchedule, IsRunOf, ending_with}
+use Rattle.resty.specs.Writing.{Writes, WritesBy, WritesRun, WritesCheck, WritesHistory, whole, cut, none, WritesHistoryOf, WritesOk, IsRunOf, ending_with}
 use Rattle.resty.proofs.Names.{by_test, weaker_some, both_some}
 use Rattle.resty.proofs.Story.{few-events}
 

@@ -1,12 +1,11 @@
 -- Reading the files that the words name.
 use Rattle.std.specs.Prelude.{◌≡◌, ℕ, List, None, IfSome}
 use Rattle.resty_base.specs.Counting.{Rose}
-use Rattle.resty_base.specs.FileMap.{FileMap, FileAccount}
+use Rattle.resty_base.specs.FileMap.{FileAccount}
 use Rattle.module_files.specs.Files.{IsTooLong}
 use Rattle.resty.specs.declared.endings.Ending.{Ending}
 use Rattle.resty.specs.declared.endings.Ending.TheVariants as ending
-use Rattle.resty.specs.Verdict.{Verdict, IsBadAt, most_bytes}
-use Rattle.resty.specs.Words.{Command}
+use Rattle.resty.specs.Verdict.{IsBadAt, most_bytes}
 
 -- reading the file of this name failed
 abbrev pub FailedAt : List ℕ → FileAccount → FileAccount → Type 0
