@@ -33,7 +33,8 @@ local function count() local n = 0 return function() n = n + 1 return n end end 
 local t = setmetatable({}, {__index = function(t, k) return k .. "!" end}) ngx.say(t.a, t.b) => a!b!\n
 local t = setmetatable({}, {__add = function(a, b) return "sum" end}) ngx.say(t + 1) => sum\n
 for k, v in pairs({x = 1}) do ngx.say(k, "=", v) end for i, v in ipairs({"a", "b"}) do ngx.print(i, v) end => x=1\n1a2b
-ngx.say(pcall(function() return 99999999999999 + 1 end)) ngx.say(pcall(function() return 7/2 end)) ngx.say(-7 % 3) => falset.conf:2: number out of range\nfalset.conf:2: number has no whole result\n2\n
+ngx.say(pcall(function() return 99999999999999 + 1 end)) ngx.say(-7 % 3) => falset.conf:2: number out of range\n2\n
+ngx.say(pcall(function() return 7/2 end)) => falset.conf:2: number has no whole result\n
 ngx.say(pcall(function() return 1 % 0 end)) => falset.conf:2: attempt to divide by zero\n
 ngx.say(pcall(error, {1})) ngx.say(select("#", 1, nil)) ngx.say(tostring(nil), type(ngx.say)) => false1\n2\nnilfunction\n
 ngx.say(pcall(function() error("e", 0) end)) ngx.say((select(2, pcall(function() error("e") end)))) => falsee\nt.conf:2: e\n
