@@ -1,22 +1,8 @@
-//! The program: its words, the files that they name, the run, and what it writes.
+//! The program: it gives the commands the words, the files, the sockets, the clock and the streams of the system.
 #![tactic(auto)]
 
-mod checking;
-mod command_line;
-mod endings;
-pub mod laws;
-mod messages;
-mod program;
-mod reading;
-mod replaying;
-mod serving;
-mod work;
-mod writing;
-
-pub use endings::Status;
+use commands::{Status, put_out_of_memory, put_usage, resty};
 use live_world::Live;
-use messages::{put_out_of_memory, put_usage};
-pub use program::resty;
 use resty_base::{DiskFiles, Sink, StdSink};
 use std::env;
 use std::io::{self, ErrorKind};
@@ -52,6 +38,3 @@ fn run_words<E: Sink>(rt: &HostRuntime, words: &[String], err: &mut E) -> Status
     let mut out = StdSink::new(rt.stdout());
     resty(rt.alloc(), words, &mut files, &mut live, &mut out, err)
 }
-
-#[cfg(test)]
-mod tests;

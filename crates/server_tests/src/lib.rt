@@ -1,10 +1,12 @@
-//! Tests of the crates that the program stands on, by their public calls.
+//! Tests of the program, and of the crates that it stands on, by their public calls.
 #![tactic(auto)]
 
 #[cfg(test)]
 mod base;
 #[cfg(test)]
 mod mute;
+#[cfg(test)]
+mod program;
 #[cfg(test)]
 mod replays;
 #[cfg(test)]

@@ -1,7 +1,0 @@
--- What contracts see of a command.
-use Rattle.resty.specs.declared.command_line.Command as code
-use Rattle.resty.specs.Words.{Command}
-
--- the command
-abbrev pub said : code.Command → Command
-said c = record { mode = c.mode; conf = c.conf.now; schedule = c.schedule.now; events = c.events }
