@@ -1,4 +1,5 @@
 pub mod Steps
+pub mod Keywords
 pub mod Bodies
 pub mod Numbers
 pub mod Closings
