@@ -23,6 +23,9 @@ use std::alloc::Global;
 /// The length of the longest text that is read.
 const LONGEST: usize = 1_048_576;
 
+/// Room is made for one token in so many bytes of text; where there are more, the list grows.
+const BYTES_A_TOKEN: usize = 3;
+
 /// The comment at the front.
 #[tactic(auto, unfolding(crate::specs::Tokens::comment))]
 fn comment(text: &[u8], line: u32) -> Result<Piece, LexFault>
@@ -94,7 +97,7 @@ fn tokens_of(alloc: Global, text: Bytes, line: u32) -> Result<Vec<Token>, LexFau
     ensures value { Gives (λ tokens. tokens.items) result (tokens_of line text) }
     ensures order { IfOk result (λ tokens. AreInOrder line 0 tokens.items (length text)) }
 {
-    let mut tokens = Vec::new(alloc);
+    let mut tokens = Vec::with_capacity(alloc, text.len() / BYTES_A_TOKEN)?;
     let mut line = line;
     let mut start = 0;
     let mut rest = text;

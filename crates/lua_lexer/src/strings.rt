@@ -152,7 +152,7 @@ fn decoded(alloc: Global, body: &[u8], line: u32) -> Result<Vec<u8>, LexFault>
     requires { line + length body.now < 2 ^ 32 }
     ensures { Gives (λ bytes. bytes.items) result (decoded line body.now) }
 {
-    let mut bytes = Vec::new(alloc);
+    let mut bytes = Vec::with_capacity(alloc, body.len())?;
     let mut line = line;
     let mut rest = body;
     while !rest.is_empty() {

@@ -6,7 +6,7 @@ use Rattle.lua_lexer.proofs.lexer.tokens_of.Goals as goal
 
 pub returns-in_err-kind-clause-value : goal.returns-in_err-kind-clause-value
 returns-in_err-kind-clause-value c =
-    let p = err_from_is_err_and c.from_residual.result c.from_residual.ensures.1 in
+    let p = err_from_is_err_and c.from_residual-in_err-kind.result c.from_residual-in_err-kind.ensures.1 in
     rw (p.1, p.2) (λ other. tokens_wrong _ _ _ _ _ _ (search rules) c.loop-alloc.invariant.0 (c.in_err-kind.ensures.value other))
 
 pub loop-alloc-preserved : goal.loop-alloc-preserved
