@@ -21,3 +21,4 @@ pub mod SignPieces
 pub mod BracketPieces
 pub mod StringPieces
 pub mod Lexes
+pub mod Lines

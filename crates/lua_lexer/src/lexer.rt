@@ -1,11 +1,12 @@
 //! The tokens of a text, one piece after another.
 
-ghost use Rattle.std.specs.Prelude.{◌≡◌, ◌≢◌, ◌≤◌, ◌<◌, ◌+◌, ◌^◌, ◌++◌, OnOk, IfOk, IfErr, length};
+ghost use Rattle.std.specs.Prelude.{◌≡◌, ◌≢◌, ◌≤◌, ◌<◌, ◌+◌, ◌^◌, ◌++◌, OnOk, IfOk, IfErr, length, take, drop};
 ghost use Rattle.lua_lexer.specs.Comments.{comment_size};
-ghost use Rattle.lua_lexer.specs.Lexical.{HasTokens, HasFault};
+ghost use Rattle.lua_lexer.specs.Characters.{line_ends};
+ghost use Rattle.lua_lexer.specs.Lexical.{HasTokens, HasFault, IsPiece};
 ghost use Rattle.lua_lexer.specs.Tokens.{comment, piece, token_of, tokens_of};
 ghost use Rattle.lua_lexer.specs.Order.{AreInOrder};
-ghost use Rattle.lua_lexer.specs.Pieces.{IsPieceOf};
+ghost use Rattle.lua_lexer.specs.Pieces.{IsPieceOf, may_end_lines};
 ghost use Rattle.lua_lexer.specs.Readings.{Gives};
 
 use crate::brackets::opens;
@@ -69,6 +70,29 @@ fn piece(alloc: Global, text: &Bytes, line: u32) -> Result<Piece, LexFault>
     }
 }
 
+/// Line ends may stand in a piece of this kind: in blanks, a comment or a string.
+fn may_end_lines(kind: &Option<TokenKind>) -> bool
+    ensures { result ≡ may_end_lines kind.now }
+{
+    matches!(kind, None | Some(TokenKind::Text(_)))
+}
+
+/// How many line ends stand in the piece of this size and kind at the front.
+#[tactic(auto, using(crate::proofs::Lines::no_lines_in))]
+fn lines_of_piece(text: &[u8], size: usize, kind: &Option<TokenKind>) -> u32
+    requires piece { IsPiece (take size text.now) (drop size text.now) kind.now }
+    requires within { size ≤ length text.now }
+    requires room { length text.now < 2 ^ 32 }
+    ensures value { result ≡ line_ends (take size text.now) }
+    ensures within { result ≤ size }
+{
+    if may_end_lines(kind) {
+        line_ends(first_bytes(text, size))
+    } else {
+        0
+    }
+}
+
 /// Puts a token at the end, where there is a kind.
 fn push_token(
     tokens: &mut Vec<Token>,
@@ -103,8 +127,9 @@ fn tokens_of(alloc: Global, text: Bytes, line: u32) -> Result<Vec<Token>, LexFau
     let mut rest = text;
     while !rest.is_empty() {
         let Piece { kind, size } = piece(alloc, &rest, line)?;
+        let lines = lines_of_piece(rest.as_slice(), size, &kind);
         push_token(&mut tokens, kind, line, start, start + size)?;
-        line += line_ends(first_bytes(rest.as_slice(), size));
+        line += lines;
         rest.advance(size);
         start += size;
     }
