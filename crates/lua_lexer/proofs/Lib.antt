@@ -20,5 +20,6 @@ pub mod NumeralPieces
 pub mod SignPieces
 pub mod BracketPieces
 pub mod StringPieces
+pub mod PlainBodies
 pub mod Lexes
 pub mod Lines

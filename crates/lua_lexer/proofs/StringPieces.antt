@@ -204,7 +204,7 @@ body_over quote after body bytes is (IsBody.more {element} {rest} {bytes = other
     ap (body_after quote 0) (append_assoc element rest after) ∙ omega (arith, first, next, length-append element rest)
 
 -- what an element stands for
-plain_element : (line c : ℕ) (after : List ℕ) → (c == 92) ≡ false → first_element line (c ∷ after) ≡ Ok (record { byte = c; size = 1 })
+pub plain_element : (line c : ℕ) (after : List ℕ) → (c == 92) ≡ false → first_element line (c ∷ after) ≡ Ok (record { byte = c; size = 1 })
 unfolding first_element
 plain_element line c after other = rw other refl
 

@@ -40,7 +40,7 @@ fn comment(text: &[u8], line: u32) -> Result<Piece, LexFault>
     }
 }
 
-/// The piece at the front of a text. A name shares the text.
+/// The piece at the front of a text, which names and strings may share.
 #[tactic(auto, unfolding(crate::specs::Tokens::piece))]
 fn piece(alloc: Global, text: &Bytes, line: u32) -> Result<Piece, LexFault>
     requires some { 0 < length text.now }
@@ -60,7 +60,7 @@ fn piece(alloc: Global, text: &Bytes, line: u32) -> Result<Piece, LexFault>
     } else if first.is_ascii_digit() {
         numeral(bytes, line)
     } else if is_quote(first) {
-        short_string(alloc, bytes, line)
+        short_string(alloc, text, line)
     } else if is_comment(bytes) {
         comment(bytes, line)
     } else if opens(bytes) {
@@ -115,7 +115,7 @@ fn push_token(
     Ok(())
 }
 
-/// The tokens of a text that begins on the line `line`, however long it is. Names share the text.
+/// The tokens of a text that begins on the line `line`, however long it is, which names and strings may share.
 fn tokens_of(alloc: Global, text: Bytes, line: u32) -> Result<Vec<Token>, LexFault>
     requires { line + length text < 2 ^ 32 }
     ensures value { Gives (λ tokens. tokens.items) result (tokens_of line text) }
@@ -137,8 +137,8 @@ fn tokens_of(alloc: Global, text: Bytes, line: u32) -> Result<Vec<Token>, LexFau
 }
 
 /// The tokens of a text that begins on the line `line`, by the lexical rules (Lua 5.1 manual, 2.1). A fault is the first
-/// that is met; `TooLong` comes before all others, with the line that was passed in. `Memory` is out of memory. The names
-/// share one copy of the text.
+/// that is met; `TooLong` comes before all others, with the line that was passed in. `Memory` is out of memory. Names, and
+/// strings without a backslash, share one copy of the text.
 #[tactic(auto, using(crate::proofs::Lexes::tokens_by_rules, crate::proofs::Lexes::fault_by_rules, crate::proofs::Lexes::too_long))]
 pub fn lex(alloc: Global, text: &[u8], line: u32) -> Result<Vec<Token>, LexFault>
     requires { line ≤ 4_293_918_719 }
