@@ -20,6 +20,7 @@ pub mod NumeralPieces
 pub mod SignPieces
 pub mod BracketPieces
 pub mod StringPieces
+pub mod Spans
 pub mod PlainBodies
 pub mod Lexes
 pub mod Lines
