@@ -77,7 +77,7 @@ ok_same reading x y p q = cc
 no_both : (reading : Result Piece LexFault) (found : Piece) (fault : LexFault) → reading ≡ Ok found → reading ≡ Err fault → ⊥
 no_both reading found fault p q = cc
 
-sound_piece : (line : ℕ) (text : List ℕ) (found : Piece) → 0 < length text → piece line text ≡ Ok found → IsRead text found
+pub sound_piece : (line : ℕ) (text : List ℕ) (found : Piece) → 0 < length text → piece line text ≡ Ok found → IsRead text found
 sound_piece line text found some reads = subst (Sound line text) reads (sound line text some)
 
 sound_fault : (line : ℕ) (text : List ℕ) (fault : LexFault) → 0 < length text → piece line text ≡ Err fault → IsFault line text fault

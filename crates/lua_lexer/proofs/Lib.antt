@@ -1,4 +1,5 @@
 pub mod Steps
+pub mod Keywords
 pub mod Bodies
 pub mod Numbers
 pub mod Closings
@@ -19,4 +20,7 @@ pub mod NumeralPieces
 pub mod SignPieces
 pub mod BracketPieces
 pub mod StringPieces
+pub mod Spans
+pub mod PlainBodies
 pub mod Lexes
+pub mod Lines

@@ -1,5 +1,5 @@
 -- The tokens of a text, one piece on.
-use Rattle.std.proofs.Common.{◌≡◌, ℕ, zero, suc, ◌+◌, ◌-◌, ◌<◌, ◌≤◌, List, [], ◌∷◌, ◌++◌, length, drop, take, Result, Ok, Err, refl, ap, sym, ◌∙◌, arith, append-nil, length-drop, length-take-le}
+use Rattle.std.proofs.Common.{◌≡◌, ℕ, zero, suc, ◌+◌, ◌-◌, ◌<◌, ◌≤◌, List, [], ◌∷◌, ◌++◌, length, drop, take, Result, Ok, Err, refl, ap, sym, ◌∙◌, arith, append-nil, length-drop}
 use Rattle.lua_lexer.specs.Characters.{line_ends}
 use Rattle.lua_lexer.specs.Tokens.{piece, token_of, tokens_after}
 use Rattle.lua_lexer.specs.Pieces.{IsPieceOf}
@@ -39,18 +39,18 @@ tokens_step line start (c ∷ cs) found some right size =
 
 -- an iteration of the listing
 pub tokens_kept :
-    (tokens pushed : List Token) (rest after taken : List ℕ) (total : Result (List Token) LexFault) (line start add room len : ℕ) (found : Piece)
+    (tokens pushed : List Token) (rest after : List ℕ) (total : Result (List Token) LexFault) (line start add room len : ℕ) (found : Piece)
     → 0 < length rest
     → (with_front tokens (tokens_after 0 line start rest) ≡ total) × (line + length rest ≤ room) × (start + length rest ≡ len)
     → piece line rest ≡ Ok found → IsPieceOf rest found
-    → pushed ≡ tokens ++ token_of line start found.kind (start + found.size) → (add ≡ line_ends taken) × (add ≤ length taken)
-    → taken ≡ take found.size rest → after ≡ drop found.size rest
+    → pushed ≡ tokens ++ token_of line start found.kind (start + found.size) → (add ≡ line_ends (take found.size rest)) × (add ≤ found.size)
+    → after ≡ drop found.size rest
     → (with_front pushed (tokens_after 0 (line + add) (start + found.size) after) ≡ total) × (line + add + length after ≤ room)
     × (start + found.size + length after ≡ len)
-tokens_kept tokens pushed rest after taken total line start add room len found some was right size pushes adds is_taken left =
+tokens_kept tokens pushed rest after total line start add room len found some was right size pushes adds left =
     let step = tokens_step line start rest found some right size.some in
-    let most : add ≤ found.size = omega (arith, adds.1, ap length is_taken, length-take-le found.size rest size.within) in (
-      rw (pushes, adds.0, is_taken, left) (sym (with_front-with_front tokens (token_of line start found.kind (start + found.size)) _) ∙ ap (with_front tokens) (sym step) ∙ was.0),
+    let most = adds.1 in (
+      rw (pushes, adds.0, left) (sym (with_front-with_front tokens (token_of line start found.kind (start + found.size)) _) ∙ ap (with_front tokens) (sym step) ∙ was.0),
       rw left (omega (arith, most, was.1, size.within, length-drop found.size rest)),
       rw left (omega (arith, was.2, size.within, length-drop found.size rest)),
     )

@@ -43,15 +43,15 @@ at_most_one false = omega arith
 
 -- an iteration that counts
 pub line_ends_kept :
-    (count add total room n size : ℕ) (flag : Bool) (rest after : List ℕ) → 0 < length rest
+    (count add total room n : ℕ) (flag : Bool) (rest after : List ℕ) → 0 < length rest
     → (count + line_ends_after 0 rest ≡ total) × (count + length rest ≤ room) → add ≡ bool_byte flag
-    → flag ≡ is_line_byte (get_or rest 0 0) → after ≡ drop n rest → n ≡ max size 1 → size ≡ line_end rest
+    → flag ≡ is_line_byte (get_or rest 0 0) → after ≡ drop n rest → 0 < n
+    → line_ends_after 0 rest ≡ cond (is_line_byte (get_or rest 0 0)) 1 0 + line_ends_after 0 (drop n rest)
     → (count + add + line_ends_after 0 after ≡ total) × (count + add + length after ≤ room)
-line_ends_kept count add total room n size flag rest after some was adds is_end left larger ended =
-    let step = line_ends_step rest some in
+line_ends_kept count add total room n flag rest after some was adds is_end left forward step =
     let one = one_or_none (is_line_byte (get_or rest 0 0)) in
     let most = at_most_one (is_line_byte (get_or rest 0 0)) in
-    rw (left, adds, is_end, larger, ended) (omega (arith, step, one, was.0), omega (arith, was.1, most, length-drop (max (line_end rest) 1) rest))
+    rw (left, adds, is_end) (omega (arith, step, one, was.0), omega (arith, was.1, most, length-drop n rest))
 
 pub line_ends_none : (rest : List ℕ) → length rest ≡ 0 → line_ends_after 0 rest ≡ 0
 unfolding line_ends_after

@@ -26,7 +26,7 @@ use Rattle.lua_lexer.proofs.Runs.{run_all, run_exact, run_some, run_stops, all_r
 use Rattle.lua_lexer.proofs.Steps.{line_ends_step}
 
 -- classes of bytes that don't overlap
-digit_no_line : (c : ℕ) → is_ascii_digit c ≡ true → is_line_byte c ≡ false
+pub digit_no_line : (c : ℕ) → is_ascii_digit c ≡ true → is_line_byte c ≡ false
 digit_no_line c digit = grind (arith, nat_tests)
 
 digit_no_quote : (quote c : ℕ) → is_quote quote ≡ true → is_ascii_digit c ≡ true → (c == quote) ≡ false
@@ -204,7 +204,7 @@ body_over quote after body bytes is (IsBody.more {element} {rest} {bytes = other
     ap (body_after quote 0) (append_assoc element rest after) ∙ omega (arith, first, next, length-append element rest)
 
 -- what an element stands for
-plain_element : (line c : ℕ) (after : List ℕ) → (c == 92) ≡ false → first_element line (c ∷ after) ≡ Ok (record { byte = c; size = 1 })
+pub plain_element : (line c : ℕ) (after : List ℕ) → (c == 92) ≡ false → first_element line (c ∷ after) ≡ Ok (record { byte = c; size = 1 })
 unfolding first_element
 plain_element line c after other = rw other refl
 
@@ -315,7 +315,7 @@ element_some quote after element byte (IsElement.line {ends} ended) = omega arit
 element_some quote after element byte (IsElement.digits {digits} escaped value) = omega arith
 
 -- line ends in an element
-line_quiet : (c : ℕ) (rest : List ℕ) → is_line_byte c ≡ false → line_ends (c ∷ rest) ≡ line_ends rest
+pub line_quiet : (c : ℕ) (rest : List ℕ) → is_line_byte c ≡ false → line_ends (c ∷ rest) ≡ line_ends rest
 unfolding line_ends_after
 line_quiet c rest other = rw (other, no_line_end c rest other) (omega arith)
 

@@ -135,6 +135,9 @@ is_spelling True = record { start = refl; bytes = refl; kind = refl }
 is_spelling Until = record { start = refl; bytes = refl; kind = refl }
 is_spelling While = record { start = refl; bytes = refl; kind = refl }
 
+pub keyword_run : (word : Word) → prefix_len is_word_byte (spelling word) ≡ length (spelling word)
+keyword_run word = (is_spelling word).bytes
+
 pub keyword_covers : (line : ℕ) (bytes after : List ℕ) (word : Word) → bytes ≡ spelling word → Covers line bytes after (Some (WordKind word))
 keyword_covers line bytes after word is =
     let written = is_spelling word in

@@ -1,6 +1,6 @@
 //! The classes of bytes, runs of them, and line ends.
 
-ghost use Rattle.std.specs.Prelude.{◌≡◌, ◌≤◌, ◌<◌, ◌^◌, List, ℕ, IfOk, length, slice_index, take, drop, not, if◌then◌else◌};
+ghost use Rattle.std.specs.Prelude.{◌≡◌, ◌≤◌, ◌<◌, ◌+◌, ◌^◌, List, ℕ, IfOk, length, slice_index, take, drop, max, not, if◌then◌else◌};
 ghost use Rattle.std.specs.List.{prefix_len};
 ghost use Rattle.std.specs.Char.{is_ascii_digit, is_ascii_hexdigit};
 ghost use Rattle.resty_base.specs.Ascii.{line_feed};
@@ -94,8 +94,35 @@ pub(crate) fn line_end(text: &[u8]) -> usize
     }
 }
 
+/// How many bytes the line end at the front has, or 1 for another byte.
+#[tactic(auto, unfolding(crate::specs::Characters::line_end))]
+fn line_step(text: &[u8]) -> usize
+    requires { 0 < length text.now }
+    ensures { result ≡ max (line_end text.now) 1 }
+{
+    if is_line_byte(text[0]) {
+        line_end(text)
+    } else {
+        1
+    }
+}
+
+/// How many bytes the line end at the front has, or else how many stand before the first line end.
+#[tactic(auto, using(crate::proofs::Spans::some_ends, crate::proofs::Spans::some_quiet, crate::proofs::Spans::over_end, crate::proofs::Spans::over_quiet))]
+fn span_len(text: &[u8]) -> usize
+    requires { 0 < length text.now }
+    ensures some { 0 < result }
+    ensures lines { line_ends text.now ≡ (if is_line_byte (slice_index text.now 0) then 1 else 0) + line_ends (drop result text.now) }
+{
+    if is_line_byte(text[0]) {
+        line_end(text)
+    } else {
+        line_len(text)
+    }
+}
+
 /// How many line ends there are.
-#[tactic(auto, using(crate::proofs::Steps::line_ends_step, crate::proofs::Steps::line_ends_none))]
+#[tactic(auto, using(crate::proofs::Steps::line_ends_none))]
 pub(crate) fn line_ends(text: &[u8]) -> u32
     requires { length text.now < 2 ^ 32 }
     ensures value { result ≡ line_ends text.now }
@@ -105,7 +132,7 @@ pub(crate) fn line_ends(text: &[u8]) -> u32
     let mut rest = text;
     while !rest.is_empty() {
         count += u32::from(is_line_byte(rest[0]));
-        rest = bytes_after(rest, line_end(rest).max(1));
+        rest = bytes_after(rest, span_len(rest));
     }
     count
 }
@@ -122,11 +149,11 @@ fn unified_byte(byte: u8) -> u8
 pub(crate) fn unified(alloc: Global, text: &[u8]) -> Result<Vec<u8>, LexFault>
     ensures { Gives (λ bytes. bytes.items) result (Ok (unified text.now)) }
 {
-    let mut bytes = Vec::new(alloc);
+    let mut bytes = Vec::with_capacity(alloc, text.len())?;
     let mut rest = text;
     while !rest.is_empty() {
         bytes.push(unified_byte(rest[0]))?;
-        rest = bytes_after(rest, line_end(rest).max(1));
+        rest = bytes_after(rest, line_step(rest));
     }
     Ok(bytes)
 }

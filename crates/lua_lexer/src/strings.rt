@@ -1,6 +1,6 @@
 //! Literal strings, in quotes and in long brackets.
 
-ghost use Rattle.std.specs.Prelude.{◌≡◌, ◌≤◌, ◌<◌, ◌+◌, ◌^◌, ◌==◌, ◌||◌, Ok, IfOk, IfSome, IsTrue, length, slice_index};
+ghost use Rattle.std.specs.Prelude.{◌≡◌, ◌≤◌, ◌<◌, ◌+◌, ◌^◌, ◌==◌, ◌||◌, Ok, IfOk, IfSome, IsTrue, length, slice_index, take, drop};
 ghost use Rattle.std.specs.Char.{is_ascii_digit};
 ghost use Rattle.lua_lexer.specs.Characters.{is_line_byte, line_ends};
 ghost use Rattle.lua_lexer.specs.Brackets.{level_of};
@@ -152,7 +152,7 @@ fn decoded(alloc: Global, body: &[u8], line: u32) -> Result<Vec<u8>, LexFault>
     requires { line + length body.now < 2 ^ 32 }
     ensures { Gives (λ bytes. bytes.items) result (decoded line body.now) }
 {
-    let mut bytes = Vec::new(alloc);
+    let mut bytes = Vec::with_capacity(alloc, body.len())?;
     let mut line = line;
     let mut rest = body;
     while !rest.is_empty() {
@@ -164,23 +164,39 @@ fn decoded(alloc: Global, body: &[u8], line: u32) -> Result<Vec<u8>, LexFault>
     Ok(bytes)
 }
 
+/// What the body of as many bytes after the quote at the front stands for. One without a backslash shares the text.
+#[tactic(auto, using(crate::proofs::PlainBodies::plain_body))]
+fn body_value(alloc: Global, text: &Bytes, len: usize, line: u32) -> Result<Bytes, LexFault>
+    requires within { len < length text.now }
+    requires room { line + length text.now < 2 ^ 32 }
+    ensures { Gives (λ bytes. bytes) result (decoded line (take len (drop 1 text.now))) }
+{
+    let body = first_bytes(bytes_after(text.as_slice(), 1), len);
+    if body.contains(&b'\\') {
+        Ok(Bytes::from_vec(decoded(alloc, body, line)?)?)
+    } else {
+        Ok(text.slice(1..len + 1)?)
+    }
+}
+
 /// The short string at the front.
 #[tactic(auto, unfolding(crate::specs::Strings::short_string))]
-pub(crate) fn short_string(alloc: Global, text: &[u8], line: u32) -> Result<Piece, LexFault>
+pub(crate) fn short_string(alloc: Global, text: &Bytes, line: u32) -> Result<Piece, LexFault>
     requires some { 0 < length text.now }
     requires quote { IsTrue (is_quote (slice_index text.now 0)) }
     requires room { line + length text.now < 2 ^ 32 }
     ensures value { Gives (λ piece. piece) result (short_string line text.now) }
     ensures within { IfOk result (IsPieceOf text.now) }
 {
-    let quote = text[0];
-    let inside = bytes_after(text, 1);
+    let bytes = text.as_slice();
+    let quote = bytes[0];
+    let inside = bytes_after(bytes, 1);
     let len = body_len(inside, quote);
-    let bytes = decoded(alloc, first_bytes(inside, len), line)?;
+    let value = body_value(alloc, text, len, line)?;
     if byte_at(inside, len) != quote {
         return Err(LexFault::OpenString(line));
     }
-    let kind = Some(TokenKind::Text(Bytes::from_vec(bytes)?));
+    let kind = Some(TokenKind::Text(value));
     Ok(Piece {
         kind,
         size: len + 2,

@@ -6,7 +6,7 @@ use Rattle.lua_lexer.proofs.strings.decoded.Goals as goal
 
 pub returns-in_err-first : goal.returns-in_err-first
 returns-in_err-first c =
-    let p = err_from_is_err_and c.from_residual.result c.from_residual.ensures.1 in
+    let p = err_from_is_err_and c.from_residual-in_err-first.result c.from_residual-in_err-first.ensures.1 in
     rw (p.1, p.2) (λ _. decoded_wrong _ _ _ _ _ (search rules) c.loop-rest.invariant.0 c.in_err-first.ensures.value)
 
 pub loop-rest-preserved : goal.loop-rest-preserved
