@@ -1,5 +1,5 @@
 -- Assignments to entries of tables and to global variables.
-use Rattle.std.specs.Prelude.{◌≡◌, ℕ, ◌+◌, ◌<◌, nat_lt, Bool, true, false, if◌then◌else◌, List, [], ◌∷◌, Option, Some, None, refl}
+use Rattle.std.specs.Prelude.{◌≡◌, ℕ, ◌+◌, ◌<◌, Bool, true, false, if◌then◌else◌, List, [], ◌∷◌, Option, None, refl}
 use Rattle.std.specs.declared.rc.Rc.{Rc}
 use Rattle.std.specs.declared.alloc.Global.{Global}
 use Rattle.std.proofs.Common.{sym, ◌∙◌, ap, subst, arith}
@@ -13,13 +13,13 @@ use Rattle.lua_ast.specs.declared.statements.StmtKind.TheOpen as sk
 use Rattle.lua_values.specs.declared.faults.StoreFault.{StoreFault}
 use Rattle.lua_values.specs.declared.values.Value.{Value}
 use Rattle.lua_values.specs.declared.values.Value.TheVariants.{Table, Text}
-use Rattle.lua_values.specs.Heap.{Heap, StoreView, step_limit}
+use Rattle.lua_values.specs.Heap.{StoreView, step_limit}
 use Rattle.lua_values.specs.Pairs.{value_at}
 use Rattle.lua_values.specs.Values.{is_nil}
-use Rattle.lua_values.specs.StoreCalls.{table_of, pairs_of, set_cause, with_pair}
+use Rattle.lua_values.specs.StoreCalls.{pairs_of, set_cause, with_pair}
 use Rattle.lua_operators.specs.declared.events.Event.TheVariants.{NewIndex}
 use Rattle.lua_meaning.specs.Works.{Places, Slots, AnExpr, Values, Work, Write, and_then}
-use Rattle.lua_meaning.specs.Evaluator.{State, Ending, Ended, do_work}
+use Rattle.lua_meaning.specs.Evaluator.{State, Ended, do_work}
 use Rattle.lua_meaning.specs.Setting.{Setting}
 use Rattle.lua_meaning.specs.Positions.{callers_at}
 use Rattle.lua_meaning.specs.Signs.{give, on_values}
@@ -32,7 +32,7 @@ use Rattle.lua_meaning.proofs.Running.{Does, stmt, seq, look, count, target}
 use Rattle.lua_shortcuts.specs.declared.entries.Entry.{Entry}
 use Rattle.lua_shortcuts.specs.Gives.{later, Gives}
 use Rattle.lua_shortcuts.specs.Runs.{state, RunsIf, IsAssignments}
-use Rattle.lua_shortcuts.specs.Entries.{IsStore, IsGlobal, SetsEntry, SetsGlobal, IsOwn, Puts, PutsIf}
+use Rattle.lua_shortcuts.specs.Entries.{IsStore, IsGlobal, SetsEntry, SetsGlobal, IsOwn, PutsIf}
 
 -- a state with a pair more
 abbrev paired : ℕ → Value → Value → State → State
