@@ -1,5 +1,5 @@
 -- Assignments to entries of tables and to global variables.
-use Rattle.std.specs.Prelude.{◌≡◌, ℕ, ◌+◌, ◌<◌, nat_lt, Bool, true, false, if◌then◌else◌, List, [], ◌∷◌, Option, Some, None, refl}
+use Rattle.std.specs.Prelude.{◌≡◌, ℕ, ◌+◌, ◌<◌, Bool, true, false, if◌then◌else◌, List, [], ◌∷◌, Option, None, refl}
 use Rattle.std.specs.declared.rc.Rc.{Rc}
 use Rattle.std.specs.declared.alloc.Global.{Global}
 use Rattle.std.proofs.Common.{sym, ◌∙◌, ap, subst, arith}
@@ -13,13 +13,13 @@ use Rattle.lua_ast.specs.declared.statements.StmtKind.TheOpen as sk
 use Rattle.lua_values.specs.declared.faults.StoreFault.{StoreFault}
 use Rattle.lua_values.specs.declared.values.Value.{Value}
 use Rattle.lua_values.specs.declared.values.Value.TheVariants.{Table, Text}
-use Rattle.lua_values.specs.Heap.{Heap, StoreView, step_limit}
+use Rattle.lua_values.specs.Heap.{StoreView, step_limit}
 use Rattle.lua_values.specs.Pairs.{value_at}
 use Rattle.lua_values.specs.Values.{is_nil}
-use Rattle.lua_values.specs.StoreCalls.{table_of, pairs_of, set_cause, with_pair}
+use Rattle.lua_values.specs.StoreCalls.{pairs_of, set_cause, with_pair}
 use Rattle.lua_operators.specs.declared.events.Event.TheVariants.{NewIndex}
 use Rattle.lua_meaning.specs.Works.{Places, Slots, AnExpr, Values, Work, Write, and_then}
-use Rattle.lua_meaning.specs.Evaluator.{State, Ending, Ended, do_work}
+use Rattle.lua_meaning.specs.Evaluator.{State, Ended, do_work}
 use Rattle.lua_meaning.specs.Setting.{Setting}
 use Rattle.lua_meaning.specs.Positions.{callers_at}
 use Rattle.lua_meaning.specs.Signs.{give, on_values}
@@ -30,9 +30,11 @@ use Rattle.lua_meaning.specs.Assignments.{assignment_work}
 use Rattle.lua_meaning.specs.Nodes.{eval}
 use Rattle.lua_meaning.proofs.Running.{Does, stmt, seq, look, count, target}
 use Rattle.lua_shortcuts.specs.declared.entries.Entry.{Entry}
+use Rattle.lua_shortcuts.specs.declared.entries.Object.{Object}
+use Rattle.lua_shortcuts.specs.declared.entries.Spot.{Spot}
 use Rattle.lua_shortcuts.specs.Gives.{later, Gives}
 use Rattle.lua_shortcuts.specs.Runs.{state, RunsIf, IsAssignments}
-use Rattle.lua_shortcuts.specs.Entries.{IsStore, IsGlobal, SetsEntry, SetsGlobal, IsOwn, Puts, PutsIf}
+use Rattle.lua_shortcuts.specs.Entries.{IsStore, IsGlobal, SetsEntry, SetsGlobal, IsOwn, PutsIf, StoresAt, StoresIn}
 
 -- a state with a pair more
 abbrev paired : ℕ → Value → Value → State → State
@@ -111,3 +113,40 @@ index_target target x a b y z st is l r h = record { target = target; left = a; 
 
 pub global_target : (target x : Expr) (name : List ℕ) (st : Stmt) → target.kind ≡ v.Global name → IsAssignments (target ∷ []) (x ∷ []) st → IsGlobal name x st
 global_target target x name st is h = record { target = target; assignments = h; is_global = rw (is, outs-Global name) refl }
+
+-- entries, from the values of their parts
+pub entry_stores : (spot : Spot) (x : Expr) (s : Slots) (entry : Entry) (k : ℕ) (r : Bool) (before store : StoreView) → entry.table ≡ spot.table → entry.key ≡ spot.key → Gives x s before.heap entry.value k → entry.steps ≡ spot.steps + k
+    → PutsIf r entry before store → StoresAt r spot x s before store
+entry_stores spot x s entry k false before store table key g sum puts = puts
+entry_stores spot x s entry k true before store table key g sum puts = record { entry = entry; value_steps = k; table = table; key = key; value = g; sum = sum; puts = puts }
+
+pub spot_stores : (object : Object) (b x : Expr) (s : Slots) (spot : Spot) (k : ℕ) (r : Bool) (before store : StoreView) → spot.table ≡ object.table → Gives b s before.heap spot.key k → spot.steps ≡ object.steps + k
+    → StoresAt r spot x s before store → StoresIn r object b x s before store
+spot_stores object b x s spot k false before store table g sum stores = stores
+spot_stores object b x s spot k true before store table g sum stores = record { spot = spot; key_steps = k; table = table; key = g; sum = sum; stores = stores }
+
+pub key_runs : (a b x : Expr) (object : Object) (s : Slots) (r : Bool) (before store : StoreView) → Gives a s before.heap (Table object.table) object.steps → StoresIn r object b x s before store → (st : Stmt) → IsStore a b x st → RunsIf r st s before s store
+key_runs a b x object s false before store g h st is = (refl, h)
+key_runs a b x object s true before store g h st is = store_runs a b x h.stores.entry s true before store sets h.stores.puts st is
+  where
+    sets : SetsEntry a b x s before.heap h.stores.entry
+    sets = record {
+      object_steps = object.steps;
+      key_steps = h.key_steps;
+      value_steps = h.stores.value_steps;
+      object = subst (λ (t : ℕ). Gives a s before.heap (Table t) object.steps) (sym (h.stores.table ∙ h.table)) g;
+      key = subst (λ (u : Value). Gives b s before.heap u h.key_steps) (sym h.stores.key) h.key;
+      value = h.stores.value;
+      sum = omega (arith, h.stores.sum, h.sum);
+    }
+
+pub name_runs : (name : List ℕ) (x : Expr) (spot : Spot) (s : Slots) (r : Bool) (before store : StoreView) → spot.table ≡ before.heap.globals → spot.key ≡ Text name → spot.steps ≡ 0 → StoresAt r spot x s before store
+    → (st : Stmt) → IsGlobal name x st → RunsIf r st s before s store
+name_runs name x spot s false before store table key none h st is = (refl, h)
+name_runs name x spot s true before store table key none h st is = global_runs name x h.entry s true before store sets h.puts st is
+  where
+    few : h.value_steps ≡ h.entry.steps
+    few = omega (arith, h.sum, none)
+
+    sets : SetsGlobal name x s before.heap h.entry
+    sets = record { table = h.table ∙ table; key = h.key ∙ key; value = subst (λ (k : ℕ). Gives x s before.heap h.entry.value k) few h.value }

@@ -3,3 +3,4 @@ pub mod RunLemmas
 pub mod CountLemmas
 pub mod PlaceLemmas
 pub mod EntryLemmas
+pub mod JoiningLemmas

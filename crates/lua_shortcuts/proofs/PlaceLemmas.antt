@@ -1,5 +1,5 @@
 -- What expressions give whose values stand somewhere.
-use Rattle.std.specs.Prelude.{◌≡◌, ℕ, ◌+◌, ◌<◌, Bool, true, false, if◌then◌else◌, List, [], ◌∷◌, Option, Some, None, IfSome, slice_get, refl}
+use Rattle.std.specs.Prelude.{◌≡◌, ℕ, ◌+◌, ◌<◌, Bool, false, if◌then◌else◌, List, [], ◌∷◌, Option, Some, None, IfSome, slice_get, refl}
 use Rattle.std.specs.declared.rc.Rc.{Rc}
 use Rattle.std.specs.declared.alloc.Global.{Global}
 use Rattle.std.proofs.Common.{sym, ◌∙◌, ap, subst, arith}
@@ -10,13 +10,13 @@ use Rattle.lua_ast.specs.declared.expressions.ExprKind.TheOpen as e
 use Rattle.lua_ast.specs.declared.expressions.ExprKind.TheViews.{outs-Global, outs-Index}
 use Rattle.lua_ast.specs.declared.expressions.ExprKind.TheVariants as v
 use Rattle.lua_values.specs.declared.values.Value.{Value}
-use Rattle.lua_values.specs.declared.values.Value.TheVariants.{Number, Table, Text}
+use Rattle.lua_values.specs.declared.values.Value.TheVariants.{Table, Text}
 use Rattle.lua_values.specs.Heap.{Heap, step_limit}
 use Rattle.lua_values.specs.Pairs.{value_at}
 use Rattle.lua_values.specs.Values.{is_nil}
 use Rattle.lua_values.specs.StoreCalls.{pairs_of}
 use Rattle.lua_operators.specs.declared.events.Event.TheVariants.{Index}
-use Rattle.lua_meaning.specs.Works.{Places, Slots, Values, Work}
+use Rattle.lua_meaning.specs.Works.{Places, Slots, Values}
 use Rattle.lua_meaning.specs.Evaluator.{State, Ended, do_work}
 use Rattle.lua_meaning.specs.Setting.{Setting}
 use Rattle.lua_meaning.specs.Signs.{give_one, value}
@@ -24,7 +24,7 @@ use Rattle.lua_meaning.specs.Metatables.{handler}
 use Rattle.lua_meaning.specs.Indexing.{index_work, index_without}
 use Rattle.lua_meaning.specs.Variables.{in_slot}
 use Rattle.lua_meaning.specs.Nodes.{eval}
-use Rattle.lua_meaning.proofs.Running.{Does, val, exp, seq, look, end}
+use Rattle.lua_meaning.proofs.Running.{Does, val, exp, seq, look}
 use Rattle.lua_shortcuts.specs.declared.places.Seen.{Seen}
 use Rattle.lua_shortcuts.specs.declared.places.Valued.{Valued}
 use Rattle.lua_shortcuts.specs.Gives.{later, Gives, GivesIndex}

@@ -1,5 +1,5 @@
 -- Statements and loops that are run at once.
-use Rattle.std.specs.Prelude.{◌≡◌, ℕ, suc, zero, ◌+◌, ◌≤◌, ◌<◌, nat_lt, min, Bool, true, false, if◌then◌else◌, List, [], ◌∷◌, length, drop, slice_index_or, slice_get, slice_set, Option, Some, None, MatchOption, ℤ, refl}
+use Rattle.std.specs.Prelude.{◌≡◌, ℕ, suc, zero, ◌+◌, ◌≤◌, ◌<◌, nat_lt, min, Bool, true, false, if◌then◌else◌, List, [], ◌∷◌, length, drop, slice_index_or, slice_get, slice_set, Option, Some, None, MatchOption, refl}
 use Rattle.std.specs.declared.rc.Rc.{Rc}
 use Rattle.std.specs.declared.vec.Vec.{Vec}
 use Rattle.std.specs.declared.alloc.Global.{Global}
@@ -93,7 +93,7 @@ written : (S : Setting) (line i n : ℕ) (v old : Value) (s : Slots) (p : Places
 written S line i n v old s p w plain =
     record { is = ap (λ (t : Option Slot). do_work (eval S) (and_then (write_slot S (callers_at p line) t i v s (give [])) (on_values (λ us s'. give [] s'))) w) plain }
 
-plain_there : (s : Slots) (i : ℕ) → is_plain (slice_get s i) ≡ true → (old : Value) × (slice_get s i ≡ Some (Plain old))
+pub plain_there : (s : Slots) (i : ℕ) → is_plain (slice_get s i) ≡ true → (old : Value) × (slice_get s i ≡ Some (Plain old))
 plain_there s i h = by_slot (slice_get s i) h
   where
     by_slot : (t : Option Slot) → is_plain t ≡ true → (old : Value) × (t ≡ Some (Plain old))

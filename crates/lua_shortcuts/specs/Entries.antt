@@ -14,6 +14,8 @@ use Rattle.lua_values.specs.Values.{is_nil}
 use Rattle.lua_values.specs.StoreCalls.{table_of, pairs_of, set_cause, with_pair}
 use Rattle.lua_meaning.specs.Works.{Slots}
 use Rattle.lua_shortcuts.specs.declared.entries.Entry.{Entry}
+use Rattle.lua_shortcuts.specs.declared.entries.Object.{Object}
+use Rattle.lua_shortcuts.specs.declared.entries.Spot.{Spot}
 use Rattle.lua_shortcuts.specs.Gives.{Gives}
 use Rattle.lua_shortcuts.specs.Runs.{IsAssignments}
 
@@ -64,3 +66,32 @@ pub record Puts (entry : Entry) (before store : StoreView) : Type 0 where
 abbrev pub PutsIf : Bool → Entry → StoreView → StoreView → Type 0
 PutsIf true entry before store = Puts entry before store
 PutsIf false entry before store = store ≡ before
+
+-- an entry was set at a key of a table, to the value of x
+pub record Stores (spot : Spot) (x : Expr) (s : Slots) (before store : StoreView) : Type 0 where
+  pub entry : Entry
+  pub value_steps : ℕ
+  pub table : entry.table ≡ spot.table
+  pub key : entry.key ≡ spot.key
+  pub value : Gives x s before.heap entry.value value_steps
+  pub sum : entry.steps ≡ spot.steps + value_steps
+  pub puts : Puts entry before store
+
+-- or nothing was changed
+abbrev pub StoresAt : Bool → Spot → Expr → Slots → StoreView → StoreView → Type 0
+StoresAt true spot x s before store = Stores spot x s before store
+StoresAt false spot x s before store = store ≡ before
+
+-- an entry of a table was set at the value of b, to the value of x
+pub record StoresKey (object : Object) (b x : Expr) (s : Slots) (before store : StoreView) : Type 0 where
+  pub spot : Spot
+  pub key_steps : ℕ
+  pub table : spot.table ≡ object.table
+  pub key : Gives b s before.heap spot.key key_steps
+  pub sum : spot.steps ≡ object.steps + key_steps
+  pub stores : Stores spot x s before store
+
+-- or nothing was changed
+abbrev pub StoresIn : Bool → Object → Expr → Expr → Slots → StoreView → StoreView → Type 0
+StoresIn true object b x s before store = StoresKey object b x s before store
+StoresIn false object b x s before store = store ≡ before

@@ -1,4 +1,5 @@
 pub mod Gives
 pub mod Runs
 pub mod Entries
+pub mod Joining
 pub mod Counts

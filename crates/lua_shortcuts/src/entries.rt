@@ -1,12 +1,15 @@
 //! Assignments to entries of tables and to global variables, that are done at once (Lua 5.1 Reference Manual, 2.4.3).
 
-ghost use Rattle.std.specs.Prelude.{◌≡◌, true, IfSome};
+ghost use Rattle.std.specs.Prelude.{◌≡◌, ◌*◌, ◌<◌, true, IfSome};
 ghost use Rattle.lua_ast.specs.declared.statements.Stmt.{Stmt as LuaStmt};
 ghost use Rattle.lua_shortcuts.specs.Runs.{RunsIf};
-ghost use Rattle.lua_shortcuts.specs.Entries.{IsStore, IsGlobal, SetsEntry, SetsGlobal, IsOwn, PutsIf};
+ghost use Rattle.lua_values.specs.declared.values.Value.TheVariants.{Table};
+ghost use Rattle.lua_values.specs.Heap.{step_limit};
+ghost use Rattle.lua_shortcuts.specs.Gives.{Gives};
+ghost use Rattle.lua_shortcuts.specs.Entries.{IsStore, IsGlobal, IsOwn, PutsIf, StoresAt, StoresIn};
 
-use crate::numbers::LEVELS;
-use crate::places::{seen_of, value_of};
+use crate::numbers::{LEVELS, number_of};
+use crate::places::{Valued, seen_of, value_of};
 use crate::steps::affords;
 use lua_ast::Expr;
 use lua_meaning::Slot;
@@ -22,6 +25,21 @@ struct Entry {
     steps: u64,
 }
 
+/// A key of a table, and how many steps their expressions count.
+#[derive(Drop)]
+struct Spot {
+    table: u32,
+    key: Value,
+    steps: u64,
+}
+
+/// A table, and how many steps its expression counts.
+#[derive(Clone, Copy)]
+struct Object {
+    table: u32,
+    steps: u64,
+}
+
 /// `a[b] = x`, which counts a step, and one for its target.
 pub(crate) fn run_store(
     slots: &mut Vec<Slot>,
@@ -32,29 +50,104 @@ pub(crate) fn run_store(
 ) -> bool
     ensures { (stmt : LuaStmt) → IsStore a.now b.now x.now stmt → RunsIf result stmt slots.old.items store.old slots.new.items store.new }
 {
-    match entry_of(slots, store, a, b, x) {
+    match object_of(slots, store, a) {
         None => false,
-        Some(entry) => put_entry(store, entry),
+        Some(object) => store_in(slots, store, object, b, x),
     }
 }
 
-/// What `a[b] = x` sets.
-fn entry_of(slots: &[Slot], store: &Store, a: &Expr, b: &Expr, x: &Expr) -> Option<Entry>
-    ensures { IfSome result (SetsEntry a.now b.now x.now slots.now store.now.heap) }
+/// The table that an expression gives.
+#[inline(always)]
+fn object_of(slots: &[Slot], store: &Store, a: &Expr) -> Option<Object>
+    ensures gives { IfSome result (λ object. Gives a.now slots.now store.now.heap (Table object.table) object.steps) }
+    ensures few { IfSome result (λ object. object.steps < step_limit) }
 {
     let object = seen_of(slots, store, a, LEVELS)?;
     match object.value {
-        Value::Table(table) => {
-            let key = value_of(slots, store, b, LEVELS)?;
-            let x = value_of(slots, store, x, LEVELS)?;
-            Some(Entry {
-                table: *table,
-                key: key.value,
-                value: x.value,
-                steps: object.steps + key.steps + x.steps,
-            })
-        }
+        Value::Table(table) => Some(Object {
+            table: *table,
+            steps: object.steps,
+        }),
         _ => None,
+    }
+}
+
+/// Sets an entry of a table, at the value of b to that of x.
+#[inline(always)]
+fn store_in(slots: &[Slot], store: &mut Store, object: Object, b: &Expr, x: &Expr) -> bool
+    requires { object.steps < step_limit }
+    ensures { StoresIn result object b.now x.now slots.now store.old store.new }
+{
+    match number_of(slots, store, b, LEVELS) {
+        Some(n) => {
+            let spot = Spot {
+                table: object.table,
+                key: Value::Number(n.number),
+                steps: object.steps + n.steps,
+            };
+            store_at(slots, store, spot, x)
+        }
+        None => store_at_other(slots, store, object, b, x),
+    }
+}
+
+/// The same of a key that is no number.
+fn store_at_other(slots: &[Slot], store: &mut Store, object: Object, b: &Expr, x: &Expr) -> bool
+    requires { object.steps < step_limit }
+    ensures { StoresIn result object b.now x.now slots.now store.old store.new }
+{
+    match value_of(slots, store, b, LEVELS) {
+        None => false,
+        Some(v) => {
+            let Valued { value, steps } = v;
+            let spot = Spot {
+                table: object.table,
+                key: value,
+                steps: object.steps + steps,
+            };
+            store_at(slots, store, spot, x)
+        }
+    }
+}
+
+/// Sets an entry to the value of x.
+#[inline(always)]
+fn store_at(slots: &[Slot], store: &mut Store, spot: Spot, x: &Expr) -> bool
+    requires { spot.steps < 2 * step_limit }
+    ensures { StoresAt result spot x.now slots.now store.old store.new }
+{
+    match number_of(slots, store, x, LEVELS) {
+        Some(n) => {
+            let Spot { table, key, steps } = spot;
+            let entry = Entry {
+                table,
+                key,
+                value: Value::Number(n.number),
+                steps: steps + n.steps,
+            };
+            put_entry(store, entry)
+        }
+        None => store_other(slots, store, spot, x),
+    }
+}
+
+/// The same of a value that is no number.
+fn store_other(slots: &[Slot], store: &mut Store, spot: Spot, x: &Expr) -> bool
+    requires { spot.steps < 2 * step_limit }
+    ensures { StoresAt result spot x.now slots.now store.old store.new }
+{
+    match value_of(slots, store, x, LEVELS) {
+        None => false,
+        Some(v) => {
+            let Spot { table, key, steps } = spot;
+            let entry = Entry {
+                table,
+                key,
+                value: v.value,
+                steps: steps + v.steps,
+            };
+            put_entry(store, entry)
+        }
     }
 }
 
@@ -62,30 +155,23 @@ fn entry_of(slots: &[Slot], store: &Store, a: &Expr, b: &Expr, x: &Expr) -> Opti
 pub(crate) fn run_global(slots: &mut Vec<Slot>, store: &mut Store, name: &Bytes, x: &Expr) -> bool
     ensures { (stmt : LuaStmt) → IsGlobal name.now x.now stmt → RunsIf result stmt slots.old.items store.old slots.new.items store.new }
 {
-    match global_entry(slots, store, name, x) {
-        None => false,
-        Some(entry) => put_entry(store, entry),
-    }
-}
-
-/// What `NAME = x` sets.
-fn global_entry(slots: &[Slot], store: &Store, name: &Bytes, x: &Expr) -> Option<Entry>
-    ensures { IfSome result (SetsGlobal name.now x.now slots.now store.now.heap) }
-{
-    let x = value_of(slots, store, x, LEVELS)?;
     match name.clone() {
-        Ok(name) => Some(Entry {
-            table: store.globals(),
-            key: Value::Text(name),
-            value: x.value,
-            steps: x.steps,
-        }),
-        Err(_) => None,
+        Err(_) => false,
+        Ok(name) => {
+            let spot = Spot {
+                table: store.globals(),
+                key: Value::Text(name),
+                steps: 0,
+            };
+            store_at(slots, store, spot, x)
+        }
     }
 }
 
 /// Sets an entry, where no metatable is asked and the store doesn't refuse it.
+#[inline(always)]
 fn put_entry(store: &mut Store, entry: Entry) -> bool
+    requires { entry.steps < 3 * step_limit }
     ensures { PutsIf result entry store.old store.new }
 {
     let Entry {
@@ -94,7 +180,7 @@ fn put_entry(store: &mut Store, entry: Entry) -> bool
         value,
         steps,
     } = entry;
-    if !affords(store, steps.saturating_add(2)) || !is_own(store, table, &key) {
+    if !affords(store, steps + 2) || !is_own(store, table, &key) {
         return false;
     }
     match store.set(table, key, value) {

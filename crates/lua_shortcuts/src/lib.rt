@@ -1,6 +1,7 @@
 //! Shortcuts of the machine: expressions of numbers, and statements and loops that want no other, are run at once.
 #![tactic(auto)]
 
+mod concatenation;
 mod counting;
 mod entries;
 mod loops;

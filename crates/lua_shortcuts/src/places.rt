@@ -94,10 +94,16 @@ fn seen_at<'a>(
     }
     let object = seen_of(slots, store, a, levels - 1)?;
     match object.value {
-        Value::Table(t) => {
-            let key = value_of(slots, store, b, levels - 1)?;
-            there(store.get(*t, &key.value), object.steps + key.steps + 1)
-        }
+        Value::Table(t) => match &b.kind {
+            ExprKind::Slot(i) => {
+                let key = seen_in_slot(slots, store, *i)?;
+                there(store.get(*t, key.value), object.steps + key.steps + 1)
+            }
+            _ => {
+                let key = value_of(slots, store, b, levels - 1)?;
+                there(store.get(*t, &key.value), object.steps + key.steps + 1)
+            }
+        },
         _ => None,
     }
 }

@@ -11,6 +11,7 @@ ghost use Rattle.lua_values.specs.Heap.{step_limit};
 ghost use Rattle.lua_shortcuts.specs.Gives.{Gives};
 ghost use Rattle.lua_shortcuts.specs.Runs.{Becomes, RunsIf, IsLocals, IsAssignments, IsAssignment, is_plain};
 
+use crate::concatenation::{run_joined_assignment, run_joined_local};
 use crate::entries::{run_global, run_store};
 use crate::numbers::{LEVELS, number_of};
 use crate::places::{Valued, value_of};
@@ -30,7 +31,7 @@ pub(crate) fn put(slots: &mut Vec<Slot>, i: u8, number: Whole)
 
 /// A slot has a value of its own from now on, if it is there.
 #[inline(always)]
-fn put_value(slots: &mut Vec<Slot>, i: u8, value: Value)
+pub(crate) fn put_value(slots: &mut Vec<Slot>, i: u8, value: Value)
     ensures { slots.new.items ≡ slice_set slots.old.items i (Plain value) }
 {
     if let Some(slot) = slots.get_mut(i as usize) {
@@ -82,7 +83,7 @@ fn run_other_local(slots: &mut Vec<Slot>, store: &mut Store, i: u8, x: &Expr) ->
     ensures { (stmt : LuaStmt) → IsLocals (i ∷ []) (x.now ∷ []) stmt → RunsIf result stmt slots.old.items store.old slots.new.items store.new }
 {
     match other_value_of(slots, store, x) {
-        None => false,
+        None => run_joined_local(slots, store, i, x),
         Some(v) => {
             let Valued { value, steps } = v;
             if !affords(store, steps + 1) {
@@ -122,7 +123,7 @@ fn run_other_assignment(slots: &mut Vec<Slot>, store: &mut Store, i: u8, x: &Exp
     ensures { (stmt : LuaStmt) → IsAssignment i x.now stmt → RunsIf result stmt slots.old.items store.old slots.new.items store.new }
 {
     match other_value_of(slots, store, x) {
-        None => false,
+        None => run_joined_assignment(slots, store, i, x),
         Some(v) => {
             let Valued { value, steps } = v;
             if !affords(store, steps + 2) {

@@ -27,6 +27,27 @@ return a <= b, b <= a, b >= a => Done true, false, true | 43, 192
 local a, b = setmetatable({}, {__lt = id}), setmetatable({}, {__lt = w}) return a < b \
 => Failed \"t.conf:1: attempt to compare two table values\" | 20, 192";
 
+/// `..` of what is there: texts, numbers, chains, and what is no operand.
+const JOINING: &str = "\
+local s = \"ab\" s = s .. \"cd\" return s => Done \"abcd\" | 10, 20
+local n = 10 - 13 local s = n .. \"|\" .. 4 .. n return s => Done \"-3|4-3\" | 15, 61
+local a = \"12345678901234567890123456789012\" a = a .. a return a \
+=> Done \"1234567890123456789012345678901212345678901234567890123456789012\" | 12, 80
+local a = \"x\" local s = a .. a .. a .. a .. a .. a .. a .. a .. a .. a return s => Done \"xxxxxxxxxx\" | 25, 198
+local t = setmetatable({}, {__concat = function(a, b) return \"c\" end}) local s = \"x\" s = s .. t return s => Done \"c\" | 21, 128
+local s s = s .. \"a\" .. \"b\" => Failed \"t.conf:1: attempt to concatenate a nil value\" | 9, 18
+local s s = \"a\" .. \"b\" .. s => Failed \"t.conf:1: attempt to concatenate a nil value\" | 9, 0
+local s = \"a\" .. true => Failed \"t.conf:1: attempt to concatenate a boolean value\" | 5, 0
+local s = \"a\" local f = function() return s end s = s .. \"b\" return f() => Done \"ab\" | 16, 74";
+
+/// Steps that just suffice for `..`, steps that don't, and units that suffice for the inner text of a chain alone.
+const JOINING_LIMITS: &str = "\
+local a = \"12345678901234567890123456789012\" do end do end local i = 0 while i < 111109 do i = i + 1 end a = a .. a => Done  | 999999, 80
+local a = \"12345678901234567890123456789012\" do end do end do end local i = 0 while i < 111109 do i = i + 1 end a = a .. a \
+=> Spent | 1000000, 0
+local a = \"12345678901234567890123456789012\" for i = 1, 13 do a = a .. a end local s = a .. a .. \"x\" \
+=> Failed \"t.conf:1: not enough memory (storage limit)\" | 41048, 786593";
+
 const PARKS: &str = "\
 local t = setmetatable({}, {__index = w, __add = function(a, b) return w(b) end}) return t.x, t + 5 <- 7 8, 9 \
 => Parked(0: table, \"x\") at 16; Parked(0: 5) at 25; Done 7, 9 | 25, 160";
@@ -35,5 +56,7 @@ local t = setmetatable({}, {__index = w, __add = function(a, b) return w(b) end}
 fn metatables_handle_operators(rt: HostRuntime) {
     hold(&rt, rt.alloc(), ARITHMETIC);
     hold(&rt, rt.alloc(), COMPARISON);
+    hold(&rt, rt.alloc(), JOINING);
+    hold(&rt, rt.alloc(), JOINING_LIMITS);
     hold(&rt, rt.alloc(), PARKS);
 }
