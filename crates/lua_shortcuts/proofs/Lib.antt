@@ -3,3 +3,5 @@ pub mod RunLemmas
 pub mod CountLemmas
 pub mod PlaceLemmas
 pub mod EntryLemmas
+pub mod CallLemmas
+pub mod BodyLemmas
