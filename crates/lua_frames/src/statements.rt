@@ -71,11 +71,12 @@ fn next_stmt<H: Host>(
     ensures { Works (H.setting host.now) (block (drop next stmts.value.items) (here frames.old) (slots_of frames.old))
         frames.old store.old frames.new store.new result }
 {
+    let levels = levels_of(frames);
     let site = Site {
         alloc: frames.alloc,
         program: host.program(),
         cells: frames.top.cells.as_slice(),
-        levels: levels_of(frames),
+        levels,
     };
     let next = run_block(&site, &mut frames.top.slots, store, &stmts, next);
     begin_next(frames, host, store, stmts, next)

@@ -106,11 +106,12 @@ fn go_on<H: Host>(
     ensures { Works (H.setting host.now) (while_work test.value body.value.items (here frames.old) (slots_of frames.old))
         frames.old store.old frames.new store.new result }
 {
+    let levels = levels_of(frames);
     let site = Site {
         alloc: frames.alloc,
         program: host.program(),
         cells: frames.top.cells.as_slice(),
-        levels: levels_of(frames),
+        levels,
     };
     match run_loop(&site, &mut frames.top.slots, store, &test, &body) {
         LoopEnd::Over => give_nothing(frames),

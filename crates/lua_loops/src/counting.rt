@@ -71,11 +71,12 @@ fn count_from(
         limit: counter.limit,
         step: counter.step,
     };
+    let levels = levels_of(frames);
     let site = Site {
         alloc: frames.alloc,
         program,
         cells: frames.top.cells.as_slice(),
-        levels: levels_of(frames),
+        levels,
     };
     match run_for(
         &site,
