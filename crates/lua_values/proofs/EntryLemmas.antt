@@ -19,7 +19,7 @@ use Rattle.lua_values.proofs.PairLemmas.{lookup-has, lookup-value, insert-with}
 pub same-refl : (a : Value) → same a a ≡ true
 same-refl a = search rules
 
-same-symm : (a b : Value) → same a b ≡ same b a
+pub same-symm : (a b : Value) → same a b ≡ same b a
 same-symm a b = elim (cases_Bool (same a b)) [
   | inl e ↦ ap (λ k. same k b) (same-true a b e) ∙ sym (ap (same b) (same-true a b e))
   | inr e ↦ elim (cases_Bool (same b a)) [

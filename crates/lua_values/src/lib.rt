@@ -10,6 +10,7 @@ mod freezable;
 mod kinds;
 mod laws;
 mod natives;
+mod pairs;
 mod shifts;
 mod store;
 mod tables;

@@ -7,10 +7,10 @@ use Rattle.lua_values.proofs.tables.is_hole.Goals as goal
 
 pub returns-in-None : goal.returns-in-None
 returns-in-None c =
-    let absent : has_entry c.args.pairs.now.entries c.numbered.result ≡ false = sym (ap is_some c.in-None.ensures ∙ index-there c.args.pairs.now.entries c.numbered.result) in
-    sym (ap (λ key. is_nil (value_at c.args.pairs.now.entries key)) (sym c.numbered.ensures) ∙ value_at-absent c.args.pairs.now.entries c.numbered.result absent)
+    let absent : has_entry c.args.pairs.now c.numbered.result ≡ false = sym (ap is_some c.in-None.ensures.index ∙ index-there c.args.pairs.now c.numbered.result) in
+    sym (ap (λ key. is_nil (value_at c.args.pairs.now key)) (sym c.numbered.ensures) ∙ value_at-absent c.args.pairs.now c.numbered.result absent)
 
 pub returns : goal.returns
 returns c =
-    c.is_nil.ensures ∙ ap is_nil (index-value c.args.pairs.now.entries c.numbered.result _ c.in-Some.index (sym c.in-Some.ensures) c.index.ensures)
-    ∙ ap (λ key. is_nil (value_at c.args.pairs.now.entries key)) c.numbered.ensures
+    c.is_nil.ensures ∙ ap is_nil (index-value c.args.pairs.now c.numbered.result _ c.in-Some.index (sym c.in-Some.ensures.index) c.value.ensures)
+    ∙ ap (λ key. is_nil (value_at c.args.pairs.now key)) c.numbered.ensures

@@ -1,0 +1,15 @@
+-- Pairs at the numbers 1, 2, .., and what a look through pairs finds.
+use Rattle.std.specs.Prelude.{ℕ, ◌+◌, Bool, false, List, [], ◌∷◌, slice_get, unwrap_or}
+use Rattle.std.specs.Option.{option_map}
+use Rattle.std.specs.Map.{keys_of}
+use Rattle.lua_values.specs.declared.values.Value.{Value}
+use Rattle.lua_values.specs.Values.{number}
+
+-- values at the numbers from n on
+abbrev pub numbered_from : ℕ → List Value → List (Value × Value)
+numbered_from n [] = []
+numbered_from n (v ∷ vs) = (number n, v) ∷ numbered_from (n + 1) vs
+
+-- the key at an index is there and passes a test
+abbrev pub passes_at : (Value → Bool) → List (Value × Value) → ℕ → Bool
+passes_at test ps i = unwrap_or (option_map test (slice_get (keys_of ps) i)) false
