@@ -8,3 +8,4 @@ mod NumberedLemmas
 mod TableLemmas
 mod ShiftLemmas
 mod RenewLemmas
+mod OutlineLemmas

@@ -1,5 +1,5 @@
 -- Where keys stand among pairs whose first keys are 1, 2, ..
-use Rattle.std.proofs.Common.{◌≡◌, ℕ, zero, suc, ◌+◌, ◌-◌, ◌<◌, ◌≤◌, nat_lt, Bool, true, false, ◌||◌, List, [], ◌∷◌, ◌++◌, length, slice_get, slice_set, slice_index_or, position, None, Some, refl, sym, ap, inl, inr, ◌∙◌, if◌then◌else◌, true≢false, arith}
+use Rattle.std.proofs.Common.{◌≡◌, ℕ, zero, suc, ◌+◌, ◌-◌, ◌<◌, ◌≤◌, nat_lt, Bool, true, false, ◌||◌, List, [], ◌∷◌, ◌++◌, length, slice_get, slice_set, slice_index_or, position, None, Some, refl, sym, ap, subst, inl, inr, ◌∙◌, if◌then◌else◌, true≢false, arith}
 use Rattle.std.proofs.Common.{Vec, Global, vec_len}
 use Rattle.std.specs.List.{position_or_len}
 use Rattle.std.specs.Map.{keys_of, values_of}
@@ -201,6 +201,19 @@ key-from n (v ∷ vs) ps (suc k) lt = let e : n + 1 + k ≡ n + suc k = omega ar
 
 pub first-in_order : (vs : List Value) (ps : List (Value × Value)) → IsInOrder (numbered_from 1 vs ++ ps) (length vs)
 first-in_order vs ps k lt = let e : 1 + k ≡ k + 1 = omega arith in key-from 1 vs ps k lt ∙ ap (λ m. Some (number m)) e
+
+pub ordered-alone : (vs : List Value) (ps : List (Value × Value)) → ps ≡ [] → IsInOrder (numbered_from 1 vs ++ ps) (length (numbered_from 1 vs ++ ps))
+ordered-alone vs ps none =
+    let alone : length vs ≡ length (numbered_from 1 vs ++ ps) = omega (arith, length-all vs ps, ap length none) in
+    subst (IsInOrder (numbered_from 1 vs ++ ps)) alone (first-in_order vs ps)
+
+-- the number after them is none of them
+has-beyond : (n : ℕ) (vs : List Value) (m : ℕ) → n + length vs ≤ m → has_entry (numbered_from n vs ++ []) (number m) ≡ false
+has-beyond n [] m le = refl
+has-beyond n (v ∷ vs) m le = rw (other-number m n (λ e. omega arith)) (has-beyond (n + 1) vs m (omega arith))
+
+pub next-absent : (vs : List Value) (ps : List (Value × Value)) (key : Value) → ps ≡ [] → key ≡ number (length vs + 1) → has_entry (numbered_from 1 vs ++ ps) key ≡ false
+next-absent vs ps key none is = rw (none, is) (has-beyond 1 vs (length vs + 1) (omega arith))
 
 -- a value that is written at an index
 set-from : (n : ℕ) (vs : List Value) (ps : List (Value × Value)) (i : ℕ) (v : Value) → i < length vs

@@ -217,7 +217,7 @@ indexed-write ps k v live holes i hole x e at =
     }
 
 -- where something stands before and after, no flag changes
-same-lives : (ps : List (Value × Value)) (i : ℕ) (v w : Value) → slice_get (values_of ps) i ≡ Some w → is_nil w ≡ false → is_nil v ≡ false
+pub same-lives : (ps : List (Value × Value)) (i : ℕ) (v w : Value) → slice_get (values_of ps) i ≡ Some w → is_nil w ≡ false → is_nil v ≡ false
     → lives (set_value_at ps i v) ≡ lives ps
 same-lives [] i v w at was is = absurd (none-some w at)
 same-lives (p ∷ ps) zero v w at was is = ap (λ b. not b ∷ lives ps) (is ∙ sym (ap is_nil (same_Some p.1 w at) ∙ was))
@@ -238,7 +238,7 @@ same-nil (p ∷ ps) (suc i) v w key at was is = by (same key p.0) (same-nil ps i
     by true e = refl
     by false e = e
 
-length-set-value : (ps : List (Value × Value)) (i : ℕ) (v : Value) → length (set_value_at ps i v) ≡ length ps
+pub length-set-value : (ps : List (Value × Value)) (i : ℕ) (v : Value) → length (set_value_at ps i v) ≡ length ps
 length-set-value [] i v = refl
 length-set-value (p ∷ ps) zero v = refl
 length-set-value (p ∷ ps) (suc i) v = ap suc (length-set-value ps i v)

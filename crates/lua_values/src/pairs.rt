@@ -1,6 +1,6 @@
 //! The pairs of a table, in the order in which their keys were set first.
 
-ghost use Rattle.std.specs.Prelude.{◌≡◌, ◌<◌, ◌≤◌, ◌+◌, ◌++◌, ◌∷◌, [], Some, true, false, length, position, slice_get, IfSome, IfOk, OnOk, OnErr};
+ghost use Rattle.std.specs.Prelude.{◌≡◌, ◌<◌, ◌≤◌, ◌+◌, ◌++◌, ◌∷◌, [], Some, true, false, length, position, slice_get, IfSome, IfOk, IfErr, OnOk, OnErr};
 ghost use Rattle.std.specs.Map.{keys_of, values_of};
 ghost use Rattle.indexmap.specs.IndexMap.{set_value_at};
 ghost use Rattle.lua_values.specs.declared.values.Value.TheVariants.{Text};
@@ -150,6 +150,24 @@ impl Pairs {
         match self.others.insert(key, value) {
             Ok(_) => Ok(()),
             Err(_) => Err(AllocError),
+        }
+    }
+
+    /// Puts the number after the first keys last, with a value, where these are all; else the value is given back.
+    pub fn push_next(&mut self, key: &Value, value: Value) -> Result<(), Value>
+        ensures absent { OnOk result (has_entry self.old key.now ≡ false) }
+        ensures done { OnOk result (self.new ≡ self.old ++ (key.now, value) ∷ []) }
+        ensures ordered { OnOk result (IsInOrder self.new (length self.new)) }
+        ensures given { IfErr result (λ given. given ≡ value) }
+        ensures kept { OnErr result (self.new ≡ self.old) }
+    {
+        let count = self.numbered.len();
+        if count >= MOST || !self.others.is_empty() || !is_next(key, count) {
+            return Err(value);
+        }
+        match self.numbered.push(value) {
+            Ok(()) => Ok(()),
+            Err(failed) => Err(failed.value),
         }
     }
 }

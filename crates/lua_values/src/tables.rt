@@ -10,33 +10,34 @@ ghost use Rattle.lua_values.specs.Border.{border_of};
 ghost use Rattle.lua_values.specs.Shifts.{IsShift, HasSources, moves, place, moved, shifted, entries_first, new_entries};
 
 use crate::flags::Flags;
-use crate::pairs::{Pairs, hole_of, numbered};
+use crate::outlines::{Outline, append_flagged, flagged, walk_border, walk_from};
+use crate::pairs::{Pairs, hole_of};
 use crate::{Shift, Value};
 use resty_base::Bytes;
 use std::alloc::{AllocError, Global};
 use std::marker::Model;
 
 /// A table: its pairs in the order in which the keys were set first, those of value nil included, and its metatable.
-/// Beside the pairs stand the flags of those whose value isn't nil, and of the numbers, up to that of pairs, at which
-/// nothing is; so what comes next and the border are found without a walk. There are at most 32,768 entries, more than the
-/// units of a store allow; one more gives `AllocError`.
+/// Beside the pairs of a table that isn't full stand the flags of those whose value isn't nil, and of the numbers, up to that of
+/// pairs, at which nothing is. There are at most 32,768 entries, more than the units of a store allow; one more gives `AllocError`.
 #[derive(Drop)]
 pub struct Table {
     pairs: Pairs,
     live: Flags,
     holes: Flags,
+    outline: Outline,
     meta: Option<u32>,
 }
 
 impl Model for Table {
     ghost use Rattle.lua_values.specs.Heap.{TableView};
-    ghost use Rattle.lua_values.specs.TableFlags.{IsIndexed};
+    ghost use Rattle.lua_values.specs.TableFlags.{IsOutline};
 
     ghost Value = { TableView };
 
     ghost view = { λ table. record { pairs = table.pairs; meta = table.meta } };
 
-    ghost invariant = { λ table. IsIndexed table.pairs table.live table.holes };
+    ghost invariant = { λ table. IsOutline table.outline table.pairs table.live table.holes };
 }
 
 impl Table {
@@ -48,6 +49,7 @@ impl Table {
             pairs: Pairs::new(alloc),
             live: Flags::new(alloc),
             holes: Flags::new(alloc),
+            outline: Outline::Full,
             meta: None,
         }
     }
@@ -129,6 +131,26 @@ impl Table {
         }
     }
 
+    /// Puts a value that isn't nil at the number after the last, where the keys are 1, 2, .. in this order; else it is given back, and nothing is
+    /// changed.
+    pub fn extend(&mut self, key: &Value, value: Value) -> Result<(), Value>
+        ensures absent { OnOk result (has_entry self.old.pairs key.now ≡ false) }
+        ensures live { OnOk result (is_nil value ≡ false) }
+        ensures done { OnOk result (self.new ≡ record { pairs = with_value self.old.pairs key.now value; meta = self.old.meta }) }
+        ensures given { IfErr result (λ given. given ≡ value) }
+        ensures kept { OnErr result (self.new ≡ self.old) }
+    {
+        match self.outline {
+            Outline::Full => {
+                if value.is_nil() {
+                    return Err(value);
+                }
+                self.pairs.push_next(key, value)
+            }
+            _ => Err(value),
+        }
+    }
+
     /// Whether a value at the key needs a new entry.
     pub fn needs_entry(&self, key: &Value, value: &Value) -> bool
         ensures { result ≡ needs_entry self.now.pairs key.now value.now }
@@ -173,8 +195,18 @@ impl Table {
         let hole = hole_of(key, self.pairs.len());
         let nil = value.is_nil();
         let before = self.pairs.replace(index, value);
-        self.live.set(index, !nil);
-        self.holes.set_at(hole, nil);
+        match self.outline {
+            Outline::Flagged => {
+                self.live.set(index, !nil);
+                self.holes.set_at(hole, nil);
+            }
+            Outline::Full => {
+                if nil {
+                    self.outline = flagged(&mut self.live, &mut self.holes, &self.pairs);
+                }
+            }
+            Outline::Walked => {}
+        }
         before
     }
 
@@ -185,16 +217,19 @@ impl Table {
         ensures done { OnOk result (self.new ≡ record { pairs = with_value self.old.pairs key value; meta = self.old.meta }) }
         ensures kept { OnErr result (self.new ≡ self.old) }
     {
-        let index = self.pairs.len();
-        self.live.reach(index)?;
-        self.holes.reach(index)?;
-        let hole = hole_of(&key, index);
-        self.pairs.push(key, value)?;
-        self.live.set(index, true);
-        self.holes.set_at(hole, false);
-        self.holes
-            .set(index, is_hole(&self.pairs, index as u32 + 1));
-        Ok(())
+        match self.outline {
+            Outline::Full => {
+                self.pairs.push(key, value)?;
+                if self.pairs.in_order() < self.pairs.len() {
+                    self.outline = flagged(&mut self.live, &mut self.holes, &self.pairs);
+                }
+                Ok(())
+            }
+            Outline::Flagged => {
+                append_flagged(&mut self.pairs, &mut self.live, &mut self.holes, key, value)
+            }
+            Outline::Walked => self.pairs.push(key, value),
+        }
     }
 
     /// The value at a key, nil where it has no entry.
@@ -326,9 +361,13 @@ impl Table {
     fn live_from(&self, from: usize) -> Result<Option<(Value, Value)>, AllocError>
         ensures { IfOk result (λ next. next ≡ first_live (drop from self.now.pairs)) }
     {
-        match self.live.first_from(from) {
-            Some(index) => self.pairs.pair(index),
-            None => Ok(None),
+        match self.outline {
+            Outline::Full => self.pairs.pair(from),
+            Outline::Flagged => match self.live.first_from(from) {
+                Some(index) => self.pairs.pair(index),
+                None => Ok(None),
+            },
+            Outline::Walked => walk_from(&self.pairs, from),
         }
     }
 
@@ -337,19 +376,13 @@ impl Table {
         ensures least { result ≡ border_of self.now.pairs }
         ensures few { result ≤ 32_768 }
     {
-        let entries = self.entries();
-        match self.holes.first_from(0) {
-            Some(hole) => hole as u64,
-            None => entries as u64,
-        }
-    }
-
-    /// How many entries there are.
-    fn entries(&self) -> usize
-        ensures entries { result ≡ length self.now.pairs }
-        ensures few { result ≤ 32_768 }
-    {
-        self.pairs.len()
+        let entries = self.pairs.len();
+        let border = match self.outline {
+            Outline::Full => entries,
+            Outline::Flagged => self.holes.first_from(0).unwrap_or(entries),
+            Outline::Walked => walk_border(&self.pairs),
+        };
+        border as u64
     }
 
     /// The metatable.
@@ -376,18 +409,8 @@ impl Clone for Table {
             pairs: self.pairs.clone()?,
             live: self.live.clone()?,
             holes: self.holes.clone()?,
+            outline: self.outline,
             meta: self.meta,
         })
-    }
-}
-
-/// Whether nothing is at the number n.
-fn is_hole(pairs: &Pairs, n: u32) -> bool
-    requires { n ≤ 1_000_000_000 }
-    ensures { result ≡ is_nil (value_at pairs.now (number n)) }
-{
-    match pairs.index_of(&numbered(n)) {
-        None => true,
-        Some(index) => pairs.value(index).is_nil(),
     }
 }

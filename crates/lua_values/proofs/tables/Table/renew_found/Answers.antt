@@ -3,12 +3,12 @@ use Rattle.std.specs.Map.{keys_of}
 use Rattle.lua_values.specs.Values.{same, is_nil}
 use Rattle.lua_values.proofs.PairLemmas.{insert-with}
 use Rattle.lua_values.proofs.EntryLemmas.{index-has, index-value, index-write}
-use Rattle.lua_values.proofs.TableLemmas.{indexed-renewed}
+use Rattle.lua_values.proofs.OutlineLemmas.{outline-renewed}
 use Rattle.lua_values.proofs.tables.Table.renew_found.Goals as goal
 
 pub invariant_of-self : goal.invariant_of-self
 invariant_of-self c =
-    rw c.replace.ensures.done (indexed-renewed c.self.inside.pairs c.in-Some.index c.args.value c.value.result.now c.self.inside.live c.self.inside.holes c.self.invariant
+    rw c.replace.ensures.done (outline-renewed c.self.inside.outline c.self.inside.pairs c.in-Some.index c.args.value c.value.result.now c.self.inside.live c.self.inside.holes c.self.invariant
     c.value.ensures (sym c.is_nil-else-is_nil.ensures ∙ c.if-is_nil-2.false) (sym c.is_nil.ensures ∙ c.if-is_nil.false))
 
 pub returns-else-is_nil-2-clause-there : goal.returns-else-is_nil-2-clause-there

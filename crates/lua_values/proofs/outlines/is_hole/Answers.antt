@@ -3,7 +3,7 @@ use Rattle.lua_values.specs.Values.{is_nil}
 use Rattle.lua_values.specs.Pairs.{value_at, has_entry}
 use Rattle.lua_values.proofs.PairLemmas.{value_at-absent}
 use Rattle.lua_values.proofs.EntryLemmas.{index-there, index-value}
-use Rattle.lua_values.proofs.tables.is_hole.Goals as goal
+use Rattle.lua_values.proofs.outlines.is_hole.Goals as goal
 
 pub returns-in-None : goal.returns-in-None
 returns-in-None c =
