@@ -250,12 +250,41 @@ fn put_entry(store: &mut Store, entry: Entry) -> bool
                 value,
                 steps,
             };
-            put_anew(store, entry)
+            put_next(store, entry)
         }
     }
 }
 
 /// The same where nothing is at the key, or the value is nil.
+#[inline(always)]
+fn put_next(store: &mut Store, entry: Entry) -> bool
+    requires { store.old.steps + (entry.steps + 2) < step_limit }
+    ensures { PutsIf result entry store.old store.new }
+{
+    let Entry {
+        table,
+        key,
+        value,
+        steps,
+    } = entry;
+    match store.extend(table, &key, value) {
+        Ok(()) => {
+            let _ = store.count(steps + 2);
+            true
+        }
+        Err(value) => {
+            let entry = Entry {
+                table,
+                key,
+                value,
+                steps,
+            };
+            put_anew(store, entry)
+        }
+    }
+}
+
+/// The same where the key isn't the number after those of the table.
 fn put_anew(store: &mut Store, entry: Entry) -> bool
     requires { store.old.steps + (entry.steps + 2) < step_limit }
     ensures { PutsIf result entry store.old store.new }

@@ -25,10 +25,15 @@ use resty_base::Whole;
 use std::rc::Rc;
 
 /// A slot has a number of its own from now on, if it is there.
+#[inline(always)]
 pub(crate) fn put(slots: &mut Vec<Slot>, i: u8, number: Whole)
     ensures { slots.new.items ≡ slice_set slots.old.items i (Plain (Number number)) }
 {
-    put_value(slots, i, Value::Number(number));
+    match slots.get_mut(i as usize) {
+        Some(Slot::Plain(Value::Number(old))) => *old = number,
+        Some(slot) => *slot = Slot::Plain(Value::Number(number)),
+        None => {}
+    }
 }
 
 /// A slot has a value of its own from now on, if it is there.

@@ -100,6 +100,32 @@ impl Store {
         }
     }
 
+    /// Puts a value that isn't nil at the number after those of a table whose keys are 1, 2, .. in this order, if it has no metatable and that isn't
+    /// refused; else the value is given back, and nothing is changed.
+    #[tactic(auto, using(crate::proofs::FreezableLemmas::set_same_item))]
+    pub fn extend(&mut self, t: u32, key: &Value, value: Value) -> Result<(), Value>
+        ensures own { OnOk result ((calls.table_of self.old.heap t).meta ≡ None) }
+        ensures allowed { OnOk result (calls.set_cause self.old.heap t key.now value ≡ None) }
+        ensures done { OnOk result (self.new ≡ record { heap = calls.with_pair self.old.heap t key.now value; steps = self.old.steps }) }
+        ensures given { IfErr result (λ given. given ≡ value) }
+        ensures kept { OnErr result (self.new ≡ self.old) }
+    {
+        let index = t as usize;
+        if key.is_nil() || index < self.tables.frozen() || index >= self.tables.len() {
+            return Err(value);
+        }
+        if self.units + ENTRY_UNITS > UNIT_LIMIT || self.metatable(t).is_some() {
+            return Err(value);
+        }
+        match self.tables.item_mut(index).extend(key, value) {
+            Ok(()) => {
+                self.units += ENTRY_UNITS;
+                Ok(())
+            }
+            Err(value) => Err(value),
+        }
+    }
+
     /// Sets a value at a key of a table. A key that has an entry keeps it, and that takes no memory; nil at a key
     /// without one changes nothing; else the key's entry is the last, and takes 32 units.
     pub fn set(&mut self, t: u32, key: Value, value: Value) -> Result<(), StoreFault>
