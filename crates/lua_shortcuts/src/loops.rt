@@ -63,7 +63,8 @@ pub fn run_loop(
     test: &Rc<Expr>,
     body: &Rc<Vec<Stmt>>,
 ) -> LoopEnd
-    ensures { (S : Setting) → (p : Places) → Allows site.now site.now.levels S p → Becomes S (while_work test.now.value body.now.value.items p slots.old.items) store.old
+    ensures { (S : Setting) → (p : Places) → Allows site.now site.now.levels S p
+        → Becomes S (while_work test.now.value body.now.value.items p slots.old.items) store.old
         (left_of result test.now.value body.now.value.items p slots.new.items) store.new }
 {
     run_turns(site, slots, store, test, body.as_slice())

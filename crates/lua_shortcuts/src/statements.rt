@@ -29,10 +29,19 @@ use std::rc::Rc;
 pub(crate) fn put(slots: &mut Vec<Slot>, i: u8, number: Whole)
     ensures { slots.new.items ≡ slice_set slots.old.items i (Plain (Number number)) }
 {
-    match slots.get_mut(i as usize) {
-        Some(Slot::Plain(Value::Number(old))) => *old = number,
-        Some(slot) => *slot = Slot::Plain(Value::Number(number)),
-        None => {}
+    if let Some(slot) = slots.get_mut(i as usize) {
+        set_number(slot, number);
+    }
+}
+
+/// A slot has a number of its own from now on; one that has a number keeps its form.
+#[inline(always)]
+fn set_number(slot: &mut Slot, number: Whole)
+    ensures { slot.new ≡ Plain (Number number) }
+{
+    match slot {
+        Slot::Plain(Value::Number(old)) => *old = number,
+        other => *other = Slot::Plain(Value::Number(number)),
     }
 }
 
@@ -302,7 +311,8 @@ pub fn run_block(
     stmts: &Rc<Vec<Stmt>>,
     from: usize,
 ) -> usize
-    ensures { (S : Setting) → (p : Places) → Allows site.now site.now.levels S p → Becomes S (block (drop from stmts.now.value.items) p slots.old.items) store.old
+    ensures { (S : Setting) → (p : Places) → Allows site.now site.now.levels S p
+        → Becomes S (block (drop from stmts.now.value.items) p slots.old.items) store.old
         (block (drop result stmts.now.value.items) p slots.new.items) store.new }
 {
     run_simple(site, slots, store, stmts.as_slice(), from)
