@@ -15,7 +15,7 @@ use Rattle.lua_values.specs.Pairs.{value_at, has_entry, with_value, first_live}
 use Rattle.lua_values.specs.Border.{border_of}
 use Rattle.lua_values.specs.Flags.{flag_at, IsFirstFrom}
 use Rattle.lua_values.specs.TableFlags.{lives, is_hole, IsIndexed, IsFlaggedTo, IsFull, IsInOrder, IsOutline}
-use Rattle.lua_values.specs.Numbered.{passes_at}
+use Rattle.lua_values.specs.Numbered.{IsRenewed, passes_at}
 use Rattle.lua_values.proofs.BorderLemmas.{other-number}
 use Rattle.lua_values.proofs.EntryLemmas.{same-refl, index-value}
 use Rattle.lua_values.proofs.PairLemmas.{insert-with}
@@ -135,6 +135,11 @@ full-written ps i key v live holes x at is =
     let within : i < length ps = (Found-position (same key) ps i at).within in
     let there = some-value ps i within in
     (full-renewed ps i v there.0 x.0 there.1 (not-true (is_nil there.0) (sym (live-there ps i there.0 there.1) ∙ x.0.filled i within)) is, x.1, x.2)
+
+pub outline-whole : (o : Outline) (ps qs : List (Value × Value)) (v : Value) (live holes : List Bool) (b : Bool) → IsOutline o ps live holes → is_nil v ≡ false
+    → (b ≡ true → IsRenewed ps qs v) → (b ≡ false → qs ≡ ps) → IsOutline o qs live holes
+outline-whole o ps qs v live holes true x is renewed kept = let r = renewed refl in rw r.is (outline-renewed o ps r.index v r.before live holes x r.there r.live is)
+outline-whole o ps qs v live holes false x is renewed kept = rw (kept refl) x
 
 lives-push : (ps : List (Value × Value)) (key v : Value) (k : ℕ) → is_nil v ≡ false → ((j : ℕ) → j < length ps → flag_at (lives ps) j ≡ true) → k < length ps + 1
     → flag_at (lives (ps ++ (key, v) ∷ [])) k ≡ true

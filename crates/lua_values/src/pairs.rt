@@ -1,13 +1,13 @@
 //! The pairs of a table, in the order in which their keys were set first.
 
-ghost use Rattle.std.specs.Prelude.{◌≡◌, ◌<◌, ◌≤◌, ◌+◌, ◌++◌, ◌∷◌, [], Some, true, false, length, position, slice_get, IfSome, IfOk, IfErr, OnOk, OnErr};
+ghost use Rattle.std.specs.Prelude.{◌≡◌, ◌<◌, ◌≤◌, ◌+◌, ◌++◌, ◌∷◌, [], Some, true, false, not, length, position, slice_get, IfSome, IfOk, IfErr, OnOk, OnErr};
 ghost use Rattle.std.specs.Map.{keys_of, values_of};
 ghost use Rattle.indexmap.specs.IndexMap.{set_value_at};
-ghost use Rattle.lua_values.specs.declared.values.Value.TheVariants.{Text};
-ghost use Rattle.lua_values.specs.Pairs.{has_entry};
-ghost use Rattle.lua_values.specs.Numbered.{passes_at};
+ghost use Rattle.lua_values.specs.declared.values.Value.TheVariants.{Number, Text};
+ghost use Rattle.lua_values.specs.Pairs.{value_at, has_entry, with_value};
+ghost use Rattle.lua_values.specs.Numbered.{IsRenewed, passes_at};
 ghost use Rattle.lua_values.specs.TableFlags.{IsHoleOf, IsInOrder};
-ghost use Rattle.lua_values.specs.Values.{same, number};
+ghost use Rattle.lua_values.specs.Values.{same, is_nil, number};
 
 use crate::Value;
 use indexmap::IndexMap;
@@ -131,6 +131,19 @@ impl Pairs {
             mem::replace(&mut self.numbered[index], value)
         } else {
             mem::replace(&mut self.others[index - count], value)
+        }
+    }
+
+    /// Writes a number at one of the first keys that are 1, 2, .., where something is; says whether it did. Takes no memory.
+    pub fn renew_whole(&mut self, n: Whole, number: Whole) -> bool
+        ensures there { result ≡ true → is_nil (value_at self.old (Number n)) ≡ false }
+        ensures at { result ≡ true → IsRenewed self.old self.new (Number number) }
+        ensures done { result ≡ true → self.new ≡ with_value self.old (Number n) (Number number) }
+        ensures kept { result ≡ false → self.new ≡ self.old }
+    {
+        match hole_of(&Value::Number(n), self.numbered.len()) {
+            Some(index) => set_whole(&mut self.numbered[index], number),
+            None => false,
         }
     }
 
@@ -261,6 +274,26 @@ fn pair_of(
     match pairs.get_index(index) {
         Some((key, value)) => Ok(Some((key.clone()?, value.clone()?))),
         None => Ok(None),
+    }
+}
+
+/// Writes a number where something is; says whether it did.
+#[inline(always)]
+fn set_whole(value: &mut Value, number: Whole) -> bool
+    ensures there { result ≡ not (is_nil value.old) }
+    ensures done { result ≡ true → value.new ≡ Number number }
+    ensures kept { result ≡ false → value.new ≡ value.old }
+{
+    match value {
+        Value::Nil => false,
+        Value::Number(old) => {
+            *old = number;
+            true
+        }
+        other => {
+            *other = Value::Number(number);
+            true
+        }
     }
 }
 

@@ -3,7 +3,7 @@
 ghost use Rattle.std.specs.Prelude.{◌≡◌, ◌+◌, ◌≤◌, ◌<◌, [], None, Some, true, false, length, drop, position, is_some, IfSome, IfOk, IfErr, OnOk, OnErr, IsOk};
 ghost use Rattle.std.specs.Map.{keys_of};
 ghost use Rattle.lua_values.specs.declared.values.Value.{Value as LuaValue};
-ghost use Rattle.lua_values.specs.declared.values.Value.TheVariants.{Text};
+ghost use Rattle.lua_values.specs.declared.values.Value.TheVariants.{Number, Text};
 ghost use Rattle.lua_values.specs.Pairs.{value_at, has_entry, needs_entry, with_value, first_live, next_pair};
 ghost use Rattle.lua_values.specs.Values.{same, is_nil, number};
 ghost use Rattle.lua_values.specs.Border.{border_of};
@@ -13,7 +13,7 @@ use crate::flags::Flags;
 use crate::outlines::{Outline, append_flagged, flagged, walk_border, walk_from};
 use crate::pairs::{Pairs, hole_of};
 use crate::{Shift, Value};
-use resty_base::Bytes;
+use resty_base::{Bytes, Whole};
 use std::alloc::{AllocError, Global};
 use std::marker::Model;
 
@@ -129,6 +129,15 @@ impl Table {
             }
             None => Err(value),
         }
+    }
+
+    /// Writes a number at a number where something is, and takes no memory; says whether it did. It does so where that number is among the first keys 1, 2, ..
+    pub fn renew_whole(&mut self, n: Whole, number: Whole) -> bool
+        ensures there { result ≡ true → is_nil (value_at self.old.pairs (Number n)) ≡ false }
+        ensures done { result ≡ true → self.new ≡ record { pairs = with_value self.old.pairs (Number n) (Number number); meta = self.old.meta } }
+        ensures kept { result ≡ false → self.new ≡ self.old }
+    {
+        self.pairs.renew_whole(n, number)
     }
 
     /// Puts a value that isn't nil at the number after the last, where the keys are 1, 2, .. in this order; else it is given back, and nothing is

@@ -2,7 +2,7 @@
 
 ghost use Rattle.std.specs.Prelude.{◌≡◌, ◌≢◌, ◌<◌, ◌≤◌, ◌*◌, true, false, None, Some, Err, length, OnOk, OnErr, IfOk, IfErr};
 ghost use Rattle.lua_values.specs.Values.{is_nil};
-ghost use Rattle.lua_values.specs.declared.values.Value.TheVariants.{Text};
+ghost use Rattle.lua_values.specs.declared.values.Value.TheVariants.{Number, Text};
 ghost use Rattle.lua_values.specs.Pairs.{value_at, next_pair};
 ghost use Rattle.lua_values.specs.Border.{border_of};
 ghost use Rattle.lua_values.specs.Shifts.{IsShift, shift_of};
@@ -11,7 +11,7 @@ ghost use Rattle.lua_values.specs.StoreCalls as calls;
 use super::{Store, TABLE_UNITS, UNIT_LIMIT};
 use crate::tables::Table;
 use crate::{Shift, StoreFault, Value};
-use resty_base::Bytes;
+use resty_base::{Bytes, Whole};
 use std::alloc::AllocError;
 
 /// The units of a new entry in a table.
@@ -97,6 +97,26 @@ impl Store {
         match self.tables.item_mut(index).renew_text(name, value) {
             Ok(()) => Ok(()),
             Err(value) => Err(value),
+        }
+    }
+
+    /// Writes a number at one of the first keys 1, 2, .. of a table where something is, if the table isn't frozen, and takes no memory; says whether it did.
+    #[tactic(auto, using(crate::proofs::FreezableLemmas::set_same_item))]
+    pub fn renew_whole(&mut self, t: u32, n: Whole, number: Whole) -> bool
+        ensures there { result ≡ true → is_nil (value_at (calls.pairs_of self.old.heap t) (Number n)) ≡ false }
+        ensures allowed { result ≡ true → calls.set_cause self.old.heap t (Number n) (Number number) ≡ None }
+        ensures done { result ≡ true
+            → self.new ≡ record { heap = calls.with_pair self.old.heap t (Number n) (Number number); steps = self.old.steps } }
+        ensures kept { result ≡ false → self.new ≡ self.old }
+    {
+        let index = t as usize;
+        if index < self.tables.frozen() || index >= self.tables.len() {
+            return false;
+        }
+        if self.tables.item_mut(index).renew_whole(n, number) {
+            true
+        } else {
+            false
         }
     }
 
