@@ -3,18 +3,18 @@
 ghost use Rattle.std.specs.Prelude.{◌≡◌, ◌+◌, ◌*◌, ◌<◌, true, IfSome};
 ghost use Rattle.lua_ast.specs.declared.statements.Stmt.{Stmt as LuaStmt};
 ghost use Rattle.lua_shortcuts.specs.Runs.{RunsIf};
-ghost use Rattle.lua_values.specs.declared.values.Value.TheVariants.{Table, Text};
+ghost use Rattle.lua_values.specs.declared.values.Value.TheVariants.{Number, Table, Text};
 ghost use Rattle.lua_values.specs.Heap.{step_limit};
 ghost use Rattle.lua_shortcuts.specs.Gives.{Gives};
 ghost use Rattle.lua_shortcuts.specs.Entries.{IsStore, IsGlobal, IsOwn, PutsIf, StoresAt, StoresIn};
 
-use crate::numbers::{LEVELS, number_of};
+use crate::numbers::{Counted, LEVELS, number_of};
 use crate::places::{Valued, seen_of, value_of};
 use crate::steps::affords;
 use lua_ast::{Expr, ExprKind};
 use lua_meaning::Slot;
 use lua_values::{Store, Value};
-use resty_base::Bytes;
+use resty_base::{Bytes, Whole};
 
 /// A value for a key of a table, and how many steps their expressions count.
 #[derive(Drop)]
@@ -79,14 +79,7 @@ fn store_in(slots: &[Slot], store: &mut Store, object: Object, b: &Expr, x: &Exp
     ensures { StoresIn result object b.now x.now slots.now store.old store.new }
 {
     match number_of(slots, store, b, LEVELS) {
-        Some(n) => {
-            let spot = Spot {
-                table: object.table,
-                key: Value::Number(n.number),
-                steps: object.steps + n.steps,
-            };
-            store_at(slots, store, spot, x)
-        }
+        Some(n) => store_at_number(slots, store, object, n, x),
         None => match &b.kind {
             ExprKind::Text(name) => {
                 store_named(slots, store, object.table, name, object.steps + 1, x)
@@ -94,6 +87,54 @@ fn store_in(slots: &[Slot], store: &mut Store, object: Object, b: &Expr, x: &Exp
             _ => store_at_other(slots, store, object, b, x),
         },
     }
+}
+
+/// The same of a number as the key.
+#[inline(always)]
+fn store_at_number(slots: &[Slot], store: &mut Store, object: Object, n: Counted, x: &Expr) -> bool
+    requires object { object.steps < step_limit }
+    requires key { n.steps < step_limit }
+    ensures { StoresAt result (record { table = object.table; key = Number n.number; steps = object.steps + n.steps }) x.now slots.now store.old store.new }
+{
+    match number_of(slots, store, x, LEVELS) {
+        Some(m) => put_number(
+            store,
+            object.table,
+            n.number,
+            m.number,
+            object.steps + n.steps + m.steps,
+        ),
+        None => {
+            let spot = Spot {
+                table: object.table,
+                key: Value::Number(n.number),
+                steps: object.steps + n.steps,
+            };
+            store_other(slots, store, spot, x)
+        }
+    }
+}
+
+/// Sets an entry at a number to a number, where no metatable is asked and the store doesn't refuse it.
+#[inline(always)]
+fn put_number(store: &mut Store, table: u32, n: Whole, number: Whole, steps: u64) -> bool
+    requires { steps < 3 * step_limit }
+    ensures { PutsIf result (record { table = table; key = Number n; value = Number number; steps = steps }) store.old store.new }
+{
+    if !affords(store, steps + 2) {
+        return false;
+    }
+    if store.renew_whole(table, n, number) {
+        let _ = store.count(steps + 2);
+        return true;
+    }
+    let entry = Entry {
+        table,
+        key: Value::Number(n),
+        value: Value::Number(number),
+        steps,
+    };
+    put_next(store, entry)
 }
 
 /// The same of a key that is no number and no text that stands there.

@@ -1,8 +1,13 @@
 use Rattle.std.proofs.Common.{◌+◌, refl}
-use Rattle.lua_values.specs.declared.values.Value.TheVariants.{Text}
+use Rattle.lua_values.specs.declared.values.Value.TheVariants.{Number, Text}
 use Rattle.lua_shortcuts.proofs.ValueLemmas.{text_gives}
 use Rattle.lua_shortcuts.proofs.EntryLemmas.{spot_stores}
 use Rattle.lua_shortcuts.proofs.entries.store_in.Goals as goal
+
+pub returns-in-Some : goal.returns-in-Some
+returns-in-Some c =
+    spot_stores c.args.object c.args.b.now c.args.x.now c.args.slots.now (record { table = c.args.object.table; key = Number c.in-Some.n.number; steps = c.args.object.steps + c.in-Some.n.steps }) c.in-Some.n.steps
+    c.store_at_number.result c.args.store.now c.store_at_number.new.store refl c.in-Some.ensures.gives refl c.store_at_number.ensures
 
 pub returns-in-Text : goal.returns-in-Text
 returns-in-Text c =
