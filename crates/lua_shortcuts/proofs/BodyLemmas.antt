@@ -1,9 +1,6 @@
 -- Blocks that give values to variables of their own function alone.
-use Rattle.std.specs.Prelude.{◌≡◌, ℕ, ◌+◌, ◌≤◌, ◌<◌, true, false, Bool, if◌then◌else◌, List, [], ◌∷◌, length, drop, slice_get, slice_set, Option, Some, None, IfSome, refl}
-use Rattle.std.specs.declared.rc.Rc.{Rc}
-use Rattle.std.specs.declared.vec.Vec.{Vec}
-use Rattle.std.specs.declared.alloc.Global.{Global}
-use Rattle.std.proofs.Common.{sym, ◌∙◌, ap, subst, arith}
+use Rattle.std.specs.Prelude.{◌≡◌, ℕ, ◌+◌, ◌≤◌, ◌<◌, true, List, [], ◌∷◌, length, drop, slice_get, slice_set, Option, Some, None, IfSome, refl}
+use Rattle.std.proofs.Common.{◌∙◌, ap, arith}
 use Rattle.std.proofs.lemmas.Bool.{lt-ltb}
 use Rattle.lua_ast.specs.declared.expressions.Expr.{Expr}
 use Rattle.lua_ast.specs.declared.expressions.ExprKind.{out-ExprKind}
@@ -14,13 +11,12 @@ use Rattle.lua_ast.specs.declared.statements.Stmt.{Stmt}
 use Rattle.lua_ast.specs.declared.statements.StmtKind.TheOpen as sk
 use Rattle.lua_values.specs.declared.values.Value.{Value}
 use Rattle.lua_values.specs.Heap.{Heap, step_limit}
-use Rattle.lua_meaning.specs.declared.slots.Slot.{Slot}
 use Rattle.lua_meaning.specs.declared.slots.Slot.TheVariants.{Plain}
-use Rattle.lua_meaning.specs.Works.{Places, Slots, AnExpr, AStmt, Sign, Values, Return, Work, and_then}
+use Rattle.lua_meaning.specs.Works.{Places, Slots, AnExpr, Sign, Values, Return}
 use Rattle.lua_meaning.specs.Evaluator.{State, Ending, Ended, after, do_work}
 use Rattle.lua_meaning.specs.Setting.{Setting}
 use Rattle.lua_meaning.specs.Signs.{give, on_values}
-use Rattle.lua_meaning.specs.Variables.{with_locals, write_slot}
+use Rattle.lua_meaning.specs.Variables.{with_locals}
 use Rattle.lua_meaning.specs.Statements.{with_values}
 use Rattle.lua_meaning.specs.Assignments.{assignment_work}
 use Rattle.lua_meaning.specs.Blocks.{block}

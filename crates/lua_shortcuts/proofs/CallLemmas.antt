@@ -6,7 +6,7 @@ use Rattle.std.specs.declared.alloc.Global.{Global}
 use Rattle.std.proofs.Common.{sym, ◌∙◌, ap, subst, arith, rules}
 use Rattle.std.proofs.lemmas.Bool.{lt-ltb}
 use Rattle.std.proofs.lemmas.List.{map-append, append_assoc, length-append, length-replicate}
-use borrow.Author.Tests.{ltb-true, ltb-false}
+use borrow.Author.Tests.{ltb-true}
 use Rattle.lua_ast.specs.declared.expressions.BinOp.{BinOp}
 use Rattle.lua_ast.specs.declared.expressions.Expr.{Expr}
 use Rattle.lua_ast.specs.declared.expressions.ExprKind.{ExprKind, out-ExprKind}
@@ -26,10 +26,9 @@ use Rattle.lua_values.specs.declared.values.Value.{Value}
 use Rattle.lua_values.specs.declared.values.Value.TheVariants.{Nil, Number, Closure}
 use Rattle.lua_values.specs.Heap.{ClosureView, Heap, StoreView, step_limit}
 use Rattle.lua_operators.specs.declared.faults.Fault.TheVariants.{StackOverflow}
-use Rattle.lua_meaning.specs.declared.slots.Slot.{Slot}
 use Rattle.lua_meaning.specs.declared.slots.Slot.TheVariants.{Plain}
-use Rattle.lua_meaning.specs.Works.{Caller, Places, Slots, AValue, AnExpr, AStmt, ACall, Sign, Values, Return, Work, End, Eval, and_then}
-use Rattle.lua_meaning.specs.Evaluator.{Resume, State, Ending, Ended, after, do_work}
+use Rattle.lua_meaning.specs.Works.{Caller, Places, Slots, AnExpr, ACall, Sign, Values, Return, Work, End, Eval, and_then}
+use Rattle.lua_meaning.specs.Evaluator.{State, Ending, Ended, after, do_work}
 use Rattle.lua_meaning.specs.Setting.{Setting}
 use Rattle.lua_meaning.specs.Positions.{callers_at, raise_fault}
 use Rattle.lua_meaning.specs.Signs.{first, give, give_one, listed, more, on_values, or_nil, value, values_of}

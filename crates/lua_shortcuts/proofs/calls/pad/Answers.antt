@@ -1,4 +1,4 @@
-use Rattle.std.proofs.Common.{sym, ◌∙◌, arith}
+use Rattle.std.proofs.Common.{arith}
 use Rattle.lua_shortcuts.proofs.CallLemmas.{padded_more}
 use Rattle.lua_shortcuts.proofs.calls.pad.Goals as goal
 

@@ -1,4 +1,4 @@
-use Rattle.std.proofs.Common.{◌≡◌, ◌-◌, ◌++◌, length, List, ℕ}
+use Rattle.std.proofs.Common.{◌-◌, length}
 use Rattle.lua_shortcuts.proofs.CallLemmas.{IsPadded}
 use Rattle.lua_shortcuts.proofs.calls.pad.Given as goal
 

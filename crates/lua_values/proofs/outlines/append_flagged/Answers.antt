@@ -1,4 +1,4 @@
-use Rattle.std.proofs.Common.{◌≡◌, ◌<◌, false, length, ◌∙◌, inl, subst, arith}
+use Rattle.std.proofs.Common.{◌<◌, length, ◌∙◌, inl, subst, arith}
 use Rattle.lua_values.proofs.PairLemmas.{insert-with}
 use Rattle.lua_values.proofs.NumberedLemmas.{pushed-insert}
 use Rattle.lua_values.proofs.TableLemmas.{indexed-append}

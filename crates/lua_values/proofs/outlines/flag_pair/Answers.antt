@@ -1,4 +1,4 @@
-use Rattle.std.proofs.Common.{◌≡◌, ◌<◌, length, not, sym, ap, arith}
+use Rattle.std.proofs.Common.{◌<◌, length, arith}
 use Rattle.lua_values.proofs.OutlineLemmas.{flagged-more}
 use Rattle.lua_values.proofs.outlines.flag_pair.Goals as goal
 

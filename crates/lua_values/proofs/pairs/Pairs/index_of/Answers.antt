@@ -1,6 +1,5 @@
-use Rattle.std.proofs.Common.{◌≡◌, ◌<◌, length, sym, ap, subst, ◌∙◌, None, arith}
+use Rattle.std.proofs.Common.{◌<◌, length, sym, ap, subst, None, arith}
 use Rattle.lua_values.specs.TableFlags.{IsHoleOf}
-use Rattle.lua_values.specs.Values.{same}
 use Rattle.lua_values.proofs.NumberedLemmas.{counted, IsNoneOf, length-all, index-numbered, index-after, index-nowhere, none_of-hole}
 use Rattle.lua_values.proofs.pairs.Pairs.index_of.Goals as goal
 

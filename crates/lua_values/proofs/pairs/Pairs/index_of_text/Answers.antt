@@ -1,4 +1,4 @@
-use Rattle.std.proofs.Common.{◌≡◌, ◌<◌, length, sym, ap, ◌∙◌, arith}
+use Rattle.std.proofs.Common.{length, sym, ap, arith}
 use Rattle.lua_values.specs.declared.values.Value.TheVariants.{Text}
 use Rattle.lua_values.proofs.NumberedLemmas.{counted, length-all, index-after, index-nowhere, none_of-text}
 use Rattle.lua_values.proofs.pairs.Pairs.index_of_text.Goals as goal

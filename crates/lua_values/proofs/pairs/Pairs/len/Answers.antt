@@ -1,4 +1,4 @@
-use Rattle.std.proofs.Common.{length, sym, ap, ◌∙◌, arith}
+use Rattle.std.proofs.Common.{arith}
 use Rattle.lua_values.proofs.NumberedLemmas.{counted, length-all}
 use Rattle.lua_values.proofs.pairs.Pairs.len.Goals as goal
 

@@ -1,4 +1,4 @@
-use Rattle.std.proofs.Common.{◌≡◌, ◌<◌, ◌≤◌, length, slice_get, Some, sym, ap, ◌∙◌, arith}
+use Rattle.std.proofs.Common.{◌≡◌, ◌<◌, ◌≤◌, length, slice_get, Some, sym, ◌∙◌, arith}
 use Rattle.lua_values.proofs.NumberedLemmas.{counted, got, pair-numbered, pair-other}
 use Rattle.lua_values.proofs.pairs.Pairs.pair.Goals as goal
 

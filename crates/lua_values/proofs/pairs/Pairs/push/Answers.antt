@@ -1,4 +1,4 @@
-use Rattle.std.proofs.Common.{◌≡◌, ◌+◌, ◌<◌, [], false, length, sym, ap, ◌∙◌, arith}
+use Rattle.std.proofs.Common.{◌≡◌, ◌+◌, ◌<◌, false, length, sym, ap, ◌∙◌, arith}
 use Rattle.lua_values.specs.Values.{number}
 use Rattle.lua_values.specs.Pairs.{has_entry}
 use Rattle.lua_values.proofs.NumberedLemmas.{counted, length-all, few-push, few-insert, none-empty, push-numbered, push-other}

@@ -1,4 +1,4 @@
-use Rattle.std.proofs.Common.{◌≡◌, ◌+◌, [], length, sym, ap, ◌∙◌}
+use Rattle.std.proofs.Common.{◌≡◌, ◌+◌, [], length, ap, ◌∙◌}
 use Rattle.lua_values.specs.Values.{number}
 use Rattle.lua_values.proofs.NumberedLemmas.{counted, none-empty, next-absent, ordered-alone, push-numbered}
 use Rattle.lua_values.proofs.pairs.Pairs.push_next.Goals as goal

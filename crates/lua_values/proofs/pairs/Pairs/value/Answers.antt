@@ -1,4 +1,4 @@
-use Rattle.std.proofs.Common.{◌≡◌, ◌<◌, ◌≤◌, length, sym, ap, ◌∙◌, arith}
+use Rattle.std.proofs.Common.{◌<◌, ◌≤◌, length, ap, arith}
 use Rattle.lua_values.proofs.NumberedLemmas.{counted, length-all, got, value-numbered, value-other}
 use Rattle.lua_values.proofs.pairs.Pairs.value.Goals as goal
 

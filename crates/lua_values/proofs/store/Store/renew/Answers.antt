@@ -1,6 +1,5 @@
-use Rattle.std.proofs.Common.{◌≡◌, ◌≤◌, false, Some, slice_get, sym, ap, ◌∙◌, arith}
+use Rattle.std.proofs.Common.{◌≡◌, ◌≤◌, Some, slice_get, sym, ap, ◌∙◌, arith}
 use Rattle.lua_values.specs.Heap.{Heap}
-use Rattle.lua_values.specs.Values.{is_nil}
 use Rattle.lua_values.proofs.RenewLemmas.{renew-seen, renew-allowed, renewed}
 use Rattle.lua_values.proofs.store.Store.renew.Goals as goal
 use Rattle.lua_values.proofs.store.Store.renew.Goals.{in-Ok, in-Err}

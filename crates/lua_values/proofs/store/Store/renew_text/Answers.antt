@@ -1,7 +1,6 @@
-use Rattle.std.proofs.Common.{◌≡◌, ◌≤◌, false, Some, slice_get, sym, ap, ◌∙◌, arith, refl}
+use Rattle.std.proofs.Common.{◌≡◌, ◌≤◌, Some, slice_get, ap, arith, refl}
 use Rattle.lua_values.specs.declared.values.Value.TheVariants.{Text}
 use Rattle.lua_values.specs.Heap.{Heap}
-use Rattle.lua_values.specs.Values.{is_nil}
 use Rattle.lua_values.proofs.RenewLemmas.{renew-seen, renew-allowed, renewed}
 use Rattle.lua_values.proofs.store.Store.renew_text.Goals as goal
 use Rattle.lua_values.proofs.store.Store.renew_text.Goals.{in-Ok, in-Err}

@@ -1,4 +1,4 @@
-use Rattle.std.proofs.Common.{sym, ap, ◌∙◌}
+use Rattle.std.proofs.Common.{◌∙◌}
 use Rattle.lua_values.proofs.TableLemmas.{border-few}
 use Rattle.lua_values.proofs.OutlineLemmas.{full-border, flagged-border}
 use Rattle.lua_values.proofs.tables.Table.border.Goals as goal

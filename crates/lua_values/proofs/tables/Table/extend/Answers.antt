@@ -1,5 +1,4 @@
-use Rattle.std.proofs.Common.{◌≡◌, false, sym, ap, ◌∙◌}
-use Rattle.lua_values.specs.Pairs.{has_entry}
+use Rattle.std.proofs.Common.{sym, ap, ◌∙◌}
 use Rattle.lua_values.proofs.OutlineLemmas.{on_both, put-last}
 use Rattle.lua_values.proofs.tables.Table.extend.Goals as goal
 

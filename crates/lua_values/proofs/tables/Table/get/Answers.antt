@@ -1,4 +1,3 @@
-use Rattle.std.proofs.Common.{sym, ap, ◌∙◌}
 use Rattle.lua_values.proofs.tables.Table.get.Goals as goal
 
 pub returns-clause-entry : goal.returns-clause-entry

@@ -1,4 +1,4 @@
-use Rattle.std.proofs.Common.{sym, ap, ◌∙◌}
+use Rattle.std.proofs.Common.{sym}
 use Rattle.lua_values.proofs.TableLemmas.{live-some, live-nowhere}
 use Rattle.lua_values.proofs.OutlineLemmas.{full-next}
 use Rattle.lua_values.proofs.tables.Table.live_from.Goals as goal

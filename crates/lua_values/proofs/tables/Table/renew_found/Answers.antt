@@ -1,4 +1,4 @@
-use Rattle.std.proofs.Common.{◌≡◌, false, Some, position, ap, ◌∙◌, inr, sym}
+use Rattle.std.proofs.Common.{◌≡◌, Some, position, ap, ◌∙◌, inr, sym}
 use Rattle.std.specs.Map.{keys_of}
 use Rattle.lua_values.specs.Values.{same, is_nil}
 use Rattle.lua_values.proofs.PairLemmas.{insert-with}
