@@ -26,6 +26,7 @@ use resty_world::World;
 use schedule::Schedule;
 use site_load::{SiteMachine, load_site};
 use std::alloc::Global;
+use std::mem::forget;
 
 /// Loads the site, and does what the mode says.
 pub fn work<F: Files, W: World, O: Sink>(
@@ -42,7 +43,11 @@ pub fn work<F: Files, W: World, O: Sink>(
 {
     match load_site(alloc, files, command.conf) {
         Ok(site) => match command.mode {
-            Mode::Check => write_ok(out),
+            Mode::Check => {
+                // the process ends next, and gives all of its memory back at once
+                forget(site);
+                write_ok(out)
+            }
             Mode::Replay => replay(alloc, command, site, files, out),
             Mode::Serve => serve_live(alloc, site, live, command.events),
         },

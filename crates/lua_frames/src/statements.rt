@@ -14,9 +14,9 @@ use lua_frames_base::{
     Flow, Frames, Host, Item, Target, begin_block, element, give_nothing, share, take_first,
     take_values, wait,
 };
-use lua_items::set_locals;
+use lua_items::{levels_of, set_locals};
 use lua_operators::is_truthy;
-use lua_shortcuts::run_block;
+use lua_shortcuts::{Site, run_block};
 use lua_statements::{assign_slot, assign_values, begin_arm, enter_stmt};
 use lua_values::{Store, Value};
 use std::alloc::AllocError;
@@ -71,7 +71,14 @@ fn next_stmt<H: Host>(
     ensures { Works (H.setting host.now) (block (drop next stmts.value.items) (here frames.old) (slots_of frames.old))
         frames.old store.old frames.new store.new result }
 {
-    let next = run_block(&mut frames.top.slots, store, &stmts, next);
+    let levels = levels_of(frames);
+    let site = Site {
+        alloc: frames.alloc,
+        program: host.program(),
+        cells: frames.top.cells.as_slice(),
+        levels,
+    };
+    let next = run_block(&site, &mut frames.top.slots, store, &stmts, next);
     begin_next(frames, host, store, stmts, next)
 }
 

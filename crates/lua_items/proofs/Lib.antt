@@ -1,3 +1,4 @@
 pub mod TakeForms
 pub mod LoopForms
+pub mod SiteLemmas
 pub mod LocalLemmas

@@ -7,9 +7,11 @@ mod locals;
 mod loops;
 mod operands;
 mod returning;
+mod sites;
 
 pub use callees::{callee, tail_callee};
 pub use locals::{put_plain, set_locals, take_value};
 pub use loops::{RunEnd, begin_rest, end_of_run, turned, while_test};
 pub use operands::{and_then, first, key, or_else, right, truth};
 pub use returning::{discard, return_called, return_given};
+pub use sites::levels_of;

@@ -11,13 +11,14 @@ ghost use Rattle.lua_frames_base.specs.Frames.{here, slots_of};
 ghost use Rattle.lua_frames_base.specs.Follows.{Enters, Works};
 ghost use Rattle.lua_items.specs.Takes.{Takes, ends_run};
 
+use crate::sites::levels_of;
 use lua_ast::{Expr, Stmt};
 use lua_frames_base::{
     Flow, Frames, Host, Item, Signal, begin_block, give_nothing, share, take_first, wait,
 };
 use lua_nodes::value_under;
 use lua_operators::is_truthy;
-use lua_shortcuts::{LoopEnd, run_loop};
+use lua_shortcuts::{LoopEnd, Site, run_loop};
 use lua_values::Store;
 use std::alloc::AllocError;
 use std::rc::Rc;
@@ -105,7 +106,14 @@ fn go_on<H: Host>(
     ensures { Works (H.setting host.now) (while_work test.value body.value.items (here frames.old) (slots_of frames.old))
         frames.old store.old frames.new store.new result }
 {
-    match run_loop(&mut frames.top.slots, store, &test, &body) {
+    let levels = levels_of(frames);
+    let site = Site {
+        alloc: frames.alloc,
+        program: host.program(),
+        cells: frames.top.cells.as_slice(),
+        levels,
+    };
+    match run_loop(&site, &mut frames.top.slots, store, &test, &body) {
         LoopEnd::Over => give_nothing(frames),
         LoopEnd::Test => {
             let again = share(&test)?;

@@ -14,10 +14,10 @@ use lua_ast::Program;
 use lua_frames_base::{
     Bounds, Counter, Flow, Frames, Item, begin_block, give_nothing, raise_fault, share, wait,
 };
-use lua_items::{RunEnd, begin_rest, end_of_run, put_plain};
+use lua_items::{RunEnd, begin_rest, end_of_run, levels_of, put_plain};
 use lua_numbers::add;
 use lua_operators::Fault;
-use lua_shortcuts::{CountEnd, Counting, run_for};
+use lua_shortcuts::{CountEnd, Counting, Site, run_for};
 use lua_values::{Store, Value};
 use std::alloc::AllocError;
 
@@ -50,22 +50,36 @@ pub(crate) fn begin_counting(
                 step: range.step,
                 body,
             };
-            count_from(frames, store, counter)
+            count_from(frames, program, store, counter)
         }
         Err(fault) => raise_fault(frames, program, line, fault),
     }
 }
 
 /// The loop comes to a counter's number: its runs are done at once as far as that goes.
-fn count_from(frames: &mut Frames, store: &mut Store, counter: Counter) -> Result<Flow, AllocError>
-    ensures { (S : Setting) → Works S (counts_from counter (here frames.old) (slots_of frames.old)) frames.old store.old frames.new store.new result }
+fn count_from(
+    frames: &mut Frames,
+    program: &Program,
+    store: &mut Store,
+    counter: Counter,
+) -> Result<Flow, AllocError>
+    ensures { (S : Setting) → S.program ≡ program.now
+        → Works S (counts_from counter (here frames.old) (slots_of frames.old)) frames.old store.old frames.new store.new result }
 {
     let count = Counting {
         slot: counter.slot,
         limit: counter.limit,
         step: counter.step,
     };
+    let levels = levels_of(frames);
+    let site = Site {
+        alloc: frames.alloc,
+        program,
+        cells: frames.top.cells.as_slice(),
+        levels,
+    };
     match run_for(
+        &site,
         &mut frames.top.slots,
         store,
         &count,
@@ -128,7 +142,7 @@ fn count_next(
         → Works S (counted S counter (here frames.old) (slots_of frames.old)) frames.old store.old frames.new store.new result }
 {
     match add(counter.at, counter.step) {
-        Ok(at) => count_from(frames, store, Counter { at, ..counter }),
+        Ok(at) => count_from(frames, program, store, Counter { at, ..counter }),
         Err(fault) => raise_fault(frames, program, counter.line, Fault::Number(fault)),
     }
 }

@@ -18,6 +18,8 @@ use Rattle.lua_meaning.specs.Nodes.{eval}
 use Rattle.lua_meaning.proofs.EvaluatorLemmas.{work-then}
 use Rattle.lua_shortcuts.specs.declared.counting.Counting.{Counting}
 use Rattle.lua_shortcuts.specs.declared.counting.CountEnd.{CountEnd}
+use Rattle.lua_shortcuts.specs.declared.calls.Site.{Site}
+use Rattle.lua_shortcuts.specs.Calls.{Allows}
 use Rattle.lua_shortcuts.specs.Runs.{state, Becomes}
 use Rattle.lua_shortcuts.specs.Counts.{run_at, rest_of_run, left_of_count, BeginsRun}
 use Rattle.lua_shortcuts.proofs.RunLemmas.{counted, dropped_all, after_ended, entered}
@@ -64,11 +66,11 @@ run_ends S line c i j n body next p q s first store all e is h rs =
     ∙ ap (λ (r : Result ℤ NumFault). do_work (eval S) (for_next S line c.slot r c.limit c.step body p s) (state store rs)) (sym e ∙ is)
 
 -- the same statements
-pub same_run : (c : Counting) (from : ℤ) (xs ys : List Stmt) (r : CountEnd) (s s' : Slots) (before store : StoreView) → xs ≡ ys
-    → ((S : Setting) (line : ℕ) (p : Places) → Becomes S (for_from line c.slot from c.limit c.step xs p s) before (left_of_count S line c r xs p s') store)
-    → (S : Setting) (line : ℕ) (p : Places) → Becomes S (for_from line c.slot from c.limit c.step ys p s) before (left_of_count S line c r ys p s') store
-same_run c from xs ys r s s' before store e h S line p =
-    subst (λ (zs : List Stmt). Becomes S (for_from line c.slot from c.limit c.step zs p s) before (left_of_count S line c r zs p s') store) e (h S line p)
+pub same_run : (site : Site) (levels : ℕ) (c : Counting) (from : ℤ) (xs ys : List Stmt) (r : CountEnd) (s s' : Slots) (before store : StoreView) → xs ≡ ys
+    → ((S : Setting) (line : ℕ) (p : Places) → Allows site levels S p → Becomes S (for_from line c.slot from c.limit c.step xs p s) before (left_of_count S line c r xs p s') store)
+    → (S : Setting) (line : ℕ) (p : Places) → Allows site levels S p → Becomes S (for_from line c.slot from c.limit c.step ys p s) before (left_of_count S line c r ys p s') store
+same_run site levels c from xs ys r s s' before store e h S line p a =
+    subst (λ (zs : List Stmt). Becomes S (for_from line c.slot from c.limit c.step zs p s) before (left_of_count S line c r zs p s') store) e (h S line p a)
 
 -- the same work in the same store
 pub becomes_same : (S : Setting) (q r : Work) (before : StoreView) → q ≡ r → Becomes S q before r before

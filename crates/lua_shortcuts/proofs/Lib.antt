@@ -4,3 +4,5 @@ pub mod CountLemmas
 pub mod PlaceLemmas
 pub mod EntryLemmas
 pub mod JoiningLemmas
+pub mod CallLemmas
+pub mod BodyLemmas

@@ -83,6 +83,14 @@ index_seen a b s h t object key found i j (Some c) table ga gb is_found at there
     (index_gives x left right s h t key c.value.now i j is (subst (λ (z : Expr). Gives z s h (Table t) i) (sym l) (subst (λ (o : Value). Gives a s h o i) table ga)) (subst (λ (z : Expr). Gives z s h key j) (sym r) gb) (at ∙ is_found) there)
 index_seen a b s h t object key found i j None table ga gb is_found at there sum = tt
 
+-- the same at a text
+pub named_seen : (a b : Expr) (s : Slots) (h : Heap) (t : ℕ) (name : List ℕ) (object found : Value) (i : ℕ) (r : Option Seen) → b.kind ≡ v.Text name → object ≡ Table t → Gives a s h object i → found ≡ value_at (pairs_of h t) (Text name)
+    → IfSome r (λ c. c.value.now ≡ found) → IfSome r (λ c. is_nil c.value.now ≡ false) → IfSome r (λ c. c.steps ≡ i + 2) → IfSome r (λ c. GivesIndex a b s h c.value.now c.steps)
+named_seen a b s h t name object found i (Some c) is table ga at same there sum =
+    let steps : c.steps ≡ i + 1 + 1 = omega (arith, sum) in
+    index_seen a b s h t object (Text name) found i 1 (Some c) table ga (text_gives b s h name is) at same there steps
+named_seen a b s h t name object found i None is table ga at same there sum = tt
+
 pub index_found : (x : Expr) (a b : Rc Expr Global) (y z : Expr) (s : Slots) (h : Heap) (r : Option Seen) → x.kind ≡ v.Index a b → y ≡ a.value → z ≡ b.value → IfSome r (λ c. GivesIndex y z s h c.value.now c.steps) → IfSome r (λ c. Gives x s h c.value.now c.steps)
 index_found x a b y z s h (Some c) is l r g = g x a b (rw (is, outs-Index a b) refl) (sym l) (sym r)
 index_found x a b y z s h None is l r g = tt

@@ -34,8 +34,10 @@ use Rattle.lua_meaning.specs.Loops.{again, after_body, while_work, turn_work}
 use Rattle.lua_meaning.specs.Nodes.{work_of, eval}
 use Rattle.lua_meaning.proofs.EvaluatorLemmas.{eval-law, work-then}
 use Rattle.lua_meaning.proofs.Running.{Does, stmt, seq, count, target, end}
+use Rattle.lua_shortcuts.specs.declared.calls.Site.{Site}
 use Rattle.lua_shortcuts.specs.declared.loops.LoopEnd.{LoopEnd}
 use Rattle.lua_shortcuts.specs.Gives.{counting, later, Gives}
+use Rattle.lua_shortcuts.specs.Calls.{Allows, RunsAt}
 use Rattle.lua_shortcuts.specs.Runs.{state, Becomes, RunsIf, IsLocals, IsAssignments, IsAssignment, Tests, left_of, is_plain}
 
 -- counted steps that stay below the limit
@@ -88,7 +90,7 @@ local_runs st x i n v s s' before store is g few set steps S p rs =
     sums = omega arith
 
 -- `NAME = x`
-written : (S : Setting) (line i n : ℕ) (v old : Value) (s : Slots) (p : Places) (w : State) → slice_get s i ≡ Some (Plain old)
+pub written : (S : Setting) (line i n : ℕ) (v old : Value) (s : Slots) (p : Places) (w : State) → slice_get s i ≡ Some (Plain old)
     → Does S (and_then (write_slot S (callers_at p line) (slice_get s i) i v s (give [])) (on_values (λ us s'. give [] s'))) w (Ended (Values []) (slice_set s i (Plain v)) w)
 written S line i n v old s p w plain =
     record { is = ap (λ (t : Option Slot). do_work (eval S) (and_then (write_slot S (callers_at p line) t i v s (give [])) (on_values (λ us s'. give [] s'))) w) plain }
@@ -122,16 +124,16 @@ assignment_runs st x i n v s s' before store is g few had set steps S p rs =
     sums = omega arith
 
 -- a statement more of a block was run
-pub block_goes : (S : Setting) (p : Places) (q : Work) (st : Stmt) (stmts : List Stmt) (next : ℕ) (s s' : Slots) (first before store : StoreView) → drop next stmts ≡ st ∷ drop (next + 1) stmts
-    → Becomes S q first (block (drop next stmts) p s) before → RunsIf true st s before s' store → Becomes S q first (block (drop (next + 1) stmts) p s') store
-block_goes S p q st stmts next s s' first before store e h run rs =
+pub block_goes : (site : Site) (levels : ℕ) (S : Setting) (p : Places) (q : Work) (st : Stmt) (stmts : List Stmt) (next : ℕ) (s s' : Slots) (first before store : StoreView) → drop next stmts ≡ st ∷ drop (next + 1) stmts
+    → Allows site levels S p → Becomes S q first (block (drop next stmts) p s) before → RunsAt site levels true st s before s' store → Becomes S q first (block (drop (next + 1) stmts) p s') store
+block_goes site levels S p q st stmts next s s' first before store e a h run rs =
     h rs ∙ ap (λ (t : List Stmt). do_work (eval S) (block t p s) (state before rs)) e
-    ∙ ap (λ (o : Ending). after o (λ sign s2 w2. do_work (eval S) (on_values (λ vs s3. block (drop (next + 1) stmts) p s3) sign s2) w2)) (run S p rs)
+    ∙ ap (λ (o : Ending). after o (λ sign s2 w2. do_work (eval S) (on_values (λ vs s3. block (drop (next + 1) stmts) p s3) sign s2) w2)) (run S p rs a)
 
 -- and one that was not
-pub block_stays : (S : Setting) (p : Places) (q : Work) (st : Stmt) (stmts : List Stmt) (next : ℕ) (s s' : Slots) (first before store : StoreView)
-    → Becomes S q first (block (drop next stmts) p s) before → RunsIf false st s before s' store → Becomes S q first (block (drop next stmts) p s') store
-block_stays S p q st stmts next s s' first before store h run rs = h rs ∙ rw (run.0, run.1) refl
+pub block_stays : (site : Site) (levels : ℕ) (S : Setting) (p : Places) (q : Work) (st : Stmt) (stmts : List Stmt) (next : ℕ) (s s' : Slots) (first before store : StoreView)
+    → Becomes S q first (block (drop next stmts) p s) before → RunsAt site levels false st s before s' store → Becomes S q first (block (drop next stmts) p s') store
+block_stays site levels S p q st stmts next s s' first before store h run rs = h rs ∙ rw (run.0, run.1) refl
 
 -- the test of a loop that holds
 pub test_holds : (x : Expr) (s : Slots) (n : ℕ) (before store : StoreView) → Gives x s before.heap (Truth true) n → nat_lt (before.steps + (n + 1)) step_limit ≡ true → store ≡ counting (n + 1) before → Tests x s true before store
@@ -208,13 +210,13 @@ pub loop_stays : (S : Setting) (p : Places) (q : Work) (test : Expr) (body : Lis
 loop_stays S p q test body s first before store h e rs = h rs ∙ ap (λ (st : StoreView). do_work (eval S) (while_work test body p s) (state st rs)) (sym e)
 
 -- the same statements
-pub same_body : (test : Expr) (xs ys : List Stmt) (r : LoopEnd) (s s' : Slots) (before store : StoreView) → xs ≡ ys → ((S : Setting) (p : Places) → Becomes S (while_work test xs p s) before (left_of r test xs p s') store)
-    → (S : Setting) (p : Places) → Becomes S (while_work test ys p s) before (left_of r test ys p s') store
-same_body test xs ys r s s' before store e h S p = subst (λ (zs : List Stmt). Becomes S (while_work test zs p s) before (left_of r test zs p s') store) e (h S p)
+pub same_body : (site : Site) (levels : ℕ) (test : Expr) (xs ys : List Stmt) (r : LoopEnd) (s s' : Slots) (before store : StoreView) → xs ≡ ys → ((S : Setting) (p : Places) → Allows site levels S p → Becomes S (while_work test xs p s) before (left_of r test xs p s') store)
+    → (S : Setting) (p : Places) → Allows site levels S p → Becomes S (while_work test ys p s) before (left_of r test ys p s') store
+same_body site levels test xs ys r s s' before store e h S p a = subst (λ (zs : List Stmt). Becomes S (while_work test zs p s) before (left_of r test zs p s') store) e (h S p a)
 
-pub same_block : (xs ys : List Stmt) (from to : ℕ) (s s' : Slots) (before store : StoreView) → xs ≡ ys → ((S : Setting) (p : Places) → Becomes S (block (drop from xs) p s) before (block (drop to xs) p s') store)
-    → (S : Setting) (p : Places) → Becomes S (block (drop from ys) p s) before (block (drop to ys) p s') store
-same_block xs ys from to s s' before store e h S p = subst (λ (zs : List Stmt). Becomes S (block (drop from zs) p s) before (block (drop to zs) p s') store) e (h S p)
+pub same_block : (site : Site) (levels : ℕ) (xs ys : List Stmt) (from to : ℕ) (s s' : Slots) (before store : StoreView) → xs ≡ ys → ((S : Setting) (p : Places) → Allows site levels S p → Becomes S (block (drop from xs) p s) before (block (drop to xs) p s') store)
+    → (S : Setting) (p : Places) → Allows site levels S p → Becomes S (block (drop from ys) p s) before (block (drop to ys) p s') store
+same_block site levels xs ys from to s s' before store e h S p a = subst (λ (zs : List Stmt). Becomes S (block (drop from zs) p s) before (block (drop to zs) p s') store) e (h S p a)
 
 -- a test that was evaluated
 pub tests_as : (x y : Expr) (s t : Slots) (holds h : Bool) (r : Option Bool) (before store : StoreView) → r ≡ Some holds → holds ≡ h → x ≡ y → s ≡ t → MatchOption r (store ≡ before) (λ b. Tests x s b before store) → Tests y t h before store

@@ -1,4 +1,6 @@
 pub mod Gives
+pub mod Calls
+pub mod Bodies
 pub mod Runs
 pub mod Entries
 pub mod Joining

@@ -4,9 +4,11 @@ ghost use Rattle.std.specs.Prelude.{◌≡◌, ℕ};
 ghost use Rattle.lua_meaning.specs.Works.{Places};
 ghost use Rattle.lua_meaning.specs.Setting.{Setting};
 ghost use Rattle.lua_meaning.specs.Loops.{for_from, is_within};
+ghost use Rattle.lua_shortcuts.specs.Calls.{Allows};
 ghost use Rattle.lua_shortcuts.specs.Runs.{Becomes};
 ghost use Rattle.lua_shortcuts.specs.Counts.{BeginsRun, left_of_count};
 
+use crate::calls::Site;
 use crate::loops::MOST_TURNS;
 use crate::statements::{put, run_simple};
 use crate::steps::affords;
@@ -62,13 +64,14 @@ fn take_run(slots: &mut Vec<Slot>, store: &mut Store, count: &Counting, at: Whol
 
 /// Does the runs of a loop from a number on, as far as they can be done at once.
 fn run_counts(
+    site: &Site,
     slots: &mut Vec<Slot>,
     store: &mut Store,
     count: &Counting,
     from: Whole,
     body: &[Stmt],
 ) -> CountEnd
-    ensures { (S : Setting) → (line : ℕ) → (p : Places)
+    ensures { (S : Setting) → (line : ℕ) → (p : Places) → Allows site.now site.now.levels S p
         → Becomes S (for_from line count.now.slot from count.now.limit count.now.step body.now p slots.old.items) store.old
         (left_of_count S line count.now result body.now p slots.new.items) store.new }
 {
@@ -80,7 +83,7 @@ fn run_counts(
         if !take_run(slots, store, count, at) {
             return CountEnd::Next(at);
         }
-        let next = run_simple(slots, store, body, 0);
+        let next = run_simple(site, slots, store, body, 0);
         if next < body.len() {
             return CountEnd::Body(at, next);
         }
@@ -99,15 +102,16 @@ fn run_counts(
 
 /// Does the runs of a loop from a number on, whose body a pointer shares, as far as they can be done at once.
 pub fn run_for(
+    site: &Site,
     slots: &mut Vec<Slot>,
     store: &mut Store,
     count: &Counting,
     from: Whole,
     body: &Rc<Vec<Stmt>>,
 ) -> CountEnd
-    ensures { (S : Setting) → (line : ℕ) → (p : Places)
+    ensures { (S : Setting) → (line : ℕ) → (p : Places) → Allows site.now site.now.levels S p
         → Becomes S (for_from line count.now.slot from count.now.limit count.now.step body.now.value.items p slots.old.items) store.old
         (left_of_count S line count.now result body.now.value.items p slots.new.items) store.new }
 {
-    run_counts(slots, store, count, from, body.as_slice())
+    run_counts(site, slots, store, count, from, body.as_slice())
 }

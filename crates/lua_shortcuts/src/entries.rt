@@ -1,20 +1,20 @@
 //! Assignments to entries of tables and to global variables, that are done at once (Lua 5.1 Reference Manual, 2.4.3).
 
-ghost use Rattle.std.specs.Prelude.{◌≡◌, ◌*◌, ◌<◌, true, IfSome};
+ghost use Rattle.std.specs.Prelude.{◌≡◌, ◌+◌, ◌*◌, ◌<◌, true, IfSome};
 ghost use Rattle.lua_ast.specs.declared.statements.Stmt.{Stmt as LuaStmt};
 ghost use Rattle.lua_shortcuts.specs.Runs.{RunsIf};
-ghost use Rattle.lua_values.specs.declared.values.Value.TheVariants.{Table};
+ghost use Rattle.lua_values.specs.declared.values.Value.TheVariants.{Number, Table, Text};
 ghost use Rattle.lua_values.specs.Heap.{step_limit};
 ghost use Rattle.lua_shortcuts.specs.Gives.{Gives};
 ghost use Rattle.lua_shortcuts.specs.Entries.{IsStore, IsGlobal, IsOwn, PutsIf, StoresAt, StoresIn};
 
-use crate::numbers::{LEVELS, number_of};
+use crate::numbers::{Counted, LEVELS, number_of};
 use crate::places::{Valued, seen_of, value_of};
 use crate::steps::affords;
-use lua_ast::Expr;
+use lua_ast::{Expr, ExprKind};
 use lua_meaning::Slot;
 use lua_values::{Store, Value};
-use resty_base::Bytes;
+use resty_base::{Bytes, Whole};
 
 /// A value for a key of a table, and how many steps their expressions count.
 #[derive(Drop)]
@@ -79,19 +79,65 @@ fn store_in(slots: &[Slot], store: &mut Store, object: Object, b: &Expr, x: &Exp
     ensures { StoresIn result object b.now x.now slots.now store.old store.new }
 {
     match number_of(slots, store, b, LEVELS) {
-        Some(n) => {
+        Some(n) => store_at_number(slots, store, object, n, x),
+        None => match &b.kind {
+            ExprKind::Text(name) => {
+                store_named(slots, store, object.table, name, object.steps + 1, x)
+            }
+            _ => store_at_other(slots, store, object, b, x),
+        },
+    }
+}
+
+/// The same of a number as the key.
+#[inline(always)]
+fn store_at_number(slots: &[Slot], store: &mut Store, object: Object, n: Counted, x: &Expr) -> bool
+    requires object { object.steps < step_limit }
+    requires key { n.steps < step_limit }
+    ensures { StoresAt result (record { table = object.table; key = Number n.number; steps = object.steps + n.steps }) x.now slots.now store.old store.new }
+{
+    match number_of(slots, store, x, LEVELS) {
+        Some(m) => put_number(
+            store,
+            object.table,
+            n.number,
+            m.number,
+            object.steps + n.steps + m.steps,
+        ),
+        None => {
             let spot = Spot {
                 table: object.table,
                 key: Value::Number(n.number),
                 steps: object.steps + n.steps,
             };
-            store_at(slots, store, spot, x)
+            store_other(slots, store, spot, x)
         }
-        None => store_at_other(slots, store, object, b, x),
     }
 }
 
-/// The same of a key that is no number.
+/// Sets an entry at a number to a number, where no metatable is asked and the store doesn't refuse it.
+#[inline(always)]
+fn put_number(store: &mut Store, table: u32, n: Whole, number: Whole, steps: u64) -> bool
+    requires { steps < 3 * step_limit }
+    ensures { PutsIf result (record { table = table; key = Number n; value = Number number; steps = steps }) store.old store.new }
+{
+    if !affords(store, steps + 2) {
+        return false;
+    }
+    if store.renew_whole(table, n, number) {
+        let _ = store.count(steps + 2);
+        return true;
+    }
+    let entry = Entry {
+        table,
+        key: Value::Number(n),
+        value: Value::Number(number),
+        steps,
+    };
+    put_next(store, entry)
+}
+
+/// The same of a key that is no number and no text that stands there.
 fn store_at_other(slots: &[Slot], store: &mut Store, object: Object, b: &Expr, x: &Expr) -> bool
     requires { object.steps < step_limit }
     ensures { StoresIn result object b.now x.now slots.now store.old store.new }
@@ -155,15 +201,65 @@ fn store_other(slots: &[Slot], store: &mut Store, spot: Spot, x: &Expr) -> bool
 pub(crate) fn run_global(slots: &mut Vec<Slot>, store: &mut Store, name: &Bytes, x: &Expr) -> bool
     ensures { (stmt : LuaStmt) → IsGlobal name.now x.now stmt → RunsIf result stmt slots.old.items store.old slots.new.items store.new }
 {
+    let table = store.globals();
+    store_named(slots, store, table, name, 0, x)
+}
+
+/// Sets an entry at a text, whose expressions count so many steps, to the value of x.
+#[inline(always)]
+fn store_named(
+    slots: &[Slot],
+    store: &mut Store,
+    table: u32,
+    name: &Bytes,
+    steps: u64,
+    x: &Expr,
+) -> bool
+    requires { steps < 2 * step_limit }
+    ensures { StoresAt result (record { table = table; key = Text name.now; steps = steps }) x.now slots.now store.old store.new }
+{
+    match value_of(slots, store, x, LEVELS) {
+        None => false,
+        Some(v) => {
+            let Valued { value, steps: more } = v;
+            put_named(store, table, name, value, steps + more)
+        }
+    }
+}
+
+/// Sets an entry at a text to a value, where no metatable is asked and the store doesn't refuse it.
+#[inline(always)]
+fn put_named(store: &mut Store, table: u32, name: &Bytes, value: Value, steps: u64) -> bool
+    requires { steps < 3 * step_limit }
+    ensures { PutsIf result (record { table = table; key = Text name.now; value = value; steps = steps }) store.old store.new }
+{
+    if !affords(store, steps + 2) {
+        return false;
+    }
+    match store.renew_text(table, name, value) {
+        Ok(()) => {
+            let _ = store.count(steps + 2);
+            true
+        }
+        Err(value) => put_named_anew(store, table, name, value, steps),
+    }
+}
+
+/// The same where nothing is at the text, or the value is nil.
+fn put_named_anew(store: &mut Store, table: u32, name: &Bytes, value: Value, steps: u64) -> bool
+    requires { store.old.steps + (steps + 2) < step_limit }
+    ensures { PutsIf result (record { table = table; key = Text name.now; value = value; steps = steps }) store.old store.new }
+{
     match name.clone() {
         Err(_) => false,
         Ok(name) => {
-            let spot = Spot {
-                table: store.globals(),
+            let entry = Entry {
+                table,
                 key: Value::Text(name),
-                steps: 0,
+                value,
+                steps,
             };
-            store_at(slots, store, spot, x)
+            put_anew(store, entry)
         }
     }
 }
@@ -180,7 +276,67 @@ fn put_entry(store: &mut Store, entry: Entry) -> bool
         value,
         steps,
     } = entry;
-    if !affords(store, steps + 2) || !is_own(store, table, &key) {
+    if !affords(store, steps + 2) {
+        return false;
+    }
+    match store.renew(table, &key, value) {
+        Ok(()) => {
+            let _ = store.count(steps + 2);
+            true
+        }
+        Err(value) => {
+            let entry = Entry {
+                table,
+                key,
+                value,
+                steps,
+            };
+            put_next(store, entry)
+        }
+    }
+}
+
+/// The same where nothing is at the key, or the value is nil.
+#[inline(always)]
+fn put_next(store: &mut Store, entry: Entry) -> bool
+    requires { store.old.steps + (entry.steps + 2) < step_limit }
+    ensures { PutsIf result entry store.old store.new }
+{
+    let Entry {
+        table,
+        key,
+        value,
+        steps,
+    } = entry;
+    match store.extend(table, &key, value) {
+        Ok(()) => {
+            let _ = store.count(steps + 2);
+            true
+        }
+        Err(value) => {
+            let entry = Entry {
+                table,
+                key,
+                value,
+                steps,
+            };
+            put_anew(store, entry)
+        }
+    }
+}
+
+/// The same where the key isn't the number after those of the table.
+fn put_anew(store: &mut Store, entry: Entry) -> bool
+    requires { store.old.steps + (entry.steps + 2) < step_limit }
+    ensures { PutsIf result entry store.old store.new }
+{
+    let Entry {
+        table,
+        key,
+        value,
+        steps,
+    } = entry;
+    if !is_own(store, table, &key) {
         return false;
     }
     match store.set(table, key, value) {

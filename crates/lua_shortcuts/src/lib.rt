@@ -1,6 +1,8 @@
 //! Shortcuts of the machine: expressions of numbers, and statements and loops that want no other, are run at once.
 #![tactic(auto)]
 
+mod bodies;
+mod calls;
 mod concatenation;
 mod counting;
 mod entries;
@@ -12,6 +14,7 @@ mod statements;
 mod steps;
 mod tests;
 
+pub use calls::Site;
 pub use counting::{CountEnd, Counting, run_for};
 pub use loops::{LoopEnd, run_loop};
 pub use statements::run_block;

@@ -3,8 +3,10 @@
 ghost use Rattle.lua_meaning.specs.Works.{Places};
 ghost use Rattle.lua_meaning.specs.Setting.{Setting};
 ghost use Rattle.lua_meaning.specs.Loops.{while_work};
+ghost use Rattle.lua_shortcuts.specs.Calls.{Allows};
 ghost use Rattle.lua_shortcuts.specs.Runs.{Becomes, left_of};
 
+use crate::calls::Site;
 use crate::statements::run_simple;
 use crate::tests::take_test;
 use lua_ast::{Expr, Stmt};
@@ -26,8 +28,14 @@ pub enum LoopEnd {
 }
 
 /// Runs the turns of `while test do body end`, which begins with its test, as far as they can be run at once.
-fn run_turns(slots: &mut Vec<Slot>, store: &mut Store, test: &Rc<Expr>, body: &[Stmt]) -> LoopEnd
-    ensures { (S : Setting) → (p : Places) → Becomes S (while_work test.now.value body.now p slots.old.items) store.old
+fn run_turns(
+    site: &Site,
+    slots: &mut Vec<Slot>,
+    store: &mut Store,
+    test: &Rc<Expr>,
+    body: &[Stmt],
+) -> LoopEnd
+    ensures { (S : Setting) → (p : Places) → Allows site.now site.now.levels S p → Becomes S (while_work test.now.value body.now p slots.old.items) store.old
         (left_of result test.now.value body.now p slots.new.items) store.new }
 {
     for _ in 0..MOST_TURNS {
@@ -37,7 +45,7 @@ fn run_turns(slots: &mut Vec<Slot>, store: &mut Store, test: &Rc<Expr>, body: &[
                 if !holds {
                     return LoopEnd::Over;
                 }
-                let next = run_simple(slots, store, body, 0);
+                let next = run_simple(site, slots, store, body, 0);
                 if next < body.len() {
                     return LoopEnd::Body(next);
                 }
@@ -49,13 +57,15 @@ fn run_turns(slots: &mut Vec<Slot>, store: &mut Store, test: &Rc<Expr>, body: &[
 
 /// Runs `while test do body end`, which begins with its test, as far as it can be run at once.
 pub fn run_loop(
+    site: &Site,
     slots: &mut Vec<Slot>,
     store: &mut Store,
     test: &Rc<Expr>,
     body: &Rc<Vec<Stmt>>,
 ) -> LoopEnd
-    ensures { (S : Setting) → (p : Places) → Becomes S (while_work test.now.value body.now.value.items p slots.old.items) store.old
+    ensures { (S : Setting) → (p : Places) → Allows site.now site.now.levels S p
+        → Becomes S (while_work test.now.value body.now.value.items p slots.old.items) store.old
         (left_of result test.now.value body.now.value.items p slots.new.items) store.new }
 {
-    run_turns(slots, store, test, body.as_slice())
+    run_turns(site, slots, store, test, body.as_slice())
 }

@@ -71,10 +71,7 @@ fn seen_global<'a>(store: &'a Store, name: &Bytes) -> Option<Seen<'a>>
     ensures there { IfSome result (λ seen. is_nil seen.value.now ≡ false) }
     ensures steps { IfSome result (λ seen. seen.steps ≡ 1) }
 {
-    match name.clone() {
-        Ok(name) => there(store.get(store.globals(), &Value::Text(name)), 1),
-        Err(_) => None,
-    }
+    there(store.get_text(store.globals(), name), 1)
 }
 
 /// What a table has at a key, if it has something.
@@ -99,6 +96,7 @@ fn seen_at<'a>(
                 let key = seen_in_slot(slots, store, *i)?;
                 there(store.get(*t, key.value), object.steps + key.steps + 1)
             }
+            ExprKind::Text(name) => there(store.get_text(*t, name), object.steps + 2),
             _ => {
                 let key = value_of(slots, store, b, levels - 1)?;
                 there(store.get(*t, &key.value), object.steps + key.steps + 1)

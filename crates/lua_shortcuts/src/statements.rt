@@ -9,8 +9,10 @@ ghost use Rattle.lua_meaning.specs.Setting.{Setting};
 ghost use Rattle.lua_meaning.specs.Blocks.{block};
 ghost use Rattle.lua_values.specs.Heap.{step_limit};
 ghost use Rattle.lua_shortcuts.specs.Gives.{Gives};
+ghost use Rattle.lua_shortcuts.specs.Calls.{Allows, RunsAt};
 ghost use Rattle.lua_shortcuts.specs.Runs.{Becomes, RunsIf, IsLocals, IsAssignments, IsAssignment, is_plain};
 
+use crate::calls::{Site, run_with_calls};
 use crate::concatenation::{run_joined_assignment, run_joined_local};
 use crate::entries::{run_global, run_store};
 use crate::numbers::{LEVELS, number_of};
@@ -23,10 +25,24 @@ use resty_base::Whole;
 use std::rc::Rc;
 
 /// A slot has a number of its own from now on, if it is there.
+#[inline(always)]
 pub(crate) fn put(slots: &mut Vec<Slot>, i: u8, number: Whole)
     ensures { slots.new.items ≡ slice_set slots.old.items i (Plain (Number number)) }
 {
-    put_value(slots, i, Value::Number(number));
+    if let Some(slot) = slots.get_mut(i as usize) {
+        set_number(slot, number);
+    }
+}
+
+/// A slot has a number of its own from now on; one that has a number keeps its form.
+#[inline(always)]
+fn set_number(slot: &mut Slot, number: Whole)
+    ensures { slot.new ≡ Plain (Number number) }
+{
+    match slot {
+        Slot::Plain(Value::Number(old)) => *old = number,
+        other => *other = Slot::Plain(Value::Number(number)),
+    }
 }
 
 /// A slot has a value of its own from now on, if it is there.
@@ -41,7 +57,7 @@ pub(crate) fn put_value(slots: &mut Vec<Slot>, i: u8, value: Value)
 
 /// Whether a slot has a value of its own.
 #[inline(always)]
-fn is_plain(slots: &[Slot], i: u8) -> bool
+pub(crate) fn is_plain(slots: &[Slot], i: u8) -> bool
     ensures { result ≡ is_plain (slice_get slots.now i) }
 {
     match slots.get(i as usize) {
@@ -158,7 +174,7 @@ fn place_at(places: &[u8], i: usize) -> Option<&u8>
 
 /// The one slot of a list that has no other.
 #[inline(always)]
-fn only(places: &[u8]) -> Option<&u8>
+pub(crate) fn only(places: &[u8]) -> Option<&u8>
     ensures { IfSome result (λ place. places.now ≡ place.now ∷ []) }
 {
     match place_at(places, 0) {
@@ -241,9 +257,20 @@ fn run_one(slots: &mut Vec<Slot>, store: &mut Store, stmt: &Stmt) -> bool
     }
 }
 
+/// Runs a statement at a site if it can be run at once; if not, nothing is changed.
+#[inline(always)]
+fn run_stmt(site: &Site, slots: &mut Vec<Slot>, store: &mut Store, stmt: &Stmt) -> bool
+    ensures { RunsAt site.now site.now.levels result stmt.now slots.old.items store.old slots.new.items store.new }
+{
+    if run_one(slots, store, stmt) {
+        return true;
+    }
+    run_with_calls(site, slots, store, stmt)
+}
+
 /// The statement at an index, if it is there.
 #[inline(always)]
-fn stmt_at(stmts: &[Stmt], i: usize) -> Option<&Stmt>
+pub(crate) fn stmt_at(stmts: &[Stmt], i: usize) -> Option<&Stmt>
     ensures { MatchOption result (drop i stmts.now ≡ []) (λ st. drop i stmts.now ≡ st.now ∷ drop (i + 1) stmts.now) }
 {
     stmts.get(i)
@@ -251,12 +278,13 @@ fn stmt_at(stmts: &[Stmt], i: usize) -> Option<&Stmt>
 
 /// Runs the statements of a block from an index on, as long as they can be run at once. Returns the index of the first that can't.
 pub(crate) fn run_simple(
+    site: &Site,
     slots: &mut Vec<Slot>,
     store: &mut Store,
     stmts: &[Stmt],
     from: usize,
 ) -> usize
-    ensures { (S : Setting) → (p : Places) → Becomes S (block (drop from stmts.now) p slots.old.items) store.old
+    ensures { (S : Setting) → (p : Places) → Allows site.now site.now.levels S p → Becomes S (block (drop from stmts.now) p slots.old.items) store.old
         (block (drop result stmts.now) p slots.new.items) store.new }
 {
     let mut next = from;
@@ -264,7 +292,7 @@ pub(crate) fn run_simple(
         match stmt_at(stmts, next) {
             None => return next,
             Some(stmt) => {
-                if !run_one(slots, store, stmt) {
+                if !run_stmt(site, slots, store, stmt) {
                     return next;
                 }
             }
@@ -277,13 +305,15 @@ pub(crate) fn run_simple(
 /// Runs the statements of a block that a pointer shares, from an index on, as long as they can be run at once. Returns the index of the first
 /// that can't.
 pub fn run_block(
+    site: &Site,
     slots: &mut Vec<Slot>,
     store: &mut Store,
     stmts: &Rc<Vec<Stmt>>,
     from: usize,
 ) -> usize
-    ensures { (S : Setting) → (p : Places) → Becomes S (block (drop from stmts.now.value.items) p slots.old.items) store.old
+    ensures { (S : Setting) → (p : Places) → Allows site.now site.now.levels S p
+        → Becomes S (block (drop from stmts.now.value.items) p slots.old.items) store.old
         (block (drop result stmts.now.value.items) p slots.new.items) store.new }
 {
-    run_simple(slots, store, stmts.as_slice(), from)
+    run_simple(site, slots, store, stmts.as_slice(), from)
 }

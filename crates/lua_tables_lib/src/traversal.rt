@@ -32,8 +32,8 @@ pub(crate) fn next(alloc: Global, args: &Args<'_>, store: &Store) -> Result<Give
 fn next_values(alloc: Global, store: &Store, t: u32, key: &Value) -> Result<Vec<Value>, AllocError>
     ensures { IfOk result (λ values. values.items ≡ next_values store.now.heap t key.now) }
 {
-    match store.next(t, key) {
-        Some((key, value)) => Ok(vec![in alloc; key.clone()?, value.clone()?]?),
+    match store.next(t, key)? {
+        Some((key, value)) => Ok(vec![in alloc; key, value]?),
         None => Ok(vec![in alloc; Value::Nil]?),
     }
 }

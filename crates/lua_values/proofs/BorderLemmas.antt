@@ -48,7 +48,7 @@ many_entries (suc n) ps h =
     let rest : n ≤ length (without ps (number (n + 1))) = many_entries n (without ps (number (n + 1))) (λ k lt. has-without ps (number (n + 1)) (number (k + 1)) (other-number (k + 1) (n + 1) (λ e. omega arith)) ∙ h k (omega arith)) in
     omega (arith, length-without ps (number (n + 1)) here)
 
-has_if_live : (ps : List (Value × Value)) (key : Value) → is_nil (value_at ps key) ≡ false → has_entry ps key ≡ true
+pub has_if_live : (ps : List (Value × Value)) (key : Value) → is_nil (value_at ps key) ≡ false → has_entry ps key ≡ true
 has_if_live ps key h = elim (cases_Bool (has_entry ps key)) [ inl e ↦ e | inr e ↦ absurd (true≢false (sym (value_at-absent ps key e) ∙ h)) ]
 
 -- there is a value at each number up to the border

@@ -4,5 +4,8 @@ mod FlagLemmas
 mod FreezableLemmas
 mod PairLemmas
 mod EntryLemmas
+mod NumberedLemmas
 mod TableLemmas
 mod ShiftLemmas
+mod RenewLemmas
+mod OutlineLemmas

@@ -1,17 +1,14 @@
 -- A table's pairs by the words of the map in which they are kept.
-use Rattle.std.proofs.Common.{◌≡◌, ℕ, zero, suc, ◌+◌, ◌-◌, ◌<◌, Bool, true, false, not, ◌||◌, List, [], ◌∷◌, Option, None, Some, drop, slice_get, position, Bor, is_some, IfSome, refl, sym, ap, subst, inl, inr, ◌⊎◌, ◌∙◌, if◌then◌else◌, true≢false, length, arith}
+use Rattle.std.proofs.Common.{◌≡◌, ℕ, zero, suc, ◌+◌, Bool, true, false, not, ◌||◌, List, [], ◌∷◌, None, Some, drop, slice_get, position, is_some, IfSome, refl, sym, ap, inl, inr, ◌⊎◌, ◌∙◌, if◌then◌else◌, true≢false, length, arith}
 use Rattle.std.specs.List.{position_or_len, AllZip}
 use Rattle.std.proofs.lemmas.List.{drop_all}
 use Rattle.std.proofs.lemmas.Option.{none-some, same_Some}
-use Rattle.std.specs.Option.{option_copied}
 use Rattle.std.specs.Map.{keys_of, lookup}
-use Rattle.std.specs.Map.Iter.{deref_pair}
 use Rattle.indexmap.specs.IndexMap.{insert_entry}
 use Rattle.indexmap.proofs.MapLemmas.{Found-position, Missing-position}
 use Rattle.lua_values.specs.declared.values.Value.{Value}
 use Rattle.lua_values.specs.declared.values.Value.TheVariants.{Nil}
-use Rattle.lua_values.specs.Values.{same, is_nil, number}
-use Rattle.lua_values.specs.Border.{border_from}
+use Rattle.lua_values.specs.Values.{same, is_nil}
 use Rattle.lua_values.specs.Heap.{TableView}
 use Rattle.lua_values.specs.Pairs.{value_at, has_entry, with_value, first_live, pairs_after, next_pair}
 
@@ -32,15 +29,6 @@ lookup-value (p ∷ ps) k = by (same k p.0) (lookup-value ps k)
     by : (b : Bool) → IfSome (lookup (same k) ps) (λ v. v ≡ value_at ps k) → IfSome (if b then Some p.1 else lookup (same k) ps) (λ v. v ≡ (if b then p.1 else value_at ps k))
     by true h = refl
     by false h = h
-
--- what a look-up lends
-pub lent-index : (r : Option (Bor Value)) (ps : List (Value × Value)) (k : Value) → option_copied r ≡ lookup (same k) ps → is_some r ≡ has_entry ps k
-lent-index None ps k e = ap is_some e ∙ lookup-has ps k
-lent-index (Some x) ps k e = ap is_some e ∙ lookup-has ps k
-
-pub lent-value : (r : Option (Bor Value)) (ps : List (Value × Value)) (k : Value) → option_copied r ≡ lookup (same k) ps → IfSome r (λ value. value.now ≡ value_at ps k)
-lent-value None ps k e = tt
-lent-value (Some x) ps k e = subst (λ o. IfSome o (λ v. v ≡ value_at ps k)) (sym e) (lookup-value ps k)
 
 -- inserting sets a value, but for nil at a key without an entry
 pub insert-with : (ps : List (Value × Value)) (k v : Value) → (is_nil v ≡ false) ⊎ (has_entry ps k ≡ true) → insert_entry same ps k v ≡ with_value ps k v
@@ -113,23 +101,6 @@ pub first_live-drop : (ps : List (Value × Value)) (i : ℕ) (p : Value × Value
 first_live-drop [] i p e = absurd (none-some p e)
 first_live-drop (q ∷ ps) zero p e = ap (λ r. if is_nil r.1 then first_live ps else Some r) (same_Some q p e)
 first_live-drop (q ∷ ps) (suc i) p e = let more : suc i + 1 ≡ suc (i + 1) = omega arith in rw more (first_live-drop ps i p e)
-
--- one number more is tried
-pub border_from-hole : (ps : List (Value × Value)) (n : ℕ) → n < length ps → is_nil (value_at ps (number (n + 1))) ≡ true → border_from ps n (length ps - n) ≡ n
-border_from-hole ps n h e = let more : length ps - n ≡ suc (length ps - (n + 1)) = omega arith in rw (more, e) refl
-
-pub border_from-full : (ps : List (Value × Value)) (n : ℕ) → n < length ps → is_nil (value_at ps (number (n + 1))) ≡ false
-    → border_from ps n (length ps - n) ≡ border_from ps (n + 1) (length ps - (n + 1))
-border_from-full ps n h e = let more : length ps - n ≡ suc (length ps - (n + 1)) = omega arith in rw (more, e) refl
-
--- the same of a pair that a map lends
-pub live-here : (ps : List (Value × Value)) (i : ℕ) (p : Bor Value × Bor Value) → slice_get ps i ≡ Some (deref_pair p) → is_nil p.1.now ≡ false
-    → first_live (drop i ps) ≡ Some (deref_pair p)
-live-here ps i p e n = first_live-drop ps i (deref_pair p) e ∙ rw n refl
-
-pub live-later : (ps : List (Value × Value)) (i : ℕ) (p : Bor Value × Bor Value) → slice_get ps i ≡ Some (deref_pair p) → is_nil p.1.now ≡ true
-    → first_live (drop i ps) ≡ first_live (drop (i + 1) ps)
-live-later ps i p e n = first_live-drop ps i (deref_pair p) e ∙ rw n refl
 
 -- what comes next after a key, by its index
 pub next-found : (ps : List (Value × Value)) (k : Value) (i : ℕ) → is_nil k ≡ false → position (same k) (keys_of ps) ≡ Some i

@@ -1,10 +1,11 @@
 -- A table's pairs and the flags beside them.
 use Rattle.std.proofs.Common.{◌≡◌, ◌≢◌, ℕ, zero, suc, ◌+◌, ◌<◌, ◌≤◌, nat_lt, Bool, true, false, not, ◌&&◌, ◌||◌, List, [], ◌∷◌, ◌++◌, length, drop, slice_get, slice_set, position, Option, None, Some, refl, sym, ap, subst, ◌∙◌, inl, inr, if◌then◌else◌, true≢false, arith}
-use Rattle.std.specs.Map.{keys_of}
+use Rattle.std.specs.Map.{keys_of, values_of}
 use Rattle.std.specs.List.{position_or_len}
 use Rattle.std.proofs.lemmas.Bool.{cases_lt, cases_eq, lt-ltb, le-ltb, ltb-true, not-true, not-false, and_parts}
 use Rattle.std.proofs.lemmas.List.{length-set, get_or-set_same, get_or-set_other}
-use Rattle.indexmap.specs.IndexMap.{insert_entry}
+use Rattle.indexmap.specs.IndexMap.{insert_entry, set_value_at}
+use Rattle.std.proofs.lemmas.Option.{none-some, same_Some}
 use Rattle.lua_values.specs.declared.values.Value.{Value}
 use Rattle.lua_values.specs.Values.{same, is_nil, number}
 use Rattle.lua_values.specs.Pairs.{value_at, has_entry, first_live}
@@ -211,6 +212,47 @@ indexed-write ps k v live holes i hole x e at =
     record {
       marks_live = λ j. set-agree live (lives ps) i (not (is_nil v)) (omega arith) (omega (arith, lives-length ps)) x.marks_live j ∙ ap (λ xs. flag_at xs j) (sym set);
       marks_holes = λ j. subst (λ n. flag_at (with_flag holes hole (is_nil v)) j ≡ is_hole n (insert_entry same ps k v) j) (sym same_length) (holes-set ps k v (length ps) holes hole x.marks_holes b at j);
+      live_there = omega arith;
+      holes_there = omega arith;
+    }
+
+-- where something stands before and after, no flag changes
+pub same-lives : (ps : List (Value × Value)) (i : ℕ) (v w : Value) → slice_get (values_of ps) i ≡ Some w → is_nil w ≡ false → is_nil v ≡ false
+    → lives (set_value_at ps i v) ≡ lives ps
+same-lives [] i v w at was is = absurd (none-some w at)
+same-lives (p ∷ ps) zero v w at was is = ap (λ b. not b ∷ lives ps) (is ∙ sym (ap is_nil (same_Some p.1 w at) ∙ was))
+same-lives (p ∷ ps) (suc i) v w at was is = ap (λ ls. not (is_nil p.1) ∷ ls) (same-lives ps i v w at was is)
+
+same-nil : (ps : List (Value × Value)) (i : ℕ) (v w key : Value) → slice_get (values_of ps) i ≡ Some w → is_nil w ≡ false → is_nil v ≡ false
+    → is_nil (value_at (set_value_at ps i v) key) ≡ is_nil (value_at ps key)
+same-nil [] i v w key at was is = absurd (none-some w at)
+same-nil (p ∷ ps) zero v w key at was is = by (same key p.0)
+  where
+    by : (b : Bool) → is_nil (if b then v else value_at ps key) ≡ is_nil (if b then p.1 else value_at ps key)
+    by true = is ∙ sym (ap is_nil (same_Some p.1 w at) ∙ was)
+    by false = refl
+same-nil (p ∷ ps) (suc i) v w key at was is = by (same key p.0) (same-nil ps i v w key at was is)
+  where
+    by : (b : Bool) → is_nil (value_at (set_value_at ps i v) key) ≡ is_nil (value_at ps key)
+        → is_nil (if b then p.1 else value_at (set_value_at ps i v) key) ≡ is_nil (if b then p.1 else value_at ps key)
+    by true e = refl
+    by false e = e
+
+pub length-set-value : (ps : List (Value × Value)) (i : ℕ) (v : Value) → length (set_value_at ps i v) ≡ length ps
+length-set-value [] i v = refl
+length-set-value (p ∷ ps) zero v = refl
+length-set-value (p ∷ ps) (suc i) v = ap suc (length-set-value ps i v)
+
+pub indexed-renewed : (ps : List (Value × Value)) (i : ℕ) (v w : Value) (live holes : List Bool) → IsIndexed ps live holes
+    → slice_get (values_of ps) i ≡ Some w → is_nil w ≡ false → is_nil v ≡ false → IsIndexed (set_value_at ps i v) live holes
+indexed-renewed ps i v w live holes x at was is =
+    let as_long : length (set_value_at ps i v) ≡ length ps = length-set-value ps i v in
+    let a = x.live_there in
+    let b = x.holes_there in
+    record {
+      marks_live = λ k. x.marks_live k ∙ ap (λ ls. flag_at ls k) (sym (same-lives ps i v w at was is));
+      marks_holes = λ k. x.marks_holes k ∙ ap (λ n. is_hole n ps k) (sym as_long)
+          ∙ ap (λ nil. nat_lt k (length (set_value_at ps i v)) && nil) (sym (same-nil ps i v w (number (k + 1)) at was is));
       live_there = omega arith;
       holes_there = omega arith;
     }

@@ -11,6 +11,7 @@ pub mod Freezable
 pub mod FreezableLends
 pub mod Flags
 pub mod TableFlags
+pub mod Numbered
 pub mod Within
 pub mod FreezableLaws
 pub mod Laws

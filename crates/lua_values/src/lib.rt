@@ -10,6 +10,8 @@ mod freezable;
 mod kinds;
 mod laws;
 mod natives;
+mod outlines;
+mod pairs;
 mod shifts;
 mod store;
 mod tables;

@@ -1,48 +1,43 @@
 //! A table: its pairs in order, its border and its metatable.
 
-ghost use Rattle.std.specs.Prelude.{◌≡◌, ◌+◌, ◌≤◌, ◌<◌, [], None, Some, true, false, length, drop, position, is_some, IfSome, IfOk, OnOk, OnErr, IsOk};
-ghost use Rattle.std.specs.Option.{option_map};
+ghost use Rattle.std.specs.Prelude.{◌≡◌, ◌+◌, ◌≤◌, ◌<◌, [], None, Some, true, false, length, drop, position, is_some, IfSome, IfOk, IfErr, OnOk, OnErr, IsOk};
 ghost use Rattle.std.specs.Map.{keys_of};
-ghost use Rattle.std.specs.Map.Iter.{deref_pair};
 ghost use Rattle.lua_values.specs.declared.values.Value.{Value as LuaValue};
+ghost use Rattle.lua_values.specs.declared.values.Value.TheVariants.{Number, Text};
 ghost use Rattle.lua_values.specs.Pairs.{value_at, has_entry, needs_entry, with_value, first_live, next_pair};
 ghost use Rattle.lua_values.specs.Values.{same, is_nil, number};
-ghost use Rattle.lua_values.specs.TableFlags.{IsHoleOf, IsInOrder};
 ghost use Rattle.lua_values.specs.Border.{border_of};
 ghost use Rattle.lua_values.specs.Shifts.{IsShift, HasSources, moves, place, moved, shifted, entries_first, new_entries};
 
 use crate::flags::Flags;
+use crate::outlines::{Outline, append_flagged, flagged, walk_border, walk_from};
+use crate::pairs::{Pairs, hole_of};
 use crate::{Shift, Value};
-use indexmap::IndexMap;
-use resty_base::Whole;
+use resty_base::{Bytes, Whole};
 use std::alloc::{AllocError, Global};
 use std::marker::Model;
-use std::mem;
 
 /// A table: its pairs in the order in which the keys were set first, those of value nil included, and its metatable.
-/// Beside the pairs stand the flags of those whose value isn't nil, and of the numbers, up to that of pairs, at which
-/// nothing is; so what comes next and the border are found without a walk. Where the first keys are 1, 2, .. in this
-/// order, the index of such a number is known without a look at the keys. There are at most 32,768 entries, more than the
-/// units of a store allow; one more gives `AllocError`.
+/// Beside the pairs of a table that isn't full stand the flags of those whose value isn't nil, and of the numbers, up to that of
+/// pairs, at which nothing is. There are at most 32,768 entries, more than the units of a store allow; one more gives `AllocError`.
 #[derive(Drop)]
 pub struct Table {
-    pairs: IndexMap<Value, Value>,
+    pairs: Pairs,
     live: Flags,
     holes: Flags,
-    /// How many entries from the first on have the numbers 1, 2, .. as their keys.
-    in_order: usize,
+    outline: Outline,
     meta: Option<u32>,
 }
 
 impl Model for Table {
     ghost use Rattle.lua_values.specs.Heap.{TableView};
-    ghost use Rattle.lua_values.specs.TableFlags.{IsIndexed, IsInOrder};
+    ghost use Rattle.lua_values.specs.TableFlags.{IsOutline};
 
     ghost Value = { TableView };
 
-    ghost view = { λ table. record { pairs = table.pairs.entries; meta = table.meta } };
+    ghost view = { λ table. record { pairs = table.pairs; meta = table.meta } };
 
-    ghost invariant = { λ table. IsIndexed table.pairs.entries table.live table.holes × IsInOrder table.pairs.entries table.in_order };
+    ghost invariant = { λ table. IsOutline table.outline table.pairs table.live table.holes };
 }
 
 impl Table {
@@ -51,10 +46,10 @@ impl Table {
         ensures { result ≡ record { pairs = []; meta = None } }
     {
         Table {
-            pairs: IndexMap::new(alloc),
+            pairs: Pairs::new(alloc),
             live: Flags::new(alloc),
             holes: Flags::new(alloc),
-            in_order: 0,
+            outline: Outline::Full,
             meta: None,
         }
     }
@@ -64,9 +59,104 @@ impl Table {
         ensures entry { is_some result ≡ has_entry self.now.pairs key.now }
         ensures value { IfSome result (λ value. value.now ≡ value_at self.now.pairs key.now) }
     {
-        match index_of(&self.pairs, self.in_order, key) {
-            Some(index) => Some(&self.pairs[index]),
+        self.value_found(self.pairs.index_of(key))
+    }
+
+    /// The value at a text that has an entry.
+    pub fn get_text(&self, name: &Bytes) -> Option<&Value>
+        ensures entry { is_some result ≡ has_entry self.now.pairs (Text name.now) }
+        ensures value { IfSome result (λ value. value.now ≡ value_at self.now.pairs (Text name.now)) }
+    {
+        self.value_found(self.pairs.index_of_text(name))
+    }
+
+    /// The value at a key by its index.
+    #[inline(always)]
+    fn value_found(&self, index: Option<usize>) -> Option<&Value>
+        requires { IfSome index (λ index. index < length self.now.pairs) }
+        ensures entry { (key : LuaValue) → index ≡ position (same key) (keys_of self.now.pairs) → is_some result ≡ has_entry self.now.pairs key }
+        ensures value { (key : LuaValue) → index ≡ position (same key) (keys_of self.now.pairs)
+            → IfSome result (λ value. value.now ≡ value_at self.now.pairs key) }
+    {
+        match index {
+            Some(index) => Some(self.pairs.value(index)),
             None => None,
+        }
+    }
+
+    /// Sets a value that isn't nil at a key where something is, and takes no memory; else it is given back, and nothing is changed.
+    pub fn renew(&mut self, key: &Value, value: Value) -> Result<(), Value>
+        ensures there { OnOk result (is_nil (value_at self.old.pairs key.now) ≡ false) }
+        ensures live { OnOk result (is_nil value ≡ false) }
+        ensures done { OnOk result (self.new ≡ record { pairs = with_value self.old.pairs key.now value; meta = self.old.meta }) }
+        ensures given { IfErr result (λ given. given ≡ value) }
+        ensures kept { OnErr result (self.new ≡ self.old) }
+    {
+        let index = self.pairs.index_of(key);
+        self.renew_found(index, value)
+    }
+
+    /// The same at a text.
+    pub fn renew_text(&mut self, name: &Bytes, value: Value) -> Result<(), Value>
+        ensures there { OnOk result (is_nil (value_at self.old.pairs (Text name.now)) ≡ false) }
+        ensures live { OnOk result (is_nil value ≡ false) }
+        ensures done { OnOk result (self.new ≡ record { pairs = with_value self.old.pairs (Text name.now) value; meta = self.old.meta }) }
+        ensures given { IfErr result (λ given. given ≡ value) }
+        ensures kept { OnErr result (self.new ≡ self.old) }
+    {
+        let index = self.pairs.index_of_text(name);
+        self.renew_found(index, value)
+    }
+
+    /// The same at a key by its index.
+    #[inline(always)]
+    fn renew_found(&mut self, index: Option<usize>, value: Value) -> Result<(), Value>
+        requires { IfSome index (λ index. index < length self.old.pairs) }
+        ensures there { (key : LuaValue) → index ≡ position (same key) (keys_of self.old.pairs) → OnOk result (is_nil (value_at self.old.pairs key) ≡ false) }
+        ensures live { OnOk result (is_nil value ≡ false) }
+        ensures done { (key : LuaValue) → index ≡ position (same key) (keys_of self.old.pairs)
+            → OnOk result (self.new ≡ record { pairs = with_value self.old.pairs key value; meta = self.old.meta }) }
+        ensures given { IfErr result (λ given. given ≡ value) }
+        ensures kept { OnErr result (self.new ≡ self.old) }
+    {
+        match index {
+            Some(index) => {
+                if value.is_nil() || self.pairs.value(index).is_nil() {
+                    return Err(value);
+                }
+                let _ = self.pairs.replace(index, value);
+                Ok(())
+            }
+            None => Err(value),
+        }
+    }
+
+    /// Writes a number at a number where something is, and takes no memory; says whether it did. It does so where that number is among the first keys 1, 2, ..
+    pub fn renew_whole(&mut self, n: Whole, number: Whole) -> bool
+        ensures there { result ≡ true → is_nil (value_at self.old.pairs (Number n)) ≡ false }
+        ensures done { result ≡ true → self.new ≡ record { pairs = with_value self.old.pairs (Number n) (Number number); meta = self.old.meta } }
+        ensures kept { result ≡ false → self.new ≡ self.old }
+    {
+        self.pairs.renew_whole(n, number)
+    }
+
+    /// Puts a value that isn't nil at the number after the last, where the keys are 1, 2, .. in this order; else it is given back, and nothing is
+    /// changed.
+    pub fn extend(&mut self, key: &Value, value: Value) -> Result<(), Value>
+        ensures absent { OnOk result (has_entry self.old.pairs key.now ≡ false) }
+        ensures live { OnOk result (is_nil value ≡ false) }
+        ensures done { OnOk result (self.new ≡ record { pairs = with_value self.old.pairs key.now value; meta = self.old.meta }) }
+        ensures given { IfErr result (λ given. given ≡ value) }
+        ensures kept { OnErr result (self.new ≡ self.old) }
+    {
+        match self.outline {
+            Outline::Full => {
+                if value.is_nil() {
+                    return Err(value);
+                }
+                self.pairs.push_next(key, value)
+            }
+            _ => Err(value),
         }
     }
 
@@ -90,7 +180,7 @@ impl Table {
         ensures kept { OnErr result (self.new ≡ self.old) }
         ensures without_memory { needs_entry self.old.pairs key value ≡ false → IsOk result }
     {
-        match index_of(&self.pairs, self.in_order, &key) {
+        match self.pairs.index_of(&key) {
             Some(index) => {
                 self.replace(index, &key, value);
                 Ok(())
@@ -113,9 +203,19 @@ impl Table {
     {
         let hole = hole_of(key, self.pairs.len());
         let nil = value.is_nil();
-        let before = mem::replace(&mut self.pairs[index], value);
-        self.live.set(index, !nil);
-        self.holes.set_at(hole, nil);
+        let before = self.pairs.replace(index, value);
+        match self.outline {
+            Outline::Flagged => {
+                self.live.set(index, !nil);
+                self.holes.set_at(hole, nil);
+            }
+            Outline::Full => {
+                if nil {
+                    self.outline = flagged(&mut self.live, &mut self.holes, &self.pairs);
+                }
+            }
+            Outline::Walked => {}
+        }
         before
     }
 
@@ -126,22 +226,19 @@ impl Table {
         ensures done { OnOk result (self.new ≡ record { pairs = with_value self.old.pairs key value; meta = self.old.meta }) }
         ensures kept { OnErr result (self.new ≡ self.old) }
     {
-        let index = self.pairs.len();
-        self.live.reach(index)?;
-        self.holes.reach(index)?;
-        let hole = hole_of(&key, index);
-        let number = index as u32 + 1;
-        let in_order = order_with(&self.pairs, self.in_order, &key, number);
-        match self.pairs.insert(key, value) {
-            Ok(_) => {}
-            Err(_) => return Err(AllocError),
+        match self.outline {
+            Outline::Full => {
+                self.pairs.push(key, value)?;
+                if self.pairs.in_order() < self.pairs.len() {
+                    self.outline = flagged(&mut self.live, &mut self.holes, &self.pairs);
+                }
+                Ok(())
+            }
+            Outline::Flagged => {
+                append_flagged(&mut self.pairs, &mut self.live, &mut self.holes, key, value)
+            }
+            Outline::Walked => self.pairs.push(key, value),
         }
-        self.in_order = in_order;
-        self.live.set(index, true);
-        self.holes.set_at(hole, false);
-        self.holes
-            .set(index, is_hole(&self.pairs, in_order, number));
-        Ok(())
     }
 
     /// The value at a key, nil where it has no entry.
@@ -187,7 +284,7 @@ impl Table {
         requires { IsShift shift }
         ensures { result ≡ true → HasSources self.now.pairs shift }
     {
-        shift.to <= self.in_order as u64
+        shift.to <= self.pairs.in_order() as u64
     }
 
     /// Whether the i-th number of a shift needs a new entry for the value that it gets.
@@ -231,7 +328,7 @@ impl Table {
         self.put(shift.key(0), first)?;
         for written in 1..moves {
             let key = shift.key(moves - written);
-            match index_of(&self.pairs, self.in_order, &key) {
+            match self.pairs.index_of(&key) {
                 Some(index) => carried = self.replace(index, &key, carried),
                 None => unreachable!(),
             }
@@ -252,30 +349,34 @@ impl Table {
         Ok(table)
     }
 
-    /// The pair that comes next after a key, and for nil the first.
-    pub fn next(&self, key: &Value) -> Option<(&Value, &Value)>
-        ensures { option_map deref_pair result ≡ next_pair self.now.pairs key.now }
+    /// Copies of the key and the value that come next after a key, and for nil of the first.
+    pub fn next(&self, key: &Value) -> Result<Option<(Value, Value)>, AllocError>
+        ensures { IfOk result (λ next. next ≡ next_pair self.now.pairs key.now) }
     {
         if key.is_nil() {
             return self.live_from(0);
         }
-        match index_of(&self.pairs, self.in_order, key) {
+        match self.pairs.index_of(key) {
             Some(index) => {
                 let within = index < self.pairs.len();
                 prove!(within);
                 self.live_from(index + 1)
             }
-            None => None,
+            None => Ok(None),
         }
     }
 
-    /// The first pair from an index on whose value isn't nil.
-    fn live_from(&self, from: usize) -> Option<(&Value, &Value)>
-        ensures { option_map deref_pair result ≡ first_live (drop from self.now.pairs) }
+    /// Copies of the first key from an index on whose value isn't nil, and of this value.
+    fn live_from(&self, from: usize) -> Result<Option<(Value, Value)>, AllocError>
+        ensures { IfOk result (λ next. next ≡ first_live (drop from self.now.pairs)) }
     {
-        match self.live.first_from(from) {
-            Some(index) => self.pairs.get_index(index),
-            None => None,
+        match self.outline {
+            Outline::Full => self.pairs.pair(from),
+            Outline::Flagged => match self.live.first_from(from) {
+                Some(index) => self.pairs.pair(index),
+                None => Ok(None),
+            },
+            Outline::Walked => walk_from(&self.pairs, from),
         }
     }
 
@@ -284,22 +385,13 @@ impl Table {
         ensures least { result ≡ border_of self.now.pairs }
         ensures few { result ≤ 32_768 }
     {
-        let entries = self.entries();
-        match self.holes.first_from(0) {
-            Some(hole) => hole as u64,
-            None => entries as u64,
-        }
-    }
-
-    /// How many entries there are.
-    fn entries(&self) -> usize
-        ensures entries { result ≡ length self.now.pairs }
-        ensures few { result ≤ 32_768 }
-    {
         let entries = self.pairs.len();
-        let within = entries <= self.live.len();
-        prove!(within);
-        entries
+        let border = match self.outline {
+            Outline::Full => entries,
+            Outline::Flagged => self.holes.first_from(0).unwrap_or(entries),
+            Outline::Walked => walk_border(&self.pairs),
+        };
+        border as u64
     }
 
     /// The metatable.
@@ -326,76 +418,8 @@ impl Clone for Table {
             pairs: self.pairs.clone()?,
             live: self.live.clone()?,
             holes: self.holes.clone()?,
-            in_order: self.in_order,
+            outline: self.outline,
             meta: self.meta,
         })
-    }
-}
-
-/// The index of a key, where the first keys are the numbers 1, 2, .. `in_order`.
-fn index_of(pairs: &IndexMap<Value, Value>, in_order: usize, key: &Value) -> Option<usize>
-    requires { IsInOrder pairs.now.entries in_order }
-    ensures { result ≡ position (same key.now) (keys_of pairs.now.entries) }
-{
-    match hole_of(key, pairs.len()) {
-        Some(index) if index < in_order => Some(index),
-        _ => pairs.get_index_of(key),
-    }
-}
-
-/// How many of the first keys are the numbers 1, 2, .. once this new key is put last, which is the `number`-th.
-fn order_with(pairs: &IndexMap<Value, Value>, in_order: usize, key: &Value, number: u32) -> usize
-    requires order { IsInOrder pairs.now.entries in_order }
-    requires absent { has_entry pairs.now.entries key.now ≡ false }
-    requires number { number ≡ length pairs.now.entries + 1 }
-    requires small { number ≤ 1_000_000_000 }
-    ensures { (value : LuaValue) → is_nil value ≡ false → IsInOrder (with_value pairs.now.entries key.now value) result }
-{
-    if in_order == pairs.len() && *key == numbered(number) {
-        number as usize
-    } else {
-        in_order
-    }
-}
-
-/// The index of a key among the first `count` numbers, if it is one of them.
-fn hole_of(key: &Value, count: usize) -> Option<usize>
-    ensures { IsHoleOf key.now count result }
-{
-    match key {
-        Value::Number(whole) => match usize::try_from(whole.get()) {
-            Ok(n) => {
-                if 1 <= n && n <= count {
-                    Some(n - 1)
-                } else {
-                    None
-                }
-            }
-            Err(_) => None,
-        },
-        _ => None,
-    }
-}
-
-/// Whether nothing is at the number n.
-fn is_hole(pairs: &IndexMap<Value, Value>, in_order: usize, n: u32) -> bool
-    requires order { IsInOrder pairs.now.entries in_order }
-    requires small { n ≤ 1_000_000_000 }
-    ensures { result ≡ is_nil (value_at pairs.now.entries (number n)) }
-{
-    match index_of(pairs, in_order, &numbered(n)) {
-        None => true,
-        Some(index) => pairs[index].is_nil(),
-    }
-}
-
-/// The number n as a value.
-fn numbered(n: u32) -> Value
-    requires { n ≤ 1_000_000_000 }
-    ensures { result ≡ number n }
-{
-    match Whole::new(i64::from(n)) {
-        Some(whole) => Value::Number(whole),
-        None => unreachable!(),
     }
 }

@@ -1,6 +1,6 @@
 use Rattle.std.proofs.Common.{Some}
 use Rattle.lua_shortcuts.proofs.ValueLemmas.{nil_gives, true_gives, false_gives, number_gives, slot_counted, with_counted}
-use Rattle.lua_shortcuts.proofs.PlaceLemmas.{slot_seen, global_seen, index_seen, text_seen}
+use Rattle.lua_shortcuts.proofs.PlaceLemmas.{slot_seen, global_seen, index_seen, named_seen, text_seen}
 use Rattle.lua_shortcuts.proofs.+numbers.Goals as goal
 
 pub numbers::number_of-returns-in-Number-clause-gives : goal.numbers::number_of-returns-in-Number-clause-gives
@@ -27,6 +27,11 @@ places::seen_at-returns-in_ok-key-in-Slot-clause-gives t c =
     c.in-Table.is c.in_ok-object.ensures.gives
     (slot_seen c.args.b.now c.args.slots.now c.args.store.now.heap c.in-Slot.i (Some c.in_ok-key-in-Slot.key) c.in-Slot.is c.in_ok-key-in-Slot.ensures.value c.in_ok-key-in-Slot.ensures.steps)
     c.get.ensures c.there.ensures.value c.there.ensures.there c.there.ensures.steps
+
+pub places::seen_at-returns-in-Text-clause-gives : goal.places::seen_at-returns-in-Text-clause-gives
+places::seen_at-returns-in-Text-clause-gives t c =
+    named_seen c.args.a.now c.args.b.now c.args.slots.now c.args.store.now.heap c.in-Table.t c.in-Text.name c.in_ok-object.object.value.now c.get_text.result.now c.in_ok-object.object.steps c.there-in-Text.result
+    c.in-Text.is c.in-Table.is c.in_ok-object.ensures.gives c.get_text.ensures c.there-in-Text.ensures.value c.there-in-Text.ensures.there c.there-in-Text.ensures.steps
 
 pub places::seen_at-returns-in_ok-key-in_default-kind : goal.places::seen_at-returns-in_ok-key-in_default-kind
 places::seen_at-returns-in_ok-key-in_default-kind t c = record {

@@ -1,9 +1,9 @@
 //! The calls of a store on tables.
 
 ghost use Rattle.std.specs.Prelude.{◌≡◌, ◌≢◌, ◌<◌, ◌≤◌, ◌*◌, true, false, None, Some, Err, length, OnOk, OnErr, IfOk, IfErr};
-ghost use Rattle.std.specs.Option.{option_map};
-ghost use Rattle.std.specs.Map.Iter.{deref_pair};
-ghost use Rattle.lua_values.specs.Pairs.{value_at, needs_entry, next_pair};
+ghost use Rattle.lua_values.specs.Values.{is_nil};
+ghost use Rattle.lua_values.specs.declared.values.Value.TheVariants.{Number, Text};
+ghost use Rattle.lua_values.specs.Pairs.{value_at, next_pair};
 ghost use Rattle.lua_values.specs.Border.{border_of};
 ghost use Rattle.lua_values.specs.Shifts.{IsShift, shift_of};
 ghost use Rattle.lua_values.specs.StoreCalls as calls;
@@ -11,6 +11,8 @@ ghost use Rattle.lua_values.specs.StoreCalls as calls;
 use super::{Store, TABLE_UNITS, UNIT_LIMIT};
 use crate::tables::Table;
 use crate::{Shift, StoreFault, Value};
+use resty_base::{Bytes, Whole};
+use std::alloc::AllocError;
 
 /// The units of a new entry in a table.
 const ENTRY_UNITS: u64 = 32;
@@ -43,6 +45,104 @@ impl Store {
                 None => &self.nil,
                 Some(value) => value,
             },
+        }
+    }
+
+    /// The value at a text as a key of a table, without its metatable; nil where none is.
+    pub fn get_text(&self, t: u32, name: &Bytes) -> &Value
+        ensures { result.now ≡ value_at (calls.pairs_of self.now.heap t) (Text name.now) }
+    {
+        match self.tables.get(t as usize) {
+            None => &self.nil,
+            Some(table) => match table.get_text(name) {
+                None => &self.nil,
+                Some(value) => value,
+            },
+        }
+    }
+
+    /// Sets a value that isn't nil at a key of a table where something is, if the table isn't frozen; else the value is given back, and nothing is changed.
+    /// Takes no memory.
+    #[tactic(auto, using(crate::proofs::FreezableLemmas::set_same_item))]
+    pub fn renew(&mut self, t: u32, key: &Value, value: Value) -> Result<(), Value>
+        ensures there { OnOk result (is_nil (value_at (calls.pairs_of self.old.heap t) key.now) ≡ false) }
+        ensures allowed { OnOk result (calls.set_cause self.old.heap t key.now value ≡ None) }
+        ensures done { OnOk result (self.new ≡ record { heap = calls.with_pair self.old.heap t key.now value; steps = self.old.steps }) }
+        ensures given { IfErr result (λ given. given ≡ value) }
+        ensures kept { OnErr result (self.new ≡ self.old) }
+    {
+        let index = t as usize;
+        if key.is_nil() || index < self.tables.frozen() || index >= self.tables.len() {
+            return Err(value);
+        }
+        match self.tables.item_mut(index).renew(key, value) {
+            Ok(()) => Ok(()),
+            Err(value) => Err(value),
+        }
+    }
+
+    /// The same at a text as the key.
+    #[tactic(auto, using(crate::proofs::FreezableLemmas::set_same_item))]
+    pub fn renew_text(&mut self, t: u32, name: &Bytes, value: Value) -> Result<(), Value>
+        ensures there { OnOk result (is_nil (value_at (calls.pairs_of self.old.heap t) (Text name.now)) ≡ false) }
+        ensures allowed { OnOk result (calls.set_cause self.old.heap t (Text name.now) value ≡ None) }
+        ensures done { OnOk result (self.new ≡ record { heap = calls.with_pair self.old.heap t (Text name.now) value; steps = self.old.steps }) }
+        ensures given { IfErr result (λ given. given ≡ value) }
+        ensures kept { OnErr result (self.new ≡ self.old) }
+    {
+        let index = t as usize;
+        if index < self.tables.frozen() || index >= self.tables.len() {
+            return Err(value);
+        }
+        match self.tables.item_mut(index).renew_text(name, value) {
+            Ok(()) => Ok(()),
+            Err(value) => Err(value),
+        }
+    }
+
+    /// Writes a number at one of the first keys 1, 2, .. of a table where something is, if the table isn't frozen, and takes no memory; says whether it did.
+    #[tactic(auto, using(crate::proofs::FreezableLemmas::set_same_item))]
+    pub fn renew_whole(&mut self, t: u32, n: Whole, number: Whole) -> bool
+        ensures there { result ≡ true → is_nil (value_at (calls.pairs_of self.old.heap t) (Number n)) ≡ false }
+        ensures allowed { result ≡ true → calls.set_cause self.old.heap t (Number n) (Number number) ≡ None }
+        ensures done { result ≡ true
+            → self.new ≡ record { heap = calls.with_pair self.old.heap t (Number n) (Number number); steps = self.old.steps } }
+        ensures kept { result ≡ false → self.new ≡ self.old }
+    {
+        let index = t as usize;
+        if index < self.tables.frozen() || index >= self.tables.len() {
+            return false;
+        }
+        if self.tables.item_mut(index).renew_whole(n, number) {
+            true
+        } else {
+            false
+        }
+    }
+
+    /// Puts a value that isn't nil at the number after those of a table whose keys are 1, 2, .. in this order, if it has no metatable and that isn't
+    /// refused; else the value is given back, and nothing is changed.
+    #[tactic(auto, using(crate::proofs::FreezableLemmas::set_same_item))]
+    pub fn extend(&mut self, t: u32, key: &Value, value: Value) -> Result<(), Value>
+        ensures own { OnOk result ((calls.table_of self.old.heap t).meta ≡ None) }
+        ensures allowed { OnOk result (calls.set_cause self.old.heap t key.now value ≡ None) }
+        ensures done { OnOk result (self.new ≡ record { heap = calls.with_pair self.old.heap t key.now value; steps = self.old.steps }) }
+        ensures given { IfErr result (λ given. given ≡ value) }
+        ensures kept { OnErr result (self.new ≡ self.old) }
+    {
+        let index = t as usize;
+        if key.is_nil() || index < self.tables.frozen() || index >= self.tables.len() {
+            return Err(value);
+        }
+        if self.units + ENTRY_UNITS > UNIT_LIMIT || self.metatable(t).is_some() {
+            return Err(value);
+        }
+        match self.tables.item_mut(index).extend(key, value) {
+            Ok(()) => {
+                self.units += ENTRY_UNITS;
+                Ok(())
+            }
+            Err(value) => Err(value),
         }
     }
 
@@ -155,13 +255,13 @@ impl Store {
         Ok(())
     }
 
-    /// The pair that comes next after a key of a table (Lua 5.1 Reference Manual, section 5.1, `next`), and the first
-    /// for nil.
-    pub fn next(&self, t: u32, key: &Value) -> Option<(&Value, &Value)>
-        ensures { option_map deref_pair result ≡ next_pair (calls.pairs_of self.now.heap t) key.now }
+    /// Copies of the key and the value that come next after a key of a table (Lua 5.1 Reference Manual, section 5.1, `next`), and
+    /// of the first for nil.
+    pub fn next(&self, t: u32, key: &Value) -> Result<Option<(Value, Value)>, AllocError>
+        ensures { IfOk result (λ next. next ≡ next_pair (calls.pairs_of self.now.heap t) key.now) }
     {
         match self.tables.get(t as usize) {
-            None => None,
+            None => Ok(None),
             Some(table) => table.next(key),
         }
     }

@@ -116,14 +116,15 @@ fn see_at(all: &mut String, store: &Store, t: u32, key: &Value, is_after: bool) 
 }
 
 /// Writes a pair, or `none`.
-fn see_next(all: &mut String, next: Option<(&Value, &Value)>) {
+fn see_next(all: &mut String, next: Result<Option<(Value, Value)>, AllocError>) {
     match next {
-        None => put(all, "none"),
-        Some((key, found)) => {
-            see_value(all, key);
+        Ok(None) => put(all, "none"),
+        Ok(Some((key, found))) => {
+            see_value(all, &key);
             put(all, " ");
-            see_value(all, found);
+            see_value(all, &found);
         }
+        Err(_) => put(all, "out of memory"),
     }
 }
 
@@ -131,11 +132,11 @@ fn see_next(all: &mut String, next: Option<(&Value, &Value)>) {
 pub(super) fn see_pairs(all: &mut String, store: &Store, t: u32, with_keys: bool) {
     let mut key = Value::Nil;
     for _ in 0..100 {
-        let Some((next, found)) = store.next(t, &key) else {
+        let Ok(Some((next, found))) = store.next(t, &key) else {
             return;
         };
-        see_pair(all, next, found, with_keys);
-        key = copy_of(next);
+        see_pair(all, &next, &found, with_keys);
+        key = next;
     }
 }
 

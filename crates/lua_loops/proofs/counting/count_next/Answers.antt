@@ -5,7 +5,7 @@ use Rattle.lua_loops.proofs.counting.count_next.Goals as goal
 
 pub returns-in-Ok : goal.returns-in-Ok
 returns-in-Ok c = λ S e.
-    works_as S _ _ c.args.frames.now c.count_from.new.frames c.args.store.now c.count_from.new.store c.count_from.result (c.count_from.ensures S)
+    works_as S _ _ c.args.frames.now c.count_from.new.frames c.args.store.now c.count_from.new.store c.count_from.result (c.count_from.ensures S e)
     (next_counts S c.args.counter c.in-Ok.at c.add.result (here c.args.frames.now) (slots_of c.args.frames.now) c.add.ensures c.in-Ok.is)
 
 pub returns-in-Err : goal.returns-in-Err

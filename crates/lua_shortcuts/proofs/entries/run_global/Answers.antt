@@ -1,9 +1,9 @@
-use Rattle.std.proofs.Common.{List, ℕ, ap, refl}
+use Rattle.std.proofs.Common.{refl}
 use Rattle.lua_values.specs.declared.values.Value.TheVariants.{Text}
 use Rattle.lua_shortcuts.proofs.EntryLemmas.{name_runs}
 use Rattle.lua_shortcuts.proofs.entries.run_global.Goals as goal
 
-pub returns-in-Ok : goal.returns-in-Ok
-returns-in-Ok c =
-    name_runs c.args.name.now c.args.x.now (record { table = c.globals.result; key = Text c.in-Ok.name; steps = 0 }) c.args.slots.now.items c.store_at.result c.args.store.now c.store_at.new.store
-    c.globals.ensures (ap (λ (t : List ℕ). Text t) c.in-Ok.ensures.cases) refl (rw c.deref.ensures.value at c.store_at.ensures)
+pub returns : goal.returns
+returns c =
+    name_runs c.args.name.now c.args.x.now (record { table = c.globals-table.result; key = Text c.args.name.now; steps = 0 }) c.args.slots.now.items c.store_named.result c.args.store.now c.store_named.new.store
+    c.globals-table.ensures refl refl (rw c.deref.ensures.value at c.store_named.ensures)

@@ -1,28 +1,19 @@
-use Rattle.std.proofs.Common.{◌≡◌, ◌<◌, false, length, ap, sym, ◌∙◌, inl, subst, arith}
-use Rattle.lua_values.proofs.PairLemmas.{insert-with}
-use Rattle.lua_values.proofs.TableLemmas.{indexed-append}
+use Rattle.std.proofs.Common.{◌≡◌, false, ap, ◌∙◌}
 use Rattle.lua_values.specs.Pairs.{has_entry}
-use Rattle.lua_values.specs.TableFlags.{IsHoleOf, IsInOrder}
+use Rattle.lua_values.proofs.OutlineLemmas.{on_ok, put-last}
 use Rattle.lua_values.proofs.tables.Table.append.Goals as goal
 
-pub is_hole-requires-clause-order : goal.is_hole-requires-clause-order
-is_hole-requires-clause-order c =
-    subst (λ ps. IsInOrder ps c.order_with-in_order.result) (sym (c.in-Ok.ensures.entries ∙ insert-with c.self.inside.pairs.entries c.args.key c.args.value (inl c.requires.live)))
-    (c.order_with-in_order.ensures c.args.value c.requires.live)
+pub returns-then-in_order-len-clause-done : goal.returns-then-in_order-len-clause-done
+returns-then-in_order-len-clause-done c =
+    let absent : has_entry c.self.inside.pairs c.args.key ≡ false = ap (λ t. has_entry t.pairs c.args.key) c.self.view_is ∙ c.requires.absent in
+    rw (← c.self.view_is) (ap (λ ps. record { pairs = ps; meta = c.self.inside.meta }) (c.in_ok-push-in-Full.ensures.done ∙ put-last c.self.inside.pairs c.args.key c.args.value absent c.requires.live))
 
-pub invariant_of-self-2 : goal.invariant_of-self-2
-invariant_of-self-2 c =
-    let absent : has_entry c.self.inside.pairs.entries c.args.key ≡ false = ap (λ t. has_entry t.pairs c.args.key) c.self.view_is ∙ c.requires.absent in
-    let a = c.self.invariant.0.live_there in
-    let b = c.self.invariant.0.holes_there in
-    let live_there : length c.self.inside.pairs.entries < length c.reach.new.self = let r = c.in_ok-reach.ensures.reached (omega arith) in omega arith in
-    let holes_there : length c.self.inside.pairs.entries < length c.reach-2.new.self = let r = c.in_ok-reach-2.ensures.reached (omega arith) in omega arith in (
-      rw (c.set-2.ensures, c.set_at.ensures, c.set.ensures, c.is_hole.ensures, c.in-Ok.ensures.entries, c.len-index.ensures.len)
-          (indexed-append c.self.inside.pairs.entries c.args.key c.args.value c.self.inside.live c.reach.new.self c.self.inside.holes c.reach-2.new.self c.hole_of-hole.result c.self.invariant.0 absent c.requires.live c.reach.ensures.same c.reach-2.ensures.same live_there holes_there (subst (λ n. IsHoleOf c.args.key n c.hole_of-hole.result) c.len-index.ensures.len c.hole_of-hole.ensures)),
-      subst (λ ps. IsInOrder ps c.order_with-in_order.result) (sym (c.in-Ok.ensures.entries ∙ insert-with c.self.inside.pairs.entries c.args.key c.args.value (inl c.requires.live)))
-          (c.order_with-in_order.ensures c.args.value c.requires.live),
-    )
+pub returns-else-in_order-len-clause-done : goal.returns-else-in_order-len-clause-done
+returns-else-in_order-len-clause-done c =
+    let absent : has_entry c.self.inside.pairs c.args.key ≡ false = ap (λ t. has_entry t.pairs c.args.key) c.self.view_is ∙ c.requires.absent in
+    rw (← c.self.view_is) (ap (λ ps. record { pairs = ps; meta = c.self.inside.meta }) (c.in_ok-push-in-Full.ensures.done ∙ put-last c.self.inside.pairs c.args.key c.args.value absent c.requires.live))
 
-pub returns-clause-done : goal.returns-clause-done
-returns-clause-done c =
-    rw (← c.self.view_is) (ap (λ ps. record { pairs = ps; meta = c.self.inside.meta }) (c.in-Ok.ensures.entries ∙ insert-with c.self.inside.pairs.entries c.args.key c.args.value (inl c.requires.live)))
+pub returns-in-Walked-clause-done : goal.returns-in-Walked-clause-done
+returns-in-Walked-clause-done c =
+    let absent : has_entry c.self.inside.pairs c.args.key ≡ false = ap (λ t. has_entry t.pairs c.args.key) c.self.view_is ∙ c.requires.absent in
+    rw (← c.self.view_is) (on_ok c.push-in-Walked.result (λ done. ap (λ ps. record { pairs = ps; meta = c.self.inside.meta }) (done ∙ put-last c.self.inside.pairs c.args.key c.args.value absent c.requires.live)) c.push-in-Walked.ensures.done)

@@ -1,19 +1,17 @@
-use Rattle.std.proofs.Common.{length, sym, ◌∙◌, ap}
-use Rattle.lua_values.proofs.TableLemmas.{border-none, border-some, border-few}
-use Rattle.lua_values.specs.Border.{border_of}
+use Rattle.std.proofs.Common.{◌∙◌}
+use Rattle.lua_values.proofs.TableLemmas.{border-few}
+use Rattle.lua_values.proofs.OutlineLemmas.{full-border, flagged-border}
 use Rattle.lua_values.proofs.tables.Table.border.Goals as goal
 
-pub returns-in-Some-clause-least : goal.returns-in-Some-clause-least
-returns-in-Some-clause-least c =
-    sym (ap (λ t. border_of t.pairs) (sym c.self.view_is) ∙ border-some c.self.inside.pairs.entries c.self.inside.holes c.in-Some.hole c.self.invariant.0.marks_holes c.in-Some.ensures)
+pub returns-in-Full-clause-least : goal.returns-in-Full-clause-least
+returns-in-Full-clause-least c =
+    let known = rw c.in-Full.is at c.self.invariant in
+    rw (← c.self.view_is) (c.len-entries.ensures.len ∙ full-border c.self.inside.pairs known.0)
 
-pub returns-in-Some-clause-few : goal.returns-in-Some-clause-few
-returns-in-Some-clause-few c = border-few c.args.self.now.pairs c.entries-entries.result c.in-Some.hole c.entries-entries.ensures.entries c.entries-entries.ensures.few (returns-in-Some-clause-least c)
+pub returns-in-Flagged-clause-least : goal.returns-in-Flagged-clause-least
+returns-in-Flagged-clause-least c =
+    let known = rw c.in-Flagged.is at c.self.invariant in
+    rw (← c.self.view_is) (c.unwrap_or-border.ensures ∙ flagged-border c.self.inside.pairs c.self.inside.holes c.first_from.result c.len-entries.result known.marks_holes c.first_from.ensures c.len-entries.ensures.len)
 
-pub returns-in-None-clause-least : goal.returns-in-None-clause-least
-returns-in-None-clause-least c =
-    c.entries-entries.ensures.entries ∙ sym (ap (λ t. border_of t.pairs) (sym c.self.view_is) ∙ border-none c.self.inside.pairs.entries c.self.inside.holes c.self.invariant.0.marks_holes c.in-None.ensures
-    ∙ ap (λ t. length t.pairs) c.self.view_is)
-
-pub returns-in-None-clause-few : goal.returns-in-None-clause-few
-returns-in-None-clause-few c = c.entries-entries.ensures.few
+pub returns-in-Walked-clause-few : goal.returns-in-Walked-clause-few
+returns-in-Walked-clause-few c = border-few c.self.inside.pairs c.len-entries.result c.walk_border-border.result c.len-entries.ensures.len c.len-entries.ensures.few c.walk_border-border.ensures

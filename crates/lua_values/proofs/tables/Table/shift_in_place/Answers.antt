@@ -29,7 +29,7 @@ unreachable-requires c =
     let key = c.key-key.ensures ∙ ap (λ i. number (place c.args.shift i)) last in
     let there : has_entry c.loop-written.self.pairs c.key-key.result ≡ true =
     ap (has_entry c.loop-written.self.pairs) key ∙ c.loop-written.invariant.0.entries (c.moves-moves.result - (c.loop-written.written + 1)) (omega (arith, c.loop-written-test.true)) in
-    let none : false ≡ has_entry c.self.inside.pairs.entries c.key-key.result = ap is_some c.in-None.ensures ∙ index-there c.self.inside.pairs.entries c.key-key.result in
+    let none : false ≡ has_entry c.self.inside.pairs c.key-key.result = ap is_some c.in-None.ensures.index ∙ index-there c.self.inside.pairs c.key-key.result in
     true≢false (sym (none ∙ ap (λ (t : TableView). has_entry t.pairs c.key-key.result) c.self.view_is ∙ there))
 
 pub loop-written-preserved : goal.loop-written-preserved

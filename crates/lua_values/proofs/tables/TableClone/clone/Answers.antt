@@ -1,13 +1,8 @@
 use Rattle.std.proofs.Common.{◌∙◌, ap}
-use Rattle.lua_values.proofs.PairLemmas.{clone-same}
 use Rattle.lua_values.proofs.tables.TableClone.clone.Goals as goal
 
 pub invariant_of-result : goal.invariant_of-result
-invariant_of-result c =
-    let pairs = clone-same c.self.inside.pairs.entries c.in_ok-clone.field-0.entries c.in_ok-clone.ensures.cases in
-    rw (pairs, c.in_ok-clone-2.ensures.cases, c.in_ok-clone-3.ensures.cases) c.self.invariant
+invariant_of-result c = rw (c.in_ok-clone.ensures.cases, c.in_ok-clone-2.ensures.cases, c.in_ok-clone-3.ensures.cases) c.self.invariant
 
 pub returns : goal.returns
-returns c = record {
-  cases = ap (λ ps. record { pairs = ps; meta = c.self.inside.meta }) (clone-same c.self.inside.pairs.entries c.in_ok-clone.field-0.entries c.in_ok-clone.ensures.cases) ∙ c.self.view_is;
-}
+returns c = record { cases = ap (λ ps. record { pairs = ps; meta = c.self.inside.meta }) c.in_ok-clone.ensures.cases ∙ c.self.view_is }
