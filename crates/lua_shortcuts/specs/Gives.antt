@@ -7,13 +7,14 @@ use Rattle.lua_ast.specs.declared.expressions.Expr.{Expr}
 use Rattle.lua_ast.specs.declared.expressions.ExprKind.{out-ExprKind}
 use Rattle.lua_ast.specs.declared.expressions.ExprKind.TheOpen as e
 use Rattle.lua_values.specs.declared.values.Value.{Value}
-use Rattle.lua_values.specs.declared.values.Value.TheVariants.{Number}
+use Rattle.lua_values.specs.declared.values.Value.TheVariants.{Number, Table}
 use Rattle.lua_values.specs.Heap.{Heap, StoreView, step_limit}
 use Rattle.lua_meaning.specs.Works.{Caller, Places, Slots, AValue, AnExpr, Values}
-use Rattle.lua_meaning.specs.Evaluator.{State, Ended}
+use Rattle.lua_meaning.specs.Evaluator.{State, Ended, do_work}
 use Rattle.lua_meaning.specs.Setting.{Setting}
 use Rattle.lua_meaning.specs.Signs.{give_one}
 use Rattle.lua_meaning.specs.Operators.{binary_work}
+use Rattle.lua_meaning.specs.Indexing.{index_work}
 use Rattle.lua_meaning.specs.Nodes.{eval}
 
 -- n steps more
@@ -39,6 +40,21 @@ Operates o a b v = (S : Setting) (callers : List Caller) (s : Slots) → binary_
 abbrev pub GivesBinary : BinOp → Expr → Expr → Slots → Heap → Value → ℕ → Type 0
 GivesBinary o a b s h v n =
     (x : Expr) (left right : Rc Expr Global) → out-ExprKind x.kind ≡ e.Binary o left right → left.value ≡ a → right.value ≡ b → Gives x s h v n
+
+-- `t[key]` of a table gives a value and counts n steps, wherever it is evaluated with this heap, if the steps are left. Nothing else is changed.
+pub record HasAt (h : Heap) (t : ℕ) (key v : Value) (n : ℕ) : Type 0 where
+  pub is : (S : Setting) (line : ℕ) (p : Places) (s : Slots) (w : State) → w.store.heap ≡ h → w.store.steps + n < step_limit
+      → do_work (eval S) (index_work S line (Table t) key p s) w ≡ Ended (Values (v ∷ [])) s (later n w)
+
+-- the same, with so many steps before it
+pub record HasAfter (h : Heap) (t : ℕ) (key v : Value) (before n : ℕ) : Type 0 where
+  pub links : ℕ
+  pub has : HasAt h t key v links
+  pub sum : n ≡ before + links
+
+-- a global variable gives a value
+abbrev pub GivesGlobal : List ℕ → Heap → Value → ℕ → Type 0
+GivesGlobal name h v n = (x : Expr) (s : Slots) → out-ExprKind x.kind ≡ e.Global name → Gives x s h v n
 
 -- `a[b]` gives a value
 abbrev pub GivesIndex : Expr → Expr → Slots → Heap → Value → ℕ → Type 0

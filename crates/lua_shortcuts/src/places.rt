@@ -1,18 +1,19 @@
 //! Expressions whose values stand somewhere: local and global variables, and entries of tables.
 
-ghost use Rattle.std.specs.Prelude.{◌≡◌, ◌<◌, false, slice_get, IfSome};
-ghost use Rattle.lua_values.specs.declared.values.Value.TheVariants.{Text};
-ghost use Rattle.lua_values.specs.Pairs.{value_at};
-ghost use Rattle.lua_values.specs.StoreCalls.{pairs_of};
-ghost use Rattle.lua_values.specs.Values.{is_nil};
-ghost use Rattle.lua_meaning.specs.Variables.{in_slot};
+ghost use Rattle.std.specs.Prelude.{◌≡◌, ◌<◌, ◌*◌, false, slice_get, IfSome};
+ghost use Rattle.lua_values.specs.declared.values.Value.TheVariants.{Table, Text};
 ghost use Rattle.lua_values.specs.Heap.{step_limit};
-ghost use Rattle.lua_shortcuts.specs.Gives.{Gives, GivesIndex};
+ghost use Rattle.lua_values.specs.Values.{is_nil};
+ghost use Rattle.lua_operators.specs.declared.events.Event.TheVariants.{Index};
+ghost use Rattle.lua_meaning.specs.Metatables.{handler};
+ghost use Rattle.lua_meaning.specs.Variables.{in_slot};
+ghost use Rattle.lua_shortcuts.specs.Gives.{Gives, GivesGlobal, GivesIndex, HasAfter};
 
 use crate::numbers::number_of;
 use crate::steps::STEP_LIMIT;
 use lua_ast::{Expr, ExprKind};
 use lua_meaning::Slot;
+use lua_operators::Event;
 use lua_values::{Store, Value};
 use resty_base::Bytes;
 
@@ -30,7 +31,8 @@ pub(crate) struct Valued {
     pub steps: u64,
 }
 
-/// Where the value of a variable or of an entry of a table stands. `None` of any other expression, and where a metatable may be asked.
+/// Where the value of a variable or of an entry of a table stands. `None` of any other expression, where nothing is found, and where more is asked of a
+/// metatable than another table.
 #[cycle(numbers)]
 pub(crate) fn seen_of<'a>(
     slots: &'a [Slot],
@@ -65,16 +67,15 @@ fn seen_in_slot<'a>(slots: &'a [Slot], store: &'a Store, i: u8) -> Option<Seen<'
     }
 }
 
-/// What the global table has at a name, if it has something.
+/// What the global table has at a name.
 fn seen_global<'a>(store: &'a Store, name: &Bytes) -> Option<Seen<'a>>
-    ensures value { IfSome result (λ seen. seen.value.now ≡ value_at (pairs_of store.now.heap store.now.heap.globals) (Text name.now)) }
-    ensures there { IfSome result (λ seen. is_nil seen.value.now ≡ false) }
-    ensures steps { IfSome result (λ seen. seen.steps ≡ 1) }
+    ensures gives { IfSome result (λ seen. GivesGlobal name.now store.now.heap seen.value.now seen.steps) }
+    ensures few { IfSome result (λ seen. seen.steps < step_limit) }
 {
-    there(store.get_text(store.globals(), name), 1)
+    named(store, store.globals(), name, 1)
 }
 
-/// What a table has at a key, if it has something.
+/// What a table has at the value of an expression.
 #[cycle(numbers)]
 fn seen_at<'a>(
     slots: &'a [Slot],
@@ -94,14 +95,57 @@ fn seen_at<'a>(
         Value::Table(t) => match &b.kind {
             ExprKind::Slot(i) => {
                 let key = seen_in_slot(slots, store, *i)?;
-                there(store.get(*t, key.value), object.steps + key.steps + 1)
+                found(store, *t, key.value, object.steps + key.steps + 1)
             }
-            ExprKind::Text(name) => there(store.get_text(*t, name), object.steps + 2),
+            ExprKind::Text(name) => named(store, *t, name, object.steps + 2),
             _ => {
                 let key = value_of(slots, store, b, levels - 1)?;
-                there(store.get(*t, &key.value), object.steps + key.steps + 1)
+                found(store, *t, &key.value, object.steps + key.steps + 1)
             }
         },
+        _ => None,
+    }
+}
+
+/// What a table has at a key, or else the table that its `__index` is, which counts one more step than so many.
+#[inline(always)]
+fn found<'a>(store: &'a Store, t: u32, key: &Value, steps: u64) -> Option<Seen<'a>>
+    requires { steps < 3 * step_limit }
+    ensures has { IfSome result (λ seen. HasAfter store.now.heap t key.now seen.value.now steps seen.steps) }
+    ensures few { IfSome result (λ seen. seen.steps < step_limit) }
+{
+    let own = store.get(t, key);
+    if own.is_nil() {
+        let other = linked(store, t)?;
+        there(store.get(other, key), steps + 1)
+    } else {
+        there(own, steps)
+    }
+}
+
+/// The same at a text.
+#[inline(always)]
+fn named<'a>(store: &'a Store, t: u32, name: &Bytes, steps: u64) -> Option<Seen<'a>>
+    requires { steps < 3 * step_limit }
+    ensures has { IfSome result (λ seen. HasAfter store.now.heap t (Text name.now) seen.value.now steps seen.steps) }
+    ensures few { IfSome result (λ seen. seen.steps < step_limit) }
+{
+    let own = store.get_text(t, name);
+    if own.is_nil() {
+        let other = linked(store, t)?;
+        there(store.get_text(other, name), steps + 1)
+    } else {
+        there(own, steps)
+    }
+}
+
+/// The table that the `__index` of a table is (Lua 5.1 Reference Manual, 2.8).
+fn linked(store: &Store, t: u32) -> Option<u32>
+    ensures { IfSome result (λ other. handler store.now.heap (Table t) Index ≡ Table other) }
+{
+    let meta = store.metatable(t)?;
+    match store.get_text(meta, &Bytes::from_static(Event::Index.key())) {
+        Value::Table(other) => Some(*other),
         _ => None,
     }
 }

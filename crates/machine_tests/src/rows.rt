@@ -3,6 +3,7 @@ mod calls;
 mod handlers;
 mod iterations;
 mod library;
+mod links;
 mod loops;
 mod natives;
 mod operators;

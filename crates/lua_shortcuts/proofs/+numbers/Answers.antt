@@ -1,4 +1,4 @@
-use Rattle.std.proofs.Common.{Some}
+use Rattle.std.proofs.Common.{Some, ◌+◌, refl}
 use Rattle.lua_shortcuts.proofs.ValueLemmas.{nil_gives, true_gives, false_gives, number_gives, slot_counted, with_counted}
 use Rattle.lua_shortcuts.proofs.PlaceLemmas.{slot_seen, global_seen, index_seen, named_seen, text_seen}
 use Rattle.lua_shortcuts.proofs.+numbers.Goals as goal
@@ -19,26 +19,27 @@ places::seen_of-returns-in-Slot-clause-gives t c = slot_seen c.args.x.now c.args
 
 pub places::seen_of-returns-in-Global-clause-gives : goal.places::seen_of-returns-in-Global-clause-gives
 places::seen_of-returns-in-Global-clause-gives t c =
-    global_seen c.args.x.now c.args.slots.now c.args.store.now.heap c.in-Global.name c.seen_global.result c.in-Global.is c.seen_global.ensures.value c.seen_global.ensures.there c.seen_global.ensures.steps
+    global_seen c.args.x.now c.args.slots.now c.args.store.now.heap c.in-Global.name c.seen_global.result c.in-Global.is c.seen_global.ensures.gives
 
 pub places::seen_at-returns-in_ok-key-in-Slot-clause-gives : goal.places::seen_at-returns-in_ok-key-in-Slot-clause-gives
 places::seen_at-returns-in_ok-key-in-Slot-clause-gives t c =
-    index_seen c.args.a.now c.args.b.now c.args.slots.now c.args.store.now.heap c.in-Table.t c.in_ok-object.object.value.now c.in_ok-key-in-Slot.key.value.now c.get.result.now c.in_ok-object.object.steps c.in_ok-key-in-Slot.key.steps c.there.result
-    c.in-Table.is c.in_ok-object.ensures.gives
+    index_seen c.args.a.now c.args.b.now c.args.slots.now c.args.store.now.heap c.in-Table.t c.in_ok-object.object.value.now c.in_ok-key-in-Slot.key.value.now c.in_ok-object.object.steps c.in_ok-key-in-Slot.key.steps
+    (c.in_ok-object.object.steps + c.in_ok-key-in-Slot.key.steps + 1) c.found.result c.in-Table.is c.in_ok-object.ensures.gives
     (slot_seen c.args.b.now c.args.slots.now c.args.store.now.heap c.in-Slot.i (Some c.in_ok-key-in-Slot.key) c.in-Slot.is c.in_ok-key-in-Slot.ensures.value c.in_ok-key-in-Slot.ensures.steps)
-    c.get.ensures c.there.ensures.value c.there.ensures.there c.there.ensures.steps
+    refl c.found.ensures.has
 
 pub places::seen_at-returns-in-Text-clause-gives : goal.places::seen_at-returns-in-Text-clause-gives
 places::seen_at-returns-in-Text-clause-gives t c =
-    named_seen c.args.a.now c.args.b.now c.args.slots.now c.args.store.now.heap c.in-Table.t c.in-Text.name c.in_ok-object.object.value.now c.get_text.result.now c.in_ok-object.object.steps c.there-in-Text.result
-    c.in-Text.is c.in-Table.is c.in_ok-object.ensures.gives c.get_text.ensures c.there-in-Text.ensures.value c.there-in-Text.ensures.there c.there-in-Text.ensures.steps
+    named_seen c.args.a.now c.args.b.now c.args.slots.now c.args.store.now.heap c.in-Table.t c.in-Text.name c.in_ok-object.object.value.now c.in_ok-object.object.steps (c.in_ok-object.object.steps + 2) c.named.result
+    c.in-Text.is c.in-Table.is c.in_ok-object.ensures.gives refl c.named.ensures.has
 
 pub places::seen_at-returns-in_ok-key-in_default-kind : goal.places::seen_at-returns-in_ok-key-in_default-kind
 places::seen_at-returns-in_ok-key-in_default-kind t c = record {
   gives =
-      index_seen c.args.a.now c.args.b.now c.args.slots.now c.args.store.now.heap c.in-Table.t c.in_ok-object.object.value.now c.in_ok-key-in_default-kind.key.value c.get-in_default-kind.result.now c.in_ok-object.object.steps c.in_ok-key-in_default-kind.key.steps c.there-in_default-kind.result
-      c.in-Table.is c.in_ok-object.ensures.gives c.in_ok-key-in_default-kind.ensures.gives c.get-in_default-kind.ensures c.there-in_default-kind.ensures.value c.there-in_default-kind.ensures.there c.there-in_default-kind.ensures.steps;
-  few = c.there-in_default-kind.ensures.few;
+      index_seen c.args.a.now c.args.b.now c.args.slots.now c.args.store.now.heap c.in-Table.t c.in_ok-object.object.value.now c.in_ok-key-in_default-kind.key.value c.in_ok-object.object.steps c.in_ok-key-in_default-kind.key.steps
+      (c.in_ok-object.object.steps + c.in_ok-key-in_default-kind.key.steps + 1) c.found-in_default-kind.result c.in-Table.is c.in_ok-object.ensures.gives c.in_ok-key-in_default-kind.ensures.gives
+      refl c.found-in_default-kind.ensures.has;
+  few = c.found-in_default-kind.ensures.few;
 }
 
 pub places::value_of-returns-in-Nil-clause-gives : goal.places::value_of-returns-in-Nil-clause-gives
