@@ -113,11 +113,7 @@ impl Store {
         if index < self.tables.frozen() || index >= self.tables.len() {
             return false;
         }
-        if self.tables.item_mut(index).renew_whole(n, number) {
-            true
-        } else {
-            false
-        }
+        self.tables.item_mut(index).renew_whole(n, number)
     }
 
     /// Puts a value that isn't nil at the number after those of a table whose keys are 1, 2, .. in this order, if it has no metatable and that isn't
