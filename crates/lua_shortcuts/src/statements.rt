@@ -77,10 +77,22 @@ fn other_value_of(slots: &[Slot], store: &Store, x: &Expr) -> Option<Valued>
     }
 }
 
+/// Whether the value of an expression is looked up in a table, which is done once, be it a number or not.
+#[inline(always)]
+fn is_looked_up(x: &Expr) -> bool {
+    match &x.kind {
+        ExprKind::Global(_) | ExprKind::Index(_, _) => true,
+        _ => false,
+    }
+}
+
 /// `local NAME = x`, which counts a step besides those of x.
 fn run_local(slots: &mut Vec<Slot>, store: &mut Store, i: u8, x: &Expr) -> bool
     ensures { (stmt : LuaStmt) → IsLocals (i ∷ []) (x.now ∷ []) stmt → RunsIf result stmt slots.old.items store.old slots.new.items store.new }
 {
+    if is_looked_up(x) {
+        return run_other_local(slots, store, i, x);
+    }
     match number_of(slots, store, x, LEVELS) {
         None => run_other_local(slots, store, i, x),
         Some(n) => {
@@ -119,6 +131,9 @@ fn run_assignment(slots: &mut Vec<Slot>, store: &mut Store, i: u8, x: &Expr) -> 
 {
     if !is_plain(slots, i) {
         return false;
+    }
+    if is_looked_up(x) {
+        return run_other_assignment(slots, store, i, x);
     }
     match number_of(slots, store, x, LEVELS) {
         None => run_other_assignment(slots, store, i, x),
