@@ -144,7 +144,7 @@ fn linked(store: &Store, t: u32) -> Option<u32>
     ensures { IfSome result (λ other. handler store.now.heap (Table t) Index ≡ Table other) }
 {
     let meta = store.metatable(t)?;
-    match store.get_text(meta, &Bytes::from_static(Event::Index.key())) {
+    match store.get_text(meta, Event::Index.key()) {
         Value::Table(other) => Some(*other),
         _ => None,
     }
@@ -214,7 +214,7 @@ fn text_value(text: &Bytes) -> Option<Valued>
 }
 
 /// A value of its own, of one that stands somewhere.
-fn copied(value: &Value, steps: u64) -> Option<Valued>
+pub(crate) fn copied(value: &Value, steps: u64) -> Option<Valued>
     ensures value { IfSome result (λ v. v.value ≡ value.now) }
     ensures steps { IfSome result (λ v. v.steps ≡ steps) }
 {

@@ -16,7 +16,7 @@ use crate::calls::{Site, run_with_calls};
 use crate::concatenation::{run_joined_assignment, run_joined_local};
 use crate::entries::{run_global, run_store};
 use crate::numbers::{LEVELS, number_of};
-use crate::places::{Valued, value_of};
+use crate::places::{Valued, copied, seen_of, value_of};
 use crate::steps::affords;
 use lua_ast::{Expr, ExprKind, Stmt, StmtKind};
 use lua_meaning::Slot;
@@ -73,6 +73,10 @@ fn other_value_of(slots: &[Slot], store: &Store, x: &Expr) -> Option<Valued>
 {
     match &x.kind {
         ExprKind::Number(_) | ExprKind::Binary(_, _, _) => None,
+        ExprKind::Global(_) | ExprKind::Index(_, _) => {
+            let seen = seen_of(slots, store, x, LEVELS)?;
+            copied(seen.value, seen.steps)
+        }
         _ => value_of(slots, store, x, LEVELS),
     }
 }

@@ -11,7 +11,7 @@ ghost use Rattle.lua_values.specs.Values.{same, is_nil, number};
 
 use crate::Value;
 use indexmap::{Equivalent, IndexMap};
-use resty_base::{Bytes, Whole};
+use resty_base::Whole;
 use std::alloc::{AllocError, Global};
 use std::hash::{Hash, Hasher};
 use std::marker::Model;
@@ -85,7 +85,8 @@ impl Pairs {
     }
 
     /// The index of a text as a key.
-    pub fn index_of_text(&self, name: &Bytes) -> Option<usize>
+    #[inline(always)]
+    pub fn index_of_text(&self, name: &[u8]) -> Option<usize>
         ensures index { result ≡ position (same (Text name.now)) (keys_of self.now) }
         ensures within { IfSome result (λ index. index < length self.now) }
     {
@@ -224,7 +225,8 @@ fn key_by_hash(pairs: &IndexMap<Value, Value>, key: &Value) -> Option<usize>
 }
 
 /// The index of a text as a key in a map.
-fn text_among(pairs: &IndexMap<Value, Value>, name: &Bytes) -> Option<usize>
+#[inline(always)]
+fn text_among(pairs: &IndexMap<Value, Value>, name: &[u8]) -> Option<usize>
     ensures index { result ≡ position (same (Text name.now)) (keys_of pairs.now.entries) }
     ensures within { IfSome result (λ index. index < length pairs.now.entries) }
 {
@@ -241,7 +243,7 @@ fn text_among(pairs: &IndexMap<Value, Value>, name: &Bytes) -> Option<usize>
 
 /// The same by its hash.
 #[inline(never)]
-fn text_by_hash(pairs: &IndexMap<Value, Value>, name: &Bytes) -> Option<usize>
+fn text_by_hash(pairs: &IndexMap<Value, Value>, name: &[u8]) -> Option<usize>
     ensures index { result ≡ position (same (Text name.now)) (keys_of pairs.now.entries) }
     ensures within { IfSome result (λ index. index < length pairs.now.entries) }
 {
@@ -251,7 +253,7 @@ fn text_by_hash(pairs: &IndexMap<Value, Value>, name: &Bytes) -> Option<usize>
 /// A text that is looked for among values.
 #[derive(Clone, Copy, PartialEq, Eq)]
 struct Named<'a> {
-    text: &'a Bytes,
+    text: &'a [u8],
 }
 
 /// It is hashed as the value is.
@@ -296,7 +298,7 @@ fn is_key_at(pairs: &IndexMap<Value, Value>, index: usize, key: &Value) -> bool
 
 /// Whether a text stands as a key at an index of a map.
 #[inline(always)]
-fn is_text_at(pairs: &IndexMap<Value, Value>, index: usize, name: &Bytes) -> bool
+fn is_text_at(pairs: &IndexMap<Value, Value>, index: usize, name: &[u8]) -> bool
     ensures { result ≡ passes_at (same (Text name.now)) pairs.now.entries index }
 {
     match pairs.get_index(index) {
@@ -307,11 +309,11 @@ fn is_text_at(pairs: &IndexMap<Value, Value>, index: usize, name: &Bytes) -> boo
 
 /// Whether a value is this text.
 #[inline(always)]
-fn is_text(value: &Value, text: &Bytes) -> bool
+fn is_text(value: &Value, text: &[u8]) -> bool
     ensures { result ≡ same (Text text.now) value.now }
 {
     match value {
-        Value::Text(other) => text == other,
+        Value::Text(other) => other.as_slice() == text,
         _ => false,
     }
 }
