@@ -130,10 +130,11 @@ fn named<'a>(store: &'a Store, t: u32, name: &Bytes, steps: u64) -> Option<Seen<
     ensures has { IfSome result (λ seen. HasAfter store.now.heap t (Text name.now) seen.value.now steps seen.steps) }
     ensures few { IfSome result (λ seen. seen.steps < step_limit) }
 {
-    let own = store.get_text(t, name);
+    let text = name.as_slice();
+    let own = store.get_text(t, text);
     if own.is_nil() {
         let other = linked(store, t)?;
-        there(store.get_text(other, name), steps + 1)
+        there(store.get_text(other, text), steps + 1)
     } else {
         there(own, steps)
     }
