@@ -1,4 +1,4 @@
-//! Shortcuts of the machine: expressions of numbers, and statements and loops that want no other, are run at once.
+//! Shortcuts of the machine: expressions, assignments, loops and calls that want no handler are run at once, and what a table lacks is found in its `__index`.
 #![tactic(auto)]
 
 mod bodies;

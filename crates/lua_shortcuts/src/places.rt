@@ -130,10 +130,11 @@ fn named<'a>(store: &'a Store, t: u32, name: &Bytes, steps: u64) -> Option<Seen<
     ensures has { IfSome result (λ seen. HasAfter store.now.heap t (Text name.now) seen.value.now steps seen.steps) }
     ensures few { IfSome result (λ seen. seen.steps < step_limit) }
 {
-    let own = store.get_text(t, name);
+    let text = name.as_slice();
+    let own = store.get_text(t, text);
     if own.is_nil() {
         let other = linked(store, t)?;
-        there(store.get_text(other, name), steps + 1)
+        there(store.get_text(other, text), steps + 1)
     } else {
         there(own, steps)
     }
@@ -144,7 +145,7 @@ fn linked(store: &Store, t: u32) -> Option<u32>
     ensures { IfSome result (λ other. handler store.now.heap (Table t) Index ≡ Table other) }
 {
     let meta = store.metatable(t)?;
-    match store.get_text(meta, &Bytes::from_static(Event::Index.key())) {
+    match store.get_text(meta, Event::Index.key()) {
         Value::Table(other) => Some(*other),
         _ => None,
     }
@@ -214,7 +215,7 @@ fn text_value(text: &Bytes) -> Option<Valued>
 }
 
 /// A value of its own, of one that stands somewhere.
-fn copied(value: &Value, steps: u64) -> Option<Valued>
+pub(crate) fn copied(value: &Value, steps: u64) -> Option<Valued>
     ensures value { IfSome result (λ v. v.value ≡ value.now) }
     ensures steps { IfSome result (λ v. v.steps ≡ steps) }
 {

@@ -16,7 +16,7 @@ use crate::calls::{Site, run_with_calls};
 use crate::concatenation::{run_joined_assignment, run_joined_local};
 use crate::entries::{run_global, run_store};
 use crate::numbers::{LEVELS, number_of};
-use crate::places::{Valued, value_of};
+use crate::places::{Valued, copied, seen_of, value_of};
 use crate::steps::affords;
 use lua_ast::{Expr, ExprKind, Stmt, StmtKind};
 use lua_meaning::Slot;
@@ -73,7 +73,20 @@ fn other_value_of(slots: &[Slot], store: &Store, x: &Expr) -> Option<Valued>
 {
     match &x.kind {
         ExprKind::Number(_) | ExprKind::Binary(_, _, _) => None,
+        ExprKind::Global(_) | ExprKind::Index(_, _) => {
+            let seen = seen_of(slots, store, x, LEVELS)?;
+            copied(seen.value, seen.steps)
+        }
         _ => value_of(slots, store, x, LEVELS),
+    }
+}
+
+/// Whether the value of an expression is looked up in a table, which is done once, be it a number or not.
+#[inline(always)]
+fn is_looked_up(x: &Expr) -> bool {
+    match &x.kind {
+        ExprKind::Global(_) | ExprKind::Index(_, _) => true,
+        _ => false,
     }
 }
 
@@ -81,6 +94,9 @@ fn other_value_of(slots: &[Slot], store: &Store, x: &Expr) -> Option<Valued>
 fn run_local(slots: &mut Vec<Slot>, store: &mut Store, i: u8, x: &Expr) -> bool
     ensures { (stmt : LuaStmt) → IsLocals (i ∷ []) (x.now ∷ []) stmt → RunsIf result stmt slots.old.items store.old slots.new.items store.new }
 {
+    if is_looked_up(x) {
+        return run_other_local(slots, store, i, x);
+    }
     match number_of(slots, store, x, LEVELS) {
         None => run_other_local(slots, store, i, x),
         Some(n) => {
@@ -119,6 +135,9 @@ fn run_assignment(slots: &mut Vec<Slot>, store: &mut Store, i: u8, x: &Expr) -> 
 {
     if !is_plain(slots, i) {
         return false;
+    }
+    if is_looked_up(x) {
+        return run_other_assignment(slots, store, i, x);
     }
     match number_of(slots, store, x, LEVELS) {
         None => run_other_assignment(slots, store, i, x),

@@ -10,9 +10,10 @@ ghost use Rattle.lua_values.specs.TableFlags.{IsHoleOf, IsInOrder};
 ghost use Rattle.lua_values.specs.Values.{same, is_nil, number};
 
 use crate::Value;
-use indexmap::IndexMap;
-use resty_base::{Bytes, Whole};
+use indexmap::{Equivalent, IndexMap};
+use resty_base::Whole;
 use std::alloc::{AllocError, Global};
+use std::hash::{Hash, Hasher};
 use std::marker::Model;
 use std::mem;
 
@@ -84,7 +85,8 @@ impl Pairs {
     }
 
     /// The index of a text as a key.
-    pub fn index_of_text(&self, name: &Bytes) -> Option<usize>
+    #[inline(always)]
+    pub fn index_of_text(&self, name: &[u8]) -> Option<usize>
         ensures index { result ≡ position (same (Text name.now)) (keys_of self.now) }
         ensures within { IfSome result (λ index. index < length self.now) }
     {
@@ -203,7 +205,7 @@ fn index_among(pairs: &IndexMap<Value, Value>, key: &Value) -> Option<usize>
     ensures within { IfSome result (λ index. index < length pairs.now.entries) }
 {
     if pairs.len() > FEW {
-        return pairs.get_index_of(key);
+        return key_by_hash(pairs, key);
     }
     for index in 0..pairs.len() {
         if is_key_at(pairs, index, key) {
@@ -213,15 +215,23 @@ fn index_among(pairs: &IndexMap<Value, Value>, key: &Value) -> Option<usize>
     None
 }
 
+/// The same by its hash.
+#[inline(never)]
+fn key_by_hash(pairs: &IndexMap<Value, Value>, key: &Value) -> Option<usize>
+    ensures index { result ≡ position (same key.now) (keys_of pairs.now.entries) }
+    ensures within { IfSome result (λ index. index < length pairs.now.entries) }
+{
+    pairs.get_index_of(key)
+}
+
 /// The index of a text as a key in a map.
-fn text_among(pairs: &IndexMap<Value, Value>, name: &Bytes) -> Option<usize>
+#[inline(always)]
+fn text_among(pairs: &IndexMap<Value, Value>, name: &[u8]) -> Option<usize>
     ensures index { result ≡ position (same (Text name.now)) (keys_of pairs.now.entries) }
     ensures within { IfSome result (λ index. index < length pairs.now.entries) }
 {
     if pairs.len() > FEW {
-        if let Ok(name) = name.clone() {
-            return pairs.get_index_of(&Value::Text(name));
-        }
+        return text_by_hash(pairs, name);
     }
     for index in 0..pairs.len() {
         if is_text_at(pairs, index, name) {
@@ -229,6 +239,50 @@ fn text_among(pairs: &IndexMap<Value, Value>, name: &Bytes) -> Option<usize>
         }
     }
     None
+}
+
+/// The same by its hash.
+#[inline(never)]
+fn text_by_hash(pairs: &IndexMap<Value, Value>, name: &[u8]) -> Option<usize>
+    ensures index { result ≡ position (same (Text name.now)) (keys_of pairs.now.entries) }
+    ensures within { IfSome result (λ index. index < length pairs.now.entries) }
+{
+    pairs.get_index_of(Named { text: name })
+}
+
+/// A text that is looked for among values.
+#[derive(Clone, Copy, PartialEq, Eq)]
+struct Named<'a> {
+    text: &'a [u8],
+}
+
+/// It is hashed as the value is.
+impl Hash for Named<'_> {
+    ghost use Rattle.std.specs.Cmp.Rules.{hashing};
+    ghost use Rattle.std.proofs.Common.{rules};
+
+    ghost hash_input = { λ name. name.text.now ∷ [] };
+
+    ghost respects_eq = { Prim.search (hashing, rules) };
+
+    fn hash<H: Hasher>(&self, state: &mut H) {
+        state.write(self.text);
+    }
+}
+
+impl Equivalent<Value> for Named<'_> {
+    ghost use Rattle.std.specs.Cmp.Rules.{hashing};
+    ghost use Rattle.std.proofs.Common.{rules};
+
+    ghost equivalent = { λ name. same (Text name.text.now) };
+
+    ghost respects_hash = { Prim.search (hashing, rules) };
+
+    ghost respects_eq = { Prim.search (hashing, rules) };
+
+    fn equivalent(&self, key: &Value) -> bool {
+        is_text(key, self.text)
+    }
 }
 
 /// Whether a key stands at an index of a map.
@@ -244,7 +298,7 @@ fn is_key_at(pairs: &IndexMap<Value, Value>, index: usize, key: &Value) -> bool
 
 /// Whether a text stands as a key at an index of a map.
 #[inline(always)]
-fn is_text_at(pairs: &IndexMap<Value, Value>, index: usize, name: &Bytes) -> bool
+fn is_text_at(pairs: &IndexMap<Value, Value>, index: usize, name: &[u8]) -> bool
     ensures { result ≡ passes_at (same (Text name.now)) pairs.now.entries index }
 {
     match pairs.get_index(index) {
@@ -255,11 +309,11 @@ fn is_text_at(pairs: &IndexMap<Value, Value>, index: usize, name: &Bytes) -> boo
 
 /// Whether a value is this text.
 #[inline(always)]
-fn is_text(value: &Value, text: &Bytes) -> bool
+fn is_text(value: &Value, text: &[u8]) -> bool
     ensures { result ≡ same (Text text.now) value.now }
 {
     match value {
-        Value::Text(other) => text == other,
+        Value::Text(other) => other.as_slice() == text,
         _ => false,
     }
 }

@@ -13,7 +13,7 @@ use crate::flags::Flags;
 use crate::outlines::{Outline, append_flagged, flagged, walk_border, walk_from};
 use crate::pairs::{Pairs, hole_of};
 use crate::{Shift, Value};
-use resty_base::{Bytes, Whole};
+use resty_base::Whole;
 use std::alloc::{AllocError, Global};
 use std::marker::Model;
 
@@ -63,7 +63,7 @@ impl Table {
     }
 
     /// The value at a text that has an entry.
-    pub fn get_text(&self, name: &Bytes) -> Option<&Value>
+    pub fn get_text(&self, name: &[u8]) -> Option<&Value>
         ensures entry { is_some result ≡ has_entry self.now.pairs (Text name.now) }
         ensures value { IfSome result (λ value. value.now ≡ value_at self.now.pairs (Text name.now)) }
     {
@@ -97,7 +97,7 @@ impl Table {
     }
 
     /// The same at a text.
-    pub fn renew_text(&mut self, name: &Bytes, value: Value) -> Result<(), Value>
+    pub fn renew_text(&mut self, name: &[u8], value: Value) -> Result<(), Value>
         ensures there { OnOk result (is_nil (value_at self.old.pairs (Text name.now)) ≡ false) }
         ensures live { OnOk result (is_nil value ≡ false) }
         ensures done { OnOk result (self.new ≡ record { pairs = with_value self.old.pairs (Text name.now) value; meta = self.old.meta }) }

@@ -4,6 +4,7 @@ ghost use Rattle.std.specs.Prelude.{◌≡◌};
 
 use resty_base::{Bytes, Whole};
 use std::alloc::AllocError;
+use std::hash::{Hash, Hasher};
 use std::marker::Model;
 
 /// What an object of the host is: a socket, a reader of one, a semaphore, or a zone of shared memory.
@@ -17,7 +18,7 @@ pub enum ObjectKind {
 
 /// A Lua value. Tables and closures are numbers in a store, threads and objects are numbers of the run, and natives are
 /// numbers of the host's functions. `Null` is the host's null.
-#[derive(Debug, PartialEq, Eq, Hash, Drop)]
+#[derive(Debug, PartialEq, Eq, Drop)]
 pub enum Value {
     Nil,
     Truth(bool),
@@ -41,6 +42,30 @@ impl Value {
         match self {
             Value::Nil => true,
             _ => false,
+        }
+    }
+}
+
+/// A hasher is fed one write at most, for a text its bytes.
+impl Hash for Value {
+    ghost use Rattle.std.specs.Cmp.Rules.{hashing};
+    ghost use Rattle.std.proofs.Common.{rules};
+    ghost use Rattle.lua_values.specs.Values.{hashed};
+
+    ghost hash_input = { hashed };
+
+    ghost respects_eq = { Prim.search (hashing, rules) };
+
+    fn hash<H: Hasher>(&self, state: &mut H) {
+        match self {
+            Value::Nil | Value::Null => {}
+            Value::Truth(truth) => truth.hash(state),
+            Value::Number(number) => state.write_i64(number.get()),
+            Value::Text(text) => state.write(text),
+            Value::Table(n) | Value::Closure(n) | Value::Native(n) | Value::Thread(n) => {
+                state.write_u32(*n);
+            }
+            Value::Object(_, n) => state.write_u32(*n),
         }
     }
 }

@@ -1,6 +1,9 @@
-//! Tests of the crates that read Lua, by their public calls: numbers, trees, tokens, operators, programs, and sets of modules and the reading of their files.
+//! Tests of the crates that read Lua and configurations, by their public calls: numbers, trees, tokens, operators, programs, sets of modules and the
+//! reading of their files, and what a configuration says.
 #![tactic(auto)]
 
+#[cfg(test)]
+mod configurations;
 #[cfg(test)]
 mod module_reading;
 #[cfg(test)]

@@ -11,7 +11,7 @@ ghost use Rattle.lua_values.specs.StoreCalls as calls;
 use super::{Store, TABLE_UNITS, UNIT_LIMIT};
 use crate::tables::Table;
 use crate::{Shift, StoreFault, Value};
-use resty_base::{Bytes, Whole};
+use resty_base::Whole;
 use std::alloc::AllocError;
 
 /// The units of a new entry in a table.
@@ -49,7 +49,7 @@ impl Store {
     }
 
     /// The value at a text as a key of a table, without its metatable; nil where none is.
-    pub fn get_text(&self, t: u32, name: &Bytes) -> &Value
+    pub fn get_text(&self, t: u32, name: &[u8]) -> &Value
         ensures { result.now ≡ value_at (calls.pairs_of self.now.heap t) (Text name.now) }
     {
         match self.tables.get(t as usize) {
@@ -83,7 +83,7 @@ impl Store {
 
     /// The same at a text as the key.
     #[tactic(auto, using(crate::proofs::FreezableLemmas::set_same_item))]
-    pub fn renew_text(&mut self, t: u32, name: &Bytes, value: Value) -> Result<(), Value>
+    pub fn renew_text(&mut self, t: u32, name: &[u8], value: Value) -> Result<(), Value>
         ensures there { OnOk result (is_nil (value_at (calls.pairs_of self.old.heap t) (Text name.now)) ≡ false) }
         ensures allowed { OnOk result (calls.set_cause self.old.heap t (Text name.now) value ≡ None) }
         ensures done { OnOk result (self.new ≡ record { heap = calls.with_pair self.old.heap t (Text name.now) value; steps = self.old.steps }) }
@@ -113,11 +113,7 @@ impl Store {
         if index < self.tables.frozen() || index >= self.tables.len() {
             return false;
         }
-        if self.tables.item_mut(index).renew_whole(n, number) {
-            true
-        } else {
-            false
-        }
+        self.tables.item_mut(index).renew_whole(n, number)
     }
 
     /// Puts a value that isn't nil at the number after those of a table whose keys are 1, 2, .. in this order, if it has no metatable and that isn't

@@ -45,9 +45,9 @@ return pcall(f, 5000) => Done false, \"t.conf:1: stack overflow\" | 64997, 112";
 
 /// Loops of calls that take all steps but the last, and the last too.
 const LAST_STEP: &str = "\
-do end do end local function f() end for i = 1, 199998 do f() end return 1 => Done 1 | 999999, 32
-do end do end do end local function f() end for i = 1, 199998 do f() end return 1 => Spent | 1000000, 32
-local function f(a) return a end do end do end do end local x = 0 for i = 1, 111110 do x = f(x) end return x => Spent | 1000000, 32";
+near: do end do end local function f() end for i = 1, 1998 do f() end return 1 => Done 1 | 999999, 32
+near: do end do end do end local function f() end for i = 1, 1998 do f() end return 1 => Spent | 1000000, 32
+near: local function f(a) return a end do end do end do end local x = 0 for i = 1, 1110 do x = f(x) end return x => Spent | 1000000, 32";
 
 #[test]
 fn calls_end_at_the_limits(rt: HostRuntime) {

@@ -50,8 +50,8 @@ fn loops_that_call_come_to_their_values(rt: HostRuntime) {
 
 /// A loop that takes all steps but the last, and one that takes the last too.
 const LAST_STEP: &str = "\
-do end do end do end do end do end do end do end local n = 0 for i = 1, 124998 do n = n + i % 7 end return n => Done 374997 | 999999, 0
-do end do end do end do end do end do end do end do end local n = 0 for i = 1, 124998 do n = n + i % 7 end return n => Spent | 1000000, 0";
+near: do end do end do end do end do end do end do end local n = 0 for i = 1, 1248 do n = n + i % 7 end return n => Done 3741 | 999999, 0
+near: do end do end do end do end do end do end do end do end local n = 0 for i = 1, 1248 do n = n + i % 7 end return n => Spent | 1000000, 0";
 
 #[test]
 fn a_counted_loop_that_takes_the_last_step_is_spent(rt: HostRuntime) {

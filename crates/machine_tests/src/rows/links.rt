@@ -23,8 +23,8 @@ fn links_lead_to_what_tables_have(rt: HostRuntime) {
 
 /// Loops of links that take all steps but the last, and one in which the last step is a link.
 const LAST_STEP: &str = "\
-do end do end do end do end local t = setmetatable({}, {__index = {x = 1}}) local x for i = 1, 142854 do x = t.x end return x => Done 1 | 999999, 160
-local t = setmetatable({}, {__index = {x = 1}}) local x for i = 1, 142855 do x = t.x end return x => Spent | 1000000, 160";
+near: local t = setmetatable({}, {__index = {x = 1}}) local x for i = 1, 1426 do x = t.x end return x => Done 1 | 999999, 160
+near: do end do end do end local t = setmetatable({}, {__index = {x = 1}}) local x for i = 1, 1426 do x = t.x end return x => Spent | 1000000, 160";
 
 #[test]
 fn links_end_at_the_limit_of_steps(rt: HostRuntime) {

@@ -28,8 +28,8 @@ fn loops_over_numbers_come_to_their_values(rt: HostRuntime) {
 
 /// A loop that takes all steps but the last, and one that takes the last too.
 const LAST_STEP: &str = "\
-local i = 0 while i < 111110 do i = i + 1 end return i => Done 111110 | 999999, 0
-do end local i = 0 while i < 111110 do i = i + 1 end return i => Spent | 1000000, 0";
+near: local i = 0 while i < 1110 do i = i + 1 end return i => Done 1110 | 999999, 0
+near: do end local i = 0 while i < 1110 do i = i + 1 end return i => Spent | 1000000, 0";
 
 #[test]
 fn a_loop_that_takes_the_last_step_is_spent(rt: HostRuntime) {

@@ -42,8 +42,8 @@ local s = \"a\" local f = function() return s end s = s .. \"b\" return f() => D
 
 /// Steps that just suffice for `..`, steps that don't, and units that suffice for the inner text of a chain alone.
 const JOINING_LIMITS: &str = "\
-local a = \"12345678901234567890123456789012\" do end do end local i = 0 while i < 111109 do i = i + 1 end a = a .. a => Done  | 999999, 80
-local a = \"12345678901234567890123456789012\" do end do end do end local i = 0 while i < 111109 do i = i + 1 end a = a .. a \
+near: local a = \"12345678901234567890123456789012\" do end do end local i = 0 while i < 1109 do i = i + 1 end a = a .. a => Done  | 999999, 80
+near: local a = \"12345678901234567890123456789012\" do end do end do end local i = 0 while i < 1109 do i = i + 1 end a = a .. a \
 => Spent | 1000000, 0
 local a = \"12345678901234567890123456789012\" for i = 1, 13 do a = a .. a end local s = a .. a .. \"x\" \
 => Failed \"t.conf:1: not enough memory (storage limit)\" | 41048, 786593";

@@ -62,7 +62,7 @@ fn see(alloc: Global, all: &mut String, given: &str) -> Result<(), StoreFault> {
     Ok(())
 }
 
-/// Writes what a text comes to in a store, whose tables, cells and closures are frozen after `frozen: `.
+/// Writes what a text comes to in a store, whose tables, cells and closures are frozen after `frozen: `, and which has counted 990,000 steps after `near: `.
 fn see_in(alloc: Global, all: &mut String, store: &mut Store, given: &str) {
     let (text, answers) = given.split_once(" <- ").unwrap_or((given, ""));
     match loaded(alloc, told(store, text)) {
@@ -71,15 +71,17 @@ fn see_in(alloc: Global, all: &mut String, store: &mut Store, given: &str) {
     }
 }
 
-/// Freezes the store where a text is told to run in one that is frozen.
+/// Makes the store such as a text is told to run in, and gives the rest of the text.
 fn told<'a>(store: &mut Store, text: &'a str) -> &'a str {
-    match text.strip_prefix("frozen: ") {
-        Some(text) => {
-            store.freeze();
-            text
-        }
-        None => text,
+    if let Some(text) = text.strip_prefix("frozen: ") {
+        store.freeze();
+        return text;
     }
+    if let Some(text) = text.strip_prefix("near: ") {
+        store.add_steps(990_000);
+        return text;
+    }
+    text
 }
 
 /// The text of a row.

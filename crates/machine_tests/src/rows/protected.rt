@@ -63,8 +63,8 @@ fn values_have_texts(rt: HostRuntime) {
 
 /// The limit of steps, which nothing catches.
 const SPENT: &str = "\
-xpcall(function() while true do end end, id) return 1 => Spent | 1000000, 32
-tostring(setmetatable({}, {__tostring = function() while true do end end})) return 1 => Spent | 1000000, 128
+near: xpcall(function() while true do end end, id) return 1 => Spent | 1000000, 32
+near: tostring(setmetatable({}, {__tostring = function() while true do end end})) return 1 => Spent | 1000000, 128
 return select(\"#\", unpack({}, 1, 90000000000000)) => Spent | 1000000, 32";
 
 #[test]

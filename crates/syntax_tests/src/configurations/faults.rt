@@ -1,5 +1,5 @@
 //! Tests of the faults of a configuration; the expected ones were worked out by hand from nginx's documentation.
-use crate::rows::hold;
+use super::rows::hold;
 use conf::site_text_of;
 use std::alloc::{AllocError, Global};
 use std::test::Fail;

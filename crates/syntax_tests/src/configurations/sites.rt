@@ -1,5 +1,5 @@
 //! Tests of what configurations say, and of the choice of servers and locations.
-use crate::rows::hold;
+use super::rows::hold;
 use conf::{Conf, LocationConf, ServerConf, Settings, named_location, route_for, site_text_of};
 use std::alloc::{AllocError, Global};
 use std::test::Fail;

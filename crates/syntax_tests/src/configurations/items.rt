@@ -1,5 +1,5 @@
 //! Tests of words and items; the expected ones were worked out by hand from nginx's documentation.
-use crate::rows::hold;
+use super::rows::hold;
 use conf_text::{Ending, Item, items_of};
 use std::alloc::{AllocError, Global};
 use std::test::Fail;

@@ -1,6 +1,6 @@
 //! Tables of the plain rules, which the prover computes.
 
-ghost use Rattle.holding_tests.specs.Table.{IsTable};
+ghost use Rattle.engine_tests.specs.Table.{IsTable};
 
 /// What plain dictionaries answer.
 pub fn dictionary_table()

@@ -1,5 +1,5 @@
 //! Tests of directives and of the values of their words; the expected ones are those of nginx's documentation.
-use crate::rows::hold;
+use super::rows::hold;
 use conf_rules::*;
 use conf_text::items_of;
 use std::alloc::{AllocError, Global};

@@ -1,8 +1,8 @@
 //! Rows of texts, and what is seen of each.
-use crate::directives::{said, stands};
-use crate::faults::fault;
-use crate::items::written;
-use crate::sites::{lists, named, route, servers, settings, site};
+use super::directives::{said, stands};
+use super::faults::fault;
+use super::items::written;
+use super::sites::{lists, named, route, servers, settings, site};
 use std::alloc::{AllocError, Global};
 use std::process::Abort;
 use std::test::Fail;

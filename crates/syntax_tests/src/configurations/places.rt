@@ -1,5 +1,5 @@
 //! Tests of every directive in every block, once and twice; the expected ones are those of the documentation of nginx and of the lua-nginx-module.
-use crate::faults::fault;
+use super::faults::fault;
 use std::alloc::{AllocError, Global};
 use std::process::Abort;
 use std::test::Fail;

@@ -1,5 +1,5 @@
 //! Tests of every directive with too few and with too many words, and with the ends of its values; the expected ones are those of the manual.
-use crate::directives::said;
+use super::directives::said;
 use std::alloc::{AllocError, Global};
 use std::process::Abort;
 use std::test::Fail;
