@@ -215,7 +215,7 @@ fn text_value(text: &Bytes) -> Option<Valued>
 }
 
 /// A value of its own, of one that stands somewhere.
-pub(crate) fn copied(value: &Value, steps: u64) -> Option<Valued>
+fn copied(value: &Value, steps: u64) -> Option<Valued>
     ensures value { IfSome result (λ v. v.value ≡ value.now) }
     ensures steps { IfSome result (λ v. v.steps ≡ steps) }
 {

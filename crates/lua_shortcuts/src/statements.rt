@@ -16,7 +16,7 @@ use crate::calls::{Site, run_with_calls};
 use crate::concatenation::{run_joined_assignment, run_joined_local};
 use crate::entries::{run_global, run_store};
 use crate::numbers::{LEVELS, number_of};
-use crate::places::{Valued, copied, seen_of, value_of};
+use crate::places::{Valued, seen_of, value_of};
 use crate::steps::affords;
 use lua_ast::{Expr, ExprKind, Stmt, StmtKind};
 use lua_meaning::Slot;
@@ -73,15 +73,11 @@ fn other_value_of(slots: &[Slot], store: &Store, x: &Expr) -> Option<Valued>
 {
     match &x.kind {
         ExprKind::Number(_) | ExprKind::Binary(_, _, _) => None,
-        ExprKind::Global(_) | ExprKind::Index(_, _) => {
-            let seen = seen_of(slots, store, x, LEVELS)?;
-            copied(seen.value, seen.steps)
-        }
         _ => value_of(slots, store, x, LEVELS),
     }
 }
 
-/// Whether the value of an expression is looked up in a table, which is done once, be it a number or not.
+/// Whether the value of an expression is looked up in a table, which is done once, be it a number or not, and copied into its slot at once.
 #[inline(always)]
 fn is_looked_up(x: &Expr) -> bool {
     match &x.kind {
@@ -95,7 +91,7 @@ fn run_local(slots: &mut Vec<Slot>, store: &mut Store, i: u8, x: &Expr) -> bool
     ensures { (stmt : LuaStmt) → IsLocals (i ∷ []) (x.now ∷ []) stmt → RunsIf result stmt slots.old.items store.old slots.new.items store.new }
 {
     if is_looked_up(x) {
-        return run_other_local(slots, store, i, x);
+        return run_found_local(slots, store, i, x);
     }
     match number_of(slots, store, x, LEVELS) {
         None => run_other_local(slots, store, i, x),
@@ -106,6 +102,29 @@ fn run_local(slots: &mut Vec<Slot>, store: &mut Store, i: u8, x: &Expr) -> bool
             put(slots, i, n.number);
             let _ = store.count(n.steps + 1);
             true
+        }
+    }
+}
+
+/// The same of what stands in a slot or in a table, which is copied into the slot.
+fn run_found_local(slots: &mut Vec<Slot>, store: &mut Store, i: u8, x: &Expr) -> bool
+    ensures { (stmt : LuaStmt) → IsLocals (i ∷ []) (x.now ∷ []) stmt → RunsIf result stmt slots.old.items store.old slots.new.items store.new }
+{
+    match seen_of(slots, store, x, LEVELS) {
+        None => false,
+        Some(seen) => {
+            let steps = seen.steps;
+            if !affords(store, steps + 1) {
+                return false;
+            }
+            match seen.value.clone() {
+                Err(_) => false,
+                Ok(value) => {
+                    put_value(slots, i, value);
+                    let _ = store.count(steps + 1);
+                    true
+                }
+            }
         }
     }
 }
@@ -137,7 +156,7 @@ fn run_assignment(slots: &mut Vec<Slot>, store: &mut Store, i: u8, x: &Expr) -> 
         return false;
     }
     if is_looked_up(x) {
-        return run_other_assignment(slots, store, i, x);
+        return run_found_assignment(slots, store, i, x);
     }
     match number_of(slots, store, x, LEVELS) {
         None => run_other_assignment(slots, store, i, x),
@@ -148,6 +167,30 @@ fn run_assignment(slots: &mut Vec<Slot>, store: &mut Store, i: u8, x: &Expr) -> 
             put(slots, i, n.number);
             let _ = store.count(n.steps + 2);
             true
+        }
+    }
+}
+
+/// The same of what stands in a slot or in a table, which is copied into the slot.
+fn run_found_assignment(slots: &mut Vec<Slot>, store: &mut Store, i: u8, x: &Expr) -> bool
+    requires { is_plain (slice_get slots.old.items i) ≡ true }
+    ensures { (stmt : LuaStmt) → IsAssignment i x.now stmt → RunsIf result stmt slots.old.items store.old slots.new.items store.new }
+{
+    match seen_of(slots, store, x, LEVELS) {
+        None => false,
+        Some(seen) => {
+            let steps = seen.steps;
+            if !affords(store, steps + 2) {
+                return false;
+            }
+            match seen.value.clone() {
+                Err(_) => false,
+                Ok(value) => {
+                    put_value(slots, i, value);
+                    let _ = store.count(steps + 2);
+                    true
+                }
+            }
         }
     }
 }
