@@ -13,7 +13,6 @@ use crate::numbers::number_of;
 use crate::steps::STEP_LIMIT;
 use lua_ast::{Expr, ExprKind};
 use lua_meaning::Slot;
-use lua_operators::Event;
 use lua_values::{Store, Value};
 use resty_base::Bytes;
 
@@ -68,7 +67,7 @@ fn seen_in_slot<'a>(slots: &'a [Slot], store: &'a Store, i: u8) -> Option<Seen<'
 }
 
 /// What the global table has at a name.
-fn seen_global<'a>(store: &'a Store, name: &Bytes) -> Option<Seen<'a>>
+pub(crate) fn seen_global<'a>(store: &'a Store, name: &Bytes) -> Option<Seen<'a>>
     ensures gives { IfSome result (λ seen. GivesGlobal name.now store.now.heap seen.value.now seen.steps) }
     ensures few { IfSome result (λ seen. seen.steps < step_limit) }
 {
@@ -145,7 +144,7 @@ fn linked(store: &Store, t: u32) -> Option<u32>
     ensures { IfSome result (λ other. handler store.now.heap (Table t) Index ≡ Table other) }
 {
     let meta = store.metatable(t)?;
-    match store.get_text(meta, Event::Index.key()) {
+    match store.get_link(meta) {
         Value::Table(other) => Some(*other),
         _ => None,
     }

@@ -16,7 +16,7 @@ use crate::calls::{Site, run_with_calls};
 use crate::concatenation::{run_joined_assignment, run_joined_local};
 use crate::entries::{run_global, run_store};
 use crate::numbers::{LEVELS, number_of};
-use crate::places::{Valued, seen_of, value_of};
+use crate::places::{Seen, Valued, seen_global, seen_of, value_of};
 use crate::steps::affords;
 use lua_ast::{Expr, ExprKind, Stmt, StmtKind};
 use lua_meaning::Slot;
@@ -86,6 +86,18 @@ fn is_looked_up(x: &Expr) -> bool {
     }
 }
 
+/// Where what is looked up in a table stands.
+#[inline(always)]
+fn found_of<'a>(slots: &'a [Slot], store: &'a Store, x: &Expr) -> Option<Seen<'a>>
+    ensures gives { IfSome result (λ seen. Gives x.now slots.now store.now.heap seen.value.now seen.steps) }
+    ensures few { IfSome result (λ seen. seen.steps < step_limit) }
+{
+    match &x.kind {
+        ExprKind::Global(name) => seen_global(store, name),
+        _ => seen_of(slots, store, x, LEVELS),
+    }
+}
+
 /// `local NAME = x`, which counts a step besides those of x.
 fn run_local(slots: &mut Vec<Slot>, store: &mut Store, i: u8, x: &Expr) -> bool
     ensures { (stmt : LuaStmt) → IsLocals (i ∷ []) (x.now ∷ []) stmt → RunsIf result stmt slots.old.items store.old slots.new.items store.new }
@@ -106,11 +118,11 @@ fn run_local(slots: &mut Vec<Slot>, store: &mut Store, i: u8, x: &Expr) -> bool
     }
 }
 
-/// The same of what stands in a slot or in a table, which is copied into the slot.
+/// The same of what is looked up in a table, which is copied into the slot.
 fn run_found_local(slots: &mut Vec<Slot>, store: &mut Store, i: u8, x: &Expr) -> bool
     ensures { (stmt : LuaStmt) → IsLocals (i ∷ []) (x.now ∷ []) stmt → RunsIf result stmt slots.old.items store.old slots.new.items store.new }
 {
-    match seen_of(slots, store, x, LEVELS) {
+    match found_of(slots, store, x) {
         None => false,
         Some(seen) => {
             let steps = seen.steps;
@@ -171,12 +183,12 @@ fn run_assignment(slots: &mut Vec<Slot>, store: &mut Store, i: u8, x: &Expr) -> 
     }
 }
 
-/// The same of what stands in a slot or in a table, which is copied into the slot.
+/// The same of what is looked up in a table, which is copied into the slot.
 fn run_found_assignment(slots: &mut Vec<Slot>, store: &mut Store, i: u8, x: &Expr) -> bool
     requires { is_plain (slice_get slots.old.items i) ≡ true }
     ensures { (stmt : LuaStmt) → IsAssignment i x.now stmt → RunsIf result stmt slots.old.items store.old slots.new.items store.new }
 {
-    match seen_of(slots, store, x, LEVELS) {
+    match found_of(slots, store, x) {
         None => false,
         Some(seen) => {
             let steps = seen.steps;

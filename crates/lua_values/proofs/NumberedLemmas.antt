@@ -1,20 +1,20 @@
 -- Where keys stand among pairs whose first keys are 1, 2, ..
-use Rattle.std.proofs.Common.{◌≡◌, ℕ, zero, suc, ◌+◌, ◌-◌, ◌<◌, ◌≤◌, nat_lt, Bool, true, false, ◌||◌, List, [], ◌∷◌, ◌++◌, length, slice_get, slice_set, slice_index_or, position, None, Some, refl, sym, ap, subst, inl, inr, ◌∙◌, if◌then◌else◌, true≢false, arith}
+use Rattle.std.proofs.Common.{◌≡◌, ℕ, zero, suc, ◌+◌, ◌-◌, ◌<◌, ◌≤◌, nat_lt, Bool, true, false, not, ◌||◌, List, [], ◌∷◌, ◌++◌, length, slice_get, slice_set, slice_index_or, position, is_some, Option, None, Some, refl, sym, ap, subst, inl, inr, ◌∙◌, if◌then◌else◌, true≢false, arith}
 use Rattle.std.proofs.Common.{Vec, Global, vec_len}
 use Rattle.std.specs.List.{position_or_len}
 use Rattle.std.specs.Map.{keys_of, values_of}
-use Rattle.std.proofs.lemmas.Bool.{cases_lt, lt-ltb, le-ltb}
+use Rattle.std.proofs.lemmas.Bool.{cases_Bool, cases_lt, lt-ltb, le-ltb}
 use Rattle.std.proofs.lemmas.Option.{none-some, same_Some}
 use Rattle.indexmap.specs.IndexMap.{insert_entry, set_value_at}
 use Rattle.indexmap.proofs.MapLemmas.{Found-position, Missing-position}
 use Rattle.lua_values.specs.declared.values.Value.{Value}
 use Rattle.lua_values.specs.declared.values.Value.TheVariants.{Text}
 use Rattle.lua_values.specs.Values.{same, number}
-use Rattle.lua_values.specs.Pairs.{has_entry}
+use Rattle.lua_values.specs.Pairs.{has_entry, link_key, link_of}
 use Rattle.lua_values.specs.TableFlags.{IsHoleOf, IsInOrder}
 use Rattle.lua_values.specs.Numbered.{numbered_from, passes_at}
-use Rattle.lua_values.proofs.BorderLemmas.{other-number}
-use Rattle.lua_values.proofs.EntryLemmas.{same-refl, same-symm}
+use Rattle.lua_values.proofs.BorderLemmas.{other-number, same-true}
+use Rattle.lua_values.proofs.EntryLemmas.{same-refl, same-symm, index-there}
 
 -- how many values a vector has
 pub counted : (n : ℕ) (v : Vec Value Global) → n ≡ vec_len v → n ≡ length v.items
@@ -316,3 +316,89 @@ few-insert n ps key v few = omega (arith, length-insert ps key v)
 -- a pair that is put last is one at a new key
 pub pushed-insert : (ps : List (Value × Value)) (key v : Value) → has_entry ps key ≡ false → ps ++ (key, v) ∷ [] ≡ insert_entry same ps key v
 pushed-insert ps key v none = sym (insert-absent ps key v none)
+
+-- where a key stands once a pair is put last
+or_len-append : (t : Value → Bool) (ps qs : List (Value × Value)) (i : ℕ) → position_or_len t (keys_of ps) ≡ i → i < length ps → position_or_len t (keys_of (ps ++ qs)) ≡ i
+or_len-append t [] qs i e lt = absurd (omega (arith, lt))
+or_len-append t (p ∷ ps) qs i e lt = by (t p.0) e (or_len-append t ps qs)
+  where
+    by : (b : Bool) → (if not b then 1 + position_or_len t (keys_of ps) else 0) ≡ i
+        → ((j : ℕ) → position_or_len t (keys_of ps) ≡ j → j < length ps → position_or_len t (keys_of (ps ++ qs)) ≡ j)
+        → (if not b then 1 + position_or_len t (keys_of (ps ++ qs)) else 0) ≡ i
+    by true e rest = e
+    by false e rest =
+        let same_place : position_or_len t (keys_of (ps ++ qs)) ≡ position_or_len t (keys_of ps) = rest (position_or_len t (keys_of ps)) refl (omega (arith, e, lt)) in
+        ap (λ n. 1 + n) same_place ∙ e
+
+or_len-last : (t : Value → Bool) (ps : List (Value × Value)) (key v : Value) (m : ℕ) → (if not (t key) then 1 else 0) ≡ m → position_or_len t (keys_of ps) ≡ length ps
+    → position_or_len t (keys_of (ps ++ (key, v) ∷ [])) ≡ length ps + m
+or_len-last t [] key v m is e = by (t key) is
+  where
+    by : (b : Bool) → (if not b then 1 else 0) ≡ m → (if not b then 1 + 0 else 0) ≡ 0 + m
+    by true is = omega (arith, is)
+    by false is = omega (arith, is)
+or_len-last t (p ∷ ps) key v m is e = by (t p.0) e (or_len-last t ps key v m is)
+  where
+    by : (b : Bool) → (if not b then 1 + position_or_len t (keys_of ps) else 0) ≡ suc (length ps)
+        → (position_or_len t (keys_of ps) ≡ length ps → position_or_len t (keys_of (ps ++ (key, v) ∷ [])) ≡ length ps + m)
+        → (if not b then 1 + position_or_len t (keys_of (ps ++ (key, v) ∷ [])) else 0) ≡ suc (length ps) + m
+    by true e rest = absurd (omega (arith, e))
+    by false e rest = let more : position_or_len t (keys_of (ps ++ (key, v) ∷ [])) ≡ length ps + m = rest (omega (arith, e)) in omega (arith, more)
+
+length-last : (ps : List (Value × Value)) (key v : Value) → length (ps ++ (key, v) ∷ []) ≡ length ps + 1
+length-last [] key v = refl
+length-last (p ∷ ps) key v = omega (arith, length-last ps key v)
+
+last-other : (t : Value → Bool) (ps : List (Value × Value)) (key v : Value) → t key ≡ false → position t (keys_of (ps ++ (key, v) ∷ [])) ≡ position t (keys_of ps)
+last-other t ps key v other = by (position t (keys_of ps)) refl
+  where
+    by : (r : Option ℕ) → position t (keys_of ps) ≡ r → position t (keys_of (ps ++ (key, v) ∷ [])) ≡ r
+    by None e =
+        let missing = Missing-position t ps e in
+        none-by-or_len t (ps ++ (key, v) ∷ []) (or_len-last t ps key v 1 (rw other refl) missing.or_len ∙ sym (length-last ps key v))
+    by (Some i) e =
+        let found = Found-position t ps i e in
+        let within : i < length ps = found.within in
+        by-or_len t (ps ++ (key, v) ∷ []) i (or_len-append t ps ((key, v) ∷ []) i found.or_len within) (omega (arith, within, length-last ps key v))
+
+last-found : (t : Value → Bool) (ps : List (Value × Value)) (key v : Value) → t key ≡ true → position t (keys_of ps) ≡ None → position t (keys_of (ps ++ (key, v) ∷ [])) ≡ Some (length ps)
+last-found t ps key v here none =
+    let missing = Missing-position t ps none in
+    let none_before : position_or_len t (keys_of (ps ++ (key, v) ∷ [])) ≡ length ps + 0 = or_len-last t ps key v 0 (rw here refl) missing.or_len in
+    by-or_len t (ps ++ (key, v) ∷ []) (length ps) (omega (arith, none_before)) (omega (arith, length-last ps key v))
+
+nowhere : (r : Option ℕ) → is_some r ≡ false → r ≡ None
+nowhere None off = refl
+nowhere (Some i) off = absurd (true≢false off)
+
+-- where `__index` stands once a pair is put at a new key
+pub link-put : (vs : List Value) (ps : List (Value × Value)) (key v : Value) → has_entry (numbered_from 1 vs ++ ps) key ≡ false
+    → link_of (insert_entry same ps key v) ≡ (if same link_key key then Some (length ps) else link_of ps)
+link-put vs ps key v none = elim (cases_Bool (same link_key key)) [
+  | inl is ↦
+      let off : is_some (position (same link_key) (keys_of ps)) ≡ false = index-there ps link_key ∙ ap (has_entry ps) (same-true link_key key is) ∙ absent in
+      rw is (placed ∙ last-found (same link_key) ps key v is (nowhere (position (same link_key) (keys_of ps)) off))
+  | inr other ↦ rw other (placed ∙ last-other (same link_key) ps key v other)
+]
+  where
+    absent : has_entry ps key ≡ false
+    absent = has-later 1 vs ps key none
+
+    placed : link_of (insert_entry same ps key v) ≡ link_of (ps ++ (key, v) ∷ [])
+    placed = ap link_of (insert-absent ps key v absent)
+
+-- and a write of a value leaves it there
+pub keys-set-value : (ps : List (Value × Value)) (i : ℕ) (v : Value) → keys_of (set_value_at ps i v) ≡ keys_of ps
+keys-set-value [] i v = refl
+keys-set-value (p ∷ ps) zero v = refl
+keys-set-value (p ∷ ps) (suc i) v = ap (λ ks. p.0 ∷ ks) (keys-set-value ps i v)
+
+pub link-set : (ps : List (Value × Value)) (i : ℕ) (v : Value) → link_of (set_value_at ps i v) ≡ link_of ps
+link-set ps i v = ap (λ ks. position (same link_key) ks) (keys-set-value ps i v)
+
+-- it is none of the first numbers, and stands within the pairs
+pub none_of-link : (n : ℕ) → IsNoneOf link_key n
+none_of-link n k lt = refl
+
+pub link-within : (ps : List (Value × Value)) (i : ℕ) → link_of ps ≡ Some i → i < length ps
+link-within ps i e = (Found-position (same link_key) ps i e).within

@@ -19,7 +19,7 @@ use Rattle.lua_values.specs.Numbered.{IsRenewed, passes_at}
 use Rattle.lua_values.proofs.BorderLemmas.{other-number}
 use Rattle.lua_values.proofs.EntryLemmas.{same-refl, index-value}
 use Rattle.lua_values.proofs.PairLemmas.{insert-with}
-use Rattle.lua_values.proofs.NumberedLemmas.{scan-some, pushed-insert}
+use Rattle.lua_values.proofs.NumberedLemmas.{scan-some, pushed-insert, keys-set-value}
 use Rattle.lua_values.proofs.TableLemmas.{holes-more, live-first, live-none, border-stop, border-all, border-some, border-none, same-lives, length-set-value, indexed-renewed}
 
 -- whether a pair's value is nil, by the flags
@@ -108,11 +108,6 @@ full-value ps k full lt =
 
 pub full-border : (ps : List (Value × Value)) → IsFull ps → length ps ≡ border_of ps
 full-border ps full = sym (border-all ps 0 (length ps) (λ k c d. full-value ps k full (omega arith)) ∙ omega arith)
-
-keys-set-value : (ps : List (Value × Value)) (i : ℕ) (v : Value) → keys_of (set_value_at ps i v) ≡ keys_of ps
-keys-set-value [] i v = refl
-keys-set-value (p ∷ ps) zero v = refl
-keys-set-value (p ∷ ps) (suc i) v = ap (λ ks. p.0 ∷ ks) (keys-set-value ps i v)
 
 full-renewed : (ps : List (Value × Value)) (i : ℕ) (v w : Value) → IsFull ps → slice_get (values_of ps) i ≡ Some w → is_nil w ≡ false → is_nil v ≡ false → IsFull (set_value_at ps i v)
 full-renewed ps i v w full at was is =

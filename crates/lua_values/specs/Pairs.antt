@@ -1,8 +1,9 @@
 -- A table's pairs of key and value, in the order in which the keys were set first (Lua 5.1 Reference Manual, section 2.2,
 -- and `next` of section 5.1). A key that was set to nil keeps its entry, with nil.
-use Rattle.std.specs.Prelude.{Bool, false, not, ◌||◌, List, [], ◌∷◌, Option, Some, None, if◌then◌else◌}
+use Rattle.std.specs.Prelude.{ℕ, Bool, false, not, ◌||◌, List, [], ◌∷◌, Option, Some, None, if◌then◌else◌, codes, position}
+use Rattle.std.specs.Map.{keys_of}
 use Rattle.lua_values.specs.declared.values.Value.{Value}
-use Rattle.lua_values.specs.declared.values.Value.TheVariants.{Nil}
+use Rattle.lua_values.specs.declared.values.Value.TheVariants.{Nil, Text}
 use Rattle.lua_values.specs.Values.{same, is_nil}
 
 -- the value at a key, nil where the key has no entry
@@ -38,3 +39,11 @@ pairs_after (p ∷ ps) key = if same key p.0 then ps else pairs_after ps key
 -- the pair that comes next after a key, and for the key nil the first
 abbrev pub next_pair : List (Value × Value) → Value → Option (Value × Value)
 next_pair ps key = first_live (if is_nil key then ps else pairs_after ps key)
+
+-- the key of a metatable at which a table is, or a function, that is asked for what another table lacks (section 2.8)
+abbrev pub link_key : Value
+link_key = Text (codes "__index")
+
+-- where that key stands among the pairs
+abbrev pub link_of : List (Value × Value) → Option ℕ
+link_of ps = position (same link_key) (keys_of ps)

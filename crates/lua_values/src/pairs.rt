@@ -1,10 +1,11 @@
 //! The pairs of a table, in the order in which their keys were set first.
 
-ghost use Rattle.std.specs.Prelude.{◌≡◌, ◌<◌, ◌≤◌, ◌+◌, ◌++◌, ◌∷◌, [], Some, true, false, not, length, position, slice_get, IfSome, IfOk, IfErr, OnOk, OnErr};
+ghost use Rattle.std.specs.Prelude.{◌≡◌, ◌<◌, ◌≤◌, ◌+◌, ◌++◌, ◌∷◌, if◌then◌else◌, [], Some, true, false, not};
+ghost use Rattle.std.specs.Prelude.{length, position, slice_get, IfSome, IfOk, IfErr, OnOk, OnErr};
 ghost use Rattle.std.specs.Map.{keys_of, values_of};
 ghost use Rattle.indexmap.specs.IndexMap.{set_value_at};
 ghost use Rattle.lua_values.specs.declared.values.Value.TheVariants.{Number, Text};
-ghost use Rattle.lua_values.specs.Pairs.{value_at, has_entry, with_value};
+ghost use Rattle.lua_values.specs.Pairs.{value_at, has_entry, with_value, link_key};
 ghost use Rattle.lua_values.specs.Numbered.{IsRenewed, passes_at};
 ghost use Rattle.lua_values.specs.TableFlags.{IsHoleOf, IsInOrder};
 ghost use Rattle.lua_values.specs.Values.{same, is_nil, number};
@@ -20,27 +21,33 @@ use std::mem;
 /// How many pairs there may be.
 const MOST: usize = 32_768;
 
+/// The key of a metatable at which a table is, or a function, that is asked for what another table lacks.
+const LINK: &[u8] = b"__index";
+
 /// How many pairs are looked through for a key; among more it is found by its hash.
 const FEW: usize = 8;
 
 /// Pairs in the order in which their keys were set first, up to 32,768. Where the first keys are 1, 2, .. in this order their values stand in a list,
-/// in which the index of such a number is known without a look at the keys; the other pairs stand in a map.
+/// in which the index of such a number is known without a look at the keys; the other pairs stand in a map. Beside it stands where the key `__index` is
+/// in it, which is asked for most.
 #[derive(Drop)]
 pub struct Pairs {
     numbered: Vec<Value>,
     others: IndexMap<Value, Value>,
+    link: Option<usize>,
 }
 
 impl Model for Pairs {
-    ghost use Rattle.std.specs.Prelude.{List, ◌+◌, ◌≤◌, ◌++◌, length};
+    ghost use Rattle.std.specs.Prelude.{List, ◌≡◌, ◌+◌, ◌≤◌, ◌++◌, length};
     ghost use Rattle.lua_values.specs.declared.values.Value.{Value as LuaValue};
     ghost use Rattle.lua_values.specs.Numbered.{numbered_from};
+    ghost use Rattle.lua_values.specs.Pairs.{link_of};
 
     ghost Value = { List (LuaValue × LuaValue) };
 
     ghost view = { λ pairs. numbered_from 1 pairs.numbered.items ++ pairs.others.entries };
 
-    ghost invariant = { λ pairs. length pairs.numbered.items + length pairs.others.entries ≤ 32_768 };
+    ghost invariant = { λ pairs. (length pairs.numbered.items + length pairs.others.entries ≤ 32_768) × (pairs.link ≡ link_of pairs.others.entries) };
 }
 
 impl Pairs {
@@ -51,6 +58,7 @@ impl Pairs {
         Pairs {
             numbered: Vec::new(alloc),
             others: IndexMap::new(alloc),
+            link: None,
         }
     }
 
@@ -91,6 +99,18 @@ impl Pairs {
         ensures within { IfSome result (λ index. index < length self.now) }
     {
         match text_among(&self.others, name) {
+            Some(index) => Some(self.numbered.len() + index),
+            None => None,
+        }
+    }
+
+    /// The index of `__index` as a key.
+    #[inline(always)]
+    pub fn index_of_link(&self) -> Option<usize>
+        ensures index { result ≡ position (same link_key) (keys_of self.now) }
+        ensures within { IfSome result (λ index. index < length self.now) }
+    {
+        match self.link {
             Some(index) => Some(self.numbered.len() + index),
             None => None,
         }
@@ -162,8 +182,12 @@ impl Pairs {
             self.numbered.push(value)?;
             return Ok(());
         }
+        let link = link_with(self.link, &key, self.others.len());
         match self.others.insert(key, value) {
-            Ok(_) => Ok(()),
+            Ok(_) => {
+                self.link = link;
+                Ok(())
+            }
             Err(_) => Err(AllocError),
         }
     }
@@ -195,7 +219,19 @@ impl Clone for Pairs {
         Ok(Pairs {
             numbered: self.numbered.clone()?,
             others: self.others.clone()?,
+            link: self.link,
         })
+    }
+}
+
+/// Where `__index` stands once a new key is put after so many others.
+fn link_with(link: Option<usize>, key: &Value, count: usize) -> Option<usize>
+    ensures { result ≡ (if same link_key key.now then Some count else link) }
+{
+    if is_text(key, LINK) {
+        Some(count)
+    } else {
+        link
     }
 }
 

@@ -4,7 +4,7 @@ ghost use Rattle.std.specs.Prelude.{◌≡◌, ◌+◌, ◌≤◌, ◌<◌, [], 
 ghost use Rattle.std.specs.Map.{keys_of};
 ghost use Rattle.lua_values.specs.declared.values.Value.{Value as LuaValue};
 ghost use Rattle.lua_values.specs.declared.values.Value.TheVariants.{Number, Text};
-ghost use Rattle.lua_values.specs.Pairs.{value_at, has_entry, needs_entry, with_value, first_live, next_pair};
+ghost use Rattle.lua_values.specs.Pairs.{link_key, value_at, has_entry, needs_entry, with_value, first_live, next_pair};
 ghost use Rattle.lua_values.specs.Values.{same, is_nil, number};
 ghost use Rattle.lua_values.specs.Border.{border_of};
 ghost use Rattle.lua_values.specs.Shifts.{IsShift, HasSources, moves, place, moved, shifted, entries_first, new_entries};
@@ -68,6 +68,14 @@ impl Table {
         ensures value { IfSome result (λ value. value.now ≡ value_at self.now.pairs (Text name.now)) }
     {
         self.value_found(self.pairs.index_of_text(name))
+    }
+
+    /// The value at `__index` as a key, if that has an entry.
+    pub fn get_link(&self) -> Option<&Value>
+        ensures entry { is_some result ≡ has_entry self.now.pairs link_key }
+        ensures value { IfSome result (λ value. value.now ≡ value_at self.now.pairs link_key) }
+    {
+        self.value_found(self.pairs.index_of_link())
     }
 
     /// The value at a key by its index.

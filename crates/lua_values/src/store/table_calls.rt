@@ -3,7 +3,7 @@
 ghost use Rattle.std.specs.Prelude.{◌≡◌, ◌≢◌, ◌<◌, ◌≤◌, ◌*◌, true, false, None, Some, Err, length, OnOk, OnErr, IfOk, IfErr};
 ghost use Rattle.lua_values.specs.Values.{is_nil};
 ghost use Rattle.lua_values.specs.declared.values.Value.TheVariants.{Number, Text};
-ghost use Rattle.lua_values.specs.Pairs.{value_at, next_pair};
+ghost use Rattle.lua_values.specs.Pairs.{link_key, value_at, next_pair};
 ghost use Rattle.lua_values.specs.Border.{border_of};
 ghost use Rattle.lua_values.specs.Shifts.{IsShift, shift_of};
 ghost use Rattle.lua_values.specs.StoreCalls as calls;
@@ -55,6 +55,19 @@ impl Store {
         match self.tables.get(t as usize) {
             None => &self.nil,
             Some(table) => match table.get_text(name) {
+                None => &self.nil,
+                Some(value) => value,
+            },
+        }
+    }
+
+    /// The value at `__index` as a key of a table, without its metatable; nil where none is.
+    pub fn get_link(&self, t: u32) -> &Value
+        ensures { result.now ≡ value_at (calls.pairs_of self.now.heap t) link_key }
+    {
+        match self.tables.get(t as usize) {
+            None => &self.nil,
+            Some(table) => match table.get_link() {
                 None => &self.nil,
                 Some(value) => value,
             },

@@ -1,5 +1,5 @@
-use Rattle.std.proofs.Common.{◌-◌, ◌<◌, ◌≤◌, length, ap, ◌∙◌, arith}
-use Rattle.lua_values.proofs.NumberedLemmas.{counted, length-all, few-set, got, set-numbered, set-other, value-numbered, value-other}
+use Rattle.std.proofs.Common.{◌-◌, ◌<◌, ◌≤◌, length, sym, ap, ◌∙◌, arith}
+use Rattle.lua_values.proofs.NumberedLemmas.{counted, length-all, few-set, link-set, got, set-numbered, set-other, value-numbered, value-other}
 use Rattle.lua_values.proofs.pairs.Pairs.replace.Goals as goal
 
 pub index_mut-requires-else-index-count : goal.index_mut-requires-else-index-count
@@ -7,8 +7,10 @@ index_mut-requires-else-index-count c =
     omega (arith, length-all c.self.inside.numbered.items c.self.inside.others.entries, ap length c.self.view_is, c.requires, counted c.len-count.result c.self.inside.numbered c.len-count.ensures, c.if-index-count.false)
 
 pub invariant_of-self-else-index-count : goal.invariant_of-self-else-index-count
-invariant_of-self-else-index-count c =
-    few-set (length c.self.inside.numbered.items) c.self.inside.others.entries (c.args.index - c.len-count.result) c.replace-else-index-count.new.dest c.self.invariant
+invariant_of-self-else-index-count c = (
+  few-set (length c.self.inside.numbered.items) c.self.inside.others.entries (c.args.index - c.len-count.result) c.replace-else-index-count.new.dest c.self.invariant.0,
+  c.self.invariant.1 ∙ sym (link-set c.self.inside.others.entries (c.args.index - c.len-count.result) c.replace-else-index-count.new.dest),
+)
 
 pub returns-then-index-count-clause-done : goal.returns-then-index-count-clause-done
 returns-then-index-count-clause-done c =
