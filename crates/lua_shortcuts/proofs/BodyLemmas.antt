@@ -116,8 +116,8 @@ over site levels stmts i s s' h n all g = record {
 }
 
 -- `return` of a list that is empty
-pub nothing_follows : (xs : List Expr) (st : Stmt) (s : Slots) → xs ≡ [] → IsReturn xs st → (site : Site) (levels : ℕ) (h : Heap) → StmtEnds site levels st s h (Return []) s 1
-nothing_follows xs st s empty is site levels h = nothing_returned site levels xs st s h empty is
+pub nothing_follows : (xs : List Expr) (st : Stmt) (s : Slots) (h : Heap) → xs ≡ [] → IsReturn xs st → (site : Site) (levels : ℕ) → StmtEnds site levels st s h (Return []) s 1
+nothing_follows xs st s h empty is site levels = nothing_returned site levels xs st s h empty is
 
 pub none_of : {A : Type 0} (xs : List A) → length xs < 1 → xs ≡ []
 none_of [] h = refl

@@ -6,3 +6,4 @@ pub mod EntryLemmas
 pub mod JoiningLemmas
 pub mod CallLemmas
 pub mod BodyLemmas
+pub mod BranchLemmas

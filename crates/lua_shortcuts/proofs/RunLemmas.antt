@@ -16,13 +16,12 @@ use Rattle.lua_ast.specs.declared.statements.StmtKind.TheOpen as sk
 use Rattle.lua_ast.specs.declared.statements.StmtKind.TheViews.{outs-Local, outs-Assign}
 use Rattle.lua_ast.specs.declared.statements.StmtKind.TheVariants as sv
 use Rattle.lua_values.specs.declared.values.Value.{Value}
-use Rattle.lua_values.specs.declared.values.Value.TheVariants.{Truth}
 use Rattle.lua_values.specs.Heap.{StoreView, step_limit}
 use Rattle.lua_operators.specs.Types.{is_truthy}
 use Rattle.lua_meaning.specs.declared.slots.Slot.{Slot}
 use Rattle.lua_meaning.specs.declared.slots.Slot.TheVariants.{Plain, Shared}
 use Rattle.lua_meaning.specs.Works.{Places, Slots, Node, AnExpr, ATurn, Values, Work, and_then}
-use Rattle.lua_meaning.specs.Evaluator.{State, Ending, Ended, Parked, Spent, after, do_work}
+use Rattle.lua_meaning.specs.Evaluator.{Resume, State, Ending, Ended, Parked, Spent, after, do_work}
 use Rattle.lua_meaning.specs.Setting.{Setting}
 use Rattle.lua_meaning.specs.Positions.{callers_at}
 use Rattle.lua_meaning.specs.Signs.{first, give, on_values}
@@ -36,7 +35,7 @@ use Rattle.lua_meaning.proofs.EvaluatorLemmas.{eval-law, work-then}
 use Rattle.lua_meaning.proofs.Running.{Does, stmt, seq, count, target, end}
 use Rattle.lua_shortcuts.specs.declared.calls.Site.{Site}
 use Rattle.lua_shortcuts.specs.declared.loops.LoopEnd.{LoopEnd}
-use Rattle.lua_shortcuts.specs.Gives.{counting, later, Gives}
+use Rattle.lua_shortcuts.specs.Gives.{counting, later, Gives, Tells}
 use Rattle.lua_shortcuts.specs.Calls.{Allows, RunsAt}
 use Rattle.lua_shortcuts.specs.Runs.{state, Becomes, RunsIf, IsLocals, IsAssignments, IsAssignment, Tests, left_of, is_plain}
 
@@ -135,10 +134,17 @@ pub block_stays : (site : Site) (levels : ℕ) (S : Setting) (p : Places) (q : W
     → Becomes S q first (block (drop next stmts) p s) before → RunsAt site levels false st s before s' store → Becomes S q first (block (drop next stmts) p s') store
 block_stays site levels S p q st stmts next s s' first before store h run rs = h rs ∙ rw (run.0, run.1) refl
 
--- the test of a loop that holds
-pub test_holds : (x : Expr) (s : Slots) (n : ℕ) (before store : StoreView) → Gives x s before.heap (Truth true) n → nat_lt (before.steps + (n + 1)) step_limit ≡ true → store ≡ counting (n + 1) before → Tests x s true before store
-test_holds x s n before store g few steps S body p rs =
-    ap (λ (o : Ending). after o (λ sign s2 w2. do_work (eval S) (on_values (λ vs s3. if is_truthy (first vs) then again (ATurn x body) p s3 else give [] s3) sign s2) w2)) (g.one S p (state before rs) refl (omega (arith, below)))
+-- the test of a loop was evaluated
+tested : (S : Setting) (x : Expr) (body : List Stmt) (p : Places) (s : Slots) (holds : Bool) (n : ℕ) (before : StoreView) (rs : List Resume) → Tells x s before.heap holds n → before.steps + n < step_limit
+    → do_work (eval S) (while_work x body p s) (state before rs) ≡ do_work (eval S) (if holds then again (ATurn x body) p s else give [] s) (later n (state before rs))
+tested S x body p s holds n before rs t few =
+    ap (λ (o : Ending). after o (λ sign s2 w2. do_work (eval S) (on_values (λ vs s3. if is_truthy (first vs) then again (ATurn x body) p s3 else give [] s3) sign s2) w2)) (t.gives.one S p (state before rs) refl few)
+    ∙ ap (λ (b : Bool). do_work (eval S) (if b then again (ATurn x body) p s else give [] s) (later n (state before rs))) t.is
+
+-- where it holds, a turn begins
+pub test_holds : (x : Expr) (s : Slots) (n : ℕ) (before store : StoreView) → Tells x s before.heap true n → nat_lt (before.steps + (n + 1)) step_limit ≡ true → store ≡ counting (n + 1) before → Tests x s true before store
+test_holds x s n before store t few steps S body p rs =
+    tested S x body p s true n before rs t (omega (arith, below))
     ∙ after_ended (eval S (ATurn x body) p s (later n (state before rs)))
     ∙ entered S (ATurn x body) p s (later n (state before rs)) (lt-ltb _ _ (omega (arith, below)))
     ∙ ap (λ (k : ℕ). do_work (eval S) (turn_work x body p s) (state (record { heap = before.heap; steps = k }) rs)) sums
@@ -150,16 +156,14 @@ test_holds x s n before store g few steps S body p rs =
     sums : before.steps + n + 1 ≡ before.steps + (n + 1)
     sums = omega arith
 
--- and one that doesn't
-pub test_fails : (x : Expr) (s : Slots) (n : ℕ) (before store : StoreView) → Gives x s before.heap (Truth false) n → nat_lt (before.steps + n) step_limit ≡ true → store ≡ counting n before → Tests x s false before store
-test_fails x s n before store g few steps S body p rs =
-    ap (λ (o : Ending). after o (λ sign s2 w2. do_work (eval S) (on_values (λ vs s3. if is_truthy (first vs) then again (ATurn x body) p s3 else give [] s3) sign s2) w2)) (g.one S p (state before rs) refl (ltb-true _ _ few))
-    ∙ ap (λ (st : StoreView). Ended (Values []) s (state st rs)) (sym steps)
+-- and where not, the loop is over
+pub test_fails : (x : Expr) (s : Slots) (n : ℕ) (before store : StoreView) → Tells x s before.heap false n → nat_lt (before.steps + n) step_limit ≡ true → store ≡ counting n before → Tests x s false before store
+test_fails x s n before store t few steps S body p rs = tested S x body p s false n before rs t (ltb-true _ _ few) ∙ ap (λ (st : StoreView). Ended (Values []) s (state st rs)) (sym steps)
 
-pub test_is : (x : Expr) (s : Slots) (holds : Bool) (n k : ℕ) (before store : StoreView) → Gives x s before.heap (Truth holds) n → k ≡ (if holds then n + 1 else n) → nat_lt (before.steps + k) step_limit ≡ true
+pub test_is : (x : Expr) (s : Slots) (holds : Bool) (n k : ℕ) (before store : StoreView) → Tells x s before.heap holds n → k ≡ (if holds then n + 1 else n) → nat_lt (before.steps + k) step_limit ≡ true
     → store ≡ record { heap = before.heap; steps = min step_limit (before.steps + k) } → Tests x s holds before store
-test_is x s true n k before store g is few steps = test_holds x s n before store g (rw is at few) (rw is at (counted k before store steps few))
-test_is x s false n k before store g is few steps = test_fails x s n before store g (rw is at few) (rw is at (counted k before store steps few))
+test_is x s true n k before store t is few steps = test_holds x s n before store t (rw is at few) (rw is at (counted k before store steps few))
+test_is x s false n k before store t is few steps = test_fails x s n before store t (rw is at few) (rw is at (counted k before store steps few))
 
 -- a turn's statements were run up to an index
 pub turn_goes : (S : Setting) (p : Places) (q : Work) (test : Expr) (body : List Stmt) (next : ℕ) (s s' : Slots) (first before mid store : StoreView)

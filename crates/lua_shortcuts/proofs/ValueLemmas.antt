@@ -1,5 +1,5 @@
 -- What expressions of numbers give.
-use Rattle.std.specs.Prelude.{◌≡◌, ℕ, ◌+◌, ◌<◌, true, false, List, [], ◌∷◌, ℤ, Option, Some, None, IfSome, slice_get, refl}
+use Rattle.std.specs.Prelude.{◌≡◌, ℕ, ◌+◌, ◌<◌, Bool, true, false, not, List, [], ◌∷◌, ℤ, Option, Some, None, IfSome, slice_get, refl}
 use Rattle.std.specs.declared.rc.Rc.{Rc}
 use Rattle.std.specs.declared.alloc.Global.{Global}
 use Rattle.std.proofs.Common.{sym, ◌∙◌, ap, subst, arith}
@@ -8,24 +8,26 @@ use Rattle.lua_ast.specs.declared.expressions.BinOp.{BinOp}
 use Rattle.lua_ast.specs.declared.expressions.Expr.{Expr}
 use Rattle.lua_ast.specs.declared.expressions.ExprKind.{out-ExprKind}
 use Rattle.lua_ast.specs.declared.expressions.ExprKind.TheOpen as e
-use Rattle.lua_ast.specs.declared.expressions.ExprKind.TheViews.{outs-Nil, outs-True, outs-False, outs-Number, outs-Text, outs-Slot, outs-Binary}
+use Rattle.lua_ast.specs.declared.expressions.ExprKind.TheViews.{outs-Nil, outs-True, outs-False, outs-Number, outs-Text, outs-Slot, outs-Unary, outs-Binary}
 use Rattle.lua_ast.specs.declared.expressions.ExprKind.TheVariants as v
+use Rattle.lua_ast.specs.declared.expressions.UnOp.TheVariants as unary
 use Rattle.lua_values.specs.declared.values.Value.{Value}
 use Rattle.lua_values.specs.declared.values.Value.TheVariants.{Nil, Truth, Number, Text}
 use Rattle.lua_values.specs.Heap.{Heap, step_limit}
+use Rattle.lua_operators.specs.Types.{is_truthy}
 use Rattle.lua_meaning.specs.declared.slots.Slot.{Slot}
 use Rattle.lua_meaning.specs.declared.slots.Slot.TheVariants.{Plain}
 use Rattle.lua_meaning.specs.Works.{Places, Slots, Values, Work}
-use Rattle.lua_meaning.specs.Evaluator.{State, Ended, do_work}
+use Rattle.lua_meaning.specs.Evaluator.{State, Ending, Ended, after, do_work}
 use Rattle.lua_meaning.specs.Setting.{Setting}
 use Rattle.lua_meaning.specs.Positions.{callers_at}
-use Rattle.lua_meaning.specs.Signs.{give_one, value}
+use Rattle.lua_meaning.specs.Signs.{first, give_one, on_values, value}
 use Rattle.lua_meaning.specs.Variables.{in_slot}
 use Rattle.lua_meaning.specs.Operators.{binary_work}
 use Rattle.lua_meaning.specs.Nodes.{eval}
 use Rattle.lua_meaning.proofs.Running.{Does, val, exp, seq, look, end}
 use Rattle.lua_shortcuts.specs.declared.numbers.Counted.{Counted}
-use Rattle.lua_shortcuts.specs.Gives.{later, Gives, Operates, GivesBinary}
+use Rattle.lua_shortcuts.specs.Gives.{later, Gives, Operates, GivesBinary, Tells}
 
 -- literals
 pub nil_gives : (x : Expr) (s : Slots) (h : Heap) → x.kind ≡ v.Nil → Gives x s h Nil 1
@@ -112,3 +114,35 @@ pub with_counted : (o : BinOp) (a b : Expr) (s : Slots) (h : Heap) (m n r : ℤ)
     → IfSome t (λ c. GivesBinary o a b s h (Number c.number) c.steps)
 with_counted o a b s h m n r i j (Some c) ga gb op is steps = gives_binary o a b s h m n (Number c.number) i j c.steps ga gb (subst (λ (z : ℤ). Operates o m n (Number z)) (sym is) op) steps
 with_counted o a b s h m n r i j None ga gb op is steps = tt
+
+-- tests
+pub true_tells : (x : Expr) (s : Slots) (h : Heap) → x.kind ≡ v.True → Tells x s h true 1
+true_tells x s h is = record { value = Truth true; gives = true_gives x s h is; is = refl }
+
+pub false_tells : (x : Expr) (s : Slots) (h : Heap) → x.kind ≡ v.False → Tells x s h false 1
+false_tells x s h is = record { value = Truth false; gives = false_gives x s h is; is = refl }
+
+pub not_tells : (x : Expr) (a : Rc Expr Global) (y : Expr) (s : Slots) (h : Heap) (holds : Bool) (n : ℕ) → x.kind ≡ v.Unary unary.Not a → y ≡ a.value → Tells y s h holds n → Tells x s h (not holds) (n + 1)
+not_tells x a y s h holds n is same t = record {
+  value = Truth (not (is_truthy t.value));
+  gives = record {
+    one = λ S p w heap few. (val {S = S} {x = x} {k = e.Unary unary.Not a} {p = p} {s = s} {w = w} kind (lt-ltb _ _ (omega (arith, few))) (denied S p w heap few)).is;
+    all = λ S p w heap few. (exp {S = S} {x = x} {k = e.Unary unary.Not a} {p = p} {s = s} {w = w} kind (lt-ltb _ _ (omega (arith, few))) (denied S p w heap few)).is;
+  };
+  is = ap not t.is;
+}
+  where
+    kind : out-ExprKind x.kind ≡ e.Unary unary.Not a
+    kind = rw (is, outs-Unary unary.Not a) refl
+
+    sums : (k : ℕ) → k + 1 + n ≡ k + (n + 1)
+    sums k = omega arith
+
+    denied : (S : Setting) (p : Places) (w : State) → w.store.heap ≡ h → w.store.steps + (n + 1) < step_limit
+        → Does S (value a.value p s (λ u s'. give_one (Truth (not (is_truthy u))) s')) (later 1 w) (Ended (Values (Truth (not (is_truthy t.value)) ∷ [])) s (later (n + 1) w))
+    denied S p w heap few = record {
+      is =
+          ap (λ (z : Expr). do_work (eval S) (value z p s (λ u s'. give_one (Truth (not (is_truthy u))) s')) (later 1 w)) (sym same)
+          ∙ ap (λ (o : Ending). after o (λ sign s2 w2. do_work (eval S) (on_values (λ vs s3. give_one (Truth (not (is_truthy (first vs)))) s3) sign s2) w2)) (t.gives.one S p (later 1 w) heap (omega (arith, few)))
+          ∙ ap (λ (k : ℕ). Ended (Values (Truth (not (is_truthy t.value)) ∷ [])) s (record w { store = record { heap = w.store.heap; steps = k } })) (sums w.store.steps);
+    }

@@ -32,11 +32,19 @@ abbrev pub sign_of : End → Sign
 sign_of end.Went = Values []
 sign_of (end.Returned value) = Return (all_of value)
 
--- with these variables a statement does what its plan says, once the plan's expression gave a value
-abbrev pub Follows : Plan → Stmt → Slots → Type 0
-Follows (plan.Sets i x more) st s =
-    (site : Site) (levels : ℕ) (h : Heap) (v : Value) (n : ℕ) → GivesAt site levels x.now s h v n
+-- with these variables and this heap a statement does what its plan says, once the plan's expression gave a value
+abbrev pub Follows : Plan → Stmt → Slots → Heap → Type 0
+Follows (plan.Sets i x more) st s h =
+    (site : Site) (levels : ℕ) (v : Value) (n : ℕ) → GivesAt site levels x.now s h v n
     → StmtEnds site levels st s h (Values []) (slice_set s i (Plain v)) (n + more)
-Follows (plan.Gives x) st s =
-    (site : Site) (levels : ℕ) (h : Heap) (v : Value) (n : ℕ) → GivesAt site levels x.now s h v n → StmtEnds site levels st s h (Return (v ∷ [])) s (n + 1)
-Follows plan.Leaves st s = (site : Site) (levels : ℕ) (h : Heap) → StmtEnds site levels st s h (Return []) s 1
+Follows (plan.Counts more) st s h = (site : Site) (levels : ℕ) → StmtEnds site levels st s h (Values []) s more
+Follows (plan.Gives x) st s h =
+    (site : Site) (levels : ℕ) (v : Value) (n : ℕ) → GivesAt site levels x.now s h v n → StmtEnds site levels st s h (Return (v ∷ [])) s (n + 1)
+Follows plan.Leaves st s h = (site : Site) (levels : ℕ) → StmtEnds site levels st s h (Return []) s 1
+
+-- how many steps a plan counts besides those of its expression
+abbrev pub more_of : Plan → ℕ
+more_of (plan.Sets i x more) = more
+more_of (plan.Counts more) = more
+more_of (plan.Gives x) = 1
+more_of plan.Leaves = 1

@@ -1,5 +1,5 @@
 -- Expressions whose value is known from the local variables and the heap alone (Lua 5.1 Reference Manual, 2.5).
-use Rattle.std.specs.Prelude.{◌≡◌, ℕ, ◌+◌, ◌<◌, List, [], ◌∷◌, ℤ}
+use Rattle.std.specs.Prelude.{◌≡◌, ℕ, ◌+◌, ◌<◌, Bool, List, [], ◌∷◌, ℤ}
 use Rattle.std.specs.declared.rc.Rc.{Rc}
 use Rattle.std.specs.declared.alloc.Global.{Global}
 use Rattle.lua_ast.specs.declared.expressions.BinOp.{BinOp}
@@ -9,6 +9,7 @@ use Rattle.lua_ast.specs.declared.expressions.ExprKind.TheOpen as e
 use Rattle.lua_values.specs.declared.values.Value.{Value}
 use Rattle.lua_values.specs.declared.values.Value.TheVariants.{Number, Table}
 use Rattle.lua_values.specs.Heap.{Heap, StoreView, step_limit}
+use Rattle.lua_operators.specs.Types.{is_truthy}
 use Rattle.lua_meaning.specs.Works.{Caller, Places, Slots, AValue, AnExpr, Values}
 use Rattle.lua_meaning.specs.Evaluator.{State, Ended, do_work}
 use Rattle.lua_meaning.specs.Setting.{Setting}
@@ -31,6 +32,12 @@ pub record Gives (x : Expr) (s : Slots) (h : Heap) (v : Value) (n : ℕ) : Type 
       → eval S (AValue x) p s w ≡ Ended (Values (v ∷ [])) s (later n w)
   pub all : (S : Setting) (p : Places) (w : State) → w.store.heap ≡ h → w.store.steps + n < step_limit
       → eval S (AnExpr x) p s w ≡ Ended (Values (v ∷ [])) s (later n w)
+
+-- the same of a test: it holds where the value is neither false nor nil (section 2.4.4)
+pub record Tells (x : Expr) (s : Slots) (h : Heap) (holds : Bool) (n : ℕ) : Type 0 where
+  pub value : Value
+  pub gives : Gives x s h value n
+  pub is : is_truthy value ≡ holds
 
 -- an operator gives a value on two numbers, without a fault
 abbrev pub Operates : BinOp → ℤ → ℤ → Value → Type 0

@@ -1,18 +1,20 @@
 //! Blocks that give values to variables of their own function alone, which are run at once.
 
-ghost use Rattle.std.specs.Prelude.{◌≡◌, ◌<◌, ◌+◌, ◌∷◌, [], IfSome};
+ghost use Rattle.std.specs.Prelude.{◌≡◌, ◌<◌, ◌+◌, ◌*◌, ◌∷◌, [], IfSome};
 ghost use Rattle.lua_ast.specs.declared.statements.Stmt.{Stmt as LuaStmt};
-ghost use Rattle.lua_values.specs.Heap.{step_limit};
+ghost use Rattle.lua_values.specs.Heap.{Heap, step_limit};
 ghost use Rattle.lua_meaning.specs.Works.{Slots};
 ghost use Rattle.lua_shortcuts.specs.Runs.{IsLocals, IsAssignments};
 ghost use Rattle.lua_shortcuts.specs.Calls.{IsReturn};
-ghost use Rattle.lua_shortcuts.specs.Bodies.{Follows, StmtEnds, BlockEnds, sign_of};
+ghost use Rattle.lua_shortcuts.specs.Bodies.{Follows, StmtEnds, BlockEnds, more_of, sign_of};
+ghost use Rattle.lua_shortcuts.specs.Branches.{IsIf};
 
+use crate::branches::chosen_of;
 use crate::calls::{Site, value_at};
 use crate::places::Valued;
 use crate::statements::{is_plain, only, put_value, stmt_at};
 use crate::steps::STEP_LIMIT;
-use lua_ast::{Expr, ExprKind, Stmt, StmtKind};
+use lua_ast::{Arm, Expr, ExprKind, Stmt, StmtKind};
 use lua_meaning::Slot;
 use lua_values::{Store, Value};
 use std::rc::Rc;
@@ -21,7 +23,9 @@ use std::rc::Rc;
 #[derive(Clone, Copy)]
 pub(crate) enum Plan<'a> {
     /// A variable gets the value of an expression, which counts so many steps besides those of the expression.
-    Sets(u8, &'a Expr, u8),
+    Sets(u8, &'a Expr, u64),
+    /// Nothing is changed, and so many steps are counted.
+    Counts(u64),
     /// The function returns the value of an expression.
     Gives(&'a Expr),
     /// The function returns nothing.
@@ -53,11 +57,23 @@ fn only_expr(xs: &[Expr]) -> Option<&Expr>
     }
 }
 
+/// The one statement of a block that has no other.
+#[inline(always)]
+fn only_stmt(stmts: &[Stmt]) -> Option<&Stmt>
+    ensures { IfSome result (λ stmt. stmts.now ≡ stmt.now ∷ []) }
+{
+    match stmts {
+        [stmt] => Some(stmt),
+        _ => None,
+    }
+}
+
 /// What `local NAME = x` does.
 #[inline(always)]
 fn local_plan<'a>(places: &Rc<Vec<u8>>, xs: &'a Rc<Vec<Expr>>) -> Option<Plan<'a>>
-    ensures { IfSome result (λ plan. (stmt : LuaStmt) → IsLocals places.now.value.items xs.now.value.items stmt
-        → (slots : Slots) → Follows plan stmt slots) }
+    ensures follows { IfSome result (λ plan. (stmt : LuaStmt) → IsLocals places.now.value.items xs.now.value.items stmt
+        → (slots : Slots) → (heap : Heap) → Follows plan stmt slots heap) }
+    ensures few { IfSome result (λ plan. more_of plan < 3) }
 {
     let i = only(places.as_slice())?;
     let x = only_expr(xs.as_slice())?;
@@ -71,8 +87,9 @@ fn assigned_plan<'a>(
     targets: &Rc<Vec<Expr>>,
     xs: &'a Rc<Vec<Expr>>,
 ) -> Option<Plan<'a>>
-    ensures { IfSome result (λ plan. (stmt : LuaStmt) → IsAssignments targets.now.value.items xs.now.value.items stmt
-        → Follows plan stmt slots.now) }
+    ensures follows { IfSome result (λ plan. (stmt : LuaStmt) → IsAssignments targets.now.value.items xs.now.value.items stmt
+        → (heap : Heap) → Follows plan stmt slots.now heap) }
+    ensures few { IfSome result (λ plan. more_of plan < 3) }
 {
     let target = only_expr(targets.as_slice())?;
     match &target.kind {
@@ -90,7 +107,8 @@ fn assigned_plan<'a>(
 /// What `return x` does, of what is no call.
 #[inline(always)]
 fn given_plan(x: &Expr) -> Option<Plan<'_>>
-    ensures { IfSome result (λ plan. (stmt : LuaStmt) → IsReturn (x.now ∷ []) stmt → (slots : Slots) → Follows plan stmt slots) }
+    ensures follows { IfSome result (λ plan. (stmt : LuaStmt) → IsReturn (x.now ∷ []) stmt → (slots : Slots) → (heap : Heap) → Follows plan stmt slots heap) }
+    ensures few { IfSome result (λ plan. more_of plan < 3) }
 {
     match &x.kind {
         ExprKind::Call(_, _) | ExprKind::Method(_, _, _) => None,
@@ -101,7 +119,9 @@ fn given_plan(x: &Expr) -> Option<Plan<'_>>
 /// What `return` does of a list of no expression or one.
 #[inline(always)]
 fn returned_plan<'a>(xs: &'a Rc<Vec<Expr>>) -> Option<Plan<'a>>
-    ensures { IfSome result (λ plan. (stmt : LuaStmt) → IsReturn xs.now.value.items stmt → (slots : Slots) → Follows plan stmt slots) }
+    ensures follows { IfSome result (λ plan. (stmt : LuaStmt) → IsReturn xs.now.value.items stmt
+        → (slots : Slots) → (heap : Heap) → Follows plan stmt slots heap) }
+    ensures few { IfSome result (λ plan. more_of plan < 3) }
 {
     match xs.as_slice() {
         [] => Some(Plan::Leaves),
@@ -110,10 +130,11 @@ fn returned_plan<'a>(xs: &'a Rc<Vec<Expr>>) -> Option<Plan<'a>>
     }
 }
 
-/// What a statement does, if it changes no more than one variable of its function, which no closure shares.
+/// What a statement does without a test, if it changes no more than one variable of its function, which no closure shares.
 #[inline(always)]
-pub(crate) fn plan_of<'a>(slots: &[Slot], stmt: &'a Stmt) -> Option<Plan<'a>>
-    ensures { IfSome result (λ plan. Follows plan stmt.now slots.now) }
+fn plain_plan<'a>(slots: &[Slot], stmt: &'a Stmt) -> Option<Plan<'a>>
+    ensures follows { IfSome result (λ plan. (heap : Heap) → Follows plan stmt.now slots.now heap) }
+    ensures few { IfSome result (λ plan. more_of plan < 3) }
 {
     match &stmt.kind {
         StmtKind::Local(places, xs) => local_plan(places, xs),
@@ -123,7 +144,69 @@ pub(crate) fn plan_of<'a>(slots: &[Slot], stmt: &'a Stmt) -> Option<Plan<'a>>
     }
 }
 
-/// How a statement ends that changes no more than one variable of its function.
+/// What `if` does, where it comes to a block that is empty or of one statement.
+fn if_plan<'a>(
+    slots: &[Slot],
+    store: &Store,
+    arms: &'a Rc<Vec<Arm>>,
+    last: &'a Rc<Vec<Stmt>>,
+) -> Option<Plan<'a>>
+    ensures follows { IfSome result (λ plan. (stmt : LuaStmt) → IsIf arms.now.value.items last.now.value.items stmt
+        → Follows plan stmt slots.now store.now.heap) }
+    ensures few { IfSome result (λ plan. more_of plan < step_limit + 3) }
+{
+    let chosen = chosen_of(slots, store, arms, last)?;
+    let tests = chosen.steps + 1;
+    match chosen.body {
+        [] => Some(Plan::Counts(tests)),
+        stmts => {
+            let stmt = only_stmt(stmts)?;
+            match plain_plan(slots, stmt)? {
+                Plan::Sets(slot, x, more) => Some(Plan::Sets(slot, x, more + tests)),
+                _ => None,
+            }
+        }
+    }
+}
+
+/// What a statement does, if it changes no more than one variable of its function, which no closure shares.
+#[inline(always)]
+pub(crate) fn plan_of<'a>(slots: &[Slot], store: &Store, stmt: &'a Stmt) -> Option<Plan<'a>>
+    ensures follows { IfSome result (λ plan. Follows plan stmt.now slots.now store.now.heap) }
+    ensures few { IfSome result (λ plan. more_of plan < step_limit + 3) }
+{
+    match &stmt.kind {
+        StmtKind::If(arms, last) => if_plan(slots, store, arms, last),
+        _ => plain_plan(slots, stmt),
+    }
+}
+
+/// How an `if` ends.
+#[cycle(calls)]
+fn if_end(
+    site: &Site,
+    slots: &mut Vec<Slot>,
+    store: &Store,
+    arms: &Rc<Vec<Arm>>,
+    last: &Rc<Vec<Stmt>>,
+    levels: u8,
+) -> Option<Ended>
+    ensures gives { IfSome result (λ r. (stmt : LuaStmt) → IsIf arms.now.value.items last.now.value.items stmt
+        → StmtEnds site.now levels stmt slots.old.items store.now.heap (sign_of r.end) slots.new.items r.steps) }
+    ensures few { IfSome result (λ r. r.steps < 2 * step_limit) }
+{
+    if levels == 0 {
+        return None;
+    }
+    let chosen = chosen_of(slots, store, arms, last)?;
+    let Ended { end, steps } = block_end(site, slots, store, chosen.body, levels - 1)?;
+    Some(Ended {
+        end,
+        steps: steps + chosen.steps + 1,
+    })
+}
+
+/// How a statement ends that changes no more than variables of its function.
 #[cycle(calls)]
 fn stmt_end(
     site: &Site,
@@ -133,9 +216,12 @@ fn stmt_end(
     levels: u8,
 ) -> Option<Ended>
     ensures gives { IfSome result (λ r. StmtEnds site.now levels stmt.now slots.old.items store.now.heap (sign_of r.end) slots.new.items r.steps) }
-    ensures few { IfSome result (λ r. r.steps < step_limit + 256) }
+    ensures few { IfSome result (λ r. r.steps < 2 * step_limit) }
 {
-    let plan = plan_of(slots, stmt)?;
+    if let StmtKind::If(arms, last) = &stmt.kind {
+        return if_end(site, slots, store, arms, last, levels);
+    }
+    let plan = plain_plan(slots, stmt)?;
     match plan {
         Plan::Leaves => Some(Ended {
             end: End::Returned(None),
@@ -153,9 +239,13 @@ fn stmt_end(
             put_value(slots, slot, value);
             Some(Ended {
                 end: End::Went,
-                steps: steps + more as u64,
+                steps: steps + more,
             })
         }
+        Plan::Counts(more) => Some(Ended {
+            end: End::Went,
+            steps: more,
+        }),
     }
 }
 

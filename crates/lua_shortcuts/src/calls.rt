@@ -10,7 +10,7 @@ ghost use Rattle.lua_meaning.specs.declared.slots.Slot.TheVariants.{Plain};
 ghost use Rattle.lua_meaning.specs.Variables.{in_cell};
 ghost use Rattle.lua_meaning.specs.Works.{Values};
 ghost use Rattle.lua_meaning.specs.Calls.{function_end, slots_from};
-ghost use Rattle.lua_shortcuts.specs.Bodies.{Follows, sign_of};
+ghost use Rattle.lua_shortcuts.specs.Bodies.{Follows, more_of, sign_of};
 ghost use Rattle.lua_shortcuts.specs.Calls.{GivesAt, CallGives, GivesCall, GivesList, BinaryGives, CallReturns, RunsAt, IsCall, all_of};
 
 use crate::bodies::{End, Plan, block_end, plan_of};
@@ -320,7 +320,7 @@ fn run_call(site: &Site, slots: &[Slot], store: &mut Store, stmt: &Stmt, x: &Exp
     }
 }
 
-/// Does what the plan of a statement says, if that gives one value to one local variable.
+/// Does what the plan of a statement says, if that changes no more than one local variable.
 fn run_plan(
     site: &Site,
     slots: &mut Vec<Slot>,
@@ -328,7 +328,8 @@ fn run_plan(
     stmt: &Stmt,
     plan: Plan<'_>,
 ) -> bool
-    requires { Follows plan stmt.now slots.old.items }
+    requires follows { Follows plan stmt.now slots.old.items store.old.heap }
+    requires few { more_of plan < step_limit + 3 }
     ensures { RunsAt site.now site.now.levels result stmt.now slots.old.items store.old slots.new.items store.new }
 {
     match plan {
@@ -336,7 +337,7 @@ fn run_plan(
             None => false,
             Some(v) => {
                 let Valued { value, steps } = v;
-                let steps = steps + more as u64;
+                let steps = steps + more;
                 if !affords(store, steps) {
                     return false;
                 }
@@ -345,21 +346,28 @@ fn run_plan(
                 true
             }
         },
+        Plan::Counts(steps) => {
+            if !affords(store, steps) {
+                return false;
+            }
+            let _ = store.count(steps);
+            true
+        }
         _ => false,
     }
 }
 
-/// A statement that gives one value to one local variable.
+/// A statement that changes no more than one local variable.
 fn run_change(site: &Site, slots: &mut Vec<Slot>, store: &mut Store, stmt: &Stmt) -> bool
     ensures { RunsAt site.now site.now.levels result stmt.now slots.old.items store.old slots.new.items store.new }
 {
-    match plan_of(slots, stmt) {
+    match plan_of(slots, store, stmt) {
         Some(plan) => run_plan(site, slots, store, stmt, plan),
         None => false,
     }
 }
 
-/// Runs a statement in which functions are called, if that goes at once; if not, nothing is changed.
+/// Runs a statement with tests or calls of functions, if that goes at once; if not, nothing is changed.
 pub(crate) fn run_with_calls(
     site: &Site,
     slots: &mut Vec<Slot>,

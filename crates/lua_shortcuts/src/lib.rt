@@ -2,6 +2,7 @@
 #![tactic(auto)]
 
 mod bodies;
+mod branches;
 mod calls;
 mod concatenation;
 mod counting;

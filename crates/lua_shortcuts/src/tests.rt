@@ -1,23 +1,25 @@
-//! Tests: comparisons of numbers, and constants.
+//! Tests: comparisons of numbers, constants, and what stands in variables and tables.
 
 ghost use Rattle.std.specs.Prelude.{◌≡◌, ◌<◌, ◌+◌, ◌*◌, IfSome, MatchOption, if◌then◌else◌};
 ghost use Rattle.lua_values.specs.declared.values.Value.TheVariants.{Truth};
 ghost use Rattle.lua_values.specs.Heap.{step_limit};
-ghost use Rattle.lua_shortcuts.specs.Gives.{Gives, GivesBinary};
+ghost use Rattle.lua_shortcuts.specs.Gives.{GivesBinary, Tells};
 ghost use Rattle.lua_shortcuts.specs.Runs.{Tests};
 
 use crate::numbers::{LEVELS, number_of};
 use crate::operators::compared;
+use crate::places::seen_of;
 use crate::steps::affords;
-use lua_ast::{BinOp, Expr, ExprKind};
+use lua_ast::{BinOp, Expr, ExprKind, UnOp};
 use lua_meaning::Slot;
+use lua_operators::is_truthy;
 use lua_values::Store;
 
 /// Whether a test holds, and how many steps it counts.
 #[derive(Clone, Copy)]
-struct Tested {
-    holds: bool,
-    steps: u64,
+pub(crate) struct Tested {
+    pub holds: bool,
+    pub steps: u64,
 }
 
 /// Whether a comparison of two expressions of numbers holds; `None` of any other operator.
@@ -35,10 +37,23 @@ fn compared_of(slots: &[Slot], store: &Store, operator: BinOp, a: &Expr, b: &Exp
     })
 }
 
-/// Whether a constant holds, or a comparison of expressions of numbers; `None` of any other test.
+/// Whether what stands in a variable or in a table is neither false nor nil.
 #[inline(always)]
-fn test_of(slots: &[Slot], store: &Store, x: &Expr) -> Option<Tested>
-    ensures gives { IfSome result (λ t. Gives x.now slots.now store.now.heap (Truth t.holds) t.steps) }
+fn seen_test(slots: &[Slot], store: &Store, x: &Expr) -> Option<Tested>
+    ensures tells { IfSome result (λ t. Tells x.now slots.now store.now.heap t.holds t.steps) }
+    ensures few { IfSome result (λ t. t.steps < 2 * step_limit) }
+{
+    let seen = seen_of(slots, store, x, LEVELS)?;
+    Some(Tested {
+        holds: is_truthy(seen.value),
+        steps: seen.steps,
+    })
+}
+
+/// Whether a constant, a comparison of expressions of numbers, or what stands in a variable or in a table holds; `None` of any other test.
+#[inline(always)]
+fn plain_test_of(slots: &[Slot], store: &Store, x: &Expr) -> Option<Tested>
+    ensures tells { IfSome result (λ t. Tells x.now slots.now store.now.heap t.holds t.steps) }
     ensures few { IfSome result (λ t. t.steps < 2 * step_limit) }
 {
     match &x.kind {
@@ -51,14 +66,35 @@ fn test_of(slots: &[Slot], store: &Store, x: &Expr) -> Option<Tested>
             steps: 1,
         }),
         ExprKind::Binary(operator, a, b) => compared_of(slots, store, *operator, a, b),
-        _ => None,
+        _ => seen_test(slots, store, x),
+    }
+}
+
+/// Whether a test holds, or `not` of one, if that is there at once.
+#[inline(always)]
+pub(crate) fn test_of(slots: &[Slot], store: &Store, x: &Expr) -> Option<Tested>
+    ensures tells { IfSome result (λ t. Tells x.now slots.now store.now.heap t.holds t.steps) }
+    ensures few { IfSome result (λ t. t.steps < 2 * step_limit + 1) }
+{
+    match &x.kind {
+        ExprKind::Unary(operator, a) => match operator {
+            UnOp::Not => {
+                let test = plain_test_of(slots, store, a)?;
+                Some(Tested {
+                    holds: !test.holds,
+                    steps: test.steps + 1,
+                })
+            }
+            _ => None,
+        },
+        _ => plain_test_of(slots, store, x),
     }
 }
 
 /// The steps of a test, and where it holds the one of the turn that begins.
 #[inline(always)]
 fn steps_of(test: Tested) -> u64
-    requires { test.steps < 2 * step_limit }
+    requires { test.steps < 2 * step_limit + 1 }
     ensures { result ≡ (if test.holds then test.steps + 1 else test.steps) }
 {
     if test.holds {

@@ -1,4 +1,5 @@
 //! What small programs come to, with their steps and the units that they take.
+mod branches;
 mod calls;
 mod handlers;
 mod iterations;

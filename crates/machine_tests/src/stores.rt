@@ -147,6 +147,62 @@ set 0 1 1 = ok
 border 0 = 5
 border 1 = 0";
 
+/// What is at `__index`: before it is set, after other keys and before more, set to nil and again, among more than eight keys, in a copy, and of what
+/// isn't there.
+const LINKS: &str = "\
+link 0 = nil
+link 9 = nil
+set 0 1 1 = ok
+set 0 2 2 = ok
+set 0 'index 3 = ok
+set 0 '__inde 4 = ok
+set 0 '__newindex 5 = ok
+set 0 '__indexx 6 = ok
+link 0 = nil
+set 0 '__index nil = ok
+link 0 = nil
+set 0 '__index 7 = ok
+link 0 = 7
+set 0 3 8 = ok
+set 0 'a 9 = ok
+link 0 = 7
+set 0 '__index nil = ok
+link 0 = nil
+get 0 '__index = nil
+set 0 '__index table:0 = ok
+link 0 = table:0
+get 0 '__index = table:0
+walk 0 = 1 2 3 4 5 6 table:0 8 9
+make_table = 1
+link 1 = nil
+set 1 'a 1 = ok
+set 1 'b 2 = ok
+set 1 'c 3 = ok
+set 1 'd 4 = ok
+set 1 'e 5 = ok
+set 1 'f 6 = ok
+set 1 'g 7 = ok
+set 1 'h 8 = ok
+set 1 'i 9 = ok
+link 1 = nil
+set 1 '__index 10 = ok
+set 1 'j 11 = ok
+link 1 = 10
+copy
+store 1
+link 0 = table:0
+link 1 = 10
+set 1 '__index 12 = ok
+link 1 = 12
+store 0
+link 1 = 10
+freeze
+set 1 '__index 13 = frozen
+link 1 = 10
+replace
+link 1 = 10
+link 0 = table:0";
+
 /// Each fault alone and two at once, of a table and a cell that are frozen, of others, and of what isn't there.
 const FAULTS: &str = "\
 set 0 1 1 = ok
@@ -369,6 +425,7 @@ fn scripts_give_their_answers(rt: HostRuntime) {
     hold(&rt, rt.alloc(), NIL_AT_A_KEY);
     hold(&rt, rt.alloc(), EMPTIED);
     hold(&rt, rt.alloc(), BORDERS);
+    hold(&rt, rt.alloc(), LINKS);
     hold(&rt, rt.alloc(), FAULTS);
     hold(&rt, rt.alloc(), COUNTS);
     hold(&rt, rt.alloc(), SHIFTS);

@@ -4,7 +4,8 @@ use Rattle.lua_ast.specs.declared.expressions.Expr.{Expr}
 use Rattle.lua_ast.specs.declared.statements.Stmt.{Stmt}
 use Rattle.lua_shortcuts.specs.Calls.{GivesList}
 use Rattle.lua_shortcuts.proofs.CallLemmas.{none_given, one_given, all_given, call_gives, binary_gives, call_does, closure_returns, block_returns}
-use Rattle.lua_shortcuts.proofs.BodyLemmas.{goes, returns}
+use Rattle.lua_shortcuts.proofs.BodyLemmas.{goes, returns, if_some}
+use Rattle.lua_shortcuts.proofs.BranchLemmas.{if_ends, if_kind}
 use Rattle.lua_shortcuts.proofs.+calls.Goals as goal
 
 pub bodies::block_end-loop-i-preserved : goal.bodies::block_end-loop-i-preserved
@@ -18,6 +19,35 @@ pub bodies::block_end-returns-in-Returned-clause-gives : goal.bodies::block_end-
 bodies::block_end-returns-in-Returned-clause-gives t c =
     returns c.args.site.now c.args.levels c.args.stmts.now c.in_ok-stmt.stmt.now c.loop-i.i c.args.slots.now.items c.loop-i.slots.items c.stmt_end.new.slots.items c.args.store.now.heap _ c.loop-i.steps c.in_ok-end.field-0.steps (c.loop-i.steps + c.in_ok-end.field-0.steps)
     c.in_ok-stmt.ensures c.loop-i.invariant.0 (rw c.in-Returned.is at c.in_ok-end.ensures.gives) refl
+
+pub bodies::if_end-returns-clause-gives : goal.bodies::if_end-returns-clause-gives
+bodies::if_end-returns-clause-gives t c = λ st is.
+    if_ends c.args.site.now c.args.levels (c.args.levels - 1) c.args.arms.now.value.items c.args.last.now.value.items c.in_ok-chosen.chosen.body.now st c.args.slots.now.items c.block_end.new.slots.items c.args.store.now.heap _ c.in_ok-chosen.chosen.steps c.in_ok-end.field-0.steps (c.in_ok-end.field-0.steps + c.in_ok-chosen.chosen.steps + 1)
+    is (rw c.deref.ensures.value at c.in_ok-chosen.ensures.chooses) c.in_ok-end.ensures.gives (omega arith) refl
+
+pub bodies::stmt_end-returns-in-If-clause-gives : goal.bodies::stmt_end-returns-in-If-clause-gives
+bodies::stmt_end-returns-in-If-clause-gives t c =
+    if_some c.if_end.result _ _ (λ r ends. ends c.args.stmt.now (if_kind c.args.stmt.now c.in-If.arms c.in-If.last c.in-If.is)) c.if_end.ensures.gives
+
+pub bodies::stmt_end-returns-in-Leaves-clause-gives : goal.bodies::stmt_end-returns-in-Leaves-clause-gives
+bodies::stmt_end-returns-in-Leaves-clause-gives t c =
+    let follows = rw (c.in-Leaves.is, c.deref.ensures.value) at (c.in_ok-plan.ensures.follows c.args.store.now.heap) in
+    follows c.args.site.now c.args.levels
+
+pub bodies::stmt_end-returns-in_ok-value-in-Gives-clause-gives : goal.bodies::stmt_end-returns-in_ok-value-in-Gives-clause-gives
+bodies::stmt_end-returns-in_ok-value-in-Gives-clause-gives t c =
+    let follows = rw (c.in-Gives.is, c.deref.ensures.value) at (c.in_ok-plan.ensures.follows c.args.store.now.heap) in
+    follows c.args.site.now c.args.levels c.in_ok-value-in-Gives.field-0.value c.in_ok-value-in-Gives.field-0.steps (rw c.deref-in-Gives.ensures.value at c.in_ok-value-in-Gives.ensures.gives)
+
+pub bodies::stmt_end-returns-in_ok-value-in-Sets-clause-gives : goal.bodies::stmt_end-returns-in_ok-value-in-Sets-clause-gives
+bodies::stmt_end-returns-in_ok-value-in-Sets-clause-gives t c =
+    let follows = rw (c.in-Sets.is, c.deref.ensures.value) at (c.in_ok-plan.ensures.follows c.args.store.now.heap) in
+    rw (c.put_value.ensures) (follows c.args.site.now c.args.levels c.in_ok-value-in-Sets.field-0.value c.in_ok-value-in-Sets.field-0.steps (rw c.deref-in-Sets.ensures.value at c.in_ok-value-in-Sets.ensures.gives))
+
+pub bodies::stmt_end-returns-in-Counts-clause-gives : goal.bodies::stmt_end-returns-in-Counts-clause-gives
+bodies::stmt_end-returns-in-Counts-clause-gives t c =
+    let follows = rw (c.in-Counts.is, c.deref.ensures.value) at (c.in_ok-plan.ensures.follows c.args.store.now.heap) in
+    follows c.args.site.now c.args.levels
 
 pub calls::called_of-returns-in_ok-end-in-Closure-clause-gives : goal.calls::called_of-returns-in_ok-end-in-Closure-clause-gives
 calls::called_of-returns-in_ok-end-in-Closure-clause-gives t c =

@@ -42,3 +42,6 @@ invariant-bodies::block_end-loop-i l = Going l.site l.levels l.stmts l.i l.fn.sl
 
 abbrev pub decreases-bodies::block_end-loop-i : goal.decreases-bodies::block_end-loop-i
 decreases-bodies::block_end-loop-i l = length l.stmts - l.i
+
+abbrev pub decreases-bodies::if_end : goal.decreases-bodies::if_end
+decreases-bodies::if_end l = 10 * l.levels + 2

@@ -15,10 +15,17 @@ local t = setmetatable({}, {}) local y = t.x return y => Done nil | 13, 64
 local t = setmetatable({}, {__index = function(t, k) return k end}) local y = t.x return y => Done \"x\" | 18, 128
 local t = setmetatable({}, {__index = 5}) local y = t.x return y => Failed \"t.conf:1: attempt to index a number value\" | 14, 96";
 
+/// An `__index` that is set once the metatable is one, among more than eight keys, and that is set to nil.
+const LATER: &str = "\
+local m = {a=1,b=2,c=3,d=4,e=5,f=6,g=7,h=8} local t = setmetatable({}, m) m.__index = {x = 9} local y = t.x return y => Done 9 | 39, 416
+local m = {} local t = setmetatable({}, m) local a = t.x m.__index = {x = 1} local b = t.x m.__index = nil local c = t.x return a, b, c \
+=> Done nil, 1, nil | 38, 160";
+
 #[test]
 fn links_lead_to_what_tables_have(rt: HostRuntime) {
     hold(&rt, rt.alloc(), FOUND);
     hold(&rt, rt.alloc(), OTHERS);
+    hold(&rt, rt.alloc(), LATER);
 }
 
 /// Loops of links that take all steps but the last, and one in which the last step is a link.

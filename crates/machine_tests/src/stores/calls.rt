@@ -78,7 +78,7 @@ fn see_of(alloc: Global, all: &mut String, stores: &mut Stores, name: &str, give
 /// Writes what a call answers.
 fn see(alloc: Global, all: &mut String, store: &mut Store, name: &str, given: &str) {
     match name {
-        "get" | "next" | "walk" | "border" | "metatable" => {
+        "get" | "next" | "walk" | "border" | "metatable" | "link" => {
             see_table(alloc, all, store, name, given);
         }
         "set" | "set_metatable" | "set_cell" | "shift" | "add_units" => {
@@ -102,6 +102,7 @@ fn see_table(alloc: Global, all: &mut String, store: &Store, name: &str, given: 
         "walk" => see_pairs(all, store, t, false),
         "border" => put_number(all, "", store.border(t)),
         "metatable" => see_optional(all, store.metatable(t)),
+        "link" => see_value(all, store.get_link(t)),
         _ => see_at(all, store, t, &value(alloc, key), name == "next"),
     }
 }

@@ -3,8 +3,8 @@ use Rattle.lua_ast.specs.declared.expressions.Expr.{Expr}
 use Rattle.lua_shortcuts.proofs.BodyLemmas.{assigned_changes}
 use Rattle.lua_shortcuts.proofs.bodies.assigned_plan.Goals as goal
 
-pub returns-in_ok-x-in-Slot : goal.returns-in_ok-x-in-Slot
-returns-in_ok-x-in-Slot c = λ st is site levels h u n g.
+pub returns-in_ok-x-in-Slot-clause-follows : goal.returns-in_ok-x-in-Slot-clause-follows
+returns-in_ok-x-in-Slot-clause-follows c = λ st is h site levels u n g.
     let targets : c.as_slice.result.now ≡ c.args.targets.now.value.items = c.as_slice.ensures.value ∙ ap (λ (v : Vec Expr Global). v.items) c.deref.ensures in
     let values : c.as_slice-in-Slot.result.now ≡ c.args.xs.now.value.items = c.as_slice-in-Slot.ensures.value ∙ ap (λ (v : Vec Expr Global). v.items) c.deref-in-Slot.ensures in
     assigned_changes site levels st c.args.targets.now.value.items c.args.xs.now.value.items c.in_ok-target.target.now c.in_ok-x-in-Slot.x.now c.in-Slot.i n (n + 2) u c.args.slots.now h

@@ -1,14 +1,9 @@
-use Rattle.lua_shortcuts.proofs.RunLemmas.{locals_kind, assignments_kind}
-use Rattle.lua_shortcuts.proofs.CallLemmas.{return_kind}
 use Rattle.lua_shortcuts.proofs.BodyLemmas.{if_some}
+use Rattle.lua_shortcuts.proofs.BranchLemmas.{if_kind}
 use Rattle.lua_shortcuts.proofs.bodies.plan_of.Goals as goal
 
-pub returns-in-Local : goal.returns-in-Local
-returns-in-Local c =
-    if_some c.local_plan.result _ _ (λ q follows. follows c.args.stmt.now (locals_kind c.args.stmt.now c.in-Local.places c.in-Local.xs c.in-Local.is) c.args.slots.now) c.local_plan.ensures
+pub returns-in-If-clause-follows : goal.returns-in-If-clause-follows
+returns-in-If-clause-follows c = if_some c.if_plan.result _ _ (λ q follows. follows c.args.stmt.now (if_kind c.args.stmt.now c.in-If.arms c.in-If.last c.in-If.is)) c.if_plan.ensures.follows
 
-pub returns-in-Assign : goal.returns-in-Assign
-returns-in-Assign c = if_some c.assigned_plan.result _ _ (λ q follows. follows c.args.stmt.now (assignments_kind c.args.stmt.now c.in-Assign.targets c.in-Assign.xs c.in-Assign.is)) c.assigned_plan.ensures
-
-pub returns-in-Return : goal.returns-in-Return
-returns-in-Return c = if_some c.returned_plan.result _ _ (λ q follows. follows c.args.stmt.now (return_kind c.args.stmt.now c.in-Return.xs c.in-Return.is) c.args.slots.now) c.returned_plan.ensures
+pub returns-in_default-clause-follows : goal.returns-in_default-clause-follows
+returns-in_default-clause-follows c = if_some c.plain_plan.result _ _ (λ q follows. follows c.args.store.now.heap) c.plain_plan.ensures.follows
