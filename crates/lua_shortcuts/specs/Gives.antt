@@ -1,5 +1,5 @@
 -- Expressions whose value is known from the local variables and the heap alone (Lua 5.1 Reference Manual, 2.5).
-use Rattle.std.specs.Prelude.{◌≡◌, ℕ, ◌+◌, ◌<◌, Bool, List, [], ◌∷◌, ℤ}
+use Rattle.std.specs.Prelude.{◌≡◌, ℕ, ◌+◌, ◌/◌, ◌<◌, Bool, List, [], ◌∷◌, length, ℤ}
 use Rattle.std.specs.declared.rc.Rc.{Rc}
 use Rattle.std.specs.declared.alloc.Global.{Global}
 use Rattle.lua_ast.specs.declared.expressions.BinOp.{BinOp}
@@ -7,13 +7,14 @@ use Rattle.lua_ast.specs.declared.expressions.Expr.{Expr}
 use Rattle.lua_ast.specs.declared.expressions.ExprKind.{out-ExprKind}
 use Rattle.lua_ast.specs.declared.expressions.ExprKind.TheOpen as e
 use Rattle.lua_values.specs.declared.values.Value.{Value}
-use Rattle.lua_values.specs.declared.values.Value.TheVariants.{Number, Table}
+use Rattle.lua_values.specs.declared.values.Value.TheVariants.{Number, Text, Table}
 use Rattle.lua_values.specs.Heap.{Heap, StoreView, step_limit}
 use Rattle.lua_operators.specs.Types.{is_truthy}
 use Rattle.lua_meaning.specs.Works.{Caller, Places, Slots, AValue, AnExpr, Values}
 use Rattle.lua_meaning.specs.Evaluator.{State, Ended, do_work}
 use Rattle.lua_meaning.specs.Setting.{Setting}
 use Rattle.lua_meaning.specs.Signs.{give_one}
+use Rattle.lua_meaning.specs.Comparison.{equality_work}
 use Rattle.lua_meaning.specs.Operators.{binary_work}
 use Rattle.lua_meaning.specs.Indexing.{index_work}
 use Rattle.lua_meaning.specs.Nodes.{eval}
@@ -47,6 +48,15 @@ Operates o a b v = (S : Setting) (callers : List Caller) (s : Slots) → binary_
 abbrev pub GivesBinary : BinOp → Expr → Expr → Slots → Heap → Value → ℕ → Type 0
 GivesBinary o a b s h v n =
     (x : Expr) (left right : Rc Expr Global) → out-ExprKind x.kind ≡ e.Binary o left right → left.value ≡ a → right.value ≡ b → Gives x s h v n
+
+-- an operator is `==`, or `~=` where false is wanted
+abbrev pub Equates : BinOp → Bool → Type 0
+Equates o wanted = (S : Setting) (callers : List Caller) (a b : Value) (s : Slots) → binary_work S callers o a b s ≡ equality_work S callers wanted a b s
+
+-- how many steps are counted for the bytes of two values that are compared
+abbrev pub text_steps : Value → Value → ℕ
+text_steps (Text a) (Text b) = (length a + length b) / 64
+text_steps a b = 0
 
 -- `t[key]` of a table gives a value and counts n steps, wherever it is evaluated with this heap, if the steps are left. Nothing else is changed.
 pub record HasAt (h : Heap) (t : ℕ) (key v : Value) (n : ℕ) : Type 0 where

@@ -12,16 +12,13 @@ ghost use Rattle.lua_shortcuts.specs.Joining.{Makes, MakesBinary, Joins, TakesIf
 use crate::numbers::LEVELS;
 use crate::places::{Valued, value_of};
 use crate::statements::put_value;
-use crate::steps::{STEP_LIMIT, affords};
+use crate::steps::{BYTES_OF_A_STEP, STEP_LIMIT, affords};
 use lua_ast::{BinOp, Expr, ExprKind};
 use lua_meaning::Slot;
 use lua_operators::{Outcome, concatenated};
 use lua_values::{Store, Value};
 use resty_base::Bytes;
 use std::alloc::Global;
-
-/// How many bytes of text one step pays for.
-const BYTES_OF_A_STEP: u64 = 64;
 
 /// The units of a text beside its bytes.
 const TEXT_UNITS: u64 = 16;

@@ -8,6 +8,9 @@ use lua_values::Store;
 /// The most steps of a run.
 pub(crate) const STEP_LIMIT: u64 = 1_000_000;
 
+/// How many bytes of text one step pays for.
+pub(crate) const BYTES_OF_A_STEP: u64 = 64;
+
 /// Whether so many steps more stay below the limit.
 #[inline(always)]
 pub(crate) fn affords(store: &Store, n: u64) -> bool
