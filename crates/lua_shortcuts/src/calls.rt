@@ -14,10 +14,10 @@ ghost use Rattle.lua_shortcuts.specs.Bodies.{Follows, more_of, sign_of};
 ghost use Rattle.lua_shortcuts.specs.Calls.{GivesAt, CallGives, GivesCall, GivesList, BinaryGives, CallReturns, RunsAt, IsCall, all_of};
 
 use crate::bodies::{End, Plan, block_end, plan_of};
-use crate::numbers::{Counted, LEVELS};
+use crate::numbers::{Counted, LEVELS, number_of};
 use crate::operators::computed;
 use crate::places::{Seen, Valued, seen_of, value_of};
-use crate::statements::put_value;
+use crate::statements::{put, put_value};
 use crate::steps::{STEP_LIMIT, affords};
 use lua_ast::{BinOp, Expr, ExprKind, Function, Program, Stmt, StmtKind};
 use lua_meaning::Slot;
@@ -333,18 +333,29 @@ fn run_plan(
     ensures { RunsAt site.now site.now.levels result stmt.now slots.old.items store.old slots.new.items store.new }
 {
     match plan {
-        Plan::Sets(slot, x, more) => match value_at(site, slots, store, x, site.levels) {
-            None => false,
-            Some(v) => {
-                let Valued { value, steps } = v;
-                let steps = steps + more;
+        Plan::Sets(slot, x, more) => match number_of(slots, store, x, LEVELS) {
+            Some(n) => {
+                let steps = n.steps + more;
                 if !affords(store, steps) {
                     return false;
                 }
-                put_value(slots, slot, value);
+                put(slots, slot, n.number);
                 let _ = store.count(steps);
                 true
             }
+            None => match value_at(site, slots, store, x, site.levels) {
+                None => false,
+                Some(v) => {
+                    let Valued { value, steps } = v;
+                    let steps = steps + more;
+                    if !affords(store, steps) {
+                        return false;
+                    }
+                    put_value(slots, slot, value);
+                    let _ = store.count(steps);
+                    true
+                }
+            },
         },
         Plan::Counts(steps) => {
             if !affords(store, steps) {

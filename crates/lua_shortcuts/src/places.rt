@@ -9,7 +9,7 @@ ghost use Rattle.lua_meaning.specs.Metatables.{handler};
 ghost use Rattle.lua_meaning.specs.Variables.{in_slot};
 ghost use Rattle.lua_shortcuts.specs.Gives.{Gives, GivesGlobal, GivesIndex, HasAfter};
 
-use crate::numbers::number_of;
+use crate::numbers::{LEVELS, number_of};
 use crate::steps::STEP_LIMIT;
 use lua_ast::{Expr, ExprKind};
 use lua_meaning::Slot;
@@ -50,6 +50,19 @@ pub(crate) fn seen_of<'a>(
     }
 }
 
+/// The same, of a variable without the way through an expression.
+#[inline(always)]
+pub(crate) fn found_of<'a>(slots: &'a [Slot], store: &'a Store, x: &Expr) -> Option<Seen<'a>>
+    ensures gives { IfSome result (λ seen. Gives x.now slots.now store.now.heap seen.value.now seen.steps) }
+    ensures few { IfSome result (λ seen. seen.steps < step_limit) }
+{
+    match &x.kind {
+        ExprKind::Slot(i) => seen_in_slot(slots, store, *i),
+        ExprKind::Global(name) => seen_global(store, name),
+        _ => seen_of(slots, store, x, LEVELS),
+    }
+}
+
 /// What stands in a slot, or in the cell that it shares.
 #[inline(always)]
 fn seen_in_slot<'a>(slots: &'a [Slot], store: &'a Store, i: u8) -> Option<Seen<'a>>
@@ -67,7 +80,7 @@ fn seen_in_slot<'a>(slots: &'a [Slot], store: &'a Store, i: u8) -> Option<Seen<'
 }
 
 /// What the global table has at a name.
-pub(crate) fn seen_global<'a>(store: &'a Store, name: &Bytes) -> Option<Seen<'a>>
+fn seen_global<'a>(store: &'a Store, name: &Bytes) -> Option<Seen<'a>>
     ensures gives { IfSome result (λ seen. GivesGlobal name.now store.now.heap seen.value.now seen.steps) }
     ensures few { IfSome result (λ seen. seen.steps < step_limit) }
 {

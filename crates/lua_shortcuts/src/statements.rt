@@ -16,7 +16,7 @@ use crate::calls::{Site, run_with_calls};
 use crate::concatenation::{run_joined_assignment, run_joined_local};
 use crate::entries::{run_global, run_store};
 use crate::numbers::{LEVELS, number_of};
-use crate::places::{Seen, Valued, seen_global, seen_of, value_of};
+use crate::places::{Valued, found_of, value_of};
 use crate::steps::affords;
 use lua_ast::{Expr, ExprKind, Stmt, StmtKind};
 use lua_meaning::Slot;
@@ -83,18 +83,6 @@ fn is_looked_up(x: &Expr) -> bool {
     match &x.kind {
         ExprKind::Global(_) | ExprKind::Index(_, _) => true,
         _ => false,
-    }
-}
-
-/// Where what is looked up in a table stands.
-#[inline(always)]
-fn found_of<'a>(slots: &'a [Slot], store: &'a Store, x: &Expr) -> Option<Seen<'a>>
-    ensures gives { IfSome result (λ seen. Gives x.now slots.now store.now.heap seen.value.now seen.steps) }
-    ensures few { IfSome result (λ seen. seen.steps < step_limit) }
-{
-    match &x.kind {
-        ExprKind::Global(name) => seen_global(store, name),
-        _ => seen_of(slots, store, x, LEVELS),
     }
 }
 

@@ -9,7 +9,7 @@ ghost use Rattle.lua_shortcuts.specs.Runs.{Tests};
 
 use crate::numbers::{LEVELS, number_of};
 use crate::operators::compared;
-use crate::places::{seen_of, value_of};
+use crate::places::{found_of, value_of};
 use crate::steps::{BYTES_OF_A_STEP, STEP_LIMIT, affords};
 use lua_ast::{BinOp, Expr, ExprKind, UnOp};
 use lua_meaning::Slot;
@@ -124,7 +124,7 @@ fn seen_test(slots: &[Slot], store: &Store, x: &Expr) -> Option<Tested>
     ensures tells { IfSome result (λ t. Tells x.now slots.now store.now.heap t.holds t.steps) }
     ensures few { IfSome result (λ t. t.steps < 4 * step_limit) }
 {
-    let seen = seen_of(slots, store, x, LEVELS)?;
+    let seen = found_of(slots, store, x)?;
     Some(Tested {
         holds: is_truthy(seen.value),
         steps: seen.steps,
