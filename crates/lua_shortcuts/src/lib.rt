@@ -1,4 +1,5 @@
-//! Shortcuts of the machine: expressions, assignments, loops and calls that want no handler are run at once, and what a table lacks is found in its `__index`.
+//! Shortcuts of the machine: expressions, assignments, `if`s, loops and calls that want no handler are run at once, and what a table lacks is found in its
+//! `__index`.
 #![tactic(auto)]
 
 mod bodies;
