@@ -3,3 +3,4 @@ pub mod Cutting
 pub mod Dropping
 pub mod Feeds
 pub mod Serving
+pub mod FeedAnswers

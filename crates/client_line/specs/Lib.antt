@@ -5,3 +5,9 @@ pub mod Messages
 pub mod Serving
 pub mod Views
 pub mod Readings
+pub mod HeadAnswers
+pub mod Feeding
+pub mod MessageAnswers
+pub mod PieceLaws
+pub mod HeadLaws
+pub mod MessageLaws

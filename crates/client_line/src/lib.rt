@@ -1,6 +1,7 @@
 //! The connection of a client: the bytes that come, cut into requests, and the bytes that wait to be sent.
 #![tactic(auto)]
 
+pub mod answers;
 mod at;
 mod bodies;
 mod heads;

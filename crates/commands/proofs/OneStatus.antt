@@ -5,7 +5,7 @@ use Rattle.resty_world.specs.declared.schedule_line.SchedLine.{SchedLine}
 use Rattle.schedule_text.specs.Accepted.{IsRead, IsRefusedAt}
 use Rattle.schedule_text.specs.Fitting.{IsSchedule}
 use Rattle.schedule_text.specs.LineTexts.{schedule_text}
-use Rattle.module_files.specs.Files.{Holds, IsTooLong}
+use Rattle.lua_modules.specs.TextsOfFiles.{Holds, IsTooLong}
 use Rattle.site_load.specs.Loading.{IsFault}
 use Rattle.site_load.specs.Same.{SitesAreKnown, NoSiteIsRefused, FaultsAreAlike, is_unread}
 use Rattle.site_load.specs.declared.faults.SiteFault.{SiteFault}

@@ -3,7 +3,7 @@ use Rattle.std.proofs.Common.{◌≡◌, ℕ, List, Option, IfSome, subst}
 use Rattle.resty_base.specs.FileMap.{FileMap}
 use Rattle.resty_world.specs.declared.schedule_line.SchedLine.{SchedLine}
 use Rattle.schedule_text.specs.Accepted.{IsRead, IsRefusedAt}
-use Rattle.module_files.specs.Files.{Holds}
+use Rattle.lua_modules.specs.TextsOfFiles.{Holds}
 use Rattle.commands.specs.Verdict.{HasSchedule, IsBadAt, most_bytes}
 use Rattle.commands.proofs.Names.{weaker_some}
 

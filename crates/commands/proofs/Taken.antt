@@ -19,7 +19,7 @@ use Rattle.strand_contract.specs.Alone.{lives, is_open, was_put_off, IsExecution
 use Rattle.strand_contract.specs.Laws.{Grows, Keeps}
 use Rattle.executions.specs.Executions.{GlobalAction, Of, Everyone, TurnedAway, IdleGave, IdleClosed, projection}
 use Rattle.executions.specs.Histories.{entries_at, entries_of, external}
-use Rattle.strand_laws.specs.Taken.{took}
+use Rattle.execution_laws.specs.Taken.{took}
 use Rattle.commands.specs.Run.{IsRun}
 use Rattle.commands.specs.Taken.{TakesAllBytes, TookAll, bounds}
 use Rattle.commands.proofs.Names.{by_test}

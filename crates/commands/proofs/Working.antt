@@ -25,7 +25,7 @@ use Rattle.commands.specs.Outside.{Outside}
 use Rattle.commands.specs.Reading.{EndsAtSchedule}
 use Rattle.commands.specs.Run.{IsRun, RunsTo, has_dropped}
 use Rattle.lua_run.specs.Answers.{Site}
-use Rattle.module_files.specs.Files.{ReadsWell}
+use Rattle.lua_modules.specs.TextsOfFiles.{ReadsWell}
 use Rattle.site_load.specs.Loading.{HasSite, NotLoaded}
 use Rattle.site_load.specs.declared.faults.SiteFault.{SiteFault}
 use Rattle.site_load.specs.declared.faults.SiteFault.TheVariants as fault

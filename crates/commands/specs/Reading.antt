@@ -2,7 +2,7 @@
 use Rattle.std.specs.Prelude.{◌≡◌, ℕ, List, None, IfSome}
 use Rattle.resty_base.specs.Counting.{Rose}
 use Rattle.resty_base.specs.FileMap.{FileAccount}
-use Rattle.module_files.specs.Files.{IsTooLong}
+use Rattle.lua_modules.specs.TextsOfFiles.{IsTooLong}
 use Rattle.commands.specs.declared.endings.Ending.{Ending}
 use Rattle.commands.specs.declared.endings.Ending.TheVariants as ending
 use Rattle.commands.specs.Verdict.{IsBadAt, most_bytes}

@@ -8,7 +8,7 @@ use Rattle.strand_contract.specs.declared.turns.Place.TheVariants as place
 use Rattle.strand_contract.specs.Alone.{lives, is_open, IsQuiescent}
 use Rattle.strand_contract.specs.Behaviors.{Behavior}
 use Rattle.executions.specs.Executions.{GlobalAction, projection}
-use Rattle.strand_laws.specs.Taken.{took}
+use Rattle.execution_laws.specs.Taken.{took}
 
 -- no line bounds what a connection or a socket takes
 abbrev pub bounds : SchedLine → Bool

@@ -4,7 +4,7 @@ use Rattle.resty_base.specs.FileMap.{FileMap}
 use Rattle.resty_world.specs.declared.schedule_line.SchedLine.{SchedLine}
 use Rattle.schedule_text.specs.Accepted.{IsRead, IsRefusedAt}
 use Rattle.lua_run.specs.Answers.{Site}
-use Rattle.module_files.specs.Files.{Holds, IsTooLong}
+use Rattle.lua_modules.specs.TextsOfFiles.{Holds, IsTooLong}
 use Rattle.site_load.specs.Loading.{HasSite, IsFault}
 use Rattle.site_load.specs.declared.faults.SiteFault.{SiteFault}
 use Rattle.commands.specs.declared.endings.Ending.{Ending}

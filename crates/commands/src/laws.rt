@@ -8,12 +8,12 @@ ghost use Rattle.commands.specs.Ends.{AreOfOneStatus};
 ghost use Rattle.commands.specs.Run.{IsRun, IsKnownByItsText};
 ghost use Rattle.commands.specs.Taken.{TakesAllBytes, TookAll};
 
+use execution_laws::strands::what_was_taken;
 use schedule::{
     a_history_is_known_by_its_text, a_schedule_is_known_by_its_text, no_schedule_is_refused,
 };
 use site_load::sites_are_known;
 use strand_contract::StrandContract;
-use strand_laws::laws::what_was_taken;
 
 /// All verdicts of the same words and files are of one status; and where something is checked, run or served there is only one.
 pub fn one_status()

@@ -2,7 +2,7 @@
 
 ghost use Rattle.std.specs.Prelude.{IfSome, IfOk, IfErr, OnOk};
 ghost use Rattle.schedule_text.specs.Fitting.{IsSchedule};
-ghost use Rattle.module_files.specs.Files.{Holds, ReadsWell};
+ghost use Rattle.lua_modules.specs.TextsOfFiles.{Holds, ReadsWell};
 ghost use Rattle.commands.specs.Reading.{EndsAtSchedule};
 ghost use Rattle.commands.specs.Verdict.{HasSchedule, most_bytes};
 

@@ -11,30 +11,30 @@ use Rattle.strand_contract.specs.Alone.{lives, moment, todo, begun_offer, but, w
 use Rattle.strand_contract.specs.Calls.{answered}
 use Rattle.strand_contract.specs.Laws.{is_still}
 use Rattle.strand_contract.specs.ClientOnlyLaws.{over, clash}
-use Rattle.moves.specs.Questions.{Question, asking, asking_if}
-use Rattle.moves.specs.Questions as question
-use Rattle.moves.specs.Ledgers.{Ledger, has, is_place, left_at, numbers, entered}
-use Rattle.moves.specs.Moves.{Move, Performed, perform}
-use Rattle.moves.specs.Plans.{state_of}
-use Rattle.moves.specs.Conditions.{IsServed}
-use Rattle.moves.specs.Tidiness.{NumbersOnce}
-use Rattle.moves.proofs.Calls.{IsLastGone, ended, answered-asks}
-use Rattle.moves.proofs.Executions.{quiet}
-use Rattle.moves.proofs.Ledgers.{begun-is}
-use Rattle.moves.proofs.Once.{deadlines}
-use Rattle.moves.proofs.Opened.{stays-shut}
-use Rattle.moves.proofs.Places.{shut, same-is, has-append, has-without}
-use Rattle.moves.proofs.PlanLaws.{dead, undropped, lived, leads-to}
-use Rattle.moves.proofs.Tidy.{IsTidyLedger, kept-tidy}
+use Rattle.strand_plans.specs.Questions.{Question, asking, asking_if}
+use Rattle.strand_plans.specs.Questions as question
+use Rattle.strand_plans.specs.Ledgers.{Ledger, has, is_place, left_at, numbers, entered}
+use Rattle.strand_plans.specs.Moves.{Move, Performed, perform}
+use Rattle.strand_plans.specs.Plans.{state_of}
+use Rattle.strand_plans.specs.Conditions.{IsServed}
+use Rattle.strand_plans.specs.Tidiness.{NumbersOnce}
+use Rattle.strand_plans.proofs.Calls.{IsLastGone, ended, answered-asks}
+use Rattle.strand_plans.proofs.Executions.{quiet}
+use Rattle.strand_plans.proofs.Ledgers.{begun-is}
+use Rattle.strand_plans.proofs.Once.{deadlines}
+use Rattle.strand_plans.proofs.Opened.{stays-shut}
+use Rattle.strand_plans.proofs.Places.{shut, same-is, has-append, has-without}
+use Rattle.strand_plans.proofs.PlanLaws.{dead, undropped, lived, leads-to}
+use Rattle.strand_plans.proofs.Tidy.{IsTidyLedger, kept-tidy}
 use Rattle.run_contract.specs.Calls as runs
 use Rattle.run_contract.specs.Conditions.{IsRun}
-use Rattle.connection.specs.Clients.{Stage, Client}
-use Rattle.connection.specs.Clients as stage
-use Rattle.connection.specs.Services.{Service, Both}
-use Rattle.connection.specs.Turns.{is_there, settle, run_turn}
-use Rattle.connection.specs.Conditions.{Agrees, Knows, MayAsk}
-use Rattle.connection.specs.Connections.{connection_plan, connection_behavior, connection_turn, answered as answers}
-use Rattle.connection.proofs.Meets.{meets}
+use Rattle.connection_plan.specs.Clients.{Stage, Client}
+use Rattle.connection_plan.specs.Clients as stage
+use Rattle.connection_plan.specs.Services.{Service, Both}
+use Rattle.connection_plan.specs.Turns.{is_there, settle, run_turn}
+use Rattle.connection_plan.specs.Conditions.{Agrees, Knows, MayAsk}
+use Rattle.connection_plan.specs.Connections.{connection_plan, connection_behavior, connection_turn, answered as answers}
+use Rattle.connection_plan.proofs.Meets.{meets}
 use Rattle.connection_strand.specs.declared.state.Connection.{Connection}
 use Rattle.connection_strand.specs.declared.state.Turn.{Turn}
 use Rattle.connection_strand.specs.Kept.{Kept, kept, kept_of, wants_offer, waits_of}

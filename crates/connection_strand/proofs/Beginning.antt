@@ -4,20 +4,20 @@ use Rattle.strand_contract.specs.declared.turns.Place.TheVariants as place
 use Rattle.strand_contract.specs.declared.turns.Start.{Start}
 use Rattle.strand_contract.specs.declared.turns.Start.TheVariants as start
 use Rattle.strand_contract.specs.Actions.{Did, Began}
-use Rattle.moves.specs.Ledgers.{Ledger, empty_ledger, entered, is_place}
-use Rattle.moves.specs.Moves.{Done, Performed, perform}
-use Rattle.moves.specs.Plans.{unborn_state, stepped}
-use Rattle.moves.proofs.Ledgers.{begun-is}
+use Rattle.strand_plans.specs.Ledgers.{Ledger, empty_ledger, entered, is_place}
+use Rattle.strand_plans.specs.Moves.{Done, Performed, perform}
+use Rattle.strand_plans.specs.Plans.{unborn_state, stepped}
+use Rattle.strand_plans.proofs.Ledgers.{begun-is}
 use Rattle.run_contract.specs.declared.turns.RunTurn.{RunTurn}
 use Rattle.run_contract.specs.Runs.{Waits, waits_at_first, performed}
 use Rattle.run_contract.specs.Calls as calls
 use Rattle.run_contract.specs.Conditions.{IsRun, IsBlank, IsLeft}
-use Rattle.connection.specs.Clients.{new_client}
-use Rattle.connection.specs.Clients as stage
-use Rattle.connection.specs.Services.{Service, Both}
-use Rattle.connection.specs.Timers as timer
-use Rattle.connection.specs.Turns.{begin_timer, run_turn}
-use Rattle.connection.specs.Connections.{connection_plan}
+use Rattle.connection_plan.specs.Clients.{new_client}
+use Rattle.connection_plan.specs.Clients as stage
+use Rattle.connection_plan.specs.Services.{Service, Both}
+use Rattle.connection_plan.specs.Timers as timer
+use Rattle.connection_plan.specs.Turns.{begin_timer, run_turn}
+use Rattle.connection_plan.specs.Connections.{connection_plan}
 use Rattle.connection_strand.specs.declared.state.Connection.{Connection}
 use Rattle.connection_strand.specs.declared.state.Turn.{Turn}
 use Rattle.connection_strand.specs.Kept.{Kept, kept, fresh, waits_of}

@@ -7,24 +7,24 @@ use Rattle.strand_contract.specs.Actions.{LocalAction, Did}
 use Rattle.strand_contract.specs.Alone.{lives, todo, piece, is_some_left, IsExecution}
 use Rattle.strand_contract.specs.Calls.{action_of}
 use Rattle.strand_contract.specs.ClientOnlyLaws.{clash}
-use Rattle.moves.specs.Ledgers.{Ledger, has, left_at}
-use Rattle.moves.specs.Plans.{state_of}
-use Rattle.moves.proofs.Calls.{IsLastGone, shown, ended}
-use Rattle.moves.proofs.PlanLaws.{lived, piece-is}
-use Rattle.moves.proofs.Executions.{is-idle}
+use Rattle.strand_plans.specs.Ledgers.{Ledger, has, left_at}
+use Rattle.strand_plans.specs.Plans.{state_of}
+use Rattle.strand_plans.proofs.Calls.{IsLastGone, shown, ended}
+use Rattle.strand_plans.proofs.PlanLaws.{lived, piece-is}
+use Rattle.strand_plans.proofs.Executions.{is-idle}
 use Rattle.send_queue.specs.Queues as queues
-use Rattle.moves.proofs.Tidy.{IsTidyLedger}
+use Rattle.strand_plans.proofs.Tidy.{IsTidyLedger}
 use Rattle.run_contract.specs.Conditions.{IsRun}
-use Rattle.connection.specs.Services.{Service}
-use Rattle.connection.specs.Conditions.{Knows, MayAsk}
-use Rattle.connection.specs.Connections.{connection_plan, connection_behavior}
-use Rattle.connection.proofs.Meets.{meets}
+use Rattle.connection_plan.specs.Services.{Service}
+use Rattle.connection_plan.specs.Conditions.{Knows, MayAsk}
+use Rattle.connection_plan.specs.Connections.{connection_plan, connection_behavior}
+use Rattle.connection_plan.proofs.Meets.{meets}
 use Rattle.connection_strand.specs.declared.state.Connection.{Connection}
 use Rattle.connection_strand.specs.Kept.{Kept, kept}
 use Rattle.connection_strand.specs.Standing.{IsOn}
 use Rattle.connection_strand.specs.Costs.{whole, left_at as left_at_stage, left_of}
-use Rattle.connection.specs.Clients.{Stage}
-use Rattle.connection.specs.Clients as stage
+use Rattle.connection_plan.specs.Clients.{Stage}
+use Rattle.connection_plan.specs.Clients as stage
 use Rattle.connection_strand.specs.Following.{Follows}
 use Rattle.connection_strand.specs.Shown.{HasPieceAt}
 

@@ -2,17 +2,17 @@
 use Rattle.std.proofs.Common.{◌≡◌, ℕ, List, refl, sym, ap, ◌∙◌, subst}
 use Rattle.client_line.specs.declared.requests.LineOut.{LineOut}
 use Rattle.client_line.specs.Lines.{IsFed}
-use Rattle.line_answers.specs.Feeding.{Fed, fed}
-use Rattle.line_answers.proofs.Feeds.{fed-only}
-use Rattle.moves.specs.Ledgers.{Ledger}
-use Rattle.moves.specs.Moves.{Look, Performed, perform}
+use Rattle.client_line.specs.Feeding.{Fed, fed}
+use Rattle.client_line.proofs.FeedAnswers.{fed-only}
+use Rattle.strand_plans.specs.Ledgers.{Ledger}
+use Rattle.strand_plans.specs.Moves.{Look, Performed, perform}
 use Rattle.run_contract.specs.Alike.{AreAlike}
 use Rattle.run_contract.specs.Conditions.{IsRun}
-use Rattle.connection.specs.Clients.{Stage}
-use Rattle.connection.specs.Clients as stage
-use Rattle.connection.specs.Services.{Service, Both}
-use Rattle.connection.specs.Turns.{change}
-use Rattle.connection.specs.Connections.{came_at}
+use Rattle.connection_plan.specs.Clients.{Stage}
+use Rattle.connection_plan.specs.Clients as stage
+use Rattle.connection_plan.specs.Services.{Service, Both}
+use Rattle.connection_plan.specs.Turns.{change}
+use Rattle.connection_plan.specs.Connections.{came_at}
 use Rattle.connection_strand.specs.declared.state.Connection.{Connection}
 use Rattle.connection_strand.specs.declared.state.Turn.{Turn}
 use Rattle.connection_strand.specs.Kept.{Kept, kept}

@@ -1,10 +1,10 @@
 -- What calls cost.
 use Rattle.std.proofs.Common.{◌≡◌, ℕ, ◌≤◌, ◌+◌, ◌*◌, Bool, true, false, not, List, [], ◌∷◌, ◌++◌, length, Option, refl, ap, ◌∙◌, arith, length-append}
 use Rattle.strand_contract.specs.declared.turns.Act.{Act}
-use Rattle.connection.specs.Clients.{Stage}
-use Rattle.connection.specs.Clients as stage
-use Rattle.connection.specs.Timers.{Timer}
-use Rattle.connection.specs.Timers as timer
+use Rattle.connection_plan.specs.Clients.{Stage}
+use Rattle.connection_plan.specs.Clients as stage
+use Rattle.connection_plan.specs.Timers.{Timer}
+use Rattle.connection_plan.specs.Timers as timer
 use Rattle.connection_strand.specs.declared.state.Connection.{Connection}
 use Rattle.connection_strand.specs.declared.state.Turn.{Turn}
 use Rattle.connection_strand.specs.Kept.{Kept, kept, with_armed, is_armed}

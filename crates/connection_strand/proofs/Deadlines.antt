@@ -2,13 +2,13 @@
 use Rattle.std.proofs.Common.{◌≡◌, ℕ, ◌==◌, ◌||◌, Bool, true, false, List, [], ◌∷◌, ◌++◌, if◌then◌else◌, refl, sym, ap, ◌∙◌, subst, eqb-true, eq-eqb}
 use Rattle.resty_base.specs.declared.names.Ms.{Ms}
 use Rattle.strand_contract.specs.Alone.{without, disarmed}
-use Rattle.moves.specs.Ledgers.{Ledger, has_number, numbers}
-use Rattle.moves.specs.Moves.{with_deadline, without_deadline}
-use Rattle.moves.specs.Tidiness.{NumbersOnce}
-use Rattle.moves.proofs.Once.{none-without, numbers-disarmed, numbers-last}
-use Rattle.connection.specs.Clients.{Client}
-use Rattle.connection.specs.Timers.{Timer, number_of}
-use Rattle.connection.specs.Timers as timer
+use Rattle.strand_plans.specs.Ledgers.{Ledger, has_number, numbers}
+use Rattle.strand_plans.specs.Moves.{with_deadline, without_deadline}
+use Rattle.strand_plans.specs.Tidiness.{NumbersOnce}
+use Rattle.strand_plans.proofs.Once.{none-without, numbers-disarmed, numbers-last}
+use Rattle.connection_plan.specs.Clients.{Client}
+use Rattle.connection_plan.specs.Timers.{Timer, number_of}
+use Rattle.connection_plan.specs.Timers as timer
 use Rattle.connection_strand.specs.Kept.{kept_of, with_armed, is_armed}
 
 has-last : (n : ℕ) (js : List ℕ) → has_number n (js ++ n ∷ []) ≡ true

@@ -4,13 +4,13 @@ use Rattle.std.proofs.Common.{◌≡◌, ℕ, ◌≤◌, ◌+◌, ◌*◌, Bool,
 use Rattle.strand_contract.specs.declared.turns.Act.{Act}
 use Rattle.strand_contract.specs.declared.turns.Act.TheVariants as act
 use Rattle.strand_contract.specs.declared.turns.Place.TheVariants as place
-use Rattle.moves.specs.Questions.{Question}
-use Rattle.moves.specs.Ledgers.{Ledger}
-use Rattle.moves.specs.Moves.{Done, Performed, ending}
+use Rattle.strand_plans.specs.Questions.{Question}
+use Rattle.strand_plans.specs.Ledgers.{Ledger}
+use Rattle.strand_plans.specs.Moves.{Done, Performed, ending}
 use Rattle.run_contract.specs.Runs.{RunPlan}
-use Rattle.connection.specs.Clients.{Stage}
-use Rattle.connection.specs.Services.{Both}
-use Rattle.connection.specs.Turns.{finish}
+use Rattle.connection_plan.specs.Clients.{Stage}
+use Rattle.connection_plan.specs.Services.{Both}
+use Rattle.connection_plan.specs.Turns.{finish}
 use Rattle.connection_strand.specs.declared.state.Connection.{Connection}
 use Rattle.connection_strand.specs.declared.state.Turn.{Turn}
 use Rattle.connection_strand.specs.Kept.{Kept, kept}

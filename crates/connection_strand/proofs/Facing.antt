@@ -2,16 +2,16 @@
 use Rattle.std.proofs.Common.{◌≡◌, ℕ, Bool, true, false, not, ◌&&◌, [], Some, None, if◌then◌else◌, refl, sym, ap, ◌∙◌, subst}
 use Rattle.strand_contract.specs.declared.turns.Place.TheVariants as place
 use Rattle.strand_contract.specs.Alone.{is_some_left}
-use Rattle.moves.specs.Ledgers.{Ledger, left_at}
-use Rattle.moves.specs.Moves.{Move, Performed, perform}
+use Rattle.strand_plans.specs.Ledgers.{Ledger, left_at}
+use Rattle.strand_plans.specs.Moves.{Move, Performed, perform}
 use Rattle.run_contract.specs.declared.turns.RunSeen.{RunSeen}
 use Rattle.run_contract.specs.Alike.{AreAlike}
 use Rattle.run_contract.specs.Calls as runs
 use Rattle.run_contract.specs.Conditions.{IsRun, MayCome, entered_as}
-use Rattle.connection.specs.Clients.{Stage, Client}
-use Rattle.connection.specs.Clients as stage
-use Rattle.connection.specs.Services.{Service, Both}
-use Rattle.connection.specs.Turns.{is_there, is_all_taken, tell}
+use Rattle.connection_plan.specs.Clients.{Stage, Client}
+use Rattle.connection_plan.specs.Clients as stage
+use Rattle.connection_plan.specs.Services.{Service, Both}
+use Rattle.connection_plan.specs.Turns.{is_there, is_all_taken, tell}
 use Rattle.connection_strand.specs.declared.state.Connection.{Connection}
 use Rattle.connection_strand.specs.declared.state.Turn.{Turn}
 use Rattle.connection_strand.specs.declared.client.Stage as own

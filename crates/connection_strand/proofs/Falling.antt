@@ -8,8 +8,8 @@ use Rattle.strand_contract.specs.declared.turns.Act.{Act}
 use Rattle.strand_contract.specs.declared.turns.Answer.{Answer}
 use Rattle.strand_contract.specs.declared.turns.Answer.TheVariants as given
 use Rattle.strand_contract.specs.Alone.{due, sooner}
-use Rattle.moves.specs.Moves.{ending}
-use Rattle.moves.specs.Ledgers.{has_number, numbers}
+use Rattle.strand_plans.specs.Moves.{ending}
+use Rattle.strand_plans.specs.Ledgers.{has_number, numbers}
 use Rattle.connection_strand.specs.declared.state.Connection.{Connection}
 use Rattle.connection_strand.specs.declared.state.Turn.{Turn}
 use Rattle.connection_strand.specs.Kept.{Kept, kept}

@@ -11,18 +11,18 @@ use Rattle.client_line.specs.Records as line
 use Rattle.client_line.specs.Lines.{held_in}
 use Rattle.strand_contract.specs.declared.turns.Place.TheVariants as place
 use Rattle.strand_contract.specs.Alone.{is_some_left}
-use Rattle.moves.specs.Ledgers.{Ledger, left_at}
-use Rattle.moves.specs.Moves.{Move, Done, Performed, Look, perform}
+use Rattle.strand_plans.specs.Ledgers.{Ledger, left_at}
+use Rattle.strand_plans.specs.Moves.{Move, Done, Performed, Look, perform}
 use Rattle.run_contract.specs.declared.turns.RunTurn.{RunTurn}
 use Rattle.run_contract.specs.Runs.{Waits, waits_at_first, performed}
 use Rattle.run_contract.specs.Calls as calls
 use Rattle.run_contract.specs.Conditions.{IsBlank, IsRun, IsLeft}
-use Rattle.connection.specs.Clients.{Stage, Client, with_request, with_refusal, closes_after}
-use Rattle.connection.specs.Clients as stage
-use Rattle.connection.specs.Services.{Service, Both}
-use Rattle.connection.specs.Timers as timer
-use Rattle.connection.specs.Conditions.{Agrees}
-use Rattle.connection.specs.Turns.{is_there, is_all_taken, change, send, begin, end_timer, finish, close_if_taken, refuse, wait_for, heard_by, next, flush}
+use Rattle.connection_plan.specs.Clients.{Stage, Client, with_request, with_refusal, closes_after}
+use Rattle.connection_plan.specs.Clients as stage
+use Rattle.connection_plan.specs.Services.{Service, Both}
+use Rattle.connection_plan.specs.Timers as timer
+use Rattle.connection_plan.specs.Conditions.{Agrees}
+use Rattle.connection_plan.specs.Turns.{is_there, is_all_taken, change, send, begin, end_timer, finish, close_if_taken, refuse, wait_for, heard_by, next, flush}
 use Rattle.connection_strand.specs.declared.state.Connection.{Connection}
 use Rattle.connection_strand.specs.declared.state.Turn.{Turn}
 use Rattle.connection_strand.specs.Kept.{Kept, kept, kept_of, waits_of, all_taken}

@@ -1,10 +1,10 @@
 -- What the loop that settles keeps.
 use Rattle.std.proofs.Common.{◌≡◌, ℕ, ◌<◌, ◌+◌, Bool, true, false, length, refl, arith}
-use Rattle.moves.specs.Ledgers.{Ledger}
-use Rattle.moves.specs.Moves.{Move, Performed, perform}
-use Rattle.connection.specs.Clients.{Stage}
-use Rattle.connection.specs.Services.{Service, Both}
-use Rattle.connection.specs.Turns.{settle}
+use Rattle.strand_plans.specs.Ledgers.{Ledger}
+use Rattle.strand_plans.specs.Moves.{Move, Performed, perform}
+use Rattle.connection_plan.specs.Clients.{Stage}
+use Rattle.connection_plan.specs.Services.{Service, Both}
+use Rattle.connection_plan.specs.Turns.{settle}
 use Rattle.connection_strand.specs.declared.state.Connection.{Connection}
 use Rattle.connection_strand.specs.declared.state.Turn.{Turn}
 use Rattle.connection_strand.specs.Standing.{plain, Toward, Came, Went, Steps, IsWithin, before}

@@ -5,22 +5,22 @@ use Rattle.strand_contract.specs.declared.turns.Act.{Act}
 use Rattle.strand_contract.specs.declared.turns.Act.TheVariants as act
 use Rattle.strand_contract.specs.declared.turns.Place.TheVariants as place
 use Rattle.strand_contract.specs.Alone.{without_place}
-use Rattle.moves.specs.Ledgers.{Ledger, has, has_number, numbers, left_at}
-use Rattle.moves.specs.Moves.{Move, Done, Performed, HangUp, Cancel, Look, hung_up, without_deadline, ending, after_act, after_act_if, perform}
-use Rattle.moves.proofs.Places.{has-without}
+use Rattle.strand_plans.specs.Ledgers.{Ledger, has, has_number, numbers, left_at}
+use Rattle.strand_plans.specs.Moves.{Move, Done, Performed, HangUp, Cancel, Look, hung_up, without_deadline, ending, after_act, after_act_if, perform}
+use Rattle.strand_plans.proofs.Places.{has-without}
 use Rattle.run_contract.specs.declared.turns.RunSeen.{RunSeen}
 use Rattle.run_contract.specs.declared.turns.RunSeen.TheVariants as seen
 use Rattle.run_contract.specs.Runs.{Waits}
 use Rattle.run_contract.specs.Calls as calls
 use Rattle.run_contract.specs.Alike.{AreAlike}
 use Rattle.run_contract.specs.Conditions.{IsRun, MayCome, entered_as}
-use Rattle.connection.specs.Clients.{Stage, Client}
-use Rattle.connection.specs.Clients as stage
-use Rattle.connection.specs.Services.{Service, Both}
-use Rattle.connection.specs.Timers.{Timer, number_of}
-use Rattle.connection.specs.Timers as timer
-use Rattle.connection.specs.Turns.{is_there, finish, tell, end_timer, lose, lose_at}
-use Rattle.connection.proofs.Alike.{hung-up-alike}
+use Rattle.connection_plan.specs.Clients.{Stage, Client}
+use Rattle.connection_plan.specs.Clients as stage
+use Rattle.connection_plan.specs.Services.{Service, Both}
+use Rattle.connection_plan.specs.Timers.{Timer, number_of}
+use Rattle.connection_plan.specs.Timers as timer
+use Rattle.connection_plan.specs.Turns.{is_there, finish, tell, end_timer, lose, lose_at}
+use Rattle.connection_plan.proofs.Alike.{hung-up-alike}
 use Rattle.connection_strand.specs.declared.client.Stage as code
 use Rattle.connection_strand.specs.declared.client.Stage.TheVariants as own
 use Rattle.connection_strand.specs.declared.state.Connection.{Connection}

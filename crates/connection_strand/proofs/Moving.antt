@@ -2,22 +2,22 @@
 use Rattle.std.proofs.Common.{◌≡◌, ℕ, Bool, true, false, List, [], ◌∷◌, ◌++◌, Option, if◌then◌else◌, refl, sym, ap, ◌∙◌, subst, append_assoc}
 use Rattle.strand_contract.specs.declared.turns.Act.{Act}
 use Rattle.strand_contract.specs.declared.turns.Act.TheVariants as act
-use Rattle.moves.specs.Questions.{Question}
-use Rattle.moves.specs.Ledgers.{Ledger, has_number, numbers}
-use Rattle.moves.specs.Moves.{Move, Performed, with_sent, with_offer, with_deadline, without_deadline, perform}
-use Rattle.moves.specs.Moves as move
-use Rattle.moves.proofs.Once.{once-disarmed, once-armed}
+use Rattle.strand_plans.specs.Questions.{Question}
+use Rattle.strand_plans.specs.Ledgers.{Ledger, has_number, numbers}
+use Rattle.strand_plans.specs.Moves.{Move, Performed, with_sent, with_offer, with_deadline, without_deadline, perform}
+use Rattle.strand_plans.specs.Moves as move
+use Rattle.strand_plans.proofs.Once.{once-disarmed, once-armed}
 use Rattle.run_contract.specs.Alike.{AreAlike}
 use Rattle.run_contract.specs.Conditions.{IsRun}
-use Rattle.connection.specs.Clients.{Stage, Client}
-use Rattle.connection.specs.Clients as stage
-use Rattle.connection.specs.Services.{Service, Both}
-use Rattle.connection.specs.Timers.{Timer, number_of, time_of, later}
-use Rattle.connection.specs.Turns.{is_there, begin_timer, end_timer}
-use Rattle.connection.specs.Conditions.{Agrees}
-use Rattle.connection.proofs.Alike.{blank-alike, armed-alike, cancelled-alike}
-use Rattle.connection.proofs.Steps.{own-number}
-use Rattle.connection.proofs.Stays.{agrees-alike}
+use Rattle.connection_plan.specs.Clients.{Stage, Client}
+use Rattle.connection_plan.specs.Clients as stage
+use Rattle.connection_plan.specs.Services.{Service, Both}
+use Rattle.connection_plan.specs.Timers.{Timer, number_of, time_of, later}
+use Rattle.connection_plan.specs.Turns.{is_there, begin_timer, end_timer}
+use Rattle.connection_plan.specs.Conditions.{Agrees}
+use Rattle.connection_plan.proofs.Alike.{blank-alike, armed-alike, cancelled-alike}
+use Rattle.connection_plan.proofs.Steps.{own-number}
+use Rattle.connection_plan.proofs.Stays.{agrees-alike}
 use Rattle.connection_strand.specs.declared.state.Connection.{Connection}
 use Rattle.connection_strand.specs.declared.state.Turn.{Turn}
 use Rattle.connection_strand.specs.Kept.{Kept, kept, with_armed, is_armed}

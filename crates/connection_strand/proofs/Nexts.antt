@@ -7,15 +7,15 @@ use Rattle.client_line.specs.declared.requests.LineOut.TheVariants as out
 use Rattle.client_line.specs.Records.{At, Came}
 use Rattle.client_line.specs.Records as line
 use Rattle.client_line.specs.Lines.{after_answer, answer_dropping, IsFed, done}
-use Rattle.line_answers.specs.Feeding.{Fed, led, fed}
-use Rattle.line_answers.proofs.Feeds.{fed-only}
-use Rattle.moves.specs.Ledgers.{Ledger}
-use Rattle.moves.specs.Moves.{Move, Performed, Look, perform}
+use Rattle.client_line.specs.Feeding.{Fed, led, fed}
+use Rattle.client_line.proofs.FeedAnswers.{fed-only}
+use Rattle.strand_plans.specs.Ledgers.{Ledger}
+use Rattle.strand_plans.specs.Moves.{Move, Performed, Look, perform}
 use Rattle.run_contract.specs.Alike.{AreAlike}
 use Rattle.run_contract.specs.Conditions.{IsRun}
-use Rattle.connection.specs.Clients.{Stage}
-use Rattle.connection.specs.Services.{Service, Both}
-use Rattle.connection.specs.Turns.{heard_by, next}
+use Rattle.connection_plan.specs.Clients.{Stage}
+use Rattle.connection_plan.specs.Services.{Service, Both}
+use Rattle.connection_plan.specs.Turns.{heard_by, next}
 use Rattle.connection_strand.specs.declared.state.Connection.{Connection}
 use Rattle.connection_strand.specs.declared.state.Turn.{Turn}
 use Rattle.connection_strand.specs.Kept.{Kept, kept}

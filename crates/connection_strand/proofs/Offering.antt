@@ -7,16 +7,16 @@ use Rattle.strand_contract.specs.declared.turns.Place.{Place}
 use Rattle.strand_contract.specs.declared.turns.Place.TheVariants as place
 use Rattle.strand_contract.specs.Actions.{same_place}
 use Rattle.strand_contract.specs.Alone.{is_some_left}
-use Rattle.moves.specs.Ledgers.{Ledger, has, has_offer, is_place, left_at}
-use Rattle.moves.specs.Ledgers as ledgers
-use Rattle.moves.specs.Moves.{Move, Performed, Send, with_sent, with_offer, after_act_if, perform}
-use Rattle.moves.proofs.Places.{has-append}
+use Rattle.strand_plans.specs.Ledgers.{Ledger, has, has_offer, is_place, left_at}
+use Rattle.strand_plans.specs.Ledgers as ledgers
+use Rattle.strand_plans.specs.Moves.{Move, Performed, Send, with_sent, with_offer, after_act_if, perform}
+use Rattle.strand_plans.proofs.Places.{has-append}
 use Rattle.run_contract.specs.Alike.{AreAlike}
 use Rattle.run_contract.specs.Conditions.{IsRun}
-use Rattle.connection.specs.Clients.{with_more}
-use Rattle.connection.specs.Services.{Service, Both}
-use Rattle.connection.specs.Turns.{is_there, change, send}
-use Rattle.connection.proofs.Alike.{sent-alike}
+use Rattle.connection_plan.specs.Clients.{with_more}
+use Rattle.connection_plan.specs.Services.{Service, Both}
+use Rattle.connection_plan.specs.Turns.{is_there, change, send}
+use Rattle.connection_plan.proofs.Alike.{sent-alike}
 use Rattle.connection_strand.specs.declared.state.Connection.{Connection}
 use Rattle.connection_strand.specs.declared.state.Turn.{Turn}
 use Rattle.connection_strand.specs.Kept.{Kept, kept, kept_of, sending_of, wants_offer}

@@ -3,22 +3,22 @@ use Rattle.std.proofs.Common.{◌≡◌, ℕ, ◌≤◌, ◌||◌, List, [], ◌
 use Rattle.std.specs.Prelude.{is_some}
 use Rattle.strand_contract.specs.declared.turns.Act.{Act}
 use Rattle.strand_contract.specs.declared.turns.Place.TheVariants as place
-use Rattle.moves.specs.Questions.{Question, asking_if}
-use Rattle.moves.specs.Questions as questions
-use Rattle.moves.specs.Ledgers.{Ledger, is_place}
-use Rattle.moves.specs.Moves.{Move, Done, State, Performed, perform}
-use Rattle.moves.proofs.Ledgers.{last}
-use Rattle.moves.proofs.Once.{performed-deadlines}
+use Rattle.strand_plans.specs.Questions.{Question, asking_if}
+use Rattle.strand_plans.specs.Questions as questions
+use Rattle.strand_plans.specs.Ledgers.{Ledger, is_place}
+use Rattle.strand_plans.specs.Moves.{Move, Done, State, Performed, perform}
+use Rattle.strand_plans.proofs.Ledgers.{last}
+use Rattle.strand_plans.proofs.Once.{performed-deadlines}
 use Rattle.run_contract.specs.declared.turns.Said.{Said}
 use Rattle.run_contract.specs.declared.turns.RunTurn.{RunTurn}
 use Rattle.run_contract.specs.Runs.{says_over, waits_said, performed}
 use Rattle.run_contract.specs.Conditions.{IsBlank}
-use Rattle.connection.specs.Clients.{Stage, Client}
-use Rattle.connection.specs.Clients as stage
-use Rattle.connection.specs.Services.{Service, Both}
-use Rattle.connection.specs.Turns.{is_there, says}
-use Rattle.connection.proofs.OwnMoves.{LeavesClient, own-leaves-client}
-use Rattle.connection.proofs.RunTurns.{NoneAwaits, turn-goes-on, turn-asks, turn-awaits}
+use Rattle.connection_plan.specs.Clients.{Stage, Client}
+use Rattle.connection_plan.specs.Clients as stage
+use Rattle.connection_plan.specs.Services.{Service, Both}
+use Rattle.connection_plan.specs.Turns.{is_there, says}
+use Rattle.connection_plan.proofs.OwnMoves.{LeavesClient, own-leaves-client}
+use Rattle.connection_plan.proofs.RunTurns.{NoneAwaits, turn-goes-on, turn-asks, turn-awaits}
 use Rattle.connection_strand.specs.declared.state.Connection.{Connection}
 use Rattle.connection_strand.specs.declared.state.Turn.{Turn}
 use Rattle.connection_strand.specs.Acts.{kept_socket, done_of, question_in, sockets_after}

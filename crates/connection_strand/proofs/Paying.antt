@@ -6,8 +6,8 @@ use Rattle.strand_contract.specs.declared.turns.Act.{Act}
 use Rattle.strand_contract.specs.declared.turns.Act.TheVariants as act
 use Rattle.strand_contract.specs.declared.turns.Place.TheVariants as place
 use Rattle.run_contract.specs.declared.turns.Said.{Said}
-use Rattle.connection.specs.Clients.{Reply, Unsent, Begun, Whole, begun, is_last, Times}
-use Rattle.connection.specs.Clients as stage
+use Rattle.connection_plan.specs.Clients.{Reply, Unsent, Begun, Whole, begun, is_last, Times}
+use Rattle.connection_plan.specs.Clients as stage
 use Rattle.connection_strand.specs.declared.state.Connection.{Connection}
 use Rattle.connection_strand.specs.declared.state.Turn.{Turn}
 use Rattle.connection_strand.specs.Kept.{kept}

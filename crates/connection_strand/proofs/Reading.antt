@@ -15,7 +15,7 @@ use Rattle.client_line.specs.Records.{At, Came}
 use Rattle.client_line.specs.Records as line
 use Rattle.client_line.specs.Lines.{after_body, drops, settled, answer_dropping, after_head, after_answer, LeadsAt, IsFed, ended_at, done, after_asked, asked_at, taken_count, body_so_far}
 use Rattle.client_line.proofs.Feeds.{ends}
-use Rattle.connection.specs.Clients.{is_last}
+use Rattle.connection_plan.specs.Clients.{is_last}
 use Rattle.connection_strand.specs.declared.state.Connection.{Connection}
 use Rattle.connection_strand.specs.declared.state.Turn.{Turn}
 use Rattle.connection_strand.specs.Kept.{kept}

@@ -1,18 +1,18 @@
 -- Settling: what a run is told, and what follows a reply that is taken.
 use Rattle.std.proofs.Common.{◌≡◌, ◌⊎◌, inl, inr, ℕ, Bool, true, false, not, ◌&&◌, ◌||◌, None, if◌then◌else◌, refl, sym, ap, ◌∙◌, subst}
-use Rattle.moves.specs.Ledgers.{Ledger}
-use Rattle.moves.specs.Moves.{Move, Done, Look, Performed, perform}
+use Rattle.strand_plans.specs.Ledgers.{Ledger}
+use Rattle.strand_plans.specs.Moves.{Move, Done, Look, Performed, perform}
 use Rattle.run_contract.specs.declared.turns.RunSeen.TheVariants as seen
 use Rattle.run_contract.specs.Runs.{Waits}
 use Rattle.run_contract.specs.Alike.{AreAlike}
 use Rattle.run_contract.specs.Conditions.{IsRun}
-use Rattle.connection.specs.Clients.{Stage, Client, closes_after, is_last}
-use Rattle.connection.specs.Clients as stage
-use Rattle.connection.specs.Services.{Service, Both}
-use Rattle.connection.specs.Turns.{is_there, is_all_taken, is_to_close, finish, tell, lose, next, ask_body, busy, flush, settled_at, settle}
-use Rattle.connection.specs.Conditions.{Agrees}
-use Rattle.connection.proofs.Stays.{Known}
-use Rattle.connection.proofs.Settling.{settling}
+use Rattle.connection_plan.specs.Clients.{Stage, Client, closes_after, is_last}
+use Rattle.connection_plan.specs.Clients as stage
+use Rattle.connection_plan.specs.Services.{Service, Both}
+use Rattle.connection_plan.specs.Turns.{is_there, is_all_taken, is_to_close, finish, tell, lose, next, ask_body, busy, flush, settled_at, settle}
+use Rattle.connection_plan.specs.Conditions.{Agrees}
+use Rattle.connection_plan.proofs.Stays.{Known}
+use Rattle.connection_plan.proofs.Settling.{settling}
 use Rattle.connection_strand.specs.declared.state.Connection.{Connection}
 use Rattle.connection_strand.specs.declared.state.Turn.{Turn}
 use Rattle.connection_strand.specs.declared.client.Stage as own

@@ -9,10 +9,10 @@ use Rattle.strand_contract.specs.declared.turns.Seen.{Seen}
 use Rattle.strand_contract.specs.declared.turns.Seen.TheVariants as seens
 use Rattle.strand_contract.specs.Actions.{Did, Put}
 use Rattle.strand_contract.specs.Alone.{IsPrefixOf}
-use Rattle.moves.specs.Ledgers.{Ledger, has, numbers, is_place, left_at, entered}
-use Rattle.moves.specs.Moves.{Move, Done, Look, Performed, perform}
-use Rattle.moves.specs.Moves as move
-use Rattle.moves.specs.Tidiness.{NumbersOnce}
+use Rattle.strand_plans.specs.Ledgers.{Ledger, has, numbers, is_place, left_at, entered}
+use Rattle.strand_plans.specs.Moves.{Move, Done, Look, Performed, perform}
+use Rattle.strand_plans.specs.Moves as move
+use Rattle.strand_plans.specs.Tidiness.{NumbersOnce}
 use Rattle.run_contract.specs.declared.turns.RunSeen.{RunSeen}
 use Rattle.run_contract.specs.declared.turns.RunSeen.TheVariants as seen
 use Rattle.run_contract.specs.declared.turns.SockSeen.{SockSeen}
@@ -22,18 +22,18 @@ use Rattle.run_contract.specs.Calls as runs
 use Rattle.run_contract.specs.Runs.{is_of_client}
 use Rattle.run_contract.specs.Conditions.{IsBlank, IsRun, MayCome, MayComeAt, entered_as, next_piece}
 use Rattle.run_contract.specs.StoredLaws.{own-due, not-below}
-use Rattle.line_answers.specs.Feeding.{fed}
-use Rattle.connection.specs.Clients.{Stage}
-use Rattle.connection.specs.Clients as stage
-use Rattle.connection.specs.Services.{Service, Both}
-use Rattle.connection.specs.Timers.{number_of}
-use Rattle.connection.specs.Timers as timer
-use Rattle.connection.specs.Turns.{is_there, change, finish, begin_timer, end_timer, lose, settle}
-use Rattle.connection.specs.Connections.{came_at, ends_at, to_run}
-use Rattle.connection.specs.Conditions.{Agrees}
-use Rattle.connection.proofs.Alike.{alike-refl, due-alike}
-use Rattle.connection.proofs.Meets.{taken-of}
-use Rattle.connection.proofs.Stays.{agrees-alike}
+use Rattle.client_line.specs.Feeding.{fed}
+use Rattle.connection_plan.specs.Clients.{Stage}
+use Rattle.connection_plan.specs.Clients as stage
+use Rattle.connection_plan.specs.Services.{Service, Both}
+use Rattle.connection_plan.specs.Timers.{number_of}
+use Rattle.connection_plan.specs.Timers as timer
+use Rattle.connection_plan.specs.Turns.{is_there, change, finish, begin_timer, end_timer, lose, settle}
+use Rattle.connection_plan.specs.Connections.{came_at, ends_at, to_run}
+use Rattle.connection_plan.specs.Conditions.{Agrees}
+use Rattle.connection_plan.proofs.Alike.{alike-refl, due-alike}
+use Rattle.connection_plan.proofs.Meets.{taken-of}
+use Rattle.connection_plan.proofs.Stays.{agrees-alike}
 use Rattle.connection_strand.specs.declared.state.Connection.{Connection}
 use Rattle.connection_strand.specs.declared.state.Turn.{Turn}
 use Rattle.connection_strand.specs.declared.client.Stage as codes
@@ -44,7 +44,7 @@ use Rattle.connection_strand.specs.Kept.{Kept, kept, kept_of, sending_of, stage_
 use Rattle.connection_strand.specs.Standing.{Moment, plain, IsOn, IsFree, HasRun, Serves, Within, Toward, Came, before, asking, places, kept_sock}
 use Rattle.connection_strand.specs.Turns.{Told}
 use Rattle.connection_strand.specs.Shown.{Shown, ToRun, action_by, sock_seen}
-use Rattle.moves.proofs.Once.{once-disarmed}
+use Rattle.strand_plans.proofs.Once.{once-disarmed}
 use Rattle.connection_strand.proofs.Deadlines.{cancelled-other, disarms}
 use Rattle.connection_strand.proofs.Facing.{not-busy}
 use Rattle.connection_strand.proofs.Moving.{IsSameRun, run-alike, stays-within}

@@ -7,13 +7,13 @@ use Rattle.strand_contract.specs.declared.turns.Place.TheVariants as place
 use Rattle.strand_contract.specs.Actions.{same_place}
 use Rattle.strand_contract.specs.Alone.{without_place}
 use Rattle.strand_contract.specs.Laws.{IsLastAct}
-use Rattle.moves.specs.Questions.{Question, asking, asking_if}
-use Rattle.moves.specs.Questions as question
-use Rattle.moves.specs.Ledgers.{Ledger, has, has_number, wants_offer}
-use Rattle.moves.specs.Moves.{Move, Done, Unready, Send, Arm, Cancel, HangUp, Log, Set, Look, Ask, End, act_if, with_sent, with_offer, with_thread, without_thread, with_deadline, without_deadline, hung_up, asked_of, perform}
-use Rattle.moves.specs.Moves as move
+use Rattle.strand_plans.specs.Questions.{Question, asking, asking_if}
+use Rattle.strand_plans.specs.Questions as question
+use Rattle.strand_plans.specs.Ledgers.{Ledger, has, has_number, wants_offer}
+use Rattle.strand_plans.specs.Moves.{Move, Done, Unready, Send, Arm, Cancel, HangUp, Log, Set, Look, Ask, End, act_if, with_sent, with_offer, with_thread, without_thread, with_deadline, without_deadline, hung_up, asked_of, perform}
+use Rattle.strand_plans.specs.Moves as move
 use Rattle.run_contract.specs.Forms.{IsOwn}
-use Rattle.connection.proofs.RunTurns.{awaits, last_awaits, NoneAwaits}
+use Rattle.connection_plan.proofs.RunTurns.{awaits, last_awaits, NoneAwaits}
 use Rattle.connection_strand.specs.Acts.{done_of, question_in, without_all, sockets_after}
 use Rattle.connection_strand.specs.Standing.{places}
 

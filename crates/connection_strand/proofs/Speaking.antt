@@ -2,20 +2,20 @@
 use Rattle.std.proofs.Common.{◌≡◌, ℕ, ◌≤◌, ◌<◌, ◌-◌, length, take, drop, get_or, arith, Bool, true, false, not, ◌&&◌, List, [], ◌∷◌, Option, if◌then◌else◌, refl, sym, ap, ◌∙◌, subst}
 use Rattle.std.proofs.lemmas.List.{take_all}
 use Rattle.client_line.specs.Lines.{body_answer}
-use Rattle.moves.specs.Questions.{Question}
-use Rattle.moves.specs.Ledgers.{Ledger}
-use Rattle.moves.specs.Moves.{Move, Performed, Look, perform}
+use Rattle.strand_plans.specs.Questions.{Question}
+use Rattle.strand_plans.specs.Ledgers.{Ledger}
+use Rattle.strand_plans.specs.Moves.{Move, Performed, Look, perform}
 use Rattle.run_contract.specs.declared.turns.Said.{Said}
 use Rattle.run_contract.specs.declared.turns.Said.TheVariants as said
 use Rattle.run_contract.specs.Runs.{Waits, says_over}
 use Rattle.run_contract.specs.Alike.{AreAlike}
 use Rattle.run_contract.specs.Conditions.{IsRun}
-use Rattle.connection.specs.Clients.{Stage, Reply, Client, Unsent}
-use Rattle.connection.specs.Clients as stage
-use Rattle.connection.specs.Services.{Service, Both}
-use Rattle.connection.specs.Timers as timer
-use Rattle.connection.specs.Turns.{is_there, is_more, change, send, begin_timer, continue_reply, let_send, awaits_body, await_body, says}
-use Rattle.connection.proofs.Alike.{alike-refl}
+use Rattle.connection_plan.specs.Clients.{Stage, Reply, Client, Unsent}
+use Rattle.connection_plan.specs.Clients as stage
+use Rattle.connection_plan.specs.Services.{Service, Both}
+use Rattle.connection_plan.specs.Timers as timer
+use Rattle.connection_plan.specs.Turns.{is_there, is_more, change, send, begin_timer, continue_reply, let_send, awaits_body, await_body, says}
+use Rattle.connection_plan.proofs.Alike.{alike-refl}
 use Rattle.connection_strand.specs.declared.client.Reply as code
 use Rattle.connection_strand.specs.declared.client.Reply.TheVariants as own
 use Rattle.connection_strand.specs.declared.state.Connection.{Connection}

@@ -2,15 +2,15 @@
 use Rattle.std.proofs.Common.{◌≡◌, ℕ, Option, Some, None, sym, ap, ◌∙◌, subst}
 use Rattle.strand_contract.specs.declared.turns.Answer.{Answer}
 use Rattle.strand_contract.specs.Actions.{Did}
-use Rattle.moves.specs.Ledgers.{Ledger, entered}
-use Rattle.moves.specs.Moves.{Move, Performed}
+use Rattle.strand_plans.specs.Ledgers.{Ledger, entered}
+use Rattle.strand_plans.specs.Moves.{Move, Performed}
 use Rattle.run_contract.specs.declared.turns.RunSeen.{RunSeen}
 use Rattle.run_contract.specs.declared.turns.RunTurn.{RunTurn}
 use Rattle.run_contract.specs.Runs.{Waits, waits_told, performed}
 use Rattle.run_contract.specs.Calls as calls
 use Rattle.run_contract.specs.Conditions.{IsRun, IsLeft, entered_as}
-use Rattle.connection.specs.Services.{Service, Both}
-use Rattle.connection.specs.Turns.{is_there}
+use Rattle.connection_plan.specs.Services.{Service, Both}
+use Rattle.connection_plan.specs.Turns.{is_there}
 use Rattle.connection_strand.specs.declared.state.Connection.{Connection}
 use Rattle.connection_strand.specs.declared.state.Turn.{Turn}
 use Rattle.connection_strand.specs.Kept.{kept, waits_of}

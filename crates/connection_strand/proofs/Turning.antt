@@ -9,25 +9,25 @@ use Rattle.strand_contract.specs.Alone.{lives, moment, todo, begun_offer, is_som
 use Rattle.strand_contract.specs.Calls.{action_of}
 use Rattle.strand_contract.specs.Laws.{is_still}
 use Rattle.strand_contract.specs.ClientOnlyLaws.{clash}
-use Rattle.moves.specs.Ledgers.{Ledger, has, is_place, left_at, has_offer, entered}
-use Rattle.moves.specs.Moves.{Done, Performed, perform}
-use Rattle.moves.specs.Plans.{state_of, acts_of, stepped}
-use Rattle.moves.specs.Turns.{Comes}
-use Rattle.moves.specs.Conditions.{IsServed}
-use Rattle.moves.proofs.Calls.{IsCalled, shown}
-use Rattle.moves.proofs.Executions.{is-idle}
-use Rattle.moves.proofs.Ledgers.{begun-is}
-use Rattle.moves.proofs.Once.{deadlines}
-use Rattle.moves.proofs.PlanLaws.{lived, piece-is}
-use Rattle.moves.proofs.Tidy.{IsTidyLedger}
+use Rattle.strand_plans.specs.Ledgers.{Ledger, has, is_place, left_at, has_offer, entered}
+use Rattle.strand_plans.specs.Moves.{Done, Performed, perform}
+use Rattle.strand_plans.specs.Plans.{state_of, acts_of, stepped}
+use Rattle.strand_plans.specs.Turns.{Comes}
+use Rattle.strand_plans.specs.Conditions.{IsServed}
+use Rattle.strand_plans.proofs.Calls.{IsCalled, shown}
+use Rattle.strand_plans.proofs.Executions.{is-idle}
+use Rattle.strand_plans.proofs.Ledgers.{begun-is}
+use Rattle.strand_plans.proofs.Once.{deadlines}
+use Rattle.strand_plans.proofs.PlanLaws.{lived, piece-is}
+use Rattle.strand_plans.proofs.Tidy.{IsTidyLedger}
 use Rattle.run_contract.specs.Conditions.{IsRun}
-use Rattle.connection.specs.Clients.{Stage}
-use Rattle.connection.specs.Clients as stage
-use Rattle.connection.specs.Services.{Service, Both}
-use Rattle.connection.specs.Turns.{is_there}
-use Rattle.connection.specs.Conditions.{Knows, MayAsk}
-use Rattle.connection.specs.Connections.{connection_plan, connection_behavior, connection_turn}
-use Rattle.connection.proofs.Meets.{meets}
+use Rattle.connection_plan.specs.Clients.{Stage}
+use Rattle.connection_plan.specs.Clients as stage
+use Rattle.connection_plan.specs.Services.{Service, Both}
+use Rattle.connection_plan.specs.Turns.{is_there}
+use Rattle.connection_plan.specs.Conditions.{Knows, MayAsk}
+use Rattle.connection_plan.specs.Connections.{connection_plan, connection_behavior, connection_turn}
+use Rattle.connection_plan.proofs.Meets.{meets}
 use Rattle.connection_strand.specs.declared.state.Connection.{Connection}
 use Rattle.connection_strand.specs.declared.state.Turn.{Turn}
 use Rattle.connection_strand.specs.Kept.{kept, kept_of}

@@ -2,8 +2,8 @@
 use Rattle.std.specs.Prelude.{ℕ, ◌+◌, ◌*◌, ◌^◌, ◌≤◌, ◌<◌, Bool, true, false, not, length, Option, Some, None, if◌then◌else◌}
 use Rattle.client_line.specs.declared.requests.LineOut.{LineOut}
 use Rattle.client_line.specs.declared.requests.LineOut.TheVariants as out
-use Rattle.connection.specs.Clients.{Stage, is_last}
-use Rattle.connection.specs.Clients as stage
+use Rattle.connection_plan.specs.Clients.{Stage, is_last}
+use Rattle.connection_plan.specs.Clients as stage
 use Rattle.connection_strand.specs.declared.state.Connection.{Connection}
 use Rattle.connection_strand.specs.declared.state.Turn.{Turn}
 use Rattle.connection_strand.specs.Kept.{Kept, kept}

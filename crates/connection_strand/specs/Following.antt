@@ -5,11 +5,11 @@ use Rattle.strand_contract.specs.declared.turns.Place.TheVariants as place
 use Rattle.strand_contract.specs.Actions.{LocalAction}
 use Rattle.strand_contract.specs.Alone.{begun_offer}
 use Rattle.strand_contract.specs.Laws.{is_still}
-use Rattle.moves.specs.Ledgers.{Ledger, is_place}
-use Rattle.moves.specs.Plans.{state_of}
-use Rattle.connection.specs.Services.{Service}
-use Rattle.connection.specs.Turns.{is_there}
-use Rattle.connection.specs.Connections.{connection_plan}
+use Rattle.strand_plans.specs.Ledgers.{Ledger, is_place}
+use Rattle.strand_plans.specs.Plans.{state_of}
+use Rattle.connection_plan.specs.Services.{Service}
+use Rattle.connection_plan.specs.Turns.{is_there}
+use Rattle.connection_plan.specs.Connections.{connection_plan}
 use Rattle.connection_strand.specs.declared.state.Connection.{Connection}
 use Rattle.connection_strand.specs.Standing.{Stays}
 

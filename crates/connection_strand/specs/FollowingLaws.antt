@@ -3,14 +3,14 @@ use Rattle.std.proofs.Common.{◌≡◌, true, false, List, ◌∷◌, refl}
 use Rattle.strand_contract.specs.Actions.{LocalAction, Told, Did, Close, Log, Dropped, Offer, Gone}
 use Rattle.strand_contract.specs.ClientOnlyLaws.{clash}
 use Rattle.strand_contract.specs.Laws.{is_still}
-use Rattle.moves.specs.Ledgers.{Ledger, entered}
-use Rattle.moves.specs.Plans.{state_of}
+use Rattle.strand_plans.specs.Ledgers.{Ledger, entered}
+use Rattle.strand_plans.specs.Plans.{state_of}
 use Rattle.run_contract.specs.Alike.{AreAlike}
-use Rattle.connection.specs.Clients.{Stage}
-use Rattle.connection.specs.Clients as stage
-use Rattle.connection.specs.Services.{Service, Both}
-use Rattle.connection.specs.Connections.{connection_plan}
-use Rattle.connection.proofs.Alike.{still-alike}
+use Rattle.connection_plan.specs.Clients.{Stage}
+use Rattle.connection_plan.specs.Clients as stage
+use Rattle.connection_plan.specs.Services.{Service, Both}
+use Rattle.connection_plan.specs.Connections.{connection_plan}
+use Rattle.connection_plan.proofs.Alike.{still-alike}
 use Rattle.connection_strand.specs.declared.state.Connection.{Connection}
 use Rattle.connection_strand.specs.Standing.{HasRun, Stays}
 use Rattle.connection_strand.specs.Following.{Follows}

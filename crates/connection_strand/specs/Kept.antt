@@ -5,15 +5,15 @@ use Rattle.client_line.specs.Lines.{nothing, body_answer}
 use Rattle.send_queue.specs.Records.{Sending}
 use Rattle.strand_contract.specs.declared.turns.Place.TheVariants as place
 use Rattle.strand_contract.specs.Alone.{is_some_left}
-use Rattle.moves.specs.Ledgers.{Ledger, has_number, numbers, left_at}
+use Rattle.strand_plans.specs.Ledgers.{Ledger, has_number, numbers, left_at}
 use Rattle.run_contract.specs.declared.turns.RunSeen.{RunSeen}
 use Rattle.run_contract.specs.Runs.{Waits}
-use Rattle.connection.specs.Clients.{Stage, Reply, Times, Client}
-use Rattle.connection.specs.Clients as stage
-use Rattle.connection.specs.Timers.{Timer}
-use Rattle.connection.specs.Timers as timer
-use Rattle.connection.specs.Turns.{is_there, body_told}
-use Rattle.service_contract.specs.Serving.{times}
+use Rattle.connection_plan.specs.Clients.{Stage, Reply, Times, Client}
+use Rattle.connection_plan.specs.Clients as stage
+use Rattle.connection_plan.specs.Timers.{Timer}
+use Rattle.connection_plan.specs.Timers as timer
+use Rattle.connection_plan.specs.Turns.{is_there, body_told}
+use Rattle.connection_plan.specs.Serving.{times}
 use Rattle.connection_strand.specs.declared.client.Stage as code_stage
 use Rattle.connection_strand.specs.declared.client.Stage.TheVariants as own
 use Rattle.connection_strand.specs.declared.client.Reply as code_reply

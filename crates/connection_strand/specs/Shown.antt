@@ -4,23 +4,23 @@ use Rattle.strand_contract.specs.declared.turns.Place.TheVariants as place
 use Rattle.strand_contract.specs.declared.turns.Seen.{Seen}
 use Rattle.strand_contract.specs.declared.turns.Seen.TheVariants as seen
 use Rattle.strand_contract.specs.Actions.{Action, Did, Bytes, Ended, Broken, Ready, Dialled, Refused, Put, Later, Lost, Run, Due, Halted}
-use Rattle.moves.specs.Ledgers.{Ledger, has, numbers, is_place, left_at, has_offer, entered}
-use Rattle.moves.specs.Moves.{Move, Done, Performed, perform}
-use Rattle.moves.specs.Tidiness.{NumbersOnce}
-use Rattle.moves.specs.Turns.{Comes}
+use Rattle.strand_plans.specs.Ledgers.{Ledger, has, numbers, is_place, left_at, has_offer, entered}
+use Rattle.strand_plans.specs.Moves.{Move, Done, Performed, perform}
+use Rattle.strand_plans.specs.Tidiness.{NumbersOnce}
+use Rattle.strand_plans.specs.Turns.{Comes}
 use Rattle.run_contract.specs.declared.turns.RunSeen.{RunSeen}
 use Rattle.run_contract.specs.declared.turns.SockSeen.{SockSeen}
 use Rattle.run_contract.specs.declared.turns.SockSeen.TheVariants as at
 use Rattle.run_contract.specs.Runs.{RunPlan}
 use Rattle.run_contract.specs.Conditions.{MayCome, entered_as, next_piece}
-use Rattle.connection.specs.Services.{Service, Both}
+use Rattle.connection_plan.specs.Services.{Service, Both}
 use Rattle.client_line.specs.declared.requests.LineOut.{LineOut}
 use Rattle.client_line.specs.Records as line
-use Rattle.connection.specs.Clients.{Stage}
-use Rattle.connection.specs.Clients as stage
-use Rattle.connection.specs.Turns.{is_there, await_body, heard_by, settle}
-use Rattle.connection.specs.Connections.{connection_plan, connection_turn, to_run}
-use Rattle.connection.specs.Conditions.{Agrees}
+use Rattle.connection_plan.specs.Clients.{Stage}
+use Rattle.connection_plan.specs.Clients as stage
+use Rattle.connection_plan.specs.Turns.{is_there, await_body, heard_by, settle}
+use Rattle.connection_plan.specs.Connections.{connection_plan, connection_turn, to_run}
+use Rattle.connection_plan.specs.Conditions.{Agrees}
 use Rattle.connection_strand.specs.declared.state.Connection.{Connection}
 use Rattle.connection_strand.specs.declared.state.Turn.{Turn}
 use Rattle.connection_strand.specs.Kept.{Kept, kept, kept_of, wants_offer}

@@ -3,19 +3,19 @@ use Rattle.std.specs.Prelude.{◌≡◌, ℕ, ◌≤◌, Bool, true, false, map,
 use Rattle.strand_contract.specs.declared.turns.Act.{Act}
 use Rattle.strand_contract.specs.declared.turns.Place.{Place}
 use Rattle.strand_contract.specs.declared.turns.Place.TheVariants as place
-use Rattle.moves.specs.Questions.{Question}
-use Rattle.moves.specs.Questions as question
-use Rattle.moves.specs.Ledgers.{Ledger, numbers, is_place, has_offer}
-use Rattle.moves.specs.Moves.{Move, Performed, perform}
-use Rattle.moves.specs.Tidiness.{NumbersOnce}
+use Rattle.strand_plans.specs.Questions.{Question}
+use Rattle.strand_plans.specs.Questions as question
+use Rattle.strand_plans.specs.Ledgers.{Ledger, numbers, is_place, has_offer}
+use Rattle.strand_plans.specs.Moves.{Move, Performed, perform}
+use Rattle.strand_plans.specs.Tidiness.{NumbersOnce}
 use Rattle.run_contract.specs.declared.turns.Said.{Said}
 use Rattle.run_contract.specs.Runs.{RunPlan, says_over}
 use Rattle.run_contract.specs.Conditions.{IsBlank}
-use Rattle.connection.specs.Clients.{Stage}
-use Rattle.connection.specs.Clients as stage
-use Rattle.connection.specs.Services.{Both}
-use Rattle.connection.specs.Turns.{is_there}
-use Rattle.connection.specs.Conditions.{Agrees}
+use Rattle.connection_plan.specs.Clients.{Stage}
+use Rattle.connection_plan.specs.Clients as stage
+use Rattle.connection_plan.specs.Services.{Both}
+use Rattle.connection_plan.specs.Turns.{is_there}
+use Rattle.connection_plan.specs.Conditions.{Agrees}
 use Rattle.connection_strand.specs.declared.state.Connection.{Connection}
 use Rattle.connection_strand.specs.declared.state.Turn.{Turn}
 use Rattle.connection_strand.specs.Kept.{kept, kept_of, waits_of}

@@ -7,18 +7,18 @@ use Rattle.client_line.specs.Records as line
 use Rattle.strand_contract.specs.declared.turns.Answer.{Answer}
 use Rattle.strand_contract.specs.Actions.{Action, Did}
 use Rattle.strand_contract.specs.Calls.{answered}
-use Rattle.moves.specs.Questions.{asking_if}
-use Rattle.moves.specs.Ledgers.{Ledger, entered}
-use Rattle.moves.specs.Moves.{Move, Performed, perform}
+use Rattle.strand_plans.specs.Questions.{asking_if}
+use Rattle.strand_plans.specs.Ledgers.{Ledger, entered}
+use Rattle.strand_plans.specs.Moves.{Move, Performed, perform}
 use Rattle.run_contract.specs.declared.turns.RunSeen.{RunSeen}
 use Rattle.run_contract.specs.declared.turns.RunTurn.{RunTurn}
 use Rattle.run_contract.specs.Runs.{performed}
 use Rattle.run_contract.specs.Runs as runs
 use Rattle.run_contract.specs.Forms.{IsOwn}
 use Rattle.run_contract.specs.Conditions.{entered_as, MayCome, IsLeft}
-use Rattle.connection.specs.Clients as stage
-use Rattle.connection.specs.Services.{Service, Both}
-use Rattle.connection.specs.Turns.{run_turn, tell}
+use Rattle.connection_plan.specs.Clients as stage
+use Rattle.connection_plan.specs.Services.{Service, Both}
+use Rattle.connection_plan.specs.Turns.{run_turn, tell}
 use Rattle.connection_strand.specs.declared.state.Connection.{Connection}
 use Rattle.connection_strand.specs.declared.state.Turn.{Turn}
 use Rattle.connection_strand.specs.Kept.{waits_of}

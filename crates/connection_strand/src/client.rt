@@ -1,13 +1,13 @@
 //! What is kept of a client.
 
 ghost use Rattle.std.specs.Prelude.{◌≡◌};
-ghost use Rattle.connection.specs.Timers as timers;
+ghost use Rattle.connection_plan.specs.Timers as timers;
 
 use client_line::Line;
+use connection_plan::Times;
 use http_bodies::BodyRead;
 use resty_base::{Bytes, Ms};
 use run_contract::RunSeen;
-use service_contract::Times;
 use std::alloc::{AllocError, Global};
 
 /// How far the client's request is.
@@ -38,7 +38,7 @@ pub(crate) enum Reply {
 
 impl Reply {
     ghost use Rattle.std.specs.Prelude.{◌≡◌};
-    ghost use Rattle.connection.specs.Clients as spec;
+    ghost use Rattle.connection_plan.specs.Clients as spec;
     ghost use Rattle.connection_strand.specs.Kept.{reply_of};
 
     /// More of it is sent.
@@ -83,7 +83,7 @@ pub(crate) enum Timer {
 
 impl Timer {
     ghost use Rattle.std.specs.Prelude.{◌≡◌};
-    ghost use Rattle.service_contract.specs.Serving as serving;
+    ghost use Rattle.connection_plan.specs.Serving as serving;
     ghost use Rattle.connection_strand.specs.Kept.{timer_of};
 
     /// The deadline by which it is kept.
@@ -147,9 +147,9 @@ impl Client {
     ghost use Rattle.std.specs.Prelude.{not, false, ◌≡◌, ◌&&◌, IfOk};
     ghost use Rattle.client_line.specs.Lines.{after_asked, body_answer};
     ghost use Rattle.send_queue.specs.Queues as queues;
-    ghost use Rattle.connection.specs.Clients.{is_last};
-    ghost use Rattle.connection.specs.Turns.{is_more};
-    ghost use Rattle.service_contract.specs.Serving as serving;
+    ghost use Rattle.connection_plan.specs.Clients.{is_last};
+    ghost use Rattle.connection_plan.specs.Turns.{is_more};
+    ghost use Rattle.connection_plan.specs.Serving as serving;
     ghost use Rattle.connection_strand.specs.Kept.{kept, timer_of, fresh, with_armed, is_armed, all_taken, wants_offer, seen_of_body};
 
     /// As a connection begins, for a client or for a job; takes no memory.

@@ -1,13 +1,13 @@
 //! What a run says, and what the connection does then.
 
 ghost use Rattle.std.specs.Prelude.{◌≡◌};
-ghost use Rattle.connection.specs.Turns.{continue_reply};
+ghost use Rattle.connection_plan.specs.Turns.{continue_reply};
 
 use crate::client::{Reply, Stage, Timer};
 use crate::state::{Connection, Turn};
+use connection_plan::ServiceContract;
 use resty_base::{Bytes, Ms};
 use run_contract::Said;
-use service_contract::ServiceContract;
 use std::alloc::AllocError;
 
 /// The reply that lets a client send the body (RFC 9110, 15.2.1).
@@ -19,9 +19,9 @@ fn continue_reply() -> Bytes
 
 impl<R: ServiceContract> Connection<R> {
     ghost use Rattle.std.specs.Prelude.{IfOk, ◌*◌, length};
-    ghost use Rattle.moves.specs.Moves.{Look};
-    ghost use Rattle.connection.specs.Turns.{let_send, await_body, says};
-    ghost use Rattle.service_contract.specs.Serving.{service_of};
+    ghost use Rattle.strand_plans.specs.Moves.{Look};
+    ghost use Rattle.connection_plan.specs.Turns.{let_send, await_body, says};
+    ghost use Rattle.connection_plan.specs.Serving.{service_of};
     ghost use Rattle.connection_strand.specs.Costs.{unit, Spends};
     ghost use Rattle.connection_strand.specs.Standing.{Goes, Speaks, Says, SaysOn};
 

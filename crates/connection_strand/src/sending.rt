@@ -1,17 +1,17 @@
 //! What is sent to the client, and offers of it.
 
 use crate::state::{Connection, Turn};
+use connection_plan::ServiceContract;
 use resty_base::Bytes;
-use service_contract::ServiceContract;
 use std::alloc::AllocError;
 use strand_contract::{Act, Place};
 
 impl<R: ServiceContract> Connection<R> {
     ghost use Rattle.std.specs.Prelude.{IfOk, [], ◌+◌, ◌*◌, length};
     ghost use Rattle.strand_contract.specs.declared.turns.Place.TheVariants as place;
-    ghost use Rattle.moves.specs.Moves.{Send};
-    ghost use Rattle.connection.specs.Turns.{send};
-    ghost use Rattle.service_contract.specs.Serving.{service_of};
+    ghost use Rattle.strand_plans.specs.Moves.{Send};
+    ghost use Rattle.connection_plan.specs.Turns.{send};
+    ghost use Rattle.connection_plan.specs.Serving.{service_of};
     ghost use Rattle.connection_strand.specs.Costs.{Spends};
     ghost use Rattle.connection_strand.specs.Standing.{Goes};
 

@@ -2,17 +2,17 @@
 
 use crate::client::{Stage, Timer};
 use crate::state::{Connection, Turn};
+use connection_plan::ServiceContract;
 use resty_base::Ms;
 use run_contract::RunSeen;
-use service_contract::ServiceContract;
 use std::alloc::{AllocError, Global};
 
 impl<R: ServiceContract> Connection<R> {
     ghost use Rattle.std.specs.Prelude.{◌≡◌, true, IfOk};
-    ghost use Rattle.moves.specs.Moves.{Look};
-    ghost use Rattle.connection.specs.Turns.{busy, ask_body, flush, settle};
-    ghost use Rattle.connection.specs.Clients as stage;
-    ghost use Rattle.service_contract.specs.Serving.{service_of};
+    ghost use Rattle.strand_plans.specs.Moves.{Look};
+    ghost use Rattle.connection_plan.specs.Turns.{busy, ask_body, flush, settle};
+    ghost use Rattle.connection_plan.specs.Clients as stage;
+    ghost use Rattle.connection_plan.specs.Serving.{service_of};
     ghost use Rattle.connection_strand.specs.Costs.{Costs, Settles};
     ghost use Rattle.connection_strand.specs.Standing.{Ends, GoesOn, Hears, Steps, IsAt, IsWithin};
 

@@ -3,9 +3,9 @@
 use crate::client::{Stage, Timer};
 use crate::state::{Connection, Turn};
 use client_line::LineOut;
+use connection_plan::ServiceContract;
 use resty_base::Ms;
 use run_contract::{RunSeen, SockSeen};
-use service_contract::ServiceContract;
 use std::alloc::{AllocError, Global};
 use strand_contract::{Place, Seen};
 
@@ -14,16 +14,16 @@ impl<R: ServiceContract> Connection<R> {
     ghost use Rattle.strand_contract.specs.declared.turns.Place.TheVariants as place;
     ghost use Rattle.strand_contract.specs.declared.turns.Seen.TheVariants as seens;
     ghost use Rattle.strand_contract.specs.Calls.{is_own_turn};
-    ghost use Rattle.line_answers.specs.Feeding.{fed};
-    ghost use Rattle.moves.specs.Moves.{Look};
+    ghost use Rattle.client_line.specs.Feeding.{fed};
+    ghost use Rattle.strand_plans.specs.Moves.{Look};
     ghost use Rattle.run_contract.specs.Calls as runs;
     ghost use Rattle.run_contract.specs.Runs.{is_of_client};
-    ghost use Rattle.connection.specs.Connections.{came_at, ends_at};
-    ghost use Rattle.service_contract.specs.Serving.{service_of};
+    ghost use Rattle.connection_plan.specs.Connections.{came_at, ends_at};
+    ghost use Rattle.connection_plan.specs.Serving.{service_of};
     ghost use Rattle.connection_strand.specs.Costs.{unit, Pays, Falls};
     ghost use Rattle.connection_strand.specs.Standing.{Ends, Hears, IsWithin, IsFreeAt};
     ghost use Rattle.connection_strand.specs.Turns.{IsAnswered};
-    ghost use Rattle.connection.specs.Turns.{heard_by, settle};
+    ghost use Rattle.connection_plan.specs.Turns.{heard_by, settle};
     ghost use Rattle.connection_strand.specs.Shown.{heard_at, sock_seen, MayShow, Shows, MayTellRun, TellsRun, MayGoOn, GoesOn};
 
     /// The answer to what came is heard, and what is there is settled.

@@ -4,9 +4,9 @@ ghost use Rattle.std.specs.Prelude.{◌≡◌};
 ghost use Rattle.connection_strand.specs.Acts.{is_question, kept_socket, without_all};
 
 use crate::state::{Connection, Turn};
+use connection_plan::ServiceContract;
 use resty_base::Ms;
 use run_contract::{RunSeen, RunTurn};
-use service_contract::ServiceContract;
 use std::alloc::{AllocError, Global};
 use strand_contract::{Act, Acts, Answer, Place};
 
@@ -51,9 +51,9 @@ pub(crate) fn take_out(numbers: &mut Vec<u32>, number: u32)
 impl<R: ServiceContract> Connection<R> {
     ghost use Rattle.std.specs.Prelude.{◌++◌, ◌+◌, ◌*◌, length, true, IfOk, Some, None};
     ghost use Rattle.run_contract.specs.Calls as runs;
-    ghost use Rattle.moves.specs.Moves.{Performed, Move};
-    ghost use Rattle.connection.specs.Services.{Both};
-    ghost use Rattle.service_contract.specs.Serving.{service_of};
+    ghost use Rattle.strand_plans.specs.Moves.{Performed, Move};
+    ghost use Rattle.connection_plan.specs.Services.{Both};
+    ghost use Rattle.connection_plan.specs.Serving.{service_of};
     ghost use Rattle.connection_strand.specs.Costs.{unit, Spends, Pays};
     ghost use Rattle.connection_strand.specs.Standing.{Went};
     ghost use Rattle.connection_strand.specs.Turns.{Told, Took, Answered};

@@ -2,16 +2,16 @@
 
 use crate::client::{Timer, later};
 use crate::state::{Connection, Turn};
+use connection_plan::ServiceContract;
 use resty_base::Ms;
-use service_contract::ServiceContract;
 use std::alloc::AllocError;
 use strand_contract::Act;
 
 impl<R: ServiceContract> Connection<R> {
     ghost use Rattle.std.specs.Prelude.{◌≡◌, IfOk};
-    ghost use Rattle.connection.specs.Turns.{begin_timer, end_timer};
+    ghost use Rattle.connection_plan.specs.Turns.{begin_timer, end_timer};
     ghost use Rattle.connection_strand.specs.Kept.{timer_of};
-    ghost use Rattle.service_contract.specs.Serving.{service_of};
+    ghost use Rattle.connection_plan.specs.Serving.{service_of};
     ghost use Rattle.connection_strand.specs.Costs.{Spends};
     ghost use Rattle.connection_strand.specs.Standing.{Goes};
 

@@ -6,7 +6,7 @@ use Rattle.resty_world.specs.declared.event.Event.{Event}
 use Rattle.resty_world.specs.declared.event.Event.TheVariants as event
 use Rattle.resty_world.specs.Book.{Book}
 use Rattle.resty_world.specs.Given.{IsBadLine}
-pub use Rattle.turns.specs.Worked.{events_of, HasFailedLog}
+pub use Rattle.engine_turns.specs.Worked.{events_of, HasFailedLog}
 use Rattle.engine.specs.declared.server.Ended.{Ended}
 use Rattle.engine.specs.declared.server.Ended.TheVariants as ended
 

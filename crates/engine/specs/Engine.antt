@@ -2,7 +2,7 @@
 use Rattle.resty_world.specs.Book.{Book}
 use Rattle.resty_world.specs.declared.event.Event.{Event}
 use Rattle.strand_contract.specs.Behaviors.{Meaning}
-use Rattle.turns.specs.Turns as turns
+use Rattle.engine_turns.specs.Turns as turns
 use Rattle.engine.specs.Events as given
 use Rattle.engine.specs.declared.engine.Engine.{Engine}
 

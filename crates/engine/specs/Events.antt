@@ -7,8 +7,8 @@ use Rattle.resty_world.specs.declared.event.Event.{Event}
 use Rattle.strand_contract.specs.declared.turns.Seen.{Seen}
 use Rattle.strand_contract.specs.Behaviors.{Meaning}
 use Rattle.engine_base.specs.Shown.{shown}
-use Rattle.turns.specs.declared.turns.Turns.{Turns}
-use Rattle.turns.specs.Turns.{Rests}
+use Rattle.engine_turns.specs.declared.turns.Turns.{Turns}
+use Rattle.engine_turns.specs.Turns.{Rests}
 
 module _ {J S : Type 0} (m : Meaning S J) where
   -- the world gave this event at rest

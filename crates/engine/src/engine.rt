@@ -1,11 +1,11 @@
 //! The engine: a step takes an event of the world, with all turns that follow.
 
 use crate::events;
+use engine_turns::Turns;
 use resty_base::Ms;
 use resty_world::{Event, World};
 use std::alloc::Global;
 use strand_contract::StrandContract;
-use turns::Turns;
 
 /// The strands that live, the threads that are to run, the places that are to be offered, and the deadlines that are armed.
 #[derive(Drop)]
@@ -27,7 +27,7 @@ pub enum Stepped {
 impl<S: StrandContract> Engine<S> {
     ghost use Rattle.std.specs.Prelude.{◌≡◌, option_map};
     ghost use Rattle.resty_world.specs.Book.{Book};
-    ghost use Rattle.holdings.specs.Agenda.{first_moment};
+    ghost use Rattle.engine_tables.specs.Agenda.{first_moment};
     ghost use Rattle.engine_base.specs.Right.{IsFresh};
     ghost use Rattle.engine.specs.Stepping.{Steps, Goes};
     ghost use Rattle.engine.specs.Engine.{Rests, IsGiven};

@@ -3,16 +3,16 @@
 ghost use Rattle.std.specs.Prelude.{◌≡◌, false, None};
 ghost use Rattle.resty_world.specs.declared.event.Event.{Event};
 ghost use Rattle.engine_base.specs.declared.seats.ToCome.{ToCome};
-ghost use Rattle.turns.specs.Turns.{Stands};
-ghost use Rattle.turns.specs.Worked.{Works};
+ghost use Rattle.engine_turns.specs.Turns.{Stands};
+ghost use Rattle.engine_turns.specs.Worked.{Works};
 ghost use Rattle.engine.specs.Stepping.{is_stop};
 ghost use Rattle.engine.specs.Events.{IsGiven, IsShown};
 
 use engine_base::{Seat, ToCome};
+use engine_turns::Turns;
 use resty_base::{Id, Ms, StrandId};
 use resty_world::{Entry, Event, World};
 use strand_contract::{Place, Seen, Start, StrandContract};
-use turns::Turns;
 
 /// A connection arrived: its strand begins, or it is turned away where as many are open as may be.
 fn arrive<S: StrandContract, W: World>(

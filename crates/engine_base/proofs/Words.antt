@@ -21,7 +21,7 @@ use Rattle.executions.specs.Queues.{only}
 use Rattle.executions.specs.Histories.{external, offered_lengths, word_entry}
 use Rattle.strand_contract.specs.Laws.{IsLastAct, is_still}
 use Rattle.engine_base.specs.declared.seats.Seat.{Seat}
-use Rattle.holdings.specs.Seats.{is_after}
+use Rattle.engine_tables.specs.Seats.{is_after}
 use Rattle.engine_base.specs.Standing.{Held, is_to_end, is_to_wake, phase_at, HasCome, MayWake, said_of, without_dead, Fit, Standing, Turn}
 use Rattle.engine_base.proofs.Lists.{by_test, clash, same-true, tells-more, tells-same}
 use Rattle.engine_base.proofs.Agendas.{come-same}

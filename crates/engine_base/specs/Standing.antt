@@ -30,7 +30,7 @@ use Rattle.engine_base.specs.declared.seats.ToCome.{ToCome}
 use Rattle.engine_base.specs.declared.seats.ToCome.TheVariants as coming
 use Rattle.engine_base.specs.declared.seats.Seat.{Seat}
 use Rattle.engine_base.specs.Right.{Tells, IsServed}
-use Rattle.holdings.specs.Seats.{is_after}
+use Rattle.engine_tables.specs.Seats.{is_after}
 
 -- what the engine holds, in plain values
 pub record Held (S : Type 0) : Type 0 where

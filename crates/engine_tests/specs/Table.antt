@@ -6,8 +6,8 @@ use Rattle.resty_base.specs.declared.dictionary.DictCall.TheVariants.{Get, Store
 use Rattle.resty_base.specs.declared.dictionary.DictAnswer.{DictAnswer}
 use Rattle.resty_base.specs.declared.dictionary.DictAnswer.TheVariants as answer
 use Rattle.resty_base.specs.declared.dictionary.How.TheVariants.{Set, Add, Replace}
-use Rattle.plain_rules.specs.declared.items.Item.{Item}
-use Rattle.plain_rules.specs.Dictionary.{dict}
+use Rattle.shared_rules.specs.declared.items.Item.{Item}
+use Rattle.shared_rules.specs.Dictionary.{dict}
 
 -- the answers of calls, each at its moment, one after another
 abbrev pub answers : ℕ → List (ℕ × DictCall) → List Item → List DictAnswer

@@ -1,6 +1,6 @@
 //! Tests of the deadlines of strands.
 use crate::words::{is_number, is_thread, number, small_number, strand, word};
-use holdings::Agenda;
+use engine_tables::Agenda;
 use resty_base::Ms;
 use std::alloc::AllocError;
 use std::process::Abort;

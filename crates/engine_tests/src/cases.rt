@@ -2,11 +2,11 @@
 use engine::serve;
 use resty_base::{Bytes, Ms};
 use schedule::{Replay, history_text, schedule_of};
-use script_strand::{Op, Program, ScriptStrand, Site};
 use std::alloc::{AllocError, Global};
 use std::process::Abort;
 use std::rc::Rc;
 use std::test::Fail;
+use strand_scripts::{Op, Program, ScriptStrand, Site};
 
 /// How many connections may be open at a time.
 const CONNECTIONS: u32 = 3;

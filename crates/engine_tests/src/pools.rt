@@ -1,8 +1,8 @@
 //! Tests of the pool of idle sockets; the last compares it with a plain list over calls of a fixed generator.
 use crate::lists::{draw, take_out, with_room};
 use crate::words::{number, small_number, word};
-use plain_rules::Idle;
 use resty_base::{Bytes, Ms};
+use shared_rules::Idle;
 use sock_pool::Pool;
 use std::alloc::AllocError;
 use std::process::Abort;

@@ -1,5 +1,5 @@
 //! Tests of seats.
-use holdings::Seats;
+use engine_tables::Seats;
 use resty_base::StrandId;
 use std::test::Fail;
 

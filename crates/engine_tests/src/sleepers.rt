@@ -3,9 +3,9 @@ use crate::asking::Asking;
 use crate::cases::{EVENTS, hold, site};
 use engine::serve;
 use schedule::schedule_of;
-use script_strand::ScriptStrand;
 use std::alloc::Global;
 use std::test::Fail;
+use strand_scripts::ScriptStrand;
 
 const PROGRAMS: &str = "\
 a: sleep 5, log a

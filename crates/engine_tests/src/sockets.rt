@@ -1,5 +1,5 @@
 //! Tests of the sockets that strands hold.
-use holdings::{Socket, Sockets};
+use engine_tables::{Socket, Sockets};
 use resty_base::StrandId;
 use std::alloc::AllocError;
 use std::test::Fail;

@@ -6,9 +6,9 @@ use Rattle.resty_base.specs.declared.names.StrandId.{StrandId}
 use Rattle.resty_world.specs.Ids.{same_strand}
 use Rattle.strand_contract.specs.declared.turns.Place.{Place}
 use Rattle.strand_contract.specs.declared.turns.Place.TheVariants as place
-use Rattle.plain_rules.specs.Keys.{same_key}
-use Rattle.plain_rules.specs.declared.sockets.Idle.{Idle}
-use Rattle.plain_rules.specs.Pool.{of_key, first_of, given, take_answer, without_socket, without_any, taken_from, kept_in, crowded_out, is_idle}
+use Rattle.shared_rules.specs.Keys.{same_key}
+use Rattle.shared_rules.specs.declared.sockets.Idle.{Idle}
+use Rattle.shared_rules.specs.Pool.{of_key, first_of, given, take_answer, without_socket, without_any, taken_from, kept_in, crowded_out, is_idle}
 use Rattle.strand_contract.specs.declared.turns.Start.TheVariants as start
 use Rattle.strand_contract.specs.Actions.{Action, Began, Close, Take, Dial, Keep, LocalAction, Told, Did, same_place}
 use Rattle.strand_contract.specs.Behaviors.{Behavior}

@@ -6,7 +6,7 @@ use Rattle.resty_base.specs.declared.names.StrandId.TheVariants as strand
 use Rattle.strand_contract.specs.declared.turns.Place.{Place}
 use Rattle.strand_contract.specs.declared.turns.Act.{Act}
 use Rattle.strand_contract.specs.declared.turns.Act.TheVariants as act
-use Rattle.plain_rules.specs.Pool.{take_answer, last_idle}
+use Rattle.shared_rules.specs.Pool.{take_answer, last_idle}
 use Rattle.strand_contract.specs.declared.turns.Start.TheVariants as start
 use Rattle.strand_contract.specs.Actions.{Action, Began, Bytes, Ended, Broken, Ready, Dialled, Refused, Put, Later, Lost, Close, Log, Dict, Take, Dial, Keep}
 use Rattle.strand_contract.specs.Actions.{Timer, Dropped, Run, Offer, Due, Halted, Gone, Did, is_given}

@@ -9,7 +9,7 @@ use Rattle.resty_world.specs.Ids.{same_strand}
 use Rattle.resty_world.specs.declared.answers.TimerAnswer.TheVariants as timer
 use Rattle.strand_contract.specs.declared.turns.Act.{Act}
 use Rattle.strand_contract.specs.declared.turns.Act.TheVariants as act
-use Rattle.plain_rules.specs.Pool.{idle_until}
+use Rattle.shared_rules.specs.Pool.{idle_until}
 use Rattle.strand_contract.specs.Actions.{Action, Began, Take, Keep, Timer, Due, Dropped, Gone, LocalAction, Told, Did}
 use Rattle.strand_contract.specs.Behaviors.{Behavior}
 use Rattle.strand_contract.specs.Alone.{lives, armed, armed_by, taken_by, disarmed, IsExecution}

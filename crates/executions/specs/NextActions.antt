@@ -5,9 +5,9 @@ use Rattle.resty_base.specs.declared.names.StrandId.TheVariants as strand
 use Rattle.strand_contract.specs.declared.turns.Place.{Place}
 use Rattle.strand_contract.specs.declared.turns.Act.{Act}
 use Rattle.strand_contract.specs.declared.turns.Act.TheVariants as act
-use Rattle.plain_rules.specs.Dictionary.{dict}
-use Rattle.plain_rules.specs.Pool.{take_answer, crowded_out, last_idle}
-use Rattle.plain_rules.specs.Timers.{timer_answer}
+use Rattle.shared_rules.specs.Dictionary.{dict}
+use Rattle.shared_rules.specs.Pool.{take_answer, crowded_out, last_idle}
+use Rattle.shared_rules.specs.Timers.{timer_answer}
 use Rattle.strand_contract.specs.declared.turns.Start.TheVariants as start
 use Rattle.strand_contract.specs.Actions.{Began, Put, Later, Lost, Close, Log, Dict, Take, Dial, Keep, Timer, Dropped, Run, Offer, Due, Halted, Gone}
 use Rattle.strand_contract.specs.Actions.{LocalAction}

@@ -4,7 +4,7 @@ use Rattle.resty_base.specs.declared.names.StrandId.{StrandId}
 use Rattle.resty_base.specs.declared.names.StrandId.TheVariants as strand
 use Rattle.resty_world.specs.Ids.{same_strand}
 use Rattle.strand_contract.specs.declared.turns.Place.{Place}
-use Rattle.plain_rules.specs.Pool.{last_idle}
+use Rattle.shared_rules.specs.Pool.{last_idle}
 use Rattle.strand_contract.specs.declared.turns.Start.TheVariants as start
 use Rattle.strand_contract.specs.Actions.{Action, Began, Run, Offer, Due, Halted, Dropped, is_event, is_given}
 use Rattle.strand_contract.specs.Behaviors.{Behavior}

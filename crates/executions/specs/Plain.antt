@@ -1,9 +1,9 @@
 -- What strands share answers by plain rules: room for connections, dictionaries, the pool, timers and numbers.
 use Rattle.std.specs.Prelude.{◌≡◌, ℕ, ◌+◌, ◌<◌, ◌≤◌, Bool, true, false, List, length, Option, Some, None, option_map}
-use Rattle.plain_rules.specs.Dictionary.{dict}
-use Rattle.plain_rules.specs.declared.sockets.Idle.{Idle}
-use Rattle.plain_rules.specs.Pool.{take_answer, crowded_out, is_idle}
-use Rattle.plain_rules.specs.Timers.{timer_answer}
+use Rattle.shared_rules.specs.Dictionary.{dict}
+use Rattle.shared_rules.specs.declared.sockets.Idle.{Idle}
+use Rattle.shared_rules.specs.Pool.{take_answer, crowded_out, is_idle}
+use Rattle.shared_rules.specs.Timers.{timer_answer}
 use Rattle.strand_contract.specs.declared.turns.Start.TheVariants as start
 use Rattle.strand_contract.specs.Actions.{Action, Began, Dict, Take, Dial, Keep, Timer}
 use Rattle.strand_contract.specs.Behaviors.{Behavior}

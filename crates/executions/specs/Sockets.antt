@@ -10,8 +10,8 @@ use Rattle.resty_world.specs.declared.event.Event.{Event}
 use Rattle.resty_world.specs.declared.event.Event.TheVariants as event
 use Rattle.strand_contract.specs.declared.turns.Place.{Place}
 use Rattle.strand_contract.specs.declared.turns.Place.TheVariants as place
-use Rattle.plain_rules.specs.declared.sockets.Idle.{Idle}
-use Rattle.plain_rules.specs.Pool.{taken_from, kept_in, idle_until, without_socket, without_any}
+use Rattle.shared_rules.specs.declared.sockets.Idle.{Idle}
+use Rattle.shared_rules.specs.Pool.{taken_from, kept_in, idle_until, without_socket, without_any}
 use Rattle.strand_contract.specs.Actions.{Action, Close, Take, Dial, Keep}
 use Rattle.strand_contract.specs.Alone.{socket_count}
 use Rattle.executions.specs.Executions.{GlobalAction, Of, IdleGave, IdleClosed, projection, present}

@@ -1,7 +1,7 @@
 -- The dictionaries: what each holds.
 use Rattle.std.specs.Prelude.{ℕ, ◌==◌, List, [], ◌∷◌, if◌then◌else◌}
-use Rattle.plain_rules.specs.declared.items.Item.{Item}
-use Rattle.plain_rules.specs.Dictionary.{dict}
+use Rattle.shared_rules.specs.declared.items.Item.{Item}
+use Rattle.shared_rules.specs.Dictionary.{dict}
 use Rattle.strand_contract.specs.Actions.{Action, Dict}
 use Rattle.strand_contract.specs.Behaviors.{Behavior}
 use Rattle.executions.specs.Executions.{GlobalAction, Of, present}

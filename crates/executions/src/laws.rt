@@ -12,7 +12,7 @@ ghost use Rattle.executions.specs.Queues.{only, run_queue, offer_queue};
 ghost use Rattle.executions.specs.Agenda.{agenda};
 ghost use Rattle.executions.specs.OwnDeadlines.{deadlines};
 ghost use Rattle.executions.specs.Sockets.{owner, socket_at, pool};
-ghost use Rattle.plain_rules.specs.Pool.{is_idle};
+ghost use Rattle.shared_rules.specs.Pool.{is_idle};
 ghost use Rattle.executions.specs.Strands.{is_under_way};
 ghost use Rattle.executions.specs.NextActions.{next, is_drop, IsAnswer};
 ghost use Rattle.executions.specs.Beginnings.{IsBeginning};

@@ -1,7 +1,7 @@
-pub mod FrameForms
-pub mod ReturnLemmas
-pub mod StepsRise
-pub mod QuietWorks
-pub mod QuietTables
-pub mod QuietItems
-pub mod FramesRise
+pub mod FinishLemmas
+pub mod FollowLemmas
+pub mod CallLemmas
+pub mod StackLemmas
+pub mod BlockLemmas
+pub mod FaultLemmas
+pub mod ByteLemmas

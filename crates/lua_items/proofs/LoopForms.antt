@@ -11,22 +11,22 @@ use Rattle.lua_meaning.specs.Setting.{Setting}
 use Rattle.lua_meaning.specs.Blocks.{block}
 use Rattle.lua_meaning.specs.Loops.{after_body, while_work}
 use Rattle.lua_meaning.specs.Nodes.{eval}
-use Rattle.lua_shortcuts.specs.declared.loops.LoopEnd.{LoopEnd}
-use Rattle.lua_shortcuts.specs.declared.loops.LoopEnd.TheVariants as loop_end
-use Rattle.lua_shortcuts.specs.Runs.{Becomes, left_of}
-use Rattle.lua_frames_base.specs.declared.flow.Flow.{Flow}
-use Rattle.lua_frames_base.specs.declared.items.Item.TheVariants as i
-use Rattle.lua_frames_base.specs.declared.threads.Frames.{Frames}
-use Rattle.lua_frames_base.specs.Signals.{sign_of}
-use Rattle.lua_frames_base.specs.Items.{resume_item}
-use Rattle.lua_frames_base.specs.Frames.{finish_from, here, slots_of, working}
-use Rattle.lua_frames_base.specs.Follows.{Follows, Works}
-use Rattle.lua_frames_base.specs.Changes.{Waits, Ends}
-use Rattle.lua_frames_base.proofs.FollowLemmas.{works_as, finish_waits, ends_finish, ends_works, work_under}
+use Rattle.lua_vm_fast.specs.declared.loops.LoopEnd.{LoopEnd}
+use Rattle.lua_vm_fast.specs.declared.loops.LoopEnd.TheVariants as loop_end
+use Rattle.lua_vm_fast.specs.Runs.{Becomes, left_of}
+use Rattle.lua_frames.specs.declared.flow.Flow.{Flow}
+use Rattle.lua_frames.specs.declared.items.Item.TheVariants as i
+use Rattle.lua_frames.specs.declared.threads.Frames.{Frames}
+use Rattle.lua_frames.specs.Signals.{sign_of}
+use Rattle.lua_frames.specs.Items.{resume_item}
+use Rattle.lua_frames.specs.Frames.{finish_from, here, slots_of, working}
+use Rattle.lua_frames.specs.Follows.{Follows, Works}
+use Rattle.lua_frames.specs.Changes.{Waits, Ends}
+use Rattle.lua_frames.proofs.FollowLemmas.{works_as, finish_waits, ends_finish, ends_works, work_under}
 use Rattle.lua_items.specs.declared.loops.RunEnd.TheVariants as run
 use Rattle.lua_items.specs.Takes.{ends_run}
-use Rattle.lua_nodes.specs.Captures.{KeepsAllButSlots}
-use Rattle.lua_nodes.proofs.MovedLemmas.{stays_here, works_moved}
+use Rattle.lua_vm_expressions.specs.Captures.{KeepsAllButSlots}
+use Rattle.lua_vm_expressions.proofs.MovedLemmas.{stays_here, works_moved}
 
 -- the statements of a block from an index on wait, and nothing is given
 pub rest_works : {E : Type 0} (S : Setting) (stmts : Rc (Vec Stmt Global) Global) (next : ℕ) (old mid new : Frames) (store : StoreView) (r : Result Flow E)

@@ -10,17 +10,17 @@ use Rattle.lua_meaning.specs.Works.{Places, Slots, AValue, ATurn, Sign, Values, 
 use Rattle.lua_meaning.specs.Setting.{Setting}
 use Rattle.lua_meaning.specs.Signs.{first, on_values}
 use Rattle.lua_meaning.specs.Blocks.{block}
-use Rattle.lua_frames_base.specs.declared.flow.Flow.{Flow}
-use Rattle.lua_frames_base.specs.declared.items.Item.{Item}
-use Rattle.lua_frames_base.specs.declared.items.Item.TheVariants as i
-use Rattle.lua_frames_base.specs.declared.threads.Frames.{Frames}
-use Rattle.lua_frames_base.specs.Signals.{sign_of, HasFirst, HasValues}
-use Rattle.lua_frames_base.specs.Items.{resume_item}
-use Rattle.lua_frames_base.specs.Frames.{here, slots_of}
-use Rattle.lua_frames_base.specs.Follows.{Works, Enters}
-use Rattle.lua_frames_base.specs.Changes.{Waits}
-use Rattle.lua_frames_base.proofs.FollowLemmas.{works_as, works_from, work_under, enters_by}
-use Rattle.lua_nodes.proofs.ListForms.{on_all}
+use Rattle.lua_frames.specs.declared.flow.Flow.{Flow}
+use Rattle.lua_frames.specs.declared.items.Item.{Item}
+use Rattle.lua_frames.specs.declared.items.Item.TheVariants as i
+use Rattle.lua_frames.specs.declared.threads.Frames.{Frames}
+use Rattle.lua_frames.specs.Signals.{sign_of, HasFirst, HasValues}
+use Rattle.lua_frames.specs.Items.{resume_item}
+use Rattle.lua_frames.specs.Frames.{here, slots_of}
+use Rattle.lua_frames.specs.Follows.{Works, Enters}
+use Rattle.lua_frames.specs.Changes.{Waits}
+use Rattle.lua_frames.proofs.FollowLemmas.{works_as, works_from, work_under, enters_by}
+use Rattle.lua_vm_expressions.proofs.ListForms.{on_all}
 use Rattle.lua_items.specs.declared.loops.RunEnd.TheVariants as run
 use Rattle.lua_items.specs.Takes.{ends_run}
 

@@ -2,9 +2,9 @@
 use Rattle.std.specs.Prelude.{◌≡◌, ℕ, slice_set}
 use Rattle.lua_values.specs.declared.values.Value.{Value}
 use Rattle.lua_meaning.specs.declared.slots.Slot.TheVariants.{Plain}
-use Rattle.lua_frames_base.specs.declared.threads.Frames.{Frames}
-use Rattle.lua_frames_base.specs.Frames.{slots_of}
-use Rattle.lua_nodes.specs.Captures.{KeepsAllButSlots}
+use Rattle.lua_frames.specs.declared.threads.Frames.{Frames}
+use Rattle.lua_frames.specs.Frames.{slots_of}
+use Rattle.lua_vm_expressions.specs.Captures.{KeepsAllButSlots}
 
 -- a slot of the frame on top has a value of its own from now on
 pub record PutsPlain (i : ℕ) (value : Value) (old new : Frames) : Type 0 where

@@ -3,13 +3,13 @@ use Rattle.std.specs.Prelude.{Result}
 use Rattle.lua_values.specs.Heap.{StoreView}
 use Rattle.lua_meaning.specs.Works.{Sign, Values, Return, Break, Failed}
 use Rattle.lua_meaning.specs.Setting.{Setting}
-use Rattle.lua_frames_base.specs.declared.flow.Flow.{Flow}
-use Rattle.lua_frames_base.specs.declared.items.Item.{Item}
-use Rattle.lua_frames_base.specs.declared.threads.Frames.{Frames}
-use Rattle.lua_frames_base.specs.Signals.{sign_of}
-use Rattle.lua_frames_base.specs.Items.{resume_item}
-use Rattle.lua_frames_base.specs.Frames.{here, slots_of}
-use Rattle.lua_frames_base.specs.Follows.{Works}
+use Rattle.lua_frames.specs.declared.flow.Flow.{Flow}
+use Rattle.lua_frames.specs.declared.items.Item.{Item}
+use Rattle.lua_frames.specs.declared.threads.Frames.{Frames}
+use Rattle.lua_frames.specs.Signals.{sign_of}
+use Rattle.lua_frames.specs.Items.{resume_item}
+use Rattle.lua_frames.specs.Frames.{here, slots_of}
+use Rattle.lua_frames.specs.Follows.{Works}
 use Rattle.lua_items.specs.declared.loops.RunEnd.{RunEnd}
 use Rattle.lua_items.specs.declared.loops.RunEnd.TheVariants as run
 

@@ -3,9 +3,9 @@
 ghost use Rattle.lua_items.specs.Takes.{Takes};
 
 use lua_ast::Expr;
-use lua_frames_base::{Flow, Frames, Host, Item, take_first};
-use lua_nodes::list_under;
+use lua_frames::{Flow, Frames, Host, Item, take_first};
 use lua_values::Store;
+use lua_vm_expressions::list_under;
 use std::alloc::AllocError;
 use std::rc::Rc;
 

@@ -7,7 +7,7 @@ ghost use Rattle.lua_meaning.specs.Signs.{or_nil};
 ghost use Rattle.lua_meaning.specs.Variables.{with_locals};
 ghost use Rattle.lua_items.specs.Locals.{PutsPlain};
 
-use lua_frames_base::Frames;
+use lua_frames::Frames;
 use lua_meaning::Slot;
 use lua_values::Value;
 use std::mem;

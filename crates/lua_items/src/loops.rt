@@ -6,20 +6,20 @@ ghost use Rattle.lua_meaning.specs.Setting.{Setting};
 ghost use Rattle.lua_meaning.specs.Works.{ATurn};
 ghost use Rattle.lua_meaning.specs.Blocks.{block};
 ghost use Rattle.lua_meaning.specs.Loops.{while_work};
-ghost use Rattle.lua_frames_base.specs.Signals.{sign_of};
-ghost use Rattle.lua_frames_base.specs.Frames.{here, slots_of};
-ghost use Rattle.lua_frames_base.specs.Follows.{Enters, Works};
+ghost use Rattle.lua_frames.specs.Signals.{sign_of};
+ghost use Rattle.lua_frames.specs.Frames.{here, slots_of};
+ghost use Rattle.lua_frames.specs.Follows.{Enters, Works};
 ghost use Rattle.lua_items.specs.Takes.{Takes, ends_run};
 
 use crate::sites::levels_of;
 use lua_ast::{Expr, Stmt};
-use lua_frames_base::{
+use lua_frames::{
     Flow, Frames, Host, Item, Signal, begin_block, give_nothing, share, take_first, wait,
 };
-use lua_nodes::value_under;
 use lua_operators::is_truthy;
-use lua_shortcuts::{LoopEnd, Site, run_loop};
 use lua_values::Store;
+use lua_vm_expressions::value_under;
+use lua_vm_fast::{LoopEnd, Site, run_loop};
 use std::alloc::AllocError;
 use std::rc::Rc;
 

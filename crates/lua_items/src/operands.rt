@@ -6,10 +6,10 @@ ghost use Rattle.lua_meaning.specs.Setting.{Setting};
 ghost use Rattle.lua_items.specs.Takes.{Takes};
 
 use lua_ast::{BinOp, Expr};
-use lua_frames_base::{Flow, Frames, Host, Item, give_one, take_first};
-use lua_nodes::value_under;
+use lua_frames::{Flow, Frames, Host, Item, give_one, take_first};
 use lua_operators::is_truthy;
 use lua_values::{Store, Value};
+use lua_vm_expressions::value_under;
 use std::alloc::AllocError;
 use std::rc::Rc;
 

@@ -4,11 +4,11 @@ ghost use Rattle.std.specs.Prelude.{◌≡◌};
 ghost use Rattle.lua_values.specs.Heap.{StoreView};
 ghost use Rattle.lua_meaning.specs.Setting.{Setting};
 ghost use Rattle.lua_meaning.specs.Calls.{returned};
-ghost use Rattle.lua_frames_base.specs.declared.items.Item.TheVariants as item;
-ghost use Rattle.lua_frames_base.specs.Signals.{sign_of};
+ghost use Rattle.lua_frames.specs.declared.items.Item.TheVariants as item;
+ghost use Rattle.lua_frames.specs.Signals.{sign_of};
 ghost use Rattle.lua_items.specs.Takes.{Takes, return_sign};
 
-use lua_frames_base::{Flow, Frames, Lists, Signal, give_nothing, take_first};
+use lua_frames::{Flow, Frames, Lists, Signal, give_nothing, take_first};
 use std::alloc::AllocError;
 use std::mem;
 

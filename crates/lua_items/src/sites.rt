@@ -2,9 +2,9 @@
 
 ghost use Rattle.std.specs.Prelude.{◌+◌, ◌<◌, length};
 ghost use Rattle.lua_meaning.specs.Calls.{most_callers};
-ghost use Rattle.lua_frames_base.specs.Frames.{around};
+ghost use Rattle.lua_frames.specs.Frames.{around};
 
-use lua_frames_base::Frames;
+use lua_frames::Frames;
 
 /// How many calls within one another are tried at once.
 const LEVELS: u8 = 16;

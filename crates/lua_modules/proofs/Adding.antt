@@ -2,7 +2,7 @@
 use Rattle.std.proofs.Common.{◌≡◌, ℕ, Bool, true, false, List, Result, Ok, Err, OnOk, subst, sym}
 use Rattle.std.specs.Prelude.{if◌then◌else◌}
 use Rattle.lua_ast.specs.declared.programs.Program.{Program}
-use Rattle.lua_joining.specs.Joining.{IsJoined}
+use Rattle.lua_linking.specs.Joining.{IsJoined}
 use Rattle.lua_modules.specs.Texts.{HasProgram}
 use Rattle.lua_modules.specs.Sets.{Adds, is_prelude, lists_of, next_function, of_file, with_module, with_prelude}
 use Rattle.lua_modules.specs.declared.faults.ModuleFault.{ModuleFault}

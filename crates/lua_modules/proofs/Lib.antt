@@ -1,3 +1,6 @@
 mod Causes
 mod Sound
 mod Adding
+mod Held
+mod Growing
+mod GoingOn

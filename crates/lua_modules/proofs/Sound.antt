@@ -9,8 +9,8 @@ use Rattle.lua_ast.specs.declared.programs.Program.{Program}
 use Rattle.lua_lexer.specs.declared.tokens.Token.{Token}
 use Rattle.lua_grammar.specs.Grammar.{IsProgramOf}
 use Rattle.lua_grammar.specs.Laws.{BeginsWithChunk}
-use Rattle.lua_joining.specs.Raising.{RaisedFunction}
-use Rattle.lua_joining.specs.Joining.{IsJoined}
+use Rattle.lua_linking.specs.Raising.{RaisedFunction}
+use Rattle.lua_linking.specs.Joining.{IsJoined}
 use Rattle.lua_modules.specs.Texts.{HasProgram}
 use Rattle.lua_modules.specs.Sets.{IsChunk, IsOutermost, IsSound, IsUnchanged, Lists, lists_of, next_function, module_of, of_file, with_block, with_module}
 use Rattle.lua_modules.specs.Sets.{with_prelude}

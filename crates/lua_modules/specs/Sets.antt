@@ -4,7 +4,7 @@ use Rattle.std.specs.List.{All, list_any}
 use Rattle.lua_ast.specs.WholeProgram.{IsWholeProgram}
 use Rattle.lua_ast.specs.declared.programs.Function.{Function}
 use Rattle.lua_ast.specs.declared.programs.Program.{Program}
-use Rattle.lua_joining.specs.Joining.{HasSameLists, IsJoined}
+use Rattle.lua_linking.specs.Joining.{HasSameLists, IsJoined}
 use Rattle.lua_modules.specs.Texts.{HasProgram}
 use Rattle.lua_modules.specs.declared.sets.Chunks.{Chunks}
 use Rattle.lua_modules.specs.declared.sets.Module.{Module}

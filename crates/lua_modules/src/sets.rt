@@ -1,7 +1,7 @@
 //! The modules and blocks of a site.
 
 ghost use Rattle.std.specs.Prelude.{◌≡◌, [], ◌∷◌, OnOk, OnErr, IfOk, IfErr, length};
-ghost use Rattle.lua_joining.specs.Joining.{HasSameLists, IsJoined};
+ghost use Rattle.lua_linking.specs.Joining.{HasSameLists, IsJoined};
 ghost use Rattle.lua_modules.specs.Sets as spec;
 ghost use Rattle.lua_modules.specs.Sets.{of_file};
 
@@ -9,7 +9,7 @@ use crate::ModuleFault;
 use crate::texts::program_of;
 use lua_ast::Program;
 use lua_grammar::a_program_begins_with_its_chunk;
-use lua_joining::{join, joined_programs_are_whole};
+use lua_linking::{join, joined_programs_are_whole};
 use resty_base::{ByteLists, Bytes};
 use std::alloc::{AllocError, Global};
 
@@ -75,7 +75,7 @@ fn join_file(
 
 impl ModuleSet {
     ghost use Rattle.std.specs.Prelude.{◌≡◌, ◌≤◌, [], OnOk, OnErr, IfOk, IfErr, length};
-    ghost use Rattle.lua_joining.specs.Joining.{IsJoined};
+    ghost use Rattle.lua_linking.specs.Joining.{IsJoined};
     ghost use Rattle.lua_modules.specs.Sets.{Adds, AddsBlock, IsSound, IsUnchanged, chunks_of};
     ghost use Rattle.lua_modules.specs.Sets.{has_module, lists_of, of_file, with_block, with_module, with_prelude};
     ghost use Rattle.lua_modules.specs.declared.faults.ModuleFault.TheVariants.{Memory};

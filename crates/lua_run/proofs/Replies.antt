@@ -7,28 +7,28 @@ use Rattle.client_line.specs.declared.requests.LineOut.{LineOut}
 use Rattle.client_line.specs.declared.requests.LineOut.TheVariants as out
 use Rattle.strand_contract.specs.Actions.{LocalAction, Did}
 use Rattle.strand_contract.specs.Alone.{moment, IsExecution}
-use Rattle.moves.specs.Ledgers.{Ledger, entered}
-use Rattle.moves.specs.Moves.{Move, Done, Set, perform}
-use Rattle.moves.specs.Plans.{state_of}
+use Rattle.strand_plans.specs.Ledgers.{Ledger, entered}
+use Rattle.strand_plans.specs.Moves.{Move, Done, Set, perform}
+use Rattle.strand_plans.specs.Plans.{state_of}
 use Rattle.run_contract.specs.declared.turns.RunSeen.{RunSeen}
 use Rattle.run_contract.specs.declared.turns.RunSeen.TheVariants as seen
 use Rattle.run_contract.specs.Runs.{says_over}
 use Rattle.run_contract.specs.Conditions.{entered_as}
 use Rattle.request_api.specs.Requests as request
-use Rattle.connection.specs.Clients.{Exchange}
-use Rattle.connection.specs.Connections.{connection_plan, connection_behavior}
+use Rattle.connection_plan.specs.Clients.{Exchange}
+use Rattle.connection_plan.specs.Connections.{connection_plan, connection_behavior}
 use Rattle.lua_run.specs.declared.run.Work.TheVariants.{Request, Over}
 use Rattle.lua_run.specs.Answers.{Site, reply_of}
 use Rattle.lua_run.specs.Runs.{Run, lua_plan, lua_turn, lua_works, logging, reply_said, work_line, work_said, LuaHolds}
 use Rattle.lua_run.specs.RunLaws.{lua-is-run}
 use Rattle.lua_run.specs.Services.{lua_service}
 use Rattle.lua_run.specs.Replies.{reply_to_head, AreMade, IsWhole as IsWholeReply, IsNewest, AreWhole, EachHasItsOwn}
-use Rattle.reply_laws.specs.Own.{MindsItsOwn}
-use Rattle.reply_laws.specs.Alone.{Beginning, News, Seen, Given, Alone, alone, let_first, bytes_said, MayWaitForBody}
-use Rattle.reply_laws.specs.Examples.{IsBlind, NeverLooks}
-use Rattle.reply_laws.specs.Replies.{IsUpTo, IsNews, HaveLearned, IsSaidAlone, IsOwnReply, IsWholeReply as IsWholeOwn, HaveWholeReplies, HaveOwnReplies}
-use Rattle.reply_laws.proofs.Blind.{never-looks-minds}
-use Rattle.reply_laws.proofs.Executing.{replies-said-alone}
+use Rattle.connection_laws.specs.Own.{MindsItsOwn}
+use Rattle.connection_laws.specs.Alone.{Beginning, News, Seen, Given, Alone, alone, let_first, bytes_said, MayWaitForBody}
+use Rattle.connection_laws.specs.Examples.{IsBlind, NeverLooks}
+use Rattle.connection_laws.specs.Replies.{IsUpTo, IsNews, HaveLearned, IsSaidAlone, IsOwnReply, IsWholeReply as IsWholeOwn, HaveWholeReplies, HaveOwnReplies}
+use Rattle.connection_laws.proofs.Blind.{never-looks-minds}
+use Rattle.connection_laws.proofs.Executing.{replies-said-alone}
 
 -- ---- no run looks at its ledger
 

@@ -1,8 +1,8 @@
 -- The turn in which a run of a site of Lua does its work, and how much is left of it.
 use Rattle.std.proofs.Common.{◌≡◌, ℕ, ◌+◌, ◌<◌, ◌≤◌, Bool, true, List, [], length, Option, Some, None, if◌then◌else◌, refl, ap, ◌∙◌, arith, Result, Ok, Err, IfOk}
 use Rattle.strand_contract.specs.declared.turns.Act.{Act}
-use Rattle.moves.specs.Ledgers.{Ledger}
-use Rattle.moves.specs.Moves.{Done, Set, perform}
+use Rattle.strand_plans.specs.Ledgers.{Ledger}
+use Rattle.strand_plans.specs.Moves.{Done, Set, perform}
 use Rattle.run_contract.specs.declared.turns.RunTurn.{RunTurn}
 use Rattle.run_contract.specs.Runs.{performed}
 use Rattle.lua_run.specs.declared.run.Work.{Work}

@@ -7,10 +7,10 @@ use Rattle.client_line.specs.declared.requests.LineOut.TheVariants as out
 use Rattle.strand_contract.specs.Actions.{LocalAction}
 use Rattle.strand_contract.specs.Alone.{moment}
 use Rattle.request_api.specs.Requests as request
-use Rattle.connection.specs.Clients.{Exchange}
+use Rattle.connection_plan.specs.Clients.{Exchange}
 use Rattle.reply_stages.specs.Replies.{refusal}
 use Rattle.lua_run.specs.Answers.{Site, reply_of}
-use Rattle.reply_laws.specs.Replies.{IsUpTo}
+use Rattle.connection_laws.specs.Replies.{IsUpTo}
 
 -- the bytes of the site's reply to a request, at a moment
 abbrev pub reply_to_head : Site → Head → Target → ℕ → List ℕ

@@ -9,11 +9,11 @@ use Rattle.strand_contract.specs.declared.turns.Answer.TheVariants as answer
 use Rattle.strand_contract.specs.Actions.{Action, Did, Timer}
 use Rattle.strand_contract.specs.Calls.{answered}
 use Rattle.strand_contract.specs.Alone.{sooner, due}
-use Rattle.moves.specs.Questions.{Question, asking_if}
-use Rattle.moves.specs.Questions as question
-use Rattle.moves.specs.Ledgers.{Ledger, has, entered}
-use Rattle.moves.specs.Moves.{Move, Done, Set, perform}
-use Rattle.moves.specs.Turns.{IsDue}
+use Rattle.strand_plans.specs.Questions.{Question, asking_if}
+use Rattle.strand_plans.specs.Questions as question
+use Rattle.strand_plans.specs.Ledgers.{Ledger, has, entered}
+use Rattle.strand_plans.specs.Moves.{Move, Done, Set, perform}
+use Rattle.strand_plans.specs.Turns.{IsDue}
 use Rattle.run_contract.specs.declared.turns.RunSeen.{RunSeen}
 use Rattle.run_contract.specs.declared.turns.RunSeen.TheVariants as seen
 use Rattle.run_contract.specs.declared.turns.SockSeen.{SockSeen}

@@ -2,13 +2,13 @@
 use Rattle.std.specs.Prelude.{◌≡◌, ◌≢◌, ℕ, ◌+◌, ◌≤◌, Bool, true, false, List, [], ◌∷◌, length, slice_get, Option, Some, None, IfSome, if◌then◌else◌}
 use Rattle.std.specs.Option.{option_map_or}
 use Rattle.strand_contract.specs.declared.turns.Place.TheVariants as place
-use Rattle.moves.specs.Ledgers.{Ledger, has}
-use Rattle.moves.specs.Questions.{Question}
-use Rattle.moves.specs.Questions as question
+use Rattle.strand_plans.specs.Ledgers.{Ledger, has}
+use Rattle.strand_plans.specs.Questions.{Question}
+use Rattle.strand_plans.specs.Questions as question
 use Rattle.strand_contract.specs.declared.turns.Act.{Act}
 use Rattle.strand_contract.specs.declared.turns.Act.TheVariants as act
-use Rattle.moves.specs.Moves.{Move, Done, Set}
-use Rattle.moves.specs.Moves as move
+use Rattle.strand_plans.specs.Moves.{Move, Done, Set}
+use Rattle.strand_plans.specs.Moves as move
 use Rattle.request_api.specs.Requests as request
 use Rattle.run_contract.specs.declared.turns.RunSeen.{RunSeen}
 use Rattle.run_contract.specs.declared.turns.RunSeen.TheVariants as seen

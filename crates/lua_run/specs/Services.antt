@@ -2,9 +2,9 @@
 use Rattle.std.specs.Prelude.{ℕ, slice_get}
 use Rattle.std.specs.Option.{option_map_or}
 use Rattle.uri_args.specs.declared.targets.Target.{Target}
-use Rattle.connection.specs.Clients.{Times}
-use Rattle.connection.specs.Services.{Service}
-use Rattle.service_contract.specs.Serving.{Serving, service_of}
+use Rattle.connection_plan.specs.Clients.{Times}
+use Rattle.connection_plan.specs.Services.{Service}
+use Rattle.connection_plan.specs.Serving.{Serving, service_of}
 use Rattle.conf.specs.declared.sites.Conf.{Conf}
 use Rattle.conf.specs.declared.sites.Settings.{Settings}
 use Rattle.reply_stages.specs.Replies.{refusal}

@@ -3,13 +3,13 @@
 ghost use Rattle.std.specs.Prelude.{List};
 ghost use Rattle.strand_contract.specs.Actions.{LocalAction};
 ghost use Rattle.strand_contract.specs.Alone.{IsExecution};
-ghost use Rattle.moves.specs.Plans.{state_of};
-ghost use Rattle.connection.specs.Connections.{connection_plan, connection_behavior};
+ghost use Rattle.strand_plans.specs.Plans.{state_of};
+ghost use Rattle.connection_plan.specs.Connections.{connection_plan, connection_behavior};
 ghost use Rattle.lua_run.specs.Answers.{Site};
 ghost use Rattle.lua_run.specs.Runs.{lua_plan};
 ghost use Rattle.lua_run.specs.Services.{lua_service};
 ghost use Rattle.lua_run.specs.Replies.{EachHasItsOwn};
-ghost use Rattle.reply_laws.specs.Own.{MindsItsOwn};
+ghost use Rattle.connection_laws.specs.Own.{MindsItsOwn};
 
 /// Runs of a site of Lua mind their own.
 pub fn lua_runs_mind_their_own<J>()

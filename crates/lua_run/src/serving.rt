@@ -1,17 +1,17 @@
 //! The contract of a site that serves connections, met.
 
 ghost use Rattle.std.specs.Prelude.{◌≡◌, slice_get, Some};
-ghost use Rattle.service_contract.specs.Serving.{times};
+ghost use Rattle.connection_plan.specs.Serving.{times};
 ghost use Rattle.conf.specs.Reading.{IsWhole};
 ghost use Rattle.lua_run.specs.Services as spec;
 
 use crate::{LuaRun, Site};
 use conf::{Conf, ServerConf, Settings};
+use connection_plan::{ServiceContract, Times};
 use http_in::Head;
 use lua_machine::Machine;
 use reply_stages::{refusal, scope_of};
 use resty_base::{Bytes, Ms};
-use service_contract::{ServiceContract, Times};
 use std::alloc::{AllocError, Global};
 use uri_args::Target;
 

@@ -12,13 +12,13 @@ use Rattle.lua_meaning.specs.Setting.{Setting}
 use Rattle.lua_meaning.specs.Life.{Outcome}
 use Rattle.lua_machine.specs.declared.slices.Slice.{Slice}
 use Rattle.lua_machine.specs.Finishes.{IsOutcome}
-use Rattle.lua_frames_base.specs.declared.flow.Flow.{Flow}
-use Rattle.lua_frames_base.specs.declared.flow.Flow.TheVariants as flow
-use Rattle.lua_frames_base.specs.declared.flow.Op.{Op}
-use Rattle.lua_frames_base.specs.declared.threads.Frames.{Frames}
-use Rattle.lua_frames_base.specs.Frames.{finish, given}
-use Rattle.lua_frames_base.specs.Follows.{Follows, Asks}
-use Rattle.lua_frames_base.specs.Starting.{Answers}
+use Rattle.lua_frames.specs.declared.flow.Flow.{Flow}
+use Rattle.lua_frames.specs.declared.flow.Flow.TheVariants as flow
+use Rattle.lua_frames.specs.declared.flow.Op.{Op}
+use Rattle.lua_frames.specs.declared.threads.Frames.{Frames}
+use Rattle.lua_frames.specs.Frames.{finish, given}
+use Rattle.lua_frames.specs.Follows.{Follows, Asks}
+use Rattle.lua_frames.specs.Starting.{Answers}
 use Rattle.lua_threads.specs.declared.threads.Stage.TheVariants as stage
 use Rattle.lua_threads.specs.declared.threads.Thread.{Thread}
 use Rattle.lua_threads.specs.Left.{resumed_at, left, Stops}

@@ -1,1 +1,8 @@
 pub mod LeftLemmas
+pub mod FrameForms
+pub mod ReturnLemmas
+pub mod StepsRise
+pub mod QuietWorks
+pub mod QuietTables
+pub mod QuietItems
+pub mod FramesRise

@@ -6,10 +6,10 @@ use Rattle.lua_meaning.specs.Evaluator.{Resume, Ending, Spent}
 use Rattle.lua_meaning.specs.Setting.{Setting}
 use Rattle.lua_meaning.specs.Life.{Unbegun, outcome_of}
 use Rattle.lua_machine.specs.Finishes.{Finish}
-use Rattle.lua_frames_base.specs.declared.flow.Flow.{Flow}
-use Rattle.lua_frames_base.specs.declared.flow.Flow.TheVariants as flow
-use Rattle.lua_frames_base.specs.declared.threads.Frames.{Frames}
-use Rattle.lua_frames_base.specs.Frames.{finish, given}
+use Rattle.lua_frames.specs.declared.flow.Flow.{Flow}
+use Rattle.lua_frames.specs.declared.flow.Flow.TheVariants as flow
+use Rattle.lua_frames.specs.declared.threads.Frames.{Frames}
+use Rattle.lua_frames.specs.Frames.{finish, given}
 use Rattle.lua_threads.specs.declared.ended.Ended.{Ended}
 use Rattle.lua_threads.specs.declared.ended.Ended.TheVariants as ended
 use Rattle.lua_threads.specs.declared.threads.Stage.{Stage}

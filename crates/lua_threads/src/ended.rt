@@ -1,10 +1,10 @@
 //! How all calls of a thread ended together.
 
-ghost use Rattle.lua_frames_base.specs.Signals.{sign_of};
+ghost use Rattle.lua_frames.specs.Signals.{sign_of};
 ghost use Rattle.lua_threads.specs.Left.{HasEnded};
 ghost use Rattle.std.specs.Prelude.{IfOk};
 
-use lua_frames_base::Signal;
+use lua_frames::Signal;
 use lua_values::{Value, Values};
 use std::alloc::{AllocError, Global};
 

@@ -1,9 +1,16 @@
-//! The machine of Lua and its threads: each begins with a call, is resumed, parks where the outside must answer, and ends.
+//! The threads of Lua, and the loop that runs one: each begins with a call, is resumed, parks where the outside must answer, and ends.
 #![tactic(auto)]
 
+mod applying;
+mod calls;
 mod ended;
 mod loaded;
+mod operators;
+mod statements;
+mod targets;
 mod threads;
+mod turns;
 
 pub use loaded::Loaded;
 pub use threads::{Stage, Thread};
+pub use turns::{run, step};

@@ -5,7 +5,7 @@ ghost use Rattle.lua_threads.specs.Left.{left};
 
 use crate::threads::Thread;
 use lua_ast::Program;
-use lua_frames_base::Host;
+use lua_frames::Host;
 use lua_machine::{Machine, Slice};
 use lua_meaning::Resumed;
 use lua_values::{NativeOut, Natives, Store, Value, Values};

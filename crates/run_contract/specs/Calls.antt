@@ -6,8 +6,8 @@ use Rattle.strand_contract.specs.declared.turns.Place.TheVariants as place
 use Rattle.strand_contract.specs.declared.turns.Answer.{Answer}
 use Rattle.strand_contract.specs.Actions.{Action, Did}
 use Rattle.strand_contract.specs.Calls.{answered}
-use Rattle.moves.specs.Questions.{asking_if}
-use Rattle.moves.specs.Ledgers.{Ledger, has, entered}
+use Rattle.strand_plans.specs.Questions.{asking_if}
+use Rattle.strand_plans.specs.Ledgers.{Ledger, has, entered}
 use Rattle.run_contract.specs.declared.turns.RunSeen.{RunSeen}
 use Rattle.run_contract.specs.declared.turns.RunSeen.TheVariants as seen
 use Rattle.run_contract.specs.declared.turns.RunTurn.{RunTurn}

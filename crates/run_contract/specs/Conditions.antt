@@ -1,6 +1,6 @@
 -- What a run has to show of its plan, so that a connection over it keeps the laws of a strand.
 use Rattle.std.specs.Prelude.{◌≡◌, ℕ, ◌<◌, ◌≤◌, ◌-◌, ◌%◌, Bool, true, false, List, [], ◌∷◌, length, take, Some, None}
-use Rattle.plain_rules.specs.Ranges.{IsInRange}
+use Rattle.shared_rules.specs.Ranges.{IsInRange}
 use Rattle.uri_args.specs.declared.targets.Target.{Target}
 use Rattle.http_in.specs.declared.heads.Head.{Head}
 use Rattle.strand_contract.specs.declared.turns.Place.{Place}
@@ -9,12 +9,12 @@ use Rattle.strand_contract.specs.declared.turns.Answer.{Answer}
 use Rattle.strand_contract.specs.Actions.{Action, Did, Bytes, Ended, Broken, Ready, Dialled, Refused, Put, Later, Lost, Run, Due}
 use Rattle.strand_contract.specs.Calls.{answered}
 use Rattle.strand_contract.specs.Alone.{IsPrefixOf}
-use Rattle.moves.specs.Questions.{Question, asking_if}
-use Rattle.moves.specs.Questions as question
-use Rattle.moves.specs.Ledgers.{Ledger, has, left_at, entered}
-use Rattle.moves.specs.Moves.{Performed}
-use Rattle.moves.specs.Turns.{IsFreeAt, IsTaking, IsDue}
-use Rattle.moves.specs.Conditions.{IsServed, OnlyWakes}
+use Rattle.strand_plans.specs.Questions.{Question, asking_if}
+use Rattle.strand_plans.specs.Questions as question
+use Rattle.strand_plans.specs.Ledgers.{Ledger, has, left_at, entered}
+use Rattle.strand_plans.specs.Moves.{Performed}
+use Rattle.strand_plans.specs.Turns.{IsFreeAt, IsTaking, IsDue}
+use Rattle.strand_plans.specs.Conditions.{IsServed, OnlyWakes}
 use Rattle.run_contract.specs.declared.turns.RunSeen.{RunSeen}
 use Rattle.run_contract.specs.declared.turns.RunSeen.TheVariants as seen
 use Rattle.run_contract.specs.declared.turns.SockSeen.{SockSeen}

@@ -2,9 +2,9 @@
 use Rattle.std.specs.Prelude.{◌≤◌}
 use Rattle.strand_contract.specs.declared.turns.Place.{Place}
 use Rattle.strand_contract.specs.declared.turns.Place.TheVariants as place
-use Rattle.moves.specs.Ledgers.{Ledger}
-use Rattle.moves.specs.Moves.{Move, Done, Unready, Send, Arm, Cancel, HangUp, Log, Set, Look, Ask, End}
-use Rattle.moves.specs.Moves as move
+use Rattle.strand_plans.specs.Ledgers.{Ledger}
+use Rattle.strand_plans.specs.Moves.{Move, Done, Unready, Send, Arm, Cancel, HangUp, Log, Set, Look, Ask, End}
+use Rattle.strand_plans.specs.Moves as move
 
 abbrev pub IsSock : Place → Type 0
 IsSock place.Client = ⊥

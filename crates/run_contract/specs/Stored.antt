@@ -7,11 +7,11 @@ use Rattle.strand_contract.specs.declared.turns.Place.TheVariants as place
 use Rattle.strand_contract.specs.declared.turns.Answer.{Answer}
 use Rattle.strand_contract.specs.declared.turns.Answer.TheVariants as answer
 use Rattle.strand_contract.specs.Actions.{Action, Dict}
-use Rattle.moves.specs.Questions.{Question}
-use Rattle.moves.specs.Questions as question
-use Rattle.moves.specs.Ledgers.{Ledger, has}
-use Rattle.moves.specs.Moves.{Done, Set, Ask}
-use Rattle.moves.specs.Moves as move
+use Rattle.strand_plans.specs.Questions.{Question}
+use Rattle.strand_plans.specs.Questions as question
+use Rattle.strand_plans.specs.Ledgers.{Ledger, has}
+use Rattle.strand_plans.specs.Moves.{Done, Set, Ask}
+use Rattle.strand_plans.specs.Moves as move
 use Rattle.run_contract.specs.declared.stored.Progress.{Progress}
 use Rattle.run_contract.specs.declared.stored.Progress.TheVariants.{Queued, Asked, Replied}
 use Rattle.run_contract.specs.declared.turns.RunSeen.{RunSeen}

@@ -10,10 +10,10 @@ use Rattle.strand_contract.specs.declared.turns.Answer.TheVariants as answer
 use Rattle.strand_contract.specs.Actions.{Action, Did, Dict}
 use Rattle.strand_contract.specs.Calls.{answered}
 use Rattle.strand_contract.specs.Alone.{sooner, due}
-use Rattle.moves.specs.Questions.{Question, asking_if}
-use Rattle.moves.specs.Questions as question
-use Rattle.moves.specs.Ledgers.{Ledger, has, entered}
-use Rattle.moves.specs.Turns.{IsDue}
+use Rattle.strand_plans.specs.Questions.{Question, asking_if}
+use Rattle.strand_plans.specs.Questions as question
+use Rattle.strand_plans.specs.Ledgers.{Ledger, has, entered}
+use Rattle.strand_plans.specs.Turns.{IsDue}
 use Rattle.run_contract.specs.declared.stored.Progress.{Progress}
 use Rattle.run_contract.specs.declared.stored.Progress.TheVariants.{Queued, Asked, Replied}
 use Rattle.run_contract.specs.declared.turns.RunSeen.{RunSeen}

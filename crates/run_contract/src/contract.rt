@@ -11,7 +11,7 @@ use uri_args::Target;
 /// only be dropped.
 pub trait RunContract: Drop {
     ghost use Rattle.std.specs.Prelude.{◌≡◌, ◌<◌, ◌≤◌, ◌+◌, true, ℕ, IfOk, length, option_map};
-    ghost use Rattle.moves.specs.Ledgers.{Ledger};
+    ghost use Rattle.strand_plans.specs.Ledgers.{Ledger};
     ghost use Rattle.run_contract.specs.Runs.{RunPlan, name_at};
     ghost use Rattle.run_contract.specs.Alike.{AreAlike};
     ghost use Rattle.run_contract.specs.Conditions.{IsRun};

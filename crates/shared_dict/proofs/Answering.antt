@@ -8,10 +8,10 @@ use Rattle.resty_base.specs.declared.dictionary.DictAnswer.{DictAnswer}
 use Rattle.resty_base.specs.declared.dictionary.DictAnswer.TheVariants as answer
 use Rattle.resty_base.specs.declared.dictionary.How.{How}
 use Rattle.resty_base.specs.declared.dictionary.How.TheVariants as how
-use Rattle.plain_rules.specs.declared.items.Item.{Item}
-use Rattle.plain_rules.specs.Items.{value_size, is_there, has_key, if_there, found, first}
-use Rattle.plain_rules.specs.Dictionary.{Outcome, get, store, stored, expiry_at, is_whole, increased, as_number, incr}
-use Rattle.plain_rules.specs.Ranges.{IsNumbered, IsKept, IsWithin}
+use Rattle.shared_rules.specs.declared.items.Item.{Item}
+use Rattle.shared_rules.specs.Items.{value_size, is_there, has_key, if_there, found, first}
+use Rattle.shared_rules.specs.Dictionary.{Outcome, get, store, stored, expiry_at, is_whole, increased, as_number, incr}
+use Rattle.shared_rules.specs.Ranges.{IsNumbered, IsKept, IsWithin}
 use Rattle.shared_dict.specs.declared.kept.Kept.{Kept}
 use Rattle.shared_dict.specs.declared.calls.Increment.TheVariants as step
 use Rattle.shared_dict.specs.Zones.{brought, promoted}

@@ -11,10 +11,10 @@ use Rattle.std.proofs.lemmas.List.Sums.{sum_by-cons}
 use Rattle.lru.specs.LruCache as lru
 use Rattle.resty_base.specs.declared.dictionary.DictValue.{DictValue}
 use Rattle.resty_base.specs.declared.names.Ms.{Ms}
-use Rattle.plain_rules.specs.declared.items.Item.{Item}
-use Rattle.plain_rules.specs.Keys.{same_key}
-use Rattle.plain_rules.specs.Items.{value_size, size_of, used, is_before, has_key, if_there, found, without, first, but_last}
-use Rattle.plain_rules.specs.Dictionary.{expired}
+use Rattle.shared_rules.specs.declared.items.Item.{Item}
+use Rattle.shared_rules.specs.Keys.{same_key}
+use Rattle.shared_rules.specs.Items.{value_size, size_of, used, is_before, has_key, if_there, found, without, first, but_last}
+use Rattle.shared_rules.specs.Dictionary.{expired}
 use Rattle.shared_dict.specs.declared.kept.Kept.{Kept}
 use Rattle.shared_dict.specs.declared.kept.Flush.{Flush}
 use Rattle.shared_dict.specs.Zones.{brought, promoted}

@@ -5,9 +5,9 @@ use Rattle.std.proofs.lemmas.List.{length-take}
 use Rattle.std.proofs.lemmas.List.Sums.{sum_by-cons}
 use Rattle.resty_base.specs.declared.dictionary.DictAnswer.{DictAnswer}
 use Rattle.resty_base.specs.declared.dictionary.DictAnswer.TheVariants as answer
-use Rattle.plain_rules.specs.declared.items.Item.{Item}
-use Rattle.plain_rules.specs.Items.{size_of, used, without, first, but_last, evicted}
-use Rattle.plain_rules.specs.Dictionary.{Outcome, put_in, store}
+use Rattle.shared_rules.specs.declared.items.Item.{Item}
+use Rattle.shared_rules.specs.Items.{size_of, used, without, first, but_last, evicted}
+use Rattle.shared_rules.specs.Dictionary.{Outcome, put_in, store}
 use Rattle.shared_dict.specs.Zones.{trimmed, is_trim, is_crowded, fits_after}
 
 pub le-true : (x y : ℕ) → x ≤ y → nat_le x y ≡ true

@@ -5,10 +5,10 @@ use Rattle.std.specs.Map.{keys_of, remove_entry}
 use Rattle.std.proofs.lemmas.List.{append_assoc, length-append}
 use Rattle.std.proofs.lemmas.List.Sums.{sum_by-cons, sum_by-append}
 use Rattle.std.proofs.lemmas.Map.Keys.{IsDistinct-head, IsDistinct-tail, IsDistinct-cons}
-use Rattle.plain_rules.specs.declared.items.Item.{Item}
-use Rattle.plain_rules.specs.Keys.{same_key}
-use Rattle.plain_rules.specs.Items.{size_of, used, is_there, is_before, without, but_last, evicted}
-use Rattle.plain_rules.specs.Dictionary.{keys_there}
+use Rattle.shared_rules.specs.declared.items.Item.{Item}
+use Rattle.shared_rules.specs.Keys.{same_key}
+use Rattle.shared_rules.specs.Items.{size_of, used, is_there, is_before, without, but_last, evicted}
+use Rattle.shared_rules.specs.Dictionary.{keys_there}
 use Rattle.shared_dict.specs.declared.kept.Flush.{Flush}
 use Rattle.shared_dict.specs.Zones.{fits_after, is_doomed, doomed}
 use Rattle.shared_dict.specs.Kept.{Entry, item_of, items_of, expiry_of}

@@ -4,9 +4,9 @@ use Rattle.std.specs.List.{AllByRecursion, IsDistinct}
 use Rattle.std.proofs.lemmas.Cmp.{nat_list_eq_equiv}
 use Rattle.std.proofs.lemmas.List.{length-append}
 use Rattle.std.proofs.lemmas.Map.Keys.{IsDistinct-head, IsDistinct-tail}
-use Rattle.plain_rules.specs.declared.items.Item.{Item}
-use Rattle.plain_rules.specs.Keys.{same_key}
-use Rattle.plain_rules.specs.Items.{is_there, without, swept}
+use Rattle.shared_rules.specs.declared.items.Item.{Item}
+use Rattle.shared_rules.specs.Keys.{same_key}
+use Rattle.shared_rules.specs.Items.{is_there, without, swept}
 use Rattle.shared_dict.proofs.Evictions.{true-lt}
 use Rattle.shared_dict.specs.Zones.{is_doomed, doomed, without_all}
 

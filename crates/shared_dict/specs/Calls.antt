@@ -8,10 +8,10 @@ use Rattle.resty_base.specs.declared.dictionary.DictAnswer.{DictAnswer}
 use Rattle.resty_base.specs.declared.dictionary.DictAnswer.TheVariants as answer
 use Rattle.resty_base.specs.declared.dictionary.How.{How}
 use Rattle.resty_base.specs.declared.dictionary.How.TheVariants as how
-use Rattle.plain_rules.specs.declared.items.Item.{Item}
-use Rattle.plain_rules.specs.Items.{found}
-use Rattle.plain_rules.specs.Dictionary.{is_whole}
-use Rattle.plain_rules.specs.Ranges.{IsNumbered}
+use Rattle.shared_rules.specs.declared.items.Item.{Item}
+use Rattle.shared_rules.specs.Items.{found}
+use Rattle.shared_rules.specs.Dictionary.{is_whole}
+use Rattle.shared_rules.specs.Ranges.{IsNumbered}
 use Rattle.shared_dict.specs.Values.{IsPlain}
 use Rattle.shared_dict.specs.declared.calls.Increment.{Increment}
 use Rattle.shared_dict.specs.declared.calls.Increment.TheVariants.{Refused, Raised, Begun}

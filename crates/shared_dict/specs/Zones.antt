@@ -1,7 +1,7 @@
 -- A zone, as its size and its items.
 use Rattle.std.specs.Prelude.{ℕ, ◌+◌, List, [], ◌∷◌, ◌++◌, find, length, Bool, not, ◌&&◌, ◌||◌, nat_le, nat_lt, Option, Some, None, if◌then◌else◌}
-use Rattle.plain_rules.specs.declared.items.Item.{Item}
-use Rattle.plain_rules.specs.Items.{size_of, used, is_there, has_key, first, without, evicted}
+use Rattle.shared_rules.specs.declared.items.Item.{Item}
+use Rattle.shared_rules.specs.Items.{size_of, used, is_there, has_key, first, without, evicted}
 
 -- how many bytes a zone may count, and its items, the most recent first
 pub record ZoneView : Type 0 where

@@ -3,18 +3,18 @@
 ghost use Rattle.std.specs.Prelude.{◌≡◌, ℕ, ℤ, ◌+ℤ◌, ◌≤◌, List, map, Option, is_some, false, IsOk, IfOk, IfSome, OnOk, OnErr};
 ghost use Rattle.std.specs.List.{IsDistinct};
 ghost use Rattle.resty_base.specs.WholeNumber.{IsWhole};
-ghost use Rattle.plain_rules.specs.declared.items.Item.{Item};
-ghost use Rattle.plain_rules.specs.Keys.{same_key};
-ghost use Rattle.plain_rules.specs.Items.{used, found};
-ghost use Rattle.plain_rules.specs.Dictionary as plain;
-ghost use Rattle.plain_rules.specs.Ranges.{IsNumbered, IsTtl};
+ghost use Rattle.shared_rules.specs.declared.items.Item.{Item};
+ghost use Rattle.shared_rules.specs.Keys.{same_key};
+ghost use Rattle.shared_rules.specs.Items.{used, found};
+ghost use Rattle.shared_rules.specs.Dictionary as plain;
+ghost use Rattle.shared_rules.specs.Ranges.{IsNumbered, IsTtl};
 ghost use Rattle.shared_dict.specs.Calls as calls;
 ghost use Rattle.shared_dict.specs.Calls.{refused, if_whole, is_beginning, FindsNoText, HasWholeNumbers};
 
 use crate::items::Items;
 use crate::values::copy_of;
-use plain_rules::Item;
 use resty_base::{Bytes, DictAnswer, DictValue, How, Ms};
+use shared_rules::Item;
 use std::alloc::{AllocError, Global};
 
 /// The greatest number that a dictionary keeps; the least is its negative.

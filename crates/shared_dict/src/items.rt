@@ -4,10 +4,10 @@ ghost use Rattle.std.specs.Prelude.{◌≡◌, ℕ, ◌+◌, ◌-◌, ◌<◌, �
 ghost use Rattle.std.specs.Prelude.{option_map, option_copied, OnOk, OnErr, IfOk, Some, IsSome, Option, List};
 ghost use Rattle.resty_base.specs.declared.dictionary.DictValue.{DictValue};
 ghost use Rattle.std.specs.List.{IsDistinct};
-ghost use Rattle.plain_rules.specs.Keys.{same_key};
-ghost use Rattle.plain_rules.specs.declared.items.Item.{Item};
-ghost use Rattle.plain_rules.specs.Items.{used, size_of, value_size, found, has_key, first, without, but_last, swept};
-ghost use Rattle.plain_rules.specs.Dictionary.{expired, store, keys_there};
+ghost use Rattle.shared_rules.specs.Keys.{same_key};
+ghost use Rattle.shared_rules.specs.declared.items.Item.{Item};
+ghost use Rattle.shared_rules.specs.Items.{used, size_of, value_size, found, has_key, first, without, but_last, swept};
+ghost use Rattle.shared_rules.specs.Dictionary.{expired, store, keys_there};
 ghost use Rattle.shared_dict.specs.Zones.{promoted, trimmed, is_trim, is_crowded, fits_after, doomed};
 ghost use Rattle.shared_dict.specs.Kept.{Entry, bytes_of, kept_of, content, content_of};
 
@@ -15,8 +15,8 @@ use crate::kept::{Flush, Kept};
 use crate::recent::Recent;
 use crate::scans::{count_doomed, doomed, expiry_of, fits, is_before, keys};
 use crate::sizes::size_of;
-use plain_rules::Item;
 use resty_base::{Bytes, DictAnswer, DictValue, Ms};
+use shared_rules::Item;
 use std::alloc::{AllocError, Global};
 use std::marker::Model;
 
@@ -31,7 +31,7 @@ pub(crate) struct Items {
 
 impl Model for Items {
     ghost use Rattle.std.specs.Prelude.{List};
-    ghost use Rattle.plain_rules.specs.declared.items.Item.{Item};
+    ghost use Rattle.shared_rules.specs.declared.items.Item.{Item};
     ghost use Rattle.shared_dict.specs.Kept.{items_of, IsCounted};
 
     ghost Value = { List Item };

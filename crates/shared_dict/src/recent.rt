@@ -3,7 +3,7 @@
 ghost use Rattle.std.specs.Prelude.{◌≡◌, ◌-◌, ◌^◌, [], ◌∷◌, length, take, slice_get, option_copied, OnOk, OnErr, IfOk, None, drop, Some};
 ghost use Rattle.std.specs.Map.{lookup, lookup_entry, remove_entry};
 ghost use Rattle.lru.specs.LruCache.{lru_cache, last_entry, promoted};
-ghost use Rattle.plain_rules.specs.Keys.{same_key};
+ghost use Rattle.shared_rules.specs.Keys.{same_key};
 ghost use Rattle.shared_dict.specs.Kept.{Entry, listed, put_first, with_value, bytes_of, IsMade};
 
 use crate::kept::Kept;

@@ -3,9 +3,9 @@
 ghost use Rattle.std.specs.Prelude.{◌≡◌, ℕ, ◌+◌, ◌<◌, ◌^◌, nat_lt, not, ◌&&◌, length, take, IfOk};
 ghost use Rattle.std.specs.List.{IsDistinct};
 ghost use Rattle.std.specs.Map.{keys_of};
-ghost use Rattle.plain_rules.specs.Keys.{same_key};
-ghost use Rattle.plain_rules.specs.Items.{used, without, is_before};
-ghost use Rattle.plain_rules.specs.Dictionary.{keys_there};
+ghost use Rattle.shared_rules.specs.Keys.{same_key};
+ghost use Rattle.shared_rules.specs.Items.{used, without, is_before};
+ghost use Rattle.shared_rules.specs.Dictionary.{keys_there};
 ghost use Rattle.shared_dict.specs.declared.kept.Flush.{Flush};
 ghost use Rattle.shared_dict.specs.Zones.{fits_after, doomed};
 ghost use Rattle.shared_dict.specs.Kept.{items_of, expiry_of};

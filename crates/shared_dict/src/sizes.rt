@@ -1,7 +1,7 @@
 //! How many bytes an item counts.
 
 ghost use Rattle.std.specs.Prelude.{◌≡◌, ◌+◌, ◌<◌, ◌^◌, length};
-ghost use Rattle.plain_rules.specs.Items.{value_size};
+ghost use Rattle.shared_rules.specs.Items.{value_size};
 
 use resty_base::{Bytes, DictValue};
 

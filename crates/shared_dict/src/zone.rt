@@ -1,15 +1,15 @@
 //! A zone: its calls.
 
 ghost use Rattle.std.specs.Prelude.{◌≡◌, ℕ, ◌≤◌, [], IsOk, IfOk, OnOk, OnErr};
-ghost use Rattle.plain_rules.specs.Dictionary as plain;
-ghost use Rattle.plain_rules.specs.Dictionary.{dict};
-ghost use Rattle.plain_rules.specs.Ranges.{IsInRange, IsWithin};
+ghost use Rattle.shared_rules.specs.Dictionary as plain;
+ghost use Rattle.shared_rules.specs.Dictionary.{dict};
+ghost use Rattle.shared_rules.specs.Ranges.{IsInRange, IsWithin};
 ghost use Rattle.shared_dict.specs.Calls.{AnswersWithoutMemory, ForeseesWithoutMemory};
 
 use crate::calls::item_of;
 use crate::items::Items;
-use plain_rules::stays_within;
 use resty_base::{ByteLists, DictAnswer, DictCall, Ms};
+use shared_rules::stays_within;
 use std::alloc::{AllocError, Global};
 use std::marker::Model;
 
@@ -22,7 +22,7 @@ pub struct Zone {
 }
 
 impl Model for Zone {
-    ghost use Rattle.plain_rules.specs.Ranges.{IsWithin};
+    ghost use Rattle.shared_rules.specs.Ranges.{IsWithin};
     ghost use Rattle.shared_dict.specs.Zones.{ZoneView};
 
     ghost Value = { ZoneView };

@@ -5,10 +5,10 @@ use Rattle.conf.specs.declared.sites.Conf.{Conf}
 use Rattle.lua_modules.specs.declared.faults.ModuleFault.TheVariants as chunk
 use Rattle.lua_modules.specs.declared.sets.ModuleSet.{ModuleSet}
 use Rattle.lua_run.specs.Answers.{Site}
-use Rattle.module_files.specs.Files.{Holds, ReadsWell, Fares}
-use Rattle.module_files.specs.Reading.{ReadsModules, Stops, start}
-use Rattle.module_files.specs.declared.faults.ModuleFileFault.{ModuleFileFault}
-use Rattle.module_files.specs.declared.faults.ModuleFileFault.TheVariants as reading
+use Rattle.lua_modules.specs.TextsOfFiles.{Holds, ReadsWell, Fares}
+use Rattle.lua_modules.specs.Reading.{ReadsModules, Stops, start}
+use Rattle.lua_modules.specs.declared.file_faults.ModuleFileFault.{ModuleFileFault}
+use Rattle.lua_modules.specs.declared.file_faults.ModuleFileFault.TheVariants as reading
 use Rattle.site_check.specs.declared.faults.CheckFault.TheVariants as check
 use Rattle.site_load.specs.Loading.{HasBlocks, HasTexts, HasSite, NotLoaded, Says, IsRefusedAs, most_bytes, of_modules}
 use Rattle.site_load.specs.Starts.{StartsAs, IsStartFault}

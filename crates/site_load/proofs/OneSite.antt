@@ -17,14 +17,14 @@ use Rattle.lua_values.specs.Heap.{StoreView}
 use Rattle.lua_run.specs.Answers.{Site}
 use Rattle.lua_run.specs.Views.{handler_at}
 use Rattle.lua_site.specs.Starting.{Start, started}
-use Rattle.lua_tables_lib.specs.OwnText.{library_text}
-use Rattle.module_files.specs.Files.{Holds, IsTooLong}
-use Rattle.module_files.specs.declared.faults.ModuleFileFault.{ModuleFileFault}
-use Rattle.module_files.specs.declared.faults.ModuleFileFault.TheVariants as reading
+use Rattle.lua_lib_basic.specs.OwnText.{library_text}
+use Rattle.lua_modules.specs.TextsOfFiles.{Holds, IsTooLong}
+use Rattle.lua_modules.specs.declared.file_faults.ModuleFileFault.{ModuleFileFault}
+use Rattle.lua_modules.specs.declared.file_faults.ModuleFileFault.TheVariants as reading
 use Rattle.ngx_calls.specs.OwnText.{ngx_text}
-use Rattle.same_programs.specs.Laws.{SameProgramsLiveAlike}
-use Rattle.same_sites.specs.Laws.{ModulesKeepSetsSame, BlocksKeepSetsSame, SameSetsStartAlike}
-use Rattle.same_sites.specs.SameSet.{SameSet}
+use Rattle.site_same_laws.specs.Programs.{SameProgramsLiveAlike}
+use Rattle.site_same_laws.specs.Sets.{ModulesKeepSetsSame, BlocksKeepSetsSame, SameSetsStartAlike}
+use Rattle.site_same_laws.specs.SameSet.{SameSet}
 use Rattle.site_check.specs.Sites.{HasProgram as BlockHasProgram, IsProgram, IsRead, IsSite, IsSiteFault}
 use Rattle.site_check.specs.declared.faults.CheckFault.{CheckFault}
 use Rattle.site_check.specs.declared.faults.CheckFault.TheVariants as check
@@ -32,7 +32,7 @@ use Rattle.site_load.specs.Chunks.{IsEmpty, HasBuiltIn, AddsBlocks, HasChunks}
 use Rattle.site_load.specs.Handlers.{unbuilt_line}
 use Rattle.site_load.specs.Loading.{HasConf, HasBlocks, HasTexts, HasSite, HasFault, HasUnbuilt, LacksModules, HasBadModule, HasFailed, IsNoChunk, HasBadBuiltIn, IsFault, most_bytes}
 use Rattle.site_load.specs.Programs.{life_of, natives_of, setting_of}
-use Rattle.same_readings.specs.Readings.{ReadingsAgree, NoReadingIsRefused, RefusalsAreAlike, IsOfFiles, lacks_text}
+use Rattle.site_same_laws.specs.Readings.{ReadingsAgree, NoReadingIsRefused, RefusalsAreAlike, IsOfFiles, lacks_text}
 use Rattle.site_load.specs.Same.{SitesAreKnown, NoSiteIsRefused, FaultsAreAlike, is_unread}
 use Rattle.site_load.specs.Starts.{StartsAs, start_of, site_with, init_among}
 use Rattle.site_load.specs.declared.faults.SiteFault.{SiteFault}

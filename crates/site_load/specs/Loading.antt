@@ -9,11 +9,11 @@ use Rattle.lua_modules.specs.declared.faults.ModuleFault.{ModuleFault}
 use Rattle.lua_modules.specs.declared.faults.ModuleFault.TheVariants as chunk
 use Rattle.lua_modules.specs.declared.sets.ModuleSet.{ModuleSet}
 use Rattle.lua_run.specs.Answers.{Site}
-use Rattle.module_files.specs.Files.{Holds, IsTooLong}
-use Rattle.module_files.specs.Reading.{ReadsModules, Stops, start}
-use Rattle.module_files.specs.declared.faults.ModuleFileFault.{ModuleFileFault}
-use Rattle.module_files.specs.declared.faults.ModuleFileFault.TheVariants as reading
-use Rattle.lua_tables_lib.specs.OwnText.{library_text}
+use Rattle.lua_modules.specs.TextsOfFiles.{Holds, IsTooLong}
+use Rattle.lua_modules.specs.Reading.{ReadsModules, Stops, start}
+use Rattle.lua_modules.specs.declared.file_faults.ModuleFileFault.{ModuleFileFault}
+use Rattle.lua_modules.specs.declared.file_faults.ModuleFileFault.TheVariants as reading
+use Rattle.lua_lib_basic.specs.OwnText.{library_text}
 use Rattle.ngx_calls.specs.OwnText.{ngx_text}
 use Rattle.site_check.specs.Sites.{IsRead, IsSiteFault}
 use Rattle.site_check.specs.declared.faults.CheckFault.{CheckFault}

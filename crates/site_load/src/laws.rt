@@ -4,9 +4,9 @@ ghost use Rattle.site_load.specs.Same.{SitesAreKnown, NoSiteIsRefused, FaultsAre
 
 use conf::a_text_has_one_configuration;
 use lua_lexer::one_reading;
-use same_programs::same_programs_live_alike;
-use same_readings::readings_are_known;
-use same_sites::{same_sets_start_alike, same_sets_stay_same};
+use site_same_laws::{
+    readings_are_known, same_programs_live_alike, same_sets_start_alike, same_sets_stay_same,
+};
 
 /// Files hold one site under a name, up to where the trees of its program stand in memory; where they hold a site, none is refused; and
 /// where they hold none, a file is missing or too long, or what the files hold is refused, and not both.

@@ -4,9 +4,9 @@ use Rattle.std.proofs.lemmas.Bool.Decides.{nat_tests}
 use Rattle.std.proofs.lemmas.Cmp.{nat_eq_equiv, nat_list_eq_equiv}
 use Rattle.std.proofs.lemmas.Map.Keys.{IsDistinct-head}
 use Rattle.std.specs.List.{AllByRecursion, IsDistinct}
-use Rattle.plain_rules.specs.declared.sockets.Idle.{Idle}
-use Rattle.plain_rules.specs.Keys.{same_key}
-use Rattle.plain_rules.specs.Pool.{of_key, count_of, last_of, without_socket, without_any, crowded_out}
+use Rattle.shared_rules.specs.declared.sockets.Idle.{Idle}
+use Rattle.shared_rules.specs.Keys.{same_key}
+use Rattle.shared_rules.specs.Pool.{of_key, count_of, last_of, without_socket, without_any, crowded_out}
 use Rattle.wakes.specs.Times.{DeadlinesView}
 use Rattle.sock_pool.specs.declared.keys.Keys.{Keys}
 use Rattle.sock_pool.specs.Keys.{socks_of}

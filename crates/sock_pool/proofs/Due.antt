@@ -7,8 +7,8 @@ use Rattle.std.proofs.lemmas.Map.Keys.{IsDistinct-head, IsDistinct-tail}
 use Rattle.std.specs.List.{AllByRecursion, IsDistinct}
 use Rattle.std.specs.Map.{keys_of, lookup, remove_entry}
 use Rattle.resty_base.specs.declared.names.Ms.{Ms}
-use Rattle.plain_rules.specs.declared.sockets.Idle.{Idle}
-use Rattle.plain_rules.specs.Pool.{is_over, ends_by, sooner as sooner_idle, over_first}
+use Rattle.shared_rules.specs.declared.sockets.Idle.{Idle}
+use Rattle.shared_rules.specs.Pool.{is_over, ends_by, sooner as sooner_idle, over_first}
 use Rattle.wakes.specs.declared.deadlines.Whose.TheVariants as whose
 use Rattle.wakes.specs.Times.{Deadline, DeadlinesView, sooner, soonest, if_due, due_at, without_any}
 use Rattle.sock_pool.specs.declared.keys.Keys.{Keys}

@@ -5,9 +5,9 @@ use Rattle.std.proofs.lemmas.Cmp.{nat_eq_equiv, nat_list_eq_equiv}
 use Rattle.std.proofs.lemmas.Map.Keys.{IsDistinct-head, IsDistinct-tail, IsDistinct-cons}
 use Rattle.std.specs.List.{AllByRecursion, IsDistinct}
 use Rattle.std.specs.Map.{keys_of, lookup, remove_entry}
-use Rattle.plain_rules.specs.declared.sockets.Idle.{Idle}
-use Rattle.plain_rules.specs.Keys.{same_key}
-use Rattle.plain_rules.specs.Pool.{of_key, first_of, is_idle, without_socket}
+use Rattle.shared_rules.specs.declared.sockets.Idle.{Idle}
+use Rattle.shared_rules.specs.Keys.{same_key}
+use Rattle.shared_rules.specs.Pool.{of_key, first_of, is_idle, without_socket}
 use Rattle.sock_pool.specs.declared.pool.Parked.{Parked}
 use Rattle.sock_pool.specs.Keys.{without, left_out}
 use Rattle.sock_pool.specs.Kept.{Entry, IsEntry, idle_of}

@@ -6,7 +6,7 @@ use Rattle.std.specs.Map.{keys_of, lookup_entry, remove_entry}
 use Rattle.std.specs.Option.{option_map_or}
 use Rattle.lru.specs.LruCache.{LruCache, put_entries}
 use Rattle.lru.proofs.CallerLemmas.{Contains-lookup_entry}
-use Rattle.plain_rules.specs.Keys.{same_key}
+use Rattle.shared_rules.specs.Keys.{same_key}
 use Rattle.sock_pool.specs.Keys.{without}
 
 both : (x y : Bool) → x && y ≡ true → (x ≡ true) × (y ≡ true)

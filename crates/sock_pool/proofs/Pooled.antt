@@ -2,8 +2,8 @@
 use Rattle.std.proofs.Common.{◌≡◌, ℕ, ◌+◌, nat_eq, List, [], ◌++◌, map, find, slice_get, Option, Some, None, option_map, refl, sym, ap, ◌∙◌, subst, append-nil}
 use Rattle.std.specs.List.{AllByRecursion, IsDistinct}
 use Rattle.std.specs.Map.{lookup, remove_entry}
-use Rattle.plain_rules.specs.declared.sockets.Idle.{Idle}
-use Rattle.plain_rules.specs.Pool.{of_key, first_of}
+use Rattle.shared_rules.specs.declared.sockets.Idle.{Idle}
+use Rattle.shared_rules.specs.Pool.{of_key, first_of}
 use Rattle.wakes.specs.Times.{Deadline, DeadlinesView}
 use Rattle.sock_pool.specs.declared.keys.Keys.{Keys}
 use Rattle.sock_pool.specs.declared.pool.Parked.{Parked}

@@ -5,9 +5,9 @@ use Rattle.std.proofs.lemmas.Cmp.{nat_list_eq_equiv}
 use Rattle.std.specs.List.{AllByRecursion}
 use Rattle.std.specs.Map.{lookup, remove_entry}
 use Rattle.resty_base.specs.declared.names.Ms.{Ms}
-use Rattle.plain_rules.specs.declared.sockets.Idle.{Idle}
-use Rattle.plain_rules.specs.Keys.{same_key}
-use Rattle.plain_rules.specs.Pool.{of_key, without_socket}
+use Rattle.shared_rules.specs.declared.sockets.Idle.{Idle}
+use Rattle.shared_rules.specs.Keys.{same_key}
+use Rattle.shared_rules.specs.Pool.{of_key, without_socket}
 use Rattle.wakes.specs.declared.deadlines.Whose.TheVariants as whose
 use Rattle.wakes.specs.Times.{Deadline, DeadlinesView}
 use Rattle.sock_pool.specs.declared.keys.Keys.{Keys}

@@ -1,7 +1,7 @@
 -- The sockets of each key after a change of those of one.
 use Rattle.std.proofs.Common.{◌≡◌, ℕ, nat_eq, Bool, true, false, cond, List, [], ◌∷◌, Some, None, refl, sym, ap, ◌∙◌, length, arith}
 use Rattle.std.specs.Map.{keys_of, lookup, remove_entry}
-use Rattle.plain_rules.specs.Keys.{same_key}
+use Rattle.shared_rules.specs.Keys.{same_key}
 use Rattle.sock_pool.specs.Keys.{numbers_in, without, first_put, left_out}
 use Rattle.sock_pool.proofs.Numbers.{same-is, without-keys}
 

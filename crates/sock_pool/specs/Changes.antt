@@ -2,7 +2,7 @@
 use Rattle.std.specs.Prelude.{ℕ, ◌+◌, nat_eq, List, Option, Some, None, if◌then◌else◌}
 use Rattle.std.specs.Map.{remove_entry}
 use Rattle.resty_base.specs.declared.names.Ms.{Ms}
-use Rattle.plain_rules.specs.Keys.{same_key}
+use Rattle.shared_rules.specs.Keys.{same_key}
 use Rattle.wakes.specs.declared.deadlines.Whose.{Whose}
 use Rattle.wakes.specs.declared.deadlines.Whose.TheVariants as whose
 use Rattle.wakes.specs.Times.{Deadline, DeadlinesView, armed_with, due_at, without_any}

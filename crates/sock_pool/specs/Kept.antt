@@ -3,8 +3,8 @@ use Rattle.std.specs.Prelude.{◌≡◌, ℕ, ◌+◌, ◌<◌, nat_eq, List, []
 use Rattle.std.specs.List.{AllByRecursion, IsDistinct}
 use Rattle.std.specs.Map.{keys_of}
 use Rattle.resty_base.specs.declared.names.Ms.{Ms}
-use Rattle.plain_rules.specs.declared.sockets.Idle.{Idle}
-use Rattle.plain_rules.specs.Pool.{of_key}
+use Rattle.shared_rules.specs.declared.sockets.Idle.{Idle}
+use Rattle.shared_rules.specs.Pool.{of_key}
 use Rattle.wakes.specs.declared.deadlines.Whose.TheVariants as whose
 use Rattle.wakes.specs.Times.{Deadline, DeadlinesView}
 use Rattle.sock_pool.specs.declared.keys.Keys.{Keys}

@@ -1,7 +1,7 @@
 -- The idle sockets of each key, the most recent first.
 use Rattle.std.specs.Prelude.{◌≡◌, ℕ, ◌-◌, nat_eq, nat_lt, List, [], ◌∷◌, length, slice_get, Option, Some, None, if◌then◌else◌}
 use Rattle.std.specs.Map.{keys_of, lookup}
-use Rattle.plain_rules.specs.Keys.{same_key}
+use Rattle.shared_rules.specs.Keys.{same_key}
 use Rattle.sock_pool.specs.declared.keys.Keys.{Keys}
 
 -- the numbers that were put

@@ -1,15 +1,15 @@
 //! The pool of idle sockets.
 
 ghost use Rattle.std.specs.Prelude.{◌≡◌, ℕ, List, ◌∷◌, [], nat_eq, find, is_some, Option, option_map, IfOk, OnOk, OnErr};
-ghost use Rattle.plain_rules.specs.Pool.{is_idle, without_socket, without_any, given, take_answer, taken_from, crowded_out, kept_in, over_first, last_idle};
+ghost use Rattle.shared_rules.specs.Pool.{is_idle, without_socket, without_any, given, take_answer, taken_from, crowded_out, kept_in, over_first, last_idle};
 ghost use Rattle.wakes.specs.Times.{due_at};
 ghost use Rattle.sock_pool.specs.Keys.{socks_of};
 ghost use Rattle.sock_pool.specs.Changes.{next_number, armed_until, disarmed, socket_of, without_due, forgotten_key, forgotten_deadline};
 
 use crate::keys::Keys;
 use crate::recent::Recent;
-use plain_rules::Idle;
 use resty_base::{Bytes, Ms};
+use shared_rules::Idle;
 use std::alloc::{AllocError, Global};
 use std::marker::Model;
 use wakes::{Deadlines, Whose};
@@ -32,7 +32,7 @@ pub struct Pool {
 
 impl Model for Pool {
     ghost use Rattle.std.specs.Prelude.{List};
-    ghost use Rattle.plain_rules.specs.declared.sockets.Idle.{Idle as IdleSocket};
+    ghost use Rattle.shared_rules.specs.declared.sockets.Idle.{Idle as IdleSocket};
 
     ghost Value = { List IdleSocket };
 

@@ -7,7 +7,7 @@ use Rattle.strand_contract.specs.declared.turns.Place.TheVariants as place
 use Rattle.strand_contract.specs.declared.turns.Start.TheVariants as start
 use Rattle.strand_contract.specs.declared.turns.Act.{Act}
 use Rattle.strand_contract.specs.declared.turns.Act.TheVariants as act
-use Rattle.plain_rules.specs.Ranges.{MayAnswer}
+use Rattle.shared_rules.specs.Ranges.{MayAnswer}
 use Rattle.strand_contract.specs.Actions.{Moment, Stop, LocalAction, Told, Did, same_place, is_event, Began, Bytes, Ended, Broken, Ready, Dialled, Refused}
 use Rattle.strand_contract.specs.Actions.{Put, Later, Lost, Close, Log, Dict, Take, Dial, Keep, Timer, Dropped, Run, Offer, Due, Halted, Gone}
 use Rattle.strand_contract.specs.Behaviors.{Behavior}

@@ -1,6 +1,6 @@
 -- The laws of a behavior: what whoever holds a strand takes for granted of what it does.
 use Rattle.std.specs.Prelude.{◌≡◌, ◌≤◌, ◌<◌, Bool, true, false, List, [], ◌∷◌}
-use Rattle.plain_rules.specs.Ranges.{IsInRange}
+use Rattle.shared_rules.specs.Ranges.{IsInRange}
 use Rattle.strand_contract.specs.declared.turns.Place.{Place}
 use Rattle.strand_contract.specs.declared.turns.Place.TheVariants as place
 use Rattle.strand_contract.specs.declared.turns.Start.TheVariants as start

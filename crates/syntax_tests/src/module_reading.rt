@@ -1,8 +1,7 @@
 //! Tests of the reading of modules: lines of what a site and its files have, and of what reading comes to, each with what is answered.
 use crate::module_sets::answer;
 use crate::rows::put_number;
-use lua_modules::ModuleSet;
-use module_files::{ModuleFileFault, read_modules};
+use lua_modules::{ModuleFileFault, ModuleSet, read_modules};
 use resty_base::{Bytes, MemFiles};
 use std::alloc::{AllocError, Global};
 use std::process::Abort;

@@ -2,8 +2,8 @@
 use crate::names::see_texts;
 use crate::rows::{put, put_number};
 use lua_ast::{ExprKind, Function, StmtKind};
+use lua_linking::names_of;
 use lua_modules::{Module, ModuleFault, ModuleSet, file_of, freeze};
-use lua_names::names_of;
 use lua_values::{Store, Value};
 use resty_base::Bytes;
 use std::alloc::{AllocError, Global};

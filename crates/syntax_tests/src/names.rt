@@ -2,7 +2,7 @@
 use crate::rows::{Subject, hold, put};
 use lua_ast::Program;
 use lua_lexer::lex;
-use lua_names::names_in;
+use lua_linking::names_in;
 use lua_parser::parse;
 use resty_base::ByteLists;
 use std::alloc::Global;

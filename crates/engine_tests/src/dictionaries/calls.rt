@@ -2,7 +2,7 @@
 
 ghost use Rattle.std.specs.Prelude.{◌≤◌, IfSome};
 ghost use Rattle.resty_base.specs.WholeNumber.{IsWhole};
-ghost use Rattle.plain_rules.specs.Ranges.{IsInRange, IsNumbered, IsTtl};
+ghost use Rattle.shared_rules.specs.Ranges.{IsInRange, IsNumbered, IsTtl};
 
 use resty_base::{Bytes, DictCall, DictValue, How, Ms, Whole};
 use std::alloc::Global;

@@ -2,10 +2,10 @@
 use super::WaitAndId;
 use lua_ast::Program;
 use lua_lexer::lex;
+use lua_lib_basic::Library;
 use lua_machine::{Machine, Op, Slice};
 use lua_meaning::Resumed;
 use lua_parser::parse;
-use lua_tables_lib::Library;
 use lua_threads::Loaded;
 use lua_values::{Both, Store, StoreFault, Value, Values};
 use resty_base::{ByteLists, Bytes, Whole};

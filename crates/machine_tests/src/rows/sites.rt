@@ -2,9 +2,9 @@
 ghost use Rattle.std.specs.Prelude.{◌<◌, ◌≤◌, length, IfSome};
 
 use super::programs::{put, see_call, without_counts};
+use lua_lib_basic::Library;
 use lua_modules::{Chunks, ModuleFault, ModuleSet};
 use lua_site::{LuaSite, LuaSiteFault, start_lua};
-use lua_tables_lib::Library;
 use lua_threads::Loaded;
 use lua_values::Both;
 use ngx_calls::NgxNatives;
@@ -72,7 +72,7 @@ fn set_of(
     text: &str,
 ) -> Result<ModuleSet, ModuleFault> {
     let mut set = ModuleSet::new(alloc);
-    add_prelude(alloc, &mut set, lua_tables_lib::prelude())?;
+    add_prelude(alloc, &mut set, lua_lib_basic::prelude())?;
     add_prelude(alloc, &mut set, ngx_calls::prelude())?;
     add_prelude(alloc, &mut set, prelude.as_bytes())?;
     add_modules(alloc, &mut set)?;

@@ -5,8 +5,8 @@ use Rattle.strand_contract.specs.declared.turns.Start.TheVariants as start
 use Rattle.strand_contract.specs.Actions.{Began}
 use Rattle.executions.specs.Executions.{Of, TurnedAway}
 use Rattle.engine_base.proofs.Arrivals.{falls-begun, busy-begun, stands-turned}
-use Rattle.turns.proofs.Seats.{done-of}
-use Rattle.turns.proofs.Going.{goes-joins, goes-work, turned-work, closed-work, forgot-work}
+use Rattle.engine_turns.proofs.Seats.{done-of}
+use Rattle.engine_turns.proofs.Going.{goes-joins, goes-work, turned-work, closed-work, forgot-work}
 use Rattle.engine.proofs.events.arrive.Goals as goal
 
 pub returns-then-from-turns-clause-standing : goal.returns-then-from-turns-clause-standing

@@ -2,11 +2,11 @@ use Rattle.std.proofs.Common.{◌≡◌, ℕ, true, false, Option, Some, None, i
 use Rattle.std.specs.Ordering.{nat_cmp}
 use Rattle.std.specs.BTreeMap.{get}
 use Rattle.resty_base.specs.declared.names.StrandId.TheVariants as strand
-use Rattle.holdings.specs.declared.seats.Seats.{Seats}
-use Rattle.holdings.specs.Seats.{content, seat_at, has_seat}
+use Rattle.engine_tables.specs.declared.seats.Seats.{Seats}
+use Rattle.engine_tables.specs.Seats.{content, seat_at, has_seat}
 use Rattle.engine_base.specs.declared.seats.ToCome.TheVariants as coming
-use Rattle.turns.specs.Turns.{view_of}
-use Rattle.turns.proofs.Seats.{vacant-ends}
+use Rattle.engine_turns.specs.Turns.{view_of}
+use Rattle.engine_turns.proofs.Seats.{vacant-ends}
 use Rattle.engine_base.proofs.Words.{turn-halt, stands-ended, stands-passed}
 use Rattle.engine.proofs.events.end_all.Goals as goal
 

@@ -1,7 +1,7 @@
 use Rattle.std.proofs.Common.{◌≡◌, ◌-◌, ◌^◌, ℕ, false, Option, Some, None}
 use Rattle.engine_base.specs.declared.seats.ToCome.TheVariants as coming
-use Rattle.turns.specs.Turns.{Stands}
-use Rattle.turns.specs.Worked.{Works}
+use Rattle.engine_turns.specs.Turns.{Stands}
+use Rattle.engine_turns.specs.Worked.{Works}
 use Rattle.engine.proofs.events.end_all.Given as goal
 
 -- how many numbers of connections come after this one

@@ -1,7 +1,7 @@
 use Rattle.std.proofs.Common.{◌∙◌, ap, sym, List, ℕ, drop}
 use Rattle.std.proofs.lemmas.List.{drop_more}
 use Rattle.lua_meaning.specs.Variables.{with_locals}
-use Rattle.lua_nodes.proofs.DropLemmas.{dropped_all}
+use Rattle.lua_vm_expressions.proofs.DropLemmas.{dropped_all}
 use Rattle.lua_items.proofs.LocalLemmas.{local_set}
 use Rattle.lua_items.proofs.locals.set_locals.Goals as goal
 

@@ -1,5 +1,5 @@
 use Rattle.lua_meaning.specs.Works.{ATurn}
-use Rattle.lua_frames_base.proofs.FollowLemmas.{enters_spent}
+use Rattle.lua_frames.proofs.FollowLemmas.{enters_spent}
 use Rattle.lua_items.proofs.TakeForms.{turn_enters}
 use Rattle.lua_items.proofs.loops.enter_turn.Goals as goal
 

@@ -1,6 +1,6 @@
 use Rattle.std.proofs.Common.{refl, sym}
-use Rattle.lua_shortcuts.specs.declared.loops.LoopEnd.TheVariants as loop_end
-use Rattle.lua_frames_base.specs.Frames.{here}
+use Rattle.lua_vm_fast.specs.declared.loops.LoopEnd.TheVariants as loop_end
+use Rattle.lua_frames.specs.Frames.{here}
 use Rattle.lua_items.proofs.SiteLemmas.{allows_here}
 use Rattle.lua_items.proofs.LoopForms.{loop_goes, loop_over, loop_tests, loop_turns}
 use Rattle.lua_items.proofs.loops.go_on.Goals as goal

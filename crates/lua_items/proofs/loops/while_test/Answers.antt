@@ -3,8 +3,8 @@ use Rattle.lua_operators.specs.Types.{is_truthy}
 use Rattle.lua_meaning.specs.Works.{ATurn}
 use Rattle.lua_meaning.specs.Signs.{give}
 use Rattle.lua_meaning.specs.Loops.{again}
-use Rattle.lua_frames_base.specs.Frames.{here, slots_of}
-use Rattle.lua_frames_base.proofs.FollowLemmas.{enters_works}
+use Rattle.lua_frames.specs.Frames.{here, slots_of}
+use Rattle.lua_frames.proofs.FollowLemmas.{enters_works}
 use Rattle.lua_items.proofs.TakeForms.{takes_one, by_truth}
 use Rattle.lua_items.proofs.loops.while_test.Goals as goal
 

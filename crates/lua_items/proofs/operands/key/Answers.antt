@@ -1,7 +1,7 @@
 use Rattle.std.proofs.Common.{refl}
 use Rattle.lua_meaning.specs.Signs.{value}
 use Rattle.lua_meaning.specs.Indexing.{index_work}
-use Rattle.lua_frames_base.specs.declared.items.Item.TheVariants as i
+use Rattle.lua_frames.specs.declared.items.Item.TheVariants as i
 use Rattle.lua_items.proofs.TakeForms.{takes_value}
 use Rattle.lua_items.proofs.operands.key.Goals as goal
 

@@ -1,7 +1,7 @@
 use Rattle.std.proofs.Common.{sym, ◌∙◌, ap, if◌then◌else◌, Bool}
 use Rattle.lua_operators.specs.Types.{is_truthy}
 use Rattle.lua_meaning.specs.Signs.{value, give_one}
-use Rattle.lua_frames_base.specs.declared.items.Item.TheVariants as i
+use Rattle.lua_frames.specs.declared.items.Item.TheVariants as i
 use Rattle.lua_items.proofs.TakeForms.{takes_value}
 use Rattle.lua_items.proofs.operands.or_else.Goals as goal
 

@@ -2,7 +2,7 @@ use Rattle.std.proofs.Common.{refl}
 use Rattle.lua_meaning.specs.Signs.{value}
 use Rattle.lua_meaning.specs.Positions.{callers_at}
 use Rattle.lua_meaning.specs.Operators.{binary_work}
-use Rattle.lua_frames_base.specs.declared.items.Item.TheVariants as i
+use Rattle.lua_frames.specs.declared.items.Item.TheVariants as i
 use Rattle.lua_items.proofs.TakeForms.{takes_value}
 use Rattle.lua_items.proofs.operands.right.Goals as goal
 

@@ -5,8 +5,8 @@ use Rattle.lua_operators.specs.Types.{is_truthy}
 use Rattle.lua_meaning.specs.Works.{Values}
 use Rattle.lua_meaning.specs.Signs.{give_one}
 use Rattle.lua_meaning.specs.Comparison.{give_truth}
-use Rattle.lua_frames_base.specs.Frames.{slots_of}
-use Rattle.lua_frames_base.proofs.FollowLemmas.{works_as, ends_works}
+use Rattle.lua_frames.specs.Frames.{slots_of}
+use Rattle.lua_frames.proofs.FollowLemmas.{works_as, ends_works}
 use Rattle.lua_items.proofs.TakeForms.{takes_one}
 use Rattle.lua_items.proofs.operands.truth.Goals as goal
 

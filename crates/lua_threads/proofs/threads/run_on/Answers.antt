@@ -1,4 +1,4 @@
-use Rattle.lua_frames_base.specs.Frames.{finish}
+use Rattle.lua_frames.specs.Frames.{finish}
 use Rattle.lua_threads.proofs.LeftLemmas.{stops}
 use Rattle.lua_threads.proofs.threads.run_on.Goals as goal
 

@@ -1,7 +1,7 @@
 use Rattle.std.proofs.Common.{subst}
-use Rattle.lua_frames_base.specs.declared.flow.Flow.{Flow}
-use Rattle.lua_frames_base.specs.Follows.{Follows}
-use Rattle.lua_frames.specs.Steps.{RaisesSteps}
+use Rattle.lua_frames.specs.declared.flow.Flow.{Flow}
+use Rattle.lua_frames.specs.Follows.{Follows}
+use Rattle.lua_threads.specs.Steps.{RaisesSteps}
 use Rattle.lua_threads.proofs.threads.slice_of.Goals as goal
 
 pub returns-in-Asked-clause-comes : goal.returns-in-Asked-clause-comes

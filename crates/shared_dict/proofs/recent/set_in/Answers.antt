@@ -1,6 +1,6 @@
 use Rattle.std.proofs.Common.{◌≡◌, ◌∷◌, Some, None, ap, ◌∙◌}
 use Rattle.std.specs.Map.{remove_entry}
-use Rattle.plain_rules.specs.Keys.{same_key}
+use Rattle.shared_rules.specs.Keys.{same_key}
 use Rattle.shared_dict.specs.declared.kept.Kept.{Kept}
 use Rattle.shared_dict.proofs.Entries.{set-first, value-of, test-is}
 use Rattle.shared_dict.proofs.recent.set_in.Goals as goal

@@ -1,5 +1,5 @@
 use Rattle.std.proofs.Common.{sym, ap, ◌∙◌, not, nat_lt, ◌&&◌}
-use Rattle.plain_rules.specs.Items.{is_before}
+use Rattle.shared_rules.specs.Items.{is_before}
 use Rattle.shared_dict.specs.Kept.{expiry_of}
 use Rattle.shared_dict.proofs.Progress.{counted-more}
 use Rattle.shared_dict.proofs.scans.count_doomed.Goals as goal

@@ -1,5 +1,5 @@
 use Rattle.std.proofs.Common.{◌≡◌, ◌<◌, ◌∷◌, [], ◌++◌, length, sym, ap, ◌∙◌, arith}
-use Rattle.plain_rules.specs.Items.{is_before}
+use Rattle.shared_rules.specs.Items.{is_before}
 use Rattle.shared_dict.proofs.Progress.{listed-more}
 use Rattle.shared_dict.proofs.scans.keys.Goals as goal
 

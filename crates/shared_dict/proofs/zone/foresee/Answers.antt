@@ -1,9 +1,9 @@
 use Rattle.std.proofs.Common.{◌≡◌, ℕ, ◌-◌, length, refl, sym, ap, ◌∙◌, arith}
 use Rattle.resty_base.specs.declared.dictionary.DictCall.{DictCall}
 use Rattle.resty_base.specs.declared.dictionary.DictAnswer.TheVariants as answer
-use Rattle.plain_rules.specs.declared.items.Item.{Item}
-use Rattle.plain_rules.specs.Items.{found, swept}
-use Rattle.plain_rules.specs.Dictionary.{Outcome, dict, expiry_at, limit}
+use Rattle.shared_rules.specs.declared.items.Item.{Item}
+use Rattle.shared_rules.specs.Items.{found, swept}
+use Rattle.shared_rules.specs.Dictionary.{Outcome, dict, expiry_at, limit}
 use Rattle.shared_dict.specs.Zones.{doomed}
 use Rattle.shared_dict.proofs.Answering.{set-stored}
 use Rattle.shared_dict.proofs.Sweeps.{sweeps}

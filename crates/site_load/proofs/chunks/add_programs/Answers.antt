@@ -1,5 +1,5 @@
 use Rattle.std.proofs.Common.{subst}
-use Rattle.lua_joining.specs.Joining.{IsJoined}
+use Rattle.lua_linking.specs.Joining.{IsJoined}
 use Rattle.lua_modules.specs.Sets.{of_file}
 use Rattle.site_load.proofs.Joins.{joins_more}
 use Rattle.site_load.proofs.chunks.add_programs.Goals as goal

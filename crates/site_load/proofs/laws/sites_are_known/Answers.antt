@@ -1,4 +1,4 @@
-use Rattle.same_readings.proofs.Apart.{chunk_apart}
+use Rattle.site_same_laws.proofs.Apart.{chunk_apart}
 use Rattle.site_load.proofs.OneSite.{sites_are_known, no_site_is_refused, faults_are_alike}
 use Rattle.site_load.proofs.laws.sites_are_known.Goals as goal
 

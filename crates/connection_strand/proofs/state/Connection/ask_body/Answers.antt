@@ -1,8 +1,8 @@
 use Rattle.std.proofs.Common.{Some, None, refl, sym, ap, ◌∙◌}
 use Rattle.strand_contract.proofs.Results.{if-ok}
-use Rattle.connection.specs.Clients as stage
-use Rattle.connection.specs.Timers as timer
-use Rattle.connection.specs.Turns.{end_timer, tell}
+use Rattle.connection_plan.specs.Clients as stage
+use Rattle.connection_plan.specs.Timers as timer
+use Rattle.connection_plan.specs.Turns.{end_timer, tell}
 use Rattle.connection_strand.specs.Kept.{kept}
 use Rattle.connection_strand.specs.Costs.{unit}
 use Rattle.connection_strand.specs.Standing.{plain}
@@ -10,7 +10,7 @@ use Rattle.connection_strand.proofs.Losing.{goes-at, may-tell, tells, done, has-
 use Rattle.connection_strand.proofs.Costing.{pays-settles, spends-after, pays-after, settles-less}
 use Rattle.connection_strand.proofs.Reading.{asked-costs}
 use Rattle.connection_strand.proofs.Asking.{is-own, may-be-asked, asks-body, asked-at}
-use Rattle.service_contract.specs.Serving.{service_of}
+use Rattle.connection_plan.specs.Serving.{service_of}
 use Rattle.connection_strand.proofs.state.Connection.ask_body.Goals as goal
 
 pub tell-requires : goal.tell-requires

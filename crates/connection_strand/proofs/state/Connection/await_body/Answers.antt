@@ -1,12 +1,12 @@
 use Rattle.std.proofs.Common.{sym, ap, ◌∙◌, ◌&&◌}
-use Rattle.connection.specs.Timers as timer
-use Rattle.connection.specs.Turns.{begin_timer}
+use Rattle.connection_plan.specs.Timers as timer
+use Rattle.connection_plan.specs.Turns.{begin_timer}
 use Rattle.connection_strand.specs.Standing.{speaking}
 use Rattle.connection_strand.proofs.Offering.{and-none}
 use Rattle.connection_strand.proofs.Speaking.{awaits-body, awaits-none, may_come}
 use Rattle.connection_strand.specs.Kept.{kept}
 use Rattle.connection_strand.proofs.state.Connection.await_body.Goals.{else-self-via-then-self+else-awaits_body, else-self-via-else-self}
-use Rattle.service_contract.specs.Serving.{service_of}
+use Rattle.connection_plan.specs.Serving.{service_of}
 use Rattle.connection_strand.proofs.state.Connection.await_body.Goals as goal
 
 pub returns-in_ok-begin_timer-clause-moves : goal.returns-in_ok-begin_timer-clause-moves

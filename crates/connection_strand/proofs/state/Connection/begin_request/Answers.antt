@@ -1,11 +1,11 @@
 use Rattle.std.proofs.Common.{refl, ap, false}
 use Rattle.strand_contract.proofs.Results.{if-ok}
-use Rattle.connection.specs.Clients as stage
+use Rattle.connection_plan.specs.Clients as stage
 use Rattle.connection_strand.specs.Kept.{kept}
 use Rattle.connection_strand.proofs.Hearing.{begins-request}
-use Rattle.service_contract.specs.Serving.{service_of}
+use Rattle.connection_plan.specs.Serving.{service_of}
 use Rattle.std.proofs.Common.{length, ◌+◌, Some, arith}
-use Rattle.service_contract.specs.Serving.{times}
+use Rattle.connection_plan.specs.Serving.{times}
 use Rattle.connection_strand.specs.declared.client.Stage.TheVariants as code
 use Rattle.connection_strand.specs.declared.client.Reply.TheVariants as replies
 use Rattle.connection_strand.proofs.Paying as paying

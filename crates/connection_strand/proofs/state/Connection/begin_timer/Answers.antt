@@ -1,11 +1,11 @@
 use Rattle.std.proofs.Common.{refl, ap, ◌∙◌, ◌++◌, ◌∷◌, []}
 use Rattle.strand_contract.specs.declared.turns.Act.TheVariants as act
-use Rattle.connection.specs.Timers.{time_of}
+use Rattle.connection_plan.specs.Timers.{time_of}
 use Rattle.connection_strand.specs.Kept.{timer_of}
-use Rattle.service_contract.specs.Serving.{times}
+use Rattle.connection_plan.specs.Serving.{times}
 use Rattle.connection_strand.proofs.Moving.{begins}
 use Rattle.connection_strand.proofs.Costing.{begins-costs}
-use Rattle.service_contract.specs.Serving.{service_of}
+use Rattle.connection_plan.specs.Serving.{service_of}
 use Rattle.connection_strand.proofs.state.Connection.begin_timer.Goals as goal
 
 pub returns-clause-moves : goal.returns-clause-moves

@@ -1,9 +1,9 @@
 use Rattle.std.proofs.Common.{◌≡◌, ◌&&◌, false, refl, sym, ap, ◌∙◌}
-use Rattle.moves.specs.Moves.{Done}
+use Rattle.strand_plans.specs.Moves.{Done}
 use Rattle.run_contract.specs.Runs.{Waits}
 use Rattle.run_contract.specs.declared.turns.RunSeen.TheVariants as seen
-use Rattle.connection.specs.Clients as stage
-use Rattle.service_contract.specs.Serving.{service_of}
+use Rattle.connection_plan.specs.Clients as stage
+use Rattle.connection_plan.specs.Serving.{service_of}
 use Rattle.connection_strand.specs.Kept.{kept, all_taken}
 use Rattle.connection_strand.proofs.Costing.{pays-settles}
 use Rattle.connection_strand.proofs.Ends.{ok-map, done-came}

@@ -1,14 +1,14 @@
 use Rattle.std.proofs.Common.{refl, ap}
 use Rattle.send_queue.specs.Records.{Sending}
-use Rattle.moves.specs.Moves.{Look}
-use Rattle.line_answers.specs.Feeding.{fed}
-use Rattle.connection.specs.Connections.{came_at}
+use Rattle.strand_plans.specs.Moves.{Look}
+use Rattle.client_line.specs.Feeding.{fed}
+use Rattle.connection_plan.specs.Connections.{came_at}
 use Rattle.connection_strand.specs.Kept.{kept}
 use Rattle.connection_strand.proofs.Ends.{ok-map}
 use Rattle.connection_strand.proofs.Facing.{from-here}
 use Rattle.connection_strand.proofs.Nexts.{fed-answered}
 use Rattle.connection_strand.proofs.Coming.{comes}
-use Rattle.service_contract.specs.Serving.{service_of}
+use Rattle.connection_plan.specs.Serving.{service_of}
 use Rattle.connection_strand.proofs.state.Connection.came.Goals as goal
 
 pub hear_at-requires-clause-answered : goal.hear_at-requires-clause-answered

@@ -1,7 +1,7 @@
 use Rattle.std.proofs.Common.{ℕ, refl, ap, ◌∙◌, subst}
 use Rattle.strand_contract.specs.declared.turns.Seen.TheVariants as seens
-use Rattle.moves.specs.Moves.{Done}
-use Rattle.service_contract.specs.Serving.{service_of}
+use Rattle.strand_plans.specs.Moves.{Done}
+use Rattle.connection_plan.specs.Serving.{service_of}
 use Rattle.connection_strand.specs.Kept.{Kept}
 use Rattle.connection_strand.specs.Shown.{Shown}
 use Rattle.connection_strand.proofs.Ends.{ok-map, went-came}

@@ -3,7 +3,7 @@ use Rattle.strand_contract.specs.declared.turns.Act.TheVariants as act
 use Rattle.connection_strand.specs.Kept.{timer_of}
 use Rattle.connection_strand.proofs.Moving.{ends-armed, ends-unarmed}
 use Rattle.connection_strand.proofs.Costing.{ends-costs, spends-nothing}
-use Rattle.service_contract.specs.Serving.{service_of}
+use Rattle.connection_plan.specs.Serving.{service_of}
 use Rattle.connection_strand.proofs.state.Connection.end_timer.Goals as goal
 
 pub returns-in_ok-push_back-clause-moves : goal.returns-in_ok-push_back-clause-moves

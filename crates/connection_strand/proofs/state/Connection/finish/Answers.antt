@@ -2,7 +2,7 @@ use Rattle.std.proofs.Common.{◌++◌, sym, ap, ◌∙◌, append-nil}
 use Rattle.connection_strand.specs.declared.state.Turn.{Turn}
 use Rattle.connection_strand.proofs.Losing.{finishes, client_act}
 use Rattle.connection_strand.proofs.state.Connection.finish.Goals.{then-self+in_ok-push_back, else-self}
-use Rattle.service_contract.specs.Serving.{service_of}
+use Rattle.connection_plan.specs.Serving.{service_of}
 use Rattle.connection_strand.proofs.state.Connection.finish.Goals as goal
 
 pub returns-clause-moves : goal.returns-clause-moves

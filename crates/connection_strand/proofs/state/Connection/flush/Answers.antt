@@ -1,6 +1,6 @@
 use Rattle.std.proofs.Common.{◌≡◌, true, false, not, ◌||◌, sym, ap, ◌∙◌}
-use Rattle.connection.specs.Clients.{closes_after}
-use Rattle.service_contract.specs.Serving.{service_of}
+use Rattle.connection_plan.specs.Clients.{closes_after}
+use Rattle.connection_plan.specs.Serving.{service_of}
 use Rattle.connection_strand.specs.Kept.{kept}
 use Rattle.connection_strand.proofs.Ends.{ok-map, done-came}
 use Rattle.connection_strand.proofs.Settled.{flush-sends, flush-ends, flush-goes-on}

@@ -1,7 +1,7 @@
 use Rattle.std.proofs.Common.{subst}
-use Rattle.connection.specs.Turns.{settle}
+use Rattle.connection_plan.specs.Turns.{settle}
 use Rattle.connection_strand.specs.Standing.{Went}
-use Rattle.service_contract.specs.Serving.{service_of}
+use Rattle.connection_plan.specs.Serving.{service_of}
 use Rattle.connection_strand.proofs.Ends.{ok-map}
 use Rattle.connection_strand.proofs.Falling.{told-falls, told-settled}
 use Rattle.connection_strand.proofs.state.Connection.go_on.Goals as goal

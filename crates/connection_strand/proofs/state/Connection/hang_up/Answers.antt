@@ -1,6 +1,6 @@
 use Rattle.std.proofs.Common.{refl}
 use Rattle.connection_strand.proofs.Losing.{hangs-up, hangs-not}
-use Rattle.service_contract.specs.Serving.{service_of}
+use Rattle.connection_plan.specs.Serving.{service_of}
 use Rattle.connection_strand.proofs.state.Connection.hang_up.Goals as goal
 
 pub returns-else-self-clause-moves : goal.returns-else-self-clause-moves

@@ -1,10 +1,10 @@
 use Rattle.std.proofs.Common.{subst}
-use Rattle.moves.specs.Moves.{Look}
-use Rattle.connection.specs.Turns.{heard_by, settle}
+use Rattle.strand_plans.specs.Moves.{Look}
+use Rattle.connection_plan.specs.Turns.{heard_by, settle}
 use Rattle.connection_strand.specs.Standing.{Went}
 use Rattle.connection_strand.proofs.Ends.{ok-map}
 use Rattle.connection_strand.proofs.Facing.{from-here}
-use Rattle.service_contract.specs.Serving.{service_of}
+use Rattle.connection_plan.specs.Serving.{service_of}
 use Rattle.connection_strand.proofs.state.Connection.hear.Goals as goal
 
 pub settle-requires : goal.settle-requires

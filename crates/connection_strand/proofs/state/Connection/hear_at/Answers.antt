@@ -1,13 +1,13 @@
 use Rattle.std.proofs.Common.{None, ap, false}
-use Rattle.moves.specs.Moves.{Look}
-use Rattle.connection.specs.Clients as stage
-use Rattle.connection.specs.Turns.{settle}
+use Rattle.strand_plans.specs.Moves.{Look}
+use Rattle.connection_plan.specs.Clients as stage
+use Rattle.connection_plan.specs.Turns.{settle}
 use Rattle.connection_strand.specs.Kept.{stage_of}
 use Rattle.connection_strand.specs.Shown.{heard_at}
 use Rattle.connection_strand.proofs.Ends.{ok-map, done-came}
 use Rattle.connection_strand.proofs.Facing.{from-here}
 use Rattle.connection_strand.proofs.Coming.{hears-at}
-use Rattle.service_contract.specs.Serving.{service_of}
+use Rattle.connection_plan.specs.Serving.{service_of}
 use Rattle.connection_strand.proofs.state.Connection.hear_at.Goals as goal
 
 pub settle-requires : goal.settle-requires

@@ -1,8 +1,8 @@
 use Rattle.std.proofs.Common.{refl}
-use Rattle.moves.specs.Moves.{Look}
-use Rattle.connection.specs.Clients as stage
-use Rattle.connection.specs.Connections.{ends_at}
-use Rattle.service_contract.specs.Serving.{service_of}
+use Rattle.strand_plans.specs.Moves.{Look}
+use Rattle.connection_plan.specs.Clients as stage
+use Rattle.connection_plan.specs.Connections.{ends_at}
+use Rattle.connection_plan.specs.Serving.{service_of}
 use Rattle.connection_strand.proofs.Ends.{ok-map, done-came}
 use Rattle.connection_strand.proofs.Facing.{from-here}
 use Rattle.connection_strand.proofs.Showing.{ends-busy, ends-flush, ends-else}

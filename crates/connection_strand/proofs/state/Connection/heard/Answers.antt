@@ -1,9 +1,9 @@
 use Rattle.std.proofs.Common.{true}
 use Rattle.strand_contract.proofs.Results.{if-ok}
-use Rattle.connection.specs.Turns.{begin}
+use Rattle.connection_plan.specs.Turns.{begin}
 use Rattle.connection_strand.specs.Standing.{plain}
 use Rattle.connection_strand.proofs.Hearing.{hears-request, hears-refusal, hears-end, hears-waiting, refused-so}
-use Rattle.service_contract.specs.Serving.{service_of}
+use Rattle.connection_plan.specs.Serving.{service_of}
 use Rattle.connection_strand.proofs.state.Connection.heard.Goals as goal
 
 pub returns-in_ok-end_timer-in-Request-clause-moves : goal.returns-in_ok-end_timer-in-Request-clause-moves

@@ -1,14 +1,14 @@
 use Rattle.std.proofs.Common.{refl, true, false}
 use Rattle.strand_contract.specs.declared.turns.Place.TheVariants as place
-use Rattle.moves.specs.Moves.{Done, HangUp}
+use Rattle.strand_plans.specs.Moves.{Done, HangUp}
 use Rattle.run_contract.specs.declared.turns.RunSeen.TheVariants as seen
-use Rattle.connection.specs.Clients as stage
-use Rattle.connection.specs.Timers as timer
-use Rattle.connection.specs.Turns.{end_timer}
+use Rattle.connection_plan.specs.Clients as stage
+use Rattle.connection_plan.specs.Timers as timer
+use Rattle.connection_plan.specs.Turns.{end_timer}
 use Rattle.connection_strand.specs.Costs.{unit}
 use Rattle.connection_strand.specs.Standing.{plain}
 use Rattle.connection_strand.proofs.Losing.{has-run, tells, may-tell, loses-busy, busy-is, may-be-gone, goes-at, done, went-done, tells_gone, tells-gone}
-use Rattle.service_contract.specs.Serving.{service_of}
+use Rattle.connection_plan.specs.Serving.{service_of}
 use Rattle.connection_strand.proofs.Costing.{loses-costs}
 use Rattle.connection_strand.proofs.Falling.{lost-falls, paid-spends}
 use Rattle.connection_strand.proofs.state.Connection.lose_busy.Goals as goal

@@ -5,7 +5,7 @@ use Rattle.client_line.specs.Lines.{IsFed, done}
 use Rattle.strand_contract.proofs.Results.{if-ok}
 use Rattle.connection_strand.specs.Kept.{kept}
 use Rattle.connection_strand.proofs.Nexts.{nexts, fed-answered}
-use Rattle.service_contract.specs.Serving.{service_of}
+use Rattle.connection_plan.specs.Serving.{service_of}
 use Rattle.connection_strand.proofs.Reading.{next-pays}
 use Rattle.connection_strand.proofs.state.Connection.next.Goals as goal
 

@@ -1,10 +1,10 @@
 use Rattle.std.proofs.Common.{refl, ap, ◌∙◌}
 use Rattle.strand_contract.specs.declared.turns.Place.TheVariants as place
-use Rattle.moves.specs.Ledgers.{is_place}
+use Rattle.strand_plans.specs.Ledgers.{is_place}
 use Rattle.connection_strand.specs.Kept.{Kept}
-use Rattle.moves.specs.Moves.{Done}
+use Rattle.strand_plans.specs.Moves.{Done}
 use Rattle.connection_strand.specs.Standing.{plain}
-use Rattle.service_contract.specs.Serving.{service_of}
+use Rattle.connection_plan.specs.Serving.{service_of}
 use Rattle.connection_strand.proofs.Ends.{ok-map, done-came}
 use Rattle.connection_strand.proofs.Showing.{shown-later}
 use Rattle.connection_strand.proofs.Falling.{later-falls}

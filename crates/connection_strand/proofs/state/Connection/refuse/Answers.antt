@@ -1,11 +1,11 @@
 use Rattle.std.proofs.Common.{ap, ◌∙◌}
 use Rattle.strand_contract.proofs.Results.{if-ok}
 use Rattle.client_line.specs.Records as line
-use Rattle.connection.specs.Turns.{refuse, finish}
+use Rattle.connection_plan.specs.Turns.{refuse, finish}
 use Rattle.connection_strand.specs.Standing.{plain}
 use Rattle.connection_strand.proofs.Hearing.{refuses-head, refuses-body, not-begun}
-use Rattle.service_contract.specs.Serving.{service_of}
-use Rattle.connection.specs.Clients.{is_last}
+use Rattle.connection_plan.specs.Serving.{service_of}
+use Rattle.connection_plan.specs.Clients.{is_last}
 use Rattle.connection_strand.specs.Kept.{reply_of}
 use Rattle.connection_strand.proofs.Costing.{costs-after}
 use Rattle.connection_strand.proofs.state.Connection.refuse.Goals as goal

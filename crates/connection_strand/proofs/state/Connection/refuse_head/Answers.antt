@@ -1,14 +1,14 @@
 use Rattle.std.proofs.Common.{refl, ap, sym, ◌∙◌, true, false}
 use Rattle.strand_contract.proofs.Results.{if-ok}
-use Rattle.connection.specs.Clients as stage
-use Rattle.connection.specs.Turns.{close_if_taken}
+use Rattle.connection_plan.specs.Clients as stage
+use Rattle.connection_plan.specs.Turns.{close_if_taken}
 use Rattle.connection_strand.specs.Kept.{kept}
 use Rattle.connection_strand.specs.Standing.{plain}
 use Rattle.connection_strand.proofs.Losing.{done}
 use Rattle.connection_strand.proofs.Hearing.{refuses-now, closes}
-use Rattle.service_contract.specs.Serving.{service_of}
+use Rattle.connection_plan.specs.Serving.{service_of}
 use Rattle.std.proofs.Common.{length, arith}
-use Rattle.service_contract.specs.Serving.{times}
+use Rattle.connection_plan.specs.Serving.{times}
 use Rattle.connection_strand.specs.declared.client.Stage.TheVariants as code
 use Rattle.connection_strand.specs.declared.client.Reply.TheVariants as replies
 use Rattle.connection_strand.proofs.Costing.{costs-after, ends-within}

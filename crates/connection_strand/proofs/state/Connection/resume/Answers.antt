@@ -1,8 +1,8 @@
 use Rattle.std.proofs.Common.{[], refl}
 use Rattle.strand_contract.specs.declared.turns.Place.TheVariants as place
-use Rattle.moves.specs.Moves.{Done, Send}
+use Rattle.strand_plans.specs.Moves.{Done, Send}
 use Rattle.connection_strand.specs.Standing.{plain}
-use Rattle.service_contract.specs.Serving.{service_of}
+use Rattle.connection_plan.specs.Serving.{service_of}
 use Rattle.connection_strand.proofs.Ends.{ok-map, done-came}
 use Rattle.connection_strand.proofs.Showing.{shown-ready}
 use Rattle.connection_strand.proofs.state.Connection.resume.Goals as goal

@@ -1,12 +1,12 @@
 use Rattle.std.proofs.Common.{refl, ap, ◌∷◌}
 use Rattle.run_contract.specs.Runs.{says_over}
-use Rattle.connection.specs.Clients.{begun, Whole}
-use Rattle.connection.specs.Clients as stage
-use Rattle.connection.specs.Turns.{says, change}
+use Rattle.connection_plan.specs.Clients.{begun, Whole}
+use Rattle.connection_plan.specs.Clients as stage
+use Rattle.connection_plan.specs.Turns.{says, change}
 use Rattle.connection_strand.specs.Kept.{kept}
 use Rattle.connection_strand.specs.Standing.{speaking}
 use Rattle.connection_strand.proofs.Speaking.{changes, flushes, said-as}
-use Rattle.service_contract.specs.Serving.{service_of}
+use Rattle.connection_plan.specs.Serving.{service_of}
 use Rattle.std.proofs.Common.{length, ◌*◌, ◌+◌, arith}
 use Rattle.connection_strand.specs.Costs.{unit}
 use Rattle.connection_strand.proofs.Paying.{spends-more, begins-reply, unit-holds, unit-some}

@@ -1,5 +1,5 @@
 use Rattle.connection_strand.proofs.Speaking.{said-on, said-last, said-all}
-use Rattle.service_contract.specs.Serving.{service_of}
+use Rattle.connection_plan.specs.Serving.{service_of}
 use Rattle.std.proofs.Common.{length, take, drop, ◌-◌}
 use Rattle.connection_strand.proofs.Paying.{says-on, says-last, says-all, rest-shorter}
 use Rattle.connection_strand.proofs.state.Connection.says.Goals as goal

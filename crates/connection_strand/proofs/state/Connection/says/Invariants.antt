@@ -1,5 +1,5 @@
 use Rattle.std.proofs.Common.{length}
-use Rattle.service_contract.specs.Serving.{service_of}
+use Rattle.connection_plan.specs.Serving.{service_of}
 use Rattle.connection_strand.proofs.Speaking.{SaidSo}
 use Rattle.connection_strand.proofs.Paying.{Saying}
 use Rattle.connection_strand.proofs.state.Connection.says.Given as goal

@@ -2,10 +2,10 @@ use Rattle.std.proofs.Common.{sym, ap, ◌∙◌, subst}
 use Rattle.strand_contract.specs.declared.turns.Place.{Place}
 use Rattle.strand_contract.specs.declared.turns.Seen.{Seen}
 use Rattle.strand_contract.specs.declared.turns.Seen.TheVariants as seens
-use Rattle.line_answers.specs.Feeding.{fed}
-use Rattle.moves.specs.Moves.{Look}
-use Rattle.connection.specs.Connections.{came_at}
-use Rattle.service_contract.specs.Serving.{service_of}
+use Rattle.client_line.specs.Feeding.{fed}
+use Rattle.strand_plans.specs.Moves.{Look}
+use Rattle.connection_plan.specs.Connections.{came_at}
+use Rattle.connection_plan.specs.Serving.{service_of}
 use Rattle.connection_strand.specs.Standing.{plain}
 use Rattle.connection_strand.specs.Shown.{Shown}
 use Rattle.connection_strand.proofs.Ends.{ok-map}

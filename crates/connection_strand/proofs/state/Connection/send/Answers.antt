@@ -2,7 +2,7 @@ use Rattle.std.proofs.Common.{refl, ap}
 use Rattle.client_line.specs.Records.{Connection as Line}
 use Rattle.connection_strand.specs.Kept.{kept}
 use Rattle.connection_strand.proofs.Offering.{queues-more, queues-not}
-use Rattle.service_contract.specs.Serving.{service_of}
+use Rattle.connection_plan.specs.Serving.{service_of}
 use Rattle.connection_strand.proofs.state.Connection.send.Goals as goal
 
 pub returns-in_ok-offer-clause-moves : goal.returns-in_ok-offer-clause-moves

@@ -1,4 +1,4 @@
-use Rattle.service_contract.specs.Serving.{service_of}
+use Rattle.connection_plan.specs.Serving.{service_of}
 use Rattle.connection_strand.proofs.Loops.{IsSettling, Spent, rounds}
 use Rattle.connection_strand.proofs.state.Connection.settle.Given as goal
 

@@ -1,6 +1,6 @@
-use Rattle.connection.specs.Clients as stage
-use Rattle.connection.specs.Turns.{settle}
-use Rattle.service_contract.specs.Serving.{service_of}
+use Rattle.connection_plan.specs.Clients as stage
+use Rattle.connection_plan.specs.Turns.{settle}
+use Rattle.connection_plan.specs.Serving.{service_of}
 use Rattle.connection_strand.proofs.Ends.{ok-map, done-came}
 use Rattle.connection_strand.proofs.Costing.{settles-nothing}
 use Rattle.connection_strand.proofs.Facing.{busy-at, stage-is}

@@ -3,7 +3,7 @@ use Rattle.run_contract.specs.Runs.{waits_said}
 use Rattle.connection_strand.specs.declared.state.Connection.{Connection}
 use Rattle.connection_strand.specs.Kept.{waits_of}
 use Rattle.connection_strand.proofs.OwnTurns.{takes-on, takes-asking}
-use Rattle.service_contract.specs.Serving.{service_of}
+use Rattle.connection_plan.specs.Serving.{service_of}
 use Rattle.std.proofs.Common.{length, ◌*◌, subst}
 use Rattle.connection_strand.specs.Costs.{unit, Spends}
 use Rattle.connection_strand.proofs.Paying as paying

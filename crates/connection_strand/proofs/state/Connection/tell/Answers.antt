@@ -1,7 +1,7 @@
 use Rattle.std.proofs.Common.{refl, sym, ◌∙◌}
 use Rattle.strand_contract.proofs.Results.{if-ok}
 use Rattle.connection_strand.proofs.Telling.{told-takes, no-run}
-use Rattle.service_contract.specs.Serving.{service_of}
+use Rattle.connection_plan.specs.Serving.{service_of}
 use Rattle.std.proofs.Common.{length, ◌+◌, Some}
 use Rattle.connection_strand.proofs.Paying.{tells-costs}
 use Rattle.connection_strand.proofs.state.Connection.tell.Goals as goal

@@ -1,4 +1,4 @@
-use Rattle.service_contract.specs.Serving.{service_of}
+use Rattle.connection_plan.specs.Serving.{service_of}
 use Rattle.connection_strand.proofs.Ends.{ok-map}
 use Rattle.connection_strand.proofs.Showing.{at-busy, not-going, own-goes, no-run-none, may-tell}
 use Rattle.connection_strand.proofs.state.Connection.to_run.Goals as goal

@@ -1,6 +1,6 @@
 use Rattle.std.proofs.Common.{ℕ, List, length, min, refl, ap, ◌∙◌}
 use Rattle.client_line.specs.Records.{Connection as Line}
-use Rattle.service_contract.specs.Serving.{service_of}
+use Rattle.connection_plan.specs.Serving.{service_of}
 use Rattle.connection_strand.specs.Kept.{kept}
 use Rattle.connection_strand.proofs.Ends.{ok-map}
 use Rattle.connection_strand.proofs.Showing.{shown-taken, took-are}

@@ -1,12 +1,12 @@
 use Rattle.std.proofs.Common.{refl}
 use Rattle.strand_contract.proofs.Results.{if-ok}
-use Rattle.moves.specs.Moves.{Done}
-use Rattle.connection.specs.Turns.{begin_timer}
+use Rattle.strand_plans.specs.Moves.{Done}
+use Rattle.connection_plan.specs.Turns.{begin_timer}
 use Rattle.connection_strand.specs.Kept.{stage_of, timer_of}
 use Rattle.connection_strand.specs.Standing.{plain}
 use Rattle.connection_strand.proofs.Losing.{done}
 use Rattle.connection_strand.proofs.Hearing.{restages}
-use Rattle.service_contract.specs.Serving.{service_of}
+use Rattle.connection_plan.specs.Serving.{service_of}
 use Rattle.connection_strand.proofs.state.Connection.wait_at.Goals as goal
 
 pub returns-clause-moves : goal.returns-clause-moves

@@ -1,11 +1,11 @@
 use Rattle.std.proofs.Common.{◌≤◌, ◌+◌, None, length, ap, sym, subst, arith}
-use Rattle.connection.specs.Turns.{settle}
+use Rattle.connection_plan.specs.Turns.{settle}
 use Rattle.connection_strand.specs.declared.state.Connection.{Connection}
 use Rattle.connection_strand.specs.declared.state.Turn.{Turn}
 use Rattle.connection_strand.proofs.Answering.{may-answer, may-be-answered, answered-runs, answer-turn, answered-left, went-toward, went-came}
 use Rattle.connection_strand.proofs.Falling.{answered-few, answered-opens, answered-falls, answered-settled}
 use Rattle.connection_strand.proofs.Turning.{turned, follows-by}
-use Rattle.service_contract.specs.Serving.{service_of}
+use Rattle.connection_plan.specs.Serving.{service_of}
 use Rattle.connection_strand.proofs.strand.ConnectionStrandContract.answer.Goals as goal
 
 pub answered-requires : goal.answered-requires

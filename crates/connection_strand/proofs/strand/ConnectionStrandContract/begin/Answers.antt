@@ -1,15 +1,15 @@
 use Rattle.std.proofs.Common.{◌≡◌, ◌∷◌, [], Some, false, refl, sym, subst}
 use Rattle.strand_contract.specs.declared.turns.Start.TheVariants as start
 use Rattle.strand_contract.specs.Actions.{Did, Began}
-use Rattle.moves.specs.Moves.{Done}
-use Rattle.connection.specs.Clients as stage
+use Rattle.strand_plans.specs.Moves.{Done}
+use Rattle.connection_plan.specs.Clients as stage
 use Rattle.connection_strand.specs.declared.client.Stage.TheVariants as code
 use Rattle.connection_strand.specs.declared.state.Turn.{Turn}
 use Rattle.connection_strand.specs.Standing.{plain}
 use Rattle.connection_strand.specs.Following.{Follows}
 use Rattle.connection_strand.proofs.Losing.{done, went-done}
 use Rattle.connection_strand.proofs.Beginning.{begun, follows, begins-client, begins-job}
-use Rattle.service_contract.specs.Serving.{service_of}
+use Rattle.connection_plan.specs.Serving.{service_of}
 use Rattle.connection_strand.proofs.strand.ConnectionStrandContract.begin.Goals as goal
 
 pub returns-in_ok-begin_timer-in-Client : goal.returns-in_ok-begin_timer-in-Client

@@ -1,10 +1,10 @@
 use Rattle.std.proofs.Common.{length, ap, arith}
 use Rattle.strand_contract.specs.Calls.{action_of}
-use Rattle.connection.specs.Connections.{connection_behavior}
+use Rattle.connection_plan.specs.Connections.{connection_behavior}
 use Rattle.connection_strand.specs.declared.state.Turn.{Turn}
 use Rattle.connection_strand.proofs.Bridge.{shown-left}
 use Rattle.connection_strand.proofs.Turning.{turned, follows-by, may-show, shown-turn}
-use Rattle.service_contract.specs.Serving.{service_of}
+use Rattle.connection_plan.specs.Serving.{service_of}
 use Rattle.connection_strand.proofs.strand.ConnectionStrandContract.given.Goals as goal
 
 pub see-requires : goal.see-requires

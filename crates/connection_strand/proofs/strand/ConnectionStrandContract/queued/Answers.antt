@@ -1,9 +1,9 @@
 use Rattle.std.proofs.Common.{◌≡◌, sym, subst}
 use Rattle.strand_contract.specs.declared.turns.Place.{Place}
 use Rattle.strand_contract.specs.Alone.{piece}
-use Rattle.connection.specs.Connections.{connection_behavior}
+use Rattle.connection_plan.specs.Connections.{connection_behavior}
 use Rattle.connection_strand.proofs.Bridge.{client-piece, sock-piece}
-use Rattle.service_contract.specs.Serving.{service_of}
+use Rattle.connection_plan.specs.Serving.{service_of}
 use Rattle.connection_strand.proofs.strand.ConnectionStrandContract.queued.Goals as goal
 
 pub returns-in-Client : goal.returns-in-Client

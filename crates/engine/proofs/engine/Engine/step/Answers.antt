@@ -1,6 +1,6 @@
 use Rattle.std.proofs.Common.{refl, sym, ◌∙◌}
-use Rattle.turns.specs.Worked.{Logs}
-use Rattle.turns.proofs.Going.{goes-joins}
+use Rattle.engine_turns.specs.Worked.{Logs}
+use Rattle.engine_turns.proofs.Going.{goes-joins}
 use Rattle.engine.proofs.engine.Engine.step.Goals as goal
 
 pub returns-then-self-clause-stepped : goal.returns-then-self-clause-stepped

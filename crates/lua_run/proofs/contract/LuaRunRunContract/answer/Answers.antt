@@ -1,7 +1,7 @@
 use Rattle.std.proofs.Common.{◌∙◌, sym}
 use Rattle.std.proofs.lemmas.Result.{IfOk-weaker}
 use Rattle.strand_contract.specs.Actions.{Did}
-use Rattle.moves.specs.Ledgers.{entered}
+use Rattle.strand_plans.specs.Ledgers.{entered}
 use Rattle.lua_run.specs.Views.{site_seen}
 use Rattle.lua_run.specs.RunLaws.{is-answered}
 use Rattle.lua_run.proofs.RunTurns.{works-falls, works-took}

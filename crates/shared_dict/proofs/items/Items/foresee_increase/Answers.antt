@@ -3,9 +3,9 @@ use Rattle.std.proofs.lemmas.Int.{to_z-of_z}
 use Rattle.resty_base.specs.declared.dictionary.DictAnswer.{DictAnswer}
 use Rattle.resty_base.specs.declared.dictionary.DictAnswer.TheVariants as answer
 use Rattle.resty_base.specs.declared.dictionary.DictValue.TheVariants as value
-use Rattle.plain_rules.specs.declared.items.Item.{Item}
-use Rattle.plain_rules.specs.Items.{found}
-use Rattle.plain_rules.specs.Dictionary.{Outcome, store, expiry_at, as_number}
+use Rattle.shared_rules.specs.declared.items.Item.{Item}
+use Rattle.shared_rules.specs.Items.{found}
+use Rattle.shared_rules.specs.Dictionary.{Outcome, store, expiry_at, as_number}
 use Rattle.shared_dict.proofs.Answering.{incr-refused, incr-raised, incr-begun}
 use Rattle.shared_dict.proofs.items.Items.foresee_increase.Goals as goal
 

@@ -1,7 +1,7 @@
 use Rattle.std.proofs.Common.{◌≡◌, ◌+◌, ℕ, List, length, sym, ap, ◌∙◌}
 use Rattle.resty_base.specs.declared.dictionary.DictValue.{DictValue}
 use Rattle.resty_base.specs.declared.dictionary.DictAnswer.TheVariants as answer
-use Rattle.plain_rules.specs.Items.{value_size, size_of, used, without}
+use Rattle.shared_rules.specs.Items.{value_size, size_of, used, without}
 use Rattle.shared_dict.specs.Zones.{is_crowded}
 use Rattle.shared_dict.proofs.Evictions.{answered, foreseen}
 use Rattle.shared_dict.proofs.items.Items.foresee_store.Goals as goal

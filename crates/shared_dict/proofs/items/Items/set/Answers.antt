@@ -1,5 +1,5 @@
 use Rattle.std.proofs.Common.{sym, ◌∙◌}
-use Rattle.plain_rules.specs.Items.{found}
+use Rattle.shared_rules.specs.Items.{found}
 use Rattle.shared_dict.proofs.Answering.{set-stored}
 use Rattle.shared_dict.proofs.items.Items.set.Goals as goal
 

@@ -1,7 +1,7 @@
 use Rattle.std.proofs.Common.{ap, ◌∙◌, sym, List}
 use Rattle.std.specs.List.{find}
-use Rattle.plain_rules.specs.declared.items.Item.{Item}
-use Rattle.plain_rules.specs.Items.{value_size, has_key, first}
+use Rattle.shared_rules.specs.declared.items.Item.{Item}
+use Rattle.shared_rules.specs.Items.{value_size, has_key, first}
 use Rattle.shared_dict.specs.Kept.{items_of}
 use Rattle.shared_dict.proofs.Entries.{entry-of, set-counted, set-items}
 use Rattle.shared_dict.proofs.items.Items.set_value.Goals as goal

@@ -1,5 +1,5 @@
 use Rattle.std.proofs.Common.{length, nat_lt, sym, ap, ◌∙◌, arith}
-use Rattle.plain_rules.specs.Dictionary.{Outcome}
+use Rattle.shared_rules.specs.Dictionary.{Outcome}
 use Rattle.shared_dict.specs.Zones.{trimmed}
 use Rattle.shared_dict.proofs.Evictions.{stored-done, stored-none}
 use Rattle.shared_dict.proofs.items.Items.store.Goals as goal

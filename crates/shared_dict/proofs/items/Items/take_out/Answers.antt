@@ -1,6 +1,6 @@
 use Rattle.std.proofs.Common.{◌≡◌, sym, ap, ◌∙◌, arith}
 use Rattle.std.specs.Map.{lookup_entry}
-use Rattle.plain_rules.specs.Keys.{same_key}
+use Rattle.shared_rules.specs.Keys.{same_key}
 use Rattle.shared_dict.specs.Kept.{bytes_of}
 use Rattle.shared_dict.proofs.Entries.{taken-used, out-numbered, without-is}
 use Rattle.shared_dict.proofs.items.Items.take_out.Goals as goal

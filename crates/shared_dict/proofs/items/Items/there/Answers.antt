@@ -1,7 +1,7 @@
 use Rattle.std.proofs.Common.{List, sym, ◌∙◌, ap, true, false}
 use Rattle.std.specs.Option.{option_copied}
-use Rattle.plain_rules.specs.declared.items.Item.{Item}
-use Rattle.plain_rules.specs.Items.{found, is_before}
+use Rattle.shared_rules.specs.declared.items.Item.{Item}
+use Rattle.shared_rules.specs.Items.{found, is_before}
 use Rattle.shared_dict.specs.Kept.{content, content_of}
 use Rattle.shared_dict.proofs.Entries.{there-none, there-some}
 use Rattle.shared_dict.proofs.items.Items.there.Goals as goal

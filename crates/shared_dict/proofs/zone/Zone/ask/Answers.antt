@@ -1,4 +1,4 @@
-use Rattle.plain_rules.specs.Dictionary.{dict}
+use Rattle.shared_rules.specs.Dictionary.{dict}
 use Rattle.shared_dict.proofs.Answering.{within-after}
 use Rattle.shared_dict.proofs.zone.Zone.ask.Goals as goal
 

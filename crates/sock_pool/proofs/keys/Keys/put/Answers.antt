@@ -1,7 +1,7 @@
 -- The sockets of the key are those that were written.
 use Rattle.std.proofs.Common.{sym, ap, ◌∙◌, cond, Some, rules}
 use Rattle.std.specs.Map.{lookup}
-use Rattle.plain_rules.specs.Keys.{same_key}
+use Rattle.shared_rules.specs.Keys.{same_key}
 use Rattle.sock_pool.specs.Keys.{numbers_in}
 use Rattle.sock_pool.proofs.Socks.{puts-first}
 use Rattle.sock_pool.proofs.keys.Keys.put.Goals as goal

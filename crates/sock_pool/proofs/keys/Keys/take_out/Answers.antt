@@ -1,7 +1,7 @@
 -- The sockets of the key are those that were written, or the key is gone with its last one.
 use Rattle.std.proofs.Common.{◌≡◌, sym, ap, ◌∙◌, cond, Bool, true, false, Option, Some, None, refl, length, rules}
 use Rattle.std.specs.Map.{lookup}
-use Rattle.plain_rules.specs.Keys.{same_key}
+use Rattle.shared_rules.specs.Keys.{same_key}
 use Rattle.sock_pool.specs.Keys.{numbers_in}
 use Rattle.sock_pool.proofs.Socks.{takes-out, takes-last}
 use Rattle.sock_pool.proofs.keys.Keys.take_out.Goals as goal

@@ -1,7 +1,7 @@
 -- The socket of the deadline that is due leaves.
 use Rattle.std.proofs.Common.{◌≡◌, ap, ◌∙◌, sym, subst, refl, Option, Some, None, option_map, ℕ, List}
-use Rattle.plain_rules.specs.declared.sockets.Idle.{Idle}
-use Rattle.plain_rules.specs.Pool.{without_any, over_first}
+use Rattle.shared_rules.specs.declared.sockets.Idle.{Idle}
+use Rattle.shared_rules.specs.Pool.{without_any, over_first}
 use Rattle.wakes.specs.Times.{DeadlinesView}
 use Rattle.sock_pool.specs.Kept.{idle_of, IsPooled}
 use Rattle.sock_pool.proofs.Entries.{removed-is}

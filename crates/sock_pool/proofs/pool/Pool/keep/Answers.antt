@@ -1,8 +1,8 @@
 -- The last of the key is crowded out, where there are too many.
 use Rattle.std.proofs.Common.{◌≡◌, ℕ, List, max, map, nat_eq, Option, ap, ◌∙◌, subst, arith, rules}
 use Rattle.std.specs.List.{IsDistinct}
-use Rattle.plain_rules.specs.declared.sockets.Idle.{Idle}
-use Rattle.plain_rules.specs.Pool.{without_socket, without_any, crowded_out}
+use Rattle.shared_rules.specs.declared.sockets.Idle.{Idle}
+use Rattle.shared_rules.specs.Pool.{without_socket, without_any, crowded_out}
 use Rattle.sock_pool.proofs.Crowded.{crowded-is, crowded-after}
 use Rattle.sock_pool.proofs.Pooled.{once-idle}
 use Rattle.sock_pool.proofs.pool.Pool.keep.Goals as goal

@@ -1,6 +1,6 @@
 -- The socket is put first, with its key and its deadline, or all stays.
 use Rattle.std.proofs.Common.{ap, ◌∙◌, refl, ◌∷◌}
-use Rattle.plain_rules.specs.Pool.{without_socket}
+use Rattle.shared_rules.specs.Pool.{without_socket}
 use Rattle.sock_pool.specs.Keys.{left_out}
 use Rattle.sock_pool.specs.Kept.{idle_of}
 use Rattle.sock_pool.specs.Changes.{disarmed, forgotten_deadline}

@@ -1,6 +1,6 @@
 -- The first of the key's sockets is the first of its key.
 use Rattle.std.proofs.Common.{ap, ◌∙◌, sym, Option, Some, option_map, ℕ}
-use Rattle.plain_rules.specs.Pool.{given, without_any}
+use Rattle.shared_rules.specs.Pool.{given, without_any}
 use Rattle.sock_pool.proofs.Pooled.{taken-is}
 use Rattle.sock_pool.proofs.pool.Pool.take.Goals as goal
 

@@ -1,6 +1,6 @@
 -- The socket leaves with its number, its key and its deadline.
 use Rattle.std.proofs.Common.{ap, ◌∙◌, sym, Some, None, find}
-use Rattle.plain_rules.specs.Pool.{without_socket}
+use Rattle.shared_rules.specs.Pool.{without_socket}
 use Rattle.sock_pool.specs.Kept.{idle_of}
 use Rattle.sock_pool.proofs.Entries.{is_of, removed-is}
 use Rattle.sock_pool.proofs.Pooled.{stays, leaves, found-idle, disarmed-all, disarmed-last}

@@ -1,5 +1,0 @@
-use Rattle.body_laws.proofs.Refused.{none}
-use Rattle.body_laws.proofs.laws.refused_are_no_bodies.Goals as goal
-
-pub returns : goal.returns
-returns c = none

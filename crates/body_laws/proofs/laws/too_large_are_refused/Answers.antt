@@ -1,5 +1,0 @@
-use Rattle.body_laws.proofs.Complete.{refused}
-use Rattle.body_laws.proofs.laws.too_large_are_refused.Goals as goal
-
-pub returns : goal.returns
-returns c = refused

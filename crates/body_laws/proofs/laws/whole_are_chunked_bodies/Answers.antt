@@ -1,5 +1,0 @@
-use Rattle.body_laws.proofs.Trees.{whole}
-use Rattle.body_laws.proofs.laws.whole_are_chunked_bodies.Goals as goal
-
-pub returns : goal.returns
-returns c = whole

@@ -1,5 +1,0 @@
-use Rattle.connection.proofs.Accounts.{accounts}
-use Rattle.connection.proofs.laws.replies_are_sent_in_order.Goals as goal
-
-pub returns : goal.returns
-returns g c = accounts g.S.Lawful.service g.S.Lawful.holds g.S.Lawful.runs

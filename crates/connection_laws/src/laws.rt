@@ -1,0 +1,80 @@
+//! The laws.
+
+ghost use Rattle.std.specs.Prelude.{◌≡◌, ℕ, Bool, true, false, List, [], ◌∷◌, ◌++◌};
+ghost use Rattle.resty_base.specs.declared.dictionary.DictAnswer.{DictAnswer};
+ghost use Rattle.resty_base.specs.declared.dictionary.DictCall.TheVariants as dict;
+ghost use Rattle.uri_args.specs.declared.targets.Target.{Target};
+ghost use Rattle.http_in.specs.declared.heads.Head.{Head};
+ghost use Rattle.strand_contract.specs.declared.turns.Answer.TheVariants as answer;
+ghost use Rattle.strand_contract.specs.Alone.{IsExecution};
+ghost use Rattle.strand_contract.specs.Actions.{LocalAction, Dict};
+ghost use Rattle.strand_plans.specs.Ledgers.{Ledger};
+ghost use Rattle.strand_plans.specs.Plans.{state_of};
+ghost use Rattle.run_contract.specs.declared.turns.RunSeen.TheVariants as seen;
+ghost use Rattle.run_contract.specs.Runs.{RunPlan};
+ghost use Rattle.run_contract.specs.Conditions.{IsRun};
+ghost use Rattle.run_contract.specs.Stored.{stored_plan, given_text};
+ghost use Rattle.connection_plan.specs.Clients.{Exchange};
+ghost use Rattle.connection_plan.specs.Services.{Service};
+ghost use Rattle.connection_plan.specs.Connections.{connection_plan, connection_behavior};
+ghost use Rattle.connection_plan.specs.Examples.{echo_plan, echo_site};
+ghost use Rattle.connection_plan.specs.Recalls.{recalls_plan};
+ghost use Rattle.connection_laws.specs.Own.{MindsItsOwn};
+ghost use Rattle.connection_laws.specs.Alone.{Beginning, Seen, Given, let_first, reply_alone};
+ghost use Rattle.connection_laws.specs.Examples.{NeverLooks};
+ghost use Rattle.connection_laws.specs.Replies.{IsSaidAlone, HaveOwnReplies, LearnTheSame};
+
+/// A site whose runs are lawful and mind their own.
+pub trait Minding {
+    /// How a timer job starts.
+    type Job;
+
+    /// What a run keeps beside its ledger.
+    type Inner;
+
+    ghost service: { Service Self.Job Self.Inner };
+
+    /// What a run knows of its ledger and of itself.
+    ghost holds: { Ledger Self.Job → Self.Inner → Type 0 };
+
+    ghost runs: { IsRun service.runs holds };
+
+    ghost minds: { MindsItsOwn service.runs };
+}
+
+/// In each execution every request that was asked has the reply that its run gives alone, and every head that was refused its refusal.
+pub fn replies_are_said_alone<S: Minding>()
+    ensures { (es : List (LocalAction S.Job)) → IsExecution (connection_behavior S.service) es
+        → HaveOwnReplies es S.service (state_of (connection_plan S.service) es).inner.client.exchanges }
+{}
+
+/// So it is of the small site that replies with paths or with bodies, whatever happens to a connection of it.
+pub fn replies_of_the_rows_are_said_alone<J>()
+    ensures { (reads : Bool) (es : List (LocalAction J)) → IsExecution (connection_behavior {J = J} (echo_site reads)) es
+        → HaveOwnReplies es (echo_site reads) (state_of (connection_plan {J = J} (echo_site reads)) es).inner.client.exchanges }
+{}
+
+/// Two requests that ask the same, and whose runs learn the same, get the same reply, on whatever connections and after whatever else.
+pub fn who_asks_and_learns_the_same_gets_the_same<S: Minding>()
+    ensures { (es fs : List (LocalAction S.Job)) (older others : List Exchange) (head : Head) (target : Target) (reply other : List ℕ)
+        → (x : IsSaidAlone es S.service older head target reply) → (y : IsSaidAlone fs S.service others head target other)
+        → LearnTheSame {site = S.service} x y → reply ≡ other }
+{}
+
+/// A run that looks at no ledger minds its own; and so do the runs of the examples, but for the one that tells what was sent before.
+pub fn runs_that_never_look_mind_their_own<J, R>()
+    ensures minds { (p : RunPlan J R) → NeverLooks p → MindsItsOwn p }
+    ensures stored { (name key otherwise : List ℕ) → MindsItsOwn {J = J} (stored_plan name key otherwise) }
+    ensures echo { (reads : Bool) → MindsItsOwn {J = J} (echo_plan reads) }
+    ensures recalling { MindsItsOwn {J = J} recalls_plan → ⊥ }
+{}
+
+/// What runs of the examples say alone: the path, the body, or what a dictionary keeps.
+pub fn what_is_said_alone<J>()
+    ensures path { (beginning : Beginning) → reply_alone {J = J} (echo_plan false) beginning false [] ≡ beginning.target.path }
+    ensures body { (beginning : Beginning) (continues waited : Bool) (now : ℕ) (content : List ℕ)
+        → reply_alone {J = J} (echo_plan true) beginning continues (Seen now (seen.Body content waited) ∷ []) ≡ let_first continues ++ content }
+    ensures stored { (beginning : Beginning) (name key otherwise : List ℕ) (now later : ℕ) (given : DictAnswer)
+        → reply_alone {J = J} (stored_plan name key otherwise) beginning false (Given later (Dict 0 (dict.Get key) given) ∷ Seen now (seen.Run 0) ∷ [])
+        ≡ given_text otherwise (answer.Dict given) }
+{}

@@ -1,0 +1,409 @@
+-- A connection over a lawful run meets the conditions of a strand that goes by moves.
+use Rattle.std.proofs.Common.{◌≡◌, ℕ, zero, suc, ◌+◌, ◌≤◌, Bool, true, false, List, [], ◌++◌, take, drop, length, Some, None, if◌then◌else◌, refl, sym, ap, ◌∙◌, subst, arith, length-append, take-append-drop, append_assoc}
+use Rattle.std.proofs.Math.Seq.{take-append_seam}
+use Rattle.std.specs.Prelude.{nat_lt}
+use Rattle.strand_contract.specs.declared.turns.Place.{Place}
+use Rattle.strand_contract.specs.declared.turns.Place.TheVariants as place
+use Rattle.strand_contract.specs.declared.turns.Start.TheVariants as start
+use Rattle.strand_contract.specs.declared.turns.Answer.{Answer}
+use Rattle.strand_contract.specs.declared.turns.Answer.TheVariants as answer
+use Rattle.strand_contract.specs.Actions.{Action, LocalAction, Told, Did, Began, Bytes, Ended, Broken, Ready, Dialled, Refused}
+use Rattle.strand_contract.specs.Actions.{Put, Later, Lost, Close, Log, Dict, Take, Dial, Keep, Timer, Dropped, Run, Offer, Due, Halted, Gone}
+use Rattle.strand_contract.specs.Alone.{IsPrefixOf}
+use Rattle.strand_contract.specs.Laws.{is_still}
+use Rattle.strand_contract.specs.Calls.{answered}
+use Rattle.strand_plans.specs.Questions.{Question, asking_if}
+use Rattle.strand_plans.specs.Questions as question
+use Rattle.strand_plans.specs.Ledgers.{Ledger, empty_ledger, has, has_number, numbers, left_at, entered}
+use Rattle.strand_plans.specs.Moves.{Move, Done, End, State, perform}
+use Rattle.strand_plans.specs.Moves as move
+use Rattle.strand_plans.specs.Plans.{stepped, unborn_state}
+use Rattle.strand_plans.specs.Turns.{Comes, IsTaken, IsDue}
+use Rattle.strand_plans.specs.Conditions.{IsServed, OnlyWakes, IsPlan}
+use Rattle.strand_plans.specs.Conditions as plan
+use Rattle.strand_plans.proofs.Served.{performed-kept, send-serves, hang-up-serves, end-serves}
+use Rattle.strand_plans.proofs.Forms.{either, only-wakes, ends-life}
+use Rattle.run_contract.specs.declared.turns.RunSeen.{RunSeen}
+use Rattle.run_contract.specs.declared.turns.RunSeen.TheVariants as seen
+use Rattle.run_contract.specs.declared.turns.SockSeen.{SockSeen}
+use Rattle.run_contract.specs.declared.turns.SockSeen.TheVariants as at
+use Rattle.run_contract.specs.Runs.{Turn, waits_at_first, performed}
+use Rattle.run_contract.specs.declared.turns.Said.{Said}
+use Rattle.run_contract.specs.Conditions.{IsBlank, IsRun, MayCome, IsTakenOf, next_piece, entered_as, IsQuiet}
+use Rattle.run_contract.specs.StoredLaws.{own-due, not-below}
+use Rattle.connection_plan.specs.Clients.{Stage}
+use Rattle.connection_plan.specs.Clients as stage
+use Rattle.connection_plan.specs.Services.{Service, Both}
+use Rattle.connection_plan.specs.Timers.{number_of}
+use Rattle.connection_plan.specs.Timers as timer
+use Rattle.client_line.specs.Feeding.{Fed, fed}
+use Rattle.connection_plan.specs.Turns.{begin_timer, end_timer, finish, ask, says, run_turn, tell, lose_at, lose, settle}
+use Rattle.connection_plan.specs.Connections.{starts, came_at, ends_at, to_run, is_due, connection_plan}
+use Rattle.connection_plan.specs.Connections as turns
+use Rattle.connection_plan.specs.Conditions.{Agrees, Knows, MayAsk}
+use Rattle.connection_plan.proofs.Alike.{still-alike, AtClient, client-alike, due-alike}
+use Rattle.connection_plan.proofs.Lifted.{lifted-leads, lifted-wakes}
+use Rattle.connection_plan.proofs.Steps.{begins-leads, ends-leads, sends-leads, awaits-leads}
+use Rattle.connection_plan.proofs.Stays.{Known, Keeps, agrees-alike, agrees-follows, known-follows, finishes, turn-keeps, told-keeps, busy-holds, done-keeps, lose-keeps, heard-keeps, settle-keeps}
+
+none-some : {A C : Type 0} (x : A) → None ≡ Some x → C
+none-some x e = absurd (let g : None ≡ Some x = e in cc)
+
+clash : {C : Type 0} (c : Bool) → c ≡ false → c ≡ true → C
+clash c h k = absurd (let e : false ≡ true = sym h ∙ k in cc)
+
+-- ---- bytes that a place took are the first of what was left
+
+taken-are : (bytes left : List ℕ) (m : ℕ) → IsPrefixOf bytes (take m left) → take (length bytes) left ≡ bytes
+taken-are bytes left m h =
+    ap (take (length bytes)) (sym (take-append-drop m left) ∙ ap (λ (xs : List ℕ). xs ++ drop m left) (sym h.1) ∙ append_assoc bytes h.0 (drop m left))
+    ∙ take-append_seam bytes (h.0 ++ drop m left)
+
+no-more : (bytes piece : List ℕ) → IsPrefixOf bytes piece → length bytes ≤ length piece
+no-more bytes piece h = let e : length bytes + length h.0 ≡ length piece = sym (length-append bytes h.0) ∙ ap length h.1 in omega (arith, e)
+
+pub taken-of : {J : Type 0} (b : Ledger J) (k : ℕ) (bytes : List ℕ) → IsTaken b (place.Sock k) bytes → IsTakenOf b k (length bytes)
+taken-of b k bytes h = record { taking = h.taking; some = h.some; piece = no-more bytes (next_piece k b) h.prefix }
+
+blank-run : {J : Type 0} (k : ℕ) (b : Ledger J) → IsBlank b → IsBlank (entered (Did (Run k)) b)
+blank-run k b h = record { no_thread = ap (drop 1) h.no_thread; no_deadline = h.no_deadline; no_socket = h.no_socket; none_asked = refl; unused = h.unused }
+
+-- no run goes on
+abbrev IsFree : Stage → Type 0
+IsFree stage.Busy = ⊥
+IsFree st = Unit {0}
+
+module _ {J R : Type 0} (site : Service J R) (now : ℕ) (holds : Ledger J → R → Type 0) (run : IsRun site.runs holds) where
+  no-socket : (st : Stage) (b : Ledger J) (r : R) (k : ℕ) → IsFree st → Agrees holds st b r → has (place.Sock k) b.opened ≡ false
+  no-socket stage.Busy b r k free h = absurd free
+  no-socket stage.Over b r k free h = h.1 k
+  no-socket stage.Idle b r k free h = h.no_socket k
+  no-socket stage.Head b r k free h = h.no_socket k
+  no-socket stage.Flush b r k free h = h.no_socket k
+  no-socket stage.Drop b r k free h = h.no_socket k
+
+  none-asked : (st : Stage) (b : Ledger J) (r : R) → IsFree st → Agrees holds st b r → b.asked ≡ None
+  none-asked stage.Busy b r free h = absurd free
+  none-asked stage.Over b r free h = h.0
+  none-asked stage.Idle b r free h = h.none_asked
+  none-asked stage.Head b r free h = h.none_asked
+  none-asked stage.Flush b r free h = h.none_asked
+  none-asked stage.Drop b r free h = h.none_asked
+
+  -- where no run goes on, this is so once it is entered
+  abbrev Others : RunSeen → Ledger J → R → Type 0
+  Others x b r = (st : Stage) → IsFree st → Agrees holds st b r → Agrees holds st (entered_as x b) r
+
+  run-keeps : (x : RunSeen) (m : Move J (Both R)) (b : Ledger J) (s : Both R) → Agrees holds s.client.stage b s.run → MayCome site.runs now x b s.run → (entered_as x b).asked ≡ None
+      → Others x b s.run → Keeps holds m → Knows holds (perform (to_run site now m s.client.stage x) (entered_as x b) s).state
+  run-keeps x m b s h may none others keeps = by s.client.stage refl
+    where
+      done : (st : Stage) → IsFree st → s.client.stage ≡ st → Knows holds (perform {J = J} {S = Both R} Done (entered_as x b) s).state
+      done st free e =
+          subst (λ (st : Stage). Agrees holds st (entered_as x b) s.run) (sym e) (others st free (subst (λ (st : Stage). Agrees holds st b s.run) e h))
+
+      by : (st : Stage) → s.client.stage ≡ st → Knows holds (perform (to_run site now m st x) (entered_as x b) s).state
+      by stage.Busy e = told-keeps site now holds run x m b s e (busy-holds site now holds run b s s.client.stage e h) may none keeps
+      by stage.Idle e = done stage.Idle tt e
+      by stage.Head e = done stage.Head tt e
+      by stage.Flush e = done stage.Flush tt e
+      by stage.Drop e = done stage.Drop tt e
+      by stage.Over e = done stage.Over tt e
+
+  -- a thread runs
+  others-run : (k : ℕ) (b : Ledger J) (r : R) → Others (seen.Run k) b r
+  others-run k b r stage.Busy free h = absurd free
+  others-run k b r stage.Over free h = (refl, h.1)
+  others-run k b r stage.Idle free h = blank-run k b h
+  others-run k b r stage.Head free h = blank-run k b h
+  others-run k b r stage.Flush free h = blank-run k b h
+  others-run k b r stage.Drop free h = blank-run k b h
+
+  -- something comes at a socket, and none is opens where no run goes on
+  others-sock : (k : ℕ) (x : SockSeen) (b : Ledger J) (r : R) → has (place.Sock k) b.opened ≡ true → Others (seen.Sock k x) b r
+  others-sock k x b r opens st free h = clash (has (place.Sock k) b.opened) (no-socket st b r k free h) opens
+
+  -- a deadline of a run is due
+  others-due : (n : ℕ) (b : Ledger J) (r : R) → IsDue now b n → 2 ≤ n → Others (seen.Due n) b r
+  others-due n b r x low stage.Busy free h = absurd free
+  others-due n b r x low stage.Over free h = (refl, h.1)
+  others-due n b r x low stage.Idle free h = absurd (own-due now n x.at b.armed x.first (not-below n low) h.no_deadline)
+  others-due n b r x low stage.Head free h = absurd (own-due now n x.at b.armed x.first (not-below n low) h.no_deadline)
+  others-due n b r x low stage.Flush free h = absurd (own-due now n x.at b.armed x.first (not-below n low) h.no_deadline)
+  others-due n b r x low stage.Drop free h = absurd (own-due now n x.at b.armed x.first (not-below n low) h.no_deadline)
+
+  sock-keeps : (k : ℕ) (x : SockSeen) (b : Ledger J) (s : Both R) → Agrees holds s.client.stage b s.run → MayCome site.runs now (seen.Sock k x) b s.run
+      → has (place.Sock k) b.opened ≡ true → (entered_as (seen.Sock k x) b).asked ≡ None
+      → Knows holds (perform (to_run site now (settle site now) s.client.stage (seen.Sock k x)) (entered_as (seen.Sock k x) b) s).state
+  sock-keeps k x b s h may opens none = run-keeps (seen.Sock k x) (settle site now) b s h may none (others-sock k x b s.run opens) (settle-keeps site now holds run)
+
+  -- the run gets its answer
+  answer-keeps : (x : Action J) (given : Answer) (b : Ledger J) (s : Both R) → Agrees holds s.client.stage b s.run → answered (asking_if b.asked) given ≡ Some x
+      → (entered (Did x) b).asked ≡ None → Knows holds (perform (turns.answered site now s.client.stage x (entered (Did x) b) s) (entered (Did x) b) s).state
+  answer-keeps x given b s h e none = by s.client.stage refl
+    where
+      free : (C : Type 0) (st : Stage) → IsFree st → s.client.stage ≡ st → C
+      free C st f at = none-some x (sym (ap (λ o. answered (asking_if o) given) (none-asked st b s.run f (subst (λ (st : Stage). Agrees holds st b s.run) at h))) ∙ e)
+
+      by : (st : Stage) → s.client.stage ≡ st → Knows holds (perform (turns.answered site now st x (entered (Did x) b) s) (entered (Did x) b) s).state
+      by stage.Busy at =
+          turn-keeps site now holds run (site.runs.answered now x (entered (Did x) b) s.run) (settle site now) (site.runs.waits s.run) (entered (Did x) b) s at
+          (run.answers_by_own now x (entered (Did x) b) s.run) (run.answers now x given b s.run (busy-holds site now holds run b s s.client.stage at h) e) none
+          (settle-keeps site now holds run)
+      by stage.Idle at = free _ stage.Idle tt at
+      by stage.Head at = free _ stage.Head tt at
+      by stage.Flush at = free _ stage.Flush tt at
+      by stage.Drop at = free _ stage.Drop tt at
+      by stage.Over at = free _ stage.Over tt at
+
+  -- something comes at the client's place
+  at-client : (x : Action J) (st : State J (Both R)) → AtClient x → Knows holds st → st.ledger.asked ≡ None → Known holds (entered (Did x) st.ledger) st.inner
+  at-client x st at h none =
+      let same = client-alike x st.ledger at none in
+      (agrees-alike site now holds run st.inner.client.stage st.ledger (entered (Did x) st.ledger) st.inner.run same h, sym same.asked ∙ none)
+
+  came-keeps : (f : Fed) (b : Ledger J) (s : Both R) → Known holds b s → Knows holds (perform (came_at site now s.client.stage f s) b s).state
+  came-keeps f b s h = by s.client.stage refl
+    where
+      here : (st : Stage) → s.client.stage ≡ st → Agrees holds st b s.run
+      here st e = subst (λ (st : Stage). Agrees holds st b s.run) e h.0
+
+      by : (st : Stage) → s.client.stage ≡ st → Knows holds (perform (came_at site now st f s) b s).state
+      by stage.Busy e = awaits-leads site now (Knows holds) (settle site now) b (record s { client = record s.client { came = f.after } })
+          (λ c t x. settle-keeps site now holds run c t (known-follows site now holds run b c _ t s.client.stage x h.0 h.1))
+      by stage.Head e = heard-keeps site now holds run false (settle site now) s.client.ended f b s (settle-keeps site now holds run) h.0 (here stage.Head e)
+      by stage.Idle e = heard-keeps site now holds run true (settle site now) s.client.ended f b s (settle-keeps site now holds run) h.0 (here stage.Idle e)
+      by stage.Drop e = heard-keeps site now holds run true (settle site now) s.client.ended f b s (settle-keeps site now holds run) h.0 (here stage.Drop e)
+      by stage.Flush e = h.0
+      by stage.Over e = h.0
+
+  ends-keeps : (b : Ledger J) (s : Both R) → Known holds b s → Knows holds (perform (ends_at site now s.client.stage) b s).state
+  ends-keeps b s h = by s.client.stage
+    where
+      by : (st : Stage) → Knows holds (perform (ends_at site now st) b s).state
+      by stage.Busy = settle-keeps site now holds run b (record s { client = record s.client { ended = true } }) h
+      by stage.Flush = h.0
+      by stage.Idle = finishes site now holds run b s h.1
+      by stage.Head = finishes site now holds run b s h.1
+      by stage.Drop = finishes site now holds run b s h.1
+      by stage.Over = finishes site now holds run b s h.1
+
+  own-timer : (n : ℕ) → nat_lt n 2 ≡ true → (b : Ledger J) (s : Both R) → Agrees holds s.client.stage b s.run → IsDue now b n
+      → Knows holds (perform (lose site now) (entered (Did (Due n)) b) s).state
+  own-timer n own b s h x =
+      let same = due-alike n b own x.none_asked in
+      lose-keeps site now holds run (entered (Did (Due n)) b) s (agrees-alike site now holds run s.client.stage b (entered (Did (Due n)) b) s.run same h, refl)
+
+  due-keeps : (n : ℕ) (b : Ledger J) (s : Both R) → Agrees holds s.client.stage b s.run → IsDue now b n
+      → Knows holds (perform (is_due site now s.client.stage n) (entered (Did (Due n)) b) s).state
+  due-keeps zero b s h x = own-timer 0 refl b s h x
+  due-keeps (suc zero) b s h x = own-timer 1 refl b s h x
+  due-keeps (suc (suc n)) b s h x =
+      let low : 2 ≤ suc (suc n) = omega arith in
+      run-keeps (seen.Due (suc (suc n))) Done b s h (x, low) refl (others-due (suc (suc n)) b s.run x low) (done-keeps site now holds run)
+
+  ready-keeps : (b : Ledger J) (s : Both R) → Known holds b s → Knows holds (perform (end_timer site now timer.Send (move.Send place.Client [] Done)) b s).state
+  ready-keeps b s h = ends-leads site now (Knows holds) timer.Send (move.Send place.Client [] Done) b s
+      (λ c t x. sends-leads site now (Knows holds) [] Done c t
+      (λ d u y. agrees-follows site now holds run c d t u t.client.stage y (agrees-follows site now holds run b c s t s.client.stage x h.0)))
+
+  later-keeps : (b : Ledger J) (s : Both R) → Known holds b s → Knows holds (perform (begin_timer site now timer.Send Done) b s).state
+  later-keeps b s h = begins-leads site now (Knows holds) timer.Send Done b s (λ c t x. agrees-follows site now holds run b c s t s.client.stage x h.0)
+
+  client-begins : (begun c : ℕ) (st : State J (Both R)) → st ≡ unborn_state (connection_plan site)
+      → Knows holds (stepped (connection_plan site) now (Did (Began begun (start.Client c))) st).state
+  client-begins begun c st e = subst (λ (st : State J (Both R)). Knows holds (stepped (connection_plan site) now (Did (Began begun (start.Client c))) st).state) (sym e)
+      (begins-leads site now (Knows holds) timer.Header Done b s (λ d t x. agrees-follows site now holds run b d s t stage.Head x blank))
+    where
+      b : Ledger J
+      b = entered (Did (Began begun (start.Client c))) empty_ledger
+
+      s : Both R
+      s = (unborn_state (connection_plan site)).inner
+
+      blank : IsBlank (entered {J = J} (Did (Began begun (start.Client c))) empty_ledger)
+      blank = record { no_thread = refl; no_deadline = refl; no_socket = λ k. refl; none_asked = refl; unused = λ k low. (refl, refl, refl) }
+
+  job-begins : (begun n : ℕ) (premature : Bool) (job : J) (st : State J (Both R)) → st ≡ unborn_state (connection_plan site)
+      → Knows holds (stepped (connection_plan site) now (Did (Began begun (start.Job n premature job))) st).state
+  job-begins begun n premature job st e = subst (λ (st : State J (Both R)). Knows holds (stepped (connection_plan site) now (Did (Began begun (start.Job n premature job))) st).state) (sym e)
+      (turn-keeps site now holds run (site.runs.begun_job now premature job b) Done (waits_at_first false) b s refl
+      (run.begins_job_by_own now premature job b) (run.begins_job now premature job b blank) refl (done-keeps site now holds run))
+    where
+      b : Ledger J
+      b = entered (Did (Began begun (start.Job n premature job))) empty_ledger
+
+      s : Both R
+      s = record (unborn_state (connection_plan site)).inner { client = record (unborn_state (connection_plan site)).inner.client { stage = stage.Busy } }
+
+      blank : IsBlank (entered (Did (Began begun (start.Job n premature job))) empty_ledger)
+      blank = record { no_thread = refl; no_deadline = refl; no_socket = λ k. refl; none_asked = refl; unused = λ k low. (refl, refl, refl) }
+
+  -- what is no turn leaves it as it is
+  still : (a : LocalAction J) (st : State J (Both R)) → is_still a ≡ true → Knows holds st → Agrees holds st.inner.client.stage (entered a st.ledger) st.inner.run
+  still a st e h = agrees-alike site now holds run st.inner.client.stage st.ledger (entered a st.ledger) st.inner.run (still-alike a st.ledger e) h
+
+  stays : (a : LocalAction J) (st : State J (Both R)) → Knows holds st → Comes (connection_plan site) now a st → Knows holds (stepped (connection_plan site) now a st).state
+  stays (Did (Began begun (start.Client c))) st h comes = client-begins begun c st comes
+  stays (Did (Began begun (start.Job n premature job))) st h comes = job-begins begun n premature job st comes
+  stays (Did (Bytes place.Client bytes)) st h comes = came-keeps (fed st.inner.client.came bytes) _ st.inner (at-client (Bytes place.Client bytes) st tt h comes.0.free.none_asked)
+  stays (Did (Ended place.Client)) st h comes = ends-keeps _ st.inner (at-client (Ended place.Client) st tt h comes.free.none_asked)
+  stays (Did (Broken place.Client)) st h comes = lose-keeps site now holds run _ st.inner (at-client (Broken place.Client) st tt h comes.free.none_asked)
+  stays (Did (Ready place.Client)) st h comes = ready-keeps _ st.inner (at-client (Ready place.Client) st tt h comes.free.none_asked)
+  stays (Did (Put place.Client bytes)) st h comes = settle-keeps site now holds run _ st.inner (at-client (Put place.Client bytes) st tt h comes.taking.none_asked)
+  stays (Did (Later place.Client)) st h comes = later-keeps _ st.inner (at-client (Later place.Client) st tt h comes.none_asked)
+  stays (Did (Lost place.Client)) st h comes = lose-keeps site now holds run _ st.inner (at-client (Lost place.Client) st tt h comes.none_asked)
+  stays (Did (Bytes (place.Sock k) bytes)) st h comes = sock-keeps k (at.Bytes bytes) st.ledger st.inner h comes comes.0.opened refl
+  stays (Did (Ended (place.Sock k))) st h comes = sock-keeps k at.Ended st.ledger st.inner h comes comes.opened refl
+  stays (Did (Broken (place.Sock k))) st h comes = sock-keeps k at.Broken st.ledger st.inner h comes comes.opened refl
+  stays (Did (Ready (place.Sock k))) st h comes = sock-keeps k at.Ready st.ledger st.inner h comes comes.opened refl
+  stays (Did (Put (place.Sock k) bytes)) st h comes =
+      subst (λ (xs : List ℕ). Knows holds (perform (to_run site now (settle site now) st.inner.client.stage (seen.Sock k (at.Took (length bytes)))) (entered (Did (Put (place.Sock k) xs)) st.ledger) st.inner).state)
+      (taken-are bytes (left_at (place.Sock k) st.ledger) _ comes.prefix)
+      (sock-keeps k (at.Took (length bytes)) st.ledger st.inner h (taken-of st.ledger k bytes comes) comes.taking.opened refl)
+  stays (Did (Later (place.Sock k))) st h comes = sock-keeps k at.Later st.ledger st.inner h comes comes.opened refl
+  stays (Did (Lost (place.Sock k))) st h comes = sock-keeps k at.Lost st.ledger st.inner h comes comes.opened refl
+  stays (Did (Dialled k)) st h comes = sock-keeps k at.Dialled st.ledger st.inner h comes comes.opened refl
+  stays (Did (Refused k)) st h comes = sock-keeps k at.Refused st.ledger st.inner h comes comes.opened refl
+  stays (Did (Dict zone call given)) st h comes = answer-keeps (Dict zone call given) (answer.Dict given) st.ledger st.inner h (ap (λ o. answered (asking_if o) (answer.Dict given)) comes.0) refl
+  stays (Did (Take key uses)) st h comes = answer-keeps (Take key uses) (answer.Took uses) st.ledger st.inner h (ap (λ o. answered (asking_if o) (answer.Took uses)) comes) refl
+  stays (Did (Dial host port done)) st h comes = answer-keeps (Dial host port done) (answer.Dialled done) st.ledger st.inner h (ap (λ o. answered (asking_if o) (answer.Dialled done)) comes) refl
+  stays (Did (Keep k key idle size)) st h comes = answer-keeps (Keep k key idle size) answer.Kept st.ledger st.inner h (ap (λ o. answered (asking_if o) answer.Kept) comes.0) refl
+  stays (Did (Timer at given)) st h comes = answer-keeps (Timer at given) (answer.Timer given) st.ledger st.inner h (ap (λ o. answered (asking_if o) (answer.Timer given)) comes.1) refl
+  stays (Did (Run k)) st h comes = run-keeps (seen.Run k) (settle site now) st.ledger st.inner h comes refl (others-run k st.ledger st.inner.run) (settle-keeps site now holds run)
+  stays (Did (Due n)) st h comes = due-keeps n st.ledger st.inner h comes
+  stays (Did Halted) st h comes = finishes site now holds run (entered (Did Halted) st.ledger) st.inner refl
+  stays (Told w) st h comes = still (Told w) st refl h
+  stays (Did (Close q)) st h comes = still (Did (Close q)) st refl h
+  stays (Did (Log line done)) st h comes = still (Did (Log line done)) st refl h
+  stays (Did (Offer q)) st h comes = still (Did (Offer q)) st refl h
+  stays (Did Gone) st h comes = still (Did Gone) st refl h
+  stays (Did Dropped) st h comes = still (Did Dropped) st refl h
+
+  -- ---- places are served
+
+  lose-serves : (b : Ledger J) (s : Both R) → IsServed place.Client (perform (lose site now) b s).state.ledger
+  lose-serves b s = by s.client.stage
+    where
+      by : (st : Stage) → IsServed place.Client (perform (lose_at site now st s) b s).state.ledger
+      by stage.Busy = hang-up-serves {S = Both R} place.Client
+          (end_timer site now timer.Body (end_timer site now timer.Send (if (site.runs.waits s.run).client then tell site now seen.ClientGone Done else Done))) b s
+      by stage.Idle = end-serves {S = Both R} place.Client b s
+      by stage.Head = end-serves {S = Both R} place.Client b s
+      by stage.Flush = end-serves {S = Both R} place.Client b s
+      by stage.Drop = end-serves {S = Both R} place.Client b s
+      by stage.Over = end-serves {S = Both R} place.Client b s
+
+  ready-serves : (b : Ledger J) (s : Both R) → IsServed place.Client (perform (end_timer site now timer.Send (move.Send place.Client [] Done)) b s).state.ledger
+  ready-serves b s = ends-leads site now (λ st. IsServed place.Client st.ledger) timer.Send (move.Send place.Client [] Done) b s
+      (λ c t x. send-serves {S = Both R} place.Client [] Done c t)
+
+  sock-serves : (k : ℕ) (x : SockSeen) (c : Ledger J) (s : Both R) → ((st : Stage) → IsFree st → s.client.stage ≡ st → has (place.Sock k) c.opened ≡ false)
+      → (s.client.stage ≡ stage.Busy → let t = site.runs.turn now (seen.Sock k x) c s.run in IsServed (place.Sock k) (performed t c s.run).state.ledger)
+      → IsServed (place.Sock k) (perform (to_run site now (settle site now) s.client.stage (seen.Sock k x)) c s).state.ledger
+  sock-serves k x c s shut served = by s.client.stage refl
+    where
+      q : Place
+      q = place.Sock k
+
+      free : (st : Stage) → IsFree st → s.client.stage ≡ st → IsServed (place.Sock k) c
+      free st f e = λ o l. clash (has (place.Sock k) c.opened) (shut st f e) o
+
+      by : (st : Stage) → s.client.stage ≡ st → IsServed (place.Sock k) (perform (to_run site now (settle site now) st (seen.Sock k x)) c s).state.ledger
+      by stage.Busy e =
+          let t = site.runs.turn now (seen.Sock k x) c s.run in
+          lifted-leads (λ st. IsServed (place.Sock k) st.ledger) t.moves (says site now t.said (settle site now)) (λ y. says site now t.said (ask y (settle site now))) c s
+          (run.moves_by_own now (seen.Sock k x) c s.run)
+          (λ d r f same. performed-kept {S = Both R} (place.Sock k) (says site now t.said (settle site now)) d (record s { run = r })
+          (subst (λ (st : State J R). IsServed (place.Sock k) st.ledger) f (served e)))
+          (λ y d r f same. performed-kept {S = Both R} (place.Sock k) (says site now t.said (ask y (settle site now))) d (record s { run = r })
+          (subst (λ (st : State J R). IsServed (place.Sock k) st.ledger) f (served e)))
+      by stage.Idle e = free stage.Idle tt e
+      by stage.Head e = free stage.Head tt e
+      by stage.Flush e = free stage.Flush tt e
+      by stage.Drop e = free stage.Drop tt e
+      by stage.Over e = free stage.Over tt e
+
+  no-socket-of : (b : Ledger J) (s : Both R) (k : ℕ) → Agrees holds s.client.stage b s.run → (st : Stage) → IsFree st → s.client.stage ≡ st → has (place.Sock k) b.opened ≡ false
+  no-socket-of b s k h st f e = no-socket st b s.run k f (subst (λ (st : Stage). Agrees holds st b s.run) e h)
+
+  lost : (q : Place) (st : State J (Both R)) → Knows holds st → Comes (connection_plan site) now (Did (Lost q)) st
+      → IsServed q (stepped (connection_plan site) now (Did (Lost q)) st).state.ledger
+  lost place.Client st h comes = lose-serves (entered (Did (Lost place.Client)) st.ledger) st.inner
+  lost (place.Sock k) st h comes = sock-serves k at.Lost (entered (Did (Lost (place.Sock k))) st.ledger) st.inner (no-socket-of st.ledger st.inner k h)
+      (λ e. run.lost now k st.ledger st.inner.run (busy-holds site now holds run st.ledger st.inner st.inner.client.stage e h) comes)
+
+  again : (q : Place) (st : State J (Both R)) → Knows holds st → Comes (connection_plan site) now (Did (Ready q)) st
+      → IsServed q (stepped (connection_plan site) now (Did (Ready q)) st).state.ledger
+  again place.Client st h comes = ready-serves (entered (Did (Ready place.Client)) st.ledger) st.inner
+  again (place.Sock k) st h comes = sock-serves k at.Ready (entered (Did (Ready (place.Sock k))) st.ledger) st.inner (no-socket-of st.ledger st.inner k h)
+      (λ e. run.again now k st.ledger st.inner.run (busy-holds site now holds run st.ledger st.inner st.inner.client.stage e h) comes)
+
+  -- ---- what only wakes
+
+  unsaid-wakes : (words : List Said) → words ≡ [] → OnlyWakes (says {J = J} {R = R} site now words Done)
+  unsaid-wakes words e = subst (λ (words : List Said). OnlyWakes (says {J = J} {R = R} site now words Done)) (sym e) tt
+
+  quiet-wakes : (t : Turn J R) → IsQuiet t → OnlyWakes (run_turn site now t Done)
+  quiet-wakes t q = lifted-wakes t.moves (says site now t.said Done) (λ x. says site now t.said (ask x Done)) q.0 (unsaid-wakes t.said q.1)
+
+  end-wakes : (t : timer.Timer) (m : Move J (Both R)) → OnlyWakes m → OnlyWakes (end_timer site now t m)
+  end-wakes t m h = λ b s. either OnlyWakes (has_number (number_of t) (numbers b.armed)) (move.Cancel (number_of t) m) m h h
+
+  lose-wakes : (st : Stage) (s : Both R) → OnlyWakes (lose_at site now st s)
+  lose-wakes stage.Busy s =
+      let told = if (site.runs.waits s.run).client then tell site now seen.ClientGone Done else Done in
+      end-wakes timer.Body (end_timer site now timer.Send told) (end-wakes timer.Send told
+      (either OnlyWakes (site.runs.waits s.run).client (tell site now seen.ClientGone Done) Done (λ b s. quiet-wakes (site.runs.turn now seen.ClientGone b s.run) (run.gone now b s.run)) tt))
+  lose-wakes stage.Idle s = tt
+  lose-wakes stage.Head s = tt
+  lose-wakes stage.Flush s = tt
+  lose-wakes stage.Drop s = tt
+  lose-wakes stage.Over s = tt
+
+  due-wakes : (st : Stage) (n : ℕ) → OnlyWakes (is_due site now st n)
+  due-wakes st zero = λ b s. lose-wakes s.client.stage s
+  due-wakes st (suc zero) = λ b s. lose-wakes s.client.stage s
+  due-wakes stage.Busy (suc (suc n)) = λ b s. quiet-wakes (site.runs.turn now (seen.Due (suc (suc n))) b s.run) (run.due now (suc (suc n)) b s.run)
+  due-wakes stage.Idle (suc (suc n)) = tt
+  due-wakes stage.Head (suc (suc n)) = tt
+  due-wakes stage.Flush (suc (suc n)) = tt
+  due-wakes stage.Drop (suc (suc n)) = tt
+  due-wakes stage.Over (suc (suc n)) = tt
+
+  asks : (st : State J (Both R)) (x : Question J) → Knows holds st → st.ledger.asked ≡ Some x → MayAsk site x
+  asks st x h e = by st.inner.client.stage refl
+    where
+      none : (st' : Stage) → IsFree st' → st.inner.client.stage ≡ st' → MayAsk site x
+      none st' f at = none-some x (sym (none-asked st' st.ledger st.inner.run f (subst (λ (st' : Stage). Agrees holds st' st.ledger st.inner.run) at h)) ∙ e)
+
+      by : (st' : Stage) → st.inner.client.stage ≡ st' → MayAsk site x
+      by stage.Busy at = run.asks st.ledger st.inner.run x (busy-holds site now holds run st.ledger st.inner st.inner.client.stage at h) e
+      by stage.Idle at = none stage.Idle tt at
+      by stage.Head at = none stage.Head tt at
+      by stage.Flush at = none stage.Flush tt at
+      by stage.Drop at = none stage.Drop tt at
+      by stage.Over at = none stage.Over tt at
+
+  fits : (x : Question J) → MayAsk site x → plan.Fits (connection_plan site) x
+  fits (question.Dict zone call) h = h
+  fits (question.Take key) h = h
+  fits (question.Dial host port) h = h
+  fits (question.Keep k key idle size) h = h
+  fits (question.Timer at job) h = h
+
+pub meets : {J R : Type 0} (site : Service J R) (holds : Ledger J → R → Type 0) → IsRun site.runs holds → IsPlan (connection_plan site) (Knows holds) (MayAsk site)
+meets {J} {R} site holds run = record {
+  begins = record { no_thread = refl; no_deadline = refl; no_socket = λ k. refl; none_asked = refl; unused = λ k low. (refl, refl, refl) };
+  stays = λ now a st h comes. stays site now holds run a st h comes;
+  lost = λ now q st h comes. lost site now holds run q st h comes;
+  again = λ now q st h comes. again site now holds run q st h comes;
+  asks = λ st x h e. asks site 0 holds run st x h e;
+  fits = λ x h. fits site 0 holds run x h;
+  due = λ now n st h comes. only-wakes {S = Both R} (is_due site now st.inner.client.stage n) (entered (Did (Due n)) st.ledger) st.inner (due-wakes site now holds run st.inner.client.stage n);
+  job = λ now at n premature job.
+      let b = entered (Did (Began at (start.Job n premature job))) empty_ledger in
+      only-wakes {S = Both R} (starts site now (Did (Began at (start.Job n premature job))) b) b (unborn_state (connection_plan site)).inner
+      (quiet-wakes site now holds run (site.runs.begun_job now premature job b) (run.job now premature job b));
+  ends = λ now st h. ends-life {S = Both R} (finish) (entered (Did Halted) st.ledger) st.inner tt;
+}

@@ -1,0 +1,5 @@
+use Rattle.connection_plan.proofs.Settling.{settling}
+use Rattle.connection_plan.proofs.laws.settling_goes_on.Goals as goal
+
+pub returns : goal.returns
+returns g c now b s known none = settling g.S.Lawful.service now g.S.Lawful.holds g.S.Lawful.runs b s (known, none)

@@ -1,0 +1,14 @@
+pub mod Clients
+pub mod Services
+pub mod Timers
+pub mod Lifts
+pub mod Turns
+pub mod Connections
+pub mod Conditions
+pub mod Accounts
+pub mod Asked
+pub mod InStep
+pub mod Examples
+pub mod Recalls
+pub mod Serving
+pub mod Stored

@@ -1,0 +1,11 @@
+pub mod Allowed
+pub mod Inputs
+pub mod Drops
+pub mod GoesWell
+pub mod Givens
+pub mod Spoiled
+pub mod Sleepers
+pub mod StrandInputs
+pub mod StrandDrops
+pub mod Taken
+pub mod Examples

@@ -1,8 +1,0 @@
-use Rattle.history_laws.proofs.laws.a_beginning.Goals as goal
-use Rattle.history_laws.proofs.Decided.{beginning-by-inputs, history-goes-on}
-
-pub returns-clause-execution : goal.returns-clause-execution
-returns-clause-execution g c b ms ns more quiet f h e drop = beginning-by-inputs b quiet ms ns more f h e drop
-
-pub returns-clause-history : goal.returns-clause-history
-returns-clause-history g c b ms ns more quiet f h e drop = history-goes-on b quiet ms ns (beginning-by-inputs b quiet ms ns more f h e drop)

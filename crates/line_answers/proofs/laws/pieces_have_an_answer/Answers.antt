@@ -1,8 +1,0 @@
-use Rattle.line_answers.proofs.Feeds.{is-fed, fed-only}
-use Rattle.line_answers.proofs.laws.pieces_have_an_answer.Goals as goal
-
-pub returns-clause-fed : goal.returns-clause-fed
-returns-clause-fed c = is-fed
-
-pub returns-clause-only : goal.returns-clause-only
-returns-clause-only c = fed-only

@@ -1,3 +1,0 @@
-mod Sending
-mod LiteralTurns
-mod Replies

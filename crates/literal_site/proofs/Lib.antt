@@ -1,6 +1,0 @@
-mod Rows
-mod Lines
-mod Pushed
-mod Same
-mod Apart
-mod Built

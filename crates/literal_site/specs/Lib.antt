@@ -1,5 +1,0 @@
-pub mod Sites
-pub mod Contents
-pub mod Outputs
-pub mod Statements
-pub mod Faults

@@ -1,9 +1,0 @@
-pub mod Signals
-pub mod Around
-pub mod Items
-pub mod Frames
-pub mod PositionIn
-pub mod Follows
-pub mod Ending
-pub mod Changes
-pub mod Starting

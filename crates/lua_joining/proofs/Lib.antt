@@ -1,5 +1,0 @@
-mod Lists
-mod Nodes
-mod Wholes
-mod WholeStatements
-mod WholePrograms

@@ -1,0 +1,114 @@
+use Rattle.std.proofs.Common.{◌≡◌, ◌∙◌, length, OnOk, arith, refl, rules, subst, sym}
+use denote.Hole.Carrier.{out}
+use Rattle.std.specs.List.{AllZip}
+use Rattle.std.proofs.lemmas.Result.{on_ok_weaker}
+use Rattle.lua_ast.specs.declared.expressions.ExprKind as kind
+use Rattle.lua_linking.specs.Raising.{RaisedExpr, RaisedItem}
+use Rattle.lua_linking.proofs.Lists.{zipped}
+use Rattle.lua_linking.proofs.Nodes.{index_raised, binary_raised, and_raised, or_raised, unary_raised, paren_raised, call_raised, method_raised, table_raised}
+use Rattle.lua_linking.proofs.expressions.+raise.Goals as goal
+
+pub raise_expr-returns-in_ok-raise_shared-in-Index : goal.raise_expr-returns-in_ok-raise_shared-in-Index
+raise_expr-returns-in_ok-raise_shared-in-Index t c =
+    let p : RaisedExpr c.args.by c.in-Index.a.value c.raise_shared.new.expr.value = search (rules, kind.the_lemmas) in
+    let q : OnOk c.raise_shared-in-Index.result (RaisedExpr c.args.by c.in-Index.b.value c.raise_shared-in-Index.new.expr.value) =
+    search (rules, kind.the_lemmas) in
+    on_ok_weaker c.raise_shared-in-Index.result
+    (λ h. (refl, rw c.in-Index.is (index_raised c.args.by c.in-Index.a c.raise_shared.new.expr p c.in-Index.b c.raise_shared-in-Index.new.expr h))) q
+
+pub raise_expr-returns-in_ok-raise_shared-in-Binary : goal.raise_expr-returns-in_ok-raise_shared-in-Binary
+unfolding kind.out-ExprKind out
+raise_expr-returns-in_ok-raise_shared-in-Binary t c =
+    let p : RaisedExpr c.args.by c.in-Binary.a.value c.raise_shared-in-Binary.new.expr.value = search (rules, kind.the_lemmas) in
+    let q : OnOk c.raise_shared-in-Binary-2.result (RaisedExpr c.args.by c.in-Binary.b.value c.raise_shared-in-Binary-2.new.expr.value) =
+    search (rules, kind.the_lemmas) in
+    on_ok_weaker c.raise_shared-in-Binary-2.result
+    (λ h. (
+      refl,
+      rw c.in-Binary.is (binary_raised c.args.by c.in-Binary.a c.raise_shared-in-Binary.new.expr p c.in-Binary.field-0 c.in-Binary.b
+          c.raise_shared-in-Binary-2.new.expr h),
+    )) q
+
+pub raise_expr-returns-in_ok-raise_shared-in-And : goal.raise_expr-returns-in_ok-raise_shared-in-And
+raise_expr-returns-in_ok-raise_shared-in-And t c =
+    let p : RaisedExpr c.args.by c.in-And.a.value c.raise_shared-in-And.new.expr.value = search (rules, kind.the_lemmas) in
+    let q : OnOk c.raise_shared-in-And-2.result (RaisedExpr c.args.by c.in-And.b.value c.raise_shared-in-And-2.new.expr.value) =
+    search (rules, kind.the_lemmas) in
+    on_ok_weaker c.raise_shared-in-And-2.result
+    (λ h. (refl, rw c.in-And.is (and_raised c.args.by c.in-And.a c.raise_shared-in-And.new.expr p c.in-And.b c.raise_shared-in-And-2.new.expr h))) q
+
+pub raise_expr-returns-in_ok-raise_shared-in-Or : goal.raise_expr-returns-in_ok-raise_shared-in-Or
+raise_expr-returns-in_ok-raise_shared-in-Or t c =
+    let p : RaisedExpr c.args.by c.in-Or.a.value c.raise_shared-in-Or.new.expr.value = search (rules, kind.the_lemmas) in
+    let q : OnOk c.raise_shared-in-Or-2.result (RaisedExpr c.args.by c.in-Or.b.value c.raise_shared-in-Or-2.new.expr.value) = search (rules, kind.the_lemmas) in
+    on_ok_weaker c.raise_shared-in-Or-2.result
+    (λ h. (refl, rw c.in-Or.is (or_raised c.args.by c.in-Or.a c.raise_shared-in-Or.new.expr p c.in-Or.b c.raise_shared-in-Or-2.new.expr h))) q
+
+pub raise_expr-returns-in_ok-raise_shared-in-Call : goal.raise_expr-returns-in_ok-raise_shared-in-Call
+raise_expr-returns-in_ok-raise_shared-in-Call t c =
+    let p : RaisedExpr c.args.by c.in-Call.callee.value c.raise_shared-in-Call.new.expr.value = search (rules, kind.the_lemmas) in
+    let q : OnOk c.raise_list.result (AllZip (RaisedExpr c.args.by) c.in-Call.values.value.items c.raise_list.new.exprs.value.items) =
+    search (rules, kind.the_lemmas) in
+    on_ok_weaker c.raise_list.result (λ h. (
+      refl,
+      rw c.in-Call.is
+          (call_raised c.args.by c.in-Call.callee c.raise_shared-in-Call.new.expr p c.in-Call.values c.raise_list.new.exprs h),
+    )) q
+
+pub raise_expr-returns-in_ok-raise_shared-in-Method : goal.raise_expr-returns-in_ok-raise_shared-in-Method
+unfolding kind.out-ExprKind out
+raise_expr-returns-in_ok-raise_shared-in-Method t c =
+    let p : RaisedExpr c.args.by c.in-Method.object.value c.raise_shared-in-Method.new.expr.value = search (rules, kind.the_lemmas) in
+    let q : OnOk c.raise_list-in-Method.result (AllZip (RaisedExpr c.args.by) c.in-Method.values.value.items c.raise_list-in-Method.new.exprs.value.items) =
+    search (rules, kind.the_lemmas) in
+    on_ok_weaker c.raise_list-in-Method.result
+    (λ h. (
+      refl,
+      rw c.in-Method.is (method_raised c.args.by c.in-Method.object c.raise_shared-in-Method.new.expr p c.in-Method.field-1 c.in-Method.values
+          c.raise_list-in-Method.new.exprs h),
+    )) q
+
+pub raise_expr-returns-in-Unary : goal.raise_expr-returns-in-Unary
+unfolding kind.out-ExprKind out
+raise_expr-returns-in-Unary t c =
+    let q : OnOk c.raise_shared-in-Unary.result (RaisedExpr c.args.by c.in-Unary.operand.value c.raise_shared-in-Unary.new.expr.value) =
+    search (rules, kind.the_lemmas) in
+    on_ok_weaker c.raise_shared-in-Unary.result
+    (λ h. (refl, rw c.in-Unary.is (unary_raised c.args.by c.in-Unary.operand c.raise_shared-in-Unary.new.expr h c.in-Unary.field-0))) q
+
+pub raise_expr-returns-in-Paren : goal.raise_expr-returns-in-Paren
+unfolding kind.out-ExprKind out
+raise_expr-returns-in-Paren t c =
+    let q : OnOk c.raise_shared-in-Paren.result (RaisedExpr c.args.by c.in-Paren.inner.value c.raise_shared-in-Paren.new.expr.value) =
+    search (rules, kind.the_lemmas) in
+    on_ok_weaker c.raise_shared-in-Paren.result (λ h. (refl, rw c.in-Paren.is (paren_raised c.args.by c.in-Paren.inner c.raise_shared-in-Paren.new.expr h))) q
+
+pub raise_expr-returns-in-Table : goal.raise_expr-returns-in-Table
+unfolding kind.out-ExprKind out
+raise_expr-returns-in-Table t c =
+    let q : OnOk c.raise_items.result (AllZip (RaisedItem c.args.by) c.in-Table.items.value.items c.raise_items.new.items.value.items) =
+    search (rules, kind.the_lemmas) in
+    on_ok_weaker c.raise_items.result (λ h. (refl, rw c.in-Table.is (table_raised c.args.by c.in-Table.items c.raise_items.new.items h))) q
+
+pub raise_item-returns-in-Item : goal.raise_item-returns-in-Item
+raise_item-returns-in-Item t c = on_ok_weaker c.raise_expr.result (λ h. rw c.in-Item.is (c.raise_expr.new.expr, refl, h)) c.raise_expr.ensures
+
+pub raise_item-returns-in_ok-raise_expr-in-Pair : goal.raise_item-returns-in_ok-raise_expr-in-Pair
+raise_item-returns-in_ok-raise_expr-in-Pair t c =
+    on_ok_weaker c.raise_expr-in-Pair-2.result
+    (λ h. rw c.in-Pair.is (c.raise_expr-in-Pair.new.expr, c.raise_expr-in-Pair-2.new.expr, refl, c.in_ok-raise_expr-in-Pair.ensures, h))
+    c.raise_expr-in-Pair-2.ensures
+
+pub raise_items-returns : goal.raise_items-returns
+raise_items-returns t c =
+    let count : c.len-i-end.result ≡ length c.in-Some.items.now.items = c.len-i-end.ensures ∙ c.in-Some.items.now.ok.0 in
+    subst (λ v. AllZip (RaisedItem c.args.by) v.items c.loop-i.items.items) c.in-Some.ensures.value
+    (zipped (RaisedItem c.args.by) c.in-Some.items.now.items c.loop-i.items.items (sym c.loop-i.invariant.0.0)
+    (λ k d p. c.loop-i.invariant.1 k d (omega (arith, p, c.loop-i-test.false, count))))
+
+pub raise_list-returns : goal.raise_list-returns
+raise_list-returns t c =
+    let count : c.len-i-end.result ≡ length c.in-Some.exprs.now.items = c.len-i-end.ensures ∙ c.in-Some.exprs.now.ok.0 in
+    subst (λ v. AllZip (RaisedExpr c.args.by) v.items c.loop-i.exprs.items) c.in-Some.ensures.value
+    (zipped (RaisedExpr c.args.by) c.in-Some.exprs.now.items c.loop-i.exprs.items (sym c.loop-i.invariant.0.0)
+    (λ k d p. c.loop-i.invariant.1 k d (omega (arith, p, c.loop-i-test.false, count))))

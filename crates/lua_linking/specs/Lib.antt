@@ -1,0 +1,4 @@
+pub mod Raising
+pub mod Joining
+pub mod Mentions
+pub mod Names

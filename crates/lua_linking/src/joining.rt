@@ -1,0 +1,73 @@
+//! One program joined to another.
+
+ghost use Rattle.std.specs.Prelude.{◌≡◌, ◌++◌, IfOk, OnOk, OnErr, length};
+ghost use Rattle.std.specs.List.{AllZip};
+ghost use Rattle.lua_linking.specs.Raising.{RaisedFunction};
+ghost use Rattle.lua_linking.specs.Joining.{IsJoined, HasSameLists};
+
+use crate::expressions::raise_number;
+use crate::statements::raise_block;
+use lua_ast::{Function, Program};
+use resty_base::ByteLists;
+use std::alloc::{AllocError, Global};
+use std::mem;
+
+/// Raises the number of a function's file, and the numbers of functions in its body.
+fn raise_function(function: &mut Function, by: u32, files: u32) -> Result<(), AllocError>
+    ensures { OnOk result (RaisedFunction by files function.old function.new) }
+{
+    raise_number(&mut function.file, files)?;
+    raise_block(&mut function.body, by)
+}
+
+/// The same of each of these functions.
+fn raise_functions(functions: &mut [Function], by: u32, files: u32) -> Result<(), AllocError>
+    ensures { OnOk result (AllZip (RaisedFunction by files) functions.old functions.new) }
+{
+    for i in 0..functions.len() {
+        raise_function(&mut functions[i], by, files)?;
+    }
+    Ok(())
+}
+
+/// The number after so many; one that doesn't fit is out of memory.
+fn number_after(count: usize) -> Result<u32, AllocError>
+    ensures { IfOk result (λ number. number ≡ count) }
+{
+    match u32::try_from(count) {
+        Ok(number) => Ok(number),
+        Err(_) => Err(AllocError),
+    }
+}
+
+/// Appends names of files; where memory runs out the list is as before.
+fn append_files(alloc: Global, files: &mut ByteLists, others: ByteLists) -> Result<(), AllocError>
+    ensures ok { OnOk result (files.new ≡ files.old ++ others) }
+    ensures err { OnErr result (files.new ≡ files.old) }
+{
+    let mut names = mem::replace(files, ByteLists::of(Vec::new(alloc))).into_vec();
+    let done = names.append(&mut others.into_vec());
+    *files = ByteLists::of(names);
+    done
+}
+
+/// Joins `other` to `program`, and gives the number that `other`'s first function has now. The trees of `other` have no other
+/// owner; where one has, or a number no longer fits, that is out of memory. Where memory runs out `program` has the files and
+/// functions that it had.
+pub fn join(alloc: Global, program: &mut Program, other: Program) -> Result<u32, AllocError>
+    ensures joined { OnOk result (IsJoined program.old other program.new) }
+    ensures first { IfOk result (λ number. number ≡ length program.old.functions.items) }
+    ensures kept { OnErr result (HasSameLists program.old program.new) }
+{
+    let first = number_after(program.functions.len())?;
+    let file = number_after(program.files.as_slice().len())?;
+    let Program {
+        files,
+        mut functions,
+    } = other;
+    raise_functions(&mut functions, first, file)?;
+    program.functions.reserve(functions.len())?;
+    append_files(alloc, &mut program.files, files)?;
+    program.functions.append(&mut functions)?;
+    Ok(first)
+}

@@ -1,0 +1,89 @@
+//! What expressions mention, in the order of the text.
+
+ghost use Rattle.std.specs.Prelude.{◌≡◌, ◌++◌, OnOk, flat_map};
+ghost use Rattle.lua_linking.specs.Mentions as spec;
+
+use crate::mentions::{Mention, mention_function, mention_module};
+use lua_ast::{Expr, ExprKind, TableItem};
+use std::alloc::AllocError;
+
+/// Notes what an expression mentions.
+#[cycle(mentions)]
+#[tactic(auto, using(crate::proofs::Rows::table_is))]
+pub(crate) fn mentions_in(expr: &Expr, mentions: &mut Vec<Mention>) -> Result<(), AllocError>
+    ensures { OnOk result (mentions.new.items ≡ mentions.old.items ++ spec.mentions_in expr.now) }
+{
+    match &expr.kind {
+        ExprKind::Function(number) => mention_function(*number, mentions),
+        ExprKind::Index(a, b) => {
+            mentions_in(a, mentions)?;
+            mentions_in(b, mentions)
+        }
+        ExprKind::Binary(_, a, b) => {
+            mentions_in(a, mentions)?;
+            mentions_in(b, mentions)
+        }
+        ExprKind::And(a, b) => {
+            mentions_in(a, mentions)?;
+            mentions_in(b, mentions)
+        }
+        ExprKind::Or(a, b) => {
+            mentions_in(a, mentions)?;
+            mentions_in(b, mentions)
+        }
+        ExprKind::Call(callee, values) => {
+            mention_module(callee, values, mentions)?;
+            mentions_in(callee, mentions)?;
+            mentions_in_each(values, mentions)
+        }
+        ExprKind::Method(object, _, values) => {
+            mentions_in(object, mentions)?;
+            mentions_in_each(values, mentions)
+        }
+        ExprKind::Unary(_, operand) => mentions_in(operand, mentions),
+        ExprKind::Paren(inner) => mentions_in(inner, mentions),
+        ExprKind::Table(items) => mentions_in_items(items, mentions),
+        ExprKind::Nil | ExprKind::True | ExprKind::False | ExprKind::Vararg => Ok(()),
+        ExprKind::Number(_) | ExprKind::Text(_) | ExprKind::Global(_) => Ok(()),
+        ExprKind::Slot(_) | ExprKind::Captured(_) => Ok(()),
+    }
+}
+
+/// Notes what each of these expressions mentions.
+#[cycle(mentions)]
+pub(crate) fn mentions_in_each(
+    exprs: &[Expr],
+    mentions: &mut Vec<Mention>,
+) -> Result<(), AllocError>
+    ensures { OnOk result (mentions.new.items ≡ mentions.old.items ++ flat_map spec.mentions_in exprs.now) }
+{
+    for expr in exprs {
+        mentions_in(expr, mentions)?;
+    }
+    Ok(())
+}
+
+/// Notes what each of these items mentions.
+#[cycle(mentions)]
+fn mentions_in_items(items: &[TableItem], mentions: &mut Vec<Mention>) -> Result<(), AllocError>
+    ensures { OnOk result (mentions.new.items ≡ mentions.old.items ++ flat_map spec.mentions_in_item items.now) }
+{
+    for item in items {
+        mentions_in_item(item, mentions)?;
+    }
+    Ok(())
+}
+
+/// Notes what this item mentions.
+#[cycle(mentions)]
+fn mentions_in_item(item: &TableItem, mentions: &mut Vec<Mention>) -> Result<(), AllocError>
+    ensures { OnOk result (mentions.new.items ≡ mentions.old.items ++ spec.mentions_in_item item.now) }
+{
+    match item {
+        TableItem::Item(value) => mentions_in(value, mentions),
+        TableItem::Pair(key, value) => {
+            mentions_in(key, mentions)?;
+            mentions_in(value, mentions)
+        }
+    }
+}

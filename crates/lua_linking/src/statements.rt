@@ -1,0 +1,108 @@
+//! Numbers of functions in statements, raised in place.
+
+ghost use Rattle.std.specs.Prelude.{OnOk};
+ghost use Rattle.std.specs.List.{AllZip};
+ghost use Rattle.lua_linking.specs.Raising.{RaisedArm, RaisedStep, RaisedStmt};
+
+use crate::expressions::{raise_expr, raise_list, raise_number, raise_shared};
+use lua_ast::{Arm, Expr, Stmt, StmtKind};
+use std::alloc::AllocError;
+use std::rc::Rc;
+
+/// Raises the numbers of functions in a statement.
+#[cycle(raise_block)]
+fn raise_stmt(stmt: &mut Stmt, by: u32) -> Result<(), AllocError>
+    ensures { OnOk result (RaisedStmt by stmt.old stmt.new) }
+{
+    match &mut stmt.kind {
+        StmtKind::Local(_, values) => raise_list(values, by),
+        StmtKind::LocalFunction(_, number) => raise_number(number, by),
+        StmtKind::Assign(targets, values) => {
+            raise_list(targets, by)?;
+            raise_list(values, by)
+        }
+        StmtKind::Call(call) => raise_expr(call, by),
+        StmtKind::Do(body) => raise_block(body, by),
+        StmtKind::While(test, body) => {
+            raise_shared(test, by)?;
+            raise_block(body, by)
+        }
+        StmtKind::Repeat(body, test) => {
+            raise_block(body, by)?;
+            raise_shared(test, by)
+        }
+        StmtKind::If(arms, otherwise) => {
+            raise_arms(arms, by)?;
+            raise_block(otherwise, by)
+        }
+        StmtKind::NumericFor {
+            slot: _,
+            from,
+            to,
+            step,
+            body,
+        } => {
+            raise_shared(from, by)?;
+            raise_shared(to, by)?;
+            raise_step(step, by)?;
+            raise_block(body, by)
+        }
+        StmtKind::GenericFor {
+            slots: _,
+            values,
+            body,
+        } => {
+            raise_list(values, by)?;
+            raise_block(body, by)
+        }
+        StmtKind::Return(values) => raise_list(values, by),
+        StmtKind::Break => Ok(()),
+    }
+}
+
+/// The same of the step of a loop, if it has one.
+fn raise_step(step: &mut Option<Rc<Expr>>, by: u32) -> Result<(), AllocError>
+    ensures { OnOk result (RaisedStep by step.old step.new) }
+{
+    match step {
+        Some(step) => raise_shared(step, by),
+        None => Ok(()),
+    }
+}
+
+/// The same of each statement of a block.
+#[cycle(raise_block)]
+pub(crate) fn raise_block(block: &mut Rc<Vec<Stmt>>, by: u32) -> Result<(), AllocError>
+    ensures { OnOk result (AllZip (RaisedStmt by) block.old.value.items block.new.value.items) }
+{
+    let Some(stmts) = Rc::get_mut(block) else {
+        return Err(AllocError);
+    };
+    for i in 0..stmts.len() {
+        raise_stmt(&mut stmts[i], by)?;
+    }
+    Ok(())
+}
+
+/// The same of each arm of an `if`.
+#[cycle(raise_block)]
+fn raise_arms(arms: &mut Rc<Vec<Arm>>, by: u32) -> Result<(), AllocError>
+    ensures { OnOk result (AllZip (RaisedArm by) arms.old.value.items arms.new.value.items) }
+{
+    let Some(arms) = Rc::get_mut(arms) else {
+        return Err(AllocError);
+    };
+    for i in 0..arms.len() {
+        raise_arm(&mut arms[i], by)?;
+    }
+    Ok(())
+}
+
+/// The same of this arm.
+#[cycle(raise_block)]
+fn raise_arm(arm: &mut Arm, by: u32) -> Result<(), AllocError>
+    ensures { OnOk result (RaisedArm by arm.old arm.new) }
+{
+    raise_expr(&mut arm.test, by)?;
+    raise_block(&mut arm.body, by)
+}

@@ -1,7 +1,0 @@
-use Rattle.lua_nodes.specs.Captures.{KeepsAllButSlots}
-use Rattle.lua_nodes.proofs.CaptureLemmas.{Left}
-use Rattle.lua_nodes.proofs.captures.share_variables.Given as goal
-
-abbrev pub invariant-loop-capture : goal.invariant-loop-capture
-invariant-loop-capture l =
-    KeepsAllButSlots l.fn.frames l.frames × Left l.captures l.capture-index l.cells.items l.fn.frames l.fn.store l.frames l.store

@@ -1,8 +1,0 @@
-use Rattle.std.proofs.Common.{sym, ◌∙◌}
-use Rattle.lua_shortcuts.proofs.RunLemmas.{test_is}
-use Rattle.lua_shortcuts.proofs.tests.take_test.Goals as goal
-
-pub returns : goal.returns
-returns c =
-    test_is c.args.x.now c.args.slots.now c.in_ok-test.test.holds c.in_ok-test.test.steps c.steps_of-steps.result c.args.store.now c.count.new.self
-    c.in_ok-test.ensures.tells c.steps_of-steps.ensures (sym c.affords.ensures ∙ c.if-not-affords.false) c.count.ensures.counted

@@ -1,5 +1,0 @@
-use Rattle.lua_tables_lib.proofs.TypeLemmas.{only_one_shares}
-use Rattle.lua_tables_lib.proofs.laws.only_one_shares_metatables.Goals as goal
-
-pub returns : goal.returns
-returns c = only_one_shares

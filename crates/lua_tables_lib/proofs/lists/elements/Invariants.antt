@@ -1,8 +1,0 @@
-use Rattle.std.proofs.Common.{◌≡◌}
-use Rattle.lua_values.specs.StoreCalls.{pairs_of}
-use Rattle.lua_tables_lib.specs.Lists.{elements}
-use Rattle.lua_tables_lib.proofs.lists.elements.Given as goal
-
--- the values so far
-abbrev pub invariant-loop-k : goal.invariant-loop-k
-invariant-loop-k l = l.values.items ≡ elements (pairs_of l.store.heap l.t) l.first l.k

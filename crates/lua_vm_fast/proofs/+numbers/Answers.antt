@@ -1,0 +1,55 @@
+use Rattle.std.proofs.Common.{Some, ◌+◌, refl}
+use Rattle.lua_vm_fast.proofs.ValueLemmas.{nil_gives, true_gives, false_gives, number_gives, slot_counted, with_counted}
+use Rattle.lua_vm_fast.proofs.PlaceLemmas.{slot_seen, global_seen, index_seen, named_seen, text_seen}
+use Rattle.lua_vm_fast.proofs.+numbers.Goals as goal
+
+pub numbers::number_of-returns-in-Number-clause-gives : goal.numbers::number_of-returns-in-Number-clause-gives
+numbers::number_of-returns-in-Number-clause-gives t c = number_gives c.args.x.now c.args.slots.now c.args.store.now.heap c.in-Number.n c.in-Number.is
+
+pub numbers::number_of-returns-in-Slot-clause-gives : goal.numbers::number_of-returns-in-Slot-clause-gives
+numbers::number_of-returns-in-Slot-clause-gives t c = slot_counted c.args.x.now c.args.slots.now c.args.store.now.heap c.in-Slot.i c.in_slot.result c.in-Slot.is c.in_slot.ensures.number c.in_slot.ensures.steps
+
+pub numbers::operated-returns-clause-gives : goal.numbers::operated-returns-clause-gives
+numbers::operated-returns-clause-gives t c =
+    with_counted c.args.operator c.args.a.now c.args.b.now c.args.slots.now c.args.store.now.heap c.in_ok-a.a.number c.in_ok-b.b.number c.in_ok-number.number c.in_ok-a.a.steps c.in_ok-b.b.steps c.with_steps.result
+    c.in_ok-a.ensures.gives c.in_ok-b.ensures.gives c.in_ok-number.ensures c.with_steps.ensures.number c.with_steps.ensures.steps
+
+pub places::seen_of-returns-in-Slot-clause-gives : goal.places::seen_of-returns-in-Slot-clause-gives
+places::seen_of-returns-in-Slot-clause-gives t c = slot_seen c.args.x.now c.args.slots.now c.args.store.now.heap c.in-Slot.i c.seen_in_slot.result c.in-Slot.is c.seen_in_slot.ensures.value c.seen_in_slot.ensures.steps
+
+pub places::seen_of-returns-in-Global-clause-gives : goal.places::seen_of-returns-in-Global-clause-gives
+places::seen_of-returns-in-Global-clause-gives t c =
+    global_seen c.args.x.now c.args.slots.now c.args.store.now.heap c.in-Global.name c.seen_global.result c.in-Global.is c.seen_global.ensures.gives
+
+pub places::seen_at-returns-in_ok-key-in-Slot-clause-gives : goal.places::seen_at-returns-in_ok-key-in-Slot-clause-gives
+places::seen_at-returns-in_ok-key-in-Slot-clause-gives t c =
+    index_seen c.args.a.now c.args.b.now c.args.slots.now c.args.store.now.heap c.in-Table.t c.in_ok-object.object.value.now c.in_ok-key-in-Slot.key.value.now c.in_ok-object.object.steps c.in_ok-key-in-Slot.key.steps
+    (c.in_ok-object.object.steps + c.in_ok-key-in-Slot.key.steps + 1) c.found.result c.in-Table.is c.in_ok-object.ensures.gives
+    (slot_seen c.args.b.now c.args.slots.now c.args.store.now.heap c.in-Slot.i (Some c.in_ok-key-in-Slot.key) c.in-Slot.is c.in_ok-key-in-Slot.ensures.value c.in_ok-key-in-Slot.ensures.steps)
+    refl c.found.ensures.has
+
+pub places::seen_at-returns-in-Text-clause-gives : goal.places::seen_at-returns-in-Text-clause-gives
+places::seen_at-returns-in-Text-clause-gives t c =
+    named_seen c.args.a.now c.args.b.now c.args.slots.now c.args.store.now.heap c.in-Table.t c.in-Text.name c.in_ok-object.object.value.now c.in_ok-object.object.steps (c.in_ok-object.object.steps + 2) c.named.result
+    c.in-Text.is c.in-Table.is c.in_ok-object.ensures.gives refl c.named.ensures.has
+
+pub places::seen_at-returns-in_ok-key-in_default-kind : goal.places::seen_at-returns-in_ok-key-in_default-kind
+places::seen_at-returns-in_ok-key-in_default-kind t c = record {
+  gives =
+      index_seen c.args.a.now c.args.b.now c.args.slots.now c.args.store.now.heap c.in-Table.t c.in_ok-object.object.value.now c.in_ok-key-in_default-kind.key.value c.in_ok-object.object.steps c.in_ok-key-in_default-kind.key.steps
+      (c.in_ok-object.object.steps + c.in_ok-key-in_default-kind.key.steps + 1) c.found-in_default-kind.result c.in-Table.is c.in_ok-object.ensures.gives c.in_ok-key-in_default-kind.ensures.gives
+      refl c.found-in_default-kind.ensures.has;
+  few = c.found-in_default-kind.ensures.few;
+}
+
+pub places::value_of-returns-in-Nil-clause-gives : goal.places::value_of-returns-in-Nil-clause-gives
+places::value_of-returns-in-Nil-clause-gives t c = nil_gives c.args.x.now c.args.slots.now c.args.store.now.heap c.in-Nil.is
+
+pub places::value_of-returns-in-True-clause-gives : goal.places::value_of-returns-in-True-clause-gives
+places::value_of-returns-in-True-clause-gives t c = true_gives c.args.x.now c.args.slots.now c.args.store.now.heap c.in-True.is
+
+pub places::value_of-returns-in-False-clause-gives : goal.places::value_of-returns-in-False-clause-gives
+places::value_of-returns-in-False-clause-gives t c = false_gives c.args.x.now c.args.slots.now c.args.store.now.heap c.in-False.is
+
+pub places::value_of-returns-in-Text-clause-gives : goal.places::value_of-returns-in-Text-clause-gives
+places::value_of-returns-in-Text-clause-gives t c = text_seen c.args.x.now c.args.slots.now c.args.store.now.heap c.in-Text.text c.text_value.result c.in-Text.is c.text_value.ensures.value c.text_value.ensures.steps

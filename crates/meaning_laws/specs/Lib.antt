@@ -1,3 +1,0 @@
--- What is said of a call's heap.
-pub mod Standing
-pub mod Lives

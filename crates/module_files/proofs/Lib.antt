@@ -1,3 +1,0 @@
-mod Held
-mod Growing
-mod GoingOn

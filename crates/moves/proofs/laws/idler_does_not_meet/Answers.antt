@@ -1,5 +1,0 @@
-use Rattle.moves.proofs.Sleeping.{idler-fails}
-use Rattle.moves.proofs.laws.idler_does_not_meet.Goals as goal
-
-pub returns : goal.returns
-returns g c = idler-fails g.C.Claim.holds g.C.Claim.may_ask

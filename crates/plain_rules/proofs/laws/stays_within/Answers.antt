@@ -1,6 +1,0 @@
--- By cases of the call.
-use Rattle.plain_rules.proofs.Within.{dict-within, store-within, first-within}
-use Rattle.plain_rules.proofs.laws.stays_within.Goals as goal
-
-pub returns : goal.returns
-returns c = record { dict = dict-within; store = store-within; first = first-within }

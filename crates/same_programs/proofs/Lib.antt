@@ -1,7 +1,0 @@
-pub mod SameWorks
-pub mod SameTrees
-pub mod SamePositions
-pub mod SameCalls
-pub mod SameNodes
-pub mod SameJoined
-pub mod SameNames

@@ -1,5 +1,0 @@
-use Rattle.same_sites.proofs.Starting.{sets_start_alike}
-use Rattle.same_sites.proofs.laws.same_sets_start_alike.Goals as goal
-
-pub returns : goal.returns
-returns c = sets_start_alike c.same_programs_live_alike.ensures

@@ -1,2 +1,0 @@
-pub mod SameSet
-pub mod Laws

@@ -1,0 +1,4 @@
+pub mod Programs
+pub mod SameSet
+pub mod Sets
+pub mod Readings

@@ -1,5 +1,0 @@
-use Rattle.standing_laws.proofs.Handlers.{sets_stand}
-use Rattle.standing_laws.proofs.laws.sound_sets_stand.Goals as goal
-
-pub returns : goal.returns
-returns c = sets_stand c.library_is_lawful.ensures c.both_are_lawful.ensures c.started_sites_stand.ensures

@@ -1,5 +1,0 @@
-use Rattle.standing_laws.proofs.Threads.{threads_keep}
-use Rattle.standing_laws.proofs.laws.threads_keep_standing.Goals as goal
-
-pub returns : goal.returns
-returns g c finish = threads_keep c.lives_keep_standing.ensures c.resumes_keep_standing.ensures finish

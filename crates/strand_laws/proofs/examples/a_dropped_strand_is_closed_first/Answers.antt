@@ -1,5 +1,0 @@
-use Rattle.strand_laws.proofs.SmallExecutions.{closed-first}
-use Rattle.strand_laws.proofs.examples.a_dropped_strand_is_closed_first.Goals as goal
-
-pub returns : goal.returns
-returns g c = closed-first

@@ -1,5 +1,0 @@
-use Rattle.strand_laws.proofs.Worlds.{same-part}
-use Rattle.strand_laws.proofs.laws.two_worlds.Goals as goal
-
-pub returns : goal.returns
-returns g c = λ site. same-part (g.S.StrandContract.meaning site).behavior (g.met.S.StrandContract.quiet site)

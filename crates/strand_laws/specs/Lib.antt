@@ -1,4 +1,0 @@
-pub mod Inputs
-pub mod Drops
-pub mod Taken
-pub mod Examples

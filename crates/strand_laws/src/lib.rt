@@ -1,5 +1,0 @@
-//! Laws of the executions of strands, each the contract of a function that does nothing.
-#![tactic(auto)]
-
-pub mod examples;
-pub mod laws;

@@ -1,4 +1,0 @@
-pub mod Site
-pub mod Exchange
-pub mod Texts
-pub mod Spoiled
