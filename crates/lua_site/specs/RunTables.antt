@@ -1,4 +1,5 @@
--- The tables that each run of a site has for itself, which are made next to one another.
+-- The tables that each run of a site has for itself, made next to one another: its globals, as in the lua-nginx-module manual's "Lua Variable
+-- Scope", and `ngx.ctx`.
 use Rattle.std.specs.Prelude.{ℕ, ◌+◌, length, codes, Ok}
 use Rattle.lua_values.specs.declared.values.Value.TheVariants.{Text, Table}
 use Rattle.lua_values.specs.Heap.{Heap}

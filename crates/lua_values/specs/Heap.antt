@@ -1,4 +1,4 @@
--- What a store holds: lists of tables, of cells (the variables that closures share) and of closures.
+-- What a store holds: lists of tables, of cells (the variables that closures share: Lua 5.1 Reference Manual, section 2.6) and of closures.
 use Rattle.std.specs.Prelude.{ℕ, List, Option}
 use Rattle.lua_values.specs.declared.values.Value.{Value}
 use Rattle.lua_values.specs.declared.kinds.TypeMetatables.{TypeMetatables}

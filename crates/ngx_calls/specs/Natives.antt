@@ -1,4 +1,4 @@
--- The functions of the host that `ngx` is made of.
+-- The functions of the host that `ngx` is made of, by numbers of this project.
 use Rattle.std.specs.Prelude.{ℕ, ◌/◌}
 use Rattle.lua_lib_base.specs.Work.{texts_length}
 use Rattle.lua_values.specs.NativeCalls.{Meaning, Leaves}

@@ -1,4 +1,4 @@
--- What a call of `ngx` asks for.
+-- What a call of `ngx` asks for (lua-nginx-module manual, "Nginx API for Lua"). Its limits are this project's choice.
 use Rattle.std.specs.Prelude.{ℕ, ◌/◌, List, [], ◌++◌, take, codes, min, nat_eq, if◌then◌else◌}
 use Rattle.lua_lib_base.specs.Refusals.{expected_text}
 use Rattle.lua_lib_base.specs.declared.refusals.Expected.TheVariants.{String}

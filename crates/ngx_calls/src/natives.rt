@@ -25,9 +25,7 @@ impl Natives for NgxNatives {
         123
     }
 
-    fn call(&self, alloc: Global, number: u32, args: &[Value], store: &mut Store) -> NativeOut {
-        let _ = alloc;
-        let _ = number;
+    fn call(&self, _alloc: Global, _number: u32, args: &[Value], store: &mut Store) -> NativeOut {
         store.add_steps(texts_length(args) / BYTES_OF_A_STEP);
         NativeOut::Outside
     }

@@ -1,6 +1,6 @@
 use Rattle.std.proofs.Common.{◌≡◌, ◌++◌, length}
 use Rattle.connection_strand.specs.Acts.{done_of, question_in, sockets_after}
-use Rattle.connection_strand.proofs.state.Connection.carry.Given as goal
+use Rattle.connection_strand.proofs.state.Connection.adopt_acts.Given as goal
 
 abbrev pub invariant-loop-act : goal.invariant-loop-act
 invariant-loop-act g l = record {

@@ -7,7 +7,7 @@ use Rattle.connection_plan.specs.Serving.{service_of}
 use Rattle.std.proofs.Common.{length, ◌*◌, subst}
 use Rattle.connection_strand.specs.Costs.{unit, Spends}
 use Rattle.connection_strand.proofs.Paying as paying
-use Rattle.connection_strand.proofs.state.Connection.take_turn.Goals as goal
+use Rattle.connection_strand.proofs.state.Connection.adopt_turn.Goals as goal
 
 pub returns-clause-moves : goal.returns-clause-moves
 returns-clause-moves g c = λ did m h.
@@ -15,7 +15,7 @@ returns-clause-moves g c = λ did m h.
     let r = g.R.RunContract in
     let met = g.met.R.RunContract in
     let kept = c.in_ok-question.ensures.kept in
-    takes-on (service_of (r.plan site) (g.R.ServiceContract.serving site)) (r.holds site) (r.stands site) c.args.now.0 c.args.next did c.args.self.now c.carry.new.self _ c.args.turn.now c.carry.new.turn _ m h
+    takes-on (service_of (r.plan site) (g.R.ServiceContract.serving site)) (r.holds site) (r.stands site) c.args.now.0 c.args.next did c.args.self.now c.adopt_acts.new.self _ c.args.turn.now c.adopt_acts.new.turn _ m h
     (record {
       client = ap (λ (k : Connection g.row.R.Denot). k.client) kept;
       run = ap (λ (k : Connection g.row.R.Denot). k.run) kept;
@@ -35,7 +35,7 @@ returns-in-Some-clause-moves g c = λ did m h.
     let r = g.R.RunContract in
     let met = g.met.R.RunContract in
     let kept = c.in_ok-question.ensures.kept in
-    takes-asking (service_of (r.plan site) (g.R.ServiceContract.serving site)) (r.holds site) (r.stands site) c.args.now.0 c.args.next did c.args.self.now c.carry.new.self c.says.new.self c.args.turn.now c.carry.new.turn c.says.new.turn m h
+    takes-asking (service_of (r.plan site) (g.R.ServiceContract.serving site)) (r.holds site) (r.stands site) c.args.now.0 c.args.next did c.args.self.now c.adopt_acts.new.self c.says.new.self c.args.turn.now c.adopt_acts.new.turn c.says.new.turn m h
     (record {
       client = ap (λ (k : Connection g.row.R.Denot). k.client) kept;
       run = ap (λ (k : Connection g.row.R.Denot). k.run) kept;
@@ -53,18 +53,18 @@ returns-in-Some-clause-moves g c = λ did m h.
 pub returns-clause-costs : goal.returns-clause-costs
 returns-clause-costs g c =
     let kept = c.in_ok-question.ensures.kept in
-    paying.takes-on g.R.RunContract.left g.R.ServiceContract.bound c.args.next.acts.items c.args.next.said.items c.args.self.now c.carry.new.self c.says.new.self c.args.turn.now c.carry.new.turn c.says.new.turn
-    (paying.carries g.R.RunContract.left g.R.ServiceContract.bound c.args.next.acts.items c.args.self.now c.carry.new.self c.args.turn.now c.carry.new.turn (ap (λ (k : Connection g.row.R.Denot). k.client) kept) (ap (λ (k : Connection g.row.R.Denot). k.run) kept)
+    paying.takes-on g.R.RunContract.left g.R.ServiceContract.bound c.args.next.acts.items c.args.next.said.items c.args.self.now c.adopt_acts.new.self c.says.new.self c.args.turn.now c.adopt_acts.new.turn c.says.new.turn
+    (paying.carries g.R.RunContract.left g.R.ServiceContract.bound c.args.next.acts.items c.args.self.now c.adopt_acts.new.self c.args.turn.now c.adopt_acts.new.turn (ap (λ (k : Connection g.row.R.Denot). k.client) kept) (ap (λ (k : Connection g.row.R.Denot). k.run) kept)
     c.in_ok-question.ensures.sockets c.in_ok-question.ensures.acts)
-    (subst (λ words. Spends g.R.RunContract.left g.R.ServiceContract.bound (unit * length words) c.carry.new.self c.carry.new.turn c.says.new.self c.says.new.turn) c.deref-2.ensures.value c.in_ok-says.ensures.costs)
+    (subst (λ words. Spends g.R.RunContract.left g.R.ServiceContract.bound (unit * length words) c.adopt_acts.new.self c.adopt_acts.new.turn c.says.new.self c.says.new.turn) c.deref-2.ensures.value c.in_ok-says.ensures.costs)
 
 pub returns-in-Some-clause-costs : goal.returns-in-Some-clause-costs
 returns-in-Some-clause-costs g c =
     let kept = c.in_ok-question.ensures.kept in
-    paying.takes-asking g.R.RunContract.left g.R.ServiceContract.bound c.args.next.acts.items c.args.next.said.items c.in-Some.question c.args.self.now c.carry.new.self (record c.says.new.self { keeping = c.kept_socket-self.result }) c.args.turn.now c.carry.new.turn c.says.new.turn
+    paying.takes-asking g.R.RunContract.left g.R.ServiceContract.bound c.args.next.acts.items c.args.next.said.items c.in-Some.question c.args.self.now c.adopt_acts.new.self (record c.says.new.self { keeping = c.kept_socket-self.result }) c.args.turn.now c.adopt_acts.new.turn c.says.new.turn
     (record c.says.new.turn { acts = c.push_back.new.self })
     (sym c.in_ok-question.ensures.question ∙ c.in-Some.is)
-    (paying.carries g.R.RunContract.left g.R.ServiceContract.bound c.args.next.acts.items c.args.self.now c.carry.new.self c.args.turn.now c.carry.new.turn (ap (λ (k : Connection g.row.R.Denot). k.client) kept) (ap (λ (k : Connection g.row.R.Denot). k.run) kept)
+    (paying.carries g.R.RunContract.left g.R.ServiceContract.bound c.args.next.acts.items c.args.self.now c.adopt_acts.new.self c.args.turn.now c.adopt_acts.new.turn (ap (λ (k : Connection g.row.R.Denot). k.client) kept) (ap (λ (k : Connection g.row.R.Denot). k.run) kept)
     c.in_ok-question.ensures.sockets c.in_ok-question.ensures.acts)
-    (subst (λ words. Spends g.R.RunContract.left g.R.ServiceContract.bound (unit * length words) c.carry.new.self c.carry.new.turn c.says.new.self c.says.new.turn) c.deref-2.ensures.value c.in_ok-says.ensures.costs)
+    (subst (λ words. Spends g.R.RunContract.left g.R.ServiceContract.bound (unit * length words) c.adopt_acts.new.self c.adopt_acts.new.turn c.says.new.self c.says.new.turn) c.deref-2.ensures.value c.in_ok-says.ensures.costs)
     c.in_ok-push_back-in-Some.ensures.items

@@ -2,7 +2,7 @@ use Rattle.std.proofs.Common.{◌<◌, sym, subst}
 use Rattle.connection_plan.specs.Serving.{service_of}
 use Rattle.connection_strand.proofs.Costing.{spends-nothing}
 use Rattle.connection_strand.proofs.Loops.{IsSettling, Spent, rounds, begins, goes-on, settled, spends-on, fewer}
-use Rattle.connection_strand.proofs.state.Connection.settle.Goals as goal
+use Rattle.connection_strand.proofs.state.Connection.settle_all.Goals as goal
 
 pub settle_once-requires : goal.settle_once-requires
 settle_once-requires g c = c.loop-goes_on.invariant.0.within c.loop-goes_on-test.true

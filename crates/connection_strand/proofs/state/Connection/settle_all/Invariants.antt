@@ -1,6 +1,6 @@
 use Rattle.connection_plan.specs.Serving.{service_of}
 use Rattle.connection_strand.proofs.Loops.{IsSettling, Spent, rounds}
-use Rattle.connection_strand.proofs.state.Connection.settle.Given as goal
+use Rattle.connection_strand.proofs.state.Connection.settle_all.Given as goal
 
 abbrev pub invariant-loop-goes_on : goal.invariant-loop-goes_on
 invariant-loop-goes_on g l = let r = g.R.RunContract in
