@@ -15,7 +15,8 @@ use Rattle.lua_lexer.specs.declared.tokens.Piece.{Piece}
 use Rattle.lua_lexer.specs.declared.tokens.Token.{Token}
 use Rattle.lua_lexer.specs.declared.tokens.TokenKind.{TokenKind}
 use Rattle.lua_lexer.specs.declared.tokens.TokenKind.TheVariants.{Sign as SignKind}
-use Rattle.lua_lexer.specs.Characters.{is_blank, is_line_byte, is_word_start, line_ends}
+use Rattle.lua_numbers.specs.NumberText.{is_blank}
+use Rattle.lua_lexer.specs.Characters.{is_line_byte, is_word_start, line_ends}
 use Rattle.lua_lexer.specs.Brackets.{opens, is_bracket, inside_len, long_size}
 use Rattle.lua_lexer.specs.Comments.{is_comment, comment_size}
 use Rattle.lua_lexer.specs.Strings.{is_quote, short_string, long_string}

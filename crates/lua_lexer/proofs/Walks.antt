@@ -9,14 +9,14 @@ use Rattle.std.proofs.lemmas.Bool.Decides.{nat_tests}
 use Rattle.std.proofs.lemmas.List.{drop-append-le, length-take-le}
 use Rattle.std.proofs.lemmas.List.Folds.{length-prefix_len}
 use Rattle.std.proofs.lemmas.List.Sums.{prefix_len-le-length}
-use Rattle.lua_numbers.specs.NumberText.{number_in}
+use Rattle.lua_numbers.specs.NumberText.{is_blank, number_in}
 use Rattle.lua_lexer.specs.declared.words.Word.{Word}
 use Rattle.lua_lexer.specs.declared.tokens.LexFault.{LexFault}
 use Rattle.lua_lexer.specs.declared.tokens.LexFault.TheVariants.{BadByte, Fraction, Range, OpenString}
 use Rattle.lua_lexer.specs.declared.tokens.Piece.{Piece}
 use Rattle.lua_lexer.specs.declared.tokens.TokenKind.{TokenKind}
 use Rattle.lua_lexer.specs.declared.tokens.TokenKind.TheVariants.{Name, Text, Word as WordKind}
-use Rattle.lua_lexer.specs.Characters.{is_blank, is_word_start, is_word_byte}
+use Rattle.lua_lexer.specs.Characters.{is_word_start, is_word_byte}
 use Rattle.lua_lexer.specs.Readings.{◌>>=◌}
 use Rattle.lua_lexer.specs.Brackets.{opens, is_bracket, inside_len, long_size}
 use Rattle.lua_lexer.specs.Comments.{is_comment}

@@ -10,7 +10,7 @@ use std::io::{self, ErrorKind, Read};
 use std::rt::Files as HostFiles;
 
 /// What a fetch gives: the bytes, or why there are none.
-#[derive(Debug, PartialEq, Eq, Drop)]
+#[derive(Debug, Drop)]
 pub enum Fetched {
     Text(Bytes),
     Missing,
