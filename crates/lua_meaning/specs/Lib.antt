@@ -1,3 +1,5 @@
+-- In the order of reading: what is evaluated (Works), how (Evaluator, of which do_work, counted and answered are to be believed, by the law
+-- only_evaluator), then one file a kind beside the manual, then Nodes and Life. DirectEquations and Rows say the same again, as a check.
 pub mod Works
 pub mod Evaluator
 pub mod Setting

@@ -123,7 +123,7 @@ impl Files for MemFiles {
     }
 }
 
-/// The files of the system, which report nothing.
+/// The files of the system, which report nothing, and have one count of faults for all names.
 #[derive(Drop)]
 pub struct DiskFiles<'a, R> {
     runtime: &'a R,
