@@ -27,6 +27,7 @@ pub mod Life
 pub mod Over
 pub mod Laws
 pub mod DirectEquations
+pub mod EndingLaws
 pub mod Trees
 pub mod Rows
 pub mod ParkedRows

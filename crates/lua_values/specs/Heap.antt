@@ -37,5 +37,9 @@ pub record StoreView : Type 0 where
 abbrev pub step_limit : ℕ
 step_limit = 1_000_000
 
+-- the bytes of texts that one step pays for
+abbrev pub bytes_of_a_step : ℕ
+bytes_of_a_step = 64
+
 abbrev pub unit_limit : ℕ
 unit_limit = 1_048_576

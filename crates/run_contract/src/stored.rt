@@ -14,7 +14,7 @@ use strand_contract::{Act, Answer};
 use uri_args::Target;
 
 /// One dictionary, a key of it, and the reply where no text is kept under the key.
-#[derive(Debug, Drop)]
+#[derive(Drop)]
 pub struct StoredSite {
     pub dictionary: Bytes,
     pub key: Bytes,
@@ -22,11 +22,11 @@ pub struct StoredSite {
 }
 
 /// No run of this site asks for a timer job.
-#[derive(Debug, Drop)]
+#[derive(Drop)]
 pub struct NoJob;
 
 /// How far a run has come.
-#[derive(Clone, Copy, Debug, PartialEq, Eq)]
+#[derive(Clone, Copy)]
 pub enum Progress {
     /// Its thread waits for its run.
     Queued,
@@ -36,7 +36,7 @@ pub enum Progress {
 }
 
 /// A run that asks for the value, sends it as the whole reply and closes.
-#[derive(Debug, Drop)]
+#[derive(Drop)]
 pub struct StoredReply {
     progress: Progress,
     has_client: bool,

@@ -6,7 +6,7 @@ use std::alloc::{AllocError, Global};
 use std::collections::VecDeque;
 
 /// The site of strands that do nothing.
-#[derive(Debug, Drop)]
+#[derive(Drop)]
 pub struct MuteSite;
 
 /// No strand of this site asks for a timer job.
@@ -14,7 +14,7 @@ pub struct MuteSite;
 pub struct NoJob;
 
 /// A strand that does nothing: it waits for Stop.
-#[derive(Debug, Drop)]
+#[derive(Drop)]
 pub struct Mute {
     is_client: bool,
     is_over: bool,
