@@ -16,7 +16,7 @@ pub enum Put {
 }
 
 /// A sink failed.
-#[derive(Clone, Copy, Debug, Error)]
+#[derive(Clone, Copy, Debug, PartialEq, Eq, Error)]
 #[error("cannot write")]
 pub struct SinkFault;
 
