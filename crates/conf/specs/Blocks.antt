@@ -1,4 +1,5 @@
--- The blocks of a configuration as they are read: what their directives said so far.
+-- The blocks of a configuration as they are read: what their directives said so far. This form is the project's own; the blocks are those of nginx
+-- (beginner's guide, "Configuration File's Structure").
 use Rattle.std.specs.Prelude.{ℕ, Bool, false, List, [], ◌∷◌, ◌++◌, find, Option, None, option_map}
 use Rattle.std.specs.List.{list_any}
 use Rattle.conf_rules.specs.Directives.{same}

@@ -1,4 +1,4 @@
--- A dictionary by its name and its size.
+-- A dictionary by its name and its size (lua-nginx-module manual, `lua_shared_dict`).
 use Rattle.std.specs.Prelude.{ℕ, List}
 use Rattle.conf.specs.declared.sites.ZoneConf.{ZoneConf}
 

@@ -1,4 +1,5 @@
--- What holds for a request: what its location says, else its server, else `http`, else the default.
+-- What holds for a request: what its location says, else its server, else `http`, else the default (nginx's ngx_http_core_module and the
+-- lua-nginx-module manual, the contexts and defaults of each directive).
 use Rattle.std.specs.Prelude.{ℕ, codes, List, Option, Some, None}
 use Rattle.std.specs.Option.{option_or}
 use Rattle.conf_rules.specs.declared.directives.Directive.{Directive}

@@ -1,4 +1,4 @@
--- What a configuration says, by its blocks.
+-- What a configuration says, by its blocks (nginx's ngx_http_core_module; lua-nginx-module manual, "Directives").
 use Rattle.std.specs.Prelude.{ℕ, codes, List, [], map, position, unwrap_or}
 use Rattle.std.specs.Option.{option_or}
 use Rattle.conf_rules.specs.declared.directives.Directive.TheVariants as directive

@@ -1,4 +1,4 @@
--- What a call may answer whose outcome is known but for memory.
+-- What a call may answer whose outcome is known but for memory: a form of this project.
 use Rattle.std.specs.Prelude.{◌≡◌, Result, Err}
 use Rattle.conf.specs.declared.faults.ConfFault.{ConfFault}
 use Rattle.conf.specs.declared.faults.ConfFault.TheVariants.{Memory}

@@ -1,4 +1,5 @@
--- Which texts are configurations, what they say, and where a text is refused.
+-- Which texts are configurations, what they say, and where a text is refused: the first item that is refused, in the order of the text, which is
+-- this project's choice; what an item says is nginx's.
 use Rattle.std.specs.Prelude.{◌≡◌, ℕ, ◌<◌, List, [], ◌∷◌, ◌++◌, length, Ok, Err}
 use Rattle.conf_text.specs.Items.{IsItems}
 use Rattle.conf_text.specs.declared.items.Item.{Item}

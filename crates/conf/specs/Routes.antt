@@ -1,4 +1,5 @@
--- Which server and which location a request is for.
+-- Which server and which location a request is for (nginx's ngx_http_core_module, `server_name` and `location`; of the kinds of location those
+-- without regular expressions).
 use Rattle.std.specs.Prelude.{◌≡◌, ◌≤◌, ◌<◌, ℕ, ◌+◌, max, Bool, false, ◌==◌, List, [], length, bytes_eq, position, slice_get}
 use Rattle.std.specs.Prelude.{Option, Some, None, unwrap_or, if◌then◌else◌}
 use Rattle.std.specs.List.{fold, list_any, starts_with}

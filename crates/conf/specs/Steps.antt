@@ -1,4 +1,5 @@
--- What an item does to the nest of blocks, and why it is refused: its faults in their order.
+-- What an item does to the nest of blocks, and why it is refused. The contexts are those of nginx's manuals; the order of its faults is this
+-- project's choice.
 use Rattle.std.specs.Prelude.{ℕ, Bool, true, false, not, ◌&&◌, ◌||◌, ◌==◌, List, [], ◌∷◌, ◌++◌, length, if◌then◌else◌}
 use Rattle.std.specs.Prelude.{Option, Some, None, Result, Ok, Err}
 use Rattle.std.specs.List.{list_any}

@@ -1,4 +1,4 @@
--- Dictionaries in the order of the text.
+-- Dictionaries in the order of the text (lua-nginx-module manual, `lua_shared_dict`).
 use Rattle.std.specs.Prelude.{ℕ, Bool, List, [], ◌∷◌, ◌++◌, bytes_eq}
 use Rattle.std.specs.List.{list_any}
 use Rattle.conf.specs.declared.sites.ZoneConf.{ZoneConf}

@@ -1,4 +1,5 @@
--- What ends an item: a sign, a block of Lua, or the text's end.
+-- What ends an item: a sign, a block of Lua, or the text's end (nginx beginner's guide, "Configuration File's Structure"; lua-nginx-module manual,
+-- `content_by_lua_block`).
 use Rattle.std.specs.Prelude.{ℕ, ◌+◌, Bool, true, false, ◌&&◌, List, take, drop, Option, Some, None, if◌then◌else◌}
 use Rattle.lua_lexer.specs.Blocks.{block_end_of}
 use Rattle.conf_text.specs.Layout.{line_after}

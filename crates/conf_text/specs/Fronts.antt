@@ -1,4 +1,4 @@
--- What stands at the front of a text that begins with no layout: a word, a sign, or the end.
+-- What stands at the front of a text that begins with no layout: a word, a sign, or the end (nginx beginner's guide, "Configuration File's Structure").
 use Rattle.std.specs.Prelude.{ℕ, ◌+◌, ◌<◌, Bool, true, not, ◌&&◌, ◌||◌, ◌==◌, List, [], ◌∷◌, length, take, drop, Option, None, Some, if◌then◌else◌}
 use Rattle.std.specs.List.{prefix_len}
 use Rattle.resty_base.specs.Ascii.{double_quote, single_quote, semicolon, open_brace, close_brace, hash}

@@ -1,4 +1,4 @@
--- Items: words up to what ends them.
+-- Items, which nginx calls directives: words up to what ends them (beginner's guide, "Configuration File's Structure").
 use Rattle.std.specs.Prelude.{◌≡◌, ◌==◌, ℕ, Bool, true, false, List, [], ◌∷◌, ◌++◌, drop, codes, Some, None}
 use Rattle.std.specs.List.{ends_with}
 use Rattle.conf_text.specs.Tokens.{token_at, word_of}

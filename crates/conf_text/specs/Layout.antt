@@ -1,4 +1,4 @@
--- Blanks and comments, and the ends of lines.
+-- Blanks and comments, and the ends of lines (nginx beginner's guide, "Configuration File's Structure").
 use Rattle.std.specs.Prelude.{ℕ, ◌+◌, Bool, false, not, ◌&&◌, ◌||◌, ◌==◌, List, [], ◌∷◌, length, filter, if◌then◌else◌}
 use Rattle.resty_base.specs.Ascii.{space, line_feed, carriage_return, hash}
 

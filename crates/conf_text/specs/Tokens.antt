@@ -1,4 +1,5 @@
--- Tokens: words and signs behind layout, and their lines.
+-- Tokens: words and signs behind layout, and their lines (nginx beginner's guide, "Configuration File's Structure"; the numbers of lines are those
+-- that its messages name).
 use Rattle.std.specs.Prelude.{ℕ, ◌+◌, List, take, drop, Option}
 use Rattle.conf_text.specs.Layout.{layout_size, line_after}
 use Rattle.conf_text.specs.Fronts.{front_of, front_size, word_at}

@@ -33,27 +33,24 @@ impl ServiceContract for StoredReply {
 
     ghost bounded = { λ site. eight };
 
-    fn default_times(site: &StoredSite) -> Times {
-        let _ = site;
+    fn default_times(_site: &StoredSite) -> Times {
         minute()
     }
 
-    fn times_of(site: &StoredSite, head: &Head, target: &Target) -> Times {
-        let _ = site;
-        let _ = head;
-        let _ = target;
+    fn times_of(_site: &StoredSite, _head: &Head, _target: &Target) -> Times {
         minute()
     }
 
-    fn refusal(alloc: Global, site: &StoredSite, code: u16, now: Ms) -> Result<Bytes, AllocError> {
-        let _ = alloc;
-        let _ = code;
-        let _ = now;
+    fn refusal(
+        _alloc: Global,
+        site: &StoredSite,
+        _code: u16,
+        _now: Ms,
+    ) -> Result<Bytes, AllocError> {
         site.otherwise.clone()
     }
 
-    fn connections(site: &StoredSite) -> u32 {
-        let _ = site;
+    fn connections(_site: &StoredSite) -> u32 {
         512
     }
 }

@@ -11,6 +11,7 @@ use Rattle.strand_contract.specs.Alone.{lives, moment, todo, begun_offer, but, w
 use Rattle.strand_contract.specs.Calls.{answered}
 use Rattle.strand_contract.specs.Laws.{is_still}
 use Rattle.strand_contract.specs.ClientOnlyLaws.{over, clash}
+use Rattle.strand_contract.specs.OpenPlaceLaws.{same-place as same-is}
 use Rattle.strand_plans.specs.Questions.{Question, asking, asking_if}
 use Rattle.strand_plans.specs.Questions as question
 use Rattle.strand_plans.specs.Ledgers.{Ledger, has, is_place, left_at, numbers, entered}
@@ -23,7 +24,7 @@ use Rattle.strand_plans.proofs.Executions.{quiet}
 use Rattle.strand_plans.proofs.Ledgers.{begun-is}
 use Rattle.strand_plans.proofs.Once.{deadlines}
 use Rattle.strand_plans.proofs.Opened.{stays-shut}
-use Rattle.strand_plans.proofs.Places.{shut, same-is, has-append, has-without}
+use Rattle.strand_plans.proofs.Places.{shut, has-append, has-without}
 use Rattle.strand_plans.proofs.PlanLaws.{dead, undropped, lived, leads-to}
 use Rattle.strand_plans.proofs.Tidy.{IsTidyLedger, kept-tidy}
 use Rattle.run_contract.specs.Calls as runs

@@ -44,14 +44,13 @@ impl<R: ServiceContract> Connection<R> {
     pub(crate) fn finish(
         &mut self,
         turn: &mut Turn<R::Job>,
-        site: &R::Site,
+        _site: &R::Site,
     ) -> Result<(), AllocError>
-        ensures moves { IfOk result (λ done. Ends (R.plan site.now) (R.holds site.now) (R.stands site.now)
+        ensures moves { IfOk result (λ done. Ends (R.plan _site.now) (R.holds _site.now) (R.stands _site.now)
             finish self.old turn.old self.new turn.new) }
         ensures costs { IfOk result (λ done. Costs R.left R.bound 0 self.old turn.old self.new turn.new) }
         ensures falls { IfOk result (λ done. Falls R.left R.bound self.old turn.old self.new turn.new) }
     {
-        let _ = site;
         if self.client.is_open {
             turn.acts.push_back(Act::HangUp(Place::Client))?;
         }
@@ -62,13 +61,12 @@ impl<R: ServiceContract> Connection<R> {
     }
 
     /// The client is hung up, where it is there.
-    fn hang_up(&mut self, turn: &mut Turn<R::Job>, site: &R::Site) -> Result<(), AllocError>
-        ensures moves { IfOk result (λ done. Goes (R.plan site.now) (R.holds site.now) (R.stands site.now)
+    fn hang_up(&mut self, turn: &mut Turn<R::Job>, _site: &R::Site) -> Result<(), AllocError>
+        ensures moves { IfOk result (λ done. Goes (R.plan _site.now) (R.holds _site.now) (R.stands _site.now)
             (HangUp place.Client) self.old turn.old self.new turn.new) }
         ensures costs { IfOk result (λ done. Spends R.left R.bound 0 self.old turn.old self.new turn.new) }
         ensures pays { self.old.client.is_open ≡ true → IfOk result (λ done. Pays R.left R.bound 3 self.old turn.old self.new turn.new) }
     {
-        let _ = site;
         if self.client.is_open {
             turn.acts.push_back(Act::HangUp(Place::Client))?;
             self.client.hang_up();
@@ -143,7 +141,7 @@ impl<R: ServiceContract> Connection<R> {
         let (run, first) = R::begin(alloc, site, now, self.count, head, target)?;
         self.run = Some(run);
         self.waits = Waits::at_first(true);
-        self.take_turn(turn, site, now, first)
+        self.adopt_turn(turn, site, now, first)
     }
 
     /// The client gets the reply to a head that is refused, and the connection closes once that is taken.

@@ -19,13 +19,12 @@ impl<R: ServiceContract> Connection<R> {
     pub(crate) fn offer(
         &mut self,
         turn: &mut Turn<R::Job>,
-        site: &R::Site,
+        _site: &R::Site,
     ) -> Result<(), AllocError>
-        ensures moves { IfOk result (λ done. Goes (R.plan site.now) (R.holds site.now) (R.stands site.now)
+        ensures moves { IfOk result (λ done. Goes (R.plan _site.now) (R.holds _site.now) (R.stands _site.now)
             (Send place.Client []) self.old turn.old self.new turn.new) }
         ensures costs { IfOk result (λ done. Spends R.left R.bound 1 self.old turn.old self.new turn.new) }
     {
-        let _ = site;
         if self.client.wants_offer() && !turn.is_offered {
             turn.acts.push_back(Act::Offer(Place::Client))?;
             turn.is_offered = true;

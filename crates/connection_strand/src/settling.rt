@@ -108,7 +108,7 @@ impl<R: ServiceContract> Connection<R> {
     }
 
     /// Settles all that is there.
-    pub(crate) fn settle(
+    pub(crate) fn settle_all(
         &mut self,
         turn: &mut Turn<R::Job>,
         alloc: Global,

@@ -46,7 +46,7 @@ impl<R: ServiceContract> Connection<R> {
         if !goes_on {
             return Ok(());
         }
-        self.settle(turn, alloc, site, now)
+        self.settle_all(turn, alloc, site, now)
     }
 
     /// Bytes came that are answered so.
@@ -67,7 +67,7 @@ impl<R: ServiceContract> Connection<R> {
         match self.client.stage {
             Stage::Busy => {
                 self.await_body(turn, site, now)?;
-                self.settle(turn, alloc, site, now)
+                self.settle_all(turn, alloc, site, now)
             }
             Stage::Head => self.hear(turn, alloc, site, now, false, out),
             Stage::Idle => self.hear(turn, alloc, site, now, true, out),
@@ -113,7 +113,7 @@ impl<R: ServiceContract> Connection<R> {
         match self.client.stage {
             Stage::Busy => {
                 self.client.has_ended = true;
-                self.settle(turn, alloc, site, now)
+                self.settle_all(turn, alloc, site, now)
             }
             Stage::Flush => {
                 self.client.has_ended = true;
@@ -124,11 +124,15 @@ impl<R: ServiceContract> Connection<R> {
     }
 
     /// The client takes bytes again.
-    fn resume(&mut self, turn: &mut Turn<R::Job>, site: &R::Site, now: Ms) -> Result<(), AllocError>
-        ensures { IfOk result (λ done. Shows (service_of (R.plan site.now) (R.serving site.now)) (R.holds site.now) (R.stands site.now) now.0
+    fn resume(
+        &mut self,
+        turn: &mut Turn<R::Job>,
+        site: &R::Site,
+        _now: Ms,
+    ) -> Result<(), AllocError>
+        ensures { IfOk result (λ done. Shows (service_of (R.plan site.now) (R.serving site.now)) (R.holds site.now) (R.stands site.now) _now.0
             (seens.Ready place.Client) self.old turn.old self.new turn.new) }
     {
-        let _ = now;
         self.client.is_put_off = false;
         self.end_timer(turn, site, Timer::Send)?;
         self.offer(turn, site)
@@ -151,7 +155,7 @@ impl<R: ServiceContract> Connection<R> {
     {
         let count = self.client.line.queued().len().min(count);
         self.client.line.took(count);
-        self.settle(turn, alloc, site, now)
+        self.settle_all(turn, alloc, site, now)
     }
 
     /// The client takes no bytes for now.
@@ -211,7 +215,7 @@ impl<R: ServiceContract> Connection<R> {
         if !goes_on {
             return Ok(());
         }
-        self.settle(turn, alloc, site, now)
+        self.settle_all(turn, alloc, site, now)
     }
 
     /// What comes at a socket of the run.

@@ -210,7 +210,7 @@ impl<R: ServiceContract> StrandContract for Connection<R> {
                 let (run, first) = R::begin_job(alloc, site, now, premature, job)?;
                 connection.client.stage = Stage::Busy;
                 connection.run = Some(run);
-                connection.take_turn(&mut turn, site, now, first)?;
+                connection.adopt_turn(&mut turn, site, now, first)?;
                 Ok((connection, turn.acts))
             }
         }
@@ -250,7 +250,7 @@ impl<R: ServiceContract> StrandContract for Connection<R> {
         if !goes_on {
             return Ok(turn.acts);
         }
-        self.settle(&mut turn, alloc, site, now)?;
+        self.settle_all(&mut turn, alloc, site, now)?;
         Ok(turn.acts)
     }
 

@@ -60,7 +60,7 @@ impl<R: ServiceContract> Connection<R> {
     ghost use Rattle.connection_strand.specs.Acts.{done_of, question_in, sockets_after};
 
     /// Makes the acts of the run's turn its own, but for the question at their end.
-    fn carry(
+    fn adopt_acts(
         &mut self,
         turn: &mut Turn<R::Job>,
         acts: Acts<R::Job>,
@@ -85,7 +85,7 @@ impl<R: ServiceContract> Connection<R> {
     }
 
     /// Takes the run's turn: its acts, and what it says. It reports whether the connection's turn goes on: a question ends it.
-    pub(crate) fn take_turn(
+    pub(crate) fn adopt_turn(
         &mut self,
         turn: &mut Turn<R::Job>,
         site: &R::Site,
@@ -99,7 +99,7 @@ impl<R: ServiceContract> Connection<R> {
             self.old turn.old self.new turn.new) }
     {
         self.waits = self.waits.said(&next.said);
-        let question = self.carry(turn, next.acts)?;
+        let question = self.adopt_acts(turn, next.acts)?;
         self.says(turn, site, now, &next.said)?;
         match question {
             Some(question) => {
@@ -134,7 +134,7 @@ impl<R: ServiceContract> Connection<R> {
         self.waits = self.waits.told(&seen);
         let next = run.given(alloc, site, now, seen)?;
         self.run = Some(run);
-        self.take_turn(turn, site, now, next)
+        self.adopt_turn(turn, site, now, next)
     }
 
     /// Gives the run the answer to its question, and takes its turn.
@@ -158,6 +158,6 @@ impl<R: ServiceContract> Connection<R> {
         };
         let next = run.answer(alloc, site, now, answer)?;
         self.run = Some(run);
-        self.take_turn(turn, site, now, next)
+        self.adopt_turn(turn, site, now, next)
     }
 }

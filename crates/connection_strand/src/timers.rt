@@ -38,16 +38,15 @@ impl<R: ServiceContract> Connection<R> {
     pub(crate) fn end_timer(
         &mut self,
         turn: &mut Turn<R::Job>,
-        site: &R::Site,
+        _site: &R::Site,
         timer: Timer,
     ) -> Result<(), AllocError>
-        ensures moves { IfOk result (λ done. Goes (R.plan site.now) (R.holds site.now) (R.stands site.now)
+        ensures moves { IfOk result (λ done. Goes (R.plan _site.now) (R.holds _site.now) (R.stands _site.now)
             (end_timer (service_of (R.plan site.now) (R.serving site.now)) 0 (timer_of timer)) self.old turn.old self.new turn.new) }
         ensures waits { self.new.waits ≡ self.old.waits }
         ensures reply { self.new.client.reply ≡ self.old.client.reply }
         ensures costs { IfOk result (λ done. Spends R.left R.bound 0 self.old turn.old self.new turn.new) }
     {
-        let _ = site;
         if self.client.is_armed(timer) {
             turn.acts.push_back(Act::Cancel(timer.number()))?;
             self.client.set_armed(timer, false);

@@ -5,6 +5,7 @@ use Rattle.resty_base.specs.declared.names.Id.{Id}
 use Rattle.resty_base.specs.declared.names.Id.TheVariants as id
 use Rattle.resty_base.specs.declared.names.StrandId.{StrandId}
 use Rattle.resty_base.specs.declared.names.StrandId.TheVariants as strand
+use Rattle.resty_base.specs.BoolLaws.{by_test, clash}
 use Rattle.resty_world.specs.declared.entry.Entry.{Entry}
 use Rattle.resty_world.specs.declared.entry.Entry.TheVariants as entry
 use Rattle.resty_world.specs.declared.answers.Logged.{Logged as LogAnswer}
@@ -13,6 +14,7 @@ use Rattle.resty_world.specs.Book.{Book, KeepsIds, KeepsTold, told}
 use Rattle.resty_world.specs.Contract.{HangsUp, Forgets, Logs, Notes}
 use Rattle.resty_world.specs.Ids.{same_strand, is_own}
 use Rattle.resty_world.specs.Calls.{log_entry}
+use Rattle.resty_world.specs.IdLaws.{same_strand-eq}
 use Rattle.strand_contract.specs.declared.turns.Place.{Place}
 use Rattle.strand_contract.specs.declared.turns.Place.TheVariants as place
 use Rattle.strand_contract.specs.declared.turns.Act.{Act}
@@ -22,7 +24,6 @@ use Rattle.strand_contract.specs.Behaviors.{Behavior}
 use Rattle.strand_contract.specs.Alone.{lives, was_dropped, moment, is_open, has_ended, todo, carried, waiting, lined_up, to_offer, offers, begun_offer, offering, but, in_offers, is_stopping, is_waking, open_places, IsExecution, IsPrefixOf}
 use Rattle.executions.specs.Executions.{GlobalAction, Of, projection}
 use Rattle.executions.specs.Strands.{is_under_way, strands}
-use Rattle.executions.proofs.Strands.{same-is}
 use Rattle.executions.specs.Queues.{only, lined, placed, without_all, run_queue as runs_of, offer_queue as offers_of}
 use Rattle.executions.specs.Agenda.{armed_with, without_those, is_of, agenda}
 use Rattle.executions.specs.OwnDeadlines.{deadlines}
@@ -31,7 +32,7 @@ use Rattle.executions.specs.Ordered.{offers_last, was_touched, MayDropLiving}
 use Rattle.strand_contract.specs.Laws.{is_still}
 use Rattle.strand_contract.specs.OpenPlaceLaws.{is_among, open-among, place-self, none-open}
 use Rattle.engine_base.specs.Standing.{Held, HasCome, HasAsides, Common, Around, Near, Busy, Falls, Standing, IsOffer, runs_with, offers_with}
-use Rattle.engine_base.proofs.Lists.{by_test, clash, same-true, only-same, only-other, tells-more, tells-same}
+use Rattle.engine_base.proofs.Lists.{same-true, only-same, only-other, tells-more, tells-same}
 use Rattle.engine_base.proofs.Agendas.{come-of, other-those, none-left}
 use Rattle.engine_base.proofs.Waiting.{lined-own, placed-own, armed-own, only-first, runs-still, offers-still, without-next}
 use Rattle.engine_base.proofs.Marks.{projection-same, touches, fit-same, SameHeld, held-same, SameBook, same-keeps, same-hung, hung-closed, same-dropped, same-forgot, forgot-aside, forgot-ended, own-closed, has-arrived, common-next, around-next}
@@ -143,7 +144,7 @@ module _ {J S : Type 0} (b : Behavior J) (st : S → List (LocalAction J) → Ty
     comes = comes;
     agenda = armed;
     disarmed = λ s gone. by_test (same_strand s (strand.Conn c))
-        (λ on. subst (λ (t : StrandId). deadlines t h.agenda ≡ []) (sym (same-is s (strand.Conn c) on)) none_armed)
+        (λ on. subst (λ (t : StrandId). deadlines t h.agenda ≡ []) (sym (same_strand-eq s (strand.Conn c) on)) none_armed)
         (λ off. a.disarmed s off gone);
     common = a.common;
   }

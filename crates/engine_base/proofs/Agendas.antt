@@ -2,9 +2,12 @@
 use Rattle.std.proofs.Common.{◌≡◌, ℕ, ◌<◌, ◌≤◌, ◌==◌, ◌&&◌, nat_le, Bool, true, false, List, [], ◌∷◌, ◌++◌, length, Option, Some, None, if◌then◌else◌, refl, sym, ap, subst, ◌∙◌, arith}
 use Rattle.std.proofs.lemmas.Bool.{eqb-true}
 use Rattle.std.proofs.lemmas.Bool.Decides.{nat_tests}
+use Rattle.std.proofs.lemmas.Option.{same_Some}
 use Rattle.resty_base.specs.declared.names.StrandId.{StrandId}
 use Rattle.resty_base.specs.declared.names.StrandId.TheVariants as strand
+use Rattle.resty_base.specs.BoolLaws.{by_test, clash}
 use Rattle.resty_world.specs.Ids.{same_strand}
+use Rattle.resty_world.specs.IdLaws.{same_strand-self, same_strand-eq}
 use Rattle.strand_contract.specs.Actions.{LocalAction}
 use Rattle.strand_contract.specs.Behaviors.{Behavior}
 use Rattle.strand_contract.specs.Alone.{is_waking, NoneIsDue, due, sooner as sooner_own}
@@ -12,11 +15,9 @@ use Rattle.executions.specs.Executions.{GlobalAction}
 use Rattle.executions.specs.Phases.{Phase, Waking, Stopping, Running, phase}
 use Rattle.executions.specs.Agenda.{Whose, OfStrand, OfJob, OfIdle, without_one, without_those, is_number, is_of, sooner, least, whose, next_due}
 use Rattle.executions.specs.OwnDeadlines.{own_of, deadlines}
-use Rattle.executions.proofs.Strands.{same-is}
 use Rattle.engine_base.specs.declared.seats.ToCome.{ToCome}
 use Rattle.engine_base.specs.declared.seats.ToCome.TheVariants as coming
 use Rattle.engine_base.specs.Standing.{phase_at, HasCome, MayWake}
-use Rattle.engine_base.proofs.Lists.{by_test, clash, strand-true}
 
 -- a turn's phase fits what is still to come
 pub come-of : {J : Type 0} (o : ToCome) (b : Behavior J) (ms : List (GlobalAction J)) → phase ms ≡ phase_at o → HasCome o b ms
@@ -41,7 +42,7 @@ abbrev Spares : (Whose → Bool) → StrandId → Type 0
 Spares is_so s = (r : StrandId) (j : ℕ) → same_strand s r ≡ true → is_so (OfStrand r j) ≡ false
 
 off-by : (t s r : StrandId) → same_strand t s ≡ false → same_strand t r ≡ true → same_strand s r ≡ false
-off-by t s r ne on = by_test (same_strand s r) (λ h. clash on (subst (λ (x : StrandId). same_strand t x ≡ false) (same-is s r h) ne)) (λ off. off)
+off-by t s r ne on = by_test (same_strand s r) (λ h. clash on (subst (λ (x : StrandId). same_strand t x ≡ false) (same_strand-eq s r h) ne)) (λ off. off)
 
 spares-number : (t s : StrandId) (k : ℕ) → same_strand t s ≡ false → Spares (is_number s k) t
 spares-number t s k ne r j on = ap (λ v. v && (k == j)) (off-by t s r ne on)
@@ -111,9 +112,6 @@ pub record IsOwnFirst (s : StrandId) (first : Option (Whose × ℕ)) (own : Opti
 some-none : {A : Type 0} (x : A) → Some x ≡ None → ⊥
 some-none x e = cc
 
-some-same : {A : Type 0} (x y : A) → Some x ≡ Some y → x ≡ y
-some-same x y e = cc
-
 second-same : {A B : Type 0} (p q : A × B) → Some p ≡ Some q → p.1 ≡ q.1
 second-same p q e = cc
 
@@ -150,7 +148,7 @@ module _ (s : StrandId) where
   not-own e q low own = record {
     none = λ i. absurd (some-none e i);
     later = λ x f i k. let a : e.1 ≡ x.1 = second-same e x i in let b = low f k in omega (arith, a, b);
-    same = λ k a i. own k a (some-same e (OfStrand s k, a) i);
+    same = λ k a i. own k a (same_Some e (OfStrand s k, a) i);
   }
 
   module _ (now j at : ℕ) where
@@ -202,16 +200,16 @@ module _ (s : StrandId) where
       put : (w : Whose) → IsOwnFirst s (least now ds) (due now (deadlines s ds)) → IsOwnFirst s (sooner now (w, d.1) (least now ds)) (due now (own_of s w d.1 (deadlines s ds)))
       put (OfStrand t j) ih = by_test (same_strand s t)
           (λ on. subst (λ (v : Bool). IsOwnFirst s (sooner now (OfStrand t j, d.1) (least now ds)) (due now (if v then (j, d.1) ∷ deadlines s ds else deadlines s ds))) (sym on)
-          (subst (λ (x : StrandId). IsOwnFirst s (sooner now (OfStrand x j, d.1) (least now ds)) (due now ((j, d.1) ∷ deadlines s ds))) (same-is s t on) (own-step now j d.1 (least now ds) (due now (deadlines s ds)) ih)))
+          (subst (λ (x : StrandId). IsOwnFirst s (sooner now (OfStrand x j, d.1) (least now ds)) (due now ((j, d.1) ∷ deadlines s ds))) (same_strand-eq s t on) (own-step now j d.1 (least now ds) (due now (deadlines s ds)) ih)))
           (λ off. subst (λ (v : Bool). IsOwnFirst s (sooner now (OfStrand t j, d.1) (least now ds)) (due now (if v then (j, d.1) ∷ deadlines s ds else deadlines s ds))) (sym off)
-          (other-step now j d.1 (OfStrand t j) (least now ds) (due now (deadlines s ds)) (λ k e. let r : t ≡ s = ap (whom s) e in clash (subst (λ (x : StrandId). same_strand s x ≡ true) (sym r) (strand-true s)) off) ih))
+          (other-step now j d.1 (OfStrand t j) (least now ds) (due now (deadlines s ds)) (λ k e. let r : t ≡ s = ap (whom s) e in clash (subst (λ (x : StrandId). same_strand s x ≡ true) (sym r) (same_strand-self s)) off) ih))
       put (OfJob j) ih = other-step now j d.1 (OfJob j) (least now ds) (due now (deadlines s ds)) (λ k e. cc) ih
       put (OfIdle n) ih = other-step now n d.1 (OfIdle n) (least now ds) (due now (deadlines s ds)) (λ k e. cc) ih
 
 -- whose is first is armed, and its moment is known
 pub first-at : (first : Option (Whose × ℕ)) (w : Whose) → whose first ≡ Some w → (at : ℕ) × (first ≡ Some (w, at))
 first-at None w e = absurd (some-none w (sym e))
-first-at (Some d) w e = (d.1, ap (λ v. Some (v, d.1)) (some-same d.0 w e))
+first-at (Some d) w e = (d.1, ap (λ v. Some (v, d.1)) (same_Some d.0 w e))
 
 -- nobody's is first
 pub first-none : (first : Option (Whose × ℕ)) → whose first ≡ None → first ≡ None
@@ -243,18 +241,18 @@ shorter s k now [] e = absurd (some-none (OfStrand s k) (sym e))
 shorter s k now (d ∷ ds) e = put (shorter s k now ds) (is_number s k d.0) refl
   where
     own : (w : Whose) → w ≡ OfStrand s k → is_number s k w ≡ true
-    own w f = ap (is_number s k) f ∙ ap (λ v. v && (k == k)) (strand-true s) ∙ strand-true (strand.Conn k)
+    own w f = ap (is_number s k) f ∙ ap (λ v. v && (k == k)) (same_strand-self s) ∙ same_strand-self (strand.Conn k)
 
     rest : IsShorter s k now ds → is_number s k d.0 ≡ false → (o : Option (Whose × ℕ)) → least now ds ≡ o → whose (sooner now d o) ≡ Some (OfStrand s k) → length (without_one (is_number s k) ds) < length ds
     rest ih off None l f = alone (nat_le d.1 now) f
       where
         alone : (p : Bool) → whose (if p then Some d else None) ≡ Some (OfStrand s k) → length (without_one (is_number s k) ds) < length ds
-        alone true g = clash (own d.0 (some-same d.0 (OfStrand s k) g)) off
+        alone true g = clash (own d.0 (same_Some d.0 (OfStrand s k) g)) off
         alone false g = absurd (some-none (OfStrand s k) (sym g))
     rest ih off (Some r) l f = one (nat_le d.1 now && nat_le d.1 r.1) f
       where
         one : (p : Bool) → whose (if p then Some d else Some r) ≡ Some (OfStrand s k) → length (without_one (is_number s k) ds) < length ds
-        one true g = clash (own d.0 (some-same d.0 (OfStrand s k) g)) off
+        one true g = clash (own d.0 (same_Some d.0 (OfStrand s k) g)) off
         one false g = ih (ap whose l ∙ g)
 
     put : IsShorter s k now ds → (v : Bool) → is_number s k d.0 ≡ v → length (if v then ds else d ∷ without_one (is_number s k) ds) < length (d ∷ ds)

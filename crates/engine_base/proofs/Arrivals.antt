@@ -4,6 +4,7 @@ use Rattle.std.proofs.Common.{◌≡◌, ℕ, ◌+◌, ◌<◌, ◌≤◌, true,
 use Rattle.std.proofs.lemmas.Bool.{eqb-true}
 use Rattle.resty_base.specs.declared.names.Id.TheVariants as id
 use Rattle.resty_base.specs.declared.names.StrandId.TheVariants as strand
+use Rattle.resty_base.specs.BoolLaws.{by_test}
 use Rattle.resty_world.specs.declared.entry.Entry.{Entry}
 use Rattle.resty_world.specs.declared.entry.Entry.TheVariants as entry
 use Rattle.resty_world.specs.declared.event.Event.TheVariants as event
@@ -24,7 +25,7 @@ use Rattle.executions.specs.Phases.{Waking, Running}
 use Rattle.executions.specs.Histories.{external, offered_lengths}
 use Rattle.strand_contract.specs.Laws.{IsLastAct}
 use Rattle.engine_base.specs.Standing.{Held, is_to_end, is_to_wake, phase_at, without_dead, Around, Near, Busy, Falls, Standing}
-use Rattle.engine_base.proofs.Lists.{by_test, same-true, tells-more, tells-same}
+use Rattle.engine_base.proofs.Lists.{same-true, tells-more, tells-same}
 use Rattle.engine_base.proofs.Marks.{projection-same, touches, fit-same, SameBook, same-arrived, same-turned, same-hung, same-forgot, forgot-aside, forgot-ended, same-joins, hung-closed, common-next, around-next, near-begins}
 use Rattle.engine_base.proofs.Agendas.{come-same}
 use Rattle.engine_base.proofs.Acts.{aside-all}

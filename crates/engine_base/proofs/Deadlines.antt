@@ -4,6 +4,7 @@ use Rattle.std.proofs.lemmas.Bool.{eqb-true}
 use Rattle.resty_base.specs.declared.names.Ms.{Ms}
 use Rattle.resty_base.specs.declared.names.StrandId.{StrandId}
 use Rattle.resty_base.specs.declared.names.StrandId.TheVariants as strand
+use Rattle.resty_base.specs.BoolLaws.{by_test, clash}
 use Rattle.resty_world.specs.Book.{Book}
 use Rattle.resty_world.specs.Ids.{same_strand}
 use Rattle.strand_contract.specs.declared.turns.Place.{Place}
@@ -24,7 +25,7 @@ use Rattle.executions.proofs.OwnAgenda.{own-agenda}
 use Rattle.engine_base.specs.declared.seats.Seat.{Seat}
 use Rattle.engine_base.specs.declared.seats.ToCome.TheVariants as coming
 use Rattle.engine_base.specs.Standing.{Held, is_to_end, is_to_wake, phase_at, MayWake, without_dead, Around, Busy, Falls, Turn, Standing}
-use Rattle.engine_base.proofs.Lists.{by_test, clash, same-true}
+use Rattle.engine_base.proofs.Lists.{same-true}
 use Rattle.engine_base.proofs.Waiting.{those-one}
 use Rattle.engine_base.proofs.Agendas.{come-same, wake-same, other-one, other-end, own-first, first-at, first-none}
 use Rattle.engine_base.proofs.Marks.{fit-same, book-same}

@@ -5,6 +5,7 @@ use Rattle.resty_base.specs.declared.names.Id.{Id}
 use Rattle.resty_base.specs.declared.names.Id.TheVariants as id
 use Rattle.resty_base.specs.declared.names.StrandId.{StrandId}
 use Rattle.resty_base.specs.declared.names.StrandId.TheVariants as strand
+use Rattle.resty_base.specs.BoolLaws.{by_test, clash}
 use Rattle.resty_world.specs.declared.entry.Entry.TheVariants as entry
 use Rattle.resty_world.specs.declared.event.Event.{Event}
 use Rattle.resty_world.specs.declared.event.Event.TheVariants as event
@@ -34,7 +35,7 @@ use Rattle.engine_base.specs.declared.seats.Seat.{Seat}
 use Rattle.engine_base.specs.Shown.{shown}
 use Rattle.engine_base.specs.Right.{Tells, IsFresh, IsRight}
 use Rattle.engine_base.specs.Standing.{Held, is_to_end, is_to_wake, phase_at, HasAsides, Turn, Standing, without_dead}
-use Rattle.engine_base.proofs.Lists.{by_test, clash, same-true, tells-more, tells-same}
+use Rattle.engine_base.proofs.Lists.{same-true, tells-more, tells-same}
 use Rattle.engine_base.proofs.Agendas.{come-same, wake-same}
 use Rattle.engine_base.proofs.Marks.{gave-asides, MayCome}
 use Rattle.engine_base.proofs.Turns.{seat-lives, seat-fits, around-leave, turn-next, no-job, settled, no-thread, no-place}

@@ -1,27 +1,16 @@
 -- Tests of names, and what one strand has in a line.
-use Rattle.std.proofs.Common.{◌≡◌, ℕ, Bool, true, false, ◌==◌, List, [], ◌∷◌, ◌++◌, Option, Some, None, if◌then◌else◌, refl, ap, sym, ◌∙◌, append-nil}
+use Rattle.std.proofs.Common.{◌≡◌, ℕ, Bool, true, false, ◌==◌, List, [], ◌∷◌, ◌++◌, Option, Some, None, if◌then◌else◌, refl, ap, ◌∙◌, append-nil}
 use Rattle.std.proofs.lemmas.Bool.{eq-eqb}
 use Rattle.resty_base.specs.declared.names.StrandId.{StrandId}
 use Rattle.resty_base.specs.declared.names.StrandId.TheVariants as strand
 use Rattle.resty_world.specs.Ids.{same_strand}
 use Rattle.resty_world.specs.Book.{told}
+use Rattle.resty_world.specs.IdLaws.{same_strand-self}
 use Rattle.executions.specs.Queues.{only}
 use Rattle.engine_base.specs.Right.{Tells}
 
--- both outcomes of a test
-pub by_test : {C : Type 0} (b : Bool) → (b ≡ true → C) → (b ≡ false → C) → C
-by_test true on off = on refl
-by_test false on off = off refl
-
-pub clash : {C : Type 0} {b : Bool} → b ≡ true → b ≡ false → C
-clash on off = absurd (let e : true ≡ false = sym on ∙ off in cc)
-
 pub same-true : (c : ℕ) → (c == c) ≡ true
 same-true c = eq-eqb c c refl
-
-pub strand-true : (s : StrandId) → same_strand s s ≡ true
-strand-true (strand.Conn c) = same-true c
-strand-true (strand.Job n) = same-true n
 
 module _ {A : Type 0} where
   pub only-append : (s : StrandId) (es fs : List (StrandId × A)) → only s (es ++ fs) ≡ only s es ++ only s fs
@@ -34,7 +23,7 @@ module _ {A : Type 0} where
 
   -- one more at the end, of this strand or of another
   pub only-same : (s : StrandId) (k : A) (es : List (StrandId × A)) → only s (es ++ (s, k) ∷ []) ≡ only s es ++ k ∷ []
-  only-same s k es = only-append s es ((s, k) ∷ []) ∙ ap (λ b. only s es ++ (if b then k ∷ [] else [])) (strand-true s)
+  only-same s k es = only-append s es ((s, k) ∷ []) ∙ ap (λ b. only s es ++ (if b then k ∷ [] else [])) (same_strand-self s)
 
   pub only-other : (t s : StrandId) (k : A) (es : List (StrandId × A)) → same_strand t s ≡ false → only t (es ++ (s, k) ∷ []) ≡ only t es
   only-other t s k es h = only-append t es ((s, k) ∷ []) ∙ ap (λ b. only t es ++ (if b then k ∷ [] else [])) h ∙ append-nil _

@@ -6,6 +6,7 @@ use Rattle.resty_base.specs.declared.names.Id.{Id}
 use Rattle.resty_base.specs.declared.names.Id.TheVariants as id
 use Rattle.resty_base.specs.declared.names.StrandId.{StrandId}
 use Rattle.resty_base.specs.declared.names.StrandId.TheVariants as strand
+use Rattle.resty_base.specs.BoolLaws.{clash}
 use Rattle.resty_world.specs.declared.entry.Entry.{Entry}
 use Rattle.resty_world.specs.declared.entry.Entry.TheVariants as entry
 use Rattle.resty_world.specs.declared.event.Event.{Event}
@@ -36,7 +37,7 @@ use Rattle.strand_contract.specs.Laws.{IsLastAct}
 use Rattle.engine_base.specs.declared.seats.Seat.{Seat}
 use Rattle.engine_base.specs.Right.{Tells, is_served}
 use Rattle.engine_base.specs.Standing.{Held, is_to_end, is_to_wake, phase_at, without_dead, Fit, HasAsides, Common, Around, Near, IsOffer}
-use Rattle.engine_base.proofs.Lists.{clash, same-true}
+use Rattle.engine_base.proofs.Lists.{same-true}
 
 pub projection-same : {J : Type 0} (c : ℕ) (x : Action J) (n : Option ℕ) (ms : List (GlobalAction J)) → projection (strand.Conn c) (Of (strand.Conn c) x n ∷ ms) ≡ Did x ∷ projection (strand.Conn c) ms
 projection-same c x n ms = ap (λ b. if b then Did x ∷ projection (strand.Conn c) ms else projection (strand.Conn c) ms) (same-true c)

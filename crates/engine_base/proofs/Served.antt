@@ -3,6 +3,7 @@ use Rattle.std.proofs.Common.{◌≡◌, ℕ, ◌+◌, ◌<◌, ◌≤◌, Bool,
 use Rattle.std.proofs.lemmas.Bool.{eqb-true}
 use Rattle.resty_base.specs.declared.names.StrandId.{StrandId}
 use Rattle.resty_base.specs.declared.names.StrandId.TheVariants as strand
+use Rattle.resty_base.specs.BoolLaws.{by_test, clash}
 use Rattle.resty_world.specs.Ids.{same_strand}
 use Rattle.strand_contract.specs.declared.turns.Start.TheVariants as start
 use Rattle.strand_contract.specs.declared.turns.Act.TheVariants as act
@@ -19,7 +20,7 @@ use Rattle.executions.specs.Plain.{IsPlain, IsPlainAt}
 use Rattle.executions.specs.Ordered.{MayTurnAt, MayDropLiving, IsOrdered}
 use Rattle.executions.proofs.Strands.{unnamed}
 use Rattle.engine_base.specs.Right.{IsServed}
-use Rattle.engine_base.proofs.Lists.{by_test, clash, same-true}
+use Rattle.engine_base.proofs.Lists.{same-true}
 
 -- connections, in the order of their numbers, from above one number up to another
 pub data Rising : ℕ → List StrandId → ℕ → Type 0 where

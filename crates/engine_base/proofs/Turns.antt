@@ -2,9 +2,11 @@
 use Rattle.engine_base.specs.declared.seats.ToCome.TheVariants as coming
 use Rattle.std.proofs.Common.{◌≡◌, ℕ, ◌≤◌, Bool, true, false, ◌==◌, List, [], ◌∷◌, ◌&&◌, drop, Option, Some, None, if◌then◌else◌, refl, sym, ap, subst, ◌∙◌, append-nil, arith}
 use Rattle.std.proofs.lemmas.Bool.{eqb-true}
+use Rattle.std.proofs.lemmas.Option.{same_Some}
 use Rattle.resty_base.specs.declared.names.Id.TheVariants as id
 use Rattle.resty_base.specs.declared.names.StrandId.{StrandId}
 use Rattle.resty_base.specs.declared.names.StrandId.TheVariants as strand
+use Rattle.resty_base.specs.BoolLaws.{by_test}
 use Rattle.resty_world.specs.Book.{Book, told}
 use Rattle.resty_world.specs.Ids.{same_strand}
 use Rattle.strand_contract.specs.declared.turns.Place.{Place}
@@ -29,16 +31,13 @@ use Rattle.strand_contract.specs.Laws.{is_still, IsLastAct}
 use Rattle.engine_base.specs.declared.seats.Seat.{Seat}
 use Rattle.engine_base.specs.Right.{Tells}
 use Rattle.engine_base.specs.Standing.{Held, is_to_end, is_to_wake, phase_at, HasCome, without_dead, Around, Busy, Turn, Standing, Falls, IsOffer}
-use Rattle.engine_base.proofs.Lists.{by_test, same-true}
+use Rattle.engine_base.proofs.Lists.{same-true}
 use Rattle.engine_base.proofs.Agendas.{come-same, wake-same}
 use Rattle.engine_base.proofs.Marks.{projection-same, touches, fit-same, SameHeld, SameBook, book-same, MayCome, has-arrived, arrives-none, common-next, around-next, Begins, near-begins}
 use Rattle.executions.proofs.Strands.{none-that}
 use Rattle.engine_base.proofs.Waiting.{runs-next, offers-next, still-dead}
 use Rattle.engine_base.proofs.Served.{pool-none, pending-none}
 use Rattle.engine_base.proofs.Acts.{not-under-way, not-open}
-
-some-same : {A : Type 0} (x y : A) → Some x ≡ Some y → x ≡ y
-some-same x y e = cc
 
 module _ {J S : Type 0} (b : Behavior J) (st : S → List (LocalAction J) → Type 0) (c : ℕ) (ms : List (GlobalAction J)) where
   pub seat-lives : (h : Held S) (book : Book) (x : Seat S) → Standing b st h book ms → h.seats (strand.Conn c) ≡ Some x → lives (projection (strand.Conn c) ms) ≡ true
@@ -47,7 +46,7 @@ module _ {J S : Type 0} (b : Behavior J) (st : S → List (LocalAction J) → Ty
   pub seat-fits : (h : Held S) (book : Book) (x : Seat S) → Standing b st h book ms → h.seats (strand.Conn c) ≡ Some x → st x.strand (projection (strand.Conn c) ms) × (x.is_open ≡ book.is_open (id.Conn c))
   seat-fits h book x g here =
       let f = (g.each c (seat-lives h book x g here)).held in
-      let e : f.0 ≡ x = some-same f.0 x (sym f.1 ∙ here) in
+      let e : f.0 ≡ x = same_Some f.0 x (sym f.1 ∙ here) in
       subst (λ (y : Seat S). st y.strand (projection (strand.Conn c) ms) × (y.is_open ≡ book.is_open (id.Conn c))) e (f.2, f.3)
 
   -- the strand leaves its seat

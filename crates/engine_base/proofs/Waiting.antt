@@ -2,7 +2,9 @@
 use Rattle.std.proofs.Common.{◌≡◌, ◌⊎◌, ℕ, Bool, true, false, ◌&&◌, ◌==◌, List, [], ◌∷◌, ◌++◌, Some, None, if◌then◌else◌, refl, sym, ap, subst, ◌∙◌, inl, inr}
 use Rattle.resty_base.specs.declared.names.StrandId.{StrandId}
 use Rattle.resty_base.specs.declared.names.StrandId.TheVariants as strand
+use Rattle.resty_base.specs.BoolLaws.{by_test, clash}
 use Rattle.resty_world.specs.Ids.{same_strand}
+use Rattle.resty_world.specs.IdLaws.{same_strand-self, same_strand-eq}
 use Rattle.strand_contract.specs.declared.turns.Place.{Place}
 use Rattle.strand_contract.specs.declared.turns.Act.{Act}
 use Rattle.strand_contract.specs.declared.turns.Act.TheVariants as act
@@ -13,13 +15,12 @@ use Rattle.executions.specs.Executions.{GlobalAction, Of, projection}
 use Rattle.executions.specs.Strands.{first_in}
 use Rattle.executions.specs.Queues.{lined, placed, without_all, without_thread, after_run, run_queue, after_offer, offer_queue}
 use Rattle.executions.specs.Agenda.{Whose, OfStrand, armed_with, without_one, without_those, is_number, is_of}
-use Rattle.executions.proofs.Strands.{same-is}
 use Rattle.engine_base.specs.Standing.{without_dead}
-use Rattle.engine_base.proofs.Lists.{by_test, clash, same-true, strand-true}
+use Rattle.engine_base.proofs.Lists.{same-true}
 
 -- what is put at the end by a strand is its own
 without-end : {A : Type 0} (s : StrandId) (l : List (StrandId × A)) (k : A) → without_all s (l ++ (s, k) ∷ []) ≡ without_all s l
-without-end s [] k = ap (λ v. if v then [] else (s, k) ∷ []) (strand-true s)
+without-end s [] k = ap (λ v. if v then [] else (s, k) ∷ []) (same_strand-self s)
 without-end s (e ∷ l) k = ap (λ r. if same_strand s e.0 then r else e ∷ r) (without-end s l k)
 
 without-thread-own : (s : StrandId) (k : ℕ) (l : List (StrandId × ℕ)) → without_all s (without_thread s k l) ≡ without_all s l
@@ -92,9 +93,9 @@ module _ {J A : Type 0} where
     where
       put : (c : Bool) → same_strand s e.0 ≡ c → (a : Bool) → lives (projection e.0 ms) ≡ a → without_dead ns l ≡ without_all s (without_dead ms l)
           → (if lives (projection e.0 ns) then e ∷ without_dead ns l else without_dead ns l) ≡ without_all s (if a then e ∷ without_dead ms l else without_dead ms l)
-      put true q true p ih = ap (λ v. if v then e ∷ without_dead ns l else without_dead ns l) (subst (λ (t : StrandId). lives (projection t ns) ≡ false) (same-is s e.0 q) off) ∙ ih
+      put true q true p ih = ap (λ v. if v then e ∷ without_dead ns l else without_dead ns l) (subst (λ (t : StrandId). lives (projection t ns) ≡ false) (same_strand-eq s e.0 q) off) ∙ ih
           ∙ sym (ap (λ v. if v then without_all s (without_dead ms l) else e ∷ without_all s (without_dead ms l)) q)
-      put true q false p ih = ap (λ v. if v then e ∷ without_dead ns l else without_dead ns l) (subst (λ (t : StrandId). lives (projection t ns) ≡ false) (same-is s e.0 q) off) ∙ ih
+      put true q false p ih = ap (λ v. if v then e ∷ without_dead ns l else without_dead ns l) (subst (λ (t : StrandId). lives (projection t ns) ≡ false) (same_strand-eq s e.0 q) off) ∙ ih
       put false q true p ih = ap (λ v. if v then e ∷ without_dead ns l else without_dead ns l) (others e.0 q ∙ p) ∙ ap (λ r. e ∷ r) ih
           ∙ sym (ap (λ v. if v then without_all s (without_dead ms l) else e ∷ without_all s (without_dead ms l)) q)
       put false q false p ih = ap (λ v. if v then e ∷ without_dead ns l else without_dead ns l) (others e.0 q ∙ p) ∙ ih
@@ -111,7 +112,7 @@ module _ {J : Type 0} where
           ∙ sym (ap (λ v. if v && (k == e.1) then without_dead ms l else e ∷ without_thread s k (without_dead ms l)) q ∙ ap (λ v. if v then without_dead ms l else e ∷ without_thread s k (without_dead ms l)) r)
       put true p false q d r ih = ap (λ v. if v then e ∷ without_dead ms (without_thread s k l) else without_dead ms (without_thread s k l)) p ∙ ap (λ r. e ∷ r) ih
           ∙ sym (ap (λ v. if v && (k == e.1) then without_dead ms l else e ∷ without_thread s k (without_dead ms l)) q)
-      put false p true q d r ih = clash (subst (λ (t : StrandId). lives (projection t ms) ≡ true) (same-is s e.0 q) on) p
+      put false p true q d r ih = clash (subst (λ (t : StrandId). lives (projection t ms) ≡ true) (same_strand-eq s e.0 q) on) p
       put false p false q d r ih = ap (λ v. if v then e ∷ without_dead ms (without_thread s k l) else without_dead ms (without_thread s k l)) p ∙ ih
 
   -- the acts of a living strand put their threads, and places, in line
@@ -152,13 +153,13 @@ module _ {J : Type 0} where
   only-first is_so (t ∷ ss) ms s others = put (is_so (projection t ms)) refl (only-first is_so ss ms s others)
     where
       put : (c : Bool) → is_so (projection t ms) ≡ c → (first_in is_so ss ms ≡ None) ⊎ (first_in is_so ss ms ≡ Some s) → ((if c then Some t else first_in is_so ss ms) ≡ None) ⊎ ((if c then Some t else first_in is_so ss ms) ≡ Some s)
-      put true e ih = by_test (same_strand t s) (λ on. inr (ap Some (same-is t s on))) (λ off. clash e (others t off))
+      put true e ih = by_test (same_strand t s) (λ on. inr (ap Some (same_strand-eq t s on))) (λ off. clash e (others t off))
       put false e ih = ih
 
 module _ {J : Type 0} (b : Behavior J) (c : ℕ) (x : Action J) (ms : List (GlobalAction J)) where
   lives-next : lives (Did x ∷ projection (strand.Conn c) ms) ≡ lives (projection (strand.Conn c) ms) → (s : StrandId) → lives (projection s (Of (strand.Conn c) x None ∷ ms)) ≡ lives (projection s ms)
   lives-next same s = by_test (same_strand s (strand.Conn c))
-      (λ on. ap (λ v. lives (if v then Did x ∷ projection s ms else projection s ms)) on ∙ subst (λ (t : StrandId). lives (Did x ∷ projection t ms) ≡ lives (projection t ms)) (sym (same-is s (strand.Conn c) on)) same)
+      (λ on. ap (λ v. lives (if v then Did x ∷ projection s ms else projection s ms)) on ∙ subst (λ (t : StrandId). lives (Did x ∷ projection t ms) ≡ lives (projection t ms)) (sym (same_strand-eq s (strand.Conn c) on)) same)
       (λ off. ap (λ v. lives (if v then Did x ∷ projection s ms else projection s ms)) off)
 
   -- an action after which its strand lives as before
@@ -190,7 +191,7 @@ module _ {J : Type 0} (b : Behavior J) (c : ℕ) (x : Action J) (ms : List (Glob
 
   -- an action that ends the strand's life
   dies-next : lives (Did x ∷ projection (strand.Conn c) ms) ≡ false → (t : StrandId) → same_strand (strand.Conn c) t ≡ false → lives (projection t (Of (strand.Conn c) x None ∷ ms)) ≡ lives (projection t ms)
-  dies-next off t ne = ap (λ v. lives (if v then Did x ∷ projection t ms else projection t ms)) (by_test (same_strand t (strand.Conn c)) (λ on. clash (subst (λ (r : StrandId). same_strand (strand.Conn c) r ≡ true) (sym (same-is t (strand.Conn c) on)) (same-true c)) ne) (λ no. no))
+  dies-next off t ne = ap (λ v. lives (if v then Did x ∷ projection t ms else projection t ms)) (by_test (same_strand t (strand.Conn c)) (λ on. clash (subst (λ (r : StrandId). same_strand (strand.Conn c) r ≡ true) (sym (same_strand-eq t (strand.Conn c) on)) (same-true c)) ne) (λ no. no))
 
   pub without-next : {A : Type 0} (l next : List (StrandId × A)) → lives (Did x ∷ projection (strand.Conn c) ms) ≡ false → without_all (strand.Conn c) next ≡ without_all (strand.Conn c) l
       → without_dead (Of (strand.Conn c) x None ∷ ms) l ≡ without_all (strand.Conn c) (without_dead ms next)

@@ -7,6 +7,7 @@ use Rattle.std.proofs.lemmas.Bool.Decides.{nat_tests}
 use Rattle.resty_base.specs.declared.names.Id.TheVariants as id
 use Rattle.resty_base.specs.declared.names.StrandId.{StrandId}
 use Rattle.resty_base.specs.declared.names.StrandId.TheVariants as strand
+use Rattle.resty_base.specs.BoolLaws.{by_test, clash}
 use Rattle.resty_world.specs.Book.{Book, KeepsIds, told}
 use Rattle.resty_world.specs.Ids.{same_strand}
 use Rattle.strand_contract.specs.declared.turns.Seen.TheVariants as seen
@@ -23,7 +24,7 @@ use Rattle.strand_contract.specs.Laws.{IsLastAct, is_still}
 use Rattle.engine_base.specs.declared.seats.Seat.{Seat}
 use Rattle.engine_tables.specs.Seats.{is_after}
 use Rattle.engine_base.specs.Standing.{Held, is_to_end, is_to_wake, phase_at, HasCome, MayWake, said_of, without_dead, Fit, Standing, Turn}
-use Rattle.engine_base.proofs.Lists.{by_test, clash, same-true, tells-more, tells-same}
+use Rattle.engine_base.proofs.Lists.{same-true, tells-more, tells-same}
 use Rattle.engine_base.proofs.Agendas.{come-same}
 use Rattle.engine_base.proofs.Marks.{fit-same, book-same, same-keeps}
 use Rattle.engine_base.proofs.Turns.{seat-lives, seat-fits, around-leave, turn-next, between, no-thread, no-place}

@@ -3,6 +3,7 @@ use Rattle.std.proofs.Common.{◌≡◌, ℕ, zero, suc, ◌-◌, ◌%◌, ◌<�
 use Rattle.std.proofs.lemmas.List.{take-append-drop}
 use Rattle.resty_base.specs.declared.names.Id.TheVariants as id
 use Rattle.resty_base.specs.declared.names.StrandId.TheVariants as strand
+use Rattle.resty_base.specs.BoolLaws.{by_test, clash}
 use Rattle.resty_world.specs.declared.entry.Entry.TheVariants as entry
 use Rattle.resty_world.specs.Book.{Book, KeepsIds, told}
 use Rattle.strand_contract.specs.declared.turns.Place.{Place}
@@ -22,7 +23,7 @@ use Rattle.strand_contract.specs.Calls.{action_of}
 use Rattle.strand_contract.specs.Laws.{IsLastAct}
 use Rattle.engine_base.specs.Right.{Tells}
 use Rattle.engine_base.specs.Standing.{Held, Busy, Turn, IsOffer}
-use Rattle.engine_base.proofs.Lists.{by_test, clash, tells-more}
+use Rattle.engine_base.proofs.Lists.{tells-more}
 use Rattle.engine_base.proofs.Marks.{same-keeps, MayCome, held-same}
 use Rattle.engine_base.proofs.Turns.{turn-next}
 

@@ -1,7 +1,7 @@
 -- The tests of equality tell equal values.
-use Rattle.std.specs.Prelude.{◌≡◌, ℕ, Bool, true, false, not, ◌&&◌, ◌==◌, ℤ, pos, negsuc, List, [], ◌∷◌, Option, Some, None, refl}
+use Rattle.std.specs.Prelude.{◌≡◌, ℕ, Bool, true, false, ◌&&◌, ◌==◌, ℤ, pos, negsuc, List, [], ◌∷◌, Option, Some, None, refl}
 use Rattle.std.proofs.Common.{sym, ◌∙◌, ap}
-use Rattle.std.proofs.lemmas.Bool.{eqb-true}
+use Rattle.std.proofs.lemmas.Bool.{eqb-true, and_parts, not-true}
 use Rattle.resty_base.specs.declared.names.StrandId.{StrandId}
 use Rattle.resty_base.specs.declared.names.StrandId.TheVariants as strand
 use Rattle.resty_base.specs.declared.dictionary.How.{How}
@@ -15,11 +15,12 @@ use Rattle.resty_base.specs.declared.dictionary.DictAnswer.TheVariants as answer
 use Rattle.resty_world.specs.Ids.{same_strand}
 use Rattle.resty_world.specs.declared.answers.TimerAnswer.{TimerAnswer}
 use Rattle.resty_world.specs.declared.answers.TimerAnswer.TheVariants as timer
+use Rattle.resty_world.specs.IdLaws.{same_strand-eq}
 use Rattle.strand_contract.specs.declared.turns.Place.{Place}
 use Rattle.strand_contract.specs.declared.turns.Place.TheVariants as place
-use Rattle.std.specs.Cmp.Lexicographic.{same_text}
 use Rattle.shared_rules.specs.Keys.{same_key}
-use Rattle.strand_contract.specs.Actions.{same_place}
+use Rattle.shared_rules.specs.KeyLaws.{same_key-eq}
+use Rattle.strand_contract.specs.OpenPlaceLaws.{same-place}
 use Rattle.executions.specs.Agenda.{Whose, OfStrand, OfJob, OfIdle}
 use Rattle.engine_examples.specs.Checks.{same_bool, same_option, same_int, same_init, same_value, same_how, same_call, same_keys, same_answer, same_timer}
 use Rattle.engine_examples.specs.Checks.{same_whose, is_strand, is_place, is_whose, none, empty}
@@ -30,32 +31,21 @@ bad h = absurd (let e : false ≡ true = h in cc)
 pub clash : {C : Type 0} (x : Bool) → x ≡ true → x ≡ false → C
 clash x p q = bad (sym q ∙ p)
 
-pub both : (x y : Bool) → (x && y) ≡ true → (x ≡ true) × (y ≡ true)
-both true y h = (refl, h)
-both false y h = bad h
-
 pub and3 : (x y z : Bool) → (x && y && z) ≡ true → (x ≡ true) × (y ≡ true) × (z ≡ true)
-and3 x y z h = let g = both (x && y) z h in let f = both x y g.0 in (f.0, f.1, g.1)
+and3 x y z h = let g = and_parts (x && y) z h in let f = and_parts x y g.0 in (f.0, f.1, g.1)
 
 pub and4 : (x y z w : Bool) → (x && y && z && w) ≡ true → (x ≡ true) × (y ≡ true) × (z ≡ true) × (w ≡ true)
-and4 x y z w h = let g = both (x && y && z) w h in let f = and3 x y z g.0 in (f.0, f.1, f.2, g.1)
+and4 x y z w h = let g = and_parts (x && y && z) w h in let f = and3 x y z g.0 in (f.0, f.1, f.2, g.1)
 
 pub and5 : (x y z w v : Bool) → (x && y && z && w && v) ≡ true → (x ≡ true) × (y ≡ true) × (z ≡ true) × (w ≡ true) × (v ≡ true)
-and5 x y z w v h = let g = both (x && y && z && w) v h in let f = and4 x y z w g.0 in (f.0, f.1, f.2, f.3, g.1)
+and5 x y z w v h = let g = and_parts (x && y && z && w) v h in let f = and4 x y z w g.0 in (f.0, f.1, f.2, f.3, g.1)
 
 pub and7 : (x y z w v u t : Bool) → (x && y && z && w && v && u && t) ≡ true → (x ≡ true) × (y ≡ true) × (z ≡ true) × (w ≡ true) × (v ≡ true) × (u ≡ true) × (t ≡ true)
-and7 x y z w v u t h = let g = both (x && y && z && w && v && u) t h in let f = both (x && y && z && w && v) u g.0 in let e = and5 x y z w v f.0 in (e.0, e.1, e.2, e.3, e.4, f.1, g.1)
-
-pub isnt : (x : Bool) → not x ≡ true → x ≡ false
-isnt true h = bad h
-isnt false h = refl
-
-pub same-key : (xs ys : List ℕ) → same_key xs ys ≡ true → xs ≡ ys
-same-key xs ys h = same_text xs ys (sym h)
+and7 x y z w v u t h = let g = and_parts (x && y && z && w && v && u) t h in let f = and_parts (x && y && z && w && v) u g.0 in let e = and5 x y z w v f.0 in (e.0, e.1, e.2, e.3, e.4, f.1, g.1)
 
 pub same-bool : (x y : Bool) → same_bool x y ≡ true → x ≡ y
 same-bool true y h = sym h
-same-bool false y h = sym (isnt y h)
+same-bool false y h = sym (not-true y h)
 
 pub same-option : (x y : Option ℕ) → same_option x y ≡ true → x ≡ y
 same-option None None h = refl
@@ -70,7 +60,7 @@ same-int (pos m) (negsuc n) h = bad h
 same-int (negsuc m) (pos n) h = bad h
 
 pub same-value : (x y : DictValue) → same_value x y ≡ true → x ≡ y
-same-value (value.Text x) (value.Text y) h = ap value.Text (same-key x y h)
+same-value (value.Text x) (value.Text y) h = ap value.Text (same_key-eq x y h)
 same-value (value.Number m) (value.Number n) h = ap value.Number (same-int m n h)
 same-value (value.Truth x) (value.Truth y) h = ap value.Truth (same-bool x y h)
 same-value (value.Text x) (value.Number y) h = bad h
@@ -82,32 +72,20 @@ same-value (value.Truth x) (value.Number y) h = bad h
 
 pub same-keys : (x y : List (List ℕ)) → same_keys x y ≡ true → x ≡ y
 same-keys [] [] h = refl
-same-keys (x ∷ xs) (y ∷ ys) h = let g = both (same_key x y) (same_keys xs ys) h in ap (λ z. z ∷ xs) (same-key x y g.0) ∙ ap (λ zs. y ∷ zs) (same-keys xs ys g.1)
+same-keys (x ∷ xs) (y ∷ ys) h = let g = and_parts (same_key x y) (same_keys xs ys) h in ap (λ z. z ∷ xs) (same_key-eq x y g.0) ∙ ap (λ zs. y ∷ zs) (same-keys xs ys g.1)
 same-keys [] (y ∷ ys) h = bad h
 same-keys (x ∷ xs) [] h = bad h
 
-pub same-place : (p q : Place) → same_place p q ≡ true → p ≡ q
-same-place place.Client place.Client h = refl
-same-place (place.Sock k) (place.Sock j) h = ap place.Sock (eqb-true k j h)
-same-place place.Client (place.Sock j) h = bad h
-same-place (place.Sock k) place.Client h = bad h
-
-pub same-is : (s t : StrandId) → same_strand s t ≡ true → s ≡ t
-same-is (strand.Conn c) (strand.Conn d) h = ap strand.Conn (eqb-true c d h)
-same-is (strand.Job n) (strand.Job m) h = ap strand.Job (eqb-true n m h)
-same-is (strand.Conn c) (strand.Job m) h = bad h
-same-is (strand.Job n) (strand.Conn d) h = bad h
-
 pub is-strand : (s : StrandId) (o : Option StrandId) → is_strand s o ≡ true → o ≡ Some s
 is-strand s None h = bad h
-is-strand s (Some t) h = ap Some (sym (same-is s t h))
+is-strand s (Some t) h = ap Some (sym (same_strand-eq s t h))
 
 pub is-place : (q : Place) (o : Option Place) → is_place q o ≡ true → o ≡ Some q
 is-place q None h = bad h
 is-place q (Some p) h = ap Some (sym (same-place q p h))
 
 pub same-whose : (v w : Whose) → same_whose v w ≡ true → v ≡ w
-same-whose (OfStrand s k) (OfStrand t j) h = let g = both (same_strand s t) (k == j) h in ap (λ x. OfStrand x k) (same-is s t g.0) ∙ ap (OfStrand t) (eqb-true k j g.1)
+same-whose (OfStrand s k) (OfStrand t j) h = let g = and_parts (same_strand s t) (k == j) h in ap (λ x. OfStrand x k) (same_strand-eq s t g.0) ∙ ap (OfStrand t) (eqb-true k j g.1)
 same-whose (OfJob i) (OfJob j) h = ap OfJob (eqb-true i j h)
 same-whose (OfIdle m) (OfIdle n) h = ap OfIdle (eqb-true m n h)
 same-whose (OfStrand s k) (OfJob j) h = bad h
@@ -158,12 +136,12 @@ same-how how.Replace how.Set h = bad h
 same-how how.Replace how.Add h = bad h
 
 pub same-call : (x y : DictCall) → same_call x y ≡ true → x ≡ y
-same-call (call.Get k1) (call.Get k2) h = ap (λ z. call.Get z) (same-key k1 k2 h)
+same-call (call.Get k1) (call.Get k2) h = ap (λ z. call.Get z) (same_key-eq k1 k2 h)
 same-call (call.Store h1 k1 v1 t1 f1) (call.Store h2 k2 v2 t2 f2) h =
     let g = and5 (same_how h1 h2) (same_key k1 k2) (same_value v1 v2) (t1 == t2) (f1 == f2) h in
-    ap (λ z. call.Store z k1 v1 t1 f1) (same-how h1 h2 g.0) ∙ ap (λ z. call.Store h2 z v1 t1 f1) (same-key k1 k2 g.1) ∙ ap (λ z. call.Store h2 k2 z t1 f1) (same-value v1 v2 g.2) ∙ ap (λ z. call.Store h2 k2 v2 z f1) (eqb-true t1 t2 g.3) ∙ ap (λ z. call.Store h2 k2 v2 t2 z) (eqb-true f1 f2 g.4)
-same-call (call.Delete k1) (call.Delete k2) h = ap (λ z. call.Delete z) (same-key k1 k2 h)
-same-call (call.Incr k1 b1 i1 t1) (call.Incr k2 b2 i2 t2) h = let g = and4 (same_key k1 k2) (same_int b1 b2) (same_init i1 i2) (t1 == t2) h in ap (λ z. call.Incr z b1 i1 t1) (same-key k1 k2 g.0) ∙ ap (λ z. call.Incr k2 z i1 t1) (same-int b1 b2 g.1) ∙ ap (λ z. call.Incr k2 b2 z t1) (same-init i1 i2 g.2) ∙ ap (λ z. call.Incr k2 b2 i2 z) (eqb-true t1 t2 g.3)
+    ap (λ z. call.Store z k1 v1 t1 f1) (same-how h1 h2 g.0) ∙ ap (λ z. call.Store h2 z v1 t1 f1) (same_key-eq k1 k2 g.1) ∙ ap (λ z. call.Store h2 k2 z t1 f1) (same-value v1 v2 g.2) ∙ ap (λ z. call.Store h2 k2 v2 z f1) (eqb-true t1 t2 g.3) ∙ ap (λ z. call.Store h2 k2 v2 t2 z) (eqb-true f1 f2 g.4)
+same-call (call.Delete k1) (call.Delete k2) h = ap (λ z. call.Delete z) (same_key-eq k1 k2 h)
+same-call (call.Incr k1 b1 i1 t1) (call.Incr k2 b2 i2 t2) h = let g = and4 (same_key k1 k2) (same_int b1 b2) (same_init i1 i2) (t1 == t2) h in ap (λ z. call.Incr z b1 i1 t1) (same_key-eq k1 k2 g.0) ∙ ap (λ z. call.Incr k2 z i1 t1) (same-int b1 b2 g.1) ∙ ap (λ z. call.Incr k2 b2 z t1) (same-init i1 i2 g.2) ∙ ap (λ z. call.Incr k2 b2 i2 z) (eqb-true t1 t2 g.3)
 same-call call.FlushAll call.FlushAll h = refl
 same-call (call.FlushExpired n1) (call.FlushExpired n2) h = ap (λ z. call.FlushExpired z) (eqb-true n1 n2 h)
 same-call (call.Keys n1) (call.Keys n2) h = ap (λ z. call.Keys z) (eqb-true n1 n2 h)
@@ -211,7 +189,7 @@ same-call (call.Keys n1) call.FlushAll h = bad h
 same-call (call.Keys n1) (call.FlushExpired n2) h = bad h
 
 pub same-answer : (x y : DictAnswer) → same_answer x y ≡ true → x ≡ y
-same-answer (answer.Found v1 f1) (answer.Found v2 f2) h = let g = both (same_value v1 v2) (f1 == f2) h in ap (λ z. answer.Found z f1) (same-value v1 v2 g.0) ∙ ap (λ z. answer.Found v2 z) (eqb-true f1 f2 g.1)
+same-answer (answer.Found v1 f1) (answer.Found v2 f2) h = let g = and_parts (same_value v1 v2) (f1 == f2) h in ap (λ z. answer.Found z f1) (same-value v1 v2 g.0) ∙ ap (λ z. answer.Found v2 z) (eqb-true f1 f2 g.1)
 same-answer answer.Nothing answer.Nothing h = refl
 same-answer (answer.Done b1) (answer.Done b2) h = ap (λ z. answer.Done z) (same-bool b1 b2 h)
 same-answer answer.Exists answer.Exists h = refl
@@ -219,7 +197,7 @@ same-answer answer.Missing answer.Missing h = refl
 same-answer (answer.NoMemory b1) (answer.NoMemory b2) h = ap (λ z. answer.NoMemory z) (same-bool b1 b2 h)
 same-answer answer.NotNumber answer.NotNumber h = refl
 same-answer answer.OutOfRange answer.OutOfRange h = refl
-same-answer (answer.Number m1 b1) (answer.Number m2 b2) h = let g = both (same_int m1 m2) (same_bool b1 b2) h in ap (λ z. answer.Number z b1) (same-int m1 m2 g.0) ∙ ap (λ z. answer.Number m2 z) (same-bool b1 b2 g.1)
+same-answer (answer.Number m1 b1) (answer.Number m2 b2) h = let g = and_parts (same_int m1 m2) (same_bool b1 b2) h in ap (λ z. answer.Number z b1) (same-int m1 m2 g.0) ∙ ap (λ z. answer.Number m2 z) (same-bool b1 b2 g.1)
 same-answer (answer.Count n1) (answer.Count n2) h = ap (λ z. answer.Count z) (eqb-true n1 n2 h)
 same-answer (answer.Names l1) (answer.Names l2) h = ap (λ z. answer.Names z) (same-keys l1 l2 h)
 same-answer (answer.Found v1 f1) answer.Nothing h = bad h

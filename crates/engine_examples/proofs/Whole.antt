@@ -2,7 +2,7 @@
 use Rattle.std.specs.Prelude.{◌≡◌, ℕ, ◌+◌, nat_le, nat_lt, Bool, true, false, not, ◌&&◌, ◌||◌, ◌==◌, pos, negsuc, int_le, List, [], ◌∷◌, ◌++◌, length, Option}
 use Rattle.std.specs.Prelude.{Some, None, if◌then◌else◌, refl, All, map}
 use Rattle.std.proofs.Common.{inl, inr, sym, ◌∙◌, ap, subst}
-use Rattle.std.proofs.lemmas.Bool.{eqb-true, leb-true, ltb-true}
+use Rattle.std.proofs.lemmas.Bool.{eqb-true, leb-true, ltb-true, and_parts, not-true}
 use Rattle.std.proofs.lemmas.Float.{T_from_true}
 use Rattle.std.specs.Int.Signed.{le_z_yes}
 use Rattle.std.proofs.lemmas.List.Elements.{All-nil, All-cons}
@@ -11,12 +11,14 @@ use Rattle.resty_base.specs.declared.names.StrandId.TheVariants as strand
 use Rattle.resty_base.specs.declared.dictionary.DictValue.{DictValue}
 use Rattle.resty_base.specs.declared.dictionary.DictValue.TheVariants as value
 use Rattle.resty_world.specs.Ids.{same_strand}
+use Rattle.resty_world.specs.IdLaws.{same_strand-eq}
 use Rattle.strand_contract.specs.declared.turns.Place.{Place}
 use Rattle.std.specs.List.{IsDistinct, AllByRecursion}
 use Rattle.std.proofs.lemmas.Cmp.{nat_list_eq_equiv}
 use Rattle.std.proofs.lemmas.Map.Made.{IsDistinct-from_count}
 use Rattle.std.proofs.lemmas.Map.Keys.{IsDistinct-cons}
 use Rattle.resty_base.specs.declared.names.Ms.{Ms}
+use Rattle.resty_base.specs.BoolLaws.{by_test}
 use Rattle.shared_rules.specs.declared.items.Item.{Item}
 use Rattle.shared_rules.specs.Items.{used}
 use Rattle.shared_rules.specs.Keys.{same_key}
@@ -30,6 +32,7 @@ use Rattle.strand_contract.specs.declared.turns.Start.TheVariants as start
 use Rattle.strand_contract.specs.Actions.{same_place, Action, Began, Dict, Take, Dial, Keep, Timer, Dropped, Run, Offer, Due, Halted, LocalAction, Told, Did}
 use Rattle.strand_contract.specs.Behaviors.{Behavior}
 use Rattle.strand_contract.specs.Alone.{lives, IsExecution}
+use Rattle.strand_contract.specs.OpenPlaceLaws.{same-place}
 use Rattle.executions.specs.Executions.{GlobalAction, Of, Everyone, TurnedAway, IdleGave, IdleClosed, projection, has_given, present, has_stopped, Throughout}
 use Rattle.executions.specs.Phases.{Phase, Waking, Stopping, Running, phase}
 use Rattle.executions.specs.Strands.{is_in, strands, under_way, next_to_stop, next_to_wind_up}
@@ -48,16 +51,16 @@ use Rattle.engine_examples.specs.Checks.{is_quiescent, enabled, holds_nothing, e
 use Rattle.engine_examples.specs.Checks.{is_numbered, is_in_time, are_kept, may_answer, is_job, is_start_of, begins_right, is_plain_at, is_of_idle, is_plain_by}
 use Rattle.engine_examples.specs.Checks.{may_start, may_drop, is_waking_phase, is_stopping_phase, may_turn_at, may_turn, Breaks, unless, breaks_at, breaks_in}
 use Rattle.engine_examples.specs.Checks.{breaks, are_distinct, has_none, is_within, may_close_in, may_start_in}
-use Rattle.engine_examples.proofs.Same.{bad, clash, isnt, both, and3, and4, same-bool, same-option, same-answer, same-timer, same-place, same-is, is-strand}
+use Rattle.engine_examples.proofs.Same.{bad, clash, and3, and4, same-bool, same-option, same-answer, same-timer, is-strand}
 use Rattle.engine_examples.proofs.Same.{is-whose, is-none, is-empty}
 use Rattle.engine_examples.proofs.Sound.{one-of, if-so, no-work, quiescent, may-come, MayTell, keeps}
-use Rattle.executions.proofs.Strands.{unnamed, by_test}
+use Rattle.executions.proofs.Strands.{unnamed}
 
 -- what every strand of the list is, every strand is
 each-in : {J : Type 0} → (is_so : List (LocalAction J) → Bool) (ss : List StrandId) (ms : List (GlobalAction J)) (s : StrandId) → each is_so ss ms ≡ true → is_in s ss ≡ true → is_so (projection s ms) ≡ true
 each-in is_so [] ms s h i = bad i
-each-in is_so (t ∷ ss) ms s h i = let g = both (is_so (projection t ms)) (each is_so ss ms) h in elim (one-of (same_strand s t) (is_in s ss) i) [
-  | inl w ↦ subst (λ (r : StrandId). is_so (projection r ms) ≡ true) (sym (same-is s t w)) g.0
+each-in is_so (t ∷ ss) ms s h i = let g = and_parts (is_so (projection t ms)) (each is_so ss ms) h in elim (one-of (same_strand s t) (is_in s ss) i) [
+  | inl w ↦ subst (λ (r : StrandId). is_so (projection r ms) ≡ true) (sym (same_strand-eq s t w)) g.0
   | inr w ↦ each-in is_so ss ms s g.1 w
 ]
 
@@ -67,7 +70,7 @@ each-all is_so ms e h s = by_test (is_in s (strands ms)) (λ on. each-in is_so (
 numbered : (v : DictValue) → is_numbered v ≡ true → IsNumbered v
 numbered (value.Text x) h = tt
 numbered (value.Truth x) h = tt
-numbered (value.Number n) h = let g = both (int_le (negsuc 99_999_999_999_998) n) (int_le n (pos 99_999_999_999_999)) h in record { least = le_z_yes (T_from_true _ g.0); greatest = le_z_yes (T_from_true _ g.1) }
+numbered (value.Number n) h = let g = and_parts (int_le (negsuc 99_999_999_999_998) n) (int_le n (pos 99_999_999_999_999)) h in record { least = le_z_yes (T_from_true _ g.0); greatest = le_z_yes (T_from_true _ g.1) }
 
 in-time : (o : Option Ms) → is_in_time o ≡ true → IsInTime o
 in-time None h = tt
@@ -80,11 +83,11 @@ kept-all (item ∷ items) h = let g = and3 (is_numbered item.value) (is_in_time 
 
 none-has : (key : List ℕ) (items : List Item) → has_none key items ≡ true → AllByRecursion (λ k. same_key key k ≡ false) (map (λ item. item.key) items)
 none-has key [] h = tt
-none-has key (item ∷ items) h = let g = both (not (same_key key item.key)) (has_none key items) h in (isnt (same_key key item.key) g.0, none-has key items g.1)
+none-has key (item ∷ items) h = let g = and_parts (not (same_key key item.key)) (has_none key items) h in (not-true (same_key key item.key) g.0, none-has key items g.1)
 
 distinct : (items : List Item) → are_distinct items ≡ true → IsDistinct same_key (map (λ item. item.key) items)
 distinct [] h = IsDistinct-from_count nat_list_eq_equiv [] refl
-distinct (item ∷ items) h = let g = both (has_none item.key items) (are_distinct items) h in
+distinct (item ∷ items) h = let g = and_parts (has_none item.key items) (are_distinct items) h in
     IsDistinct-cons same_key item.key (map (λ item. item.key) items) (none-has item.key items g.0) (distinct items g.1)
 
 within : (size : ℕ) (items : List Item) → is_within size items ≡ true → IsWithin size items
@@ -93,11 +96,11 @@ within size items h = let g = and3 (are_distinct items) (nat_le (used items) siz
 
 front : (s : StrandId) (k : ℕ) (l : List (StrandId × ℕ)) → front_thread s k l ≡ true → (rest : List (StrandId × ℕ)) × (l ≡ (s, k) ∷ rest)
 front s k [] h = bad h
-front s k (e ∷ l) h = let g = both (same_strand s e.0) (k == e.1) h in (l, ap (λ t. (t, e.1) ∷ l) (sym (same-is s e.0 g.0)) ∙ ap (λ j. (s, j) ∷ l) (sym (eqb-true k e.1 g.1)))
+front s k (e ∷ l) h = let g = and_parts (same_strand s e.0) (k == e.1) h in (l, ap (λ t. (t, e.1) ∷ l) (sym (same_strand-eq s e.0 g.0)) ∙ ap (λ j. (s, j) ∷ l) (sym (eqb-true k e.1 g.1)))
 
 front-place : (s : StrandId) (q : Place) (l : List (StrandId × Place)) → front_place s q l ≡ true → (rest : List (StrandId × Place)) × (l ≡ (s, q) ∷ rest)
 front-place s q [] h = bad h
-front-place s q (e ∷ l) h = let g = both (same_strand s e.0) (same_place q e.1) h in (l, ap (λ t. (t, e.1) ∷ l) (sym (same-is s e.0 g.0)) ∙ ap (λ p. (s, p) ∷ l) (sym (same-place q e.1 g.1)))
+front-place s q (e ∷ l) h = let g = and_parts (same_strand s e.0) (same_place q e.1) h in (l, ap (λ t. (t, e.1) ∷ l) (sym (same_strand-eq s e.0 g.0)) ∙ ap (λ p. (s, p) ∷ l) (sym (same-place q e.1 g.1)))
 
 module _ {J : Type 0} (same : J → J → Bool) (is-same : (i j : J) → same i j ≡ true → i ≡ j) (b : Behavior J) where
   settled-in : (p : Phase) (ms : List (GlobalAction J)) → has_settled_in p b ms ≡ true → HasSettledIn p b ms
@@ -109,7 +112,7 @@ module _ {J : Type 0} (same : J → J → Bool) (is-same : (i j : J) → same i 
   waits ms h = let g = and3 (has_settled b ms) (empty (run_queue b ms)) (empty (offer_queue b ms)) h in record { settled = settled-in (phase ms) ms g.0; no_thread = is-empty (run_queue b ms) g.1; no_place = is-empty (offer_queue b ms) g.2 }
 
   at-rest : (ms : List (GlobalAction J)) → all_at_rest b ms ≡ true → AllAtRest b ms
-  at-rest ms h = let g = both (each (is_quiescent b) (strands ms) ms) (nothing_waits b ms) h in record { each = λ s. quiescent b (projection s ms) (each-all (is_quiescent b) ms refl g.0 s); waits = waits ms g.1 }
+  at-rest ms h = let g = and_parts (each (is_quiescent b) (strands ms) ms) (nothing_waits b ms) h in record { each = λ s. quiescent b (projection s ms) (each-all (is_quiescent b) ms refl g.0 s); waits = waits ms g.1 }
 
   none-holds : (ms : List (GlobalAction J)) → each (holds_nothing b) (strands ms) ms ≡ true → NoneHoldsBack b ms
   none-holds ms h s on = keeps b (projection s ms) (each-all (holds_nothing b) ms refl h s) on
@@ -117,11 +120,11 @@ module _ {J : Type 0} (same : J → J → Bool) (is-same : (i j : J) → same i 
   -- plain
   plain-at : (x : Action J) (n : Option ℕ) (ms : List (GlobalAction J)) → is_plain_at b x n ms ≡ true → IsPlainAt b x n ms
   plain-at (Began now (start.Client c)) n ms h = let g = and3 (none n) (c == arrived ms + 1) (nat_lt (open_connections ms) b.connections) h in (is-none n g.0, eqb-true c (arrived ms + 1) g.1, ltb-true (open_connections ms) b.connections g.2)
-  plain-at (Dict z c given) n ms h = let g = both (none n) (same_answer given (dict (b.zone_size z) c (present ms) (zone b z ms)).0) h in (is-none n g.0, same-answer given (dict (b.zone_size z) c (present ms) (zone b z ms)).0 g.1)
-  plain-at (Take key uses) n ms h = let g = both (same_option n (taken_number (take_answer key (pool ms)))) (same_option uses (taken_uses (take_answer key (pool ms)))) h in (same-option n (taken_number (take_answer key (pool ms))) g.0, same-option uses (taken_uses (take_answer key (pool ms))) g.1)
+  plain-at (Dict z c given) n ms h = let g = and_parts (none n) (same_answer given (dict (b.zone_size z) c (present ms) (zone b z ms)).0) h in (is-none n g.0, same-answer given (dict (b.zone_size z) c (present ms) (zone b z ms)).0 g.1)
+  plain-at (Take key uses) n ms h = let g = and_parts (same_option n (taken_number (take_answer key (pool ms)))) (same_option uses (taken_uses (take_answer key (pool ms)))) h in (same-option n (taken_number (take_answer key (pool ms))) g.0, same-option uses (taken_uses (take_answer key (pool ms))) g.1)
   plain-at (Dial host port done) n ms h = same-option n (dialled_as done ms) h
   plain-at (Keep k key idle size) n ms h = same-option n (crowded_out key size (pool ms)) h
-  plain-at (Timer at given) n ms h = let g = both (none n) (same_timer given (timer_answer (has_stopped ms) (length (pending b ms)) (accepted ms))) h in (is-none n g.0, same-timer given (timer_answer (has_stopped ms) (length (pending b ms)) (accepted ms)) g.1)
+  plain-at (Timer at given) n ms h = let g = and_parts (none n) (same_timer given (timer_answer (has_stopped ms) (length (pending b ms)) (accepted ms))) h in (is-none n g.0, same-timer given (timer_answer (has_stopped ms) (length (pending b ms)) (accepted ms)) g.1)
   plain-at (Began now (start.Job j premature job)) n ms h = is-none n h
   plain-at x n ms h = is-none n h
 
@@ -132,7 +135,7 @@ module _ {J : Type 0} (same : J → J → Bool) (is-same : (i j : J) → same i 
   plain-by : (m : GlobalAction J) (ms : List (GlobalAction J)) → is_plain_by b m ms ≡ true → IsPlainBy b m ms
   plain-by (Of s x n) ms h = plain-at x n ms h
   plain-by (Everyone w) ms h = tt
-  plain-by (TurnedAway c) ms h = let g = both (c == arrived ms + 1) (nat_le b.connections (open_connections ms)) h in (eqb-true c (arrived ms + 1) g.0, leb-true b.connections (open_connections ms) g.1)
+  plain-by (TurnedAway c) ms h = let g = and_parts (c == arrived ms + 1) (nat_le b.connections (open_connections ms)) h in (eqb-true c (arrived ms + 1) g.0, leb-true b.connections (open_connections ms) g.1)
   plain-by (IdleGave e) ms h = of-idle (pool ms) (event_socket e) h
   plain-by (IdleClosed n) ms h = h
 
@@ -152,7 +155,7 @@ module _ {J : Type 0} (same : J → J → Bool) (is-same : (i j : J) → same i 
   start-is (strand.Job i) (start.Client d) ms h = bad h
 
   begins-at : (s : StrandId) (x : Action J) (n : Option ℕ) (ms : List (GlobalAction J)) → begins_right same b (Of s x n) ms ≡ true → BeginsRight b (Of s x n) ms
-  begins-at s (Began now how) n ms h = let g = both (is_start_of same b s how ms) (now == present ms) h in (start-is s how ms g.0, eqb-true now (present ms) g.1)
+  begins-at s (Began now how) n ms h = let g = and_parts (is_start_of same b s how ms) (now == present ms) h in (start-is s how ms g.0, eqb-true now (present ms) g.1)
   begins-at s x n ms h = tt
 
   begins-by : (m : GlobalAction J) (ms : List (GlobalAction J)) → begins_right same b m ms ≡ true → BeginsRight b m ms
@@ -165,7 +168,7 @@ module _ {J : Type 0} (same : J → J → Bool) (is-same : (i j : J) → same i 
   -- ordered
   closes-in : (p : Phase) (n : ℕ) (ms : List (GlobalAction J)) → may_close_in p b n ms ≡ true → MayCloseIn p b n ms
   closes-in Waking n ms h = is-whose (OfIdle n) (next_due b ms) h
-  closes-in Stopping n ms h = let g = both (none (next_to_stop ms)) (same_option (Some n) (last_idle (pool ms))) h in (is-none (next_to_stop ms) g.0, sym (same-option (Some n) (last_idle (pool ms)) g.1))
+  closes-in Stopping n ms h = let g = and_parts (none (next_to_stop ms)) (same_option (Some n) (last_idle (pool ms))) h in (is-none (next_to_stop ms) g.0, sym (same-option (Some n) (last_idle (pool ms)) g.1))
   closes-in Running n ms h = bad h
 
   starts-in : (p : Phase) (j : ℕ) (ms : List (GlobalAction J)) → may_start_in p b j ms ≡ true → MayStartIn p b j ms
@@ -175,10 +178,10 @@ module _ {J : Type 0} (same : J → J → Bool) (is-same : (i j : J) → same i 
   starts-in Running j ms h = bad h
 
   starts-so : (j : ℕ) (ms : List (GlobalAction J)) → may_start b j ms ≡ true → MayStart b j ms
-  starts-so j ms h = let g = both (none (under_way b ms)) (may_start_in (phase ms) b j ms) h in (is-none (under_way b ms) g.0, starts-in (phase ms) j ms g.1)
+  starts-so j ms h = let g = and_parts (none (under_way b ms)) (may_start_in (phase ms) b j ms) h in (is-none (under_way b ms) g.0, starts-in (phase ms) j ms g.1)
 
   drops-so : (c : Bool) (s : StrandId) (ms : List (GlobalAction J)) → may_drop c b s ms ≡ true → MayDropLiving c b s ms
-  drops-so true s ms h = let g = both (none (under_way b ms) || is_strand s (under_way b ms)) (was_touched s ms) h in (
+  drops-so true s ms h = let g = and_parts (none (under_way b ms) || is_strand s (under_way b ms)) (was_touched s ms) h in (
     elim (one-of (none (under_way b ms)) (is_strand s (under_way b ms)) g.0) [
       | inl w ↦ inl (is-none (under_way b ms) w)
       | inr w ↦ inr (is-strand s (under_way b ms) w)
@@ -213,11 +216,11 @@ module _ {J : Type 0} (same : J → J → Bool) (is-same : (i j : J) → same i 
   turn-at s (Due k) ms h = let g = and3 (none (under_way b ms)) (is_waking_phase (phase ms)) (is_whose (OfStrand s k) (next_due b ms)) h in (is-none (under_way b ms) g.0, waking-is (phase ms) g.1, is-whose (OfStrand s k) (next_due b ms) g.2)
   turn-at s (Began now (start.Job j premature job)) ms h = starts-so j ms h
   turn-at s (Began now (start.Client c)) ms h = tt
-  turn-at s Halted ms h = let g = both (none (under_way b ms)) ((is_stopping_phase (phase ms) && is_strand s (next_to_stop ms)) || (nothing_waits b ms && is_strand s (next_to_wind_up ms))) h in (
+  turn-at s Halted ms h = let g = and_parts (none (under_way b ms)) ((is_stopping_phase (phase ms) && is_strand s (next_to_stop ms)) || (nothing_waits b ms && is_strand s (next_to_wind_up ms))) h in (
     is-none (under_way b ms) g.0,
     elim (one-of (is_stopping_phase (phase ms) && is_strand s (next_to_stop ms)) (nothing_waits b ms && is_strand s (next_to_wind_up ms)) g.1) [
-      | inl w ↦ (let f = both (is_stopping_phase (phase ms)) (is_strand s (next_to_stop ms)) w in inl (stopping-is (phase ms) f.0, is-strand s (next_to_stop ms) f.1))
-      | inr w ↦ (let f = both (nothing_waits b ms) (is_strand s (next_to_wind_up ms)) w in inr (waits ms f.0, is-strand s (next_to_wind_up ms) f.1))
+      | inl w ↦ (let f = and_parts (is_stopping_phase (phase ms)) (is_strand s (next_to_stop ms)) w in inl (stopping-is (phase ms) f.0, is-strand s (next_to_stop ms) f.1))
+      | inr w ↦ (let f = and_parts (nothing_waits b ms) (is_strand s (next_to_wind_up ms)) w in inr (waits ms f.0, is-strand s (next_to_wind_up ms) f.1))
     ],
   )
   turn-at s Dropped ms h = drops-so (lives (projection s ms)) s ms h
@@ -225,7 +228,7 @@ module _ {J : Type 0} (same : J → J → Bool) (is-same : (i j : J) → same i 
 
   turn-by : (m : GlobalAction J) (ms : List (GlobalAction J)) → may_turn b m ms ≡ true → MayTurn b m ms
   turn-by (Of s x n) ms h = turn-at s x ms h
-  turn-by (IdleClosed n) ms h = let g = both (none (under_way b ms)) (may_close_in (phase ms) b n ms) h in (is-none (under_way b ms) g.0, closes-in (phase ms) n ms g.1)
+  turn-by (IdleClosed n) ms h = let g = and_parts (none (under_way b ms)) (may_close_in (phase ms) b n ms) h in (is-none (under_way b ms) g.0, closes-in (phase ms) n ms g.1)
   turn-by (Everyone w) ms h = tt
   turn-by (TurnedAway c) ms h = tt
   turn-by (IdleGave e) ms h = tt
@@ -234,7 +237,7 @@ module _ {J : Type 0} (same : J → J → Bool) (is-same : (i j : J) → same i 
   tells : (x : Action J) (n : Option ℕ) (ms : List (GlobalAction J)) → may_answer b x ms ≡ true → is_plain_at b x n ms ≡ true → MayTell b (Did x)
   tells (Dict z c given) n ms h p =
       let g = and3 (nat_le (b.zone_size z) 67_108_864) (nat_le (present ms) 99_999_999_999_999) (is_within (b.zone_size z) (zone b z ms)) h in
-      let q = both (none n) (same_answer given (dict (b.zone_size z) c (present ms) (zone b z ms)).0) p in record {
+      let q = and_parts (none n) (same_answer given (dict (b.zone_size z) c (present ms) (zone b z ms)).0) p in record {
         size = b.zone_size z;
         now = present ms;
         items = zone b z ms;
@@ -249,8 +252,8 @@ module _ {J : Type 0} (same : J → J → Bool) (is-same : (i j : J) → same i 
   alone-by (Of t x n) ms h p ih s = put (same_strand s t) refl
     where
       put : (c : Bool) → same_strand s t ≡ c → IsExecution b (if c then Did x ∷ projection s ms else projection s ms)
-      put true e = let g = both (enabled b (projection t ms) (Did x)) (may_answer b x ms) h in
-          (ih s, may-come b (projection s ms) (Did x) (subst (λ (r : StrandId). enabled b (projection r ms) (Did x) ≡ true) (sym (same-is s t e)) g.0) (tells x n ms g.1 p))
+      put true e = let g = and_parts (enabled b (projection t ms) (Did x)) (may_answer b x ms) h in
+          (ih s, may-come b (projection s ms) (Did x) (subst (λ (r : StrandId). enabled b (projection r ms) (Did x) ≡ true) (sym (same_strand-eq s t e)) g.0) (tells x n ms g.1 p))
       put false e = ih s
   alone-by (Everyone w) ms h p ih s = put (lives (projection s ms)) refl
     where

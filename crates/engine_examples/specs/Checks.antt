@@ -1,5 +1,5 @@
 -- The definitions of executions as a test: which of them an execution breaks, and where.
-use Rattle.std.specs.Prelude.{ℕ, ◌+◌, ◌==◌, nat_le, nat_lt, ◌&&◌, ◌||◌, not, Bool, true, false, ℤ, pos, negsuc, int_le, List, [], ◌∷◌, ◌++◌, length, Option}
+use Rattle.std.specs.Prelude.{ℕ, ◌+◌, ◌==◌, nat_le, nat_lt, ◌&&◌, ◌||◌, not, Bool, true, false, ℤ, pos, negsuc, List, [], ◌∷◌, ◌++◌, length, Option}
 use Rattle.std.specs.Prelude.{Some, None, is_some, if◌then◌else◌}
 use Rattle.resty_base.specs.declared.names.StrandId.{StrandId}
 use Rattle.resty_base.specs.declared.names.StrandId.TheVariants as strand
@@ -22,7 +22,7 @@ use Rattle.resty_base.specs.declared.names.Ms.{Ms}
 use Rattle.shared_rules.specs.declared.items.Item.{Item}
 use Rattle.shared_rules.specs.Items.{used}
 use Rattle.shared_rules.specs.Keys.{same_key}
-use Rattle.shared_rules.specs.Dictionary.{dict}
+use Rattle.shared_rules.specs.Dictionary.{dict, is_whole}
 use Rattle.shared_rules.specs.declared.sockets.Idle.{Idle}
 use Rattle.shared_rules.specs.Pool.{take_answer, crowded_out, last_idle, is_idle}
 use Rattle.shared_rules.specs.Timers.{timer_answer}
@@ -244,7 +244,7 @@ all_at_rest b ms = each (is_quiescent b) (strands ms) ms && nothing_waits b ms
 
 -- the items of a dictionary of a size are as they always are
 abbrev pub is_numbered : DictValue → Bool
-is_numbered (value.Number n) = int_le (negsuc 99_999_999_999_998) n && int_le n (pos 99_999_999_999_999)
+is_numbered (value.Number n) = is_whole n
 is_numbered v = true
 
 abbrev pub is_in_time : Option Ms → Bool

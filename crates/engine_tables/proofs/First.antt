@@ -3,6 +3,7 @@ use Rattle.std.proofs.Common.{◌≡◌, ℕ, ◌==◌, ◌&&◌, Bool, true, fa
 use Rattle.std.proofs.lemmas.Bool.{eq-eqb, eqb-true}
 use Rattle.std.proofs.lemmas.Bool.Decides.{nat_tests}
 use Rattle.std.specs.List.{AllByRecursion}
+use Rattle.resty_world.specs.IdLaws.{same_strand-self}
 use Rattle.resty_base.specs.declared.names.Ms.{Ms}
 use Rattle.resty_base.specs.declared.names.StrandId.{StrandId}
 use Rattle.wakes.specs.declared.deadlines.Whose.{Whose as Owner}
@@ -11,7 +12,6 @@ use Rattle.wakes.specs.Times.{Deadline, DeadlinesView, sooner as sooner_deadline
 use Rattle.executions.specs.Agenda.{Whose, OfStrand, sooner, least, whose, is_number}
 use Rattle.engine_tables.specs.Agenda.{whose_of, agenda_of, earlier, first_moment}
 use Rattle.engine_tables.specs.Kept.{strand_in, strand_of, is_strands, is_the, IsFound, IsKept, disarmed, without_due}
-use Rattle.engine_tables.proofs.Strands.{strand-self}
 
 none-some : {A : Type 0} (x : A) → Some x ≡ None → ⊥
 none-some x e = cc
@@ -127,7 +127,7 @@ module _ (numbers : StrandId → ℕ → Option ℕ) (now : ℕ) (v : DeadlinesV
       own : (w : Owner) → Some t ≡ strand_in w → (whose_of w ≡ OfStrand t.0 t.1) × (is_number t.0 t.1 (whose_of w) ≡ true)
       own (owner.Strand s k) h =
           let f : t ≡ (s, k) = cc in
-          (sym (ap (λ (x : StrandId × ℕ). OfStrand x.0 x.1) f), ap (λ (x : StrandId × ℕ). is_number x.0 x.1 (OfStrand s k)) f ∙ ap (λ b. b && (k == k)) (strand-self s) ∙ eq-eqb k k refl)
+          (sym (ap (λ (x : StrandId × ℕ). OfStrand x.0 x.1) f), ap (λ (x : StrandId × ℕ). is_number x.0 x.1 (OfStrand s k)) f ∙ ap (λ b. b && (k == k)) (same_strand-self s) ∙ eq-eqb k k refl)
       own (owner.Job j) h = absurd (none-some t h)
       own (owner.Idle n) h = absurd (none-some t h)
 

@@ -4,13 +4,13 @@ use Rattle.std.proofs.lemmas.Bool.{eq-eqb, eqb-true}
 use Rattle.std.specs.Map.{lookup}
 use Rattle.resty_base.specs.declared.names.StrandId.{StrandId}
 use Rattle.resty_world.specs.Ids.{same_strand}
+use Rattle.resty_world.specs.IdLaws.{same_strand-eq, same_strand-self}
 use Rattle.strand_contract.specs.declared.turns.Place.TheVariants as place
 use Rattle.executions.specs.Queues.{only, without_first}
 use Rattle.executions.specs.Sockets.{Socket, without_held, holder_in}
 use Rattle.engine_tables.specs.declared.sockets.Socket.{Socket as Own}
 use Rattle.engine_tables.specs.Sockets.{meant, held_at}
 use Rattle.engine_tables.specs.Held.{Entry, sockets_in, places_in, AreApart, IsHeld}
-use Rattle.engine_tables.proofs.Strands.{same-is, strand-self}
 use Rattle.engine_tables.proofs.Held.{some-none, turned, none-from}
 use Rattle.engine_tables.proofs.Rising.{lookup-before}
 
@@ -72,7 +72,7 @@ module _ (e : Entry) where
       -- the new place of the same strand is another
       new-place : same_strand d.1.0 e.1.0 ≡ true → nat_eq e.1.1.at d.1.1.at ≡ false
       new-place q =
-          let same = subst (λ (t : StrandId). same_strand t d.1.0 ≡ true) (same-is d.1.0 e.1.0 q) (strand-self d.1.0) in
+          let same = subst (λ (t : StrandId). same_strand t d.1.0 ≡ true) (same_strand-eq d.1.0 e.1.0 q) (same_strand-self d.1.0) in
           (not-head (nat_eq e.1.1.at d.1.1.at) d.0 (lookup (nat_eq e.1.1.at) (places_in e.1.0 es))
           (sym (ap (λ b. lookup (nat_eq e.1.1.at) (if b then (d.1.1.at, d.0) ∷ places_in e.1.0 es else places_in e.1.0 es)) same) ∙ p)).0
 

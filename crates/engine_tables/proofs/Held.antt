@@ -4,13 +4,13 @@ use Rattle.std.proofs.lemmas.Bool.{eq-eqb, eqb-true}
 use Rattle.std.specs.Map.{lookup, remove_entry}
 use Rattle.resty_base.specs.declared.names.StrandId.{StrandId}
 use Rattle.resty_world.specs.Ids.{same_strand}
+use Rattle.resty_world.specs.IdLaws.{same_strand-eq}
 use Rattle.strand_contract.specs.declared.turns.Place.TheVariants as place
 use Rattle.executions.specs.Queues.{only}
 use Rattle.executions.specs.Sockets.{Socket, without_held, holder_in}
 use Rattle.engine_tables.specs.declared.sockets.Socket.{Socket as Own}
 use Rattle.engine_tables.specs.Sockets.{meant, held_at}
 use Rattle.engine_tables.specs.Held.{Entry, sockets_in, places_in, AreApart, IsHeld}
-use Rattle.engine_tables.proofs.Strands.{same-is}
 use Rattle.engine_tables.proofs.Rising.{either-way}
 
 pub some-none : {A : Type 0} (x : A) → Some x ≡ None → ⊥
@@ -92,7 +92,7 @@ module _ (s : StrandId) (k m : ℕ) where
       here : same_strand s e.1.0 ≡ true → nat_eq k e.1.1.at ≡ true → e.0 ≡ m → IsFound (e ∷ es)
       here p q r =
           let n = eq-eqb m e.0 (sym r) in
-          let x : e.1 ≡ (s, e.1.1) = ap (λ (t : StrandId). (t, e.1.1)) (sym (same-is s e.1.0 p)) in
+          let x : e.1 ≡ (s, e.1.1) = ap (λ (t : StrandId). (t, e.1.1)) (sym (same_strand-eq s e.1.0 p)) in
           (e.1.1, ap (λ b. cond b (Some e.1) (lookup (nat_eq m) es)) n ∙ ap Some x, inl (record { number = n; strand = p; place = q; socket = x }))
 
       put : (b : Bool) → same_strand s e.1.0 ≡ b → (c : Bool) → nat_eq k e.1.1.at ≡ c → lookup (nat_eq k) (if b then (e.1.1.at, e.0) ∷ places_in s es else places_in s es) ≡ Some m
@@ -136,7 +136,7 @@ module _ (s : StrandId) (k m : ℕ) (x : Own) where
   places-left (e ∷ es) (inr p) t = ap (λ b. places_in t (cond b es (e ∷ remove_entry (nat_eq m) es))) p.0.number ∙ put (same_strand t s) refl (same_strand t e.1.0) refl (places-left es p.1 t)
     where
       off : same_strand t s ≡ true → same_strand t e.1.0 ≡ true → nat_eq k e.1.1.at ≡ false
-      off a b = sym (ap (λ c. c && (k == e.1.1.at)) (subst (λ (r : StrandId). same_strand r e.1.0 ≡ true) (same-is t s a) b)) ∙ p.0.other
+      off a b = sym (ap (λ c. c && (k == e.1.1.at)) (subst (λ (r : StrandId). same_strand r e.1.0 ≡ true) (same_strand-eq t s a) b)) ∙ p.0.other
 
       put : (b : Bool) → same_strand t s ≡ b → (c : Bool) → same_strand t e.1.0 ≡ c → places_in t (remove_entry (nat_eq m) es) ≡ (if b then remove_entry (nat_eq k) (places_in t es) else places_in t es)
           → (if c then (e.1.1.at, e.0) ∷ places_in t (remove_entry (nat_eq m) es) else places_in t (remove_entry (nat_eq m) es))
@@ -227,7 +227,7 @@ module _ (s : StrandId) (k : ℕ) (es : List Entry) (places new-places : StrandI
   stays h = record { apart = held.apart; placed = λ t. out t ∙ put t (same_strand t s) refl ∙ held.placed t; owned = held.owned }
     where
       put : (t : StrandId) (b : Bool) → same_strand t s ≡ b → (if b then remove_entry (nat_eq k) (places t) else places t) ≡ places t
-      put t true e = absent-left (nat_eq k) (places t) (ap (λ (r : StrandId). lookup (nat_eq k) (places r)) (same-is t s e) ∙ h)
+      put t true e = absent-left (nat_eq k) (places t) (ap (λ (r : StrandId). lookup (nat_eq k) (places r)) (same_strand-eq t s e) ∙ h)
       put t false e = refl
 
   pub found-in : (m : ℕ) → lookup (nat_eq k) (places s) ≡ Some m → IsFound s k m es

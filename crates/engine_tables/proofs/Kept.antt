@@ -1,13 +1,15 @@
 -- How the deadlines of strands go on being kept, as one is armed, cancelled or due.
 use Rattle.std.proofs.Common.{◌≡◌, ℕ, ◌+◌, ◌<◌, ◌≤◌, ◌==◌, ◌&&◌, Bool, true, false, cond, List, [], ◌∷◌, ◌++◌, Option, Some, None, nat_eq, if◌then◌else◌, refl, sym, ap, subst, ◌∙◌, arith, rules}
-use Rattle.std.proofs.lemmas.Bool.{eq-eqb, eqb-true}
+use Rattle.std.proofs.lemmas.Bool.{eq-eqb, eqb-true, and_parts}
 use Rattle.std.proofs.lemmas.Bool.Decides.{nat_tests}
 use Rattle.std.specs.List.{AllByRecursion}
 use Rattle.std.specs.Map.{remove_entry}
 use Rattle.resty_base.specs.declared.names.Ms.{Ms}
 use Rattle.resty_base.specs.declared.names.StrandId.{StrandId}
 use Rattle.resty_base.specs.declared.names.StrandId.TheVariants as strand
+use Rattle.resty_base.specs.BoolLaws.{by_test, clash}
 use Rattle.resty_world.specs.Ids.{same_strand}
+use Rattle.resty_world.specs.IdLaws.{same_strand-eq}
 use Rattle.wakes.specs.declared.deadlines.Whose.{Whose as Owner}
 use Rattle.wakes.specs.declared.deadlines.Whose.TheVariants as owner
 use Rattle.wakes.specs.Times.{Deadline, DeadlinesView, armed_with}
@@ -15,14 +17,6 @@ use Rattle.executions.specs.Agenda.{Whose, OfStrand, without_one, without_those,
 use Rattle.engine_tables.specs.Agenda.{whose_of, agenda_of}
 use Rattle.engine_tables.specs.Numbers.{changed}
 use Rattle.engine_tables.specs.Kept.{is_strands, is_the, IsFound, Rises, IsKept, disarmed}
-use Rattle.engine_tables.proofs.Strands.{same-is}
-
-clash : {C : Type 0} {b : Bool} → b ≡ true → b ≡ false → C
-clash on off = absurd (let e : true ≡ false = sym on ∙ off in cc)
-
-by_test : {C : Type 0} (b : Bool) → (b ≡ true → C) → (b ≡ false → C) → C
-by_test true on off = on refl
-by_test false on off = off refl
 
 unequal : (x y : ℕ) → x < y → (x == y) ≡ false
 unequal x y h = search (nat_tests, rules)
@@ -38,11 +32,6 @@ strand-swapped (strand.Conn c) (strand.Conn d) = same-swapped c d
 strand-swapped (strand.Job n) (strand.Job m) = same-swapped n m
 strand-swapped (strand.Conn c) (strand.Job m) = refl
 strand-swapped (strand.Job n) (strand.Conn d) = refl
-
-both : (b c : Bool) → b && c ≡ true → (b ≡ true) × (c ≡ true)
-both true true h = (refl, refl)
-both true false h = absurd (let e : false ≡ true = h in cc)
-both false c h = absurd (let e : false ≡ true = h in cc)
 
 -- numbers that rise from above one have none up to it
 below-out : (low last n : ℕ) (ds : List Deadline) → Rises low ds last → n ≤ low → AllByRecursion (λ d. (n == d.0) ≡ false) ds
@@ -140,8 +129,8 @@ module _ (numbers numbers' : StrandId → ℕ → Option ℕ) (v : DeadlinesView
   -- the numbers of this deadline and of all others
   at-number : (w : Option ℕ) → ((s : StrandId) (j : ℕ) → numbers' s j ≡ changed who k w numbers s j) → (P : StrandId → ℕ → Option ℕ → Type 0) → P who k w → ((s : StrandId) (j : ℕ) → P s j (numbers s j)) → (s : StrandId) (j : ℕ) → P s j (numbers' s j)
   at-number w change P here others s j = by_test (same_strand who s && (k == j))
-      (λ on. let t = both (same_strand who s) (k == j) on in
-      subst (P s j) (sym (change s j ∙ ap (λ b. if b then w else numbers s j) on)) (subst (λ (i : ℕ). P s i w) (eqb-true k j t.1) (subst (λ (x : StrandId). P x k w) (same-is who s t.0) here)))
+      (λ on. let t = and_parts (same_strand who s) (k == j) on in
+      subst (P s j) (sym (change s j ∙ ap (λ b. if b then w else numbers s j) on)) (subst (λ (i : ℕ). P s i w) (eqb-true k j t.1) (subst (λ (x : StrandId). P x k w) (same_strand-eq who s t.0) here)))
       (λ off. subst (P s j) (sym (change s j ∙ ap (λ b. if b then w else numbers s j) off)) (others s j))
 
   pub cancelled : ((s : StrandId) (j : ℕ) → numbers' s j ≡ changed who k None numbers s j)
@@ -223,7 +212,7 @@ those-one who k [] = refl
 those-one who k (d ∷ l) = step (is_number who k d.0) refl (those-one who k l)
   where
     of-strand : (w : Whose) → is_number who k w ≡ true → is_of who w ≡ true
-    of-strand (OfStrand t j) h = (both (same_strand who t) (k == j) h).0
+    of-strand (OfStrand t j) h = (and_parts (same_strand who t) (k == j) h).0
     of-strand w h = absurd (let e : false ≡ true = h in cc)
 
     step : (b : Bool) → is_number who k d.0 ≡ b → without_those (is_of who) (without_one (is_number who k) l) ≡ without_those (is_of who) l

@@ -5,13 +5,14 @@ use Rattle.indexmap.specs.IndexMap.{IndexMap, get}
 use Rattle.resty_base.specs.contracts.names.StrandIdPartialEq.TheImpl as derived
 use Rattle.resty_base.specs.declared.names.StrandId.{StrandId}
 use Rattle.resty_world.specs.Ids.{same_strand}
+use Rattle.resty_world.specs.IdLaws.{same_strand-eq, same_strand-self}
 use Rattle.engine_tables.specs.Numbers.{number_in, count_in}
-use Rattle.engine_tables.proofs.Strands.{same-is, same-by-eq, strand-self}
+use Rattle.engine_tables.proofs.Strands.{same-by-eq}
 
 module _ {H : Type 0} where
   -- what a strand has is what its name leads to
   same-own : (es : List (StrandId × IndexMap ℕ ℕ H)) (who s : StrandId) (own : IndexMap ℕ ℕ H) → lookup (derived.ghosts.eq who) es ≡ Some own → derived.ghosts.eq who s ≡ true → lookup (derived.ghosts.eq s) es ≡ Some own
-  same-own es who s own found same = subst (λ (t : StrandId). lookup (derived.ghosts.eq t) es ≡ Some own) (same-is who s (sym (same-by-eq who s) ∙ same)) found
+  same-own es who s own found same = subst (λ (t : StrandId). lookup (derived.ghosts.eq t) es ≡ Some own) (same_strand-eq who s (sym (same-by-eq who s) ∙ same)) found
 
   -- the test by `==`, as the strands are the same
   by-name : (who s : StrandId) (j k : ℕ) (w : Option ℕ) (other : Option (IndexMap ℕ ℕ H)) → (if derived.ghosts.eq who s && (k == j) then w else number_in j other) ≡ (if same_strand who s && (k == j) then w else number_in j other)
@@ -53,7 +54,7 @@ module _ {H : Type 0} where
       → number_in j o ≡ (if same_strand who s && (k == j) then w else number_in j (lookup (derived.ghosts.eq s) es))
   added es who s j k w own o none new h = ap (number_in j) new
       ∙ at-added (derived.ghosts.eq who s) j k w own (lookup (derived.ghosts.eq s) es)
-      (λ on. subst (λ (t : StrandId). number_in j (lookup (derived.ghosts.eq t) es) ≡ None) (same-is who s (sym (same-by-eq who s) ∙ on)) (none j)) h
+      (λ on. subst (λ (t : StrandId). number_in j (lookup (derived.ghosts.eq t) es) ≡ None) (same_strand-eq who s (sym (same-by-eq who s) ∙ on)) (none j)) h
       ∙ by-name who s j k w (lookup (derived.ghosts.eq s) es)
 
   -- a strand's last number is taken out, and the strand leaves
@@ -71,7 +72,7 @@ module _ {H : Type 0} where
   unchanged es who s j own own' o found new h = ap (number_in j) new ∙ at-kept (derived.ghosts.eq who s) j own own' (lookup (derived.ghosts.eq s) es) (same-own es who s own found) h
 
 pub own-same : (who : StrandId) → derived.ghosts.eq who who ≡ true
-own-same who = same-by-eq who who ∙ strand-self who
+own-same who = same-by-eq who who ∙ same_strand-self who
 
 -- how many a strand has, once its own numbers are written, or it left
 pub count-written : {H : Type 0} (who : StrandId) (own' : IndexMap ℕ ℕ H) (o other : Option (IndexMap ℕ ℕ H)) → o ≡ cond (derived.ghosts.eq who who) (Some own') other → count_in o ≡ length own'.entries
@@ -84,7 +85,3 @@ count-emptied who o mid new = ap count_in (new ∙ ap (λ b. cond b None mid) (o
 pub fewer : (r : Option ℕ) (old new count before : ℕ) → count ≡ new → before ≡ old → new + (if is_some r then 1 else 0) ≡ old → IfSome r (λ n. count < before)
 fewer None old new count before e f h = tt
 fewer (Some n) old new count before e f h = omega (arith, e, f, h)
-
-pub empty-is : {A : Type 0} (es : List A) → length es ≡ 0 → es ≡ []
-empty-is [] h = refl
-empty-is (e ∷ es) h = absurd (omega (arith, h))

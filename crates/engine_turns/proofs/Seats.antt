@@ -3,8 +3,10 @@ use Rattle.std.proofs.Common.{◌≡◌, ℕ, ◌≤◌, Bool, true, false, ◌=
 use Rattle.std.proofs.lemmas.Bool.{eqb-true}
 use Rattle.resty_base.specs.declared.names.StrandId.{StrandId}
 use Rattle.resty_base.specs.declared.names.StrandId.TheVariants as strand
+use Rattle.resty_base.specs.BoolLaws.{by_test, clash}
 use Rattle.resty_world.specs.Book.{Book}
 use Rattle.resty_world.specs.Ids.{same_strand}
+use Rattle.resty_world.specs.IdLaws.{same_strand-eq}
 use Rattle.strand_contract.specs.declared.turns.Place.{Place}
 use Rattle.strand_contract.specs.declared.turns.Place.TheVariants as place
 use Rattle.strand_contract.specs.Actions.{LocalAction}
@@ -15,14 +17,13 @@ use Rattle.wakes.specs.Queue.{QueueView, left, without_thread as without_thread_
 use Rattle.executions.specs.Queues.{only, without_all, without_thread}
 use Rattle.executions.specs.Agenda.{without_those, is_of}
 use Rattle.executions.specs.OwnDeadlines.{deadlines}
-use Rattle.executions.proofs.Strands.{same-is}
 use Rattle.engine_turns.specs.declared.turns.Turns.{Turns}
 use Rattle.engine_base.specs.declared.seats.Seat.{Seat}
 use Rattle.engine_tables.specs.declared.seats.Seats.{Seats}
 use Rattle.engine_tables.specs.Seats.{seat_at}
 use Rattle.engine_turns.specs.Turns.{IsBusy, IsDone}
 use Rattle.engine_base.specs.Standing.{Held, is_to_wake, phase_at, share_of, said_of, without_dead, Fit, Busy, Standing, Falls, IsOffer}
-use Rattle.engine_base.proofs.Lists.{by_test, clash, same-true}
+use Rattle.engine_base.proofs.Lists.{same-true}
 use Rattle.engine_base.proofs.Agendas.{come-of, come-same, may-wake}
 use Rattle.engine_base.proofs.Marks.{fit-same}
 use Rattle.engine_base.proofs.Acts.{aside-all}
@@ -78,7 +79,7 @@ module _ {J S : Type 0} (b : Behavior J) (st : S → List (LocalAction J) → Ty
         comes = come-same h.to_come h'.to_come b ms ends (come-of h.to_come b ms n.phase);
         agenda = sym n.agenda ∙ sym armed;
         disarmed = λ s gone. ap (deadlines s) armed ∙ by_test (same_strand s (strand.Conn c))
-            (λ on. clash a.alive (subst (λ (r : StrandId). lives (projection r ms) ≡ false) (same-is s (strand.Conn c) on) gone))
+            (λ on. clash a.alive (subst (λ (r : StrandId). lives (projection r ms) ≡ false) (same_strand-eq s (strand.Conn c) on) gone))
             (λ off. a.disarmed s off gone);
         common = record {
           alone = a.common.alone;
@@ -222,7 +223,7 @@ pub vacant-ends : {X : Type 0} (old new : Seats X) (who : StrandId) → ((s : St
 vacant-ends old new who ended none = λ i s. at s i
   where
     pick : (s : StrandId) (v : Bool) → same_strand s who ≡ v → (if v then None else seat_at old s) ≡ seat_at old s
-    pick s true e = sym (ap (seat_at old) (same-is s who e) ∙ none)
+    pick s true e = sym (ap (seat_at old) (same_strand-eq s who e) ∙ none)
     pick s false e = refl
 
     at : (s : StrandId) → seat_at new s ≡ seat_at old s

@@ -1,11 +1,12 @@
 -- An execution is determined by what came from outside.
 use Rattle.std.proofs.Common.{◌≡◌, ◌⊎◌, inl, inr, ℕ, zero, suc, ◌+◌, ◌≤◌, true, false, List, [], ◌∷◌, ◌++◌, Some, length, refl, sym, ap, subst, ◌∙◌, arith}
+use Rattle.resty_base.specs.BoolLaws.{by_test, clash}
 use Rattle.strand_contract.specs.Actions.{Dropped, LocalAction, Did}
 use Rattle.strand_contract.specs.Behaviors.{Behavior}
 use Rattle.strand_contract.specs.Alone.{was_dropped, IsExecution, IsQuiescent}
 use Rattle.strand_contract.specs.Laws.{IsQuiet}
 use Rattle.execution_laws.specs.StrandInputs.{Input, inputs_of, gave}
-use Rattle.execution_laws.proofs.OwnSteps.{clash, by_test, is_own, tail-whole, own-is, IsStill, still-given, still-at-rest}
+use Rattle.execution_laws.proofs.OwnSteps.{is_own, tail-whole, own-is, IsStill, still-given, still-at-rest}
 use Rattle.execution_laws.proofs.Given.{Means, means, same-action, gave-own}
 
 flip : {A B : Type 0} → A ⊎ B → B ⊎ A

@@ -3,8 +3,8 @@ use Rattle.std.specs.Prelude.{◌≡◌, ◌≤◌, ◌<◌, ◌==◌, ℕ, Bool
 use Rattle.std.proofs.Common.{arith, ◌∙◌, ap}
 use Rattle.std.proofs.lemmas.Bool.{eqb-true, eq-eqb}
 use Rattle.std.proofs.lemmas.List.{length-append}
+use Rattle.resty_base.specs.BoolLaws.{by_test}
 use Rattle.executions.specs.Executions.{GlobalAction}
-use Rattle.executions.proofs.Strands.{by_test}
 use Rattle.execution_laws.specs.Drops.{dropped_by, dropped_at}
 
 differ : (m n : ℕ) → m < n → (m == n) ≡ false

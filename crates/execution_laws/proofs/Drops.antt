@@ -1,6 +1,7 @@
 -- What follows where a strand is dropped.
 use Rattle.std.proofs.Common.{◌≡◌, inl, inr, true, false, List, [], ◌∷◌, ◌++◌, refl, ap, sym, ◌∙◌}
 use Rattle.resty_base.specs.declared.names.StrandId.{StrandId}
+use Rattle.resty_base.specs.BoolLaws.{by_test, clash}
 use Rattle.strand_contract.specs.declared.turns.Place.{Place}
 use Rattle.strand_contract.specs.declared.turns.Act.{Act}
 use Rattle.strand_contract.specs.Actions.{Began, Bytes, Ended, Broken, Ready, Dialled, Refused, Put, Later, Lost, Close, Log, Dict, Take, Dial, Keep, Timer, Dropped, Run, Offer, Due, Halted, Gone, LocalAction, Told, Did}
@@ -15,7 +16,6 @@ use Rattle.strand_contract.specs.OpenPlaceLaws.{first-open, no-place-open}
 use Rattle.execution_laws.specs.StrandDrops.{EndsByClosings, before_drop}
 use Rattle.execution_laws.specs.StrandInputs.{Input, gave}
 use Rattle.execution_laws.proofs.Alone.{beginning}
-use Rattle.execution_laws.proofs.OwnSteps.{clash, by_test}
 
 module _ {J : Type 0} where
   some-acts : {C : Type 0} (b : Behavior J) (es : List (LocalAction J)) (rest : List (Act J)) (a : Act J) → IsOver b es → todo b es ≡ a ∷ rest → C

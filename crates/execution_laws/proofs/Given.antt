@@ -1,6 +1,7 @@
 -- What came from outside determines the action, where the action may come.
 use Rattle.std.proofs.Common.{◌≡◌, ℕ, Bool, true, false, List, [], ◌∷◌, ◌++◌, Option, Some, None, length, take, refl, sym, ap, ◌∙◌}
 use Rattle.std.proofs.Math.Seq.{take-append_seam}
+use Rattle.resty_base.specs.BoolLaws.{clash}
 use Rattle.strand_contract.specs.declared.turns.Act.{Act}
 use Rattle.strand_contract.specs.declared.turns.Act.TheVariants as act
 use Rattle.strand_contract.specs.declared.turns.Seen.TheVariants as seen
@@ -10,7 +11,7 @@ use Rattle.strand_contract.specs.Behaviors.{Behavior}
 use Rattle.strand_contract.specs.Alone.{todo, piece, Enabled}
 use Rattle.strand_contract.specs.Calls.{action_of, answered}
 use Rattle.execution_laws.specs.StrandInputs.{Input, Starts, Hears, Sees, Wrote, Learns, inputs_of, gave}
-use Rattle.execution_laws.proofs.OwnSteps.{clash, is_own}
+use Rattle.execution_laws.proofs.OwnSteps.{is_own}
 
 taken-first : (xs rest ys : List ℕ) → xs ++ rest ≡ ys → take (length xs) ys ≡ xs
 taken-first xs rest ys e = ap (take (length xs)) (sym e) ∙ take-append_seam xs rest

@@ -6,11 +6,13 @@ use Rattle.resty_base.specs.declared.names.Id.{Id}
 use Rattle.resty_base.specs.declared.names.Id.TheVariants as id
 use Rattle.resty_base.specs.declared.names.StrandId.{StrandId}
 use Rattle.resty_base.specs.declared.names.StrandId.TheVariants as strand
+use Rattle.resty_base.specs.BoolLaws.{by_test}
 use Rattle.resty_world.specs.Ids.{same_strand}
 use Rattle.resty_world.specs.declared.event.Event.{Event}
 use Rattle.resty_world.specs.declared.event.Event.TheVariants as event
 use Rattle.resty_world.specs.declared.entry.Entry.{Entry}
 use Rattle.resty_world.specs.declared.entry.Entry.TheVariants as entry
+use Rattle.resty_world.specs.IdLaws.{same_strand-eq}
 use Rattle.strand_contract.specs.declared.turns.Place.{Place}
 use Rattle.strand_contract.specs.declared.turns.Place.TheVariants as place
 use Rattle.strand_contract.specs.declared.turns.Start.TheVariants as start
@@ -25,7 +27,7 @@ use Rattle.executions.specs.Lawful.{BeginsRight}
 use Rattle.executions.specs.Plain.{IsPlainAt, IsOfIdle}
 use Rattle.executions.specs.Histories.{closing, entries_of}
 use Rattle.executions.specs.Beginnings.{IsBeginning}
-use Rattle.executions.proofs.Strands.{clash, by_test, same-is, enabled}
+use Rattle.executions.proofs.Strands.{clash, enabled}
 use Rattle.executions.proofs.OneNext.{older}
 use Rattle.executions.proofs.Holders.{owner-is, idle-unowned}
 use Rattle.execution_laws.specs.Inputs.{Gives, inputs, events}
@@ -54,7 +56,7 @@ module _ {J : Type 0} (b : Behavior J) (quiet : IsQuiet b) where
     where
       put : (c : Bool) → same_strand (strand.Job j) t ≡ c → is_open place.Client (projection (strand.Job j) ms) ≡ false
           → is_open place.Client (if c then Did x ∷ projection (strand.Job j) ms else projection (strand.Job j) ms) ≡ false
-      put true e ih = no-line-at x j n ms (subst (λ (r : StrandId). BeginsRight b (Of r x n) ms) (sym (same-is (strand.Job j) t e)) g.1) ih
+      put true e ih = no-line-at x j n ms (subst (λ (r : StrandId). BeginsRight b (Of r x n) ms) (sym (same_strand-eq (strand.Job j) t e)) g.1) ih
       put false e ih = ih
   no-line j (Everyone w ∷ ms) g = put (lives (projection (strand.Job j) ms)) (no-line j ms g.0)
     where

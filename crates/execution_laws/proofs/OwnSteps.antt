@@ -1,5 +1,6 @@
 -- The action that a strand takes by itself: there is one at most, and while there is one nothing comes from outside.
 use Rattle.std.proofs.Common.{◌≡◌, ◌⊎◌, inl, inr, ℕ, Bool, true, false, List, [], ◌∷◌, Option, Some, None, if◌then◌else◌, refl, sym, ap, subst, ◌∙◌}
+use Rattle.resty_base.specs.BoolLaws.{by_test, clash}
 use Rattle.strand_contract.specs.declared.turns.Place.{Place}
 use Rattle.strand_contract.specs.declared.turns.Act.{Act}
 use Rattle.strand_contract.specs.declared.turns.Act.TheVariants as act
@@ -8,13 +9,6 @@ use Rattle.strand_contract.specs.Behaviors.{Behavior}
 use Rattle.strand_contract.specs.Alone.{lives, was_dropped, moment, is_stopping, is_waking, is_winding_up, todo, waiting, to_offer, armed, due, begun_offer, going_on, offering, in_offers, Enabled, IsExecution, HasNoWork, IsQuiescent, NoneIsDue}
 use Rattle.strand_contract.specs.OpenPlaceLaws.{no-place-open}
 use Rattle.strand_contract.specs.Laws.{IsQuiet}
-
-pub clash : {C : Type 0} {c : Bool} → c ≡ true → c ≡ false → C
-clash on off = absurd (let e : true ≡ false = sym on ∙ off in cc)
-
-pub by_test : {C : Type 0} (c : Bool) → (c ≡ true → C) → (c ≡ false → C) → C
-by_test true on off = on refl
-by_test false on off = off refl
 
 some-none : {A : Type 0} {C : Type 0} (o : Option A) (x : A) → o ≡ Some x → o ≡ None → C
 some-none o x p q = absurd (let e : Some x ≡ None = sym p ∙ q in cc)

@@ -2,13 +2,15 @@
 use Rattle.std.specs.Prelude.{◌≡◌, true, false, ◌||◌, List, [], ◌∷◌, refl}
 use Rattle.std.proofs.Common.{sym, ◌∙◌, ap, subst}
 use Rattle.resty_base.specs.declared.names.StrandId.{StrandId}
+use Rattle.resty_base.specs.BoolLaws.{by_test}
 use Rattle.resty_world.specs.Ids.{same_strand}
+use Rattle.resty_world.specs.IdLaws.{same_strand-eq}
 use Rattle.strand_contract.specs.Actions.{LocalAction}
 use Rattle.strand_contract.specs.Behaviors.{Behavior}
 use Rattle.strand_contract.specs.Alone.{lives, open_places, HasNoWork, IsQuiescent}
 use Rattle.executions.specs.Executions.{GlobalAction, projection}
 use Rattle.executions.specs.Strands.{is_in, strands}
-use Rattle.executions.proofs.Strands.{clash, by_test, same-is, unnamed}
+use Rattle.executions.proofs.Strands.{clash, unnamed}
 
 pub no : {A : Type 0} → false ≡ true → A
 no h = clash false h refl
@@ -22,7 +24,7 @@ module _ {J : Type 0} where
   each-in : (P : List (LocalAction J) → Type 0) (ss : List StrandId) (ms : List (GlobalAction J)) → Each P ss ms → (s : StrandId) → is_in s ss ≡ true → P (projection s ms)
   each-in P [] ms h s i = no i
   each-in P (t ∷ ss) ms h s i = by_test (same_strand s t)
-      (λ on. subst (λ (r : StrandId). P (projection r ms)) (sym (same-is s t on)) h.0)
+      (λ on. subst (λ (r : StrandId). P (projection r ms)) (sym (same_strand-eq s t on)) h.0)
       (λ off. each-in P ss ms h.1 s (ap (λ c. c || is_in s ss) (sym off) ∙ i))
 
   -- so it holds of what any strand sees

@@ -1,6 +1,7 @@
 -- Small executions: of deadlines, of jobs that begin after Stop, of readiness and of drops.
 use Rattle.std.proofs.Common.{◌≡◌, ◌⊎◌, inl, inr, ℕ, max, true, false, List, [], ◌∷◌, Option, Some, None, if◌then◌else◌, refl, sym, ap, ◌∙◌, le-leb, le_refl, lit<, arith}
 use Rattle.resty_base.specs.declared.names.StrandId.{StrandId}
+use Rattle.resty_base.specs.BoolLaws.{clash}
 use Rattle.strand_contract.specs.declared.turns.Place.{Place}
 use Rattle.strand_contract.specs.declared.turns.Place.TheVariants as place
 use Rattle.strand_contract.specs.declared.turns.Start.TheVariants as start
@@ -16,7 +17,6 @@ use Rattle.strand_contract.specs.Mute.{was_halted}
 use Rattle.strand_contract.specs.OpenPlaceLaws.{place-self}
 use Rattle.executions.specs.Ordered.{IsOrdered}
 use Rattle.execution_laws.specs.Examples.{waker, begun, sends_anew, arms_at_a_moment, began_premature, begins_turn}
-use Rattle.execution_laws.proofs.OwnSteps.{clash}
 
 at-now : (now at : ℕ) → at ≡ now → due at ((0, now) ∷ []) ≡ Some (0, now)
 at-now now at e = ap (λ n. due n ((0, now) ∷ [])) e ∙ ap (λ v. if v then Some (0, now) else None) (le-leb now now (le_refl now))

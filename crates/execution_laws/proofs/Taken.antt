@@ -2,6 +2,7 @@
 use Rattle.std.proofs.Common.{◌≡◌, inl, inr, ℕ, ◌+◌, ◌-◌, ◌%◌, Bool, true, false, List, [], ◌∷◌, ◌++◌, take, drop, length, if◌then◌else◌, refl, sym, ap, subst, ◌∙◌, append_assoc, append-nil, length-append, take-append-drop}
 use Rattle.std.proofs.lemmas.List.{drop_at}
 use Rattle.std.proofs.Math.Seq.{take-nil}
+use Rattle.resty_base.specs.BoolLaws.{clash}
 use Rattle.strand_contract.specs.declared.turns.Place.{Place}
 use Rattle.strand_contract.specs.Actions.{Put, LocalAction, Did, same_place}
 use Rattle.strand_contract.specs.Behaviors.{Behavior}
@@ -9,7 +10,6 @@ use Rattle.strand_contract.specs.Alone.{lives, is_open, was_put_off, taken, piec
 use Rattle.strand_contract.specs.Laws.{Grows, Keeps}
 use Rattle.strand_contract.specs.OpenPlaceLaws.{same-place}
 use Rattle.execution_laws.specs.Taken.{took}
-use Rattle.execution_laws.proofs.OwnSteps.{clash}
 
 further : {A : Type 0} (xs ys zs : List A) → IsPrefixOf xs ys → IsPrefixOf ys zs → IsPrefixOf xs zs
 further xs ys zs p q = (p.0 ++ q.0, sym (append_assoc xs p.0 q.0) ∙ ap (λ l. l ++ q.0) p.1 ∙ q.1)

@@ -1,4 +1,6 @@
 -- What the world gives and answers, read off a history.
+-- Who decides what comes next: the world, which event is given, how much a write takes, whether a log line is written or a dial begins, and where
+-- memory runs out; the strand, its acts and what it sends; the definitions, whose turn it is, what shared things answer, and how long a piece is.
 use Rattle.std.specs.Prelude.{ℕ, Bool, List, [], ◌∷◌, ◌++◌, length, is_some}
 use Rattle.resty_base.specs.declared.names.StrandId.{StrandId}
 use Rattle.resty_world.specs.declared.event.Event.{Event}

@@ -3,7 +3,9 @@ use Rattle.std.specs.Prelude.{◌≡◌, ◌≤◌, ◌<◌, ℕ, ◌+◌, Bool,
 use Rattle.std.proofs.Common.{arith, sym, ◌∙◌, ap, subst}
 use Rattle.std.proofs.lemmas.Bool.{eqb-true, eq-eqb}
 use Rattle.resty_base.specs.declared.names.StrandId.{StrandId}
+use Rattle.resty_base.specs.BoolLaws.{by_test}
 use Rattle.resty_world.specs.Ids.{same_strand}
+use Rattle.resty_world.specs.IdLaws.{same_strand-eq, same_strand-self}
 use Rattle.strand_contract.specs.declared.turns.Place.{Place}
 use Rattle.strand_contract.specs.declared.turns.Place.TheVariants as place
 use Rattle.shared_rules.specs.Keys.{same_key}
@@ -18,7 +20,7 @@ use Rattle.executions.specs.Counts.{dialled}
 use Rattle.executions.specs.Queues.{only}
 use Rattle.executions.specs.Sockets.{Socket, without_held, got, idle_of, held_by, sockets, holder_in, owner, at_place, socket_at, closed_by, pool}
 use Rattle.executions.specs.Plain.{IsPlain, IsPlainAt, taken_number, taken_uses}
-use Rattle.executions.proofs.Strands.{clash, by_test, same-self, same-is}
+use Rattle.executions.proofs.Strands.{clash}
 
 pub le-refl : (a : ℕ) → a ≤ a
 le-refl a = omega arith
@@ -115,7 +117,7 @@ held-stays s t k (place.Sock j) (e ∷ l) other h = put (same_strand t e.0) refl
     put : (c : Bool) → same_strand t e.0 ≡ c → (d : Bool) → (j == e.1.at) ≡ d → (f : Bool) → (same_strand s e.0 && (k == e.1.at)) ≡ f → (f || is_held s k l) ≡ true
         → (is_held s k l ≡ true → is_held s k (without_held t (place.Sock j) l) ≡ true) → is_held s k (if c && d then l else e ∷ without_held t (place.Sock j) l) ≡ true
     put true p true q true r h ih = clash (same_strand s t && (k == j))
-        (subst (λ (x : StrandId). (same_strand s x && (k == j)) ≡ true) (sym (same-is t e.0 p)) (subst (λ (x : ℕ). (same_strand s e.0 && (k == x)) ≡ true) (sym (eqb-true j e.1.at q)) r)) (other j refl)
+        (subst (λ (x : StrandId). (same_strand s x && (k == j)) ≡ true) (sym (same_strand-eq t e.0 p)) (subst (λ (x : ℕ). (same_strand s e.0 && (k == x)) ≡ true) (sym (eqb-true j e.1.at q)) r)) (other j refl)
     put true p true q false r h ih = h
     put true p false q true r h ih = ap (λ c. c || is_held s k (without_held t (place.Sock j) l)) r
     put true p false q false r h ih = ap (λ c. c || is_held s k (without_held t (place.Sock j) l)) r ∙ ih h
@@ -142,11 +144,11 @@ module _ {J : Type 0} (b : Behavior J) where
 
   closes : (s : StrandId) (k : ℕ) (q : Place) (es : List (LocalAction J)) (l : List (StrandId × Socket)) → OpenHeld s k es l → (c : Bool) → same_place (place.Sock k) q ≡ c → (if c then false else is_open (place.Sock k) es) ≡ true → is_held s k (without_held s q l) ≡ true
   closes s k q es l ih true e h = clash false h refl
-  closes s k q es l ih false e h = held-stays s s k q l (λ j w. ap (λ c. c && (k == j)) (same-self s) ∙ subst (λ (p : Place). same_place (place.Sock k) p ≡ false) w e) (ih h)
+  closes s k q es l ih false e h = held-stays s s k q l (λ j w. ap (λ c. c && (k == j)) (same_strand-self s) ∙ subst (λ (p : Place). same_place (place.Sock k) p ≡ false) w e) (ih h)
 
   opens : (s : StrandId) (k n uses : ℕ) (es : List (LocalAction J)) (l : List (StrandId × Socket)) → OpenHeld s k es l → (c : Bool) → (k == socket_count es) ≡ c → (c || is_open (place.Sock k) es) ≡ true
       → is_held s k (l ++ (s, record { at = socket_count es; sock = n; uses = uses }) ∷ []) ≡ true
-  opens s k n uses es l ih true e h = held-last s k l _ (ap (λ c. c && (k == socket_count es)) (same-self s) ∙ e)
+  opens s k n uses es l ih true e h = held-last s k l _ (ap (λ c. c && (k == socket_count es)) (same_strand-self s) ∙ e)
   opens s k n uses es l ih false e h = held-more s k l _ (ih h)
 
   own-held : (s : StrandId) (x : Action J) (n : Option ℕ) (k : ℕ) (ms : List (GlobalAction J)) → IsExecution b (Did x ∷ projection s ms) → IsPlainAt b x n ms → OpenHeld s k (projection s ms) (sockets ms)
@@ -175,7 +177,7 @@ module _ {J : Type 0} (b : Behavior J) where
     where
       put : (c : Bool) → same_strand s t ≡ c → IsExecution b (if c then Did x ∷ projection s ms else projection s ms) → is_open (place.Sock k) (if c then Did x ∷ projection s ms else projection s ms) ≡ true
           → OpenHeld s k (projection s ms) (sockets ms) → is_held s k (held_by t x n (socket_count (projection t ms)) (sockets ms)) ≡ true
-      put true e g h ih = subst (λ (r : StrandId). is_held s k (held_by r x n (socket_count (projection r ms)) (sockets ms)) ≡ true) (same-is s t e) (own-held s x n k ms g p.1 ih h)
+      put true e g h ih = subst (λ (r : StrandId). is_held s k (held_by r x n (socket_count (projection r ms)) (sockets ms)) ≡ true) (same_strand-eq s t e) (own-held s x n k ms g p.1 ih h)
       put false e g h ih = others-held s t x n k (socket_count (projection t ms)) (sockets ms) e (ih h)
   open-held (Everyone w ∷ ms) f p s k h = put (lives (projection s ms)) h (open-held ms (λ r. tail-if (lives (projection r ms)) (Told w) (projection r ms) (f r)) p.0 s k)
     where
@@ -259,7 +261,7 @@ module _ {J : Type 0} (b : Behavior J) where
 
   pub once : (ms : List (GlobalAction J)) → ((s : StrandId) → IsExecution b (projection s ms)) → IsPlain b ms → Once ms
   once [] f p = record { unborn = λ n h. refl; zero = refl; once = λ n. omega arith }
-  once (Of s x n ∷ ms) f p = once-of s x n ms (open-held ms (λ r. tail-if (same_strand r s) (Did x) (projection r ms) (f r)) p.0) (head (same_strand s s) (same-self s) (f s)) p.1
+  once (Of s x n ∷ ms) f p = once-of s x n ms (open-held ms (λ r. tail-if (same_strand r s) (Did x) (projection r ms) (f r)) p.0) (head (same_strand s s) (same_strand-self s) (f s)) p.1
       (once ms (λ r. tail-if (same_strand r s) (Did x) (projection r ms) (f r)) p.0)
     where
       head : (c : Bool) → c ≡ true → IsExecution b (if c then Did x ∷ projection s ms else projection s ms) → Enabled b (projection s ms) (Did x)
@@ -284,7 +286,7 @@ module _ {J : Type 0} (b : Behavior J) where
   holder-is s k (e ∷ l) h c = put (same_strand s e.0) refl h c (holder-is s k l)
     where
       here : same_strand s e.0 ≡ true → (k == e.1.at) ≡ true → (if e.1.sock == e.1.sock then Some (e.0, e.1.at) else holder_in e.1.sock l) ≡ Some (s, k)
-      here p q = ap (λ c. if c then Some (e.0, e.1.at) else holder_in e.1.sock l) (eq-eqb e.1.sock e.1.sock refl) ∙ ap (λ t. Some (t, e.1.at)) (sym (same-is s e.0 p)) ∙ ap (λ j. Some (s, j)) (sym (eqb-true k e.1.at q))
+      here p q = ap (λ c. if c then Some (e.0, e.1.at) else holder_in e.1.sock l) (eq-eqb e.1.sock e.1.sock refl) ∙ ap (λ t. Some (t, e.1.at)) (sym (same_strand-eq s e.0 p)) ∙ ap (λ j. Some (s, j)) (sym (eqb-true k e.1.at q))
 
       later : is_held s k l ≡ true → one (at_place k (only s l)).sock e.1.sock + count_held (at_place k (only s l)).sock l ≤ 1 → (is_held s k l ≡ true → count_held (at_place k (only s l)).sock l ≤ 1 → holder_in (at_place k (only s l)).sock l ≡ Some (s, k))
           → (if (at_place k (only s l)).sock == e.1.sock then Some (e.0, e.1.at) else holder_in (at_place k (only s l)).sock l) ≡ Some (s, k)

@@ -2,6 +2,7 @@
 use Rattle.std.proofs.Common.{◌≡◌, ℕ, Bool, true, false, ◌&&◌, ◌==◌, List, [], ◌∷◌, ◌++◌, if◌then◌else◌, refl, sym, ap, subst, ◌∙◌, append_assoc, append-nil}
 use Rattle.resty_base.specs.declared.names.StrandId.{StrandId}
 use Rattle.resty_world.specs.Ids.{same_strand}
+use Rattle.resty_world.specs.IdLaws.{same_strand-self}
 use Rattle.strand_contract.specs.declared.turns.Place.{Place}
 use Rattle.strand_contract.specs.declared.turns.Act.{Act}
 use Rattle.strand_contract.specs.declared.turns.Act.TheVariants as act
@@ -12,7 +13,6 @@ use Rattle.executions.specs.Executions.{GlobalAction, Of, Everyone, TurnedAway, 
 use Rattle.executions.specs.Queues.{lined, placed, without_all, without_first, without_thread, after_run, after_offer, run_queue, offer_queue}
 use Rattle.executions.specs.Ordered.{MayTurnAt, IsOrdered}
 use Rattle.executions.specs.Subsequences.{IsSubsequence, none, keep, skip, with_strand, readied, run_of, offer_of, all_readied, all_run, all_placed, all_offered}
-use Rattle.executions.proofs.Strands.{same-self}
 
 sub-same : {A : Type 0} (xs : List A) → IsSubsequence xs xs
 sub-same [] = none
@@ -54,7 +54,7 @@ module _ {A : Type 0} where
   -- a turn takes the first, which is its own
   sub-taken : (s : StrandId) (k : A) (xs l rest ys : List (StrandId × A)) → l ≡ (s, k) ∷ rest → IsSubsequence (xs ++ l) ys → IsSubsequence ((xs ++ (s, k) ∷ []) ++ without_first s l) ys
   sub-taken s k xs l rest ys e r =
-      subst (λ zs. IsSubsequence zs ys) (sym (ap (λ zs. (xs ++ (s, k) ∷ []) ++ without_first s zs) e ∙ ap (λ c. (xs ++ (s, k) ∷ []) ++ (if c then rest else (s, k) ∷ without_first s rest)) (same-self s)
+      subst (λ zs. IsSubsequence zs ys) (sym (ap (λ zs. (xs ++ (s, k) ∷ []) ++ without_first s zs) e ∙ ap (λ c. (xs ++ (s, k) ∷ []) ++ (if c then rest else (s, k) ∷ without_first s rest)) (same_strand-self s)
       ∙ append_assoc xs ((s, k) ∷ []) rest))
       (subst (λ zs. IsSubsequence (xs ++ zs) ys) e r)
 

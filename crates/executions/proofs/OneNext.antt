@@ -3,6 +3,7 @@ use Rattle.std.specs.Prelude.{◌≡◌, ℕ, Bool, true, false, ◌&&◌, List,
 use Rattle.std.proofs.Common.{inl, inr, sym, ◌∙◌, ap, subst}
 use Rattle.resty_base.specs.declared.names.StrandId.{StrandId}
 use Rattle.resty_base.specs.declared.names.StrandId.TheVariants as strand
+use Rattle.resty_base.specs.BoolLaws.{by_test}
 use Rattle.strand_contract.specs.declared.turns.Place.{Place}
 use Rattle.strand_contract.specs.declared.turns.Act.{Act}
 use Rattle.strand_contract.specs.declared.turns.Act.TheVariants as act
@@ -25,7 +26,7 @@ use Rattle.executions.specs.Plain.{IsPlainAt, IsPlainBy, taken_number}
 use Rattle.executions.specs.NextActions.{Next, Does, Writes, Asks, act_of, acts_on, closes_on, offers_on, starts, starts_as, turns, in_line, winds_up, runs_else}
 use Rattle.executions.specs.NextActions.{offers_else, due_else, job_else, closes_else, ends_else, next_in, next_for, next, IsAnswer, is_drop}
 use Rattle.executions.specs.Beginnings.{IsBeginning}
-use Rattle.executions.proofs.Strands.{clash, by_test, none-that, way-acts, way-offer, way-open, GoesOn, Comes, before, enabled, kind, only-one, found}
+use Rattle.executions.proofs.Strands.{clash, none-that, way-acts, way-offer, way-open, GoesOn, Comes, before, enabled, kind, only-one, found}
 use Rattle.executions.proofs.Strands.{acts-live, dropped-dead, rest-way}
 
 module _ {J : Type 0} (b : Behavior J) (quiet : IsQuiet b) where

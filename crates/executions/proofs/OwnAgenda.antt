@@ -5,8 +5,10 @@ use Rattle.std.proofs.lemmas.List.{append-nil}
 use Rattle.resty_base.specs.declared.names.Ms.{Ms}
 use Rattle.resty_base.specs.declared.names.StrandId.{StrandId}
 use Rattle.resty_base.specs.declared.names.StrandId.TheVariants as strand
+use Rattle.resty_base.specs.BoolLaws.{by_test}
 use Rattle.resty_world.specs.Ids.{same_strand}
 use Rattle.resty_world.specs.declared.answers.TimerAnswer.TheVariants as timer
+use Rattle.resty_world.specs.IdLaws.{same_strand-eq, same_strand-self}
 use Rattle.strand_contract.specs.declared.turns.Act.{Act}
 use Rattle.strand_contract.specs.declared.turns.Act.TheVariants as act
 use Rattle.shared_rules.specs.Pool.{idle_until}
@@ -19,7 +21,7 @@ use Rattle.executions.specs.Sockets.{socket_at, closed_by}
 use Rattle.executions.specs.Agenda.{Whose, OfStrand, OfJob, OfIdle, without_one, without_those, is_number, is_of, is_start, is_socket, armed_with, idle_armed}
 use Rattle.executions.specs.Agenda.{agenda_at, agenda}
 use Rattle.executions.specs.OwnDeadlines.{own_of, deadlines}
-use Rattle.executions.proofs.Strands.{same-self, same-is, clash, by_test}
+use Rattle.executions.proofs.Strands.{clash}
 use Rattle.executions.proofs.OwnLines.{is_by, GoesAlong, own-line}
 
 -- a test that is true of nothing of the strand
@@ -47,10 +49,10 @@ spared-one is_so s (d ∷ ds) p = put d.0 (is_so d.0) refl (spared-one is_so s d
     put w false e ih = ap (λ r. own_of s w d.1 r) ih
 
 spares-other : (t s : StrandId) (k : ℕ) → same_strand t s ≡ false → Spares (is_number s k) t
-spares-other t s k ne r j on = by_test (same_strand s r) (λ h. clash (same_strand t s) (subst (λ (x : StrandId). same_strand t x ≡ true) (sym (same-is s r h)) on) ne) (λ off. ap (λ c. c && (k == j)) off)
+spares-other t s k ne r j on = by_test (same_strand s r) (λ h. clash (same_strand t s) (subst (λ (x : StrandId). same_strand t x ≡ true) (sym (same_strand-eq s r h)) on) ne) (λ off. ap (λ c. c && (k == j)) off)
 
 spares-of : (t s : StrandId) → same_strand t s ≡ false → Spares (is_of s) t
-spares-of t s ne r j on = by_test (same_strand s r) (λ h. clash (same_strand t s) (subst (λ (x : StrandId). same_strand t x ≡ true) (sym (same-is s r h)) on) ne) (λ off. off-of s off)
+spares-of t s ne r j on = by_test (same_strand s r) (λ h. clash (same_strand t s) (subst (λ (x : StrandId). same_strand t x ≡ true) (sym (same_strand-eq s r h)) on) ne) (λ off. off-of s off)
   where
     off-of : (s : StrandId) → same_strand s r ≡ false → is_of s (OfStrand r j) ≡ false
     off-of (strand.Conn c) off = off
@@ -92,7 +94,7 @@ deadlines-append s (d ∷ xs) ys = put d.0 (deadlines-append s xs ys)
 own-armed : (J : Type 0) (s : StrandId) (acts : List (Act J)) (ds : List (Whose × ℕ)) → deadlines s (armed_with s acts ds) ≡ armed_by acts (deadlines s ds)
 own-armed J s [] ds = refl
 own-armed J s (act.Arm k at ∷ acts) ds = own-armed J s acts (without_one (is_number s k) ds ++ (OfStrand s k, at.0) ∷ [])
-    ∙ ap (armed_by acts) (deadlines-append s (without_one (is_number s k) ds) ((OfStrand s k, at.0) ∷ []) ∙ ap (λ r. r ++ deadlines s ((OfStrand s k, at.0) ∷ [])) (own-one s k ds) ∙ ap (λ c. disarmed k (deadlines s ds) ++ (if c then (k, at.0) ∷ [] else [])) (same-self s))
+    ∙ ap (armed_by acts) (deadlines-append s (without_one (is_number s k) ds) ((OfStrand s k, at.0) ∷ []) ∙ ap (λ r. r ++ deadlines s ((OfStrand s k, at.0) ∷ [])) (own-one s k ds) ∙ ap (λ c. disarmed k (deadlines s ds) ++ (if c then (k, at.0) ∷ [] else [])) (same_strand-self s))
 own-armed J s (act.Cancel k ∷ acts) ds = own-armed J s acts (without_one (is_number s k) ds) ∙ ap (armed_by acts) (own-one s k ds)
 own-armed J s (a ∷ acts) ds = own-armed J s acts ds
 

@@ -2,17 +2,19 @@
 use Rattle.std.specs.Prelude.{◌≡◌, ℕ, Bool, true, false, List, [], ◌∷◌, ◌++◌, Option, drop, if◌then◌else◌, refl}
 use Rattle.std.proofs.Common.{sym, ◌∙◌, ap, subst}
 use Rattle.resty_base.specs.declared.names.StrandId.{StrandId}
+use Rattle.resty_base.specs.BoolLaws.{by_test}
 use Rattle.resty_world.specs.Ids.{same_strand}
+use Rattle.resty_world.specs.IdLaws.{same_strand-eq}
 use Rattle.strand_contract.specs.Actions.{Word, Action, Began, Dropped, Gone, LocalAction, Told, Did}
 use Rattle.strand_contract.specs.Behaviors.{Behavior}
 use Rattle.strand_contract.specs.Alone.{lives, IsExecution}
 use Rattle.executions.specs.Executions.{GlobalAction, Of, Everyone, TurnedAway, IdleGave, IdleClosed, projection}
 use Rattle.executions.specs.Queues.{only, without_first, without_all}
-use Rattle.executions.proofs.Strands.{same-is, clash, by_test}
+use Rattle.executions.proofs.Strands.{clash}
 
 -- what is the strand s isn't another
 pub off-other : (t s r : StrandId) → same_strand t s ≡ false → same_strand s r ≡ true → same_strand t r ≡ false
-off-other t s r ne h = subst (λ (x : StrandId). same_strand t x ≡ false) (same-is s r h) ne
+off-other t s r ne h = subst (λ (x : StrandId). same_strand t x ≡ false) (same_strand-eq s r h) ne
 
 pub only-append : {A : Type 0} (s : StrandId) (xs ys : List (StrandId × A)) → only s (xs ++ ys) ≡ only s xs ++ only s ys
 only-append s [] ys = refl
@@ -107,5 +109,5 @@ module _ {J L M : Type 0} (b : Behavior J) (s : StrandId) (line : List (GlobalAc
       where
         put : (IsExecution b (projection s ms) → HasOwn ms) → (c : Bool) → same_strand s t ≡ c → IsExecution b (if c then Did x ∷ projection s ms else projection s ms)
             → lives (if c then Did x ∷ projection s ms else projection s ms) ≡ true → cut (line (Of t x n ∷ ms)) ≡ own (if c then Did x ∷ projection s ms else projection s ms)
-        put ih true e f live = subst (λ (r : StrandId). cut (line (Of r x n ∷ ms)) ≡ own (Did x ∷ projection s ms)) (same-is s t e) (g.owns x n ms live (was-own ms x f live (ih f.0)))
+        put ih true e f live = subst (λ (r : StrandId). cut (line (Of r x n ∷ ms)) ≡ own (Did x ∷ projection s ms)) (same_strand-eq s t e) (g.owns x n ms live (was-own ms x f live (ih f.0)))
         put ih false e f live = g.others (Of t x n) ms e ∙ ih f live

@@ -4,6 +4,7 @@ use Rattle.std.proofs.Common.{sym, ◌∙◌, ap}
 use Rattle.std.proofs.lemmas.List.{append_assoc, append-nil}
 use Rattle.resty_base.specs.declared.names.StrandId.{StrandId}
 use Rattle.resty_world.specs.Ids.{same_strand}
+use Rattle.resty_world.specs.IdLaws.{same_strand-self}
 use Rattle.strand_contract.specs.declared.turns.Place.{Place}
 use Rattle.strand_contract.specs.declared.turns.Act.{Act}
 use Rattle.strand_contract.specs.declared.turns.Act.TheVariants as act
@@ -13,12 +14,12 @@ use Rattle.strand_contract.specs.Alone.{lives, to_offer, offers, offered_by, IsE
 use Rattle.strand_contract.specs.Laws.{IsQuiet}
 use Rattle.executions.specs.Executions.{GlobalAction, Of, Everyone, TurnedAway, IdleGave, IdleClosed, projection}
 use Rattle.executions.specs.Queues.{only, placed, after_offer, offer_queue}
-use Rattle.executions.proofs.Strands.{same-self, clash}
+use Rattle.executions.proofs.Strands.{clash}
 use Rattle.executions.proofs.OwnLines.{only-append, own-first, other-first, other-all, is_by, GoesAlong, own-line}
 
 own-placed : (J : Type 0) (s : StrandId) (acts : List (Act J)) (l : List (StrandId × Place)) → only s (placed s acts l) ≡ only s l ++ offers acts
 own-placed J s [] l = sym (append-nil (only s l))
-own-placed J s (act.Offer q ∷ acts) l = own-placed J s acts (l ++ (s, q) ∷ []) ∙ ap (λ r. r ++ offers acts) (only-append s l ((s, q) ∷ []) ∙ ap (λ b. only s l ++ (if b then q ∷ [] else [])) (same-self s)) ∙ append_assoc (only s l) (q ∷ []) (offers acts)
+own-placed J s (act.Offer q ∷ acts) l = own-placed J s acts (l ++ (s, q) ∷ []) ∙ ap (λ r. r ++ offers acts) (only-append s l ((s, q) ∷ []) ∙ ap (λ b. only s l ++ (if b then q ∷ [] else [])) (same_strand-self s)) ∙ append_assoc (only s l) (q ∷ []) (offers acts)
 own-placed J s (a ∷ acts) l = own-placed J s acts l
 
 other-placed : (J : Type 0) (t s : StrandId) (acts : List (Act J)) (l : List (StrandId × Place)) → same_strand t s ≡ false → only t (placed s acts l) ≡ only t l

@@ -4,6 +4,7 @@ use Rattle.std.proofs.Common.{sym, ◌∙◌, ap}
 use Rattle.std.proofs.lemmas.List.{append-nil}
 use Rattle.resty_base.specs.declared.names.StrandId.{StrandId}
 use Rattle.resty_world.specs.Ids.{same_strand}
+use Rattle.resty_world.specs.IdLaws.{same_strand-self}
 use Rattle.strand_contract.specs.declared.turns.Act.{Act}
 use Rattle.strand_contract.specs.declared.turns.Act.TheVariants as act
 use Rattle.strand_contract.specs.Actions.{Action, Run, Dropped, Gone, LocalAction, Told, Did}
@@ -11,7 +12,7 @@ use Rattle.executions.specs.Executions.{GlobalAction, Of, Everyone, TurnedAway, 
 use Rattle.strand_contract.specs.Alone.{lives, waiting, lined_up, run_by, without, IsExecution}
 use Rattle.strand_contract.specs.Behaviors.{Behavior}
 use Rattle.strand_contract.specs.Laws.{IsQuiet}
-use Rattle.executions.proofs.Strands.{same-self, clash}
+use Rattle.executions.proofs.Strands.{clash}
 use Rattle.executions.proofs.OwnLines.{off-other, only-append, own-first, other-first, other-all, is_by, GoesAlong, own-line}
 use Rattle.executions.specs.Queues.{only, without_thread, lined, after_run, run_queue}
 
@@ -35,7 +36,7 @@ other-without t s k (e ∷ l) ne = put (other-without t s k l ne) (same_strand s
 
 own-lined : (J : Type 0) (s : StrandId) (acts : List (Act J)) (l : List (StrandId × ℕ)) → only s (lined s acts l) ≡ lined_up acts (only s l)
 own-lined J s [] l = refl
-own-lined J s (act.Ready k ∷ acts) l = own-lined J s acts (l ++ (s, k) ∷ []) ∙ ap (lined_up acts) (only-append s l ((s, k) ∷ []) ∙ ap (λ b. only s l ++ (if b then k ∷ [] else [])) (same-self s))
+own-lined J s (act.Ready k ∷ acts) l = own-lined J s acts (l ++ (s, k) ∷ []) ∙ ap (lined_up acts) (only-append s l ((s, k) ∷ []) ∙ ap (λ b. only s l ++ (if b then k ∷ [] else [])) (same_strand-self s))
 own-lined J s (act.Unready k ∷ acts) l = own-lined J s acts (without_thread s k l) ∙ ap (lined_up acts) (own-without s k l)
 own-lined J s (a ∷ acts) l = own-lined J s acts l
 

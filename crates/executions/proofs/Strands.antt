@@ -1,10 +1,11 @@
 -- Strands of an execution: those that are so, and which one's turn is under way.
 use Rattle.std.specs.Prelude.{◌≡◌, ◌⊎◌, ℕ, Bool, true, false, ◌||◌, List, [], ◌∷◌, ◌++◌, drop, Option, Some, None, is_some, if◌then◌else◌, refl}
 use Rattle.std.proofs.Common.{inl, inr, sym, ◌∙◌, ap, subst}
-use Rattle.std.proofs.lemmas.Bool.{eqb-true, eq-eqb}
 use Rattle.resty_base.specs.declared.names.StrandId.{StrandId}
 use Rattle.resty_base.specs.declared.names.StrandId.TheVariants as strand
+use Rattle.resty_base.specs.BoolLaws.{by_test}
 use Rattle.resty_world.specs.Ids.{same_strand}
+use Rattle.resty_world.specs.IdLaws.{same_strand-eq, same_strand-self}
 use Rattle.strand_contract.specs.declared.turns.Place.{Place}
 use Rattle.strand_contract.specs.declared.turns.Act.{Act}
 use Rattle.strand_contract.specs.declared.turns.Start.TheVariants as start
@@ -18,22 +19,8 @@ use Rattle.executions.specs.Strands.{is_in, strands, first_in, first_that, has_s
 use Rattle.executions.specs.Ordered.{MayTurn, MayTurnAt, MayDropLiving}
 use Rattle.executions.specs.Lawful.{AllAtRest, IsGivenAtRest}
 
-pub same-self : (s : StrandId) → same_strand s s ≡ true
-same-self (strand.Conn c) = eq-eqb c c refl
-same-self (strand.Job n) = eq-eqb n n refl
-
-pub same-is : (s t : StrandId) → same_strand s t ≡ true → s ≡ t
-same-is (strand.Conn c) (strand.Conn d) h = ap strand.Conn (eqb-true c d h)
-same-is (strand.Job n) (strand.Job m) h = ap strand.Job (eqb-true n m h)
-same-is (strand.Conn c) (strand.Job m) h = absurd (let e : false ≡ true = h in cc)
-same-is (strand.Job n) (strand.Conn d) h = absurd (let e : false ≡ true = h in cc)
-
 pub clash : {C : Type 0} (x : Bool) → x ≡ true → x ≡ false → C
 clash x p q = absurd (let e : true ≡ false = sym p ∙ q in cc)
-
-pub by_test : {C : Type 0} (x : Bool) → (x ≡ true → C) → (x ≡ false → C) → C
-by_test true on off = on refl
-by_test false on off = off refl
 
 pub cons-nil : {A C : Type 0} (x : A) (xs : List A) → x ∷ xs ≡ [] → C
 cons-nil x xs h = absurd (let f : x ∷ xs ≡ [] = h in cc)
@@ -56,7 +43,7 @@ module _ {J : Type 0} where
       other off e = ap (λ c. if c then Did x ∷ projection s ms else projection s ms) off ∙ e
 
       put : (c : Bool) → is_in t (strands ms) ≡ c → is_in s (if c then strands ms else strands ms ++ t ∷ []) ≡ false → (is_in s (strands ms) ≡ false → projection s ms ≡ []) → seen_by s (Of t x n) (projection s ms) ≡ []
-      put true e h ih = other (by_test (same_strand s t) (λ on. clash (is_in s (strands ms)) (subst (λ (r : StrandId). is_in r (strands ms) ≡ true) (sym (same-is s t on)) e) h) (λ off. off)) (ih h)
+      put true e h ih = other (by_test (same_strand s t) (λ on. clash (is_in s (strands ms)) (subst (λ (r : StrandId). is_in r (strands ms) ≡ true) (sym (same_strand-eq s t on)) e) h) (λ off. off)) (ih h)
       put false e h ih = let g = in-append s t (strands ms) h in other g.1 (ih g.0)
   unnamed s (Everyone w ∷ ms) h = ap (λ es. seen_by s (Everyone w) es) (unnamed s ms h)
   unnamed s (TurnedAway c ∷ ms) h = unnamed s ms h
@@ -77,7 +64,7 @@ module _ {J : Type 0} where
     where
       put : (c : Bool) → is_so (projection t ms) ≡ c → (if c then Some t else first_in is_so ss ms) ≡ None → (first_in is_so ss ms ≡ None → is_in s ss ≡ true → is_so (projection s ms) ≡ false) → is_so (projection s ms) ≡ false
       put true e h ih = absurd (let f : Some t ≡ None = h in cc)
-      put false e h ih = by_test (same_strand s t) (λ on. subst (λ (r : StrandId). is_so (projection r ms) ≡ false) (sym (same-is s t on)) e) (λ off. ih h (ap (λ c. c || is_in s ss) (sym off) ∙ i))
+      put false e h ih = by_test (same_strand s t) (λ on. subst (λ (r : StrandId). is_so (projection r ms) ≡ false) (sym (same_strand-eq s t on)) e) (λ off. ih h (ap (λ c. c || is_in s ss) (sym off) ∙ i))
 
   pub none-is-so : (is_so : List (LocalAction J) → Bool) (ms : List (GlobalAction J)) → is_so [] ≡ false → first_that is_so ms ≡ None → (s : StrandId) → is_so (projection s ms) ≡ false
   none-is-so is_so ms e h s = by_test (is_in s (strands ms)) (none-in is_so (strands ms) ms s h) (λ off. ap is_so (unnamed s ms off) ∙ e)
@@ -219,7 +206,7 @@ module _ {J : Type 0} (b : Behavior J) (quiet : IsQuiet b) where
   head-if false x es e f = clash false e refl
 
   pub enabled : (r : StrandId) (x : Action J) (n : Option ℕ) (ms : List (GlobalAction J)) → Comes (Of r x n ∷ ms) → Enabled b (projection r ms) (Did x)
-  enabled r x n ms g = head-if (same_strand r r) x (projection r ms) (same-self r) (g.alone r)
+  enabled r x n ms g = head-if (same_strand r r) x (projection r ms) (same_strand-self r) (g.alone r)
 
   pub kind : (r : StrandId) (x : Action J) (n : Option ℕ) (ms : List (GlobalAction J)) → Comes (Of r x n ∷ ms) → GoesOn r ms
   kind r x n ms g = goes-on r x ms ((before (Of r x n) ms g).alone r) (enabled r x n ms g) g.given.1 g.turns.1
@@ -245,7 +232,7 @@ module _ {J : Type 0} (b : Behavior J) (quiet : IsQuiet b) where
 
       put : (c : Bool) → same_strand s r ≡ c → (d : Bool) → same_strand t r ≡ d → is_under_way b (if c then Did x ∷ projection s ms else projection s ms) ≡ true
           → is_under_way b (if d then Did x ∷ projection t ms else projection t ms) ≡ true → same_strand s t ≡ true
-      put true e true f us ut = subst (λ (p : StrandId). same_strand s p ≡ true) (same-is s r e ∙ sym (same-is t r f)) (same-self s)
+      put true e true f us ut = subst (λ (p : StrandId). same_strand s p ≡ true) (same_strand-eq s r e ∙ sym (same_strand-eq t r f)) (same_strand-self s)
       put true e false f us ut = others t f ut
       put false e true f us ut = others s e us
       put false e false f us ut = ih s t us ut
@@ -269,4 +256,4 @@ module _ {J : Type 0} (b : Behavior J) (quiet : IsQuiet b) where
     where
       put : (o : Option StrandId) → under_way b ms ≡ o → under_way b ms ≡ Some r
       put None e = clash (is_under_way b (projection r ms)) u (none-way ms e r)
-      put (Some t) e = e ∙ ap Some (same-is t r (one t r (first-is-so (is_under_way b) (strands ms) ms t e) u))
+      put (Some t) e = e ∙ ap Some (same_strand-eq t r (one t r (first-is-so (is_under_way b) (strands ms) ms t e) u))

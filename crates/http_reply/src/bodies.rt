@@ -99,8 +99,8 @@ pub fn reply(
     Ok(Bytes::from_vec(bytes)?)
 }
 
-/// The same bytes in a buffer of the caller's own, which isn't shared.
-pub fn reply_buffer(
+/// The same bytes in a buffer that isn't shared.
+fn reply_buffer(
     alloc: Global,
     head: &ReplyHead,
     framing: Framing,

@@ -11,7 +11,7 @@ mod reasons;
 mod statuses;
 mod texts;
 
-pub use bodies::{body_bytes, framing, reply, reply_buffer};
+pub use bodies::{body_bytes, framing, reply};
 pub use chunks::{ChunkStart, chunk_start, chunk_text, last_chunk};
 pub use dates::date_text;
 pub use ends::Framing;

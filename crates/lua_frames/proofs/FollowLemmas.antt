@@ -5,10 +5,11 @@ use borrow.Author.Tests.{ltb-true}
 use Rattle.lua_values.specs.Heap.{StoreView, step_limit}
 use Rattle.lua_meaning.specs.declared.slots.Slot.{Slot}
 use Rattle.lua_meaning.specs.Works.{Places, Node, Sign, Slots, Work, End, Eval, Count, and_then}
-use Rattle.lua_meaning.specs.Evaluator.{Resume, State, Ending, Ended, Parked, Spent, after, do_work}
+use Rattle.lua_meaning.specs.Evaluator.{Resume, State, Ending, Ended, Spent, after, do_work}
 use Rattle.lua_meaning.specs.Setting.{Setting}
 use Rattle.lua_meaning.specs.Nodes.{work_of, eval}
 use Rattle.lua_meaning.proofs.EvaluatorLemmas.{eval-law, work-then}
+use Rattle.lua_meaning.specs.EndingLaws.{after_same as after_ended}
 use Rattle.lua_frames.specs.declared.flow.Flow.{Flow}
 use Rattle.lua_frames.specs.declared.flow.Flow.TheVariants as flow
 use Rattle.lua_frames.specs.declared.flow.Op.{Op}
@@ -91,11 +92,6 @@ count_spent S n q before below e fails rs = by_test (nat_lt (before.steps + n) s
     by_test : (t : Bool) → t ≡ false → (if t then do_work (eval S) q (record { store = record { heap = before.heap; steps = before.steps + n }; resumes = rs }) else Spent) ≡ Spent
     by_test true h = absurd (cc)
     by_test false h = refl
-
-pub after_ended : (o : Ending) → after o (λ sign s w. Ended sign s w) ≡ o
-after_ended (Ended sign s w) = refl
-after_ended (Parked number args position store) = refl
-after_ended Spent = refl
 
 -- a node's step is counted, and its work begins
 pub enters_by : {E : Type 0} (S : Setting) (n : Node) (old fs : Frames) (before mid store : StoreView) (below : Bool) (r : Result Flow E) → mid ≡ record { heap = before.heap; steps = min step_limit (before.steps + 1) } → below ≡ nat_lt (before.steps + 1) step_limit → below ≡ true

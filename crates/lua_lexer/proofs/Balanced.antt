@@ -3,7 +3,7 @@ use Rattle.std.proofs.Common.{◌≡◌, ℕ, zero, suc, ◌+◌, ◌-◌, ◌<�
 use Rattle.std.specs.Prelude.{◌==◌, ◌&&◌, not, option_map, option_and_then, ok_or, slice_range}
 use Rattle.std.specs.List.{prefix_len}
 use Rattle.std.specs.Char.{is_ascii_digit}
-use Rattle.std.proofs.lemmas.Bool.{eqb-true, eq-eqb}
+use Rattle.std.proofs.lemmas.Bool.{eqb-true, eq-eqb, and_parts}
 use Rattle.std.proofs.lemmas.List.{drop_more}
 use Rattle.std.proofs.lemmas.List.Folds.{prefix_len-append}
 use Rattle.std.proofs.lemmas.List.Sums.{prefix_len-le-length}
@@ -15,7 +15,8 @@ use Rattle.lua_lexer.specs.declared.tokens.Piece.{Piece}
 use Rattle.lua_lexer.specs.declared.tokens.Token.{Token}
 use Rattle.lua_lexer.specs.declared.tokens.TokenKind.{TokenKind}
 use Rattle.lua_lexer.specs.declared.tokens.TokenKind.TheVariants.{Sign as SignKind}
-use Rattle.lua_lexer.specs.Characters.{is_blank, is_line_byte, is_word_start, line_ends}
+use Rattle.lua_numbers.specs.NumberText.{is_blank}
+use Rattle.lua_lexer.specs.Characters.{is_line_byte, is_word_start, line_ends}
 use Rattle.lua_lexer.specs.Brackets.{opens, is_bracket, inside_len, long_size}
 use Rattle.lua_lexer.specs.Comments.{is_comment, comment_size}
 use Rattle.lua_lexer.specs.Strings.{is_quote, short_string, long_string}
@@ -26,7 +27,7 @@ use Rattle.lua_lexer.specs.Tokens.{skipped_piece, comment, piece, token_of, toke
 use Rattle.lua_lexer.specs.Blocks.{stretch, depth_after, closing_after, block_end_of}
 use Rattle.lua_lexer.specs.Balance.{braces_after, braces_of}
 use Rattle.lua_lexer.proofs.Fronts.{with_front}
-use Rattle.lua_lexer.proofs.Prefixes.{in_range, both, comment_same, opens_same, inside_same}
+use Rattle.lua_lexer.proofs.Prefixes.{in_range, comment_same, opens_same, inside_same}
 use Rattle.lua_lexer.proofs.Braces.{closing_here, closing_step}
 use Rattle.lua_lexer.proofs.Listing.{tokens_step, tokens_fault}
 use Rattle.lua_lexer.proofs.Walks.{Walks, braces_with, Reads, chosen, ok_same, err_ok, IsBare, IsPlain, plain_code, plain_step, single_step, stretch_walks, walks_sized, walks_run, plain_blank, walks_word, walks_numeral, walks_short, walks_long}
@@ -65,7 +66,7 @@ closing_found k depth index [] end ends = absurd (cc)
 closing_found (suc k) depth index (c ∷ cs) end ends = found_next k index end c cs (closing_found k depth (index + 1) cs end ends)
 closing_found zero depth index (c ∷ cs) end ends =
     found_case (c == 125 && depth == 0) (stretch (c ∷ cs)) (λ size. closing_after (size - 1) (depth_after depth c) (index + 1) cs) index end c cs
-    (λ here. eqb-true c 125 (both (c == 125) (depth == 0) here).0) ends
+    (λ here. eqb-true c 125 (and_parts (c == 125) (depth == 0) here).0) ends
     (λ n more. closing_found (n - 1) (depth_after depth c) (index + 1) cs end more)
 
 comment_case : (size : Option ℕ) (fault : LexFault) (found : Piece) → ok_or (option_map skipped_piece size) fault ≡ Ok found
@@ -135,7 +136,7 @@ line_comment c d ds zs n shut sized =
 comment_alike : (ys zs : List ℕ) (n : ℕ) → is_comment ys ≡ true → comment_size ys ≡ Some n → ClosedOrOn ys zs n
 unfolding comment_size is_comment
 comment_alike [] zs n is sized = absurd (cc)
-comment_alike (c ∷ []) zs n is sized = absurd (no_second (both (c == 45) false is).1)
+comment_alike (c ∷ []) zs n is sized = absurd (no_second (and_parts (c == 45) false is).1)
   where
     no_second : false ≡ true → ⊥
     no_second same = cc
@@ -145,7 +146,7 @@ comment_alike (c ∷ d ∷ ds) zs n is sized =
 
 first_dash : (text : List ℕ) → is_comment text ≡ true → get_or text 0 0 ≡ 45
 unfolding is_comment
-first_dash text begins = eqb-true (get_or text 0 0) 45 (both (get_or text 0 0 == 45) (get_or text 1 0 == 45) begins).0
+first_dash text begins = eqb-true (get_or text 0 0) 45 (and_parts (get_or text 0 0 == 45) (get_or text 1 0 == 45) begins).0
 
 comment_stretch : (ys zs : List ℕ) (size : Option ℕ) → 0 < length ys → is_comment ys ≡ true → comment_size (ys ++ 125 ∷ zs) ≡ size
     → stretch (ys ++ 125 ∷ zs) ≡ size
@@ -307,7 +308,7 @@ unfolding sign_of_two
 double_read c d found reads =
     ⊎_elim
     (λ dots.
-    let parts = both (c == 46) (d == 46) dots.0 in
+    let parts = and_parts (c == 46) (d == 46) dots.0 in
     let which : Concat ≡ found = cc dots.1 in
     let code = eqb-true d 46 parts.1 in
     subst (IsDouble c d) which (record {
@@ -373,8 +374,8 @@ unfolding longest_sign
 walks_sign line depth index c cs zs found here quote dashes bracket reads =
     ⊎_elim
     (λ dots.
-    let outer = both (c == 46 && get_or cs 0 0 == 46) (get_or cs 1 0 == 46) dots.0 in
-    let inner = both (c == 46) (get_or cs 0 0 == 46) outer.0 in
+    let outer = and_parts (c == 46 && get_or cs 0 0 == 46) (get_or cs 1 0 == 46) dots.0 in
+    let inner = and_parts (c == 46) (get_or cs 0 0 == 46) outer.0 in
     subst (λ f. Walks depth index (c ∷ cs) zs f.kind f.size) (ok_same (sign_piece Ellipsis 3) found dots.1)
     (walks_dots depth index (c ∷ cs) zs inner.0 inner.1 outer.1))
     (λ others.

@@ -10,7 +10,8 @@ use Rattle.lua_lexer.specs.declared.tokens.Piece.{Piece}
 use Rattle.lua_lexer.specs.declared.tokens.Token.{Token}
 use Rattle.lua_lexer.specs.declared.tokens.TokenKind.{TokenKind}
 use Rattle.lua_lexer.specs.Brackets.{is_bracket, opens}
-use Rattle.lua_lexer.specs.Characters.{is_blank, is_word_start, line_ends}
+use Rattle.lua_numbers.specs.NumberText.{is_blank}
+use Rattle.lua_lexer.specs.Characters.{is_word_start, line_ends}
 use Rattle.lua_lexer.specs.Comments.{is_comment}
 use Rattle.lua_lexer.specs.Laws.{HasOneReading, IsLexed}
 use Rattle.lua_lexer.specs.Lexical.{Faults, HasFault, HasTokens, IsFault, IsNext, IsPiece, Lexes}

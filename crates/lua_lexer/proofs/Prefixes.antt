@@ -2,7 +2,7 @@
 use Rattle.std.proofs.Common.{◌≡◌, ℕ, zero, suc, ◌+◌, ◌*◌, ◌<◌, ◌≤◌, Bool, true, false, cond, List, [], ◌∷◌, ◌++◌, length, get_or, drop, Option, Some, None, refl, ap, sym, ◌∙◌, arith, lit<, add-one, length-drop, length-append}
 use Rattle.std.specs.Prelude.{◌==◌, ◌&&◌, ◌||◌, option_map, not}
 use Rattle.std.specs.List.{prefix_len}
-use Rattle.std.proofs.lemmas.Bool.{eqb-true}
+use Rattle.std.proofs.lemmas.Bool.{eqb-true, and_parts}
 use Rattle.std.proofs.lemmas.List.{drop-append-le}
 use Rattle.std.proofs.lemmas.List.Sums.{prefix_len-le-length}
 use Rattle.lua_lexer.specs.Characters.{is_line_byte, line_end}
@@ -70,20 +70,16 @@ before_same level (c ∷ cs) zs k found =
     rw (closes_same level (c ∷ cs) zs (omega arith))
     (before_case (closes level (c ∷ cs)) (before_closing level cs) (before_closing level (cs ++ 125 ∷ zs)) k found (λ j same. before_same level cs zs j same))
 
-pub both : (a b : Bool) → (a && b) ≡ true → (a ≡ true) × (b ≡ true)
-both true b h = (refl, h)
-both false b h = absurd (cc)
-
 bracket_within : (b : ℕ) (ys : List ℕ) → 0 < b → is_bracket b ys ≡ true → level_of ys + 2 ≤ length ys
 unfolding is_bracket
 bracket_within b ys some here =
-    let second = in_range ys (level_of ys + 1) b some (both (get_or ys 0 0 == b) (get_or ys (level_of ys + 1) 0 == b) here).1 in
+    let second = in_range ys (level_of ys + 1) b some (and_parts (get_or ys 0 0 == b) (get_or ys (level_of ys + 1) 0 == b) here).1 in
     omega (arith, second)
 
 closes_within : (level : ℕ) (ys : List ℕ) → closes level ys ≡ true → level + 2 ≤ length ys
 unfolding closes
 closes_within level ys here =
-    let parts = both (is_bracket 93 ys) (level_of ys == level) here in
+    let parts = and_parts (is_bracket 93 ys) (level_of ys == level) here in
     omega (arith, bracket_within 93 ys (lit< tt) parts.0, eqb-true (level_of ys) level parts.1)
 
 within_case : (b : Bool) (here : Option ℕ) (k level len : ℕ) → cond b (Some 0) (option_map (λ n. n + 1) here) ≡ Some k

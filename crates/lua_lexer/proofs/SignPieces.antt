@@ -12,7 +12,8 @@ use Rattle.lua_lexer.specs.declared.tokens.LexFault.TheVariants.{BadByte, Fracti
 use Rattle.lua_lexer.specs.declared.tokens.Piece.{Piece}
 use Rattle.lua_lexer.specs.declared.tokens.TokenKind.TheVariants.{Sign as SignKind}
 use Rattle.lua_lexer.specs.Brackets.{is_bracket, opens}
-use Rattle.lua_lexer.specs.Characters.{is_blank, is_word_byte, is_word_start}
+use Rattle.lua_numbers.specs.NumberText.{is_blank}
+use Rattle.lua_lexer.specs.Characters.{is_word_byte, is_word_start}
 use Rattle.lua_lexer.specs.Comments.{is_comment}
 use Rattle.lua_lexer.specs.Lexical.{BeginsSign, IsFault, IsPiece}
 use Rattle.lua_lexer.specs.Signs.{sign_of_one, sign_of_two, sign_piece, sign_or, short_sign, longest_sign}

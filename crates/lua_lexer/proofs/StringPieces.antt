@@ -14,7 +14,8 @@ use Rattle.lua_lexer.specs.declared.tokens.LexFault.{LexFault}
 use Rattle.lua_lexer.specs.declared.tokens.LexFault.TheVariants.{BadEscape, OpenString}
 use Rattle.lua_lexer.specs.declared.tokens.Piece.{Piece}
 use Rattle.lua_lexer.specs.declared.tokens.TokenKind.TheVariants.{Text}
-use Rattle.lua_lexer.specs.Characters.{is_blank, is_line_byte, is_word_start, line_end, line_ends, line_ends_after}
+use Rattle.lua_numbers.specs.NumberText.{is_blank}
+use Rattle.lua_lexer.specs.Characters.{is_line_byte, is_word_start, line_end, line_ends, line_ends_after}
 use Rattle.lua_lexer.specs.Lexical.{BreaksOff, IsBody, IsDigits, IsElement, IsFault, IsLineEnd, IsNoEscape, IsPiece}
 use Rattle.lua_lexer.specs.Strings.{is_quote, taken_along, body_after, body_len, escaped_byte, digits_escape, escape, first_element, decoded, decoded_after, short_string}
 use Rattle.lua_lexer.specs.Tokens.{piece}

@@ -4,19 +4,19 @@ use Rattle.std.proofs.Math.ListN.{get_or-append}
 use Rattle.std.specs.Prelude.{◌==◌, ◌&&◌, ◌||◌, ℤ, option_map, ok_or, unwrap_or}
 use Rattle.std.specs.List.{prefix_len}
 use Rattle.std.specs.Char.{is_ascii_digit, is_ascii_hexdigit}
-use Rattle.std.proofs.lemmas.Bool.{eqb-true}
+use Rattle.std.proofs.lemmas.Bool.{eqb-true, and_parts}
 use Rattle.std.proofs.lemmas.Bool.Decides.{nat_tests}
 use Rattle.std.proofs.lemmas.List.{drop-append-le, length-take-le}
 use Rattle.std.proofs.lemmas.List.Folds.{length-prefix_len}
 use Rattle.std.proofs.lemmas.List.Sums.{prefix_len-le-length}
-use Rattle.lua_numbers.specs.NumberText.{number_in}
+use Rattle.lua_numbers.specs.NumberText.{is_blank, number_in}
 use Rattle.lua_lexer.specs.declared.words.Word.{Word}
 use Rattle.lua_lexer.specs.declared.tokens.LexFault.{LexFault}
 use Rattle.lua_lexer.specs.declared.tokens.LexFault.TheVariants.{BadByte, Fraction, Range, OpenString}
 use Rattle.lua_lexer.specs.declared.tokens.Piece.{Piece}
 use Rattle.lua_lexer.specs.declared.tokens.TokenKind.{TokenKind}
 use Rattle.lua_lexer.specs.declared.tokens.TokenKind.TheVariants.{Name, Text, Word as WordKind}
-use Rattle.lua_lexer.specs.Characters.{is_blank, is_word_start, is_word_byte}
+use Rattle.lua_lexer.specs.Characters.{is_word_start, is_word_byte}
 use Rattle.lua_lexer.specs.Readings.{◌>>=◌}
 use Rattle.lua_lexer.specs.Brackets.{opens, is_bracket, inside_len, long_size}
 use Rattle.lua_lexer.specs.Comments.{is_comment}
@@ -25,7 +25,7 @@ use Rattle.lua_lexer.specs.Numerals.{number_piece, number_of, decimal, hexadecim
 use Rattle.lua_lexer.specs.Words.{word_of, kind_of_word, name_or_word}
 use Rattle.lua_lexer.specs.Blocks.{short_string_size, stretch, depth_after, closing_after}
 use Rattle.lua_lexer.specs.Balance.{braces_after}
-use Rattle.lua_lexer.proofs.Prefixes.{in_range, both, comment_same, opens_same, inside_same, body_same}
+use Rattle.lua_lexer.proofs.Prefixes.{in_range, comment_same, opens_same, inside_same, body_same}
 use Rattle.lua_lexer.proofs.Braces.{closing_step}
 
 -- the braces after a piece
@@ -256,7 +256,7 @@ pub walks_numeral : (line depth index : ℕ) (ys zs : List ℕ) (found : Piece) 
 unfolding numeral
 walks_numeral line depth index ys zs found some is reads =
     ⊎_elim
-    (λ hex. let parts = both (get_or ys 0 0 == 48) (get_or ys 1 0 == 120) hex.0 in walks_hexadecimal line depth index ys zs found parts.0 parts.1 hex.1)
+    (λ hex. let parts = and_parts (get_or ys 0 0 == 48) (get_or ys 1 0 == 120) hex.0 in walks_hexadecimal line depth index ys zs found parts.0 parts.1 hex.1)
     (λ other. walks_decimal line depth index ys zs found some is other.1)
     (chosen (get_or ys 0 0 == 48 && get_or ys 1 0 == 120) (hexadecimal line ys) (decimal line ys) found reads)
 
@@ -325,7 +325,7 @@ long_case None ys fault found reads = absurd (err_ok fault found reads)
 
 pub bracket_first : (ys : List ℕ) → opens ys ≡ true → get_or ys 0 0 ≡ 91
 unfolding is_bracket
-bracket_first ys is = eqb-true (get_or ys 0 0) 91 (both _ _ is).0
+bracket_first ys is = eqb-true (get_or ys 0 0) 91 (and_parts _ _ is).0
 
 long_stretch : (ys zs : List ℕ) (len : ℕ) → 0 < length ys → is_comment ys ≡ false → opens ys ≡ true → inside_len ys ≡ Some len
     → stretch (ys ++ 125 ∷ zs) ≡ Some (long_size ys len)

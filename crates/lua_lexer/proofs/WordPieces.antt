@@ -10,7 +10,8 @@ use Rattle.lua_lexer.specs.declared.words.Word.{Word}
 use Rattle.lua_lexer.specs.declared.words.Word.TheVariants.{And, Break, Do, Else, ElseIf, End, False, For, Function, If, In, Local, Nil, Not, Or, Repeat, Return, Then, True, Until, While}
 use Rattle.lua_lexer.specs.declared.tokens.TokenKind.{TokenKind}
 use Rattle.lua_lexer.specs.declared.tokens.TokenKind.TheVariants.{Name, Word as WordKind}
-use Rattle.lua_lexer.specs.Characters.{is_blank, is_word_byte, is_word_start}
+use Rattle.lua_numbers.specs.NumberText.{is_blank}
+use Rattle.lua_lexer.specs.Characters.{is_word_byte, is_word_start}
 use Rattle.lua_lexer.specs.Lexical.{IsPiece}
 use Rattle.lua_lexer.specs.Tokens.{piece, skipped_piece}
 use Rattle.lua_lexer.specs.Words.{spelling, words, word_of, kind_of_word, name_or_word}

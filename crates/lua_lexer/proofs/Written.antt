@@ -9,7 +9,7 @@ use Rattle.std.proofs.lemmas.Str.Parse.{digit_from_value}
 use Rattle.std.specs.List.{prefix_len}
 use Rattle.std.proofs.Math.Seq.{take-append_seam, drop-append_seam, get_or-append_seam}
 use Rattle.std.proofs.lemmas.Int.{ints}
-use Rattle.lua_numbers.specs.NumberText.{number_in}
+use Rattle.lua_numbers.specs.NumberText.{is_blank, number_in}
 use Rattle.lua_numbers.proofs.ReadBack.{read_back}
 use Rattle.lua_lexer.specs.declared.signs.Sign.{Sign}
 use Rattle.lua_lexer.specs.declared.signs.Sign.TheVariants.{Plus, Minus, Star, Slash, Percent, Caret, Hash, Equal, NotEqual, LessEqual, GreaterEqual, Less, Greater, Assign, OpenParenthesis, CloseParenthesis, OpenBrace, CloseBrace, OpenBracket, CloseBracket, Semicolon, Colon, Comma, Dot, Concat, Ellipsis}
@@ -21,7 +21,7 @@ use Rattle.lua_lexer.specs.declared.tokens.Piece.{Piece}
 use Rattle.lua_lexer.specs.declared.tokens.Token.{Token}
 use Rattle.lua_lexer.specs.declared.tokens.TokenKind.{TokenKind}
 use Rattle.lua_lexer.specs.declared.tokens.TokenKind.TheVariants.{Name, Text, Number, Word as WordKind, Sign as SignKind}
-use Rattle.lua_lexer.specs.Characters.{is_blank, is_word_start, is_word_byte, line_ends}
+use Rattle.lua_lexer.specs.Characters.{is_word_start, is_word_byte, line_ends}
 use Rattle.lua_lexer.specs.Numerals.{number_piece, number_of, decimal, numeral}
 use Rattle.lua_lexer.specs.Brackets.{level_of, is_bracket}
 use Rattle.lua_lexer.specs.Comments.{is_comment}

@@ -1,16 +1,11 @@
--- The classes of bytes in Lua text (Lua 5.1 manual, 2.1). Letters are those of ASCII.
+-- The classes of bytes in Lua text (Lua 5.1 manual, 2.1). Letters are those of ASCII; blanks are those of numbers as text.
 use Rattle.std.specs.Prelude.{ℕ, zero, suc, ◌+◌, ◌-◌, Bool, not, ◌&&◌, ◌||◌, ◌==◌, List, [], ◌∷◌, slice_index, if◌then◌else◌}
 use Rattle.std.specs.Char.{is_ascii_alphabetic, is_ascii_digit}
-use Rattle.std.specs.Int.{is_in_range}
-use Rattle.resty_base.specs.Ascii.{line_feed, carriage_return, space, underscore}
+use Rattle.resty_base.specs.Ascii.{line_feed, carriage_return, underscore}
 
 -- a line feed or a carriage return
 abbrev pub is_line_byte : ℕ → Bool
 is_line_byte c = c == line_feed || c == carriage_return
-
--- a space, or one of tab, line feed, vertical tab, form feed and carriage return
-abbrev pub is_blank : ℕ → Bool
-is_blank c = c == space || is_in_range 9 13 c
 
 -- a letter or an underscore
 abbrev pub is_word_start : ℕ → Bool

@@ -6,7 +6,7 @@ use Rattle.std.specs.List.{AllPass}
 use Rattle.std.specs.Char.{is_ascii_digit, is_ascii_hexdigit}
 use Rattle.std.specs.Str.Parse.{digits_value}
 use Rattle.resty_base.specs.Ascii.{backslash, close_bracket, dash, digit_zero, dot, equals, letter_x, line_feed, open_bracket}
-use Rattle.lua_numbers.specs.NumberText.{number_in}
+use Rattle.lua_numbers.specs.NumberText.{is_blank, number_in}
 use Rattle.lua_lexer.specs.declared.signs.Sign.{Sign}
 use Rattle.lua_lexer.specs.declared.words.Word.{Word}
 use Rattle.lua_lexer.specs.declared.tokens.LexFault.{LexFault}
@@ -14,7 +14,7 @@ use Rattle.lua_lexer.specs.declared.tokens.LexFault.TheVariants.{BadByte, BadEsc
 use Rattle.lua_lexer.specs.declared.tokens.Token.{Token}
 use Rattle.lua_lexer.specs.declared.tokens.TokenKind.{TokenKind}
 use Rattle.lua_lexer.specs.declared.tokens.TokenKind.TheVariants.{Name, Number, Sign as SignKind, Text, Word as WordKind}
-use Rattle.lua_lexer.specs.Characters.{is_blank, is_line_byte, is_word_byte, is_word_start, line_end, line_ends, unified}
+use Rattle.lua_lexer.specs.Characters.{is_line_byte, is_word_byte, is_word_start, line_end, line_ends, unified}
 use Rattle.lua_lexer.specs.Numerals.{is_fraction_mark}
 use Rattle.lua_lexer.specs.Strings.{escaped_byte, is_quote}
 use Rattle.lua_lexer.specs.Words.{spelling}

@@ -9,7 +9,8 @@ use Rattle.lua_lexer.specs.declared.tokens.TokenKind.{TokenKind}
 use Rattle.lua_lexer.specs.declared.tokens.Token.{Token}
 use Rattle.lua_lexer.specs.declared.tokens.Piece.{Piece}
 use Rattle.lua_lexer.specs.Readings.{◌>>=◌}
-use Rattle.lua_lexer.specs.Characters.{is_blank, is_word_start, line_ends}
+use Rattle.lua_numbers.specs.NumberText.{is_blank}
+use Rattle.lua_lexer.specs.Characters.{is_word_start, line_ends}
 use Rattle.lua_lexer.specs.Brackets.{opens}
 use Rattle.lua_lexer.specs.Comments.{is_comment, comment_size}
 use Rattle.lua_lexer.specs.Strings.{is_quote, short_string, long_string}

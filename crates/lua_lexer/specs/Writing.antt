@@ -2,6 +2,7 @@
 use Rattle.std.specs.Prelude.{◌≡◌, ℕ, ◌+◌, ◌/◌, ◌%◌, ◌<◌, ◌≤◌, true, List, [], ◌∷◌, ◌++◌, map, length, slice_index, pos, nat_abs, None, codes, decimal}
 use Rattle.std.specs.Prelude.{flat_map}
 use Rattle.std.specs.List.{prefix_len}
+use Rattle.resty_base.specs.WholeNumber.{greatest_whole}
 use Rattle.lua_lexer.specs.declared.signs.Sign.{Sign}
 use Rattle.lua_lexer.specs.declared.signs.Sign.TheVariants.{Plus, Minus, Star, Slash, Percent, Caret, Hash, Equal, NotEqual, LessEqual, GreaterEqual, Less}
 use Rattle.lua_lexer.specs.declared.signs.Sign.TheVariants.{Greater, Assign, OpenParenthesis, CloseParenthesis, OpenBrace, CloseBrace, OpenBracket}
@@ -74,7 +75,7 @@ AreBytes (byte ∷ bytes) = (byte < 256) × AreBytes bytes
 abbrev pub IsKind : TokenKind → Type 0
 IsKind (Name name) = IsName name
 IsKind (Text bytes) = AreBytes bytes
-IsKind (Number number) = (n : ℕ) × (number ≡ pos n) × (n ≤ 99_999_999_999_999)
+IsKind (Number number) = (n : ℕ) × (number ≡ pos n) × (n ≤ greatest_whole)
 IsKind (WordKind word) = Unit {0}
 IsKind (SignKind sign) = Unit {0}
 

@@ -4,10 +4,12 @@ ghost use Rattle.std.specs.Prelude.{◌≡◌, ◌≤◌, ◌<◌, ◌+◌, ◌^
 ghost use Rattle.std.specs.List.{prefix_len};
 ghost use Rattle.std.specs.Char.{is_ascii_digit, is_ascii_hexdigit};
 ghost use Rattle.resty_base.specs.Ascii.{line_feed};
-ghost use Rattle.lua_lexer.specs.Characters.{is_line_byte, is_blank, is_word_start, is_word_byte, line_end, line_ends, unified};
+ghost use Rattle.lua_numbers.specs.NumberText.{is_blank};
+ghost use Rattle.lua_lexer.specs.Characters.{is_line_byte, is_word_start, is_word_byte, line_end, line_ends, unified};
 ghost use Rattle.lua_lexer.specs.Readings.{Gives};
 
 use crate::LexFault;
+use lua_numbers::is_blank;
 use resty_base::{byte_at, bytes_after};
 use std::alloc::Global;
 
@@ -15,12 +17,6 @@ pub(crate) fn is_line_byte(byte: u8) -> bool
     ensures { result ≡ is_line_byte byte }
 {
     byte == b'\n' || byte == b'\r'
-}
-
-pub(crate) fn is_blank(byte: u8) -> bool
-    ensures { result ≡ is_blank byte }
-{
-    byte == b' ' || (b'\t' <= byte && byte <= b'\r')
 }
 
 pub(crate) fn is_word_start(byte: u8) -> bool

@@ -10,7 +10,7 @@ ghost use Rattle.lua_lexer.specs.Pieces.{IsPieceOf, may_end_lines};
 ghost use Rattle.lua_lexer.specs.Readings.{Gives};
 
 use crate::brackets::opens;
-use crate::characters::{blanks, is_blank, is_word_start, line_ends};
+use crate::characters::{blanks, is_word_start, line_ends};
 use crate::comments::{comment_size, is_comment};
 use crate::numerals::numeral;
 use crate::signs::longest_sign;
@@ -18,6 +18,7 @@ use crate::strings::{is_quote, long_string, short_string};
 use crate::tokens::{Piece, TokenKind};
 use crate::words::name_or_word;
 use crate::{LexFault, Token};
+use lua_numbers::is_blank;
 use resty_base::{Bytes, first_bytes};
 use std::alloc::Global;
 

@@ -18,7 +18,7 @@ use resty_base::{Bytes, byte_at, bytes_after, first_bytes};
 use std::alloc::Global;
 
 /// A byte of a short string, and how many bytes write it.
-#[derive(Clone, Copy, Debug)]
+#[derive(Clone, Copy)]
 struct Element {
     byte: u8,
     size: usize,

@@ -96,7 +96,7 @@ impl<T: Drop> From<AllocFailed<T>> for LexFault {
 }
 
 /// What stands at the front of a text: a token, or where there is no kind blanks or a comment.
-#[derive(Debug, Drop)]
+#[derive(Drop)]
 pub(crate) struct Piece {
     pub kind: Option<TokenKind>,
     pub size: usize,

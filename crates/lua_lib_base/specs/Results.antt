@@ -4,7 +4,7 @@ use Rattle.lua_values.specs.declared.values.Value.{Value}
 use Rattle.lua_values.specs.declared.values.Value.TheVariants.{Text}
 use Rattle.lua_values.specs.declared.faults.StoreFault.{StoreFault}
 use Rattle.lua_values.specs.declared.faults.StoreFault.TheVariants as store
-use Rattle.lua_values.specs.Heap.{Heap, StoreView, step_limit}
+use Rattle.lua_values.specs.Heap.{Heap, StoreView, step_limit, bytes_of_a_step}
 use Rattle.lua_values.specs.NativeCalls.{NativeResult, Gives, Faults, Leaves}
 use Rattle.lua_operators.specs.declared.faults.Fault.TheVariants.{StorageLimit, FrozenTable, NilKey}
 use Rattle.lua_lib_base.specs.declared.work.Work.{Work}
@@ -25,16 +25,16 @@ pub data LibraryResult : Type 0 where
 -- Steps: one for each 64 bytes of all texts that the call takes and makes, one for each 16 tests of a pattern, and one for each
 -- value of those that are counted. A call that is refused counts nothing that it would have made.
 abbrev pub steps_of_gift : List Value → Work → ℕ
-steps_of_gift args work = (texts_length args + work.taken + work.made) / 64 + work.tests / 16 + work.given
+steps_of_gift args work = (texts_length args + work.taken + work.made) / bytes_of_a_step + work.tests / 16 + work.given
 
 abbrev pub steps_of_refusal : List Value → Work → ℕ
-steps_of_refusal args work = (texts_length args + work.taken) / 64 + work.tests / 16
+steps_of_refusal args work = (texts_length args + work.taken) / bytes_of_a_step + work.tests / 16
 
 -- the meaning of a call of a function of this name: its fault is a text
 abbrev pub counted : List ℕ → List Value → LibraryResult → NativeResult
 counted name args (Gave values heap work) = Gives values heap (steps_of_gift args work)
 counted name args (Refused refusal heap work) = Faults (Text (refusal_text name refusal)) heap (steps_of_refusal args work)
-counted name args Left = Leaves (texts_length args / 64)
+counted name args Left = Leaves (texts_length args / bytes_of_a_step)
 
 -- no work, and values or a refusal
 abbrev pub gives : List Value → Heap → LibraryResult

@@ -9,11 +9,8 @@ ghost use Rattle.lua_lib_base.specs.Results.{LibraryResult, IsOutcome, steps_of_
 
 use crate::{Args, Refusal, Work, texts_length};
 use lua_operators::Fault;
-use lua_values::{NativeOut, Store, StoreFault, Value, Values};
+use lua_values::{BYTES_OF_A_STEP, NativeOut, Store, StoreFault, Value, Values};
 use std::alloc::{AllocError, AllocFailed, Global};
-
-/// How many bytes of text one step pays for.
-const BYTES_OF_A_STEP: u64 = 64;
 
 /// How many tests of a pattern one step pays for.
 const TESTS_OF_A_STEP: u64 = 16;

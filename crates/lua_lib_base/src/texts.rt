@@ -5,12 +5,9 @@ ghost use Rattle.lua_lib_base.specs.Results.{IsOutcome};
 ghost use Rattle.lua_lib_base.specs.Texts.{text_cause, with_text, made_text};
 
 use crate::{Given, Unanswered, Work};
-use lua_values::{Store, StoreFault, Value, Values};
+use lua_values::{Store, StoreFault, TEXT_UNITS, Value, Values};
 use resty_base::Bytes;
 use std::alloc::Global;
-
-/// The units of a text, beside its bytes.
-const TEXT_UNITS: u64 = 16;
 
 /// Counts the units of a text of so many bytes, before it is made.
 pub fn reserve_text(store: &mut Store, bytes: usize) -> Result<(), StoreFault>

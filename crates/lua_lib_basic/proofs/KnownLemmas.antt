@@ -1,6 +1,7 @@
 -- What the functions of the library give is known to the heap.
-use Rattle.std.proofs.Common.{◌≡◌, ℕ, zero, suc, ◌-◌, ◌<◌, ◌≤◌, Bool, true, false, List, [], ◌∷◌, length, Option, None, Some, IfSome, Ok, slice_get, unwrap_or, All, if◌then◌else◌}
+use Rattle.std.proofs.Common.{◌≡◌, ℕ, ◌-◌, ◌<◌, ◌≤◌, Bool, true, false, List, [], ◌∷◌, length, Option, None, Some, IfSome, Ok, All, if◌then◌else◌}
 use Rattle.std.proofs.lemmas.List.Elements.{All-nil, All-cons, All-head, All-tail}
+use Rattle.resty_base.specs.ListLaws.{read_all, read_some}
 use Rattle.lua_values.specs.declared.values.Value.{Value}
 use Rattle.lua_values.specs.declared.values.Value.TheVariants.{Nil, Truth, Number, Text, Table, Closure, Native, Thread, Null, Object}
 use Rattle.lua_values.specs.Values.{same, is_nil}
@@ -25,16 +26,6 @@ pub record Setup (bound : ℕ) (heap : Heap) (args : List Value) : Type 0 where
 -- both of a pair are natives below the bound, if they are natives
 abbrev pub NamedPair : ℕ → Value × Value → Type 0
 NamedPair bound p = NamesBelow bound p.0 × NamesBelow bound p.1
-
-read_all : {X : Type 0} (P : X → Type 0) (xs : List X) (i : ℕ) (d : X) → All P xs → P d → P (unwrap_or (slice_get xs i) d)
-read_all P [] i d h p = p
-read_all P (x ∷ xs) zero d h p = All-head P x xs h
-read_all P (x ∷ xs) (suc i) d h p = read_all P xs i d (All-tail P x xs h) p
-
-read_some : {X : Type 0} (P : X → Type 0) (xs : List X) (i : ℕ) → All P xs → IfSome (slice_get xs i) P
-read_some P [] i h = tt
-read_some P (x ∷ xs) zero h = All-head P x xs h
-read_some P (x ∷ xs) (suc i) h = read_some P xs i (All-tail P x xs h)
 
 pub argument_known : (bound : ℕ) (heap : Heap) (args : List Value) (number : ℕ) → Setup bound heap args → IfSome (argument args number) (IsKnown bound heap)
 argument_known bound heap args number s = read_some (IsKnown bound heap) args (number - 1) s.known

@@ -3,6 +3,11 @@
 ghost use Rattle.std.specs.Prelude.{◌≡◌};
 ghost use Rattle.lua_lib_basic.specs.Functions.{basic_name, basic_at, prelude_name, prelude_at, function_name, function_at};
 
+// Numbers of the library never change, and as natives of a site they begin at 128. Those of functions that aren't built yet: 12 to 23 byte, char, find,
+// format, gsub with a text, len, lower, match, rep, reverse, sub, upper; 24 to 28 concat, insert, maxn, remove, sort; 29 to 35 abs, ceil, floor, fmod, max,
+// min, pow; 36 to 41 escape_uri, unescape_uri, encode_args, decode_args, encode_base64, decode_base64; 42 to 45 md5, md5_bin, sha1_bin, http_time; 47 and 48
+// of gmatch; 49 to 51 of gsub with a function or a table; 52 gives a type of values its metatable.
+
 /// A basic function (Lua 5.1 Reference Manual, 5.1) of the library: numbers 0 to 11.
 #[derive(Clone, Copy, Debug, PartialEq, Eq)]
 pub enum BasicFunction {

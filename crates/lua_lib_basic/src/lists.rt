@@ -12,12 +12,9 @@ ghost use Rattle.lua_lib_base.specs.Results.{IsOutcome, Agrees};
 ghost use Rattle.lua_lib_basic.specs.Lists.{asks_count, passed, selected, select, count_between, elements, unpacked, unpack};
 
 use lua_lib_base::{Args, Given, Refusal, Unanswered, Work, count_number, small_number};
-use lua_values::{Store, Value, Values};
+use lua_values::{STEP_LIMIT, Store, Value, Values};
 use resty_base::{Bytes, Whole};
 use std::alloc::{AllocError, Global};
-
-/// The most steps of a run.
-const STEP_LIMIT: u64 = 1_000_000;
 
 /// `select(index, ..)`: the arguments after this one from an index on, counted from the end where it is negative; of `#` their number.
 pub(crate) fn select(alloc: Global, args: &Args<'_>) -> Result<Given, Unanswered>

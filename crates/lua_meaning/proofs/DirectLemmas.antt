@@ -1,5 +1,5 @@
 -- The equations in direct style, from the evaluator's law.
-use Rattle.std.specs.Prelude.{◌≡◌, ℕ, ◌+◌, ◌<◌, nat_lt, Bool, true, false, List, [], ◌∷◌, length, Option, Some, slice_get, if◌then◌else◌, refl}
+use Rattle.std.specs.Prelude.{◌≡◌, ℕ, ◌+◌, ◌<◌, Bool, true, false, List, [], ◌∷◌, length, Option, Some, slice_get, if◌then◌else◌, refl}
 use Rattle.std.proofs.Common.{◌∙◌, ap}
 use Rattle.std.proofs.lemmas.Bool.{lt-ltb}
 use Rattle.lua_ast.specs.declared.expressions.Expr.{Expr}
@@ -7,10 +7,10 @@ use Rattle.lua_ast.specs.declared.statements.Stmt.{Stmt}
 use Rattle.lua_ast.specs.declared.programs.Function.{Function}
 use Rattle.lua_values.specs.declared.values.Value.{Value}
 use Rattle.lua_values.specs.declared.values.Value.TheVariants.{Nil, Table, Closure, Native}
-use Rattle.lua_values.specs.Heap.{Heap, ClosureView, step_limit}
+use Rattle.lua_values.specs.Heap.{Heap, ClosureView}
 use Rattle.lua_operators.specs.Types.{is_truthy}
-use Rattle.lua_meaning.specs.Works.{Places, Slots, AValue, AnExpr, AStmt, ATurn, ACall, AnIndex, Values, Return, Break, Failed, Work, End, and_then}
-use Rattle.lua_meaning.specs.Evaluator.{State, Ending, Ended, Parked, Spent, Evaluator, after, counted, do_work}
+use Rattle.lua_meaning.specs.Works.{Places, Slots, AValue, AnExpr, AStmt, ATurn, ACall, AnIndex, Values, Work, End, and_then}
+use Rattle.lua_meaning.specs.Evaluator.{State, Ending, Ended, after, do_work}
 use Rattle.lua_meaning.specs.Setting.{Setting}
 use Rattle.lua_meaning.specs.Positions.{callers_at, raise_fault}
 use Rattle.lua_meaning.specs.Signs.{first, values_of, on_values, give, give_one, value}
@@ -23,49 +23,9 @@ use Rattle.lua_meaning.specs.Blocks.{block}
 use Rattle.lua_meaning.specs.Loops.{after_body, while_work, again}
 use Rattle.lua_meaning.specs.Operators.{binary_work}
 use Rattle.lua_meaning.specs.Nodes.{work_of, eval, callee_work}
-use Rattle.lua_meaning.specs.DirectEquations.{with_values, with_body, eval_list, eval_block, BlockIs, BinaryIs, TurnIs, CallIs, ReturnCallIs, ClosureCallIs, TailCallGivesUp, IndexIs, PcallIs}
+use Rattle.lua_meaning.specs.DirectEquations.{with_values, eval_list, eval_block, BlockIs, BinaryIs, TurnIs, CallIs, ReturnCallIs, ClosureCallIs, TailCallGivesUp, IndexIs, PcallIs}
 use Rattle.lua_meaning.proofs.EvaluatorLemmas.{eval-law, work-then}
-
--- the same after one and after the other, where each goes on alike
-values_then : (ev : Evaluator) (x : Ending) (f : List Value → Slots → Work) (go : List Value → Slots → State → Ending)
-    → ((vs : List Value) (s : Slots) (w : State) → do_work ev (f vs s) w ≡ go vs s w) → after x (λ sign s w. do_work ev (on_values f sign s) w) ≡ with_values x go
-values_then ev (Ended (Values vs) s w) f go e = e vs s w
-values_then ev (Ended (Return vs) s w) f go e = refl
-values_then ev (Ended Break s w) f go e = refl
-values_then ev (Ended (Failed v) s w) f go e = refl
-values_then ev (Parked number args position store) f go e = refl
-values_then ev Spent f go e = refl
-
-body_then : (ev : Evaluator) (x : Ending) (f : Slots → Work) (go : Slots → State → Ending)
-    → ((s : Slots) (w : State) → do_work ev (f s) w ≡ go s w) → after x (λ sign s w. do_work ev (after_body f sign s) w) ≡ with_body x go
-body_then ev (Ended (Values vs) s w) f go e = e s w
-body_then ev (Ended (Return vs) s w) f go e = refl
-body_then ev (Ended Break s w) f go e = refl
-body_then ev (Ended (Failed v) s w) f go e = refl
-body_then ev (Parked number args position store) f go e = refl
-body_then ev Spent f go e = refl
-
-after_same : (x : Ending) → after x (λ sign s w. Ended sign s w) ≡ x
-after_same (Ended sign s w) = refl
-after_same (Parked number args position store) = refl
-after_same Spent = refl
-
-counted_then : (n : ℕ) (w : State) (f g : State → Ending) → ((w' : State) → f w' ≡ g w') → counted n w f ≡ counted n w g
-counted_then n w f g e = along (nat_lt (w.store.steps + n) step_limit)
-  where
-    along : (t : Bool) → (if t then f (record w { store = record { heap = w.store.heap; steps = w.store.steps + n } }) else Spent)
-        ≡ (if t then g (record w { store = record { heap = w.store.heap; steps = w.store.steps + n } }) else Spent)
-    along true = e _
-    along false = refl
-
--- counting leaves the heap as it is
-counted_there : (n : ℕ) (w : State) (f g : State → Ending) → ((w' : State) → w'.store.heap ≡ w.store.heap → f w' ≡ g w') → counted n w f ≡ counted n w g
-counted_there n w f g e = along (nat_lt (w.store.steps + n) step_limit)
-  where
-    along : (t : Bool) → (if t then f (record w { store = record { heap = w.store.heap; steps = w.store.steps + n } }) else Spent)
-        ≡ (if t then g (record w { store = record { heap = w.store.heap; steps = w.store.steps + n } }) else Spent)
-    along true = e _ refl
-    along false = refl
+use Rattle.lua_meaning.specs.EndingLaws.{values_then, body_then, after_same, counted_then, counted_there}
 
 pub block-is : (S : Setting) → BlockIs S
 block-is S = record {

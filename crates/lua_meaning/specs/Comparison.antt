@@ -3,7 +3,7 @@ use Rattle.std.specs.Prelude.{◌+◌, ◌/◌, Bool, true, false, not, List, []
 use Rattle.lua_values.specs.declared.values.Value.{Value}
 use Rattle.lua_values.specs.declared.values.Value.TheVariants.{Truth, Text}
 use Rattle.lua_values.specs.Values.{is_nil}
-use Rattle.lua_values.specs.Heap.{Heap}
+use Rattle.lua_values.specs.Heap.{Heap, bytes_of_a_step}
 use Rattle.lua_operators.specs.declared.comparison.ComparisonOperator.{ComparisonOperator}
 use Rattle.lua_operators.specs.declared.comparison.ComparisonOperator.TheVariants.{Less, LessOrEqual}
 use Rattle.lua_operators.specs.declared.events.Event.TheVariants.{Eq, Lt, Le}
@@ -22,7 +22,7 @@ use Rattle.lua_meaning.specs.Arithmetic.{outcome_work}
 
 -- a comparison of two texts counts a step for each 64 bytes of both
 abbrev pub count_texts : Value → Value → Work → Work
-count_texts (Text a) (Text b) go = Count ((length a + length b) / 64) go
+count_texts (Text a) (Text b) go = Count ((length a + length b) / bytes_of_a_step) go
 count_texts a b go = go
 
 -- whether a comparison holds, or whether it doesn't

@@ -2,7 +2,7 @@
 use Rattle.std.specs.Prelude.{ℕ, ◌+◌, ◌/◌, List, [], ◌∷◌, length}
 use Rattle.lua_values.specs.declared.values.Value.{Value}
 use Rattle.lua_values.specs.declared.values.Value.TheVariants.{Text}
-use Rattle.lua_values.specs.Heap.{Heap}
+use Rattle.lua_values.specs.Heap.{Heap, bytes_of_a_step}
 use Rattle.lua_values.specs.StoreCalls.{full_cause}
 use Rattle.lua_operators.specs.declared.outcome.Outcome.{Outcome}
 use Rattle.lua_operators.specs.declared.outcome.Outcome.TheVariants.{Gives, NeedsEvent, Faults}
@@ -30,7 +30,7 @@ make_text S callers n s go = Look (λ h. unless_refused S callers table_fault (f
 
 -- two texts are joined: a step for each 64 bytes that are taken or made, and then the units of what is made
 abbrev pub joined : Setting → List Caller → ℕ → Outcome → Slots → Work → Work
-joined S callers taken (Gives v) s event = Count ((taken + text_length v) / 64) (make_text S callers (text_length v) s (give_one v s))
+joined S callers taken (Gives v) s event = Count ((taken + text_length v) / bytes_of_a_step) (make_text S callers (text_length v) s (give_one v s))
 joined S callers taken NeedsEvent s event = event
 joined S callers taken (Faults fault) s event = outcome_work S callers (Faults fault) s event
 

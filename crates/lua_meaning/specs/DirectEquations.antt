@@ -13,7 +13,7 @@ use Rattle.lua_ast.specs.declared.statements.StmtKind.TheOpen as st
 use Rattle.lua_ast.specs.declared.programs.Function.{Function}
 use Rattle.lua_values.specs.declared.values.Value.{Value}
 use Rattle.lua_values.specs.declared.values.Value.TheVariants.{Table, Closure, Native}
-use Rattle.lua_values.specs.Heap.{ClosureView}
+use Rattle.lua_values.specs.Heap.{ClosureView, bytes_of_a_step}
 use Rattle.lua_values.specs.Values.{is_nil}
 use Rattle.lua_operators.specs.declared.events.Event.TheVariants.{Index}
 use Rattle.lua_operators.specs.Types.{is_truthy}
@@ -107,7 +107,7 @@ IndexIs S = (line t : ℕ) (key by : Value) (p : Places) (s : Slots) (w : State)
 -- `pcall(f, args)`: a fault of the call becomes values; spent steps and a parked thread don't
 abbrev pub PcallIs : Setting → Type 0
 PcallIs S = (f : Value) (args : List Value) (q : Places) (s : Slots) (w : State)
-    → eval S (ACall (Native 0) (f ∷ args)) q s w ≡ counted 1 w (λ w1. counted (texts_length (f ∷ args) / 64) w1
+    → eval S (ACall (Native 0) (f ∷ args)) q s w ≡ counted 1 w (λ w1. counted (texts_length (f ∷ args) / bytes_of_a_step) w1
     (λ w2. after (eval S (ACall f args) (calling q.around false) [] w2) (λ sign s3 w3. Ended (Values (protected (call_end sign))) s w3)))
 
 -- all of them, of the evaluator in every setting

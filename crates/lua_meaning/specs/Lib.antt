@@ -1,3 +1,5 @@
+-- In the order of reading: what is evaluated (Works), how (Evaluator, of which do_work, counted and answered are to be believed, by the law
+-- only_evaluator), then one file a kind beside the manual, then Nodes and Life. DirectEquations and Rows say the same again, as a check.
 pub mod Works
 pub mod Evaluator
 pub mod Setting
@@ -25,6 +27,7 @@ pub mod Life
 pub mod Over
 pub mod Laws
 pub mod DirectEquations
+pub mod EndingLaws
 pub mod Trees
 pub mod Rows
 pub mod ParkedRows

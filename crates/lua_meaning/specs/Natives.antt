@@ -5,7 +5,7 @@ use Rattle.lua_values.specs.declared.values.Value.{Value}
 use Rattle.lua_values.specs.declared.values.Value.TheVariants.{Nil, Text}
 use Rattle.lua_values.specs.NativeCalls.{NativeResult, Gives, Faults, Leaves}
 use Rattle.lua_values.specs.Values.{is_nil}
-use Rattle.lua_values.specs.Heap.{Heap}
+use Rattle.lua_values.specs.Heap.{Heap, bytes_of_a_step}
 use Rattle.lua_values.specs.StoreCalls.{is_full}
 use Rattle.lua_operators.specs.declared.events.Event.TheVariants.{ToString}
 use Rattle.lua_operators.specs.declared.faults.Fault.TheVariants.{StorageLimit}
@@ -54,17 +54,17 @@ assert_work S (v ∷ more) callers s =
 
 -- the text of a value: a text is its own, and any other is made, which counts its bytes with those that were taken
 abbrev pub make_text_of : Setting → List Caller → ℕ → Heap → Value → Slots → Work
-make_text_of S callers taken h (Text text) s = Count (taken / 64) (give_one (Text text) s)
+make_text_of S callers taken h (Text text) s = Count (taken / bytes_of_a_step) (give_one (Text text) s)
 make_text_of S callers taken h v s =
-    if is_full h (length (text_of v) + 16) then Count (taken / 64) (raise_fault S callers StorageLimit s)
-    else Count ((taken + length (text_of v)) / 64) (Write (with_text h (length (text_of v))) (give_one (Text (text_of v)) s))
+    if is_full h (length (text_of v) + 16) then Count (taken / bytes_of_a_step) (raise_fault S callers StorageLimit s)
+    else Count ((taken + length (text_of v)) / bytes_of_a_step) (Write (with_text h (length (text_of v))) (give_one (Text (text_of v)) s))
 
 -- `tostring(v)`: what the metatable's handler gives, or else its text
 abbrev pub tostring_work : Setting → List Value → List Caller → Slots → Work
 tostring_work S [] callers s = raise_missing S callers 1 (codes "tostring") s
 tostring_work S (v ∷ more) callers s =
     Look (λ h. if is_nil (handler h v ToString) then make_text_of S callers (texts_length (v ∷ more)) h v s
-    else Count (texts_length (v ∷ more) / 64) (call_for_one callers (handler h v ToString) (v ∷ []) s give_one))
+    else Count (texts_length (v ∷ more) / bytes_of_a_step) (call_for_one callers (handler h v ToString) (v ∷ []) s give_one))
 
 -- what the outside gives a call in the end
 abbrev pub answer_of : Setting → List Caller → Slots → Resumed → Work
@@ -85,9 +85,9 @@ library_work S number args callers s =
 
 abbrev pub native_work : Setting → ℕ → List Value → List Caller → Slots → Work
 native_work S n args callers s =
-    if nat_eq n 0 then Count (texts_length args / 64) (pcall_work S args callers s)
-    else if nat_eq n 1 then Count (texts_length args / 64) (xpcall_work S args callers s)
-    else if nat_eq n 2 then Count (texts_length args / 64) (error_work S args callers s)
-    else if nat_eq n 3 then Count (texts_length args / 64) (assert_work S args callers s)
+    if nat_eq n 0 then Count (texts_length args / bytes_of_a_step) (pcall_work S args callers s)
+    else if nat_eq n 1 then Count (texts_length args / bytes_of_a_step) (xpcall_work S args callers s)
+    else if nat_eq n 2 then Count (texts_length args / bytes_of_a_step) (error_work S args callers s)
+    else if nat_eq n 3 then Count (texts_length args / bytes_of_a_step) (assert_work S args callers s)
     else if nat_eq n 4 then tostring_work S args callers s
     else library_work S (n - 5) args callers s

@@ -29,9 +29,10 @@ use Rattle.lua_meaning.specs.Calls.{calling, call_end, call_for_one, call_closur
 use Rattle.lua_meaning.specs.ProtectedCalls.{protected_by, handled_fault}
 use Rattle.lua_meaning.specs.Natives.{texts_length, raise_value, raise_at, assert_work, make_text_of, tostring_work, answer_of, result_work, library_work, native_work}
 use Rattle.lua_meaning.specs.Nodes.{call_by, callee_work, work_of, eval}
+use Rattle.lua_meaning.specs.EndingLaws.{after_same, counted_then, counted_there}
 use Rattle.lua_meaning_laws.specs.Parts.{gives, gives_one, faults, with_heap}
 use Rattle.lua_meaning_laws.specs.Calls.{is_callable, call_by_in, protected_in, raised, error_value, assert_in, text_in, tostring_in, answer_in, result_in, CallsAre, EachCallIs}
-use Rattle.lua_meaning_laws.proofs.FollowingEquations.{after_same, counted_then, counted_there, call_then, work_if, index_then, store_then}
+use Rattle.lua_meaning_laws.proofs.FollowingEquations.{call_then, work_if, index_then, store_then}
 
 module _ (S : Setting) where
   -- ---- by a handler

@@ -2,6 +2,7 @@
 use Rattle.std.proofs.Common.{◌≡◌, ℕ, zero, suc, ◌+◌, ◌<◌, nat_lt, List, [], ◌∷◌, ◌++◌, length, drop, Option, None, Some, IfSome, slice_get, slice_set, All, arith, length-append}
 use Rattle.std.specs.Prelude.{IsSomeAnd}
 use Rattle.std.proofs.lemmas.List.Elements.{All-nil, All-cons, All-head, All-tail, All-push, All-set, All-drop, All-weaker}
+use Rattle.resty_base.specs.ListLaws.{read_some}
 use Rattle.lua_ast.specs.declared.statements.Stmt.{Stmt}
 use Rattle.lua_ast.specs.declared.programs.Capture.{Capture}
 use Rattle.lua_ast.specs.declared.programs.Capture.TheVariants as capture
@@ -24,7 +25,7 @@ use Rattle.lua_meaning.specs.Blocks.{block}
 use Rattle.lua_meaning.specs.Closures.{cell_of_slot, present_cell, variable_value, with_cell_in, share_from, share, close, captures_of, closure_work}
 use Rattle.lua_meaning.specs.Calls.{function_end, argument, slots_from, extras_of, around_callee, inside, most_callers, run, call_closure}
 use Rattle.lua_meaning_laws.specs.Standing.{Stands, Known, StandsAfter}
-use Rattle.lua_meaning_laws.proofs.Known.{Given, SlotKnown, SlotsKnown, SignKnown, PlacesKnown, StmtIn, HasFunction, WorkKnown, ValueGo, read_some, same_heap, later_heap, slots_later, cells_later, places_later}
+use Rattle.lua_meaning_laws.proofs.Known.{Given, SlotKnown, SlotsKnown, SignKnown, PlacesKnown, StmtIn, HasFunction, WorkKnown, ValueGo, same_heap, later_heap, slots_later, cells_later, places_later}
 use Rattle.lua_meaning_laws.proofs.Readings.{either, in_slot_known, in_cell_known, first_known}
 use Rattle.lua_meaning_laws.proofs.Writes.{cell_keeps, cell_value_keeps, closure_keeps}
 use Rattle.lua_meaning_laws.proofs.Going.{unless_known, on_known, then_known}

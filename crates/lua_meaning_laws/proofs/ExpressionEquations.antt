@@ -24,9 +24,10 @@ use Rattle.lua_meaning.specs.Tables.{fill, expr_of, items_work}
 use Rattle.lua_meaning.specs.Expressions.{first_extra, call_work, method_work, expr_work, value_work}
 use Rattle.lua_meaning.specs.Nodes.{work_of, eval}
 use Rattle.lua_meaning.specs.DirectEquations.{with_values}
+use Rattle.lua_meaning.specs.EndingLaws.{values_then, counted_then}
 use Rattle.lua_meaning_laws.specs.Parts.{gives}
 use Rattle.lua_meaning_laws.specs.Expressions.{Coming, ExprIs, fill_in, items_in, ExpressionsAre, first_extra_in, ValuesAre, ListsAre, EachExpressionIs}
-use Rattle.lua_meaning_laws.proofs.FollowingEquations.{values_then, counted_then, work_if, one, work_then, list_then, written_then, index_then}
+use Rattle.lua_meaning_laws.proofs.FollowingEquations.{work_if, one, work_then, list_then, written_then, index_then}
 
 expr_is : {S : Setting} {kind : ExprKind-F ExprKind TableItem Expr} {comes : Coming} → EvaluatorEvaluates
     → ((line : ℕ) (p : Places) (s : Slots) (w : State) → do_work (eval S) (expr_work S line kind p s) w ≡ comes line p s w) → ExprIs S kind comes

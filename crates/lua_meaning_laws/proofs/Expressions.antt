@@ -1,6 +1,7 @@
 -- Expressions keep to what is known.
 use Rattle.std.proofs.Common.{◌≡◌, ℕ, ◌+◌, ◌<◌, true, false, List, [], ◌∷◌, length, None, slice_get, All, arith, length-append, if◌then◌else◌}
 use Rattle.std.proofs.lemmas.List.Elements.{All-cons, All-head, All-tail}
+use Rattle.resty_base.specs.ListLaws.{read_some}
 use Rattle.lua_ast.specs.declared.expressions.Expr.{Expr}
 use Rattle.lua_ast.specs.declared.expressions.ExprKind.{ExprKind}
 use Rattle.lua_ast.specs.declared.expressions.ExprKind.TheOpen.{ExprKind-F}
@@ -24,7 +25,7 @@ use Rattle.lua_meaning.specs.Operators.{unary_work, binary_work}
 use Rattle.lua_meaning.specs.Tables.{fill, expr_of, items_work, constructor_work}
 use Rattle.lua_meaning.specs.Expressions.{first_extra, call_work, method_work, expr_work, value_work}
 use Rattle.lua_meaning_laws.specs.Standing.{Stands, Known, StandsAfter}
-use Rattle.lua_meaning_laws.proofs.Known.{Given, SlotKnown, SlotsKnown, PlacesKnown, ExprIn, WorkKnown, read_some, later_heap, value_later, values_later, slots_later, places_later}
+use Rattle.lua_meaning_laws.proofs.Known.{Given, SlotKnown, SlotsKnown, PlacesKnown, ExprIn, WorkKnown, later_heap, value_later, values_later, slots_later, places_later}
 use Rattle.lua_meaning_laws.proofs.Parts.{ItemIn, ExprParts}
 use Rattle.lua_meaning_laws.proofs.Readings.{either, in_slot_known, in_cell_known, first_known}
 use Rattle.lua_meaning_laws.proofs.Writes.{table_keeps}

@@ -1,17 +1,17 @@
 -- From works to evaluations that go on with what others gave.
-use Rattle.std.proofs.Common.{◌≡◌, ℕ, ◌+◌, nat_lt, Bool, true, false, List, [], ◌∷◌, Option, Some, None, refl, ap, ◌∙◌, if◌then◌else◌}
+use Rattle.std.proofs.Common.{◌≡◌, ℕ, ◌+◌, Bool, true, false, List, [], ◌∷◌, Option, Some, None, refl, ap, ◌∙◌, if◌then◌else◌}
 use Rattle.lua_ast.specs.declared.expressions.Expr.{Expr}
 use Rattle.lua_values.specs.declared.values.Value.{Value}
 use Rattle.lua_values.specs.declared.values.Value.TheVariants.{Nil, Truth, Number, Text, Table, Closure, Native, Thread, Null, Object}
 use Rattle.lua_values.specs.declared.faults.StoreFault.{StoreFault}
-use Rattle.lua_values.specs.Heap.{Heap, step_limit}
+use Rattle.lua_values.specs.Heap.{Heap}
 use Rattle.lua_values.specs.Values.{is_nil}
 use Rattle.lua_values.specs.StoreCalls.{set_cause, with_pair}
 use Rattle.lua_operators.specs.declared.events.Event.TheVariants.{Index, NewIndex}
 use Rattle.lua_operators.specs.declared.faults.OperandFault.TheVariants as operand
 use Rattle.lua_operators.specs.Types.{type_of}
 use Rattle.lua_meaning.specs.Works.{Caller, Places, Slots, AValue, ACall, AnIndex, AStore, Values, Return, Break, Failed, Work, End, Eval, Write, and_then}
-use Rattle.lua_meaning.specs.Evaluator.{State, Ending, Ended, Parked, Spent, Evaluator, after, counted, do_work}
+use Rattle.lua_meaning.specs.Evaluator.{State, Ending, Ended, Parked, Spent, Evaluator, after, do_work}
 use Rattle.lua_meaning.specs.Laws.{WorksInOrder}
 use Rattle.lua_meaning.specs.Setting.{Setting}
 use Rattle.lua_meaning.specs.Positions.{callers_at, raise_operand}
@@ -20,51 +20,10 @@ use Rattle.lua_meaning.specs.Variables.{table_fault, unless_refused}
 use Rattle.lua_meaning.specs.Metatables.{handler, is_function}
 use Rattle.lua_meaning.specs.Indexing.{raw_value, is_table, index_by, index_without, index_work, set_raw, store_by, store_work}
 use Rattle.lua_meaning.specs.Calls.{calling, call_end, call_for_one}
-use Rattle.lua_meaning.specs.Loops.{after_body}
 use Rattle.lua_meaning.specs.Nodes.{eval}
-use Rattle.lua_meaning.specs.DirectEquations.{with_values, with_body, eval_list}
+use Rattle.lua_meaning.specs.DirectEquations.{with_values, eval_list}
+use Rattle.lua_meaning.specs.EndingLaws.{values_then, after_same}
 use Rattle.lua_meaning_laws.specs.Parts.{gives, gives_one, call_one, with_heap, written, index_else, index_in, set_raw_in, store_in}
-
--- ---- endings
-pub values_then : (ev : Evaluator) (x : Ending) (f : List Value → Slots → Work) (go : List Value → Slots → State → Ending)
-    → ((vs : List Value) (s : Slots) (w : State) → do_work ev (f vs s) w ≡ go vs s w) → after x (λ sign s w. do_work ev (on_values f sign s) w) ≡ with_values x go
-values_then ev (Ended (Values vs) s w) f go e = e vs s w
-values_then ev (Ended (Return vs) s w) f go e = refl
-values_then ev (Ended Break s w) f go e = refl
-values_then ev (Ended (Failed v) s w) f go e = refl
-values_then ev (Parked number args position store) f go e = refl
-values_then ev Spent f go e = refl
-
-pub body_then : (ev : Evaluator) (x : Ending) (f : Slots → Work) (go : Slots → State → Ending)
-    → ((s : Slots) (w : State) → do_work ev (f s) w ≡ go s w) → after x (λ sign s w. do_work ev (after_body f sign s) w) ≡ with_body x go
-body_then ev (Ended (Values vs) s w) f go e = e s w
-body_then ev (Ended (Return vs) s w) f go e = refl
-body_then ev (Ended Break s w) f go e = refl
-body_then ev (Ended (Failed v) s w) f go e = refl
-body_then ev (Parked number args position store) f go e = refl
-body_then ev Spent f go e = refl
-
-pub after_same : (x : Ending) → after x (λ sign s w. Ended sign s w) ≡ x
-after_same (Ended sign s w) = refl
-after_same (Parked number args position store) = refl
-after_same Spent = refl
-
-pub counted_then : (n : ℕ) (w : State) (f g : State → Ending) → ((w' : State) → f w' ≡ g w') → counted n w f ≡ counted n w g
-counted_then n w f g e = along (nat_lt (w.store.steps + n) step_limit)
-  where
-    along : (t : Bool) → (if t then f (record w { store = record { heap = w.store.heap; steps = w.store.steps + n } }) else Spent)
-        ≡ (if t then g (record w { store = record { heap = w.store.heap; steps = w.store.steps + n } }) else Spent)
-    along true = e _
-    along false = refl
-
--- counting leaves the heap as it is
-pub counted_there : (n : ℕ) (w : State) (f g : State → Ending) → ((w' : State) → w'.store.heap ≡ w.store.heap → f w' ≡ g w') → counted n w f ≡ counted n w g
-counted_there n w f g e = along (nat_lt (w.store.steps + n) step_limit)
-  where
-    along : (t : Bool) → (if t then f (record w { store = record { heap = w.store.heap; steps = w.store.steps + n } }) else Spent)
-        ≡ (if t then g (record w { store = record { heap = w.store.heap; steps = w.store.steps + n } }) else Spent)
-    along true = e _ refl
-    along false = refl
 
 -- a call that was done goes on as its end says
 pub call_then : (x : Ending) (s : Slots) (ev : Evaluator) (f : List Value → Slots → Work) (go : List Value → Slots → State → Ending)

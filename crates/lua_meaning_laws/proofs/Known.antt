@@ -1,7 +1,7 @@
 -- What is known to a heap, and stays known as it grows; and works that keep to what is known.
-use Rattle.std.proofs.Common.{◌≡◌, ℕ, zero, suc, ◌<◌, List, [], ◌∷◌, length, take, IfSome, slice_get, unwrap_or, All, refl, subst, ◌∙◌, arith}
+use Rattle.std.proofs.Common.{◌≡◌, ℕ, ◌<◌, List, [], ◌∷◌, length, take, slice_get, All, refl, subst, ◌∙◌, arith}
 use Rattle.std.specs.Prelude.{IsSomeAnd}
-use Rattle.std.proofs.lemmas.List.Elements.{All-head, All-tail, All-weaker}
+use Rattle.std.proofs.lemmas.List.Elements.{All-weaker}
 use Rattle.lua_ast.specs.declared.expressions.Expr.{Expr}
 use Rattle.lua_ast.specs.declared.statements.Stmt.{Stmt}
 use Rattle.lua_ast.specs.declared.programs.Function.{Function}
@@ -88,16 +88,6 @@ ValuesGo S h go = (g : Heap) (vs : List Value) (s : Slots) → StandsAfter S h g
 
 abbrev pub ValueGo : Setting → Heap → (Value → Slots → Work) → Type 0
 ValueGo S h go = (g : Heap) (v : Value) (s : Slots) → StandsAfter S h g → Known S g v → SlotsKnown S g s → WorkKnown S g (go v s)
-
-pub read_all : {X : Type 0} (P : X → Type 0) (xs : List X) (i : ℕ) (d : X) → All P xs → P d → P (unwrap_or (slice_get xs i) d)
-read_all P [] i d h p = p
-read_all P (x ∷ xs) zero d h p = All-head P x xs h
-read_all P (x ∷ xs) (suc i) d h p = read_all P xs i d (All-tail P x xs h) p
-
-pub read_some : {X : Type 0} (P : X → Type 0) (xs : List X) (i : ℕ) → All P xs → IfSome (slice_get xs i) P
-read_some P [] i h = tt
-read_some P (x ∷ xs) zero h = All-head P x xs h
-read_some P (x ∷ xs) (suc i) h = read_some P xs i (All-tail P x xs h)
 
 module _ (S : Setting) (G : Given S) where
   pub same_heap : (h : Heap) → Stands S h → StandsAfter S h h

@@ -26,8 +26,9 @@ use Rattle.lua_meaning.specs.Calls.{calling}
 use Rattle.lua_meaning.specs.Loops.{again, after_body, is_within, for_from, for_next, bound, for_work, iterate}
 use Rattle.lua_meaning.specs.Nodes.{work_of, eval}
 use Rattle.lua_meaning.specs.DirectEquations.{with_body, eval_block}
+use Rattle.lua_meaning.specs.EndingLaws.{body_then, after_same, counted_then}
 use Rattle.lua_meaning_laws.specs.Loops.{for_from_in, for_next_in, bound_in, for_in, iterate_in, LoopsAre, EachLoopIs}
-use Rattle.lua_meaning_laws.proofs.FollowingEquations.{body_then, after_same, counted_then, call_then, work_if, one}
+use Rattle.lua_meaning_laws.proofs.FollowingEquations.{call_then, work_if, one}
 
 module _ (S : Setting) where
   for_from_then : (line slot : ℕ) (i limit step : ℤ) (body : List Stmt) (p : Places) (s : Slots) (w : State)

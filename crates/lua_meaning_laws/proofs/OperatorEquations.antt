@@ -30,8 +30,9 @@ use Rattle.lua_meaning.specs.Concatenation.{text_length, with_text, joined, conc
 use Rattle.lua_meaning.specs.Comparison.{count_texts, give_truth, call_for_truth, truth_work, equality_work, less_by_handler, at_most_by_handler, compared_by_handler, comparison_work}
 use Rattle.lua_meaning.specs.Operators.{length_work}
 use Rattle.lua_meaning.specs.Nodes.{eval}
+use Rattle.lua_meaning.specs.EndingLaws.{counted_then}
 use Rattle.lua_meaning_laws.specs.Operators.{handled_in, outcome_in, arithmetic_in, length_in, joined_in, concatenation_in, texts_counted, asked_in, equal_in, equality_in, less_in, at_most_in, by_handler_in, comparison_in, UnaryAre, BinaryAre, EachOperatorIs}
-use Rattle.lua_meaning_laws.proofs.FollowingEquations.{counted_then, call_then, work_if, written_then}
+use Rattle.lua_meaning_laws.proofs.FollowingEquations.{call_then, work_if, written_then}
 
 module _ (S : Setting) (callers : List Caller) where
   handled_then : (by : Value) (operands : List Value) (fault : OperandFault) (s : Slots) (w : State) → do_work (eval S) (handled S callers by operands fault s) w ≡ handled_in S callers by operands fault s w

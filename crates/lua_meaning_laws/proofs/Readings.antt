@@ -1,6 +1,7 @@
 -- What is read of a heap that stands is known there.
 use Rattle.std.proofs.Common.{ℕ, Bool, true, false, List, [], ◌∷◌, Option, None, Some, IfSome, All, if◌then◌else◌}
 use Rattle.std.proofs.lemmas.List.Elements.{All-nil, All-head, All-tail}
+use Rattle.resty_base.specs.ListLaws.{read_all}
 use Rattle.lua_values.specs.declared.values.Value.{Value}
 use Rattle.lua_values.specs.declared.values.Value.TheVariants.{Nil, Truth, Number, Text, Table, Closure, Native, Thread, Null, Object}
 use Rattle.lua_values.specs.Values.{same, is_nil}
@@ -21,7 +22,7 @@ use Rattle.lua_meaning.specs.Variables.{in_cell, in_slot}
 use Rattle.lua_meaning.specs.Indexing.{raw_value}
 use Rattle.lua_meaning.specs.Metatables.{metatable_of, handler_in, handler, handler_of_two, handler_of_both}
 use Rattle.lua_meaning_laws.specs.Standing.{Stands, Known}
-use Rattle.lua_meaning_laws.proofs.Known.{Given, SlotKnown, read_all}
+use Rattle.lua_meaning_laws.proofs.Known.{Given, SlotKnown}
 
 -- either of two
 pub either : {X : Type 0} (P : X → Type 0) (b : Bool) (x y : X) → P x → P y → P (if b then x else y)

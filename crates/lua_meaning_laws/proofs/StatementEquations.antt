@@ -37,9 +37,10 @@ use Rattle.lua_meaning.specs.Statements.{if_work, step_of, tail_work, return_one
 use Rattle.lua_meaning.specs.Statements as statement
 use Rattle.lua_meaning.specs.Nodes.{work_of, eval}
 use Rattle.lua_meaning.specs.DirectEquations.{with_values, eval_list}
+use Rattle.lua_meaning.specs.EndingLaws.{values_then, after_same, counted_then}
 use Rattle.lua_meaning_laws.specs.Expressions.{Coming, closure_in}
 use Rattle.lua_meaning_laws.specs.Statements.{StmtIs, target_in, targets_in, assign_in, assign_each, arms_in, step_in, is_call, is_tail, StatementsAre, EachStatementIs}
-use Rattle.lua_meaning_laws.proofs.FollowingEquations.{values_then, after_same, counted_then, work_if, one, work_then, list_then, index_then, store_then}
+use Rattle.lua_meaning_laws.proofs.FollowingEquations.{work_if, one, work_then, list_then, index_then, store_then}
 use Rattle.lua_meaning_laws.proofs.LoopEquations.{for_then, iterate_then}
 
 stmt_is : {S : Setting} {kind : StmtKind-F StmtKind Arm Stmt} {comes : Coming} → EvaluatorEvaluates

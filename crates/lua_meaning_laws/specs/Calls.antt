@@ -6,7 +6,7 @@ use Rattle.lua_ast.specs.declared.programs.Function.{Function}
 use Rattle.lua_values.specs.declared.values.Value.{Value}
 use Rattle.lua_values.specs.declared.values.Value.TheVariants.{Text, Closure, Native}
 use Rattle.lua_values.specs.Values.{is_nil}
-use Rattle.lua_values.specs.Heap.{ClosureView}
+use Rattle.lua_values.specs.Heap.{ClosureView, bytes_of_a_step}
 use Rattle.lua_values.specs.StoreCalls.{is_full}
 use Rattle.lua_values.specs.NativeCalls.{NativeResult, Gives, Faults, Leaves}
 use Rattle.lua_operators.specs.declared.events.Event.TheVariants.{Call, ToString}
@@ -77,17 +77,17 @@ assert_in S v more callers s w =
 
 -- the text of a value, where so many bytes of text were taken: a text is its own, and any other is made
 abbrev pub text_in : Setting → List Caller → ℕ → Value → Slots → State → Ending
-text_in S callers taken (Text text) s w = counted (taken / 64) w (λ w2. gives_one (Text text) s w2)
+text_in S callers taken (Text text) s w = counted (taken / bytes_of_a_step) w (λ w2. gives_one (Text text) s w2)
 text_in S callers taken v s w =
-    if is_full w.store.heap (length (text_of v) + 16) then counted (taken / 64) w (λ w2. faults S callers StorageLimit s w2)
-    else counted ((taken + length (text_of v)) / 64) w (λ w2.
+    if is_full w.store.heap (length (text_of v) + 16) then counted (taken / bytes_of_a_step) w (λ w2. faults S callers StorageLimit s w2)
+    else counted ((taken + length (text_of v)) / bytes_of_a_step) w (λ w2.
     gives_one (Text (text_of v)) s (with_heap w2 (with_text w.store.heap (length (text_of v)))))
 
 -- `tostring(v)`: what the handler gives, or else its text
 abbrev pub tostring_in : Setting → Value → Value → List Value → List Caller → Slots → State → Ending
 tostring_in S by v more callers s w =
     if is_nil by then text_in S callers (texts_length (v ∷ more)) v s w
-    else counted (texts_length (v ∷ more) / 64) w (λ w2. call_one S callers by (v ∷ []) s w2 gives_one)
+    else counted (texts_length (v ∷ more) / bytes_of_a_step) w (λ w2. call_one S callers by (v ∷ []) s w2 gives_one)
 
 -- what the outside gives a call
 abbrev pub answer_in : Setting → List Caller → Resumed → Slots → State → Ending
@@ -108,12 +108,12 @@ pub record CallsAre (S : Setting) : Type 0 where
   pub by_handler : (f : Value) (args : List Value) (q : Places) (s : Slots) (w : State) → is_callable f ≡ false
       → eval S (ACall f args) q s w ≡ counted 1 w (λ w1. call_by_in S (handler w1.store.heap f Call) f args q s w1)
   pub xpcall : (f by : Value) (args : List Value) (q : Places) (s : Slots) (w : State) → eval S (ACall (Native 1) (f ∷ by ∷ args)) q s w
-      ≡ counted 1 w (λ w1. counted (texts_length (f ∷ by ∷ args) / 64) w1
+      ≡ counted 1 w (λ w1. counted (texts_length (f ∷ by ∷ args) / bytes_of_a_step) w1
       (λ w2. after (call_in S q.around f [] s w2) (λ sign s3 w3. protected_in S by q.around s sign w3)))
   pub error : (args : List Value) (q : Places) (s : Slots) (w : State) → eval S (ACall (Native 2) args) q s w
-      ≡ counted 1 w (λ w1. counted (texts_length args / 64) w1 (λ w2. error_in S args q.around s w2))
+      ≡ counted 1 w (λ w1. counted (texts_length args / bytes_of_a_step) w1 (λ w2. error_in S args q.around s w2))
   pub assert : (v : Value) (more : List Value) (q : Places) (s : Slots) (w : State) → eval S (ACall (Native 3) (v ∷ more)) q s w
-      ≡ counted 1 w (λ w1. counted (texts_length (v ∷ more) / 64) w1 (λ w2. assert_in S v more q.around s w2))
+      ≡ counted 1 w (λ w1. counted (texts_length (v ∷ more) / bytes_of_a_step) w1 (λ w2. assert_in S v more q.around s w2))
   pub tostring : (v : Value) (more : List Value) (q : Places) (s : Slots) (w : State) → eval S (ACall (Native 4) (v ∷ more)) q s w
       ≡ counted 1 w (λ w1. tostring_in S (handler w1.store.heap v ToString) v more q.around s w1)
   pub of_host : (n : ℕ) (args : List Value) (q : Places) (s : Slots) (w : State) → 5 ≤ n → n - 5 < S.count → eval S (ACall (Native n) args) q s w

@@ -8,6 +8,7 @@ use Rattle.lua_values.specs.declared.values.Value.TheVariants.{Truth, Text, Tabl
 use Rattle.lua_values.specs.Values.{number, is_nil}
 use Rattle.lua_values.specs.Border.{border_of}
 use Rattle.lua_values.specs.StoreCalls.{pairs_of, full_cause}
+use Rattle.lua_values.specs.Heap.{bytes_of_a_step}
 use Rattle.lua_operators.specs.declared.arithmetic.ArithmeticOperator.{ArithmeticOperator}
 use Rattle.lua_operators.specs.declared.arithmetic.ArithmeticOperator.TheVariants.{Add, Sub, Mul, Div, Mod, Pow}
 use Rattle.lua_operators.specs.declared.comparison.ComparisonOperator.{ComparisonOperator}
@@ -56,7 +57,7 @@ length_in S callers v s w = faults_at S callers (operand.Length (type_of v)) s w
 -- a text that is joined of two counts a step for each 64 bytes that are taken or made, and takes its units
 abbrev pub joined_in : Setting → List Caller → ℕ → Outcome → Slots → State → Ending → Ending
 joined_in S callers taken (Gives v) s w event =
-    counted ((taken + text_length v) / 64) w (λ w2.
+    counted ((taken + text_length v) / bytes_of_a_step) w (λ w2.
     written S callers (full_cause w2.store.heap (text_length v + 16)) (with_text w2.store.heap (text_length v)) s w2 (λ w3. gives_one v s w3))
 joined_in S callers taken NeedsEvent s w event = event
 joined_in S callers taken (Faults fault) s w event = faults S callers (Number fault) s w
@@ -69,7 +70,7 @@ concatenation_in S callers a b s w =
 
 -- a comparison of two texts counts a step for each 64 bytes of both
 abbrev pub texts_counted : Value → Value → State → (State → Ending) → Ending
-texts_counted (Text a) (Text b) w go = counted ((length a + length b) / 64) w go
+texts_counted (Text a) (Text b) w go = counted ((length a + length b) / bytes_of_a_step) w go
 texts_counted a b w go = go w
 
 -- whether a comparison holds, or whether it doesn't, and the same of the first value of a handler

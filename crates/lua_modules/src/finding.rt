@@ -4,7 +4,8 @@ ghost use Rattle.std.specs.Prelude.{◌≡◌, ◌≤◌, ◌<◌, [], length, O
 ghost use Rattle.lua_modules.specs.Finding as spec;
 ghost use Rattle.lua_modules.specs.Finding.{IsOverLimit, most_modules};
 
-use crate::{ModuleFileFault, ModuleSet, names_of, names_of_each};
+use crate::{ModuleFileFault, ModuleSet};
+use lua_linking::{names_of, names_of_each};
 use resty_base::Bytes;
 use std::alloc::Global;
 

@@ -15,6 +15,5 @@ pub use faults::ModuleFault;
 pub use file_faults::ModuleFileFault;
 pub use files::file_of;
 pub use freezing::freeze;
-pub use lua_linking::{names_in, names_of, names_of_each};
 pub use reading::read_modules;
 pub use sets::{Chunks, Module, ModuleSet};

@@ -2,12 +2,13 @@
 use Rattle.std.specs.Prelude.{ℕ, zero, suc, ℤ, pos, negsuc, ◌-ℤ◌, ◌*ℤ◌, neg_ℤ, unsigned_abs, nat_le, if◌then◌else◌, Result, Ok, Err}
 use Rattle.std.specs.Ordering.{int_eq}
 use Rattle.std.specs.Int.{int_div_euclid}
+use Rattle.resty_base.specs.WholeNumber.{greatest_whole}
 use Rattle.lua_numbers.specs.declared.faults.NumFault.{NumFault}
 use Rattle.lua_numbers.specs.declared.faults.NumFault.TheVariants.{Range, Inexact, ByZero}
 
 -- a result within 99,999,999,999,999 either way is given, and any other is out of range
 abbrev pub within_range : ℤ → Result ℤ NumFault
-within_range n = if nat_le (unsigned_abs n) 99_999_999_999_999 then Ok n else Err Range
+within_range n = if nat_le (unsigned_abs n) greatest_whole then Ok n else Err Range
 
 -- floor(a / b), the greatest integer that is at most a / b: by a negative divisor, that of -a by -b
 abbrev pub floor_quotient : ℤ → ℤ → ℤ

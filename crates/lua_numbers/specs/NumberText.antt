@@ -6,6 +6,7 @@ use Rattle.std.specs.List.{list_all, starts_with}
 use Rattle.std.specs.Int.{is_in_range}
 use Rattle.std.specs.Char.{digit_value}
 use Rattle.std.specs.Str.Parse.{digits_value}
+use Rattle.resty_base.specs.WholeNumber.{greatest_whole}
 
 -- a space, a tab, a line feed, a vertical tab, a form feed or a carriage return
 abbrev pub is_blank : ℕ → Bool
@@ -24,7 +25,7 @@ before_blanks text = reverse (after_blanks (reverse text))
 abbrev pub numeral_in : ℕ → List ℕ → Option ℤ
 numeral_in base digits =
     if nat_lt 0 (length digits) && list_all (λ c. nat_lt (digit_value c) base) digits
-    && nat_le (digits_value base digits) 99_999_999_999_999
+    && nat_le (digits_value base digits) greatest_whole
     then Some (pos (digits_value base digits)) else None
 
 -- the number that decimal digits, or hexadecimal ones after `0x`, write

@@ -6,11 +6,11 @@ ghost use Rattle.lua_numbers.specs.NumberText.{is_blank, after_blanks, before_bl
 
 use crate::neg;
 use itoa::Buffer;
-use resty_base::{Bytes, Whole};
+use resty_base::{Bytes, GREATEST_WHOLE, Whole};
 use std::alloc::{AllocError, Global};
 
 /// The greatest number that a text writes.
-const GREATEST: u64 = 99_999_999_999_999;
+const GREATEST: u64 = GREATEST_WHOLE as u64;
 
 /// The number in decimal digits, after a `-` where it is negative.
 pub fn text_of(alloc: Global, n: Whole) -> Result<Bytes, AllocError>
@@ -42,8 +42,8 @@ fn natural_of(text: &[u8]) -> Option<Whole>
     }
 }
 
-/// Digits in a base.
-fn numeral_of(digits: &[u8], base: u32) -> Option<Whole>
+/// The number that digits write in a base, where there are digits alone and it is within the range.
+pub fn numeral_of(digits: &[u8], base: u32) -> Option<Whole>
     requires { (2 ≤ base) × (base ≤ 36) }
     ensures { result ≡ numeral_in base digits.now }
 {
@@ -60,14 +60,14 @@ fn numeral_of(digits: &[u8], base: u32) -> Option<Whole>
 }
 
 /// A space, a tab, a line feed, a vertical tab, a form feed or a carriage return.
-fn is_blank(byte: u8) -> bool
+pub fn is_blank(byte: u8) -> bool
     ensures { result ≡ is_blank byte }
 {
     matches!(byte, b' ' | b'\t'..=b'\r')
 }
 
 /// The text after the blanks at its start.
-fn after_blanks(text: &[u8]) -> &[u8]
+pub fn after_blanks(text: &[u8]) -> &[u8]
     ensures { result.now ≡ after_blanks text.now }
 {
     let mut rest = text;
@@ -81,7 +81,7 @@ fn after_blanks(text: &[u8]) -> &[u8]
 }
 
 /// The text before the blanks at its end.
-fn before_blanks(text: &[u8]) -> &[u8]
+pub fn before_blanks(text: &[u8]) -> &[u8]
     ensures { result.now ≡ before_blanks text.now }
 {
     let mut rest = text;

@@ -1,3 +1,5 @@
+-- Who reads the contract of `parse` needs States, Next, Kinds, Nesting, Reads, ReadsNames, ReadsStatements and Standing; the others are what the
+-- functions of the two crates promise each other.
 pub mod States
 pub mod Nesting
 pub mod Next

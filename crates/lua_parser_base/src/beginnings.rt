@@ -21,6 +21,7 @@ use crate::statement_nodes::FunctionName;
 use lua_ast::{Stmt, StmtKind};
 use lua_lexer::{Sign, Token, TokenKind, Word};
 use std::alloc::Global;
+use std::rc::Rc;
 
 /// What the next token begins.
 #[derive(Clone, Copy, PartialEq, Eq)]
@@ -105,14 +106,15 @@ impl Parser {
         ensures misses { IfErr result (MissesMember sign object.height (state tokens.now self.old) (state tokens.now self.new)) }
         ensures forward { OnOk result (Advances tokens.now self.old self.new) }
     {
-        let line = self.take_sign(tokens, sign)?;
         let FunctionName { target, height } = object;
+        let object = Rc::new(alloc, target)?;
+        let line = self.take_sign(tokens, sign)?;
         if height >= HIGHEST {
             return Err(ParseFault::Depth(line));
         }
         let named = self.take_name(tokens)?;
         Ok(FunctionName {
-            target: member(alloc, target, line, named)?,
+            target: member(alloc, object, line, named)?,
             height: height + 1,
         })
     }

@@ -225,12 +225,11 @@ pub fn indexed(alloc: Global, object: Prefix, line: u32, key: Built) -> Result<P
     let height = object.height.max(key.height).saturating_add(1);
     let Prefix { expr: object, .. } = object;
     let Built { expr: key, .. } = key;
-    let object = Rc::new(alloc, object)?;
-    let key = Rc::new(alloc, key)?;
+    let shared = both(alloc, object, key)?;
     Ok(Prefix {
         expr: Expr {
             line,
-            kind: ExprKind::Index(object, key),
+            kind: ExprKind::Index(shared.0, shared.1),
         },
         height,
         form: Form::Variable,
@@ -314,16 +313,27 @@ pub fn binary(
     let height = left.height.max(right.height).saturating_add(1);
     let Built { expr: left, .. } = left;
     let Built { expr: right, .. } = right;
-    let left = Rc::new(alloc, left)?;
-    let right = Rc::new(alloc, right)?;
+    let shared = both(alloc, left, right)?;
     Ok(Built {
         expr: Expr {
             line,
-            kind: binary_kind(op, left, right),
+            kind: binary_kind(op, shared.0, shared.1),
         },
         height,
         level: level(op),
     })
+}
+
+/// Two expressions, each shared.
+pub(crate) fn both(
+    alloc: Global,
+    first: Expr,
+    second: Expr,
+) -> Result<(Rc<Expr>, Rc<Expr>), ParseFault>
+    ensures { MatchResult result (λ shared. (shared.0.value ≡ first) × (shared.1.value ≡ second)) IsMemory }
+{
+    let first = Rc::new(alloc, first)?;
+    Ok((first, Rc::new(alloc, second)?))
 }
 
 /// What an operator between operands is.
@@ -340,14 +350,13 @@ fn binary_kind(op: Operator, left: Rc<Expr>, right: Rc<Expr>) -> ExprKind
 /// `object.name`, where the point is on the line `dot`.
 pub(crate) fn member(
     alloc: Global,
-    object: Expr,
+    object: Rc<Expr>,
     dot: u32,
     named: Named,
 ) -> Result<Expr, ParseFault>
-    ensures { MatchResult result (IsMember object dot named.line named.name) IsMemory }
+    ensures { MatchResult result (IsMember object.value dot named.line named.name) IsMemory }
 {
     let key = named.into_text().into_expr();
-    let object = Rc::new(alloc, object)?;
     Ok(Expr {
         line: dot,
         kind: ExprKind::Index(object, Rc::new(alloc, key)?),

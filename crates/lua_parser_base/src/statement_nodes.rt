@@ -5,6 +5,7 @@ ghost use Rattle.lua_parser_base.specs.StatementNodes.{Begins, given_of};
 ghost use Rattle.lua_parser_base.specs.Next.{IsMemory};
 
 use crate::ParseFault;
+use crate::nodes::both;
 use lua_ast::{Arm, Expr, ExprKind, Stmt, StmtKind};
 use std::alloc::Global;
 use std::rc::Rc;
@@ -87,10 +88,10 @@ pub fn repeat_node(
 ) -> Result<Stmt, ParseFault>
     ensures { MatchResult result (IsRepeat line body.items test) IsMemory }
 {
-    let body = Rc::new(alloc, body)?;
+    let test = Rc::new(alloc, test)?;
     Ok(Stmt {
         line,
-        kind: StmtKind::Repeat(body, Rc::new(alloc, test)?),
+        kind: StmtKind::Repeat(Rc::new(alloc, body)?, test),
     })
 }
 
@@ -106,16 +107,15 @@ pub fn numeric_for(
     let Range { from, to, step } = range;
     let LoopBlock { slots, body } = block;
     let slot = first_slot(&slots);
-    let from = Rc::new(alloc, from)?;
-    let to = Rc::new(alloc, to)?;
+    let ends = both(alloc, from, to)?;
     let step = shared(alloc, step)?;
     let body = Rc::new(alloc, body)?;
     Ok(Stmt {
         line,
         kind: StmtKind::NumericFor {
             slot,
-            from,
-            to,
+            from: ends.0,
+            to: ends.1,
             step,
             body,
         },
@@ -213,11 +213,11 @@ pub fn assign_node(
 pub fn define(alloc: Global, line: u32, target: Expr, number: u32) -> Result<Stmt, ParseFault>
     ensures { MatchResult result (Defines line target number) IsMemory }
 {
+    let targets = vec![in alloc; target]?;
     let function = Expr {
         line,
         kind: ExprKind::Function(number),
     };
-    let targets = vec![in alloc; target]?;
     let values = vec![in alloc; function]?;
     assign_node(alloc, line, targets, values)
 }

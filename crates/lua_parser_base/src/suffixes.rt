@@ -17,6 +17,7 @@ use crate::nesting::Nesting;
 use crate::nodes::{Form, Prefix, member};
 use lua_lexer::{Sign, Token, TokenKind};
 use std::alloc::Global;
+use std::rc::Rc;
 
 /// What may follow a prefix.
 #[derive(Clone, Copy, PartialEq, Eq)]
@@ -68,13 +69,14 @@ impl Parser {
         ensures order { IfErr result (FirstFaultOfPrefix at object (state tokens.now self.old) (state tokens.now self.new)) }
         ensures forward { OnOk result (Advances tokens.now self.old self.new) }
     {
+        let Prefix { expr, height, .. } = object;
+        let object = Rc::new(alloc, expr)?;
         let dot = self.take_sign(tokens, Sign::Dot)?;
-        at.above(object.height, dot)?;
+        at.above(height, dot)?;
         let named = self.take_name(tokens)?;
-        let height = object.height.saturating_add(1);
-        let Prefix { expr, .. } = object;
+        let height = height.saturating_add(1);
         Ok(Prefix {
-            expr: member(alloc, expr, dot, named)?,
+            expr: member(alloc, object, dot, named)?,
             height,
             form: Form::Variable,
         })

@@ -59,15 +59,12 @@ impl<M: Machine> RunContract for LuaRun<M> {
 
     fn begin(
         alloc: Global,
-        site: &Site<M>,
-        now: Ms,
-        sockets: u32,
+        _site: &Site<M>,
+        _now: Ms,
+        _sockets: u32,
         head: Head,
         target: Target,
     ) -> Result<(Self, RunTurn<NoJob>), AllocError> {
-        let _ = site;
-        let _ = now;
-        let _ = sockets;
         let run = LuaRun {
             work: Work::Request(Req::begin(alloc, head, target, 0)),
             has_client: true,
@@ -78,15 +75,11 @@ impl<M: Machine> RunContract for LuaRun<M> {
 
     fn begin_job(
         alloc: Global,
-        site: &Site<M>,
-        now: Ms,
-        premature: bool,
-        job: NoJob,
+        _site: &Site<M>,
+        _now: Ms,
+        _premature: bool,
+        _job: NoJob,
     ) -> Result<(Self, RunTurn<NoJob>), AllocError> {
-        let _ = site;
-        let _ = now;
-        let _ = premature;
-        let _ = job;
         let run = LuaRun {
             work: Work::Job,
             has_client: false,
@@ -124,21 +117,17 @@ impl<M: Machine> RunContract for LuaRun<M> {
         alloc: Global,
         site: &Site<M>,
         now: Ms,
-        answer: Answer,
+        _answer: Answer,
     ) -> Result<RunTurn<NoJob>, AllocError> {
-        let _ = answer;
         let work = replace(&mut self.work, Work::Over);
         working(alloc, site, now, work)
     }
 
-    fn queued(&self, site: &Site<M>, socket: u32) -> &[u8] {
-        let _ = site;
-        let _ = socket;
+    fn queued(&self, _site: &Site<M>, _socket: u32) -> &[u8] {
         &[]
     }
 
-    fn wants(&self, socket: u32) -> bool {
-        let _ = socket;
+    fn wants(&self, _socket: u32) -> bool {
         false
     }
 }

@@ -69,13 +69,11 @@ impl<M: Machine> ServiceContract for LuaRun<M> {
         default_times(&site.conf)
     }
 
-    fn times_of(site: &Site<M>, head: &Head, target: &Target) -> Times {
-        let _ = head;
+    fn times_of(site: &Site<M>, _head: &Head, target: &Target) -> Times {
         times_of(&site.conf, target)
     }
 
-    fn refusal(alloc: Global, site: &Site<M>, code: u16, now: Ms) -> Result<Bytes, AllocError> {
-        let _ = site;
+    fn refusal(alloc: Global, _site: &Site<M>, code: u16, now: Ms) -> Result<Bytes, AllocError> {
         refusal(alloc, code, now)
     }
 

@@ -1,4 +1,5 @@
--- Calls while a site starts: no step is counted before one, and nobody answers what it asks.
+-- Calls while a site starts (lua-nginx-module manual, `init_by_lua_block`): no step is counted before one, and nobody answers what it asks, which is
+-- this project's choice.
 use Rattle.std.specs.Prelude.{ℕ, List, [], ◌∷◌, codes, Ok, Err}
 use Rattle.lua_values.specs.declared.values.Value.{Value}
 use Rattle.lua_values.specs.declared.values.Value.TheVariants.{Text}

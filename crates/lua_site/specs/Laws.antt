@@ -1,4 +1,4 @@
--- What holds of how sites start.
+-- What holds of how sites start: laws of this project's definitions.
 use Rattle.std.specs.Prelude.{◌≡◌, ◌≢◌, ℕ, ◌+◌, ◌<◌, List, [], ◌∷◌, length, take, codes, Some, None, Result, Ok, Err}
 use Rattle.lua_values.specs.declared.values.Value.{Value}
 use Rattle.lua_values.specs.declared.values.Value.TheVariants.{Text, Table}

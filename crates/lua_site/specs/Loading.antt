@@ -1,4 +1,4 @@
--- The chunks of a site as closures of one heap, with the functions of the host.
+-- The chunks of a site as closures of one heap (Lua 5.1 Reference Manual, 2.4.1), with the functions of the host: a form of this project.
 use Rattle.std.specs.Prelude.{ℕ, ◌+◌, List, [], ◌∷◌, length, slice_index, Option, Some, None, Result, Ok, if◌then◌else◌}
 use Rattle.std.specs.List.{range_with_len}
 use Rattle.lua_values.specs.declared.values.Value.TheVariants.{Text, Table, Closure, Native}

@@ -1,4 +1,4 @@
--- What a start makes in a heap, one thing after the other, until one is refused.
+-- What a start makes in a heap, one thing after the other, until one is refused: a form of this project.
 use Rattle.std.specs.Prelude.{◌≡◌, ℕ, List, [], ◌∷◌, Option, Some, None, Result, Ok, Err}
 use Rattle.lua_values.specs.declared.values.Value.{Value}
 use Rattle.lua_values.specs.declared.faults.StoreFault.{StoreFault}

@@ -1,4 +1,5 @@
--- The tables that each run of a site has for itself, which are made next to one another.
+-- The tables that each run of a site has for itself, made next to one another: its globals (lua-nginx-module manual, "Lua Variable Scope") with their
+-- metatable, and the modules that it requires (Lua 5.1 Reference Manual, section 5.3, `package.loaded`).
 use Rattle.std.specs.Prelude.{ℕ, ◌+◌, length, codes, Ok}
 use Rattle.lua_values.specs.declared.values.Value.TheVariants.{Text, Table}
 use Rattle.lua_values.specs.Heap.{Heap}

@@ -1,4 +1,4 @@
--- What a started store stands over: a program and the functions of the host.
+-- What a started store stands over: a program and the functions of the host. A form of this project.
 use Rattle.std.specs.Prelude.{◌≡◌, ℕ, ◌≤◌, ◌<◌, List, [], ◌∷◌, length, Option, IfSome, Ok, All}
 use Rattle.lua_values.specs.declared.values.Value.{Value}
 use Rattle.lua_values.specs.Heap.{Heap, StoreView}

@@ -1,4 +1,4 @@
--- What a start of a site answers.
+-- What a start of a site answers: a form of this project.
 use Rattle.std.specs.Prelude.{ℕ, List, Result}
 use Rattle.lua_values.specs.Heap.{StoreView}
 use Rattle.lua_site.specs.declared.faults.LuaSiteFault.{LuaSiteFault}

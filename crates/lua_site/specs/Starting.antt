@@ -1,4 +1,5 @@
--- How a site of Lua starts, as one function of its chunks.
+-- How a site of Lua starts, as one function of its chunks (lua-nginx-module manual, `init_by_lua_block` and "Lua Variable Scope"). That what init
+-- left is frozen is this project's choice.
 use Rattle.std.specs.Prelude.{ℕ, List, Option, Result, Ok}
 use Rattle.lua_values.specs.Heap.{Heap, StoreView}
 use Rattle.lua_values.specs.StoreCalls.{new_store, frozen}

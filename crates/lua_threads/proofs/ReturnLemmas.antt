@@ -15,7 +15,7 @@ use Rattle.lua_values.specs.Heap.{StoreView, step_limit}
 use Rattle.lua_meaning.specs.declared.positions.Position.{Position}
 use Rattle.lua_meaning.specs.declared.resumes.Resumed.{Resumed}
 use Rattle.lua_meaning.specs.Works.{Places, Slots, AStmt, Sign, Values, Return, Break, Failed, Work, End, Eval, Outside, Look, Write, Count, and_then}
-use Rattle.lua_meaning.specs.Evaluator.{Resume, State, Ending, Ended, Parked, Spent, after, answered, counted, Evaluator, do_work}
+use Rattle.lua_meaning.specs.Evaluator.{Resume, State, Ending, Ended, Parked, Spent, after, answered, Evaluator, do_work}
 use Rattle.lua_meaning.specs.Setting.{Setting}
 use Rattle.lua_meaning.specs.Positions.{callers_at}
 use Rattle.lua_meaning.specs.Signs.{first, on_values, values_of}
@@ -25,6 +25,7 @@ use Rattle.lua_meaning.specs.Calls.{call_end, returned, tail_call}
 use Rattle.lua_meaning.specs.Statements.{with_values, tail_work, return_one, return_work}
 use Rattle.lua_meaning.specs.Nodes.{work_of, eval}
 use Rattle.lua_meaning.proofs.EvaluatorLemmas.{eval-law, work-then}
+use Rattle.lua_meaning.specs.EndingLaws.{counted_then as counted_same}
 use Rattle.lua_frames.specs.declared.flow.Flow.{Flow}
 use Rattle.lua_frames.specs.declared.threads.Frames.{Frames}
 use Rattle.lua_frames.specs.Signals.{Passes}
@@ -114,13 +115,6 @@ answered_same number args position store (r ∷ resumes) f g each = along (nat_l
   where
     along : (t : Bool) → (if t then f r.answer (record { store = r.store; resumes = resumes }) else Spent) ≡ (if t then g r.answer (record { store = r.store; resumes = resumes }) else Spent)
     along true = each r.answer (record { store = r.store; resumes = resumes })
-    along false = refl
-
-counted_same : (n : ℕ) (w : State) (f g : State → Ending) → ((w' : State) → f w' ≡ g w') → counted n w f ≡ counted n w g
-counted_same n w f g each = along (nat_lt (w.store.steps + n) step_limit)
-  where
-    along : (t : Bool) → (if t then f (record w { store = record { heap = w.store.heap; steps = w.store.steps + n } }) else Spent) ≡ (if t then g (record w { store = record { heap = w.store.heap; steps = w.store.steps + n } }) else Spent)
-    along true = each (record w { store = record { heap = w.store.heap; steps = w.store.steps + n } })
     along false = refl
 
 passed_by : (ev : Evaluator) (next : List Value → Slots → Work) (q : Work) (w : State) → Leaves q → do_work ev (and_then q (on_values next)) w ≡ do_work ev q w

@@ -16,11 +16,8 @@ use crate::run;
 use lua_frames::{Flow, Frames, Host, answer, start};
 use lua_machine::{Op, Slice};
 use lua_meaning::{Position, Resumed};
-use lua_values::{Store, Value, Values};
+use lua_values::{STEP_LIMIT, Store, Value, Values};
 use std::alloc::{AllocError, Global};
-
-/// The most steps of a run.
-const STEP_LIMIT: u64 = 1_000_000;
 
 /// Where a thread stands: it hasn't begun, or it is parked at a call that was made at this position.
 #[derive(Clone, Copy)]

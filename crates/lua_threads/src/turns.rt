@@ -6,11 +6,8 @@ ghost use Rattle.lua_threads.specs.Steps.{RaisesSteps};
 
 use crate::applying::apply;
 use lua_frames::{Flow, Frames, Host, leave};
-use lua_values::Store;
+use lua_values::{STEP_LIMIT, Store};
 use std::alloc::AllocError;
-
-/// The most steps of a run.
-const STEP_LIMIT: u64 = 1_000_000;
 
 /// One turn: the innermost item takes what is given, or the innermost call, in which nothing waits, ends.
 fn turn<H: Host>(frames: &mut Frames, host: &H, store: &mut Store) -> Result<Flow, AllocError>

@@ -1,7 +1,8 @@
 -- What fits a heap.
-use Rattle.std.proofs.Common.{◌≡◌, ℕ, zero, suc, ◌+◌, ◌<◌, ◌≤◌, Bool, true, false, List, [], ◌∷◌, ◌++◌, length, Option, None, Some, IfSome, slice_get, slice_set, unwrap_or, All, refl, ap, ◌∙◌, if◌then◌else◌, arith, length-append}
+use Rattle.std.proofs.Common.{◌≡◌, ℕ, ◌+◌, ◌<◌, ◌≤◌, Bool, true, false, List, [], ◌∷◌, ◌++◌, length, Option, None, Some, IfSome, slice_set, All, refl, ap, ◌∙◌, if◌then◌else◌, arith, length-append}
 use Rattle.std.proofs.lemmas.List.{length-set}
 use Rattle.std.proofs.lemmas.List.Elements.{All-nil, All-cons, All-head, All-tail, All-set, All-push, All-weaker}
+use Rattle.resty_base.specs.ListLaws.{read_all as read-all, read_some as read-some}
 use Rattle.lua_values.specs.declared.values.Value.{Value}
 use Rattle.lua_values.specs.declared.values.Value.TheVariants.{Nil, Truth, Number, Text, Table, Closure, Native, Thread, Null, Object}
 use Rattle.lua_values.specs.declared.values.ObjectKind.TheVariants.{Socket, Reader, Semaphore, Zone}
@@ -92,17 +93,6 @@ keeps h g f = (
   },
   f.longer,
 )
-
--- what is read of a list at a number, or instead of it where there is none
-read-all : {X : Type 0} (P : X → Type 0) (xs : List X) (i : ℕ) (d : X) → All P xs → P d → P (unwrap_or (slice_get xs i) d)
-read-all P [] i d h p = p
-read-all P (x ∷ xs) zero d h p = All-head P x xs h
-read-all P (x ∷ xs) (suc i) d h p = read-all P xs i d (All-tail P x xs h) p
-
-read-some : {X : Type 0} (P : X → Type 0) (xs : List X) (i : ℕ) → All P xs → IfSome (slice_get xs i) P
-read-some P [] i h = tt
-read-some P (x ∷ xs) zero h = All-head P x xs h
-read-some P (x ∷ xs) (suc i) h = read-some P xs i (All-tail P x xs h)
 
 pub table-fits : (h : Heap) (t : ℕ) → FitsItself h → FitsTable h (calls.table_of h t)
 table-fits h t f = read-all (FitsTable h) h.tables t (record { pairs = []; meta = None }) f.tables (All-nil (FitsPair h), tt)

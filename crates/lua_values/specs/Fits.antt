@@ -1,5 +1,5 @@
 -- Which numbers a heap has: nothing that is reached from values that fit leads to a table, a cell or a closure that
--- isn't there.
+-- isn't there. A form of this project.
 use Rattle.std.specs.Prelude.{ℕ, ◌<◌, ◌≤◌, List, length, Option, Some, None, All}
 use Rattle.lua_values.specs.declared.values.Value.{Value}
 use Rattle.lua_values.specs.declared.values.Value.TheVariants.{Table, Closure}

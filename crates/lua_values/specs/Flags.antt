@@ -1,4 +1,4 @@
--- Lists of flags, and where in them the next one is that stands.
+-- Lists of flags, and where in them the next one is that stands: a form of this project.
 use Rattle.std.specs.Prelude.{◌≡◌, ℕ, suc, ◌<◌, ◌≤◌, ◌/◌, Bool, true, false, List, [], ◌∷◌, length, Option, Some, None, if◌then◌else◌, slice_index_or}
 use Rattle.std.specs.Prelude.{slice_set}
 

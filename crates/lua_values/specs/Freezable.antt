@@ -1,4 +1,4 @@
--- A list whose first items may be frozen.
+-- A list whose first items may be frozen: a form of this project, by which what init left is shared by all runs.
 use Rattle.std.specs.Prelude.{ℕ, List, length, slice_set}
 
 -- the items, and how many of them are frozen, from the first on

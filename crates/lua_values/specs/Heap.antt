@@ -1,4 +1,4 @@
--- What a store holds: lists of tables, of cells (the variables that closures share) and of closures.
+-- What a store holds: lists of tables, of cells (the variables that closures share: Lua 5.1 Reference Manual, section 2.6) and of closures.
 use Rattle.std.specs.Prelude.{ℕ, List, Option}
 use Rattle.lua_values.specs.declared.values.Value.{Value}
 use Rattle.lua_values.specs.declared.kinds.TypeMetatables.{TypeMetatables}
@@ -36,6 +36,10 @@ pub record StoreView : Type 0 where
 -- the most steps of a run, and the most units of a store
 abbrev pub step_limit : ℕ
 step_limit = 1_000_000
+
+-- the bytes of texts that one step pays for
+abbrev pub bytes_of_a_step : ℕ
+bytes_of_a_step = 64
 
 abbrev pub unit_limit : ℕ
 unit_limit = 1_048_576

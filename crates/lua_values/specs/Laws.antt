@@ -1,4 +1,4 @@
--- What holds of the definitions, for all heaps and values.
+-- What holds of the definitions, for all heaps and values: laws of this project's definitions.
 use Rattle.std.specs.Prelude.{◌≡◌, ℕ, ◌+◌, ◌<◌, true, ◌↔◌, List, length, Option, IfSome, slice_get}
 use Rattle.lua_values.specs.declared.values.Value.{Value}
 use Rattle.lua_values.specs.declared.kinds.TypeKind.{TypeKind}

@@ -1,5 +1,5 @@
--- The functions of the host that a program may call: what each number means, as a function of its arguments and of the
--- heap.
+-- The functions of the host that a program may call (C functions in the Lua 5.1 Reference Manual, section 3.6): what each number means, as a function
+-- of its arguments and of the heap.
 use Rattle.std.specs.Prelude.{◌≡◌, ℕ, ◌+◌, ◌-◌, ◌<◌, nat_lt, min, List, take, All, if◌then◌else◌}
 use Rattle.lua_values.specs.declared.values.Value.{Value}
 use Rattle.lua_values.specs.declared.natives.NativeOut.{NativeOut}

@@ -1,4 +1,4 @@
--- Which functions of the host values name: each by a number below a bound, which is how many a program may call.
+-- Which functions of the host values name: each by a number below a bound, which is how many a program may call. The numbers are this project's.
 use Rattle.std.specs.Prelude.{ℕ, ◌<◌, All}
 use Rattle.lua_values.specs.declared.values.Value.{Value}
 use Rattle.lua_values.specs.declared.values.Value.TheVariants.{Native}

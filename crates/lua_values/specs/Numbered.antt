@@ -1,4 +1,4 @@
--- Pairs at the numbers 1, 2, .., and what a look through pairs finds.
+-- Pairs at the numbers 1, 2, .., the array part of a table (Lua 5.1 Reference Manual, section 2.5.5), and what a look through pairs finds.
 use Rattle.std.specs.Prelude.{◌≡◌, ℕ, ◌+◌, Bool, false, List, [], ◌∷◌, Some, slice_get, unwrap_or}
 use Rattle.std.specs.Option.{option_map}
 use Rattle.std.specs.Map.{keys_of, values_of}

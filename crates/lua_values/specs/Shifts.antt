@@ -1,4 +1,5 @@
--- The values at the numbers from one to another, of which each moves one number up or down.
+-- The values at the numbers from one to another, of which each moves one number up or down (Lua 5.1 Reference Manual, section 5.5, `table.insert` and
+-- `table.remove`).
 use Rattle.std.specs.Prelude.{◌≡◌, ℕ, zero, suc, ◌+◌, ◌-◌, ◌<◌, ◌≤◌, Bool, true, List, if◌then◌else◌}
 use Rattle.lua_values.specs.declared.values.Value.{Value}
 use Rattle.lua_values.specs.declared.shifts.Shift.{Shift}

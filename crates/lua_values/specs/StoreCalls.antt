@@ -1,5 +1,5 @@
--- What each call of a store gives and leaves. A number that isn't there reads as an empty table, nil or nothing, and a
--- write to it changes nothing.
+-- What each call of a store gives and leaves: raw access without metatables (Lua 5.1 Reference Manual, section 5.1, `rawget` and `rawset`). A number
+-- that isn't there reads as an empty table, nil or nothing, and a write to it changes nothing.
 use Rattle.std.specs.Prelude.{◌≡◌, ℕ, ◌+◌, ◌*◌, nat_lt, Bool, ◌&&◌, List, [], ◌∷◌, ◌++◌, length, Option, Some, None, slice_get, slice_set, unwrap_or}
 use Rattle.std.specs.Prelude.{if◌then◌else◌}
 use Rattle.lua_values.specs.declared.values.Value.{Value}

@@ -1,4 +1,4 @@
--- The flags that a table keeps beside its pairs.
+-- The flags that a table keeps beside its pairs: a form of this project.
 use Rattle.std.specs.Prelude.{◌≡◌, ⊤, ℕ, ◌+◌, ◌<◌, ◌≤◌, nat_lt, Bool, true, false, not, ◌&&◌, List, [], length, map, Option, Some, None, slice_get}
 use Rattle.std.specs.Map.{keys_of}
 use Rattle.lua_values.specs.declared.values.Value.{Value}

@@ -1,4 +1,4 @@
--- What keeps the numbers of a store small.
+-- What keeps the numbers of a store small: a form of this project.
 use Rattle.std.specs.Prelude.{ℕ, ◌+◌, ◌*◌, ◌≤◌}
 use Rattle.lua_values.specs.Heap.{step_limit, unit_limit}
 

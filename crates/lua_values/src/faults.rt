@@ -5,7 +5,7 @@ use thiserror::Error;
 
 /// Why a call of a store is refused. Where several causes stand together, `BadKey` comes before `Frozen`, that before
 /// `Full`, and that before `Memory`. `Display` writes the message of Lua, or the variant's name where Lua has none.
-#[derive(Clone, Copy, Debug, PartialEq, Eq, Error)]
+#[derive(Clone, Copy, Debug, Error)]
 pub enum StoreFault {
     /// The units would pass 1,048,576.
     #[error("not enough memory (storage limit)")]

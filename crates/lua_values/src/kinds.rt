@@ -6,14 +6,14 @@ ghost use Rattle.lua_values.specs.StoreCalls.{type_metatable_of, with_type_metat
 use crate::ObjectKind;
 
 /// A type whose values share one metatable (Lua 5.1 Reference Manual, section 2.8): texts, and each kind of object.
-#[derive(Clone, Copy, Debug, PartialEq, Eq)]
+#[derive(Clone, Copy)]
 pub enum TypeKind {
     Text,
     Object(ObjectKind),
 }
 
 /// The metatables of these types: numbers of tables.
-#[derive(Clone, Copy, Debug, PartialEq, Eq)]
+#[derive(Clone, Copy)]
 pub struct TypeMetatables {
     pub text: Option<u32>,
     pub socket: Option<u32>,

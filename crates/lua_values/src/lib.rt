@@ -24,5 +24,5 @@ pub use laws::{
 };
 pub use natives::{Both, NativeOut, Natives};
 pub use shifts::Shift;
-pub use store::Store;
+pub use store::{BYTES_OF_A_STEP, STEP_LIMIT, Store, TEXT_UNITS};
 pub use values::{ObjectKind, Value, Values};

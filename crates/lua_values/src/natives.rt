@@ -7,7 +7,7 @@ use crate::{Store, Value, Values};
 use std::alloc::Global;
 
 /// What a function of the host gives: values, a fault, that its answer is left to the outside, or `Memory`.
-#[derive(Debug, Drop)]
+#[derive(Drop)]
 pub enum NativeOut {
     Values(Values),
     Fault(Value),

@@ -8,7 +8,7 @@ use crate::Value;
 use resty_base::Whole;
 
 /// Which values move: those at the numbers `from` to `to`, each one number up or down.
-#[derive(Clone, Copy, Debug, PartialEq, Eq)]
+#[derive(Clone, Copy)]
 pub struct Shift {
     pub from: u64,
     pub to: u64,

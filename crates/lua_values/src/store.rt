@@ -16,7 +16,13 @@ use std::alloc::{AllocError, Global};
 use std::marker::Model;
 
 /// The most steps of a run.
-const STEP_LIMIT: u64 = 1_000_000;
+pub const STEP_LIMIT: u64 = 1_000_000;
+
+/// How many bytes of text one step pays for.
+pub const BYTES_OF_A_STEP: u64 = 64;
+
+/// The units of a text beside its bytes.
+pub const TEXT_UNITS: u64 = 16;
 
 /// The most units of a store.
 const UNIT_LIMIT: u64 = 1_048_576;

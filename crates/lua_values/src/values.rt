@@ -8,7 +8,7 @@ use std::hash::{Hash, Hasher};
 use std::marker::Model;
 
 /// What an object of the host is: a socket, a reader of one, a semaphore, or a zone of shared memory.
-#[derive(Clone, Copy, Debug, PartialEq, Eq, Hash)]
+#[derive(Clone, Copy, Debug, PartialEq, Eq)]
 pub enum ObjectKind {
     Socket,
     Reader,

@@ -16,9 +16,6 @@ use lua_operators::argument_fault;
 use lua_values::Value;
 use std::alloc::AllocError;
 
-/// How many bytes of text one step pays for.
-pub(crate) const BYTES_OF_A_STEP: u64 = 64;
-
 /// The bytes of the texts among some values, at most 2^64 - 1.
 pub(crate) fn texts_length(values: &[Value]) -> u64
     ensures { result ≡ min (texts_length values.now) (2 ^ 64 - 1) }

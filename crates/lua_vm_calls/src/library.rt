@@ -12,11 +12,8 @@ ghost use Rattle.lua_vm_functions.specs.CallEnds.{back_in};
 
 use lua_frames::{Flow, Frames, Host, Op, give_many, position_at, raise_given, raise_operand};
 use lua_operators::{LuaType, OperandFault};
-use lua_values::{NativeOut, Store, Value, Values};
+use lua_values::{NativeOut, STEP_LIMIT, Store, Value, Values};
 use std::alloc::AllocError;
-
-/// The most steps of a run.
-const STEP_LIMIT: u64 = 1_000_000;
 
 /// Calls a function of the host by its number among its own.
 pub(crate) fn call_library<H: Host>(

@@ -11,14 +11,14 @@ ghost use Rattle.lua_frames.specs.Follows.{Works};
 ghost use Rattle.lua_vm_functions.specs.CallEnds.{back_in};
 ghost use Rattle.lua_vm_calls.specs.NativeParts.{own_work};
 
-use crate::arguments::{BYTES_OF_A_STEP, texts_length};
+use crate::arguments::texts_length;
 use crate::errors::{assert_call, error_call};
 use crate::library::call_library;
 use crate::protected::{handled_call, protected_call};
 use crate::texts::tostring_call;
 use lua_ast::Program;
 use lua_frames::{Flow, Frames, Host, Item, wait};
-use lua_values::{Store, Value};
+use lua_values::{BYTES_OF_A_STEP, Store, Value};
 use std::alloc::AllocError;
 
 /// The numbers of the machine's own functions; the host's library has those from `LIBRARY` on.

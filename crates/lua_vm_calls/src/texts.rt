@@ -13,16 +13,13 @@ ghost use Rattle.lua_frames.specs.Follows.{Works};
 ghost use Rattle.lua_vm_functions.specs.CallEnds.{back_in};
 ghost use Rattle.lua_vm_calls.specs.TextParts.{Told, tostring_of, text_made};
 
-use crate::arguments::{BYTES_OF_A_STEP, raise_missing, texts_length};
+use crate::arguments::{raise_missing, texts_length};
 use lua_ast::Program;
 use lua_frames::{Flow, Frames, Item, give_nothing, give_one, handler, raise_fault, wait};
 use lua_operators::{Event, Fault, text_of};
-use lua_values::{Store, StoreFault, Value};
+use lua_values::{BYTES_OF_A_STEP, Store, StoreFault, TEXT_UNITS, Value};
 use resty_base::{Boxed, Bytes};
 use std::alloc::AllocError;
-
-/// The units of a text beside its bytes.
-const TEXT_UNITS: u64 = 16;
 
 /// `tostring`: the text of its first argument, or what the handler of that gives.
 pub(crate) fn tostring_call(

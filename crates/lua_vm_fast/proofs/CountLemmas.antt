@@ -16,13 +16,14 @@ use Rattle.lua_meaning.specs.Blocks.{block}
 use Rattle.lua_meaning.specs.Loops.{after_body, is_within, for_from, for_next}
 use Rattle.lua_meaning.specs.Nodes.{eval}
 use Rattle.lua_meaning.proofs.EvaluatorLemmas.{work-then}
+use Rattle.lua_meaning.specs.EndingLaws.{after_same as after_ended}
 use Rattle.lua_vm_fast.specs.declared.counting.Counting.{Counting}
 use Rattle.lua_vm_fast.specs.declared.counting.CountEnd.{CountEnd}
 use Rattle.lua_vm_fast.specs.declared.calls.Site.{Site}
 use Rattle.lua_vm_fast.specs.Calls.{Allows}
 use Rattle.lua_vm_fast.specs.Runs.{state, Becomes}
 use Rattle.lua_vm_fast.specs.Counts.{run_at, rest_of_run, left_of_count, BeginsRun}
-use Rattle.lua_vm_fast.proofs.RunLemmas.{counted, dropped_all, after_ended, entered}
+use Rattle.lua_vm_fast.proofs.RunLemmas.{counted, dropped_all, entered}
 
 -- a run that begins
 pub run_begins : (c : Counting) (i : ℤ) (s s' : Slots) (before store : StoreView) → nat_lt (before.steps + 1) step_limit ≡ true → s' ≡ slice_set s c.slot (Plain (Number i))

@@ -21,7 +21,7 @@ use Rattle.lua_operators.specs.Types.{is_truthy}
 use Rattle.lua_meaning.specs.declared.slots.Slot.{Slot}
 use Rattle.lua_meaning.specs.declared.slots.Slot.TheVariants.{Plain, Shared}
 use Rattle.lua_meaning.specs.Works.{Places, Slots, Node, AnExpr, ATurn, Values, Work, and_then}
-use Rattle.lua_meaning.specs.Evaluator.{Resume, State, Ending, Ended, Parked, Spent, after, do_work}
+use Rattle.lua_meaning.specs.Evaluator.{Resume, State, Ending, Ended, Spent, after, do_work}
 use Rattle.lua_meaning.specs.Setting.{Setting}
 use Rattle.lua_meaning.specs.Positions.{callers_at}
 use Rattle.lua_meaning.specs.Signs.{first, give, on_values}
@@ -33,6 +33,7 @@ use Rattle.lua_meaning.specs.Loops.{again, after_body, while_work, turn_work}
 use Rattle.lua_meaning.specs.Nodes.{work_of, eval}
 use Rattle.lua_meaning.proofs.EvaluatorLemmas.{eval-law, work-then}
 use Rattle.lua_meaning.proofs.Running.{Does, stmt, seq, count, target, end}
+use Rattle.lua_meaning.specs.EndingLaws.{after_same as after_ended}
 use Rattle.lua_vm_fast.specs.declared.calls.Site.{Site}
 use Rattle.lua_vm_fast.specs.declared.loops.LoopEnd.{LoopEnd}
 use Rattle.lua_vm_fast.specs.Gives.{counting, later, Gives, Tells}
@@ -55,11 +56,6 @@ dropped_all [] zero h = refl
 dropped_all [] (suc n) h = refl
 dropped_all (x ∷ xs) zero h = absurd (omega (arith, h))
 dropped_all (x ∷ xs) (suc n) h = dropped_all xs n (omega (arith, h))
-
-pub after_ended : (o : Ending) → after o (λ sign s w. Ended sign s w) ≡ o
-after_ended (Ended sign s w) = refl
-after_ended (Parked number args position store) = refl
-after_ended Spent = refl
 
 -- the same steps in another order
 ends_later : (s : Slots) (w : State) (j k : ℕ) → j ≡ k → Ended (Values []) s (later j w) ≡ Ended (Values []) s (later k w)

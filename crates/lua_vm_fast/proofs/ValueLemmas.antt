@@ -130,14 +130,6 @@ true_tells x s h is = record { value = Truth true; gives = true_gives x s h is; 
 pub false_tells : (x : Expr) (s : Slots) (h : Heap) → x.kind ≡ v.False → Tells x s h false 1
 false_tells x s h is = record { value = Truth false; gives = false_gives x s h is; is = refl }
 
-pub fails : (b : Bool) → not b ≡ true → b ≡ false
-fails true h = absurd (cc)
-fails false h = refl
-
-pub holds_so : (b : Bool) → not b ≡ false → b ≡ true
-holds_so true h = refl
-holds_so false h = absurd (cc)
-
 pub told_so : (x : Expr) (s : Slots) (h : Heap) (holds : Bool) (n : ℕ) (r : Option Tested) → Tells x s h holds n → IfSome r (λ t. t.holds ≡ holds) → IfSome r (λ t. t.steps ≡ n) → IfSome r (λ t. Tells x s h t.holds t.steps)
 told_so x s h holds n (Some t) tells same steps = subst (λ (k : ℕ). Tells x s h t.holds k) (sym steps) (subst (λ (b : Bool). Tells x s h b n) (sym same) tells)
 told_so x s h holds n None tells same steps = tt

@@ -8,7 +8,7 @@ use Rattle.lua_ast.specs.declared.expressions.ExprKind.{out-ExprKind}
 use Rattle.lua_ast.specs.declared.expressions.ExprKind.TheOpen as e
 use Rattle.lua_values.specs.declared.values.Value.{Value}
 use Rattle.lua_values.specs.declared.values.Value.TheVariants.{Number, Text, Table}
-use Rattle.lua_values.specs.Heap.{Heap, StoreView, step_limit}
+use Rattle.lua_values.specs.Heap.{Heap, StoreView, step_limit, bytes_of_a_step}
 use Rattle.lua_operators.specs.Types.{is_truthy}
 use Rattle.lua_meaning.specs.Works.{Caller, Places, Slots, AValue, AnExpr, Values}
 use Rattle.lua_meaning.specs.Evaluator.{State, Ended, do_work}
@@ -55,7 +55,7 @@ Equates o wanted = (S : Setting) (callers : List Caller) (a b : Value) (s : Slot
 
 -- how many steps are counted for the bytes of two values that are compared
 abbrev pub text_steps : Value → Value → ℕ
-text_steps (Text a) (Text b) = (length a + length b) / 64
+text_steps (Text a) (Text b) = (length a + length b) / bytes_of_a_step
 text_steps a b = 0
 
 -- `t[key]` of a table gives a value and counts n steps, wherever it is evaluated with this heap, if the steps are left. Nothing else is changed.

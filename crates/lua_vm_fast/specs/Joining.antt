@@ -6,7 +6,7 @@ use Rattle.lua_ast.specs.declared.expressions.BinOp.TheVariants.{Concat}
 use Rattle.lua_ast.specs.declared.expressions.Expr.{Expr}
 use Rattle.lua_ast.specs.declared.expressions.ExprKind.{out-ExprKind}
 use Rattle.lua_ast.specs.declared.expressions.ExprKind.TheOpen as e
-use Rattle.lua_values.specs.Heap.{Heap, StoreView, step_limit, unit_limit}
+use Rattle.lua_values.specs.Heap.{Heap, StoreView, step_limit, unit_limit, bytes_of_a_step}
 use Rattle.lua_values.specs.StoreCalls.{full_cause}
 use Rattle.lua_operators.specs.declared.outcome.Outcome.TheVariants as outcome
 use Rattle.lua_operators.specs.Concatenation.{concatenated}
@@ -45,7 +45,7 @@ MakesBinary a b s h m =
 -- two values are joined: a step for each 64 bytes that are taken or made, and the units of the text that is made
 pub record Joins (left : Valued) (right : Made) (m : Made) : Type 0 where
   pub is : concatenated left.value right.value ≡ outcome.Gives m.value
-  pub steps : m.steps ≡ left.steps + right.steps + 1 + (text_length left.value + text_length right.value + text_length m.value) / 64
+  pub steps : m.steps ≡ left.steps + right.steps + 1 + (text_length left.value + text_length right.value + text_length m.value) / bytes_of_a_step
   pub units : m.units ≡ right.units + (text_length m.value + 16)
 
 -- a slot got a value that was made, with so many steps more

@@ -13,10 +13,9 @@ use crate::branches::chosen_of;
 use crate::calls::{Site, value_at};
 use crate::places::Valued;
 use crate::statements::{is_plain, only, put_value, stmt_at};
-use crate::steps::STEP_LIMIT;
 use lua_ast::{Arm, Expr, ExprKind, Stmt, StmtKind};
 use lua_meaning::Slot;
-use lua_values::{Store, Value};
+use lua_values::{STEP_LIMIT, Store, Value};
 use std::rc::Rc;
 
 /// What a statement does that changes no more than one variable of its function.

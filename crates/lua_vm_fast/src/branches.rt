@@ -4,11 +4,10 @@ ghost use Rattle.std.specs.Prelude.{◌≡◌, ◌<◌, ◌+◌, ◌∷◌, [], 
 ghost use Rattle.lua_values.specs.Heap.{step_limit};
 ghost use Rattle.lua_vm_fast.specs.Branches.{Chooses};
 
-use crate::steps::STEP_LIMIT;
 use crate::tests::test_of;
 use lua_ast::{Arm, Stmt};
 use lua_meaning::Slot;
-use lua_values::Store;
+use lua_values::{STEP_LIMIT, Store};
 use std::rc::Rc;
 
 /// The block to which an `if` comes, and how many steps its tests count.

@@ -18,10 +18,10 @@ use crate::numbers::{Counted, LEVELS, number_of};
 use crate::operators::computed;
 use crate::places::{Seen, Valued, seen_of, value_of};
 use crate::statements::{put, put_value};
-use crate::steps::{STEP_LIMIT, affords};
+use crate::steps::affords;
 use lua_ast::{BinOp, Expr, ExprKind, Function, Program, Stmt, StmtKind};
 use lua_meaning::Slot;
-use lua_values::{Store, Value};
+use lua_values::{STEP_LIMIT, Store, Value};
 use std::alloc::Global;
 use std::rc::Rc;
 

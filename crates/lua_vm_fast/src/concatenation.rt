@@ -12,16 +12,13 @@ ghost use Rattle.lua_vm_fast.specs.Joining.{Makes, MakesBinary, Joins, TakesIf};
 use crate::numbers::LEVELS;
 use crate::places::{Valued, value_of};
 use crate::statements::put_value;
-use crate::steps::{BYTES_OF_A_STEP, STEP_LIMIT, affords};
+use crate::steps::affords;
 use lua_ast::{BinOp, Expr, ExprKind};
 use lua_meaning::Slot;
 use lua_operators::{Outcome, concatenated};
-use lua_values::{Store, Value};
+use lua_values::{BYTES_OF_A_STEP, STEP_LIMIT, Store, TEXT_UNITS, Value};
 use resty_base::Bytes;
 use std::alloc::Global;
-
-/// The units of a text beside its bytes.
-const TEXT_UNITS: u64 = 16;
 
 /// More bytes or units than a store has room for.
 const TOO_MANY: u64 = 2_000_000;

@@ -11,11 +11,11 @@ use crate::statements::run_simple;
 use crate::tests::take_test;
 use lua_ast::{Expr, Stmt};
 use lua_meaning::Slot;
-use lua_values::Store;
+use lua_values::{STEP_LIMIT, Store};
 use std::rc::Rc;
 
 /// As many turns as a run has steps.
-pub(crate) const MOST_TURNS: u64 = 1_000_000;
+pub(crate) const MOST_TURNS: u64 = STEP_LIMIT;
 
 /// Where a loop stands.
 pub enum LoopEnd {

@@ -9,10 +9,9 @@ ghost use Rattle.lua_vm_fast.specs.Gives.{Gives, GivesBinary};
 
 use crate::operators::computed;
 use crate::places::seen_of;
-use crate::steps::STEP_LIMIT;
 use lua_ast::{BinOp, Expr, ExprKind};
 use lua_meaning::Slot;
-use lua_values::{Store, Value};
+use lua_values::{STEP_LIMIT, Store, Value};
 use resty_base::Whole;
 
 /// How many operators may be within one another.

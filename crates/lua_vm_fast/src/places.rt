@@ -10,10 +10,9 @@ ghost use Rattle.lua_meaning.specs.Variables.{in_slot};
 ghost use Rattle.lua_vm_fast.specs.Gives.{Gives, GivesGlobal, GivesIndex, HasAfter};
 
 use crate::numbers::{LEVELS, number_of};
-use crate::steps::STEP_LIMIT;
 use lua_ast::{Expr, ExprKind};
 use lua_meaning::Slot;
-use lua_values::{Store, Value};
+use lua_values::{STEP_LIMIT, Store, Value};
 use resty_base::Bytes;
 
 /// A value where it stands, and how many steps its expression counts.

@@ -3,13 +3,7 @@
 ghost use Rattle.std.specs.Prelude.{◌≡◌, ◌+◌, nat_lt};
 ghost use Rattle.lua_values.specs.Heap.{step_limit};
 
-use lua_values::Store;
-
-/// The most steps of a run.
-pub(crate) const STEP_LIMIT: u64 = 1_000_000;
-
-/// How many bytes of text one step pays for.
-pub(crate) const BYTES_OF_A_STEP: u64 = 64;
+use lua_values::{STEP_LIMIT, Store};
 
 /// Whether so many steps more stay below the limit.
 #[inline(always)]

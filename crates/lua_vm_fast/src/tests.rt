@@ -10,11 +10,11 @@ ghost use Rattle.lua_vm_fast.specs.Runs.{Tests};
 use crate::numbers::{LEVELS, number_of};
 use crate::operators::compared;
 use crate::places::{found_of, value_of};
-use crate::steps::{BYTES_OF_A_STEP, STEP_LIMIT, affords};
+use crate::steps::affords;
 use lua_ast::{BinOp, Expr, ExprKind, UnOp};
 use lua_meaning::Slot;
 use lua_operators::{Outcome, equality, is_truthy};
-use lua_values::{Store, Value};
+use lua_values::{BYTES_OF_A_STEP, STEP_LIMIT, Store, Value};
 
 /// Whether a test holds, and how many steps it counts.
 #[derive(Clone, Copy)]

@@ -16,7 +16,8 @@ use Rattle.lua_meaning.specs.Metatables.{handler}
 use Rattle.lua_meaning.specs.Positions.{raise_operand}
 use Rattle.lua_meaning.specs.Nodes.{work_of, eval, call_by, callee_work}
 use Rattle.lua_meaning.proofs.EvaluatorLemmas.{eval-law}
-use Rattle.lua_frames.proofs.FollowLemmas.{count_goes, count_spent, after_ended}
+use Rattle.lua_meaning.specs.EndingLaws.{after_same as after_ended}
+use Rattle.lua_frames.proofs.FollowLemmas.{count_goes, count_spent}
 
 -- a call's step is counted, and its work begins
 pub call_goes : (S : Setting) (f : Value) (args : List Value) (q : Places) (before mid : StoreView) (below : Bool)

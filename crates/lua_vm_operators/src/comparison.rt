@@ -13,12 +13,9 @@ use lua_frames::{Flow, Frames, Host, give_one, raise_fault, raise_operand};
 use lua_operators::{
     ComparisonOperator, Event, Fault, Outcome, compared, comparison_fault, equality, is_truthy,
 };
-use lua_values::{Store, Value};
+use lua_values::{BYTES_OF_A_STEP, Store, Value};
 use lua_vm_calls::call_for_truth;
 use std::alloc::AllocError;
-
-/// How many bytes of text one step pays for.
-const BYTES_OF_A_STEP: u64 = 64;
 
 /// Counts a step for each 64 bytes of two texts; false where no step is left.
 fn count_texts(store: &mut Store, a: &Value, b: &Value) -> bool

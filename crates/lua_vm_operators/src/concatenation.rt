@@ -12,15 +12,9 @@ use crate::handlers::{handle, handler_of_two};
 use lua_ast::Program;
 use lua_frames::{Flow, Frames, Host, give_one, raise_fault};
 use lua_operators::{Event, Fault, Outcome, concatenated, concatenation_fault};
-use lua_values::{Store, StoreFault, Value};
+use lua_values::{BYTES_OF_A_STEP, Store, StoreFault, TEXT_UNITS, Value};
 use lua_vm_calls::two;
 use std::alloc::AllocError;
-
-/// How many bytes of text one step pays for.
-const BYTES_OF_A_STEP: u64 = 64;
-
-/// The units of a text beside its bytes.
-const TEXT_UNITS: u64 = 16;
 
 /// The bytes of a value that is a text.
 fn text_length(value: &Value) -> u64

@@ -18,7 +18,8 @@ use Rattle.lua_meaning.specs.Calls.{call_for_one}
 use Rattle.lua_meaning.specs.Indexing.{raw_value, is_table, index_without, index_work}
 use Rattle.lua_meaning.specs.Nodes.{work_of, eval}
 use Rattle.lua_meaning.proofs.EvaluatorLemmas.{eval-law}
-use Rattle.lua_frames.proofs.FollowLemmas.{count_goes, count_spent, after_ended}
+use Rattle.lua_meaning.specs.EndingLaws.{after_same as after_ended}
+use Rattle.lua_frames.proofs.FollowLemmas.{count_goes, count_spent}
 use Rattle.lua_vm_expressions.specs.Captures.{ComesTo}
 
 -- an index of what has x at the key by itself

@@ -1,4 +1,4 @@
--- What a call of `ngx` is given, as values.
+-- What a call of `ngx` is given, as values (lua-nginx-module manual, "Nginx API for Lua": the results of each call).
 use Rattle.std.specs.Prelude.{◌≡◌, List, [], ◌∷◌, length, Option, Some, None}
 use Rattle.lua_values.specs.declared.values.Value.{Value}
 use Rattle.lua_values.specs.declared.values.Value.TheVariants.{Nil, Text}

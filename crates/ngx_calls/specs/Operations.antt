@@ -1,11 +1,11 @@
--- What a call of `ngx` asks for.
+-- What a call of `ngx` asks for (lua-nginx-module manual, "Nginx API for Lua"). Its limits are this project's choice.
 use Rattle.std.specs.Prelude.{ℕ, ◌/◌, List, [], ◌++◌, take, codes, min, nat_eq, if◌then◌else◌}
 use Rattle.lua_lib_base.specs.Refusals.{expected_text}
 use Rattle.lua_lib_base.specs.declared.refusals.Expected.TheVariants.{String}
 use Rattle.lua_operators.specs.NamedFaults.{argument_text}
 use Rattle.lua_operators.specs.TypeNames.{type_name}
 use Rattle.lua_values.specs.declared.values.Value.{Value}
-use Rattle.lua_values.specs.Heap.{Heap, step_limit}
+use Rattle.lua_values.specs.Heap.{Heap, step_limit, bytes_of_a_step}
 use Rattle.ngx_calls.specs.declared.operations.Read.{Read}
 use Rattle.ngx_calls.specs.declared.operations.Wanted.{Wanted}
 use Rattle.ngx_calls.specs.declared.operations.Wanted.TheVariants.{Print, Refused, Unknown}
@@ -22,7 +22,7 @@ wanted w steps = record { wanted = w; steps = steps }
 abbrev pub read_printing : List ℕ → List ℕ → Printing → Read
 read_printing name end BadRequest = wanted (Refused (codes "bad request")) 0
 read_printing name end (BadArgument number found) = wanted (Refused (argument_text number name (expected_text String) (type_name found))) 0
-read_printing name end (Prints bytes taken) = wanted (Print (take most_kept (bytes ++ end))) (min step_limit (taken / 64))
+read_printing name end (Prints bytes taken) = wanted (Print (take most_kept (bytes ++ end))) (min step_limit (taken / bytes_of_a_step))
 
 -- the call of a number: 0 is `ngx.print`, and 1 is `ngx.say`, which ends the line
 abbrev pub read_operation : ℕ → List Value → Heap → Read

@@ -1,4 +1,4 @@
--- A walk through the values that are met in the arguments of a call, one after the other.
+-- A walk through the values that are met in the arguments of a call, one after the other (lua-nginx-module manual, `ngx.print`: nested arrays).
 use Rattle.std.specs.Prelude.{◌≡◌, ℕ, ◌+◌, ◌-◌, ◌^◌, nat_lt, min, List, [], ◌∷◌, ◌++◌, take, length, flat_map, if◌then◌else◌}
 use Rattle.std.specs.Prelude.{Option, Some, None, option_and_then, Result, Ok, Err}
 use Rattle.std.specs.Option.{option_or}

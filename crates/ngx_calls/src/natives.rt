@@ -3,11 +3,8 @@
 ghost use Rattle.std.specs.Prelude.{◌≡◌};
 
 use lua_lib_base::texts_length;
-use lua_values::{NativeOut, Natives, Store, Value};
+use lua_values::{BYTES_OF_A_STEP, NativeOut, Natives, Store, Value};
 use std::alloc::Global;
-
-/// How many bytes of text one step pays for.
-const BYTES_OF_A_STEP: u64 = 64;
 
 /// The functions of `ngx`, whose numbers are 0 to 122: 0 is `ngx.print`, 1 is `ngx.say`, and no text names the others yet. Each leaves its
 /// answer to the outside.
@@ -25,9 +22,7 @@ impl Natives for NgxNatives {
         123
     }
 
-    fn call(&self, alloc: Global, number: u32, args: &[Value], store: &mut Store) -> NativeOut {
-        let _ = alloc;
-        let _ = number;
+    fn call(&self, _alloc: Global, _number: u32, args: &[Value], store: &mut Store) -> NativeOut {
         store.add_steps(texts_length(args) / BYTES_OF_A_STEP);
         NativeOut::Outside
     }

@@ -7,7 +7,7 @@ ghost use Rattle.ngx_calls.specs.Printing.{printing};
 use crate::printing::{Printing, print};
 use lua_lib_base::Expected;
 use lua_operators::argument_fault;
-use lua_values::{Store, Value};
+use lua_values::{BYTES_OF_A_STEP, STEP_LIMIT, Store, Value};
 use resty_base::Bytes;
 use std::alloc::{AllocError, Global};
 
@@ -28,12 +28,6 @@ pub struct Read {
     pub wanted: Wanted,
     pub steps: u64,
 }
-
-/// How many bytes of text one step pays for.
-const BYTES_OF_A_STEP: u64 = 64;
-
-/// The most steps of a run.
-const STEP_LIMIT: u64 = 1_000_000;
 
 /// Reads the call of a number with its arguments.
 pub fn read_operation(

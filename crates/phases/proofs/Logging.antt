@@ -1,6 +1,7 @@
 -- The log's handler comes once, at the end.
 use Rattle.std.proofs.Common.{◌≡◌, ℕ, ◌+◌, Bool, true, false, ◌||◌, List, [], ◌∷◌, ◌++◌, if◌then◌else◌, All, refl, sym, ap, ◌∙◌}
 use Rattle.std.proofs.lemmas.List.Elements.{All-head, All-tail}
+use Rattle.resty_base.specs.BoolLaws.{clash}
 use Rattle.phases.specs.declared.outcomes.Phase.{Phase}
 use Rattle.phases.specs.declared.outcomes.Phase.TheVariants.{Rewrite, Log}
 use Rattle.phases.specs.declared.outcomes.Outcome.{Outcome}
@@ -10,9 +11,6 @@ use Rattle.phases.specs.After.{after}
 use Rattle.phases.specs.Lists.{Deed, Handles, Replies, End, is_spent, logging, deeds_after, deeds_from, phase_list, is_over, is_over_after, is_over_from}
 use Rattle.phases.specs.Laws.{IsUnspent}
 use Rattle.phases.proofs.Follows.{is_log, Follows, follows}
-
-clash : {C : Type 0} {b : Bool} → b ≡ true → b ≡ false → C
-clash on off = absurd (let e : true ≡ false = sym on ∙ off in cc)
 
 -- a deed is the log's handler
 abbrev logs_of : Deed → Bool

@@ -1,4 +1,4 @@
--- What follows a handler, by how it ended.
+-- What follows a handler, by how it ended (lua-nginx-module manual, `ngx.exit`, `ngx.exec`, `ngx.redirect`, and "Order of Lua Nginx Module Directives").
 use Rattle.std.specs.Prelude.{ℕ, Bool, true, false, not, ◌==◌, ◌&&◌, nat_lt, if◌then◌else◌}
 use Rattle.phases.specs.declared.outcomes.Phase.{Phase}
 use Rattle.phases.specs.declared.outcomes.Phase.TheVariants.{Rewrite, Access, Content, HeaderFilter, BodyFilter, Log}

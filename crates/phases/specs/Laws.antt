@@ -1,4 +1,4 @@
--- Laws of the order of handlers.
+-- Laws of the order of handlers (lua-nginx-module manual, "Order of Lua Nginx Module Directives").
 use Rattle.std.specs.Prelude.{ℕ, ◌≤◌, ◌≡◌, Bool, true, false, List, [], ◌∷◌, ◌++◌, length, filter, All}
 use Rattle.phases.specs.declared.outcomes.Phase.TheVariants.{Log}
 use Rattle.phases.specs.Lists.{Deed, Handles, End, is_spent, is_beginning, is_over, phase_list}

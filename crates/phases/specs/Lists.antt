@@ -1,5 +1,5 @@
--- The handlers and the server's own replies of one request, by how its handlers end. The filters aren't among them: they run
--- on the reply wherever it is made.
+-- The handlers and the server's own replies of one request, by how its handlers end (lua-nginx-module manual, "Order of Lua Nginx Module
+-- Directives"). The filters aren't among them: they run on the reply wherever it is made.
 use Rattle.std.specs.Prelude.{ℕ, ◌+◌, Bool, true, false, ◌||◌, List, [], ◌∷◌, if◌then◌else◌}
 use Rattle.phases.specs.declared.outcomes.Phase.{Phase}
 use Rattle.phases.specs.declared.outcomes.Phase.TheVariants.{Rewrite, Log}

@@ -6,3 +6,5 @@ pub mod WholeNumber
 pub mod Ascii
 pub mod MemoryFiles
 pub mod MemorySink
+pub mod BoolLaws
+pub mod ListLaws

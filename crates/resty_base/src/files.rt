@@ -10,7 +10,7 @@ use std::io::{self, ErrorKind, Read};
 use std::rt::Files as HostFiles;
 
 /// What a fetch gives: the bytes, or why there are none.
-#[derive(Debug, PartialEq, Eq, Drop)]
+#[derive(Debug, Drop)]
 pub enum Fetched {
     Text(Bytes),
     Missing,
@@ -123,7 +123,7 @@ impl Files for MemFiles {
     }
 }
 
-/// The files of the system, which report nothing.
+/// The files of the system, which report nothing, and have one count of faults for all names.
 #[derive(Drop)]
 pub struct DiskFiles<'a, R> {
     runtime: &'a R,

@@ -21,4 +21,4 @@ pub use names::{Id, Ms, Pair2, StrandId};
 pub use range::whole;
 pub use sinks::{MemSink, Put, Sink, SinkFault, StdSink, put_all, put_pieces};
 pub use slices::{byte_at, bytes_after, first_bytes};
-pub use whole_numbers::Whole;
+pub use whole_numbers::{GREATEST_WHOLE, Whole};

@@ -8,7 +8,7 @@ use std::io::Write;
 use thiserror::Error;
 
 /// What a put answers.
-#[derive(Clone, Copy, Debug, PartialEq, Eq)]
+#[derive(Clone, Copy)]
 pub enum Put {
     /// So many of the first bytes were taken, at least one.
     Took(usize),

@@ -6,7 +6,7 @@ ghost use Rattle.resty_base.specs.WholeNumber.{IsWhole};
 use std::marker::Model;
 
 /// The greatest whole number of the Lua profile; its negation is the least.
-const GREATEST: i64 = 99_999_999_999_999;
+pub const GREATEST_WHOLE: i64 = 99_999_999_999_999;
 
 /// A whole number within 99,999,999,999,999 either way, which contracts see as an integer.
 #[derive(Clone, Copy, Debug, PartialEq, Eq, PartialOrd, Ord, Hash)]
@@ -33,7 +33,7 @@ impl Whole {
         ensures range { IsSome result ↔ IsWhole n }
         ensures value { IfSome result (λ number. number ≡ n) }
     {
-        if -GREATEST <= n && n <= GREATEST {
+        if -GREATEST_WHOLE <= n && n <= GREATEST_WHOLE {
             Some(Whole { value: n })
         } else {
             None

@@ -94,6 +94,10 @@ abbrev pub IsBad : Book → Event → Type 0
 IsBad book (event.BadLine n) = IsBadLine book n
 IsBad book e = Unit {0}
 
+-- the last moment that a world gives
+abbrev pub last_moment : ℕ
+last_moment = 99_999_999_999_999
+
 -- what a world may give: connections are numbered as they arrive, and all else comes of what is open
 abbrev pub IsFit : Book → Event → Type 0
 IsFit book (event.Arrive k) = k ≡ book.arrivals + 1
@@ -103,7 +107,7 @@ IsFit book (event.Broken i) = book.is_open i ≡ true
 IsFit book (event.Ready i) = book.is_open i ≡ true
 IsFit book (event.Dialled n) = book.is_open (id.Sock n) ≡ true
 IsFit book (event.Refused n) = book.is_open (id.Sock n) ≡ true
-IsFit book (event.Moment t) = t.0 ≤ 99_999_999_999_999
+IsFit book (event.Moment t) = t.0 ≤ last_moment
 IsFit book event.Stop = Unit {0}
 IsFit book event.Fault = Unit {0}
 IsFit book (event.BadLine n) = Unit {0}

@@ -1,4 +1,5 @@
 pub mod Ids
+pub mod IdLaws
 pub mod Book
 pub mod Calls
 pub mod Contract

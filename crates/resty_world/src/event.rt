@@ -3,6 +3,9 @@
 use resty_base::{Bytes, Id, Ms};
 use std::alloc::AllocError;
 
+/// The last moment that a world gives.
+pub const LAST_MOMENT: u64 = 99_999_999_999_999;
+
 /// What a world gives: an event from `Arrive` to `Stop`, or why there is none.
 #[derive(Debug, PartialEq, Eq, Drop)]
 pub enum Event {

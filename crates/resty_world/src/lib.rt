@@ -10,7 +10,7 @@ mod world;
 
 pub use answers::{Dial, Listened, Logged, Noted, TimerAnswer, Wrote};
 pub use entry::Entry;
-pub use event::Event;
+pub use event::{Event, LAST_MOMENT};
 pub use history::History;
 pub use schedule_line::SchedLine;
 pub use world::World;

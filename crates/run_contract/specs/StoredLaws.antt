@@ -4,6 +4,7 @@ use Rattle.std.proofs.Common.{refl, sym, ap, ◌∙◌, subst, arith, lit<}
 use Rattle.std.specs.Prelude.{nat_lt, nat_le, if◌then◌else◌}
 use Rattle.resty_base.specs.declared.dictionary.DictCall.TheVariants as dict
 use Rattle.resty_base.specs.declared.dictionary.DictAnswer.{DictAnswer}
+use Rattle.resty_base.specs.BoolLaws.{one-falls}
 use Rattle.strand_contract.specs.declared.turns.Place.TheVariants as place
 use Rattle.strand_contract.specs.declared.turns.Answer.{Answer}
 use Rattle.strand_contract.specs.declared.turns.Answer.TheVariants as answer
@@ -195,10 +196,6 @@ own : {J : Type 0} (key : List ℕ) (now : ℕ) (s : RunSeen) (b : Ledger J) (r 
 own key now (seen.Run k) b r = tt
 own key now seen.ClientGone b r = tt
 own key now s b r = tt
-
-one-falls : (c : Bool) → c ≡ true → 0 < (if c then 1 else 0)
-one-falls true e = lit< tt
-one-falls false e = never-over e
 
 falls : {J : Type 0} (name key otherwise : List ℕ) (now : ℕ) (s : RunSeen) (b : Ledger J) (r : Stored) → StoredHolds key b r
     → MayCome (stored_plan name key otherwise) now s b r → is_of_client s ≡ true

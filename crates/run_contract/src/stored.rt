@@ -14,7 +14,7 @@ use strand_contract::{Act, Answer};
 use uri_args::Target;
 
 /// One dictionary, a key of it, and the reply where no text is kept under the key.
-#[derive(Debug, Drop)]
+#[derive(Drop)]
 pub struct StoredSite {
     pub dictionary: Bytes,
     pub key: Bytes,
@@ -22,11 +22,11 @@ pub struct StoredSite {
 }
 
 /// No run of this site asks for a timer job.
-#[derive(Debug, Drop)]
+#[derive(Drop)]
 pub struct NoJob;
 
 /// How far a run has come.
-#[derive(Clone, Copy, Debug, PartialEq, Eq)]
+#[derive(Clone, Copy)]
 pub enum Progress {
     /// Its thread waits for its run.
     Queued,
@@ -36,7 +36,7 @@ pub enum Progress {
 }
 
 /// A run that asks for the value, sends it as the whole reply and closes.
-#[derive(Debug, Drop)]
+#[derive(Drop)]
 pub struct StoredReply {
     progress: Progress,
     has_client: bool,
@@ -121,8 +121,7 @@ impl RunContract for StoredReply {
 
     ghost apart = { λ site run b c r same stands. stands };
 
-    fn zones(site: &StoredSite) -> u32 {
-        let _ = site;
+    fn zones(_site: &StoredSite) -> u32 {
         1
     }
 
@@ -134,25 +133,18 @@ impl RunContract for StoredReply {
         }
     }
 
-    fn zone_size(site: &StoredSite, zone: u32) -> u64 {
-        let _ = site;
-        let _ = zone;
+    fn zone_size(_site: &StoredSite, _zone: u32) -> u64 {
         12_288
     }
 
     fn begin(
         alloc: Global,
-        site: &StoredSite,
-        now: Ms,
-        sockets: u32,
-        head: Head,
-        target: Target,
+        _site: &StoredSite,
+        _now: Ms,
+        _sockets: u32,
+        _head: Head,
+        _target: Target,
     ) -> Result<(Self, RunTurn<NoJob>), AllocError> {
-        let _ = site;
-        let _ = now;
-        let _ = sockets;
-        let _ = head;
-        let _ = target;
         let run = StoredReply {
             progress: Progress::Queued,
             has_client: true,
@@ -162,15 +154,11 @@ impl RunContract for StoredReply {
 
     fn begin_job(
         alloc: Global,
-        site: &StoredSite,
-        now: Ms,
-        premature: bool,
-        job: NoJob,
+        _site: &StoredSite,
+        _now: Ms,
+        _premature: bool,
+        _job: NoJob,
     ) -> Result<(Self, RunTurn<NoJob>), AllocError> {
-        let _ = site;
-        let _ = now;
-        let _ = premature;
-        let _ = job;
         let run = StoredReply {
             progress: Progress::Queued,
             has_client: false,
@@ -182,10 +170,9 @@ impl RunContract for StoredReply {
         &mut self,
         alloc: Global,
         site: &StoredSite,
-        now: Ms,
+        _now: Ms,
         seen: RunSeen,
     ) -> Result<RunTurn<NoJob>, AllocError> {
-        let _ = now;
         match seen {
             RunSeen::Run(_) => {
                 self.progress = Progress::Asked;
@@ -207,23 +194,19 @@ impl RunContract for StoredReply {
         &mut self,
         alloc: Global,
         site: &StoredSite,
-        now: Ms,
+        _now: Ms,
         answer: Answer,
     ) -> Result<RunTurn<NoJob>, AllocError> {
-        let _ = now;
         self.progress = Progress::Replied;
         let text = text_of(site, answer)?;
         replying(alloc, text)
     }
 
-    fn queued(&self, site: &StoredSite, socket: u32) -> &[u8] {
-        let _ = site;
-        let _ = socket;
+    fn queued(&self, _site: &StoredSite, _socket: u32) -> &[u8] {
         &[]
     }
 
-    fn wants(&self, socket: u32) -> bool {
-        let _ = socket;
+    fn wants(&self, _socket: u32) -> bool {
         false
     }
 }

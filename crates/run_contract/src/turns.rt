@@ -4,7 +4,7 @@ use resty_base::Bytes;
 use strand_contract::Acts;
 
 /// What comes at a socket of a run.
-#[derive(Debug, Drop)]
+#[derive(Drop)]
 pub enum SockSeen {
     Bytes(Bytes),
     /// The peer sends no more.
@@ -24,7 +24,7 @@ pub enum SockSeen {
 }
 
 /// What a run is told.
-#[derive(Debug, Drop)]
+#[derive(Drop)]
 pub enum RunSeen {
     /// The thread of this number runs.
     Run(u32),
@@ -44,7 +44,7 @@ pub enum RunSeen {
 }
 
 /// What a run says to its connection.
-#[derive(Debug, Drop)]
+#[derive(Drop)]
 pub enum Said {
     /// These bytes of the reply come next.
     Send(Bytes),

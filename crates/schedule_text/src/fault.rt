@@ -2,7 +2,7 @@
 use thiserror::Error;
 
 /// Why a text is no schedule, or no history. Lines are numbered from 1.
-#[derive(Clone, Copy, Debug, PartialEq, Eq, Error)]
+#[derive(Clone, Copy, Debug, Error)]
 pub enum SchedFault {
     #[error("not a schedule line")]
     BadLine(u64),

@@ -30,21 +30,21 @@ pub fn schedule_of(alloc: Global, text: &[u8]) -> Result<Schedule, SchedFault>
     ensures read { MatchResult result (IsRead text.now) (IsScheduleFault text.now) }
     ensures accepted { AcceptsSchedule text.now result }
 {
-    read_lines(alloc, text)
+    let mut spelling = Vec::new(alloc);
+    read_lines(alloc, &mut spelling, text)
 }
 
-/// Reads the lines one after another.
-fn read_lines(alloc: Global, text: &[u8]) -> Result<Schedule, SchedFault>
+/// Reads the lines one after another; `spelling` is room to work in.
+fn read_lines(alloc: Global, spelling: &mut Vec<u8>, text: &[u8]) -> Result<Schedule, SchedFault>
     ensures { MatchResult result (IsRead text.now) (IsScheduleFault text.now) }
 {
     let mut reader = Reader::new(alloc);
     if reader.reserve(most_lines(text)).is_err() {
         return Err(SchedFault::Memory);
     }
-    let mut spelling = Vec::new(alloc);
     let mut rest = text;
     while let Some((line, after)) = split_at_first(rest, b'\n') {
-        let read = match reader.read_next(alloc, &mut spelling, line) {
+        let read = match reader.read_next(alloc, spelling, line) {
             Ok(Some(read)) => read,
             Ok(None) => return Err(SchedFault::BadLine(reader.next_number())),
             Err(AllocError) => return Err(SchedFault::Memory),

@@ -3,7 +3,7 @@ use resty_world::SchedLine;
 use std::marker::Model;
 
 /// The lines of a schedule, which contracts see as a list in the order of the text.
-#[derive(Debug, Drop)]
+#[derive(Drop)]
 pub struct Schedule {
     lines: Vec<SchedLine>,
 }

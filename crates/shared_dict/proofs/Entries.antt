@@ -1,8 +1,8 @@
 -- What the map of entries does, on the list of items.
-use Rattle.std.proofs.Common.{◌≡◌, ℕ, zero, suc, ◌+◌, ◌-◌, ◌^◌, ◌≤◌, ◌<◌, nat_le, nat_eq, ◌&&◌, Bool, true, false, cond, List, [], ◌∷◌, length, take, drop, find, slice_get, Option, Some, None, option_map, refl, sym, ap, inl, inr, ◌∙◌, arith, rules, subst, if◌then◌else◌}
+use Rattle.std.proofs.Common.{◌≡◌, ℕ, zero, suc, ◌+◌, ◌-◌, ◌^◌, ◌≤◌, ◌<◌, nat_le, ◌&&◌, Bool, true, false, cond, List, [], ◌∷◌, length, take, drop, find, slice_get, Option, Some, None, option_map, refl, sym, ap, inl, inr, ◌∙◌, arith, rules, subst, if◌then◌else◌}
 use Rattle.std.specs.Option.{option_map_or}
 use Rattle.std.specs.Map.{lookup, lookup_entry, remove_entry, set_value}
-use Rattle.std.proofs.lemmas.Bool.{eqb-true}
+use Rattle.std.proofs.lemmas.Bool.{and_parts}
 use Rattle.std.proofs.lemmas.Cmp.{nat_list_eq_equiv}
 use Rattle.std.proofs.lemmas.Bool.Decides.{nat_tests}
 use Rattle.std.proofs.lemmas.List.{length-map, take-map, take_all}
@@ -15,21 +15,11 @@ use Rattle.shared_rules.specs.declared.items.Item.{Item}
 use Rattle.shared_rules.specs.Keys.{same_key}
 use Rattle.shared_rules.specs.Items.{value_size, size_of, used, is_before, has_key, if_there, found, without, first, but_last}
 use Rattle.shared_rules.specs.Dictionary.{expired}
+use Rattle.shared_rules.specs.KeyLaws.{same_key-eq}
 use Rattle.shared_dict.specs.declared.kept.Kept.{Kept}
 use Rattle.shared_dict.specs.declared.kept.Flush.{Flush}
 use Rattle.shared_dict.specs.Zones.{brought, promoted}
 use Rattle.shared_dict.specs.Kept.{Entry, item_of, items_of, expiry_of, bytes_of, kept_of, put_first, with_value, content_of, IsNumberedTo, IsCounted}
-
-both : (x y : Bool) → x && y ≡ true → (x ≡ true) × (y ≡ true)
-both true y h = (refl, h)
-both false y h = absurd (let f : false ≡ true = h in cc)
-
--- the same key is the same list
-pub same-is : (x y : List ℕ) → same_key x y ≡ true → x ≡ y
-same-is [] [] h = refl
-same-is [] (y ∷ ys) h = absurd (let f : false ≡ true = h in cc)
-same-is (x ∷ xs) [] h = absurd (let f : false ≡ true = h in cc)
-same-is (x ∷ xs) (y ∷ ys) h = let b = both (nat_eq x y) (same_key xs ys) h in let p = eqb-true x y b.0 in let q = same-is xs ys b.1 in λ i. p i ∷ q i
 
 pub find-is : (f : Flush) (key : List ℕ) (es : List Entry) → find (has_key key) (items_of f es) ≡ option_map (item_of f) (lookup_entry (same_key key) es)
 find-is f key [] = refl
@@ -55,7 +45,7 @@ key-is key [] e h = absurd (let g : None ≡ Some e = h in cc)
 key-is key (x ∷ es) e h = put (same_key key x.0) refl (key-is key es e) h
   where
     put : (b : Bool) → same_key key x.0 ≡ b → (lookup_entry (same_key key) es ≡ Some e → key ≡ e.0) → cond b (Some x) (lookup_entry (same_key key) es) ≡ Some e → key ≡ e.0
-    put true q ih h = let g : x ≡ e = cc in same-is key x.0 q ∙ ap (λ (y : Entry). y.0) g
+    put true q ih h = let g : x ≡ e = cc in same_key-eq key x.0 q ∙ ap (λ (y : Entry). y.0) g
     put false q ih h = ih h
 
 pub without-is : (f : Flush) (key : List ℕ) (es : List Entry) → without key (items_of f es) ≡ items_of f (remove_entry (same_key key) es)

@@ -9,10 +9,11 @@ use Rattle.shared_rules.specs.declared.items.Item.{Item}
 use Rattle.shared_rules.specs.Keys.{same_key}
 use Rattle.shared_rules.specs.Items.{size_of, used, is_there, is_before, without, but_last, evicted}
 use Rattle.shared_rules.specs.Dictionary.{keys_there}
+use Rattle.shared_rules.specs.KeyLaws.{same_key-eq}
 use Rattle.shared_dict.specs.declared.kept.Flush.{Flush}
 use Rattle.shared_dict.specs.Zones.{fits_after, is_doomed, doomed}
 use Rattle.shared_dict.specs.Kept.{Entry, item_of, items_of, expiry_of}
-use Rattle.shared_dict.proofs.Entries.{same-is, without-is}
+use Rattle.shared_dict.proofs.Entries.{without-is}
 use Rattle.shared_dict.proofs.Evictions.{le-true, le-false, true-lt, evicted-nil, stays, goes}
 
 -- what a sweep has found, from the last on
@@ -144,7 +145,7 @@ without-end f key (x ∷ es) e d h = put (same_key key x.0) refl (without-end f 
         → (if b then items_of f (es ++ e ∷ []) else item_of f x ∷ without key (items_of f (es ++ e ∷ []))) ≡ (if b then items_of f es else item_of f x ∷ without key (items_of f es))
     put true q ih =
         let a : same_key x.0 e.0 ≡ false = all-end (λ k. same_key x.0 k ≡ false) es e (IsDistinct-head same_key x.0 (keys_of (es ++ e ∷ [])) d) in
-        let b : same_key x.0 e.0 ≡ true = ap (λ k. same_key k e.0) (sym (same-is key x.0 q)) ∙ h in
+        let b : same_key x.0 e.0 ≡ true = ap (λ k. same_key k e.0) (sym (same_key-eq key x.0 q)) ∙ h in
         absurd (let c : false ≡ true = sym a ∙ b in cc)
     put false q ih = ap (λ l. item_of f x ∷ l) ih
 
@@ -244,11 +245,3 @@ used-any f g (e ∷ es) = let a = sum_by-cons size_of (item_of f e) (items_of f 
 
 pub without-any : (f g : Flush) (key : List ℕ) (es : List Entry) → used (without key (items_of f es)) ≡ used (without key (items_of g es))
 without-any f g key es = ap used (without-is f key es) ∙ used-any f g (remove_entry (same_key key) es) ∙ ap used (sym (without-is g key es))
-
-pub not-true : (b : Bool) → not b ≡ true → b ≡ false
-not-true true h = absurd (let f : false ≡ true = h in cc)
-not-true false h = refl
-
-pub not-false : (b : Bool) → not b ≡ false → b ≡ true
-not-false true h = refl
-not-false false h = absurd (let f : true ≡ false = h in cc)

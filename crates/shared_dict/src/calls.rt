@@ -13,12 +13,9 @@ ghost use Rattle.shared_dict.specs.Calls.{refused, if_whole, is_beginning, Finds
 
 use crate::items::Items;
 use crate::values::copy_of;
-use resty_base::{Bytes, DictAnswer, DictValue, How, Ms};
+use resty_base::{Bytes, DictAnswer, DictValue, GREATEST_WHOLE, How, Ms};
 use shared_rules::Item;
 use std::alloc::{AllocError, Global};
-
-/// The greatest number that a dictionary keeps; the least is its negative.
-const GREATEST: i64 = 99_999_999_999_999;
 
 /// What an `incr` does: nothing but its answer, another number in the item's place, or an item that begins with a number.
 #[derive(Drop)]
@@ -241,7 +238,7 @@ fn sum(n: i64, by: i64) -> Option<i64>
     ensures { result ≡ if_whole (n +ℤ by) }
 {
     let sum = n + by;
-    if -GREATEST <= sum && sum <= GREATEST {
+    if -GREATEST_WHOLE <= sum && sum <= GREATEST_WHOLE {
         Some(sum)
     } else {
         None

@@ -8,7 +8,7 @@ use Rattle.std.specs.List.{AllByRecursion}
 use Rattle.shared_rules.specs.declared.sockets.Idle.{Idle}
 use Rattle.shared_rules.specs.Keys.{same_key}
 use Rattle.shared_rules.specs.Pool.{of_key, count_of, last_of, without_socket, without_any, crowded_out, kept_in, IsOnce}
-use Rattle.shared_rules.proofs.Keys.{same-is}
+use Rattle.shared_rules.specs.KeyLaws.{same_key-eq}
 
 abbrev socks : List Idle → List ℕ
 socks pool = map (λ i. i.sock) pool
@@ -139,7 +139,7 @@ kept-few size i pool key d l = put (same_key key i.key) refl
   where
     put : (b : Bool) → same_key key i.key ≡ b → count_of key (kept_in i size pool) ≤ max 1 size
     put true q =
-        let k = same-is key i.key q in
+        let k = same_key-eq key i.key q in
         let m = without-count key i.sock pool in
         let e = count-step key i true (without_any (crowded_out i.key size (without_socket i.sock pool)) (without_socket i.sock pool)) q in
         let o = own-few size i.key (without_socket i.sock pool) (without-once i.sock pool d) (subst (λ (x : List ℕ). count_of x (without_socket i.sock pool) ≤ max 1 size) k (omega arith)) in

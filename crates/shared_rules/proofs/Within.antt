@@ -5,6 +5,7 @@ use Rattle.std.proofs.lemmas.List.Sums.{sum_by-cons}
 use Rattle.std.proofs.lemmas.List.Elements.{All-head, All-tail, All-cons}
 use Rattle.std.proofs.lemmas.Map.Keys.{IsDistinct-head, IsDistinct-tail, IsDistinct-cons}
 use Rattle.std.specs.List.{IsDistinct, AllByRecursion}
+use Rattle.std.proofs.lemmas.Bool.{and_parts}
 use Rattle.resty_base.specs.WholeNumber.{IsWhole}
 use Rattle.resty_base.specs.declared.dictionary.DictValue.{DictValue}
 use Rattle.resty_base.specs.declared.dictionary.DictValue.TheVariants as value
@@ -18,8 +19,8 @@ use Rattle.shared_rules.specs.Keys.{same_key}
 use Rattle.shared_rules.specs.Items.{size_of, value_size, used, is_there, has_key, if_there, found, without, first, but_last, evicted, swept}
 use Rattle.shared_rules.specs.Dictionary.{Outcome, dict, get, put_in, store, stored, expiry_at, is_whole, raised, increased, as_number, begun, incr, expiring, expired, limit}
 use Rattle.shared_rules.specs.Ranges.{IsTtl, IsInRange, IsInTime, IsKept, IsWithin}
-use Rattle.shared_rules.proofs.Keys.{both, same-is}
 use Rattle.shared_rules.proofs.Parts.{keys, part-within, without-part, take-part, swept-part}
+use Rattle.shared_rules.specs.KeyLaws.{same_key-eq}
 
 evicted-within : (n size more : ℕ) (items : List Item) → IsWithin size items → IsWithin size (evicted n size more items)
 evicted-within zero size more items w = w
@@ -34,7 +35,7 @@ without-apart key [] d = tt
 without-apart key (item ∷ items) d = put (has_key key item) refl (without-apart key items (IsDistinct-tail same_key item.key (keys items) d))
   where
     put : (b : Bool) → has_key key item ≡ b → AllByRecursion (λ k. same_key key k ≡ false) (keys (without key items)) → AllByRecursion (λ k. same_key key k ≡ false) (keys (if b then items else item ∷ without key items))
-    put true q a = subst (λ (x : List ℕ). AllByRecursion (λ k. same_key x k ≡ false) (keys items)) (sym (same-is key item.key q)) (IsDistinct-head same_key item.key (keys items) d)
+    put true q a = subst (λ (x : List ℕ). AllByRecursion (λ k. same_key x k ≡ false) (keys items)) (sym (same_key-eq key item.key q)) (IsDistinct-head same_key item.key (keys items) d)
     put false q a = (q, a)
 
 take-apart : (key : List ℕ) (n : ℕ) (items : List Item) → AllByRecursion (λ k. same_key key k ≡ false) (keys items) → AllByRecursion (λ k. same_key key k ≡ false) (keys (take n items))
@@ -113,7 +114,7 @@ found-kept key [] old a h = absurd (let f : None ≡ Some old = h in cc)
 found-kept key (item ∷ items) old a h = put (found-kept key items old (All-tail IsKept item items a)) (has_key key item) refl h
   where
     put : (find (has_key key) items ≡ Some old → IsKept old × (old.key ≡ key)) → (b : Bool) → has_key key item ≡ b → cond b (Some item) (find (has_key key) items) ≡ Some old → IsKept old × (old.key ≡ key)
-    put ih true q h = let f : item ≡ old = cc in (subst IsKept f (All-head IsKept item items a), sym (ap (λ (x : Item). x.key) f) ∙ sym (same-is key item.key q))
+    put ih true q h = let f : item ≡ old = cc in (subst IsKept f (All-head IsKept item items a), sym (ap (λ (x : Item). x.key) f) ∙ sym (same_key-eq key item.key q))
     put ih false q h = ih h
 
 pub there-found : (now : ℕ) (o : Option Item) (item : Item) → if_there now o ≡ Some item → o ≡ Some item
@@ -136,7 +137,7 @@ get-within size now key items (Some item) e w =
     placed-within size key item item items k.0 k.1 h refl w
 
 whole-is : (n : ℤ) → is_whole n ≡ true → IsWhole n
-whole-is n h = let b = both (int_le (negsuc 99_999_999_999_998) n) (int_le n (pos 99_999_999_999_999)) h in record { least = search (tests, rules); greatest = search (tests, rules) }
+whole-is n h = let b = and_parts (int_le (negsuc 99_999_999_999_998) n) (int_le n (pos 99_999_999_999_999)) h in record { least = search (tests, rules); greatest = search (tests, rules) }
 
 time-is : (now ttl : ℕ) → now ≤ 99_999_999_999_999 → IsTtl ttl → IsInTime (expiry_at now ttl)
 time-is now ttl l t = put (ttl == 0)

@@ -12,6 +12,7 @@ use Rattle.resty_base.specs.declared.dictionary.DictAnswer.TheVariants as answer
 use Rattle.resty_base.specs.declared.dictionary.How.{How}
 use Rattle.resty_base.specs.declared.dictionary.How.TheVariants as how
 use Rattle.resty_base.specs.declared.names.Ms.{Ms}
+use Rattle.resty_base.specs.WholeNumber.{greatest_whole}
 use Rattle.shared_rules.specs.declared.items.Item.{Item}
 use Rattle.shared_rules.specs.Items.{size_of, used, is_there, found, without, first, evicted, swept}
 
@@ -48,7 +49,7 @@ stored size h old item items = store size item items
 
 -- the number is within 99,999,999,999,999 either way
 abbrev pub is_whole : ℤ → Bool
-is_whole n = int_le (negsuc 99_999_999_999_998) n && int_le n (pos 99_999_999_999_999)
+is_whole n = int_le (negsuc 99_999_999_999_998) n && int_le n (pos greatest_whole)
 
 -- incr of a number that is there: its item gets the sum and comes first
 abbrev pub raised : ℤ → Item → List Item → Outcome

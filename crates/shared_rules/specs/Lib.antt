@@ -1,4 +1,5 @@
 pub mod Keys
+pub mod KeyLaws
 pub mod Items
 pub mod Dictionary
 pub mod Ranges

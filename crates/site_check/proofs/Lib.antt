@@ -1,3 +1,3 @@
 mod Apart
 pub mod Blocks
-mod Pushed
+pub mod Pushed

@@ -1,7 +1,7 @@
 //! A text, checked: its configuration, and then its blocks of Lua in their order.
 
 ghost use Rattle.std.specs.Prelude.{IfErr, IfOk, OnOk};
-ghost use Rattle.site_check.specs.Sites.{HasProgram, HavePrograms, IsBlockFault, IsFirstFault, IsRead, IsSite, IsSiteFault};
+ghost use Rattle.site_check.specs.Sites.{HasProgram, HavePrograms, IsBlockFault, IsFirstFault, IsRead, IsSiteFault};
 
 use crate::CheckFault;
 use conf::{Block, Conf, site_text_of};
@@ -55,13 +55,4 @@ pub fn read_site(alloc: Global, text: &[u8]) -> Result<SiteRead, CheckFault>
     let conf = site_text_of(alloc, text)?;
     let programs = block_programs(alloc, conf.blocks.as_slice())?;
     Ok(SiteRead { conf, programs })
-}
-
-/// Checks the text of a site: its configuration, and then the grammar of its blocks of Lua in their order.
-pub fn check_site(alloc: Global, text: &[u8]) -> Result<(), CheckFault>
-    ensures ok { OnOk result (IsSite text.now) }
-    ensures err { IfErr result (IsSiteFault text.now) }
-{
-    read_site(alloc, text)?;
-    Ok(())
 }

@@ -5,6 +5,6 @@ mod checking;
 mod faults;
 mod laws;
 
-pub use checking::{SiteRead, check_site, read_site};
+pub use checking::{SiteRead, read_site};
 pub use faults::CheckFault;
 pub use laws::no_site_is_refused;

@@ -25,7 +25,8 @@ use Rattle.ngx_calls.specs.OwnText.{ngx_text}
 use Rattle.site_same_laws.specs.Programs.{SameProgramsLiveAlike}
 use Rattle.site_same_laws.specs.Sets.{ModulesKeepSetsSame, BlocksKeepSetsSame, SameSetsStartAlike}
 use Rattle.site_same_laws.specs.SameSet.{SameSet}
-use Rattle.site_check.specs.Sites.{HasProgram as BlockHasProgram, IsProgram, IsRead, IsSite, IsSiteFault}
+use Rattle.site_check.specs.Sites.{IsSite, IsSiteFault}
+use Rattle.site_check.proofs.Pushed.{read_is_site}
 use Rattle.site_check.specs.declared.faults.CheckFault.{CheckFault}
 use Rattle.site_check.specs.declared.faults.CheckFault.TheVariants as check
 use Rattle.site_load.specs.Chunks.{IsEmpty, HasBuiltIn, AddsBlocks, HasChunks}
@@ -50,23 +51,6 @@ long_and_short : {C : Type 0} (held : FileMap) (name text : List ℕ) → IsTooL
 long_and_short held name text long holds =
     let same = ap length (same_text long.text text long.here holds.here) in
     absurd (omega (arith, long.long, holds.short, same))
-
--- a text that is read is that of a site
-has_program : (blocks : List Block) (programs : List Program) → length programs ≡ length blocks
-    → ((i : ℕ) (block : Block) (program : Program) → slice_get blocks i ≡ Some block → slice_get programs i ≡ Some program → BlockHasProgram block program)
-    → (i : ℕ) (block : Block) → slice_get blocks i ≡ Some block → IsProgram block
-has_program [] programs count parsed i block here = absurd (let no : ◌≡◌ {A = Option Block} None (Some block) = here in cc)
-has_program (b ∷ bs) [] count parsed i block here = absurd (omega (arith, count))
-has_program (b ∷ bs) (p ∷ ps) count parsed zero block here = (p, parsed 0 block p here refl)
-has_program (b ∷ bs) (p ∷ ps) count parsed (suc i) block here =
-    has_program bs ps (omega (arith, count)) (λ j c q there is. parsed (suc j) c q there is) i block here
-
-read_is_site : (text : List ℕ) (conf : site.Conf) (programs : List Program) → IsRead text conf programs → IsSite text
-read_is_site text conf programs read = record {
-  conf = conf;
-  read = read.read;
-  programs = λ i block here. has_program conf.blocks programs read.each.counted read.each.parsed i block here;
-}
 
 -- ---- sets
 

@@ -1,24 +1,12 @@
 -- Numbers and keys that are the same, and lists of numbers without one.
 use Rattle.std.proofs.Common.{◌≡◌, ℕ, nat_eq, ◌&&◌, Bool, true, false, cond, List, [], ◌∷◌, refl, sym, ap, ◌∙◌, if◌then◌else◌, ◌-◌, ◌^◌, ◌<◌, length, take, Option, Some, None, arith}
-use Rattle.std.proofs.lemmas.Bool.{eqb-true}
+use Rattle.std.proofs.lemmas.Bool.{eqb-true, and_parts}
 use Rattle.std.proofs.lemmas.List.{take_all}
 use Rattle.std.specs.Map.{keys_of, lookup_entry, remove_entry}
 use Rattle.std.specs.Option.{option_map_or}
 use Rattle.lru.specs.LruCache.{LruCache, put_entries}
 use Rattle.lru.proofs.CallerLemmas.{Contains-lookup_entry}
-use Rattle.shared_rules.specs.Keys.{same_key}
 use Rattle.sock_pool.specs.Keys.{without}
-
-both : (x y : Bool) → x && y ≡ true → (x ≡ true) × (y ≡ true)
-both true y h = (refl, h)
-both false y h = absurd (let f : false ≡ true = h in cc)
-
--- the same key is the same list
-pub same-is : (x y : List ℕ) → same_key x y ≡ true → x ≡ y
-same-is [] [] h = refl
-same-is [] (y ∷ ys) h = absurd (let f : false ≡ true = h in cc)
-same-is (x ∷ xs) [] h = absurd (let f : false ≡ true = h in cc)
-same-is (x ∷ xs) (y ∷ ys) h = let b = both (nat_eq x y) (same_key xs ys) h in let p = eqb-true x y b.0 in let q = same-is xs ys b.1 in λ i. p i ∷ q i
 
 absent-kept : {V : Type 0} (n : ℕ) (es : List (ℕ × V)) → lookup_entry (nat_eq n) es ≡ None → remove_entry (nat_eq n) es ≡ es
 absent-kept n [] h = refl

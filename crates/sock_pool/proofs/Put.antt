@@ -8,6 +8,7 @@ use Rattle.resty_base.specs.declared.names.Ms.{Ms}
 use Rattle.shared_rules.specs.declared.sockets.Idle.{Idle}
 use Rattle.shared_rules.specs.Keys.{same_key}
 use Rattle.shared_rules.specs.Pool.{of_key, without_socket}
+use Rattle.shared_rules.specs.KeyLaws.{same_key-eq}
 use Rattle.wakes.specs.declared.deadlines.Whose.TheVariants as whose
 use Rattle.wakes.specs.Times.{Deadline, DeadlinesView}
 use Rattle.sock_pool.specs.declared.keys.Keys.{Keys}
@@ -15,7 +16,6 @@ use Rattle.sock_pool.specs.declared.pool.Parked.{Parked}
 use Rattle.sock_pool.specs.Keys.{socks_of, without, first_put, left_out}
 use Rattle.sock_pool.specs.Kept.{Entry, IsEntry, idle_of, armed_for, armed_of, IsBelow, bound, IsRising, IsPooled}
 use Rattle.sock_pool.specs.Changes.{next_number, armed_until, disarmed, forgotten_key, forgotten_deadline}
-use Rattle.sock_pool.proofs.Numbers.{same-is}
 use Rattle.sock_pool.proofs.Entries.{removed-is, absent-stays, none-idle, removed-each, put-once, leaves-key, key-without}
 use Rattle.sock_pool.proofs.Armed.{rises-more, removed-rises, passed}
 use Rattle.sock_pool.proofs.Pooled.{found-idle, disarmed-is, disarmed-last, once-idle}
@@ -37,8 +37,8 @@ keyed-put (Some p) key k n socks rest u l = put (same_key p.idle.key key) (same_
         → (if s then (if c then n ∷ without n socks else socks) else (if t then without n (if c then n ∷ without n socks else socks) else (if c then n ∷ without n socks else socks))) ≡ cond c (n ∷ rest) rest
     put true true t a b d l = ap (λ x. n ∷ x) u
     put true false false a b d l = l
-    put true false true a b d l = absurd (let g : true ≡ false = sym d ∙ ap (λ (x : List ℕ). same_key x k) (same-is p.idle.key key a) ∙ b in cc)
-    put false true true a b d l = absurd (let g : true ≡ false = sym d ∙ ap (same_key p.idle.key) (sym (same-is key k b)) ∙ a in cc)
+    put true false true a b d l = absurd (let g : true ≡ false = sym d ∙ ap (λ (x : List ℕ). same_key x k) (same_key-eq p.idle.key key a) ∙ b in cc)
+    put false true true a b d l = absurd (let g : true ≡ false = sym d ∙ ap (same_key p.idle.key) (sym (same_key-eq key k b)) ∙ a in cc)
     put false true false a b d l = ap (λ x. n ∷ x) u
     put false false true a b d l = u
     put false false false a b d l = l

@@ -2,13 +2,14 @@
 use Rattle.std.proofs.Common.{◌≡◌, ℕ, nat_eq, Bool, true, false, cond, List, [], ◌∷◌, Some, None, refl, sym, ap, ◌∙◌, length, arith}
 use Rattle.std.specs.Map.{keys_of, lookup, remove_entry}
 use Rattle.shared_rules.specs.Keys.{same_key}
+use Rattle.shared_rules.specs.KeyLaws.{same_key-eq}
 use Rattle.sock_pool.specs.Keys.{numbers_in, without, first_put, left_out}
-use Rattle.sock_pool.proofs.Numbers.{same-is, without-keys}
+use Rattle.sock_pool.proofs.Numbers.{without-keys}
 
 module _ {V : Type 0} (es : List (List ℕ × List (ℕ × V))) (key : List ℕ) (sock : ℕ) (k : List ℕ) (old : List (ℕ × V)) where
   -- the key has these entries
   there : (b : Bool) → same_key key k ≡ b → lookup (same_key key) es ≡ Some old → b ≡ true → lookup (same_key k) es ≡ Some old
-  there true q h t = ap (λ (x : List ℕ). lookup (same_key x) es) (sym (same-is key k q)) ∙ h
+  there true q h t = ap (λ (x : List ℕ). lookup (same_key x) es) (sym (same_key-eq key k q)) ∙ h
   there false q h t = absurd (let f : false ≡ true = t in cc)
 
   pub puts-first : (v : V) → lookup (same_key key) es ≡ Some old

@@ -5,6 +5,7 @@ pub mod Calls
 pub mod Laws
 pub mod Mute
 pub mod OpenPlaceLaws
+pub mod PrefixLaws
 pub mod ClientOnly
 pub mod ClientOnlyLaws
 pub mod MuteLaws

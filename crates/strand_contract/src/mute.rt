@@ -6,7 +6,7 @@ use std::alloc::{AllocError, Global};
 use std::collections::VecDeque;
 
 /// The site of strands that do nothing.
-#[derive(Debug, Drop)]
+#[derive(Drop)]
 pub struct MuteSite;
 
 /// No strand of this site asks for a timer job.
@@ -14,7 +14,7 @@ pub struct MuteSite;
 pub struct NoJob;
 
 /// A strand that does nothing: it waits for Stop.
-#[derive(Debug, Drop)]
+#[derive(Drop)]
 pub struct Mute {
     is_client: bool,
     is_over: bool,
@@ -80,39 +80,31 @@ impl StrandContract for Mute {
 
     ghost ends_at_stop = { λ site es execution. mute-ends es };
 
-    fn connections(site: &MuteSite) -> u32 {
-        let _ = site;
+    fn connections(_site: &MuteSite) -> u32 {
         512
     }
 
-    fn zones(site: &MuteSite) -> u32 {
-        let _ = site;
+    fn zones(_site: &MuteSite) -> u32 {
         0
     }
 
-    fn zone_name(site: &MuteSite, zone: u32) -> Option<&Bytes> {
-        let _ = site;
-        let _ = zone;
+    fn zone_name(_site: &MuteSite, _zone: u32) -> Option<&Bytes> {
         None
     }
 
-    fn zone_size(site: &MuteSite, zone: u32) -> u64 {
-        let _ = site;
-        let _ = zone;
+    fn zone_size(_site: &MuteSite, _zone: u32) -> u64 {
         0
     }
 
     fn begin(
         alloc: Global,
-        site: &MuteSite,
-        now: Ms,
+        _site: &MuteSite,
+        _now: Ms,
         start: Start<NoJob>,
     ) -> Result<(Self, Acts<NoJob>), AllocError>
-        ensures { IfOk result (λ r. ((r.0.is_client ≡ is_client (Did (Began now.0 start) ∷ [])) × (r.0.is_over ≡ was_halted (Did (Began now.0 start) ∷ [])))
-            × (r.1.items ≡ mute_behavior.acts (Did (Began now.0 start) ∷ []))) }
+        ensures { IfOk result (λ r. ((r.0.is_client ≡ is_client (Did (Began _now.0 start) ∷ [])) × (r.0.is_over ≡ was_halted (Did (Began _now.0 start) ∷ [])))
+            × (r.1.items ≡ mute_behavior.acts (Did (Began _now.0 start) ∷ []))) }
     {
-        let _ = site;
-        let _ = now;
         let is_client = match start {
             Start::Client(_) => true,
             Start::Job(_, _, _) => false,
@@ -127,12 +119,10 @@ impl StrandContract for Mute {
     fn given(
         &mut self,
         alloc: Global,
-        site: &MuteSite,
-        now: Ms,
+        _site: &MuteSite,
+        _now: Ms,
         seen: Seen,
     ) -> Result<Acts<NoJob>, AllocError> {
-        let _ = site;
-        let _ = now;
         match seen {
             Seen::Stop => self.halt(alloc),
             _ => Ok(VecDeque::new(alloc)),
@@ -141,26 +131,19 @@ impl StrandContract for Mute {
 
     fn answer(
         &mut self,
-        alloc: Global,
-        site: &MuteSite,
-        now: Ms,
-        answer: Answer,
+        _alloc: Global,
+        _site: &MuteSite,
+        _now: Ms,
+        _answer: Answer,
     ) -> Result<Acts<NoJob>, AllocError> {
-        let _ = alloc;
-        let _ = site;
-        let _ = now;
-        let _ = answer;
         unreachable!()
     }
 
-    fn queued(&self, site: &MuteSite, place: Place) -> &[u8] {
-        let _ = site;
-        let _ = place;
+    fn queued(&self, _site: &MuteSite, _place: Place) -> &[u8] {
         &[]
     }
 
-    fn wants(&self, place: Place) -> bool {
-        let _ = place;
+    fn wants(&self, _place: Place) -> bool {
         true
     }
 }

@@ -6,7 +6,7 @@ use std::collections::VecDeque;
 
 /// How a strand begins: as the client of a connection's number; or as a timer job of a number, whether that is premature
 /// (it starts after Stop), and what it starts with.
-#[derive(Debug, Drop)]
+#[derive(Drop)]
 pub enum Start<J> {
     Client(u64),
     Job(u64, bool, J),
@@ -20,7 +20,7 @@ pub enum Place {
 }
 
 /// What a strand is shown.
-#[derive(Debug, Drop)]
+#[derive(Drop)]
 pub enum Seen {
     Bytes(Place, Bytes),
     /// The peer sends no more.
@@ -75,7 +75,7 @@ pub enum Act<J> {
 pub type Acts<J> = VecDeque<Act<J>>;
 
 /// The answer to the last act of a turn.
-#[derive(Debug, Drop)]
+#[derive(Drop)]
 pub enum Answer {
     Dict(DictAnswer),
     /// The uses of the socket that was taken.

@@ -14,17 +14,13 @@ use Rattle.strand_plans.specs.Tidiness.{PlacesOnce}
 use Rattle.std.proofs.Common.{◌≡◌, ℕ, Bool, true, false, ◌||◌, List, [], ◌∷◌, Some, if◌then◌else◌, refl, sym, ap, ◌∙◌, arith}
 use Rattle.strand_contract.specs.declared.turns.Place.{Place}
 use Rattle.strand_contract.specs.declared.turns.Place.TheVariants as place
-use Rattle.strand_plans.proofs.Places.{same-self}
+use Rattle.strand_contract.specs.OpenPlaceLaws.{place-self}
 use Rattle.strand_plans.proofs.Ledgers.{unmoved}
 use Rattle.strand_plans.proofs.Executions.{agrees, comes}
 
 none-has : (qs : List Place) → ((q : Place) → has q qs ≡ false) → qs ≡ []
 none-has [] h = refl
-none-has (q ∷ qs) h = clash (has q (q ∷ qs)) (rw (same-self q) refl) (h q)
-
-or-right : (c d : Bool) → (c || d) ≡ false → d ≡ false
-or-right true d h = clash true refl h
-or-right false d h = h
+none-has (q ∷ qs) h = clash (has q (q ∷ qs)) (rw (place-self q) refl) (h q)
 
 client-alone : (qs : List Place) → PlacesOnce qs → ((k : ℕ) → has (place.Sock k) qs ≡ false) → qs ≡ (if has place.Client qs then place.Client ∷ [] else [])
 client-alone [] once none = refl
@@ -33,7 +29,7 @@ client-alone (place.Client ∷ qs) once none = ap (λ ps. place.Client ∷ ps) (
     every : (q : Place) → has q qs ≡ false
     every place.Client = once.0
     every (place.Sock k) = none k
-client-alone (place.Sock k ∷ qs) once none = clash (has (place.Sock k) (place.Sock k ∷ qs)) (rw (same-self (place.Sock k)) refl) (none k)
+client-alone (place.Sock k ∷ qs) once none = clash (has (place.Sock k) (place.Sock k ∷ qs)) (rw (place-self (place.Sock k)) refl) (none k)
 
 module _ {J S : Type 0} (p : Plan J S) (holds : State J S → Type 0) (may_ask : Question J → Type 0) (plan : IsPlan p holds may_ask) (nothing : (q : Question J) → may_ask q → ⊥) where
   asked : {C : Type 0} (es : List (LocalAction J)) (q : Question J) → IsExecution (behavior_of p) es → was_dropped es ≡ false → (state_of p es).ledger.asked ≡ Some q → C

@@ -24,7 +24,8 @@ use Rattle.strand_contract.specs.declared.turns.Start.{Start}
 use Rattle.strand_contract.specs.declared.turns.Start.TheVariants as start
 use Rattle.strand_contract.specs.declared.turns.Act.{Act}
 use Rattle.strand_contract.specs.declared.turns.Act.TheVariants as act
-use Rattle.strand_plans.proofs.Places.{shut, same-is, has-without, has-append, once-append, or-none}
+use Rattle.strand_contract.specs.OpenPlaceLaws.{same-place}
+use Rattle.strand_plans.proofs.Places.{shut, has-without, has-append, once-append, or-none}
 use Rattle.strand_plans.proofs.Ledgers.{threads-are, armed-are, places-are, taken-is, begun-is, count-is}
 use Rattle.strand_plans.proofs.Opened.{Leads, IsNumbered, leads-same, leads-carried, stays-shut, performed-leads, performed-numbered, numbered-without}
 use Rattle.strand_plans.proofs.Served.{performed-kept, unshut}
@@ -72,7 +73,7 @@ none-begun {J = J} p es q free none h k = subst (λ o. is_place q o ≡ false) (
     some = ap is_some_left (queued-is p es q opened) ∙ k
 
     place : (r : Place) (c : Bool) → same_place q r ≡ c → going_on (behavior_of p) es (Some r) ≡ None → c ≡ false
-    place r true e g = some-none r (sym (ap (λ x. if x then Some r else None) (subst (λ r. is_some_left (queued (behavior_of p) r es) ≡ true) (same-is q r e) some)) ∙ g)
+    place r true e g = some-none r (sym (ap (λ x. if x then Some r else None) (subst (λ r. is_some_left (queued (behavior_of p) r es) ≡ true) (same-place q r e) some)) ∙ g)
     place r false e g = refl
 
     test : (o : Option Place) → going_on (behavior_of p) es o ≡ None → is_place q o ≡ false
@@ -144,7 +145,7 @@ but-other q r None h = refl
 but-other q r (Some x) h = test (same_place r x) refl
   where
     test : (c : Bool) → same_place r x ≡ c → is_place q (if c then None else Some x) ≡ same_place q x
-    test true e = sym (subst (λ y. same_place q y ≡ false) (same-is r x e) h)
+    test true e = sym (subst (λ y. same_place q y ≡ false) (same-place r x e) h)
     test false e = refl
 
 or-false : (c : Bool) → c ≡ (c || false)
@@ -171,7 +172,7 @@ kept-gain q b c n opened sent took off places begun kept h k = test (same_place 
 
     test : (x : Bool) → same_place q (place.Sock b.count) ≡ x → (c.put_off q || has_offer q c) ≡ true
     test true e = clash (is_some_left (left_at q b)) some
-        (ap (λ xs. is_some_left (drop (b.taken q) xs)) (subst (λ r. b.sent r ≡ []) (sym (same-is q (place.Sock b.count) e)) (n.unsent b.count (omega arith))) ∙ ap is_some_left (no-more (b.taken q)))
+        (ap (λ xs. is_some_left (drop (b.taken q) xs)) (subst (λ r. b.sent r ≡ []) (sym (same-place q (place.Sock b.count) e)) (n.unsent b.count (omega arith))) ∙ ap is_some_left (no-more (b.taken q)))
     test false e = rw (off, places, begun) (kept (sym (has-append q (place.Sock b.count) b.opened ∙ ap (λ x. x || has q b.opened) e) ∙ sym (ap (has q) opened) ∙ h) some)
 
 module _ {J S : Type 0} (p : Plan J S) (holds : State J S → Type 0) (may_ask : Question J → Type 0) (plan : IsPlan p holds may_ask) where
@@ -258,7 +259,7 @@ module _ {J S : Type 0} (p : Plan J S) (holds : State J S → Type 0) (may_ask :
 
   lost : (es : List (LocalAction J)) (r : Place) → Agrees p holds es → IsOfferedAt (behavior_of p) es r → Agrees p holds (Did (Lost r) ∷ es)
   lost es r g w = at-offer (Did (Lost r)) es r g (is-idle p holds es g w.no_act) (taking-of es r g w) w.no_act refl (λ q. refl) refl refl
-      (λ q e. subst (λ x. IsServed x (state_of p (Did (Lost r) ∷ es)).ledger) (sym (same-is q r e)) (plan.lost (moment es) r (state_of p es) g.inner (taking-of es r g w)))
+      (λ q e. subst (λ x. IsServed x (state_of p (Did (Lost r) ∷ es)).ledger) (sym (same-place q r e)) (plan.lost (moment es) r (state_of p es) g.inner (taking-of es r g w)))
       (λ q e. record { opened = refl; sent = refl; taken_is = refl; later = rw e refl; lined = refl }) (taking-of es r g w)
 
   again : (es : List (LocalAction J)) (r : Place) → Agrees p holds es → IsGivenAt (behavior_of p) es r → Agrees p holds (Did (Ready r) ∷ es)
@@ -266,7 +267,7 @@ module _ {J S : Type 0} (p : Plan J S) (holds : State J S → Type 0) (may_ask :
       let free = is-idle p holds es g w.idle.no_act in
       step (Did (Ready r)) es g w.idle.no_act refl (λ q. free.opens q) g.numbered
       (splits (Did (Ready r)) es r g
-      (λ q e. subst (λ x. IsServed x (state_of p (Did (Ready r) ∷ es)).ledger) (sym (same-is q r e)) (plan.again (moment es) r (state_of p es) g.inner (free-at es r g w)))
+      (λ q e. subst (λ x. IsServed x (state_of p (Did (Ready r) ∷ es)).ledger) (sym (same-place q r e)) (plan.again (moment es) r (state_of p es) g.inner (free-at es r g w)))
       (λ q e. record { opened = refl; sent = refl; taken_is = refl; later = rw e refl; lined = refl })
       (λ q e. none-begun p es q free w.idle.no_offer)) (free-at es r g w)
 

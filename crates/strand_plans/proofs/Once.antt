@@ -10,19 +10,8 @@ use Rattle.strand_plans.specs.Moves as move
 use Rattle.strand_plans.specs.Plans.{Plan, move_of, state_of, behavior_of}
 use Rattle.strand_plans.specs.Tidiness.{NumbersOnce}
 use Rattle.strand_plans.proofs.Ledgers.{threads-are, armed-are}
+use Rattle.strand_plans.proofs.Places.{or-right, or-left, or-none}
 use Rattle.std.proofs.Common.{◌≡◌, ℕ, Bool, true, false, not, ◌||◌, ◌==◌, List, [], ◌∷◌, ◌++◌, drop, if◌then◌else◌, refl, sym, ap, subst, append-nil, eqb-true, eq-eqb}
-
-or-left : (c d : Bool) → (c || d) ≡ false → c ≡ false
-or-left true d h = h
-or-left false d h = refl
-
-or-right : (c d : Bool) → (c || d) ≡ false → d ≡ false
-or-right true d h = clash true refl h
-or-right false d h = h
-
-or-none : (c d : Bool) → c ≡ false → d ≡ false → (c || d) ≡ false
-or-none true d h k = h
-or-none false d h k = k
 
 fewer-if : (c : Bool) (k j : ℕ) (js ks : List ℕ) → has_number k js ≡ false → ((k == j) || has_number k ks) ≡ false → has_number k (if c then js else j ∷ ks) ≡ false
 fewer-if true k j js ks h f = h

@@ -12,7 +12,8 @@ use Rattle.strand_contract.specs.declared.turns.Place.{Place}
 use Rattle.strand_contract.specs.declared.turns.Place.TheVariants as place
 use Rattle.strand_contract.specs.declared.turns.Act.{Act}
 use Rattle.strand_contract.specs.declared.turns.Act.TheVariants as act
-use Rattle.strand_plans.proofs.Places.{shut, same-self, same-is, has-without, once-without}
+use Rattle.strand_contract.specs.OpenPlaceLaws.{same-place, place-self}
+use Rattle.strand_plans.proofs.Places.{shut, has-without, once-without}
 
 -- carrying out the acts leads from what is open to what is left open, and to what is asked:
 -- each closes what is open, only an open socket is kept, and the last leaves nothing open
@@ -93,7 +94,7 @@ shut-none : (q : Place) (qs : List Place) → has q qs ≡ false → (p : Place)
 shut-none q qs h p = test (same_place p q) refl
   where
     test : (c : Bool) → same_place p q ≡ c → (if c then false else has p qs) ≡ has p qs
-    test true k = sym (subst (λ r. has r qs ≡ false) (sym (same-is p q k)) h)
+    test true k = sym (subst (λ r. has r qs ≡ false) (sym (same-place p q k)) h)
     test false k = refl
 
 hangs-if : {J : Type 0} (c : Bool) (q : Place) (qs : List Place) (acts : List (Act J)) (l : Place → Bool) (asked : Option (Question J)) → has q qs ≡ c → Leads (shut q (λ r. has r qs)) acts l asked
@@ -113,12 +114,12 @@ first-shut : (q : Place) (qs : List Place) → has q qs ≡ false → (p : Place
 first-shut q qs h p = test (same_place p q) refl
   where
     test : (c : Bool) → same_place p q ≡ c → has p qs ≡ (if c then false else c || has p qs)
-    test true k = subst (λ r. has r qs ≡ false) (sym (same-is p q k)) h
+    test true k = subst (λ r. has r qs ≡ false) (sym (same-place p q k)) h
     test false k = refl
 
 ends : {J : Type 0} (qs : List Place) (asked : Option (Question J)) → PlacesOnce qs → asked ≡ None → Leads (λ q. has q qs) (ending qs) (λ q. false) asked
 ends [] asked once none = (λ q. refl, λ q. refl, refl, none)
-ends (q ∷ qs) asked once none = (rw (same-self q) refl, leads-same _ _ (ending qs) _ asked (first-shut q qs once.0) (ends qs asked once.1 none))
+ends (q ∷ qs) asked once none = (rw (place-self q) refl, leads-same _ _ (ending qs) _ asked (first-shut q qs once.0) (ends qs asked once.1 none))
 
 keeps-if : (J : Type 0) (x : Question J) (c : Bool) (o : Place → Bool) → (c ≡ true → Leads o (asking_if (Some x)) o (Some x))
     → Leads o (asking_if (if c then Some x else None)) o (if c then Some x else None)
@@ -165,7 +166,7 @@ numbered-sends q bytes opened count sent n = record {
   once = n.once;
   there = n.there;
   unsent = λ k h. unsent-sends (has q opened) (same_place (place.Sock k) q) (sent (place.Sock k)) bytes (n.unsent k h)
-      (λ c d. clashes (has q opened) c (subst (λ r. has r opened ≡ false) (same-is (place.Sock k) q d) (n.there k h)));
+      (λ c d. clashes (has q opened) c (subst (λ r. has r opened ≡ false) (same-place (place.Sock k) q d) (n.there k h)));
 }
 
 either-false : (c d : Bool) → d ≡ false → (if c then false else d) ≡ false

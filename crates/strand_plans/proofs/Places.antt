@@ -3,23 +3,14 @@ use Rattle.strand_contract.specs.Actions.{same_place}
 use Rattle.strand_contract.specs.Alone.{without_place}
 use Rattle.strand_plans.specs.Ledgers.{has}
 use Rattle.strand_plans.specs.Tidiness.{PlacesOnce}
-use Rattle.std.proofs.Common.{◌≡◌, Bool, true, false, List, [], ◌∷◌, ◌++◌, ◌||◌, if◌then◌else◌, refl, sym, ap, ◌∙◌, subst, eq-eqb, eqb-true}
+use Rattle.std.proofs.Common.{◌≡◌, Bool, true, false, List, [], ◌∷◌, ◌++◌, ◌||◌, if◌then◌else◌, refl, sym, ap, ◌∙◌, subst}
 use Rattle.strand_contract.specs.declared.turns.Place.{Place}
 use Rattle.strand_contract.specs.declared.turns.Place.TheVariants as place
+use Rattle.strand_contract.specs.OpenPlaceLaws.{same-place, place-self}
 
 -- what was open, without one place
 abbrev pub shut : Place → (Place → Bool) → Place → Bool
 shut q o p = if same_place p q then false else o p
-
-pub same-self : (q : Place) → same_place q q ≡ true
-same-self place.Client = refl
-same-self (place.Sock k) = eq-eqb k k refl
-
-pub same-is : (p q : Place) → same_place p q ≡ true → p ≡ q
-same-is place.Client place.Client h = refl
-same-is (place.Sock k) (place.Sock j) h = ap place.Sock (eqb-true k j h)
-same-is place.Client (place.Sock j) h = absurd (let e : false ≡ true = h in cc)
-same-is (place.Sock k) place.Client h = absurd (let e : false ≡ true = h in cc)
 
 pub none-or : (c d : Bool) → c ≡ false → (c || d) ≡ d
 none-or true d h = absurd (let e : true ≡ false = h in cc)
@@ -32,8 +23,8 @@ false-either false = refl
 has-without-step : (p q r : Place) (rs : List Place) (c d : Bool) → same_place q r ≡ c → same_place p q ≡ d → has p (without_place q rs) ≡ shut q (λ r. has r rs) p
     → has p (if c then without_place q rs else r ∷ without_place q rs) ≡ (if d then false else same_place p r || has p rs)
 has-without-step p q r rs true true h k e = e ∙ rw k refl
-has-without-step p q r rs true false h k e = e ∙ rw k (let f : same_place p r ≡ false = subst (λ x. same_place p x ≡ false) (same-is q r h) k in sym (none-or _ _ f))
-has-without-step p q r rs false true h k e = let f : same_place p r ≡ false = subst (λ x. same_place x r ≡ false) (sym (same-is p q k)) h in none-or _ _ f ∙ e ∙ rw k refl
+has-without-step p q r rs true false h k e = e ∙ rw k (let f : same_place p r ≡ false = subst (λ x. same_place p x ≡ false) (same-place q r h) k in sym (none-or _ _ f))
+has-without-step p q r rs false true h k e = let f : same_place p r ≡ false = subst (λ x. same_place x r ≡ false) (sym (same-place p q k)) h in none-or _ _ f ∙ e ∙ rw k refl
 has-without-step p q r rs false false h k e = ap (λ x. same_place p r || x) (e ∙ rw k refl)
 
 -- a list without a place has the others
@@ -70,11 +61,11 @@ pub once-without : (q : Place) (qs : List Place) → PlacesOnce qs → PlacesOnc
 once-without q [] o = tt
 once-without q (r ∷ rs) o = once-if (same_place q r) r (without_place q rs) (has-without r q rs ∙ shut-stays (same_place r q) (has r rs) o.0) (once-without q rs o.1)
 
-or-left : (c d : Bool) → (c || d) ≡ false → c ≡ false
+pub or-left : (c d : Bool) → (c || d) ≡ false → c ≡ false
 or-left true d h = h
 or-left false d h = refl
 
-or-right : (c d : Bool) → (c || d) ≡ false → d ≡ false
+pub or-right : (c d : Bool) → (c || d) ≡ false → d ≡ false
 or-right true d h = absurd (let e : true ≡ false = h in cc)
 or-right false d h = h
 
@@ -85,7 +76,7 @@ pub apart : (p q : Place) → same_place p q ≡ false → same_place q p ≡ fa
 apart p q h = test (same_place q p) refl
   where
     test : (c : Bool) → same_place q p ≡ c → c ≡ false
-    test true k = absurd (let e : true ≡ false = sym (same-self p) ∙ subst (λ x. same_place p x ≡ false) (same-is q p k) h in cc)
+    test true k = absurd (let e : true ≡ false = sym (place-self p) ∙ subst (λ x. same_place p x ≡ false) (same-place q p k) h in cc)
     test false k = refl
 
 pub once-append : (q : Place) (qs : List Place) → has q qs ≡ false → PlacesOnce qs → PlacesOnce (qs ++ q ∷ [])

@@ -6,7 +6,8 @@ use Rattle.strand_plans.specs.Moves.{Move, Done, Ready, Unready, Send, Arm, Canc
 use Rattle.strand_plans.specs.Conditions.{IsServed}
 use Rattle.std.proofs.Common.{◌≡◌, ℕ, Bool, true, false, not, ◌&&◌, ◌||◌, List, [], ◌∷◌, ◌++◌, drop, if◌then◌else◌, refl, sym, ◌∙◌, subst}
 use Rattle.strand_contract.specs.declared.turns.Place.{Place}
-use Rattle.strand_plans.proofs.Places.{same-self, same-is, has-without, has-append, has-more}
+use Rattle.strand_contract.specs.OpenPlaceLaws.{same-place, place-self}
+use Rattle.strand_plans.proofs.Places.{has-without, has-append, has-more}
 
 pub more-lined : (a h h' g : Bool) → (h ≡ true → h' ≡ true) → (a || (h || g)) ≡ true → (a || (h' || g)) ≡ true
 more-lined true h h' g f e = refl
@@ -25,7 +26,7 @@ offered q places a g o s h k = rw (h, k) (test (a || (has q places || g)) refl)
   where
     test : (c : Bool) → (a || (has q places || g)) ≡ c → (a || (has q (places ++ (if not c then q ∷ [] else [])) || g)) ≡ true
     test true e = more-lined a (has q places) _ g (has-more q places []) e
-    test false e = lined a (has q (places ++ q ∷ [])) g (has-append q q places ∙ rw (same-self q) refl)
+    test false e = lined a (has q (places ++ q ∷ [])) g (has-append q q places ∙ rw (place-self q) refl)
       where
         lined : (a h g : Bool) → h ≡ true → (a || (h || g)) ≡ true
         lined true h g e = refl
@@ -46,7 +47,7 @@ sends-keep q p bytes b kept h k = test (same_place q p) refl
     goal r = (b.put_off q || (has q (b.places ++ (if wants_offer r (with_sent r bytes b) then r ∷ [] else [])) || is_place q b.begun)) ≡ true
 
     test : (d : Bool) → same_place q p ≡ d → goal p
-    test true e = subst goal (same-is q p e) (offers-keep q (with_sent q bytes b) h (subst (λ r. is_some_left (drop (b.taken q) (sends (has r b.opened) r bytes b.sent q)) ≡ true) (sym (same-is q p e)) k))
+    test true e = subst goal (same-place q p e) (offers-keep q (with_sent q bytes b) h (subst (λ r. is_some_left (drop (b.taken q) (sends (has r b.opened) r bytes b.sent q)) ≡ true) (sym (same-place q p e)) k))
     test false e = more-lined (b.put_off q) (has q b.places) _ (is_place q b.begun) (has-more q b.places _)
         (kept h (subst (λ xs. is_some_left (drop (b.taken q) xs) ≡ true) (unsaid (has p b.opened) (same_place q p) (b.sent q) bytes e) k))
 
@@ -71,7 +72,7 @@ module _ {J S : Type 0} where
 
   pub hang-up-serves : (q : Place) (m : Move J S) (b : Ledger J) (s : S) → IsServed q (perform (HangUp q m) b s).state.ledger
   hang-up-serves q m b s = performed-kept q m (hung_up q b) s
-      (λ h. absurd (let e : false ≡ true = sym (rw (same-self q) refl) ∙ sym (has-without q q b.opened) ∙ h in cc))
+      (λ h. absurd (let e : false ≡ true = sym (rw (place-self q) refl) ∙ sym (has-without q q b.opened) ∙ h in cc))
 
   pub end-serves : (q : Place) (b : Ledger J) (s : S) → IsServed q (perform {J = J} {S = S} End b s).state.ledger
   end-serves q b s = λ h. absurd (let e : false ≡ true = h in cc)

@@ -15,7 +15,8 @@ use Rattle.strand_plans.specs.Tidiness.{PlacesOnce, IsTidy}
 use Rattle.std.proofs.Common.{◌≡◌, ℕ, ◌+◌, ◌≤◌, Bool, true, false, not, ◌&&◌, ◌||◌, List, [], ◌∷◌, ◌++◌, Option, Some, None, take, drop, length, if◌then◌else◌, refl, sym, ap, ◌∙◌, subst, append-nil, arith, length-append, length-take, length-drop}
 use Rattle.std.proofs.lemmas.List.{drop-append-le}
 use Rattle.strand_contract.specs.declared.turns.Place.{Place}
-use Rattle.strand_plans.proofs.Places.{same-self, same-is, has-append, once-append}
+use Rattle.strand_contract.specs.OpenPlaceLaws.{same-place, place-self}
+use Rattle.strand_plans.proofs.Places.{has-append, once-append}
 use Rattle.strand_plans.proofs.Ledgers.{places-are}
 use Rattle.strand_plans.proofs.Executions.{agrees, comes}
 
@@ -54,7 +55,7 @@ added : (P : Place → Type 0) (q p : Place) (places : List Place) → P q → (
 added P q p places here there h = test (same_place p q) refl
   where
     test : (c : Bool) → same_place p q ≡ c → P p
-    test true e = subst P (sym (same-is p q e)) here
+    test true e = subst P (sym (same-place p q e)) here
     test false e = there (sym (has-append p q places ∙ ap (λ x. x || has p places) e) ∙ h)
 
 lined : (q : Place) (places : List Place) (begun : Option Place) (off : Place → Bool) (taken : Place → ℕ) (sent : Place → List ℕ) → IsTidyBy places begun off taken sent
@@ -148,7 +149,7 @@ put-tidy b r bytes m t w h = record {
   off = λ q l. rw (not-lined b r q t w.begun l) (t.off q l);
   some = λ q l. rw (not-lined b r q t w.begun l) (t.some q l);
   counted = λ q. put-count (same_place q r) (b.taken q) (length bytes) (length (b.sent q)) (t.counted q)
-      (λ e. subst (λ x. b.taken x + length bytes ≤ length (b.sent x)) (sym (same-is q r e)) (few (b.taken r) bytes (b.sent r) m (t.counted r) h));
+      (λ e. subst (λ x. b.taken x + length bytes ≤ length (b.sent x)) (sym (same-place q r e)) (few (b.taken r) bytes (b.sent r) m (t.counted r) h));
   takes = λ q e. rw e refl;
 }
 
@@ -173,7 +174,7 @@ tail-has q r rest h = either (same_place q r)
     either false = h
 
 first-has : (r : Place) (rest : List Place) → has r (r ∷ rest) ≡ true
-first-has r rest = rw (same-self r) refl
+first-has r rest = rw (place-self r) refl
 
 offered-tidy : {J : Type 0} (b : Ledger J) (r : Place) (rest : List Place) → b.places ≡ r ∷ rest → IsTidyLedger b → IsTidyLedger (entered (Did (Offer r)) b)
 offered-tidy b r rest e t =
@@ -185,11 +186,11 @@ offered-tidy b r rest e t =
       off = λ q h. t.off q (l q h);
       some = λ q h. t.some q (l q h);
       counted = t.counted;
-      takes = λ q h. subst (λ x. b.put_off x ≡ false) (sym (same-is q r h)) (t.off r (subst (λ ps. has r ps ≡ true) (sym e) (first-has r rest)));
+      takes = λ q h. subst (λ x. b.put_off x ≡ false) (sym (same-place q r h)) (t.off r (subst (λ ps. has r ps ≡ true) (sym e) (first-has r rest)));
     })
   where
     apart : (q : Place) → has q rest ≡ true → has r rest ≡ false → (c : Bool) → same_place q r ≡ c → c ≡ false
-    apart q h new true k = clash (has r rest) (subst (λ x. has x rest ≡ true) (same-is q r k) h) new
+    apart q h new true k = clash (has r rest) (subst (λ x. has x rest ≡ true) (same-place q r k) h) new
     apart q h new false k = refl
 
 close-tidy : {J : Type 0} (b : Ledger J) (r : Place) → IsTidyLedger b → IsTidyLedger (entered (Did (Close r)) b)
@@ -252,7 +253,7 @@ send-wants q bytes b t kept = test (has q b.opened) refl (is_some_left (left_at 
         ands true false = refl
         ands false true = refl
         ands false false = refl
-    test true e false k = rw (same-self q, left-behind (b.taken q) (b.sent q) bytes (t.counted q) k, unlined (has q b.places) refl) refl
+    test true e false k = rw (place-self q, left-behind (b.taken q) (b.sent q) bytes (t.counted q) k, unlined (has q b.places) refl) refl
       where
         unlined : (h : Bool) → has q b.places ≡ h → has q b.places ≡ false
         unlined true l = clash (is_some_left (left_at q b)) (t.some q l) k

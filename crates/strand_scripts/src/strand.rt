@@ -265,34 +265,27 @@ impl StrandContract for ScriptStrand {
         site.connections
     }
 
-    fn zones(site: &Site) -> u32 {
-        let _ = site;
+    fn zones(_site: &Site) -> u32 {
         0
     }
 
-    fn zone_name(site: &Site, zone: u32) -> Option<&Bytes> {
-        let _ = site;
-        let _ = zone;
+    fn zone_name(_site: &Site, _zone: u32) -> Option<&Bytes> {
         None
     }
 
-    fn zone_size(site: &Site, zone: u32) -> u64 {
-        let _ = site;
-        let _ = zone;
+    fn zone_size(_site: &Site, _zone: u32) -> u64 {
         0
     }
 
     fn begin(
         alloc: Global,
-        site: &Site,
-        now: Ms,
+        _site: &Site,
+        _now: Ms,
         start: Start<NoJob>,
     ) -> Result<(Self, Acts<NoJob>), AllocError>
-        ensures { IfOk result (λ r. (r.0 ≡ strand_after site.now (Did (Began now.0 start) ∷ []))
-            × (r.1.items ≡ (script_behavior site.now).acts (Did (Began now.0 start) ∷ []))) }
+        ensures { IfOk result (λ r. (r.0 ≡ strand_after _site.now (Did (Began _now.0 start) ∷ []))
+            × (r.1.items ≡ (script_behavior _site.now).acts (Did (Began _now.0 start) ∷ []))) }
     {
-        let _ = site;
-        let _ = now;
         let is_open = match start {
             Start::Client(_) => true,
             Start::Job(_, _, _) => false,
@@ -319,28 +312,22 @@ impl StrandContract for ScriptStrand {
 
     fn answer(
         &mut self,
-        alloc: Global,
-        site: &Site,
-        now: Ms,
-        answer: Answer,
+        _alloc: Global,
+        _site: &Site,
+        _now: Ms,
+        _answer: Answer,
     ) -> Result<Acts<NoJob>, AllocError> {
-        let _ = alloc;
-        let _ = site;
-        let _ = now;
-        let _ = answer;
         unreachable!()
     }
 
-    fn queued(&self, site: &Site, place: Place) -> &[u8] {
-        let _ = site;
+    fn queued(&self, _site: &Site, place: Place) -> &[u8] {
         match place {
             Place::Client => self.line.queued(),
             Place::Sock(_) => &[],
         }
     }
 
-    fn wants(&self, place: Place) -> bool {
-        let _ = place;
+    fn wants(&self, _place: Place) -> bool {
         true
     }
 }

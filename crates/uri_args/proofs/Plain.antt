@@ -1,7 +1,7 @@
 -- Paths that stay as they are.
 use Rattle.std.proofs.Common.{◌≡◌, ℕ, ◌==◌, Bool, true, false, not, ◌&&◌, ◌||◌, cond, List, [], ◌∷◌, ◌++◌, length, Option, None, Some, sym, refl, ap, ◌∙◌, append_assoc, ⊎_elim, arith}
 use Rattle.std.specs.Option.{option_map, option_and_then, is_none}
-use Rattle.std.proofs.lemmas.Bool.{cond-true, cond-false, and_parts, eqb-true, ne_eqb, cases_Bool, true≢false}
+use Rattle.std.proofs.lemmas.Bool.{cond-true, cond-false, and_parts, eqb-true, ne_eqb, cases_Bool, true≢false, not-true}
 use Rattle.http_base.specs.Splitting.{before, after, onto_first, split, later_pieces}
 use Rattle.http_base.proofs.Pieces.{split_first}
 use Rattle.uri_args.specs.Paths.{is_double_dot, is_passed, kept_after, ending, resolved, joined, segments}
@@ -23,10 +23,6 @@ keeps_none segment None passed = passed
 keeps_none segment (Some rest) passed =
     ap (λ l. keeps_all (segment ∷ l)) (split_first 47 rest) ∙ ap (λ t. t && keeps_all (before 47 rest ∷ later_pieces 47 (after 47 rest))) passed
 
-not_true : (b : Bool) → not b ≡ true → b ≡ false
-not_true true is = sym is
-not_true false is = refl
-
 -- a segment that isn't passed is no `..`
 no_double_dot : (a b d : Bool) → (a || b || d) ≡ false → d ≡ false
 no_double_dot true b d is = absurd (true≢false is)
@@ -41,7 +37,7 @@ kept_one kept segment is =
 last_stays : (kept : List (List ℕ)) (segment : List ℕ) → is_kept_last segment ≡ true → resolved kept (segment ∷ []) ≡ Some (kept ++ segment ∷ [])
 last_stays kept [] is = refl
 last_stays kept (b ∷ segment) is =
-    let passed = not_true (is_passed (b ∷ segment)) (other (not (is_passed (b ∷ segment))) (length (b ∷ segment) == 0) (ne_eqb (length (b ∷ segment)) 0 (λ none. omega (arith, none))) is) in
+    let passed = not-true (is_passed (b ∷ segment)) (other (not (is_passed (b ∷ segment))) (length (b ∷ segment) == 0) (ne_eqb (length (b ∷ segment)) 0 (λ none. omega (arith, none))) is) in
     ap (option_and_then (λ more. resolved (more ++ ending (b ∷ segment) []) [])) (kept_one kept (b ∷ segment) passed)
     ∙ ap (λ e. Some ((kept ++ (b ∷ segment) ∷ []) ++ e)) (cond-false _ _ _ passed)
     ∙ ap Some (append_assoc kept ((b ∷ segment) ∷ []) [])
@@ -60,7 +56,7 @@ all_stay kept [] is = ap Some (sym (nothing kept))
 all_stay kept (segment ∷ []) is = last_stays kept segment is
 all_stay kept (segment ∷ next ∷ later) is =
     let parts = and_parts (not (is_passed segment)) (keeps_all (next ∷ later)) is in
-    let passed = not_true (is_passed segment) parts.0 in
+    let passed = not-true (is_passed segment) parts.0 in
     ap (option_and_then (λ more. resolved (more ++ []) (next ∷ later))) (kept_one kept segment passed)
     ∙ ap (λ l. resolved l (next ∷ later)) (append_assoc kept (segment ∷ []) [])
     ∙ all_stay (kept ++ segment ∷ []) (next ∷ later) parts.1

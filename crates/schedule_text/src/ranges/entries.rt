@@ -1,4 +1,5 @@
-//! Whether an entry of a history is within its ranges.
+//! Whether an entry of a history is within its ranges. Tests are joined by `&`, since all of them can be made: none has to hold
+//! for another, and the proof then has one way through each arm.
 ghost use Rattle.std.specs.Prelude.{◌≡◌, ◌↔◌, ◌≤◌, All, IsTrue};
 ghost use Rattle.schedule_text.specs.Ranges.{IsAnswer, IsBytes, IsCall, IsEntry, IsHost, IsInit, IsInteger, IsNumber, IsSmall, IsSocket};
 ghost use Rattle.schedule_text.specs.Ranges.{IsTaken, IsTimer, IsValue, IsZone, is_zone_byte as zone_byte};
@@ -27,7 +28,7 @@ fn is_small(number: u32) -> bool
 fn is_address(host: &[u8; 4], port: u16) -> bool
     ensures { IsTrue result ↔ (IsHost host.now × (port ≤ 65_535)) }
 {
-    are_bytes(host.as_slice()) && port <= u16::MAX
+    are_bytes(host.as_slice()) & (port <= u16::MAX)
 }
 
 fn are_names(names: &[Bytes]) -> bool
@@ -78,7 +79,7 @@ fn is_init(init: Option<i64>, ttl: u64) -> bool
 {
     match init {
         None => ttl == 0,
-        Some(first) => is_integer(first) && is_number(ttl),
+        Some(first) => is_integer(first) & is_number(ttl),
     }
 }
 
@@ -93,9 +94,9 @@ fn is_call(call: &DictCall) -> bool
             value,
             ttl,
             flags,
-        } => { are_bytes(key.as_slice()) && is_value(value) && is_number(*ttl) && is_small(*flags) }
+        } => { are_bytes(key.as_slice()) & is_value(value) & is_number(*ttl) & is_small(*flags) }
         DictCall::Incr { key, by, init, ttl } => {
-            are_bytes(key.as_slice()) && is_integer(*by) && is_init(*init, *ttl)
+            are_bytes(key.as_slice()) & is_integer(*by) & is_init(*init, *ttl)
         }
         DictCall::FlushAll => true,
         DictCall::FlushExpired(most) | DictCall::Keys(most) => is_small(*most),
@@ -106,7 +107,7 @@ fn is_answer(answer: &DictAnswer) -> bool
     ensures { IsTrue result ↔ IsAnswer answer.now }
 {
     match answer {
-        DictAnswer::Found(value, flags) => is_value(value) && is_small(*flags),
+        DictAnswer::Found(value, flags) => is_value(value) & is_small(*flags),
         DictAnswer::Number(number, _) => is_integer(*number),
         DictAnswer::Count(count) => is_small(*count),
         DictAnswer::Names(names) => are_names(names.as_slice()),
@@ -125,7 +126,7 @@ fn is_taken(got: Option<(u64, u32)>) -> bool
 {
     match got {
         None => true,
-        Some((socket, uses)) => is_ordinal(socket) && is_small(uses),
+        Some((socket, uses)) => is_ordinal(socket) & is_small(uses),
     }
 }
 
@@ -144,27 +145,25 @@ pub fn is_entry(entry: &Entry) -> bool
 {
     match entry {
         Entry::Given(event) => is_event(event),
-        Entry::Put(id, bytes) => is_id(*id) && are_bytes(bytes.as_slice()),
+        Entry::Put(id, bytes) => is_id(*id) & are_bytes(bytes.as_slice()),
         Entry::Later(id) | Entry::Lost(id) | Entry::Close(id) => is_id(*id),
         Entry::Dial(who, host, port, socket) => {
-            is_strand(*who) && is_address(host, *port) && is_socket(*socket)
+            is_strand(*who) & is_address(host, *port) & is_socket(*socket)
         }
-        Entry::Log(who, text, _) => is_strand(*who) && are_bytes(text.as_slice()),
+        Entry::Log(who, text, _) => is_strand(*who) & are_bytes(text.as_slice()),
         Entry::Dict(who, zone, call, answer) => {
             is_strand(*who)
-                && is_zone(zone.as_slice())
-                && is_call(call.get())
-                && is_answer(answer.get())
+                & is_zone(zone.as_slice())
+                & is_call(call.get())
+                & is_answer(answer.get())
         }
         Entry::Take(who, key, got) => {
-            is_strand(*who) && are_bytes(key.as_slice()) && is_taken(*got)
+            is_strand(*who) & are_bytes(key.as_slice()) & is_taken(*got)
         }
         Entry::Keep(who, socket, key, idle, size, closed) => {
-            is_strand(*who) && is_ordinal(*socket) && is_kept(key.as_slice(), *idle, *size, *closed)
+            is_strand(*who) & is_ordinal(*socket) & is_kept(key.as_slice(), *idle, *size, *closed)
         }
-        Entry::Timer(who, due, answer) => {
-            is_strand(*who) && is_number(due.0) && is_timer(*answer)
-        }
+        Entry::Timer(who, due, answer) => { is_strand(*who) & is_number(due.0) & is_timer(*answer) }
         Entry::Start(number) | Entry::Turned(number) => is_ordinal(*number),
         Entry::Dropped(who) => is_strand(*who),
     }
@@ -174,5 +173,5 @@ pub fn is_entry(entry: &Entry) -> bool
 fn is_kept(key: &[u8], idle: Ms, size: u32, closed: Option<u64>) -> bool
     ensures { IsTrue result ↔ (IsBytes key.now × IsNumber idle.0 × IsSmall size × IsSocket closed) }
 {
-    are_bytes(key) && is_number(idle.0) && is_small(size) && is_socket(closed)
+    are_bytes(key) & is_number(idle.0) & is_small(size) & is_socket(closed)
 }

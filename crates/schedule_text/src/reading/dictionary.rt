@@ -1,5 +1,6 @@
 //! The calls of a dictionary and its answers that stand within a text.
-ghost use Rattle.std.specs.Prelude.{◌≡◌, IfOk, length};
+ghost use Rattle.std.specs.Prelude.{◌≡◌, IfOk, codes, false, length};
+ghost use Rattle.schedule_text.specs.Found as parts;
 ghost use Rattle.schedule_text.specs.FoundEntries as found;
 
 use crate::reading::numbers::{integer_in, number_in, small_in};
@@ -157,28 +158,37 @@ fn names_in(alloc: Global, text: &[u8]) -> Result<ByteLists, AllocError>
 fn answer_by_word(alloc: Global, word: &[u8], rest: &[u8]) -> Result<DictAnswer, AllocError>
     ensures { IfOk result (λ answer. answer ≡ found.answer_of word.now rest.now) }
 {
-    let (first, after) = first_word(rest);
     if is(word, b"found") {
         let (value, flags) = first_value(alloc, rest)?;
         Ok(DictAnswer::Found(value, small_in(flags)))
-    } else if is(word, b"done") {
-        Ok(DictAnswer::Done(!rest.is_empty()))
-    } else if is(word, b"exists") {
-        Ok(DictAnswer::Exists)
-    } else if is(word, b"missing") {
-        Ok(DictAnswer::Missing)
-    } else if is(word, b"no") {
-        Ok(DictAnswer::NoMemory(!after.is_empty()))
-    } else if is(word, b"not") {
-        Ok(DictAnswer::NotNumber)
-    } else if is(word, b"range") {
-        Ok(DictAnswer::OutOfRange)
-    } else if is(word, b"number") {
-        Ok(DictAnswer::Number(integer_in(first), !after.is_empty()))
-    } else if is(word, b"count") {
-        Ok(DictAnswer::Count(small_in(rest)))
     } else {
-        Ok(DictAnswer::Nothing)
+        Ok(plain_answer(word, rest))
+    }
+}
+
+/// An answer that has no value and no names, by its first word and what stands after that.
+fn plain_answer(word: &[u8], rest: &[u8]) -> DictAnswer
+    ensures { parts.is word.now (codes "found") ≡ false → result ≡ found.answer_of word.now rest.now }
+{
+    let (first, after) = first_word(rest);
+    if is(word, b"done") {
+        DictAnswer::Done(!rest.is_empty())
+    } else if is(word, b"exists") {
+        DictAnswer::Exists
+    } else if is(word, b"missing") {
+        DictAnswer::Missing
+    } else if is(word, b"no") {
+        DictAnswer::NoMemory(!after.is_empty())
+    } else if is(word, b"not") {
+        DictAnswer::NotNumber
+    } else if is(word, b"range") {
+        DictAnswer::OutOfRange
+    } else if is(word, b"number") {
+        DictAnswer::Number(integer_in(first), !after.is_empty())
+    } else if is(word, b"count") {
+        DictAnswer::Count(small_in(rest))
+    } else {
+        DictAnswer::Nothing
     }
 }
 

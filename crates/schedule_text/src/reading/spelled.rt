@@ -62,7 +62,11 @@ pub fn read_entry(
 ) -> Result<Option<Entry>, AllocError>
     ensures { IfOk result (ReadsEntry text.now) }
 {
-    let entry = entry_in(alloc, text)?;
-    let spelled = entry_is_spelled(spelling, &entry, text)?;
+    let Ok(entry) = entry_in(alloc, text) else {
+        return Err(AllocError);
+    };
+    let Ok(spelled) = entry_is_spelled(spelling, &entry, text) else {
+        return Err(AllocError);
+    };
     Ok(spelled.then_some(entry))
 }

@@ -1,11 +1,13 @@
 //! The calls of a dictionary, and its answers.
-ghost use Rattle.std.specs.Prelude.{◌≡◌, ◌++◌, OnOk, codes};
+ghost use Rattle.std.specs.Prelude.{◌≡◌, ◌++◌, OnOk, codes, decimal};
 ghost use Rattle.std.specs.Fmt.{signed_decimal};
 ghost use Rattle.schedule_text.specs.EntryTexts.{answer_text, call_text, forcible_text, how_text, init_text, name_text, value_text};
 ghost use Rattle.schedule_text.specs.Words.{quoted};
 ghost use Rattle.std.specs.List.{flat_map};
 
-use crate::text::words::{put, put_integer, put_number, put_numbered, put_quoted, put_with_quoted};
+use crate::text::words::{
+    put, put_integer, put_numbered, put_quoted, put_with_integer, put_with_quoted,
+};
 use resty_base::{Bytes, DictAnswer, DictCall, DictValue, How};
 use std::alloc::AllocError;
 
@@ -20,13 +22,22 @@ fn put_value(out: &mut Vec<u8>, value: &DictValue) -> Result<(), AllocError>
     }
 }
 
-fn put_how(out: &mut Vec<u8>, how: How) -> Result<(), AllocError>
-    ensures { OnOk result (out.new.items ≡ out.old.items ++ how_text how) }
+/// Puts a text and a value.
+fn put_with_value(out: &mut Vec<u8>, text: &[u8], value: &DictValue) -> Result<(), AllocError>
+    ensures { OnOk result (out.new.items ≡ out.old.items ++ text.now ++ value_text value.now) }
+{
+    put(out, text)?;
+    put_value(out, value)
+}
+
+/// The word for how a value is stored, and a space.
+fn word_of(how: How) -> &'static [u8]
+    ensures { result.now ≡ how_text how }
 {
     match how {
-        How::Set => put(out, b"set "),
-        How::Add => put(out, b"add "),
-        How::Replace => put(out, b"replace "),
+        How::Set => b"set ",
+        How::Add => b"add ",
+        How::Replace => b"replace ",
     }
 }
 
@@ -36,8 +47,7 @@ fn put_init(out: &mut Vec<u8>, init: Option<i64>, ttl: u64) -> Result<(), AllocE
     match init {
         None => put(out, b" none"),
         Some(number) => {
-            put(out, b" ")?;
-            put_integer(out, number)?;
+            put_with_integer(out, b" ", number)?;
             put_numbered(out, b" ", ttl)
         }
     }
@@ -47,10 +57,16 @@ fn put_init(out: &mut Vec<u8>, init: Option<i64>, ttl: u64) -> Result<(), AllocE
 fn put_stored(out: &mut Vec<u8>, how: How, key: &[u8], value: &DictValue) -> Result<(), AllocError>
     ensures { OnOk result (out.new.items ≡ out.old.items ++ how_text how ++ quoted key.now ++ codes " " ++ value_text value.now) }
 {
-    put_how(out, how)?;
-    put_quoted(out, key)?;
-    put(out, b" ")?;
-    put_value(out, value)
+    put_with_quoted(out, word_of(how), key)?;
+    put_with_value(out, b" ", value)
+}
+
+/// Puts the time to live of a value, and its flags.
+fn put_limits(out: &mut Vec<u8>, ttl: u64, flags: u32) -> Result<(), AllocError>
+    ensures { OnOk result (out.new.items ≡ out.old.items ++ codes " " ++ decimal ttl ++ codes " " ++ decimal flags) }
+{
+    put_numbered(out, b" ", ttl)?;
+    put_numbered(out, b" ", flags as u64)
 }
 
 /// Puts to which key how much is added.
@@ -58,8 +74,7 @@ fn put_added(out: &mut Vec<u8>, key: &[u8], by: i64) -> Result<(), AllocError>
     ensures { OnOk result (out.new.items ≡ out.old.items ++ codes "incr " ++ quoted key.now ++ codes " " ++ signed_decimal by) }
 {
     put_with_quoted(out, b"incr ", key)?;
-    put(out, b" ")?;
-    put_integer(out, by)
+    put_with_integer(out, b" ", by)
 }
 
 /// Puts a call of a dictionary.
@@ -76,8 +91,7 @@ pub fn put_call(out: &mut Vec<u8>, call: &DictCall) -> Result<(), AllocError>
             flags,
         } => {
             put_stored(out, *how, key.as_slice(), value)?;
-            put_numbered(out, b" ", *ttl)?;
-            put_numbered(out, b" ", *flags as u64)
+            put_limits(out, *ttl, *flags)
         }
         DictCall::Delete(key) => put_with_quoted(out, b"delete ", key.as_slice()),
         DictCall::Incr { key, by, init, ttl } => {
@@ -117,8 +131,7 @@ pub fn put_answer(out: &mut Vec<u8>, answer: &DictAnswer) -> Result<(), AllocErr
 {
     match answer {
         DictAnswer::Found(value, flags) => {
-            put(out, b"found ")?;
-            put_value(out, value)?;
+            put_with_value(out, b"found ", value)?;
             put_numbered(out, b" ", *flags as u64)
         }
         DictAnswer::Nothing => put(out, b"none"),
@@ -129,8 +142,7 @@ pub fn put_answer(out: &mut Vec<u8>, answer: &DictAnswer) -> Result<(), AllocErr
         DictAnswer::NotNumber => put(out, b"not a number"),
         DictAnswer::OutOfRange => put(out, b"range"),
         DictAnswer::Number(number, forcible) => {
-            put(out, b"number ")?;
-            put_integer(out, *number)?;
+            put_with_integer(out, b"number ", *number)?;
             put_forcible(out, b"", *forcible)
         }
         DictAnswer::Count(count) => put_numbered(out, b"count ", *count as u64),

@@ -7,7 +7,7 @@ ghost use Rattle.schedule_text.specs.Words.{quoted, strand_text};
 use crate::text::dictionary::{put_answer, put_call};
 use crate::text::events::put_event;
 use crate::text::words::{put, put_named, put_named_bytes, put_numbered, put_who, put_with_quoted};
-use resty_base::{DictAnswer, DictCall, Ms, StrandId};
+use resty_base::{Boxed, Bytes, DictAnswer, DictCall, Ms, StrandId};
 use resty_world::{Entry, TimerAnswer};
 use std::alloc::AllocError;
 
@@ -31,13 +31,7 @@ pub fn put_entry_body(out: &mut Vec<u8>, entry: &Entry) -> Result<(), AllocError
         Entry::Close(id) => put_named(out, b"close ", *id),
         Entry::Dial(who, host, port, number) => put_dial(out, *who, *host, *port, *number),
         Entry::Log(who, text, written) => put_log(out, *who, text.as_slice(), *written),
-        Entry::Dict(who, zone, call, answer) => put_dict(
-            out,
-            *who,
-            zone.as_slice(),
-            call.get(),
-            answer.get(),
-        ),
+        Entry::Dict(who, zone, call, answer) => put_dict(out, *who, zone, call, answer),
         Entry::Take(who, key, got) => put_take(out, *who, key.as_slice(), *got),
         Entry::Keep(who, number, key, idle, size, closed) => {
             put_kept(out, *who, *number, key.as_slice())?;
@@ -102,17 +96,17 @@ fn put_log(out: &mut Vec<u8>, who: StrandId, text: &[u8], written: bool) -> Resu
 fn put_dict(
     out: &mut Vec<u8>,
     who: StrandId,
-    zone: &[u8],
-    call: &DictCall,
-    answer: &DictAnswer,
+    zone: &Bytes,
+    call: &Boxed<DictCall>,
+    answer: &Boxed<DictAnswer>,
 ) -> Result<(), AllocError>
     ensures { OnOk result (out.new.items ≡ out.old.items ++ entry_text (Dict who zone.now call.now answer.now)) }
 {
     put_who(out, b"dict ", who)?;
-    put_spaced(out, zone)?;
-    put_call(out, call)?;
+    put_spaced(out, zone.as_slice())?;
+    put_call(out, call.get())?;
     put(out, b" = ")?;
-    put_answer(out, answer)
+    put_answer(out, answer.get())
 }
 
 /// Puts a text with a space before and after it.

@@ -35,14 +35,8 @@ pub fn put_id(out: &mut Vec<u8>, id: Id) -> Result<(), AllocError>
     ensures { OnOk result (out.new.items ≡ out.old.items ++ id_text id) }
 {
     match id {
-        Id::Conn(number) => {
-            put(out, b"c")?;
-            put_number(out, number)
-        }
-        Id::Sock(number) => {
-            put(out, b"s")?;
-            put_number(out, number)
-        }
+        Id::Conn(number) => put_numbered(out, b"c", number),
+        Id::Sock(number) => put_numbered(out, b"s", number),
     }
 }
 
@@ -51,14 +45,8 @@ pub fn put_strand(out: &mut Vec<u8>, strand: StrandId) -> Result<(), AllocError>
     ensures { OnOk result (out.new.items ≡ out.old.items ++ strand_text strand) }
 {
     match strand {
-        StrandId::Conn(number) => {
-            put(out, b"c")?;
-            put_number(out, number)
-        }
-        StrandId::Job(number) => {
-            put(out, b"t")?;
-            put_number(out, number)
-        }
+        StrandId::Conn(number) => put_numbered(out, b"c", number),
+        StrandId::Job(number) => put_numbered(out, b"t", number),
     }
 }
 
@@ -105,6 +93,14 @@ pub fn put_numbered(out: &mut Vec<u8>, text: &[u8], number: u64) -> Result<(), A
 {
     put(out, text)?;
     put_number(out, number)
+}
+
+/// Puts a text and a number that may be below 0.
+pub fn put_with_integer(out: &mut Vec<u8>, text: &[u8], number: i64) -> Result<(), AllocError>
+    ensures { OnOk result (out.new.items ≡ out.old.items ++ text.now ++ signed_decimal number) }
+{
+    put(out, text)?;
+    put_integer(out, number)
 }
 
 /// Puts a text and a connection or a socket.

@@ -3,7 +3,7 @@ use Rattle.lua_parser_base.proofs.nodes.member.Goals as goal
 
 pub returns : goal.returns
 returns c = record {
-  object = c.in_ok-object.object;
-  same = c.in_ok-object.ensures.ok;
+  object = c.args.object;
+  same = refl;
   built = (c.in_ok-new.field-0, search rules, refl);
 }

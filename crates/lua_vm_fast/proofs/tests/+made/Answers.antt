@@ -1,7 +1,8 @@
 use Rattle.std.proofs.Common.{◌∙◌, ◌+◌, ap, not, true, false, refl}
+use Rattle.std.proofs.lemmas.Bool.{not-true as fails, not-false as holds_so}
 use Rattle.lua_ast.specs.declared.expressions.UnOp.{UnOp}
 use Rattle.lua_ast.specs.declared.expressions.ExprKind.TheVariants as v
-use Rattle.lua_vm_fast.proofs.ValueLemmas.{told_so, fails, holds_so, not_tells, paren_tells, and_stops, and_goes, or_stops, or_goes}
+use Rattle.lua_vm_fast.proofs.ValueLemmas.{told_so, not_tells, paren_tells, and_stops, and_goes, or_stops, or_goes}
 use Rattle.lua_vm_fast.proofs.tests.+made.Goals as goal
 
 pub returns-in_ok-test-in-Not-clause-tells : goal.returns-in_ok-test-in-Not-clause-tells

@@ -1,4 +1,5 @@
 use Rattle.std.proofs.Common.{◌≡◌, ◌<◌, ap, arith, get_or, length, reverse, subst, sym, take, ◌∙◌}
+use Rattle.std.proofs.lemmas.Grind.{common_steps}
 use Rattle.schedule_text.proofs.Gathering.{Gathered, gathered-more, one-more}
 use Rattle.schedule_text.proofs.events.events_of.Goals as goal
 
@@ -15,3 +16,9 @@ loop-entry-preserved c =
     subst (λ history. Gathered history lines present stopped) (sym (one-more xs i e within here))
     (gathered-more (reverse (take i xs)) e c.loop-entry.lines.items lines c.loop-entry.present present c.loop-entry.stopped stopped c.loop-entry.invariant
     c.in_ok-add_event.ensures c.present_after-present.ensures c.stopped_after-stopped.ensures)
+
+pub loop-entry-init : goal.loop-entry-init
+loop-entry-init c = grind (arith, common_steps)
+
+pub returns : goal.returns
+returns c = grind (arith, common_steps)

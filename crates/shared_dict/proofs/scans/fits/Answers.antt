@@ -1,7 +1,8 @@
 use Rattle.std.proofs.Common.{◌≡◌, [], sym, ◌∙◌, arith}
+use Rattle.std.proofs.lemmas.Bool.{not-true, not-false}
 use Rattle.shared_rules.specs.Keys.{same_key}
 use Rattle.shared_dict.specs.declared.kept.Flush.{Flush}
-use Rattle.shared_dict.proofs.Progress.{ahead-same, ahead-size, ahead-out, ahead-fits, ahead-full, ahead-ends, not-true, not-false}
+use Rattle.shared_dict.proofs.Progress.{ahead-same, ahead-size, ahead-out, ahead-fits, ahead-full, ahead-ends}
 use Rattle.shared_dict.proofs.scans.fits.Goals as goal
 
 pub returns-then-rest-more : goal.returns-then-rest-more

@@ -8,7 +8,7 @@ use Rattle.connection_strand.proofs.state.Connection.end_timer.Goals as goal
 
 pub returns-in_ok-push_back-clause-moves : goal.returns-in_ok-push_back-clause-moves
 returns-in_ok-push_back-clause-moves g c = λ e did m h.
-    let site = c.args.site.now in
+    let site = c.args._site.now in
     let r = g.R.RunContract in
     let met = g.met.R.RunContract in
     ends-armed (service_of (r.plan site) (g.R.ServiceContract.serving site)) (r.holds site) (r.stands site) (met.meets site) (met.apart site)
@@ -19,7 +19,7 @@ returns-in_ok-push_back-clause-moves g c = λ e did m h.
 
 pub returns-else-is_armed-clause-moves : goal.returns-else-is_armed-clause-moves
 returns-else-is_armed-clause-moves g c = λ e did m h.
-    let site = c.args.site.now in
+    let site = c.args._site.now in
     let r = g.R.RunContract in
     let met = g.met.R.RunContract in
     ends-unarmed (service_of (r.plan site) (g.R.ServiceContract.serving site)) (r.holds site) (r.stands site) (met.meets site) (met.apart site)

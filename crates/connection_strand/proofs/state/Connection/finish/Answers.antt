@@ -7,7 +7,7 @@ use Rattle.connection_strand.proofs.state.Connection.finish.Goals as goal
 
 pub returns-clause-moves : goal.returns-clause-moves
 returns-clause-moves g c = λ st did h.
-    let site = c.args.site.now in
+    let site = c.args._site.now in
     let r = g.R.RunContract in
     let met = g.met.R.RunContract in
     let old = c.args.turn.now.acts.items in

@@ -15,8 +15,8 @@ to_run-requires g c =
     let now = c.args.now.0 in
     (c.requires.0, settle service now, c.requires.1)
 
-pub settle-requires : goal.settle-requires
-settle-requires g c =
+pub settle_all-requires : goal.settle_all-requires
+settle_all-requires g c =
     let site = c.args.site.now in
     let r = g.R.RunContract in
     let met = g.met.R.RunContract in
@@ -47,12 +47,12 @@ returns-clause-moves g c =
     let met = g.met.R.RunContract in
     let service = service_of (r.plan site) (g.R.ServiceContract.serving site) in
     let now = c.args.now.0 in
-    ok-map c.settle.result _ _ (λ done ends. λ did h.
+    ok-map c.settle_all.result _ _ (λ done ends. λ did h.
     let t = subst (λ on. Went (r.plan site) (r.holds site) (r.stands site) on did c.to_run.new.self c.to_run.new.turn (settle service now)) c.if-not-goes_on.false
     (c.in_ok-goes_on.ensures.moves did (settle service now) h) in
-    ends t.0 did t.1) c.settle.ensures.moves
+    ends t.0 did t.1) c.settle_all.ensures.moves
 
 pub returns-clause-falls : goal.returns-clause-falls
 returns-clause-falls g c other own =
-    ok-map c.settle.result _ _ (λ done costs.
-    told-settled g.R.RunContract.left g.R.ServiceContract.bound c.args.self.now c.to_run.new.self c.settle.new.self c.args.turn.now c.to_run.new.turn c.settle.new.turn (c.in_ok-goes_on.ensures.costs other own) costs) c.settle.ensures.costs
+    ok-map c.settle_all.result _ _ (λ done costs.
+    told-settled g.R.RunContract.left g.R.ServiceContract.bound c.args.self.now c.to_run.new.self c.settle_all.new.self c.args.turn.now c.to_run.new.turn c.settle_all.new.turn (c.in_ok-goes_on.ensures.costs other own) costs) c.settle_all.ensures.costs

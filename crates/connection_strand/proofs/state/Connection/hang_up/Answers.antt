@@ -5,7 +5,7 @@ use Rattle.connection_strand.proofs.state.Connection.hang_up.Goals as goal
 
 pub returns-else-self-clause-moves : goal.returns-else-self-clause-moves
 returns-else-self-clause-moves g c = λ e did m h.
-    let site = c.args.site.now in
+    let site = c.args._site.now in
     let r = g.R.RunContract in
     let met = g.met.R.RunContract in
     hangs-not (service_of (r.plan site) (g.R.ServiceContract.serving site)) (r.holds site) (r.stands site) (met.meets site) (met.apart site)
@@ -13,7 +13,7 @@ returns-else-self-clause-moves g c = λ e did m h.
 
 pub returns-in_ok-push_back-clause-moves : goal.returns-in_ok-push_back-clause-moves
 returns-in_ok-push_back-clause-moves g c = λ e did m h.
-    let site = c.args.site.now in
+    let site = c.args._site.now in
     let r = g.R.RunContract in
     let met = g.met.R.RunContract in
     hangs-up (service_of (r.plan site) (g.R.ServiceContract.serving site)) (r.holds site) (r.stands site) (met.meets site) (met.apart site)

@@ -7,8 +7,8 @@ use Rattle.connection_strand.proofs.Facing.{from-here}
 use Rattle.connection_plan.specs.Serving.{service_of}
 use Rattle.connection_strand.proofs.state.Connection.hear.Goals as goal
 
-pub settle-requires : goal.settle-requires
-settle-requires g c =
+pub settle_all-requires : goal.settle_all-requires
+settle_all-requires g c =
     let site = c.args.site.now in
     let r = g.R.RunContract in
     let met = g.met.R.RunContract in
@@ -35,6 +35,6 @@ returns g c =
     let met = g.met.R.RunContract in
     let service = service_of (r.plan site) (g.R.ServiceContract.serving site) in
     let now = c.args.now.0 in
-    ok-map c.settle.result _ _ (λ done ends. λ st free did m h.
+    ok-map c.settle_all.result _ _ (λ done ends. λ st free did m h.
     let t = (subst (λ on. Went (r.plan site) (r.holds site) (r.stands site) on did c.heard.new.self c.heard.new.turn (settle service now)) c.if-not-goes_on.false (c.in_ok-goes_on.ensures.moves c.requires.answered st free did (settle service now) h)) in
-    ends t.0 did t.1) c.settle.ensures.moves
+    ends t.0 did t.1) c.settle_all.ensures.moves

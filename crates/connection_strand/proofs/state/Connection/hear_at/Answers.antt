@@ -10,8 +10,8 @@ use Rattle.connection_strand.proofs.Coming.{hears-at}
 use Rattle.connection_plan.specs.Serving.{service_of}
 use Rattle.connection_strand.proofs.state.Connection.hear_at.Goals as goal
 
-pub settle-requires : goal.settle-requires
-settle-requires g c =
+pub settle_all-requires : goal.settle_all-requires
+settle_all-requires g c =
     let site = c.args.site.now in
     let r = g.R.RunContract in
     let met = g.met.R.RunContract in
@@ -30,9 +30,9 @@ returns-in_ok-await_body-in-Busy g c =
     let met = g.met.R.RunContract in
     let service = service_of (r.plan site) (g.R.ServiceContract.serving site) in
     let now = c.args.now.0 in
-    ok-map c.settle.result _ _ (λ done ends. λ st did h.
+    ok-map c.settle_all.result _ _ (λ done ends. λ st did h.
     let t = hears-at service (r.holds site) (r.stands site) (met.meets site) (met.apart site) now stage.Busy c.args.out st did c.args.self.now c.args.turn.now (ap stage_of c.in-Busy.is) h in
-    ends stage.Busy did (c.in_ok-await_body-in-Busy.ensures.moves None false did (settle service now) (record { ledger = t.ledger; inner = t.inner; within = t.within; leads = t.leads }))) c.settle.ensures.moves
+    ends stage.Busy did (c.in_ok-await_body-in-Busy.ensures.moves None false did (settle service now) (record { ledger = t.ledger; inner = t.inner; within = t.within; leads = t.leads }))) c.settle_all.ensures.moves
 
 pub hear-requires-clause-within : goal.hear-requires-clause-within
 hear-requires-clause-within g c =

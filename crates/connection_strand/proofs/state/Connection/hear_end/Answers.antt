@@ -8,8 +8,8 @@ use Rattle.connection_strand.proofs.Facing.{from-here}
 use Rattle.connection_strand.proofs.Showing.{ends-busy, ends-flush, ends-else}
 use Rattle.connection_strand.proofs.state.Connection.hear_end.Goals as goal
 
-pub settle-requires : goal.settle-requires
-settle-requires g c =
+pub settle_all-requires : goal.settle_all-requires
+settle_all-requires g c =
     let site = c.args.site.now in
     let r = g.R.RunContract in
     let met = g.met.R.RunContract in
@@ -26,7 +26,7 @@ returns-in-Busy g c =
     let met = g.met.R.RunContract in
     let service = service_of (r.plan site) (g.R.ServiceContract.serving site) in
     let now = c.args.now.0 in
-    ok-map c.settle.result _ _ (λ done ends. λ st did h. ends stage.Busy did (ends-busy service (r.holds site) (r.stands site) (met.meets site) (met.apart site) now st did c.args.self.now _ c.args.turn.now c.in-Busy.is (record { run = refl; waits = refl; sockets = refl; count = refl; keeping = refl; taking = refl }) refl h)) c.settle.ensures.moves
+    ok-map c.settle_all.result _ _ (λ done ends. λ st did h. ends stage.Busy did (ends-busy service (r.holds site) (r.stands site) (met.meets site) (met.apart site) now st did c.args.self.now _ c.args.turn.now c.in-Busy.is (record { run = refl; waits = refl; sockets = refl; count = refl; keeping = refl; taking = refl }) refl h)) c.settle_all.ensures.moves
 
 pub returns-in-Flush : goal.returns-in-Flush
 returns-in-Flush g c = λ st did h.

@@ -7,7 +7,7 @@ use Rattle.connection_strand.proofs.state.Connection.offer.Goals as goal
 
 pub returns-in_ok-push_back-clause-moves : goal.returns-in_ok-push_back-clause-moves
 returns-in_ok-push_back-clause-moves g c = λ e did m h.
-    let site = c.args.site.now in
+    let site = c.args._site.now in
     let r = g.R.RunContract in
     let met = g.met.R.RunContract in
     offers (service_of (r.plan site) (g.R.ServiceContract.serving site)) (r.holds site) (r.stands site) (met.meets site) (met.apart site)
@@ -16,7 +16,7 @@ returns-in_ok-push_back-clause-moves g c = λ e did m h.
 
 pub returns-else-wants_offer-clause-moves : goal.returns-else-wants_offer-clause-moves
 returns-else-wants_offer-clause-moves g c = λ e did m h.
-    let site = c.args.site.now in
+    let site = c.args._site.now in
     let r = g.R.RunContract in
     let met = g.met.R.RunContract in
     offers-not (service_of (r.plan site) (g.R.ServiceContract.serving site)) (r.holds site) (r.stands site) (met.meets site) (met.apart site)

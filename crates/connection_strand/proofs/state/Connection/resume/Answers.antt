@@ -13,7 +13,7 @@ returns g c =
     let r = g.R.RunContract in
     let met = g.met.R.RunContract in
     let service = service_of (r.plan site) (g.R.ServiceContract.serving site) in
-    let now = c.args.now.0 in
+    let now = c.args._now.0 in
     ok-map c.offer.result _ _ (λ done goes. λ did h.
     done-came (r.plan site) (r.holds site) (r.stands site) h.inner.client.stage did c.offer.new.self c.offer.new.turn
     (goes (plain h.inner.client.stage) did Done (c.in_ok-end_timer.ensures.moves (plain h.inner.client.stage) did (Send place.Client [] Done)

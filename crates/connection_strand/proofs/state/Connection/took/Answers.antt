@@ -7,8 +7,8 @@ use Rattle.connection_strand.proofs.Showing.{shown-taken, took-are}
 use Rattle.connection_strand.proofs.Falling.{took-falls, took-few}
 use Rattle.connection_strand.proofs.state.Connection.took.Goals as goal
 
-pub settle-requires : goal.settle-requires
-settle-requires g c =
+pub settle_all-requires : goal.settle_all-requires
+settle_all-requires g c =
     let site = c.args.site.now in
     let r = g.R.RunContract in
     let met = g.met.R.RunContract in
@@ -26,9 +26,9 @@ returns-clause-moves g c =
     let met = g.met.R.RunContract in
     let service = service_of (r.plan site) (g.R.ServiceContract.serving site) in
     let now = c.args.now.0 in
-    ok-map c.settle.result _ _ (λ done ends. λ did h. ends h.inner.client.stage did
+    ok-map c.settle_all.result _ _ (λ done ends. λ did h. ends h.inner.client.stage did
     (shown-taken service (r.holds site) (r.stands site) (met.meets site) (met.apart site) now c.args.count c.min-count.result did c.args.self.now _ c.args.turn.now h (record { run = refl; waits = refl; sockets = refl; count = refl; keeping = refl; taking = refl })
-    (c.min-count.ensures ∙ ap (λ (xs : List ℕ). min (length xs) c.args.count) c.queued.ensures) (ap (λ (l : Line). kept (record c.args.self.now.client { line = l })) c.took.ensures))) c.settle.ensures.moves
+    (c.min-count.ensures ∙ ap (λ (xs : List ℕ). min (length xs) c.args.count) c.queued.ensures) (ap (λ (l : Line). kept (record c.args.self.now.client { line = l })) c.took.ensures))) c.settle_all.ensures.moves
 
 pub returns-clause-falls : goal.returns-clause-falls
 returns-clause-falls g c =
@@ -37,7 +37,7 @@ returns-clause-falls g c =
     let met = g.met.R.RunContract in
     let service = service_of (r.plan site) (g.R.ServiceContract.serving site) in
     let now = c.args.now.0 in
-    ok-map c.settle.result _ _ (λ done costs. took-falls g.R.RunContract.left g.R.ServiceContract.bound c.min-count.result c.args.self.now (record c.args.self.now { client = record c.args.self.now.client { line = c.took.new.self } }) c.settle.new.self c.args.turn.now c.settle.new.turn refl refl
+    ok-map c.settle_all.result _ _ (λ done costs. took-falls g.R.RunContract.left g.R.ServiceContract.bound c.min-count.result c.args.self.now (record c.args.self.now { client = record c.args.self.now.client { line = c.took.new.self } }) c.settle_all.new.self c.args.turn.now c.settle_all.new.turn refl refl
     (ap (λ (l : Line). kept (record c.args.self.now.client { line = l })) c.took.ensures)
     (took-are service (r.holds site) (r.stands site) (met.meets site) (met.apart site) now c.args.count c.min-count.result c.requires.0 c.args.self.now c.args.turn.now c.requires.1 (c.min-count.ensures ∙ ap (λ (xs : List ℕ). min (length xs) c.args.count) c.queued.ensures))
-    (took-few c.min-count.result c.args.count c.args.self.now (c.min-count.ensures ∙ ap (λ (xs : List ℕ). min (length xs) c.args.count) c.queued.ensures)) costs) c.settle.ensures.costs
+    (took-few c.min-count.result c.args.count c.args.self.now (c.min-count.ensures ∙ ap (λ (xs : List ℕ). min (length xs) c.args.count) c.queued.ensures)) costs) c.settle_all.ensures.costs

@@ -22,8 +22,8 @@ answered-requires g c = λ run is.
     (may-answer (service_of (r.plan site) (g.R.ServiceContract.serving site)) (r.holds site) (r.stands site) (met.meets site) now c.args.answer c.requires.1 c.requires.0 c.args.self.now d u c.requires.2 c.requires.3 c.requires.4 c.requires.5 same c.in_ok-take_in.ensures.sockets c.in_ok-take_in.ensures.count
     c.is_still_offered.ensures c.new.ensures.items) run is
 
-pub settle-requires : goal.settle-requires
-settle-requires g c =
+pub settle_all-requires : goal.settle_all-requires
+settle_all-requires g c =
     let site = c.args.site.now in
     let r = g.R.RunContract in
     let met = g.met.R.RunContract in
@@ -71,8 +71,8 @@ returns-clause-turn g c = λ es x follows at e execution.
     (c.in_ok-goes_on.ensures.moves did (settle service now)
     (may-answer (service_of (r.plan site) (g.R.ServiceContract.serving site)) (r.holds site) (r.stands site) (met.meets site) now c.args.answer x es c.args.self.now d u follows at e execution same c.in_ok-take_in.ensures.sockets c.in_ok-take_in.ensures.count
     c.is_still_offered.ensures c.new.ensures.items)) in
-    follows-by (service_of (r.plan site) (g.R.ServiceContract.serving site)) (r.holds site) (r.stands site) x es c.settle.new.self c.settle.new.turn (answer-turn (service_of (r.plan site) (g.R.ServiceContract.serving site)) (r.holds site) (r.stands site) (met.meets site) c.args.answer x es e)
-    (c.in_ok-settle.ensures.moves t.0 did t.1)
+    follows-by (service_of (r.plan site) (g.R.ServiceContract.serving site)) (r.holds site) (r.stands site) x es c.settle_all.new.self c.settle_all.new.turn (answer-turn (service_of (r.plan site) (g.R.ServiceContract.serving site)) (r.holds site) (r.stands site) (met.meets site) c.args.answer x es e)
+    (c.in_ok-settle_all.ensures.moves t.0 did t.1)
 
 pub returns-then-not-goes_on-clause-left : goal.returns-then-not-goes_on-clause-left
 returns-then-not-goes_on-clause-left g c =
@@ -113,5 +113,5 @@ returns-clause-left g c =
     let pays = c.in_ok-goes_on.ensures.costs (answered-runs (service_of (r.plan site) (g.R.ServiceContract.serving site)) (r.holds site) (r.stands site) (met.meets site) now c.args.answer (turned (service_of (r.plan site) (g.R.ServiceContract.serving site)) c.requires.1 c.requires.0) d u (settle service now)
     (may-answer (service_of (r.plan site) (g.R.ServiceContract.serving site)) (r.holds site) (r.stands site) (met.meets site) now c.args.answer c.requires.1 c.requires.0 c.args.self.now d u c.requires.2 c.requires.3 c.requires.4 c.requires.5 same c.in_ok-take_in.ensures.sockets c.in_ok-take_in.ensures.count
     c.is_still_offered.ensures c.new.ensures.items)) in
-    let falls = answered-settled r.left bound old d c.answered.new.self c.settle.new.self u c.answered.new.turn c.settle.new.turn (answered-opens r.left bound old d same few) pays c.in_ok-settle.ensures.costs in
+    let falls = answered-settled r.left bound old d c.answered.new.self c.settle_all.new.self u c.answered.new.turn c.settle_all.new.turn (answered-opens r.left bound old d same few) pays c.in_ok-settle_all.ensures.costs in
     omega arith

@@ -28,8 +28,8 @@ returns-in_ok-begin_timer-in-Client g c =
     (begins-client (service_of (r.plan site) (g.R.ServiceContract.serving site)) (r.holds site) (r.stands site) now c.in-Client.field-0 c.new-connection.result turn c.new-connection.ensures.client c.new-connection.ensures.sockets c.new-connection.ensures.count
     c.new-connection.ensures.keeping c.new-connection.ensures.taking c.new.ensures.items refl))))
 
-pub returns-in_ok-take_turn-in-Job : goal.returns-in_ok-take_turn-in-Job
-returns-in_ok-take_turn-in-Job g c =
+pub returns-in_ok-adopt_turn-in-Job : goal.returns-in_ok-adopt_turn-in-Job
+returns-in_ok-adopt_turn-in-Job g c =
     let site = c.args.site.now in
     let r = g.R.RunContract in
     let met = g.met.R.RunContract in
@@ -40,10 +40,10 @@ returns-in_ok-take_turn-in-Job g c =
     let connection = record fresh { client = record fresh.client { stage = code.Busy }; run = Some c.in_ok-run-in-Job.run' } in
     let begin = start.Job c.in-Job.field-0 c.in-Job.premature c.in-Job.job in
     let to = begun (service_of (r.plan site) (g.R.ServiceContract.serving site)) (r.holds site) (r.stands site) now begin in
-    subst (λ begin. Follows service (r.stands site) c.take_turn.new.self (Did (Began now begin) ∷ []) × (c.take_turn.new.turn.acts.items ≡ (begun (service_of (r.plan site) (g.R.ServiceContract.serving site)) (r.holds site) (r.stands site) now begin).acts)) (sym c.in-Job.is)
-    (follows (service_of (r.plan site) (g.R.ServiceContract.serving site)) (r.holds site) (r.stands site) now begin c.take_turn.new.self c.take_turn.new.turn
-    (went-done (service_of (r.plan site) (g.R.ServiceContract.serving site)) (r.holds site) (r.stands site) c.in_ok-take_turn-in-Job.field-0 to c.take_turn.new.self c.take_turn.new.turn
-    (c.in_ok-take_turn-in-Job.ensures.moves to Done
+    subst (λ begin. Follows service (r.stands site) c.adopt_turn.new.self (Did (Began now begin) ∷ []) × (c.adopt_turn.new.turn.acts.items ≡ (begun (service_of (r.plan site) (g.R.ServiceContract.serving site)) (r.holds site) (r.stands site) now begin).acts)) (sym c.in-Job.is)
+    (follows (service_of (r.plan site) (g.R.ServiceContract.serving site)) (r.holds site) (r.stands site) now begin c.adopt_turn.new.self c.adopt_turn.new.turn
+    (went-done (service_of (r.plan site) (g.R.ServiceContract.serving site)) (r.holds site) (r.stands site) c.in_ok-adopt_turn-in-Job.field-0 to c.adopt_turn.new.self c.adopt_turn.new.turn
+    (c.in_ok-adopt_turn-in-Job.ensures.moves to Done
     (begins-job (service_of (r.plan site) (g.R.ServiceContract.serving site)) (r.holds site) (r.stands site) now (met.meets site) c.in-Job.field-0 c.in-Job.premature c.in-Job.job c.in_ok-run-in-Job.run' c.in_ok-run-in-Job.first fresh connection turn c.in_ok-run-in-Job.ensures
     c.new-connection-in-Job.ensures.client c.new-connection-in-Job.ensures.waits c.new-connection-in-Job.ensures.sockets c.new-connection-in-Job.ensures.count c.new-connection-in-Job.ensures.keeping
     refl refl refl refl refl refl c.new.ensures.items))))

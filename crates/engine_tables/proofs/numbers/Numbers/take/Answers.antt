@@ -1,7 +1,8 @@
 -- The strand's own numbers are those that are left, or the strand leaves with its last one.
 use Rattle.std.proofs.Common.{None, length, sym, ap, ◌∙◌, rules}
+use Rattle.std.proofs.lemmas.List.{nil_from_length}
 use Rattle.engine_tables.specs.Numbers.{count_in}
-use Rattle.engine_tables.proofs.Own.{written, emptied, fewer, count-written, count-emptied, empty-is}
+use Rattle.engine_tables.proofs.Own.{written, emptied, fewer, count-written, count-emptied}
 use Rattle.engine_tables.proofs.numbers.Numbers.take.Goals as goal
 
 pub returns-then-len-eq0-clause-left : goal.returns-then-len-eq0-clause-left
@@ -9,7 +10,7 @@ returns-then-len-eq0-clause-left c s j =
     let own' = c.swap_remove-number.new.self in
     let mid = ((c.get_mut.follows.holds own').3 (search rules)).0 s in
     emptied c.args.self.now.by_strand.entries c.args.who s j c.args.k c.in-Some.own.now own' _ _ (sym c.in-Some.ensures.value) mid (c.swap_remove-empty.ensures.updates.0 s)
-    (empty-is own'.entries (sym c.len.ensures.len ∙ c.if-len-eq0.true)) (c.swap_remove-number.ensures.updates.0 j)
+    (nil_from_length own'.entries (sym c.len.ensures.len ∙ c.if-len-eq0.true)) (c.swap_remove-number.ensures.updates.0 j)
 
 pub returns-then-len-eq0-clause-fewer : goal.returns-then-len-eq0-clause-fewer
 returns-then-len-eq0-clause-fewer c =

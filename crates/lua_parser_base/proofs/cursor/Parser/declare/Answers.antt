@@ -1,4 +1,5 @@
 use Rattle.std.proofs.Common.{◌≡◌, ◌∷◌, ◌++◌, [], ◌+◌, ◌<◌, length, take, refl, sym, ap, rules, arith, length-append, ◌∙◌}
+use Rattle.std.proofs.lemmas.Grind.{common_steps}
 use Rattle.lua_grammar.specs.Scopes.{slots_from, with_locals}
 use Rattle.lua_parser_base.specs.Frames.{frame_of}
 use Rattle.lua_parser_base.proofs.Lookups.{slots_more, locals_more, locals_none, front_more, front_length}
@@ -37,3 +38,15 @@ loop-name-preserved c =
       functions = h.functions;
       enclosing = h.enclosing;
     }
+
+pub returns-clause-slots : goal.returns-clause-slots
+returns-clause-slots c = grind (arith, common_steps)
+
+pub returns-in_err-slot : goal.returns-in_err-slot
+returns-in_err-slot c = grind (arith, common_steps)
+
+pub returns-in_err-push : goal.returns-in_err-push
+returns-in_err-push c = grind (arith, common_steps)
+
+pub returns-in_err-clone : goal.returns-in_err-clone
+returns-in_err-clone c = grind (arith, common_steps)

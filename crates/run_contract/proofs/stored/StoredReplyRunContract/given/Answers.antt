@@ -12,14 +12,14 @@ pub returns-clause-left : goal.returns-clause-left
 returns-clause-left c =
     let site = c.args.site.now in
     let p = stored_plan site.dictionary site.key site.otherwise in
-    let may : (s : RunSeen) → c.args.seen ≡ s → MayCome p c.args.now.0 s c.requires.0 c.requires.1 =
-    λ s e. subst (λ s. MayCome p c.args.now.0 s c.requires.0 c.requires.1) e c.requires.4 in
+    let may : (s : RunSeen) → c.args.seen ≡ s → MayCome p c.args._now.0 s c.requires.0 c.requires.1 =
+    λ s e. subst (λ s. MayCome p c.args._now.0 s c.requires.0 c.requires.1) e c.requires.4 in
     let other : (s : RunSeen) → c.args.seen ≡ s → IsElse s → ⊥ =
-    λ s e h. none-else site.dictionary site.key site.otherwise c.args.now.0 s c.requires.0 c.requires.1 c.requires.3 (may s e) h in
+    λ s e h. none-else site.dictionary site.key site.otherwise c.args._now.0 s c.requires.0 c.requires.1 c.requires.3 (may s e) h in
     elim c.match-seen.branch [
       | in-Run w ↦ rw (w.self-is, w.result-is) (λ own.
           asks-falls _ w.asking.result c.args.self.now.progress c.args.self.now.has_client
-          (c.requires.2.0 ∙ runs-once site.dictionary site.key site.otherwise c.args.now.0 w.in-Run.field-0 c.requires.0 c.requires.1 c.requires.3 (may _ w.in-Run.is))
+          (c.requires.2.0 ∙ runs-once site.dictionary site.key site.otherwise c.args._now.0 w.in-Run.field-0 c.requires.0 c.requires.1 c.requires.3 (may _ w.in-Run.is))
           w.asking.ensures.acts w.asking.ensures.said)
       | in-ClientGone w ↦ rw (w.self-is, w.result-is) (λ own.
           gone-falls w.silent.result c.args.self.now.progress c.args.self.now.has_client (c.requires.2.1 ∙ (may _ w.in-ClientGone.is).1)

@@ -6,7 +6,7 @@ use Rattle.strand_scripts.proofs.strand.ScriptStrandStrandContract.queued.Goals 
 
 pub returns-in-Client : goal.returns-in-Client
 returns-in-Client c = λ es stands execution lives rests.
-    rw c.in-Client.is (c.queued.ensures ∙ ap (λ (s : ScriptStrand). if s.line.opened then next_piece s.line else []) stands ∙ piece-there c.args.site.now es execution lives rests)
+    rw c.in-Client.is (c.queued.ensures ∙ ap (λ (s : ScriptStrand). if s.line.opened then next_piece s.line else []) stands ∙ piece-there c.args._site.now es execution lives rests)
 
 pub returns-in-Sock : goal.returns-in-Sock
-returns-in-Sock c = λ es stands execution lives rests. rw c.in-Sock.is (no-piece c.args.site.now es c.in-Sock.field-0 execution lives rests)
+returns-in-Sock c = λ es stands execution lives rests. rw c.in-Sock.is (no-piece c.args._site.now es c.in-Sock.field-0 execution lives rests)

@@ -1,0 +1,12 @@
+use Rattle.std.proofs.Common.{arith}
+use Rattle.std.proofs.lemmas.Grind.{common_steps}
+use Rattle.schedule_text.proofs.text.schedule_text.Goals as goal
+
+pub loop-line-init : goal.loop-line-init
+loop-line-init c = grind (arith, common_steps)
+
+pub loop-line-preserved : goal.loop-line-preserved
+loop-line-preserved c = grind (arith, common_steps)
+
+pub returns : goal.returns
+returns c = grind (arith, common_steps)
