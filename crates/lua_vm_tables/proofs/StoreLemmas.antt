@@ -15,7 +15,7 @@ use Rattle.lua_meaning.specs.Indexing.{raw_value, set_raw, store_by, store_work}
 use Rattle.lua_meaning.specs.Nodes.{work_of, eval}
 use Rattle.lua_meaning.proofs.EvaluatorLemmas.{eval-law}
 use Rattle.lua_frames.proofs.FollowLemmas.{count_goes, count_spent, after_ended}
-use Rattle.lua_vm_expressions.specs.Captures.{ComesTo}
+use Rattle.lua_frames.specs.Follows.{ComesTo}
 use Rattle.lua_vm_tables.specs.Chains.{dropping}
 
 -- an assignment at a key that is absent or not, where `by` handles it
