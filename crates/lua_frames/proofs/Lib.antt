@@ -1,7 +1,11 @@
 pub mod FinishLemmas
 pub mod FollowLemmas
+pub mod MovedLemmas
+pub mod TakeForms
 pub mod CallLemmas
 pub mod StackLemmas
 pub mod BlockLemmas
 pub mod FaultLemmas
 pub mod ByteLemmas
+pub mod DropLemmas
+pub mod LocalLemmas

@@ -7,6 +7,7 @@ use Rattle.lua_meaning.specs.Works.{Sign, Failed}
 use Rattle.lua_frames.specs.declared.flow.Flow.{Flow}
 use Rattle.lua_frames.specs.declared.flow.Flow.TheVariants as flow
 use Rattle.lua_frames.specs.declared.frames.Frame.{Frame}
+use Rattle.lua_frames.specs.declared.frames.Kind.{Kind}
 use Rattle.lua_frames.specs.declared.frames.Kind.TheVariants.{Handled, Handling}
 use Rattle.lua_frames.specs.declared.items.Item.{Item}
 use Rattle.lua_frames.specs.declared.items.Item.TheVariants as i
@@ -23,6 +24,15 @@ pub record Waits (old : Frames) (item : Item) (new : Frames) : Type 0 where
   pub extras : new.top.extras ≡ old.top.extras
   pub slots : new.top.slots ≡ old.top.slots
   pub items : new.top.items.items ≡ old.top.items.items ++ item ∷ []
+
+-- what a thread goes on by stays, but for the slots of the frame on top
+pub record KeepsAllButSlots (old new : Frames) : Type 0 where
+  pub below : new.below ≡ old.below
+  pub kind : new.top.kind ≡ old.top.kind
+  pub function : new.top.function ≡ old.top.function
+  pub cells : new.top.cells ≡ old.top.cells
+  pub extras : new.top.extras ≡ old.top.extras
+  pub items : new.top.items ≡ old.top.items
 
 -- gives what ends work, and leaves the calls
 pub record Ends {E : Type 0} (sign : Sign) (old new : Frames) (r : Result Flow E) : Type 0 where
@@ -42,6 +52,11 @@ pub record TakesValues (old new : Frames) (r : Option (List Value)) : Type 0 whe
   pub below : new.below ≡ old.below
   pub top : new.top ≡ old.top
   pub values : MatchOption r (Passes (sign_of old.given) × (new.given ≡ old.given)) (λ vs. HasValues (sign_of old.given) vs)
+
+-- a frame of a kind, in which one item waits
+pub record IsFrameWith (kind : Kind) (item : Item) (frame : Frame) : Type 0 where
+  pub is : frame.kind ≡ kind
+  pub items : frame.items.items ≡ item ∷ []
 
 -- a call begins in a frame on top; the one that was on top calls at this line, and the same items wait in it
 pub record Pushes (line : ℕ) (old : Frames) (frame : Frame) (new : Frames) : Type 0 where

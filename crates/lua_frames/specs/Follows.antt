@@ -2,14 +2,17 @@
 use Rattle.std.specs.Prelude.{◌≡◌, List, [], Result, IfOk, Option, Some, None}
 use Rattle.lua_values.specs.Heap.{StoreView}
 use Rattle.lua_meaning.specs.Works.{Node, Work}
-use Rattle.lua_meaning.specs.Evaluator.{Resume, Ending, Ended, Spent, answered}
+use Rattle.lua_meaning.specs.Evaluator.{Resume, Ending, Ended, Spent, answered, do_work}
 use Rattle.lua_meaning.specs.Setting.{Setting}
+use Rattle.lua_meaning.specs.Nodes.{eval}
 use Rattle.lua_frames.specs.declared.flow.Flow.{Flow}
 use Rattle.lua_frames.specs.declared.flow.Flow.TheVariants as flow
 use Rattle.lua_frames.specs.declared.flow.Op.{Op}
+use Rattle.lua_frames.specs.declared.items.Item.{Item}
 use Rattle.lua_frames.specs.declared.threads.Frames.{Frames}
 use Rattle.lua_frames.specs.Signals.{sign_of}
-use Rattle.lua_frames.specs.Frames.{finish, entering, working, given}
+use Rattle.lua_frames.specs.Items.{resume_item}
+use Rattle.lua_frames.specs.Frames.{finish, entering, working, given, here, slots_of}
 
 -- a thread asks this operation of the outside, in a store
 abbrev pub Asks : Setting → (List Resume → Ending) → StoreView → Frames → Option Op → Type 0
@@ -37,3 +40,13 @@ pub record Enters {E : Type 0} (S : Setting) (n : Node) (old : Frames) (before :
 pub record Works {E : Type 0} (S : Setting) (q : Work) (old : Frames) (before : StoreView) (new : Frames) (store : StoreView)
     (r : Result Flow E) : Type 0 where
   pub follows : IfOk r (λ f. Follows S (working S q old before) store new f)
+
+-- a call in which an item, taken off the innermost call, does its work with what is given
+abbrev pub Takes : {E : Type 0} → Setting → Item → Frames → StoreView → Frames → StoreView → Result Flow E → Type 0
+Takes S item old before new store r = Works S (resume_item S item (here old) (sign_of old.given) (slots_of old)) old before new store r
+
+-- work in a store comes to other work in another one, whatever the thread is resumed with
+abbrev pub ComesTo : Setting → Work → StoreView → Work → StoreView → Type 0
+ComesTo S q before q' store =
+    (resumes : List Resume)
+    → do_work (eval S) q (record { store = before; resumes = resumes }) ≡ do_work (eval S) q' (record { store = store; resumes = resumes })

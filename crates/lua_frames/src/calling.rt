@@ -3,11 +3,11 @@
 ghost use Rattle.std.specs.Prelude.{◌≡◌, [], IfOk, OnOk};
 ghost use Rattle.lua_values.specs.Heap.{StoreView};
 ghost use Rattle.lua_meaning.specs.Setting.{Setting};
-ghost use Rattle.lua_frames.specs.Changes.{Pushes, Replaces, GoesBack, Handles, Leaves};
+ghost use Rattle.lua_frames.specs.Changes.{IsFrameWith, Pushes, Replaces, GoesBack, Handles, Leaves};
 ghost use Rattle.lua_frames.specs.Follows.{Turns};
 
 use crate::ending::{Closing, closing_of};
-use crate::{Flow, Frame, Frames, Item, Kind, Signal};
+use crate::{Flow, Frame, Frames, Item, Kind, Lists, Signal};
 use lua_values::Value;
 use resty_base::Boxed;
 use std::alloc::AllocError;
@@ -18,6 +18,23 @@ const MANY_CALLS: usize = 64;
 
 /// How many items wait at most in a call that keeps no room.
 const FEW_ITEMS: usize = 8;
+
+/// The frame of a call of no Lua function, in which one item waits.
+pub fn frame_with(lists: &mut Lists, kind: Kind, item: Item) -> Result<Frame, AllocError>
+    ensures { IfOk result (IsFrameWith kind item) }
+{
+    let mut items = lists.items.fresh();
+    items.push(item)?;
+    Ok(Frame {
+        kind,
+        function: 0,
+        line: 0,
+        cells: lists.cells.fresh(),
+        extras: lists.values.fresh(),
+        slots: lists.slots.fresh(),
+        items,
+    })
+}
 
 /// A call begins in this frame. The frame that was on top calls at this line.
 pub fn push_frame(frames: &mut Frames, line: u32, frame: Frame) -> Result<(), AllocError>

@@ -70,6 +70,13 @@ impl Lists {
         }
     }
 
+    /// An empty list of items, one that was kept if there is one; takes no memory.
+    pub fn no_items(&mut self) -> Vec<Item>
+        ensures { result.items ≡ [] }
+    {
+        self.items.fresh()
+    }
+
     /// Keeps the lists of a frame that isn't needed any more.
     pub fn spare(&mut self, frame: Frame) {
         let Frame {

@@ -1,6 +1,5 @@
 pub mod LeftLemmas
 pub mod FrameForms
-pub mod ReturnLemmas
 pub mod StepsRise
 pub mod QuietWorks
 pub mod QuietTables

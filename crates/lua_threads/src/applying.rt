@@ -1,20 +1,19 @@
 //! The item that takes what is given.
 
-ghost use Rattle.lua_items.specs.Takes.{Takes};
+ghost use Rattle.lua_frames.specs.Follows.{Takes};
 
-use crate::calls::{arguments, call, tail_arguments};
-use crate::operators::{binary, unary};
-use crate::statements::{arm, assign, assign_to_slot, locals, rest};
-use crate::targets::{stores, target_at, target_key};
 use lua_frames::{Flow, Frames, Host, Item};
-use lua_items::{
-    and_then, callee, discard, first, key, or_else, return_called, return_given, right,
-    tail_callee, truth, turned, while_test,
-};
 use lua_values::Store;
+use lua_vm_calls::{arguments, call, callee, tail_arguments, tail_callee};
 use lua_vm_expressions::go_on_with_list;
 use lua_vm_loops::{
-    counted, for_from, for_step, for_to, iterate, iterated, passed, repeated, until,
+    counted, for_from, for_step, for_to, iterate, iterated, passed, repeated, turned, until,
+    while_test,
+};
+use lua_vm_operators::{and_then, binary, first, key, or_else, right, truth, unary};
+use lua_vm_statements::{
+    arm, assign, assign_to_slot, discard, locals, rest, return_called, return_given, stores,
+    target_at, target_key,
 };
 use lua_vm_tables::{
     at, item_at_key, item_at_number, item_key, items_at_numbers, method, method_arguments,

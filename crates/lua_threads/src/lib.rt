@@ -2,12 +2,8 @@
 #![tactic(auto)]
 
 mod applying;
-mod calls;
 mod ended;
 mod loaded;
-mod operators;
-mod statements;
-mod targets;
 mod threads;
 mod turns;
 

@@ -14,7 +14,7 @@ ghost use Rattle.lua_frames.specs.Follows.{Works};
 ghost use Rattle.lua_vm_functions.specs.CallEnds.{back_in};
 ghost use Rattle.lua_vm_calls.specs.NativeParts.{failed_assertion};
 
-use crate::arguments::{raise_missing, take};
+use crate::parameters::{raise_missing, take};
 use lua_ast::Program;
 use lua_frames::{Flow, Frames, give_many, raise, raise_given, raise_value};
 use lua_operators::{argument_fault, is_truthy, number_of, type_of};

@@ -11,9 +11,9 @@ ghost use Rattle.lua_frames.specs.Follows.{Works};
 ghost use Rattle.lua_vm_functions.specs.CallEnds.{back_in};
 ghost use Rattle.lua_vm_calls.specs.NativeParts.{own_work};
 
-use crate::arguments::texts_length;
 use crate::errors::{assert_call, error_call};
 use crate::library::call_library;
+use crate::parameters::texts_length;
 use crate::protected::{handled_call, protected_call};
 use crate::texts::tostring_call;
 use lua_ast::Program;

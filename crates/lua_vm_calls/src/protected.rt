@@ -11,9 +11,9 @@ ghost use Rattle.lua_frames.specs.Follows.{Works};
 ghost use Rattle.lua_vm_functions.specs.CallEnds.{back_in};
 ghost use Rattle.lua_vm_calls.specs.NativeParts.{Guards};
 
-use crate::arguments::{raise_missing, take};
+use crate::parameters::{raise_missing, take};
 use lua_ast::Program;
-use lua_frames::{Flow, Frame, Frames, Item, Kind, give_nothing, push_frame};
+use lua_frames::{Flow, Frames, Item, Kind, frame_with, give_nothing, push_frame};
 use lua_values::Value;
 use resty_base::Boxed;
 use std::alloc::AllocError;
@@ -74,17 +74,8 @@ fn push_guard(
 ) -> Result<(), AllocError>
     ensures { OnOk result (Guards line frames.old kind function args.items frames.new) }
 {
-    let mut items = frames.lists.items.fresh();
     let function = Boxed::new(frames.alloc, function)?;
-    items.push(Item::Call(0, function, args))?;
-    let frame = Frame {
-        kind,
-        function: 0,
-        line: 0,
-        cells: frames.lists.cells.fresh(),
-        extras: frames.lists.values.fresh(),
-        slots: frames.lists.slots.fresh(),
-        items,
-    };
+    let item = Item::Call(0, function, args);
+    let frame = frame_with(&mut frames.lists, kind, item)?;
     push_frame(frames, line, frame)
 }

@@ -13,7 +13,7 @@ ghost use Rattle.lua_frames.specs.Follows.{Works};
 ghost use Rattle.lua_vm_functions.specs.CallEnds.{back_in};
 ghost use Rattle.lua_vm_calls.specs.TextParts.{Told, tostring_of, text_made};
 
-use crate::arguments::{raise_missing, texts_length};
+use crate::parameters::{raise_missing, texts_length};
 use lua_ast::Program;
 use lua_frames::{Flow, Frames, Item, give_nothing, give_one, handler, raise_fault, wait};
 use lua_operators::{Event, Fault, text_of};

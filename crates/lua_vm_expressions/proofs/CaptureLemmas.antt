@@ -21,11 +21,11 @@ use Rattle.lua_meaning.specs.Nodes.{eval}
 use Rattle.lua_frames.specs.declared.flow.Flow.{Flow}
 use Rattle.lua_frames.specs.declared.threads.Frames.{Frames}
 use Rattle.lua_frames.specs.Frames.{here, slots_of}
-use Rattle.lua_frames.specs.Follows.{Works}
-use Rattle.lua_frames.specs.Changes.{Ends}
+use Rattle.lua_frames.specs.Follows.{Works, ComesTo}
+use Rattle.lua_frames.specs.Changes.{Ends, KeepsAllButSlots}
 use Rattle.lua_frames.proofs.FollowLemmas.{ends_works}
-use Rattle.lua_vm_expressions.specs.Captures.{KeepsAllButSlots, ComesTo, made, Shares, SharesAll, Closes, Makes, KeepsCell}
-use Rattle.lua_vm_expressions.proofs.MovedLemmas.{kept_on, stays_here, works_moved}
+use Rattle.lua_vm_expressions.specs.Captures.{made, Shares, SharesAll, Closes, Makes, KeepsCell}
+use Rattle.lua_frames.proofs.MovedLemmas.{kept_on, stays_here, works_moved}
 
 -- a full store's cause
 pub full_there : (cause : Option StoreFault) → IsCause cause Full → cause ≡ Some Full

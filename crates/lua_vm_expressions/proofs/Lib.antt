@@ -1,5 +1,3 @@
-pub mod DropLemmas
-pub mod MovedLemmas
 pub mod EnterLemmas
 pub mod ChildForms
 pub mod CaptureLemmas

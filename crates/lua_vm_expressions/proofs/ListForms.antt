@@ -20,8 +20,9 @@ use Rattle.lua_frames.specs.Frames.{finish_from, here, slots_of, entering, worki
 use Rattle.lua_frames.specs.Follows.{Enters, Works}
 use Rattle.lua_frames.specs.Changes.{Waits, Ends}
 use Rattle.lua_frames.proofs.FollowLemmas.{follows_ok, works_as, works_from, ends_works, step_under}
+use Rattle.lua_frames.proofs.TakeForms.{first_goes, on_all}
 use Rattle.lua_vm_expressions.specs.Lists.{rest_of}
-use Rattle.lua_vm_expressions.proofs.DropLemmas.{dropped_all}
+use Rattle.lua_frames.proofs.DropLemmas.{dropped_all}
 
 -- the values of a list of one are those of its expression
 passed_on : (S : Setting) (p : Places) (o : Ending) → after o (λ sign s w. do_work (eval S) (on_values (more [] p []) sign s) w) ≡ o
@@ -113,25 +114,11 @@ hands_on S go old new store passes g b t =
     works_as S (on_values go (sign_of old.given) (slots_of old)) (End (sign_of old.given) (slots_of old)) old new store store (Ok flow.Went)
     (ends_works S (sign_of old.given) old new store (Ok flow.Went) (record { below = b; top = t; given = ap sign_of g; went = refl })) (on_passes go (sign_of old.given) (slots_of old) passes)
 
--- the first value goes on
-on_first : (go : Value → Slots → Work) (sign : Sign) (v : Value) (s : Slots) → HasFirst sign v → on_values (λ vs s'. go (first vs) s') sign s ≡ go v s
-on_first go (Values vs) v s h = ap (λ (x : Value). go x s) (sym h)
-on_first go (Return vs) v s h = absurd h
-on_first go Break v s h = absurd h
-on_first go (Failed x) v s h = absurd h
-
--- all values go on
-pub on_all : (go : List Value → Slots → Work) (sign : Sign) (vs : List Value) (s : Slots) → HasValues sign vs → on_values go sign s ≡ go vs s
-on_all go (Values us) vs s h = ap (λ (x : List Value). go x s) (sym h)
-on_all go (Return us) vs s h = absurd h
-on_all go Break vs s h = absurd h
-on_all go (Failed x) vs s h = absurd h
-
 -- a list goes on with the value that an expression gave
 went_on : (xs : List Expr) (p : Places) (done : List Value) (sign : Sign) (v : Value) (s : Slots) (x : Expr) (rest : List Expr) → xs ≡ x ∷ rest → HasFirst sign v
     → on_values (more xs p done) sign s ≡ rest_of xs p (done ++ v ∷ []) s
 went_on xs p done sign v s x rest e h =
-    ap (λ (t : List Expr). on_values (more t p done) sign s) e ∙ on_first (λ u s'. rest_of (x ∷ rest) p (done ++ u ∷ []) s') sign v s h ∙ ap (λ (t : List Expr). rest_of t p (done ++ v ∷ []) s) (sym e)
+    ap (λ (t : List Expr). on_values (more t p done) sign s) e ∙ first_goes (λ u s'. rest_of (x ∷ rest) p (done ++ u ∷ []) s') sign v s h ∙ ap (λ (t : List Expr). rest_of t p (done ++ v ∷ []) s) (sym e)
 
 some_left : (xs : List Expr) (n : ℕ) → n < length xs → (x : Expr) × (rest : List Expr) × (drop n xs ≡ x ∷ rest)
 some_left [] zero h = absurd (omega (arith, h))

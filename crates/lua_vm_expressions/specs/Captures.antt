@@ -7,28 +7,13 @@ use Rattle.lua_values.specs.declared.values.Value.TheVariants.{Closure}
 use Rattle.lua_values.specs.Heap.{StoreView}
 use Rattle.lua_operators.specs.declared.faults.Fault.TheVariants.{StorageLimit}
 use Rattle.lua_meaning.specs.Works.{Caller, Slots, Work}
-use Rattle.lua_meaning.specs.Evaluator.{Resume, do_work}
 use Rattle.lua_meaning.specs.Setting.{Setting}
 use Rattle.lua_meaning.specs.Positions.{raise_fault}
 use Rattle.lua_meaning.specs.Closures.{captures_of, present_cell, share_from, share, close, with_cell_in}
-use Rattle.lua_meaning.specs.Nodes.{eval}
 use Rattle.lua_frames.specs.declared.threads.Frames.{Frames}
 use Rattle.lua_frames.specs.Frames.{here, slots_of}
-
--- what a thread goes on by stays, but for the slots of the frame on top
-pub record KeepsAllButSlots (old new : Frames) : Type 0 where
-  pub below : new.below ≡ old.below
-  pub kind : new.top.kind ≡ old.top.kind
-  pub function : new.top.function ≡ old.top.function
-  pub cells : new.top.cells ≡ old.top.cells
-  pub extras : new.top.extras ≡ old.top.extras
-  pub items : new.top.items ≡ old.top.items
-
--- work in a store comes to other work in another one, whatever the thread is resumed with
-abbrev pub ComesTo : Setting → Work → StoreView → Work → StoreView → Type 0
-ComesTo S q before q' store =
-    (resumes : List Resume)
-    → do_work (eval S) q (record { store = before; resumes = resumes }) ≡ do_work (eval S) q' (record { store = store; resumes = resumes })
+use Rattle.lua_frames.specs.Follows.{ComesTo}
+use Rattle.lua_frames.specs.Changes.{KeepsAllButSlots}
 
 -- work that takes units, and goes on with what it made
 abbrev pub Making : Type 0 → Type 0

@@ -89,7 +89,7 @@ fn frame_of(
         cells: captured,
         extras,
         slots,
-        items: lists.items.fresh(),
+        items: lists.no_items(),
     })
 }
 

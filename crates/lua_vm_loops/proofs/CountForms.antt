@@ -32,11 +32,10 @@ use Rattle.lua_frames.specs.declared.threads.Frames.{Frames}
 use Rattle.lua_frames.specs.Items.{resume_item, with_step, counting, counted}
 use Rattle.lua_frames.specs.Frames.{here, slots_of}
 use Rattle.lua_frames.specs.Follows.{Works, Enters}
-use Rattle.lua_frames.specs.Changes.{Waits, Ends}
+use Rattle.lua_frames.specs.Changes.{Waits, Ends, KeepsAllButSlots}
 use Rattle.lua_frames.proofs.FollowLemmas.{works_as, work_under, ends_works, enters_works}
-use Rattle.lua_vm_expressions.specs.Captures.{KeepsAllButSlots}
-use Rattle.lua_vm_expressions.proofs.MovedLemmas.{stays_here, works_moved}
-use Rattle.lua_items.specs.Locals.{PutsPlain}
+use Rattle.lua_frames.proofs.MovedLemmas.{stays_here, works_moved}
+use Rattle.lua_frames.specs.Locals.{PutsPlain}
 use Rattle.lua_vm_loops.specs.Ranges.{counts_from, run_of, run_from}
 use Rattle.lua_vm_loops.proofs.RunForms.{run_enters}
 

@@ -22,9 +22,8 @@ use Rattle.lua_frames.specs.declared.threads.Frames.{Frames}
 use Rattle.lua_frames.specs.Items.{resume_item, iterating, passing}
 use Rattle.lua_frames.specs.Frames.{here, slots_of}
 use Rattle.lua_frames.specs.Follows.{Works, Enters}
-use Rattle.lua_frames.specs.Changes.{Waits}
+use Rattle.lua_frames.specs.Changes.{Waits, KeepsAllButSlots}
 use Rattle.lua_frames.proofs.FollowLemmas.{works_as, work_under}
-use Rattle.lua_vm_expressions.specs.Captures.{KeepsAllButSlots}
 use Rattle.lua_vm_loops.specs.Iterations.{pass_of}
 use Rattle.lua_vm_loops.proofs.RunForms.{run_enters}
 

@@ -1,3 +1,4 @@
+pub mod Runs
 pub mod Bounds
 pub mod Ranges
 pub mod Iterations

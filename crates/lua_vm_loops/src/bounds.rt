@@ -4,8 +4,7 @@ ghost use Rattle.std.specs.Prelude.{◌≡◌, pos, IfOk};
 ghost use Rattle.lua_values.specs.declared.values.Value.TheVariants.{Number};
 ghost use Rattle.lua_frames.specs.Items.{with_step};
 ghost use Rattle.lua_frames.specs.Frames.{here, slots_of};
-ghost use Rattle.lua_frames.specs.Follows.{Works};
-ghost use Rattle.lua_items.specs.Takes.{Takes};
+ghost use Rattle.lua_frames.specs.Follows.{Works, Takes};
 ghost use Rattle.lua_vm_loops.specs.Bounds.{AreBounds, step_expr};
 
 use crate::counting::begin_counting;

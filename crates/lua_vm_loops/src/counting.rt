@@ -5,16 +5,17 @@ ghost use Rattle.lua_values.specs.Heap.{StoreView};
 ghost use Rattle.lua_meaning.specs.Setting.{Setting};
 ghost use Rattle.lua_frames.specs.Items.{counting, counted};
 ghost use Rattle.lua_frames.specs.Frames.{here, slots_of};
-ghost use Rattle.lua_frames.specs.Follows.{Enters, Works};
-ghost use Rattle.lua_items.specs.Takes.{Takes};
+ghost use Rattle.lua_frames.specs.Follows.{Enters, Works, Takes};
 ghost use Rattle.lua_vm_loops.specs.Ranges.{counts_from, run_of, run_from};
 
 use crate::ranges::range_of;
+use crate::runs::{RunEnd, begin_rest, end_of_run};
+use crate::sites::levels_of;
 use lua_ast::Program;
 use lua_frames::{
-    Bounds, Counter, Flow, Frames, Item, begin_block, give_nothing, raise_fault, share, wait,
+    Bounds, Counter, Flow, Frames, Item, begin_block, give_nothing, put_plain, raise_fault, share,
+    wait,
 };
-use lua_items::{RunEnd, begin_rest, end_of_run, levels_of, put_plain};
 use lua_numbers::add;
 use lua_operators::Fault;
 use lua_values::{Store, Value};

@@ -1,21 +1,21 @@
 //! `for NAMES in f, state, control do body end` (Lua 5.1 Reference Manual, 2.4.5).
 
-ghost use Rattle.std.specs.Prelude.{◌≡◌, ◌∷◌, [], IfOk};
+ghost use Rattle.std.specs.Prelude.{◌≡◌, IfOk};
 ghost use Rattle.lua_meaning.specs.Setting.{Setting};
 ghost use Rattle.lua_meaning.specs.Signs.{first};
 ghost use Rattle.lua_frames.specs.Items.{iterating, passing};
 ghost use Rattle.lua_frames.specs.Frames.{here, slots_of};
-ghost use Rattle.lua_frames.specs.Follows.{Enters, Works};
-ghost use Rattle.lua_items.specs.Takes.{Takes};
+ghost use Rattle.lua_frames.specs.Follows.{Enters, Works, Takes};
 ghost use Rattle.lua_vm_loops.specs.Iterations.{pass_of};
 
+use crate::runs::{RunEnd, end_of_run};
 use lua_ast::Stmt;
 use lua_frames::{
-    Flow, Frames, Host, Item, Iteration, Lists, begin_block, give_nothing, share, take_values, wait,
+    Flow, Frames, Host, Item, Iteration, begin_block, give_nothing, set_locals, share, take_value,
+    take_values, wait,
 };
-use lua_items::{RunEnd, end_of_run, set_locals, take_value};
 use lua_values::{Store, Value};
-use lua_vm_calls::enter_call;
+use lua_vm_calls::{enter_call, two};
 use resty_base::Boxed;
 use std::alloc::AllocError;
 use std::rc::Rc;
@@ -67,16 +67,6 @@ fn call_next<H: Host>(
     let args = two(&mut frames.lists, state, control)?;
     wait(frames, Item::Iterated(iteration))?;
     enter_call(frames, host, store, line, function, args)
-}
-
-/// A list of two values.
-fn two(lists: &mut Lists, a: Value, b: Value) -> Result<Vec<Value>, AllocError>
-    ensures { IfOk result (λ values. values.items ≡ a ∷ b ∷ []) }
-{
-    let mut values = lists.values.fresh();
-    values.push(a)?;
-    values.push(b)?;
-    Ok(values)
 }
 
 /// The function gave values.

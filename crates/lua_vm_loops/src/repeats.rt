@@ -4,12 +4,11 @@ ghost use Rattle.lua_meaning.specs.Setting.{Setting};
 ghost use Rattle.lua_meaning.specs.Works.{ARepeat};
 ghost use Rattle.lua_meaning.specs.Loops.{again};
 ghost use Rattle.lua_frames.specs.Frames.{here, slots_of};
-ghost use Rattle.lua_frames.specs.Follows.{Works};
-ghost use Rattle.lua_items.specs.Takes.{Takes};
+ghost use Rattle.lua_frames.specs.Follows.{Works, Takes};
 
+use crate::runs::{RunEnd, end_of_run};
 use lua_ast::{Expr, Stmt};
 use lua_frames::{Flow, Frames, Host, Item, begin_block, give_nothing, share, take_first, wait};
-use lua_items::{RunEnd, end_of_run};
 use lua_operators::is_truthy;
 use lua_values::Store;
 use lua_vm_expressions::value_under;

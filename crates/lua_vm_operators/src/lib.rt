@@ -1,5 +1,5 @@
-//! Operators of the machine that evaluate all of their operands, on values: each does the evaluator's work, by way of the handlers
-//! of metatables where it isn't defined on its operands.
+//! Operators of the machine: their operands, `and` and `or`; and operators on values, each of which does the evaluator's work, by way
+//! of the handlers of metatables where it isn't defined on its operands.
 #![tactic(auto)]
 
 mod arithmetic;
@@ -7,6 +7,7 @@ mod comparison;
 mod concatenation;
 mod handlers;
 mod lengths;
+mod operands;
 mod operators;
 
-pub use operators::{operate, operate_one};
+pub use operands::{and_then, binary, first, key, or_else, right, truth, unary};

@@ -18,7 +18,7 @@ use lua_values::{Store, Value};
 use std::alloc::AllocError;
 
 /// `a OPERATOR b`.
-pub fn operate<H: Host>(
+pub(crate) fn operate<H: Host>(
     frames: &mut Frames,
     host: &H,
     store: &mut Store,
@@ -48,7 +48,7 @@ pub fn operate<H: Host>(
 }
 
 /// `not a`, `#a` and `-a`.
-pub fn operate_one<H: Host>(
+pub(crate) fn operate_one<H: Host>(
     frames: &mut Frames,
     host: &H,
     store: &mut Store,

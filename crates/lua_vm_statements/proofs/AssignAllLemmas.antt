@@ -23,11 +23,10 @@ use Rattle.lua_frames.specs.declared.threads.Frames.{Frames}
 use Rattle.lua_frames.specs.Signals.{sign_of}
 use Rattle.lua_frames.specs.Items.{target_of, assign_values, resume_item}
 use Rattle.lua_frames.specs.Frames.{here, slots_of}
-use Rattle.lua_frames.specs.Follows.{Works}
-use Rattle.lua_frames.specs.Changes.{Waits, Ends}
+use Rattle.lua_frames.specs.Follows.{Works, ComesTo}
+use Rattle.lua_frames.specs.Changes.{Waits, Ends, KeepsAllButSlots}
 use Rattle.lua_frames.proofs.FollowLemmas.{ends_works, work_done, work_under}
-use Rattle.lua_vm_expressions.specs.Captures.{KeepsAllButSlots, ComesTo}
-use Rattle.lua_vm_expressions.proofs.MovedLemmas.{kept_on, stays_here, works_moved}
+use Rattle.lua_frames.proofs.MovedLemmas.{kept_on, stays_here, works_moved}
 use Rattle.lua_vm_statements.specs.Assignments.{IsAssigned, has_failed, Assigns}
 
 first_dropped : (vs : List Value) (n : ℕ) → or_nil (slice_get (drop 1 vs) n) ≡ or_nil (slice_get vs (suc n))

@@ -25,13 +25,13 @@ use Rattle.lua_frames.specs.declared.flow.Flow.{Flow}
 use Rattle.lua_frames.specs.declared.flow.Flow.TheVariants as flow
 use Rattle.lua_frames.specs.declared.threads.Frames.{Frames}
 use Rattle.lua_frames.specs.Frames.{here, slots_of}
-use Rattle.lua_frames.specs.Follows.{Works}
-use Rattle.lua_frames.specs.Changes.{Ends}
+use Rattle.lua_frames.specs.Follows.{Works, ComesTo}
+use Rattle.lua_frames.specs.Changes.{Ends, KeepsAllButSlots}
 use Rattle.lua_frames.proofs.FollowLemmas.{work_done}
-use Rattle.lua_vm_expressions.specs.Captures.{KeepsAllButSlots, ComesTo, Makes}
-use Rattle.lua_vm_expressions.proofs.MovedLemmas.{kept_on, stays_here, works_moved}
+use Rattle.lua_vm_expressions.specs.Captures.{Makes}
+use Rattle.lua_frames.proofs.MovedLemmas.{kept_on, stays_here, works_moved}
 use Rattle.lua_vm_expressions.proofs.CaptureLemmas.{kept_all, closure_as}
-use Rattle.lua_items.specs.Locals.{PutsPlain}
+use Rattle.lua_frames.specs.Locals.{PutsPlain}
 use Rattle.lua_vm_statements.specs.Assignments.{Fails, IsAssigned, Assigns, IsDone, Does}
 
 -- work that ends at once is done

@@ -25,9 +25,8 @@ use Rattle.lua_frames.specs.declared.targets.Target.TheVariants as target
 use Rattle.lua_frames.specs.declared.threads.Frames.{Frames}
 use Rattle.lua_frames.specs.Items.{target_of, with_targets, targets_left, resume_item}
 use Rattle.lua_frames.specs.Frames.{here, slots_of}
-use Rattle.lua_frames.specs.Follows.{Works}
+use Rattle.lua_frames.specs.Follows.{Works, ComesTo}
 use Rattle.lua_frames.proofs.FollowLemmas.{works_as, works_by, spends, count_goes, count_spent}
-use Rattle.lua_vm_expressions.specs.Captures.{ComesTo}
 use Rattle.lua_vm_statements.specs.declared.targets.Begun.TheVariants as begun
 use Rattle.lua_vm_statements.specs.Targets.{IsTarget, Begins}
 

@@ -9,8 +9,8 @@ use Rattle.lua_frames.specs.declared.flow.Flow.TheVariants as flow
 use Rattle.lua_frames.specs.declared.threads.Frames.{Frames}
 use Rattle.lua_frames.specs.Signals.{sign_of}
 use Rattle.lua_frames.specs.Frames.{slots_of}
-use Rattle.lua_frames.specs.Changes.{Ends}
-use Rattle.lua_vm_expressions.specs.Captures.{KeepsAllButSlots, ComesTo}
+use Rattle.lua_frames.specs.Changes.{Ends, KeepsAllButSlots}
+use Rattle.lua_frames.specs.Follows.{ComesTo}
 
 -- a call that fails with a value
 pub record Fails {E : Type 0} (v : Value) (old new : Frames) (r : Result Flow E) : Type 0 where

@@ -9,7 +9,7 @@ use Rattle.lua_meaning.specs.Signs.{value}
 use Rattle.lua_meaning.specs.Assignments as assignment
 use Rattle.lua_frames.specs.declared.targets.Target.{Target}
 use Rattle.lua_frames.specs.Items.{target_of}
-use Rattle.lua_vm_expressions.specs.Captures.{ComesTo}
+use Rattle.lua_frames.specs.Follows.{ComesTo}
 use Rattle.lua_vm_statements.specs.declared.targets.Begun.{Begun}
 use Rattle.lua_vm_statements.specs.declared.targets.Begun.TheVariants as begun
 

@@ -1,7 +1,8 @@
-//! Values that are assigned to targets (Lua 5.1 Reference Manual, 2.4.3).
+//! Values that are assigned to targets, and those of new local variables (Lua 5.1 Reference Manual, 2.4.3 and 2.4.7).
 
 ghost use Rattle.std.specs.Prelude.{◌≡◌, ℕ, [], map, slice_get, Some};
 ghost use Rattle.lua_values.specs.declared.values.Value.{Value as LuaValue};
+ghost use Rattle.lua_values.specs.Heap.{StoreView};
 ghost use Rattle.lua_meaning.specs.Setting.{Setting};
 ghost use Rattle.lua_meaning.specs.Positions.{callers_at};
 ghost use Rattle.lua_meaning.specs.Signs.{give};
@@ -9,22 +10,25 @@ ghost use Rattle.lua_meaning.specs.Variables.{write_cell, write_slot};
 ghost use Rattle.lua_meaning.specs.Assignments.{assign_to};
 ghost use Rattle.lua_frames.specs.Items.{target_of, assign_values};
 ghost use Rattle.lua_frames.specs.Frames.{here, slots_of};
-ghost use Rattle.lua_frames.specs.Follows.{Works};
+ghost use Rattle.lua_frames.specs.Follows.{Takes, Works};
 ghost use Rattle.lua_frames.specs.Signals.{sign_of};
 ghost use Rattle.lua_vm_statements.specs.Assignments.{Does, has_failed};
 
 use crate::faults::fail;
 use lua_ast::Program;
-use lua_frames::{Flow, Frames, Host, Item, Signal, Target, give_nothing, wait};
-use lua_items::{put_plain, take_value};
+use lua_frames::{
+    Flow, Frames, Host, Item, Signal, Target, give_nothing, put_plain, set_locals, take_first,
+    take_value, take_values, wait,
+};
 use lua_meaning::Slot;
 use lua_operators::Fault;
 use lua_values::{Store, StoreFault, Value};
 use lua_vm_tables::store_at;
 use std::alloc::AllocError;
+use std::rc::Rc;
 
 /// A value is assigned to a slot.
-pub fn assign_slot(
+pub(crate) fn assign_slot(
     frames: &mut Frames,
     program: &Program,
     store: &mut Store,
@@ -116,7 +120,7 @@ fn assign_captured(
 
 /// Values are assigned to targets, from the last to the first. An assignment at a key may call a handler, so those that are left then
 /// wait.
-pub fn assign_values<H: Host>(
+fn assign_values<H: Host>(
     frames: &mut Frames,
     host: &H,
     store: &mut Store,
@@ -155,5 +159,67 @@ fn has_failed(given: &Signal) -> bool
     match given {
         Signal::Raised(_) => true,
         _ => false,
+    }
+}
+
+/// The values of an assignment are there.
+pub fn assign<H: Host>(
+    frames: &mut Frames,
+    host: &H,
+    store: &mut Store,
+    targets: Vec<Target>,
+) -> Result<Flow, AllocError>
+    ensures { Takes (H.setting host.now) (Item.Assign targets) frames.old store.old frames.new store.new result }
+{
+    match take_values(frames)? {
+        None => Ok(Flow::Went),
+        Some(values) => assign_values(frames, host, store, targets, values),
+    }
+}
+
+/// The value of an assignment to a slot is there.
+pub fn assign_to_slot<H: Host>(
+    frames: &mut Frames,
+    host: &H,
+    store: &mut Store,
+    line: u32,
+    i: u8,
+) -> Result<Flow, AllocError>
+    ensures { Takes (H.setting host.now) (Item.AssignSlot line i) frames.old store.old frames.new store.new result }
+{
+    match take_first(frames) {
+        None => Ok(Flow::Went),
+        Some(value) => assign_slot(frames, host.program(), store, line, i, value),
+    }
+}
+
+/// An assignment at a key has ended, and those that are left follow.
+pub fn stores<H: Host>(
+    frames: &mut Frames,
+    host: &H,
+    store: &mut Store,
+    targets: Vec<Target>,
+    values: Vec<Value>,
+) -> Result<Flow, AllocError>
+    ensures { Takes (H.setting host.now) (Item.Stores targets values) frames.old store.old frames.new store.new result }
+{
+    match take_first(frames) {
+        None => Ok(Flow::Went),
+        Some(_) => assign_values(frames, host, store, targets, values),
+    }
+}
+
+/// New local variables get their values.
+pub fn locals(frames: &mut Frames, slots: Rc<Vec<u8>>) -> Result<Flow, AllocError>
+    ensures { (S : Setting) → (store : StoreView) → Takes S (Item.Locals slots) frames.old store frames.new store result }
+{
+    match take_values(frames)? {
+        None => Ok(Flow::Went),
+        Some(values) => {
+            let mut values = values;
+            set_locals(&mut frames.top.slots, &slots, &mut values);
+            frames.lists.values.spare(values);
+            give_nothing(frames)
+        }
     }
 }

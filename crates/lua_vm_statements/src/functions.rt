@@ -8,8 +8,7 @@ ghost use Rattle.lua_frames.specs.Follows.{Works};
 
 use crate::assigning::assign_slot;
 use lua_ast::Program;
-use lua_frames::{Flow, Frames, raise_fault};
-use lua_items::put_plain;
+use lua_frames::{Flow, Frames, put_plain, raise_fault};
 use lua_operators::Fault;
 use lua_values::{Store, Value};
 use lua_vm_expressions::make_closure;

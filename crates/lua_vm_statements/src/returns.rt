@@ -1,17 +1,22 @@
-//! `return` (Lua 5.1 Reference Manual, 2.4.4): a call alone is a tail call.
+//! `return` (Lua 5.1 Reference Manual, 2.4.4): a call alone is a tail call; and the items that end with it.
 
 ghost use Rattle.std.specs.Prelude.{◌≡◌, ◌∷◌, [], length, nat_eq, MatchOption};
+ghost use Rattle.lua_values.specs.Heap.{StoreView};
+ghost use Rattle.lua_meaning.specs.Setting.{Setting};
+ghost use Rattle.lua_meaning.specs.Calls.{returned};
 ghost use Rattle.lua_meaning.specs.Statements.{return_work};
+ghost use Rattle.lua_frames.specs.Signals.{sign_of};
 ghost use Rattle.lua_frames.specs.Frames.{here, slots_of};
-ghost use Rattle.lua_frames.specs.Follows.{Works};
-ghost use Rattle.lua_vm_statements.specs.Returns.{tail_begins, tail_method_begins};
+ghost use Rattle.lua_frames.specs.Follows.{Takes, Works};
+ghost use Rattle.lua_vm_statements.specs.Returns.{return_sign, tail_begins, tail_method_begins};
 
 use lua_ast::{Expr, ExprKind};
-use lua_frames::{Flow, Frames, Host, Item, element, share};
+use lua_frames::{Flow, Frames, Host, Item, Lists, Signal, element, share};
 use lua_values::Store;
 use lua_vm_expressions::{list_under, value_under};
 use resty_base::Bytes;
 use std::alloc::AllocError;
+use std::mem;
 use std::rc::Rc;
 
 /// Begins a `return` of a list.
@@ -112,4 +117,44 @@ fn begin_tail_method<H: Host>(
         Item::TailMethod(line, copy, share(args)?),
         object,
     )
+}
+
+/// Values as `return` gives them; what gives no values is left.
+fn return_of(lists: &mut Lists, given: Signal) -> Signal
+    ensures { sign_of result ≡ return_sign (sign_of given) }
+{
+    match given {
+        Signal::Nothing => Signal::Returned(lists.values.fresh()),
+        Signal::One(value) => Signal::ReturnedOne(value),
+        Signal::Many(values) => Signal::Returned(values),
+        other => other,
+    }
+}
+
+/// `return` gives the values of its list.
+pub fn return_given(frames: &mut Frames) -> Result<Flow, AllocError>
+    ensures { (S : Setting) → (store : StoreView) → Takes S Item.Return frames.old store frames.new store result }
+{
+    let given = mem::replace(&mut frames.given, Signal::Nothing);
+    frames.given = return_of(&mut frames.lists, given);
+    Ok(Flow::Went)
+}
+
+/// What a function returns whose last statement was a tail call that ended so.
+fn returned_of(lists: &mut Lists, given: Signal) -> Signal
+    ensures { sign_of result ≡ returned (sign_of given) }
+{
+    match given {
+        Signal::Broke => Signal::Returned(lists.values.fresh()),
+        other => return_of(lists, other),
+    }
+}
+
+/// `return` gives what its tail call gave.
+pub fn return_called(frames: &mut Frames) -> Result<Flow, AllocError>
+    ensures { (S : Setting) → (store : StoreView) → Takes S Item.TailReturn frames.old store frames.new store result }
+{
+    let given = mem::replace(&mut frames.given, Signal::Nothing);
+    frames.given = returned_of(&mut frames.lists, given);
+    Ok(Flow::Went)
 }

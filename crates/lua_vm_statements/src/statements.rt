@@ -2,16 +2,20 @@
 
 ghost use Rattle.std.specs.Prelude.{◌≡◌, drop};
 ghost use Rattle.lua_ast.specs.declared.statements.StmtKind.{out-StmtKind};
+ghost use Rattle.lua_values.specs.Heap.{StoreView};
 ghost use Rattle.lua_meaning.specs.Works.{AStmt};
+ghost use Rattle.lua_meaning.specs.Setting.{Setting};
 ghost use Rattle.lua_meaning.specs.Statements.{stmt_work, if_work};
 ghost use Rattle.lua_frames.specs.Frames.{here, slots_of};
-ghost use Rattle.lua_frames.specs.Follows.{Enters, Works};
+ghost use Rattle.lua_frames.specs.Follows.{Enters, Takes, Works};
 
 use crate::functions::local_function;
 use crate::returns::begin_return;
 use crate::targets::begin_assignment;
 use lua_ast::{Arm, Stmt, StmtKind};
-use lua_frames::{Flow, Frames, Host, Item, begin_block, element, give_break, share};
+use lua_frames::{
+    Flow, Frames, Host, Item, begin_block, element, give_break, give_nothing, share, take_first,
+};
 use lua_values::Store;
 use lua_vm_expressions::{expr_under, list_under, value_under};
 use lua_vm_loops::{begin_repeat, bounds_of};
@@ -19,7 +23,7 @@ use std::alloc::AllocError;
 use std::rc::Rc;
 
 /// Runs a statement.
-pub fn enter_stmt<H: Host>(
+pub(crate) fn enter_stmt<H: Host>(
     frames: &mut Frames,
     host: &H,
     store: &mut Store,
@@ -100,7 +104,7 @@ fn begin_stmt<H: Host>(
 }
 
 /// Begins the arm of `if` at an index, or its last block.
-pub fn begin_arm<H: Host>(
+pub(crate) fn begin_arm<H: Host>(
     frames: &mut Frames,
     host: &H,
     store: &mut Store,
@@ -122,5 +126,15 @@ pub fn begin_arm<H: Host>(
                 &arm.test,
             )
         }
+    }
+}
+
+/// The values of a call that is a statement are dropped.
+pub fn discard(frames: &mut Frames) -> Result<Flow, AllocError>
+    ensures { (S : Setting) → (store : StoreView) → Takes S Item.Discard frames.old store frames.new store result }
+{
+    match take_first(frames) {
+        None => Ok(Flow::Went),
+        Some(_) => give_nothing(frames),
     }
 }

@@ -4,11 +4,11 @@ ghost use Rattle.std.specs.Prelude.{◌≡◌, ◌∷◌, [], map, IfOk};
 ghost use Rattle.lua_meaning.specs.Assignments.{assignment_work};
 ghost use Rattle.lua_frames.specs.Items.{target_of, targets_left};
 ghost use Rattle.lua_frames.specs.Frames.{here, slots_of};
-ghost use Rattle.lua_frames.specs.Follows.{Works};
+ghost use Rattle.lua_frames.specs.Follows.{Takes, Works};
 ghost use Rattle.lua_vm_statements.specs.Targets.{Begins};
 
 use lua_ast::{Expr, ExprKind};
-use lua_frames::{Assignment, Flow, Frames, Host, Item, Target, element, share};
+use lua_frames::{Assignment, Flow, Frames, Host, Item, Target, element, share, take_first};
 use lua_values::{Store, Value};
 use lua_vm_expressions::{list_under, value_under};
 use resty_base::Boxed;
@@ -87,7 +87,7 @@ fn begin_targets<H: Host>(
 }
 
 /// Goes on with the targets of an assignment that are left, and then with its values.
-pub fn find_targets<H: Host>(
+fn find_targets<H: Host>(
     frames: &mut Frames,
     host: &H,
     store: &mut Store,
@@ -159,5 +159,62 @@ fn begin_target(store: &Store, target: &Expr) -> Result<Begun, AllocError>
             Ok(Begun::Index(target.line, object, share(key)?))
         }
         _ => Ok(Begun::Found(Target::Nowhere)),
+    }
+}
+
+/// The object of a target is there, and its key is evaluated.
+pub fn target_key<H: Host>(
+    frames: &mut Frames,
+    host: &H,
+    store: &mut Store,
+    line: u32,
+    b: Rc<Expr>,
+    left: Boxed<Assignment>,
+) -> Result<Flow, AllocError>
+    ensures { Takes (H.setting host.now) (Item.TargetKey line b left) frames.old store.old frames.new store.new result }
+{
+    match take_first(frames) {
+        None => Ok(Flow::Went),
+        Some(object) => {
+            let object = Boxed::new(frames.alloc, object)?;
+            value_under(frames, host, store, Item::TargetAt(line, object, left), &b)
+        }
+    }
+}
+
+/// The key of a target is there, and the targets after it are evaluated.
+pub fn target_at<H: Host>(
+    frames: &mut Frames,
+    host: &H,
+    store: &mut Store,
+    line: u32,
+    object: Value,
+    left: Assignment,
+) -> Result<Flow, AllocError>
+    ensures { Takes (H.setting host.now) (Item.TargetAt line object left) frames.old store.old frames.new store.new result }
+{
+    match take_first(frames) {
+        None => Ok(Flow::Went),
+        Some(key) => {
+            let Assignment {
+                found,
+                targets,
+                next,
+                values,
+            } = left;
+            let mut found = found;
+            found.push(Target::AtKey(line, object, key))?;
+            find_targets(
+                frames,
+                host,
+                store,
+                Assignment {
+                    found,
+                    targets,
+                    next,
+                    values,
+                },
+            )
+        }
     }
 }

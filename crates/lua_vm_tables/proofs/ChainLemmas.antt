@@ -20,7 +20,7 @@ use Rattle.lua_meaning.specs.Nodes.{work_of, eval}
 use Rattle.lua_meaning.proofs.EvaluatorLemmas.{eval-law}
 use Rattle.lua_meaning.specs.EndingLaws.{after_same as after_ended}
 use Rattle.lua_frames.proofs.FollowLemmas.{count_goes, count_spent}
-use Rattle.lua_vm_expressions.specs.Captures.{ComesTo}
+use Rattle.lua_frames.specs.Follows.{ComesTo}
 
 -- an index of what has x at the key by itself
 abbrev indexed : Setting → Heap → Value → ℕ → Value → Places → Slots → Value → Work

@@ -2,5 +2,4 @@ pub mod ChainLemmas
 pub mod StoreLemmas
 pub mod SetLemmas
 pub mod CallLemmas
-pub mod MethodLemmas
 pub mod ItemLemmas

@@ -21,9 +21,8 @@ use Rattle.lua_meaning.specs.Variables.{unless_refused, table_fault}
 use Rattle.lua_meaning.specs.Nodes.{eval}
 use Rattle.lua_frames.specs.declared.flow.Flow.{Flow}
 use Rattle.lua_frames.specs.declared.threads.Frames.{Frames}
-use Rattle.lua_frames.specs.Follows.{Works}
+use Rattle.lua_frames.specs.Follows.{Works, ComesTo}
 use Rattle.lua_frames.proofs.FollowLemmas.{works_by}
-use Rattle.lua_vm_expressions.specs.Captures.{ComesTo}
 use Rattle.lua_vm_tables.specs.Sets.{Sets, Fills}
 
 named : (cause : Option StoreFault) (fault : StoreFault) → IsCause cause fault → (fault ≡ Memory → ⊥) → cause ≡ Some fault

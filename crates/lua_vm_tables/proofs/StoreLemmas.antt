@@ -16,7 +16,7 @@ use Rattle.lua_meaning.specs.Nodes.{work_of, eval}
 use Rattle.lua_meaning.proofs.EvaluatorLemmas.{eval-law}
 use Rattle.lua_meaning.specs.EndingLaws.{after_same as after_ended}
 use Rattle.lua_frames.proofs.FollowLemmas.{count_goes, count_spent}
-use Rattle.lua_vm_expressions.specs.Captures.{ComesTo}
+use Rattle.lua_frames.specs.Follows.{ComesTo}
 use Rattle.lua_vm_tables.specs.Chains.{dropping}
 
 -- an assignment at a key that is absent or not, where `by` handles it

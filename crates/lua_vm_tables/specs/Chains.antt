@@ -11,7 +11,7 @@ use Rattle.lua_meaning.specs.Signs.{give, give_one}
 use Rattle.lua_meaning.specs.Calls.{call_for_one}
 use Rattle.lua_meaning.specs.Indexing.{index_work, set_raw, store_work}
 use Rattle.lua_meaning.specs.Nodes.{eval}
-use Rattle.lua_vm_expressions.specs.Captures.{ComesTo}
+use Rattle.lua_frames.specs.Follows.{ComesTo}
 use Rattle.lua_vm_tables.specs.declared.destinations.Destination.{Destination}
 use Rattle.lua_vm_tables.specs.declared.destinations.Destination.TheVariants as to
 use Rattle.lua_vm_tables.specs.declared.chains.Read.{Read}

@@ -8,7 +8,7 @@ use Rattle.lua_meaning.specs.Setting.{Setting}
 use Rattle.lua_meaning.specs.Positions.{raise_fault}
 use Rattle.lua_meaning.specs.Indexing.{set_work}
 use Rattle.lua_meaning.specs.Tables.{fill}
-use Rattle.lua_vm_expressions.specs.Captures.{ComesTo}
+use Rattle.lua_frames.specs.Follows.{ComesTo}
 
 -- a value is set at a key of a table, and the work goes on in the store with it; or a fault is raised
 abbrev pub Sets : ℕ → Value → Value → StoreView → Option Fault → StoreView → Type 0

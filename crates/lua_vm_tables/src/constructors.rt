@@ -9,8 +9,7 @@ ghost use Rattle.lua_meaning.specs.Signs.{give_one};
 ghost use Rattle.lua_meaning.specs.Tables.{fill};
 ghost use Rattle.lua_frames.specs.Items.{items_left, value_at_key};
 ghost use Rattle.lua_frames.specs.Frames.{here, slots_of};
-ghost use Rattle.lua_frames.specs.Follows.{Works};
-ghost use Rattle.lua_items.specs.Takes.{Takes};
+ghost use Rattle.lua_frames.specs.Follows.{Works, Takes};
 ghost use Rattle.lua_vm_tables.specs.Sets.{Fills};
 
 use crate::setting::set_pair;

@@ -6,8 +6,7 @@ ghost use Rattle.lua_meaning.specs.Positions.{callers_at};
 ghost use Rattle.lua_meaning.specs.Calls.{call_for_one};
 ghost use Rattle.lua_meaning.specs.Indexing.{index_work, set_raw, store_work};
 ghost use Rattle.lua_frames.specs.Frames.{here, slots_of};
-ghost use Rattle.lua_frames.specs.Follows.{Works};
-ghost use Rattle.lua_items.specs.Takes.{Takes};
+ghost use Rattle.lua_frames.specs.Follows.{Works, Takes};
 ghost use Rattle.lua_vm_tables.specs.Chains.{dropping};
 
 use crate::chains::{Read, find_value};

@@ -1,7 +1,9 @@
 //! The items of calls of methods (Lua 5.1 Reference Manual, 2.5.8): the object is the first argument.
 
 ghost use Rattle.std.specs.Prelude.{◌≡◌, ◌∷◌, IfOk};
-ghost use Rattle.lua_items.specs.Takes.{Takes};
+ghost use Rattle.lua_frames.specs.Frames.{here, slots_of};
+ghost use Rattle.lua_frames.specs.Follows.{Takes, Works};
+ghost use Rattle.lua_vm_tables.specs.Methods.{method_then};
 
 use crate::indexing::index;
 use lua_ast::Expr;
@@ -22,6 +24,23 @@ fn before(object: Value, args: Vec<Value>) -> Result<Vec<Value>, AllocError>
     Ok(args)
 }
 
+/// The method of this name of an object is looked up, and this item waits for it.
+fn look_up<H: Host>(
+    frames: &mut Frames,
+    host: &H,
+    store: &mut Store,
+    line: u32,
+    object: Value,
+    name: Bytes,
+    item: Item,
+) -> Result<Flow, AllocError>
+    ensures { Works (H.setting host.now) (method_then (H.setting host.now) line object name item (here frames.old) (slots_of frames.old))
+        frames.old store.old frames.new store.new result }
+{
+    wait(frames, item)?;
+    index(frames, host, store, line, object, Value::Text(name))
+}
+
 /// The object is there, and its method is looked up.
 pub fn method<H: Host>(
     frames: &mut Frames,
@@ -37,8 +56,8 @@ pub fn method<H: Host>(
         None => Ok(Flow::Went),
         Some(object) => {
             let called = Boxed::new(frames.alloc, object.clone()?)?;
-            wait(frames, Item::MethodCallee(line, called, args))?;
-            index(frames, host, store, line, object, Value::Text(name))
+            let item = Item::MethodCallee(line, called, args);
+            look_up(frames, host, store, line, object, name, item)
         }
     }
 }
@@ -104,8 +123,8 @@ pub fn tail_method<H: Host>(
         None => Ok(Flow::Went),
         Some(object) => {
             let called = Boxed::new(frames.alloc, object.clone()?)?;
-            wait(frames, Item::TailMethodCallee(line, called, args))?;
-            index(frames, host, store, line, object, Value::Text(name))
+            let item = Item::TailMethodCallee(line, called, args);
+            look_up(frames, host, store, line, object, name, item)
         }
     }
 }

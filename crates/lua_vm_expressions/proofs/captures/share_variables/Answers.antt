@@ -1,6 +1,6 @@
 use Rattle.std.proofs.lemmas.List.{drop_more}
-use Rattle.lua_vm_expressions.proofs.DropLemmas.{dropped_all}
-use Rattle.lua_vm_expressions.proofs.MovedLemmas.{kept_on}
+use Rattle.lua_frames.proofs.DropLemmas.{dropped_all}
+use Rattle.lua_frames.proofs.MovedLemmas.{kept_on}
 use Rattle.lua_vm_expressions.proofs.CaptureLemmas.{one_more_shared, one_refused, all_shared}
 use Rattle.lua_vm_expressions.proofs.captures.share_variables.Goals as goal
 

@@ -1,4 +1,4 @@
-use Rattle.lua_vm_expressions.specs.Captures.{KeepsAllButSlots}
+use Rattle.lua_frames.specs.Changes.{KeepsAllButSlots}
 use Rattle.lua_vm_expressions.proofs.CaptureLemmas.{Left}
 use Rattle.lua_vm_expressions.proofs.captures.share_variables.Given as goal
 

@@ -1,6 +1,6 @@
 use Rattle.std.proofs.Common.{◌≡◌, ◌∙◌, ap, sym, refl, arith, Vec, Global}
 use Rattle.lua_ast.specs.declared.expressions.Expr.{Expr}
-use Rattle.lua_vm_expressions.proofs.DropLemmas.{one_of}
+use Rattle.lua_frames.proofs.DropLemmas.{one_of}
 use Rattle.lua_vm_expressions.proofs.ListForms.{list_of_one, list_from_start}
 use Rattle.lua_vm_expressions.proofs.lists.begin_list.Goals as goal
 

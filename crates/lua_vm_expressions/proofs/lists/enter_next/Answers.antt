@@ -1,5 +1,5 @@
 use Rattle.std.proofs.Common.{◌≡◌, length, arith}
-use Rattle.lua_vm_expressions.proofs.DropLemmas.{counted}
+use Rattle.lua_frames.proofs.DropLemmas.{counted}
 use Rattle.lua_vm_expressions.proofs.ListForms.{rest_last, rest_next}
 use Rattle.lua_vm_expressions.proofs.lists.enter_next.Goals as goal
 

@@ -1,5 +1,5 @@
 use Rattle.std.proofs.Common.{◌≡◌, length, arith}
-use Rattle.lua_vm_expressions.proofs.DropLemmas.{counted}
+use Rattle.lua_frames.proofs.DropLemmas.{counted}
 use Rattle.lua_vm_expressions.proofs.ListForms.{more_ends, more_goes_on}
 use Rattle.lua_vm_expressions.proofs.lists.go_on_with_list.Goals as goal
 

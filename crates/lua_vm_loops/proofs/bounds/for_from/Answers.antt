@@ -3,7 +3,7 @@ use Rattle.lua_values.specs.declared.values.Value.{Value}
 use Rattle.lua_meaning.specs.Signs.{value}
 use Rattle.lua_frames.specs.declared.items.Item.TheVariants as i
 use Rattle.lua_frames.specs.Items.{with_step}
-use Rattle.lua_items.proofs.TakeForms.{takes_value}
+use Rattle.lua_frames.proofs.TakeForms.{takes_value}
 use Rattle.lua_vm_loops.proofs.bounds.for_from.Goals as goal
 
 pub returns-in_ok-to-in-Some : goal.returns-in_ok-to-in-Some

@@ -1,6 +1,6 @@
 use Rattle.std.proofs.Common.{sym}
 use Rattle.lua_frames.specs.Items.{counting}
-use Rattle.lua_items.proofs.TakeForms.{takes_one}
+use Rattle.lua_frames.proofs.TakeForms.{takes_one}
 use Rattle.lua_vm_loops.proofs.bounds.for_step.Goals as goal
 
 pub returns-in-Some : goal.returns-in-Some

@@ -1,5 +1,5 @@
 use Rattle.lua_frames.specs.Items.{with_step}
-use Rattle.lua_items.proofs.TakeForms.{takes_one}
+use Rattle.lua_frames.proofs.TakeForms.{takes_one}
 use Rattle.lua_vm_loops.proofs.bounds.for_to.Goals as goal
 
 pub returns-in-Some : goal.returns-in-Some

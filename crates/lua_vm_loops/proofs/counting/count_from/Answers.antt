@@ -1,7 +1,7 @@
 use Rattle.std.proofs.Common.{refl}
 use Rattle.lua_vm_fast.specs.declared.counting.CountEnd.TheVariants as count_end
 use Rattle.lua_frames.specs.Frames.{here}
-use Rattle.lua_items.proofs.SiteLemmas.{allows_here}
+use Rattle.lua_vm_loops.proofs.SiteLemmas.{allows_here}
 use Rattle.lua_vm_loops.proofs.CountForms.{count_goes, count_over, count_next}
 use Rattle.lua_vm_loops.proofs.counting.count_from.Goals as goal
 

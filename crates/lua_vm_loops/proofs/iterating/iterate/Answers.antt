@@ -3,7 +3,7 @@ use Rattle.lua_frames.specs.Frames.{here, slots_of}
 use Rattle.lua_meaning.specs.Signs.{first}
 use Rattle.lua_meaning.specs.Loops.{iterate}
 use Rattle.lua_frames.proofs.FollowLemmas.{works_as}
-use Rattle.lua_items.proofs.TakeForms.{takes_all}
+use Rattle.lua_frames.proofs.TakeForms.{takes_all}
 use Rattle.lua_vm_loops.proofs.IterationForms.{iteration_begins}
 use Rattle.lua_vm_loops.proofs.iterating.iterate.Goals as goal
 

@@ -1,5 +1,5 @@
 use Rattle.lua_frames.specs.Items.{passing}
-use Rattle.lua_items.proofs.TakeForms.{takes_all}
+use Rattle.lua_frames.proofs.TakeForms.{takes_all}
 use Rattle.lua_vm_loops.proofs.iterating.iterated.Goals as goal
 
 pub returns-in-Some : goal.returns-in-Some

@@ -1,6 +1,6 @@
 use Rattle.std.proofs.Common.{sym, ◌∙◌}
 use Rattle.lua_frames.specs.Items.{iterating}
-use Rattle.lua_items.proofs.LoopForms.{body_ran}
+use Rattle.lua_vm_loops.proofs.RunForms.{body_ran}
 use Rattle.lua_vm_loops.proofs.iterating.passed.Goals as goal
 
 pub returns-in-Ran : goal.returns-in-Ran

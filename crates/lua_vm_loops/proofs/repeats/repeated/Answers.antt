@@ -3,8 +3,7 @@ use Rattle.lua_meaning.specs.Signs.{value}
 use Rattle.lua_frames.specs.Frames.{here, slots_of}
 use Rattle.lua_frames.specs.declared.items.Item.TheVariants as i
 use Rattle.lua_frames.specs.Items.{until}
-use Rattle.lua_items.proofs.LoopForms.{body_ran}
-use Rattle.lua_vm_loops.proofs.RunForms.{value_by}
+use Rattle.lua_vm_loops.proofs.RunForms.{value_by, body_ran}
 use Rattle.lua_vm_loops.proofs.repeats.repeated.Goals as goal
 
 pub returns-in_ok-next-in-Ran : goal.returns-in_ok-next-in-Ran

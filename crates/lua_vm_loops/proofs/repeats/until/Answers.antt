@@ -5,7 +5,7 @@ use Rattle.lua_meaning.specs.Signs.{give}
 use Rattle.lua_meaning.specs.Loops.{again}
 use Rattle.lua_frames.specs.Frames.{here, slots_of}
 use Rattle.lua_frames.specs.Items.{until}
-use Rattle.lua_items.proofs.TakeForms.{takes_one}
+use Rattle.lua_frames.proofs.TakeForms.{takes_one}
 use Rattle.lua_vm_loops.proofs.RunForms.{by_untruth}
 use Rattle.lua_vm_loops.proofs.repeats.until.Goals as goal
 

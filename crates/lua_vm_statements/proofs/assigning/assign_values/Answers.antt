@@ -5,8 +5,8 @@ use Rattle.lua_meaning.specs.Signs.{or_nil}
 use Rattle.lua_meaning.specs.Assignments.{assign_to}
 use Rattle.lua_frames.specs.Items.{target_of}
 use Rattle.lua_frames.specs.Frames.{here, slots_of}
-use Rattle.lua_vm_expressions.proofs.DropLemmas.{counted, dropped_all}
-use Rattle.lua_vm_expressions.proofs.MovedLemmas.{kept_on}
+use Rattle.lua_frames.proofs.DropLemmas.{counted, dropped_all}
+use Rattle.lua_frames.proofs.MovedLemmas.{kept_on}
 use Rattle.lua_vm_statements.specs.Assignments.{Assigns}
 use Rattle.lua_vm_statements.proofs.AssignLemmas.{assigns_of, stops_at}
 use Rattle.lua_vm_statements.proofs.AssignAllLemmas.{fewer_by_one, fault_ends, at_key, none_left}

@@ -1,5 +1,5 @@
 use Rattle.std.proofs.Common.{length}
-use Rattle.lua_vm_expressions.specs.Captures.{KeepsAllButSlots}
+use Rattle.lua_frames.specs.Changes.{KeepsAllButSlots}
 use Rattle.lua_vm_statements.proofs.AssignAllLemmas.{Fewer}
 use Rattle.lua_vm_statements.proofs.assigning.assign_values.Given as goal
 

@@ -1,6 +1,6 @@
 use Rattle.std.proofs.Common.{◌≡◌, ◌∙◌, ap, sym, arith, Vec, Global}
 use Rattle.lua_ast.specs.declared.expressions.Expr.{Expr}
-use Rattle.lua_vm_expressions.proofs.DropLemmas.{one_of}
+use Rattle.lua_frames.proofs.DropLemmas.{one_of}
 use Rattle.lua_vm_statements.proofs.targets.begin_assignment.Goals as goal
 
 pub begin_one-requires : goal.begin_one-requires

@@ -3,7 +3,7 @@ use Rattle.lua_values.specs.Heap.{step_limit}
 use Rattle.lua_meaning.specs.Works.{Places, Slots}
 use Rattle.lua_meaning.specs.Setting.{Setting}
 use Rattle.lua_meaning.specs.Indexing.{index_work}
-use Rattle.lua_vm_expressions.specs.Captures.{ComesTo}
+use Rattle.lua_frames.specs.Follows.{ComesTo}
 use Rattle.lua_vm_tables.proofs.chains.find_value.Given as goal
 
 abbrev pub invariant-loop-value : goal.invariant-loop-value

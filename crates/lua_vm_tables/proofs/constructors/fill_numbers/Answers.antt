@@ -1,6 +1,6 @@
 use Rattle.std.proofs.Common.{◌≡◌, refl, get_or}
 use Rattle.std.proofs.lemmas.List.{drop_more}
-use Rattle.lua_vm_expressions.proofs.DropLemmas.{dropped_all}
+use Rattle.lua_frames.proofs.DropLemmas.{dropped_all}
 use Rattle.lua_vm_tables.proofs.SetLemmas.{filled_on, filled_fails, filled_all}
 use Rattle.lua_vm_tables.proofs.constructors.fill_numbers.Goals as goal
 

@@ -4,7 +4,7 @@ use Rattle.lua_meaning.specs.Positions.{callers_at}
 use Rattle.lua_meaning.specs.Indexing.{set_work}
 use Rattle.lua_frames.specs.Frames.{here, slots_of}
 use Rattle.lua_frames.specs.Items.{items_left}
-use Rattle.lua_items.proofs.TakeForms.{takes_one}
+use Rattle.lua_frames.proofs.TakeForms.{takes_one}
 use Rattle.lua_vm_tables.proofs.SetLemmas.{set_goes, set_fails}
 use Rattle.lua_vm_tables.proofs.constructors.item_at_number.Goals as goal
 

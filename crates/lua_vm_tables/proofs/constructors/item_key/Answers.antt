@@ -1,6 +1,6 @@
 use Rattle.std.proofs.Common.{drop}
 use Rattle.lua_frames.specs.Items.{value_at_key}
-use Rattle.lua_items.proofs.TakeForms.{takes_one}
+use Rattle.lua_frames.proofs.TakeForms.{takes_one}
 use Rattle.lua_vm_tables.proofs.constructors.item_key.Goals as goal
 
 pub returns-in-Some : goal.returns-in-Some

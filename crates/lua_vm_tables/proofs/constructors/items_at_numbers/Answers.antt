@@ -3,7 +3,7 @@ use Rattle.lua_values.specs.declared.values.Value.TheVariants.{Table}
 use Rattle.lua_meaning.specs.Positions.{callers_at}
 use Rattle.lua_meaning.specs.Signs.{give_one}
 use Rattle.lua_meaning.specs.Tables.{fill}
-use Rattle.lua_items.proofs.TakeForms.{takes_all}
+use Rattle.lua_frames.proofs.TakeForms.{takes_all}
 use Rattle.lua_vm_tables.proofs.constructors.items_at_numbers.Goals as goal
 
 pub returns : goal.returns

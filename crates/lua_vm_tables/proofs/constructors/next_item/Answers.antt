@@ -1,5 +1,5 @@
 use Rattle.std.proofs.Common.{◌≡◌, length, arith}
-use Rattle.lua_vm_expressions.proofs.DropLemmas.{counted}
+use Rattle.lua_frames.proofs.DropLemmas.{counted}
 use Rattle.lua_vm_tables.proofs.ItemLemmas.{items_end, pair_begins, item_begins, last_begins}
 use Rattle.lua_vm_tables.proofs.constructors.next_item.Goals as goal
 

@@ -1,5 +1,5 @@
 use Rattle.lua_frames.specs.Items.{items_left}
-use Rattle.lua_items.proofs.TakeForms.{takes_one}
+use Rattle.lua_frames.proofs.TakeForms.{takes_one}
 use Rattle.lua_vm_tables.proofs.constructors.next_items.Goals as goal
 
 pub returns-in-Some : goal.returns-in-Some

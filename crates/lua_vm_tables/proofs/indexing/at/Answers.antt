@@ -1,5 +1,5 @@
 use Rattle.lua_meaning.specs.Indexing.{index_work}
-use Rattle.lua_items.proofs.TakeForms.{takes_one}
+use Rattle.lua_frames.proofs.TakeForms.{takes_one}
 use Rattle.lua_vm_tables.proofs.indexing.at.Goals as goal
 
 pub returns-in-Some : goal.returns-in-Some

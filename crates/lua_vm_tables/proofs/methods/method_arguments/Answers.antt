@@ -4,7 +4,7 @@ use Rattle.lua_meaning.specs.Positions.{callers_at}
 use Rattle.lua_meaning.specs.Calls.{call}
 use Rattle.lua_frames.specs.Frames.{here, slots_of}
 use Rattle.lua_frames.proofs.FollowLemmas.{works_as}
-use Rattle.lua_items.proofs.TakeForms.{takes_all}
+use Rattle.lua_frames.proofs.TakeForms.{takes_all}
 use Rattle.lua_vm_tables.proofs.methods.method_arguments.Goals as goal
 
 pub returns-in_ok-all-in-Some : goal.returns-in_ok-all-in-Some

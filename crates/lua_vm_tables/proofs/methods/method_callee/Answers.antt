@@ -3,7 +3,7 @@ use Rattle.lua_values.specs.declared.values.Value.{Value}
 use Rattle.lua_frames.specs.Frames.{here, slots_of}
 use Rattle.lua_frames.proofs.FollowLemmas.{works_as}
 use Rattle.lua_meaning.specs.Expressions.{method_work}
-use Rattle.lua_items.proofs.TakeForms.{takes_one}
+use Rattle.lua_frames.proofs.TakeForms.{takes_one}
 use Rattle.lua_vm_tables.proofs.methods.method_callee.Goals as goal
 
 pub returns-in_ok-function-in-Some : goal.returns-in_ok-function-in-Some

@@ -1,4 +1,0 @@
-pub mod TakeForms
-pub mod LoopForms
-pub mod SiteLemmas
-pub mod LocalLemmas

@@ -1,5 +1,0 @@
-use Rattle.lua_items.proofs.LoopForms.{rest_works}
-use Rattle.lua_items.proofs.loops.begin_rest.Goals as goal
-
-pub returns : goal.returns
-returns c = λ S store. rest_works S c.args.stmts c.args.next c.args.frames.now c.wait.new.frames c.give_nothing.new.frames store c.give_nothing.result c.in_ok-wait.ensures c.give_nothing.ensures
