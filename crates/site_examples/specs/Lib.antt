@@ -1,0 +1,5 @@
+pub mod Site
+pub mod Program
+pub mod Exchange
+pub mod Texts
+pub mod Spoiled
