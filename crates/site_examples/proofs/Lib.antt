@@ -3,6 +3,7 @@ mod Computed
 mod Configured
 mod Programmed
 mod Leaves
+mod Lives
 mod Peel
 mod Ordered
 mod Plain

@@ -136,7 +136,7 @@ so-byte_lost ms lawful plain is =
     absurd (cc)
 
 so-put_after_stop : HasNone put_after_stop behavior
-unfolding goes_on
+unfolding goes_on met_in
 so-put_after_stop ms lawful plain is =
     let p : Peeled behavior ms (entry.Close (id.Conn 1)) (entry.Put (id.Conn 1) hi_reply ∷ entry.Given event.Stop ∷ asked) = peel behavior ms _ _ plain tt is in
     let f : Fine behavior p.older = fine-tail behavior p.top p.older (fine-at ms _ _ p (fine ms lawful plain)) in

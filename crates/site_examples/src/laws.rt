@@ -11,7 +11,7 @@ ghost use Rattle.executions.specs.Plain.{IsPlain};
 ghost use Rattle.executions.specs.Ordered.{IsOrdered};
 ghost use Rattle.site_check.specs.Sites.{IsRead as IsSiteRead};
 ghost use Rattle.site_examples.specs.Site.{hi_conf, hi_behavior};
-ghost use Rattle.site_examples.specs.Program.{hi_program};
+ghost use Rattle.site_examples.specs.Program.{hi_program, IsItsLife, SaysOneLine};
 ghost use Rattle.site_examples.specs.Exchange.{lines, history, exchange};
 ghost use Rattle.site_examples.specs.Texts.{configuration_text, schedule_text, exchange_text};
 ghost use Rattle.site_examples.specs.Spoiled.{HasNoExecution, HasNoPlainExecution, HasNoOrderedExecution};
@@ -22,6 +22,12 @@ pub fn texts()
     ensures site { (heap : Global) → IsSiteRead configuration_text hi_conf (hi_program heap ∷ []) }
     ensures schedule { IsRead schedule_text lines }
     ensures history { history_text history ≡ exchange_text }
+{}
+
+/// The handler is what the evaluator makes of the block's program, and it says one line for each request.
+pub fn a_handler()
+    ensures life { IsItsLife }
+    ensures line { SaysOneLine }
 {}
 
 /// The exchange is a run of its schedule: it is told by these lines, lawful, kept, plain and ordered.
