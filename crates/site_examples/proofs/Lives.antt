@@ -25,7 +25,8 @@ use Rattle.ngx_calls.specs.Printing.{met_in}
 use Rattle.run_threads.specs.Handlers.{goes_on}
 use Rattle.execution_laws.proofs.OwnSteps.{by_test}
 use Rattle.site_examples.specs.Site.{hi, hi_store, says, with_steps, done_with}
-use Rattle.site_examples.specs.Program.{hi_setting, IsItsLife, SaysOneLine}
+use Rattle.site_examples.specs.Program.{hi_setting}
+use Rattle.site_examples.specs.Lives.{IsItsLife, SaysOneLine}
 
 -- where the steps are spent at the next resume, and so in what begins with that
 spends : {S : Setting} {number : ℕ} {args : List Value} {position : Option Position} {go : Resumed → Work} {store : StoreView} {r : Resume} {rs : List Resume}
@@ -64,7 +65,7 @@ module _ (heap : Global) (others : ℕ) (meaning : Meaning) where
       (parks (stmt (statement.outs-Call _) refl (parks (exp (outs-Call _ _) refl
       (seq (val (outs-Index _ _) refl (seq (val (outs-Global _) refl (look (look end))) (seq (val (outs-Text _) refl end) (look end))))
       (seq (exp (outs-Text _) refl end)
-      (parks (node refl (called (look (count refl (park e))))))))))))) 
+      (parks (node refl (called (look (count refl (park e)))))))))))))
 
   ends : (vs : List Value) (store : StoreView) (rs : List Resume) → nat_lt store.steps step_limit ≡ true
       → IsEnd ((record { store = store; answer = resumed.Values vs }) ∷ rs) (Ended (Values []) [] (record { store = store; resumes = rs }))
@@ -90,7 +91,7 @@ module _ (heap : Global) (others : ℕ) (meaning : Meaning) where
       (spent (stmt (statement.outs-Call _) refl (spent (exp (outs-Call _ _) refl
       (seq (val (outs-Index _ _) refl (seq (val (outs-Global _) refl (look (look end))) (seq (val (outs-Text _) refl end) (look end))))
       (seq (exp (outs-Text _) refl end)
-      (spent (node refl (called (look (count refl (spends over))))))))))))) 
+      (spent (node refl (called (look (count refl (spends over)))))))))))))
 
   lives : (answer : Resumed) (more : List Resume) → outcome_of (eval S (ACall (Closure 0) []) (calling [] false) [] (record { store = hi_store; resumes = more })) ≡ says hi ((record { store = hi_store; answer = answer }) ∷ more)
   lives answer [] = ap (λ (o : Ending). outcome_of o) (asks (with_steps 8 hi_store) refl).is

@@ -1,13 +1,8 @@
 -- The block of Lua of the exchange: its tokens, its tree and its program.
-use Rattle.std.proofs.Common.{◌≡◌, ℕ, zero, suc, true, List, [], ◌∷◌, Vec, Global, None, Some, Ok, cond, rules, refl, ap, ◌∙◌, subst, lit≤, lit<}
+use Rattle.std.proofs.Common.{◌≡◌, ℕ, zero, suc, true, List, [], ◌∷◌, Global, Some, Ok, refl, subst, lit≤, lit<}
 use Rattle.std.specs.Prelude.{codes, slice_get}
-use Rattle.std.specs.declared.rc.Rc.{Rc}
-use Rattle.std.specs.Ptr.{null_ptr}
-use Rattle.lua_ast.specs.declared.expressions.Expr.{Expr}
 use Rattle.lua_ast.specs.declared.expressions.ExprKind.{ExprKind}
 use Rattle.lua_ast.specs.declared.expressions.ExprKind as kind
-use Rattle.lua_ast.specs.declared.statements.Stmt.{Stmt}
-use Rattle.lua_ast.specs.declared.statements.StmtKind as stmt
 use Rattle.lua_ast.specs.declared.programs.Function.{Function}
 use Rattle.lua_ast.specs.declared.programs.Program.{Program}
 use Rattle.lua_lexer.specs.declared.signs.Sign.TheVariants.{Dot, OpenParenthesis, CloseParenthesis}
@@ -29,7 +24,7 @@ use Rattle.lua_grammar.specs.Printing.{print_block}
 use Rattle.lua_grammar.specs.Levels.{levels, height}
 use Rattle.lua_grammar.specs.Validity.{IsValid}
 use Rattle.lua_grammar.specs.Scopes.{Frame, Scope, look, own, last_index}
-use Rattle.lua_grammar.specs.Resolution.{Resolves, ResolvesName, IsFunction, node, statement}
+use Rattle.lua_grammar.specs.Resolution.{Resolves, ResolvesName, IsFunction, node}
 use Rattle.lua_grammar.specs.Grammar.{IsProgramOf, ResolvesChunk}
 use Rattle.conf.specs.declared.sites.Block as conf
 use Rattle.site_check.specs.Sites.{HasProgram, IsRead}

@@ -1,6 +1,6 @@
--- The program of the site's block, `ngx.say("hi")`, whose parts stand somewhere in memory, and what it means.
+-- The program of the site's block, `ngx.say("hi")`, whose parts stand somewhere in memory, and what it is evaluated in.
 use Rattle.std.proofs.Common.{refl, lit≤, lit<}
-use Rattle.std.specs.Prelude.{◌≡◌, ℕ, ◌+◌, true, List, [], ◌∷◌, Vec, codes}
+use Rattle.std.specs.Prelude.{ℕ, ◌+◌, true, [], ◌∷◌, Vec, codes}
 use Rattle.std.specs.Global.{Global}
 use Rattle.std.specs.declared.rc.Rc.{Rc}
 use Rattle.std.specs.Ptr.{null_ptr}
@@ -11,20 +11,9 @@ use Rattle.lua_ast.specs.declared.statements.StmtKind as stmt
 use Rattle.lua_ast.specs.declared.programs.Function.{Function}
 use Rattle.lua_ast.specs.declared.programs.Program.{Program}
 use Rattle.lua_grammar.specs.Resolution.{node, statement}
-use Rattle.lua_values.specs.declared.values.Value.TheVariants.{Closure}
 use Rattle.lua_values.specs.NativeCalls.{Meaning, both}
-use Rattle.lua_meaning.specs.declared.resumes.Resumed.{Resumed}
-use Rattle.lua_meaning.specs.Evaluator.{Resume}
-use Rattle.lua_meaning.specs.Life.{life}
 use Rattle.lua_meaning.specs.Setting.{Setting}
 use Rattle.ngx_calls.specs.Natives.{ngx_count, ngx_meaning}
-use Rattle.http_in.specs.declared.heads.Head.{Head}
-use Rattle.uri_args.specs.declared.targets.Target.{Target}
-use Rattle.request_api.specs.Replies.{after_print}
-use Rattle.request_api.specs.Requests as request
-use Rattle.run_threads.specs.declared.handlers.End.TheVariants.{Ended}
-use Rattle.run_threads.specs.Handlers.{handled}
-use Rattle.site_examples.specs.Site.{hi, hi_store, says}
 
 module _ (heap : Global) where
   abbrev pub shared : {A : Type 0} → A → Rc A Global
@@ -63,19 +52,6 @@ module _ (heap : Global) where
   abbrev pub hi_program : Program
   hi_program = record { files = [] ∷ []; functions = one chunk_function }
 
-  -- in which it is evaluated: the functions of the host are those of `ngx`, and after them so many others
+  -- the functions of the host are those of `ngx`, and after them so many others
   abbrev pub hi_setting : ℕ → Meaning → Setting
   hi_setting others meaning = record { program = hi_program; count = ngx_count + others; lib = both ngx_count ngx_meaning meaning }
-
--- The life of a thread that calls the block's closure, as the evaluator has it, is what the site says of the block: from the site's store on, whatever it
--- is resumed with.
-abbrev pub IsItsLife : Type 0
-IsItsLife =
-    (heap : Global) (others : ℕ) (meaning : Meaning) (answer : Resumed) (more : List Resume)
-    → let resumes = (record { store = hi_store; answer = answer }) ∷ more in life (hi_setting heap others meaning) (Closure 0) [] resumes ≡ says hi resumes
-
--- the handler's thread says one line for each request, and ends
-abbrev pub SaysOneLine : Type 0
-SaysOneLine =
-    (head : Head) (target : Target)
-    → handled (says hi) hi_store (request.begun head target 0) ≡ record { req = after_print (request.begun head target 0) 3; pieces = codes "hi\n" ∷ []; end = Ended }
