@@ -1,0 +1,14 @@
+mod Asking
+mod Computed
+mod Configured
+mod Programmed
+mod Leaves
+mod Lives
+mod Peel
+mod Ordered
+mod Plain
+mod Run
+mod Seen
+mod Spoiled
+mod Texts
+mod Untold
