@@ -1,5 +1,5 @@
 -- How ids and jobs stand, as one comes, changes or goes.
-use Rattle.std.proofs.Common.{◌≡◌, ℕ, Bool, true, false, eqb, nat_eq, List, [], ◌∷◌, Option, Some, None, unwrap_or, cond, refl, sym, ap, ◌∙◌}
+use Rattle.std.proofs.Common.{◌≡◌, ℕ, Bool, true, false, eqb, nat_eq, List, [], ◌∷◌, Option, Some, unwrap_or, cond, refl, sym, ap, ◌∙◌}
 use Rattle.std.specs.Bool.{if◌then◌else◌}
 use Rattle.std.specs.List.{list_any}
 use Rattle.std.specs.Map.{lookup}

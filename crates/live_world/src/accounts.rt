@@ -83,75 +83,42 @@ impl Accounts {
         ensures some { IfSome result (λ event. Gave (book_of self.old) (book_of self.new) event) }
         ensures none { IfNone result (book_of self.new ≡ book_of self.old) }
     {
+        if self.fits(&event) { Some(event) } else { None }
+    }
+
+    /// Counts the event, where it fits what is known: whether it does.
+    fn fits(&mut self, event: &Event) -> bool
+        ensures yes { result ≡ true → Gave (book_of self.old) (book_of self.new) event.now }
+        ensures no { result ≡ false → book_of self.new ≡ book_of self.old }
+    {
         match event {
-            Event::Arrive(number) => {
-                if self.arrives(number) {
-                    Some(Event::Arrive(number))
-                } else {
-                    None
-                }
+            Event::Arrive(number) => self.arrives(*number),
+            Event::Bytes(id, bytes) => self.may_bring(*id, bytes.len()),
+            Event::Ended(id) => self.ends(*id),
+            Event::Broken(id) => self.breaks(*id),
+            Event::Ready(id) => self.standings.at(*id).is_open,
+            Event::Dialled(number) | Event::Refused(number) => {
+                self.standings.at(Id::Sock(*number)).is_open
             }
-            Event::Bytes(id, bytes) => {
-                let standing = self.standings.at(id);
-                if !standing.is_open
-                    || standing.has_ended
-                    || bytes.is_empty()
-                    || bytes.len() > LONGEST
-                {
-                    return None;
-                }
-                Some(Event::Bytes(id, bytes))
-            }
-            Event::Ended(id) => {
-                if self.ends(id) {
-                    Some(Event::Ended(id))
-                } else {
-                    None
-                }
-            }
-            Event::Broken(id) => {
-                if self.ends(id) {
-                    self.losses = one_more(self.losses);
-                    Some(Event::Broken(id))
-                } else {
-                    None
-                }
-            }
-            Event::Ready(id) => {
-                if self.standings.at(id).is_open {
-                    Some(Event::Ready(id))
-                } else {
-                    None
-                }
-            }
-            Event::Dialled(number) => {
-                if self.standings.at(Id::Sock(number)).is_open {
-                    Some(Event::Dialled(number))
-                } else {
-                    None
-                }
-            }
-            Event::Refused(number) => {
-                if self.standings.at(Id::Sock(number)).is_open {
-                    Some(Event::Refused(number))
-                } else {
-                    None
-                }
-            }
-            Event::Moment(now) => {
-                if now.0 <= LAST_MOMENT {
-                    Some(Event::Moment(now))
-                } else {
-                    None
-                }
-            }
+            Event::Moment(now) => now.0 <= LAST_MOMENT,
             Event::Fault => {
                 self.faults = one_more(self.faults);
-                Some(Event::Fault)
+                true
             }
-            Event::Memory => Some(Event::Memory),
-            Event::Stop | Event::BadLine(_) => None,
+            Event::Memory => true,
+            Event::Stop | Event::BadLine(_) => false,
         }
+    }
+
+    /// Whether so many bytes of the id may come.
+    fn may_bring(&self, id: Id, count: usize) -> bool
+        ensures open { result ≡ true → (book_of self.now).is_open id ≡ true }
+        ensures going_on { result ≡ true → (book_of self.now).has_ended id ≡ false }
+        ensures some { result ≡ true → 0 < count }
+        ensures within { result ≡ true → count ≤ 65_536 }
+    {
+        let standing = self.standings.at(id);
+        standing.is_open && !standing.has_ended && 0 < count && count <= LONGEST
     }
 
     /// The world fails.
@@ -211,6 +178,18 @@ impl Accounts {
                 ..standing
             },
         );
+        true
+    }
+
+    /// The id breaks, where it is open, and something is lost.
+    fn breaks(&mut self, id: Id) -> bool
+        ensures yes { result ≡ true → Gave (book_of self.old) (book_of self.new) (Event.Broken id) }
+        ensures no { result ≡ false → book_of self.new ≡ book_of self.old }
+    {
+        if !self.ends(id) {
+            return false;
+        }
+        self.losses = one_more(self.losses);
         true
     }
 

@@ -120,26 +120,26 @@ impl<'a, R: Net + Clock, W: Write> Live<'a, R, W> {
             return Some(Event::Fault);
         };
         if !sockets.has_next() {
-            return ask(sockets, now, until);
+            return poll(sockets, now, until);
         }
         if now > self.moment {
             return Some(self.moment_at(now));
         }
         match sockets.next(alloc, now) {
             Next::Nothing => None,
-            Next::Arrived(socket) => self.arrival(socket),
+            Next::Accepted(socket) => self.register(socket),
             Next::Seen(token, seen) => event_of(id_of(token), seen),
         }
     }
 
-    /// Dials a host and a port under the next socket's token.
-    pub(crate) fn dial_next(&mut self, host: [u8; 4], port: u16) -> Result<(), Failure>
+    /// Connects to a host and a port under the next socket's token.
+    pub(crate) fn connect(&mut self, host: [u8; 4], port: u16) -> Result<(), Failure>
         ensures { self.new.accounts ≡ self.old.accounts }
     {
         let next = Id::Sock(self.accounts.dials.saturating_add(1));
         match (&mut self.sockets, token_of(next)) {
             (Some(sockets), Some(token)) => {
-                sockets.dial(
+                sockets.connect(
                     self.rt,
                     token,
                     SocketAddr::from((Ipv4Addr::from(host), port)),
@@ -168,21 +168,21 @@ impl<'a, R: Net + Clock, W: Write> Live<'a, R, W> {
         Event::Moment(Ms(now))
     }
 
-    /// A connection that arrives; without memory for it, or where it can't be polled, it is closed unseen.
-    fn arrival(&mut self, socket: TcpStream) -> Option<Event>
+    /// Registers a connection that was accepted, which arrives; without memory for it, or where it can't be polled, it is closed unseen.
+    fn register(&mut self, socket: TcpStream) -> Option<Event>
         ensures { book_of self.new.accounts ≡ book_of self.old.accounts }
     {
         let number = self.accounts.reserve()?;
         let token = token_of(Id::Conn(number))?;
         let sockets = self.sockets.as_mut()?;
-        sockets.keep(token, socket).ok()?;
+        sockets.register(token, socket).ok()?;
         Some(Event::Arrive(number))
     }
 }
 
-/// Asks the poll; a poll that fails is a fault.
-fn ask(sockets: &mut Sockets, now: u64, until: Option<Ms>) -> Option<Event> {
-    match sockets.ask(now, until.map(|at| at.0)) {
+/// Polls; a poll that fails is a fault.
+fn poll(sockets: &mut Sockets, now: u64, until: Option<Ms>) -> Option<Event> {
+    match sockets.poll(now, until.map(|at| at.0)) {
         Ok(()) => None,
         Err(_) => Some(Event::Fault),
     }

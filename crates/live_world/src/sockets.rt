@@ -23,7 +23,7 @@ const DRAINED: usize = 1_024;
 
 const DRAINING: u64 = 2_000;
 
-/// After how many milliseconds arrivals are taken again, where there was no descriptor for one.
+/// After how many milliseconds it accepts again, where there was no descriptor for a connection.
 const PAUSE: u64 = 100;
 
 /// The token of the listener; those of connections and sockets are above it.
@@ -33,7 +33,7 @@ pub const LISTENER: usize = 0;
 #[derive(Drop)]
 pub enum Next {
     Nothing,
-    Arrived(TcpStream),
+    Accepted(TcpStream),
     Seen(usize, Seen),
 }
 
@@ -45,16 +45,16 @@ pub struct Sockets {
     streams: IndexMap<usize, Stream>,
     drained: IndexMap<usize, Drained>,
     line: VecDeque<usize>,
-    /// How many of the line are still to be looked at before the poll is asked again.
+    /// How many of the line are still to be looked at before it polls again.
     round: usize,
     is_listener_in_line: bool,
-    /// The moment at which arrivals are taken again, where there was no descriptor for one.
+    /// The moment at which it accepts again, where there was no descriptor for a connection.
     paused_until: Option<u64>,
     buffer: Vec<u8>,
 }
 
 /// Why there are no sockets.
-#[derive(Debug, Drop)]
+#[derive(Drop)]
 pub enum Failure {
     Memory,
     Failed,
@@ -102,13 +102,13 @@ impl Sockets {
         Ok(self.listener.local_addr()?.port())
     }
 
-    /// Whether the first in the line may be looked at; else the poll is to be asked.
+    /// Whether the first in the line may be looked at; else it is to poll.
     pub fn has_next(&self) -> bool {
         self.round > 0 && !self.line.is_empty()
     }
 
-    /// Asks the poll, and waits until the given moment at most where nothing is ready.
-    pub fn ask(&mut self, now: u64, until: Option<u64>) -> io::Result<()> {
+    /// Polls, and waits until the given moment at most where nothing is ready.
+    pub fn poll(&mut self, now: u64, until: Option<u64>) -> io::Result<()> {
         self.tidy(now);
         let timeout = if self.line.is_empty() {
             self.wake_at(until)
@@ -131,7 +131,7 @@ impl Sockets {
         earlier(until, earlier(drained, self.paused_until))
     }
 
-    /// Closes the sockets that were drained long enough, and takes arrivals again after a pause.
+    /// Closes the sockets that were drained long enough, and accepts again after a pause.
     fn tidy(&mut self, now: u64) {
         for _ in 0..self.drained.len() {
             match self.drained.get_index(0) {
@@ -141,7 +141,7 @@ impl Sockets {
             self.drained.shift_remove_index(0);
         }
         match self.paused_until {
-            Some(at) if at <= now => self.resume(),
+            Some(at) if at <= now => self.resume_accept(),
             _ => {}
         }
     }
@@ -181,24 +181,24 @@ impl Sockets {
         }
     }
 
-    /// Takes an arrival.
+    /// Accepts a connection.
     fn accept(&mut self, now: u64) -> Next {
         self.is_listener_in_line = false;
         match self.listener.accept() {
             Ok((socket, _)) => {
                 self.put_listener_in_line();
-                Next::Arrived(socket)
+                Next::Accepted(socket)
             }
             Err(fault) => {
-                self.put_off_arrivals(fault.kind(), now);
+                self.accept_failed(fault.kind(), now);
                 Next::Nothing
             }
         }
     }
 
-    /// An arrival that was given up, or a signal: the next is taken. Nothing there: the poll reports it. Else, as where there is no
-    /// descriptor, after a pause, or once a socket was closed.
-    fn put_off_arrivals(&mut self, kind: ErrorKind, now: u64) {
+    /// A connection that was given up, or a signal: the next is accepted. Nothing there: the poll reports it. Else, as where there is
+    /// no descriptor, after a pause, or once a socket was closed.
+    fn accept_failed(&mut self, kind: ErrorKind, now: u64) {
         match kind {
             ErrorKind::WouldBlock => {}
             ErrorKind::ConnectionAborted | ErrorKind::Interrupted => self.put_listener_in_line(),
@@ -212,13 +212,13 @@ impl Sockets {
         }
     }
 
-    /// Takes arrivals again after a pause.
-    fn resume(&mut self) {
+    /// Accepts again after a pause.
+    fn resume_accept(&mut self) {
         self.paused_until = None;
         self.put_listener_in_line();
     }
 
-    /// Looks at an open socket, or drains one that was hung up.
+    /// Looks at an open socket, or drains one that was closed.
     fn look(&mut self, alloc: Global, token: usize) -> Next {
         if let Some(stream) = self.streams.get_mut(&token) {
             let seen = stream.look(alloc, self.buffer.as_mut_slice());
@@ -240,15 +240,16 @@ impl Sockets {
         }
     }
 
-    /// Keeps a connection that arrived under this token, and looks at it in its turn. Without memory, or where it can't be polled, it is closed.
-    pub fn keep(&mut self, token: usize, socket: TcpStream) -> Result<(), Failure> {
+    /// Registers a connection that was accepted under this token, and looks at it in its turn. Without memory, or where it can't be
+    /// polled, it is closed.
+    pub fn register(&mut self, token: usize, socket: TcpStream) -> Result<(), Failure> {
         self.add(token, Stream::accepted(socket))
     }
 
-    /// Dials a host and a port under this token.
-    pub fn dial(&mut self, net: &impl Net, token: usize, at: SocketAddr) -> Result<(), Failure> {
+    /// Connects to a host and a port under this token.
+    pub fn connect(&mut self, net: &impl Net, token: usize, at: SocketAddr) -> Result<(), Failure> {
         let socket = TcpStream::connect(net, at)?;
-        self.add(token, Stream::dialled(socket))
+        self.add(token, Stream::connecting(socket))
     }
 
     /// Each socket that is open or drained has room in the line, and one more is the listener.
@@ -285,16 +286,16 @@ impl Sockets {
         }
     }
 
-    /// Hangs up: where the peer may still send, what it sends is drained for a while.
-    pub fn hang_up(&mut self, token: usize, now: u64) {
+    /// Closes a socket: where the peer may still send, what it sends is drained for a while.
+    pub fn close(&mut self, token: usize, now: u64) {
         let Some(stream) = self.streams.swap_remove(&token) else {
             return;
         };
-        if let Some(drained) = stream.hang_up() {
+        if let Some(drained) = stream.close() {
             self.begin_draining(token, drained, now);
         }
         if self.paused_until.is_some() {
-            self.resume();
+            self.resume_accept();
         }
     }
 

@@ -13,7 +13,7 @@ use std::net::Shutdown;
 const TRIES: usize = 64;
 
 /// What a look at a socket gives.
-#[derive(Debug, Drop)]
+#[derive(Drop)]
 pub enum Seen {
     Nothing,
     Bytes(Bytes),
@@ -46,12 +46,12 @@ pub struct Stream {
     can_write: bool,
     /// Something was written to it.
     has_written: bool,
-    /// The system sends small pieces at once.
-    is_prompt: bool,
+    /// TCP_NODELAY is set: the system sends small pieces at once.
+    has_nodelay: bool,
 }
 
 impl Stream {
-    /// A connection that arrived, of which bytes may be there.
+    /// A connection that was accepted, of which bytes may be there.
     pub fn accepted(socket: TcpStream) -> Stream {
         Stream {
             socket,
@@ -64,12 +64,12 @@ impl Stream {
             is_put_off: false,
             can_write: true,
             has_written: false,
-            is_prompt: false,
+            has_nodelay: false,
         }
     }
 
     /// A socket that connects.
-    pub fn dialled(socket: TcpStream) -> Stream {
+    pub fn connecting(socket: TcpStream) -> Stream {
         Stream {
             is_connecting: true,
             can_read: false,
@@ -112,19 +112,20 @@ impl Stream {
     /// Looks at it: whether it is connected, takes bytes again, or has bytes.
     pub fn look(&mut self, alloc: Global, buffer: &mut [u8]) -> Seen {
         if self.is_connecting {
-            return self.look_at_connecting();
+            return self.finish_connect();
         }
         if self.is_put_off && self.can_write {
             self.is_put_off = false;
             return Seen::Ready;
         }
         if self.has_bytes() {
-            return self.look_at_bytes(alloc, buffer);
+            return self.read(alloc, buffer);
         }
         Seen::Nothing
     }
 
-    fn look_at_connecting(&mut self) -> Seen {
+    /// Whether it is connected now, or why not.
+    fn finish_connect(&mut self) -> Seen {
         if !self.can_write {
             return Seen::Nothing;
         }
@@ -139,7 +140,8 @@ impl Stream {
         }
     }
 
-    fn look_at_bytes(&mut self, alloc: Global, buffer: &mut [u8]) -> Seen {
+    /// Reads what is there.
+    fn read(&mut self, alloc: Global, buffer: &mut [u8]) -> Seen {
         match self.socket.read(buffer) {
             Ok(0) => {
                 self.has_ended = true;
@@ -171,11 +173,11 @@ impl Stream {
         Seen::Broken
     }
 
-    /// From the second write on the system is to send small pieces at once. The first it sends at once in any case, and many
-    /// connections have no other.
-    fn be_prompt(&mut self) {
-        if self.has_written && !self.is_prompt {
-            self.is_prompt = true;
+    /// Sets TCP_NODELAY from the second write on, so that the system sends small pieces at once. The first it sends at once in any
+    /// case, and many connections have no other.
+    fn set_nodelay(&mut self) {
+        if self.has_written && !self.has_nodelay {
+            self.has_nodelay = true;
             let _ = self.socket.set_nodelay(true);
         }
         self.has_written = true;
@@ -183,7 +185,7 @@ impl Stream {
 
     /// Writes a first part of the bytes.
     pub fn write(&mut self, bytes: &[u8]) -> Wrote {
-        self.be_prompt();
+        self.set_nodelay();
         for _ in 0..TRIES {
             match self.socket.write(bytes) {
                 Ok(0) => return Wrote::Broken,
@@ -200,8 +202,8 @@ impl Stream {
         Wrote::Broken
     }
 
-    /// Ends what it sends, where the peer may still send: then what comes is to be drained. Else it is closed.
-    pub fn hang_up(self) -> Option<Drained> {
+    /// Closes it. Where the peer may still send, only this side's sending is shut down, and what comes is to be drained.
+    pub fn close(self) -> Option<Drained> {
         if self.has_ended || self.socket.shutdown(Shutdown::Write).is_err() {
             return None;
         }
@@ -214,7 +216,8 @@ impl Stream {
     }
 }
 
-/// A socket that was hung up, of which what comes is thrown away for a while, so that the peer isn't reset before it read the rest.
+/// A socket that was shut down for writing, of which what comes is thrown away for a while, so that the peer isn't reset before it
+/// read the rest.
 #[derive(Drop)]
 pub struct Drained {
     socket: TcpStream,

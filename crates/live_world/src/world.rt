@@ -63,7 +63,7 @@ impl<R: Net + Clock, W: Write> World for Live<'_, R, W> {
     fn dial(&mut self, alloc: Global, who: StrandId, host: [u8; 4], port: u16) -> Dial {
         let _ = alloc;
         let _ = who;
-        match self.dial_next(host, port) {
+        match self.connect(host, port) {
             Ok(()) => self.accounts.dials(),
             Err(Failure::Failed) => {
                 self.accounts.dials_in_vain();
@@ -77,7 +77,7 @@ impl<R: Net + Clock, W: Write> World for Live<'_, R, W> {
         self.accounts.hang_up(id);
         let now = self.now();
         if let (Some(sockets), Some(token)) = (&mut self.sockets, token_of(id)) {
-            sockets.hang_up(token, now);
+            sockets.close(token, now);
         }
     }
 

@@ -1,7 +1,7 @@
 //! What the next line of a schedule is.
 
 /// What the next line of a schedule is to a world that is asked for an event.
-#[derive(Clone, Copy, Debug, PartialEq, Eq)]
+#[derive(Clone, Copy)]
 pub enum Ahead {
     /// There is no line left.
     Nothing,

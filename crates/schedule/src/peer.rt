@@ -3,7 +3,7 @@
 use resty_base::Id;
 
 /// What a replay keeps of a connection or a socket.
-#[derive(Clone, Copy, Debug, PartialEq, Eq)]
+#[derive(Clone, Copy)]
 pub struct Peer {
     pub is_open: bool,
     /// It ended or broke: no bytes of it come any more.

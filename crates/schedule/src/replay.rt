@@ -133,7 +133,7 @@ impl Replay {
         ensures loud { ahead_of self.now.history.entries (slice_get self.now.course result) ≢ Ahead.Quiet }
     {
         let mut index = self.passed;
-        while self.ahead(index) == Ahead::Quiet {
+        while matches!(self.ahead(index), Ahead::Quiet) {
             index += 1;
         }
         index

@@ -1,4 +1,4 @@
-use Rattle.std.proofs.Common.{subst, sym, ◌∙◌}
+use Rattle.std.proofs.Common.{subst, ◌∙◌}
 use Rattle.resty_world.specs.Book.{Book}
 use Rattle.resty_world.specs.Given.{Gave}
 use Rattle.live_world.specs.Accounts.{book_of}

@@ -1,4 +1,5 @@
-use Rattle.std.proofs.Common.{subst}
+use Rattle.std.proofs.Common.{subst, arith}
+use Rattle.std.proofs.lemmas.Grind.{common_steps}
 use Rattle.resty_world.specs.Given.{Gave}
 use Rattle.schedule.specs.ReplayBook.{book_of}
 use Rattle.schedule.specs.ReplayLaws.{IsLater-joins}
@@ -20,3 +21,33 @@ returns-clause-later c =
 
 pub returns-then-is_err-clause-later : goal.returns-then-is_err-clause-later
 returns-then-is_err-clause-later c = c.make_ready.ensures.later
+
+pub returns-in_default-clause-gave : goal.returns-in_default-clause-gave
+returns-in_default-clause-gave c = grind (arith, common_steps)
+
+pub returns-in_default-clause-later : goal.returns-in_default-clause-later
+returns-in_default-clause-later c = grind (arith, common_steps)
+
+pub pass_to-requires-clause-below : goal.pass_to-requires-clause-below
+pass_to-requires-clause-below c = grind (arith, common_steps)
+
+pub pass_to-requires-clause-quiet : goal.pass_to-requires-clause-quiet
+pass_to-requires-clause-quiet c = grind (arith, common_steps)
+
+pub give_next-requires-clause-ready : goal.give_next-requires-clause-ready
+give_next-requires-clause-ready c = grind (arith, common_steps)
+
+pub give_next-requires-clause-copy : goal.give_next-requires-clause-copy
+give_next-requires-clause-copy c = grind (arith, common_steps)
+
+pub give_next-requires-clause-here : goal.give_next-requires-clause-here
+give_next-requires-clause-here c = grind (arith, common_steps)
+
+pub give_next-requires-clause-fits : goal.give_next-requires-clause-fits
+give_next-requires-clause-fits c = grind (arith, common_steps)
+
+pub give_next-requires-clause-there : goal.give_next-requires-clause-there
+give_next-requires-clause-there c = grind (arith, common_steps)
+
+pub give_next-requires-clause-due : goal.give_next-requires-clause-due
+give_next-requires-clause-due c = grind (arith, common_steps)

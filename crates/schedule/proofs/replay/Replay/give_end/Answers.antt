@@ -1,4 +1,5 @@
 use Rattle.std.proofs.Common.{◌≡◌, ◌∷◌, Some, refl, sym, ap, ◌∙◌, arith, rules}
+use Rattle.std.proofs.lemmas.Grind.{common_steps}
 use Rattle.resty_world.specs.declared.event.Event.TheVariants as event
 use Rattle.resty_world.specs.declared.entry.Entry.TheVariants as entry
 use Rattle.resty_world.specs.declared.schedule_line.SchedLine.TheVariants as line
@@ -49,3 +50,6 @@ returns-clause-answered c =
           (unseen put_fails_in world.peers c.set.new.self c.args.id _ c.set.ensures.set (ap put_fails_in here))
           refl refl refl refl;
     }
+
+pub returns-clause-gave : goal.returns-clause-gave
+returns-clause-gave c = grind (arith, common_steps)

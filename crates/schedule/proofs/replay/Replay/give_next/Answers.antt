@@ -1,4 +1,5 @@
 use Rattle.std.proofs.Common.{◌≡◌, ◌∷◌, take, refl, sym, ap, ◌∙◌, arith}
+use Rattle.std.proofs.lemmas.Grind.{common_steps}
 use Rattle.resty_world.specs.declared.entry.Entry.TheVariants as entry
 use Rattle.resty_world.specs.declared.schedule_line.SchedLine.TheVariants as line
 use Rattle.std.proofs.lemmas.Option.{slice_get_within}
@@ -60,3 +61,63 @@ returns-in_default c =
             (rw p.no_loss (same_losses world s)) (λ x. refl) (λ x. refl) refl refl refl refl;
       };
     }
+
+pub give_arrival-requires-clause-ready : goal.give_arrival-requires-clause-ready
+give_arrival-requires-clause-ready c = grind (arith, common_steps)
+
+pub give_arrival-requires-clause-copy : goal.give_arrival-requires-clause-copy
+give_arrival-requires-clause-copy c = grind (arith, common_steps)
+
+pub give_arrival-requires-clause-here : goal.give_arrival-requires-clause-here
+give_arrival-requires-clause-here c = grind (arith, common_steps)
+
+pub give_arrival-requires-clause-next : goal.give_arrival-requires-clause-next
+give_arrival-requires-clause-next c = grind (arith, common_steps)
+
+pub give_end-requires-clause-room : goal.give_end-requires-clause-room
+give_end-requires-clause-room c = grind (arith, common_steps)
+
+pub give_end-requires-clause-copy : goal.give_end-requires-clause-copy
+give_end-requires-clause-copy c = grind (arith, common_steps)
+
+pub give_end-requires-clause-here : goal.give_end-requires-clause-here
+give_end-requires-clause-here c = grind (arith, common_steps)
+
+pub give_end-requires-clause-there : goal.give_end-requires-clause-there
+give_end-requires-clause-there c = grind (arith, common_steps)
+
+pub give_end-requires-clause-due : goal.give_end-requires-clause-due
+give_end-requires-clause-due c = grind (arith, common_steps)
+
+pub give_break-requires-clause-room : goal.give_break-requires-clause-room
+give_break-requires-clause-room c = grind (arith, common_steps)
+
+pub give_break-requires-clause-copy : goal.give_break-requires-clause-copy
+give_break-requires-clause-copy c = grind (arith, common_steps)
+
+pub give_break-requires-clause-here : goal.give_break-requires-clause-here
+give_break-requires-clause-here c = grind (arith, common_steps)
+
+pub give_break-requires-clause-there : goal.give_break-requires-clause-there
+give_break-requires-clause-there c = grind (arith, common_steps)
+
+pub give_break-requires-clause-due : goal.give_break-requires-clause-due
+give_break-requires-clause-due c = grind (arith, common_steps)
+
+pub returns-in-Arrive-clause-gave : goal.returns-in-Arrive-clause-gave
+returns-in-Arrive-clause-gave c = grind (arith, common_steps)
+
+pub returns-in-Arrive-clause-answered : goal.returns-in-Arrive-clause-answered
+returns-in-Arrive-clause-answered c = grind (arith, common_steps)
+
+pub returns-in-Ended-clause-gave : goal.returns-in-Ended-clause-gave
+returns-in-Ended-clause-gave c = grind (arith, common_steps)
+
+pub returns-in-Ended-clause-answered : goal.returns-in-Ended-clause-answered
+returns-in-Ended-clause-answered c = grind (arith, common_steps)
+
+pub returns-in-Broken-clause-gave : goal.returns-in-Broken-clause-gave
+returns-in-Broken-clause-gave c = grind (arith, common_steps)
+
+pub returns-in-Broken-clause-answered : goal.returns-in-Broken-clause-answered
+returns-in-Broken-clause-answered c = grind (arith, common_steps)

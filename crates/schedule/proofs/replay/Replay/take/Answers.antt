@@ -1,4 +1,5 @@
 use Rattle.std.proofs.Common.{◌≡◌, ◌<◌, length, take, refl, sym, ap, ◌∙◌, arith, rules}
+use Rattle.std.proofs.lemmas.Grind.{common_steps}
 use Rattle.resty_world.specs.declared.entry.Entry.TheVariants as entry
 use Rattle.schedule.specs.Peers.{peer_at, room_in, put_fails_in}
 use Rattle.std.proofs.lemmas.List.Elements.{All-take}
@@ -28,3 +29,18 @@ returns-clause-later c =
           (λ x. unseen put_fails_in world.peers c.set.new.self c.args.id _ c.set.ensures.set (rw (here, took) refl) x ∙ omega arith)
           (omega arith) (omega arith) refl refl;
     }
+
+pub takes-count-requires-clause-some : goal.takes-count-requires-clause-some
+takes-count-requires-clause-some c = grind (arith, common_steps)
+
+pub takes-count-requires-clause-free : goal.takes-count-requires-clause-free
+takes-count-requires-clause-free c = grind (arith, common_steps)
+
+pub returns-in_default-clause-puts : goal.returns-in_default-clause-puts
+returns-in_default-clause-puts c = grind (arith, common_steps)
+
+pub returns-in_default-clause-later : goal.returns-in_default-clause-later
+returns-in_default-clause-later c = grind (arith, common_steps)
+
+pub returns-clause-puts : goal.returns-clause-puts
+returns-clause-puts c = grind (arith, common_steps)
