@@ -1,5 +1,5 @@
 -- Words are at most one command.
-use Rattle.std.proofs.Common.{◌≡◌, ◌<◌, ◌^◌, ℕ, Bool, true, false, List, ◌∷◌, [], length, Option, Some, None, IfNone, MatchOption, codes, refl, sym, ap, subst, ◌∙◌, arith}
+use Rattle.std.proofs.Common.{◌≡◌, ◌<◌, ◌^◌, ℕ, Bool, true, false, List, ◌∷◌, [], Option, Some, None, IfNone, MatchOption, codes, refl, sym, ap, subst, ◌∙◌, arith}
 use Rattle.std.proofs.lemmas.Fmt.{decimal_injective}
 use Rattle.commands.specs.declared.command_line.Mode.{Mode}
 use Rattle.commands.specs.declared.command_line.Mode.TheVariants as mode
@@ -9,11 +9,6 @@ use Rattle.commands.specs.Words.{Command, HasSchedule, IsCount, AsksEvents, Says
 pub wider_none : {A : Type 0} (o : Option A) (P Q : Type 0) → (P → Q) → IfNone o P → IfNone o Q
 wider_none None P Q wider p = wider p
 wider_none (Some x) P Q wider p = tt
-
--- a list without elements
-pub no_items : {A : Type 0} (xs : List A) → length xs ≡ 0 → xs ≡ []
-no_items [] none = refl
-no_items (x ∷ xs) none = absurd (omega arith)
 
 -- the first byte of a text
 abbrev first_byte : List ℕ → ℕ

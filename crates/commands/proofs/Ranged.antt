@@ -4,11 +4,13 @@ use Rattle.std.proofs.lemmas.List.Elements.{All-append, All-cons, All-nil}
 use Rattle.resty_base.specs.declared.names.Id.TheVariants as id
 use Rattle.resty_base.specs.declared.names.StrandId.{StrandId}
 use Rattle.resty_base.specs.declared.names.StrandId.TheVariants as strand
+use Rattle.resty_base.specs.BoolLaws.{by_test}
 use Rattle.resty_world.specs.Ids.{same_strand}
 use Rattle.resty_world.specs.declared.event.Event.TheVariants as event
 use Rattle.resty_world.specs.declared.entry.Entry.{Entry}
 use Rattle.resty_world.specs.declared.entry.Entry.TheVariants as entry
 use Rattle.resty_world.specs.declared.schedule_line.SchedLine.{SchedLine}
+use Rattle.resty_world.specs.IdLaws.{same_strand-eq, same_strand-self as strand-true}
 use Rattle.commands.proofs.Story.{AreRanged, AreToldEntries, entries-told}
 use Rattle.schedule_text.specs.Accepted.{IsHistory}
 use Rattle.schedule_text.specs.Ranges.{IsEntry, IsId, IsOrdinal, IsStrand}
@@ -28,7 +30,6 @@ use Rattle.executions.specs.Lawful.{BeginsRight, IsStartOf}
 use Rattle.engine_base.specs.Right.{IsServed, is_served}
 use Rattle.strand_contract.specs.OpenPlaceLaws.{first-open}
 use Rattle.strand_contract.specs.ClientOnlyLaws.{clash}
-use Rattle.commands.proofs.Names.{by_test, same_strand-eq, strand-true}
 
 older : (xs ys : List Entry) → AreToldEntries (xs ++ ys) → AreToldEntries ys
 older [] ys all = all

@@ -4,6 +4,7 @@ use Rattle.std.specs.List.{list_any}
 use Rattle.resty_base.specs.declared.names.Id.{Id}
 use Rattle.resty_base.specs.declared.names.StrandId.{StrandId}
 use Rattle.resty_base.specs.declared.names.StrandId.TheVariants as strand
+use Rattle.resty_base.specs.BoolLaws.{by_test}
 use Rattle.resty_world.specs.Ids.{same_id, same_strand}
 use Rattle.resty_world.specs.declared.entry.Entry.{Entry}
 use Rattle.resty_world.specs.declared.entry.Entry.TheVariants as entry
@@ -22,7 +23,6 @@ use Rattle.executions.specs.Histories.{entries_at, entries_of, external}
 use Rattle.execution_laws.specs.Taken.{took}
 use Rattle.commands.specs.Run.{IsRun}
 use Rattle.commands.specs.Taken.{TakesAllBytes, TookAll, bounds}
-use Rattle.commands.proofs.Names.{by_test}
 use Rattle.commands.proofs.Ranged.{alone-tail}
 
 -- no write was put off

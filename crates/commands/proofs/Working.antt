@@ -5,6 +5,7 @@ use Rattle.resty_base.specs.Accounts.{Account}
 use Rattle.resty_base.specs.Counting.{Rose}
 use Rattle.resty_base.specs.FileMap.{FileMap, FileAccount}
 use Rattle.resty_base.specs.Taking.{TakesAll, TakesNothing}
+use Rattle.resty_base.specs.BoolLaws.{by_test}
 use Rattle.resty_world.specs.Book.{Book}
 use Rattle.resty_world.specs.declared.entry.Entry.{Entry}
 use Rattle.resty_world.specs.declared.schedule_line.SchedLine.{SchedLine}
@@ -34,7 +35,7 @@ use Rattle.commands.specs.Verdict.{Verdict, Missing, TooLong, BadLine, Checks, R
 use Rattle.commands.specs.Words.{Command}
 use Rattle.commands.specs.Works.{Works}
 use Rattle.commands.specs.Writing.{Writes, WritesBy, WritesRun, WritesCheck, WritesHistory, whole, cut, none, WritesHistoryOf, WritesOk, IsRunOf, ending_with}
-use Rattle.commands.proofs.Names.{by_test, weaker_some, both_some}
+use Rattle.commands.proofs.Names.{weaker_some, both_some}
 use Rattle.commands.proofs.Story.{few-events}
 
 nothing : (out : Account) → TakesNothing out out

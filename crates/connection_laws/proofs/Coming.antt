@@ -1,6 +1,5 @@
 -- Whatever comes to a connection, every reply stays its run's own.
-use Rattle.std.proofs.Common.{◌≡◌, ℕ, zero, suc, ◌≤◌, Bool, true, false, List, [], ◌∷◌, ◌++◌, take, drop, length, Some, None, refl, sym, ap, ◌∙◌, subst, arith, take-append-drop, append_assoc, append-nil}
-use Rattle.std.proofs.Math.Seq.{take-append_seam}
+use Rattle.std.proofs.Common.{◌≡◌, ℕ, zero, suc, ◌≤◌, Bool, true, false, List, [], ◌∷◌, ◌++◌, length, Some, None, refl, sym, ap, ◌∙◌, subst, arith, append-nil}
 use Rattle.client_line.specs.declared.requests.LineOut.TheVariants as out
 use Rattle.client_line.specs.Records.{Came}
 use Rattle.client_line.specs.Lines.{settled, done}
@@ -14,8 +13,9 @@ use Rattle.strand_contract.specs.declared.turns.Answer.{Answer}
 use Rattle.strand_contract.specs.declared.turns.Answer.TheVariants as answer
 use Rattle.strand_contract.specs.Actions.{Action, LocalAction, Told, Did, Began, Bytes, Ended, Broken, Ready, Dialled, Refused}
 use Rattle.strand_contract.specs.Actions.{Put, Later, Lost, Close, Log, Dict, Take, Dial, Keep, Timer, Dropped, Run, Offer, Due, Halted, Gone}
-use Rattle.strand_contract.specs.Alone.{IsPrefixOf, moment, socket_count}
+use Rattle.strand_contract.specs.Alone.{moment, socket_count}
 use Rattle.strand_contract.specs.Calls.{answered}
+use Rattle.strand_contract.specs.PrefixLaws.{taken-are}
 use Rattle.strand_plans.specs.Questions.{asking_if}
 use Rattle.strand_plans.specs.Ledgers.{Ledger, left_at, empty_ledger, entered}
 use Rattle.strand_plans.specs.Moves.{Move, Done, Cancel, HangUp, State, with_sent, with_offer, with_deadline, without_deadline, hung_up, Performed, perform}
@@ -54,12 +54,6 @@ use Rattle.connection_laws.proofs.Owns.{same-alike, run-same, due-same, bytes-sa
 use Rattle.connection_laws.proofs.Saying.{IsSaid, await-from}
 use Rattle.connection_laws.proofs.Going.{Counted, LineAt, Own, Whole, GoesWith, Goes, Good, Fine, good-alike, said-own, turn-good, tell-good, answer-good}
 use Rattle.connection_laws.proofs.Replying.{IsIdle, not-busy, idle-at, finish-good, ends-good, begins-good, lose-fine, heard-good, busy-line, settle-fine, done-fine}
-
--- the bytes that a place took are the first of what was left
-taken-are : (bytes left : List ℕ) (m : ℕ) → IsPrefixOf bytes (take m left) → take (length bytes) left ≡ bytes
-taken-are bytes left m h =
-    ap (take (length bytes)) (sym (take-append-drop m left) ∙ ap (λ (xs : List ℕ). xs ++ drop m left) (sym h.1) ∙ append_assoc bytes h.0 (drop m left))
-    ∙ take-append_seam bytes (h.0 ++ drop m left)
 
 -- the bytes that an action brings of the client
 abbrev pub came_by : {J : Type 0} → LocalAction J → List ℕ

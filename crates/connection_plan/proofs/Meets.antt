@@ -1,6 +1,5 @@
 -- A connection over a lawful run meets the conditions of a strand that goes by moves.
-use Rattle.std.proofs.Common.{◌≡◌, ℕ, zero, suc, ◌+◌, ◌≤◌, Bool, true, false, List, [], ◌++◌, take, drop, length, Some, None, if◌then◌else◌, refl, sym, ap, ◌∙◌, subst, arith, length-append, take-append-drop, append_assoc}
-use Rattle.std.proofs.Math.Seq.{take-append_seam}
+use Rattle.std.proofs.Common.{◌≡◌, ℕ, zero, suc, ◌+◌, ◌≤◌, Bool, true, false, List, [], ◌++◌, drop, length, Some, None, if◌then◌else◌, refl, sym, ap, ◌∙◌, subst, arith, length-append}
 use Rattle.std.specs.Prelude.{nat_lt}
 use Rattle.strand_contract.specs.declared.turns.Place.{Place}
 use Rattle.strand_contract.specs.declared.turns.Place.TheVariants as place
@@ -12,6 +11,7 @@ use Rattle.strand_contract.specs.Actions.{Put, Later, Lost, Close, Log, Dict, Ta
 use Rattle.strand_contract.specs.Alone.{IsPrefixOf}
 use Rattle.strand_contract.specs.Laws.{is_still}
 use Rattle.strand_contract.specs.Calls.{answered}
+use Rattle.strand_contract.specs.PrefixLaws.{taken-are}
 use Rattle.strand_plans.specs.Questions.{Question, asking_if}
 use Rattle.strand_plans.specs.Questions as question
 use Rattle.strand_plans.specs.Ledgers.{Ledger, empty_ledger, has, has_number, numbers, left_at, entered}
@@ -52,12 +52,7 @@ none-some x e = absurd (let g : None ≡ Some x = e in cc)
 clash : {C : Type 0} (c : Bool) → c ≡ false → c ≡ true → C
 clash c h k = absurd (let e : false ≡ true = sym h ∙ k in cc)
 
--- ---- bytes that a place took are the first of what was left
-
-taken-are : (bytes left : List ℕ) (m : ℕ) → IsPrefixOf bytes (take m left) → take (length bytes) left ≡ bytes
-taken-are bytes left m h =
-    ap (take (length bytes)) (sym (take-append-drop m left) ∙ ap (λ (xs : List ℕ). xs ++ drop m left) (sym h.1) ∙ append_assoc bytes h.0 (drop m left))
-    ∙ take-append_seam bytes (h.0 ++ drop m left)
+-- ---- bytes that a place took
 
 no-more : (bytes piece : List ℕ) → IsPrefixOf bytes piece → length bytes ≤ length piece
 no-more bytes piece h = let e : length bytes + length h.0 ≡ length piece = sym (length-append bytes h.0) ∙ ap length h.1 in omega (arith, e)

@@ -17,6 +17,7 @@ use Rattle.run_contract.specs.Conditions.{IsBlank, MayComeAt, MayCome, Leaves, e
 use Rattle.run_contract.specs.StoredLaws.{own-due, not-below}
 use Rattle.connection_plan.specs.Recalls.{recalls_turn, recalls_plan, RecallsHolds, recalls_site, recalled}
 use Rattle.std.specs.Prelude.{codes, suc, length}
+use Rattle.resty_base.specs.BoolLaws.{one-falls}
 use Rattle.http_in.specs.declared.framing.BodyKind.TheVariants as kind
 use Rattle.http_bodies.specs.declared.states.BodyState.TheVariants as state
 use Rattle.client_line.specs.Records.{Came}
@@ -72,10 +73,6 @@ stays now seen.AllTaken b r h x = never x.1
 
 unanswered : {J C : Type 0} (b : Ledger J) (r : Bool) (x : Action J) (a : Answer) → RecallsHolds b r → answered (asking_if b.asked) a ≡ Some x → C
 unanswered b r x a h e = none-some x (sym (ap (λ o. answered (asking_if o) a) h.asked) ∙ e)
-
-one-falls : (c : Bool) → c ≡ true → 0 < (if c then 1 else 0)
-one-falls true e = lit< tt
-one-falls false e = never e
 
 falls : {J : Type 0} (now : ℕ) (s : RunSeen) (b : Ledger J) (r : Bool) → RecallsHolds b r → MayCome recalls_plan now s b r → is_of_client s ≡ true
     → (if (performed (recalls_turn now s (entered_as s b) r) (entered_as s b) r).state.inner then 1 else 0) < (if r then 1 else 0)

@@ -1,14 +1,14 @@
 -- What is shown, as the moves of its turn.
-use Rattle.std.proofs.Common.{◌≡◌, ℕ, zero, suc, ◌==◌, eqb-true, ◌≤◌, ◌<◌, ◌+◌, Bool, true, false, not, List, [], ◌∷◌, ◌++◌, length, take, drop, min, Some, None, if◌then◌else◌, refl, sym, ap, ◌∙◌, subst, arith, length-append, take-append-drop, append_assoc, append-nil}
+use Rattle.std.proofs.Common.{◌≡◌, ℕ, zero, suc, ◌==◌, eqb-true, ◌≤◌, ◌<◌, ◌+◌, Bool, true, false, not, List, [], ◌∷◌, ◌++◌, length, take, drop, min, Some, None, if◌then◌else◌, refl, sym, ap, ◌∙◌, subst, arith, length-append, take-append-drop, append-nil}
 use Rattle.std.specs.Prelude.{◌-◌, ◌%◌}
-use Rattle.std.proofs.Math.Seq.{take-append_seam, drop-nil}
+use Rattle.std.proofs.Math.Seq.{drop-nil}
 use Rattle.std.proofs.lemmas.List.{length-take, length-drop, drop-drop}
 use Rattle.std.proofs.Math.Nat.{min_comm, mod-add-mod}
 use Rattle.strand_contract.specs.declared.turns.Place.TheVariants as place
 use Rattle.strand_contract.specs.declared.turns.Seen.{Seen}
 use Rattle.strand_contract.specs.declared.turns.Seen.TheVariants as seens
 use Rattle.strand_contract.specs.Actions.{Did, Put}
-use Rattle.strand_contract.specs.Alone.{IsPrefixOf}
+use Rattle.strand_contract.specs.PrefixLaws.{taken-are}
 use Rattle.strand_plans.specs.Ledgers.{Ledger, has, numbers, is_place, left_at, entered}
 use Rattle.strand_plans.specs.Moves.{Move, Done, Look, Performed, perform}
 use Rattle.strand_plans.specs.Moves as move
@@ -51,12 +51,6 @@ use Rattle.connection_strand.proofs.Moving.{IsSameRun, run-alike, stays-within}
 
 take-le : (n : ℕ) (xs : List ℕ) → length (take n xs) ≤ length xs
 take-le n xs = let e : length (take n xs) + length (drop n xs) ≡ length xs = sym (length-append (take n xs) (drop n xs)) ∙ ap length (take-append-drop n xs) in omega arith
-
--- the bytes that were taken are the first of what was left
-pub taken-are : (bytes left : List ℕ) (m : ℕ) → IsPrefixOf bytes (take m left) → take (length bytes) left ≡ bytes
-taken-are bytes left m h =
-    ap (take (length bytes)) (sym (take-append-drop m left) ∙ ap (λ (xs : List ℕ). xs ++ drop m left) (sym h.1) ∙ append_assoc bytes h.0 (drop m left))
-    ∙ take-append_seam bytes (h.0 ++ drop m left)
 
 pub two-up : (n : ℕ) → (n ≡ 0 → ⊥) → (n ≡ 1 → ⊥) → 2 ≤ n
 two-up zero f g = absurd (f refl)

@@ -1,8 +1,8 @@
 -- Bytes that begin with a chunked body are read as it; where its sizes are above the limit, they are refused.
-use Rattle.std.proofs.Common.{◌≡◌, ℕ, suc, ◌+◌, ◌-◌, ◌<◌, ◌≤◌, Bool, true, false, not, ◌&&◌, ◌==◌, List, [], ◌∷◌, ◌++◌, length, sym, refl, ap, ◌∙◌, subst, arith, append-nil, append_assoc, length-append}
+use Rattle.std.proofs.Common.{◌≡◌, ℕ, suc, ◌+◌, ◌-◌, ◌<◌, ◌≤◌, Bool, true, false, ◌&&◌, ◌==◌, List, [], ◌∷◌, ◌++◌, length, sym, refl, ap, ◌∙◌, subst, arith, append-nil, append_assoc, length-append}
 use Rattle.std.specs.Prelude.{flat_map}
 use Rattle.std.specs.List.{list_all, AllByRecursion}
-use Rattle.std.proofs.lemmas.Bool.{and_parts, lt-ltb, le-ltb, ne_eqb}
+use Rattle.std.proofs.lemmas.Bool.{and_parts, lt-ltb, le-ltb, ne_eqb, not-true}
 use Rattle.resty_base.specs.Ascii.{line_feed}
 use Rattle.httparse.specs.Ascii.{crlf_bytes}
 use Rattle.httparse.specs.Grammar.{LineEnd, crlf, lf, print_end, print_chunk_line, chunk_size}
@@ -17,10 +17,6 @@ use Rattle.http_bodies.proofs.Pieces.{settled-stays, settled-uses}
 use Rattle.http_body_laws.specs.ChunkedBodies.{Chunk, print_chunk, IsChunk, is_trailer, print_trailers, content_of, IsShort, ChunkedBody, print_chunked, ReadsChunked, IsTooLarge}
 use Rattle.http_body_laws.proofs.Left.{is_in_line}
 use Rattle.http_body_laws.proofs.Runs.{Goes, stands, byte, both, to_same, run_line}
-
-unset : (t : Bool) → not t ≡ true → t ≡ false
-unset true h = absurd (let w : false ≡ true = h in cc)
-unset false h = refl
 
 module _ (max : ℕ) where
   abbrev at : BodyState → List ℕ → Body
@@ -109,7 +105,7 @@ module _ (max : ℕ) where
     run_in_line (b ∷ x) came plain short =
         let parts = and_parts _ _ plain in
         let same : came + 1 + length x + 1 ≡ came + suc (length x) + 1 = omega arith in
-        byte _ _ _ b (x ++ line_feed ∷ []) refl (step_in_line came b (omega (arith, short)) (unset _ parts.0))
+        byte _ _ _ b (x ++ line_feed ∷ []) refl (step_in_line came b (omega (arith, short)) (not-true _ parts.0))
         (to_same _ _ _ (x ++ line_feed ∷ []) (ap (λ n. in_state (Trailers n)) same) (run_in_line x (came + 1) parts.1 (omega (arith, short))))
 
     -- a line that begins with CR has another byte
@@ -119,7 +115,7 @@ module _ (max : ℕ) where
     run_returned (b ∷ x) came plain full short =
         let parts = and_parts _ _ plain in
         let same : came + 1 + length x + 1 ≡ came + suc (length x) + 1 = omega arith in
-        byte _ _ _ b (x ++ line_feed ∷ []) refl (step_after_return came b (omega (arith, short)) (unset _ parts.0))
+        byte _ _ _ b (x ++ line_feed ∷ []) refl (step_after_return came b (omega (arith, short)) (not-true _ parts.0))
         (to_same _ _ _ (x ++ line_feed ∷ []) (ap (λ n. in_state (Trailers n)) same) (run_in_line x (came + 1) parts.1 (omega (arith, short))))
 
     run_trailer : (line : List ℕ) (came : ℕ) → is_trailer line ≡ true → came + length line + 1 ≤ line_limit → Goes (in_state (Trailers came)) (line ++ line_feed ∷ []) (in_state (Trailers (came + length line + 1)))
@@ -130,10 +126,10 @@ module _ (max : ℕ) where
         plain = (and_parts _ _ form).0
 
         full : is_empty_line (b ∷ x) ≡ false
-        full = unset _ (and_parts (is_in_line (b ∷ x)) _ form).1
+        full = not-true _ (and_parts (is_in_line (b ∷ x)) _ form).1
 
         other : (b == line_feed) ≡ false
-        other = unset _ (and_parts _ _ plain).0
+        other = not-true _ (and_parts _ _ plain).0
 
         same : came + 1 + length x + 1 ≡ came + suc (length x) + 1
         same = omega arith

@@ -8,14 +8,10 @@ use Rattle.std.proofs.lemmas.Bool.{eqb-true}
 use Rattle.resty_base.specs.contracts.names.IdPartialEq.TheImpl as derived
 use Rattle.resty_base.specs.declared.names.Id.{Id}
 use Rattle.resty_base.specs.declared.names.Id.TheVariants as id
+use Rattle.resty_base.specs.BoolLaws.{by_test}
 use Rattle.resty_world.specs.Ids.{same_id}
 use Rattle.live_world.specs.declared.standings.Standing.{Standing}
 use Rattle.live_world.specs.Standings.{nothing, kept_at, standing_at, has_job}
-
--- both outcomes of a test
-pub by_test : {C : Type 0} (b : Bool) → (b ≡ true → C) → (b ≡ false → C) → C
-by_test true on off = on refl
-by_test false on off = off refl
 
 -- what `==` returns is whether the two are the same
 same-by-eq : (x y : Id) → derived.ghosts.eq x y ≡ same_id x y

@@ -5,11 +5,8 @@ ghost use Rattle.resty_base.specs.Counting.{Rose};
 
 use crate::standings::{NOWHERE, Standing, Standings};
 use resty_base::{Id, StrandId};
-use resty_world::{Dial, Entry, Event, Noted, TimerAnswer, Wrote};
+use resty_world::{Dial, Entry, Event, LAST_MOMENT, Noted, TimerAnswer, Wrote};
 use std::alloc::Global;
-
-/// The last moment that a world gives.
-pub const LAST_MOMENT: u64 = 99_999_999_999_999;
 
 /// The most bytes that an event has.
 const LONGEST: usize = 65_536;

@@ -4,12 +4,12 @@ ghost use Rattle.std.specs.Prelude.{◌≡◌, length};
 ghost use Rattle.resty_world.specs.Calls.{IsPiece};
 ghost use Rattle.live_world.specs.Accounts.{book_of, IsNew};
 
-use crate::accounts::{Accounts, LAST_MOMENT};
+use crate::accounts::Accounts;
 use crate::sockets::{Failure, Next, Sockets};
 use crate::stream::Seen;
 use mio::net::TcpStream;
 use resty_base::{Id, Ms};
-use resty_world::{Event, Wrote};
+use resty_world::{Event, LAST_MOMENT, Wrote};
 use std::alloc::Global;
 use std::io::Write;
 use std::net::{Ipv4Addr, Net, SocketAddr};

@@ -100,10 +100,6 @@ pub none_of : {A : Type 0} (o : Option A) → ((x : A) → o ≡ Some x → ⊥)
 none_of (Some x) h = absurd (h x refl)
 none_of None h = refl
 
-pub empty_of : {A : Type 0} (xs : List A) → length xs ≡ 0 → xs ≡ []
-empty_of [] e = refl
-empty_of (x ∷ xs) e = absurd (omega (arith, e))
-
 -- the variables of the captures, as they are kept and as the grammar sees them
 pub variables_same : (cs : List KeptCapture) → map (λ c. c.variable) (map captured_of cs) ≡ map (λ c. c.variable) cs
 variables_same [] = refl

@@ -2,6 +2,7 @@
 use Rattle.std.proofs.Common.{◌≡◌, ℕ, ◌≤◌, ◌<◌, Bool, true, false, ◌&&◌, List, [], ◌∷◌, drop, Option, Some, None, refl, sym, ap, ◌∙◌, subst, arith, lit<}
 use Rattle.std.specs.Prelude.{nat_lt, nat_le, IfSome, if◌then◌else◌}
 use Rattle.resty_base.specs.declared.names.Ms.{Ms}
+use Rattle.resty_base.specs.BoolLaws.{one-falls}
 use Rattle.resty_world.specs.declared.answers.TimerAnswer.{TimerAnswer}
 use Rattle.strand_contract.specs.declared.turns.Place.TheVariants as place
 use Rattle.strand_contract.specs.declared.turns.Answer.{Answer}
@@ -238,10 +239,6 @@ own : {J : Type 0} (site : Site) (now : ℕ) (s : RunSeen) (b : Ledger J) (r : R
 own site now (seen.Run k) b r = own-logged (work_line site now r.work) (Set (λ r. record r { work = Over }) Done) tt
 own site now seen.ClientGone b r = tt
 own site now s b r = tt
-
-one-falls : (c : Bool) → c ≡ true → 0 < (if c then 1 else 0)
-one-falls true e = lit< tt
-one-falls false e = never-over e
 
 falls : {J : Type 0} (site : Site) (now : ℕ) (s : RunSeen) (b : Ledger J) (r : Run) → LuaHolds b r
     → MayCome (lua_plan site) now s b r → is_of_client s ≡ true

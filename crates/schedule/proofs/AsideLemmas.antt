@@ -7,6 +7,7 @@ use Rattle.std.proofs.lemmas.Bool.{eqb-true}
 use Rattle.resty_base.specs.contracts.names.StrandIdPartialEq.TheImpl as derived
 use Rattle.resty_base.specs.declared.names.StrandId.{StrandId}
 use Rattle.resty_base.specs.declared.names.StrandId.TheVariants as strand
+use Rattle.resty_base.specs.BoolLaws.{by_test}
 use Rattle.resty_world.specs.Book.{Book}
 use Rattle.resty_world.specs.Calls.{HasRoom, room_of}
 use Rattle.resty_world.specs.Ids.{same_strand}
@@ -14,7 +15,6 @@ use Rattle.schedule.specs.declared.replay.Replay.{Replay}
 use Rattle.schedule.specs.Aside.{HasAside}
 use Rattle.schedule.specs.ReplayBook.{book_of}
 use Rattle.schedule.specs.OpenIds.{has}
-use Rattle.schedule.proofs.OpenIdsLemmas.{by_test}
 
 -- what `==` returns is whether the two are the same
 same-by-eq : (x y : StrandId) → derived.ghosts.eq x y ≡ same_strand x y

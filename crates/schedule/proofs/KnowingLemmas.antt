@@ -2,18 +2,19 @@
 use Rattle.std.proofs.Common.{◌≡◌, ℕ, zero, suc, ◌+◌, ◌-◌, ◌<◌, Bool, true, false, not, eqb, List, [], ◌∷◌, length, slice_get, Option, Some, None, refl, sym, ap, ◌∙◌, true≢false, arith}
 use Rattle.std.specs.Bool.{if◌then◌else◌}
 use Rattle.std.specs.Prelude.{◌&&◌, ◌||◌, nat_lt, nat_le}
-use Rattle.std.proofs.lemmas.Bool.{eqb-true, ltb-true, leb-true}
+use Rattle.std.proofs.lemmas.Bool.{eqb-true, ltb-true, leb-true, not-false}
 use Rattle.resty_base.specs.declared.names.Id.{Id}
 use Rattle.resty_base.specs.declared.names.Id.TheVariants as id
+use Rattle.resty_base.specs.BoolLaws.{by_test}
 use Rattle.resty_world.specs.declared.entry.Entry.{Entry}
 use Rattle.resty_world.specs.Given.{names_absent}
 use Rattle.resty_world.specs.Ids.{same_id}
+use Rattle.resty_world.specs.IdLaws.{same_id-eq}
 use Rattle.schedule.specs.declared.peer.Peer.{Peer}
 use Rattle.schedule.specs.Counts.{arrived_in, dials_in}
 use Rattle.schedule.specs.Knowing.{Knows}
 use Rattle.schedule.specs.Peers.{Roll, IsChanged, numbered, peer_at, fresh, opened, closed, ended, unended}
 use Rattle.schedule.specs.OpenIds.{has, are_distinct, open_ids, hung_up, has_ended}
-use Rattle.schedule.proofs.OpenIdsLemmas.{by_test, same_id-eq}
 
 -- the number after the last is nobody's
 none-after : (peers : List Peer) → slice_get peers (length peers) ≡ None
@@ -114,13 +115,9 @@ pub first-off : (b c : Bool) → (b || c) ≡ false → b ≡ false
 first-off true c is = absurd (let wrong : true ≡ false = is in cc)
 first-off false c is = refl
 
-open-peer : (b : Bool) → not b ≡ false → b ≡ true
-open-peer true off = refl
-open-peer false off = absurd (let wrong : true ≡ false = off in cc)
-
 open-by : (p : Option Peer) → (p ≡ None → ⊥) → closed p ≡ false → opened p ≡ true
 open-by None here off = absurd (here refl)
-open-by (Some p) here off = open-peer p.is_open off
+open-by (Some p) here off = not-false p.is_open off
 
 within-some : (peers : List Peer) (i : ℕ) → i < length peers → slice_get peers i ≡ None → ⊥
 within-some [] i within none = absurd (omega arith)

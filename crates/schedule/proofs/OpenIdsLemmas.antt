@@ -2,30 +2,11 @@
 use Rattle.std.proofs.Common.{◌≡◌, ℕ, ◌+◌, ◌<◌, ◌≤◌, Bool, true, false, not, ltb, List, [], ◌∷◌, length, refl, sym, ap, ◌∙◌, true≢false, arith}
 use Rattle.std.specs.Bool.{if◌then◌else◌}
 use Rattle.std.specs.Prelude.{◌&&◌}
-use Rattle.std.proofs.lemmas.Bool.{eqb-true, ltb-true, ltb-false}
-use Rattle.resty_base.specs.declared.names.Id.{Id}
+use Rattle.std.proofs.lemmas.Bool.{ltb-true, ltb-false}
 use Rattle.resty_base.specs.declared.names.Id.TheVariants as id
-use Rattle.resty_base.specs.declared.names.StrandId.{StrandId}
 use Rattle.resty_base.specs.declared.names.StrandId.TheVariants as strand
-use Rattle.resty_world.specs.Ids.{same_id, same_strand}
+use Rattle.resty_base.specs.BoolLaws.{by_test}
 use Rattle.schedule.specs.OpenIds.{has, without, are_distinct}
-
-pub same_id-eq : (x y : Id) → same_id x y ≡ true → x ≡ y
-same_id-eq (id.Conn c) (id.Conn d) same = ap id.Conn (eqb-true c d same)
-same_id-eq (id.Sock n) (id.Sock m) same = ap id.Sock (eqb-true n m same)
-same_id-eq (id.Conn c) (id.Sock m) same = absurd (let e : false ≡ true = same in cc)
-same_id-eq (id.Sock n) (id.Conn d) same = absurd (let e : false ≡ true = same in cc)
-
-pub same_strand-eq : (x y : StrandId) → same_strand x y ≡ true → x ≡ y
-same_strand-eq (strand.Conn c) (strand.Conn d) same = ap strand.Conn (eqb-true c d same)
-same_strand-eq (strand.Job n) (strand.Job m) same = ap strand.Job (eqb-true n m same)
-same_strand-eq (strand.Conn c) (strand.Job m) same = absurd (let e : false ≡ true = same in cc)
-same_strand-eq (strand.Job n) (strand.Conn d) same = absurd (let e : false ≡ true = same in cc)
-
--- both outcomes of a test
-pub by_test : {C : Type 0} (b : Bool) → (b ≡ true → C) → (b ≡ false → C) → C
-by_test true on off = on refl
-by_test false on off = off refl
 
 -- below, or not
 pub by_order : {C : Type 0} (i n : ℕ) → (i < n → C) → (n ≤ i → C) → C

@@ -4,6 +4,7 @@ use Rattle.std.proofs.lemmas.Bool.{lt-ltb}
 use Rattle.std.proofs.lemmas.List.{take_all, same_from_push, reverse-append, get_or_default}
 use Rattle.std.specs.Prelude.{◌&&◌, ◌||◌, nat_lt, if◌then◌else◌}
 use Rattle.resty_base.specs.declared.names.Id.{Id}
+use Rattle.resty_base.specs.BoolLaws.{by_test}
 use Rattle.resty_world.specs.declared.event.Event.{Event}
 use Rattle.resty_world.specs.declared.event.Event.TheVariants as event
 use Rattle.resty_world.specs.declared.entry.Entry.{Entry}
@@ -12,6 +13,7 @@ use Rattle.resty_world.specs.declared.schedule_line.SchedLine.{SchedLine}
 use Rattle.resty_world.specs.declared.schedule_line.SchedLine.TheVariants as line
 use Rattle.resty_world.specs.Given.{named_id, names_absent}
 use Rattle.resty_world.specs.Ids.{same_id}
+use Rattle.resty_world.specs.IdLaws.{same_id-eq}
 use Rattle.schedule_text.specs.Fitting.{IsSchedule}
 use Rattle.schedule_text.specs.Ranges.{IsBytes}
 use Rattle.schedule.specs.declared.replay.Replay.{Replay}
@@ -21,7 +23,6 @@ use Rattle.schedule.specs.ReplayBook.{StandsBy, Stands, StandsAnywhere}
 use Rattle.schedule.specs.Steps.{Step, Call, Passed, Answered, Listened, AskedAtBadLine, AskedAtEnd, Dialling, Logging, Writing, AreSteps, FailsRightly, IsAnswer, is_skipped, given_by, history_of}
 use Rattle.schedule.specs.Steps.{lines_of, offers_by, is_call, failing_by, answered_by, tells_failure, one_if, unspent, room_by, room_after, is_fail_next, is_failed_log, begins_by_failing, has_listened_in_vain, newest_given, faults_in}
 use Rattle.schedule.proofs.Passing.{take-more}
-use Rattle.schedule.proofs.OpenIdsLemmas.{by_test, same_id-eq}
 
 -- counting goes on after the last value
 capped : (n k : ℕ) → counted (counted n + k) ≡ counted (n + k)

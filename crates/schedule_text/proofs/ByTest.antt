@@ -2,11 +2,7 @@
 use Rattle.std.proofs.Common.{◌≡◌, ◌≢◌, ℕ, ◌<◌, ◌≤◌, Bool, true, false, eqb, ltb, List, [], ◌∷◌, All, refl}
 use Rattle.std.specs.Bool.{if◌then◌else◌}
 use Rattle.std.proofs.lemmas.Bool.{eqb-true, eqb-false, ltb-true, ltb-false}
-
--- a test holds, or not
-pub by_test : {C : Type 0} (b : Bool) → (b ≡ true → C) → (b ≡ false → C) → C
-by_test true on off = on refl
-by_test false on off = off refl
+use Rattle.resty_base.specs.BoolLaws.{by_test}
 
 -- below, or not
 pub by_order : {C : Type 0} (i n : ℕ) → (i < n → C) → (n ≤ i → C) → C

@@ -14,10 +14,11 @@ use Rattle.resty_base.specs.declared.names.Id.{Id}
 use Rattle.resty_base.specs.declared.names.Id.TheVariants as id
 use Rattle.resty_base.specs.declared.names.StrandId.{StrandId}
 use Rattle.resty_base.specs.declared.names.StrandId.TheVariants as strand
+use Rattle.resty_base.specs.BoolLaws.{by_test}
 use Rattle.schedule_text.specs.Found.{before, after, begins, byte_in, spelled_after, hex_value, id_in, integer_in, number_in, spelling_length, strand_in, rest_after, unquoted, after_quotes, after_quoted}
 use Rattle.schedule_text.specs.Ranges.{IsBytes, IsId, IsInteger, IsNumber, IsStrand, last_number}
 use Rattle.schedule_text.specs.Words.{hex_digit, id_text, quoted, quoted_byte, strand_text}
-use Rattle.schedule_text.proofs.ByTest.{by_test, same-true, apart-false, lacks}
+use Rattle.schedule_text.proofs.ByTest.{same-true, apart-false, lacks}
 
 -- ---- words
 

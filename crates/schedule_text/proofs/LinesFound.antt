@@ -5,6 +5,7 @@ use Rattle.std.specs.Bool.{if◌then◌else◌}
 use Rattle.std.specs.List.{flat_map}
 use Rattle.std.specs.Prelude.{codes, decimal}
 use Rattle.resty_base.specs.declared.names.Id.{Id}
+use Rattle.resty_base.specs.BoolLaws.{by_test}
 use Rattle.resty_world.specs.declared.event.Event.{Event}
 use Rattle.resty_world.specs.declared.event.Event.TheVariants as event
 use Rattle.resty_world.specs.declared.schedule_line.SchedLine.{SchedLine}
@@ -15,7 +16,7 @@ use Rattle.schedule_text.specs.LineTexts.{event_text, line_text}
 use Rattle.schedule_text.specs.Ranges.{IsEvent, IsId, IsBytes, IsLine}
 use Rattle.schedule_text.specs.Words.{hex_digit, id_text, quoted, quoted_byte}
 use Rattle.schedule_text.proofs.Finding.{before-split, after-split, decimal-begins, decimal-lacks, id-found, id-lacks, lacks-append, number-found, unquoted-all}
-use Rattle.schedule_text.proofs.ByTest.{apart-false, by_test, lacks}
+use Rattle.schedule_text.proofs.ByTest.{apart-false, lacks}
 
 -- the word before a space, and what stands after it
 pub word-found : (w rest : List ℕ) → lacks 32 w ≡ true → word_of ((w ++ 32 ∷ []) ++ rest) ≡ w

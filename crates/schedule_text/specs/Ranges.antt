@@ -19,6 +19,7 @@ use Rattle.resty_world.specs.declared.event.Event.{Event}
 use Rattle.resty_world.specs.declared.event.Event.TheVariants as event
 use Rattle.resty_world.specs.declared.schedule_line.SchedLine.{SchedLine}
 use Rattle.resty_world.specs.declared.schedule_line.SchedLine.TheVariants as line
+use Rattle.resty_world.specs.Given.{last_moment}
 
 -- the greatest number: one of 18 digits
 abbrev pub last_number : ℕ
@@ -85,7 +86,7 @@ IsEvent (event.Broken i) = IsId i
 IsEvent (event.Ready i) = IsId i
 IsEvent (event.Dialled n) = IsOrdinal n
 IsEvent (event.Refused n) = IsOrdinal n
-IsEvent (event.Moment t) = t.0 ≤ 99_999_999_999_999
+IsEvent (event.Moment t) = t.0 ≤ last_moment
 IsEvent event.Stop = Unit {0}
 IsEvent e = ⊥
 

@@ -3,7 +3,7 @@ ghost use Rattle.std.specs.Prelude.{◌≡◌, ◌↔◌, IsTrue};
 ghost use Rattle.schedule_text.specs.Ranges.{IsEvent, IsId, IsLine, IsNumber, IsOrdinal, IsReceived, IsRoom, IsSmall, IsStrand};
 
 use resty_base::{Id, StrandId};
-use resty_world::{Event, SchedLine};
+use resty_world::{Event, LAST_MOMENT, SchedLine};
 
 mod entries;
 
@@ -11,9 +11,6 @@ pub use entries::is_entry;
 
 /// The greatest number of at most 18 digits.
 pub const LAST_NUMBER: u64 = 999_999_999_999_999_999;
-
-/// The last moment that a world gives.
-const LAST_MOMENT: u64 = 99_999_999_999_999;
 
 /// The most bytes that come at a time.
 const MOST_BYTES: usize = 65_536;

@@ -9,8 +9,9 @@ use Rattle.lua_values.specs.Heap.{Heap, StoreView, step_limit}
 use Rattle.lua_meaning.specs.declared.positions.Position.{Position}
 use Rattle.lua_meaning.specs.declared.resumes.Resumed.{Resumed}
 use Rattle.lua_meaning.specs.Works.{Places, Slots, Node, AValue, AnExpr, AStmt, ATurn, ARepeat, AFor, AnIter, ACall, AnIndex, AStore, Sign, Values, Return, Break, Failed, Work, End, Eval, Outside, Look, Write, Count, and_then}
-use Rattle.lua_meaning.specs.Evaluator.{Resume, State, Ending, Ended, Parked, Spent, after, answered, counted, Evaluator, do_work, budget, WorkOf, eval_within, eval_by}
+use Rattle.lua_meaning.specs.Evaluator.{Resume, State, Ending, Ended, Parked, Spent, after, answered, Evaluator, do_work, budget, WorkOf, eval_within, eval_by}
 use Rattle.lua_meaning.specs.Signs.{on_values}
+use Rattle.lua_meaning.specs.EndingLaws.{counted_then}
 
 -- nodes of the same trees
 pub data SameNode : Node → Node → Type 0 where
@@ -75,13 +76,6 @@ answered_same number args at place store (r ∷ resumes) go next e each = along 
     along true = each r.answer _
     along false = refl
 
-counted_same : (n : ℕ) (w : State) (go next : State → Ending) → ((w' : State) → go w' ≡ next w') → counted n w go ≡ counted n w next
-counted_same n w go next each = along (nat_lt (w.store.steps + n) step_limit)
-  where
-    along : (b : Bool) → (if b then go (record w { store = record { heap = w.store.heap; steps = w.store.steps + n } }) else Spent) ≡ (if b then next (record w { store = record { heap = w.store.heap; steps = w.store.steps + n } }) else Spent)
-    along true = each _
-    along false = refl
-
 -- evaluators that end the same nodes alike
 abbrev pub EndAlike : Evaluator → Evaluator → Type 0
 EndAlike eval other = (n m : Node) → SameNode n m → (p : Places) (s : Slots) (w : State) → eval n p s w ≡ other m p s w
@@ -94,7 +88,7 @@ work_same eval other each (asks {number = number} {args = args} {at = at} {place
     answered_same number args at place w.store w.resumes _ _ e (λ r w'. work_same eval other each (go r) w')
 work_same eval other each (looks go) w = work_same eval other each (go w.store.heap) w
 work_same eval other each (writes go) w = work_same eval other each go _
-work_same eval other each (counts {n = n} go) w = counted_same n w _ _ (λ w'. work_same eval other each go w')
+work_same eval other each (counts {n = n} go) w = counted_then n w _ _ (λ w'. work_same eval other each go w')
 
 -- meanings that give the same nodes the same works
 abbrev pub MeanAlike : WorkOf → WorkOf → Type 0

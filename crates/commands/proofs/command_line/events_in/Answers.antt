@@ -1,6 +1,7 @@
 use Rattle.std.proofs.Common.{rules, ◌≡◌, true, [], ◌∷◌, codes, map, string_bytes, ap}
+use Rattle.std.proofs.lemmas.List.{nil_from_length as no_items}
 use Rattle.commands.specs.Words.{texts}
-use Rattle.commands.proofs.Commands.{counted, no_items}
+use Rattle.commands.proofs.Commands.{counted}
 use Rattle.commands.proofs.command_line.events_in.Goals as goal
 
 pub returns : goal.returns

@@ -1,7 +1,8 @@
 use Rattle.std.proofs.Common.{◌≡◌, ◌∷◌, [], Some, None, refl, sym, arith}
+use Rattle.std.proofs.lemmas.List.{nil_from_length as empty_of}
 use Rattle.lua_grammar.specs.Scopes.{own, look}
 use Rattle.lua_parser_base.specs.Frames.{frame_of, frames_of}
-use Rattle.lua_parser_base.proofs.Lookups.{look_own, look_none, look_some, nowhere, frames_pushed, captured_length, none_of, empty_of}
+use Rattle.lua_parser_base.proofs.Lookups.{look_own, look_none, look_some, nowhere, frames_pushed, captured_length, none_of}
 use Rattle.lua_grammar.specs.Limits.{Few}
 use Rattle.lua_parser_base.proofs.Crowding.{crowded_frame, few_further, handed_match, upvalues_on}
 use Rattle.lua_parser_base.specs.Next.{OnUpvalues}

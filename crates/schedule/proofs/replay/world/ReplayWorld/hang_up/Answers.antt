@@ -2,10 +2,11 @@ use Rattle.std.proofs.Common.{◌≡◌, Some, refl, sym, ap, ◌∙◌, arith}
 use Rattle.std.specs.Bool.{if◌then◌else◌}
 use Rattle.resty_world.specs.declared.entry.Entry.TheVariants as entry
 use Rattle.resty_world.specs.Ids.{same_id}
+use Rattle.resty_world.specs.IdLaws.{same_id-eq}
 use Rattle.schedule.specs.Peers.{IsChanged, closed_peer, peer_at, room_in, put_fails_in}
 use Rattle.schedule.specs.OpenIds.{open_ids}
 use Rattle.schedule.proofs.KnowingLemmas.{knows-changed, ended-elsewhere, unseen}
-use Rattle.schedule.proofs.OpenIdsLemmas.{has-without, length-without, distinct-without, same_id-eq}
+use Rattle.schedule.proofs.OpenIdsLemmas.{has-without, length-without, distinct-without}
 use Rattle.schedule.proofs.Standing.{answers, same_faults, same_losses}
 use Rattle.schedule.proofs.replay.world.ReplayWorld.hang_up.Goals as goal
 
