@@ -1,4 +1,5 @@
 use Rattle.std.proofs.Common.{◌≡◌, ◌+◌, ◌/◌, ◌<◌, false, [], ◌∷◌, ◌++◌, length, refl, sym, inl, inr, ◌∙◌, arith}
+use Rattle.std.proofs.lemmas.Grind.{common_steps}
 use Rattle.std.proofs.lemmas.List.{length_push}
 use Rattle.std.proofs.lemmas.Bool.{cases_lt}
 use Rattle.lua_values.proofs.FlagLemmas.{flag_at-grown, front-blocks, Covered, grown-blocks, grown-groups, standing-grown}
@@ -50,3 +51,21 @@ invariant_of-self-2 c =
       omega arith,
       c.self.invariant.3 ∙ sym (standing-grown s.flags.items),
     )
+
+pub returns-clause-done : goal.returns-clause-done
+returns-clause-done c = grind (arith, common_steps)
+
+pub returns-clause-few : goal.returns-clause-few
+returns-clause-few c = grind (arith, common_steps)
+
+pub returns-in_err-push : goal.returns-in_err-push
+returns-in_err-push c = grind (arith, common_steps)
+
+pub returns-in_err-cover : goal.returns-in_err-cover
+returns-in_err-cover c = grind (arith, common_steps)
+
+pub returns-in_err-cover-2 : goal.returns-in_err-cover-2
+returns-in_err-cover-2 c = grind (arith, common_steps)
+
+pub invariant_of-self : goal.invariant_of-self
+invariant_of-self c = grind (arith, common_steps)
