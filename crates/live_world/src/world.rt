@@ -53,16 +53,13 @@ impl<R: Net + Clock, W: Write> World for Live<'_, R, W> {
         }
     }
 
-    fn put_bytes(&mut self, alloc: Global, id: Id, bytes: &[u8]) -> Wrote {
-        let _ = alloc;
+    fn put_bytes(&mut self, _alloc: Global, id: Id, bytes: &[u8]) -> Wrote {
         let answer = self.write(id, bytes);
         self.accounts.wrote(answer);
         answer
     }
 
-    fn dial(&mut self, alloc: Global, who: StrandId, host: [u8; 4], port: u16) -> Dial {
-        let _ = alloc;
-        let _ = who;
+    fn dial(&mut self, _alloc: Global, _who: StrandId, host: [u8; 4], port: u16) -> Dial {
         match self.connect(host, port) {
             Ok(()) => self.accounts.dials(),
             Err(Failure::Failed) => {
@@ -85,8 +82,7 @@ impl<R: Net + Clock, W: Write> World for Live<'_, R, W> {
         self.accounts.forget(who);
     }
 
-    fn write_log(&mut self, alloc: Global, who: StrandId, line: &[u8]) -> Logged {
-        let _ = who;
+    fn write_log(&mut self, alloc: Global, _who: StrandId, line: &[u8]) -> Logged {
         let Ok(text) = line_of(alloc, line) else {
             return Logged::Memory;
         };
@@ -97,8 +93,7 @@ impl<R: Net + Clock, W: Write> World for Live<'_, R, W> {
         Logged::Done
     }
 
-    fn make_room(&mut self, alloc: Global) -> Noted {
-        let _ = alloc;
+    fn make_room(&mut self, _alloc: Global) -> Noted {
         self.accounts.make_room()
     }
 

@@ -19,8 +19,7 @@ impl World for Replay {
 
     ghost joins = { IsLater-joins };
 
-    fn listen(&mut self, alloc: Global, port: u16) -> Listened {
-        let _ = alloc;
+    fn listen(&mut self, _alloc: Global, port: u16) -> Listened {
         if self.listen_fails {
             self.listen_fails = false;
             self.faults = one_more(self.faults);
@@ -30,9 +29,7 @@ impl World for Replay {
         Listened::Up
     }
 
-    fn next_event(&mut self, alloc: Global, until: Option<Ms>) -> Event {
-        let _ = alloc;
-        let _ = until;
+    fn next_event(&mut self, _alloc: Global, _until: Option<Ms>) -> Event {
         let index = self.answering();
         match self.ahead(index) {
             Ahead::Due => self.give(index),
@@ -52,10 +49,7 @@ impl World for Replay {
         }
     }
 
-    fn wants(&mut self, id: Id, wanted: bool) {
-        let _ = id;
-        let _ = wanted;
-    }
+    fn wants(&mut self, _id: Id, _wanted: bool) {}
 
     fn put_bytes(&mut self, alloc: Global, id: Id, bytes: &[u8]) -> Wrote {
         let Some(peer) = self.peers.get(id) else {
@@ -74,8 +68,7 @@ impl World for Replay {
         }
     }
 
-    fn dial(&mut self, alloc: Global, who: StrandId, host: [u8; 4], port: u16) -> Dial {
-        let _ = alloc;
+    fn dial(&mut self, _alloc: Global, who: StrandId, host: [u8; 4], port: u16) -> Dial {
         let Some(number) = self.peers.sockets().checked_add(1) else {
             return Dial::Memory;
         };
@@ -133,8 +126,7 @@ impl World for Replay {
         Logged::Done
     }
 
-    fn make_room(&mut self, alloc: Global) -> Noted {
-        let _ = alloc;
+    fn make_room(&mut self, _alloc: Global) -> Noted {
         if self.spare > 0 {
             return Noted::Done;
         }
