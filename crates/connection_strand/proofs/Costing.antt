@@ -1,5 +1,7 @@
 -- What calls cost.
-use Rattle.std.proofs.Common.{◌≡◌, ℕ, ◌≤◌, ◌+◌, ◌*◌, Bool, true, false, not, List, [], ◌∷◌, ◌++◌, length, Option, refl, ap, ◌∙◌, arith, length-append}
+use Rattle.std.proofs.Common.{◌≡◌, ℕ, ◌≤◌, ◌+◌, ◌*◌, Bool, true, false, not, List, [], ◌∷◌, ◌++◌, length, Option, if◌then◌else◌, refl, ap, ◌∙◌, arith, length-append}
+use Rattle.send_queue.specs.Queues as queues
+use Rattle.send_queue.specs.Records.{Sending}
 use Rattle.strand_contract.specs.declared.turns.Act.{Act}
 use Rattle.connection_plan.specs.Clients.{Stage}
 use Rattle.connection_plan.specs.Clients as stage
@@ -12,6 +14,13 @@ use Rattle.connection_strand.specs.Costs.{unit, weight_if, client_left, units, w
 
 pub one-longer : {J : Type 0} (acts acts' : List (Act J)) (a : Act J) → acts' ≡ acts ++ a ∷ [] → length acts' ≡ length acts + 1
 one-longer acts acts' a e = ap length e ∙ length-append acts (a ∷ [])
+
+queued-longer : (s : Sending) (bytes : List ℕ) → length (queues.queued s bytes).bytes ≤ length s.bytes + length bytes
+queued-longer s bytes = by s.gone
+  where
+    by : (gone : Bool) → length (if gone then s else record { bytes = s.bytes ++ bytes; phase = s.phase; gone = false }).bytes ≤ length s.bytes + length bytes
+    by true = omega arith
+    by false = let e = length-append s.bytes bytes in omega arith
 
 waits-costs : (k : Kept) → client_left (record k { waits = true }) ≤ client_left k + 4
 waits-costs k = by k.waits
@@ -77,6 +86,20 @@ module _ {R J : Type 0} (left : R → ℕ) (bound : ℕ) where
 
   pub spends-nothing : (c : Connection R) (u : Turn J) → Spends left bound 0 c u c u
   spends-nothing c u = omega arith
+
+  pub spends-none : (n : ℕ) (c : Connection R) (u : Turn J) → Spends left bound n c u c u
+  spends-none n c u = omega arith
+
+  pub queues-costs : (bytes : List ℕ) (c d c' : Connection R) (u u' : Turn J) → kept d.client ≡ record (kept c.client) { sending = queues.queued (kept c.client).sending bytes }
+      → d.run ≡ c.run → d.sockets.items ≡ c.sockets.items → Spends left bound 1 d u c' u' → Spends left bound (16 * length bytes + 1) c u c' u'
+  queues-costs bytes c d c' u u' client run socks h =
+      let k = kept c.client in
+      let f : Spends left bound (16 * length bytes) c u d u = spends-client (16 * length bytes) c d u u (record k { sending = queues.queued k.sending bytes }) client run socks refl
+      (let l = queued-longer k.sending bytes in omega arith) in
+      omega arith
+
+  pub hangs-costs : (c c' : Connection R) (u u' : Turn J) → Pays left bound 3 c u c' u' → Spends left bound 0 c u c' u'
+  hangs-costs c c' u u' h = omega arith
 
 module _ {R : Type 0} (left : R → ℕ) (bound : ℕ) where
   pub may-end : (c : Connection R) → left_of left bound c ≤ whole left bound c

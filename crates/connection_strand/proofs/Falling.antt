@@ -8,6 +8,10 @@ use Rattle.strand_contract.specs.declared.turns.Act.{Act}
 use Rattle.strand_contract.specs.declared.turns.Answer.{Answer}
 use Rattle.strand_contract.specs.declared.turns.Answer.TheVariants as given
 use Rattle.strand_contract.specs.Alone.{due, sooner}
+use Rattle.strand_contract.specs.Calls.{is_own_turn}
+use Rattle.run_contract.specs.Calls.{is_own_at}
+use Rattle.run_contract.specs.declared.turns.SockSeen.{SockSeen}
+use Rattle.run_contract.specs.declared.turns.SockSeen.TheVariants as at
 use Rattle.strand_plans.specs.Moves.{ending}
 use Rattle.strand_plans.specs.Ledgers.{has_number, numbers}
 use Rattle.connection_strand.specs.declared.state.Connection.{Connection}
@@ -15,6 +19,7 @@ use Rattle.connection_strand.specs.declared.state.Turn.{Turn}
 use Rattle.connection_strand.specs.Kept.{Kept, kept}
 use Rattle.connection_strand.specs.Costs.{unit, weight_if, client_left, units, whole, Spends, Pays, Costs, Falls}
 use Rattle.connection_strand.specs.Acts.{sockets_with}
+use Rattle.connection_strand.specs.Shown.{sock_seen}
 use Rattle.connection_strand.specs.Standing.{places}
 use Rattle.connection_strand.proofs.Ends.{ending-length}
 use Rattle.connection_strand.proofs.Costing.{may-end}
@@ -46,6 +51,18 @@ due-armed now n at (d ∷ ds) e = by (λ f. due-armed now n at ds f) (due now ds
     by : (due now ds ≡ Some (n, at) → has_number n (numbers ds) ≡ true) → (o : Option (ℕ × ℕ)) → due now ds ≡ o → has_number n (numbers (d ∷ ds)) ≡ true
     by rest None g = none (nat_le d.1 now) (sym (ap (sooner now d) g) ∙ e)
     by rest (Some y) g = some rest y g (nat_le d.1 now && nat_le d.1 y.1) (sym (ap (sooner now d) g) ∙ e)
+
+-- what comes at a socket is a turn of the strand's own as it is one of the run's
+pub own-sock : (k : ℕ) (x : SockSeen) → is_own_turn (sock_seen k x) ≡ is_own_at x
+own-sock k (at.Bytes bytes) = refl
+own-sock k at.Ended = refl
+own-sock k at.Broken = refl
+own-sock k at.Ready = refl
+own-sock k (at.Took n) = refl
+own-sock k at.Later = refl
+own-sock k at.Lost = refl
+own-sock k at.Dialled = refl
+own-sock k at.Refused = refl
 
 -- some of what is offered, and so of what is left
 pub took-few : {R : Type 0} (m n : ℕ) (c : Connection R) → m ≡ min (length (queues.offered (kept c.client).sending)) n → m ≤ length (kept c.client).sending.bytes

@@ -21,6 +21,8 @@ use Rattle.connection_plan.specs.Clients as stage
 use Rattle.connection_plan.specs.Turns.{is_there, await_body, heard_by, settle}
 use Rattle.connection_plan.specs.Connections.{connection_plan, connection_turn, to_run}
 use Rattle.connection_plan.specs.Conditions.{Agrees}
+use Rattle.connection_strand.specs.declared.sights.Sight.{Sight}
+use Rattle.connection_strand.specs.declared.sights.Sight.TheVariants as sight
 use Rattle.connection_strand.specs.declared.state.Connection.{Connection}
 use Rattle.connection_strand.specs.declared.state.Turn.{Turn}
 use Rattle.connection_strand.specs.Kept.{Kept, kept, kept_of, wants_offer}
@@ -37,6 +39,20 @@ sock_seen k at.Later = seen.Later (place.Sock k)
 sock_seen k at.Lost = seen.Lost (place.Sock k)
 sock_seen k at.Dialled = seen.Dialled k
 sock_seen k at.Refused = seen.Refused k
+
+-- what is shown, by the code's words for it
+abbrev pub seen_of : Sight → Seen
+seen_of (sight.Sock k shown) = sock_seen k shown
+seen_of (sight.Bytes bytes) = seen.Bytes place.Client bytes
+seen_of sight.Ended = seen.Ended place.Client
+seen_of sight.Broken = seen.Broken place.Client
+seen_of sight.Ready = seen.Ready place.Client
+seen_of (sight.Took n) = seen.Took place.Client n
+seen_of sight.Later = seen.Later place.Client
+seen_of sight.Lost = seen.Lost place.Client
+seen_of (sight.Due n) = seen.Due n
+seen_of (sight.Run k) = seen.Run k
+seen_of sight.Stop = seen.Stop
 
 -- the action that is shown: of a write, the bytes that were taken of the next piece
 abbrev pub action_by : {J : Type 0} → Ledger J → Seen → Action J

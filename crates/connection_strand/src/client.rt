@@ -11,7 +11,7 @@ use run_contract::RunSeen;
 use std::alloc::{AllocError, Global};
 
 /// How far the client's request is.
-#[derive(Clone, Copy, Debug, PartialEq, Eq)]
+#[derive(Clone, Copy)]
 pub(crate) enum Stage {
     /// The next head is due, and none of its bytes came.
     Idle,
@@ -28,7 +28,7 @@ pub(crate) enum Stage {
 }
 
 /// How far the reply is.
-#[derive(Clone, Copy, Debug, PartialEq, Eq)]
+#[derive(Clone, Copy)]
 pub(crate) enum Reply {
     Unsent,
     Begun,
@@ -73,7 +73,7 @@ impl Reply {
 }
 
 /// The timers of a connection; the last has the deadline 1, and one of the others at a time the deadline 0.
-#[derive(Clone, Copy, Debug, PartialEq, Eq)]
+#[derive(Clone, Copy)]
 pub(crate) enum Timer {
     Header,
     Keepalive,

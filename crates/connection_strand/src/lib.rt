@@ -7,6 +7,7 @@ mod saying;
 mod sending;
 mod settling;
 mod shown;
+mod sights;
 mod state;
 mod strand;
 mod taking;

@@ -1,7 +1,7 @@
 //! Requests in turn: heads that are heard, and what is waited for; and the end of a client.
 
 use crate::client::{Reply, Stage, Timer};
-use crate::state::{Connection, Turn};
+use crate::state::{Connection, Turn, put};
 use crate::waits::Waits;
 use client_line::{Held, LineOut};
 use connection_plan::ServiceContract;
@@ -35,7 +35,7 @@ impl<R: ServiceContract> Connection<R> {
         ensures offered { turn.new.is_offered ≡ turn.old.is_offered }
     {
         for socket in &self.sockets {
-            turn.acts.push_back(Act::HangUp(Place::Sock(*socket)))?;
+            put(&mut turn.acts, Act::HangUp(Place::Sock(*socket)))?;
         }
         Ok(())
     }
@@ -52,12 +52,11 @@ impl<R: ServiceContract> Connection<R> {
         ensures falls { IfOk result (λ done. Falls R.left R.bound self.old turn.old self.new turn.new) }
     {
         if self.client.is_open {
-            turn.acts.push_back(Act::HangUp(Place::Client))?;
+            put(&mut turn.acts, Act::HangUp(Place::Client))?;
         }
         self.hang_up_sockets(turn)?;
-        turn.acts.push_back(Act::Gone)?;
         self.client.stage = Stage::Over;
-        Ok(())
+        put(&mut turn.acts, Act::Gone)
     }
 
     /// The client is hung up, where it is there.
@@ -67,11 +66,11 @@ impl<R: ServiceContract> Connection<R> {
         ensures costs { IfOk result (λ done. Spends R.left R.bound 0 self.old turn.old self.new turn.new) }
         ensures pays { self.old.client.is_open ≡ true → IfOk result (λ done. Pays R.left R.bound 3 self.old turn.old self.new turn.new) }
     {
-        if self.client.is_open {
-            turn.acts.push_back(Act::HangUp(Place::Client))?;
-            self.client.hang_up();
+        if !self.client.is_open {
+            return Ok(());
         }
-        Ok(())
+        self.client.hang_up();
+        put(&mut turn.acts, Act::HangUp(Place::Client))
     }
 
     /// The client of a run that goes on is lost: it is hung up, and the run is told so.

@@ -1,6 +1,6 @@
 //! What is sent to the client, and offers of it.
 
-use crate::state::{Connection, Turn};
+use crate::state::{Connection, Turn, put};
 use connection_plan::ServiceContract;
 use resty_base::Bytes;
 use std::alloc::AllocError;
@@ -26,7 +26,7 @@ impl<R: ServiceContract> Connection<R> {
         ensures costs { IfOk result (λ done. Spends R.left R.bound 1 self.old turn.old self.new turn.new) }
     {
         if self.client.wants_offer() && !turn.is_offered {
-            turn.acts.push_back(Act::Offer(Place::Client))?;
+            put(&mut turn.acts, Act::Offer(Place::Client))?;
             turn.is_offered = true;
         }
         Ok(())
@@ -43,10 +43,10 @@ impl<R: ServiceContract> Connection<R> {
             (send (service_of (R.plan site.now) (R.serving site.now)) 0 bytes.now) self.old turn.old self.new turn.new) }
         ensures costs { IfOk result (λ done. Spends R.left R.bound (16 * length bytes.now + 1) self.old turn.old self.new turn.new) }
     {
-        if self.client.is_open {
-            self.client.line.queue(bytes)?;
-            self.offer(turn, site)?;
+        if !self.client.is_open {
+            return Ok(());
         }
-        Ok(())
+        self.client.line.queue(bytes)?;
+        self.offer(turn, site)
     }
 }

@@ -1,13 +1,17 @@
 //! What a connection is shown: its client, its sockets, its run's threads and deadlines.
 
 use crate::client::{Stage, Timer};
+use crate::sights::{Sight, sight_of};
 use crate::state::{Connection, Turn};
 use client_line::LineOut;
 use connection_plan::ServiceContract;
 use resty_base::Ms;
 use run_contract::{RunSeen, SockSeen};
 use std::alloc::{AllocError, Global};
-use strand_contract::{Place, Seen};
+use strand_contract::Seen;
+
+/// Nothing is done with an answer.
+fn let_go(_out: LineOut) {}
 
 impl<R: ServiceContract> Connection<R> {
     ghost use Rattle.std.specs.Prelude.{◌≡◌, IfOk, true, false};
@@ -66,14 +70,21 @@ impl<R: ServiceContract> Connection<R> {
     {
         match self.client.stage {
             Stage::Busy => {
+                let_go(out);
                 self.await_body(turn, site, now)?;
                 self.settle_all(turn, alloc, site, now)
             }
             Stage::Head => self.hear(turn, alloc, site, now, false, out),
             Stage::Idle => self.hear(turn, alloc, site, now, true, out),
             Stage::Drop => self.hear(turn, alloc, site, now, true, out),
-            Stage::Flush => Ok(()),
-            Stage::Over => Ok(()),
+            Stage::Flush => {
+                let_go(out);
+                Ok(())
+            }
+            Stage::Over => {
+                let_go(out);
+                Ok(())
+            }
         }
     }
 
@@ -290,40 +301,18 @@ impl<R: ServiceContract> Connection<R> {
             seen self.old turn.old self.new turn.new) }
         ensures falls { is_own_turn seen ≡ true → IfOk result (λ done. Falls R.left R.bound self.old turn.old self.new turn.new) }
     {
-        match seen {
-            Seen::Bytes(place, bytes) => match place {
-                Place::Client => self.came(turn, alloc, site, now, &bytes),
-                Place::Sock(k) => self.sock(turn, alloc, site, now, k, SockSeen::Bytes(bytes)),
-            },
-            Seen::Ended(place) => match place {
-                Place::Client => self.hear_end(turn, alloc, site, now),
-                Place::Sock(k) => self.sock(turn, alloc, site, now, k, SockSeen::Ended),
-            },
-            Seen::Broken(place) => match place {
-                Place::Client => self.lose(turn, alloc, site, now),
-                Place::Sock(k) => self.sock(turn, alloc, site, now, k, SockSeen::Broken),
-            },
-            Seen::Ready(place) => match place {
-                Place::Client => self.resume(turn, site, now),
-                Place::Sock(k) => self.sock(turn, alloc, site, now, k, SockSeen::Ready),
-            },
-            Seen::Took(place, count) => match place {
-                Place::Client => self.took(turn, alloc, site, now, count),
-                Place::Sock(k) => self.sock(turn, alloc, site, now, k, SockSeen::Took(count)),
-            },
-            Seen::Later(place) => match place {
-                Place::Client => self.put_off(turn, site, now),
-                Place::Sock(k) => self.sock(turn, alloc, site, now, k, SockSeen::Later),
-            },
-            Seen::Lost(place) => match place {
-                Place::Client => self.lose(turn, alloc, site, now),
-                Place::Sock(k) => self.sock(turn, alloc, site, now, k, SockSeen::Lost),
-            },
-            Seen::Dialled(k) => self.sock(turn, alloc, site, now, k, SockSeen::Dialled),
-            Seen::Refused(k) => self.sock(turn, alloc, site, now, k, SockSeen::Refused),
-            Seen::Due(number) => self.due(turn, alloc, site, now, number),
-            Seen::Run(thread) => self.go_on(turn, alloc, site, now, RunSeen::Run(thread)),
-            Seen::Stop => self.finish(turn, site),
+        match sight_of(seen) {
+            Sight::Sock(k, shown) => self.sock(turn, alloc, site, now, k, shown),
+            Sight::Bytes(bytes) => self.came(turn, alloc, site, now, &bytes),
+            Sight::Ended => self.hear_end(turn, alloc, site, now),
+            Sight::Broken => self.lose(turn, alloc, site, now),
+            Sight::Ready => self.resume(turn, site, now),
+            Sight::Took(count) => self.took(turn, alloc, site, now, count),
+            Sight::Later => self.put_off(turn, site, now),
+            Sight::Lost => self.lose(turn, alloc, site, now),
+            Sight::Due(number) => self.due(turn, alloc, site, now, number),
+            Sight::Run(thread) => self.go_on(turn, alloc, site, now, RunSeen::Run(thread)),
+            Sight::Stop => self.finish(turn, site),
         }
     }
 }

@@ -1,8 +1,11 @@
 //! A connection, and the turn that it takes.
 
+ghost use Rattle.std.specs.Prelude.{◌≡◌, ◌++◌, ◌∷◌, [], IfOk};
+
 use crate::client::Client;
 use crate::waits::Waits;
-use strand_contract::Acts;
+use std::alloc::AllocError;
+use strand_contract::{Act, Acts};
 
 /// The strand of a client's connection, or of a timer job: `R` answers its requests, or is the job.
 #[derive(Drop)]
@@ -28,4 +31,14 @@ pub struct Turn<J> {
     pub(crate) acts: Acts<J>,
     /// An offer of the client is queued, or goes on.
     pub(crate) is_offered: bool,
+}
+
+/// Puts an act last.
+pub(crate) fn put<J: Drop>(acts: &mut Acts<J>, act: Act<J>) -> Result<(), AllocError>
+    ensures { IfOk result (λ done. acts.new.items ≡ acts.old.items ++ act ∷ []) }
+{
+    match acts.push_back(act) {
+        Ok(()) => Ok(()),
+        Err(_) => Err(AllocError),
+    }
 }

@@ -206,8 +206,8 @@ impl<R: ServiceContract> StrandContract for Connection<R> {
                 Ok((connection, turn.acts))
             }
             Start::Job(_, premature, job) => {
-                let mut connection: Connection<R> = Connection::new(alloc, site, false);
                 let (run, first) = R::begin_job(alloc, site, now, premature, job)?;
+                let mut connection: Connection<R> = Connection::new(alloc, site, false);
                 connection.client.stage = Stage::Busy;
                 connection.run = Some(run);
                 connection.adopt_turn(&mut turn, site, now, first)?;
@@ -240,12 +240,13 @@ impl<R: ServiceContract> StrandContract for Connection<R> {
         now: Ms,
         answer: Answer,
     ) -> Result<Acts<R::Job>, AllocError> {
-        let mut turn = Turn {
-            acts: VecDeque::new(alloc),
-            is_offered: self.is_still_offered(),
-        };
+        let is_offered = self.is_still_offered();
         self.take_in(&answer)?;
         self.keeping = None;
+        let mut turn = Turn {
+            acts: VecDeque::new(alloc),
+            is_offered,
+        };
         let goes_on = self.answered(&mut turn, alloc, site, now, answer)?;
         if !goes_on {
             return Ok(turn.acts);

@@ -3,7 +3,7 @@
 ghost use Rattle.std.specs.Prelude.{◌≡◌};
 ghost use Rattle.connection_strand.specs.Acts.{is_question, kept_socket, without_all};
 
-use crate::state::{Connection, Turn};
+use crate::state::{Connection, Turn, put};
 use connection_plan::ServiceContract;
 use resty_base::Ms;
 use run_contract::{RunSeen, RunTurn};
@@ -104,7 +104,7 @@ impl<R: ServiceContract> Connection<R> {
         match question {
             Some(question) => {
                 self.keeping = kept_socket(&question);
-                turn.acts.push_back(question)?;
+                put(&mut turn.acts, question)?;
                 Ok(false)
             }
             None => Ok(true),

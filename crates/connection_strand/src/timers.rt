@@ -1,7 +1,7 @@
 //! Timers of a connection begin and end.
 
 use crate::client::{Timer, later};
-use crate::state::{Connection, Turn};
+use crate::state::{Connection, Turn, put};
 use connection_plan::ServiceContract;
 use resty_base::Ms;
 use std::alloc::AllocError;
@@ -28,10 +28,8 @@ impl<R: ServiceContract> Connection<R> {
         ensures costs { IfOk result (λ done. Spends R.left R.bound 5 self.old turn.old self.new turn.new) }
     {
         let time = timer.time(R::default_times(site), self.client.times);
-        turn.acts
-            .push_back(Act::Arm(timer.number(), later(now, time)))?;
         self.client.set_armed(timer, true);
-        Ok(())
+        put(&mut turn.acts, Act::Arm(timer.number(), later(now, time)))
     }
 
     /// What it waited for is there.
@@ -42,15 +40,15 @@ impl<R: ServiceContract> Connection<R> {
         timer: Timer,
     ) -> Result<(), AllocError>
         ensures moves { IfOk result (λ done. Goes (R.plan _site.now) (R.holds _site.now) (R.stands _site.now)
-            (end_timer (service_of (R.plan site.now) (R.serving site.now)) 0 (timer_of timer)) self.old turn.old self.new turn.new) }
+            (end_timer (service_of (R.plan _site.now) (R.serving _site.now)) 0 (timer_of timer)) self.old turn.old self.new turn.new) }
         ensures waits { self.new.waits ≡ self.old.waits }
         ensures reply { self.new.client.reply ≡ self.old.client.reply }
         ensures costs { IfOk result (λ done. Spends R.left R.bound 0 self.old turn.old self.new turn.new) }
     {
-        if self.client.is_armed(timer) {
-            turn.acts.push_back(Act::Cancel(timer.number()))?;
-            self.client.set_armed(timer, false);
+        if !self.client.is_armed(timer) {
+            return Ok(());
         }
-        Ok(())
+        self.client.set_armed(timer, false);
+        put(&mut turn.acts, Act::Cancel(timer.number()))
     }
 }

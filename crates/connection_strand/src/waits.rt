@@ -3,7 +3,7 @@
 use run_contract::{RunSeen, Said};
 
 /// Whether a run waits for the body of its request, or until all that was sent is taken; and whether it has a client.
-#[derive(Clone, Copy, Debug, PartialEq, Eq)]
+#[derive(Clone, Copy)]
 pub(crate) struct Waits {
     pub(crate) body: bool,
     pub(crate) taken: bool,

@@ -48,7 +48,7 @@ returns-in-Some-clause-moves g c = λ did m h.
       acts = c.in_ok-question.ensures.acts;
     })
     c.deref-2.result.now c.deref-2.ensures.value c.in_ok-says.ensures.moves c.in-Some.question _ _ (sym c.in_ok-question.ensures.question ∙ c.in-Some.is)
-    refl refl refl refl refl refl c.kept_socket-self.ensures c.in_ok-push_back-in-Some.ensures.items
+    refl refl refl refl refl refl c.kept_socket-self.ensures c.in_ok-put-in-Some.ensures
 
 pub returns-clause-costs : goal.returns-clause-costs
 returns-clause-costs g c =
@@ -62,9 +62,9 @@ pub returns-in-Some-clause-costs : goal.returns-in-Some-clause-costs
 returns-in-Some-clause-costs g c =
     let kept = c.in_ok-question.ensures.kept in
     paying.takes-asking g.R.RunContract.left g.R.ServiceContract.bound c.args.next.acts.items c.args.next.said.items c.in-Some.question c.args.self.now c.adopt_acts.new.self (record c.says.new.self { keeping = c.kept_socket-self.result }) c.args.turn.now c.adopt_acts.new.turn c.says.new.turn
-    (record c.says.new.turn { acts = c.push_back.new.self })
+    (record c.says.new.turn { acts = c.put.new.acts })
     (sym c.in_ok-question.ensures.question ∙ c.in-Some.is)
     (paying.carries g.R.RunContract.left g.R.ServiceContract.bound c.args.next.acts.items c.args.self.now c.adopt_acts.new.self c.args.turn.now c.adopt_acts.new.turn (ap (λ (k : Connection g.row.R.Denot). k.client) kept) (ap (λ (k : Connection g.row.R.Denot). k.run) kept)
     c.in_ok-question.ensures.sockets c.in_ok-question.ensures.acts)
     (subst (λ words. Spends g.R.RunContract.left g.R.ServiceContract.bound (unit * length words) c.adopt_acts.new.self c.adopt_acts.new.turn c.says.new.self c.says.new.turn) c.deref-2.ensures.value c.in_ok-says.ensures.costs)
-    c.in_ok-push_back-in-Some.ensures.items
+    c.in_ok-put-in-Some.ensures

@@ -5,14 +5,14 @@ use Rattle.connection_strand.proofs.state.Connection.offer.Goals.{else-wants_off
 use Rattle.connection_plan.specs.Serving.{service_of}
 use Rattle.connection_strand.proofs.state.Connection.offer.Goals as goal
 
-pub returns-in_ok-push_back-clause-moves : goal.returns-in_ok-push_back-clause-moves
-returns-in_ok-push_back-clause-moves g c = λ e did m h.
+pub returns-in_ok-put-clause-moves : goal.returns-in_ok-put-clause-moves
+returns-in_ok-put-clause-moves g c = λ e did m h.
     let site = c.args._site.now in
     let r = g.R.RunContract in
     let met = g.met.R.RunContract in
     offers (service_of (r.plan site) (g.R.ServiceContract.serving site)) (r.holds site) (r.stands site) (met.meets site) (met.apart site)
     e did c.args.self.now _ c.args.turn.now _ m (record { run = refl; waits = refl; sockets = refl; count = refl; keeping = refl; taking = refl }) refl
-    (ap (λ x. x && not c.args.turn.now.is_offered) (sym c.wants_offer.ensures ∙ c.if-wants_offer.true) ∙ ap not c.if-not-turn.true) refl c.in_ok-push_back.ensures.items h
+    (ap (λ x. x && not c.args.turn.now.is_offered) (sym c.wants_offer.ensures ∙ c.if-wants_offer.true) ∙ ap not c.if-not-turn.true) refl c.in_ok-put.ensures h
 
 pub returns-else-wants_offer-clause-moves : goal.returns-else-wants_offer-clause-moves
 returns-else-wants_offer-clause-moves g c = λ e did m h.

@@ -1,23 +1,35 @@
 use Rattle.std.proofs.Common.{refl, ap}
 use Rattle.client_line.specs.Records.{Connection as Line}
 use Rattle.connection_strand.specs.Kept.{kept}
+use Rattle.connection_strand.proofs.Ends.{ok-map}
 use Rattle.connection_strand.proofs.Offering.{queues-more, queues-not}
 use Rattle.connection_plan.specs.Serving.{service_of}
+use Rattle.connection_strand.proofs.Costing.{queues-costs, spends-none}
+use Rattle.std.proofs.Common.{length, ◌*◌, ◌+◌}
 use Rattle.connection_strand.proofs.state.Connection.send.Goals as goal
 
-pub returns-in_ok-offer-clause-moves : goal.returns-in_ok-offer-clause-moves
-returns-in_ok-offer-clause-moves g c = λ e did m h.
+pub returns-clause-moves : goal.returns-clause-moves
+returns-clause-moves g c =
     let site = c.args.site.now in
     let r = g.R.RunContract in
     let met = g.met.R.RunContract in
-    c.in_ok-offer.ensures.moves e did m (queues-more (service_of (r.plan site) (g.R.ServiceContract.serving site)) (r.holds site) (r.stands site) (met.meets site) (met.apart site)
-    e did c.args.self.now _ c.args.turn.now c.args.bytes.now m (record { run = refl; waits = refl; sockets = refl; count = refl; keeping = refl; taking = refl }) c.if-self.true
-    (ap (λ (l : Line). kept (record c.args.self.now.client { line = l })) c.in_ok-queue.ensures.done) h)
+    ok-map c.offer.result _ _ (λ done goes. λ e did m h. goes e did m (queues-more (service_of (r.plan site) (g.R.ServiceContract.serving site)) (r.holds site) (r.stands site) (met.meets site) (met.apart site)
+    e did c.args.self.now _ c.args.turn.now c.args.bytes.now m (record { run = refl; waits = refl; sockets = refl; count = refl; keeping = refl; taking = refl }) c.if-not-self.false
+    (ap (λ (l : Line). kept (record c.args.self.now.client { line = l })) c.in_ok-queue.ensures.done) h)) c.offer.ensures.moves
 
-pub returns-else-self-clause-moves : goal.returns-else-self-clause-moves
-returns-else-self-clause-moves g c = λ e did m h.
+pub returns-then-not-self-clause-moves : goal.returns-then-not-self-clause-moves
+returns-then-not-self-clause-moves g c = λ e did m h.
     let site = c.args.site.now in
     let r = g.R.RunContract in
     let met = g.met.R.RunContract in
     queues-not (service_of (r.plan site) (g.R.ServiceContract.serving site)) (r.holds site) (r.stands site) (met.meets site) (met.apart site)
-    e did c.args.self.now c.args.turn.now c.args.bytes.now m c.if-self.false h
+    e did c.args.self.now c.args.turn.now c.args.bytes.now m c.if-not-self.true h
+
+pub returns-clause-costs : goal.returns-clause-costs
+returns-clause-costs g c =
+    let now = record c.args.self.now { client = record c.args.self.now.client { line = c.queue.new.self } } in
+    ok-map c.offer.result _ _ (λ done costs. queues-costs g.R.RunContract.left g.R.ServiceContract.bound c.args.bytes.now c.args.self.now now c.offer.new.self c.args.turn.now c.offer.new.turn
+    (ap (λ (l : Line). kept (record c.args.self.now.client { line = l })) c.in_ok-queue.ensures.done) refl refl costs) c.offer.ensures.costs
+
+pub returns-then-not-self-clause-costs : goal.returns-then-not-self-clause-costs
+returns-then-not-self-clause-costs g c = spends-none g.R.RunContract.left g.R.ServiceContract.bound (16 * length c.args.bytes.now + 1) c.args.self.now c.args.turn.now
