@@ -1,5 +1,5 @@
 //! Cases as texts: what comes, and what the engine does then, for strands that go by the programs of a text.
-use crate::words::put;
+use crate::words::{expect, put};
 use engine::serve;
 use resty_base::{Bytes, Ms};
 use schedule::{Replay, history_text, schedule_of};
@@ -18,7 +18,7 @@ pub(crate) const EVENTS: u64 = 100;
 /// begins with `< ` stands in the schedule alone, and any other is given: it stands in the schedule and in the history.
 pub(crate) fn hold(rt: &impl Abort, alloc: Global, programs: &str, cases: &str) {
     for case in cases.split("\n\n") {
-        assert_eq!(rt; unlike(alloc, programs, case).as_str(), "", "{case}");
+        expect(rt, unlike(alloc, programs, case).as_str(), "", case);
     }
 }
 

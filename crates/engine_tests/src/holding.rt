@@ -1,6 +1,6 @@
 //! Tests of what the engine holds, in rows of calls with their answers, `-` for none; an empty line stands before rows of new things. DEADLINES show those of
 //! strands and all, QUEUE the run queue, SEATS the seats, SOCKETS the sockets that strands hold, POOL the idle ones.
-use crate::words::{number, put, put_number, put_thread, small_number, strand, word};
+use crate::words::{expect, number, put, put_number, put_thread, small_number, strand, word};
 use engine_tables::{Agenda, Seats, Socket, Sockets};
 use resty_base::{Bytes, Ms, StrandId};
 use shared_rules::Idle;
@@ -39,7 +39,7 @@ fn hold(rt: &impl Abort, alloc: Global, tables: &str) {
 fn hold_rows(rt: &impl Abort, alloc: Global, held: &mut Held, rows: &str) {
     for row in rows.lines() {
         let (call, expected) = row.split_once(" => ").unwrap_or((row, ""));
-        assert_eq!(rt; seen(alloc, held, call).as_str(), expected, "{row}");
+        expect(rt, seen(alloc, held, call).as_str(), expected, row);
     }
 }
 

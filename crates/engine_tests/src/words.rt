@@ -1,6 +1,7 @@
 //! The words of rows, and texts.
 use resty_base::StrandId;
 use std::alloc::Global;
+use std::process::Abort;
 
 /// The word of this number.
 pub(crate) fn word(text: &str, index: usize) -> &str {
@@ -50,4 +51,9 @@ pub(crate) fn replaced(alloc: Global, text: String, part: &str, other: &str) -> 
         Ok(next) => next,
         Err(_) => text,
     }
+}
+
+/// What is seen is what the row says.
+pub(crate) fn expect(rt: &impl Abort, seen: &str, expected: &str, row: &str) {
+    assert_eq!(rt; seen, expected, "{row}");
 }

@@ -1,5 +1,6 @@
 //! Tests of the order of handlers: what follows each outcome in each phase, by what of the head was sent: single ones (ENDED to WITHOUT_ACCESS), and each of a
 //! request (REQUEST), of one that was redirected ten times (REDIRECTED) and of a subrequest (SUBREQUEST).
+use crate::rows::expect;
 use phases::{Next, Outcome, Phase, Sent, after};
 use resty_base::Bytes;
 use std::alloc::Global;
@@ -84,10 +85,11 @@ fn following(alloc: Global, handler: &str, sub: bool, redirects: u8) -> String {
 fn hold(rt: &impl Abort, alloc: Global, sub: bool, redirects: u8, rows: &str) {
     for row in rows.lines() {
         let (handler, expected) = row.split_once(':').unwrap_or((row, ""));
-        assert_eq!(rt;
+        expect(
+            rt,
             following(alloc, handler, sub, redirects).as_str(),
             expected,
-            "{row}"
+            row,
         );
     }
 }

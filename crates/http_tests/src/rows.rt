@@ -26,7 +26,7 @@ pub(crate) enum Subject<'a> {
 pub(crate) fn hold(rt: &impl Abort, alloc: Global, subject: Subject<'_>, rows: &str) {
     for row in rows.lines() {
         let (given, expected) = row.split_once(" => ").unwrap_or((row, ""));
-        assert_eq!(rt; told(alloc, subject, given).as_str(), expected, "{row}");
+        expect(rt, told(alloc, subject, given).as_str(), expected, row);
     }
 }
 
@@ -53,4 +53,9 @@ fn seen(alloc: Global, subject: Subject<'_>, given: &str) -> Result<String, Allo
         Subject::Line => lines::answers(alloc, given),
         Subject::Queue => queues::answers(alloc, given),
     }
+}
+
+/// What is seen is what the row says.
+pub(crate) fn expect(rt: &impl Abort, seen: &str, expected: &str, row: &str) {
+    assert_eq!(rt; seen, expected, "{row}");
 }

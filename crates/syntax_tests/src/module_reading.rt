@@ -1,6 +1,6 @@
 //! Tests of the reading of modules: lines of what a site and its files have, and of what reading comes to, each with what is answered.
 use crate::module_sets::{answer, told};
-use crate::rows::put_number;
+use crate::rows::{expect, put_number};
 use lua_modules::{ModuleFileFault, ModuleSet, read_modules};
 use resty_base::{Bytes, MemFiles};
 use std::alloc::{AllocError, Global};
@@ -13,7 +13,7 @@ fn hold(rt: &impl Abort, alloc: Global, rows: &str) {
     for row in rows.lines() {
         let (call, expected) = row.split_once(" => ").unwrap_or((row, ""));
         let given = told(alloc, answer_in(alloc, &mut set, &mut files, call));
-        assert_eq!(rt; given.as_str(), expected, "{row}");
+        expect(rt, given.as_str(), expected, row);
     }
 }
 

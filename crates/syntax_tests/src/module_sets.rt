@@ -1,6 +1,6 @@
 //! Tests of sets of modules and blocks: lines of what is added to a set and asked of it, each with what is answered.
 use crate::names::see_texts;
-use crate::rows::{put, put_number};
+use crate::rows::{expect, put, put_number};
 use lua_ast::{ExprKind, Function, StmtKind};
 use lua_linking::names_of;
 use lua_modules::{Module, ModuleFault, ModuleSet, file_of, freeze};
@@ -22,10 +22,11 @@ fn hold(rt: &impl Abort, alloc: Global, parts: &[&str]) {
 fn hold_in(rt: &impl Abort, alloc: Global, set: &mut ModuleSet, rows: &str) {
     for row in rows.lines() {
         let (call, expected) = row.split_once(" => ").unwrap_or((row, ""));
-        assert_eq!(rt;
+        expect(
+            rt,
             told(alloc, answer(alloc, set, call)).as_str(),
             expected,
-            "{row}"
+            row,
         );
     }
 }

@@ -4,6 +4,7 @@ use super::faults::fault;
 use super::items::written;
 use super::sites::{lists, named, route, servers, settings, site};
 use super::{directives, faults, items, sites};
+use crate::rows::expect;
 use std::alloc::{AllocError, Global};
 use std::process::Abort;
 
@@ -11,7 +12,7 @@ use std::process::Abort;
 pub(crate) fn hold(rt: &impl Abort, alloc: Global, rows: &str) {
     for row in rows.lines() {
         let (given, expected) = row.split_once(" => ").unwrap_or((row, ""));
-        assert_eq!(rt; told(alloc, given).as_str(), expected, "{row}");
+        expect(rt, told(alloc, given).as_str(), expected, row);
     }
 }
 
