@@ -1,5 +1,5 @@
 //! Tests of `resty_base`: NUMBERS whole numbers, IN_MEMORY and OF_THE_SYSTEM files, PUTS sinks; and byte strings in lists, and a stream.
-use crate::rows::put;
+use crate::rows::{expect, put};
 use resty_base::*;
 use std::alloc::{AllocError, Global};
 use std::process::Abort;
@@ -33,7 +33,7 @@ fn whole_numbers_end_at_the_limit(rt: HostRuntime) {
 fn hold<F: Files>(rt: &impl Abort, alloc: Global, files: &mut F, rows: &str) {
     for row in rows.lines() {
         let (given, expected) = row.split_once(" => ").unwrap_or((row, ""));
-        assert_eq!(rt; seen(alloc, files, given).as_str(), expected, "{row}");
+        expect(rt, seen(alloc, files, given).as_str(), expected, row);
     }
 }
 

@@ -18,7 +18,7 @@ pub(crate) enum Subject {
 pub(crate) fn hold(rt: &impl Abort, alloc: Global, subject: Subject, rows: &str) {
     for row in rows.lines() {
         let (given, expected) = row.split_once(" => ").unwrap_or((row, ""));
-        assert_eq!(rt; seen(alloc, subject, given).as_str(), expected, "{row}");
+        expect(rt, seen(alloc, subject, given).as_str(), expected, row);
     }
 }
 
@@ -42,4 +42,9 @@ pub(crate) fn replaced(alloc: Global, text: String, part: &str, other: &str) -> 
         Ok(next) => next,
         Err(_) => text,
     }
+}
+
+/// What is seen is what the row says.
+pub(crate) fn expect(rt: &impl Abort, seen: &str, expected: &str, row: &str) {
+    assert_eq!(rt; seen, expected, "{row}");
 }

@@ -3,7 +3,7 @@
 //! Which file shows what: `requests` requests in turn, kept and closed; `bodies` bodies that are dropped; `replies` the server's own and long ones; `routes`
 //! servers and locations; `ends` clients that end, break and are too many; `timers` each timeout; `cuttings` bytes cut anywhere; `handlers` Lua.
 use crate::program;
-use crate::rows::{put, replaced};
+use crate::rows::{expect, put, replaced};
 use std::alloc::Global;
 use std::process::Abort;
 
@@ -50,7 +50,7 @@ const NAMES: &str = r#"<keep> => <chunked>Connection: keep-alive\r\n\r\n
 /// `< ` stands in the schedule alone, and any other is given: it stands in the schedule and in the history.
 fn hold(rt: &impl Abort, alloc: Global, conf: &str, cases: &str) {
     for case in cases.split("\n\n") {
-        assert_eq!(rt; unlike(alloc, conf, case).as_str(), "", "{case}");
+        expect(rt, unlike(alloc, conf, case).as_str(), "", case);
     }
 }
 
@@ -139,10 +139,11 @@ fn hold_handlers(rt: &impl Abort, alloc: Global, before: &str, rows: &str) {
         let done = replaced(alloc, done, "|", "\n> put c1 \"");
         let conf = in_place(alloc, handlers::SITE, "BODY", body);
         let case = in_place(alloc, handlers::CASE, "DONE", done.as_str());
-        assert_eq!(rt;
+        expect(
+            rt,
             unlike(alloc, conf.as_str(), case.as_str()).as_str(),
             "",
-            "{row}"
+            row,
         );
     }
 }
