@@ -1,11 +1,11 @@
 //! Cases as texts: what comes, and what the engine does then, for strands that go by the programs of a text.
+use crate::words::{expect, put};
 use engine::serve;
 use resty_base::{Bytes, Ms};
 use schedule::{Replay, history_text, schedule_of};
 use std::alloc::{AllocError, Global};
 use std::process::Abort;
 use std::rc::Rc;
-use std::test::Fail;
 use strand_scripts::{Op, Program, ScriptStrand, Site};
 
 /// How many connections may be open at a time.
@@ -16,40 +16,50 @@ pub(crate) const EVENTS: u64 = 100;
 
 /// Tests each case; an empty line stands between two. A line of a case that begins with `> ` is what the engine does, one that
 /// begins with `< ` stands in the schedule alone, and any other is given: it stands in the schedule and in the history.
-pub(crate) fn hold(
-    rt: &impl Abort,
-    alloc: Global,
-    programs: &str,
-    cases: &str,
-) -> Result<(), Fail> {
+pub(crate) fn hold(rt: &impl Abort, alloc: Global, programs: &str, cases: &str) {
     for case in cases.split("\n\n") {
-        let history = served(alloc, site(alloc, programs)?, case)?;
-        assert_eq!(rt;
-            str::from_utf8(history.as_slice()).unwrap_or("?"),
-            lines(alloc, case, "> ", "< ")?.as_str()
-        );
+        expect(rt, unlike(alloc, programs, case).as_str(), "", case);
     }
-    Ok(())
 }
 
-/// The lines of a case that begin with a mark, and those without one, but not those that begin with the other mark.
-fn lines(alloc: Global, case: &str, mark: &str, other: &str) -> Result<String, AllocError> {
-    let mut text = String::new(alloc);
+/// The history of a case where it isn't what the case says, or nothing.
+fn unlike(alloc: Global, programs: &str, case: &str) -> String {
+    let mut schedule = String::new(alloc);
+    put_lines(&mut schedule, case, "< ", "> ");
+    let mut expected = String::new(alloc);
+    put_lines(&mut expected, case, "> ", "< ");
+    let mut seen = String::new(alloc);
+    if see_served(alloc, &mut seen, programs, schedule.as_str()).is_none() {
+        put(&mut seen, "memory");
+    }
+    if seen.as_str() == expected.as_str() {
+        String::new(alloc)
+    } else {
+        seen
+    }
+}
+
+/// Writes the lines of a case that begin with a mark, and those without one, but not those that begin with the other mark.
+fn put_lines(all: &mut String, case: &str, mark: &str, other: &str) {
     for line in case.lines() {
         if !line.starts_with(other) {
-            text.push_str(line.strip_prefix(mark).unwrap_or(line))?;
-            text.push('\n')?;
+            put(all, line.strip_prefix(mark).unwrap_or(line));
+            put(all, "\n");
         }
     }
-    Ok(text)
 }
 
-/// The history that is left once the schedule of a case was served.
-fn served(alloc: Global, site: Site, case: &str) -> Result<Bytes, Fail> {
-    let schedule = schedule_of(alloc, lines(alloc, case, "< ", "> ")?.as_bytes())?;
+/// Writes the history that is left once a schedule was served.
+fn see_served(alloc: Global, all: &mut String, programs: &str, schedule: &str) -> Option<()> {
+    let Ok(schedule) = schedule_of(alloc, schedule.as_bytes()) else {
+        return None;
+    };
+    let site = site(alloc, programs).ok()?;
     let mut world = Replay::new(alloc, schedule);
     let _ = serve::<ScriptStrand, Replay>(alloc, site, &mut world, EVENTS);
-    Ok(history_text(alloc, world.history())?)
+    let text = history_text(alloc, world.history()).ok()?;
+    put(all, str::from_utf8(&text).unwrap_or("?"));
+    Some(())
 }
 
 /// The site with these programs, one a line: its name, which is one byte, `: `, and operations with `, ` between.

@@ -1,13 +1,16 @@
-//! Strands that sleep: moments wake them in the order in which they are due, and of equals the one that was armed first.
+//! Strands that go by scripts, for what no program of Lua asks for yet: turns that are given up, sleep, and memory that is refused (RUN, SLEPT); and until when
+//! the world is asked for events (TWO_SLEEP, TWO_GO).
 use crate::asking::Asking;
 use crate::cases::{EVENTS, hold, site};
 use engine::serve;
 use schedule::schedule_of;
 use std::alloc::Global;
-use std::test::Fail;
 use strand_scripts::ScriptStrand;
 
 const PROGRAMS: &str = "\
+p: say a, log x, yield, say b
+n: yield, log 1, yield, log 2
+h: log x, yield, log y, fail, say b
 a: sleep 5, log a
 b: sleep 3, log b
 z: sleep 0, log z
@@ -18,7 +21,50 @@ f: sleep 5, fail
 g: sleep 5, log g, yield, fail
 r: recall, sleep 5, recall, log r";
 
-const ORDER: &str = r#"arrive c1
+/// A thread runs until it waits; a strand that is refused memory is dropped.
+const RUN: &str = r#"arrive c1
+bytes c1 "pq"
+> log c1 "x"
+> put c1 "ab"
+> close c1
+stop
+
+arrive c1
+arrive c2
+bytes c2 "p"
+> log c2 "x"
+> put c2 "ab"
+> close c2
+bytes c1 "p"
+> log c1 "x"
+> put c1 "ab"
+> close c1
+stop
+
+arrive c1
+bytes c1 "n"
+> log c1 "1"
+> log c1 "2"
+> close c1
+< bytes c1 "n"
+moment 5
+stop
+
+arrive c1
+arrive c2
+bytes c1 "h"
+> log c1 "x"
+> dropped c1
+> close c1
+bytes c2 "p"
+> log c2 "x"
+> put c2 "ab"
+> close c2
+stop"#;
+
+/// Moments wake sleepers in the order in which they are due, and of equals the one that was armed first. A deadline comes due at a later moment alone; one that
+/// is cancelled never does; a strand that is over leaves none; what sleepers write waits and breaks.
+const SLEPT: &str = r#"arrive c1
 arrive c2
 arrive c3
 bytes c3 "a"
@@ -68,14 +114,9 @@ moment 4
 moment 7
 > log c2 "a"
 > close c2
-stop"#;
+stop
 
-#[test]
-fn sleepers_wake_by_moment_and_by_order_of_arming(rt: HostRuntime) -> Result<(), Fail> {
-    hold(&rt, rt.alloc(), PROGRAMS, ORDER)
-}
-
-const NEXT_MOMENT: &str = r#"arrive c1
+arrive c1
 bytes c1 "z"
 arrive c2
 moment 0
@@ -105,14 +146,9 @@ moment 11
 moment 12
 > log c1 "a"
 > close c1
-stop"#;
+stop
 
-#[test]
-fn a_deadline_comes_due_at_a_later_moment_alone(rt: HostRuntime) -> Result<(), Fail> {
-    hold(&rt, rt.alloc(), PROGRAMS, NEXT_MOMENT)
-}
-
-const CANCELLED: &str = r#"arrive c1
+arrive c1
 bytes c1 "w"
 moment 3
 bytes c1 "x"
@@ -143,14 +179,9 @@ moment 4
 moment 5
 > log c1 "r"
 > close c1
-stop"#;
+stop
 
-#[test]
-fn a_cancelled_deadline_never_comes_due(rt: HostRuntime) -> Result<(), Fail> {
-    hold(&rt, rt.alloc(), PROGRAMS, CANCELLED)
-}
-
-const OVER: &str = r#"arrive c1
+arrive c1
 arrive c2
 bytes c1 "f"
 bytes c2 "a"
@@ -198,14 +229,9 @@ bytes c1 "b"
 stop
 > close c1
 > close c2
-> close c3"#;
+> close c3
 
-#[test]
-fn a_strand_that_is_over_leaves_no_deadline(rt: HostRuntime) -> Result<(), Fail> {
-    hold(&rt, rt.alloc(), PROGRAMS, OVER)
-}
-
-const WRITES: &str = r#"arrive c1
+arrive c1
 arrive c2
 < room c1 1
 bytes c1 "s"
@@ -249,15 +275,28 @@ moment 5
 < stop"#;
 
 #[test]
-fn what_sleepers_write_waits_and_breaks(rt: HostRuntime) -> Result<(), Fail> {
-    hold(&rt, rt.alloc(), PROGRAMS, WRITES)
+fn strands_run_and_sleep(rt: HostRuntime) {
+    hold(&rt, rt.alloc(), PROGRAMS, RUN);
+    hold(&rt, rt.alloc(), PROGRAMS, SLEPT);
 }
 
-/// Until when the world was asked as the schedule was served.
-fn asked(alloc: Global, schedule: &str) -> Result<Asking, Fail> {
-    let mut world = Asking::new(alloc, schedule_of(alloc, schedule.as_bytes())?);
-    let _ = serve::<ScriptStrand, Asking>(alloc, site(alloc, PROGRAMS)?, &mut world, EVENTS);
-    Ok(world)
+/// The world after the schedule was served.
+fn asked(alloc: Global, schedule: &str) -> Option<Asking> {
+    let Ok(schedule) = schedule_of(alloc, schedule.as_bytes()) else {
+        return None;
+    };
+    let site = site(alloc, PROGRAMS).ok()?;
+    let mut world = Asking::new(alloc, schedule);
+    let _ = serve::<ScriptStrand, Asking>(alloc, site, &mut world, EVENTS);
+    Some(world)
+}
+
+/// Whether the world is asked until these moments as the schedule is served.
+fn is_asked(alloc: Global, schedule: &str, moments: &str) -> bool {
+    match asked(alloc, schedule) {
+        Some(world) => world.asked() == moments,
+        None => false,
+    }
 }
 
 const TWO_SLEEP: &str = r#"arrive c1
@@ -280,9 +319,7 @@ stop
 "#;
 
 #[test]
-fn the_world_is_asked_until_the_earliest_deadline(rt: HostRuntime) -> Result<(), Fail> {
-    let alloc = rt.alloc();
-    assert_eq!(rt; asked(alloc, TWO_SLEEP)?.asked(), "- - - 5 3 5 - ");
-    assert_eq!(rt; asked(alloc, TWO_GO)?.asked(), "- - - 5 3 5 - - ");
-    Ok(())
+fn the_world_is_asked_until_the_earliest_deadline(rt: HostRuntime) {
+    assert!(rt; is_asked(rt.alloc(), TWO_SLEEP, "- - - 5 3 5 - "));
+    assert!(rt; is_asked(rt.alloc(), TWO_GO, "- - - 5 3 5 - - "));
 }

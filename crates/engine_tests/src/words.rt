@@ -1,5 +1,7 @@
-//! The words of rows.
+//! The words of rows, and texts.
 use resty_base::StrandId;
+use std::alloc::Global;
+use std::process::Abort;
 
 /// The word of this number.
 pub(crate) fn word(text: &str, index: usize) -> &str {
@@ -24,27 +26,34 @@ pub(crate) fn strand(word: &str) -> StrandId {
     }
 }
 
-/// Whether a text says this strand, `-` for none.
-pub(crate) fn is_strand(who: Option<StrandId>, text: &str) -> bool {
-    match who {
-        Some(who) => who == strand(text),
-        None => text == "-",
+/// Writes a text, or leaves it out where there is no memory for it, so that the row fails.
+pub(crate) fn put(all: &mut String, text: &str) {
+    let _ = all.push_str(text);
+}
+
+/// Writes a number.
+pub(crate) fn put_number(all: &mut String, n: u64) {
+    let _ = write!(all, "{n}");
+}
+
+/// Writes a strand and a number, `-` for none.
+pub(crate) fn put_thread(all: &mut String, thread: Option<(StrandId, u32)>) {
+    let _ = match thread {
+        Some((StrandId::Conn(who), number)) => write!(all, "c{who} {number}"),
+        Some((StrandId::Job(who), number)) => write!(all, "j{who} {number}"),
+        None => all.push_str("-"),
+    };
+}
+
+/// A text with another in the place of a part, or as it was where there is no memory for it, so that the row fails.
+pub(crate) fn replaced(alloc: Global, text: String, part: &str, other: &str) -> String {
+    match text.replace(alloc, part, other) {
+        Ok(next) => next,
+        Err(_) => text,
     }
 }
 
-/// Whether a text says this strand and number, `-` for none.
-pub(crate) fn is_thread(thread: Option<(StrandId, u32)>, text: &str) -> bool {
-    match thread {
-        Some((who, number)) => who == strand(word(text, 0))
-            && number == small_number(word(text, 1)),
-        None => text == "-",
-    }
-}
-
-/// Whether a text writes this number, `-` for none.
-pub(crate) fn is_number(number: Option<u64>, text: &str) -> bool {
-    match number {
-        Some(number) => text.parse().ok() == Some(number),
-        None => text == "-",
-    }
+/// What is seen is what the row says.
+pub(crate) fn expect(rt: &impl Abort, seen: &str, expected: &str, row: &str) {
+    assert_eq!(rt; seen, expected, "{row}");
 }

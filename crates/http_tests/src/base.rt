@@ -1,11 +1,11 @@
-//! Tests of header fields, names, lists in values and hosts; the values were worked out from RFC 9110 by hand.
+//! Tests of header fields (FIELDS), names (NAMES), lists in values (LISTS), hosts (HOSTS) and splits (SPLITS); from RFC 9110 by hand.
 use crate::rows::{Subject, hold};
 use crate::texts::*;
 use http_base::*;
 use resty_base::Pair2;
 use std::alloc::{AllocError, Global};
-use std::test::Fail;
 
+/// Names have no case.
 const NAMES: &str = "\
 lower  => []
 same   => same
@@ -21,20 +21,11 @@ same a-b a_b => another
 same \u{c3}\u{89} \u{c3}\u{a9} => another
 same @ ` => another";
 
-#[test]
-fn names_have_no_case(rt: HostRuntime) -> Result<(), Fail> {
-    hold(&rt, rt.alloc(), Subject::Base, NAMES)
-}
-
 /// Fields, steps on them, and the fields at the end.
 const FIELDS: &str =
     "fields A=1 B=2 a=3 A-B=4 a=; values a, values c, remove a, count, remove c => [1;3;;][][2]B=2;A-B=4;";
 
-#[test]
-fn fields_are_found_and_taken_out_by_name(rt: HostRuntime) -> Result<(), Fail> {
-    hold(&rt, rt.alloc(), Subject::Base, FIELDS)
-}
-
+/// Values are lists of elements.
 const LISTS: &str = "\
 elements  => []
 elements chunked => [chunked]
@@ -47,11 +38,7 @@ elements ,, => [][][]
 elements chunked;a=1 => [chunked;a=1]
 trimmed  \t  => []";
 
-#[test]
-fn values_are_lists_of_elements(rt: HostRuntime) -> Result<(), Fail> {
-    hold(&rt, rt.alloc(), Subject::Base, LISTS)
-}
-
+/// Hosts are plain.
 const HOSTS: &str = "\
 host  => []
 host H => [h]
@@ -67,12 +54,6 @@ host a[:] => [a[]";
 const SPLITS: &str = "\
 split a=b=c => [a][b=c]
 split a => [a]";
-
-#[test]
-fn hosts_are_plain(rt: HostRuntime) -> Result<(), Fail> {
-    hold(&rt, rt.alloc(), Subject::Base, HOSTS)?;
-    hold(&rt, rt.alloc(), Subject::Base, SPLITS)
-}
 
 /// What a call of `http_base` gives.
 pub(crate) fn answer(alloc: Global, call: &str) -> Result<String, AllocError> {
@@ -190,4 +171,13 @@ fn write_split(all: &mut String, text: &[u8]) -> Result<(), AllocError> {
         Some(after) => write_part(all, after),
         None => Ok(()),
     }
+}
+
+#[test]
+fn fields_names_lists_and_hosts(rt: HostRuntime) {
+    hold(&rt, rt.alloc(), Subject::Base, NAMES);
+    hold(&rt, rt.alloc(), Subject::Base, FIELDS);
+    hold(&rt, rt.alloc(), Subject::Base, LISTS);
+    hold(&rt, rt.alloc(), Subject::Base, HOSTS);
+    hold(&rt, rt.alloc(), Subject::Base, SPLITS);
 }

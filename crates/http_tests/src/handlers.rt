@@ -1,10 +1,10 @@
-//! Tests of the order of handlers: what follows each outcome in each phase, by what of the head was sent.
-use crate::texts::write_number;
+//! Tests of the order of handlers: what follows each outcome in each phase, by what of the head was sent: single ones (ENDED to WITHOUT_ACCESS), and each of a
+//! request (REQUEST), of one that was redirected ten times (REDIRECTED) and of a subrequest (SUBREQUEST).
+use crate::rows::expect;
 use phases::{Next, Outcome, Phase, Sent, after};
 use resty_base::Bytes;
-use std::alloc::{AllocError, Global};
+use std::alloc::Global;
 use std::process::Abort;
-use std::test::Fail;
 use uri_args::Target;
 
 /// How handlers end: the columns of rows that say no outcome.
@@ -62,39 +62,39 @@ fn in_words(next: Next) -> &'static str {
 }
 
 /// Writes what follows; of an answer its status.
-fn write_next(alloc: Global, all: &mut String, next: Next) -> Result<(), AllocError> {
-    if let Next::Reply(status) = next {
-        all.push(' ')?;
-        return write_number(alloc, all, u64::from(status));
-    }
-    all.push_str(in_words(next))
+fn write_next(all: &mut String, next: Next) {
+    let _ = match next {
+        Next::Reply(status) => write!(all, " {status}"),
+        next => all.push_str(in_words(next)),
+    };
 }
 
 /// What follows a handler after so many redirects: `PHASE SENT OUTCOME`, or `PHASE SENT` with each outcome in turn.
-fn following(alloc: Global, handler: &str, sub: bool, redirects: u8) -> Result<String, AllocError> {
+fn following(alloc: Global, handler: &str, sub: bool, redirects: u8) -> String {
     let mut all = String::new(alloc);
     let (name, how) = handler.split_once(' ').unwrap_or((handler, ""));
     let (when, outcomes) = how.split_once(' ').unwrap_or((how, OUTCOMES));
     for text in outcomes.split(", ") {
         let next = after(phase(name), sub, sent(when), redirects, &outcome(text));
-        write_next(alloc, &mut all, next)?;
+        write_next(&mut all, next);
     }
-    Ok(all)
+    all
 }
 
 /// Tests each row, `HANDLER: WHAT FOLLOWS`, of a request or of a subrequest.
-fn hold(rt: &impl Abort, alloc: Global, sub: bool, redirects: u8, rows: &str) -> Result<(), Fail> {
+fn hold(rt: &impl Abort, alloc: Global, sub: bool, redirects: u8, rows: &str) {
     for row in rows.lines() {
         let (handler, expected) = row.split_once(':').unwrap_or((row, ""));
-        assert_eq!(rt;
-            following(alloc, handler, sub, redirects)?.as_str(),
+        expect(
+            rt,
+            following(alloc, handler, sub, redirects).as_str(),
             expected,
-            "{row}"
+            row,
         );
     }
-    Ok(())
 }
 
+/// A handler that ends leads on.
 const ENDED: &str = "\
 rewrite no ended: access
 rewrite before exit-ok: access
@@ -107,11 +107,7 @@ header-filter no ended: finish
 body-filter before exit-ok: finish
 log before ended: finish";
 
-#[test]
-fn a_handler_that_ends_leads_on(rt: HostRuntime) -> Result<(), Fail> {
-    hold(&rt, rt.alloc(), false, 0, ENDED)
-}
-
+/// A status is answered where nothing was.
 const STATUSES: &str = "\
 content no exit 404: 404
 content before exit 404: finish
@@ -124,11 +120,7 @@ content no redirect 302: 302
 rewrite here redirect 301: finish
 header-filter no exit 403: 403";
 
-#[test]
-fn a_status_is_answered_where_nothing_was(rt: HostRuntime) -> Result<(), Fail> {
-    hold(&rt, rt.alloc(), false, 0, STATUSES)
-}
-
+/// What fails is answered or closes.
 const FAILED: &str = "\
 content no failed: 500
 content here failed: close
@@ -141,11 +133,7 @@ log here failed: finish
 log before exit 500: finish
 log before spent: close";
 
-#[test]
-fn what_fails_is_answered_or_closes(rt: HostRuntime) -> Result<(), Fail> {
-    hold(&rt, rt.alloc(), false, 0, FAILED)
-}
-
+/// A request begins anew ten times.
 const FIRST_EXEC: &str = "\
 access no exec: again
 content here exec: again";
@@ -159,24 +147,13 @@ access no exec: 500
 access here exec: close
 content no exec-named: 500";
 
-#[test]
-fn a_request_begins_anew_ten_times(rt: HostRuntime) -> Result<(), Fail> {
-    hold(&rt, rt.alloc(), false, 0, FIRST_EXEC)?;
-    hold(&rt, rt.alloc(), false, 9, TENTH_EXEC)?;
-    hold(&rt, rt.alloc(), false, 10, ELEVENTH_EXEC)
-}
-
+/// A subrequest has no access phase.
 const WITHOUT_ACCESS: &str = "\
 rewrite no ended: content
 rewrite here exit-ok: finish
 rewrite no exit 444: 444
 content here exit 444: finish
 content no ended: finish";
-
-#[test]
-fn a_subrequest_has_no_access_phase(rt: HostRuntime) -> Result<(), Fail> {
-    hold(&rt, rt.alloc(), true, 0, WITHOUT_ACCESS)
-}
 
 /// Columns: ended, exit of itself, exit by 201, 404 and 444, redirect, exec of a path and of a name, failed, spent.
 const REQUEST: &str = "\
@@ -217,8 +194,15 @@ header-filter no: finish finish finish 404 444 302 again again close 500
 body-filter before: finish finish finish finish finish finish again again close close";
 
 #[test]
-fn each_outcome_in_each_phase(rt: HostRuntime) -> Result<(), Fail> {
-    hold(&rt, rt.alloc(), false, 0, REQUEST)?;
-    hold(&rt, rt.alloc(), false, 10, REDIRECTED)?;
-    hold(&rt, rt.alloc(), true, 0, SUBREQUEST)
+fn each_outcome_is_followed(rt: HostRuntime) {
+    hold(&rt, rt.alloc(), false, 0, ENDED);
+    hold(&rt, rt.alloc(), false, 0, STATUSES);
+    hold(&rt, rt.alloc(), false, 0, FAILED);
+    hold(&rt, rt.alloc(), false, 0, FIRST_EXEC);
+    hold(&rt, rt.alloc(), false, 9, TENTH_EXEC);
+    hold(&rt, rt.alloc(), false, 10, ELEVENTH_EXEC);
+    hold(&rt, rt.alloc(), true, 0, WITHOUT_ACCESS);
+    hold(&rt, rt.alloc(), false, 0, REQUEST);
+    hold(&rt, rt.alloc(), false, 10, REDIRECTED);
+    hold(&rt, rt.alloc(), true, 0, SUBREQUEST);
 }

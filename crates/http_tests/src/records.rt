@@ -1,10 +1,12 @@
-//! Tests of the record of a request: steps that a program takes on it, written as texts, and what each answers.
+//! Tests of the record of a request: steps that a program takes on it, written as texts, and what each answers. `requests` shows what is asked of a request
+//! and changed in it, `variables` each variable, `replies` what is said of the reply, `heads` the heads of replies.
 mod heads;
 mod parts;
 mod replies;
 mod requests;
 mod variables;
 
+use crate::rows::{Subject, hold};
 use crate::texts::*;
 use http_reply::{ReplyHead, head_text};
 use parts::*;
@@ -226,4 +228,128 @@ fn write_head(alloc: Global, head: &ReplyHead, all: &mut String) -> Result<(), A
         }
     }
     Ok(())
+}
+
+#[test]
+fn records_answer_steps(rt: HostRuntime) {
+    hold(
+        &rt,
+        rt.alloc(),
+        Subject::Record(requests::HEAD),
+        requests::SETS,
+    );
+    hold(
+        &rt,
+        rt.alloc(),
+        Subject::Record(requests::HEAD),
+        requests::REFUSED,
+    );
+    hold(
+        &rt,
+        rt.alloc(),
+        Subject::Record(requests::TWO),
+        requests::MANY,
+    );
+    hold(
+        &rt,
+        rt.alloc(),
+        Subject::Record(requests::HEAD),
+        requests::LISTED,
+    );
+    hold(
+        &rt,
+        rt.alloc(),
+        Subject::Record(requests::OPTIONS),
+        requests::METHODS,
+    );
+    hold(
+        &rt,
+        rt.alloc(),
+        Subject::Record(requests::HEAD),
+        requests::ARGUMENTS,
+    );
+    hold(
+        &rt,
+        rt.alloc(),
+        Subject::Record(variables::HEAD),
+        variables::NAMES,
+    );
+    hold(
+        &rt,
+        rt.alloc(),
+        Subject::Record(variables::POST),
+        variables::ABSENT,
+    );
+    hold(
+        &rt,
+        rt.alloc(),
+        Subject::Record(variables::ABSOLUTE),
+        variables::HOST,
+    );
+    hold(
+        &rt,
+        rt.alloc(),
+        Subject::Record(replies::HEAD),
+        replies::SETS,
+    );
+    hold(
+        &rt,
+        rt.alloc(),
+        Subject::Record(replies::HEAD),
+        replies::REFUSED,
+    );
+    hold(
+        &rt,
+        rt.alloc(),
+        Subject::Record(replies::HEAD),
+        replies::MANY,
+    );
+    hold(
+        &rt,
+        rt.alloc(),
+        Subject::Record(replies::HEAD),
+        replies::STATUSES,
+    );
+    hold(
+        &rt,
+        rt.alloc(),
+        Subject::Record(replies::HEAD),
+        replies::PRINTS,
+    );
+    hold(
+        &rt,
+        rt.alloc(),
+        Subject::Record(heads::OLD),
+        heads::HANDLERS_OLD,
+    );
+    hold(
+        &rt,
+        rt.alloc(),
+        Subject::Record(heads::NEW),
+        heads::HANDLERS_NEW,
+    );
+    hold(
+        &rt,
+        rt.alloc(),
+        Subject::Record(heads::ASKS_HEAD),
+        heads::HANDLERS_HEAD,
+    );
+    hold(
+        &rt,
+        rt.alloc(),
+        Subject::Record(heads::OLD),
+        heads::BUILT_IN_OLD,
+    );
+    hold(
+        &rt,
+        rt.alloc(),
+        Subject::Record(heads::NEW),
+        heads::BUILT_IN_NEW,
+    );
+    hold(
+        &rt,
+        rt.alloc(),
+        Subject::Record(heads::NEW),
+        heads::CONNECTIONS,
+    );
 }

@@ -1,11 +1,11 @@
-//! Tests of heads, dates, chunks, framings and built-in replies; the values were worked out from RFC 9110 and 9112 by hand.
+//! Tests of heads (HEADS), dates (DATES), built-in replies (BODIES, REASONS), chunks (SIZES, CHUNKS), framings (FRAMINGS) and bodies that are sent (SENT); the
+//! values were worked out from RFC 9110 and 9112 by hand.
 use crate::rows::{Subject, hold};
 use crate::texts::*;
 use http_base::Fields;
 use http_reply::*;
 use resty_base::{Bytes, Ms};
 use std::alloc::{AllocError, Global};
-use std::test::Fail;
 
 /// Heads: a status, words and fields, the moment, and the text.
 const HEADS: &str = "\
@@ -21,11 +21,7 @@ HTTP/1.1 200 OK␍␊Server: ␍␊Date: Thu, 01 Jan 1970 00:00:00 GMT␍␊Cont
 head 204 keep length:5; 0 => \
 HTTP/1.1 204 No Content␍␊Server: ␍␊Date: Thu, 01 Jan 1970 00:00:00 GMT␍␊Connection: keep-alive␍␊␍␊";
 
-#[test]
-fn heads_are_written(rt: HostRuntime) -> Result<(), Fail> {
-    hold(&rt, rt.alloc(), Subject::Reply, HEADS)
-}
-
+/// Moments have dates.
 const DATES: &str = "\
 date 0 => Thu, 01 Jan 1970 00:00:00 GMT
 date 951782399999 => Mon, 28 Feb 2000 23:59:59 GMT
@@ -33,11 +29,6 @@ date 951868799000 => Tue, 29 Feb 2000 23:59:59 GMT
 date 1700000000000 => Tue, 14 Nov 2023 22:13:20 GMT
 date 99999999999999 => Wed, 16 Nov 5138 09:46:39 GMT
 date 18446744073709551615 => Fri, 31 Dec 9999 23:59:59 GMT";
-
-#[test]
-fn moments_have_dates(rt: HostRuntime) -> Result<(), Fail> {
-    hold(&rt, rt.alloc(), Subject::Reply, DATES)
-}
 
 /// Bodies of built-in replies, with the lengths that their heads say, and a head.
 const BODIES: &str = "\
@@ -88,12 +79,7 @@ reason 203 => []
 reason 418 => []
 reason 506 => []";
 
-#[test]
-fn built_in_replies_say_their_status(rt: HostRuntime) -> Result<(), Fail> {
-    hold(&rt, rt.alloc(), Subject::Reply, BODIES)?;
-    hold(&rt, rt.alloc(), Subject::Reply, REASONS)
-}
-
+/// Pieces are chunks.
 const SIZES: &str = "\
 start 1 => 1␍␊
 start 9 => 9␍␊
@@ -111,12 +97,6 @@ chunk ab => [2␍␊ab␍␊]
 chunk 0123456789abcdef => [10␍␊0123456789abcdef␍␊]
 chunk ␍␊ => [2␍␊␍␊␍␊]
 last => 0␍␊␍␊";
-
-#[test]
-fn pieces_are_chunks(rt: HostRuntime) -> Result<(), Fail> {
-    hold(&rt, rt.alloc(), Subject::Reply, SIZES)?;
-    hold(&rt, rt.alloc(), Subject::Reply, CHUNKS)
-}
 
 /// Framings by method, status, minor version and length.
 const FRAMINGS: &str = "\
@@ -145,12 +125,6 @@ sent chunked => [0␍␊␍␊]
 reply 14 404 Not Found␊ => \
 HTTP/1.1 404 Not Found␍␊Server: resty␍␊Date: Thu, 01 Jan 1970 00:00:00 GMT␍␊Content-Type: text/plain␍␊Content-Length: 14␍␊\
 Connection: close␍␊␍␊404 Not Found␊";
-
-#[test]
-fn bodies_are_sent_by_their_framing(rt: HostRuntime) -> Result<(), Fail> {
-    hold(&rt, rt.alloc(), Subject::Reply, FRAMINGS)?;
-    hold(&rt, rt.alloc(), Subject::Reply, SENT)
-}
 
 /// The number that a text writes, 0 where it writes none.
 fn number(text: &str) -> u64 {
@@ -301,4 +275,16 @@ fn pieces_of(alloc: Global, text: &str) -> Result<Vec<Bytes>, AllocError> {
         pieces.push(bytes_of(alloc, piece)?)?;
     }
     Ok(pieces)
+}
+
+#[test]
+fn heads_dates_chunks_and_bodies_are_written(rt: HostRuntime) {
+    hold(&rt, rt.alloc(), Subject::Reply, HEADS);
+    hold(&rt, rt.alloc(), Subject::Reply, DATES);
+    hold(&rt, rt.alloc(), Subject::Reply, BODIES);
+    hold(&rt, rt.alloc(), Subject::Reply, REASONS);
+    hold(&rt, rt.alloc(), Subject::Reply, SIZES);
+    hold(&rt, rt.alloc(), Subject::Reply, CHUNKS);
+    hold(&rt, rt.alloc(), Subject::Reply, FRAMINGS);
+    hold(&rt, rt.alloc(), Subject::Reply, SENT);
 }

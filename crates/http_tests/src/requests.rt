@@ -1,8 +1,8 @@
-//! Tests of heads and bodies of requests: what is read of texts, however they are cut.
+//! Tests of heads (`heads`: where they end, fields, framings, limits) and bodies (`bodies`: chunks, pieces, limits of lines) of requests.
 mod bodies;
-mod cuts;
 mod heads;
 
+use crate::rows::{Subject, hold};
 use crate::texts::joined;
 use std::alloc::{AllocError, Global};
 
@@ -14,6 +14,10 @@ pub(crate) fn read(alloc: Global, given: &str) -> Result<String, AllocError> {
         "fields-1.0" => heads::read(alloc, &joined(alloc, &[heads::B, text, "␍␊"])?),
         "fields-1.1" => heads::read(alloc, &joined(alloc, &[heads::A, text, "␍␊"])?),
         "parts" => heads::parts(alloc, &joined(alloc, &[heads::B, text, "␍␊"])?),
+        "scan" => {
+            let (first, second) = text.split_once('|').unwrap_or((text, ""));
+            heads::scanned(alloc, &joined(alloc, &[first])?, &joined(alloc, &[second])?)
+        }
         "repeated" => heads::read(alloc, &repeated(alloc, text)?),
         _ => bodies::read(alloc, word, text),
     }
@@ -29,4 +33,17 @@ fn repeated(alloc: Global, parts: &str) -> Result<Vec<u8>, AllocError> {
     let count = part(parts, 2).parse().unwrap_or(0);
     let middle = part(parts, 1).repeat(alloc, count)?;
     joined(alloc, &[part(parts, 0), middle.as_str(), part(parts, 3)])
+}
+
+#[test]
+fn heads_and_bodies_are_read(rt: HostRuntime) {
+    hold(&rt, rt.alloc(), Subject::Request, heads::HEADS);
+    hold(&rt, rt.alloc(), Subject::Request, heads::SCANS);
+    hold(&rt, rt.alloc(), Subject::Request, heads::FIELDS);
+    hold(&rt, rt.alloc(), Subject::Request, heads::PARTS);
+    hold(&rt, rt.alloc(), Subject::Request, heads::FRAMINGS);
+    hold(&rt, rt.alloc(), Subject::Request, heads::LIMITS);
+    hold(&rt, rt.alloc(), Subject::Request, bodies::BODIES);
+    hold(&rt, rt.alloc(), Subject::Request, bodies::PIECES);
+    hold(&rt, rt.alloc(), Subject::Request, bodies::PADDED);
 }

@@ -1,11 +1,12 @@
-//! Tests of escapes, arguments and targets; the values were worked out from the standards apart from the program.
+//! Tests of escapes (ESCAPES, UNESCAPES, EACH), arguments (ARGUMENTS, PAIRS) and targets (TARGETS, REFUSED); the values were worked out from the standards
+//! apart from the program.
 use crate::rows::{Subject, hold};
 use crate::texts::*;
 use resty_base::Bytes;
 use std::alloc::{AllocError, Global};
-use std::test::Fail;
 use uri_args::*;
 
+/// Bytes are escaped and unescaped.
 const ESCAPES: &str = "\
 escape Az09-._~ => [Az09-._~]
 escape !'()*/?# => [%21%27%28%29%2A%2F%3F%23]
@@ -24,41 +25,41 @@ unescape %c3%A9 => [\u{c3}\u{a9}]
 unescape %0g%00 => [%0g\0]
 unescape % => [%]";
 
-#[test]
-fn bytes_are_escaped_and_unescaped(rt: HostRuntime) -> Result<(), Fail> {
-    hold(&rt, rt.alloc(), Subject::Target, ESCAPES)?;
-    hold(&rt, rt.alloc(), Subject::Target, UNESCAPES)
-}
-
-const DIGITS: &[u8; 16] = b"0123456789ABCDEF";
-
-/// Whether these bytes are unescaped to this byte.
-fn is_escape(alloc: Global, bytes: &[u8], byte: u8) -> Result<bool, AllocError> {
-    let bytes = Bytes::copy_from_slice(alloc, bytes)?;
-    Ok(unescape(alloc, &bytes)?.as_slice() == [byte].as_slice())
-}
-
-/// Whether a byte is escaped as it should be, and both it and its long escape are unescaped.
-fn has_one_escape(alloc: Global, byte: u8) -> Result<bool, AllocError> {
-    let high = DIGITS[(byte / 16) as usize];
-    let low = DIGITS[(byte % 16) as usize];
-    let long = [b'%', high, low];
-    let escaped = escape(alloc, &[byte])?;
-    let is_right = if byte.is_ascii_alphanumeric() || b"-._~".contains(&byte) {
-        escaped.as_slice() == [byte].as_slice()
-    } else {
-        escaped.as_slice() == long.as_slice()
-    };
-    Ok(is_right && is_escape(alloc, &escaped, byte)? && is_escape(alloc, &long, byte)?)
-}
-
-#[test]
-fn each_byte_has_one_escape(rt: HostRuntime) -> Result<(), Fail> {
-    for byte in 0..=255u8 {
-        assert!(rt; has_one_escape(rt.alloc(), byte)?, "{byte}");
-    }
-    Ok(())
-}
+/// Each byte has one escape, which is unescaped to it; all but letters, digits and `-._~` are escaped.
+const EACH: &str = "\
+escape \x00\x01\x02\x03\x04\x05\x06\x07\x08\x09␊\x0b\x0c␍\x0e\x0f\x10\x11\x12\x13\x14\x15\x16\x17\x18\x19\x1a\x1b\x1c\x1d\x1e\x1f !\"#$%&'()*+,-./01\
+23456789:;<=>? => [\
+%00%01%02%03%04%05%06%07%08%09%0A%0B%0C%0D%0E%0F%10%11%12%13%14%15%16%17%18%19%1A%1B%1C%1D%1E%1F%20%21%22%23%24%25%26%27%28%29%2A%2B%2C-.%2F01234567\
+89%3A%3B%3C%3D%3E%3F]
+unescape %00%01%02%03%04%05%06%07%08%09%0A%0B%0C%0D%0E%0F%10%11%12%13%14%15%16%17%18%19%1A%1B%1C%1D%1E%1F%20%21%22%23%24%25%26%27%28%29%2A%2B%2C%2D\
+%2E%2F%30%31%32%33%34%35%36%37%38%39%3A%3B%3C%3D%3E%3F => [\
+\x00\x01\x02\x03\x04\x05\x06\x07\x08\x09␊\x0b\x0c␍\x0e\x0f\x10\x11\x12\x13\x14\x15\x16\x17\x18\x19\x1a\x1b\x1c\x1d\x1e\x1f !\"#$%&'()*+,-./012345678\
+9:;<=>?]
+escape @ABCDEFGHIJKLMNOPQRSTUVWXYZ[\\]^_`abcdefghijklmnopqrstuvwxyz{|}~\x7f => [\
+%40ABCDEFGHIJKLMNOPQRSTUVWXYZ%5B%5C%5D%5E_%60abcdefghijklmnopqrstuvwxyz%7B%7C%7D~%7F]
+unescape %40%41%42%43%44%45%46%47%48%49%4A%4B%4C%4D%4E%4F%50%51%52%53%54%55%56%57%58%59%5A%5B%5C%5D%5E%5F%60%61%62%63%64%65%66%67%68%69%6A%6B%6C%6D\
+%6E%6F%70%71%72%73%74%75%76%77%78%79%7A%7B%7C%7D%7E%7F => [\
+@ABCDEFGHIJKLMNOPQRSTUVWXYZ[\\]^_`abcdefghijklmnopqrstuvwxyz{|}~\x7f]
+escape \u{80}\u{81}\u{82}\u{83}\u{84}\u{85}\u{86}\u{87}\u{88}\u{89}\u{8a}\u{8b}\u{8c}\u{8d}\u{8e}\u{8f}\u{90}\u{91}\u{92}\u{93}\u{94}\u{95}\u{96}\
+\u{97}\u{98}\u{99}\u{9a}\u{9b}\u{9c}\u{9d}\u{9e}\u{9f}\u{a0}\u{a1}\u{a2}\u{a3}\u{a4}\u{a5}\u{a6}\u{a7}\u{a8}\u{a9}\u{aa}\u{ab}\u{ac}\u{ad}\u{ae}\
+\u{af}\u{b0}\u{b1}\u{b2}\u{b3}\u{b4}\u{b5}\u{b6}\u{b7}\u{b8}\u{b9}\u{ba}\u{bb}\u{bc}\u{bd}\u{be}\u{bf} => [\
+%80%81%82%83%84%85%86%87%88%89%8A%8B%8C%8D%8E%8F%90%91%92%93%94%95%96%97%98%99%9A%9B%9C%9D%9E%9F%A0%A1%A2%A3%A4%A5%A6%A7%A8%A9%AA%AB%AC%AD%AE%AF%B0\
+%B1%B2%B3%B4%B5%B6%B7%B8%B9%BA%BB%BC%BD%BE%BF]
+unescape %80%81%82%83%84%85%86%87%88%89%8A%8B%8C%8D%8E%8F%90%91%92%93%94%95%96%97%98%99%9A%9B%9C%9D%9E%9F%A0%A1%A2%A3%A4%A5%A6%A7%A8%A9%AA%AB%AC%AD\
+%AE%AF%B0%B1%B2%B3%B4%B5%B6%B7%B8%B9%BA%BB%BC%BD%BE%BF => [\
+\u{80}\u{81}\u{82}\u{83}\u{84}\u{85}\u{86}\u{87}\u{88}\u{89}\u{8a}\u{8b}\u{8c}\u{8d}\u{8e}\u{8f}\u{90}\u{91}\u{92}\u{93}\u{94}\u{95}\u{96}\u{97}\
+\u{98}\u{99}\u{9a}\u{9b}\u{9c}\u{9d}\u{9e}\u{9f}\u{a0}\u{a1}\u{a2}\u{a3}\u{a4}\u{a5}\u{a6}\u{a7}\u{a8}\u{a9}\u{aa}\u{ab}\u{ac}\u{ad}\u{ae}\u{af}\
+\u{b0}\u{b1}\u{b2}\u{b3}\u{b4}\u{b5}\u{b6}\u{b7}\u{b8}\u{b9}\u{ba}\u{bb}\u{bc}\u{bd}\u{be}\u{bf}]
+escape \u{c0}\u{c1}\u{c2}\u{c3}\u{c4}\u{c5}\u{c6}\u{c7}\u{c8}\u{c9}\u{ca}\u{cb}\u{cc}\u{cd}\u{ce}\u{cf}\u{d0}\u{d1}\u{d2}\u{d3}\u{d4}\u{d5}\u{d6}\
+\u{d7}\u{d8}\u{d9}\u{da}\u{db}\u{dc}\u{dd}\u{de}\u{df}\u{e0}\u{e1}\u{e2}\u{e3}\u{e4}\u{e5}\u{e6}\u{e7}\u{e8}\u{e9}\u{ea}\u{eb}\u{ec}\u{ed}\u{ee}\
+\u{ef}\u{f0}\u{f1}\u{f2}\u{f3}\u{f4}\u{f5}\u{f6}\u{f7}\u{f8}\u{f9}\u{fa}\u{fb}\u{fc}\u{fd}\u{fe}\u{ff} => [\
+%C0%C1%C2%C3%C4%C5%C6%C7%C8%C9%CA%CB%CC%CD%CE%CF%D0%D1%D2%D3%D4%D5%D6%D7%D8%D9%DA%DB%DC%DD%DE%DF%E0%E1%E2%E3%E4%E5%E6%E7%E8%E9%EA%EB%EC%ED%EE%EF%F0\
+%F1%F2%F3%F4%F5%F6%F7%F8%F9%FA%FB%FC%FD%FE%FF]
+unescape %C0%C1%C2%C3%C4%C5%C6%C7%C8%C9%CA%CB%CC%CD%CE%CF%D0%D1%D2%D3%D4%D5%D6%D7%D8%D9%DA%DB%DC%DD%DE%DF%E0%E1%E2%E3%E4%E5%E6%E7%E8%E9%EA%EB%EC%ED\
+%EE%EF%F0%F1%F2%F3%F4%F5%F6%F7%F8%F9%FA%FB%FC%FD%FE%FF => [\
+\u{c0}\u{c1}\u{c2}\u{c3}\u{c4}\u{c5}\u{c6}\u{c7}\u{c8}\u{c9}\u{ca}\u{cb}\u{cc}\u{cd}\u{ce}\u{cf}\u{d0}\u{d1}\u{d2}\u{d3}\u{d4}\u{d5}\u{d6}\u{d7}\
+\u{d8}\u{d9}\u{da}\u{db}\u{dc}\u{dd}\u{de}\u{df}\u{e0}\u{e1}\u{e2}\u{e3}\u{e4}\u{e5}\u{e6}\u{e7}\u{e8}\u{e9}\u{ea}\u{eb}\u{ec}\u{ed}\u{ee}\u{ef}\
+\u{f0}\u{f1}\u{f2}\u{f3}\u{f4}\u{f5}\u{f6}\u{f7}\u{f8}\u{f9}\u{fa}\u{fb}\u{fc}\u{fd}\u{fe}\u{ff}]";
 
 /// The most arguments, a text, and the arguments in it.
 const ARGUMENTS: &str = "\
@@ -88,12 +89,6 @@ text a; => [a]
 text a:; => [a=]
 text a b:c&d;\u{c3}\u{a9}; => [a%20b=c%26d&%C3%A9]
 text ;b:=; => [&b=%3D]";
-
-#[test]
-fn arguments_are_read_and_written(rt: HostRuntime) -> Result<(), Fail> {
-    hold(&rt, rt.alloc(), Subject::Target, ARGUMENTS)?;
-    hold(&rt, rt.alloc(), Subject::Target, PAIRS)
-}
 
 /// Targets, their paths, their arguments, and the hosts of those that name one.
 const TARGETS: &str = "\
@@ -140,12 +135,6 @@ target http://h => refused
 target http:///x => refused
 target HTTP://h/ => refused
 target https://h/ => refused";
-
-#[test]
-fn targets_are_read_or_refused(rt: HostRuntime) -> Result<(), Fail> {
-    hold(&rt, rt.alloc(), Subject::Target, TARGETS)?;
-    hold(&rt, rt.alloc(), Subject::Target, REFUSED)
-}
 
 /// What a call of `uri_args` gives.
 pub(crate) fn answer(alloc: Global, call: &str) -> Result<String, AllocError> {
@@ -219,4 +208,15 @@ fn write_target(alloc: Global, all: &mut String, text: &Bytes) -> Result<(), All
         Some(host) => write_part(all, host),
         None => Ok(()),
     }
+}
+
+#[test]
+fn escapes_arguments_and_targets(rt: HostRuntime) {
+    hold(&rt, rt.alloc(), Subject::Target, ESCAPES);
+    hold(&rt, rt.alloc(), Subject::Target, UNESCAPES);
+    hold(&rt, rt.alloc(), Subject::Target, EACH);
+    hold(&rt, rt.alloc(), Subject::Target, ARGUMENTS);
+    hold(&rt, rt.alloc(), Subject::Target, PAIRS);
+    hold(&rt, rt.alloc(), Subject::Target, TARGETS);
+    hold(&rt, rt.alloc(), Subject::Target, REFUSED);
 }

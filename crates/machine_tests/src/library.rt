@@ -8,7 +8,6 @@ use lua_lib_basic::Library;
 use lua_values::{Both, NativeOut, Natives, Store, TypeKind, Value};
 use std::alloc::{AllocError, Global};
 use std::process::Abort;
-use std::test::Fail;
 
 /// How many functions the machine has of its own, whose numbers come first.
 const OWN: u32 = 5;
@@ -47,9 +46,9 @@ setmetatable(table:2, table:2) => table:2 | 0 | 0
 table 3";
 
 /// Tests that all lines hold, over one store.
-pub(crate) fn hold(rt: &impl Abort, alloc: Global, lines: &str) -> Result<(), Fail> {
-    assert_eq!(rt; first_wrong(alloc, lines)?, None);
-    Ok(())
+pub(crate) fn hold(rt: &impl Abort, alloc: Global, lines: &str) {
+    let wrong = first_wrong(alloc, lines).unwrap_or(Some("memory"));
+    assert_eq!(rt; wrong.unwrap_or(""), "");
 }
 
 /// The first line that doesn't hold.
@@ -185,4 +184,38 @@ fn share(alloc: Global, store: &mut Store, given: &str) -> Result<bool, Wrong> {
 fn leave(store: &mut Store, units: u64) -> Result<bool, Wrong> {
     let kept = store.units().saturating_add(units);
     Ok(store.add_units(1_048_576u64.saturating_sub(kept)).is_ok())
+}
+
+/// Calls of what works on its arguments alone, at the limits, and of tables.
+fn hold_all(rt: &impl Abort, alloc: Global) {
+    hold(rt, alloc, arguments::TYPES);
+    hold(rt, alloc, arguments::EQUALITY);
+    hold(rt, alloc, arguments::SELECTED);
+    hold(rt, alloc, arguments::DECIMAL);
+    hold(rt, alloc, arguments::IN_A_BASE);
+    hold(rt, alloc, arguments::REFUSED_NUMERALS);
+    hold(rt, alloc, arguments::OWN_TEXTS);
+    hold(rt, alloc, arguments::NUMBERS);
+    hold(rt, alloc, limits::FULL);
+    hold(rt, alloc, limits::ALMOST_FULL);
+    hold(rt, alloc, limits::JUST_ENOUGH);
+    hold(rt, alloc, limits::FROZEN);
+    hold(rt, alloc, limits::SPENT);
+    hold(rt, alloc, tables::METATABLES);
+    hold(rt, alloc, tables::TYPES);
+    hold(rt, alloc, tables::REFUSED_METATABLES);
+    hold(rt, alloc, tables::ENTRIES);
+    hold(rt, alloc, tables::ZERO_BYTES);
+    hold(rt, alloc, tables::WITHOUT_METATABLES);
+    hold(rt, alloc, tables::REFUSED_RAW);
+    hold(rt, alloc, tables::PAIRS);
+    hold(rt, alloc, tables::INDEXES);
+    hold(rt, alloc, tables::REFUSED_TRAVERSAL);
+    hold(rt, alloc, tables::UNPACKED);
+    hold(rt, alloc, tables::REFUSED_UNPACK);
+}
+
+#[test]
+fn functions_of_the_library_answer(rt: HostRuntime) {
+    hold_all(&rt, rt.alloc());
 }

@@ -1,12 +1,13 @@
-//! Tests of arithmetic, comparison and concatenation: each over each pair of types, and lines of single ones.
+//! Tests of arithmetic, comparison, concatenation and negation: each over each pair of types (TABLES), values that are equal to themselves alone (EACH), and
+//! lines of single ones (ARITHMETIC to NEGATION).
 
 use crate::values::{Wrong, value};
 use lua_numbers::NumFault;
 use lua_operators::*;
 use lua_values::Value;
 use resty_base::Bytes;
-use std::alloc::{AllocError, Global};
-use std::test::Fail;
+use std::alloc::Global;
+use std::process::Abort;
 
 /// A value of each type, of functions and userdata each kind; of texts one that writes a number and one that doesn't.
 const EACH: &str =
@@ -188,6 +189,7 @@ fn given(alloc: Global, operator: &str, a: &Value, b: &Value) -> Result<Outcome,
         "<" => compared(ComparisonOperator::Less, a, b),
         "<=" => compared(ComparisonOperator::LessOrEqual, a, b),
         "==" => equality(a, b),
+        "neg" => negated(b),
         _ => return Err(Wrong::Line),
     })
 }
@@ -251,81 +253,77 @@ fn first_wrong_in_row(
     Ok(None)
 }
 
-#[test]
-fn each_operator_over_each_pair_of_types(rt: HostRuntime) -> Result<(), Fail> {
+/// The first operator and value on the left for which a row of the tables doesn't hold.
+fn first_wrong_table(alloc: Global) -> Result<Option<&'static str>, Wrong> {
     for operator in OPERATORS.split(' ') {
         for a in EACH.split(' ') {
-            let wrong = first_wrong_in_row(rt.alloc(), operator, a)?;
-            assert_eq!(rt; wrong, None, "{operator} of {a}");
+            if first_wrong_in_row(alloc, operator, a)?.is_some() {
+                return Ok(Some(a));
+            }
         }
     }
-    Ok(())
+    Ok(None)
 }
 
-#[test]
-fn values_are_equal_to_themselves_alone(rt: HostRuntime) -> Result<(), Fail> {
+/// The first value that isn't equal to itself alone.
+fn first_unequal(alloc: Global) -> Result<Option<&'static str>, Wrong> {
     for a in EACH.split(' ') {
         for b in EACH.split(' ') {
             let want = if a == b { "true" } else { "false" };
-            assert!(rt; gives(rt.alloc(), "==", a, b, want)?, "{a} == {b}");
+            if !gives(alloc, "==", a, b, want)? {
+                return Ok(Some(b));
+            }
         }
     }
-    Ok(())
+    Ok(None)
 }
 
-#[test]
-fn single_lines(rt: HostRuntime) -> Result<(), Fail> {
-    for lines in [ARITHMETIC, COMPARISON, EQUALITY, CONCATENATION] {
-        assert_eq!(rt; first_wrong(rt.alloc(), lines)?, None);
+/// What is wrong, or nothing; a line that can't be read is wrong.
+fn told(wrong: Result<Option<&str>, Wrong>) -> &str {
+    match wrong {
+        Ok(Some(line)) => line,
+        Ok(None) => "",
+        Err(_) => "no outcome",
     }
-    Ok(())
 }
 
-/// Whether a text is less than another by each operator, and not the other way round.
-fn is_less(alloc: Global, low: &[u8], high: &[u8]) -> Result<bool, AllocError> {
-    let low = Value::Text(Bytes::copy_from_slice(alloc, low)?);
-    let high = Value::Text(Bytes::copy_from_slice(alloc, high)?);
-    Ok(
-        orders(ComparisonOperator::Less, &low, &high)
-            && orders(ComparisonOperator::LessOrEqual, &low, &high),
-    )
-}
-
-/// Whether an operator holds of two values, and not the other way round.
-fn orders(operator: ComparisonOperator, low: &Value, high: &Value) -> bool {
-    compared(operator, low, high) == Outcome::Gives(Value::Truth(true))
-        && compared(operator, high, low) == Outcome::Gives(Value::Truth(false))
+/// Nothing is wrong.
+fn expect(rt: &impl Abort, wrong: Result<Option<&str>, Wrong>) {
+    assert_eq!(rt; told(wrong), "");
 }
 
 #[test]
-fn bytes_are_unsigned(rt: HostRuntime) -> Result<(), Fail> {
-    let alloc = rt.alloc();
-    let are_less = is_less(alloc, b"\x7f", b"\x80")? && is_less(alloc, b"\x80", b"\xff")?;
-    assert!(rt; are_less && is_less(alloc, b"a\x00", b"a\xff")?);
-    Ok(())
+fn operators_give_what_lua_gives(rt: HostRuntime) {
+    expect(&rt, first_wrong_table(rt.alloc()));
+    expect(&rt, first_unequal(rt.alloc()));
+    expect(&rt, first_wrong(rt.alloc(), ARITHMETIC));
+    expect(&rt, first_wrong(rt.alloc(), COMPARISON));
+    expect(&rt, first_wrong(rt.alloc(), EQUALITY));
+    expect(&rt, first_wrong(rt.alloc(), CONCATENATION));
+    expect(&rt, first_wrong(rt.alloc(), NEGATION));
+    assert!(rt; are_bytes_unsigned());
+}
+
+/// Whether a text of these bytes is less than another, and not the other way round.
+fn is_less(low: &'static [u8], high: &'static [u8]) -> bool {
+    let low = Value::Text(Bytes::from_static(low));
+    let high = Value::Text(Bytes::from_static(high));
+    compared(ComparisonOperator::Less, &low, &high) == Outcome::Gives(Value::Truth(true))
+        && compared(ComparisonOperator::Less, &high, &low) == Outcome::Gives(Value::Truth(false))
+}
+
+/// Whether bytes that are no text are compared without a sign.
+fn are_bytes_unsigned() -> bool {
+    is_less(b"\x7f", b"\x80") && is_less(b"\x80", b"\xff") && is_less(b"a\x00", b"a\xff")
 }
 
 /// Values, and what their negation gives.
 const NEGATION: &str = "\
-0 | 0
-5 | -5
--99999999999999 | 99999999999999
-' -0x10  | 16
-'x | event
-nil | event
-true | event
-table:1 | event";
-
-/// Whether the negation of a line's value gives what the line says.
-fn negation_holds(alloc: Global, line: &str) -> Result<bool, Wrong> {
-    let (word, want) = line.split_once(" | ").unwrap_or((line, ""));
-    Ok(negated(&value(alloc, word)?) == wanted(alloc, want)?)
-}
-
-#[test]
-fn numbers_are_negated(rt: HostRuntime) -> Result<(), Fail> {
-    for line in NEGATION.lines() {
-        assert!(rt; negation_holds(rt.alloc(), line)?, "{line}");
-    }
-    Ok(())
-}
+nil | neg | 0 | 0
+nil | neg | 5 | -5
+nil | neg | -99999999999999 | 99999999999999
+nil | neg | ' -0x10  | 16
+nil | neg | 'x | event
+nil | neg | nil | event
+nil | neg | true | event
+nil | neg | table:1 | event";

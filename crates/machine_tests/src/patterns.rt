@@ -1,6 +1,7 @@
 //! Tests of patterns: rows `SUBJECT|PATTERN|FROM|TESTS => OUTCOME`, a subject, a pattern, the index from which it is sought, and
 //! the tests that are allowed.
 
+use crate::values::expect;
 use lua_patterns::*;
 use std::alloc::{AllocError, Global};
 use std::process::Abort;
@@ -114,7 +115,7 @@ fn is_exact(alloc: Global, row: &str) -> bool {
 fn hold(rt: &impl Abort, alloc: Global, rows: &str) {
     for row in rows.lines() {
         let (given, expected) = row.split_once(" => ").unwrap_or((row, ""));
-        assert_eq!(rt; seen(alloc, given).as_str(), expected, "{row}");
+        expect(rt, seen(alloc, given).as_str(), expected, row);
     }
 }
 

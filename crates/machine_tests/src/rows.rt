@@ -1,4 +1,5 @@
-//! What small programs come to, with their steps and the units that they take.
+//! What small programs come to, with their steps and the units that they take: statements and calls (`branches`, `calls`, `iterations`, `library`, and here),
+//! links, loops, operators, protected calls and tables (files of these names), plain Lua (`snippets`), handlers (`printing`) and sites (`starting`).
 mod branches;
 mod calls;
 mod handlers;
@@ -18,9 +19,14 @@ mod starting;
 mod tables;
 mod toy;
 
+use handlers::hold_handlers;
 use natives::WaitAndId;
-use programs::hold;
+use programs::{hold, hold_answers};
+use sites::hold_sites;
+use std::alloc::Global;
+use std::process::Abort;
 
+/// Programs come to their values.
 const EXPRESSIONS: &str = "\
 return 1 + 2 => Done 3 | 5, 0
 return -(-5), not nil, #\"abc\" => Done 5, true, 3 | 10, 0
@@ -65,25 +71,12 @@ return assert(1, 2, 3) => Done 1, 2, 3 | 8, 0";
 const FROZEN: &str =
     "frozen: x = 1 => Failed \"t.conf:1: attempt to modify a frozen table\" | 4, 0";
 
-#[test]
-fn programs_come_to_their_values(rt: HostRuntime) {
-    hold(&rt, rt.alloc(), EXPRESSIONS);
-    hold(&rt, rt.alloc(), STATEMENTS);
-    hold(&rt, rt.alloc(), CALLS);
-    hold(&rt, rt.alloc(), FROZEN);
-}
-
 /// Tail calls and loops for ever, which nothing catches, and calls that are more than 5,000 deep.
 const SPENT: &str = "\
 local function f() return f() end f() => Spent | 1000000, 56
 while true do end => Spent | 1000000, 0
 pcall(function() while true do end end) return 1 => Spent | 1000000, 32
 local function f() return 1 + f() end return pcall(f) => Done false, \"t.conf:1: stack overflow\" | 30002, 56";
-
-#[test]
-fn spent_steps_are_caught_by_nothing(rt: HostRuntime) {
-    hold(&rt, rt.alloc(), SPENT);
-}
 
 /// Threads that are parked, and what they are resumed with.
 const PARKS: &str = "\
@@ -92,7 +85,96 @@ return w(\"a\", nil) <- 1 nil => Parked(0: \"a\", nil) at 7; Done 1, nil | 7, 0
 w() return w() <- nothing, 3 => Parked(0: ) at 5; Parked(0: ) at 9; Done 3 | 9, 0
 return pcall(w) <- raise => Parked(0: ) at 7; Done false, \"t.conf:1: refused\" | 7, 0";
 
+/// What branches, calls, iterations and functions of the library come to.
+fn hold_of_statements(rt: &impl Abort, alloc: Global) {
+    hold(rt, alloc, EXPRESSIONS);
+    hold(rt, alloc, STATEMENTS);
+    hold(rt, alloc, CALLS);
+    hold(rt, alloc, FROZEN);
+    hold(rt, alloc, SPENT);
+    hold(rt, alloc, PARKS);
+    hold(rt, alloc, branches::ARMS);
+    hold(rt, alloc, branches::TRUTHS);
+    hold(rt, alloc, branches::EQUALITIES);
+    hold(rt, alloc, branches::MADE);
+    hold(rt, alloc, branches::RETURNS);
+    hold(rt, alloc, branches::FAULTS);
+    hold(rt, alloc, branches::LAST_STEP);
+    hold(rt, alloc, calls::VALUES);
+    hold(rt, alloc, calls::OTHERS);
+    hold(rt, alloc, calls::INNERMOST);
+    hold(rt, alloc, calls::LAST_STEP);
+    hold(rt, alloc, iterations::REPEATS);
+    hold(rt, alloc, iterations::COUNTED);
+    hold(rt, alloc, iterations::CALLED);
+    hold(rt, alloc, iterations::CAPTURED);
+    hold(rt, alloc, iterations::LAST_STEP);
+    hold_sites(rt, alloc, "", library::VALUES);
+    hold_sites(rt, alloc, "", library::TRAVERSAL);
+    hold_sites(rt, alloc, "", library::LISTS_AND_NUMBERS);
+}
+
+/// What links, loops, operators, protected calls and tables come to.
+fn hold_of_values(rt: &impl Abort, alloc: Global) {
+    hold(rt, alloc, links::FOUND);
+    hold(rt, alloc, links::OTHERS);
+    hold(rt, alloc, links::LATER);
+    hold(rt, alloc, links::LAST_STEP);
+    hold(rt, alloc, loops::LOOPS);
+    hold(rt, alloc, loops::CAPTURED);
+    hold(rt, alloc, loops::FAULTS);
+    hold(rt, alloc, loops::LAST_STEP);
+    hold(rt, alloc, operators::ARITHMETIC);
+    hold(rt, alloc, operators::COMPARISON);
+    hold(rt, alloc, operators::JOINING);
+    hold(rt, alloc, operators::JOINING_LIMITS);
+    hold(rt, alloc, operators::PARKS);
+    hold(rt, alloc, protected::PROTECTED);
+    hold(rt, alloc, protected::LEVELS);
+    hold(rt, alloc, protected::TEXTS);
+    hold(rt, alloc, protected::SPENT);
+    hold(rt, alloc, protected::LIMITS);
+    hold(rt, alloc, protected::ASKED);
+    hold(rt, alloc, tables::TABLES);
+    hold(rt, alloc, tables::METATABLES);
+}
+
+/// What small texts of plain Lua come to.
+fn hold_of_lua(rt: &impl Abort, alloc: Global) {
+    hold_answers(rt, alloc, snippets::expressions::EXPRESSIONS);
+    hold_answers(rt, alloc, snippets::functions::FUNCTIONS);
+    hold_answers(rt, alloc, snippets::loops::LOOPS);
+    hold_answers(rt, alloc, snippets::metatables::METATABLES);
+    hold_answers(rt, alloc, snippets::protected::FAULTS);
+    hold_answers(rt, alloc, snippets::tables::TABLES);
+    hold_answers(rt, alloc, snippets::variables::VARIABLES);
+}
+
+/// What handlers print, and how sites start.
+fn hold_of_sites(rt: &impl Abort, alloc: Global) {
+    hold_handlers(rt, alloc, printing::VALUES);
+    hold_handlers(rt, alloc, printing::BAD_ARGUMENTS);
+    hold_handlers(rt, alloc, printing::BAD_REQUESTS);
+    hold_handlers(rt, alloc, printing::LIMITS);
+    hold_handlers(rt, alloc, printing::ENDS);
+    hold_handlers(rt, alloc, printing::MANY);
+    hold_sites(rt, alloc, "", starting::GLOBALS);
+    hold_sites(rt, alloc, "", starting::MODULES_REQUIRED);
+    hold_sites(rt, alloc, "", starting::REFUSED);
+}
+
 #[test]
-fn parked_threads_go_on_with_their_answers(rt: HostRuntime) {
-    hold(&rt, rt.alloc(), PARKS);
+fn programs_come_to_their_values(rt: HostRuntime) {
+    hold_of_statements(&rt, rt.alloc());
+    hold_of_values(&rt, rt.alloc());
+}
+
+#[test]
+fn plain_lua_comes_to_what_it_comes_to(rt: HostRuntime) {
+    hold_of_lua(&rt, rt.alloc());
+}
+
+#[test]
+fn handlers_print_and_sites_start(rt: HostRuntime) {
+    hold_of_sites(&rt, rt.alloc());
 }

@@ -1,12 +1,12 @@
-//! Tests of types, conversions, keys of events, and texts of faults.
+//! Tests of types and texts (VALUES), conversions (NUMBERS), keys of events (KEYS), and texts of faults (FAULTS, OPERANDS, and those of arguments and names).
 
-use crate::values::{Wrong, value};
+use crate::values::{Wrong, value, whether};
 use lua_numbers::NumFault;
 use lua_operators::*;
 use lua_values::Value;
 use resty_base::{Bytes, whole};
 use std::alloc::{AllocError, Global};
-use std::test::Fail;
+use std::process::Abort;
 
 /// A value, the name of its type, its text, and whether it is true.
 const VALUES: &str = "\
@@ -52,14 +52,6 @@ fn is_described(alloc: Global, line: &str) -> Result<bool, Wrong> {
     Ok(described(alloc, &value(alloc, word)?)?.as_str() == wanted)
 }
 
-#[test]
-fn types_texts_and_truths(rt: HostRuntime) -> Result<(), Fail> {
-    for line in VALUES.lines() {
-        assert!(rt; is_described(rt.alloc(), line)?, "{line}");
-    }
-    Ok(())
-}
-
 /// Values and their numbers, `none` for those that have none.
 const NUMBERS: &str = "\
 12 | 12
@@ -77,19 +69,11 @@ fn has_number(alloc: Global, line: &str) -> Result<bool, Wrong> {
     })
 }
 
-#[test]
-fn numbers_of_values(rt: HostRuntime) -> Result<(), Fail> {
-    for line in NUMBERS.lines() {
-        assert!(rt; has_number(rt.alloc(), line)?, "{line}");
-    }
-    Ok(())
-}
-
-#[test]
-fn lengths_are_counts_of_bytes(rt: HostRuntime) {
-    assert_eq!(rt; length(b"").ok(), whole(0));
-    assert_eq!(rt; length(b"abc").ok(), whole(3));
-    assert_eq!(rt; length(b"a\x00\xff\xc3\xa9").ok(), whole(5));
+/// Whether lengths are counts of bytes.
+fn are_lengths() -> bool {
+    length(b"").ok() == whole(0)
+        && length(b"abc").ok() == whole(3)
+        && length(b"a\x00\xff\xc3\xa9").ok() == whole(5)
 }
 
 /// The keys of all events.
@@ -119,13 +103,15 @@ fn event_of(key: &str) -> Event {
     }
 }
 
-#[test]
-fn keys_of_events(rt: HostRuntime) {
+/// Whether each event has its key, and operators have their events.
+fn have_keys() -> bool {
     for key in KEYS.split_whitespace() {
-        assert_eq!(rt; event_of(key).key(), key.as_bytes());
+        if event_of(key).key() != key.as_bytes() {
+            return false;
+        }
     }
-    assert_eq!(rt; ArithmeticOperator::Mod.event(), Event::Mod);
-    assert_eq!(rt; ComparisonOperator::LessOrEqual.event(), Event::Le);
+    ArithmeticOperator::Mod.event() == Event::Mod
+        && ComparisonOperator::LessOrEqual.event() == Event::Le
 }
 
 /// Faults and their texts.
@@ -181,12 +167,10 @@ fn fault_of(name: &str) -> Fault {
     }
 }
 
-#[test]
-fn faults_that_name_no_value(rt: HostRuntime) {
-    for line in FAULTS.lines() {
-        let (name, text) = line.split_once(" | ").unwrap_or((line, ""));
-        assert_eq!(rt; fault_of(name).text(), text.as_bytes());
-    }
+/// Whether a line has the text of its fault.
+fn has_fault(line: &str) -> bool {
+    let (name, text) = line.split_once(" | ").unwrap_or((line, ""));
+    fault_of(name).text() == text.as_bytes()
 }
 
 /// The faults of operators on two values of which one or both are named.
@@ -244,15 +228,6 @@ fn others_have_their_texts(alloc: Global) -> Result<bool, AllocError> {
     )
 }
 
-#[test]
-fn faults_that_name_an_operand(rt: HostRuntime) -> Result<(), Fail> {
-    for line in OPERANDS.lines() {
-        assert!(rt; has_text(rt.alloc(), line)?, "{line}");
-    }
-    assert!(rt; others_have_their_texts(rt.alloc())?);
-    Ok(())
-}
-
 /// The faults of an argument have these texts.
 fn arguments_have_their_texts(alloc: Global) -> Result<bool, AllocError> {
     let first = argument_fault(alloc, 1, b"pcall", b"value", b"no value");
@@ -271,13 +246,6 @@ fn names_have_their_texts(alloc: Global) -> Result<bool, AllocError> {
     )
 }
 
-#[test]
-fn faults_that_name_what_was_asked_for(rt: HostRuntime) -> Result<(), Fail> {
-    assert!(rt; arguments_have_their_texts(rt.alloc())?);
-    assert!(rt; names_have_their_texts(rt.alloc())?);
-    Ok(())
-}
-
 /// A text at a position, and at none.
 fn positions_have_their_texts(alloc: Global) -> Result<bool, AllocError> {
     let text = with_position(alloc, b"t.conf", 2, b"attempt to index a nil value");
@@ -287,8 +255,43 @@ fn positions_have_their_texts(alloc: Global) -> Result<bool, AllocError> {
     )
 }
 
+/// Tests each line of a value.
+fn hold(rt: &impl Abort, alloc: Global) {
+    for line in VALUES.lines() {
+        assert!(rt;
+            whether(is_described(alloc, line)).unwrap_or(false),
+            "{line}"
+        );
+    }
+    for line in NUMBERS.lines() {
+        assert!(rt; whether(has_number(alloc, line)).unwrap_or(false), "{line}");
+    }
+}
+
+/// Tests each line of a fault.
+fn hold_faults(rt: &impl Abort, alloc: Global) {
+    for line in FAULTS.lines() {
+        assert!(rt; has_fault(line), "{line}");
+    }
+    for line in OPERANDS.lines() {
+        assert!(rt; whether(has_text(alloc, line)).unwrap_or(false), "{line}");
+    }
+}
+
+/// Whether all other faults have their texts.
+fn have_their_texts(alloc: Global) -> Result<bool, AllocError> {
+    Ok(
+        others_have_their_texts(alloc)?
+            && arguments_have_their_texts(alloc)?
+            && names_have_their_texts(alloc)?
+            && positions_have_their_texts(alloc)?,
+    )
+}
+
 #[test]
-fn positions(rt: HostRuntime) -> Result<(), Fail> {
-    assert!(rt; positions_have_their_texts(rt.alloc())?);
-    Ok(())
+fn values_events_and_faults_have_their_texts(rt: HostRuntime) {
+    hold(&rt, rt.alloc());
+    hold_faults(&rt, rt.alloc());
+    assert!(rt; are_lengths() && have_keys());
+    assert!(rt; have_their_texts(rt.alloc()).unwrap_or(false));
 }

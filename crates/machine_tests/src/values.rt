@@ -3,6 +3,7 @@
 use lua_values::{ObjectKind, Value};
 use resty_base::{Bytes, whole};
 use std::alloc::{AllocError, AllocFailed, Global};
+use std::process::Abort;
 
 /// Why a line has no outcome: it can't be read, or out of memory.
 #[derive(Clone, Copy, Debug, Drop)]
@@ -103,4 +104,9 @@ pub(crate) fn id(word: &str) -> Result<u32, Wrong> {
 /// A count of bytes.
 fn number(word: &str) -> Result<usize, Wrong> {
     word.parse().ok().ok_or(Wrong::Line)
+}
+
+/// What is seen is what the row says.
+pub(crate) fn expect(rt: &impl Abort, seen: &str, expected: &str, row: &str) {
+    assert_eq!(rt; seen, expected, "{row}");
 }

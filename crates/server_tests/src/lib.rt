@@ -10,6 +10,8 @@ mod program;
 #[cfg(test)]
 mod replays;
 #[cfg(test)]
+mod rows;
+#[cfg(test)]
 mod schedule_texts;
 #[cfg(test)]
 mod served;

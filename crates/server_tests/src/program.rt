@@ -1,220 +1,277 @@
-//! Tests of the program, over files, sinks and a live world in memory.
+//! Tests of the program, over files, sinks and a live world in memory: rows of words, files and a schedule, with the exit code, what is written, and the
+//! history of the live world. REPLAYS and FAULTS show `replay`, SERVES `serve`, USAGE words that are no command, CHECKS and SITES `check`.
 
-ghost use Rattle.std.specs.Prelude.{IfOk};
+ghost use Rattle.std.specs.Prelude.{IfSome};
 ghost use Rattle.engine_base.specs.Right.{IsFresh};
 ghost use Rattle.schedule.specs.ReplayBook.{book_of};
 
-use commands::{Status, resty};
+use crate::rows::{Subject, hold, put, replaced};
+use commands::resty;
 use resty_base::{MemFiles, MemSink};
-use schedule::{Replay, SchedFault, schedule_of};
+use schedule::{Replay, history_text, schedule_of};
 use std::alloc::{AllocError, Global};
-use std::process::Abort;
-use std::test::Fail;
 
-mod checking;
-mod serving;
+/// Names in rows, one that is made of others before these; `^` is the end of a line.
+const NAMES: &str = r#"<replay> => replay --conf t.conf --schedule t.sched
+<serve> => serve --conf t.conf
+<check> => check --conf t.conf
+<files> => t.conf: <conf> | t.sched: 
+<conf> => http { server { listen 8080;^location / { content_by_lua_block { ngx.say("hi") } }^} }^
+<http> => http { lua_package_path "m/?.lua"; server { }
+<usage> => resty: usage: resty MODE [options]^
+<request> => moment 1000^arrive c1^bytes c1 "GET / HTTP/1.0\r\n\r\n"^
+<put> => put c1 "HTTP/1.1 200 OK\r\nServer: resty\r\nDate: Thu, 01 Jan 1970 00:00:01 GMT\r\nContent-Type: text/plain\r\nConnection: close\r\n\r\nhi\n"^close c1^
+<get> => bytes c1 "GET / HTTP/1.0\r\n\r\n"^
+<rest> => Content-Length: 26\r\nConnection: close\r\n\r\n500 Internal Server Error\n"^close c1^
+<head> => \r\nServer: resty\r\nDate: Thu, 01 Jan 1970 00:00:00 GMT\r\nContent-Type: text/plain\r\n
+<fails> => http { server { location / { content_by_lua_block { error("e", 0) } } } }
+<lost> => log c1 failed "0 [error] lua entry thread aborted: runtime error: e"^put c1 "HTTP/1.1 500 Internal Server Error
+<modules> => t.conf: <uses> | m/text/greet.lua: <greet> | m/mark.lua: return '!' | t.sched: 
+<uses> => http { lua_package_path "m/?.lua"; server { location / { content_by_lua_block { local greet = require "text.greet" <says> } } } }
+<says> => ngx.say(greet.hello("you"), greet == require("text.greet"))
+<greet> => local mark = require('mark')^local M = {}^function M.hello(name) return 'hello ' .. name .. mark end^return M^"#;
 
-const CONF: &str =
-    "http { server { listen 8080;\nlocation / { content_by_lua_block { ngx.say(\"hi\") } }\n} }\n";
+/// Histories that are written.
+const REPLAYS: &str = r#"<replay> @ <files><request>stop^ => 0 > <request><put>stop^
+<replay> @ <files>stop^ => 0 > stop^
+<replay> @ <files>arrive c1^bytes c1 "GET"^stop^ => 0 > arrive c1^bytes c1 "GET"^stop^close c1^
+<replay> --events 1 @ <files><request>stop^ => 7 > moment 1000^ ! resty: events spent^
+<replay> --events 3 @ <files><request>stop^ => 7 > <request><put> ! resty: events spent^
+<replay> --events 4 @ <files><request>stop^ => 0 > <request><put>stop^
+<replay> --events 999999999999999999 @ <files><request>stop^ => 0 > <request><put>stop^
+<replay> @ <files>fail listen^stop^ => 0 > stop^
+<replay> @ <files>fail log^stop^ => 0 > stop^
+<replay> @ <modules>arrive c1^<get>stop^ => 0 > arrive c1^<get>put c1 "HTTP/1.1 200 OK<head>Connection: close\r\n\r\nhello you!true\n"^close c1^stop^"#;
 
-const REPLAY: [&str; 5] = ["replay", "--conf", "t.conf", "--schedule", "t.sched"];
+/// What ends a replay: the configuration, the schedule, the world, files and outputs. An output that fails changes no exit code.
+const FAULTS: &str =
+    r#"<replay> @ <files>arrive c1^arrive c3^stop^ => 3 ! resty: t.sched: line 2: not a schedule line^
+<replay> @ t.conf: http { server { listen 8080;^location / { access_by_lua_block { } }^} }^ | t.sched: stop^ => 1 ! resty: t.conf: line 2: not built yet^
+<replay> @ t.conf: http { server { listen 8080;^location / { access_by_lua_block { } }^} }^ | t.sched: frob^ => 1 ! resty: t.conf: line 2: not built yet^
+<replay> @ t.conf: http { server { listen 0;^} }^ | t.sched: stop^ => 1 ! resty: t.conf: line 1: bad value^
+<replay> @ <files>arrive c1^ => 3 ! resty: t.sched: line 2: not a schedule line^
+<replay> @ <files>arrive c1^frob^ => 3 ! resty: t.sched: line 2: not a schedule line^
+<replay> @ <files>bytes s9 "x"^stop^ => 3 ! resty: t.sched: line 1: no such id^
+<replay> @ <files>arrive c1^room c2 1^stop^ => 3 > arrive c1^ ! resty: t.sched: line 2: no such id^
+<replay> @ <files>arrive c1^fail next^stop^ => 6 > arrive c1^ ! resty: world fault^
+<replay> @ t.conf: <fails> | t.sched: arrive c1^fail log^<get>stop^ => 6 > arrive c1^<get><lost><head><rest> ! resty: world fault^
+<replay> @ nothing => 4 ! resty: no file t.conf^
+<replay> @ t.conf: <conf> => 4 ! resty: no file t.sched^
+<replay> @ t.conf: <conf> | long t.sched 67108865 => 4 ! resty: t.sched is too long^
+<replay> @ long t.conf 1048577 => 4 ! resty: t.conf is too long^
+<replay> @ <files>stop^ | fail 1 => 4 ! resty: cannot read t.conf^
+<replay> @ <files>stop^ | fail 2 => 4 ! resty: cannot read t.sched^
+<replay> @ <files>stop^ | out 1 => 5 ! resty: cannot write^
+<replay> @ err 2 => 4 ! resty: no file "#;
 
-/// What a call of the program answered, and what it wrote.
-#[derive(Drop)]
-struct Ran {
-    status: Status,
-    out: MemSink,
-    err: MemSink,
+/// Serving the live world, whose history stands after `~`, and a number of events.
+const SERVES: &str = r#"<serve> @ t.conf: <conf> @ <request>stop^ => 0 ~ <request><put>stop^
+<serve> --events 3 @ t.conf: <conf> @ moment 5^moment 6^stop^ => 0 ~ moment 5^moment 6^stop^
+<serve> --events 3 @ t.conf: <conf> @ moment 5^moment 6^moment 7^stop^ => 7 ! resty: events spent^ ~ moment 5^moment 6^moment 7^
+<serve> --events 3 @ t.conf: <conf> @ moment 5^fail next^stop^ => 6 ! resty: world fault^ ~ moment 5^
+<serve> @ t.conf: <conf> @ fail listen^moment 5^stop^ => 6 ! resty: world fault^
+<serve> @ t.conf: <conf> @ moment 5^bytes s9 "x"^stop^ => 3 ! resty: live: line 2: no such id^ ~ moment 5^
+<serve> @ nothing @ moment 5^stop^ => 4 ! resty: no file t.conf^"#;
+
+/// Words that are no command.
+const USAGE: &str = r#" @ <files>stop^ => 2 ! <usage>
+--help @ <files>stop^ => 2 ! <usage>
+replay @ <files>stop^ => 2 ! <usage>
+replay --conf t.conf --conf t.conf @ <files>stop^ => 2 ! <usage>
+replay --schedule t.sched --conf t.conf @ <files>stop^ => 2 ! <usage>
+replay --conf '' --schedule t.sched @ <files>stop^ => 2 ! <usage>
+replay --conf t.conf --schedule -t.sched @ <files>stop^ => 2 ! <usage>
+replay --conf -- --schedule t.sched @ <files>stop^ => 2 ! <usage>
+replay --conf t.conf --schedule t.sched -- @ <files>stop^ => 2 ! <usage>
+serve @ <files>stop^ => 2 ! <usage>
+serve --conf @ <files>stop^ => 2 ! <usage>
+serve --conf - @ <files>stop^ => 2 ! <usage>
+serve --conf=t.conf @ <files>stop^ => 2 ! <usage>
+serve --conf t.conf --schedule t.sched @ <files>stop^ => 2 ! <usage>
+serve --conf t.conf --events @ <files>stop^ => 2 ! <usage>
+serve --conf t.conf --events 0 @ <files>stop^ => 2 ! <usage>
+serve --conf t.conf --events 01 @ <files>stop^ => 2 ! <usage>
+serve --events 1 --conf t.conf @ <files>stop^ => 2 ! <usage>
+serve --conf t.conf --events 1000000000000000000 @ <files>stop^ => 2 ! <usage>"#;
+
+/// Checks of configurations, and of the 256 modules that a site has at most.
+const CHECKS: &str = r#"<check> @ t.conf: <conf> => 0 > site ok^
+<check> --events 1 @ t.conf: <conf> => 2 ! <usage>
+<check> @ t.conf: http { } => 1 ! resty: t.conf: line 1: syntax error^
+<check> @ t.conf: http {^frob; => 1 ! resty: t.conf: line 2: unknown directive^
+<check> @ t.conf: http { server { location / { content_by_lua_block {^'x } } } } => 1 ! resty: t.conf: line 1: lua block is not closed^
+<check> @ t.conf: http { server { location / { content_by_lua_block {^$ } } } } => 1 ! resty: t.conf: line 2: lua: BadByte^
+<check> @ t.conf: http { init_by_lua_block {^x = } server { listen 0; } } => 1 ! resty: t.conf: line 2: bad value^
+<check> @ t.conf: http { init_by_lua_block {^x = } server { } } => 1 ! resty: t.conf: line 2: lua: At^
+<check> @ modules 256 => 0 > site ok^
+<check> @ modules 257 => 1 ! resty: too many modules^
+<check> @ modules 2 | fail 3 => 4 ! resty: cannot read m/m2.lua^
+<check> @ modules 2 | long m/m1.lua 1048577 => 4 ! resty: m/m1.lua is too long^"#;
+
+/// Sites with modules. A name that stands in no call of `require` is that of no module. Then sites that are refused: at their start, in a module, or at a
+/// block that isn't run yet; and those of which a file isn't there.
+const SITES: &str =
+    r#"<check> @ t.conf: <http> init_by_lua_block { a = require "a" } } | m/a.lua: return 1 => 0 > site ok^
+<check> @ t.conf: <http> init_by_lua_block { pcall(function() require "a" end) } } | m/a.lua: return require "b" | m/b.lua: return require "a" => 0 > site ok^
+<check> @ t.conf: <http> init_by_lua_block { function f() return function() return require("a.b") end end } } | m/a/b.lua: return 1 => 0 > site ok^
+<check> @ t.conf: <http> init_by_lua_block { local r = require pcall(r, "none") } } | m/none.lua: ) => 0 > site ok^
+<check> @ t.conf: <http> init_by_lua_block { shared = {} function shared.f() return shared end count = 1 } } => 0 > site ok^
+<check> @ t.conf: <http> init_by_lua_block { local r = require r("none") } } => 1 ! resty: init failed: t.conf:1: module 'none' not found^
+<check> @ t.conf: <http>^init_by_lua_block { error("no") } } => 1 ! resty: init failed: t.conf:2: no^
+<check> @ t.conf: <http> init_by_lua_block { error({}) } } => 1 ! resty: init failed: unknown reason^
+<check> @ t.conf: <http> init_by_lua_block { while true do end } } => 1 ! resty: init failed: step budget of 1000000 spent^
+<check> @ t.conf: <http> init_by_lua_block { ngx.say("x") } } => 1 ! resty: init failed: API disabled in the context of init_by_lua*^
+<check> @ t.conf: <http> init_by_lua_block { require "a" } } | m/a.lua: ^error("no") => 1 ! resty: init failed: m/a.lua:2: no^
+<check> @ t.conf: <http> init_by_lua_block { require "a" } } | m/a.lua: local x^local y^x = = y => 1 ! resty: m/a.lua: line 3: lua: At^
+<check> @ t.conf: <http> init_by_lua_block { require "a" } } | m/a.lua: ^return 1.5 => 1 ! resty: m/a.lua: line 2: lua: Fraction^
+<check> @ t.conf: <http> server {^location / { access_by_lua_block { } } } } => 1 ! resty: t.conf: line 2: not built yet^
+<check> @ t.conf: <http> init_by_lua_block { require "a" } server {^^location / { log_by_lua_block { } } } } => 1 ! resty: t.conf: line 3: not built yet^
+<check> @ t.conf: <http> init_by_lua_block { require "a" } } => 4 ! resty: no file m/a.lua^
+<check> @ t.conf: <http> init_by_lua_block { require "a" } } | m/a.lua: local function f() return require "b.c" end => 4 ! resty: no file m/b/c.lua^
+<check> @ t.conf: <http> init_by_lua_block { error("no") require "b" require "a" } } | m/a.lua: ) => 4 ! resty: no file m/b.lua^
+<check> @ u.conf: <http> } => 4 ! resty: no file t.conf^"#;
+
+#[test]
+fn words_have_their_outcome(rt: HostRuntime) {
+    hold(&rt, rt.alloc(), Subject::Program, REPLAYS);
+    hold(&rt, rt.alloc(), Subject::Program, FAULTS);
+    hold(&rt, rt.alloc(), Subject::Program, SERVES);
+    hold(&rt, rt.alloc(), Subject::Program, USAGE);
 }
 
-/// Calls the program with these words over these files, this schedule of the live world and these sinks.
-fn call_over(
-    alloc: Global,
-    words: &[&str],
-    files: &mut MemFiles,
-    live: &mut Replay,
-    mut out: MemSink,
-    mut err: MemSink,
-) -> Result<Ran, Fail>
-    requires { IsFresh (book_of live.old) }
-{
-    let mut list = Vec::new(alloc);
-    for word in words {
-        list.push(String::from_str(alloc, *word)?)?;
+#[test]
+fn sites_are_checked(rt: HostRuntime) {
+    hold(&rt, rt.alloc(), Subject::Program, CHECKS);
+    hold(&rt, rt.alloc(), Subject::Program, SITES);
+}
+
+/// What is seen of a row, in which names stand for texts.
+pub(crate) fn seen_in_a_line(alloc: Global, given: &str) -> String {
+    let seen = seen(alloc, spelled(alloc, given).as_str());
+    let mut all = replaced(alloc, seen, "\n", "^");
+    for row in NAMES.lines() {
+        let (name, meaning) = row.split_once(" => ").unwrap_or((row, ""));
+        all = replaced(alloc, all, meaning, name);
     }
-    let status = resty(alloc, list.as_slice(), files, live, &mut out, &mut err);
-    Ok(Ran { status, out, err })
+    all
+}
+
+/// A text with what the names in it mean.
+fn spelled(alloc: Global, text: &str) -> String {
+    let mut all = String::new(alloc);
+    put(&mut all, text);
+    for row in NAMES.lines() {
+        let (name, meaning) = row.split_once(" => ").unwrap_or((row, ""));
+        all = replaced(alloc, all, name, meaning);
+    }
+    replaced(alloc, all, "^", "\n")
+}
+
+/// What is seen of `WORDS @ FILES @ SCHEDULE`: the exit code, after `>` what is written, after `!` what is written of a fault, and after `~` the history of
+/// the live world that goes by the schedule, where there are any. Without a schedule nothing happens in that world.
+pub(crate) fn seen(alloc: Global, given: &str) -> String {
+    let mut all = String::new(alloc);
+    if see(alloc, &mut all, given).is_none() {
+        put(&mut all, "memory");
+    }
+    all
+}
+
+/// Writes what is seen.
+fn see(alloc: Global, all: &mut String, given: &str) -> Option<()> {
+    let (words, given) = given.split_once(" @ ").unwrap_or((given, ""));
+    let (entries, schedule) = given.split_once(" @ ").unwrap_or((given, "stop\n"));
+    let mut outside = Outside {
+        files: MemFiles::new(alloc),
+        out: MemSink::new(alloc),
+        err: MemSink::new(alloc),
+    };
+    for entry in entries.split(" | ") {
+        provide(alloc, &mut outside, entry).ok()?;
+    }
+    let mut live = world_of(alloc, schedule)?;
+    see_run(alloc, all, words, &mut outside, &mut live)
+}
+
+/// Files and outputs.
+#[derive(Drop)]
+struct Outside {
+    files: MemFiles,
+    out: MemSink,
+    err: MemSink,
 }
 
 /// A world that goes by this schedule.
-fn world_of(alloc: Global, schedule: &str) -> Result<Replay, SchedFault>
-    ensures { IfOk result (λ world. IsFresh (book_of world)) }
+fn world_of(alloc: Global, schedule: &str) -> Option<Replay>
+    ensures { IfSome result (λ world. IsFresh (book_of world)) }
 {
-    Ok(Replay::new(alloc, schedule_of(alloc, schedule.as_bytes())?))
+    match schedule_of(alloc, schedule.as_bytes()) {
+        Ok(schedule) => Some(Replay::new(alloc, schedule)),
+        Err(_) => None,
+    }
 }
 
-/// Calls the program with these words over these files and sinks, and a live world in which nothing happens.
-fn call(
+/// Calls the program with these words, and writes what came of it.
+fn see_run(
     alloc: Global,
-    words: &[&str],
-    files: &mut MemFiles,
-    out: MemSink,
-    err: MemSink,
-) -> Result<Ran, Fail> {
-    let mut live = world_of(alloc, "stop\n")?;
-    call_over(alloc, words, files, &mut live, out, err)
-}
-
-/// The files `t.conf` and `t.sched`.
-fn files_of(alloc: Global, conf: &str, schedule: &str) -> Result<MemFiles, Fail> {
-    let mut files = MemFiles::new(alloc);
-    files.add(alloc, "t.conf", conf.as_bytes())?;
-    files.add(alloc, "t.sched", schedule.as_bytes())?;
-    Ok(files)
-}
-
-/// A replay of these files.
-fn replay(alloc: Global, conf: &str, schedule: &str) -> Result<Ran, Fail> {
-    let mut files = files_of(alloc, conf, schedule)?;
-    call(
+    all: &mut String,
+    words: &str,
+    outside: &mut Outside,
+    live: &mut Replay,
+) -> Option<()>
+    requires { IsFresh (book_of live.old) }
+{
+    let words = words_of(alloc, words).ok()?;
+    let status = resty(
         alloc,
-        &REPLAY,
-        &mut files,
-        MemSink::new(alloc),
-        MemSink::new(alloc),
-    )
+        words.as_slice(),
+        &mut outside.files,
+        live,
+        &mut outside.out,
+        &mut outside.err,
+    );
+    let code = status.code();
+    let _ = write!(all, "{code}");
+    put_part(all, " > ", outside.out.taken());
+    put_part(all, " ! ", outside.err.taken());
+    put_part(all, " ~ ", &history_text(alloc, live.history()).ok()?);
+    Some(())
 }
 
-/// The call ended so, and wrote this.
-fn expect(rt: &impl Abort, ran: &Ran, status: Status, out: &str, err: &str) {
-    assert!(rt; ran.status == status);
-    assert!(rt; ran.out.taken() == out.as_bytes());
-    assert!(rt; ran.err.taken() == err.as_bytes());
-}
-
-/// The replay of these files is served, and has this history.
-fn expect_history(
-    rt: &impl Abort,
-    alloc: Global,
-    conf: &str,
-    schedule: &str,
-    history: &str,
-) -> Result<(), Fail> {
-    let ran = replay(alloc, conf, schedule)?;
-    expect(rt, &ran, Status::Done, history, "");
-    Ok(())
-}
-
-/// The replay of these files is refused with this status and this line.
-fn expect_refused(
-    rt: &impl Abort,
-    alloc: Global,
-    conf: &str,
-    schedule: &str,
-    status: Status,
-    line: &str,
-) -> Result<(), Fail> {
-    let ran = replay(alloc, conf, schedule)?;
-    expect(rt, &ran, status, "", line);
-    Ok(())
-}
-
-/// A replay over these files ends as a read fault, of which this line tells.
-fn expect_read_fault(
-    rt: &impl Abort,
-    alloc: Global,
-    files: &mut MemFiles,
-    line: &str,
-) -> Result<(), Fail> {
-    let (out, err) = (MemSink::new(alloc), MemSink::new(alloc));
-    let ran = call(alloc, &REPLAY, files, out, err)?;
-    expect(rt, &ran, Status::ReadFault, "", line);
-    Ok(())
-}
-
-#[test]
-fn one_request_gets_its_reply(rt: HostRuntime) -> Result<(), Fail> {
-    let schedule = "moment 1000\narrive c1\nbytes c1 \"GET / HTTP/1.0\\r\\n\\r\\n\"\nstop\n";
-    let history = "moment 1000\narrive c1\nbytes c1 \"GET / HTTP/1.0\\r\\n\\r\\n\"\n\
-        put c1 \"HTTP/1.1 200 OK\\r\\nServer: resty\\r\\nDate: Thu, 01 Jan 1970 00:00:01 GMT\\r\\n\
-        Content-Type: text/plain\\r\\nConnection: close\\r\\n\\r\\nhi\\n\"\nclose c1\nstop\n";
-    expect_history(&rt, rt.alloc(), CONF, schedule, history)
-}
-
-#[test]
-fn a_schedule_of_stop_is_its_history(rt: HostRuntime) -> Result<(), Fail> {
-    expect_history(&rt, rt.alloc(), CONF, "stop\n", "stop\n")
-}
-
-#[test]
-fn stop_closes_what_is_open(rt: HostRuntime) -> Result<(), Fail> {
-    let schedule = "arrive c1\nbytes c1 \"GET\"\nstop\n";
-    let history = "arrive c1\nbytes c1 \"GET\"\nstop\nclose c1\n";
-    expect_history(&rt, rt.alloc(), CONF, schedule, history)
-}
-
-#[test]
-fn a_block_that_is_not_built_is_refused_at_its_line(rt: HostRuntime) -> Result<(), Fail> {
-    let access = "http { server { listen 8080;\nlocation / { access_by_lua_block { } }\n} }\n";
-    let line = "resty: t.conf: line 2: not built yet\n";
-    for schedule in ["stop\n", "frob\n"] {
-        expect_refused(&rt, rt.alloc(), access, schedule, Status::Conf, line)?;
+/// Writes what isn't empty after a mark.
+fn put_part(all: &mut String, mark: &str, bytes: &[u8]) {
+    if !bytes.is_empty() {
+        put(all, mark);
+        put(all, str::from_utf8(bytes).unwrap_or("?"));
     }
-    let listens = "http { server { listen 0;\n} }\n";
-    let value = "resty: t.conf: line 1: bad value\n";
-    expect_refused(&rt, rt.alloc(), listens, "stop\n", Status::Conf, value)
 }
 
-#[test]
-fn a_text_that_is_no_schedule_is_refused_at_its_line(rt: HostRuntime) -> Result<(), Fail> {
-    let line = "resty: t.sched: line 2: not a schedule line\n";
-    for schedule in [
-        "arrive c1\narrive c3\nstop\n",
-        "arrive c1\n",
-        "arrive c1\nfrob\n",
-    ] {
-        expect_refused(&rt, rt.alloc(), CONF, schedule, Status::Schedule, line)?;
+/// Words with blanks between them; `''` is the empty one.
+fn words_of(alloc: Global, text: &str) -> Result<Vec<String>, AllocError> {
+    let mut words = Vec::new(alloc);
+    for word in text.split_whitespace() {
+        let word = if word == "''" { "" } else { word };
+        words.push(String::from_str(alloc, word)?)?;
     }
-    Ok(())
+    Ok(words)
 }
 
-/// The replay of this schedule ends with this status and this line, and writes the history so far.
-fn expect_cut_short(
-    rt: &impl Abort,
-    alloc: Global,
-    schedule: &str,
-    status: Status,
-    history: &str,
-    line: &str,
-) -> Result<(), Fail> {
-    let ran = replay(alloc, CONF, schedule)?;
-    expect(rt, &ran, status, history, line);
-    Ok(())
-}
-
-#[test]
-fn a_line_that_names_what_was_never_there_ends_the_run(rt: HostRuntime) -> Result<(), Fail> {
-    let (a, status) = (rt.alloc(), Status::Schedule);
-    let first = "resty: t.sched: line 1: no such id\n";
-    expect_cut_short(&rt, a, "bytes s9 \"x\"\nstop\n", status, "", first)?;
-    let second = "resty: t.sched: line 2: no such id\n";
-    expect_cut_short(
-        &rt,
-        a,
-        "arrive c1\nroom c2 1\nstop\n",
-        status,
-        "arrive c1\n",
-        second,
-    )
-}
-
-#[test]
-fn a_fault_of_the_world_ends_the_run(rt: HostRuntime) -> Result<(), Fail> {
-    let (a, fault) = (rt.alloc(), "resty: world fault\n");
-    let schedule = "arrive c1\nfail next\nstop\n";
-    expect_cut_short(&rt, a, schedule, Status::WorldFault, "arrive c1\n", fault)?;
-    expect_cut_short(&rt, a, "fail listen\nstop\n", Status::Done, "stop\n", "")?;
-    expect_cut_short(&rt, a, "fail log\nstop\n", Status::Done, "stop\n", "")
+/// Provides a file, `NAME: TEXT`, or what a word says: `long NAME LENGTH` a file of this length, `modules COUNT` a site with so many modules; `fail N` lets the
+/// Nth fetch of a file fail, `out N` and `err N` the Nth put of an output.
+fn provide(alloc: Global, outside: &mut Outside, entry: &str) -> Result<(), AllocError> {
+    if let Some((name, text)) = entry.split_once(": ") {
+        return outside.files.add(alloc, name, text.as_bytes());
+    }
+    let (word, given) = entry.split_once(' ').unwrap_or((entry, ""));
+    let (name, length) = given.split_once(' ').unwrap_or((given, ""));
+    match word {
+        "long" => add_long(alloc, &mut outside.files, name, length.parse().unwrap_or(0)),
+        "modules" => add_modules(alloc, &mut outside.files, given.parse().unwrap_or(0)),
+        "fail" => outside.files.fail_at(given.parse().unwrap_or(0)),
+        "out" => outside.out.fail_at(given.parse().unwrap_or(0)),
+        "err" => outside.err.fail_at(given.parse().unwrap_or(0)),
+        _ => Ok(()),
+    }
 }
 
 /// Adds a file of so many bytes, which are copied 1,024 at a time.
@@ -224,134 +281,27 @@ fn add_long(
     name: &str,
     length: usize,
 ) -> Result<(), AllocError> {
-    let piece = "x".repeat(alloc, 1_024)?;
-    let rest = "x".repeat(alloc, length % 1_024)?;
-    let mut long = piece.as_str().repeat(alloc, length / 1_024)?;
-    long.push_str(rest.as_str())?;
+    let mut long = "x"
+        .repeat(alloc, 1_024)?
+        .as_str()
+        .repeat(alloc, length / 1_024)?;
+    long.push_str("x".repeat(alloc, length % 1_024)?.as_str())?;
     files.add(alloc, name, long.as_bytes())
 }
 
-#[test]
-fn files_that_are_missing_or_too_long_are_read_faults(rt: HostRuntime) -> Result<(), Fail> {
-    let a = rt.alloc();
-    let mut files = MemFiles::new(a);
-    expect_read_fault(&rt, a, &mut files, "resty: no file t.conf\n")?;
-    files.add(a, "t.conf", CONF.as_bytes())?;
-    expect_read_fault(&rt, a, &mut files, "resty: no file t.sched\n")?;
-    add_long(a, &mut files, "t.sched", 67_108_865)?;
-    expect_read_fault(&rt, a, &mut files, "resty: t.sched is too long\n")?;
-    add_long(a, &mut files, "t.conf", 1_048_577)?;
-    expect_read_fault(&rt, a, &mut files, "resty: t.conf is too long\n")
-}
-
-#[test]
-fn files_that_fail_are_read_faults(rt: HostRuntime) -> Result<(), Fail> {
-    for (call_number, line) in [
-        (1, "resty: cannot read t.conf\n"),
-        (2, "resty: cannot read t.sched\n"),
-    ] {
-        let mut files = files_of(rt.alloc(), CONF, "stop\n")?;
-        files.fail_at(call_number)?;
-        expect_read_fault(&rt, rt.alloc(), &mut files, line)?;
+/// Adds a site whose init block requires so many modules, from `m1` on.
+fn add_modules(alloc: Global, files: &mut MemFiles, count: usize) -> Result<(), AllocError> {
+    let mut conf = String::new(alloc);
+    put(
+        &mut conf,
+        "http { lua_package_path \"m/?.lua\"; server { } init_by_lua_block {\n",
+    );
+    for number in 1..=count {
+        let _ = write!(conf, "require \"m{number}\"\n");
+        let mut name = String::new(alloc);
+        let _ = write!(name, "m/m{number}.lua");
+        files.add(alloc, name.as_str(), b"")?;
     }
-    Ok(())
-}
-
-#[test]
-fn an_output_that_fails_is_a_write_fault(rt: HostRuntime) -> Result<(), Fail> {
-    let mut files = files_of(rt.alloc(), CONF, "stop\n")?;
-    let mut out = MemSink::new(rt.alloc());
-    out.fail_at(1)?;
-    let ran = call(
-        rt.alloc(),
-        &REPLAY,
-        &mut files,
-        out,
-        MemSink::new(rt.alloc()),
-    )?;
-    expect(&rt, &ran, Status::WriteFault, "", "resty: cannot write\n");
-    Ok(())
-}
-
-#[test]
-fn a_failed_line_changes_no_status(rt: HostRuntime) -> Result<(), Fail> {
-    let mut files = MemFiles::new(rt.alloc());
-    let mut err = MemSink::new(rt.alloc());
-    err.fail_at(2)?;
-    let ran = call(
-        rt.alloc(),
-        &REPLAY,
-        &mut files,
-        MemSink::new(rt.alloc()),
-        err,
-    )?;
-    expect(&rt, &ran, Status::ReadFault, "", "resty: no file ");
-    Ok(())
-}
-
-#[test]
-fn words_that_are_no_command_are_usage(rt: HostRuntime) -> Result<(), Fail> {
-    let commands: [&[&str]; 19] = [
-        &[],
-        &["--help"],
-        &["replay"],
-        &["replay", "--conf", "t.conf", "--conf", "t.conf"],
-        &["replay", "--schedule", "t.sched", "--conf", "t.conf"],
-        &["replay", "--conf", "", "--schedule", "t.sched"],
-        &["replay", "--conf", "t.conf", "--schedule", "-t.sched"],
-        &["replay", "--conf", "--", "--schedule", "t.sched"],
-        &["replay", "--conf", "t.conf", "--schedule", "t.sched", "--"],
-        &["serve"],
-        &["serve", "--conf"],
-        &["serve", "--conf", "-"],
-        &["serve", "--conf=t.conf"],
-        &["serve", "--conf", "t.conf", "--schedule", "t.sched"],
-        &["serve", "--conf", "t.conf", "--events"],
-        &["serve", "--conf", "t.conf", "--events", "0"],
-        &["serve", "--conf", "t.conf", "--events", "01"],
-        &["serve", "--events", "1", "--conf", "t.conf"],
-        &[
-            "serve",
-            "--conf",
-            "t.conf",
-            "--events",
-            "1000000000000000000",
-        ],
-    ];
-    for words in commands {
-        let mut files = files_of(rt.alloc(), CONF, "stop\n")?;
-        let ran = call(
-            rt.alloc(),
-            words,
-            &mut files,
-            MemSink::new(rt.alloc()),
-            MemSink::new(rt.alloc()),
-        )?;
-        expect(
-            &rt,
-            &ran,
-            Status::Usage,
-            "",
-            "resty: usage: resty MODE [options]\n",
-        );
-    }
-    Ok(())
-}
-
-#[test]
-fn statuses_are_numbered_in_order(rt: HostRuntime) {
-    let statuses = [
-        Status::Done,
-        Status::Conf,
-        Status::Usage,
-        Status::Schedule,
-        Status::ReadFault,
-        Status::WriteFault,
-        Status::WorldFault,
-        Status::EventsSpent,
-        Status::Memory,
-    ];
-    for (code, status) in statuses.iter().enumerate() {
-        assert_eq!(&rt; usize::from(status.code()), code);
-    }
+    put(&mut conf, "} }\n");
+    files.add(alloc, "t.conf", conf.as_bytes())
 }

@@ -1,22 +1,23 @@
-//! Tests of `schedule`: the world that replays a schedule.
+//! Tests of `schedule`: the world that replays a schedule, in rows `SCHEDULE > CALLS => ANSWERS |HISTORY`. ROOM, FAULTS and IDS show what the world answers,
+//! EXCHANGE each of its calls.
+use crate::rows::{Subject, hold, put, replaced};
 use resty_base::{Id, Ms, StrandId};
 use resty_world::{Entry, Noted, TimerAnswer, World};
 use schedule::*;
-use std::alloc::{AllocError, Global};
-use std::process::Abort;
-use std::test::Fail;
+use std::alloc::Global;
 
 /// The first connection, whose strand makes the calls.
 const CLIENT: Id = Id::Conn(1);
 
 const WHO: StrandId = StrandId::Conn(1);
 
-fn put(alloc: Global, all: &mut String, world: &mut Replay, text: &str) -> Result<(), AllocError> {
+/// Offers bytes to the connection.
+fn put_bytes(alloc: Global, all: &mut String, world: &mut Replay, text: &str) {
     if text.is_empty() || !world.is_open(CLIENT) {
-        return all.push_str("closed");
+        return put(all, "closed");
     }
     let wrote = world.put_bytes(alloc, CLIENT, text.as_bytes());
-    all.push_str(format!(in alloc; "{wrote:?}")?.as_str())
+    let _ = write!(all, "{wrote:?}");
 }
 
 /// The connection `c1`, or a socket.
@@ -77,85 +78,71 @@ fn note_job(world: &mut Replay, alloc: Global) -> &'static str {
 }
 
 /// Makes a call of the world, and writes what it answers.
-fn call(alloc: Global, all: &mut String, world: &mut Replay, call: &str) -> Result<(), AllocError> {
+fn call(alloc: Global, all: &mut String, world: &mut Replay, call: &str) {
     let (word, given) = call.split_once(':').unwrap_or((call, ""));
     match word {
         "listen" => {
             let listened = world.listen(alloc, 8080);
-            all.push_str(format!(in alloc; "{listened:?}")?.as_str())
+            let _ = write!(all, "{listened:?}");
         }
         "next" => {
             let event = world.next_event(alloc, None);
-            all.push_str(format!(in alloc; "{event:?}")?.as_str())
+            let _ = write!(all, "{event:?}");
         }
-        "put" => put(alloc, all, world, given),
+        "put" => put_bytes(alloc, all, world, given),
         "dial" => {
             let dial = world.dial(alloc, WHO, [127, 0, 0, 1], given.parse().unwrap_or(0));
-            all.push_str(format!(in alloc; "{dial:?}")?.as_str())
+            let _ = write!(all, "{dial:?}");
         }
         "log" => {
             let logged = world.write_log(alloc, WHO, given.as_bytes());
-            all.push_str(format!(in alloc; "{logged:?}")?.as_str())
+            let _ = write!(all, "{logged:?}");
         }
-        "close" => all.push_str(close(world, id_of(given))),
-        "hold-back" => all.push_str(hold_back(world)),
-        "forget" => all.push_str(forget(world)),
-        "start" => all.push_str(note_start(world, alloc)),
-        "job" => all.push_str(note_job(world, alloc)),
+        "close" => put(all, close(world, id_of(given))),
+        "hold-back" => put(all, hold_back(world)),
+        "forget" => put(all, forget(world)),
+        "start" => put(all, note_start(world, alloc)),
+        "job" => put(all, note_job(world, alloc)),
         _ => {
             let count = world.set_aside();
-            all.push_str(format!(in alloc; "{count}")?.as_str())
+            let _ = write!(all, "{count}");
         }
     }
 }
 
-/// The world of a schedule in which `;` is the end of a line; None where it is refused.
-fn world_of(alloc: Global, schedule: &str) -> Result<Option<Replay>, AllocError> {
-    let lines = schedule.replace(alloc, ";", "\n")?;
-    match schedule_of(alloc, lines.as_bytes()) {
-        Ok(schedule) => Ok(Some(Replay::new(alloc, schedule))),
-        Err(_) => Ok(None),
+/// The world of a schedule; None where it is refused.
+fn world_of(alloc: Global, schedule: &str) -> Option<Replay> {
+    match schedule_of(alloc, schedule.as_bytes()) {
+        Ok(schedule) => Some(Replay::new(alloc, schedule)),
+        Err(_) => None,
     }
 }
 
 /// Writes what the calls answer, a `|` and the text of the history.
-fn tell(
-    alloc: Global,
-    all: &mut String,
-    world: &mut Replay,
-    calls: &str,
-) -> Result<(), AllocError> {
+fn tell(alloc: Global, all: &mut String, world: &mut Replay, calls: &str) {
     for word in calls.split(' ') {
-        call(alloc, all, world, word)?;
-        all.push(' ')?;
+        call(alloc, all, world, word);
+        put(all, " ");
     }
-    all.push('|')?;
-    let text = history_text(alloc, world.history())?;
-    all.push_str(str::from_utf8(&text).unwrap_or("?"))
+    put(all, "|");
+    match history_text(alloc, world.history()) {
+        Ok(text) => put(all, str::from_utf8(&text).unwrap_or("?")),
+        Err(_) => put(all, "memory"),
+    }
 }
 
-/// What the calls answer over a schedule, and the text of the history.
-fn told(alloc: Global, schedule: &str, calls: &str) -> Result<String, AllocError> {
+/// What is seen of `SCHEDULE > CALLS`, in which `;` is the end of a line: the answers, and the history.
+pub(crate) fn seen(alloc: Global, given: &str) -> String {
     let mut all = String::new(alloc);
-    if let Some(mut world) = world_of(alloc, schedule)? {
-        tell(alloc, &mut all, &mut world, calls)?;
+    put(&mut all, given);
+    let lines = replaced(alloc, all, ";", "\n");
+    let (schedule, calls) = lines.as_str().split_once(" > ").unwrap_or(("", ""));
+    let mut all = String::new(alloc);
+    match world_of(alloc, schedule) {
+        Some(mut world) => tell(alloc, &mut all, &mut world, calls),
+        None => put(&mut all, "refused"),
     }
-    Ok(all)
-}
-
-/// The same, with `;` at the end of a line.
-fn played(alloc: Global, schedule: &str, calls: &str) -> Result<String, AllocError> {
-    told(alloc, schedule, calls)?.replace(alloc, "\n", ";")
-}
-
-/// Tests each row, `SCHEDULE > CALLS => ANSWERS |HISTORY`.
-fn hold(rt: &impl Abort, alloc: Global, rows: &str) -> Result<(), Fail> {
-    for row in rows.lines() {
-        let (given, expected) = row.split_once(" => ").unwrap_or((row, ""));
-        let (schedule, calls) = given.split_once(" > ").unwrap_or((given, ""));
-        assert_eq!(rt; played(alloc, schedule, calls)?.as_str(), expected, "{row}");
-    }
-    Ok(())
+    replaced(alloc, all, "\n", ";")
 }
 
 /// A connection takes all, then so many bytes as a line lets it, and then it waits. Lines come while it is open.
@@ -191,13 +178,6 @@ arrive c1;broken c1;bytes c1 \"x\";stop; > next next next => Arrive(1) Broken(Co
 arrive c1;bytes c1 \"a\";ready c1;room c1 1;fail put c1;moment 1;stop; > next close:c1 put:ab next next => \
 Arrive(1) done closed Moment(Ms(1)) Stop |arrive c1;close c1;moment 1;stop;";
 
-#[test]
-fn a_schedule_says_what_its_world_answers(rt: HostRuntime) -> Result<(), Fail> {
-    hold(&rt, rt.alloc(), ROOM)?;
-    hold(&rt, rt.alloc(), FAULTS)?;
-    hold(&rt, rt.alloc(), IDS)
-}
-
 /// Each call of the world.
 const EXCHANGE: &str = "\
 moment 1000;arrive c1;bytes c1 \"GET /\";bytes c1 \" HTTP/1.0\\r\\n\\r\\n\";stop; > \
@@ -207,6 +187,9 @@ Up Moment(Ms(1000)) Arrive(1) Took(4) Done Started(1) done done done Started(2) 
 timer c1 7 = t2;dropped t2;close c1;dial c1 127.0.0.1 9001 s2;close s2;stop;";
 
 #[test]
-fn a_world_gives_its_lines_and_tells_what_was_done(rt: HostRuntime) -> Result<(), Fail> {
-    hold(&rt, rt.alloc(), EXCHANGE)
+fn a_world_answers_by_its_schedule_and_tells_what_was_done(rt: HostRuntime) {
+    hold(&rt, rt.alloc(), Subject::World, ROOM);
+    hold(&rt, rt.alloc(), Subject::World, FAULTS);
+    hold(&rt, rt.alloc(), Subject::World, IDS);
+    hold(&rt, rt.alloc(), Subject::World, EXCHANGE);
 }

@@ -1,4 +1,7 @@
-//! Tests of `schedule_text`: texts that are read, printed and refused.
+//! Tests of `schedule_text`, in rows `WORD TEXT => SEEN`: texts that are read and printed again (AGAIN, `values`, `texts`), refused at their line (SCHEDULES,
+//! HISTORIES, `texts`), and the schedules of histories (EVENTS).
+use crate::rows::{Subject, hold, put, replaced};
+use resty_base::Bytes;
 use resty_world::{Entry, History};
 use schedule_text::*;
 use std::alloc::{AllocError, Global};
@@ -10,82 +13,101 @@ mod values;
 
 use texts::{HISTORY, OTHER_ENTRIES, OTHER_LINES, SCHEDULE, WHOLE_HISTORY, WHOLE_SCHEDULE};
 
-/// Tests each row, `WORD TEXT => SEEN`; `;` is the end of a line.
-fn hold(rt: &impl Abort, alloc: Global, rows: &str) -> Result<(), Fail> {
-    for row in rows.lines() {
-        let (given, expected) = row.split_once(" => ").unwrap_or((row, ""));
-        assert_eq!(rt; seen(alloc, given)?.as_str(), expected, "{row}");
-    }
-    Ok(())
-}
-
-/// What is seen of a text: its entries or its lines where it comes back, the line at which it is refused, or the schedule of its events.
-fn seen(alloc: Global, given: &str) -> Result<String, AllocError> {
+/// What is seen of a text, in which `;` is the end of a line: its entries or its lines where it comes back, the line at which it is refused, or the schedule
+/// of its events.
+pub(crate) fn seen(alloc: Global, given: &str) -> String {
     let (word, text) = given.split_once(' ').unwrap_or((given, ""));
-    let text = text.replace(alloc, ";", "\n")?;
+    let mut all = String::new(alloc);
+    put(&mut all, text);
+    let text = replaced(alloc, all, ";", "\n");
+    let mut all = String::new(alloc);
+    see(alloc, &mut all, word, text.as_bytes());
+    replaced(alloc, all, "\n", ";")
+}
+
+/// Writes what is seen of a text.
+fn see(alloc: Global, all: &mut String, word: &str, text: &[u8]) {
     match word {
-        "entries" => entries(alloc, text.as_bytes()),
-        "lines" => lines(alloc, text.as_bytes()),
-        "events" => events(alloc, text.as_bytes())?.replace(alloc, "\n", ";"),
-        "history" => no_history(alloc, text.as_bytes()),
-        _ => no_schedule(alloc, text.as_bytes()),
+        "entries" => see_entries(alloc, all, text),
+        "lines" => see_lines(alloc, all, text),
+        "events" => see_events(alloc, all, text),
+        "history" => see_history_fault(alloc, all, text),
+        _ => see_schedule_fault(alloc, all, text),
     }
 }
 
-/// The entries of a text in words, where it is printed as it was.
-fn entries(alloc: Global, text: &[u8]) -> Result<String, AllocError> {
-    let Ok(history) = history_of(alloc, text) else {
-        return format!(in alloc; "refused");
-    };
-    if history_text(alloc, &history)?.as_slice() != text {
-        return format!(in alloc; "another text");
-    }
-    in_words(alloc, &history)
-}
-
-/// The entries of a history in words; a single call of a dictionary without what holds it.
-fn in_words(alloc: Global, history: &History) -> Result<String, AllocError> {
-    match history.as_slice() {
-        [Entry::Dict(who, name, call, answer)] => {
-            format!(in alloc; "{who:?} {name:?} {:?} {:?}", call.get(), answer.get())
-        }
-        entries => format!(in alloc; "{entries:?}"),
+/// Whether bytes that were made are this text.
+fn are(made: Result<Bytes, AllocError>, text: &[u8]) -> bool {
+    match made {
+        Ok(bytes) => bytes.as_slice() == text,
+        Err(_) => false,
     }
 }
 
-/// The lines of a text in words, where it is printed as it was.
-fn lines(alloc: Global, text: &[u8]) -> Result<String, AllocError> {
-    let Ok(schedule) = schedule_of(alloc, text) else {
-        return format!(in alloc; "refused");
-    };
-    if schedule_text(alloc, &schedule)?.as_slice() != text {
-        return format!(in alloc; "another text");
-    }
-    format!(in alloc; "{:?}", schedule.as_slice())
-}
-
-/// The schedule of the events that a history gives.
-fn events(alloc: Global, text: &[u8]) -> Result<String, AllocError> {
-    let Ok(history) = history_of(alloc, text) else {
-        return format!(in alloc; "refused");
-    };
-    let printed = schedule_text(alloc, &events_of(alloc, &history)?)?;
-    String::from_utf8_lossy(alloc, &printed)
-}
-
-/// The line at which a text is no history, or `read`.
-fn no_history(alloc: Global, text: &[u8]) -> Result<String, AllocError> {
+/// Writes the entries of a text in words, where it is printed as it was.
+fn see_entries(alloc: Global, all: &mut String, text: &[u8]) {
     match history_of(alloc, text) {
-        Ok(_) => format!(in alloc; "read"),
-        Err(fault) => format!(in alloc; "{fault:?}"),
+        Ok(history) if are(history_text(alloc, &history), text) => see_words(all, &history),
+        Ok(_) => put(all, "another text"),
+        Err(_) => put(all, "refused"),
     }
 }
 
-/// The line at which a text is no schedule, or `read`.
-fn no_schedule(alloc: Global, text: &[u8]) -> Result<String, AllocError> {
+/// Writes the entries of a history in words; a single call of a dictionary without what holds it.
+fn see_words(all: &mut String, history: &History) {
+    let _ = match history.as_slice() {
+        [Entry::Dict(who, name, call, answer)] => {
+            let (call, answer) = (call.get(), answer.get());
+            write!(all, "{who:?} {name:?} {call:?} {answer:?}")
+        }
+        entries => write!(all, "{entries:?}"),
+    };
+}
+
+/// Writes the lines of a text in words, where it is printed as it was.
+fn see_lines(alloc: Global, all: &mut String, text: &[u8]) {
     match schedule_of(alloc, text) {
-        Ok(_) => format!(in alloc; "read"),
-        Err(fault) => format!(in alloc; "{fault:?}"),
+        Ok(schedule) if are(schedule_text(alloc, &schedule), text) => {
+            let lines = schedule.as_slice();
+            let _ = write!(all, "{lines:?}");
+        }
+        Ok(_) => put(all, "another text"),
+        Err(_) => put(all, "refused"),
+    }
+}
+
+/// Writes the schedule of the events that a history gives.
+fn see_events(alloc: Global, all: &mut String, text: &[u8]) {
+    match events(alloc, text) {
+        Some(text) => put(all, str::from_utf8(&text).unwrap_or("?")),
+        None => put(all, "refused"),
+    }
+}
+
+/// The schedule of the events that a history gives; None where it is refused.
+fn events(alloc: Global, text: &[u8]) -> Option<Bytes> {
+    let history = history_of(alloc, text).ok()?;
+    let events = events_of(alloc, &history).ok()?;
+    schedule_text(alloc, &events).ok()
+}
+
+/// Writes the line at which a text is no history, or `read`.
+fn see_history_fault(alloc: Global, all: &mut String, text: &[u8]) {
+    match history_of(alloc, text) {
+        Ok(_) => put(all, "read"),
+        Err(fault) => {
+            let _ = write!(all, "{fault:?}");
+        }
+    }
+}
+
+/// Writes the line at which a text is no schedule, or `read`.
+fn see_schedule_fault(alloc: Global, all: &mut String, text: &[u8]) {
+    match schedule_of(alloc, text) {
+        Ok(_) => put(all, "read"),
+        Err(fault) => {
+            let _ = write!(all, "{fault:?}");
+        }
     }
 }
 
@@ -93,47 +115,40 @@ const AGAIN: &str = "\
 entries  => []
 lines stop; => [Given(Stop)]";
 
-#[test]
-fn texts_are_read_and_printed_again(rt: HostRuntime) -> Result<(), Fail> {
-    let alloc = rt.alloc();
-    hold(&rt, alloc, AGAIN)?;
-    assert!(rt; entries(alloc, HISTORY)?.starts_with('['));
-    assert!(rt; entries(alloc, WHOLE_HISTORY)?.starts_with('['));
-    assert!(rt; lines(alloc, SCHEDULE)?.starts_with('['));
-    assert!(rt; lines(alloc, WHOLE_SCHEDULE)?.starts_with('['));
-    Ok(())
+/// Whether a text comes back as entries or as lines.
+fn comes_back(alloc: Global, word: &str, text: &[u8]) -> bool {
+    let mut all = String::new(alloc);
+    see(alloc, &mut all, word, text);
+    all.as_str().starts_with('[')
 }
 
 /// Whether so many bytes may come at a time.
-fn may_come(alloc: Global, count: usize) -> Result<bool, AllocError> {
-    let bytes = "a".repeat(alloc, count)?;
-    let line = format!(in alloc; "bytes c1 \"{}\"\n", bytes.as_str())?;
-    Ok(no_history(alloc, line.as_bytes())?.as_str() == "read")
-}
-
-#[test]
-fn at_most_65536_bytes_come_at_a_time(rt: HostRuntime) -> Result<(), Fail> {
-    assert!(rt; may_come(rt.alloc(), 65_536)?);
-    assert!(rt; !may_come(rt.alloc(), 65_537)?);
-    Ok(())
+fn may_come(alloc: Global, count: usize) -> bool {
+    let mut line = String::new(alloc);
+    put(&mut line, "bytes c1 \"");
+    for _ in 0..count {
+        put(&mut line, "a");
+    }
+    put(&mut line, "\"\n");
+    history_of(alloc, line.as_bytes()).is_ok()
 }
 
 /// Whether a text is refused at its first line.
-fn is_refused(alloc: Global, word: &str, line: &str, after: &str) -> Result<bool, AllocError> {
-    let given = format!(in alloc; "{word} {line};{after}")?;
-    Ok(seen(alloc, given.as_str())?.as_str() == "BadLine(1)")
+fn is_refused(alloc: Global, word: &str, line: &str, after: &str) -> bool {
+    let mut all = String::new(alloc);
+    put(&mut all, line);
+    put(&mut all, "\n");
+    put(&mut all, after);
+    let mut seen = String::new(alloc);
+    see(alloc, &mut seen, word, all.as_bytes());
+    seen.as_str() == "BadLine(1)"
 }
 
-#[test]
-fn other_lines_are_refused(rt: HostRuntime) -> Result<(), Fail> {
-    let alloc = rt.alloc();
-    for line in OTHER_ENTRIES.split('\n') {
-        assert!(rt; is_refused(alloc, "history", line, "")?, "{line}");
+/// Tests that each line of a text is refused.
+fn are_refused(rt: &impl Abort, alloc: Global, word: &str, lines: &str, after: &str) {
+    for line in lines.split('\n') {
+        assert!(rt; is_refused(alloc, word, line, after), "{line}");
     }
-    for line in OTHER_LINES.split('\n') {
-        assert!(rt; is_refused(alloc, "schedule", line, "stop;")?, "{line}");
-    }
-    Ok(())
 }
 
 const SCHEDULES: &str = "\
@@ -167,24 +182,52 @@ history stop;stop => BadLine(2)
 history stop;;stop; => BadLine(2)
 history stop;stop;room c1 all; => BadLine(3)";
 
-#[test]
-fn texts_are_refused_at_their_line(rt: HostRuntime) -> Result<(), Fail> {
-    hold(&rt, rt.alloc(), SCHEDULES)?;
-    hold(&rt, rt.alloc(), HISTORIES)?;
-    let fault = no_history(rt.alloc(), b"put c1 \"\xff\"\n")?;
-    assert_eq!(rt; fault.as_str(), "BadLine(1)");
-    Ok(())
-}
-
 const EVENTS: &str = "\
 events  => stop;
 events stop;close c1; => stop;
 events moment 2;moment 1;arrive c1;later c1;ready c1; => moment 2;moment 2;arrive c1;ready c1;stop;";
 
 #[test]
-fn given_events_are_a_schedule(rt: HostRuntime) -> Result<(), Fail> {
-    hold(&rt, rt.alloc(), EVENTS)?;
-    let schedule = events(rt.alloc(), WHOLE_HISTORY)?;
-    assert_eq!(rt; schedule.as_bytes(), WHOLE_SCHEDULE);
-    Ok(())
+fn texts_are_read_and_printed_or_refused_at_their_line(rt: HostRuntime) {
+    hold(&rt, rt.alloc(), Subject::Text, AGAIN);
+    hold(&rt, rt.alloc(), Subject::Text, values::ENTRIES);
+    hold(&rt, rt.alloc(), Subject::Text, values::DICTIONARY);
+    hold(&rt, rt.alloc(), Subject::Text, values::LINES);
+    hold(&rt, rt.alloc(), Subject::Text, SCHEDULES);
+    hold(&rt, rt.alloc(), Subject::Text, HISTORIES);
+    hold(&rt, rt.alloc(), Subject::Text, EVENTS);
+    are_refused(&rt, rt.alloc(), "history", OTHER_ENTRIES, "");
+    are_refused(&rt, rt.alloc(), "schedule", OTHER_LINES, "stop\n");
+}
+
+/// Whether the long texts come back.
+fn long_texts_come_back(alloc: Global) -> bool {
+    comes_back(alloc, "entries", HISTORY)
+        && comes_back(alloc, "entries", WHOLE_HISTORY)
+        && comes_back(alloc, "lines", SCHEDULE)
+        && comes_back(alloc, "lines", WHOLE_SCHEDULE)
+}
+
+/// Whether the events of the exchange are its schedule.
+fn events_are_the_schedule(alloc: Global) -> bool {
+    match events(alloc, WHOLE_HISTORY) {
+        Some(text) => text.as_slice() == WHOLE_SCHEDULE,
+        None => false,
+    }
+}
+
+#[test]
+fn long_texts_and_bytes_are_read_and_refused(rt: HostRuntime) {
+    assert!(rt; long_texts_come_back(rt.alloc()));
+    assert!(rt; events_are_the_schedule(rt.alloc()));
+    assert!(rt; may_come(rt.alloc(), 65_536) && !may_come(rt.alloc(), 65_537));
+    assert!(rt; is_bad_byte_refused(rt.alloc()));
+}
+
+/// Whether a byte that is no text is refused.
+fn is_bad_byte_refused(alloc: Global) -> bool {
+    matches!(
+        history_of(alloc, b"put c1 \"\xff\"\n"),
+        Err(SchedFault::BadLine(1))
+    )
 }

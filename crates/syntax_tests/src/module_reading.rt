@@ -1,22 +1,20 @@
 //! Tests of the reading of modules: lines of what a site and its files have, and of what reading comes to, each with what is answered.
-use crate::module_sets::answer;
-use crate::rows::put_number;
+use crate::module_sets::{answer, told};
+use crate::rows::{expect, put_number};
 use lua_modules::{ModuleFileFault, ModuleSet, read_modules};
 use resty_base::{Bytes, MemFiles};
 use std::alloc::{AllocError, Global};
 use std::process::Abort;
-use std::test::Fail;
 
 /// Tests each row, `CALL => ANSWER`, on a new set and new files.
-fn hold(rt: &impl Abort, alloc: Global, rows: &str) -> Result<(), Fail> {
+fn hold(rt: &impl Abort, alloc: Global, rows: &str) {
     let mut set = ModuleSet::new(alloc);
     let mut files = MemFiles::new(alloc);
     for row in rows.lines() {
         let (call, expected) = row.split_once(" => ").unwrap_or((row, ""));
-        let given = answer_in(alloc, &mut set, &mut files, call)?;
-        assert_eq!(rt; given.as_str(), expected, "{row}");
+        let given = told(alloc, answer_in(alloc, &mut set, &mut files, call));
+        expect(rt, given.as_str(), expected, row);
     }
-    Ok(())
 }
 
 /// The answer to a call: `file NAME TEXT`, `blanks NAME COUNT` for a file of so many blanks, `fail N` for the Nth fetch, `names COUNT` for a
@@ -103,6 +101,7 @@ fn see_fault(all: &mut String, fault: &ModuleFileFault) {
     let _ = write!(all, "{fault:?}");
 }
 
+/// Names stand in functions within and not behind locals.
 const WITHIN: &str = "\
 file a.lua return function() return function() require 'b' end end
 file b.lua local r = require r 'c'
@@ -110,11 +109,7 @@ block 1 function f() require 'a' end => 0
 read ?.lua => read
 modules => a=2 b=5";
 
-#[test]
-fn names_stand_in_functions_within_and_not_behind_locals(rt: HostRuntime) -> Result<(), Fail> {
-    hold(&rt, rt.alloc(), WITHIN)
-}
-
+/// Two modules that require each other are read once.
 const EACH_OTHER: &str = "\
 file a.lua return require 'b'
 file b.lua return require 'a'
@@ -122,11 +117,7 @@ block 1 require 'a' => 0
 read ?.lua => read
 modules => a=1 b=2";
 
-#[test]
-fn two_modules_that_require_each_other_are_read_once(rt: HostRuntime) -> Result<(), Fail> {
-    hold(&rt, rt.alloc(), EACH_OTHER)
-}
-
+/// A name that came before or is built in is not read.
 const TWICE: &str = "\
 built-in z return 1 => added
 file a.lua require 'a' require 'z'
@@ -134,11 +125,6 @@ block 1 require 'z' require 'a' require 'a' => 0
 block 2 return require 'a' => 1
 read ?.lua => read
 modules => *z=0 a=3";
-
-#[test]
-fn a_name_that_came_before_or_is_built_in_is_not_read(rt: HostRuntime) -> Result<(), Fail> {
-    hold(&rt, rt.alloc(), TWICE)
-}
 
 /// The blocks' names come first, then those of each module as it is read.
 const ORDER: &str = "\
@@ -164,12 +150,7 @@ fail 4
 read ?.lua => Unreadable(b\"c.lua\")
 modules => b=2 a=3 e=4";
 
-#[test]
-fn modules_are_read_in_the_order_of_their_names(rt: HostRuntime) -> Result<(), Fail> {
-    hold(&rt, rt.alloc(), ORDER)?;
-    hold(&rt, rt.alloc(), FOURTH)
-}
-
+/// A fault names its file.
 const REFUSED: &str = "\
 file a.lua return 1
 file m.lua local a\rlocal b\rlocal = 1
@@ -195,14 +176,7 @@ block 7 require 'short' require 'long' => 0
 read ?.lua => TooLong(b\"long.lua\")
 modules => short=1";
 
-#[test]
-fn a_fault_names_its_file(rt: HostRuntime) -> Result<(), Fail> {
-    hold(&rt, rt.alloc(), REFUSED)?;
-    hold(&rt, rt.alloc(), BAD_TOKEN)?;
-    hold(&rt, rt.alloc(), MISSING)?;
-    hold(&rt, rt.alloc(), TOO_LONG)
-}
-
+/// The 257th name is refused before a further file is read.
 const MOST: &str = "\
 built-in z return 1 => added
 file m1.lua return 1
@@ -224,13 +198,7 @@ names 256
 read ?.lua => TooMany
 count => 1";
 
-#[test]
-fn the_257th_name_is_refused_before_a_further_file_is_read(rt: HostRuntime) -> Result<(), Fail> {
-    hold(&rt, rt.alloc(), MOST)?;
-    hold(&rt, rt.alloc(), ONE_MORE)?;
-    hold(&rt, rt.alloc(), ONE_MORE_IN_A_MODULE)
-}
-
+/// The pattern says which file a module has.
 const DOTS: &str = "\
 file lua/a/b-c.lua return require 'd'
 file lua/d.lua return 1
@@ -249,13 +217,6 @@ block 1 require 'a' require 'b' => 0
 read all.lua => read
 modules => a=1 b=2";
 
-#[test]
-fn the_pattern_says_which_file_a_module_has(rt: HostRuntime) -> Result<(), Fail> {
-    hold(&rt, rt.alloc(), DOTS)?;
-    hold(&rt, rt.alloc(), TWO_MARKS)?;
-    hold(&rt, rt.alloc(), NO_MARK)
-}
-
 /// What reading `m` comes to with a pattern that isn't UTF-8.
 fn answer_by_bytes(alloc: Global) -> Result<String, AllocError> {
     let mut set = ModuleSet::new(alloc);
@@ -266,8 +227,26 @@ fn answer_by_bytes(alloc: Global) -> Result<String, AllocError> {
 }
 
 #[test]
-fn a_name_that_is_no_text_is_that_of_no_file(rt: HostRuntime) -> Result<(), Fail> {
-    let given = answer_by_bytes(rt.alloc())?;
+fn a_name_that_is_no_text_is_that_of_no_file(rt: HostRuntime) {
+    let given = told(rt.alloc(), answer_by_bytes(rt.alloc()));
     assert_eq!(rt; given.as_str(), "0Missing(b\"\\xffm\")");
-    Ok(())
+}
+
+#[test]
+fn modules_are_read(rt: HostRuntime) {
+    hold(&rt, rt.alloc(), WITHIN);
+    hold(&rt, rt.alloc(), EACH_OTHER);
+    hold(&rt, rt.alloc(), TWICE);
+    hold(&rt, rt.alloc(), ORDER);
+    hold(&rt, rt.alloc(), FOURTH);
+    hold(&rt, rt.alloc(), REFUSED);
+    hold(&rt, rt.alloc(), BAD_TOKEN);
+    hold(&rt, rt.alloc(), MISSING);
+    hold(&rt, rt.alloc(), TOO_LONG);
+    hold(&rt, rt.alloc(), MOST);
+    hold(&rt, rt.alloc(), ONE_MORE);
+    hold(&rt, rt.alloc(), ONE_MORE_IN_A_MODULE);
+    hold(&rt, rt.alloc(), DOTS);
+    hold(&rt, rt.alloc(), TWO_MARKS);
+    hold(&rt, rt.alloc(), NO_MARK);
 }

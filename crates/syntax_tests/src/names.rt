@@ -1,4 +1,4 @@
-//! Tests of the names that texts require.
+//! Tests of the names that texts require: in calls (CALLS), statements (STATEMENTS), functions within (WITHIN), and what isn't one (UNSEEN).
 use crate::rows::{Subject, hold, put};
 use lua_ast::Program;
 use lua_lexer::lex;
@@ -34,6 +34,7 @@ pub(crate) fn see_names(alloc: Global, all: &mut String, text: &str) {
     }
 }
 
+/// Names stand in the order of the text.
 const CALLS: &str = "\
 x = 1 =>
 local m = require \"a.b\" => a.b
@@ -50,23 +51,14 @@ while require 'a' do require 'b' end repeat require 'c' until require 'd' => a b
 for i = require 'a', require 'b', require 'c' do require 'd' end => a b c d
 for k in require 'a', require 'b' do require 'c' end do require 'd' end => a b c d";
 
+/// Functions stand where they are written.
 const WITHIN: &str = "\
 require 'a' local function f() require 'b' return function() return require 'c' end end require 'd' => a b c d
 function f() require 'a' end function g() require 'b' end require 'c' => a b c
 require(function() require 'a' end) require 'b' => a b
 return function() end, function() return function() require 'a' end end => a";
 
-#[test]
-fn names_stand_in_the_order_of_the_text(rt: HostRuntime) {
-    hold(&rt, rt.alloc(), Subject::Names, CALLS);
-    hold(&rt, rt.alloc(), Subject::Names, STATEMENTS);
-}
-
-#[test]
-fn functions_stand_where_they_are_written(rt: HostRuntime) {
-    hold(&rt, rt.alloc(), Subject::Names, WITHIN);
-}
-
+/// Other calls and other names are left out.
 const UNSEEN: &str = "\
 local require = require require 'a' =>
 local r = require r 'a' =>
@@ -75,6 +67,9 @@ m.require 'a' o:require 'a' (require) 'a' requires 'a' =>
 require 'a b' require '' require 'a/b' require 'a\\0' =>";
 
 #[test]
-fn other_calls_and_other_names_are_left_out(rt: HostRuntime) {
+fn names_stand_in_the_order_of_the_text(rt: HostRuntime) {
+    hold(&rt, rt.alloc(), Subject::Names, CALLS);
+    hold(&rt, rt.alloc(), Subject::Names, STATEMENTS);
+    hold(&rt, rt.alloc(), Subject::Names, WITHIN);
     hold(&rt, rt.alloc(), Subject::Names, UNSEEN);
 }

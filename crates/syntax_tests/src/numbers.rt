@@ -1,4 +1,4 @@
-//! Arithmetic of whole numbers, and numbers as texts.
+//! Arithmetic of whole numbers (ARITHMETIC, POWERS), and numbers as texts (NUMERALS, DIGITS).
 use crate::rows::{Subject, hold, put, put_number};
 use lua_numbers::*;
 use resty_base::{Bytes, Whole, whole};
@@ -82,12 +82,6 @@ fn see_outcome(all: &mut String, outcome: Result<Whole, NumFault>) {
     }
 }
 
-#[test]
-fn arithmetic_is_whole_and_within_the_range(rt: HostRuntime) {
-    hold(&rt, rt.alloc(), Subject::Arithmetic, ARITHMETIC);
-    hold(&rt, rt.alloc(), Subject::Arithmetic, POWERS);
-}
-
 /// Texts that write numbers, and texts that don't.
 const NUMERALS: &str = "\
 1e2 => none
@@ -155,7 +149,9 @@ fn see_text(all: &mut String, text: &Result<Bytes, AllocError>) {
 }
 
 #[test]
-fn numbers_are_read_and_written(rt: HostRuntime) {
+fn numbers_are_whole_read_and_written(rt: HostRuntime) {
+    hold(&rt, rt.alloc(), Subject::Arithmetic, ARITHMETIC);
+    hold(&rt, rt.alloc(), Subject::Arithmetic, POWERS);
     hold(&rt, rt.alloc(), Subject::Numeral, NUMERALS);
     hold(&rt, rt.alloc(), Subject::Digits, DIGITS);
 }

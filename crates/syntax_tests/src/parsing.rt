@@ -1,4 +1,5 @@
-//! What parsing gives for whole texts, and each limit with one more.
+//! What parsing gives for whole texts (`programs`, `lines`), the first faults (UNFIT), each limit with one more (`limits`), how each pair of operators groups
+//! (`pairs`), and a hundred thousand arms.
 mod limits;
 mod lines;
 mod pairs;
@@ -11,7 +12,7 @@ use lua_ast::{Program, StmtKind, height};
 use lua_lexer::{Token, TokenKind, Word, lex};
 use lua_parser::{ParseFault, parse};
 use std::alloc::{AllocError, Global};
-use std::test::Fail;
+use std::process::Abort;
 use written::{see_bodies, see_heads};
 
 /// Writes what is seen of the program of a text, or the first fault of its tokens, or else of `parse`.
@@ -93,11 +94,6 @@ x = function() break¶return ... end => BreakOutside(1)
 x = = 1¶'a => OpenString(2)
 break¶x = ~ 1 => BadByte(2)";
 
-#[test]
-fn each_fault_is_met_where_it_comes(rt: HostRuntime) {
-    hold(&rt, rt.alloc(), Subject::Program, UNFIT);
-}
-
 /// Puts words of line 1 after other tokens. So the whole may be longer than a text may be.
 fn push_words(tokens: &mut Vec<Token>, words: &[Word]) -> Result<(), AllocError> {
     for word in words {
@@ -136,8 +132,35 @@ fn arms_read(alloc: Global, arms: u32) -> Result<Option<usize>, AllocError> {
     })
 }
 
+/// Whether a hundred thousand arms are one statement.
+fn are_one_statement(alloc: Global) -> bool {
+    match arms_read(alloc, 100_000) {
+        Ok(arms) => arms == Some(100_000),
+        Err(_) => false,
+    }
+}
+
+/// Faults, limits, lines, statements and expressions.
+fn hold_all(rt: &impl Abort, alloc: Global) {
+    hold(rt, alloc, Subject::Program, UNFIT);
+    hold(rt, alloc, Subject::Limit, limits::LIMITS);
+    hold(rt, alloc, Subject::Limit, limits::DEPTHS);
+    hold(rt, alloc, Subject::Limit, limits::HEIGHTS);
+    hold(rt, alloc, Subject::Limit, limits::LOCALS);
+    hold(rt, alloc, Subject::Limit, limits::CAPTURES);
+    hold(rt, alloc, Subject::Limit, limits::CONTEXTS);
+    hold(rt, alloc, Subject::Limit, limits::BOTH);
+    hold(rt, alloc, Subject::Lines, lines::EXPRESSIONS);
+    hold(rt, alloc, Subject::Lines, lines::STATEMENTS);
+    hold(rt, alloc, Subject::Heads, lines::FUNCTIONS);
+    hold(rt, alloc, Subject::Program, programs::GROUPS);
+    hold(rt, alloc, Subject::Program, programs::PROGRAMS);
+    hold(rt, alloc, Subject::Heads, programs::HEADS);
+}
+
 #[test]
-fn a_hundred_thousand_arms_are_one_statement(rt: HostRuntime) -> Result<(), Fail> {
-    assert_eq!(rt; arms_read(rt.alloc(), 100_000)?, Some(100_000));
-    Ok(())
+fn programs_are_parsed(rt: HostRuntime) {
+    hold_all(&rt, rt.alloc());
+    pairs::hold_all_pairs(&rt, rt.alloc());
+    assert!(rt; are_one_statement(rt.alloc()));
 }

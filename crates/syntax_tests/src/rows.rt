@@ -46,7 +46,7 @@ pub(crate) fn hold(rt: &impl Abort, alloc: Global, subject: Subject, rows: &str)
     for row in rows.lines() {
         let (given, expected) = row.split_once(" =>").unwrap_or((row, ""));
         let expected = expected.strip_prefix(' ').unwrap_or(expected);
-        assert_eq!(rt; seen(alloc, subject, given).as_str(), expected, "{row}");
+        expect(rt, seen(alloc, subject, given).as_str(), expected, row);
     }
 }
 
@@ -118,4 +118,9 @@ fn see(alloc: Global, all: &mut String, subject: Subject, text: &str) {
         Subject::Names => see_names(alloc, all, text),
         _ => see_program(alloc, all, text, subject),
     }
+}
+
+/// What is seen is what the row says.
+pub(crate) fn expect(rt: &impl Abort, seen: &str, expected: &str, row: &str) {
+    assert_eq!(rt; seen, expected, "{row}");
 }

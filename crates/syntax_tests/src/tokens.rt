@@ -3,8 +3,7 @@
 use crate::rows::{Subject, hold, put, put_number};
 use lua_grammar::{left_level, level, operator_of, right_level};
 use lua_lexer::{LexFault, Token, TokenKind, block_end, lex};
-use std::alloc::{AllocError, Global};
-use std::test::Fail;
+use std::alloc::Global;
 
 /// Texts and the kinds of their tokens as `Debug` writes them, a numeral as its digits.
 const TOKENS: &str = "\
@@ -96,11 +95,6 @@ pub(crate) fn see_tokens(alloc: Global, all: &mut String, text: &str) {
     }
 }
 
-#[test]
-fn texts_give_their_tokens(rt: HostRuntime) {
-    hold(&rt, rt.alloc(), Subject::Tokens, TOKENS);
-}
-
 /// Texts with their lines, and the lines and positions of their tokens.
 const PLACES: &str = "\
 1 x = 0x10 => 1:0-1 1:2-3 1:4-8
@@ -185,32 +179,18 @@ pub(crate) fn see_places(alloc: Global, all: &mut String, text: &str) {
     }
 }
 
-#[test]
-fn tokens_have_their_lines_and_positions(rt: HostRuntime) {
-    hold(&rt, rt.alloc(), Subject::Places, PLACES);
-    hold(&rt, rt.alloc(), Subject::Places, FAULTS);
+/// The fault of a text of one byte again and again, on a line below 100, or of no memory for it.
+fn fault_of_many(alloc: Global, byte: u8, many: usize, line: u8) -> Option<LexFault> {
+    match vec![in alloc; byte; many] {
+        Ok(text) => lex(alloc, &text, u32::from(line)).err(),
+        Err(_) => Some(LexFault::Memory),
+    }
 }
 
-/// The fault of a text of one byte again and again, on a line below 100.
-fn fault_of_many(
-    alloc: Global,
-    byte: u8,
-    many: usize,
-    line: u8,
-) -> Result<Option<LexFault>, AllocError> {
-    let text = vec![in alloc; byte; many]?;
-    Ok(lex(alloc, &text, u32::from(line)).err())
-}
-
-#[test]
-fn a_text_past_the_limit_is_too_long(rt: HostRuntime) -> Result<(), Fail> {
-    let alloc = rt.alloc();
-    assert_eq!(rt; fault_of_many(alloc, b' ', 1_048_576, 1)?, None);
-    assert_eq!(rt;
-        fault_of_many(alloc, b'$', 1_048_577, 9)?,
-        Some(LexFault::TooLong(9))
-    );
-    Ok(())
+/// Whether a text past the limit is too long, and one at the limit isn't.
+fn is_limited(alloc: Global) -> bool {
+    fault_of_many(alloc, b' ', 1_048_576, 1) == None
+        && fault_of_many(alloc, b'$', 1_048_577, 9) == Some(LexFault::TooLong(9))
 }
 
 /// Texts, each after the index at which the inside of a block begins, and the index of its end.
@@ -247,11 +227,6 @@ pub(crate) fn see_block_end(all: &mut String, text: &str) {
         Some(end) => put_number(all, i64::try_from(end).unwrap_or(-1)),
         None => put(all, "none"),
     }
-}
-
-#[test]
-fn blocks_end_at_their_brace(rt: HostRuntime) {
-    hold(&rt, rt.alloc(), Subject::BlockEnd, BLOCKS);
 }
 
 /// Operators and their levels by the manual, to the left, of themselves and to the right, and what is no operator of two
@@ -291,6 +266,11 @@ pub(crate) fn see_level(alloc: Global, all: &mut String, text: &str) {
 }
 
 #[test]
-fn operators_have_the_levels_of_the_manual(rt: HostRuntime) {
+fn texts_give_their_tokens(rt: HostRuntime) {
+    assert!(rt; is_limited(rt.alloc()));
+    hold(&rt, rt.alloc(), Subject::Tokens, TOKENS);
+    hold(&rt, rt.alloc(), Subject::Places, PLACES);
+    hold(&rt, rt.alloc(), Subject::Places, FAULTS);
+    hold(&rt, rt.alloc(), Subject::BlockEnd, BLOCKS);
     hold(&rt, rt.alloc(), Subject::Level, LEVELS);
 }

@@ -1,10 +1,9 @@
-//! Heights of expressions, and programs in which each number names something that is there.
+//! Heights of expressions (HIGHEST_CHILD, and parentheses), and programs in which each number names something that is there (WHOLE).
 use crate::rows::{Subject, hold, put};
 use lua_ast::*;
 use resty_base::{ByteLists, Bytes};
 use std::alloc::{AllocError, Global};
 use std::rc::Rc;
-use std::test::Fail;
 
 /// An expression in so many parentheses.
 fn nested(alloc: Global, parentheses: u32) -> Result<Expr, AllocError> {
@@ -23,14 +22,12 @@ fn height_of_nested(alloc: Global, parentheses: u32) -> Result<u32, AllocError> 
 /// A table whose highest child is a call of which the second argument is the highest.
 const HIGHEST_CHILD: &str = "local a return {nil, [true] = a(..., true + -(((((nil))))))} => 10";
 
-#[test]
-fn a_node_is_one_higher_than_its_highest_child(rt: HostRuntime) -> Result<(), Fail> {
-    let alloc = rt.alloc();
-    for parentheses in [0, 1, 3_999] {
-        assert_eq!(rt; height_of_nested(alloc, parentheses)?, parentheses + 1);
+/// Whether an expression in parentheses is one higher than they are many.
+fn is_one_higher(alloc: Global, parentheses: u32) -> bool {
+    match height_of_nested(alloc, parentheses) {
+        Ok(height) => height.checked_sub(1) == Some(parentheses),
+        Err(_) => false,
     }
-    hold(&rt, alloc, Subject::Height, HIGHEST_CHILD);
-    Ok(())
 }
 
 /// What the chunk returns, the capture of a second function, the number of the chunk's file and that of its parameters, and
@@ -139,6 +136,10 @@ pub(crate) fn see_whole(alloc: Global, all: &mut String, text: &str) {
 }
 
 #[test]
-fn each_number_of_a_whole_program_is_there(rt: HostRuntime) {
+fn trees_have_heights_and_numbers_that_are_there(rt: HostRuntime) {
+    hold(&rt, rt.alloc(), Subject::Height, HIGHEST_CHILD);
     hold(&rt, rt.alloc(), Subject::Whole, WHOLE);
+    for parentheses in [0, 1, 3_999] {
+        assert!(rt; is_one_higher(rt.alloc(), parentheses), "{parentheses}");
+    }
 }

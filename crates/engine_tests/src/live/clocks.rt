@@ -1,7 +1,6 @@
 //! Moments, by the clock of the system and by one that is set back.
 
 use super::bench::{Bench, now};
-use super::{Scene, play};
 use live_world::Live;
 use resty_base::Ms;
 use resty_world::{Event, World};
@@ -49,20 +48,10 @@ pub(super) fn past<A: Abort>(rt: &A, host: &HostRuntime, bench: &mut Bench<'_, A
     assert!(rt; now(rt, host) < before.saturating_add(1_000));
 }
 
-#[test]
-fn a_moment_that_is_past_is_given_at_once(rt: HostRuntime) {
-    play(&rt, &rt, Scene::Past);
-}
-
 pub(super) fn to_come<A: Abort>(rt: &A, host: &HostRuntime, bench: &mut Bench<'_, A>) {
     let until = now(rt, host).saturating_add(100);
     assert!(rt; is_moment_from(&bench.next_at(until), until));
     assert!(rt; now(rt, host) >= until);
-}
-
-#[test]
-fn a_moment_to_come_is_waited_for(rt: HostRuntime) {
-    play(&rt, &rt, Scene::ToCome);
 }
 
 /// The event is this moment or a later one.

@@ -1,7 +1,6 @@
 //! Connections: their order, their ends, and what comes of them after they were hung up.
 
 use super::bench::{Bench, Client, loopback};
-use super::{Scene, play};
 use live_world::Live;
 use resty_base::Id;
 use resty_world::{Event, Listened, World};
@@ -18,11 +17,6 @@ pub(super) fn last_bytes<A: Abort>(bench: &mut Bench<'_, A>) {
     let _ = bench.put(1, b"hi");
     bench.finish(1);
     client.reads_whole(2);
-}
-
-#[test]
-fn bytes_come_and_then_the_end_of_a_client_that_sends_no_more(rt: HostRuntime) {
-    play(&rt, &rt, Scene::LastBytes);
 }
 
 /// Two hundred clients, each of which has sent a byte.
@@ -79,11 +73,6 @@ pub(super) fn many<A: Abort>(rt: &A, host: &HostRuntime, bench: &mut Bench<'_, A
     assert!(rt; clients.len() == 200 && count.arrived == 200 && count.heard == 200);
 }
 
-#[test]
-fn two_hundred_connections_arrive_in_order_and_are_heard(rt: HostRuntime) {
-    play(&rt, &rt, Scene::Many);
-}
-
 pub(super) fn hung_up<A: Abort>(bench: &mut Bench<'_, A>) {
     let mut first = bench.arrived(1);
     first.send(b"one");
@@ -96,11 +85,6 @@ pub(super) fn hung_up<A: Abort>(bench: &mut Bench<'_, A>) {
     bench.gives(Event::Ended(Id::Conn(2)));
 }
 
-#[test]
-fn nothing_of_a_connection_comes_after_it_was_hung_up(rt: HostRuntime) {
-    play(&rt, &rt, Scene::HungUp);
-}
-
 pub(super) fn one_by_one<A: Abort>(bench: &mut Bench<'_, A>) {
     for number in 1..=50u64 {
         let mut client = bench.arrived(number);
@@ -108,11 +92,6 @@ pub(super) fn one_by_one<A: Abort>(bench: &mut Bench<'_, A>) {
         bench.hears(number, b"x");
         bench.finish(number);
     }
-}
-
-#[test]
-fn connections_that_come_after_others_were_closed_are_new_ones(rt: HostRuntime) {
-    play(&rt, &rt, Scene::OneByOne);
 }
 
 pub(super) fn held_back<A: Abort>(bench: &mut Bench<'_, A>) {
@@ -126,22 +105,12 @@ pub(super) fn held_back<A: Abort>(bench: &mut Bench<'_, A>) {
     bench.hears(1, b"one");
 }
 
-#[test]
-fn bytes_that_are_not_wanted_wait_until_they_are(rt: HostRuntime) {
-    play(&rt, &rt, Scene::HeldBack);
-}
-
 pub(super) fn reset<A: Abort>(bench: &mut Bench<'_, A>) {
     let client = bench.arrived(1);
     let _ = bench.put(1, b"unread");
     drop(client);
     bench.gives(Event::Broken(Id::Conn(1)));
     bench.finish(1);
-}
-
-#[test]
-fn a_reset_is_a_break(rt: HostRuntime) {
-    play(&rt, &rt, Scene::Reset);
 }
 
 /// A listener of the system's, for the world to dial.
@@ -161,18 +130,8 @@ pub(super) fn dialled<A: Abort>(rt: &A, host: &HostRuntime, bench: &mut Bench<'_
     bench.hang_up(Id::Sock(2));
 }
 
-#[test]
-fn a_socket_is_dialled_or_refused(rt: HostRuntime) {
-    play(&rt, &rt, Scene::Dialled);
-}
-
 pub(super) fn in_use<A: Abort>(rt: &A, host: &HostRuntime, bench: &mut Bench<'_, A>) {
     let mut other = Live::new(host.alloc(), host, Vec::<u8>::new(host.alloc()));
     let listened = other.listen(host.alloc(), bench.port());
     assert!(rt; listened == Listened::Failed);
-}
-
-#[test]
-fn a_port_that_is_in_use_is_not_listened_on(rt: HostRuntime) {
-    play(&rt, &rt, Scene::InUse);
 }

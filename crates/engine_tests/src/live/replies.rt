@@ -1,7 +1,6 @@
 //! Long replies.
 
 use super::bench::{Bench, Client, now};
-use super::{Scene, play};
 use resty_base::Id;
 use resty_world::{Event, Wrote};
 use std::alloc::Global;
@@ -107,11 +106,6 @@ pub(super) fn read_slowly<A: Abort>(rt: &A, host: &HostRuntime, bench: &mut Benc
     assert!(rt; put == LONG && read == LONG);
 }
 
-#[test]
-fn a_long_reply_reaches_a_client_that_reads_slowly(rt: HostRuntime) {
-    play(&rt, &rt, Scene::ReadSlowly);
-}
-
 pub(super) fn put_off<A: Abort>(rt: &A, host: &HostRuntime, bench: &mut Bench<'_, A>) {
     let mut client = bench.arrived(1);
     let piece = piece(rt, host.alloc());
@@ -125,11 +119,6 @@ pub(super) fn put_off<A: Abort>(rt: &A, host: &HostRuntime, bench: &mut Bench<'_
     bench.hears(1, b"x");
 }
 
-#[test]
-fn bytes_come_while_a_write_is_put_off(rt: HostRuntime) {
-    play(&rt, &rt, Scene::PutOff);
-}
-
 pub(super) fn unread<A: Abort>(rt: &A, host: &HostRuntime, bench: &mut Bench<'_, A>) {
     let mut client = bench.arrived(1);
     client.send(b"unread by the world");
@@ -139,9 +128,4 @@ pub(super) fn unread<A: Abort>(rt: &A, host: &HostRuntime, bench: &mut Bench<'_,
     client.send(b"and more");
     let _ = bench.next_at(now(rt, host).saturating_add(50));
     client.reads_whole(2);
-}
-
-#[test]
-fn a_reply_is_read_whole_though_the_client_sent_more_than_was_read(rt: HostRuntime) {
-    play(&rt, &rt, Scene::Unread);
 }

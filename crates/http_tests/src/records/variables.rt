@@ -1,11 +1,11 @@
 //! Each variable of a request; the values were worked out by hand from the documentation of nginx.
-use crate::rows::{Subject, hold};
-use std::test::Fail;
 
-const HEAD: &str = "GET /a%20b/../c?X=1&y=%41&Y&z&Z=2 HTTP/1.1\r\nHost: H:8\r\nA-b: 1\r\nA-B: 2\r\n\
+pub(super) const HEAD: &str =
+    "GET /a%20b/../c?X=1&y=%41&Y&z&Z=2 HTTP/1.1\r\nHost: H:8\r\nA-b: 1\r\nA-B: 2\r\n\
 Content-Length: 5\r\nContent-Type: t\r\nContent-Type: u\r\n\r\n";
 
-const NAMES: &str = "\
+/// Variables have names.
+pub(super) const NAMES: &str = "\
 var uri => [/c]
 var request_uri => [/a%20b/../c?X=1&y=%41&Y&z&Z=2]
 var args => [X=1&y=%41&Y&z&Z=2]
@@ -26,12 +26,8 @@ var http_host, var http_content_length, var http_content_type => [H:8][5][t]
 var http_c, var http_ => [nil][nil]
 var nope, var URI, var uri_, var ur, var , var ARG_x => [nil][nil][nil][nil][nil][nil]";
 
-#[test]
-fn variables_have_names(rt: HostRuntime) -> Result<(), Fail> {
-    hold(&rt, rt.alloc(), Subject::Record(HEAD), NAMES)
-}
-
-const ABSENT: &str = "\
+/// What is not there has no value.
+pub(super) const ABSENT: &str = "\
 var args, var query_string, var is_args => [nil][nil][]
 var host => []
 var server_protocol => [HTTP/1.0]
@@ -43,22 +39,10 @@ query =5&x&x=1, var arg_, var arg_x => [][nil][1]
 field Content_Type=a, var content_type, var http_content_type => [ok][nil][nil]
 field content-type=a|b, var content_type => [ok][a]";
 
-#[test]
-fn what_is_not_there_has_no_value(rt: HostRuntime) -> Result<(), Fail> {
-    hold(
-        &rt,
-        rt.alloc(),
-        Subject::Record("POST /? HTTP/1.0\r\n\r\n"),
-        ABSENT,
-    )
-}
+pub(super) const POST: &str = "POST /? HTTP/1.0\r\n\r\n";
 
-#[test]
-fn the_host_is_that_of_the_target(rt: HostRuntime) -> Result<(), Fail> {
-    hold(
-        &rt,
-        rt.alloc(),
-        Subject::Record("GET http://H:2/a?b HTTP/1.1\r\nHost: c\r\n\r\n"),
-        "var host, var http_host, var uri, var request_uri, var args => [h][c][/a][http://H:2/a?b][b]",
-    )
-}
+/// The host is that of the target.
+pub(super) const ABSOLUTE: &str = "GET http://H:2/a?b HTTP/1.1\r\nHost: c\r\n\r\n";
+
+pub(super) const HOST: &str =
+    "var host, var http_host, var uri, var request_uri, var args => [h][c][/a][http://H:2/a?b][b]";

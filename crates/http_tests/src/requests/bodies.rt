@@ -1,11 +1,8 @@
 //! Tests of bodies; the answers were worked out from RFC 9112 by hand.
-use super::cuts::is_cut_at;
-use crate::rows::{Subject, hold};
 use crate::texts::joined;
 use http_bodies::{BodyIn, BodyRead};
 use http_in::BodyKind;
 use std::alloc::{AllocError, Global};
-use std::test::Fail;
 
 /// The answer in words, and after it the content of a body that isn't refused.
 fn in_words(alloc: Global, read: BodyRead, body: &BodyIn) -> Result<String, AllocError> {
@@ -18,58 +15,8 @@ fn in_words(alloc: Global, read: BodyRead, body: &BodyIn) -> Result<String, Allo
     }
 }
 
-/// The answer to these bytes one by one: how many belong to the body is counted from the first.
-fn by_bytes(body: &mut BodyIn, bytes: &[u8]) -> BodyRead {
-    let mut read = body.feed(b"");
-    let mut before = 0usize;
-    for byte in bytes {
-        if read != BodyRead::More {
-            return read;
-        }
-        read = from_before(before, body.feed(&[*byte]));
-        before = before.saturating_add(1);
-    }
-    read
-}
-
-/// The answer to these bytes in two pieces.
-fn in_two(body: &mut BodyIn, first: &[u8], second: &[u8]) -> BodyRead {
-    match body.feed(first) {
-        BodyRead::More => from_before(first.len(), body.feed(second)),
-        read => read,
-    }
-}
-
-/// The answer with what belongs to the body counted from `before` bytes earlier.
-fn from_before(before: usize, read: BodyRead) -> BodyRead {
-    match read {
-        BodyRead::Whole(count) => BodyRead::Whole(count.saturating_add(before)),
-        read => read,
-    }
-}
-
-/// Whether the answer and the content are the same at each cut into two pieces, and byte by byte.
-fn is_read_at_any_cut(alloc: Global, kind: BodyKind, max: u64, bytes: &[u8]) -> bool {
-    let mut joined = BodyIn::new(alloc, kind, max);
-    let expected = joined.feed(bytes);
-    for at in 0..bytes.len() {
-        let mut cut = BodyIn::new(alloc, kind, max);
-        if is_cut_at(at, bytes.len())
-            && (in_two(&mut cut, &bytes[..at], &bytes[at..]) != expected
-                || cut.bytes() != joined.bytes())
-        {
-            return false;
-        }
-    }
-    let mut single = BodyIn::new(alloc, kind, max);
-    by_bytes(&mut single, bytes) == expected && single.bytes() == joined.bytes()
-}
-
-/// The answer to a body in one piece, which is the same at any cut.
+/// The answer to a body in one piece.
 fn whole(alloc: Global, kind: BodyKind, max: u64, bytes: &[u8]) -> Result<String, AllocError> {
-    if !is_read_at_any_cut(alloc, kind, max, bytes) {
-        return format!(in alloc; "another answer");
-    }
     let mut body = BodyIn::new(alloc, kind, max);
     let read = body.feed(bytes);
     in_words(alloc, read, &body)
@@ -117,7 +64,7 @@ pub(crate) fn read(alloc: Global, word: &str, given: &str) -> Result<String, All
 }
 
 /// The framing, the limit and the text, and how much is read.
-const BODIES: &str = "\
+pub(super) const BODIES: &str = "\
 body nothing 5 ab => Whole 0 []
 body 0 0 x => Whole 0 []
 body 3 3 abcd => Whole 3 [abc]
@@ -144,12 +91,8 @@ body chunked 5 0␍␊bad\0␊␊ => Whole 9 []
 body chunked 5 0␍␊X␊␍␊ => Whole 7 []
 body chunked 99 a␍␊0123456789␍␊A;x␍␊0123456789␍␊0␍␊␍␊ => Whole 37 [01234567890123456789]";
 
-#[test]
-fn bodies_are_read(rt: HostRuntime) -> Result<(), Fail> {
-    hold(&rt, rt.alloc(), Subject::Request, BODIES)
-}
-
-const PIECES: &str = "\
+/// Answers stay.
+pub(super) const PIECES: &str = "\
 pieces 3 3 a+bcd => Whole 2 [abc]
 pieces 3 3 a+bcd+e => Whole 0 [abc]
 pieces chunked 9 3␍␊ab+c+␍+␊0+␍␊+␍␊x => Whole 2 [abc]
@@ -158,12 +101,8 @@ pieces chunked 9 3␊abc+0␍␊␍␊ => 400
 pieces chunked 2 3␍␊+abc␍␊0␍␊␍␊ => 413
 pieces 4 3 abcd+ => 413";
 
-#[test]
-fn answers_stay(rt: HostRuntime) -> Result<(), Fail> {
-    hold(&rt, rt.alloc(), Subject::Request, PIECES)
-}
-
-const PADDED: &str = "\
+/// Lines have a limit.
+pub(super) const PADDED: &str = "\
 padded 1;,16379,␍␊ => More []
 padded 1;,16380,␍␊ => More []
 padded 1;,16381,␍␊ => 400
@@ -172,8 +111,3 @@ padded 1;,16383, => 400
 padded 0␍␊,16379,␍␊␍␊ => Whole 16386 []
 padded 0␍␊,16380,␍␊␍␊ => Whole 16387 []
 padded 0␍␊,16381,␍␊␍␊ => 400";
-
-#[test]
-fn lines_have_a_limit(rt: HostRuntime) -> Result<(), Fail> {
-    hold(&rt, rt.alloc(), Subject::Request, PADDED)
-}

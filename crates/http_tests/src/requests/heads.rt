@@ -1,9 +1,6 @@
 //! Tests of heads; the answers were worked out from RFC 9112 by hand.
-use super::cuts::is_cut_at;
-use crate::rows::{Subject, hold};
 use http_in::{BodyKind, HeadRead, HeadScan, head_of};
 use std::alloc::{AllocError, Global};
-use std::test::Fail;
 
 /// A request line and a host of 1.1, and a request line of 1.0.
 pub(crate) const A: &str = "GET / HTTP/1.1␍␊Host: a␍␊";
@@ -28,48 +25,8 @@ fn in_words(alloc: Global, read: &HeadRead) -> Result<String, AllocError> {
     }
 }
 
-/// Where the head ends, by a scanner that is given these pieces one after the other.
-fn end_by_pieces(pieces: &[&[u8]]) -> Option<usize> {
-    let mut scan = HeadScan::new();
-    let mut before = 0usize;
-    for piece in pieces {
-        if let Some(n) = scan.read(piece) {
-            return before.checked_add(n);
-        }
-        before = before.saturating_add(piece.len());
-    }
-    None
-}
-
-/// Where the head ends, by a scanner that is given one byte after the other.
-fn end_by_bytes(bytes: &[u8]) -> Option<usize> {
-    let mut scan = HeadScan::new();
-    let mut before = 0usize;
-    for byte in bytes {
-        if let Some(n) = scan.read(&[*byte]) {
-            return before.checked_add(n);
-        }
-        before = before.saturating_add(1);
-    }
-    None
-}
-
-/// Whether the same end is found at each cut into two pieces, and byte by byte.
-fn ends_at_any_cut(bytes: &[u8]) -> bool {
-    let end = end_by_pieces(&[bytes]);
-    for at in 0..bytes.len() {
-        if is_cut_at(at, bytes.len()) && end_by_pieces(&[&bytes[..at], &bytes[at..]]) != end {
-            return false;
-        }
-    }
-    end_by_bytes(bytes) == end
-}
-
-/// The answer to a head, which has the same end at any cut.
+/// The answer to a head.
 pub(crate) fn read(alloc: Global, bytes: &[u8]) -> Result<String, AllocError> {
-    if !ends_at_any_cut(bytes) {
-        return format!(in alloc; "another end");
-    }
     in_words(alloc, &head_of(alloc, bytes))
 }
 
@@ -84,7 +41,8 @@ pub(crate) fn parts(alloc: Global, bytes: &[u8]) -> Result<String, AllocError> {
     }
 }
 
-const HEADS: &str = "\
+/// Heads begin and end.
+pub(super) const HEADS: &str = "\
 head  => More
 head ␍␊␊␍␊GET / HTTP/1.0␊␊ => 21 Nothing
 head ␍␍␊GET / HTTP/1.0␍␊␍␊ => 400
@@ -105,23 +63,19 @@ head GET /\u{c3}\u{a9} HTTP/1.0␊␊ => 18 Nothing
 head GET /\u{ff} HTTP/1.0␊␊ => 400
 head GET / HTTP/1.1␍␊X: y␍␊␍␊ => 400";
 
-#[test]
-fn heads_begin_and_end(rt: HostRuntime) -> Result<(), Fail> {
-    hold(&rt, rt.alloc(), Subject::Request, HEADS)
-}
-
-#[test]
-fn no_byte_belongs_to_a_head_after_its_end(rt: HostRuntime) -> Result<(), Fail> {
+/// Where a head ends that comes in two pieces, and whether its scanner has ended.
+pub(crate) fn scanned(alloc: Global, first: &[u8], second: &[u8]) -> Result<String, AllocError> {
     let mut scan = HeadScan::new();
-    assert_eq!(rt; scan.read(b"GET / HTTP/1.0\n"), None);
-    assert_eq!(rt; scan.read(b"\nGET"), Some(1));
-    assert!(rt; scan.has_ended());
-    assert_eq!(rt; scan.read(b""), Some(0));
-    assert_eq!(rt; scan.read(b"\n\n"), Some(0));
-    Ok(())
+    let before = scan.read(first);
+    let after = scan.read(second);
+    let (ended, last) = (scan.has_ended(), scan.read(b"\n\n"));
+    format!(in alloc; "{before:?} {after:?} {ended} {last:?}")
 }
 
-const FIELDS: &str = "\
+/// No byte belongs to a head after its end.
+pub(super) const SCANS: &str = "scan GET / HTTP/1.0␊|␊GET => None Some(1) true Some(0)";
+
+pub(super) const FIELDS: &str = "\
 fields-1.0 C:\t d e \t␍␊F:␍␊ => 33 Nothing
 fields-1.0 C : d␍␊ => 400
 fields-1.0 C: d␍␊ e␍␊ => 400
@@ -137,16 +91,11 @@ fields-1.0 Connection: x␍␊Connection: Keep-Alive␍␊ => 57 Nothing keep
 fields-1.0 Connection: keep-alive, close␍␊ => 49 Nothing
 fields-1.0 Expect: 100-continue␍␊ => 40 Nothing";
 
-const PARTS: &str =
+pub(super) const PARTS: &str =
     "parts C:\t d e \t␍␊f:␍␊ => b\"GET\" b\"/\" [Pair2 { name: b\"C\", value: b\"d e\" }, Pair2 { name: b\"f\", value: b\"\" }]";
 
-#[test]
-fn fields_are_read(rt: HostRuntime) -> Result<(), Fail> {
-    hold(&rt, rt.alloc(), Subject::Request, FIELDS)?;
-    hold(&rt, rt.alloc(), Subject::Request, PARTS)
-}
-
-const FRAMINGS: &str = "\
+/// Bodies are framed.
+pub(super) const FRAMINGS: &str = "\
 fields-1.1 HOST: b␍␊ => 400
 fields-1.1 Transfer-Encoding: Chunked␍␊ => 55 Chunked keep
 fields-1.1 Transfer-Encoding: x, chunked␍␊ => 501
@@ -173,13 +122,8 @@ fields-1.1 Connection: closed␍␊ => 47 Nothing keep
 fields-1.1 Expect: 100-Continue␍␊ => 49 Nothing keep expects
 fields-1.1 Expect: x, 100-continue␍␊ => 52 Nothing keep";
 
-#[test]
-fn bodies_are_framed(rt: HostRuntime) -> Result<(), Fail> {
-    hold(&rt, rt.alloc(), Subject::Request, FRAMINGS)
-}
-
 /// A front, a text, how often it stands after it, and what follows.
-const LIMITS: &str = "\
+pub(super) const LIMITS: &str = "\
 repeated ;␍␊;8192; => 431
 repeated ;␍␊;8191;␍ => More
 repeated GET / HTTP/1.1␍␊Host: a␍␊;X: y␍␊;99;␍␊ => 621 Nothing keep
@@ -188,8 +132,3 @@ repeated GET / HTTP/2.0␍␊;X: y␍␊;101;␍␊ => 431
 repeated GET / HTTP/1.1␍␊Host: a␍␊X:;a;16352;␍␊␍␊ => 16383 Nothing keep
 repeated GET / HTTP/1.1␍␊Host: a␍␊X:;a;16353;␍␊␍␊ => 16384 Nothing keep
 repeated GET / HTTP/1.1␍␊Host: a␍␊X:;a;16354;␍␊␍␊ => 431";
-
-#[test]
-fn heads_have_limits(rt: HostRuntime) -> Result<(), Fail> {
-    hold(&rt, rt.alloc(), Subject::Request, LIMITS)
-}

@@ -1,11 +1,8 @@
 //! Tests of what works on its arguments alone: names of types, equality, `select`, numerals, and what the library's own texts ask.
 //! The answers were worked out by hand; docs/DECISIONS.md says where the interpreter of Lua 5.1.5 gives others.
 
-use super::hold;
-use std::test::Fail;
-
 /// The name of a type is a text that is made; the texts that a call takes and makes are counted together.
-const TYPES: &str = "\
+pub(super) const TYPES: &str = "\
 type(nil) => 'nil | 0 | 19
 type(true) => 'boolean | 0 | 23
 type(1) => 'number | 0 | 22
@@ -27,13 +24,8 @@ type(nil, x64) => 'nil | 1 | 19
 type(x57, x65) => 'string | 2 | 22
 type() => fault: bad argument #1 to 'type' (value expected, got no value) | 0 | 0";
 
-#[test]
-fn types_are_texts_that_are_made(rt: HostRuntime) -> Result<(), Fail> {
-    hold(&rt, rt.alloc(), TYPES)
-}
-
 /// Values are equal that are one value: numbers, texts by their bytes, and others by their kind and number.
-const EQUALITY: &str = "\
+pub(super) const EQUALITY: &str = "\
 rawequal('a, 'a) => true | 0 | 0
 rawequal('a\0b, 'a\0b) => true | 0 | 0
 rawequal('a\0b, 'a\0c) => false | 0 | 0
@@ -65,13 +57,8 @@ rawequal(1) => fault: bad argument #2 to 'rawequal' (value expected, got no valu
 rawequal(table:1) => fault: bad argument #2 to 'rawequal' (value expected, got no value) | 0 | 0
 rawequal(x64) => fault: bad argument #2 to 'rawequal' (value expected, got no value) | 1 | 0";
 
-#[test]
-fn values_of_unlike_types_are_unequal(rt: HostRuntime) -> Result<(), Fail> {
-    hold(&rt, rt.alloc(), EQUALITY)
-}
-
 /// An index from 1, or from the end; a text that writes a number is one.
-const SELECTED: &str = "\
+pub(super) const SELECTED: &str = "\
 select('#) => 0 | 0 | 0
 select('#, nil, nil) => 2 | 0 | 0
 select('#, x64) => 1 | 1 | 0
@@ -102,13 +89,8 @@ select('#\0) => fault: bad argument #1 to 'select' (number expected, got string)
 select(') => fault: bad argument #1 to 'select' (number expected, got string) | 0 | 0
 select(table:1, 1) => fault: bad argument #1 to 'select' (number expected, got table) | 0 | 0";
 
-#[test]
-fn arguments_are_selected(rt: HostRuntime) -> Result<(), Fail> {
-    hold(&rt, rt.alloc(), SELECTED)
-}
-
 /// In base 10, which is that of a call without a base, a number is itself and a text what it writes; nothing else has a number.
-const DECIMAL: &str = "\
+pub(super) const DECIMAL: &str = "\
 tonumber(10) => 10 | 0 | 0
 tonumber(-99999999999999) => -99999999999999 | 0 | 0
 tonumber('10) => 10 | 0 | 0
@@ -143,7 +125,7 @@ tonumber(closure:1, nil) => nil | 0 | 0
 tonumber(null) => nil | 0 | 0";
 
 /// In another base a text of digits with blanks around them is read, without a sign, or a number as its text.
-const IN_A_BASE: &str = "\
+pub(super) const IN_A_BASE: &str = "\
 tonumber(' 101\t, 2) => 5 | 0 | 0
 tonumber('2, 2) => nil | 0 | 0
 tonumber('102, 2) => nil | 0 | 0
@@ -186,7 +168,7 @@ tonumber(12, 2) => nil | 0 | 0
 tonumber(-5, 16) => nil | 0 | 0";
 
 /// Arguments of `tonumber` that are refused, the first of them first; a base is from 2 to 36.
-const REFUSED_NUMERALS: &str = "\
+pub(super) const REFUSED_NUMERALS: &str = "\
 tonumber() => fault: bad argument #1 to 'tonumber' (value expected, got no value) | 0 | 0
 tonumber('1, true) => fault: bad argument #2 to 'tonumber' (number expected, got boolean) | 0 | 0
 tonumber(nil, 'k) => fault: bad argument #2 to 'tonumber' (number expected, got string) | 0 | 0
@@ -201,16 +183,9 @@ tonumber('1, -16) => fault: bad argument #2 to 'tonumber' (base out of range) | 
 tonumber(1, 99999999999999) => fault: bad argument #2 to 'tonumber' (base out of range) | 0 | 0
 tonumber(x64, 37) => fault: bad argument #2 to 'tonumber' (base out of range) | 1 | 0";
 
-#[test]
-fn numerals_are_read_in_a_base(rt: HostRuntime) -> Result<(), Fail> {
-    hold(&rt, rt.alloc(), DECIMAL)?;
-    hold(&rt, rt.alloc(), IN_A_BASE)?;
-    hold(&rt, rt.alloc(), REFUSED_NUMERALS)
-}
-
 /// What `_G` and `require` ask for: the present global table, the table before it, and a name as a text, which is made where it is a
 /// number's.
-const OWN_TEXTS: &str = "\
+pub(super) const OWN_TEXTS: &str = "\
 globals() => table:0 | 0 | 0
 globals(x64) => table:0 | 1 | 0
 run_modules() => nil | 0 | 0
@@ -235,7 +210,7 @@ module_name(table:1) => fault: bad argument #1 to 'require' (string expected, go
 
 /// What isn't built is left to the outside, and what the library has of it counts the texts that it takes. A function is found under
 /// its number too, as that of `next`, and the one that `ipairs` gives.
-const NUMBERS: &str = "\
+pub(super) const NUMBERS: &str = "\
 5(x64) => outside | 0 | 0
 127(x64) => outside | 0 | 0
 128(table:2) => 'locked | 0 | 0
@@ -251,9 +226,3 @@ const NUMBERS: &str = "\
 181() => table:0 | 0 | 0
 182(1) => '1 | 0 | 17
 183() => nil | 0 | 0";
-
-#[test]
-fn own_texts_are_answered_and_what_isnt_built_is_left(rt: HostRuntime) -> Result<(), Fail> {
-    hold(&rt, rt.alloc(), OWN_TEXTS)?;
-    hold(&rt, rt.alloc(), NUMBERS)
-}

@@ -1,11 +1,8 @@
 //! Tests of calls where the units or the steps are at their limit, or the tables are frozen.
 
-use super::hold;
-use std::test::Fail;
-
 /// Calls where no unit is left, and where just enough are left or one is missing. A refused call counts what it took and not what
 /// it would have made.
-const FULL: &str = "\
+pub(super) const FULL: &str = "\
 leave 0
 type(1) => fault: not enough memory (storage limit) | 0 | 0
 type(x63) => fault: not enough memory (storage limit) | 0 | 0
@@ -25,28 +22,21 @@ unpack(table:1, 1, 3) => 10, 20, nil | 3 | 0
 select('#, 1) => 1 | 0 | 0
 tonumber('10) => 10 | 0 | 0";
 
-const ALMOST_FULL: &str = "\
+pub(super) const ALMOST_FULL: &str = "\
 leave 31
 rawset(table:1, 'new, 1) => fault: not enough memory (storage limit) | 0 | 0
 type(closure:1) => 'function | 0 | 24
 type(1) => fault: not enough memory (storage limit) | 0 | 0";
 
-const JUST_ENOUGH: &str = "\
+pub(super) const JUST_ENOUGH: &str = "\
 leave 49
 rawset(table:1, 'new, 1) => table:1 | 0 | 32
 module_name(10) => fault: not enough memory (storage limit) | 0 | 0
 module_name(1) => '1 | 0 | 17
 rawset(table:1, 'newer, 1) => fault: not enough memory (storage limit) | 0 | 0";
 
-#[test]
-fn a_full_store_refuses_texts_and_entries(rt: HostRuntime) -> Result<(), Fail> {
-    hold(&rt, rt.alloc(), FULL)?;
-    hold(&rt, rt.alloc(), ALMOST_FULL)?;
-    hold(&rt, rt.alloc(), JUST_ENOUGH)
-}
-
 /// Frozen tables are read and not written, whatever would be written; tables that are made later are written.
-const FROZEN: &str = "\
+pub(super) const FROZEN: &str = "\
 freeze
 rawset(table:1, 'k, 1) => fault: attempt to modify a frozen table | 0 | 0
 rawset(table:1, 'k, 30) => fault: attempt to modify a frozen table | 0 | 0
@@ -72,14 +62,9 @@ leave 0
 rawset(table:1, 'new, 1) => fault: attempt to modify a frozen table | 0 | 0
 rawset(table:4, 'new, 1) => fault: not enough memory (storage limit) | 0 | 0";
 
-#[test]
-fn a_frozen_table_refuses_writes(rt: HostRuntime) -> Result<(), Fail> {
-    hold(&rt, rt.alloc(), FROZEN)
-}
-
 /// Where the steps aren't enough for what a call counts, it spends them, also where it would be refused; and where they are just
 /// enough, it doesn't.
-const SPENT: &str = "\
+pub(super) const SPENT: &str = "\
 unpack(table:1, 1, 99999999999999) => spent
 type(1) => spent
 clear
@@ -116,8 +101,3 @@ count 999999
 clear
 count 999998
 rawget(x64) => fault: bad argument #1 to 'rawget' (table expected, got string) | 1 | 0";
-
-#[test]
-fn values_that_are_unpacked_may_spend_the_steps(rt: HostRuntime) -> Result<(), Fail> {
-    hold(&rt, rt.alloc(), SPENT)
-}

@@ -1,11 +1,8 @@
 //! Tests of what reads and writes tables: metatables, raw calls, traversal and `unpack`. The answers were worked out by hand;
 //! docs/DECISIONS.md says where the interpreter of Lua 5.1.5 gives others.
 
-use super::hold;
-use std::test::Fail;
-
 /// A metatable is shown, or else what its `__metatable` says, also false; what it says protects it.
-const METATABLES: &str = "\
+pub(super) const METATABLES: &str = "\
 getmetatable(table:1) => nil | 0 | 0
 setmetatable(table:1, table:3) => table:1 | 0 | 0
 getmetatable(table:1) => table:3 | 0 | 0
@@ -32,7 +29,7 @@ setmetatable(table:1, nil) => table:1 | 0 | 0
 getmetatable(table:1) => nil | 0 | 0";
 
 /// Texts have a metatable together, and so has each kind of object; others have none.
-const TYPES: &str = "\
+pub(super) const TYPES: &str = "\
 getmetatable('a) => nil | 0 | 0
 getmetatable(socket:1) => nil | 0 | 0
 share 'a 3
@@ -57,7 +54,7 @@ getmetatable(thread:1) => nil | 0 | 0
 getmetatable(null) => nil | 0 | 0";
 
 /// Arguments of calls of metatables that are refused, the first of them first.
-const REFUSED_METATABLES: &str = "\
+pub(super) const REFUSED_METATABLES: &str = "\
 getmetatable() => fault: bad argument #1 to 'getmetatable' (value expected, got no value) | 0 | 0
 setmetatable() => fault: bad argument #1 to 'setmetatable' (table expected, got no value) | 0 | 0
 setmetatable(nil, nil) => fault: bad argument #1 to 'setmetatable' (table expected, got nil) | 0 | 0
@@ -70,15 +67,8 @@ setmetatable(table:2, x64) => fault: bad argument #2 to 'setmetatable' (nil or t
 getmetatable(table:1) => nil | 0 | 0
 getmetatable(table:2) => 'locked | 0 | 0";
 
-#[test]
-fn metatables_are_set_and_protected(rt: HostRuntime) -> Result<(), Fail> {
-    hold(&rt, rt.alloc(), METATABLES)?;
-    hold(&rt, rt.alloc(), TYPES)?;
-    hold(&rt, rt.alloc(), REFUSED_METATABLES)
-}
-
 /// A key keeps its entry, whose units are counted once, also where nil is set; nil at a new key makes none.
-const ENTRIES: &str = "\
+pub(super) const ENTRIES: &str = "\
 rawget(table:1, 1) => 10 | 0 | 0
 rawget(table:1, 'k) => 30 | 0 | 0
 rawget(table:1, 'k, 1) => 30 | 0 | 0
@@ -112,7 +102,7 @@ rawget(table:3, ') => 4 | 0 | 0
 rawget(table:3, true) => nil | 0 | 0";
 
 /// A zero byte is a byte of a key as any other.
-const ZERO_BYTES: &str = "\
+pub(super) const ZERO_BYTES: &str = "\
 rawset(table:3, 'a\0b, 1) => table:3 | 0 | 32
 rawset(table:3, 'a\0c, 2) => table:3 | 0 | 32
 rawset(table:3, 'a\0, 3) => table:3 | 0 | 32
@@ -131,7 +121,7 @@ next(table:3, 'a\0) => '\0, 4 | 0 | 0
 next(table:3, 'a) => nil | 0 | 0";
 
 /// No field of a metatable is asked.
-const WITHOUT_METATABLES: &str = "\
+pub(super) const WITHOUT_METATABLES: &str = "\
 table 4
 rawset(table:4, '__index, table:1) => table:4 | 0 | 32
 rawset(table:4, '__newindex, table:1) => table:4 | 0 | 32
@@ -146,7 +136,7 @@ rawget(table:3, 'k) => 1 | 0 | 0
 rawget(table:1, 'k) => 30 | 0 | 0";
 
 /// Arguments of raw calls that are refused, the first of them first; nil is no key.
-const REFUSED_RAW: &str = "\
+pub(super) const REFUSED_RAW: &str = "\
 rawget() => fault: bad argument #1 to 'rawget' (table expected, got no value) | 0 | 0
 rawget(1, 1) => fault: bad argument #1 to 'rawget' (table expected, got number) | 0 | 0
 rawget(x128, 1) => fault: bad argument #1 to 'rawget' (table expected, got string) | 2 | 0
@@ -162,16 +152,8 @@ rawset(table:1, nil, x64) => fault: table index is nil | 1 | 0
 rawset(table:1, nil, nil) => fault: table index is nil | 0 | 0
 rawget(table:1, 'k) => 30 | 0 | 0";
 
-#[test]
-fn raw_calls_ask_no_metatable(rt: HostRuntime) -> Result<(), Fail> {
-    hold(&rt, rt.alloc(), ENTRIES)?;
-    hold(&rt, rt.alloc(), ZERO_BYTES)?;
-    hold(&rt, rt.alloc(), WITHOUT_METATABLES)?;
-    hold(&rt, rt.alloc(), REFUSED_RAW)
-}
-
 /// `next` goes in the order in which keys were first set, past those whose value is nil; a key without an entry has nothing after it.
-const PAIRS: &str = "\
+pub(super) const PAIRS: &str = "\
 next(table:3) => nil | 0 | 0
 next(table:3, 1) => nil | 0 | 0
 next(table:0, nil) => nil | 0 | 0
@@ -205,7 +187,7 @@ pairs(table:1) => native:131, table:1, nil | 0 | 0
 pairs(table:2, x64) => native:131, table:2, nil | 1 | 0";
 
 /// The step of `ipairs` ends at the first index without a value, and behind the greatest number.
-const INDEXES: &str = "\
+pub(super) const INDEXES: &str = "\
 ipairs(table:1) => native:174, table:1, 0 | 0 | 0
 ipairs(table:2, 5) => native:174, table:2, 0 | 0 | 0
 ipairs_step(table:1, 0) => 1, 10 | 0 | 0
@@ -225,7 +207,7 @@ rawset(table:1, 2, nil) => table:1 | 0 | 0
 ipairs_step(table:1, 1) =>  | 0 | 0";
 
 /// Arguments of a traversal that are refused.
-const REFUSED_TRAVERSAL: &str = "\
+pub(super) const REFUSED_TRAVERSAL: &str = "\
 next() => fault: bad argument #1 to 'next' (table expected, got no value) | 0 | 0
 next(nil, 1) => fault: bad argument #1 to 'next' (table expected, got nil) | 0 | 0
 next(x64) => fault: bad argument #1 to 'next' (table expected, got string) | 1 | 0
@@ -239,15 +221,8 @@ ipairs_step(table:1) => fault: bad argument #2 to 'ipairs' (number expected, got
 ipairs_step(table:1, nil) => fault: bad argument #2 to 'ipairs' (number expected, got nil) | 0 | 0
 ipairs_step(table:1, 'k) => fault: bad argument #2 to 'ipairs' (number expected, got string) | 0 | 0";
 
-#[test]
-fn tables_are_traversed(rt: HostRuntime) -> Result<(), Fail> {
-    hold(&rt, rt.alloc(), PAIRS)?;
-    hold(&rt, rt.alloc(), INDEXES)?;
-    hold(&rt, rt.alloc(), REFUSED_TRAVERSAL)
-}
-
 /// Each value that is unpacked counts a step, nil too; without an end they are those to the first nil.
-const UNPACKED: &str = "\
+pub(super) const UNPACKED: &str = "\
 unpack(table:1) => 10, 20 | 2 | 0
 unpack(table:1, nil, nil, 1) => 10, 20 | 2 | 0
 unpack(table:1, 2) => 20 | 1 | 0
@@ -281,7 +256,7 @@ unpack(table:1) => 10 | 1 | 0
 unpack(table:1, 1, 3) => 10, nil, x64 | 3 | 0";
 
 /// Arguments of `unpack` that are refused, the first of them first.
-const REFUSED_UNPACK: &str = "\
+pub(super) const REFUSED_UNPACK: &str = "\
 unpack() => fault: bad argument #1 to 'unpack' (table expected, got no value) | 0 | 0
 unpack(nil) => fault: bad argument #1 to 'unpack' (table expected, got nil) | 0 | 0
 unpack(x64, 'k, 'k) => fault: bad argument #1 to 'unpack' (table expected, got string) | 1 | 0
@@ -291,9 +266,3 @@ unpack(table:1, false) => fault: bad argument #2 to 'unpack' (number expected, g
 unpack(table:1, 1, table:1) => fault: bad argument #3 to 'unpack' (number expected, got table) | 0 | 0
 unpack(table:1, nil, ') => fault: bad argument #3 to 'unpack' (number expected, got string) | 0 | 0
 unpack(table:1, 1, '100000000000000) => fault: bad argument #3 to 'unpack' (number expected, got string) | 0 | 0";
-
-#[test]
-fn lists_are_unpacked(rt: HostRuntime) -> Result<(), Fail> {
-    hold(&rt, rt.alloc(), UNPACKED)?;
-    hold(&rt, rt.alloc(), REFUSED_UNPACK)
-}

@@ -1,7 +1,7 @@
 //! What calls come to, of functions that only give values, which are run at once, and of others: with the steps that each of their nodes counts.
-use super::programs::hold;
 
-const VALUES: &str = "\
+/// Calls come to their values.
+pub(super) const VALUES: &str = "\
 local function f(a, b) return a + b end local x = f(1, f(2, 3)) return x => Done 6 | 22, 32
 local function f() end for i = 1, 3 do f() end return 1 => Done 1 | 22, 32
 local function f(a) local b = a * 2 return b end local x = f(f(f(1))) + f(2) return x => Done 12 | 44, 32
@@ -16,7 +16,7 @@ local x local function f() return x end x = 5 local y = f() x = 6 local z = f() 
 local function g(a) return a * 3 end local function f(a) return g(a) + 1 end local x = f(2) return x => Done 7 | 21, 88";
 
 /// Calls that are not run at once: of more arguments, of other statements, of more calls within one another, with faults, and within other values.
-const OTHERS: &str = "\
+pub(super) const OTHERS: &str = "\
 local function f(a) return a end local x = f(1, 2) return x => Done 1 | 12, 32
 local function f(...) return ... end local x = f(4) return x => Done 4 | 12, 32
 local function f(a)¶return a % 0 end¶local x = f(1) return x => Failed \"t.conf:2: attempt to divide by zero\" | 11, 32
@@ -29,14 +29,8 @@ local s = setmetatable({}, {__call = function(t, a) return a end}) local x = s(3
 local function f(a) return a end local x = f(\"a\") .. \"b\" return x => Done \"ab\" | 13, 50
 local x = 5 x() return 1 => Failed \"t.conf:1: attempt to call a number value\" | 7, 0";
 
-#[test]
-fn calls_come_to_their_values(rt: HostRuntime) {
-    hold(&rt, rt.alloc(), VALUES);
-    hold(&rt, rt.alloc(), OTHERS);
-}
-
 /// A call within as many others as there may be, and within one more.
-const INNERMOST: &str = "\
+pub(super) const INNERMOST: &str = "\
 local function g() return 1 end local function f(n) if n == 0 then local x = g() return x end return 1 + f(n - 1) end return f(4998) => Done 4999 | 64994, 112
 local function g() return 1 end local function f(n) if n == 0 then local x = g() return x end return 1 + f(n - 1) end \
 return f(4999) => Failed \"t.conf:1: stack overflow\" | 65003, 112
@@ -44,13 +38,7 @@ local function g() return 1 end local function f(n) if n == 0 then local x = g()
 return pcall(f, 5000) => Done false, \"t.conf:1: stack overflow\" | 64997, 112";
 
 /// Loops of calls that take all steps but the last, and the last too.
-const LAST_STEP: &str = "\
+pub(super) const LAST_STEP: &str = "\
 near: do end do end local function f() end for i = 1, 1998 do f() end return 1 => Done 1 | 999999, 32
 near: do end do end do end local function f() end for i = 1, 1998 do f() end return 1 => Spent | 1000000, 32
 near: local function f(a) return a end do end do end do end local x = 0 for i = 1, 1110 do x = f(x) end return x => Spent | 1000000, 32";
-
-#[test]
-fn calls_end_at_the_limits(rt: HostRuntime) {
-    hold(&rt, rt.alloc(), INNERMOST);
-    hold(&rt, rt.alloc(), LAST_STEP);
-}

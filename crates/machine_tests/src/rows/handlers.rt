@@ -1,5 +1,6 @@
 //! Running a handler of a request, and what it comes to as a text.
 use super::programs::{program, put, see_value, set_natives};
+use crate::values::expect;
 use http_base::Fields;
 use http_in::{BodyKind, Head};
 use lua_lib_basic::Library;
@@ -17,7 +18,7 @@ use uri_args::Target;
 pub(super) fn hold_handlers(rt: &impl Abort, alloc: Global, rows: &str) {
     for row in rows.lines() {
         let (text, expected) = row.split_once(" => ").unwrap_or((row, ""));
-        assert_eq!(rt; seen(alloc, text).as_str(), expected, "{row}");
+        expect(rt, seen(alloc, text).as_str(), expected, row);
     }
 }
 

@@ -1,8 +1,7 @@
 //! What programs come to that call functions of the library, with their steps and units.
-use super::sites::hold_sites;
 
 /// Types, primitive equality and access, and metatables. That `getmetatable` gives the metatable of texts isn't shown, since `string` isn't there.
-const VALUES: &str = "\
+pub(super) const VALUES: &str = "\
 return type(nil), type(1), type(print), type(type), type({}) => Done \"nil\", \"number\", \"nil\", \"function\", \"table\" | 22, 137
 return type() => Failed \"t.conf:1: bad argument #1 to 'type' (value expected, got no value)\" | 5, 0
 return rawequal(\"a\", \"a\"), rawequal({}, {}), pcall(rawequal, 1) => Done true, false, false, \
@@ -16,14 +15,14 @@ return getmetatable(1), pcall(getmetatable) => Done nil, false, \
 \"t.conf:1: bad argument #1 to 'getmetatable' (value expected, got no value)\" | 11, 0";
 
 /// Going over tables.
-const TRAVERSAL: &str = "\
+pub(super) const TRAVERSAL: &str = "\
 return next({}), next({a = 1}), next({1}, 9) => Done nil, \"a\", nil | 18, 160
 local t = {a = 1, b = 2} t.a = nil return next(t) => Done \"b\", 2 | 17, 96
 local r = \"\" for k, v in pairs({3, x = 4, 5}) do r = r .. k .. \"=\" .. v .. \" \" end return r => Done \"1=3 x=4 2=5 \" | 54, 371
 local n = 0 for i, v in ipairs({1, 2, nil, 4}) do n = n + i * v end return n => Done 5 | 33, 128";
 
 /// Arguments by their number, and numbers of texts.
-const LISTS_AND_NUMBERS: &str = "\
+pub(super) const LISTS_AND_NUMBERS: &str = "\
 return select(\"#\"), select(\"#\", nil, nil), select(2, \"a\", \"b\", \"c\"), select(-1, \"a\", \"b\"), pcall(select, 0, 1) \
 => Done 0, 2, \"b\", \"b\", false, \"t.conf:1: bad argument #1 to 'select' (index out of range)\" | 33, 0
 return tonumber(\" 12 \"), tonumber(\"0x1F\"), tonumber(\"1e2\"), tonumber(\"99999999999999\"), tonumber(\"100000000000000\"), tonumber({}) \
@@ -31,10 +30,3 @@ return tonumber(\" 12 \"), tonumber(\"0x1F\"), tonumber(\"1e2\"), tonumber(\"999
 return tonumber(\"ff\", 16), tonumber(\"0xff\", 16), tonumber(\"8\", 8), tonumber(\"-1\", 2), tonumber(\"zz\", 36), pcall(tonumber, \"1\", 37) \
 => Done 255, 255, nil, nil, 1295, false, \"t.conf:1: bad argument #2 to 'tonumber' (base out of range)\" | 34, 0
 return unpack({1, 2, 3}), unpack({1, 2, 3}, 2), unpack({1, nil, 3}, 1, 3) => Done 1, 2, 1, nil, 3 | 34, 352";
-
-#[test]
-fn functions_of_the_library_come_to_their_values(rt: HostRuntime) {
-    hold_sites(&rt, rt.alloc(), "", VALUES);
-    hold_sites(&rt, rt.alloc(), "", TRAVERSAL);
-    hold_sites(&rt, rt.alloc(), "", LISTS_AND_NUMBERS);
-}

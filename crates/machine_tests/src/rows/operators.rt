@@ -1,7 +1,7 @@
 //! What operators come to that a metatable has handlers of.
-use super::programs::hold;
 
-const ARITHMETIC: &str = "\
+/// Metatables handle operators.
+pub(super) const ARITHMETIC: &str = "\
 return \"10\" + 5, \"0x10\" * \"2\", 10 .. 20 => Done 15, 32, \"1020\" | 11, 20
 return -{} => Failed \"t.conf:1: attempt to perform arithmetic on a table value\" | 4, 32
 local t¶t = t ..¶\"a\" => Failed \"t.conf:2: attempt to concatenate a nil value\" | 7, 0
@@ -14,7 +14,7 @@ return a - b, b - a, 5 - b => Done 1, 2, 2 | 35, 256
 local t = setmetatable({}, {__add = error}) return t + 1 => Failed table | 14, 96
 local t = setmetatable({}, {__add = 5}) return t + 1 => Failed \"t.conf:1: attempt to call a number value\" | 14, 96";
 
-const COMPARISON: &str = "\
+pub(super) const COMPARISON: &str = "\
 local m = {__eq = function() return 1 end} local a, b = setmetatable({}, m), setmetatable({}, m) return a == b, a ~= b, a == {} \
 => Done true, false, false | 32, 192
 local a, b = setmetatable({}, {__eq = id}), setmetatable({}, {__eq = w}) return a == b, a ~= b => Done false, true | 23, 192
@@ -28,7 +28,7 @@ local a, b = setmetatable({}, {__lt = id}), setmetatable({}, {__lt = w}) return 
 => Failed \"t.conf:1: attempt to compare two table values\" | 20, 192";
 
 /// `..` of what is there: texts, numbers, chains, and what is no operand.
-const JOINING: &str = "\
+pub(super) const JOINING: &str = "\
 local s = \"ab\" s = s .. \"cd\" return s => Done \"abcd\" | 10, 20
 local n = 10 - 13 local s = n .. \"|\" .. 4 .. n return s => Done \"-3|4-3\" | 15, 61
 local a = \"12345678901234567890123456789012\" a = a .. a return a \
@@ -41,22 +41,13 @@ local s = \"a\" .. true => Failed \"t.conf:1: attempt to concatenate a boolean v
 local s = \"a\" local f = function() return s end s = s .. \"b\" return f() => Done \"ab\" | 16, 74";
 
 /// Steps that just suffice for `..`, steps that don't, and units that suffice for the inner text of a chain alone.
-const JOINING_LIMITS: &str = "\
+pub(super) const JOINING_LIMITS: &str = "\
 near: local a = \"12345678901234567890123456789012\" do end do end local i = 0 while i < 1109 do i = i + 1 end a = a .. a => Done  | 999999, 80
 near: local a = \"12345678901234567890123456789012\" do end do end do end local i = 0 while i < 1109 do i = i + 1 end a = a .. a \
 => Spent | 1000000, 0
 local a = \"12345678901234567890123456789012\" for i = 1, 13 do a = a .. a end local s = a .. a .. \"x\" \
 => Failed \"t.conf:1: not enough memory (storage limit)\" | 41048, 786593";
 
-const PARKS: &str = "\
+pub(super) const PARKS: &str = "\
 local t = setmetatable({}, {__index = w, __add = function(a, b) return w(b) end}) return t.x, t + 5 <- 7 8, 9 \
 => Parked(0: table, \"x\") at 16; Parked(0: 5) at 25; Done 7, 9 | 25, 160";
-
-#[test]
-fn metatables_handle_operators(rt: HostRuntime) {
-    hold(&rt, rt.alloc(), ARITHMETIC);
-    hold(&rt, rt.alloc(), COMPARISON);
-    hold(&rt, rt.alloc(), JOINING);
-    hold(&rt, rt.alloc(), JOINING_LIMITS);
-    hold(&rt, rt.alloc(), PARKS);
-}

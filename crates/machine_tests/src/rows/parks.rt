@@ -1,11 +1,10 @@
-//! Threads that park again and again, in any machine.
+//! Threads that park again and again, in any machine: one 50,000 times, and one of another machine up to the limit of steps.
 use super::programs::{loaded, put, store_of};
 use super::toy::Toy;
 use lua_machine::{Machine, Slice};
 use lua_meaning::Resumed;
-use lua_values::{Store, StoreFault, Value, Values};
+use lua_values::{Store, Value, Values};
 use std::alloc::{AllocError, Global};
-use std::test::Fail;
 
 /// How often a thread that calls a closure without arguments parks until it is done, at most 100,000 times; `None` where it
 /// isn't done then.
@@ -39,42 +38,35 @@ fn see_parks<M: Machine>(machine: &M, alloc: Global, all: &mut String, store: &m
     let _ = write!(all, ", {steps} steps; ");
 }
 
-/// What is seen of a program.
-fn parks_of_text(alloc: Global, text: &str) -> Result<String, StoreFault> {
-    let mut store = store_of(alloc)?;
-    let mut all = String::new(alloc);
-    match loaded(alloc, text) {
-        Some(host) => see_parks(&host, alloc, &mut all, &mut store),
-        None => put(&mut all, "refused"),
+/// Writes what is seen of a program.
+fn see_text(alloc: Global, all: &mut String, text: &str) {
+    match (loaded(alloc, text), store_of(alloc)) {
+        (Some(host), Ok(mut store)) => see_parks(&host, alloc, all, &mut store),
+        _ => put(all, "refused"),
     }
-    Ok(all)
 }
 
+/// Writes what is seen of threads that park three times in one store, at first and after 1,000,000 steps.
+fn see_toys(alloc: Global, all: &mut String) {
+    match Store::new(alloc) {
+        Ok(mut store) => {
+            let toy = Toy { alloc, parks: 3 };
+            see_parks(&toy, alloc, all, &mut store);
+            store.add_steps(1_000_000);
+            see_parks(&toy, alloc, all, &mut store);
+        }
+        Err(_) => put(all, "memory"),
+    }
+}
+
+/// A thread that parks 50,000 times, and another machine.
+const EXPECTED: &str = "50000 parks, 650009 steps; 3 parks, 4 steps; not done, 1000000 steps; ";
+
 #[test]
-fn a_thread_parks_50000_times(rt: HostRuntime) -> Result<(), Fail> {
+fn threads_park_in_any_machine(rt: HostRuntime) {
+    let mut all = String::new(rt.alloc());
     let text = "local i = 0 while i < 50000 do i = i + 1 w() end return i";
-    let seen = parks_of_text(rt.alloc(), text)?;
-    assert_eq!(rt; seen.as_str(), "50000 parks, 650009 steps; ");
-    Ok(())
-}
-
-/// What is seen of threads that park three times in one store, at first and after 1,000,000 steps.
-fn parks_of_toys(alloc: Global) -> Result<String, AllocError> {
-    let mut store = Store::new(alloc)?;
-    let mut all = String::new(alloc);
-    let toy = Toy { alloc, parks: 3 };
-    see_parks(&toy, alloc, &mut all, &mut store);
-    store.add_steps(1_000_000);
-    see_parks(&toy, alloc, &mut all, &mut store);
-    Ok(all)
-}
-
-#[test]
-fn another_machine_parks_too(rt: HostRuntime) -> Result<(), Fail> {
-    let seen = parks_of_toys(rt.alloc())?;
-    assert_eq!(rt;
-        seen.as_str(),
-        "3 parks, 4 steps; not done, 1000000 steps; "
-    );
-    Ok(())
+    see_text(rt.alloc(), &mut all, text);
+    see_toys(rt.alloc(), &mut all);
+    assert_eq!(rt; all.as_str(), EXPECTED);
 }

@@ -1,5 +1,6 @@
 //! Running a program, and what it comes to as a text.
 use super::WaitAndId;
+use crate::values::expect;
 use lua_ast::Program;
 use lua_lexer::lex;
 use lua_lib_basic::Library;
@@ -19,7 +20,7 @@ type Functions = Both<WaitAndId, Library>;
 pub(super) fn hold(rt: &impl Abort, alloc: Global, rows: &str) {
     for row in rows.lines() {
         let (given, expected) = row.split_once(" => ").unwrap_or((row, ""));
-        assert_eq!(rt; seen(alloc, given).as_str(), expected, "{row}");
+        expect(rt, seen(alloc, given).as_str(), expected, row);
     }
 }
 
@@ -27,10 +28,11 @@ pub(super) fn hold(rt: &impl Abort, alloc: Global, rows: &str) {
 pub(super) fn hold_answers(rt: &impl Abort, alloc: Global, rows: &str) {
     for row in rows.lines() {
         let (text, expected) = row.split_once(" => ").unwrap_or((row, ""));
-        assert_eq!(rt;
+        expect(
+            rt,
             without_counts(seen(alloc, text).as_str()),
             expected,
-            "{row}"
+            row,
         );
     }
 }

@@ -1,8 +1,7 @@
 //! What protected calls, levels of faults, texts of values and the limits come to, with their steps and units.
-use super::programs::hold;
 
 /// Protected calls, and the handlers that take their faults.
-const PROTECTED: &str = "\
+pub(super) const PROTECTED: &str = "\
 return pcall(pcall) => Done false, \"t.conf:1: bad argument #1 to 'pcall' (value expected, got no value)\" | 7, 0
 return pcall(function() return 1, nil, 3 end) => Done true, 1, nil, 3 | 11, 32
 return xpcall() => Failed \"t.conf:1: bad argument #1 to 'xpcall' (value expected, got no value)\" | 5, 0
@@ -17,13 +16,8 @@ return xpcall(error, nil) => Done false, \"t.conf:1: attempt to call a nil value
 return xpcall(nil, id) => Done false, \"t.conf:1: attempt to call a nil value\" | 9, 0
 return assert(nil, {}) == nil => Failed table | 8, 32";
 
-#[test]
-fn faults_become_values(rt: HostRuntime) {
-    hold(&rt, rt.alloc(), PROTECTED);
-}
-
 /// The levels of `error`, and the positions of those that call.
-const LEVELS: &str = "\
+pub(super) const LEVELS: &str = "\
 error(\"m\", 1) => Failed \"t.conf:1: m\" | 7, 0
 error(\"m\", \"2\") => Failed \"m\" | 7, 0
 error(\"m\", {}) => Failed \"t.conf:1: bad argument #2 to 'error' (number expected, got table)\" | 7, 32
@@ -36,13 +30,8 @@ local function h(m) error(\"h\", 2) end¶return xpcall(function() error(\"in\") 
 return pcall(error, \"1234567890123456789012345678901234567890123456789012345678901234\", 0) => Done false, \
 \"1234567890123456789012345678901234567890123456789012345678901234\" | 11, 0";
 
-#[test]
-fn levels_choose_positions(rt: HostRuntime) {
-    hold(&rt, rt.alloc(), LEVELS);
-}
-
 /// The texts of values, each of which is made anew but for that of a text.
-const TEXTS: &str = "\
+pub(super) const TEXTS: &str = "\
 return tostring(nil), tostring(12), tostring(\"a\"), tostring(id) => Done \"nil\", \"12\", \"a\", \"function\" | 18, 61
 return tostring(true), tostring(false), tostring({}), tostring(tostring) => Done \"true\", \"false\", \"table\", \"function\" | 18, 118
 return tostring(7), tostring(7) => Done \"7\", \"7\" | 10, 34
@@ -56,24 +45,14 @@ return tostring(setmetatable({}, {__tostring = function() end})) => Done nil | 1
 return tostring(setmetatable({}, {})) => Done \"table\" | 10, 85
 local t = setmetatable({}, {__tostring = error}) return pcall(tostring, t) => Done false, table | 17, 96";
 
-#[test]
-fn values_have_texts(rt: HostRuntime) {
-    hold(&rt, rt.alloc(), TEXTS);
-}
-
 /// The limit of steps, which nothing catches.
-const SPENT: &str = "\
+pub(super) const SPENT: &str = "\
 near: xpcall(function() while true do end end, id) return 1 => Spent | 1000000, 32
 near: tostring(setmetatable({}, {__tostring = function() while true do end end})) return 1 => Spent | 1000000, 128
 return select(\"#\", unpack({}, 1, 90000000000000)) => Spent | 1000000, 32";
 
-#[test]
-fn nothing_catches_that_steps_are_spent(rt: HostRuntime) {
-    hold(&rt, rt.alloc(), SPENT);
-}
-
 /// The limits of calls and of storage.
-const LIMITS: &str = "\
+pub(super) const LIMITS: &str = "\
 local function f() return 1 + f() end return xpcall(f, function(m) return m end) => Done false, \"t.conf:1: stack overflow\" | 30006, 88
 local function f() return pcall(f) end return select(\"#\", f()) => Done 5000 | 30004, 56
 local s = \"1234567890123456\" while true do s = s .. s end => Failed \"t.conf:1: not enough memory (storage limit)\" | 32876, 524480
@@ -82,20 +61,10 @@ local s = \"1234567890123456\" local ok, e = pcall(function() while true do s = 
 local function fill() local s = \"1234567890123456\" while true do s = s .. s end end local n = 0 while n < 12 do pcall(fill) n = n + 1 end \
 return tostring(\"x\"), pcall(tostring, 1) => Done \"x\", false, \"t.conf:1: not enough memory (storage limit)\" | 66380, 1047888";
 
-#[test]
-fn limits_are_faults(rt: HostRuntime) {
-    hold(&rt, rt.alloc(), LIMITS);
-}
-
 /// Threads that park in protected calls and in handlers.
-const ASKED: &str = "\
+pub(super) const ASKED: &str = "\
 return xpcall(function() return w(1) end, id) <- 5 => Parked(0: 1) at 13; Done true, 5 | 13, 32
 return xpcall(function() return w(1) end, id) <- raise => Parked(0: 1) at 13; Done false, \"t.conf:1: refused\" | 14, 32
 return xpcall(error, w) <- 7 => Parked(0: nil) at 9; Done false, 7 | 9, 0
 return xpcall(error, w) <- raise => Parked(0: nil) at 9; Done false, \"t.conf:1: refused\" | 9, 0
 return tostring(setmetatable({}, {__tostring = w})) <- 7 => Parked(0: table) at 13; Done 7 | 13, 96";
-
-#[test]
-fn parked_handlers_go_on(rt: HostRuntime) {
-    hold(&rt, rt.alloc(), ASKED);
-}

@@ -2,6 +2,7 @@
 ghost use Rattle.std.specs.Prelude.{◌<◌, ◌≤◌, length, IfSome};
 
 use super::programs::{put, see_call, without_counts};
+use crate::values::expect;
 use lua_lib_basic::Library;
 use lua_modules::{Chunks, ModuleFault, ModuleSet};
 use lua_site::{LuaSite, LuaSiteFault, start_lua};
@@ -44,7 +45,7 @@ pub(super) fn hold_sites(rt: &impl Abort, alloc: Global, prelude: &str, rows: &s
         } else {
             without_counts(seen.as_str())
         };
-        assert_eq!(rt; seen, expected, "{row}");
+        expect(rt, seen, expected, row);
     }
 }
 

@@ -2,7 +2,7 @@
 use super::sites::hold_sites;
 
 /// A run's globals are its own, those of init show through, and what init left is frozen.
-const GLOBALS: &str = "\
+pub(super) const GLOBALS: &str = "\
 ~ x = 1 return x, rawget(_G, \"x\"), rawget(_G, \"pairs\"), _G._G == _G => Done 1, 1, nil, true | 23, 32
 ~ return _VERSION, getmetatable(_G).__index.pairs == pairs => Done \"Lua 5.1\", true | 16, 0
 ~ ngx.x = 1 => Failed \"t.conf:2: attempt to modify a frozen table\"
@@ -14,13 +14,8 @@ f = function() n = (n or 0) + 1 return n end ~ n = 1 return n => Done 1 | 6, 32
 n = 5 f = function() n = n + 1 return n end ~ return f(), f(), n => Done 6, 7, 7 | 26, 32
 local n = 0 f = function() return function() n = n + 1 end end ~ local c = f() return c() => Failed \"t.conf:1: attempt to modify a frozen variable\"";
 
-#[test]
-fn what_init_left_is_there_and_frozen(rt: HostRuntime) {
-    hold_sites(&rt, rt.alloc(), "", GLOBALS);
-}
-
 /// Modules that a run requires, that init required, and that aren't there.
-const MODULES_REQUIRED: &str = "\
+pub(super) const MODULES_REQUIRED: &str = "\
 ~ return pcall(require, \"no\") => Done false, \"t.conf:2: module 'no' not found\" | 53, 66
 ~ require(1) => Failed \"t.conf:2: module '1' not found\"
 ~ local m = require \"m\" return m == require \"m\", m.name, m.k, require \"m\".k => Done true, \"m\", 1, 1 | 159, 160
@@ -32,13 +27,8 @@ v = require \"m\" ~ return k, require(\"m\").k, require \"m\" == v => Done 1, 1,
 ~ return require \"two\" == require \"m\" => Done true
 require \"two\" ~ return require \"two\" == require \"m\" => Done true";
 
-#[test]
-fn modules_are_required_at_init_and_in_runs(rt: HostRuntime) {
-    hold_sites(&rt, rt.alloc(), "", MODULES_REQUIRED);
-}
-
 /// Inits that refuse the start.
-const REFUSED: &str = "\
+pub(super) const REFUSED: &str = "\
 error(\"bad\") ~ return 1 => Init t.conf:1: bad
 error(\"bad\", 0) ~ return 1 => Init bad
 error({}) ~ return 1 => Init unknown reason
@@ -48,11 +38,6 @@ pcall(function() while true do end end) ~ return 1 => Init step budget of 100000
 ngx.say(1) ~ return 1 => Init API disabled in the context of init_by_lua*
 require \"e\" ~ return 1 => Init lua/e.lua:1: bad
 local s = \"1234567890123456\" while true do s = s .. s end ~ return 1 => Init t.conf:1: not enough memory (storage limit)";
-
-#[test]
-fn an_init_that_fails_refuses_the_start(rt: HostRuntime) {
-    hold_sites(&rt, rt.alloc(), "", REFUSED);
-}
 
 #[test]
 fn a_prelude_that_fails_refuses_the_start_before_init(rt: HostRuntime) {

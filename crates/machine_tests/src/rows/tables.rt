@@ -1,7 +1,7 @@
 //! What programs with tables come to.
-use super::programs::hold;
 
-const TABLES: &str = "\
+/// Tables come to their values.
+pub(super) const TABLES: &str = "\
 local a = {} a.x = 1 return a.x, a.y => Done 1, nil | 15, 64
 local a = {1, x = 2, 3, id(4, 5)} return #a, a[3], a[4] => Done 4, 4, 5 | 21, 192
 local t = {f = function(self, x) return x end} return t:f(7) => Done 7 | 12, 96
@@ -16,13 +16,8 @@ local x = 5 return x.y => Failed \"t.conf:1: attempt to index a number value\" |
 local t = {[nil] = 1} => Failed \"t.conf:1: table index is nil\" | 5, 32
 local t = {}¶t[nil] = 1 => Failed \"t.conf:2: table index is nil\" | 8, 32";
 
-#[test]
-fn tables_come_to_their_values(rt: HostRuntime) {
-    hold(&rt, rt.alloc(), TABLES);
-}
-
 /// Handlers of keys that are lacking, and of calls of what is no function.
-const METATABLES: &str = "\
+pub(super) const METATABLES: &str = "\
 local t = setmetatable({}, {__index = {x = 1}}) return t.x, t.y => Done 1, nil | 20, 160
 local t = setmetatable({}, {__index = function(t, k) return k .. \"!\", 2 end}) return t.a => Done \"a!\" | 19, 146
 local m = {} local t = setmetatable({}, {__newindex = m}) t.a = 1 return rawget(t, \"a\"), m.a => Done nil, 1 | 26, 160
@@ -32,8 +27,3 @@ local c = setmetatable({}, {__call = id}) local d = setmetatable({}, {__call = c
 local t = setmetatable({}, {__metatable = \"m\"}) return getmetatable(t), pcall(setmetatable, t, {}) => Done \"m\", false, \
 \"t.conf:1: cannot change a protected metatable\" | 21, 128
 local t = setmetatable({}, {__index = w}) return t.x <- 7 => Parked(0: table, \"x\") at 14; Done 7 | 14, 96";
-
-#[test]
-fn metatables_handle_keys_that_are_lacking(rt: HostRuntime) {
-    hold(&rt, rt.alloc(), METATABLES);
-}

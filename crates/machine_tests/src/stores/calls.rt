@@ -1,6 +1,7 @@
 //! Calls of a store as lines, each with its answer after ` = `.
 
 use super::words::*;
+use crate::values::expect;
 use lua_values::{Shift, Store, StoreFault, Value};
 use std::alloc::{AllocError, Global};
 use std::process::Abort;
@@ -34,7 +35,7 @@ pub(super) fn hold(rt: &impl Abort, alloc: Global, script: &str) {
 fn hold_on(rt: &impl Abort, alloc: Global, stores: &mut Stores, script: &str) {
     for line in script.lines() {
         let (call, expected) = line.split_once(" = ").unwrap_or((line, ""));
-        assert_eq!(rt; answer(alloc, stores, call).as_str(), expected, "{line}");
+        expect(rt, answer(alloc, stores, call).as_str(), expected, line);
     }
 }
 
@@ -99,7 +100,7 @@ fn see_table(alloc: Global, all: &mut String, store: &Store, name: &str, given: 
     let (table, key) = given.split_once(' ').unwrap_or((given, ""));
     let t = id(table);
     match name {
-        "walk" => see_pairs(all, store, t, false),
+        "walk" => see_pairs(all, store, t),
         "border" => put_number(all, "", store.border(t)),
         "metatable" => see_optional(all, store.metatable(t)),
         "link" => see_value(all, store.get_link(t)),
@@ -129,33 +130,19 @@ fn see_next(all: &mut String, next: Result<Option<(Value, Value)>, AllocError>) 
     }
 }
 
-/// Writes the values of a table of at most 100 pairs in the order of `next`, with their keys where these are asked for.
-pub(super) fn see_pairs(all: &mut String, store: &Store, t: u32, with_keys: bool) {
+/// Writes the values of a table of at most 100 pairs in the order of `next`.
+fn see_pairs(all: &mut String, store: &Store, t: u32) {
     let mut key = Value::Nil;
     for _ in 0..100 {
         let Ok(Some((next, found))) = store.next(t, &key) else {
             return;
         };
-        see_pair(all, &next, &found, with_keys);
+        if !all.is_empty() {
+            put(all, " ");
+        }
+        see_value(all, &found);
         key = next;
     }
-}
-
-/// Writes a value, with its key where it is asked for, after a blank if something stands before it.
-fn see_pair(all: &mut String, key: &Value, found: &Value, with_keys: bool) {
-    if !all.is_empty() {
-        put(all, " ");
-    }
-    if with_keys {
-        see_value(all, key);
-        put(all, "=");
-    }
-    see_value(all, found);
-}
-
-/// A copy of a value, nil where there is no memory for it.
-pub(super) fn copy_of(value: &Value) -> Value {
-    value.clone().unwrap_or(Value::Nil)
 }
 
 /// Changes a table or a cell, or adds units.
@@ -174,7 +161,7 @@ fn change(alloc: Global, store: &mut Store, name: &str, given: &str) -> Result<(
 }
 
 /// Which values move: the first number and the last, and `up` or `down`.
-pub(super) fn shift_of(given: &str) -> Shift {
+fn shift_of(given: &str) -> Shift {
     let (from, after) = given.split_once(' ').unwrap_or((given, ""));
     let (to, direction) = after.split_once(' ').unwrap_or((after, ""));
     Shift {
@@ -185,7 +172,7 @@ pub(super) fn shift_of(given: &str) -> Shift {
 }
 
 /// Moves values.
-pub(super) fn shift(store: &mut Store, t: u32, by: Shift) -> Result<(), StoreFault> {
+fn shift(store: &mut Store, t: u32, by: Shift) -> Result<(), StoreFault> {
     if by.from == 0 || by.to >= 99_999_999_999_999 {
         return Err(StoreFault::BadKey);
     }

@@ -1,8 +1,7 @@
-//! Clients that end, break or take few bytes, connections that are too many, and the end by Stop.
-use super::{HI, hold};
-use std::test::Fail;
+//! Clients that end, break or take few bytes (ENDS, of HI), and connections that are too many (TURNED of ONE, STOPPED of THREE).
 
-const ENDS: &str = r#"arrive c1
+/// A client that ends gets what it asked for; a connection that breaks is hung up; a write that would wait goes on when the client is ready.
+pub(super) const ENDS: &str = r#"arrive c1
 bytes c1 "GET / HT"
 ended c1
 > close c1
@@ -51,14 +50,9 @@ ready c1
   Content-Type: text/plain\r\nTransfer-Encoding: chunked\r\nConnection: keep-alive\r\n\r\n<hi>"
 > put c1 "<keep><hi>"
 > close c1
-stop"#;
+stop
 
-#[test]
-fn a_client_that_ends_gets_what_it_asked_for(rt: HostRuntime) -> Result<(), Fail> {
-    hold(&rt, rt.alloc(), HI, ENDS)
-}
-
-const BREAKS: &str = r#"arrive c1
+arrive c1
 broken c1
 > close c1
 stop
@@ -86,14 +80,9 @@ broken c1
 > close c1
 < bytes c1 "abc"
 < ended c1
-stop"#;
+stop
 
-#[test]
-fn a_connection_that_breaks_is_hung_up(rt: HostRuntime) -> Result<(), Fail> {
-    hold(&rt, rt.alloc(), HI, BREAKS)
-}
-
-const PUT_OFF: &str = r#"arrive c1
+arrive c1
 < room c1 0
 bytes c1 "<get><get>"
 > later c1
@@ -119,16 +108,11 @@ bytes c2 "GET / HTTP/1.0\r\n\r\n"
 stop
 > close c1"#;
 
-#[test]
-fn a_write_that_would_wait_goes_on_when_the_client_is_ready(rt: HostRuntime) -> Result<(), Fail> {
-    hold(&rt, rt.alloc(), HI, PUT_OFF)
-}
-
 /// A site that takes one connection at a time.
-const ONE: &str =
+pub(super) const ONE: &str =
     r#"events { worker_connections 1; } http { server { location / { content_by_lua_block { ngx.say("hi") } } } }"#;
 
-const TURNED: &str = r#"arrive c1
+pub(super) const TURNED: &str = r#"arrive c1
 arrive c2
 > turned c2
 > close c2
@@ -149,7 +133,22 @@ bytes c2 "<get>"
 stop
 > close c2"#;
 
-#[test]
-fn connections_that_are_too_many_are_turned_away(rt: HostRuntime) -> Result<(), Fail> {
-    hold(&rt, rt.alloc(), ONE, TURNED)
-}
+/// A site that takes three connections at a time.
+pub(super) const THREE: &str =
+    r#"events { worker_connections 3; } http { server { location / { content_by_lua_block { ngx.say("hi") } } } }"#;
+
+/// Stop closes those that are open in the order in which they came.
+pub(super) const STOPPED: &str = r#"arrive c1
+arrive c2
+arrive c3
+arrive c4
+> turned c4
+> close c4
+bytes c1 "GET / HTTP/1.0\r\n\r\n"
+> put c1 "<close>hi\n"
+> close c1
+arrive c5
+stop
+> close c2
+> close c3
+> close c5"#;

@@ -1,29 +1,16 @@
-//! Handlers in Lua, by what their clients are sent and what is logged. Expected values of Lua are those of its reference manual, and texts of errors
-//! those of the manual of this server.
-use super::{hold, lines, served_from, spelled};
-use resty_base::MemFiles;
-use std::alloc::Global;
-use std::process::Abort;
-use std::test::Fail;
+//! Handlers in Lua, by what their clients are sent (SAYS) and what is logged (FAILS); CASES of COUNTS show what runs share, LOST what becomes of a log line
+//! that isn't written. Expected values of Lua are those of its reference manual, and texts of errors those of the manual of this server.
 
 /// A site with one handler, which begins in line 2.
-const SITE: &str =
+pub(super) const SITE: &str =
     "http { server { listen 8080;\nlocation / { content_by_lua_block { BODY } }\n} }\n";
 
 /// A request, and what is done then.
-const CASE: &str = "arrive c1\nbytes c1 \"GET / HTTP/1.0\\r\\n\\r\\n\"\nDONE\n> close c1\nstop";
-
-/// Tests one handler, with what is done at its request.
-fn hold_one(rt: &impl Abort, alloc: Global, row: &str, before: &str) -> Result<(), Fail> {
-    let (body, expected) = row.split_once(" => ").unwrap_or((row, ""));
-    let conf = SITE.replace(alloc, "BODY", body)?;
-    let done = format!(in alloc; "{before}{expected}\"")?;
-    let case = CASE.replace(alloc, "DONE", done.as_str())?;
-    hold(rt, alloc, conf.as_str(), case.as_str())
-}
+pub(super) const CASE: &str =
+    "arrive c1\nbytes c1 \"GET / HTTP/1.0\\r\\n\\r\\n\"\nDONE\"\n> close c1\nstop";
 
 /// Handlers, and what is sent after the head of the reply.
-const SAYS: &str = r##"ngx.say("hi") => hi\n
+pub(super) const SAYS: &str = r##"ngx.say("hi") => hi\n
 ngx.say() => \n
 ngx.print("a", 1, nil, true, {"b", {2, "c"}}) ngx.print() ngx.say("x", "y") => a1niltrueb2cxy\n
  => 
@@ -46,16 +33,8 @@ ngx.say(unpack({1, 2, 3})) ngx.say(tonumber("ff", 16), tonumber("x"), rawequal("
 ngx.say(pcall(function() local t = nil return t.x end)) => falset.conf:2: attempt to index a nil value\n
 ngx.say(pcall(require, "none")) => falset.conf:2: module 'none' not found\n"##;
 
-#[test]
-fn handlers_say_what_lua_gives(rt: HostRuntime) -> Result<(), Fail> {
-    for row in SAYS.lines() {
-        hold_one(&rt, rt.alloc(), row, "> put c1 \"<close>")?;
-    }
-    Ok(())
-}
-
 /// Handlers that fail: what is logged, and what is sent.
-const FAILS: &str = r#"error("e") => t.conf:2: e"|<500>
+pub(super) const FAILS: &str = r#"error("e") => t.conf:2: e"|<500>
 ngx.say("a") error("b") => t.conf:2: b"|<close>a\n
 error({}) => unknown reason"|<500>
 local s = "x" while true do s = s .. s end => t.conf:2: not enough memory (storage limit)"|<500>
@@ -63,25 +42,15 @@ local function f() return 1 + f() end f() => t.conf:2: stack overflow"|<500>
 local t = nil t.x = 1 => t.conf:2: attempt to index a nil value"|<500>
 nothing() => t.conf:2: attempt to call a nil value"|<500>"#;
 
-#[test]
-fn handlers_that_fail_are_logged_and_answered(rt: HostRuntime) -> Result<(), Fail> {
-    for row in FAILS.lines() {
-        let row = row.replace(rt.alloc(), "|", "\n> put c1 \"")?;
-        let log = "> log c1 \"0 [error] lua entry thread aborted: runtime error: ";
-        hold_one(&rt, rt.alloc(), row.as_str(), log)?;
-    }
-    Ok(())
-}
-
 /// A handler that counts in a global, and one that never ends.
-const COUNTS: &str = r#"http { init_by_lua_block { first = 1 shared = {} } server {
+pub(super) const COUNTS: &str = r#"http { init_by_lua_block { first = 1 shared = {} } server {
 location / { content_by_lua_block { count = (count or 0) + first ngx.say(count) } }
 location /loop { content_by_lua_block { pcall(function() while true do end end) } }
 location /frozen { content_by_lua_block { shared.x = 1 } }
 location /first { content_by_lua_block { first = 7 ngx.say(first) } } } }"#;
 
 /// Each request has globals of its own, what init made can't be changed, and a run that has spent its steps disturbs nobody.
-const CASES: &str = r#"arrive c1
+pub(super) const CASES: &str = r#"arrive c1
 bytes c1 "<get><get>"
 > put c1 "<keep>2\r\n1\n\r\n0\r\n\r\n"
 > put c1 "<keep>2\r\n1\n\r\n0\r\n\r\n"
@@ -112,39 +81,3 @@ bytes c1 "GET /frozen HTTP/1.0\r\n\r\n"
 > put c1 "<500>"
 > close c1
 stop"#;
-
-#[test]
-fn runs_have_globals_of_their_own(rt: HostRuntime) -> Result<(), Fail> {
-    hold(&rt, rt.alloc(), COUNTS, CASES)
-}
-
-/// A site with two modules, of which one requires the other.
-const MODULAR: &str = r#"http { lua_package_path "m/?.lua"; server {
-location / { content_by_lua_block { local greet = require "text.greet" ngx.say(greet.hello("you"), greet == require("text.greet")) } } } }"#;
-
-const GREET: &str =
-    "local mark = require('mark')\nlocal M = {}\nfunction M.hello(name) return 'hello ' .. name .. mark end\nreturn M\n";
-
-const MODULE_CASE: &str = r#"arrive c1
-bytes c1 "GET / HTTP/1.0\r\n\r\n"
-> put c1 "<close>hello you!true\n"
-> close c1
-stop"#;
-
-#[test]
-fn modules_are_required_by_name(rt: HostRuntime) -> Result<(), Fail> {
-    let alloc = rt.alloc();
-    let mut files = MemFiles::new(alloc);
-    files.add(alloc, "t.conf", MODULAR.as_bytes())?;
-    files.add(alloc, "m/text/greet.lua", GREET.as_bytes())?;
-    files.add(alloc, "m/mark.lua", b"return '!'")?;
-    let case = spelled(alloc, MODULE_CASE)?;
-    let schedule = lines(alloc, case.as_str(), "< ", "> ")?;
-    let history = served_from(alloc, &mut files, schedule.as_str())?;
-    let expected = lines(alloc, case.as_str(), "> ", "< ")?;
-    assert_eq!(&rt;
-        str::from_utf8(history.as_slice()).unwrap_or("?"),
-        expected.as_str()
-    );
-    Ok(())
-}

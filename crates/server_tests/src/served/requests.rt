@@ -1,8 +1,7 @@
-//! Requests that are answered: in turn, of both versions, kept and closed, with and without a body of the reply.
-use super::{HI, hold};
-use std::test::Fail;
+//! Requests that are answered: in turn, of both versions, kept and closed (TURNS, of HI), with and without a body of the reply (SAID, of SAYS).
 
-const TURNS: &str = r#"moment 1000
+/// Requests are answered in turn; connections are kept by version and header.
+pub(super) const TURNS: &str = r#"moment 1000
 arrive c1
 bytes c1 "GET / HTTP/1.0\r\n\r\n"
 > put c1 "HTTP/1.1 200 OK\r\nServer: resty\r\nDate: Thu, 01 Jan 1970 00:00:01 GMT\r\nContent-Type: text/plain\r\nConnection: close\r\n\r\nhi\n"
@@ -37,14 +36,9 @@ bytes c1 "Host: a\r\n\r\n"
 > put c1 "<keep><hi>"
 stop
 > close c1
-> close c2"#;
+> close c2
 
-#[test]
-fn requests_are_answered_in_turn(rt: HostRuntime) -> Result<(), Fail> {
-    hold(&rt, rt.alloc(), HI, TURNS)
-}
-
-const KEPT: &str = r#"arrive c1
+arrive c1
 bytes c1 "GET / HTTP/1.0\r\nConnection: keep-alive\r\n\r\n"
 > put c1 "<close>hi\n"
 > close c1
@@ -75,19 +69,15 @@ bytes c1 "GET http://b:8080/a/../?x=1 HTTP/1.1\r\nHost: a\r\n\r\n"
 stop
 > close c1"#;
 
-#[test]
-fn connections_are_kept_by_version_and_header(rt: HostRuntime) -> Result<(), Fail> {
-    hold(&rt, rt.alloc(), HI, KEPT)
-}
-
 /// A block that says nothing, one that says twice, and one that says an empty text; and a type of replies.
-const SAYS: &str = r#"http { server {
+pub(super) const SAYS: &str = r#"http { server {
 location /none { content_by_lua_block { } }
 location /two { content_by_lua_block { ngx.say("a") ngx.say("b c") } }
 location /empty { default_type application/x; content_by_lua_block { ngx.say("") } }
 } }"#;
 
-const SAID: &str = r#"arrive c1
+/// Each text is a chunk.
+pub(super) const SAID: &str = r#"arrive c1
 bytes c1 "GET /none HTTP/1.1\r\nHost: a\r\n\r\n"
 > put c1 "<keep>0\r\n\r\n"
 bytes c1 "GET /two HTTP/1.1\r\nHost: a\r\n\r\n"
@@ -100,8 +90,3 @@ bytes c2 "GET /two HTTP/1.0\r\n\r\n"
 > put c2 "<close>a\nb c\n"
 > close c2
 stop"#;
-
-#[test]
-fn each_text_is_a_chunk(rt: HostRuntime) -> Result<(), Fail> {
-    hold(&rt, rt.alloc(), SAYS, SAID)
-}

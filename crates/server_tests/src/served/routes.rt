@@ -1,13 +1,12 @@
-//! Which location answers a request: by server name, and by the path.
-use super::hold;
-use std::test::Fail;
+//! Which location answers a request: by server name (HOSTS of NAMED, OTHER_HOSTS of DEFAULT), and by the path (ASKED of PATHS).
 
-const NAMED: &str = r#"http {
+/// The first server of a name answers.
+pub(super) const NAMED: &str = r#"http {
 server { server_name a.example A2; location / { content_by_lua_block { ngx.say("a") } } }
 server { server_name b.example a.example; location / { content_by_lua_block { ngx.say("b") } } }
 }"#;
 
-const HOSTS: &str = r#"arrive c1
+pub(super) const HOSTS: &str = r#"arrive c1
 bytes c1 "GET / HTTP/1.1\r\nHost: a.example\r\n\r\n"
 > put c1 "<keep>2\r\na\n\r\n0\r\n\r\n"
 bytes c1 "GET / HTTP/1.1\r\nHost: B.Example:8080\r\n\r\n"
@@ -23,17 +22,13 @@ bytes c1 "GET / HTTP/1.0\r\n\r\n"
 > close c1
 stop"#;
 
-#[test]
-fn the_first_server_of_a_name_answers(rt: HostRuntime) -> Result<(), Fail> {
-    hold(&rt, rt.alloc(), NAMED, HOSTS)
-}
-
-const DEFAULT: &str = r#"http {
+/// Other names are answered by the default server.
+pub(super) const DEFAULT: &str = r#"http {
 server { server_name a; location / { content_by_lua_block { ngx.say("a") } } }
 server { listen 8080 default_server; location / { content_by_lua_block { ngx.say("b") } } }
 }"#;
 
-const OTHER_HOSTS: &str = r#"arrive c1
+pub(super) const OTHER_HOSTS: &str = r#"arrive c1
 bytes c1 "GET / HTTP/1.1\r\nHost: a\r\n\r\n"
 > put c1 "<keep>2\r\na\n\r\n0\r\n\r\n"
 bytes c1 "GET / HTTP/1.1\r\nHost: c\r\n\r\n"
@@ -41,12 +36,8 @@ bytes c1 "GET / HTTP/1.1\r\nHost: c\r\n\r\n"
 stop
 > close c1"#;
 
-#[test]
-fn other_names_are_answered_by_the_default_server(rt: HostRuntime) -> Result<(), Fail> {
-    hold(&rt, rt.alloc(), DEFAULT, OTHER_HOSTS)
-}
-
-const PATHS: &str = r#"http { server {
+/// The location of a path answers.
+pub(super) const PATHS: &str = r#"http { server {
 location /x { content_by_lua_block { ngx.say("prefix") } }
 location = /x { content_by_lua_block { ngx.say("exact") } }
 location ^~ /x/y { content_by_lua_block { ngx.say("longer") } }
@@ -56,7 +47,7 @@ location /bare { }
 location @named { content_by_lua_block { ngx.say("named") } }
 } }"#;
 
-const ASKED: &str = r#"arrive c1
+pub(super) const ASKED: &str = r#"arrive c1
 bytes c1 "GET /x HTTP/1.1\r\nHost: a\r\n\r\n"
 > put c1 "<keep>6\r\nexact\n\r\n0\r\n\r\n"
 bytes c1 "GET /x? HTTP/1.1\r\nHost: a\r\n\r\n"
@@ -81,8 +72,3 @@ bytes c1 "GET /@named HTTP/1.1\r\nHost: a\r\n\r\n"
 > put c1 "<404>"
 stop
 > close c1"#;
-
-#[test]
-fn the_location_of_a_path_answers(rt: HostRuntime) -> Result<(), Fail> {
-    hold(&rt, rt.alloc(), PATHS, ASKED)
-}

@@ -1,8 +1,7 @@
-//! Timers of connections: each one millisecond before it runs out, and at its moment.
-use super::{HI, hold};
-use std::test::Fail;
+//! Timers of connections, each one millisecond before it runs out, and at its moment: those by default (HEADERS, of HI), and a site's own (OWN, of TIMES).
 
-const HEADERS: &str = r#"arrive c1
+/// A head has its time, a kept connection, each piece of a body, and a client its time to take bytes.
+pub(super) const HEADERS: &str = r#"arrive c1
 moment 59999
 moment 60000
 > close c1
@@ -33,14 +32,9 @@ bytes c1 "<get>GE"
 moment 59999
 moment 60000
 > close c1
-stop"#;
+stop
 
-#[test]
-fn a_head_has_its_time(rt: HostRuntime) -> Result<(), Fail> {
-    hold(&rt, rt.alloc(), HI, HEADERS)
-}
-
-const KEPT: &str = r#"arrive c1
+arrive c1
 bytes c1 "<get>"
 > put c1 "<keep><hi>"
 moment 74999
@@ -56,14 +50,9 @@ bytes c1 "G"
 moment 134998
 moment 134999
 > close c1
-stop"#;
+stop
 
-#[test]
-fn a_kept_connection_has_its_time(rt: HostRuntime) -> Result<(), Fail> {
-    hold(&rt, rt.alloc(), HI, KEPT)
-}
-
-const BODIES: &str = r#"arrive c1
+arrive c1
 bytes c1 "<post>Content-Length: 3\r\n\r\n"
 > put c1 "<keep><hi>"
 moment 59999
@@ -79,14 +68,9 @@ bytes c1 "a"
 moment 119998
 moment 119999
 > close c1
-stop"#;
+stop
 
-#[test]
-fn each_piece_of_a_body_has_its_time(rt: HostRuntime) -> Result<(), Fail> {
-    hold(&rt, rt.alloc(), HI, BODIES)
-}
-
-const SENT: &str = r#"arrive c1
+arrive c1
 < room c1 0
 bytes c1 "GET / HTTP/1.0\r\n\r\n"
 > later c1
@@ -110,17 +94,12 @@ moment 119999
 > close c1
 stop"#;
 
-#[test]
-fn a_client_has_its_time_to_take_bytes(rt: HostRuntime) -> Result<(), Fail> {
-    hold(&rt, rt.alloc(), HI, SENT)
-}
-
 /// A site with times of its own: those of a head are of the default server, the others of the location.
-const TIMES: &str = r#"http { client_header_timeout 1; server {
+pub(super) const TIMES: &str = r#"http { client_header_timeout 1; server {
 location / { keepalive_timeout 2; client_body_timeout 3000ms; send_timeout 4; content_by_lua_block { ngx.say("hi") } }
 } server { client_header_timeout 5; } }"#;
 
-const OWN: &str = r#"arrive c1
+pub(super) const OWN: &str = r#"arrive c1
 moment 999
 moment 1000
 > close c1
@@ -150,8 +129,3 @@ moment 3999
 moment 4000
 > close c1
 stop"#;
-
-#[test]
-fn times_are_those_of_the_site(rt: HostRuntime) -> Result<(), Fail> {
-    hold(&rt, rt.alloc(), TIMES, OWN)
-}

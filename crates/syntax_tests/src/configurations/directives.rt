@@ -1,9 +1,7 @@
 //! Tests of directives and of the values of their words; the expected ones are those of nginx's documentation.
-use super::rows::hold;
 use conf_rules::*;
 use conf_text::items_of;
 use std::alloc::{AllocError, Global};
-use std::test::Fail;
 
 /// What the directive that a text begins with says, None where its words are no value of it.
 pub(crate) fn said(alloc: Global, text: &str) -> Result<String, AllocError> {
@@ -20,7 +18,8 @@ pub(crate) fn said(alloc: Global, text: &str) -> Result<String, AllocError> {
     }
 }
 
-const WORDS: &str = r#"says frob 1 2; => unknown
+/// Words have values.
+pub(super) const WORDS: &str = r#"says frob 1 2; => unknown
 says Listen 80; => unknown
 says user a b c; => Some(Nothing)
 says pid; => Some(Nothing)
@@ -41,7 +40,7 @@ says lua_socket_pool_size 4294967296; => None
 says server_name; => None
 says server_name a B; => Some(Names(ByteLists { items: [b"a", b"b"] }))"#;
 
-const UNITS: &str = "\
+pub(super) const UNITS: &str = "\
 says client_max_body_size 8k; => Some(Size(8192))
 says client_max_body_size 0; => Some(Size(16777216))
 says client_max_body_size 17m; => Some(Size(16777216))
@@ -65,7 +64,7 @@ says send_timeout 5 6; => None
 says send_timeout; => None
 says send_timeout ''; => None";
 
-const FORMS: &str = "\
+pub(super) const FORMS: &str = "\
 says listen 80; => Some(Listen(80, false))
 says listen localhost:65535 default_server; => Some(Listen(65535, true))
 says listen 127.0.0.1:1; => Some(Listen(1, false))
@@ -95,13 +94,6 @@ says location a { => None
 says location =/a { => None
 says location ~ /a { => None";
 
-#[test]
-fn words_have_values(rt: HostRuntime) -> Result<(), Fail> {
-    hold(&rt, rt.alloc(), WORDS)?;
-    hold(&rt, rt.alloc(), UNITS)?;
-    hold(&rt, rt.alloc(), FORMS)
-}
-
 /// Where a directive may stand, its form, and whether it may stand more often.
 pub(crate) fn stands(alloc: Global, name: &str) -> Result<String, AllocError> {
     let mut all = String::new(alloc);
@@ -129,7 +121,8 @@ pub(crate) fn stands(alloc: Global, name: &str) -> Result<String, AllocError> {
     Ok(all)
 }
 
-const PLACES: &str = "\
+/// Directives have places and forms.
+pub(super) const PLACES: &str = "\
 stands pid => Main Simple
 stands error_log => Main Http Simple
 stands worker_connections => Events Simple
@@ -139,13 +132,11 @@ stands listen => Server Simple repeats
 stands content_by_lua_block => Location Lua
 stands send_timeout => Http Server Location Simple";
 
-#[test]
-fn directives_have_places_and_forms(rt: HostRuntime) -> Result<(), Fail> {
-    hold(&rt, rt.alloc(), PLACES)?;
-    assert!(rt; same(Directive::Listen, Directive::Listen));
-    assert!(rt; !same(Directive::Listen, Directive::Server));
-    assert_eq!(rt; number_of(b"10"), Some(10));
-    assert_eq!(rt; size_of(b"1m"), Some(1_048_576));
-    assert_eq!(rt; time_of(b"1"), Some(1000));
-    Ok(())
+/// Whether directives are themselves, and words are numbers, sizes and times.
+pub(super) fn words_are_read() -> bool {
+    same(Directive::Listen, Directive::Listen)
+        && !same(Directive::Listen, Directive::Server)
+        && number_of(b"10") == Some(10)
+        && size_of(b"1m") == Some(1_048_576)
+        && time_of(b"1") == Some(1000)
 }

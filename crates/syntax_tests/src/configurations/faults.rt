@@ -1,8 +1,6 @@
 //! Tests of the faults of a configuration; the expected ones were worked out by hand from nginx's documentation.
-use super::rows::hold;
 use conf::site_text_of;
 use std::alloc::{AllocError, Global};
-use std::test::Fail;
 
 /// The fault of a text with its line, or `ok`.
 pub(crate) fn fault(alloc: Global, text: &str) -> Result<String, AllocError> {
@@ -12,7 +10,8 @@ pub(crate) fn fault(alloc: Global, text: &str) -> Result<String, AllocError> {
     }
 }
 
-const BLOCKS: &str = "\
+/// Texts have faults.
+pub(super) const BLOCKS: &str = "\
 fault  => At(1)
 fault http {|} => At(2)
 fault http {|server { } => At(2)
@@ -35,7 +34,7 @@ fault events { http { } } => Place(1)
 fault pid; user a b c; http { server { } } => ok
 fault error_log x crit; http { error_log y debug; server { } } => ok";
 
-const PORTS: &str = "\
+pub(super) const PORTS: &str = "\
 fault http { server { listen 81; }|server { } } => Value(2)
 fault http { server { }|server {|listen 81; } } => Value(3)
 fault http { server { listen 81; }|server { listen 81; } } => ok
@@ -47,7 +46,7 @@ fault http { lua_shared_dict a 1m;|lua_shared_dict a 2m; server { } } => Twice(2
 fault http { lua_shared_dict a 1m;|lua_shared_dict a 0; server { } } => Value(2)
 fault http { lua_shared_dict a 1m; lua_shared_dict b 1m; server { } } => ok";
 
-const ORDER: &str = r#"in-server |server_name "a"b; => At(2)
+pub(super) const ORDER: &str = r#"in-server |server_name "a"b; => At(2)
 in-server server_name a'b#C; => ok
 in-server |Frob 1 2 => Unknown(2)
 in-server |frob_by_lua_block { '} => Unknown(2)
@@ -65,7 +64,7 @@ in-server location /a { } location /a { } => ok
 in-server location /a; => At(1)
 in-server location / { internal; }|send_timeout 1;|send_timeout 1; => Twice(3)"#;
 
-const LUA: &str = r#"in-location content_by_lua_block { "}" --}| } => ok
+pub(super) const LUA: &str = r#"in-location content_by_lua_block { "}" --}| } => ok
 in-location |content_by_lua_block { "} => Block(2)
 in-location content_by_lua_block; => At(1)
 in-location content_by_lua_block x { } => Value(1)
@@ -75,11 +74,3 @@ in-location client_header_timeout 5; => Place(1)
 in-location internal on; => Value(1)
 in-location location /a { } => Place(1)
 in-location send_timeout 100000000; => Value(1)"#;
-
-#[test]
-fn texts_have_faults(rt: HostRuntime) -> Result<(), Fail> {
-    hold(&rt, rt.alloc(), BLOCKS)?;
-    hold(&rt, rt.alloc(), PORTS)?;
-    hold(&rt, rt.alloc(), ORDER)?;
-    hold(&rt, rt.alloc(), LUA)
-}

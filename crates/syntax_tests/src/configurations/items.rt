@@ -1,8 +1,6 @@
 //! Tests of words and items; the expected ones were worked out by hand from nginx's documentation.
-use super::rows::hold;
 use conf_text::{Ending, Item, items_of};
 use std::alloc::{AllocError, Global};
-use std::test::Fail;
 
 /// A letter for the ending, or the text of a block of Lua.
 fn in_words(ending: &Ending) -> &str {
@@ -38,7 +36,8 @@ pub(crate) fn written(alloc: Global, text: &str) -> Result<String, AllocError> {
     Ok(out)
 }
 
-const ITEMS: &str = "\
+/// Texts have items.
+pub(super) const ITEMS: &str = "\
 items  => 1$1,
 items http {|} => [http]1{1,2}2,2$2,
 items \"http\"|{ server{}}#x => [http]1{2,[server]2{2,2}2,2}2,2$2,
@@ -51,22 +50,16 @@ items '' => []1$1,
 items 'a|' 'b||' => [a|][b||]1$4,
 items ; { }} => 1;1,1{1,1}1,1}1,1$1,";
 
-const QUOTES: &str = r##"items listen "80| => [listen]1!1,
+pub(super) const QUOTES: &str = r##"items listen "80| => [listen]1!1,
 items a|'b|"c" => [a]1!2,
 items "a|"b => 1!2,
 items "a"'b' => 1!1,
 items "a"#' => [a]1$1,
 items "a"{"b"}"c"; => [a]1{1,[b]1}1,[c]1;1,1$1,"##;
 
-const LUA: &str = r#"items x_by_lua_block { "}" --}| }y => [x_by_lua_block]1 "}" --}| 1,[y]2$2,
+pub(super) const LUA: &str =
+    r#"items x_by_lua_block { "}" --}| }y => [x_by_lua_block]1 "}" --}| 1,[y]2$2,
 items '_by_lua_block' z|{{[[}]]}} } => [_by_lua_block][z]1{[[}]]}2,2}2,2$2,
 items x_by_lua_block|{ "} => [x_by_lua_block]1U2,
 items x_by_lua_block; => [x_by_lua_block]1;1,1$1,
 items by_lua_block {|'} => [by_lua_block]1{1,2!2,"#;
-
-#[test]
-fn texts_have_items(rt: HostRuntime) -> Result<(), Fail> {
-    hold(&rt, rt.alloc(), ITEMS)?;
-    hold(&rt, rt.alloc(), QUOTES)?;
-    hold(&rt, rt.alloc(), LUA)
-}

@@ -1,8 +1,8 @@
 //! Tests of every directive in every block, once and twice; the expected ones are those of the documentation of nginx and of the lua-nginx-module.
 use super::faults::fault;
-use std::alloc::{AllocError, Global};
+use crate::rows::put;
+use std::alloc::Global;
 use std::process::Abort;
-use std::test::Fail;
 
 /// Directives after the letters of the places where they may stand, and a `+` where they may stand more often; `http` is tried below.
 const DIRECTIVES: &str = "\
@@ -44,7 +44,7 @@ HSL lua_socket_keepalive_timeout 1;
 HSL lua_socket_pool_size 1;";
 
 /// A configuration in which this stands in the main part, in `events`, `http`, `server` or `location`, by its first letter.
-fn placed(alloc: Global, place: char, said: &str) -> Result<String, AllocError> {
+fn placed(alloc: Global, place: char, said: &str) -> String {
     let (before, after) = match place {
         'M' => ("", "http { server { } }"),
         'E' => ("events {", "} http { server { } }"),
@@ -52,68 +52,65 @@ fn placed(alloc: Global, place: char, said: &str) -> Result<String, AllocError> 
         'S' => ("http { server {", "} }"),
         _ => ("http { server { location / {", "} } }"),
     };
-    format!(in alloc; "{before} {said} {after}")
+    let mut all = String::new(alloc);
+    put(&mut all, before);
+    put(&mut all, said);
+    put(&mut all, after);
+    all
 }
 
 /// Whether what stands in this place has this fault.
-fn has(alloc: Global, place: char, said: &str, expected: &str) -> Result<bool, AllocError> {
-    let text = placed(alloc, place, said)?;
-    Ok(fault(alloc, text.as_str())?.as_str() == expected)
+fn has(alloc: Global, place: char, said: &str, expected: &str) -> bool {
+    match fault(alloc, placed(alloc, place, said).as_str()) {
+        Ok(seen) => seen.as_str() == expected,
+        Err(_) => false,
+    }
 }
 
 /// A directive has its places: elsewhere it isn't allowed.
-fn expect_places(rt: &impl Abort, alloc: Global, places: &str, said: &str) -> Result<(), Fail> {
+fn expect_places(rt: &impl Abort, alloc: Global, places: &str, said: &str, once: &str) {
     for place in "MEHSL".chars() {
         let expected = if places.contains(place) {
-            "ok"
+            once
         } else {
             "Place(1)"
         };
-        assert!(rt; has(alloc, place, said, expected)?, "{place}: {said}");
+        assert!(rt; has(alloc, place, said, expected), "{place}: {said}");
     }
-    Ok(())
 }
 
 /// Where a directive stands twice in its places, the second has this fault.
-fn expect_twice(
-    rt: &impl Abort,
-    alloc: Global,
-    places: &str,
-    said: &str,
-    expected: &str,
-) -> Result<(), Fail> {
-    let twice = format!(in alloc; "{said}\n{said}")?;
+fn expect_twice(rt: &impl Abort, alloc: Global, places: &str, said: &str, expected: &str) {
+    let mut twice = String::new(alloc);
+    put(&mut twice, said);
+    put(&mut twice, "\n");
+    put(&mut twice, said);
     for place in places.chars() {
         assert!(rt;
-            has(alloc, place, twice.as_str(), expected)?,
+            has(alloc, place, twice.as_str(), expected),
             "{place}: {said}"
         );
     }
-    Ok(())
 }
 
-#[test]
-fn every_directive_has_its_places(rt: HostRuntime) -> Result<(), Fail> {
-    for row in DIRECTIVES.lines() {
-        let (places, said) = row.split_once(' ').unwrap_or((row, ""));
-        let (places, expected) = match places.strip_suffix('+') {
-            Some(places) => (places, "ok"),
-            None => (places, "Twice(2)"),
-        };
-        expect_places(&rt, rt.alloc(), places, said)?;
-        expect_twice(&rt, rt.alloc(), places, said, expected)?;
-    }
-    Ok(())
+/// A row of directives has its places.
+fn hold(rt: &impl Abort, alloc: Global, row: &str) {
+    let (places, said) = row.split_once(' ').unwrap_or((row, ""));
+    let (places, expected) = match places.strip_suffix('+') {
+        Some(places) => (places, "ok"),
+        None => (places, "Twice(2)"),
+    };
+    expect_places(rt, alloc, places, said, "ok");
+    expect_twice(rt, alloc, places, said, expected);
 }
-
-const HTTP: &str = "http { server { } }";
 
 /// `http` stands in the main part alone, and once.
+const HTTP: &str = "http { server { } }";
+
 #[test]
-fn http_has_its_place(rt: HostRuntime) -> Result<(), Fail> {
-    assert!(rt; has(rt.alloc(), 'M', HTTP, "Twice(1)")?);
-    for place in "EHSL".chars() {
-        assert!(rt; has(rt.alloc(), place, HTTP, "Place(1)")?, "{place}");
+fn every_directive_has_its_places(rt: HostRuntime) {
+    for row in DIRECTIVES.lines() {
+        hold(&rt, rt.alloc(), row);
     }
-    Ok(())
+    expect_places(&rt, rt.alloc(), "M", HTTP, "Twice(1)");
 }

@@ -1,8 +1,6 @@
 //! Tests of what configurations say, and of the choice of servers and locations.
-use super::rows::hold;
 use conf::{Conf, LocationConf, ServerConf, Settings, named_location, route_for, site_text_of};
 use std::alloc::{AllocError, Global};
-use std::test::Fail;
 
 const NESTED: &str =
     "http { send_timeout 1; log_by_lua_block { a } server { send_timeout 2; location / { log_by_lua_block { b } } \
@@ -71,17 +69,13 @@ fn in_words(alloc: Global, conf: &Conf) -> Result<String, AllocError> {
     )
 }
 
-const DEFAULTS: &str = r#"site http { server { } } => 8080 512 4 lua/?.lua 0
+/// A site has defaults.
+pub(super) const DEFAULTS: &str = r#"site http { server { } } => 8080 512 4 lua/?.lua 0
 site error_log x emerg; http { server { listen 81; } } => 81 512 1 lua/?.lua 0
 site error_log x; http { error_log y debug; server { } } => 8080 512 8 lua/?.lua 0
 site events { worker_connections 7; } http { server { } } => 8080 7 4 lua/?.lua 0
 site http { server { } server { listen 8080 default_server; } lua_package_path "x/?.lua;;"; } => 8080 512 4 x/?.lua 1
 site WHOLE => 8080 512 5 lua/?.lua 0"#;
-
-#[test]
-fn a_site_has_defaults(rt: HostRuntime) -> Result<(), Fail> {
-    hold(&rt, rt.alloc(), DEFAULTS)
-}
 
 /// The sizes, the times and the handlers of settings.
 fn settings_in_words(alloc: Global, settings: &Settings) -> Result<String, AllocError> {
@@ -145,7 +139,7 @@ pub(crate) fn settings(alloc: Global, given: &str) -> Result<String, AllocError>
 }
 
 /// Texts, servers and locations: the type, sizes and times, and the handlers in the order of the phases.
-const SETTINGS: &str = "\
+pub(super) const SETTINGS: &str = "\
 settings NESTED 0 0 => x 1048576 75000 60000 2000 30 60000 60000 60000 60000 [None, None, None, None, None, Some(1)]
 settings NESTED 0 1 => x 1048576 75000 60000 3000 30 60000 60000 60000 60000 [None, None, None, None, None, Some(0)]
 settings NESTED 0 2 => x 1048576 75000 60000 2000 30 60000 60000 60000 60000 [None, None, None, None, None, Some(0)]
@@ -154,11 +148,6 @@ settings NESTED 2 0 => no server
 settings ALL 0 0 => text/plain 8192 1000 2000 3 4 5 6 7 8 [Some(0), Some(1), Some(2), Some(3), Some(4), Some(5)]
 settings ALL 0 1 => text/plain 8192 1000 2000 60000 30 60000 60000 60000 60000 [None, None, None, None, None, None]
 settings WHOLE 0 0 => text/plain 1048576 75000 60000 60000 30 60000 60000 60000 60000 [None, Some(0), Some(1), None, None, None]";
-
-#[test]
-fn the_innermost_value_holds(rt: HostRuntime) -> Result<(), Fail> {
-    hold(&rt, rt.alloc(), SETTINGS)
-}
 
 fn put_location(
     alloc: Global,
@@ -202,18 +191,14 @@ pub(crate) fn lists(alloc: Global, text: &str) -> Result<String, AllocError> {
     format!(in alloc; "{zones:?} {:?} {blocks:?}", conf.init)
 }
 
-const LISTS: &str = "\
+/// Lists are in order.
+pub(super) const LISTS: &str = "\
 servers LISTED => \
 [5000 [b\"a\", b\"b\", b\"c\"] Exact(b\"/x\") Prefix(b\"/y\")! Named(b\"@N\")][6000 [] Prefix(b\"/\")]
 servers WHOLE => [60000 [b\"localhost\"] Prefix(b\"/api\") Exact(b\"/one\")]
 lists LISTED => \
 [ZoneConf { name: b\"a.b_C-9\", size: 67108864 }, ZoneConf { name: b\"c\", size: 1 }] Some(1) \
 [Block { text: b\" \\\"}\\\" --}\\n \", line: 3 }, Block { text: b\" x \", line: 5 }]";
-
-#[test]
-fn lists_are_in_order(rt: HostRuntime) -> Result<(), Fail> {
-    hold(&rt, rt.alloc(), LISTS)
-}
 
 /// The server and the location for `HOST PATH`.
 pub(crate) fn route(alloc: Global, given: &str) -> Result<String, AllocError> {
@@ -225,7 +210,8 @@ pub(crate) fn route(alloc: Global, given: &str) -> Result<String, AllocError> {
     format!(in alloc; "{} {:?}", route.server, route.location)
 }
 
-const ROUTES: &str = "\
+/// Requests have routes.
+pub(super) const ROUTES: &str = "\
 route a /x => 0 Some(1)
 route b /xy => 0 Some(0)
 route A /xy/z => 0 Some(2)
@@ -235,11 +221,6 @@ route b /q => 0 Some(4)
 route c /q => 1 Some(1)
 route  / => 1 None
 route c @n => 1 None";
-
-#[test]
-fn requests_have_routes(rt: HostRuntime) -> Result<(), Fail> {
-    hold(&rt, rt.alloc(), ROUTES)
-}
 
 /// The location for `SERVER NAME`; a server that isn't there has none.
 pub(crate) fn named(alloc: Global, given: &str) -> Result<String, AllocError> {
@@ -254,12 +235,8 @@ pub(crate) fn named(alloc: Global, given: &str) -> Result<String, AllocError> {
     format!(in alloc; "{:?}", named_location(&conf, server, name.as_bytes()))
 }
 
-const NAMES: &str = "\
+/// Locations have names.
+pub(super) const NAMES: &str = "\
 named 1 @n => Some(0)
 named 1 /q => None
 named 0 @n => None";
-
-#[test]
-fn locations_have_names(rt: HostRuntime) -> Result<(), Fail> {
-    hold(&rt, rt.alloc(), NAMES)
-}

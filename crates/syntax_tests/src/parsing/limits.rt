@@ -1,9 +1,8 @@
 //! Where the faults of limits and contexts come: texts whose tokens that matter stand on lines of their own, so that a fault's
 //! line says which token it is.
-use crate::rows::{Subject, hold};
 
 /// Each limit, and one more.
-const LIMITS: &str = "\
+pub(super) const LIMITS: &str = "\
 x = 1|198* .. 1 => read
 x = 1|199* .. 1 => Depth(1)
 x = |198*- |1 => read
@@ -29,13 +28,8 @@ function o:f(a|199*, a|) end => Locals(1)
 60*local a@ |¶f = function() return function() return 0|60*, a@| end end => read
 61*local a@ |¶f = function() return function() return 0|61*, a@| end end => Upvalues(2)";
 
-#[test]
-fn each_limit_and_one_more(rt: HostRuntime) {
-    hold(&rt, rt.alloc(), Subject::Limit, LIMITS);
-}
-
 /// 200 constructs may be open at once. The fault is at the first token of the one that is too many.
-const DEPTHS: &str = "\
+pub(super) const DEPTHS: &str = "\
 x = |198*(|1|198*) => read
 x = |198*(|¶(¶1¶|199*) => Depth(3)
 199*a[|1|199*]| = 1 => read
@@ -92,13 +86,8 @@ x = |199*f{|¶1|199*} => Depth(2)
 200*f(|¶1|200*) => Depth(2)
 199*f(|1,¶(¶1|200*) => Depth(3)";
 
-#[test]
-fn a_construct_too_deep_is_told_at_its_first_token(rt: HostRuntime) {
-    hold(&rt, rt.alloc(), Subject::Limit, DEPTHS);
-}
-
 /// An expression may be 4,000 high. The fault is at the token that makes it higher.
-const HEIGHTS: &str = "\
+pub(super) const HEIGHTS: &str = "\
 x = a|3999*.b => read
 x = a|3999*.b|¶.¶b => Depth(2)
 x = a|3999*.b|¶+¶1 => Depth(2)
@@ -130,13 +119,8 @@ function a|3999*.b|¶.¶b() end => Depth(2)
 function a|3998*.b|:b() end => read
 function a|3999*.b|¶:¶b() end => Depth(2)";
 
-#[test]
-fn an_expression_too_high_is_told_where_it_becomes_so(rt: HostRuntime) {
-    hold(&rt, rt.alloc(), Subject::Limit, HEIGHTS);
-}
-
 /// A function may have 200 locals in scope. The fault is at the name that is too many.
-const LOCALS: &str = "\
+pub(super) const LOCALS: &str = "\
 200*local a |¶local¶a => Locals(3)
 local a|199*, a|¶,¶b¶= 1 => Locals(3)
 199*local a |local¶a¶,¶b¶= 1 => Locals(4)
@@ -160,7 +144,7 @@ repeat |200*local a |¶local¶b until x => Locals(3)
 200*local a |¶local¶function¶f¶() end => Locals(4)";
 
 /// A function may have 60 captures. The fault is at the name that is too many, be it one of a function further in.
-const CAPTURES: &str = "\
+pub(super) const CAPTURES: &str = "\
 61*local a@ |function f() return 0|60*, a@| end => read
 61*local a@ |function f() return 0|60*, a@|60*, a@| end => read
 61*local a@ |function f() return 0|60*, a@|¶,¶a60 end => Upvalues(3)
@@ -174,14 +158,8 @@ const CAPTURES: &str = "\
 61*local a@ |function f() |60*a@ = 1 |a61 = 1 local a60 a60 = 1 end => read
 60*local a@ |local function f() return f|59*, a@|¶,¶a59 end => Upvalues(3)";
 
-#[test]
-fn a_local_or_capture_too_many_is_told_at_its_name(rt: HostRuntime) {
-    hold(&rt, rt.alloc(), Subject::Limit, LOCALS);
-    hold(&rt, rt.alloc(), Subject::Limit, CAPTURES);
-}
-
 /// A `(` on another line, a `break` outside a loop and a `...` where there is none are themselves the token of the fault.
-const CONTEXTS: &str = "\
+pub(super) const CONTEXTS: &str = "\
 x = f¶(y) => Ambiguous(2)
 x = f()¶(y) => Ambiguous(2)
 local a = b[¶1]¶(y) => Ambiguous(3)
@@ -207,7 +185,7 @@ function f(...) x = function() return {¶...} end end => VarargOutside(2)
 function f(...) return {...} end return ... => read";
 
 /// Of two faults the earlier one is returned. Where one `(` is both on another line and one too high, the first of these is.
-const BOTH: &str = "\
+pub(super) const BOTH: &str = "\
 200*local a |local¶b¶= = 1 => Locals(2)
 x = |199*(|¶1¶) + + 1 => Depth(2)
 x =¶= 1 |201* local a => At(2)
@@ -227,9 +205,3 @@ function f()¶break¶end x = function() return ... end => BreakOutside(2)
 function f() x =¶...¶while x do end break end => VarargOutside(2)
 200* do => At(1)
 x = |199*( => At(1)";
-
-#[test]
-fn the_earlier_fault_is_told(rt: HostRuntime) {
-    hold(&rt, rt.alloc(), Subject::Limit, CONTEXTS);
-    hold(&rt, rt.alloc(), Subject::Limit, BOTH);
-}

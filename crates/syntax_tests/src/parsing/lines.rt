@@ -1,8 +1,7 @@
 //! The lines of statements, expressions and functions in texts whose tokens stand on lines of their own.
-use crate::rows::{Subject, hold};
 
 /// Expressions, each with its line after it.
-const EXPRESSIONS: &str = "\
+pub(super) const EXPRESSIONS: &str = "\
 return nil¶,¶true¶,¶false,¶1,¶'x'¶,¶...¶,x => 1: return nil@1, true@3, false@5, 1@6, 'x'@7, ...@9, g'x'@10;
 return¶not¶#¶-¶1 => 1: return (Not (Length (Minus 1@5)@4)@3)@2;
 return 1¶..¶2¶..¶3 => 1: return (1@1 Concat (2@3 Concat 3@5)@4)@2;
@@ -22,7 +21,7 @@ return¶function¶(¶a¶)¶return¶a¶end => 1: return f1@2; | 6: return s0@7;
 local a¶return function()¶return¶a end => 1: local s0 = ;2: return f1@2; | 3: return c0@4;";
 
 /// Statements, each with the line of its first token before it.
-const STATEMENTS: &str = "\
+pub(super) const STATEMENTS: &str = "\
 ¶local¶a¶,¶b¶=¶1¶¶local¶c => 2: local s0 s1 = 1@7;9: local s2 = ;
 a¶.¶b¶,¶c¶=¶1 => 1: g'a'@1['b'@3]@2, g'c'@5 = 1@7;
 (¶a¶)¶.¶b¶=¶1 => 1: <g'a'@2>@1['b'@5]@4 = 1@7;
@@ -38,16 +37,9 @@ local¶function¶f¶(¶)¶end => 1: local s0 f1; |
 ¶function¶a¶.¶b¶:¶c¶(¶)¶return¶self¶end => 2: g'a'@3['b'@5]@4['c'@7]@6 = f1@2; | 10: return s0@11;";
 
 /// Functions, each with the line of its word.
-const FUNCTIONS: &str = "\
+pub(super) const FUNCTIONS: &str = "\
 ¶¶f() => 1 file; 0.../0@3
  => 1 file; 0.../0@1
 ¶local¶function¶f¶()¶end => 1 file; 0.../1@2; 0/0@3
 ¶function¶f¶(a)¶end => 1 file; 0.../0@2; 1/1@2
 x¶=¶function¶()¶end => 1 file; 0.../0@1; 0/0@3";
-
-#[test]
-fn expressions_statements_and_functions_have_their_lines(rt: HostRuntime) {
-    hold(&rt, rt.alloc(), Subject::Lines, EXPRESSIONS);
-    hold(&rt, rt.alloc(), Subject::Lines, STATEMENTS);
-    hold(&rt, rt.alloc(), Subject::Heads, FUNCTIONS);
-}

@@ -113,20 +113,10 @@ fn rows_of(
 /// Tests an operator of one of the tables with each binary one after it.
 fn hold_pairs(rt: &impl Abort, alloc: Global, line: &str, is_unary: bool) {
     let first = operator_of(line);
-    assert_eq!(rt; first.letters.len(), 15, "{line}");
+    assert!(rt; first.letters.len() == 15, "{line}");
     for (letter, line) in first.letters.chars().zip(BINARY.lines()) {
         let rows = rows_of(alloc, first, operator_of(line), letter, is_unary);
         hold(rt, alloc, Subject::Program, &rows);
-    }
-}
-
-#[test]
-fn each_pair_of_operators_groups_by_precedence(rt: HostRuntime) {
-    for line in BINARY.lines() {
-        hold_pairs(&rt, rt.alloc(), line, false);
-    }
-    for line in UNARY.lines() {
-        hold_pairs(&rt, rt.alloc(), line, true);
     }
 }
 
@@ -138,15 +128,20 @@ fn line_row(alloc: Global, operator: Operator<'_>) -> String {
     row
 }
 
-#[test]
-fn a_binary_operator_has_the_line_of_its_sign(rt: HostRuntime) {
-    for line in BINARY.lines() {
-        let row = line_row(rt.alloc(), operator_of(line));
-        hold(&rt, rt.alloc(), Subject::Lines, &row);
-    }
+/// Tests an operator that stands on a line of its own.
+fn hold_line(rt: &impl Abort, alloc: Global, line: &str) {
+    let row = line_row(alloc, operator_of(line));
+    hold(rt, alloc, Subject::Lines, &row);
 }
 
-#[test]
-fn no_operator_is_left_out(rt: HostRuntime) {
-    assert_eq!(rt; (BINARY.lines().count(), UNARY.lines().count()), (15, 3));
+/// Each pair of operators groups by precedence, and a binary one has the line of its sign; no operator is left out.
+pub(super) fn hold_all_pairs(rt: &impl Abort, alloc: Global) {
+    for line in BINARY.lines() {
+        hold_pairs(rt, alloc, line, false);
+        hold_line(rt, alloc, line);
+    }
+    for line in UNARY.lines() {
+        hold_pairs(rt, alloc, line, true);
+    }
+    assert!(rt; BINARY.lines().count() == 15 && UNARY.lines().count() == 3);
 }

@@ -1,8 +1,7 @@
 //! The programs of texts: each statement and expression, how operators group, and the heads of functions.
-use crate::rows::{Subject, hold};
 
 /// How operators group.
-const GROUPS: &str = "\
+pub(super) const GROUPS: &str = "\
 return 1 or 2 and 3 => return (1 Or (2 And 3));
 return 1 and 2 or 3 => return ((1 And 2) Or 3);
 return 1 and 2 == 3 => return (1 And (2 Eq 3));
@@ -24,7 +23,7 @@ return (1 + 2) * 3 => return (<(1 Add 2)> Mul 3);
 return 1 > 2 or 3 ~= 4 and not 5 => return ((1 Gt 2) Or ((3 Ne 4) And (Not 5)));";
 
 /// Each statement and expression.
-const PROGRAMS: &str = "\
+pub(super) const PROGRAMS: &str = "\
 x = nil y = true; z = false => g'x' = nil;g'y' = true;g'z' = false;
  => 
 a.b, c[1] = 'x', ... => g'a'['b'], g'c'[1] = 'x', ...;
@@ -57,12 +56,5 @@ local a f = function() a() local a; a() end => local s0 = ;g'f' = f1; | c0();loc
 f(function() end, function() end) => g'f'(f1, f2); |  | ";
 
 /// The number of files, and the parameters, slots, lines and captures of functions.
-const HEADS: &str =
+pub(super) const HEADS: &str =
     "¶local a, b do local c end¶f = function(x, ...) local y return function()¶return b, y, a end end => 1 file; 0.../3@2; 1.../2@3 s1 s0; 0/0@3 c0 s1 c1";
-
-#[test]
-fn each_statement_and_expression_is_read(rt: HostRuntime) {
-    hold(&rt, rt.alloc(), Subject::Program, GROUPS);
-    hold(&rt, rt.alloc(), Subject::Program, PROGRAMS);
-    hold(&rt, rt.alloc(), Subject::Heads, HEADS);
-}

@@ -1,7 +1,7 @@
 //! Expressions: small texts of plain Lua, and what Lua 5.1 itself makes of them.
-use super::super::programs::hold_answers;
 
-const EXPRESSIONS: &str = "\
+/// Expressions give what lua gives.
+pub(in crate::rows) const EXPRESSIONS: &str = "\
 return 1, nil, \"a\", true, false => Done 1, nil, \"a\", true, false
 return 2 + 3 * 4 - 1 => Done 13
 return (2 + 3) * 4 => Done 20
@@ -38,8 +38,3 @@ return 5 - -3, 5 - - -3, 2 ^ 10, 10 ^ 13, 0 ^ 0, 1 ^ 100 => Done 8, 2, 1024, 100
 return 1 .. 2 .. 3, (1 .. 2) + 1, \"3\" + 1 .. \"4\" => Done \"123\", 13, \"44\"
 return 8 % 3 ^ 2, -3 % 5, 2 * -3, 7 - 2 .. \"\" => Done 8, 2, -6, \"5\"
 return 99999999999999, -99999999999999, 1000000 * 1000000 => Done 99999999999999, -99999999999999, 1000000000000";
-
-#[test]
-fn expressions_give_what_lua_gives(rt: HostRuntime) {
-    hold_answers(&rt, rt.alloc(), EXPRESSIONS);
-}

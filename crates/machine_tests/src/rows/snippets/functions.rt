@@ -1,7 +1,7 @@
 //! Functions and their calls: small texts of plain Lua, and what Lua 5.1 itself makes of them.
-use super::super::programs::hold_answers;
 
-const FUNCTIONS: &str = "\
+/// Functions give what lua gives.
+pub(in crate::rows) const FUNCTIONS: &str = "\
 local function f(a, b) return b, a end return f(1), f(1, 2, 3) => Done nil, 2, 1
 local function f(...) return select(\"#\", ...), ... end return f(nil, nil) => Done 2, nil, nil
 local function f(a, ...) local b, c = ... return a, b, c end return f(1, 2, 3, 4) => Done 1, 2, 3
@@ -52,8 +52,3 @@ return tostring(10) .. tostring(\"x\"), #tostring(12345), tostring(2) == \"2\" =
 return tonumber(\"12\"), tonumber(\" 12 \"), tonumber(\"0x1F\"), tonumber(\"x\"), tonumber(\"\"), tonumber(\"1 2\"), tonumber(5) => Done 12, 12, 31, nil, \
 nil, nil, 5
 return tonumber(\"ff\", 16), tonumber(\"zz\", 36), tonumber(\"101\", 2), tonumber(\"8\", 8), tonumber(\"7\", 8) => Done 255, 1295, 5, nil, 7";
-
-#[test]
-fn functions_give_what_lua_gives(rt: HostRuntime) {
-    hold_answers(&rt, rt.alloc(), FUNCTIONS);
-}

@@ -1,7 +1,7 @@
 //! Loops: small texts of plain Lua, and what Lua 5.1 itself makes of them.
-use super::super::programs::hold_answers;
 
-const LOOPS: &str = "\
+/// Loops run as in lua.
+pub(in crate::rows) const LOOPS: &str = "\
 local n = 0 while n < 5 do n = n + 1 end return n => Done 5
 local n = 0 while true do n = n + 1 if n == 7 then break end end return n => Done 7
 local n, s = 0, \"\" while n < 3 do n = n + 1 s = s .. n end return s => Done \"123\"
@@ -52,8 +52,3 @@ local s = \"\" for w in (function() local n = 3 return function() n = n - 1 if n
 local function f() for i = 1, 3 do for j = 1, 3 do if i * j == 4 then return i, j end end end end return f() => Done 2, 2
 local function f() while true do local x = 1 do return x end end end return f() => Done 1
 local n = 0 for i = 10, 1, -4 do n = n * 100 + i end return n => Done 100602";
-
-#[test]
-fn loops_run_as_in_lua(rt: HostRuntime) {
-    hold_answers(&rt, rt.alloc(), LOOPS);
-}

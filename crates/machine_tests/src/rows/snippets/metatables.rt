@@ -1,7 +1,7 @@
 //! Metatables: small texts of plain Lua, and what Lua 5.1 itself makes of them.
-use super::super::programs::hold_answers;
 
-const METATABLES: &str = "\
+/// Metatables handle what lua handles.
+pub(in crate::rows) const METATABLES: &str = "\
 local t = setmetatable({}, {__index = {a = 1}}) return t.a, t.b, rawget(t, \"a\") => Done 1, nil, nil
 local t = setmetatable({a = 1}, {__index = function(t, k) return k .. \"?\" end}) return t.a, t.b, t[1] => Done 1, \"b?\", \"1?\"
 local a = {x = 1} local b = setmetatable({y = 2}, {__index = a}) local c = setmetatable({}, {__index = b}) return c.x, c.y, c.z => Done 1, 2, nil
@@ -48,8 +48,3 @@ local p = setmetatable({}, {__index = {n = 1}}) p.n = p.n + 1 return p.n, rawget
 local mt = {__unm = function(a) return a.v * -1 end} return -setmetatable({v = 4}, mt), - -5 => Done -4, 5
 local t = setmetatable({}, {__index = function(t, k) return function(self, x) return k .. x end end}) return t:foo(\"1\"), t.bar(t, \"2\") => Done \"foo1\", \
 \"bar2\"";
-
-#[test]
-fn metatables_handle_what_lua_handles(rt: HostRuntime) {
-    hold_answers(&rt, rt.alloc(), METATABLES);
-}

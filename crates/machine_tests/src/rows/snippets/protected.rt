@@ -1,7 +1,7 @@
 //! Faults and protected calls: small texts of plain Lua, and what Lua 5.1 itself makes of them.
-use super::super::programs::hold_answers;
 
-const FAULTS: &str = "\
+/// Faults are caught as in lua.
+pub(in crate::rows) const FAULTS: &str = "\
 return pcall(function() return 1, 2 end) => Done true, 1, 2
 return pcall(function() end) => Done true
 return pcall(error) => Done false, nil
@@ -62,8 +62,3 @@ return pcall(function() return pcall(function() return \"deep\" end) end) => Don
 local cleanup = 0 local ok, e = pcall(function() local ok, e = pcall(error, \"first\", 0) cleanup = cleanup + 1 error(e, 0) end) return ok, e, cleanup => \
 Done false, \"first\", 1
 local f = function() error([[¶one]], 0) end return pcall(f) => Done false, \"one\"";
-
-#[test]
-fn faults_are_caught_as_in_lua(rt: HostRuntime) {
-    hold_answers(&rt, rt.alloc(), FAULTS);
-}

@@ -1,7 +1,7 @@
 //! Tables: small texts of plain Lua, and what Lua 5.1 itself makes of them.
-use super::super::programs::hold_answers;
 
-const TABLES: &str = "\
+/// Tables hold what lua holds.
+pub(in crate::rows) const TABLES: &str = "\
 local t = {1, 2, 3} return #t, t[1], t[3], t[4] => Done 3, 1, 3, nil
 local t = {x = 1, [\"y z\"] = 2, [3] = \"three\"} return t.x, t[\"y z\"], t[3], t.z => Done 1, 2, \"three\", nil
 local t = {1, x = 2, 3, [10] = 4, 5} return #t, t[1], t[2], t[3], t[10], t.x => Done 3, 1, 3, 5, 4, 2
@@ -34,8 +34,3 @@ local a = {1} local b = {1} return a == b, a[1] == b[1] => Done false, true
 local t = {1, 2, 3} local s = t[1] + t[2] * t[3] return s, t[t[1]], t[t[t[2]]] => Done 7, 1, 2
 local t = {} t[-1] = \"m\" t[0] = \"z\" return t[-1], t[0], #t => Done \"m\", \"z\", 0
 local t = {\"a\", \"b\"} t[3] = \"c\" t[5] = \"e\" return t[3], t[4], t[5] => Done \"c\", nil, \"e\"";
-
-#[test]
-fn tables_hold_what_lua_holds(rt: HostRuntime) {
-    hold_answers(&rt, rt.alloc(), TABLES);
-}

@@ -1,7 +1,7 @@
 //! Variables, assignments and conditions: small texts of plain Lua, and what Lua 5.1 itself makes of them.
-use super::super::programs::hold_answers;
 
-const VARIABLES: &str = "\
+/// Variables hold what lua holds.
+pub(in crate::rows) const VARIABLES: &str = "\
 local a return a => Done nil
 local a, b, c = 1, 2 return a, b, c => Done 1, 2, nil
 local a, b = 1, 2, 3 return a, b => Done 1, 2
@@ -30,8 +30,3 @@ local n = 5 if n > 3 then if n > 4 then return \"big\" end return \"some\" end =
 local n = 2 if n == 1 then return \"one\" elseif n == 2 then return \"two\" elseif n == 2 then return \"again\" else return \"many\" end => Done \"two\"
 if 0 then return \"0 is true\" end => Done \"0 is true\"
 if \"\" then return \"and so is a text\" end => Done \"and so is a text\"";
-
-#[test]
-fn variables_hold_what_lua_holds(rt: HostRuntime) {
-    hold_answers(&rt, rt.alloc(), VARIABLES);
-}
