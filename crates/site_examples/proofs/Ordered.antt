@@ -116,7 +116,7 @@ unordered-so ms lawful plain ordered is =
     let l : Fine behavior (r.top ∷ r.older) = fine-at q.older _ _ r k in
     let d = drops behavior r.top r.older l.plain r.left in
     let turns : IsOrdered behavior q.older = (turns-at p.older _ _ q (turns-at ms _ _ p ordered).0).0 in
-    let touched : IsOrdered behavior (Of client Dropped d.0 ∷ r.older) = subst (λ m. IsOrdered behavior (m ∷ r.older)) d.1 (turns-at q.older _ _ r turns) in
+    let touched : IsOrdered behavior (Of client Dropped d.0 ∷ r.older) = subst (λ m. IsOrdered behavior (m ∷ r.older)) {y = Of client Dropped d.0} d.1 (turns-at q.older _ _ r turns) in
     clash (drop-touched (lives (projection client r.older)) r.older touched.1) (not-his r.older (fine-tail behavior r.top r.older l) r.rest)
 
 abbrev HasNone : Behavior NoJob → Type 0

@@ -1,5 +1,5 @@
 -- A client that is turned away though there is room.
-use Rattle.std.proofs.Common.{◌≡◌, ◌≤◌, ◌-◌, ℕ, List, [], ◌∷◌, ◌++◌, Option, Some, None, refl, sym, ap, subst, ◌∙◌, arith}
+use Rattle.std.proofs.Common.{◌≡◌, ◌≤◌, ◌<◌, ◌-◌, ℕ, List, [], ◌∷◌, ◌++◌, Option, Some, None, refl, sym, ap, subst, ◌∙◌, arith, lit<}
 use Rattle.resty_base.specs.declared.names.Ms.{Ms}
 use Rattle.resty_base.specs.declared.names.Id.TheVariants as id
 use Rattle.resty_base.specs.declared.names.StrandId.{StrandId}
@@ -87,28 +87,32 @@ module _ {J : Type 0} where
   never-newest b (IdleGave g ∷ ms) c h e = never-turned (closed_by g) g (external b ms) c h e
   never-newest b (IdleClosed n ∷ ms) c h e = cc
 
-room : (ms : List (GlobalAction NoJob)) → IsPlain hi_behavior ms
-    → external hi_behavior ms ≡ entry.Close (id.Conn 1) ∷ entry.Turned 1 ∷ entry.Given arrives ∷ entry.Given at_second_1 ∷ [] → ⊥
-room [] p e = cc
-room (Of s (Keep k key idle size) None ∷ ms) p e = cc
-room (Of s (Keep k key idle size) (Some m) ∷ ms) p e = cc
-room (Of s x n ∷ ms) p e = by_test (is_internal x)
-    (λ on. room ms p.0 (ap (λ l. l ++ external hi_behavior ms) (sym (no-entry hi_behavior s x n ms on)) ∙ e))
-    (λ off. let v : (e : Entry) × (entries_at hi_behavior s x n ms ≡ e ∷ []) = an-entry hi_behavior s x n ms off refl in
-    let lists : v.0 ∷ external hi_behavior ms ≡ entry.Close (id.Conn 1) ∷ entry.Turned 1 ∷ entry.Given arrives ∷ entry.Given at_second_1 ∷ [] = ap (λ l. l ++ external hi_behavior ms) (sym v.1) ∙ e in
-    let tail : external hi_behavior ms ≡ entry.Turned 1 ∷ entry.Given arrives ∷ entry.Given at_second_1 ∷ [] = cc in
-    never-newest hi_behavior ms 1 _ tail)
-room (Everyone Stop ∷ ms) p e = cc
-room (Everyone (Moment t) ∷ ms) p e = cc
-room (TurnedAway c ∷ ms) p e =
-    let tail : external hi_behavior ms ≡ entry.Given at_second_1 ∷ [] = cc in
-    let none : open_connections ms ≡ 0 = none-open hi_behavior ms (subst NoArrival (sym tail) tt) in
-    let many : 512 ≤ open_connections ms = p.1.1 in
-    omega arith
-room (IdleGave g ∷ ms) p e = never-closes (closed_by g) g (external hi_behavior ms) _ e
-room (IdleClosed n ∷ ms) p e = cc
+  -- and no more is left of it where there is room
+  room : (b : Behavior J) → 0 < b.connections → (ms : List (GlobalAction J)) → IsPlain b ms
+      → external b ms ≡ entry.Close (id.Conn 1) ∷ entry.Turned 1 ∷ entry.Given arrives ∷ entry.Given at_second_1 ∷ [] → ⊥
+  room b some [] p e = cc
+  room b some (Of s (Keep k key idle size) None ∷ ms) p e = cc
+  room b some (Of s (Keep k key idle size) (Some m) ∷ ms) p e = cc
+  room b some (Of s x n ∷ ms) p e = by_test (is_internal x)
+      (λ on. room b some ms p.0 (ap (λ l. l ++ external b ms) (sym (no-entry b s x n ms on)) ∙ e))
+      (λ off. let v : (e : Entry) × (entries_at b s x n ms ≡ e ∷ []) = an-entry b s x n ms off refl in
+      let lists : v.0 ∷ external b ms ≡ entry.Close (id.Conn 1) ∷ entry.Turned 1 ∷ entry.Given arrives ∷ entry.Given at_second_1 ∷ [] = ap (λ l. l ++ external b ms) (sym v.1) ∙ e in
+      let tail : external b ms ≡ entry.Turned 1 ∷ entry.Given arrives ∷ entry.Given at_second_1 ∷ [] = cc in
+      never-newest b ms 1 _ tail)
+  room b some (Everyone Stop ∷ ms) p e = cc
+  room b some (Everyone (Moment t) ∷ ms) p e = cc
+  room b some (TurnedAway c ∷ ms) p e =
+      let tail : external b ms ≡ entry.Given at_second_1 ∷ [] = cc in
+      let none : open_connections ms ≡ 0 = none-open b ms (subst NoArrival (sym tail) tt) in
+      let many : b.connections ≤ open_connections ms = p.1.1 in
+      omega arith
+  room b some (IdleGave g ∷ ms) p e = never-closes (closed_by g) g (external b ms) _ e
+  room b some (IdleClosed n ∷ ms) p e = cc
+
+  never-turned-away : (b : Behavior J) → 0 < b.connections → (ms : List (GlobalAction J)) → IsPlain b ms → external b ms ≡ turned_away → ⊥
+  never-turned-away b some ms plain is =
+      let p : Peeled b ms (entry.Given event.Stop) (entry.Close (id.Conn 1) ∷ entry.Turned 1 ∷ entry.Given arrives ∷ entry.Given at_second_1 ∷ []) = peel b ms _ _ plain tt is in
+      room b some p.older (plain-below b p.above (p.top ∷ p.older) (subst (IsPlain b) p.whole plain)).0 p.rest
 
 pub unplain : (ms : List (GlobalAction NoJob)) → IsPlain hi_behavior ms → external hi_behavior ms ≡ turned_away → ⊥
-unplain ms plain is =
-    let p : Peeled hi_behavior ms (entry.Given event.Stop) (entry.Close (id.Conn 1) ∷ entry.Turned 1 ∷ entry.Given arrives ∷ entry.Given at_second_1 ∷ []) = peel hi_behavior ms _ _ plain tt is in
-    room p.older (plain-below hi_behavior p.above (p.top ∷ p.older) (subst (IsPlain hi_behavior) p.whole plain)).0 p.rest
+unplain = never-turned-away hi_behavior (lit< tt)
