@@ -8,7 +8,7 @@ ghost use Rattle.commands.specs.Saying.{said};
 use itoa::Buffer;
 
 /// What the program does.
-#[derive(Clone, Copy, Debug, PartialEq, Eq)]
+#[derive(Clone, Copy)]
 pub enum Mode {
     /// It reads the site, and says that it is one.
     Check,
@@ -19,7 +19,7 @@ pub enum Mode {
 }
 
 /// Which options a mode takes after `--conf F`; they stand in this order.
-#[derive(Clone, Copy, Debug)]
+#[derive(Clone, Copy)]
 struct Row {
     /// `--schedule F` stands there.
     has_schedule: bool,
@@ -65,7 +65,7 @@ impl Mode {
 }
 
 /// What the words ask for.
-#[derive(Clone, Copy, Debug)]
+#[derive(Clone, Copy)]
 pub struct Command<'a> {
     pub mode: Mode,
     /// The name of the configuration.
@@ -109,7 +109,7 @@ pub fn command_of(words: &[String]) -> Option<Command<'_>>
 }
 
 /// The value of an option, and the words after it.
-#[derive(Clone, Copy, Debug)]
+#[derive(Clone, Copy)]
 struct Valued<'a> {
     value: &'a str,
     rest: &'a [String],

@@ -38,7 +38,7 @@ impl Status {
 }
 
 /// How the work ended.
-#[derive(Debug, PartialEq, Eq, Drop)]
+#[derive(Drop)]
 pub enum Ending {
     Done,
     Usage,
