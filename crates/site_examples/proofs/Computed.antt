@@ -2,7 +2,7 @@
 use Rattle.std.proofs.Common.{◌≡◌, ℕ, Bool, true, false, List, ◌++◌, if◌then◌else◌, refl, sym, ap, ◌∙◌}
 use Rattle.std.proofs.Math.Path.{fun_ext}
 use Rattle.shared_rules.specs.Keys.{same_key}
-use Rattle.engine_examples.proofs.Same.{same-key}
+use Rattle.shared_rules.specs.KeyLaws.{same_key-eq}
 use Rattle.client_line.specs.Records.{At, Came, Head, Present, Dropping, Over}
 use Rattle.client_line.specs.Lines.{settled}
 use Rattle.client_line.specs.Feeding.{Fed, led, fed}
@@ -31,7 +31,7 @@ abbrev fed_so : Came → List ℕ → Fed
 fed_so before piece = let came = settled before.at (before.held ++ piece) in led_so came.at came.held
 
 at-head : (c : Bool) (bytes : List ℕ) → same_key bytes request ≡ c → (if c then known else led Head bytes) ≡ led Head bytes
-at-head true bytes h = known-is ∙ ap (led Head) (sym (same-key bytes request h))
+at-head true bytes h = known-is ∙ ap (led Head) (sym (same_key-eq bytes request h))
 at-head false bytes h = refl
 
 led-is : (at : At) (bytes : List ℕ) → led_so at bytes ≡ led at bytes

@@ -23,7 +23,7 @@ use Rattle.lua_meaning.specs.Setting.{Setting}
 use Rattle.lua_meaning.proofs.Running.{Does, Comes, node, stmt, exp, val, seq, look, count, end, park, resume, parks}
 use Rattle.ngx_calls.specs.Printing.{met_in}
 use Rattle.run_threads.specs.Handlers.{goes_on}
-use Rattle.execution_laws.proofs.OwnSteps.{by_test}
+use Rattle.resty_base.specs.BoolLaws.{by_test}
 use Rattle.site_examples.specs.Site.{hi, hi_store, says, with_steps, done_with}
 use Rattle.site_examples.specs.Program.{hi_setting}
 use Rattle.site_examples.specs.Lives.{IsItsLife, SaysOneLine}

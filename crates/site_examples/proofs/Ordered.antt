@@ -13,7 +13,8 @@ use Rattle.executions.specs.Histories.{external}
 use Rattle.executions.specs.Lawful.{IsLawful}
 use Rattle.executions.specs.Plain.{IsPlain}
 use Rattle.executions.specs.Ordered.{was_touched, MayDropLiving, IsOrdered}
-use Rattle.execution_laws.proofs.OwnSteps.{clash, by_test, is_own, none-at-rest, IsStill, still-none, still-at-rest}
+use Rattle.resty_base.specs.BoolLaws.{clash, by_test}
+use Rattle.execution_laws.proofs.OwnSteps.{is_own, none-at-rest, IsStill, still-none, still-at-rest}
 use Rattle.run_contract.specs.declared.stored.NoJob.{NoJob}
 use Rattle.site_examples.specs.Spoiled.{HasNoOrderedExecution}
 use Rattle.site_examples.proofs.Computed.{behavior, behavior-is, quiet}

@@ -16,7 +16,7 @@ use Rattle.executions.specs.Plain.{IsPlain, IsOfIdle}
 use Rattle.executions.specs.Lawful.{BeginsRight, IsGivenAtRest}
 use Rattle.shared_rules.specs.declared.sockets.Idle.{Idle}
 use Rattle.executions.specs.Sockets.{pool, event_socket, closed_by}
-use Rattle.execution_laws.proofs.OwnSteps.{clash, by_test}
+use Rattle.resty_base.specs.BoolLaws.{clash, by_test}
 
 -- what of the relations holds of every earlier part, too
 pub record Fine {J : Type 0} (b : Behavior J) (ms : List (GlobalAction J)) : Type 0 where

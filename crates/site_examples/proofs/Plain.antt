@@ -16,7 +16,7 @@ use Rattle.executions.specs.Sockets.{socket_at, closed_by}
 use Rattle.executions.specs.Histories.{closing, entries_at, entries_of, external}
 use Rattle.executions.specs.Counts.{open_connections}
 use Rattle.executions.specs.Plain.{IsPlain}
-use Rattle.execution_laws.proofs.OwnSteps.{by_test}
+use Rattle.resty_base.specs.BoolLaws.{by_test}
 use Rattle.run_contract.specs.declared.stored.NoJob.{NoJob}
 use Rattle.site_examples.specs.Site.{hi_behavior}
 use Rattle.site_examples.specs.Exchange.{at_second_1, arrives}

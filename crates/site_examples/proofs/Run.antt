@@ -27,7 +27,7 @@ use Rattle.ngx_calls.specs.Printing.{met_in}
 use Rattle.run_threads.specs.Handlers.{goes_on}
 use Rattle.site_examples.specs.Site.{hi_behavior}
 use Rattle.site_examples.specs.Exchange.{request, hi_reply, arrives, asks, lines, history, exchange, at_second_1 as at_second_1_event}
-use Rattle.execution_laws.proofs.OwnSteps.{clash}
+use Rattle.resty_base.specs.BoolLaws.{clash}
 use Rattle.site_examples.proofs.Computed.{behavior, behavior-is}
 
 -- what the client sees, step by step

@@ -7,7 +7,7 @@ use Rattle.resty_world.specs.Ids.{same_strand}
 use Rattle.strand_contract.specs.Actions.{LocalAction, Did, Told}
 use Rattle.executions.specs.Executions.{GlobalAction, Of, Everyone, TurnedAway, IdleGave, IdleClosed, projection}
 use Rattle.strand_contract.specs.Alone.{lives}
-use Rattle.execution_laws.proofs.OwnSteps.{clash, by_test}
+use Rattle.resty_base.specs.BoolLaws.{clash, by_test}
 
 abbrev pub client : StrandId
 client = strand.Conn 1

@@ -9,7 +9,7 @@ use Rattle.resty_world.specs.declared.schedule_line.SchedLine.TheVariants as lin
 use Rattle.schedule_text.specs.Fitting.{Fits, AllFit}
 use Rattle.schedule_text.specs.Accepted.{IsRead}
 use Rattle.schedule_text.specs.Ranges.{IsBytes}
-use Rattle.execution_laws.proofs.OwnSteps.{clash, by_test}
+use Rattle.resty_base.specs.BoolLaws.{clash, by_test}
 use Rattle.site_examples.specs.Exchange.{request, at_second_1, arrives, asks, lines}
 use Rattle.site_examples.specs.Texts.{schedule_text}
 

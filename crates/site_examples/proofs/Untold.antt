@@ -8,7 +8,7 @@ use Rattle.resty_world.specs.declared.schedule_line.SchedLine.{SchedLine}
 use Rattle.resty_world.specs.declared.schedule_line.SchedLine.TheVariants as line
 use Rattle.schedule.specs.Steps.{Step, Passed, Answered, Listened, AskedAtBadLine, AskedAtEnd, AreSteps, IsAnswer, is_skipped, given_by, history_of, lines_of}
 use Rattle.schedule.specs.Told.{IsTold}
-use Rattle.execution_laws.proofs.OwnSteps.{clash, by_test}
+use Rattle.resty_base.specs.BoolLaws.{clash, by_test}
 use Rattle.site_examples.specs.Exchange.{at_second_1, arrives, asks, lines}
 use Rattle.site_examples.specs.Spoiled.{not_asked}
 
