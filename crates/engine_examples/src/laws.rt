@@ -11,10 +11,13 @@ ghost use Rattle.executions.specs.Beginnings.{IsBeginning};
 ghost use Rattle.engine_examples.specs.Checks.{breaks, Alone, Begins, Rest, Kept, Plain, Ordered};
 ghost use Rattle.resty_base.specs.declared.dictionary.DictAnswer.{DictAnswer};
 ghost use Rattle.resty_base.specs.declared.dictionary.DictValue.{DictValue};
-ghost use Rattle.engine_examples.specs.Exchanges.{one_request, held_back, numbered, two_replies, read_as, two_idle, all_at_stop, socket_then_job, job_then_socket};
-ghost use Rattle.engine_examples.specs.Exchanges.{b, narrow, sleepers, sleepers_exchanged, runs_early, sleeps_zero, ends_at_once, counted, counted_history, reused};
+ghost use Rattle.engine_examples.specs.Exchanges.{one_request, held_back, numbered, two_replies, read_as, two_idle};
+ghost use Rattle.engine_examples.specs.Exchanges.{all_at_stop, socket_then_job, job_then_socket};
+ghost use Rattle.engine_examples.specs.Exchanges.{b, narrow, sleepers, sleepers_exchanged, runs_early, sleeps_zero, ends_at_once};
+ghost use Rattle.engine_examples.specs.Exchanges.{counted, counted_history, reused};
 ghost use Rattle.engine_examples.specs.Exchanges.{reused_history, idle_at_stop, idle_stays, took_none, started, started_history, started_early, premature};
-ghost use Rattle.engine_examples.specs.Exchanges.{wound_up, lives_on, never_started, dropped_by, line_then_socket, socket_then_line, others_between, none_between};
+ghost use Rattle.engine_examples.specs.Exchanges.{wound_up, lives_on, never_started, dropped_by};
+ghost use Rattle.engine_examples.specs.Exchanges.{line_then_socket, socket_then_line, others_between, none_between};
 ghost use Rattle.engine_examples.specs.Exchanges.{turned, not_turned, all_at_50, in_order, job_first, crowded, fails, put_off, offered_again, forgets};
 ghost use Rattle.engine_examples.specs.Exchanges.{jobs_at_stop, dropped_at_stop, dropped_by_others};
 
