@@ -26,4 +26,5 @@ IsItsLife =
 abbrev pub SaysOneLine : Type 0
 SaysOneLine =
     (head : Head) (target : Target)
-    → handled (says hi) hi_store (request.begun head target 0) ≡ record { req = after_print (request.begun head target 0) 3; pieces = codes "hi\n" ∷ []; end = Ended }
+    → handled (says hi) hi_store (request.begun head target 0)
+      ≡ record { req = after_print (request.begun head target 0) 3; pieces = codes "hi\n" ∷ []; end = Ended }
