@@ -27,4 +27,4 @@ abbrev pub SaysOneLine : Type 0
 SaysOneLine =
     (head : Head) (target : Target)
     → handled (says hi) hi_store (request.begun head target 0)
-      ≡ record { req = after_print (request.begun head target 0) 3; pieces = codes "hi\n" ∷ []; end = Ended }
+    ≡ record { req = after_print (request.begun head target 0) 3; pieces = codes "hi\n" ∷ []; end = Ended }
