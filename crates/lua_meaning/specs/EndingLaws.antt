@@ -10,7 +10,8 @@ use Rattle.lua_meaning.specs.DirectEquations.{with_values, with_body}
 
 -- the same after one and after the other, where each goes on alike
 pub values_then : (ev : Evaluator) (x : Ending) (f : List Value → Slots → Work) (go : List Value → Slots → State → Ending)
-    → ((vs : List Value) (s : Slots) (w : State) → do_work ev (f vs s) w ≡ go vs s w) → after x (λ sign s w. do_work ev (on_values f sign s) w) ≡ with_values x go
+    → ((vs : List Value) (s : Slots) (w : State) → do_work ev (f vs s) w ≡ go vs s w)
+    → after x (λ sign s w. do_work ev (on_values f sign s) w) ≡ with_values x go
 values_then ev (Ended (Values vs) s w) f go e = e vs s w
 values_then ev (Ended (Return vs) s w) f go e = refl
 values_then ev (Ended Break s w) f go e = refl

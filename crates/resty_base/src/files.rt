@@ -98,14 +98,13 @@ impl Files for MemFiles {
 
     ghost account = { account_of };
 
-    fn fetch(&mut self, alloc: Global, name: &str, max: usize) -> Fetched
+    fn fetch(&mut self, _alloc: Global, name: &str, max: usize) -> Fetched
         ensures answers { Answers name.now max result (account_of self.old) (account_of self.new) }
         ensures within { IsWithin max result }
         ensures failed { is_failed result ≡ fails_at self.old.failing.items (next_call self.old.calls) }
         ensures calls { self.new.calls ≡ next_call self.old.calls }
         ensures failing { self.new.failing ≡ self.old.failing }
     {
-        let _ = alloc;
         self.calls = self.calls.saturating_add(1);
         let call = self.calls;
         if self.failing.contains(&call) {
