@@ -1,6 +1,7 @@
 pub mod Ends
 pub mod Lines
 pub mod Framing
+pub mod Hosts
 pub mod Options
 pub mod Heads
 pub mod Standing

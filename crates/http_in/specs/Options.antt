@@ -1,15 +1,22 @@
 -- What else a head says: its host, whether the connection is kept, and whether the client waits for a 100 reply
 -- (RFC 9112, sections 3.2 and 9.3; RFC 9110, 10.1.1).
-use Rattle.std.specs.Prelude.{ℕ, Bool, not, ◌==◌, ◌&&◌, ◌||◌, List, length, nat_lt, codes}
+use Rattle.std.specs.Prelude.{ℕ, Bool, true, not, ◌==◌, ◌&&◌, ◌||◌, List, [], ◌∷◌, codes}
 use Rattle.std.specs.List.{list_any}
 use Rattle.resty_base.specs.declared.names.Pair2.{Pair2}
 use Rattle.http_base.specs.FieldLists.{values_of}
 use Rattle.http_base.specs.Names.{same_name}
 use Rattle.http_in.specs.Framing.{listed}
+use Rattle.http_in.specs.Hosts.{is_host}
 
--- there are two hosts, or none in 1.1
+-- there are two hosts, none in 1.1, or one that isn't what a host has to be
+abbrev pub are_bad_hosts : ℕ → List (List ℕ) → Bool
+are_bad_hosts minor [] = minor == 1
+are_bad_hosts minor (host ∷ []) = not (is_host host)
+are_bad_hosts minor (host ∷ other ∷ others) = true
+
+-- the same of a head's fields
 abbrev pub has_bad_host : ℕ → List Pair2 → Bool
-has_bad_host minor fields = let hosts = length (values_of fields (codes "host")) in nat_lt 1 hosts || ((minor == 1) && (hosts == 0))
+has_bad_host minor fields = are_bad_hosts minor (values_of fields (codes "host"))
 
 -- this word is one of them
 abbrev pub is_among : List ℕ → List (List ℕ) → Bool

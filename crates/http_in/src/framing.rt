@@ -127,7 +127,7 @@ fn is_length(text: &[u8]) -> bool
     !text.is_empty() && text.len() < 16 && are_digits(text)
 }
 
-fn are_digits(text: &[u8]) -> bool
+pub(crate) fn are_digits(text: &[u8]) -> bool
     ensures { result ≡ all_ascii_digits text.now }
 {
     for byte in text {

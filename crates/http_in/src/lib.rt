@@ -3,6 +3,7 @@
 
 mod framing;
 mod heads;
+mod hosts;
 mod laws;
 mod lines;
 mod options;

@@ -5,16 +5,21 @@ ghost use Rattle.http_base.specs.Lent.{texts};
 ghost use Rattle.http_in.specs.Options as spec;
 
 use crate::framing::listed;
+use crate::hosts::is_host;
 use http_base::{Fields, same_name};
 use resty_base::Bytes;
 use std::alloc::{AllocError, Global};
 
-/// Whether there are two hosts, or none in 1.1.
+/// Whether there are two hosts, none in 1.1, or one that isn't what a host has to be.
 pub(crate) fn has_bad_host(alloc: Global, minor: u8, fields: &Fields) -> Result<bool, AllocError>
     ensures { IfOk result (λ bad. bad ≡ spec.has_bad_host minor fields.now) }
 {
-    let hosts = fields.values_of(alloc, b"host")?.len();
-    Ok(hosts > 1 || (minor == 1 && hosts == 0))
+    let hosts = fields.values_of(alloc, b"host")?;
+    Ok(match hosts.as_slice() {
+        [] => minor == 1,
+        [host] => !is_host(host),
+        _ => true,
+    })
 }
 
 /// Whether the connection is kept after the reply.
