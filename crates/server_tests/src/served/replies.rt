@@ -15,6 +15,62 @@ bytes c1 "GET / HTTP/1.1\r\n\r\n"
 stop
 
 arrive c1
+bytes c1 "GET / HTTP/1.1\r\nHost: a b\r\n\r\n"
+> put c1 "<400>"
+> close c1
+arrive c2
+bytes c2 "GET / HTTP/1.1\r\nHost: a,b\r\n\r\n"
+> put c2 "<400>"
+> close c2
+arrive c3
+bytes c3 "GET / HTTP/1.1\r\nHost: a@b\r\n\r\n"
+> put c3 "<400>"
+> close c3
+arrive c4
+bytes c4 "GET / HTTP/1.1\r\nHost: a/b\r\n\r\n"
+> put c4 "<400>"
+> close c4
+arrive c5
+bytes c5 "GET / HTTP/1.1\r\nHost: a:b\r\n\r\n"
+> put c5 "<400>"
+> close c5
+arrive c6
+bytes c6 "GET / HTTP/1.1\r\nHost: a:1:2\r\n\r\n"
+> put c6 "<400>"
+> close c6
+arrive c7
+bytes c7 "GET / HTTP/1.1\r\nHost: [::1\r\n\r\n"
+> put c7 "<400>"
+> close c7
+arrive c8
+bytes c8 "GET / HTTP/1.1\r\nHost: [::1]a\r\n\r\n"
+> put c8 "<400>"
+> close c8
+arrive c9
+bytes c9 "GET / HTTP/1.1\r\nHost: [::1]:a\r\n\r\n"
+> put c9 "<400>"
+> close c9
+arrive c10
+bytes c10 "GET / HTTP/1.1\r\nHost: \xe9\r\n\r\n"
+> put c10 "<400>"
+> close c10
+stop
+
+arrive c1
+bytes c1 "GET / HTTP/1.1\r\nHost: \r\n\r\n"
+> put c1 "<keep><hi>"
+bytes c1 "GET / HTTP/1.1\r\nHost: a.b-c_d~%41:8080\r\n\r\n"
+> put c1 "<keep><hi>"
+bytes c1 "GET / HTTP/1.1\r\nHost: a:\r\n\r\n"
+> put c1 "<keep><hi>"
+bytes c1 "GET / HTTP/1.1\r\nHost: [::1]\r\n\r\n"
+> put c1 "<keep><hi>"
+bytes c1 "GET / HTTP/1.1\r\nHost: [::1]:80\r\n\r\n"
+> put c1 "<keep><hi>"
+stop
+> close c1
+
+arrive c1
 bytes c1 "GET /.. HTTP/1.1\r\nHost: a\r\n\r\n"
 > put c1 "<400>"
 > close c1
