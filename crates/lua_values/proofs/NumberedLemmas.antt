@@ -268,10 +268,6 @@ push-from n (w ∷ vs) v =
     let e : n + 1 + length vs ≡ n + suc (length vs) = omega arith in
     ap (λ qs. (number n, w) ∷ qs) (push-from (n + 1) vs v ∙ ap (λ m. numbered_from (n + 1) vs ++ (number m, v) ∷ []) e)
 
-pub none-empty : (ps : List (Value × Value)) → length ps ≡ 0 → ps ≡ []
-none-empty [] none = refl
-none-empty (p ∷ ps) none = absurd (omega arith)
-
 pub push-numbered : (vs : List Value) (ps : List (Value × Value)) (key v : Value) → ps ≡ [] → key ≡ number (length vs + 1)
     → numbered_from 1 (vs ++ v ∷ []) ++ ps ≡ (numbered_from 1 vs ++ ps) ++ (key, v) ∷ []
 push-numbered vs ps key v none is =

@@ -1,8 +1,9 @@
 //! How what comes next in a table and its border are found.
 
-ghost use Rattle.std.specs.Prelude.{◌≡◌, ◌+◌, ◌<◌, ◌≤◌, [], false, length, drop, IfOk, OnOk, OnErr};
+ghost use Rattle.std.specs.Prelude.{◌≡◌, ℕ, ◌+◌, ◌<◌, ◌≤◌, [], false, length, drop, IfOk, OnOk, OnErr};
 ghost use Rattle.lua_values.specs.Border.{border_of};
 ghost use Rattle.lua_values.specs.Pairs.{value_at, has_entry, with_value, first_live};
+ghost use Rattle.lua_values.specs.Flags.{flag_at};
 ghost use Rattle.lua_values.specs.TableFlags.{IsFlaggedTo, IsIndexed, IsOutline};
 ghost use Rattle.lua_values.specs.Values.{is_nil, number};
 
@@ -48,11 +49,24 @@ fn flag_pair(
     requires flagged { IsFlaggedTo pairs.now live.old holes.old index }
     ensures { OnOk result (IsFlaggedTo pairs.now live.new holes.new (index + 1)) }
 {
-    live.reach(index)?;
-    holes.reach(index)?;
+    reach(live, holes, index)?;
     live.set(index, !pairs.value(index).is_nil());
     holes.set(index, is_hole(pairs, index as u32 + 1));
     Ok(())
+}
+
+/// Has both flags at an index that may be the next.
+fn reach(live: &mut Flags, holes: &mut Flags, index: usize) -> Result<(), AllocError>
+    ensures live { (k : ℕ) → flag_at live.new k ≡ flag_at live.old k }
+    ensures holes { (k : ℕ) → flag_at holes.new k ≡ flag_at holes.old k }
+    ensures longer_live { length live.old ≤ length live.new }
+    ensures longer_holes { length holes.old ≤ length holes.new }
+    ensures few { OnOk result (length live.new ≤ 32_768) }
+    ensures reached_live { OnOk result (index ≤ length live.old → index < length live.new) }
+    ensures reached_holes { OnOk result (index ≤ length holes.old → index < length holes.new) }
+{
+    live.reach(index)?;
+    holes.reach(index)
 }
 
 /// Puts a new key last, with a value that isn't nil, among pairs that have their flags.
@@ -71,8 +85,7 @@ pub(crate) fn append_flagged(
     ensures kept { OnErr result (pairs.new ≡ pairs.old) }
 {
     let index = pairs.len();
-    live.reach(index)?;
-    holes.reach(index)?;
+    reach(live, holes, index)?;
     let hole = hole_of(&key, index);
     pairs.push(key, value)?;
     live.set(index, true);

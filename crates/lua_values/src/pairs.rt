@@ -178,10 +178,20 @@ impl Pairs {
         if self.len() >= MOST {
             return Err(AllocError);
         }
-        if self.others.is_empty() && is_next(&key, self.numbered.len()) {
-            self.numbered.push(value)?;
-            return Ok(());
+        if comes_next(&key, self.numbered.len(), &self.others) {
+            push_value(&mut self.numbered, value)
+        } else {
+            self.push_other(key, value)
         }
+    }
+
+    /// Puts a new key last in the map.
+    fn push_other(&mut self, key: Value, value: Value) -> Result<(), AllocError>
+        requires few { length self.old < 32_768 }
+        requires absent { has_entry self.old key ≡ false }
+        ensures done { OnOk result (self.new ≡ self.old ++ (key, value) ∷ []) }
+        ensures kept { OnErr result (self.new ≡ self.old) }
+    {
         let link = link_with(self.link, &key, self.others.len());
         match self.others.insert(key, value) {
             Ok(_) => {
@@ -201,7 +211,7 @@ impl Pairs {
         ensures kept { OnErr result (self.new ≡ self.old) }
     {
         let count = self.numbered.len();
-        if count >= MOST || !self.others.is_empty() || !is_next(key, count) {
+        if count >= MOST || !comes_next(key, count, &self.others) {
             return Err(value);
         }
         match self.numbered.push(value) {
@@ -385,6 +395,25 @@ fn set_whole(value: &mut Value, number: Whole) -> bool
             true
         }
     }
+}
+
+/// Whether a key is the number after so many, which are all that there are.
+fn comes_next(key: &Value, count: usize, others: &IndexMap<Value, Value>) -> bool
+    requires { count ≤ 32_768 }
+    ensures all { result ≡ true → others.now.entries ≡ [] }
+    ensures next { result ≡ true → key.now ≡ number (count + 1) }
+{
+    others.is_empty() && is_next(key, count)
+}
+
+/// Puts a value last in a list.
+fn push_value(values: &mut Vec<Value>, value: Value) -> Result<(), AllocError>
+    ensures done { OnOk result (values.new.items ≡ values.old.items ++ value ∷ []) }
+    ensures kept { OnErr result (values.new.items ≡ values.old.items) }
+    ensures few { length values.new.items ≤ length values.old.items + 1 }
+{
+    values.push(value)?;
+    Ok(())
 }
 
 /// Whether a key is the number after so many.

@@ -76,14 +76,12 @@ impl Store {
     pub fn new(alloc: Global) -> Result<Store, AllocError>
         ensures { IfOk result (λ store. store ≡ calls.new_store) }
     {
-        let mut tables = FreezableList::new(alloc)?;
-        tables.push(Table::new(alloc))?;
         Ok(Store {
+            closures: FreezableList::new(alloc)?,
+            cells: FreezableList::new(alloc)?,
+            tables: one_table(alloc)?,
             alloc,
             nil: Value::Nil,
-            tables,
-            cells: FreezableList::new(alloc)?,
-            closures: FreezableList::new(alloc)?,
             globals: 0,
             metatables: TypeMetatables::none(),
             units: TABLE_UNITS,
@@ -193,4 +191,13 @@ impl Store {
         self.cells.freeze();
         self.closures.freeze();
     }
+}
+
+/// A list of one table, which is empty.
+fn one_table(alloc: Global) -> Result<FreezableList<Table>, AllocError>
+    ensures { IfOk result (λ tables. tables ≡ record { items = calls.new_store.heap.tables; frozen = 0 }) }
+{
+    let mut tables = FreezableList::new(alloc)?;
+    tables.push(Table::new(alloc))?;
+    Ok(tables)
 }

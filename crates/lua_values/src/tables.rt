@@ -331,17 +331,49 @@ impl Table {
         ensures kept { OnErr result (self.new ≡ self.old) }
     {
         let moves = shift.moves();
-        let mut carried = self.taken(&shift.key(moves))?;
-        let first = self.taken(&shift.key(1))?;
-        self.put(shift.key(0), first)?;
+        let mut carried = self.moved(shift, moves - 1)?;
+        self.put_first(shift)?;
         for written in 1..moves {
-            let key = shift.key(moves - written);
-            match self.pairs.index_of(&key) {
-                Some(index) => carried = self.replace(index, &key, carried),
-                None => unreachable!(),
-            }
+            carried = self.exchange(shift, moves - written, carried);
         }
         Ok(())
+    }
+
+    /// The value that the i-th number of a shift gets.
+    fn moved(&self, shift: Shift, i: u64) -> Result<Value, AllocError>
+        requires shift { IsShift shift }
+        requires within { i < moves shift }
+        ensures { IfOk result (λ value. value ≡ moved self.now.pairs shift i) }
+    {
+        self.taken(&shift.key(i + 1))
+    }
+
+    /// Sets the first number of a shift to the value that it gets.
+    fn put_first(&mut self, shift: Shift) -> Result<(), AllocError>
+        requires { IsShift shift }
+        ensures done { OnOk result (self.new ≡ record {
+          pairs = with_value self.old.pairs (number (place shift 0)) (moved self.old.pairs shift 0);
+          meta = self.old.meta;
+        }) }
+        ensures kept { OnErr result (self.new ≡ self.old) }
+    {
+        let first = self.moved(shift, 0)?;
+        self.put(shift.key(0), first)
+    }
+
+    /// Sets the value at the i-th number of a shift, which has an entry, and gives the one that was there; takes no memory.
+    fn exchange(&mut self, shift: Shift, i: u64, value: Value) -> Value
+        requires shift { IsShift shift }
+        requires within { i ≤ moves shift }
+        requires there { has_entry self.old.pairs (number (place shift i)) ≡ true }
+        ensures done { self.new ≡ record { pairs = with_value self.old.pairs (number (place shift i)) value; meta = self.old.meta } }
+        ensures before { result ≡ value_at self.old.pairs (number (place shift i)) }
+    {
+        let key = shift.key(i);
+        match self.pairs.index_of(&key) {
+            Some(index) => self.replace(index, &key, value),
+            None => unreachable!(),
+        }
     }
 
     /// The table once the values of a shift have moved.
@@ -351,10 +383,22 @@ impl Table {
     {
         let mut table = self.clone()?;
         for i in 0..shift.moves() {
-            let value = self.taken(&shift.key(i + 1))?;
-            table.put(shift.key(i), value)?;
+            table.put_moved(self, shift, i)?;
         }
         Ok(table)
+    }
+
+    /// Sets the i-th number of a shift to the value that it gets, which stands in another table.
+    fn put_moved(&mut self, from: &Table, shift: Shift, i: u64) -> Result<(), AllocError>
+        requires shift { IsShift shift }
+        requires within { i < moves shift }
+        ensures { OnOk result (self.new ≡ record {
+          pairs = with_value self.old.pairs (number (place shift i)) (moved from.now.pairs shift i);
+          meta = self.old.meta;
+        }) }
+    {
+        let value = from.moved(shift, i)?;
+        self.put(shift.key(i), value)
     }
 
     /// Copies of the key and the value that come next after a key, and for nil of the first.
@@ -423,9 +467,9 @@ impl Clone for Table {
 
     fn clone(&self) -> Result<Table, AllocError> {
         Ok(Table {
-            pairs: self.pairs.clone()?,
             live: self.live.clone()?,
             holes: self.holes.clone()?,
+            pairs: self.pairs.clone()?,
             outline: self.outline,
             meta: self.meta,
         })

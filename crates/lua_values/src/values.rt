@@ -4,6 +4,7 @@ ghost use Rattle.std.specs.Prelude.{◌≡◌};
 
 use resty_base::{Bytes, Whole};
 use std::alloc::AllocError;
+use std::fmt::{self, Debug, Formatter, Write};
 use std::hash::{Hash, Hasher};
 use std::marker::Model;
 
@@ -18,7 +19,7 @@ pub enum ObjectKind {
 
 /// A Lua value. Tables and closures are numbers in a store, threads and objects are numbers of the run, and natives are
 /// numbers of the host's functions. `Null` is the host's null.
-#[derive(Debug, PartialEq, Eq, Drop)]
+#[derive(PartialEq, Eq, Drop)]
 pub enum Value {
     Nil,
     Truth(bool),
@@ -43,6 +44,24 @@ impl Value {
             Value::Nil => true,
             _ => false,
         }
+    }
+}
+
+/// Written as the name of its variant.
+impl Debug for Value {
+    fn fmt<W: Write>(&self, f: &mut Formatter<W>) -> fmt::Result {
+        f.write_str(match self {
+            Value::Nil => "Nil",
+            Value::Truth(_) => "Truth",
+            Value::Number(_) => "Number",
+            Value::Text(_) => "Text",
+            Value::Table(_) => "Table",
+            Value::Closure(_) => "Closure",
+            Value::Native(_) => "Native",
+            Value::Thread(_) => "Thread",
+            Value::Null => "Null",
+            Value::Object(_, _) => "Object",
+        })
     }
 }
 

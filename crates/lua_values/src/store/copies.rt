@@ -13,11 +13,11 @@ impl Store {
         ensures { IfOk result (λ copy. copy ≡ self.now) }
     {
         Ok(Store {
+            closures: self.closures.copy(self.alloc)?,
+            cells: self.cells.copy(self.alloc)?,
+            tables: self.tables.copy(self.alloc)?,
             alloc: self.alloc,
             nil: Value::Nil,
-            tables: self.tables.copy(self.alloc)?,
-            cells: self.cells.copy(self.alloc)?,
-            closures: self.closures.copy(self.alloc)?,
             globals: self.globals,
             metatables: self.metatables,
             units: self.units,

@@ -2,6 +2,7 @@
 
 ghost use Rattle.std.specs.Prelude.{◌≡◌, ◌≢◌, ◌<◌, ◌≤◌, ◌*◌, true, false, None, Some, Err, length, OnOk, OnErr, IfOk, IfErr};
 ghost use Rattle.lua_values.specs.Values.{is_nil};
+ghost use Rattle.lua_values.specs.declared.values.Value.{Value as LuaValue};
 ghost use Rattle.lua_values.specs.declared.values.Value.TheVariants.{Number, Text};
 ghost use Rattle.lua_values.specs.Pairs.{link_key, value_at, next_pair};
 ghost use Rattle.lua_values.specs.Border.{border_of};
@@ -164,12 +165,7 @@ impl Store {
         ensures kept { OnErr result (self.new ≡ self.old) }
         ensures without_memory { calls.takes_entry self.old.heap t key value ≡ false → result ≢ Err StoreFault.Memory }
     {
-        if key.is_nil() {
-            return Err(StoreFault::BadKey);
-        }
-        if (t as usize) < self.tables.frozen() {
-            return Err(StoreFault::Frozen);
-        }
+        self.may_set(t, &key)?;
         let index = t as usize;
         if self.takes_entry(t, &key, &value) {
             self.set_new_entry(index, key, value)
@@ -177,6 +173,21 @@ impl Store {
             self.set_without_new_entry(index, key, value);
             Ok(())
         }
+    }
+
+    /// Refuses a key that is nil, and a table that is frozen.
+    fn may_set(&self, t: u32, key: &Value) -> Result<(), StoreFault>
+        ensures key { OnOk result (is_nil key.now ≡ false) }
+        ensures unfrozen { OnOk result (self.now.heap.base.tables ≤ t) }
+        ensures cause { IfErr result (λ fault. (value : LuaValue) → calls.set_cause self.now.heap t key.now value ≡ Some fault) }
+    {
+        if key.is_nil() {
+            return Err(StoreFault::BadKey);
+        }
+        if (t as usize) < self.tables.frozen() {
+            return Err(StoreFault::Frozen);
+        }
+        Ok(())
     }
 
     /// Whether a table is there in which a value at the key needs a new entry.

@@ -6,6 +6,15 @@ use Rattle.lua_values.proofs.flags.flag_from.Goals as goal
 pub returns-then-from-flags : goal.returns-then-from-flags
 returns-then-from-flags c = grind (arith, common_steps)
 
+pub overflow_add-next : goal.overflow_add-next
+overflow_add-next c = grind (arith, common_steps)
+
+pub overflow_mul-next : goal.overflow_mul-next
+overflow_mul-next c = grind (arith, common_steps)
+
+pub overflow_mul-next-in-Some-block_from : goal.overflow_mul-next-in-Some-block_from
+overflow_mul-next-in-Some-block_from c = grind (arith, common_steps)
+
 pub returns-in-Some : goal.returns-in-Some
 returns-in-Some c = record { from = c.in-Some.ensures.first.1 }
 

@@ -1,32 +1,24 @@
-use Rattle.std.proofs.Common.{◌≡◌, ◌+◌, ◌<◌, false, length, sym, ap, ◌∙◌, arith}
+use Rattle.std.proofs.Common.{◌≡◌, ◌+◌, ◌<◌, ◌++◌, length, sym, ap, ◌∙◌, arith}
+use Rattle.std.proofs.lemmas.Result.{on_ok_weaker}
+use Rattle.lua_values.specs.Numbered.{numbered_from}
 use Rattle.lua_values.specs.Values.{number}
-use Rattle.lua_values.specs.Pairs.{has_entry}
-use Rattle.lua_values.proofs.NumberedLemmas.{counted, length-all, few-push, few-insert, link-put, none-empty, push-numbered, push-other}
+use Rattle.lua_values.proofs.NumberedLemmas.{counted, length-all, push-numbered}
 use Rattle.lua_values.proofs.pairs.Pairs.push.Goals as goal
+use Rattle.lua_values.proofs.pairs.Pairs.push.Goals.{in-Text+in-Some-3, in-Text+in-None-3, in-Nil-3}
 
-pub invariant_of-self-then-is_next : goal.invariant_of-self-then-is_next
-invariant_of-self-then-is_next c =
+pub invariant_of-self-then-comes_next-3 : goal.invariant_of-self-then-comes_next-3
+invariant_of-self-then-comes_next-3 c =
     let room : length c.self.inside.numbered.items + length c.self.inside.others.entries < 32_768 =
     omega (arith, length-all c.self.inside.numbered.items c.self.inside.others.entries, c.len.ensures.len ∙ ap length (sym c.self.view_is), c.if-len-ge-MOST.false) in
-    (rw c.in_ok-push.ensures.items (few-push c.self.inside.numbered.items c.args.value (length c.self.inside.others.entries) room), c.self.invariant.1)
+    (omega (arith, room, c.push_value.ensures.few), c.self.invariant.1)
 
-pub returns-then-is_next-clause-done : goal.returns-then-is_next-clause-done
-returns-then-is_next-clause-done c =
-    let is : c.args.key ≡ number (length c.self.inside.numbered.items + 1) = c.is_next.ensures c.if-is_next.true ∙ ap (λ n. number (n + 1)) (counted c.len-then-is_empty.result c.self.inside.numbered c.len-then-is_empty.ensures) in
-    rw (c.in_ok-push.ensures.items, ← c.self.view_is)
-    (push-numbered c.self.inside.numbered.items c.self.inside.others.entries c.args.key c.args.value (none-empty c.self.inside.others.entries (c.is_empty.ensures.0 c.if-is_empty.true)) is)
-
-pub invariant_of-self-in-Ok : goal.invariant_of-self-in-Ok
-invariant_of-self-in-Ok c =
-    let room : length c.self.inside.numbered.items + length c.self.inside.others.entries < 32_768 =
-    omega (arith, length-all c.self.inside.numbered.items c.self.inside.others.entries, c.len.ensures.len ∙ ap length (sym c.self.view_is), c.if-len-ge-MOST.false) in
-    let absent : has_entry c.args.self.now c.args.key ≡ false = c.requires in (
-      rw c.in-Ok.ensures.entries (few-insert (length c.self.inside.numbered.items) c.self.inside.others.entries c.args.key c.args.value room),
-      rw (c.in-Ok.ensures.entries, link-put c.self.inside.numbered.items c.self.inside.others.entries c.args.key c.args.value (ap (λ ps. has_entry ps c.args.key) c.self.view_is ∙ absent), ← c.self.invariant.1, ← c.len-2.ensures.len) c.link_with-link.ensures,
-    )
-
-pub returns-in-Ok-clause-done : goal.returns-in-Ok-clause-done
-returns-in-Ok-clause-done c =
-    let absent : has_entry c.args.self.now c.args.key ≡ false = c.requires in
-    rw (c.in-Ok.ensures.entries, ← c.self.view_is)
-    (push-other c.self.inside.numbered.items c.self.inside.others.entries c.args.key c.args.value (ap (λ ps. has_entry ps c.args.key) c.self.view_is ∙ absent))
+pub returns-then-comes_next-clause-done : goal.returns-then-comes_next-clause-done
+returns-then-comes_next-clause-done c =
+    let is : c.args.key ≡ number (length c.self.inside.numbered.items + 1) = c.comes_next.ensures.next c.if-comes_next.true ∙ ap (λ n. number (n + 1)) (counted c.len-2.result c.self.inside.numbered c.len-2.ensures) in
+    let view : c.match-key-3.self ≡ numbered_from 1 c.push_value.new.values.items ++ c.self.inside.others.entries = elim c.match-key-3.branch [
+      | in-Text+in-Some-3 w ↦ w.self-is
+      | in-Text+in-None-3 w ↦ w.self-is
+      | in-Nil-3 w ↦ w.self-is
+    ] in
+    on_ok_weaker c.push_value.result (λ items. view ∙ ap (λ vs. numbered_from 1 vs ++ c.self.inside.others.entries) items ∙ rw (← c.self.view_is)
+    (push-numbered c.self.inside.numbered.items c.self.inside.others.entries c.args.key c.args.value (c.comes_next.ensures.all c.if-comes_next.true) is)) c.push_value.ensures.done

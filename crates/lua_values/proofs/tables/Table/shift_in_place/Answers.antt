@@ -1,10 +1,8 @@
-use Rattle.std.proofs.Common.{◌≡◌, ◌+◌, ◌-◌, true, false, is_some, true≢false, arith, sym, ap, subst, ◌∙◌}
-use Rattle.lua_values.specs.declared.values.Value.{Value}
+use Rattle.std.proofs.Common.{◌≡◌, ◌+◌, ◌-◌, arith, refl, sym, ap, subst, ◌∙◌}
 use Rattle.lua_values.specs.Heap.{TableView}
 use Rattle.lua_values.specs.Values.{number}
 use Rattle.lua_values.specs.Pairs.{value_at, has_entry, with_value}
 use Rattle.lua_values.specs.Shifts.{place, moved}
-use Rattle.lua_values.proofs.EntryLemmas.{index-there}
 use Rattle.lua_values.proofs.ShiftLemmas.{Carries, carries-first, carries-next}
 use Rattle.lua_values.proofs.tables.Table.shift_in_place.Goals as goal
 
@@ -14,23 +12,18 @@ loop-written-init c =
     let shift = c.args.shift in
     let later = c.requires.shift.some in
     let last : c.moves-moves.result ≡ c.moves-moves.result - 1 + 1 = omega (arith, c.moves-moves.ensures) in
-    let first : c.in_ok-first.first ≡ moved ps shift 0 = c.in_ok-first.ensures ∙ ap (value_at ps) c.key-2.ensures in
-    let pairs : c.put.new.self.pairs ≡ with_value ps (number (place shift 0)) c.in_ok-first.first =
-    ap (λ (t : TableView). t.pairs) c.in_ok-put.ensures.done ∙ ap (λ (k : Value). with_value ps k c.in_ok-first.first) c.key-3.ensures in (
+    let pairs : c.put_first.new.self.pairs ≡ with_value ps (number (place shift 0)) (moved ps shift 0) = ap (λ (t : TableView). t.pairs) c.in_ok-put_first.ensures.done in (
       subst (λ qs. Carries ps qs shift (c.moves-moves.result - 1)) (sym pairs)
-          (carries-first ps shift c.in_ok-first.first (c.moves-moves.result - 1) c.requires.shift c.requires.sources first (sym last ∙ c.moves-moves.ensures)),
-      c.in_ok-carried.ensures ∙ ap (value_at ps) c.key.ensures ∙ ap (λ i. value_at ps (number (place shift i))) last,
-      ap (λ (t : TableView). t.meta) c.in_ok-put.ensures.done,
+          (carries-first ps shift (moved ps shift 0) (c.moves-moves.result - 1) c.requires.shift c.requires.sources refl (sym last ∙ c.moves-moves.ensures)),
+      c.in_ok-carried.ensures,
+      ap (λ (t : TableView). t.meta) c.in_ok-put_first.ensures.done,
     )
 
-pub unreachable-requires : goal.unreachable-requires
-unreachable-requires c =
+pub exchange-carried-requires-clause-there : goal.exchange-carried-requires-clause-there
+exchange-carried-requires-clause-there c =
     let last : c.moves-moves.result - c.loop-written.written ≡ c.moves-moves.result - (c.loop-written.written + 1) + 1 = omega (arith, c.loop-written-test.true) in
-    let key = c.key-key.ensures ∙ ap (λ i. number (place c.args.shift i)) last in
-    let there : has_entry c.loop-written.self.pairs c.key-key.result ≡ true =
-    ap (has_entry c.loop-written.self.pairs) key ∙ c.loop-written.invariant.0.entries (c.moves-moves.result - (c.loop-written.written + 1)) (omega (arith, c.loop-written-test.true)) in
-    let none : false ≡ has_entry c.self.inside.pairs c.key-key.result = ap is_some c.in-None.ensures.index ∙ index-there c.self.inside.pairs c.key-key.result in
-    true≢false (sym (none ∙ ap (λ (t : TableView). has_entry t.pairs c.key-key.result) c.self.view_is ∙ there))
+    ap (λ i. has_entry c.loop-written.self.pairs (number (place c.args.shift i))) last
+    ∙ c.loop-written.invariant.0.entries (c.moves-moves.result - (c.loop-written.written + 1)) (omega (arith, c.loop-written-test.true))
 
 pub loop-written-preserved : goal.loop-written-preserved
 loop-written-preserved c =
@@ -39,14 +32,13 @@ loop-written-preserved c =
     let shift = c.args.shift in
     let i = c.moves-moves.result - (c.loop-written.written + 1) in
     let last : c.moves-moves.result - c.loop-written.written ≡ c.moves-moves.result - (c.loop-written.written + 1) + 1 = omega (arith, c.loop-written-test.true) in
-    let key = c.key-key.ensures ∙ ap (λ i. number (place shift i)) last in
     let before : Carries ps qs shift (i + 1) = subst (Carries ps qs shift) last c.loop-written.invariant.0 in
-    let pairs : c.replace-carried.new.self.pairs ≡ with_value qs (number (place shift (i + 1))) c.loop-written.carried =
-    ap (λ (t : TableView). t.pairs) c.replace-carried.ensures.done ∙ ap (λ (k : Value). with_value qs k c.loop-written.carried) key in (
+    let pairs : c.exchange-carried.new.self.pairs ≡ with_value qs (number (place shift (i + 1))) c.loop-written.carried =
+    ap (λ (t : TableView). t.pairs) c.exchange-carried.ensures.done ∙ ap (λ j. with_value qs (number (place shift j)) c.loop-written.carried) last in (
       subst (λ rs. Carries ps rs shift i) (sym pairs)
           (carries-next ps qs shift c.loop-written.carried i c.requires.shift (omega (arith, c.loop-written-test.true, c.moves-moves.ensures)) before (c.loop-written.invariant.1 ∙ ap (moved ps shift) last)),
-      c.replace-carried.ensures.before ∙ ap (value_at qs) key ∙ before.values i (omega arith),
-      ap (λ (t : TableView). t.meta) c.replace-carried.ensures.done ∙ c.loop-written.invariant.2,
+      c.exchange-carried.ensures.before ∙ ap (λ j. value_at qs (number (place shift j))) last ∙ before.values i (omega arith),
+      ap (λ (t : TableView). t.meta) c.exchange-carried.ensures.done ∙ c.loop-written.invariant.2,
     )
 
 pub returns-clause-done : goal.returns-clause-done
