@@ -1,5 +1,5 @@
 -- Where a fault of a limit was found, that rule is broken there first.
-use Rattle.std.proofs.Common.{◌≡◌, ◌≤◌, ◌<◌, inl, inr, ℕ, Bool, List, [], ◌∷◌, sym, ap, subst, arith, ◌∙◌}
+use Rattle.std.proofs.Common.{◌≡◌, ◌≤◌, ◌<◌, inl, inr, ℕ, Bool, List, [], ◌∷◌, refl, sym, ap, subst, arith, ◌∙◌}
 use Rattle.lua_lexer.specs.declared.tokens.Token.{Token}
 use Rattle.lua_lexer.specs.declared.tokens.TokenKind.{TokenKind}
 use Rattle.lua_lexer.specs.declared.tokens.TokenKind.TheVariants.{Name as NameKind, Sign as SignKind, Text as TextKind}
@@ -19,11 +19,11 @@ use Rattle.lua_parser_base.specs.declared.nesting.Nesting.{Nesting}
 use Rattle.lua_parser_base.specs.declared.statement_nodes.FunctionName.{FunctionName}
 use Rattle.lua_parser_base.specs.declared.suffixes.Suffix.TheVariants.{Arguments}
 use Rattle.lua_parser_base.specs.Kinds.{IsSuffix}
-use Rattle.lua_parser_base.specs.Next.{Begin, CannotOpen, Ends, HasNoPart, IsLocals, IsOnLine, IsTooDeep, IsTooHigh, Misses, MissesMember, MissesName, OnAt, OnLocals, OnUpvalues, first_kind}
+use Rattle.lua_parser_base.specs.Next.{Begin, CannotOpen, Ends, HasNoPart, IsLocals, IsOnLine, IsTooDeep, IsTooHigh, Misses, MissesMember, MissesMemberBelow, MissesName, OnAt, OnLocals, OnUpvalues, first_kind}
 use Rattle.lua_parser_base.specs.Reads.{ReadsExp, ReadsPrefix}
 use Rattle.lua_parser_base.specs.ReadsStatements.{ReadsFuncName}
 use Rattle.lua_parser_base.specs.States.{GoesOn, OpensOnLine, State, Takes, TakesOperator, scope_of, state}
-use Rattle.lua_parser_base.specs.Standing.{Stands, Breaks, Construct, FirstFault, IsFirst, Within}
+use Rattle.lua_parser_base.specs.Standing.{Stands, Breaks, Construct, FirstFault, FirstFaultOfPrefix, IsFirst, Within}
 use Rattle.lua_parser_base.specs.Standing as standing
 
 -- ---- constructs
@@ -145,6 +145,14 @@ pub suffix_breaks : (kind : TokenKind) (at : Nesting) (line : ℕ) (p : Prefix) 
 suffix_breaks kind at line p s a b z (Depth reported) few goes taken high read = λ start stands.
     standing.prefix_too_high stands read (next_goes_on kind line a b taken (inside_goes_on kind goes)) (none_opens kind line a b goes taken) (next_line kind line reported a b taken high.1) high.0 few
 suffix_breaks kind at line p s a b z other few goes taken high read = absurd high
+
+-- a member
+pub prefix_member_breaks : (at : Nesting) (p : Prefix) (m t : State) (fault : ParseFault) → Few m.scope.enclosing → MissesMemberBelow at.room Dot p.height m t fault → FirstFaultOfPrefix at p m t fault
+prefix_member_breaks at p m t (At line) few (inl miss) = λ s read start stands. subst (Within start) (sym miss.same) (standing.after_prefix stands read)
+prefix_member_breaks at p m t (At line) few (inr (n, l, taken, miss, low)) = λ s read start stands. subst (Within start) (sym miss.same) (standing.after_dot stands read taken low)
+prefix_member_breaks at p m t (Depth line) few (taken, high) = λ s read. suffix_breaks (SignKind Dot) at line p s m t t (Depth line) few tt taken (high, refl) read
+prefix_member_breaks at p m t Memory few misses = λ s read start stands. tt
+prefix_member_breaks at p m t other few misses = absurd misses
 
 -- arguments
 args_line : (line reported : ℕ) (left : List Lexeme) → Begin (IsSuffix Arguments) left → line ≡ first_line left → reported ≡ line → IsOnLine reported left

@@ -17,13 +17,13 @@ use Rattle.lua_grammar.proofs.Dead.{dead_reads_no_chunk}
 use Rattle.lua_grammar.proofs.DeadParts.{dead_name, dead_close_parenthesis, dead_close_bracket}
 use Rattle.lua_parser_base.specs.declared.cursor.Parser.{Parser}
 use Rattle.lua_parser_base.specs.declared.faults.ParseFault.{ParseFault}
-use Rattle.lua_parser_base.specs.declared.faults.ParseFault.TheVariants.{At, Upvalues, Memory}
+use Rattle.lua_parser_base.specs.declared.faults.ParseFault.TheVariants.{At, Depth, Upvalues, Memory}
 use Rattle.lua_parser_base.specs.declared.nodes.Built.{Built}
 use Rattle.lua_parser_base.specs.declared.nodes.Prefix.{Prefix}
 use Rattle.lua_parser_base.specs.declared.nesting.Nesting.{Nesting}
 use Rattle.lua_parser_base.specs.States.{State, state, scope_of, Takes}
 use Rattle.lua_parser_base.specs.Nesting.{IsPart}
-use Rattle.lua_parser_base.specs.Next.{Begin, HasNoPart, IsKind, IsName, IsNext, IsTooHigh, Misses, OnAt, OnUpvalues, ahead}
+use Rattle.lua_parser_base.specs.Next.{Begin, HasNoPart, IsKind, IsName, IsNext, IsTooHigh, Misses, MissesMemberBelow, OnAt, OnUpvalues, ahead}
 use Rattle.lua_parser_base.specs.Reads.{ReadsExp, ReadsPrefix}
 use Rattle.lua_parser_base.specs.Readers.{Refuses, Supposes}
 use Rattle.lua_parser_base.specs.Refusals.{RefusesFrom, RefusesPrefix, RefusesSuffix, Unless}
@@ -138,6 +138,13 @@ pub member_no_name : (at : Nesting) (m n t : State) (p : Prefix) (line : ℕ) (f
 member_no_name at m n t p line fault taken missing = λ s read k h.
     refused_on (by_token (more_prefix read.tree k) (Sign sign.Dot) line m n taken)
     (no_name fault _ (λ l x. more_prefix (tree.member read.tree line l x) k) n t missing h)
+
+pub member_missed : (at : Nesting) (fault : ParseFault) (m t : State) (p : Prefix) → IsNext (Sign sign.Dot) m → MissesMemberBelow at.room sign.Dot p.height m t fault → RefusesSuffix at p m t fault
+member_missed at (At l) m t p next (inl miss) = absurd (miss.missing next)
+member_missed at (At l) m t p next (inr (n, line, taken, miss, low)) = member_no_name at m n t p line (At l) taken miss
+member_missed at (Depth l) m t p next (taken, high) = member_too_high at m t p l (Depth l) taken (high, refl)
+member_missed at Memory m t p next miss = λ s read k none. absurd none
+member_missed at other m t p next miss = absurd miss
 
 -- ---- `[key]`
 

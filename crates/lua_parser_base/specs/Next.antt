@@ -132,10 +132,14 @@ MissesName count s t (Locals line) = (name : List ℕ) × Takes (NameKind name) 
 MissesName count s t Memory = Unit {0}
 MissesName count s t other = ⊥
 
+-- that sign isn't next, or no name after it, or what stands before it isn't below that height
+abbrev pub MissesMemberBelow : ℕ → Sign → ℕ → State → State → ParseFault → Type 0
+MissesMemberBelow room sign height s t (At line) =
+    Misses (IsKind (SignKind sign)) s t line ⊎ ((m : State) × (at : ℕ) × Takes (SignKind sign) at s m × Misses IsName m t line × (height < room))
+MissesMemberBelow room sign height s t (Depth line) = Takes (SignKind sign) line s t × (room ≤ height)
+MissesMemberBelow room sign height s t Memory = Unit {0}
+MissesMemberBelow room sign height s t other = ⊥
+
 -- that sign isn't next, or no name after it, or what stands before it is too high already
 abbrev pub MissesMember : Sign → ℕ → State → State → ParseFault → Type 0
-MissesMember sign height s t (At line) =
-    Misses (IsKind (SignKind sign)) s t line ⊎ ((m : State) × (at : ℕ) × Takes (SignKind sign) at s m × Misses IsName m t line × (height < 4_000))
-MissesMember sign height s t (Depth line) = Takes (SignKind sign) line s t × (4_000 ≤ height)
-MissesMember sign height s t Memory = Unit {0}
-MissesMember sign height s t other = ⊥
+MissesMember = MissesMemberBelow 4_000

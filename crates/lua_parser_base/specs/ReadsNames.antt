@@ -2,6 +2,7 @@
 use Rattle.std.specs.Prelude.{◌≡◌, List, [], ◌∷◌, ◌++◌}
 use Rattle.lua_lexer.specs.declared.tokens.TokenKind.{TokenKind}
 use Rattle.lua_lexer.specs.declared.tokens.TokenKind.TheVariants.{Name as NameKind, Sign as SignKind}
+use Rattle.lua_lexer.specs.declared.signs.Sign.{Sign}
 use Rattle.lua_lexer.specs.declared.signs.Sign.TheVariants.{CloseParenthesis}
 use Rattle.lua_grammar.specs.Tree.{Line, Bytes, NameList, Params}
 use Rattle.lua_grammar.specs.Tree as tree
@@ -19,6 +20,12 @@ pub record TakesName (before : List Bytes) (s : State) (names : List Bytes) (t :
   pub name : Bytes
   pub taken : Takes (NameKind name) line s t
   pub listed : names ≡ before ++ name ∷ []
+
+-- a sign, and a name after it
+pub record TakesMember (sign : Sign) (dot : Line) (name : Bytes) (line : Line) (s t : State) : Type 0 where
+  pub middle : State
+  pub taken : Takes (SignKind sign) dot s middle
+  pub named : Takes (NameKind name) line middle t
 
 -- names with commas between them, which are put after others
 pub record ReadsNames (before : List Bytes) (s : State) (names : List Bytes) (t : State) : Type 0 where

@@ -16,12 +16,11 @@ ghost use Rattle.lua_parser_base.specs.StatementRefusals.{RefusesFuncName, Refus
 use crate::ParseFault;
 use crate::cursor::Parser;
 use crate::nesting::{HIGHEST, Nesting};
-use crate::nodes::member;
+use crate::nodes::{member, share};
 use crate::statement_nodes::FunctionName;
 use lua_ast::{Stmt, StmtKind};
 use lua_lexer::{Sign, Token, TokenKind, Word};
 use std::alloc::Global;
-use std::rc::Rc;
 
 /// What the next token begins.
 #[derive(Clone, Copy, PartialEq, Eq)]
@@ -107,12 +106,8 @@ impl Parser {
         ensures forward { OnOk result (Advances tokens.now self.old self.new) }
     {
         let FunctionName { target, height } = object;
-        let object = Rc::new(alloc, target)?;
-        let line = self.take_sign(tokens, sign)?;
-        if height >= HIGHEST {
-            return Err(ParseFault::Depth(line));
-        }
-        let named = self.take_name(tokens)?;
+        let object = share(alloc, target)?;
+        let (line, named) = self.take_member(tokens, sign, height, HIGHEST)?;
         Ok(FunctionName {
             target: member(alloc, object, line, named)?,
             height: height + 1,

@@ -1,5 +1,5 @@
 //! Where a function begins and ends, lists of names and parameters, and the locals that are declared.
-ghost use Rattle.std.specs.Prelude.{◌≡◌, ◌≤◌, ◌<◌, ◌+◌, ◌∷◌, [], length, slice_set, true, IfErr, IfOk, MatchResult, OnOk, vec_len};
+ghost use Rattle.std.specs.Prelude.{◌≡◌, ◌≤◌, ◌<◌, ◌+◌, ◌∷◌, ◌++◌, [], length, slice_set, true, IfErr, IfOk, MatchResult, OnOk, vec_len};
 ghost use Rattle.lua_grammar.specs.Grammar.{outside};
 ghost use Rattle.lua_grammar.specs.Limits.{Few};
 ghost use Rattle.lua_ast.specs.declared.programs.Function.{Function};
@@ -40,6 +40,7 @@ pub struct Begun {
 }
 
 impl Parser {
+    ghost use Rattle.lua_parser_base.specs.declared.functions.Parameters.{Parameters};
     ghost use Rattle.lua_parser_base.specs.Functions.{Enters, Ends};
     ghost use Rattle.lua_parser_base.specs.Standing.{FirstFault};
     ghost use Rattle.lua_parser_base.specs.Standing as Standing;
@@ -119,36 +120,39 @@ impl Parser {
         ensures order { IfErr result (FirstFault (Standing.parameters names.items) (state tokens.now self.old) (state tokens.now self.new)) }
         ensures forward { OnOk result (AdvancesOrStays tokens.now self.old self.new) }
     {
-        if self.at_sign(tokens, Sign::CloseParenthesis) {
-            return Ok(Parameters {
-                names,
-                vararg: false,
-            });
-        }
-        if self.at_sign(tokens, Sign::Ellipsis) {
-            self.take_sign(tokens, Sign::Ellipsis)?;
-            return Ok(Parameters {
-                names,
-                vararg: true,
-            });
-        }
         let mut names = names;
-        self.push_name(tokens, 0, &mut names)?;
-        while self.at_sign(tokens, Sign::Comma) {
-            self.take_sign(tokens, Sign::Comma)?;
-            if self.at_sign(tokens, Sign::Ellipsis) {
-                self.take_sign(tokens, Sign::Ellipsis)?;
-                return Ok(Parameters {
-                    names,
-                    vararg: true,
-                });
-            }
-            self.push_name(tokens, 0, &mut names)?;
+        let vararg = self.push_parameters(tokens, &mut names)?;
+        Ok(Parameters { names, vararg })
+    }
+
+    /// Reads parameters up to the `)`, puts their names after others, and returns whether `...` is the last of them.
+    fn push_parameters(
+        &mut self,
+        tokens: &[Token],
+        names: &mut Vec<Bytes>,
+    ) -> Result<bool, ParseFault>
+        requires { vec_len names.old ≤ 200 }
+        ensures few { OnOk result (vec_len names.new ≤ 200) }
+        ensures reads { IfOk result (λ vararg. (p : Parameters) → p.names.items ≡ names.new.items → p.vararg ≡ vararg
+            → ReadsParameters names.old.items (state tokens.now self.old) p (state tokens.now self.new)) }
+        ensures refuses { IfErr result (RefusesParameters names.old.items (state tokens.now self.old) (state tokens.now self.new)) }
+        ensures order { IfErr result (FirstFault (Standing.parameters names.old.items) (state tokens.now self.old) (state tokens.now self.new)) }
+        ensures forward { OnOk result (AdvancesOrStays tokens.now self.old self.new) }
+    {
+        if self.at_sign(tokens, Sign::CloseParenthesis) {
+            return Ok(false);
         }
-        Ok(Parameters {
-            names,
-            vararg: false,
-        })
+        if let Some(_) = self.skip_sign(tokens, Sign::Ellipsis) {
+            return Ok(true);
+        }
+        self.push_name(tokens, 0, names)?;
+        while let Some(_) = self.skip_sign(tokens, Sign::Comma) {
+            if let Some(_) = self.skip_sign(tokens, Sign::Ellipsis) {
+                return Ok(true);
+            }
+            self.push_name(tokens, 0, names)?;
+        }
+        Ok(false)
     }
 
     /// How many locals of the innermost function are in scope.
@@ -197,7 +201,7 @@ impl Parser {
     {
         let mut slots = Vec::new(alloc);
         for name in &names {
-            let slot = self.frame.declare(name.clone()?, line)?;
+            let slot = self.frame.declare_copy(name, line)?;
             slots.push(slot)?;
         }
         Ok(slots)
@@ -247,11 +251,8 @@ impl Parser {
         ensures line { self.new.line ≡ self.old.line }
     {
         let Parameters { names, vararg } = parameters;
-        let Ok(number) = u32::try_from(self.functions.len()) else {
-            return Err(ParseFault::Memory);
-        };
         let params = names.len() as u8;
-        self.functions.push(empty_function(alloc, line)?)?;
+        let number = self.number_function(alloc, line)?;
         let outer = mem::replace(&mut self.frame, Frame::with_parameters(alloc, names));
         self.enclosing.push(outer)?;
         Ok(Begun {
@@ -260,6 +261,23 @@ impl Parser {
             vararg,
             line,
         })
+    }
+
+    /// Makes room for a function that is being read, and returns its number.
+    fn number_function(&mut self, alloc: Global, line: u32) -> Result<u32, ParseFault>
+        ensures number { IfOk result (λ number. number ≡ length self.old.functions.items) }
+        ensures functions { OnOk result ((kept : Function) × (self.new.functions.items ≡ self.old.functions.items ++ kept ∷ [])) }
+        ensures memory { IfErr result IsMemory }
+        ensures frame { self.new.frame ≡ self.old.frame }
+        ensures enclosing { self.new.enclosing ≡ self.old.enclosing }
+        ensures index { self.new.index ≡ self.old.index }
+        ensures line { self.new.line ≡ self.old.line }
+    {
+        let Ok(number) = u32::try_from(self.functions.len()) else {
+            return Err(ParseFault::Memory);
+        };
+        self.functions.push(empty_function(alloc, line)?)?;
+        Ok(number)
     }
 
     /// Ends a function.

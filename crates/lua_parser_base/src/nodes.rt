@@ -324,6 +324,13 @@ pub fn binary(
     })
 }
 
+/// An expression, shared.
+pub(crate) fn share(alloc: Global, expr: Expr) -> Result<Rc<Expr>, ParseFault>
+    ensures { MatchResult result (λ shared. shared.value ≡ expr) IsMemory }
+{
+    Ok(Rc::new(alloc, expr)?)
+}
+
 /// Two expressions, each shared.
 pub(crate) fn both(
     alloc: Global,
@@ -332,8 +339,10 @@ pub(crate) fn both(
 ) -> Result<(Rc<Expr>, Rc<Expr>), ParseFault>
     ensures { MatchResult result (λ shared. (shared.0.value ≡ first) × (shared.1.value ≡ second)) IsMemory }
 {
-    let first = Rc::new(alloc, first)?;
-    Ok((first, Rc::new(alloc, second)?))
+    match (share(alloc, first), share(alloc, second)) {
+        (Ok(first), Ok(second)) => Ok((first, second)),
+        _ => Err(ParseFault::Memory),
+    }
 }
 
 /// What an operator between operands is.

@@ -115,6 +115,16 @@ impl Frame {
         self.slots = self.slots.max(slot + 1);
         Ok(slot as u8)
     }
+
+    /// Declares a local by a copy of that name, and returns its slot.
+    pub(crate) fn declare_copy(&mut self, name: &Bytes, line: u32) -> Result<u8, ParseFault>
+        ensures slot { IfOk result (λ slot. slot ≡ length self.old.locals.items) }
+        ensures frame { OnOk result (frame_of self.new ≡ with_locals (name.now ∷ []) (frame_of self.old)) }
+        ensures crowded { IfErr result (OnLocals (200 ≤ length self.old.locals.items)) }
+        ensures reported { IfErr result (IsLocals line) }
+    {
+        self.declare(name.clone()?, line)
+    }
 }
 
 /// The variable of that name that the function `frame` sees, with the functions that enclose it, the innermost last.

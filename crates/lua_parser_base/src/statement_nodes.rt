@@ -36,10 +36,13 @@ pub struct FunctionName {
 pub fn arm_node(alloc: Global, test: Expr, body: Vec<Stmt>) -> Result<Arm, ParseFault>
     ensures { MatchResult result (IsArm test body.items) IsMemory }
 {
-    Ok(Arm {
-        test,
-        body: Rc::new(alloc, body)?,
-    })
+    match Rc::new(alloc, body) {
+        Ok(body) => Ok(Arm { test, body }),
+        Err(_) => {
+            drop(test);
+            Err(ParseFault::Memory)
+        }
+    }
 }
 
 /// `if`, without statements of `else` where there is none.
@@ -107,19 +110,21 @@ pub fn numeric_for(
     let Range { from, to, step } = range;
     let LoopBlock { slots, body } = block;
     let slot = first_slot(&slots);
-    let ends = both(alloc, from, to)?;
-    let step = shared(alloc, step)?;
-    let body = Rc::new(alloc, body)?;
-    Ok(Stmt {
-        line,
-        kind: StmtKind::NumericFor {
-            slot,
-            from: ends.0,
-            to: ends.1,
-            step,
-            body,
-        },
-    })
+    let ends = both(alloc, from, to);
+    let step = shared(alloc, step);
+    match (ends, step, Rc::new(alloc, body)) {
+        (Ok((from, to)), Ok(step), Ok(body)) => Ok(Stmt {
+            line,
+            kind: StmtKind::NumericFor {
+                slot,
+                from,
+                to,
+                step,
+                body,
+            },
+        }),
+        _ => Err(ParseFault::Memory),
+    }
 }
 
 /// The first of the slots, 0 of none.

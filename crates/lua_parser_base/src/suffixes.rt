@@ -1,23 +1,23 @@
 //! What a prefix goes on with, and the separators and names of fields.
-ghost use Rattle.std.specs.Prelude.{◌≡◌, ◌↔◌, Some, slice_get, IfOk, IfErr, IsTrue, MatchOption, OnOk};
+ghost use Rattle.std.specs.Prelude.{◌≡◌, ◌<◌, ◌↔◌, Some, slice_get, IfOk, IfErr, IsTrue, MatchOption, OnOk};
 ghost use Rattle.lua_lexer.specs.declared.tokens.TokenKind.TheVariants.{Sign as SignKind};
 ghost use Rattle.lua_lexer.specs.declared.signs.Sign.TheVariants.{Dot, OpenParenthesis};
 ghost use Rattle.lua_grammar.specs.Grammar.{first_line};
 ghost use Rattle.lua_parser_base.specs.States.{state, Advances, TakesSeparator, OpensOnLine, GoesOn, Stops, IfErrWhere};
 ghost use Rattle.lua_parser_base.specs.Reads.{ReadsPrefix, Extends};
-ghost use Rattle.lua_parser_base.specs.Next.{Begin, CannotOpen, IsKind, IsNext, Misses, OnAt, IsNotNext};
+ghost use Rattle.lua_parser_base.specs.ReadsNames.{TakesMember};
+ghost use Rattle.lua_parser_base.specs.Next.{Begin, CannotOpen, IsKind, IsNext, Misses, MissesMemberBelow, OnAt, IsNotNext};
 ghost use Rattle.lua_parser_base.specs.Kinds.{BeginNamed, IsSeparator, IsSuffix};
 ghost use Rattle.lua_parser_base.specs.Refusals.{RefusesPrefix, RefusesSuffix};
 ghost use Rattle.lua_parser_base.specs.Standing.{FirstFault, FirstFaultOfPrefix};
 ghost use Rattle.lua_parser_base.specs.Standing as Standing;
 
 use crate::ParseFault;
-use crate::cursor::{Parser, is_name, is_sign};
+use crate::cursor::{Named, Parser, is_name, is_sign};
 use crate::nesting::Nesting;
-use crate::nodes::{Form, Prefix, member};
+use crate::nodes::{Form, Prefix, member, share};
 use lua_lexer::{Sign, Token, TokenKind};
 use std::alloc::Global;
-use std::rc::Rc;
 
 /// What may follow a prefix.
 #[derive(Clone, Copy, PartialEq, Eq)]
@@ -70,16 +70,33 @@ impl Parser {
         ensures forward { OnOk result (Advances tokens.now self.old self.new) }
     {
         let Prefix { expr, height, .. } = object;
-        let object = Rc::new(alloc, expr)?;
-        let dot = self.take_sign(tokens, Sign::Dot)?;
-        at.above(height, dot)?;
-        let named = self.take_name(tokens)?;
-        let height = height.saturating_add(1);
+        let object = share(alloc, expr)?;
+        let (dot, named) = self.take_member(tokens, Sign::Dot, height, at.room)?;
         Ok(Prefix {
             expr: member(alloc, object, dot, named)?,
-            height,
+            height: height.saturating_add(1),
             form: Form::Variable,
         })
+    }
+
+    /// Reads that sign and a name, and returns the sign's line with the name. What stands before the sign has that height, which is to be below `room`.
+    pub(crate) fn take_member(
+        &mut self,
+        tokens: &[Token],
+        sign: Sign,
+        height: u32,
+        room: u32,
+    ) -> Result<(u32, Named), ParseFault>
+        ensures takes { IfOk result (λ found. TakesMember sign found.0 found.1.name found.1.line (state tokens.now self.old) (state tokens.now self.new)) }
+        ensures low { OnOk result (height < room) }
+        ensures misses { IfErr result (MissesMemberBelow room sign height (state tokens.now self.old) (state tokens.now self.new)) }
+        ensures forward { OnOk result (Advances tokens.now self.old self.new) }
+    {
+        let line = self.take_sign(tokens, sign)?;
+        if height >= room {
+            return Err(ParseFault::Depth(line));
+        }
+        Ok((line, self.take_name(tokens)?))
     }
 
     /// The line of the next token, with which arguments may begin.

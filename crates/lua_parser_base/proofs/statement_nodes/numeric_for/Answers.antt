@@ -1,17 +1,18 @@
 use Rattle.std.proofs.Common.{refl, rules}
 use Rattle.lua_parser_base.proofs.statement_nodes.numeric_for.Goals as goal
 
-pub returns : goal.returns
-returns c = record {
-  slot = c.first_slot-slot.result;
-  from = c.in_ok-ends.ends.0;
-  to = c.in_ok-ends.ends.1;
-  step = c.in_ok-step.step;
-  run = c.in_ok-body.body;
-  first = search rules;
-  same_from = c.in_ok-ends.ensures.0;
-  same_to = c.in_ok-ends.ensures.1;
-  same_step = c.in_ok-step.ensures;
-  same_run = rw c.in_ok-body.ensures.ok refl;
-  built = refl;
-}
+pub returns-in-Ok-Ok-Ok : goal.returns-in-Ok-Ok-Ok
+returns-in-Ok-Ok-Ok c = let ends = rw c.in-Ok-Ok-Ok.is-0 at c.both-ends.ensures in
+    record {
+      slot = c.first_slot-slot.result;
+      from = c.in-Ok-Ok-Ok.from;
+      to = c.in-Ok-Ok-Ok.to;
+      step = c.in-Ok-Ok-Ok.step;
+      run = c.in-Ok-Ok-Ok.body;
+      first = search rules;
+      same_from = ends.0;
+      same_to = ends.1;
+      same_step = rw c.in-Ok-Ok-Ok.is-1 at c.shared-step.ensures;
+      same_run = rw c.in-Ok-Ok-Ok.ensures.ok refl;
+      built = refl;
+    }

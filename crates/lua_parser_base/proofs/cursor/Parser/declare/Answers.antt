@@ -22,10 +22,9 @@ loop-name-preserved c =
     let xs = c.deref-name-items.result.now in
     let i = c.loop-name.name-index in
     let inside : i < length xs = c.loop-name-test.true in
-    let copy : c.in_ok-clone.field-0 ≡ c.name-item.result = search rules in
     let longer = front_more xs i c.name-item.result c.name-item.result inside c.name-item.is in
-    let framed : frame_of c.declare.new.self ≡ with_locals (c.name-item.result ∷ []) (with_locals (take i xs) (frame_of c.args.self.now.frame)) =
-    (rw copy at c.in_ok-slot.ensures.frame) ∙ ap (with_locals (c.name-item.result ∷ [])) h.frame in
+    let framed : frame_of c.declare_copy.new.self ≡ with_locals (c.name-item.result ∷ []) (with_locals (take i xs) (frame_of c.args.self.now.frame)) =
+    c.in_ok-slot.ensures.frame ∙ ap (with_locals (c.name-item.result ∷ [])) h.frame in
     let index : c.in_ok-slot.slot ≡ length c.args.self.now.frame.locals.items + i =
     let l : c.loop-name.self.frame.locals.items ≡ c.args.self.now.frame.locals.items ++ take i xs = ap (λ f. f.locals) h.frame in
     c.in_ok-slot.ensures.slot ∙ rw (l, length-append c.args.self.now.frame.locals.items (take i xs), front_length xs i inside) refl
@@ -47,6 +46,3 @@ returns-in_err-slot c = grind (arith, common_steps)
 
 pub returns-in_err-push : goal.returns-in_err-push
 returns-in_err-push c = grind (arith, common_steps)
-
-pub returns-in_err-clone : goal.returns-in_err-clone
-returns-in_err-clone c = grind (arith, common_steps)

@@ -1,7 +1,7 @@
 use Rattle.std.proofs.Common.{◌-◌, ◌≤◌, length, vec_len}
 use Rattle.lua_parser_base.specs.States.{state, Advances}
 use Rattle.lua_parser_base.specs.ReadsNames.{ReadsNames}
-use Rattle.lua_parser_base.proofs.cursor.Parser.parameters.Given as goal
+use Rattle.lua_parser_base.proofs.cursor.Parser.push_parameters.Given as goal
 
 abbrev pub invariant-loop-self : goal.invariant-loop-self
 invariant-loop-self l = record {
