@@ -128,12 +128,11 @@ impl<R: ServiceContract> Connection<R> {
         ensures costs { runs.is_own_turn seen ≡ true → (self.old.run ≡ None → ⊥) →
             IfOk result (λ on. Pays R.left R.bound unit self.old turn.old self.new turn.new) }
     {
-        let Some(mut run) = self.run.take() else {
+        let Some(run) = &mut self.run else {
             return Ok(false);
         };
         self.waits = self.waits.told(&seen);
         let next = run.given(alloc, site, now, seen)?;
-        self.run = Some(run);
         self.adopt_turn(turn, site, now, next)
     }
 
@@ -153,11 +152,10 @@ impl<R: ServiceContract> Connection<R> {
             → Went (R.plan site.now) (R.holds site.now) (R.stands site.now) on did self.new turn.new m) }
         ensures costs { (self.old.run ≡ None → ⊥) → IfOk result (λ on. Pays R.left R.bound unit self.old turn.old self.new turn.new) }
     {
-        let Some(mut run) = self.run.take() else {
+        let Some(run) = &mut self.run else {
             return Ok(false);
         };
         let next = run.answer(alloc, site, now, answer)?;
-        self.run = Some(run);
         self.adopt_turn(turn, site, now, next)
     }
 }
