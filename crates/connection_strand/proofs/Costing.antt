@@ -118,6 +118,9 @@ module _ {R J : Type 0} (left : R → ℕ) (bound : ℕ) where
   pub ends-within : (n : ℕ) (c c' : Connection R) (u u' : Turn J) → Spends left bound n c u c' u' → Costs left bound n c u c' u'
   ends-within n c c' u u' h = let e = may-end left bound c' in omega arith
 
+  pub costs-more : (c c' : Connection R) (u u' : Turn J) → Costs left bound 0 c u c' u' → Costs left bound 5 c u c' u'
+  costs-more c c' u u' h = omega arith
+
   pub costs-after : (n m : ℕ) (c d c' : Connection R) (u v u' : Turn J) → Spends left bound n c u d v → Costs left bound m d v c' u' → Costs left bound (n + m) c u c' u'
   costs-after n m c d c' u v u' h k = omega arith
 

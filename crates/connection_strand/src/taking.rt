@@ -49,7 +49,7 @@ pub(crate) fn take_out(numbers: &mut Vec<u32>, number: u32)
 }
 
 impl<R: ServiceContract> Connection<R> {
-    ghost use Rattle.std.specs.Prelude.{◌++◌, ◌+◌, ◌*◌, length, true, IfOk, Some, None};
+    ghost use Rattle.std.specs.Prelude.{◌++◌, ◌∷◌, [], ◌+◌, ◌*◌, length, true, IfOk, Some, None};
     ghost use Rattle.run_contract.specs.Calls as runs;
     ghost use Rattle.strand_plans.specs.Moves.{Performed, Move};
     ghost use Rattle.connection_plan.specs.Services.{Both};
@@ -58,6 +58,19 @@ impl<R: ServiceContract> Connection<R> {
     ghost use Rattle.connection_strand.specs.Standing.{Went};
     ghost use Rattle.connection_strand.specs.Turns.{Told, Took, Answered};
     ghost use Rattle.connection_strand.specs.Acts.{done_of, question_in, sockets_after};
+
+    /// Makes an act of the run's turn its own.
+    fn adopt_act(&mut self, turn: &mut Turn<R::Job>, act: Act<R::Job>) -> Result<(), AllocError>
+        ensures acts { IfOk result (λ done. turn.new.acts.items ≡ turn.old.acts.items ++ act ∷ []) }
+        ensures offered { turn.new.is_offered ≡ turn.old.is_offered }
+        ensures sockets { self.new.sockets.items ≡ sockets_after (act ∷ []) self.old.sockets.items }
+        ensures kept { self.new ≡ record self.old { sockets = self.new.sockets } }
+    {
+        if let Act::HangUp(Place::Sock(number)) = &act {
+            take_out(&mut self.sockets, *number);
+        }
+        put(&mut turn.acts, act)
+    }
 
     /// Makes the acts of the run's turn its own, but for the question at their end.
     fn adopt_acts(
@@ -76,10 +89,7 @@ impl<R: ServiceContract> Connection<R> {
             if is_question(&act) {
                 return Ok(Some(act));
             }
-            if let Act::HangUp(Place::Sock(number)) = &act {
-                take_out(&mut self.sockets, *number);
-            }
-            turn.acts.push_back(act)?;
+            self.adopt_act(turn, act)?;
         }
         Ok(None)
     }
