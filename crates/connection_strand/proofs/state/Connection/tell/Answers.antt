@@ -1,4 +1,4 @@
-use Rattle.std.proofs.Common.{refl, sym, ◌∙◌}
+use Rattle.std.proofs.Common.{refl}
 use Rattle.strand_contract.proofs.Results.{if-ok}
 use Rattle.connection_strand.proofs.Telling.{told-takes, no-run}
 use Rattle.connection_plan.specs.Serving.{service_of}
