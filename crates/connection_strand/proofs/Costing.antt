@@ -118,11 +118,17 @@ module _ {R J : Type 0} (left : R → ℕ) (bound : ℕ) where
   pub ends-within : (n : ℕ) (c c' : Connection R) (u u' : Turn J) → Spends left bound n c u c' u' → Costs left bound n c u c' u'
   ends-within n c c' u u' h = let e = may-end left bound c' in omega arith
 
+  pub costs-more : (c c' : Connection R) (u u' : Turn J) → Costs left bound 0 c u c' u' → Costs left bound 5 c u c' u'
+  costs-more c c' u u' h = omega arith
+
   pub costs-after : (n m : ℕ) (c d c' : Connection R) (u v u' : Turn J) → Spends left bound n c u d v → Costs left bound m d v c' u' → Costs left bound (n + m) c u c' u'
   costs-after n m c d c' u v u' h k = omega arith
 
   pub spends-after : (n m : ℕ) (c d c' : Connection R) (u v u' : Turn J) → Spends left bound n c u d v → Spends left bound m d v c' u' → Spends left bound (n + m) c u c' u'
   spends-after n m c d c' u v u' h k = omega arith
+
+  pub spends-then : (n : ℕ) (c d c' : Connection R) (u v u' : Turn J) → Spends left bound 0 c u d v → Spends left bound n d v c' u' → Spends left bound n c u c' u'
+  spends-then n c d c' u v u' h k = omega arith
 
   pub pays-after : (n : ℕ) (c d c' : Connection R) (u v u' : Turn J) → Spends left bound 0 c u d v → Pays left bound n d v c' u' → Pays left bound n c u c' u'
   pays-after n c d c' u v u' h k = omega arith
@@ -130,9 +136,8 @@ module _ {R J : Type 0} (left : R → ℕ) (bound : ℕ) where
   pub settles-less : (c c' : Connection R) (u u' : Turn J) → Spends left bound 0 c u c' u' → Costs left bound 5 c u c' u'
   settles-less c c' u u' h = let n = may-end left bound c' in omega arith
 
-  pub loses-costs : (c d e f c' : Connection R) (u v w x u' : Turn J) → Spends left bound 0 c u d v → Spends left bound 0 d v e w → Spends left bound 0 e w f x → Pays left bound unit f x c' u'
-      → Costs left bound 0 c u c' u'
-  loses-costs c d e f c' u v w x u' h k l m = let n = may-end left bound c' in omega arith
+  pub loses-costs : (c d c' : Connection R) (u v u' : Turn J) → Spends left bound 0 c u d v → Pays left bound unit d v c' u' → Costs left bound 0 c u c' u'
+  loses-costs c d c' u v u' h k = let n = may-end left bound c' in omega arith
 
   pub settles-nothing : (c : Connection R) (u : Turn J) → Costs left bound 5 c u c u
   settles-nothing c u = let n = may-end left bound c in omega arith

@@ -155,9 +155,14 @@ module _ {R J : Type 0} (left : R → ℕ) (bound : ℕ) where
       by true e f = omega arith
       by false e f = omega arith
 
-  pub lost-falls : (c d e f c' : Connection R) (u v w x u' : Turn J) → Pays left bound 3 c u d v → Spends left bound 0 d v e w → Spends left bound 0 e w f x → Spends left bound 0 f x c' u'
-      → Falls left bound c u c' u'
-  lost-falls c d e f c' u v w x u' h k l m = let n = may-end left bound c' in omega arith
+  pub lost-falls : (c d c' : Connection R) (u v u' : Turn J) → Pays left bound 3 c u d v → Spends left bound 0 d v c' u' → Falls left bound c u c' u'
+  lost-falls c d c' u v u' h k = let n = may-end left bound c' in omega arith
+
+  pub lost-alone : (c d : Connection R) (u v : Turn J) → Pays left bound 3 c u d v → Falls left bound c u d v
+  lost-alone c d u v h = let n = may-end left bound d in omega arith
+
+  pub pays-on : (c d e f : Connection R) (u v w x : Turn J) → Pays left bound 3 c u d v → Spends left bound 0 d v e w → Spends left bound 0 e w f x → Pays left bound 3 c u f x
+  pays-on c d e f u v w x h k l = omega arith
 
   pub paid-spends : (n : ℕ) (c c' : Connection R) (u u' : Turn J) → Pays left bound n c u c' u' → Spends left bound 0 c u c' u'
   paid-spends n c c' u u' h = omega arith

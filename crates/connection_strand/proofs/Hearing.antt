@@ -219,7 +219,7 @@ module _ {R J I : Type 0} (site : Service J I) (holds : Ledger J → I → Type 
   abbrev pub Heard : ℕ → Bool → Move J (Both I) → LineOut → Moment J → Performed J (Both I) → Connection R → Turn J → Type 0
   Heard now anew rest answer e did c u = To e did c u (Look (λ b s. heard_by site now anew rest s.client.came s.client.ended answer))
 
-  abbrev heard-as : (now : ℕ) (anew : Bool) (rest : Move J (Both I)) (x y : LineOut) (e : Moment J) (did : Performed J (Both I)) (c : Connection R) (u : Turn J) → x ≡ y
+  abbrev pub heard-as : (now : ℕ) (anew : Bool) (rest : Move J (Both I)) (x y : LineOut) (e : Moment J) (did : Performed J (Both I)) (c : Connection R) (u : Turn J) → x ≡ y
       → Heard now anew rest x e did c u → Heard now anew rest y e did c u
   heard-as now anew rest x y e did c u is h = subst (λ (z : LineOut). Heard now anew rest z e did c u) is h
 

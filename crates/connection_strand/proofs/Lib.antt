@@ -22,4 +22,5 @@ pub mod Nexts
 pub mod Coming
 pub mod Bridge
 pub mod Turning
+pub mod Adopting
 pub mod Answering

@@ -177,9 +177,9 @@ module _ {R J : Type 0} (left : R → ℕ) (bound : ℕ) where
   -- ---- heads that are refused
 
   -- what the reply costs is paid for by that no more heads are read
-  pub refuses-costs : (n : ℕ) (times : Times) (c d e : Connection R) (u v : Turn J) → kept d.client ≡ record (kept c.client) { stage = stage.Flush; times = times; reply = Whole true }
-      → d.run ≡ c.run → d.sockets ≡ c.sockets → is_last (kept c.client).reply ≡ false → n < 2 ^ 64 → Spends left bound (16 * n + 1) d u e v → Spends left bound 0 c u e v
-  refuses-costs n times c d e u v client run socks last short h =
+  pub refuses-costs : (times : Times) (c d e : Connection R) (u v : Turn J) → kept d.client ≡ record (kept c.client) { stage = stage.Flush; times = times; reply = Whole true }
+      → d.run ≡ c.run → d.sockets ≡ c.sockets → is_last (kept c.client).reply ≡ false → Spends left bound unit d u e v → Spends left bound 0 c u e v
+  refuses-costs times c d e u v client run socks last h =
       let k = kept c.client in
       let y = run_left left bound c.run + length k.came.held * (bound + 2) in
       let is : whole left bound d ≡ unit * (y + 0) + client_left k + 2 * length c.sockets.items + 2 =
@@ -187,5 +187,4 @@ module _ {R J : Type 0} (left : R → ℕ) (bound : ℕ) where
       let was : whole left bound c ≡ unit * (y + 1) + client_left k + 2 * length c.sockets.items + 2 =
       λ i. unit * (y + weight_if (not (last i)) 1) + client_left k + 2 * length c.sockets.items + 2 in
       let f = unit-last y in
-      let g = unit-holds n short in
       omega arith

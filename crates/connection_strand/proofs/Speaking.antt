@@ -31,6 +31,15 @@ begun-is r e f = let x : stage.Begun ≡ Unsent = sym (ap reply_of e) ∙ f in c
 pub whole-is : (r : code.Reply) (closes : Bool) → r ≡ own.Whole closes → reply_of r ≡ Unsent → ⊥
 whole-is r closes e f = let x : stage.Whole closes ≡ Unsent = sym (ap reply_of e) ∙ f in cc
 
+-- a word that isn't the last
+pub goes-on-after : (word : Said) → (word ≡ said.Over → ⊥) → not (says_over (word ∷ [])) ≡ true
+goes-on-after (said.Send bytes) f = refl
+goes-on-after (said.WantsBody max) f = refl
+goes-on-after said.WantsNoBody f = refl
+goes-on-after said.WantsAllTaken f = refl
+goes-on-after (said.Ended closes) f = refl
+goes-on-after said.Over f = absurd (f refl)
+
 -- more of the body is to come, and may come
 abbrev pub may_come : Kept → Bool
 may_come k = k.opened && not k.ended && is_more (body_answer k.came k.limit)

@@ -166,6 +166,11 @@ module _ {R J I : Type 0} (plan : RunPlan J I) (holds : Ledger J → I → Type 
   SaidTo true says q over more did c u m = Toward (speaking q over) did c u (says more m)
   SaidTo false says q over more did c u m = Toward (asks_at stage.Flush q) did c u m
 
+  -- it said its last word by these
+  abbrev pub Silences : (Move J (Both I) → Move J (Both I)) → Connection R → Turn J → Connection R → Turn J → Type 0
+  Silences f c u c' u' = (q : Option (Question J)) (did : Performed J (Both I)) (m : Move J (Both I))
+      → Toward (speaking q true) did c u (f m) → Toward (asks_at stage.Flush q) did c' u' m
+
   -- it said this, before it says more
   abbrev pub SaysOn : Bool → (List Said → Move J (Both I) → Move J (Both I)) → Said → Connection R → Turn J → Connection R → Turn J → Type 0
   SaysOn on says word c u c' u' = (q : Option (Question J)) (over : Bool) (more : List Said) (did : Performed J (Both I)) (m : Move J (Both I))

@@ -148,6 +148,7 @@ impl Client {
     ghost use Rattle.client_line.specs.Lines.{after_asked, body_answer};
     ghost use Rattle.send_queue.specs.Queues as queues;
     ghost use Rattle.connection_plan.specs.Clients.{is_last};
+    ghost use Rattle.connection_plan.specs.Clients as stage;
     ghost use Rattle.connection_plan.specs.Turns.{is_more};
     ghost use Rattle.connection_plan.specs.Serving as serving;
     ghost use Rattle.connection_strand.specs.Kept.{kept, timer_of, fresh, with_armed, is_armed, all_taken, wants_offer, seen_of_body};
@@ -174,6 +175,17 @@ impl Client {
             is_waiting: false,
             is_sending: false,
         }
+    }
+
+    /// A request begins: its times, and whether the client waits for a 100 reply.
+    pub(crate) fn begin_request(&mut self, times: Times, expects: bool)
+        ensures { kept self.new ≡ record (kept self.old) { stage = stage.Busy; times = serving.times times; reply = stage.Unsent; expects = expects; waited = false } }
+    {
+        self.stage = Stage::Busy;
+        self.times = times;
+        self.reply = Reply::Unsent;
+        self.expects = expects;
+        self.waited = false;
     }
 
     /// The timer's deadline is armed, or not.

@@ -17,11 +17,12 @@ impl<R: ServiceContract> Connection<R> {
     ghost use Rattle.strand_contract.specs.declared.turns.Place.TheVariants as place;
     ghost use Rattle.client_line.specs.Lines.{held_in};
     ghost use Rattle.client_line.specs.Records as line;
+    ghost use Rattle.client_line.specs.declared.requests.LineOut.TheVariants as answer;
     ghost use Rattle.strand_plans.specs.Moves.{Done, Look, HangUp};
     ghost use Rattle.connection_plan.specs.Clients.{is_last};
     ghost use Rattle.connection_plan.specs.Clients as stage;
     ghost use Rattle.connection_plan.specs.Timers as timer;
-    ghost use Rattle.connection_plan.specs.Turns.{change, finish, lose, begin, begin_timer, end_timer, wait_for, refuse, heard_by, next};
+    ghost use Rattle.connection_plan.specs.Turns.{change, send, finish, lose, begin, begin_timer, end_timer, wait_for, refuse, heard_by, next};
     ghost use Rattle.connection_plan.specs.Serving.{service_of};
     ghost use Rattle.connection_strand.specs.Standing.{Goes, Ends, Hears, IsFree, IsAt, IsWithin};
     ghost use Rattle.connection_strand.specs.Kept.{kept, stage_of, timer_of};
@@ -73,6 +74,19 @@ impl<R: ServiceContract> Connection<R> {
         put(&mut turn.acts, Act::HangUp(Place::Client))
     }
 
+    /// The client is hung up, and nothing of it is waited for.
+    fn let_client_go(&mut self, turn: &mut Turn<R::Job>, site: &R::Site) -> Result<(), AllocError>
+        ensures moves { let service = service_of (R.plan site.now) (R.serving site.now) in IfOk result (λ done.
+            Goes (R.plan site.now) (R.holds site.now) (R.stands site.now)
+            (λ m. HangUp place.Client (end_timer service 0 timer.Body (end_timer service 0 timer.Send m))) self.old turn.old self.new turn.new) }
+        ensures costs { IfOk result (λ done. Spends R.left R.bound 0 self.old turn.old self.new turn.new) }
+        ensures pays { self.old.client.is_open ≡ true → IfOk result (λ done. Pays R.left R.bound 3 self.old turn.old self.new turn.new) }
+    {
+        self.hang_up(turn, site)?;
+        self.end_timer(turn, site, Timer::Body)?;
+        self.end_timer(turn, site, Timer::Send)
+    }
+
     /// The client of a run that goes on is lost: it is hung up, and the run is told so.
     fn lose_busy(
         &mut self,
@@ -87,9 +101,7 @@ impl<R: ServiceContract> Connection<R> {
         ensures costs { IfOk result (λ done. Costs R.left R.bound 0 self.old turn.old self.new turn.new) }
         ensures falls { self.old.client.is_open ≡ true → IfOk result (λ done. Falls R.left R.bound self.old turn.old self.new turn.new) }
     {
-        self.hang_up(turn, site)?;
-        self.end_timer(turn, site, Timer::Body)?;
-        self.end_timer(turn, site, Timer::Send)?;
+        self.let_client_go(turn, site)?;
         if self.waits.client {
             self.tell(turn, alloc, site, now, RunSeen::ClientGone)?;
         }
@@ -118,7 +130,7 @@ impl<R: ServiceContract> Connection<R> {
         }
     }
 
-    /// A request begins, and its run takes its first turn. It reports whether the turn goes on.
+    /// A head came: a request begins, and its run takes its first turn. It reports whether the turn goes on.
     fn begin_request(
         &mut self,
         turn: &mut Turn<R::Job>,
@@ -129,18 +141,36 @@ impl<R: ServiceContract> Connection<R> {
         target: Target,
     ) -> Result<bool, AllocError>
         ensures moves { IfOk result (λ on. Hears (R.plan site.now) (R.holds site.now) (R.stands site.now) on
-            (λ rest. begin (service_of (R.plan site.now) (R.serving site.now)) now.0 rest head target) self.old turn.old self.new turn.new) }
+            (λ rest. let service = service_of (R.plan site.now) (R.serving site.now) in
+            end_timer service now.0 timer.Header (begin service now.0 rest head target)) self.old turn.old self.new turn.new) }
         ensures costs { IfOk result (λ done. Spends R.left R.bound (unit * (R.bound + 1)) self.old turn.old self.new turn.new) }
     {
-        self.client.stage = Stage::Busy;
-        self.client.times = R::times_of(site, &head, &target);
-        self.client.reply = Reply::Unsent;
-        self.client.expects = head.expects;
-        self.client.waited = false;
+        let times = R::times_of(site, &head, &target);
+        let expects = head.expects;
         let (run, first) = R::begin(alloc, site, now, self.count, head, target)?;
+        self.end_timer(turn, site, Timer::Header)?;
+        self.client.begin_request(times, expects);
         self.run = Some(run);
         self.waits = Waits::at_first(true);
         self.adopt_turn(turn, site, now, first)
+    }
+
+    /// Sends the reply to a head that is refused.
+    fn send_refusal(
+        &mut self,
+        turn: &mut Turn<R::Job>,
+        alloc: Global,
+        site: &R::Site,
+        now: Ms,
+        code: u16,
+    ) -> Result<(), AllocError>
+        ensures moves { let service = service_of (R.plan site.now) (R.serving site.now) in IfOk result (λ done.
+            Goes (R.plan site.now) (R.holds site.now) (R.stands site.now) (send service 0 (service.refusal code now.0)) self.old turn.old self.new turn.new) }
+        ensures costs { IfOk result (λ done. Spends R.left R.bound unit self.old turn.old self.new turn.new) }
+    {
+        let reply = R::refusal(alloc, site, code, now)?;
+        let _ = reply.len();
+        self.send(turn, site, &reply)
     }
 
     /// The client gets the reply to a head that is refused, and the connection closes once that is taken.
@@ -159,9 +189,7 @@ impl<R: ServiceContract> Connection<R> {
         self.client.stage = Stage::Flush;
         self.client.times = R::default_times(site);
         self.client.reply = Reply::Whole(true);
-        let reply = R::refusal(alloc, site, code, now)?;
-        let _ = reply.len();
-        self.send(turn, site, &reply)?;
+        self.send_refusal(turn, alloc, site, now, code)?;
         if self.client.is_all_taken() {
             return self.finish(turn, site);
         }
@@ -228,6 +256,27 @@ impl<R: ServiceContract> Connection<R> {
         }
     }
 
+    /// More is waited for: a timer begins, or goes on; a client that ended is hung up.
+    fn hear_no_more(
+        &mut self,
+        turn: &mut Turn<R::Job>,
+        site: &R::Site,
+        now: Ms,
+        anew: bool,
+    ) -> Result<bool, AllocError>
+        ensures moves { IfOk result (λ on. Hears (R.plan site.now) (R.holds site.now) (R.stands site.now) on
+            (λ rest. Look (λ b s. heard_by (service_of (R.plan site.now) (R.serving site.now)) now.0 anew rest s.client.came s.client.ended answer.Waiting))
+            self.old turn.old self.new turn.new) }
+        ensures costs { IfOk result (λ on. Heard R.left R.bound answer.Waiting on self.old turn.old self.new turn.new) }
+    {
+        if self.client.has_ended {
+            self.finish(turn, site)?;
+        } else if anew {
+            self.wait(turn, site, now)?;
+        }
+        Ok(false)
+    }
+
     /// What came was answered so. Where more is waited for, a timer begins, or goes on; a client that ended is hung up.
     pub(crate) fn heard(
         &mut self,
@@ -246,21 +295,13 @@ impl<R: ServiceContract> Connection<R> {
     {
         match out {
             LineOut::Request(head, target) => {
-                self.end_timer(turn, site, Timer::Header)?;
                 self.begin_request(turn, alloc, site, now, head, target)
             }
             LineOut::Refused(code) => {
                 self.refuse(turn, alloc, site, now, code)?;
                 Ok(false)
             }
-            LineOut::Waiting => {
-                if self.client.has_ended {
-                    self.finish(turn, site)?;
-                } else if anew {
-                    self.wait(turn, site, now)?;
-                }
-                Ok(false)
-            }
+            LineOut::Waiting => self.hear_no_more(turn, site, now, anew),
             LineOut::Memory => Err(AllocError),
         }
     }

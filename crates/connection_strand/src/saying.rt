@@ -18,12 +18,14 @@ fn continue_reply() -> Bytes
 }
 
 impl<R: ServiceContract> Connection<R> {
-    ghost use Rattle.std.specs.Prelude.{IfOk, ◌*◌, length};
+    ghost use Rattle.std.specs.Prelude.{IfOk, not, ◌∷◌, [], ◌*◌, length};
+    ghost use Rattle.run_contract.specs.declared.turns.Said.TheVariants as said;
+    ghost use Rattle.run_contract.specs.Runs.{says_over};
     ghost use Rattle.strand_plans.specs.Moves.{Look};
     ghost use Rattle.connection_plan.specs.Turns.{let_send, await_body, says};
     ghost use Rattle.connection_plan.specs.Serving.{service_of};
     ghost use Rattle.connection_strand.specs.Costs.{unit, Spends};
-    ghost use Rattle.connection_strand.specs.Standing.{Goes, Speaks, Says, SaysOn};
+    ghost use Rattle.connection_strand.specs.Standing.{Goes, Speaks, Silences, Says, SaysOn};
 
     /// While nothing of the reply was sent, the first wait for more of a body lets the client send it.
     pub(crate) fn let_send(
@@ -68,15 +70,27 @@ impl<R: ServiceContract> Connection<R> {
         Ok(())
     }
 
-    /// The run says this. It reports whether what it says then counts: after the end it doesn't.
+    /// Nothing of the run is left to be done.
+    fn end_run(&mut self, turn: &mut Turn<R::Job>, site: &R::Site) -> Result<(), AllocError>
+        ensures moves { IfOk result (λ done. Silences (R.plan site.now) (R.holds site.now) (R.stands site.now)
+            (says (service_of (R.plan site.now) (R.serving site.now)) 0 (said.Over ∷ [])) self.old turn.old self.new turn.new) }
+        ensures costs { IfOk result (λ done. Spends R.left R.bound unit self.old turn.old self.new turn.new) }
+    {
+        self.end_timer(turn, site, Timer::Body)?;
+        self.client.stage = Stage::Flush;
+        self.run = None;
+        Ok(())
+    }
+
+    /// The run says this.
     fn say(
         &mut self,
         turn: &mut Turn<R::Job>,
         site: &R::Site,
         now: Ms,
         word: &Said,
-    ) -> Result<bool, AllocError>
-        ensures moves { IfOk result (λ on. SaysOn (R.plan site.now) (R.holds site.now) (R.stands site.now) on
+    ) -> Result<(), AllocError>
+        ensures moves { IfOk result (λ done. SaysOn (R.plan site.now) (R.holds site.now) (R.stands site.now) (not (says_over (word.now ∷ [])))
             (says (service_of (R.plan site.now) (R.serving site.now)) now.0) word.now self.old turn.old self.new turn.new) }
         ensures costs { IfOk result (λ done. Spends R.left R.bound unit self.old turn.old self.new turn.new) }
     {
@@ -84,26 +98,23 @@ impl<R: ServiceContract> Connection<R> {
             Said::Send(bytes) => {
                 let _ = bytes.len();
                 self.client.reply = self.client.reply.begun();
-                self.send(turn, site, bytes)?;
+                self.send(turn, site, bytes)
             }
             Said::WantsBody(max) => {
                 self.client.limit = *max;
-                self.await_body(turn, site, now)?;
+                self.await_body(turn, site, now)
             }
-            Said::WantsNoBody => self.end_timer(turn, site, Timer::Body)?,
-            Said::WantsAllTaken => {}
-            Said::Ended(closes) => self.client.reply = Reply::Whole(*closes),
-            Said::Over => {
-                self.end_timer(turn, site, Timer::Body)?;
-                self.client.stage = Stage::Flush;
-                self.run = None;
-                return Ok(false);
+            Said::WantsNoBody => self.end_timer(turn, site, Timer::Body),
+            Said::WantsAllTaken => Ok(()),
+            Said::Ended(closes) => {
+                self.client.reply = Reply::Whole(*closes);
+                Ok(())
             }
+            Said::Over => self.end_run(turn, site),
         }
-        Ok(true)
     }
 
-    /// The run says these.
+    /// The run says these; what would come after the end doesn't count.
     pub(crate) fn says(
         &mut self,
         turn: &mut Turn<R::Job>,
@@ -117,10 +128,11 @@ impl<R: ServiceContract> Connection<R> {
     {
         let mut rest = words;
         while let [word, others @ ..] = rest {
-            if !self.say(turn, site, now, word)? {
-                return Ok(());
+            self.say(turn, site, now, word)?;
+            match word {
+                Said::Over => return Ok(()),
+                _ => rest = others,
             }
-            rest = others;
         }
         Ok(())
     }

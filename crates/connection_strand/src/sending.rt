@@ -16,7 +16,7 @@ impl<R: ServiceContract> Connection<R> {
     ghost use Rattle.connection_strand.specs.Standing.{Goes};
 
     /// Asks for an offer, where something is left, the client takes bytes, and no offer is queued or goes on.
-    pub(crate) fn offer(
+    pub(crate) fn ask_for_offer(
         &mut self,
         turn: &mut Turn<R::Job>,
         _site: &R::Site,
@@ -47,6 +47,6 @@ impl<R: ServiceContract> Connection<R> {
             return Ok(());
         }
         self.client.line.queue(bytes)?;
-        self.offer(turn, site)
+        self.ask_for_offer(turn, site)
     }
 }

@@ -8,13 +8,34 @@ use run_contract::RunSeen;
 use std::alloc::{AllocError, Global};
 
 impl<R: ServiceContract> Connection<R> {
-    ghost use Rattle.std.specs.Prelude.{◌≡◌, true, IfOk};
+    ghost use Rattle.std.specs.Prelude.{◌≡◌, true, IfOk, Some};
     ghost use Rattle.strand_plans.specs.Moves.{Look};
-    ghost use Rattle.connection_plan.specs.Turns.{busy, ask_body, flush, settle};
+    ghost use Rattle.connection_plan.specs.Turns.{busy, ask_body, tell_body, flush, settle};
     ghost use Rattle.connection_plan.specs.Clients as stage;
     ghost use Rattle.connection_plan.specs.Serving.{service_of};
-    ghost use Rattle.connection_strand.specs.Costs.{Costs, Settles};
+    ghost use Rattle.connection_strand.specs.Costs.{unit, Pays, Costs, Settles};
+    ghost use Rattle.connection_strand.specs.Kept.{Kept, seen_of_body};
     ghost use Rattle.connection_strand.specs.Standing.{Ends, GoesOn, Hears, Steps, IsAt, IsWithin};
+
+    /// The run is told this of the body that it waits for.
+    fn tell_body(
+        &mut self,
+        turn: &mut Turn<R::Job>,
+        alloc: Global,
+        site: &R::Site,
+        now: Ms,
+        seen: RunSeen,
+    ) -> Result<bool, AllocError>
+        requires within { IsAt (R.plan site.now) (R.holds site.now) (R.stands site.now) stage.Busy self.old turn.old }
+        requires body { self.old.waits.body ≡ true }
+        requires seen { (client : Kept) × (seen_of_body client ≡ Some seen) }
+        ensures moves { IfOk result (λ on. GoesOn (R.plan site.now) (R.holds site.now) (R.stands site.now) stage.Busy on
+            (λ again. tell_body (service_of (R.plan site.now) (R.serving site.now)) now.0 again (Some seen)) self.old turn.old self.new turn.new) }
+        ensures costs { IfOk result (λ on. Pays R.left R.bound unit self.old turn.old self.new turn.new) }
+    {
+        self.end_timer(turn, site, Timer::Body)?;
+        self.tell(turn, alloc, site, now, seen)
+    }
 
     /// The run gets the body that it waits for, or its refusal, unless more may come.
     fn ask_body(
@@ -31,10 +52,7 @@ impl<R: ServiceContract> Connection<R> {
         ensures costs { IfOk result (λ on. Settles R.left R.bound on self.old turn.old self.new turn.new) }
     {
         match self.client.body_seen(alloc)? {
-            Some(seen) => {
-                self.end_timer(turn, site, Timer::Body)?;
-                self.tell(turn, alloc, site, now, seen)
-            }
+            Some(seen) => self.tell_body(turn, alloc, site, now, seen),
             None => Ok(false),
         }
     }

@@ -75,13 +75,8 @@ impl<R: ServiceContract> Connection<R> {
                 self.settle_all(turn, alloc, site, now)
             }
             Stage::Head => self.hear(turn, alloc, site, now, false, out),
-            Stage::Idle => self.hear(turn, alloc, site, now, true, out),
-            Stage::Drop => self.hear(turn, alloc, site, now, true, out),
-            Stage::Flush => {
-                let_go(out);
-                Ok(())
-            }
-            Stage::Over => {
+            Stage::Idle | Stage::Drop => self.hear(turn, alloc, site, now, true, out),
+            Stage::Flush | Stage::Over => {
                 let_go(out);
                 Ok(())
             }
@@ -146,7 +141,7 @@ impl<R: ServiceContract> Connection<R> {
     {
         self.client.is_put_off = false;
         self.end_timer(turn, site, Timer::Send)?;
-        self.offer(turn, site)
+        self.ask_for_offer(turn, site)
     }
 
     /// The client took so many of the bytes that it was offered.

@@ -1,6 +1,7 @@
 //! The connection meets the contract of a strand: what it is shown, and the answers that it gets.
 
 ghost use Rattle.std.specs.Prelude.{◌≡◌};
+ghost use Rattle.connection_strand.specs.Following.{is_client};
 ghost use Rattle.connection_strand.specs.Shown.{takes_as};
 
 use crate::client::{Client, Stage, Timer};
@@ -16,6 +17,13 @@ use strand_contract::{Acts, Answer, Place, Seen, Start, StrandContract};
 /// With so many bytes held no more are wanted, until they are read.
 const ENOUGH: usize = 65_536;
 
+/// Whether it begins for a client.
+fn is_client<J>(start: &Start<J>) -> bool
+    ensures { result ≡ is_client start.now }
+{
+    matches!(start, Start::Client(_))
+}
+
 /// Whether the turn begins as the client takes bytes: its offer goes on.
 fn takes(seen: &Seen) -> bool
     ensures { result ≡ takes_as seen.now }
@@ -25,7 +33,14 @@ fn takes(seen: &Seen) -> bool
 
 impl<R: ServiceContract> Connection<R> {
     ghost use Rattle.std.specs.Prelude.{◌≡◌, ◌++◌, ◌+◌, ◌∷◌, ◌||◌, [], IfOk, true, false, None};
+    ghost use Rattle.strand_contract.specs.Actions.{Did, Began};
+    ghost use Rattle.strand_plans.specs.Moves.{Done};
+    ghost use Rattle.strand_plans.specs.Plans.{stepped, unborn_state};
     ghost use Rattle.run_contract.specs.Runs.{waits_at_first};
+    ghost use Rattle.connection_plan.specs.Connections.{connection_plan, connection_behavior};
+    ghost use Rattle.connection_plan.specs.Serving.{service_of};
+    ghost use Rattle.connection_strand.specs.Standing.{Went};
+    ghost use Rattle.connection_strand.specs.Following.{IsNew, Follows, is_client};
     ghost use Rattle.connection_strand.specs.Kept.{kept, fresh, waits_of, wants_offer};
     ghost use Rattle.connection_strand.specs.Acts.{sockets_with, count_with};
     ghost use Rattle.connection_strand.specs.Shown.{HasPieceAt, offered_as};
@@ -49,6 +64,56 @@ impl<R: ServiceContract> Connection<R> {
             keeping: None,
             is_taking: false,
         }
+    }
+
+    /// The first turn of a new connection: a head is waited for, or the job begins to run. It reports whether the turn goes on.
+    fn take_first_turn(
+        &mut self,
+        turn: &mut Turn<R::Job>,
+        alloc: Global,
+        site: &R::Site,
+        now: Ms,
+        start: Start<R::Job>,
+    ) -> Result<bool, AllocError>
+        requires connection { IsNew (R.serving site.now).default_times (is_client start) self.old }
+        requires acts { turn.old.acts.items ≡ [] }
+        requires offered { turn.old.is_offered ≡ false }
+        ensures { let plan = connection_plan (service_of (R.plan site.now) (R.serving site.now)) in IfOk result (λ on.
+            Went (R.plan site.now) (R.holds site.now) (R.stands site.now) on (stepped plan now.0 (Did (Began now.0 start)) (unborn_state plan)) self.new turn.new Done) }
+    {
+        match start {
+            Start::Client(_) => {
+                self.begin_timer(turn, site, now, Timer::Header)?;
+                Ok(true)
+            }
+            Start::Job(_, premature, job) => {
+                let (run, first) = R::begin_job(alloc, site, now, premature, job)?;
+                self.client.stage = Stage::Busy;
+                self.run = Some(run);
+                self.adopt_turn(turn, site, now, first)
+            }
+        }
+    }
+
+    /// The acts of the first turn of a new connection.
+    fn start(
+        &mut self,
+        alloc: Global,
+        site: &R::Site,
+        now: Ms,
+        start: Start<R::Job>,
+    ) -> Result<Acts<R::Job>, AllocError>
+        requires { IsNew (R.serving site.now).default_times (is_client start) self.old }
+        ensures { let service = service_of (R.plan site.now) (R.serving site.now) in IfOk result (λ acts.
+            Follows service (R.stands site.now) self.new (Did (Began now.0 start) ∷ [])
+            × (acts.items ≡ (connection_behavior service).acts (Did (Began now.0 start) ∷ []))) }
+    {
+        let mut turn = Turn {
+            acts: VecDeque::new(alloc),
+            is_offered: false,
+        };
+        self.take_first_turn(&mut turn, alloc, site, now, start)?;
+        Ok(turn.acts)
     }
 
     /// The piece that is offered next at the socket.
@@ -195,25 +260,9 @@ impl<R: ServiceContract> StrandContract for Connection<R> {
             Follows service (R.stands site.now) r.0 (Did (Began now.0 start) ∷ [])
             × (r.1.items ≡ (connection_behavior service).acts (Did (Began now.0 start) ∷ []))) }
     {
-        let mut turn = Turn {
-            acts: VecDeque::new(alloc),
-            is_offered: false,
-        };
-        match start {
-            Start::Client(_) => {
-                let mut connection = Connection::new(alloc, site, true);
-                connection.begin_timer(&mut turn, site, now, Timer::Header)?;
-                Ok((connection, turn.acts))
-            }
-            Start::Job(_, premature, job) => {
-                let (run, first) = R::begin_job(alloc, site, now, premature, job)?;
-                let mut connection: Connection<R> = Connection::new(alloc, site, false);
-                connection.client.stage = Stage::Busy;
-                connection.run = Some(run);
-                connection.adopt_turn(&mut turn, site, now, first)?;
-                Ok((connection, turn.acts))
-            }
-        }
+        let mut connection = Connection::new(alloc, site, is_client(&start));
+        let acts = connection.start(alloc, site, now, start)?;
+        Ok((connection, acts))
     }
 
     fn given(

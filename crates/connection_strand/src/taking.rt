@@ -49,7 +49,7 @@ pub(crate) fn take_out(numbers: &mut Vec<u32>, number: u32)
 }
 
 impl<R: ServiceContract> Connection<R> {
-    ghost use Rattle.std.specs.Prelude.{◌++◌, ◌+◌, ◌*◌, length, true, IfOk, Some, None};
+    ghost use Rattle.std.specs.Prelude.{◌++◌, ◌∷◌, [], ◌+◌, ◌*◌, length, true, IfOk, Some, None};
     ghost use Rattle.run_contract.specs.Calls as runs;
     ghost use Rattle.strand_plans.specs.Moves.{Performed, Move};
     ghost use Rattle.connection_plan.specs.Services.{Both};
@@ -58,6 +58,19 @@ impl<R: ServiceContract> Connection<R> {
     ghost use Rattle.connection_strand.specs.Standing.{Went};
     ghost use Rattle.connection_strand.specs.Turns.{Told, Took, Answered};
     ghost use Rattle.connection_strand.specs.Acts.{done_of, question_in, sockets_after};
+
+    /// Makes an act of the run's turn its own.
+    fn adopt_act(&mut self, turn: &mut Turn<R::Job>, act: Act<R::Job>) -> Result<(), AllocError>
+        ensures acts { IfOk result (λ done. turn.new.acts.items ≡ turn.old.acts.items ++ act ∷ []) }
+        ensures offered { turn.new.is_offered ≡ turn.old.is_offered }
+        ensures sockets { self.new.sockets.items ≡ sockets_after (act ∷ []) self.old.sockets.items }
+        ensures kept { self.new ≡ record self.old { sockets = self.new.sockets } }
+    {
+        if let Act::HangUp(Place::Sock(number)) = &act {
+            take_out(&mut self.sockets, *number);
+        }
+        put(&mut turn.acts, act)
+    }
 
     /// Makes the acts of the run's turn its own, but for the question at their end.
     fn adopt_acts(
@@ -76,10 +89,7 @@ impl<R: ServiceContract> Connection<R> {
             if is_question(&act) {
                 return Ok(Some(act));
             }
-            if let Act::HangUp(Place::Sock(number)) = &act {
-                take_out(&mut self.sockets, *number);
-            }
-            turn.acts.push_back(act)?;
+            self.adopt_act(turn, act)?;
         }
         Ok(None)
     }
@@ -128,12 +138,11 @@ impl<R: ServiceContract> Connection<R> {
         ensures costs { runs.is_own_turn seen ≡ true → (self.old.run ≡ None → ⊥) →
             IfOk result (λ on. Pays R.left R.bound unit self.old turn.old self.new turn.new) }
     {
-        let Some(mut run) = self.run.take() else {
+        let Some(run) = &mut self.run else {
             return Ok(false);
         };
         self.waits = self.waits.told(&seen);
         let next = run.given(alloc, site, now, seen)?;
-        self.run = Some(run);
         self.adopt_turn(turn, site, now, next)
     }
 
@@ -153,11 +162,10 @@ impl<R: ServiceContract> Connection<R> {
             → Went (R.plan site.now) (R.holds site.now) (R.stands site.now) on did self.new turn.new m) }
         ensures costs { (self.old.run ≡ None → ⊥) → IfOk result (λ on. Pays R.left R.bound unit self.old turn.old self.new turn.new) }
     {
-        let Some(mut run) = self.run.take() else {
+        let Some(run) = &mut self.run else {
             return Ok(false);
         };
         let next = run.answer(alloc, site, now, answer)?;
-        self.run = Some(run);
         self.adopt_turn(turn, site, now, next)
     }
 }

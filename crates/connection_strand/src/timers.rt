@@ -42,6 +42,7 @@ impl<R: ServiceContract> Connection<R> {
         ensures moves { IfOk result (λ done. Goes (R.plan _site.now) (R.holds _site.now) (R.stands _site.now)
             (end_timer (service_of (R.plan _site.now) (R.serving _site.now)) 0 (timer_of timer)) self.old turn.old self.new turn.new) }
         ensures waits { self.new.waits ≡ self.old.waits }
+        ensures count { self.new.count ≡ self.old.count }
         ensures reply { self.new.client.reply ≡ self.old.client.reply }
         ensures costs { IfOk result (λ done. Spends R.left R.bound 0 self.old turn.old self.new turn.new) }
     {

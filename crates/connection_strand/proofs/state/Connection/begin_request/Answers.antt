@@ -1,13 +1,14 @@
-use Rattle.std.proofs.Common.{refl, ap, false}
-use Rattle.strand_contract.proofs.Results.{if-ok}
+use Rattle.std.proofs.Common.{◌+◌, ◌*◌, length, Some, false, refl, sym, ap, ◌∙◌, subst, arith}
+use Rattle.run_contract.specs.Calls as calls
 use Rattle.connection_plan.specs.Clients as stage
+use Rattle.connection_plan.specs.Serving.{service_of, times}
+use Rattle.connection_plan.specs.Turns.{begin}
+use Rattle.connection_strand.specs.Costs.{unit}
 use Rattle.connection_strand.specs.Kept.{kept}
+use Rattle.connection_strand.specs.Standing.{plain}
+use Rattle.connection_strand.proofs.Costing.{spends-then}
+use Rattle.connection_strand.proofs.Ends.{ok-map}
 use Rattle.connection_strand.proofs.Hearing.{begins-request}
-use Rattle.connection_plan.specs.Serving.{service_of}
-use Rattle.std.proofs.Common.{length, ◌+◌, Some, arith}
-use Rattle.connection_plan.specs.Serving.{times}
-use Rattle.connection_strand.specs.declared.client.Stage.TheVariants as code
-use Rattle.connection_strand.specs.declared.client.Reply.TheVariants as replies
 use Rattle.connection_strand.proofs.Paying as paying
 use Rattle.connection_strand.proofs.state.Connection.begin_request.Goals as goal
 
@@ -16,14 +17,22 @@ returns-clause-moves g c =
     let site = c.args.site.now in
     let r = g.R.RunContract in
     let met = g.met.R.RunContract in
-    if-ok c.adopt_turn.result _ _ c.adopt_turn.ensures.moves (λ on takes st free did m h. takes did m
-    (begins-request (service_of (r.plan site) (g.R.ServiceContract.serving site)) (r.holds site) (r.stands site) (met.meets site) c.args.now.0 st c.args.head c.args.target c.in_ok-run.first did c.args.self.now _ c.args.turn.now m c.in_ok-run.run' free c.in_ok-run.ensures.turn refl
+    let service = service_of (r.plan site) (g.R.ServiceContract.serving site) in
+    let old = c.end_timer.new.self in
+    ok-map c.adopt_turn.result _ _ (λ on takes. λ st free did m h. takes did m
+    (begins-request service (r.holds site) (r.stands site) (met.meets site) c.args.now.0 st c.args.head c.args.target c.in_ok-run.first did old _ c.end_timer.new.turn m c.in_ok-run.run' free
+    (subst (λ count. calls.Begins (r.plan site) (r.holds site) (r.stands site) c.args.now.0 count c.args.head c.args.target c.in_ok-run.run' c.in_ok-run.first) (sym c.in_ok-end_timer.ensures.count) c.in_ok-run.ensures.turn) refl
     c.at_first-self.ensures refl refl refl refl
-    (ap (λ t. record (kept c.args.self.now.client) { stage = stage.Busy; times = t; reply = stage.Unsent; expects = c.args.head.expects; waited = false }) c.times_of-self.ensures) h))
+    (c.begin_request.ensures ∙ ap (λ t. record (kept old.client) { stage = stage.Busy; times = t; reply = stage.Unsent; expects = c.args.head.expects; waited = false }) c.times_of-times.ensures)
+    (c.in_ok-end_timer.ensures.moves (plain st) did (begin service c.args.now.0 m c.args.head c.args.target) h))) c.adopt_turn.ensures.moves
 
 pub returns-clause-costs : goal.returns-clause-costs
-returns-clause-costs g c = if-ok c.adopt_turn.result _ _ c.adopt_turn.ensures.costs (λ on spends.
-    paying.begins-costs g.R.RunContract.left g.R.ServiceContract.bound (length c.in_ok-run.first.acts.items + length c.in_ok-run.first.said.items) c.in_ok-run.run' (times c.times_of-self.result) c.args.head.expects c.args.self.now
-    (record c.args.self.now { client = record c.args.self.now.client { stage = code.Busy; times = c.times_of-self.result; reply = replies.Unsent; expects = c.args.head.expects; waited = false }; run = Some c.in_ok-run.run'; waits = c.at_first-self.result })
-    c.adopt_turn.new.self c.args.turn.now c.adopt_turn.new.turn refl refl refl
-    (let e = c.in_ok-run.ensures.left in let f = g.met.R.ServiceContract.bounded c.args.site.now in omega arith) spends)
+returns-clause-costs g c =
+    let bound = g.R.ServiceContract.bound in
+    let old = c.end_timer.new.self in
+    ok-map c.adopt_turn.result _ _ (λ on spends.
+    spends-then g.R.RunContract.left bound (unit * (bound + 1)) c.args.self.now old c.adopt_turn.new.self c.args.turn.now c.end_timer.new.turn c.adopt_turn.new.turn c.in_ok-end_timer.ensures.costs
+    (paying.begins-costs g.R.RunContract.left bound (length c.in_ok-run.first.acts.items + length c.in_ok-run.first.said.items) c.in_ok-run.run' (times c.times_of-times.result) c.args.head.expects old
+    (record old { client = c.begin_request.new.self; run = Some c.in_ok-run.run'; waits = c.at_first-self.result })
+    c.adopt_turn.new.self c.end_timer.new.turn c.adopt_turn.new.turn c.begin_request.ensures refl refl
+    (let e = c.in_ok-run.ensures.left in let f = g.met.R.ServiceContract.bounded c.args.site.now in omega arith) spends)) c.adopt_turn.ensures.costs

@@ -1,4 +1,4 @@
-use Rattle.std.proofs.Common.{None, ap, false}
+use Rattle.std.proofs.Common.{None, ap, false, inl, inr}
 use Rattle.strand_plans.specs.Moves.{Look}
 use Rattle.connection_plan.specs.Clients as stage
 use Rattle.connection_plan.specs.Turns.{settle}
@@ -66,8 +66,12 @@ hear-requires-in-Idle-clause-within g c =
     let now = c.args.now.0 in
     let x = from-here service (r.holds site) (r.stands site) (met.meets site) (met.apart site) c.requires.within.0 c.args.self.now c.args.turn.now c.requires.within.1
     (Look (λ b s. heard_at service now s.client.stage c.args.out s.client.came s.client.ended)) in
-    let t = hears-at service (r.holds site) (r.stands site) (met.meets site) (met.apart site) now stage.Idle c.args.out c.requires.within.0 x.0 c.args.self.now c.args.turn.now (ap stage_of c.in-Idle.is) x.1 in
-    (stage.Idle, tt, (t.ledger, t.inner, t.within))
+    elim c.in-Idle.is [
+      | inl e ↦ let t = hears-at service (r.holds site) (r.stands site) (met.meets site) (met.apart site) now stage.Idle c.args.out c.requires.within.0 x.0 c.args.self.now c.args.turn.now (ap stage_of e) x.1 in
+          (stage.Idle, tt, (t.ledger, t.inner, t.within))
+      | inr e ↦ let t = hears-at service (r.holds site) (r.stands site) (met.meets site) (met.apart site) now stage.Drop c.args.out c.requires.within.0 x.0 c.args.self.now c.args.turn.now (ap stage_of e) x.1 in
+          (stage.Drop, tt, (t.ledger, t.inner, t.within))
+    ]
 
 pub returns-in-Idle : goal.returns-in-Idle
 returns-in-Idle g c =
@@ -76,32 +80,12 @@ returns-in-Idle g c =
     let met = g.met.R.RunContract in
     let service = service_of (r.plan site) (g.R.ServiceContract.serving site) in
     let now = c.args.now.0 in
-    ok-map c.hear-in-Idle.result _ _ (λ done hears. λ st did h. hears stage.Idle tt did (settle service now)
-    (let t = hears-at service (r.holds site) (r.stands site) (met.meets site) (met.apart site) now stage.Idle c.args.out st did c.args.self.now c.args.turn.now (ap stage_of c.in-Idle.is) h in
-    record { ledger = t.ledger; inner = t.inner; within = t.within; leads = t.leads })) c.hear-in-Idle.ensures
-
-pub hear-requires-in-Drop-clause-within : goal.hear-requires-in-Drop-clause-within
-hear-requires-in-Drop-clause-within g c =
-    let site = c.args.site.now in
-    let r = g.R.RunContract in
-    let met = g.met.R.RunContract in
-    let service = service_of (r.plan site) (g.R.ServiceContract.serving site) in
-    let now = c.args.now.0 in
-    let x = from-here service (r.holds site) (r.stands site) (met.meets site) (met.apart site) c.requires.within.0 c.args.self.now c.args.turn.now c.requires.within.1
-    (Look (λ b s. heard_at service now s.client.stage c.args.out s.client.came s.client.ended)) in
-    let t = hears-at service (r.holds site) (r.stands site) (met.meets site) (met.apart site) now stage.Drop c.args.out c.requires.within.0 x.0 c.args.self.now c.args.turn.now (ap stage_of c.in-Drop.is) x.1 in
-    (stage.Drop, tt, (t.ledger, t.inner, t.within))
-
-pub returns-in-Drop : goal.returns-in-Drop
-returns-in-Drop g c =
-    let site = c.args.site.now in
-    let r = g.R.RunContract in
-    let met = g.met.R.RunContract in
-    let service = service_of (r.plan site) (g.R.ServiceContract.serving site) in
-    let now = c.args.now.0 in
-    ok-map c.hear-in-Drop.result _ _ (λ done hears. λ st did h. hears stage.Drop tt did (settle service now)
-    (let t = hears-at service (r.holds site) (r.stands site) (met.meets site) (met.apart site) now stage.Drop c.args.out st did c.args.self.now c.args.turn.now (ap stage_of c.in-Drop.is) h in
-    record { ledger = t.ledger; inner = t.inner; within = t.within; leads = t.leads })) c.hear-in-Drop.ensures
+    ok-map c.hear-in-Idle.result _ _ (λ done hears. λ st did h. elim c.in-Idle.is [
+      | inl e ↦ let t = hears-at service (r.holds site) (r.stands site) (met.meets site) (met.apart site) now stage.Idle c.args.out st did c.args.self.now c.args.turn.now (ap stage_of e) h in
+          hears stage.Idle tt did (settle service now) (record { ledger = t.ledger; inner = t.inner; within = t.within; leads = t.leads })
+      | inr e ↦ let t = hears-at service (r.holds site) (r.stands site) (met.meets site) (met.apart site) now stage.Drop c.args.out st did c.args.self.now c.args.turn.now (ap stage_of e) h in
+          hears stage.Drop tt did (settle service now) (record { ledger = t.ledger; inner = t.inner; within = t.within; leads = t.leads })
+    ]) c.hear-in-Idle.ensures
 
 pub returns-in-Flush : goal.returns-in-Flush
 returns-in-Flush g c = λ st did h.
@@ -110,15 +94,9 @@ returns-in-Flush g c = λ st did h.
     let met = g.met.R.RunContract in
     let service = service_of (r.plan site) (g.R.ServiceContract.serving site) in
     let now = c.args.now.0 in
-    let t = hears-at service (r.holds site) (r.stands site) (met.meets site) (met.apart site) now stage.Flush c.args.out st did c.args.self.now c.args.turn.now (ap stage_of c.in-Flush.is) h in
-    done-came (r.plan site) (r.holds site) (r.stands site) stage.Flush did c.args.self.now c.args.turn.now (record { ledger = t.ledger; inner = t.inner; within = t.within; leads = t.leads })
-
-pub returns-in-Over : goal.returns-in-Over
-returns-in-Over g c = λ st did h.
-    let site = c.args.site.now in
-    let r = g.R.RunContract in
-    let met = g.met.R.RunContract in
-    let service = service_of (r.plan site) (g.R.ServiceContract.serving site) in
-    let now = c.args.now.0 in
-    let t = hears-at service (r.holds site) (r.stands site) (met.meets site) (met.apart site) now stage.Over c.args.out st did c.args.self.now c.args.turn.now (ap stage_of c.in-Over.is) h in
-    done-came (r.plan site) (r.holds site) (r.stands site) stage.Over did c.args.self.now c.args.turn.now (record { ledger = t.ledger; inner = t.inner; within = t.within; leads = t.leads })
+    elim c.in-Flush.is [
+      | inl e ↦ let t = hears-at service (r.holds site) (r.stands site) (met.meets site) (met.apart site) now stage.Flush c.args.out st did c.args.self.now c.args.turn.now (ap stage_of e) h in
+          done-came (r.plan site) (r.holds site) (r.stands site) stage.Flush did c.args.self.now c.args.turn.now (record { ledger = t.ledger; inner = t.inner; within = t.within; leads = t.leads })
+      | inr e ↦ let t = hears-at service (r.holds site) (r.stands site) (met.meets site) (met.apart site) now stage.Over c.args.out st did c.args.self.now c.args.turn.now (ap stage_of e) h in
+          done-came (r.plan site) (r.holds site) (r.stands site) stage.Over did c.args.self.now c.args.turn.now (record { ledger = t.ledger; inner = t.inner; within = t.within; leads = t.leads })
+    ]

@@ -7,7 +7,6 @@ use Rattle.connection_strand.specs.Standing.{plain}
 use Rattle.connection_strand.proofs.Losing.{done}
 use Rattle.connection_strand.proofs.Hearing.{refuses-now, closes}
 use Rattle.connection_plan.specs.Serving.{service_of}
-use Rattle.std.proofs.Common.{length, arith}
 use Rattle.connection_plan.specs.Serving.{times}
 use Rattle.connection_strand.specs.declared.client.Stage.TheVariants as code
 use Rattle.connection_strand.specs.declared.client.Reply.TheVariants as replies
@@ -22,10 +21,10 @@ returns-then-is_all_taken-clause-moves g c =
     let met = g.met.R.RunContract in
     if-ok c.finish.result _ _ c.finish.ensures.moves (λ over ends st free did m h.
     let service = service_of (r.plan site) (g.R.ServiceContract.serving site) in
-    ends stage.Flush did (closes (service_of (r.plan site) (g.R.ServiceContract.serving site)) (r.holds site) (r.stands site) c.args.now.0 (plain stage.Flush) did c.send.new.self c.send.new.turn true (sym c.is_all_taken.ensures ∙ c.if-is_all_taken.true)
-    (c.in_ok-send.ensures.moves (plain stage.Flush) did (close_if_taken service c.args.now.0)
-    (refuses-now (service_of (r.plan site) (g.R.ServiceContract.serving site)) (r.holds site) (r.stands site) c.args.now.0 c.args.code st did c.args.self.now _ c.args.turn.now c.in_ok-reply.reply free (record { run = refl; waits = refl; sockets = refl; count = refl; keeping = refl; taking = refl })
-    (ap (λ t. record (kept c.args.self.now.client) { stage = stage.Flush; times = t; reply = stage.Whole true }) c.default_times-self.ensures) c.in_ok-reply.ensures h))))
+    ends stage.Flush did (closes (service_of (r.plan site) (g.R.ServiceContract.serving site)) (r.holds site) (r.stands site) c.args.now.0 (plain stage.Flush) did c.send_refusal.new.self c.send_refusal.new.turn true (sym c.is_all_taken.ensures ∙ c.if-is_all_taken.true)
+    (c.in_ok-send_refusal.ensures.moves (plain stage.Flush) did (close_if_taken service c.args.now.0)
+    (refuses-now (service_of (r.plan site) (g.R.ServiceContract.serving site)) (r.holds site) (r.stands site) c.args.now.0 c.args.code st did c.args.self.now _ c.args.turn.now (service.refusal c.args.code c.args.now.0) free (record { run = refl; waits = refl; sockets = refl; count = refl; keeping = refl; taking = refl })
+    (ap (λ t. record (kept c.args.self.now.client) { stage = stage.Flush; times = t; reply = stage.Whole true }) c.default_times-self.ensures) refl h))))
 
 pub returns-clause-moves : goal.returns-clause-moves
 returns-clause-moves g c = λ st free did m h.
@@ -33,23 +32,21 @@ returns-clause-moves g c = λ st free did m h.
     let r = g.R.RunContract in
     let met = g.met.R.RunContract in
     let service = service_of (r.plan site) (g.R.ServiceContract.serving site) in
-    done (service_of (r.plan site) (g.R.ServiceContract.serving site)) (r.holds site) (r.stands site) stage.Flush did c.send.new.self c.send.new.turn
-    (closes (service_of (r.plan site) (g.R.ServiceContract.serving site)) (r.holds site) (r.stands site) c.args.now.0 (plain stage.Flush) did c.send.new.self c.send.new.turn false (sym c.is_all_taken.ensures ∙ c.if-is_all_taken.false)
-    (c.in_ok-send.ensures.moves (plain stage.Flush) did (close_if_taken service c.args.now.0)
-    (refuses-now (service_of (r.plan site) (g.R.ServiceContract.serving site)) (r.holds site) (r.stands site) c.args.now.0 c.args.code st did c.args.self.now _ c.args.turn.now c.in_ok-reply.reply free (record { run = refl; waits = refl; sockets = refl; count = refl; keeping = refl; taking = refl })
-    (ap (λ t. record (kept c.args.self.now.client) { stage = stage.Flush; times = t; reply = stage.Whole true }) c.default_times-self.ensures) c.in_ok-reply.ensures h)))
+    done (service_of (r.plan site) (g.R.ServiceContract.serving site)) (r.holds site) (r.stands site) stage.Flush did c.send_refusal.new.self c.send_refusal.new.turn
+    (closes (service_of (r.plan site) (g.R.ServiceContract.serving site)) (r.holds site) (r.stands site) c.args.now.0 (plain stage.Flush) did c.send_refusal.new.self c.send_refusal.new.turn false (sym c.is_all_taken.ensures ∙ c.if-is_all_taken.false)
+    (c.in_ok-send_refusal.ensures.moves (plain stage.Flush) did (close_if_taken service c.args.now.0)
+    (refuses-now (service_of (r.plan site) (g.R.ServiceContract.serving site)) (r.holds site) (r.stands site) c.args.now.0 c.args.code st did c.args.self.now _ c.args.turn.now (service.refusal c.args.code c.args.now.0) free (record { run = refl; waits = refl; sockets = refl; count = refl; keeping = refl; taking = refl })
+    (ap (λ t. record (kept c.args.self.now.client) { stage = stage.Flush; times = t; reply = stage.Whole true }) c.default_times-self.ensures) refl h)))
 
 pub returns-then-is_all_taken-clause-costs : goal.returns-then-is_all_taken-clause-costs
 returns-then-is_all_taken-clause-costs g c last =
     let now = record c.args.self.now { client = record c.args.self.now.client { stage = code.Flush; times = c.default_times-self.result; reply = replies.Whole true } } in
     if-ok c.finish.result _ _ c.finish.ensures.costs (λ done costs.
-    costs-after g.R.RunContract.left g.R.ServiceContract.bound 0 0 c.args.self.now c.send.new.self c.finish.new.self c.args.turn.now c.send.new.turn c.finish.new.turn
-    (refuses-costs g.R.RunContract.left g.R.ServiceContract.bound (length c.in_ok-reply.reply) (times c.default_times-self.result) c.args.self.now now c.send.new.self c.args.turn.now c.send.new.turn refl refl refl last
-    (let e = c.len.ensures.value in let l = c.len.ensures.bound in omega arith) c.in_ok-send.ensures.costs) costs)
+    costs-after g.R.RunContract.left g.R.ServiceContract.bound 0 0 c.args.self.now c.send_refusal.new.self c.finish.new.self c.args.turn.now c.send_refusal.new.turn c.finish.new.turn
+    (refuses-costs g.R.RunContract.left g.R.ServiceContract.bound (times c.default_times-self.result) c.args.self.now now c.send_refusal.new.self c.args.turn.now c.send_refusal.new.turn refl refl refl last c.in_ok-send_refusal.ensures.costs) costs)
 
 pub returns-clause-costs : goal.returns-clause-costs
 returns-clause-costs g c last =
     let now = record c.args.self.now { client = record c.args.self.now.client { stage = code.Flush; times = c.default_times-self.result; reply = replies.Whole true } } in
-    ends-within g.R.RunContract.left g.R.ServiceContract.bound 0 c.args.self.now c.send.new.self c.args.turn.now c.send.new.turn
-    (refuses-costs g.R.RunContract.left g.R.ServiceContract.bound (length c.in_ok-reply.reply) (times c.default_times-self.result) c.args.self.now now c.send.new.self c.args.turn.now c.send.new.turn refl refl refl last
-    (let e = c.len.ensures.value in let l = c.len.ensures.bound in omega arith) c.in_ok-send.ensures.costs)
+    ends-within g.R.RunContract.left g.R.ServiceContract.bound 0 c.args.self.now c.send_refusal.new.self c.args.turn.now c.send_refusal.new.turn
+    (refuses-costs g.R.RunContract.left g.R.ServiceContract.bound (times c.default_times-self.result) c.args.self.now now c.send_refusal.new.self c.args.turn.now c.send_refusal.new.turn refl refl refl last c.in_ok-send_refusal.ensures.costs)

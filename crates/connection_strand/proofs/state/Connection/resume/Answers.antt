@@ -14,7 +14,7 @@ returns g c =
     let met = g.met.R.RunContract in
     let service = service_of (r.plan site) (g.R.ServiceContract.serving site) in
     let now = c.args._now.0 in
-    ok-map c.offer.result _ _ (λ done goes. λ did h.
-    done-came (r.plan site) (r.holds site) (r.stands site) h.inner.client.stage did c.offer.new.self c.offer.new.turn
+    ok-map c.ask_for_offer.result _ _ (λ done goes. λ did h.
+    done-came (r.plan site) (r.holds site) (r.stands site) h.inner.client.stage did c.ask_for_offer.new.self c.ask_for_offer.new.turn
     (goes (plain h.inner.client.stage) did Done (c.in_ok-end_timer.ensures.moves (plain h.inner.client.stage) did (Send place.Client [] Done)
-    (shown-ready service (r.holds site) (r.stands site) (met.meets site) (met.apart site) now did c.args.self.now _ c.args.turn.now h (record { run = refl; waits = refl; sockets = refl; count = refl; keeping = refl; taking = refl }) refl)))) c.offer.ensures.moves
+    (shown-ready service (r.holds site) (r.stands site) (met.meets site) (met.apart site) now did c.args.self.now _ c.args.turn.now h (record { run = refl; waits = refl; sockets = refl; count = refl; keeping = refl; taking = refl }) refl)))) c.ask_for_offer.ensures.moves

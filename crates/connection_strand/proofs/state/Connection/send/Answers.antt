@@ -13,9 +13,9 @@ returns-clause-moves g c =
     let site = c.args.site.now in
     let r = g.R.RunContract in
     let met = g.met.R.RunContract in
-    ok-map c.offer.result _ _ (λ done goes. λ e did m h. goes e did m (queues-more (service_of (r.plan site) (g.R.ServiceContract.serving site)) (r.holds site) (r.stands site) (met.meets site) (met.apart site)
+    ok-map c.ask_for_offer.result _ _ (λ done goes. λ e did m h. goes e did m (queues-more (service_of (r.plan site) (g.R.ServiceContract.serving site)) (r.holds site) (r.stands site) (met.meets site) (met.apart site)
     e did c.args.self.now _ c.args.turn.now c.args.bytes.now m (record { run = refl; waits = refl; sockets = refl; count = refl; keeping = refl; taking = refl }) c.if-not-self.false
-    (ap (λ (l : Line). kept (record c.args.self.now.client { line = l })) c.in_ok-queue.ensures.done) h)) c.offer.ensures.moves
+    (ap (λ (l : Line). kept (record c.args.self.now.client { line = l })) c.in_ok-queue.ensures.done) h)) c.ask_for_offer.ensures.moves
 
 pub returns-then-not-self-clause-moves : goal.returns-then-not-self-clause-moves
 returns-then-not-self-clause-moves g c = λ e did m h.
@@ -28,8 +28,8 @@ returns-then-not-self-clause-moves g c = λ e did m h.
 pub returns-clause-costs : goal.returns-clause-costs
 returns-clause-costs g c =
     let now = record c.args.self.now { client = record c.args.self.now.client { line = c.queue.new.self } } in
-    ok-map c.offer.result _ _ (λ done costs. queues-costs g.R.RunContract.left g.R.ServiceContract.bound c.args.bytes.now c.args.self.now now c.offer.new.self c.args.turn.now c.offer.new.turn
-    (ap (λ (l : Line). kept (record c.args.self.now.client { line = l })) c.in_ok-queue.ensures.done) refl refl costs) c.offer.ensures.costs
+    ok-map c.ask_for_offer.result _ _ (λ done costs. queues-costs g.R.RunContract.left g.R.ServiceContract.bound c.args.bytes.now c.args.self.now now c.ask_for_offer.new.self c.args.turn.now c.ask_for_offer.new.turn
+    (ap (λ (l : Line). kept (record c.args.self.now.client { line = l })) c.in_ok-queue.ensures.done) refl refl costs) c.ask_for_offer.ensures.costs
 
 pub returns-then-not-self-clause-costs : goal.returns-then-not-self-clause-costs
 returns-then-not-self-clause-costs g c = spends-none g.R.RunContract.left g.R.ServiceContract.bound (16 * length c.args.bytes.now + 1) c.args.self.now c.args.turn.now
