@@ -1,5 +1,6 @@
 //! Blocks, the statements that are no loops, and the bodies of functions.
-ghost use Rattle.std.specs.Prelude.{◌≡◌, ◌≤◌, ◌∷◌, [], ℕ, IfErr, IfNone, IfOk, OnOk, vec_len};
+ghost use Rattle.std.specs.Prelude.{◌≡◌, ◌≤◌, ◌∷◌, [], ℕ, IfErr, IfNone, IfOk, MatchResult, OnOk, vec_len};
+ghost use Rattle.lua_grammar.specs.Resolution.{self_name};
 ghost use Rattle.lua_parser_base.specs.States.{State, state, Advances, AdvancesOrStays, IfErrWhere};
 ghost use Rattle.lua_parser_base.specs.Reads.{ReadsBody};
 ghost use Rattle.lua_parser_base.specs.ReadsStatements.{ReadsBlock, ReadsScoped, ReadsStat, ReadsLast, ReadsValue, ReadsValues, ReadsArm, ReadsArms};
@@ -8,7 +9,7 @@ ghost use Rattle.lua_lexer.specs.declared.tokens.TokenKind.TheVariants.{Sign as 
 ghost use Rattle.lua_lexer.specs.declared.tokens.TokenKind.TheVariants.{Word as WordKind};
 ghost use Rattle.lua_lexer.specs.declared.signs.Sign.TheVariants.{Assign, Colon, Comma};
 ghost use Rattle.lua_lexer.specs.declared.words.Word.TheVariants.{Do, ElseIf, Function, If, Local};
-ghost use Rattle.lua_parser_base.specs.Next.{IsNext, ahead, IsAhead, IsNotNext};
+ghost use Rattle.lua_parser_base.specs.Next.{IsMemory, IsNext, ahead, IsAhead, IsNotNext};
 ghost use Rattle.lua_parser_base.specs.Kinds.{IsStatement, begins_of, StatementBegins};
 ghost use Rattle.lua_parser_base.specs.Refusals.{RefusesBody};
 ghost use Rattle.lua_parser_base.specs.Standing.{FirstFault, FirstFaultOfAssignment, FirstFaultOfTargets};
@@ -18,6 +19,7 @@ ghost use Rattle.lua_parser_base.specs.StatementRefusals.{RefusesMethod, Refuses
 
 use crate::expressions::expression;
 use crate::loops::{for_loop, repeat_loop, while_loop};
+use crate::pairs::beside;
 use crate::suffixes::{expressions, prefix};
 use lua_ast::{Arm, Expr, Stmt, StmtKind};
 use lua_lexer::{Sign, Token, Word};
@@ -211,8 +213,8 @@ fn arm(parser: &mut Parser, alloc: Global, tokens: &[Token], at: Nesting) -> Res
     ensures forward { OnOk result (Advances tokens.now parser.old parser.new) }
 {
     let test = value(parser, alloc, tokens, at)?;
-    parser.take_word(tokens, Word::Then)?;
-    let body = scoped(parser, alloc, tokens, at)?;
+    let (test, _) = beside(test, parser.take_word(tokens, Word::Then))?;
+    let (test, body) = beside(test, scoped(parser, alloc, tokens, at))?;
     arm_node(alloc, test, body)
 }
 
@@ -304,7 +306,8 @@ fn function_statement(
     if parser.at_sign(tokens, Sign::Colon) {
         return method_statement(parser, alloc, tokens, at, line, name);
     }
-    let number = body(parser, alloc, tokens, at, line, Vec::new(alloc))?;
+    let number = body(parser, alloc, tokens, at, line, Vec::new(alloc));
+    let (name, number) = beside(name, number)?;
     define(alloc, line, name.target, number)
 }
 
@@ -326,9 +329,16 @@ fn method_statement(
     ensures forward { OnOk result (Advances tokens.now parser.old parser.new) }
 {
     let name = parser.name_member(alloc, tokens, Sign::Colon, object)?;
-    let first = vec![in alloc; Bytes::from_static(b"self")]?;
-    let number = body(parser, alloc, tokens, at, line, first)?;
+    let (name, first) = beside(name, self_alone(alloc))?;
+    let (name, number) = beside(name, body(parser, alloc, tokens, at, line, first))?;
     define(alloc, line, name.target, number)
+}
+
+/// The parameter of a method that isn't named there.
+fn self_alone(alloc: Global) -> Result<Vec<Bytes>, ParseFault>
+    ensures { MatchResult result (λ names. names.items ≡ self_name ∷ []) IsMemory }
+{
+    Ok(vec![in alloc; Bytes::from_static(b"self")]?)
 }
 
 /// stat ::= local function Name funcbody | local namelist [`=´ explist]
@@ -442,7 +452,10 @@ fn prefix_statement(
             kind: StmtKind::Call(expr),
         }),
         Form::Variable => assignment(parser, alloc, tokens, at, line, expr),
-        Form::Paren => Err(parser.unfit(tokens)),
+        Form::Paren => {
+            drop(expr);
+            Err(parser.unfit(tokens))
+        }
     }
 }
 
@@ -511,6 +524,9 @@ fn target(
     let Prefix { expr, form, .. } = prefix(parser, alloc, tokens, at.fresh())?;
     match form {
         Form::Variable => Ok(expr),
-        Form::Call | Form::Paren => Err(parser.unfit(tokens)),
+        Form::Call | Form::Paren => {
+            drop(expr);
+            Err(parser.unfit(tokens))
+        }
     }
 }

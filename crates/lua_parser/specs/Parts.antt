@@ -1,0 +1,88 @@
+-- What is read of a part, where what stands before it is kept.
+use Rattle.std.specs.Prelude.{◌≡◌, ◌<◌, ◌≤◌, ℕ, min, IfNone}
+use Rattle.lua_lexer.specs.declared.tokens.TokenKind.TheVariants.{Name as NameKind, Sign as SignKind}
+use Rattle.lua_lexer.specs.declared.signs.Sign.TheVariants.{Assign, CloseBracket, Colon, Comma, OpenBracket}
+use Rattle.lua_grammar.specs.Grammar.{first_line}
+use Rattle.lua_grammar.specs.Operators.{right_level}
+use Rattle.lua_grammar.specs.Stopping.{EndsAt}
+use Rattle.lua_grammar.specs.Tree.{Line}
+use Rattle.lua_parser_base.specs.declared.cursor.Named.{Named}
+use Rattle.lua_parser_base.specs.declared.faults.ParseFault.{ParseFault}
+use Rattle.lua_parser_base.specs.declared.nesting.Nesting.{Nesting}
+use Rattle.lua_parser_base.specs.declared.nodes.Built.{Built}
+use Rattle.lua_parser_base.specs.declared.nodes.Prefix.{Prefix}
+use Rattle.lua_parser_base.specs.declared.nodes.Values.{Values}
+use Rattle.lua_parser_base.specs.declared.operators.Infix.{Infix}
+use Rattle.lua_parser_base.specs.declared.statement_nodes.Range.{Range}
+use Rattle.lua_parser_base.specs.Nesting.{IsPart}
+use Rattle.lua_parser_base.specs.Next.{IsNext, ahead}
+use Rattle.lua_parser_base.specs.Reads.{ReadsArgs, ReadsExp}
+use Rattle.lua_parser_base.specs.ReadsStatements.{ReadsStep, ReadsValue}
+use Rattle.lua_parser_base.specs.Refusals.{RefusesFrom}
+use Rattle.lua_parser_base.specs.Standing.{FirstFault}
+use Rattle.lua_parser_base.specs.Standing as Standing
+use Rattle.lua_parser_base.specs.States.{OpensOnLine, State, Takes, TakesOperator}
+
+-- the operand after an operator
+pub record ReadsRight (at : Nesting) (left : Built) (found : Infix) (m : State) (right : Built) (t : State) : Type 0 where
+  pub inner : Nesting
+  pub part : IsPart at inner
+  pub reads : ReadsExp inner m right t
+  pub ends : EndsAt (right_level found.op) (ahead t)
+  pub level : min (right_level found.op) 7 ≤ right.level
+  pub below : left.height < at.room
+
+-- however what stands before the operator was read
+abbrev pub RefusesRight : Nesting → Built → Infix → State → State → ParseFault → Type 0
+RefusesRight at left found m t fault =
+    (lowest : ℕ) (s a : State) → lowest ≤ 7 → min lowest 7 ≤ left.level → ReadsExp at s left a → TakesOperator left.level lowest found a m → RefusesFrom lowest at s t fault
+
+abbrev pub FirstFaultOfRight : Nesting → Built → Infix → State → State → ParseFault → Type 0
+FirstFaultOfRight at left found m t fault =
+    (lowest : ℕ) (s a : State) → ReadsExp at s left a → TakesOperator left.level lowest found a m → FirstFault (Standing.here (Standing.exp lowest) at) s t fault
+
+-- a key in brackets after a prefix
+pub record ReadsKey (at : Nesting) (object : Prefix) (m : State) (key : Built) (open_at : Line) (t : State) : Type 0 where
+  pub inner : Nesting
+  pub inside : State
+  pub after : State
+  pub close_at : Line
+  pub opens : Takes (SignKind OpenBracket) open_at m inside
+  pub part : IsPart at inner
+  pub reads : ReadsExp inner inside key after
+  pub closes : Takes (SignKind CloseBracket) close_at after t
+  pub below : object.height < at.room
+
+-- arguments after a prefix
+pub record ReadsGiven (at : Nesting) (callee : Prefix) (m : State) (values : Values) (line : Line) (t : State) : Type 0 where
+  pub reads : ReadsArgs at m values t
+  pub on_line : OpensOnLine m
+  pub begins : line ≡ first_line m.left
+  pub below : callee.height < at.room
+
+-- the name of a method and arguments after a prefix
+pub record ReadsNamed (at : Nesting) (object : Prefix) (m : State) (name : Named) (values : Values) (line : Line) (t : State) : Type 0 where
+  pub inside : State
+  pub after : State
+  pub colon_at : Line
+  pub colon : Takes (SignKind Colon) colon_at m inside
+  pub named : Takes (NameKind name.name) name.line inside after
+  pub reads : ReadsArgs at after values t
+  pub on_line : OpensOnLine after
+  pub begins : line ≡ first_line after.left
+  pub below : object.height < at.room
+
+-- the numbers of a loop
+pub record ReadsRange (at : Nesting) (s : State) (range : Range) (t : State) : Type 0 where
+  pub equals_at : Line
+  pub comma_at : Line
+  pub first : State
+  pub second : State
+  pub third : State
+  pub last : State
+  pub equals : Takes (SignKind Assign) equals_at s first
+  pub from : ReadsValue at first range.from second
+  pub comma : Takes (SignKind Comma) comma_at second third
+  pub to : ReadsValue at third range.to last
+  pub step : ReadsStep at last range.step t
+  pub stops : IfNone range.step (IsNext (SignKind Comma) last → ⊥)
