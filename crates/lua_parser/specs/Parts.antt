@@ -1,22 +1,26 @@
 -- What is read of a part, where what stands before it is kept.
-use Rattle.std.specs.Prelude.{◌≡◌, ◌<◌, ◌≤◌, ℕ, min, IfNone}
+use Rattle.std.specs.Prelude.{◌≡◌, ◌<◌, ◌≤◌, ℕ, List, min, IfNone}
 use Rattle.lua_lexer.specs.declared.tokens.TokenKind.TheVariants.{Name as NameKind, Sign as SignKind}
-use Rattle.lua_lexer.specs.declared.signs.Sign.TheVariants.{Assign, CloseBracket, Colon, Comma, OpenBracket}
+use Rattle.lua_lexer.specs.declared.signs.Sign.TheVariants.{Assign, CloseBracket, CloseParenthesis, Colon, Comma, OpenBracket, OpenParenthesis}
 use Rattle.lua_grammar.specs.Grammar.{first_line}
 use Rattle.lua_grammar.specs.Operators.{right_level}
 use Rattle.lua_grammar.specs.Stopping.{EndsAt}
-use Rattle.lua_grammar.specs.Tree.{Line}
+use Rattle.lua_grammar.specs.Tree.{Bytes, Line}
 use Rattle.lua_parser_base.specs.declared.cursor.Named.{Named}
 use Rattle.lua_parser_base.specs.declared.faults.ParseFault.{ParseFault}
+use Rattle.lua_parser_base.specs.declared.functions.Begun.{Begun}
+use Rattle.lua_parser_base.specs.declared.functions.Parameters.{Parameters}
 use Rattle.lua_parser_base.specs.declared.nesting.Nesting.{Nesting}
 use Rattle.lua_parser_base.specs.declared.nodes.Built.{Built}
 use Rattle.lua_parser_base.specs.declared.nodes.Prefix.{Prefix}
 use Rattle.lua_parser_base.specs.declared.nodes.Values.{Values}
 use Rattle.lua_parser_base.specs.declared.operators.Infix.{Infix}
 use Rattle.lua_parser_base.specs.declared.statement_nodes.Range.{Range}
+use Rattle.lua_parser_base.specs.Functions.{Enters}
 use Rattle.lua_parser_base.specs.Nesting.{IsPart}
 use Rattle.lua_parser_base.specs.Next.{IsNext, ahead}
 use Rattle.lua_parser_base.specs.Reads.{ReadsArgs, ReadsExp}
+use Rattle.lua_parser_base.specs.ReadsNames.{ReadsParameters}
 use Rattle.lua_parser_base.specs.ReadsStatements.{ReadsStep, ReadsValue}
 use Rattle.lua_parser_base.specs.Refusals.{RefusesFrom}
 use Rattle.lua_parser_base.specs.Standing.{FirstFault}
@@ -86,3 +90,17 @@ pub record ReadsRange (at : Nesting) (s : State) (range : Range) (t : State) : T
   pub to : ReadsValue at third range.to last
   pub step : ReadsStep at last range.step t
   pub stops : IfNone range.step (IsNext (SignKind Comma) last → ⊥)
+
+-- the parameters of a function, which begins there
+pub record ReadsHead (line : Line) (first : List Bytes) (s : State) (begun : Begun) (t : State) : Type 0 where
+  pub open_at : Line
+  pub close_at : Line
+  pub parameters : Parameters
+  pub inside : State
+  pub last : State
+  pub after : State
+  pub opens : Takes (SignKind OpenParenthesis) open_at s inside
+  pub reads : ReadsParameters first inside parameters last
+  pub closes : Takes (SignKind CloseParenthesis) close_at last after
+  pub enters : Enters parameters line begun after.scope t.scope
+  pub left : t.left ≡ after.left

@@ -126,7 +126,8 @@ fn range(
     at: Nesting,
 ) -> Result<Range, ParseFault>
     ensures reads { IfOk result (λ range. ReadsRange at (state tokens.now parser.old) range (state tokens.now parser.new)) }
-    ensures refuses { (names : List (List ℕ)) → length names ≡ 1 → IfErrWhere (IsNext (SignKind Assign)) result (RefusesFor at names) tokens.now parser.old parser.new }
+    ensures refuses { (names : List (List ℕ)) → length names ≡ 1
+        → IfErrWhere (IsNext (SignKind Assign)) result (RefusesFor at names) tokens.now parser.old parser.new }
     ensures order { (names : List (List ℕ)) → length names ≡ 1
         → IfErr result (FirstFault (Standing.for_tail at names) (state tokens.now parser.old) (state tokens.now parser.new)) }
     ensures forward { OnOk result (Advances tokens.now parser.old parser.new) }

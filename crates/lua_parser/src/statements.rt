@@ -14,6 +14,8 @@ ghost use Rattle.lua_parser_base.specs.Kinds.{IsStatement, begins_of, StatementB
 ghost use Rattle.lua_parser_base.specs.Refusals.{RefusesBody};
 ghost use Rattle.lua_parser_base.specs.Standing.{FirstFault, FirstFaultOfAssignment, FirstFaultOfTargets};
 ghost use Rattle.lua_parser_base.specs.Standing as Standing;
+ghost use Rattle.lua_parser_base.specs.declared.nesting.Nesting.{Nesting};
+ghost use Rattle.lua_parser.specs.Parts.{ReadsHead};
 ghost use Rattle.lua_parser_base.specs.StatementRefusals.{RefusesArm, RefusesArms, RefusesAssignment, RefusesBlock, RefusesInitial, RefusesLast, RefusesLocal};
 ghost use Rattle.lua_parser_base.specs.StatementRefusals.{RefusesMethod, RefusesScoped, RefusesStat, RefusesTarget, RefusesValue, RefusesValues};
 
@@ -24,8 +26,8 @@ use crate::suffixes::{expressions, prefix};
 use lua_ast::{Arm, Expr, Stmt, StmtKind};
 use lua_lexer::{Sign, Token, Word};
 use lua_parser_base::{
-    Begins, Form, FunctionName, Nesting, ParseFault, Parser, Prefix, arm_node, assign_node, define,
-    do_node, if_node, local_node, returned,
+    Begins, Begun, Form, FunctionName, Nesting, ParseFault, Parser, Prefix, arm_node, assign_node,
+    define, do_node, if_node, local_node, returned,
 };
 use resty_base::Bytes;
 use std::alloc::Global;
@@ -48,14 +50,34 @@ pub(crate) fn body(
     ensures order { IfErr result (FirstFault (Standing.body at first.items) (state tokens.now parser.old) (state tokens.now parser.new)) }
     ensures forward { OnOk result (Advances tokens.now parser.old parser.new) }
 {
-    parser.take_sign(tokens, Sign::OpenParenthesis)?;
-    let parameters = parser.parameters(tokens, first)?;
-    parser.take_sign(tokens, Sign::CloseParenthesis)?;
-    let begun = parser.enter(alloc, parameters, line)?;
+    let begun = begin(parser, alloc, tokens, line, first)?;
     let inner = parser.deeper(tokens, at)?.of_function(begun.vararg);
     let block = block(parser, alloc, tokens, inner)?;
     parser.take_word(tokens, Word::End)?;
     parser.end(alloc, begun, block)
+}
+
+/// `(´ [parlist] `)´
+/// Reads the parameters of a function and begins it. `first` are the parameters that stand before those. The word
+/// `function` is on that line.
+fn begin(
+    parser: &mut Parser,
+    alloc: Global,
+    tokens: &[Token],
+    line: u32,
+    first: Vec<Bytes>,
+) -> Result<Begun, ParseFault>
+    requires { vec_len first ≤ 200 }
+    ensures reads { IfOk result (λ begun. ReadsHead line first.items (state tokens.now parser.old) begun (state tokens.now parser.new)) }
+    ensures refuses { (at : Nesting) → IfErr result (RefusesBody at line first.items (state tokens.now parser.old) (state tokens.now parser.new)) }
+    ensures order { (at : Nesting)
+        → IfErr result (FirstFault (Standing.body at first.items) (state tokens.now parser.old) (state tokens.now parser.new)) }
+    ensures forward { OnOk result (Advances tokens.now parser.old parser.new) }
+{
+    parser.take_sign(tokens, Sign::OpenParenthesis)?;
+    let parameters = parser.parameters(tokens, first)?;
+    parser.take_sign(tokens, Sign::CloseParenthesis)?;
+    parser.enter(alloc, parameters, line)
 }
 
 /// block ::= chunk

@@ -4,7 +4,7 @@ ghost use Rattle.lua_lexer.specs.declared.tokens.TokenKind.TheVariants.{Sign as 
 ghost use Rattle.lua_lexer.specs.declared.signs.Sign.TheVariants.{Colon, OpenBrace, OpenBracket};
 ghost use Rattle.lua_parser_base.specs.States.{state, Advances, Stops, IfErrWhere};
 ghost use Rattle.lua_parser_base.specs.Reads.{ReadsPrefix, Extends, ReadsArgs, ReadsList, ReadsTable, ReadsField};
-ghost use Rattle.lua_parser_base.specs.Next.{IsNext, ahead};
+ghost use Rattle.lua_parser_base.specs.Next.{Begin, IsNext, IsNotNext, IsText, ahead};
 ghost use Rattle.lua_parser_base.specs.Kinds.{SuffixBegins, NamedFieldBegins};
 ghost use Rattle.lua_grammar.specs.Stopping.{IsNoComma};
 ghost use Rattle.lua_parser_base.specs.Refusals.{RefusesArgs, RefusesField, RefusesList, RefusesPrefix, RefusesSuffix, RefusesTable};
@@ -222,6 +222,24 @@ fn arguments(
         let text = parser.take_text(tokens)?;
         return Values::text(alloc, text);
     }
+    list_arguments(parser, alloc, tokens, at)
+}
+
+/// args ::= `(´ [explist] `)´
+/// Reads arguments in parentheses. Expressions among them are parts of one at `at`.
+#[cycle(descent)]
+fn list_arguments(
+    parser: &mut Parser,
+    alloc: Global,
+    tokens: &[Token],
+    at: Nesting,
+) -> Result<Values, ParseFault>
+    ensures reads { IfOk result (λ values. ReadsArgs at (state tokens.now parser.old) values (state tokens.now parser.new)) }
+    ensures refuses { (Begin IsText (state tokens.now parser.old).left → ⊥)
+        → IfErrWhere (IsNotNext (SignKind OpenBrace)) result (RefusesArgs at) tokens.now parser.old parser.new }
+    ensures order { IfErr result (FirstFault (Standing.args at) (state tokens.now parser.old) (state tokens.now parser.new)) }
+    ensures forward { OnOk result (Advances tokens.now parser.old parser.new) }
+{
     parser.take_sign(tokens, Sign::OpenParenthesis)?;
     if parser.at_sign(tokens, Sign::CloseParenthesis) {
         parser.take_sign(tokens, Sign::CloseParenthesis)?;

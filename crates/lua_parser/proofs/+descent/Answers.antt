@@ -1,10 +1,9 @@
-use Rattle.lua_grammar.specs.Operators.{right_level}
 use Rattle.lua_grammar.specs.Reading.{statement, last, after_field, field}
 use Rattle.lua_grammar.specs.Resolution.{self_name}
 use Rattle.lua_grammar.specs.Scopes.{in_scope}
 use Rattle.lua_grammar.specs.Stopping.{EndsAt}
 use Rattle.lua_grammar.specs.Waiting.{token, exp}
-use Rattle.lua_lexer.specs.declared.signs.Sign.TheVariants.{Colon, CloseParenthesis, OpenParenthesis, CloseBracket, OpenBracket}
+use Rattle.lua_lexer.specs.declared.signs.Sign.TheVariants.{Colon, OpenParenthesis, OpenBracket}
 use Rattle.lua_lexer.specs.declared.tokens.TokenKind.TheVariants.{Word, Sign, Sign as SignKind}
 use Rattle.lua_parser_base.proofs.Arguments.{call_cannot_open, call_refused, call_too_high, method_cannot_open, method_no_name, method_refused, method_too_high, args_no_part, args_open, args_refused, no_args, table_arg_refused}
 use Rattle.lua_parser.proofs.ArmRefusals.{arm_block_refused, test_refused, then_refused, first_arm_refused, next_arm_refused, arms_refused, else_end_refused, else_refused, end_refused}
@@ -13,7 +12,7 @@ use Rattle.lua_parser.proofs.Beside.{advances_stays, binary_of, done_by, loop_na
 use Rattle.lua_parser.proofs.BlockKinds.{block_end, is_statement, nothing_returned, return_next, semicolon_next, values_next, do_kind, for_kind, function_kind, if_kind, local_kind, prefix_begins, repeat_kind, while_kind}
 use Rattle.lua_parser_base.proofs.BlockRefusals.{scoped_refused, scoped_too_deep, last_refused, stat_refused, returned_refused}
 use Rattle.lua_parser_base.proofs.Blocks.{arm_read, arms_more, arms_one, block_last, block_open, do_read, if_else_read, if_read, repeat_read, return_none_read, return_read, scoped_read, stats_more, stats_none, value_read, values_read, while_read}
-use Rattle.lua_parser_base.proofs.Bodies.{body_read, ends_state, enters_state}
+use Rattle.lua_parser_base.proofs.Bodies.{body_read, ends_state}
 use Rattle.lua_parser_base.proofs.Breaking.{args_ambiguous, ended_first, missing_first, call_breaks, call_ambiguous, counted_before, deep_breaks, function_breaks, method_breaks, operator_breaks, part_breaks, suffix_breaks}
 use Rattle.lua_parser_base.proofs.Calls.{ok_extends, item_read, called_read, method_called_read, no_args_read, args_read, table_arg_read, text_arg_read}
 use Rattle.lua_parser.proofs.Closures.{closure_refused}
@@ -21,7 +20,7 @@ use Rattle.lua_parser.proofs.Constructors.{part_refused, field_refused, separato
 use Rattle.lua_parser.proofs.Declaring.{few_after, few_declared, few_in_list, few_in_loop, few_in_range, function_stands, local_there}
 use Rattle.lua_parser.proofs.Fields.{plain_refused, key_refused, bracket_refused, equals_refused, keyed_value_refused, name_never_missed, equals_never_missed, named_value_refused}
 use Rattle.lua_parser_base.proofs.ForLoops.{for_read, range_read, list_read, loop_read}
-use Rattle.lua_parser.proofs.FunctionBodies.{begins_body, body_block_refused, body_too_deep, body_unended, body_unopened, parameters_refused, parameters_unclosed}
+use Rattle.lua_parser.proofs.FunctionBodies.{begins_body, body_block_refused, body_too_deep, body_unended}
 use Rattle.lua_parser_base.proofs.FunctionStatements.{function_word, function_name_refused, function_body_refused, method_statement_refused, method_unnamed, method_body_refused}
 use Rattle.lua_parser_base.proofs.Handing.{handed_on}
 use Rattle.lua_parser.proofs.Lists.{first_refused, next_refused}
@@ -45,10 +44,10 @@ use Rattle.lua_parser_base.specs.Next.{IsKind, IsMemory, IsTooDeep, Misses, OnAt
 use Rattle.lua_parser_base.specs.Reads.{ReadsExp}
 use Rattle.lua_parser_base.specs.Refusals.{RefusesFrom, RefusesList, RefusesBody, RefusesPrefix, RefusesExp, RefusesSuffix, RefusesArgs, RefusesField}
 use Rattle.lua_parser_base.specs.Standing.{FirstFault}
-use Rattle.lua_parser_base.specs.StatementRefusals.{RefusesArm, RefusesArms, RefusesBlock, RefusesLast, RefusesScoped, RefusesStat, RefusesValue, RefusesValues, RefusesNames, RefusesFor, RefusesLoop, RefusesStep, RefusesParameters, RefusesFuncName, RefusesInitial, RefusesTarget, RefusesMethod}
+use Rattle.lua_parser_base.specs.StatementRefusals.{RefusesArm, RefusesArms, RefusesBlock, RefusesLast, RefusesScoped, RefusesStat, RefusesValue, RefusesValues, RefusesNames, RefusesFor, RefusesLoop, RefusesParameters, RefusesFuncName, RefusesInitial, RefusesTarget, RefusesMethod}
 use Rattle.lua_parser_base.specs.States.{state, scope_of}
 use Rattle.lua_parser_base.specs.declared.nodes.Form.TheVariants.{Variable, Call, Paren}
-use Rattle.std.proofs.Common.{◌≡◌, ◌≤◌, refl, sym, subst, rules, arith, [], length, ◌∷◌, IfErr, ◌∙◌, ◌<◌, ◌+◌, true, false, lit≤, min, IsTrue, ap}
+use Rattle.std.proofs.Common.{◌≡◌, ◌≤◌, refl, sym, subst, rules, arith, [], length, ◌∷◌, IfErr, ◌∙◌, ◌<◌, ◌+◌, true, false, lit≤, IsTrue, ap}
 use Rattle.std.proofs.lemmas.Result.{err_from_is_err_and}
 use Rattle.lua_parser_base.specs.declared.beginnings.Begins.TheVariants as begins
 use Rattle.lua_parser.proofs.+descent.Goals as goal
@@ -687,12 +686,12 @@ pub suffixes::arguments-returns-then-at_text-clause-reads : goal.suffixes::argum
 suffixes::arguments-returns-then-at_text-clause-reads t c =
     on_node _ c.text.ensures (λ v is. text_arg_read _ _ _ _ _ _ c.in_ok-text.ensures.takes is)
 
-pub suffixes::arguments-returns-then-at_sign-2-clause-reads : goal.suffixes::arguments-returns-then-at_sign-2-clause-reads
-suffixes::arguments-returns-then-at_sign-2-clause-reads t c =
+pub suffixes::list_arguments-returns-then-at_sign-clause-reads : goal.suffixes::list_arguments-returns-then-at_sign-clause-reads
+suffixes::list_arguments-returns-then-at_sign-clause-reads t c =
     no_args_read _ _ _ _ _ _ _ c.in_ok-take_sign.ensures.takes c.in_ok-take_sign-2.ensures.takes c.none.ensures
 
-pub suffixes::arguments-returns-clause-reads : goal.suffixes::arguments-returns-clause-reads
-suffixes::arguments-returns-clause-reads t c =
+pub suffixes::list_arguments-returns-clause-reads : goal.suffixes::list_arguments-returns-clause-reads
+suffixes::list_arguments-returns-clause-reads t c =
     args_read _ _ _ _ _ _ _ _ _ c.in_ok-take_sign.ensures.takes c.in_ok-inner.ensures c.in_ok-values.ensures.reads c.in_ok-take_sign-3.ensures.takes
 
 pub suffixes::arguments-returns-in_err-table-clause-refuses : goal.suffixes::arguments-returns-in_err-table-clause-refuses
@@ -701,28 +700,29 @@ suffixes::arguments-returns-in_err-table-clause-refuses t c =
     handed_on (RefusesArgs c.args.at (state c.args.tokens.now c.args.parser.now) (state c.args.tokens.now c.table.new.parser)) c.from_residual.result _ c.from_residual.ensures.1
     (table_arg_refused c.args.at c.narrower-inner.result _ _ _ c.narrower-inner.ensures (c.in_err-table.ensures.refuses (c.at_sign.ensures.0 is)))
 
-pub suffixes::arguments-returns-in_err-take_sign-clause-refuses : goal.suffixes::arguments-returns-in_err-take_sign-clause-refuses
-suffixes::arguments-returns-in_err-take_sign-clause-refuses t c =
-    let no_table = untested c.at_sign.result _ c.if-at_sign.false c.at_sign.ensures in
-    let no_text = untested c.at_text.result _ c.if-at_text.false c.at_text.ensures in
-    handed_on (RefusesArgs c.args.at (state c.args.tokens.now c.args.parser.now) (state c.args.tokens.now c.take_sign.new.self)) c.from_residual-in_err-take_sign.result _
-    c.from_residual-in_err-take_sign.ensures.1 (no_args c.args.at _ _ _ no_table no_text c.in_err-take_sign.ensures.misses)
+pub suffixes::arguments-returns-clause-refuses : goal.suffixes::arguments-returns-clause-refuses
+suffixes::arguments-returns-clause-refuses t c =
+    c.list_arguments.ensures.refuses (untested c.at_text.result _ c.if-at_text.false c.at_text.ensures) (untested c.at_sign.result _ c.if-at_sign.false c.at_sign.ensures)
 
-pub suffixes::arguments-returns-in_err-inner-clause-refuses : goal.suffixes::arguments-returns-in_err-inner-clause-refuses
-suffixes::arguments-returns-in_err-inner-clause-refuses t c =
-    let open_ = untested c.at_sign-2.result _ c.if-at_sign-2.false c.at_sign-2.ensures in
+pub suffixes::list_arguments-returns-in_err-take_sign-clause-refuses : goal.suffixes::list_arguments-returns-in_err-take_sign-clause-refuses
+suffixes::list_arguments-returns-in_err-take_sign-clause-refuses t c = λ no_text no_table.
+    handed_on (RefusesArgs c.args.at (state c.args.tokens.now c.args.parser.now) (state c.args.tokens.now c.take_sign.new.self)) c.from_residual.result _ c.from_residual.ensures.1 (no_args c.args.at _ _ _ no_table no_text c.in_err-take_sign.ensures.misses)
+
+pub suffixes::list_arguments-returns-in_err-inner-clause-refuses : goal.suffixes::list_arguments-returns-in_err-inner-clause-refuses
+suffixes::list_arguments-returns-in_err-inner-clause-refuses t c = λ no_text no_table.
+    let open_ = untested c.at_sign.result _ c.if-at_sign.false c.at_sign.ensures in
     handed_on (RefusesArgs c.args.at (state c.args.tokens.now c.args.parser.now) (state c.args.tokens.now c.take_sign.new.self)) c.from_residual-in_err-inner.result _
     c.from_residual-in_err-inner.ensures.1 (args_no_part c.args.at _ _ _ _ c.in_ok-take_sign.ensures.takes open_ c.in_err-inner.ensures)
 
-pub suffixes::arguments-returns-in_err-values-clause-refuses : goal.suffixes::arguments-returns-in_err-values-clause-refuses
-suffixes::arguments-returns-in_err-values-clause-refuses t c =
-    let open_ = untested c.at_sign-2.result _ c.if-at_sign-2.false c.at_sign-2.ensures in
+pub suffixes::list_arguments-returns-in_err-values-clause-refuses : goal.suffixes::list_arguments-returns-in_err-values-clause-refuses
+suffixes::list_arguments-returns-in_err-values-clause-refuses t c = λ no_text no_table.
+    let open_ = untested c.at_sign.result _ c.if-at_sign.false c.at_sign.ensures in
     handed_on (RefusesArgs c.args.at (state c.args.tokens.now c.args.parser.now) (state c.args.tokens.now c.expressions.new.parser)) c.from_residual-in_err-values.result _
     c.from_residual-in_err-values.ensures.1 (args_refused c.args.at c.in_ok-inner.inner _ _ _ _ _ c.in_ok-take_sign.ensures.takes open_ c.in_ok-inner.ensures c.in_err-values.ensures.refuses)
 
-pub suffixes::arguments-returns-in_err-take_sign-3-clause-refuses : goal.suffixes::arguments-returns-in_err-take_sign-3-clause-refuses
-suffixes::arguments-returns-in_err-take_sign-3-clause-refuses t c =
-    let open_ = untested c.at_sign-2.result _ c.if-at_sign-2.false c.at_sign-2.ensures in
+pub suffixes::list_arguments-returns-in_err-take_sign-3-clause-refuses : goal.suffixes::list_arguments-returns-in_err-take_sign-3-clause-refuses
+suffixes::list_arguments-returns-in_err-take_sign-3-clause-refuses t c = λ no_text no_table.
+    let open_ = untested c.at_sign.result _ c.if-at_sign.false c.at_sign.ensures in
     let values = c.in_ok-values.ensures in
     handed_on (RefusesArgs c.args.at (state c.args.tokens.now c.args.parser.now) (state c.args.tokens.now c.take_sign-2.new.self)) c.from_residual-in_err-take_sign-3.result _
     c.from_residual-in_err-take_sign-3.ensures.1
@@ -733,15 +733,15 @@ suffixes::arguments-returns-in_err-table-clause-order t c =
     handed_on _ c.from_residual.result _ c.from_residual.ensures.1
     (λ start stands. c.in_err-table.ensures.order start (standing.table_args stands c.narrower-inner.ensures))
 
-pub suffixes::arguments-returns-in_err-inner-clause-order : goal.suffixes::arguments-returns-in_err-inner-clause-order
-suffixes::arguments-returns-in_err-inner-clause-order t c =
-    let open_ = untested c.at_sign-2.result _ c.if-at_sign-2.false c.at_sign-2.ensures in
+pub suffixes::list_arguments-returns-in_err-inner-clause-order : goal.suffixes::list_arguments-returns-in_err-inner-clause-order
+suffixes::list_arguments-returns-in_err-inner-clause-order t c =
+    let open_ = untested c.at_sign.result _ c.if-at_sign.false c.at_sign.ensures in
     handed_on _ c.from_residual-in_err-inner.result _ c.from_residual-in_err-inner.ensures.1
     (λ start stands. part_breaks _ _ _ _ (few_there _ _) c.in_err-inner.ensures start (standing.in_args stands c.in_ok-take_sign.ensures.takes open_))
 
-pub suffixes::arguments-returns-in_err-values-clause-order : goal.suffixes::arguments-returns-in_err-values-clause-order
-suffixes::arguments-returns-in_err-values-clause-order t c =
-    let open_ = untested c.at_sign-2.result _ c.if-at_sign-2.false c.at_sign-2.ensures in
+pub suffixes::list_arguments-returns-in_err-values-clause-order : goal.suffixes::list_arguments-returns-in_err-values-clause-order
+suffixes::list_arguments-returns-in_err-values-clause-order t c =
+    let open_ = untested c.at_sign.result _ c.if-at_sign.false c.at_sign.ensures in
     handed_on _ c.from_residual-in_err-values.result _ c.from_residual-in_err-values.ensures.1
     (λ start stands. c.in_err-values.ensures.order start (standing.as_part (standing.in_args stands c.in_ok-take_sign.ensures.takes open_) c.in_ok-inner.ensures))
 
@@ -750,14 +750,14 @@ suffixes::arguments-returns-in_err-text-clause-order t c =
     handed_on _ c.from_residual-in_err-text.result _ c.from_residual-in_err-text.ensures.1
     (λ start stands. missing_first _ _ _ _ c.in_err-text.ensures.misses start (standing.before_it stands))
 
-pub suffixes::arguments-returns-in_err-take_sign-clause-order : goal.suffixes::arguments-returns-in_err-take_sign-clause-order
-suffixes::arguments-returns-in_err-take_sign-clause-order t c =
-    handed_on _ c.from_residual-in_err-take_sign.result _ c.from_residual-in_err-take_sign.ensures.1
+pub suffixes::list_arguments-returns-in_err-take_sign-clause-order : goal.suffixes::list_arguments-returns-in_err-take_sign-clause-order
+suffixes::list_arguments-returns-in_err-take_sign-clause-order t c =
+    handed_on _ c.from_residual.result _ c.from_residual.ensures.1
     (λ start stands. missing_first _ _ _ _ c.in_err-take_sign.ensures.misses start (standing.before_it stands))
 
-pub suffixes::arguments-returns-in_err-take_sign-3-clause-order : goal.suffixes::arguments-returns-in_err-take_sign-3-clause-order
-suffixes::arguments-returns-in_err-take_sign-3-clause-order t c =
-    let open_ = untested c.at_sign-2.result _ c.if-at_sign-2.false c.at_sign-2.ensures in
+pub suffixes::list_arguments-returns-in_err-take_sign-3-clause-order : goal.suffixes::list_arguments-returns-in_err-take_sign-3-clause-order
+suffixes::list_arguments-returns-in_err-take_sign-3-clause-order t c =
+    let open_ = untested c.at_sign.result _ c.if-at_sign.false c.at_sign.ensures in
     handed_on _ c.from_residual-in_err-take_sign-3.result _ c.from_residual-in_err-take_sign-3.ensures.1
     (λ start stands. missing_first _ _ _ _ c.in_err-take_sign-3.ensures.misses start (standing.after_list (standing.as_part (standing.in_args stands c.in_ok-take_sign.ensures.takes open_) c.in_ok-inner.ensures) c.in_ok-values.ensures.reads))
 
@@ -1164,92 +1164,57 @@ statements::block-returns-in_err-statement-in_default-clause-order t c =
 
 pub statements::body-returns-clause-reads : goal.statements::body-returns-clause-reads
 statements::body-returns-clause-reads t c =
-    let opens = enters_state c.args.tokens.now c.take_sign-2.new.self c.enter.new.self _ _ _ c.in_ok-begun.ensures.enters in
-    let same = turned c.args.tokens.now c.take_sign-2.new.self c.enter.new.self _ c.in_ok-begun.ensures.index c.in_ok-begun.ensures.line refl in
+    let head = c.in_ok-begun.ensures.reads in
     let done = turned c.args.tokens.now c.take_word.new.self c.end.new.self _ c.end.ensures.index c.end.ensures.line refl in
-    on_ok _ c.end.ensures.ends (λ number ends. body_read _ _ _ _ _ _ _ _ _ _ _ _ _ _ _ _ _ _ _ _ c.in_ok-take_sign.ensures.takes c.in_ok-parameters.ensures.reads c.in_ok-take_sign-2.ensures.takes opens same.left
+    on_ok _ c.end.ensures.ends (λ number ends. body_read _ _ _ _ _ _ _ _ _ _ _ _ _ _ _ _ _ _ _ _ head.opens head.reads head.closes head.enters head.left
     c.in_ok-deeper.ensures c.of_function-inner.ensures c.in_ok-block.ensures.reads c.in_ok-take_word.ensures.takes (ends_state c.args.tokens.now c.take_word.new.self c.end.new.self _ _ _ ends) done.left)
 
-pub statements::body-returns-in_err-take_sign-clause-refuses : goal.statements::body-returns-in_err-take_sign-clause-refuses
-statements::body-returns-in_err-take_sign-clause-refuses t c =
-    let h : IfErr c.from_residual.result (OnAt (Misses (IsKind (Sign sign.OpenParenthesis)) (state c.args.tokens.now c.args.parser.now) (state c.args.tokens.now c.take_sign.new.self))) = search rules in
-    on_err c.from_residual.result h (λ fault missed. body_unopened c.args.at c.args.line c.args.first.items fault _ _ missed)
-
-pub statements::body-returns-in_err-parameters-clause-refuses : goal.statements::body-returns-in_err-parameters-clause-refuses
-statements::body-returns-in_err-parameters-clause-refuses t c =
-    let h : IfErr c.from_residual-in_err-parameters.result (RefusesParameters c.args.first.items (state c.args.tokens.now c.take_sign.new.self) (state c.args.tokens.now c.parameters.new.self)) = search rules in
-    on_err c.from_residual-in_err-parameters.result h (λ fault refuses. parameters_refused c.args.at c.args.line c.args.first.items fault _ _ _ _ c.in_ok-take_sign.ensures.takes refuses)
-
-pub statements::body-returns-in_err-take_sign-2-clause-refuses : goal.statements::body-returns-in_err-take_sign-2-clause-refuses
-statements::body-returns-in_err-take_sign-2-clause-refuses t c =
-    let h : IfErr c.from_residual-in_err-take_sign-2.result (OnAt (Misses (IsKind (Sign sign.CloseParenthesis)) (state c.args.tokens.now c.parameters.new.self) (state c.args.tokens.now c.take_sign-2.new.self))) = search rules in
-    on_err c.from_residual-in_err-take_sign-2.result h (λ fault missed.
-    parameters_unclosed c.args.at c.args.line c.args.first.items fault _ _ _ _ _ _ c.in_ok-take_sign.ensures.takes c.in_ok-parameters.ensures.reads missed)
+pub statements::body-returns-in_err-begun-clause-refuses : goal.statements::body-returns-in_err-begun-clause-refuses
+statements::body-returns-in_err-begun-clause-refuses t c =
+    handed_on (RefusesBody c.args.at c.args.line c.args.first.items (state c.args.tokens.now c.args.parser.now) (state c.args.tokens.now c.begin.new.parser)) c.from_residual.result _ c.from_residual.ensures.1 (c.in_err-begun.ensures.refuses c.args.at)
 
 pub statements::body-returns-in_err-deeper-clause-refuses : goal.statements::body-returns-in_err-deeper-clause-refuses
 statements::body-returns-in_err-deeper-clause-refuses t c =
-    let h : IfErr c.from_residual-in_err-deeper.result (IsTooDeep c.args.at (state c.args.tokens.now c.enter.new.self)) = search rules in
-    let opens = enters_state c.args.tokens.now c.take_sign-2.new.self c.enter.new.self _ _ _ c.in_ok-begun.ensures.enters in
-    let same = turned c.args.tokens.now c.take_sign-2.new.self c.enter.new.self _ c.in_ok-begun.ensures.index c.in_ok-begun.ensures.line refl in
-    let begins = begins_body _ _ _ _ _ _ _ _ _ _ _ c.in_ok-take_sign.ensures.takes c.in_ok-parameters.ensures.reads c.in_ok-take_sign-2.ensures.takes opens same.left in
-    on_err c.from_residual-in_err-deeper.result h (λ fault deep. body_too_deep c.args.at c.args.line c.args.first.items _ fault _ _ begins deep)
+    let head = c.in_ok-begun.ensures.reads in
+    handed_on (RefusesBody c.args.at c.args.line c.args.first.items (state c.args.tokens.now c.args.parser.now) (state c.args.tokens.now c.begin.new.parser)) c.from_residual-in_err-deeper.result _ c.from_residual-in_err-deeper.ensures.1
+    (body_too_deep c.args.at c.args.line c.args.first.items _ _ _ _ (begins_body _ _ _ _ _ _ _ _ _ _ _ head.opens head.reads head.closes head.enters head.left) c.in_err-deeper.ensures)
 
 pub statements::body-returns-in_err-block-clause-refuses : goal.statements::body-returns-in_err-block-clause-refuses
 statements::body-returns-in_err-block-clause-refuses t c =
-    let h : IfErr c.from_residual-in_err-block.result (RefusesBlock c.of_function-inner.result (state c.args.tokens.now c.enter.new.self) (state c.args.tokens.now c.block.new.parser)) = search rules in
-    let opens = enters_state c.args.tokens.now c.take_sign-2.new.self c.enter.new.self _ _ _ c.in_ok-begun.ensures.enters in
-    let same = turned c.args.tokens.now c.take_sign-2.new.self c.enter.new.self _ c.in_ok-begun.ensures.index c.in_ok-begun.ensures.line refl in
-    let begins = begins_body _ _ _ _ _ _ _ _ _ _ _ c.in_ok-take_sign.ensures.takes c.in_ok-parameters.ensures.reads c.in_ok-take_sign-2.ensures.takes opens same.left in
-    on_err c.from_residual-in_err-block.result h (λ fault refuses.
-    body_block_refused c.args.at c.in_ok-deeper.field-0 c.of_function-inner.result c.args.line c.args.first.items _ fault _ _ _ begins c.in_ok-deeper.ensures c.of_function-inner.ensures refuses)
+    let head = c.in_ok-begun.ensures.reads in
+    handed_on (RefusesBody c.args.at c.args.line c.args.first.items (state c.args.tokens.now c.args.parser.now) (state c.args.tokens.now c.block.new.parser)) c.from_residual-in_err-block.result _ c.from_residual-in_err-block.ensures.1
+    (body_block_refused c.args.at c.in_ok-deeper.field-0 c.of_function-inner.result c.args.line c.args.first.items _ _ _ _ _ (begins_body _ _ _ _ _ _ _ _ _ _ _ head.opens head.reads head.closes head.enters head.left) c.in_ok-deeper.ensures c.of_function-inner.ensures c.in_err-block.ensures.refuses)
 
 pub statements::body-returns-in_err-take_word-clause-refuses : goal.statements::body-returns-in_err-take_word-clause-refuses
 statements::body-returns-in_err-take_word-clause-refuses t c =
-    let h : IfErr c.from_residual-in_err-take_word.result (OnAt (Misses (IsKind (Word word.End)) (state c.args.tokens.now c.block.new.parser) (state c.args.tokens.now c.take_word.new.self))) = search rules in
-    let opens = enters_state c.args.tokens.now c.take_sign-2.new.self c.enter.new.self _ _ _ c.in_ok-begun.ensures.enters in
-    let same = turned c.args.tokens.now c.take_sign-2.new.self c.enter.new.self _ c.in_ok-begun.ensures.index c.in_ok-begun.ensures.line refl in
-    let begins = begins_body _ _ _ _ _ _ _ _ _ _ _ c.in_ok-take_sign.ensures.takes c.in_ok-parameters.ensures.reads c.in_ok-take_sign-2.ensures.takes opens same.left in
-    on_err c.from_residual-in_err-take_word.result h (λ fault missed.
-    body_unended c.args.at c.of_function-inner.result c.args.line c.args.first.items _ fault _ _ _ _ _ begins c.in_ok-block.ensures.reads missed)
+    let head = c.in_ok-begun.ensures.reads in
+    handed_on (RefusesBody c.args.at c.args.line c.args.first.items (state c.args.tokens.now c.args.parser.now) (state c.args.tokens.now c.take_word.new.self)) c.from_residual-in_err-take_word.result _ c.from_residual-in_err-take_word.ensures.1
+    (body_unended c.args.at c.of_function-inner.result c.args.line c.args.first.items _ _ _ _ _ _ _ (begins_body _ _ _ _ _ _ _ _ _ _ _ head.opens head.reads head.closes head.enters head.left) c.in_ok-block.ensures.reads c.in_err-take_word.ensures.misses)
 
 pub statements::body-returns-clause-refuses : goal.statements::body-returns-clause-refuses
 statements::body-returns-clause-refuses t c = on_want _ c.end.result (λ k never none. absurd none) (search rules)
 
-pub statements::body-returns-in_err-parameters-clause-order : goal.statements::body-returns-in_err-parameters-clause-order
-statements::body-returns-in_err-parameters-clause-order t c =
-    handed_on _ c.from_residual-in_err-parameters.result _ c.from_residual-in_err-parameters.ensures.1
-    (λ start stands. c.in_err-parameters.ensures.order start (standing.of_parameters stands c.in_ok-take_sign.ensures.takes))
+pub statements::body-returns-in_err-begun-clause-order : goal.statements::body-returns-in_err-begun-clause-order
+statements::body-returns-in_err-begun-clause-order t c =
+    handed_on _ c.from_residual.result _ c.from_residual.ensures.1 (c.in_err-begun.ensures.order c.args.at)
 
 pub statements::body-returns-in_err-deeper-clause-order : goal.statements::body-returns-in_err-deeper-clause-order
 statements::body-returns-in_err-deeper-clause-order t c =
-    let opens = enters_state c.args.tokens.now c.take_sign-2.new.self c.enter.new.self _ _ _ c.in_ok-begun.ensures.enters in
-    let same = turned c.args.tokens.now c.take_sign-2.new.self c.enter.new.self _ c.in_ok-begun.ensures.index c.in_ok-begun.ensures.line refl in
+    let head = c.in_ok-begun.ensures.reads in
     handed_on _ c.from_residual-in_err-deeper.result _ c.from_residual-in_err-deeper.ensures.1
-    (λ start stands. function_breaks _ _ _ _ (few_there _ _) c.in_err-deeper.ensures start (function_stands opens same.left stands c.in_ok-take_sign.ensures.takes c.in_ok-parameters.ensures.reads c.in_ok-take_sign-2.ensures.takes))
+    (λ start stands. function_breaks _ _ _ _ (few_there _ _) c.in_err-deeper.ensures start (function_stands head.enters head.left stands head.opens head.reads head.closes))
 
 pub statements::body-returns-in_err-block-clause-order : goal.statements::body-returns-in_err-block-clause-order
 statements::body-returns-in_err-block-clause-order t c =
-    let opens = enters_state c.args.tokens.now c.take_sign-2.new.self c.enter.new.self _ _ _ c.in_ok-begun.ensures.enters in
-    let same = turned c.args.tokens.now c.take_sign-2.new.self c.enter.new.self _ c.in_ok-begun.ensures.index c.in_ok-begun.ensures.line refl in
+    let head = c.in_ok-begun.ensures.reads in
     handed_on _ c.from_residual-in_err-block.result _ c.from_residual-in_err-block.ensures.1
-    (λ start stands. c.in_err-block.ensures.order start (standing.its_block (function_stands opens same.left stands c.in_ok-take_sign.ensures.takes c.in_ok-parameters.ensures.reads c.in_ok-take_sign-2.ensures.takes) c.in_ok-deeper.ensures c.of_function-inner.ensures))
-
-pub statements::body-returns-in_err-take_sign-clause-order : goal.statements::body-returns-in_err-take_sign-clause-order
-statements::body-returns-in_err-take_sign-clause-order t c =
-    handed_on _ c.from_residual.result _ c.from_residual.ensures.1
-    (λ start stands. missing_first _ _ _ _ c.in_err-take_sign.ensures.misses start (standing.before_it stands))
-
-pub statements::body-returns-in_err-take_sign-2-clause-order : goal.statements::body-returns-in_err-take_sign-2-clause-order
-statements::body-returns-in_err-take_sign-2-clause-order t c =
-    handed_on _ c.from_residual-in_err-take_sign-2.result _ c.from_residual-in_err-take_sign-2.ensures.1
-    (λ start stands. missing_first _ _ _ _ c.in_err-take_sign-2.ensures.misses start (standing.after_parameters (standing.of_parameters stands c.in_ok-take_sign.ensures.takes) c.in_ok-parameters.ensures.reads))
+    (λ start stands. c.in_err-block.ensures.order start (standing.its_block (function_stands head.enters head.left stands head.opens head.reads head.closes) c.in_ok-deeper.ensures c.of_function-inner.ensures))
 
 pub statements::body-returns-in_err-take_word-clause-order : goal.statements::body-returns-in_err-take_word-clause-order
 statements::body-returns-in_err-take_word-clause-order t c =
-    let opens = enters_state c.args.tokens.now c.take_sign-2.new.self c.enter.new.self _ _ _ c.in_ok-begun.ensures.enters in
-    let same = turned c.args.tokens.now c.take_sign-2.new.self c.enter.new.self _ c.in_ok-begun.ensures.index c.in_ok-begun.ensures.line refl in
+    let head = c.in_ok-begun.ensures.reads in
     handed_on _ c.from_residual-in_err-take_word.result _ c.from_residual-in_err-take_word.ensures.1
-    (λ start stands. missing_first _ _ _ _ c.in_err-take_word.ensures.misses start (standing.after_block (standing.its_block (function_stands opens same.left stands c.in_ok-take_sign.ensures.takes c.in_ok-parameters.ensures.reads c.in_ok-take_sign-2.ensures.takes) c.in_ok-deeper.ensures c.of_function-inner.ensures) c.in_ok-block.ensures.reads))
+    (λ start stands. missing_first _ _ _ _ c.in_err-take_word.ensures.misses start (standing.after_block (standing.its_block (function_stands head.enters head.left stands head.opens head.reads head.closes) c.in_ok-deeper.ensures c.of_function-inner.ensures) c.in_ok-block.ensures.reads))
 
 pub statements::do_block-returns-clause-reads : goal.statements::do_block-returns-clause-reads
 statements::do_block-returns-clause-reads t c =

@@ -70,6 +70,9 @@ decreases-suffixes::method_arguments l = (201 - l.at.depth) * 16 + 3
 abbrev pub decreases-suffixes::arguments : goal.decreases-suffixes::arguments
 decreases-suffixes::arguments l = (201 - l.at.depth) * 16 + 2
 
+abbrev pub decreases-suffixes::list_arguments : goal.decreases-suffixes::list_arguments
+decreases-suffixes::list_arguments l = (201 - l.at.depth) * 16 + 1
+
 abbrev pub decreases-suffixes::expressions : goal.decreases-suffixes::expressions
 decreases-suffixes::expressions l = (201 - l.at.depth) * 16 + 9
 
