@@ -6,12 +6,14 @@ use Rattle.lua_grammar.specs.Stopping.{EndsAt}
 use Rattle.lua_grammar.specs.Tree.{Bytes}
 use Rattle.lua_lexer.specs.declared.tokens.Token.{Token}
 use Rattle.lua_parser_base.specs.declared.cursor.Parser.{Parser}
+use Rattle.lua_lexer.specs.declared.tokens.TokenKind.{TokenKind}
 use Rattle.lua_parser_base.specs.declared.faults.ParseFault.{ParseFault}
+use Rattle.lua_parser_base.specs.declared.faults.ParseFault.TheVariants.{At, Memory}
 use Rattle.lua_parser_base.specs.declared.nesting.Nesting.{Nesting}
 use Rattle.lua_parser_base.specs.declared.nodes.Built.{Built}
 use Rattle.lua_parser_base.specs.declared.operators.Infix.{Infix}
 use Rattle.lua_parser_base.specs.Nesting.{IsPart}
-use Rattle.lua_parser_base.specs.Next.{IsMemory, ahead}
+use Rattle.lua_parser_base.specs.Next.{Begin, IsMemory, Misses, OnAt, ahead}
 use Rattle.lua_parser_base.specs.Nodes.{IsBinary}
 use Rattle.lua_parser_base.specs.Reads.{ReadsExp}
 use Rattle.lua_parser_base.specs.StatementRefusals.{RefusesLoop}
@@ -64,3 +66,13 @@ binary_of left other op line right whole same is = subst (λ x. IsBinary x op li
 
 pub loop_named : (at : Nesting) (names others : List Bytes) (s t : State) (fault : ParseFault) → names ≡ others → RefusesLoop at names s t fault → RefusesLoop at others s t fault
 loop_named at names others s t fault same refuses = subst (λ xs. RefusesLoop at xs s t fault) same refuses
+
+-- what stands next isn't missed
+pub never_there : (P : TokenKind → Type 0) (Q : ParseFault → Type 0) (s t : State) (fault : ParseFault) → OnAt (Misses P s t) fault → Begin P s.left → Q Memory → Q fault
+never_there P Q s t (At line) m next h = absurd (m.missing next)
+never_there P Q s t Memory m next h = h
+never_there P Q s t fault m next h = absurd m
+
+pub done_node : {A X : Type 0} (P : Type 0) (Q : ParseFault → Type 0) (r : Result A ParseFault) → MatchResult r (λ x. P) Q → (P → X) → OnOk r X
+done_node P Q (Ok x) h f = f h
+done_node P Q (Err fault) h f = tt

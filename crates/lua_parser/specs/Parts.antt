@@ -1,7 +1,9 @@
 -- What is read of a part, where what stands before it is kept.
 use Rattle.std.specs.Prelude.{◌≡◌, ◌<◌, ◌≤◌, ℕ, List, min, IfNone}
-use Rattle.lua_lexer.specs.declared.tokens.TokenKind.TheVariants.{Name as NameKind, Sign as SignKind}
-use Rattle.lua_lexer.specs.declared.signs.Sign.TheVariants.{Assign, CloseBracket, CloseParenthesis, Colon, Comma, OpenBracket, OpenParenthesis}
+use Rattle.lua_ast.specs.declared.statements.Arm.{Arm}
+use Rattle.lua_lexer.specs.declared.tokens.TokenKind.TheVariants.{Name as NameKind, Sign as SignKind, Word as WordKind}
+use Rattle.lua_lexer.specs.declared.signs.Sign.TheVariants.{Assign, CloseBrace, CloseBracket, CloseParenthesis, Colon, Comma, OpenBrace, OpenBracket, OpenParenthesis}
+use Rattle.lua_lexer.specs.declared.words.Word.TheVariants.{If}
 use Rattle.lua_grammar.specs.Grammar.{first_line}
 use Rattle.lua_grammar.specs.Operators.{right_level}
 use Rattle.lua_grammar.specs.Stopping.{EndsAt}
@@ -12,6 +14,8 @@ use Rattle.lua_parser_base.specs.declared.functions.Begun.{Begun}
 use Rattle.lua_parser_base.specs.declared.functions.Parameters.{Parameters}
 use Rattle.lua_parser_base.specs.declared.nesting.Nesting.{Nesting}
 use Rattle.lua_parser_base.specs.declared.nodes.Built.{Built}
+use Rattle.lua_parser_base.specs.declared.nodes.Item.{Item}
+use Rattle.lua_parser_base.specs.declared.nodes.Items.{Items}
 use Rattle.lua_parser_base.specs.declared.nodes.Prefix.{Prefix}
 use Rattle.lua_parser_base.specs.declared.nodes.Values.{Values}
 use Rattle.lua_parser_base.specs.declared.operators.Infix.{Infix}
@@ -19,10 +23,12 @@ use Rattle.lua_parser_base.specs.declared.statement_nodes.Range.{Range}
 use Rattle.lua_parser_base.specs.Functions.{Enters}
 use Rattle.lua_parser_base.specs.Nesting.{IsPart}
 use Rattle.lua_parser_base.specs.Next.{IsNext, ahead}
-use Rattle.lua_parser_base.specs.Reads.{ReadsArgs, ReadsExp}
+use Rattle.lua_parser_base.specs.Nodes.{AddsItem}
+use Rattle.lua_parser_base.specs.Reads.{ReadsArgs, ReadsExp, ReadsField, ReadsFields}
 use Rattle.lua_parser_base.specs.ReadsNames.{ReadsParameters}
-use Rattle.lua_parser_base.specs.ReadsStatements.{ReadsStep, ReadsValue}
-use Rattle.lua_parser_base.specs.Refusals.{RefusesFrom}
+use Rattle.lua_parser_base.specs.ReadsStatements.{ReadsArms, ReadsStep, ReadsValue}
+use Rattle.lua_parser_base.specs.Refusals.{RefusesFrom, RefusesTable}
+use Rattle.lua_parser_base.specs.StatementRefusals.{RefusesStat}
 use Rattle.lua_parser_base.specs.Standing.{FirstFault}
 use Rattle.lua_parser_base.specs.Standing as Standing
 use Rattle.lua_parser_base.specs.States.{OpensOnLine, State, Takes, TakesOperator}
@@ -104,3 +110,37 @@ pub record ReadsHead (line : Line) (first : List Bytes) (s : State) (begun : Beg
   pub closes : Takes (SignKind CloseParenthesis) close_at last after
   pub enters : Enters parameters line begun after.scope t.scope
   pub left : t.left ≡ after.left
+
+-- the arms of an `if`, whose word stands on that line
+pub record AfterArms (at : Nesting) (line : Line) (arms : List Arm) (s t : State) : Type 0 where
+  pub inside : State
+  pub taken : Takes (WordKind If) line s inside
+  pub reads : (l : Line) → ReadsArms at l inside arms t
+
+abbrev pub RefusesElse : Nesting → Line → List Arm → State → State → ParseFault → Type 0
+RefusesElse at line arms m t fault = (s : State) → AfterArms at line arms s m → RefusesStat at s t fault
+
+abbrev pub FirstFaultOfElse : Nesting → Line → List Arm → State → State → ParseFault → Type 0
+FirstFaultOfElse at line arms m t fault = (s : State) → AfterArms at line arms s m → FirstFault (Standing.statement at) s t fault
+
+-- one more item of a table constructor
+pub record PushesField (at : Nesting) (before : Items) (m : State) (after : Items) (t : State) : Type 0 where
+  pub inner : Nesting
+  pub item : Item
+  pub part : IsPart at inner
+  pub reads : ReadsField inner m item t
+  pub adds : AddsItem before item after
+
+-- after the items of a table constructor that were read up to there
+pub record AfterItems (at : Nesting) (items : Items) (s t : State) : Type 0 where
+  pub open_at : Line
+  pub inside : State
+  pub opens : Takes (SignKind OpenBrace) open_at s inside
+  pub reads : ReadsFields at inside items t
+  pub more : IsNext (SignKind CloseBrace) t → ⊥
+
+abbrev pub RefusesItem : Nesting → Items → State → State → ParseFault → Type 0
+RefusesItem at items m t fault = (s : State) → AfterItems at items s m → RefusesTable at s t fault
+
+abbrev pub FirstFaultOfItem : Nesting → Items → State → State → ParseFault → Type 0
+FirstFaultOfItem at items m t fault = (s : State) → AfterItems at items s m → FirstFault (Standing.table at) s t fault

@@ -8,14 +8,14 @@ ghost use Rattle.lua_parser_base.specs.ReadsStatements.{ReadsFuncName, ReadsVars
 ghost use Rattle.lua_lexer.specs.declared.tokens.TokenKind.TheVariants.{Sign as SignKind};
 ghost use Rattle.lua_lexer.specs.declared.tokens.TokenKind.TheVariants.{Word as WordKind};
 ghost use Rattle.lua_lexer.specs.declared.signs.Sign.TheVariants.{Assign, Colon, Comma};
-ghost use Rattle.lua_lexer.specs.declared.words.Word.TheVariants.{Do, ElseIf, Function, If, Local};
+ghost use Rattle.lua_lexer.specs.declared.words.Word.TheVariants.{Do, Else, ElseIf, Function, If, Local};
 ghost use Rattle.lua_parser_base.specs.Next.{IsMemory, IsNext, ahead, IsAhead, IsNotNext};
 ghost use Rattle.lua_parser_base.specs.Kinds.{IsStatement, begins_of, StatementBegins};
 ghost use Rattle.lua_parser_base.specs.Refusals.{RefusesBody};
 ghost use Rattle.lua_parser_base.specs.Standing.{FirstFault, FirstFaultOfAssignment, FirstFaultOfTargets};
 ghost use Rattle.lua_parser_base.specs.Standing as Standing;
 ghost use Rattle.lua_parser_base.specs.declared.nesting.Nesting.{Nesting};
-ghost use Rattle.lua_parser.specs.Parts.{ReadsHead};
+ghost use Rattle.lua_parser.specs.Parts.{AfterArms, FirstFaultOfElse, ReadsHead, RefusesElse};
 ghost use Rattle.lua_parser_base.specs.StatementRefusals.{RefusesArm, RefusesArms, RefusesAssignment, RefusesBlock, RefusesInitial, RefusesLast, RefusesLocal};
 ghost use Rattle.lua_parser_base.specs.StatementRefusals.{RefusesMethod, RefusesScoped, RefusesStat, RefusesTarget, RefusesValue, RefusesValues};
 
@@ -281,13 +281,33 @@ fn if_statement(
     let line = parser.take_word(tokens, Word::If)?;
     let arms = arms(parser, alloc, tokens, at)?;
     if parser.at_word(tokens, Word::Else) {
-        parser.take_word(tokens, Word::Else)?;
-        let otherwise = scoped(parser, alloc, tokens, at)?;
-        parser.take_word(tokens, Word::End)?;
-        return if_node(alloc, line, arms, otherwise);
+        return else_statement(parser, alloc, tokens, at, line, arms);
     }
     parser.take_word(tokens, Word::End)?;
     if_node(alloc, line, arms, Vec::new(alloc))
+}
+
+/// stat ::= if exp then block {elseif exp then block} else block end
+/// Reads it from its `else` on. Its `if` is on that line.
+#[cycle(descent)]
+fn else_statement(
+    parser: &mut Parser,
+    alloc: Global,
+    tokens: &[Token],
+    at: Nesting,
+    line: u32,
+    arms: Vec<Arm>,
+) -> Result<Stmt, ParseFault>
+    ensures reads { IfOk result (λ out. (s : State) → AfterArms at line arms.items s (state tokens.now parser.old)
+        → ReadsStat at s out (state tokens.now parser.new)) }
+    ensures refuses { IfErrWhere (IsNext (WordKind Else)) result (RefusesElse at line arms.items) tokens.now parser.old parser.new }
+    ensures order { IfErr result (FirstFaultOfElse at line arms.items (state tokens.now parser.old) (state tokens.now parser.new)) }
+    ensures forward { OnOk result (Advances tokens.now parser.old parser.new) }
+{
+    parser.take_word(tokens, Word::Else)?;
+    let otherwise = scoped(parser, alloc, tokens, at)?;
+    parser.take_word(tokens, Word::End)?;
+    if_node(alloc, line, arms, otherwise)
 }
 
 /// stat ::= do block end

@@ -10,7 +10,7 @@ ghost use Rattle.lua_grammar.specs.Stopping.{IsNoComma};
 ghost use Rattle.lua_parser_base.specs.Refusals.{RefusesArgs, RefusesField, RefusesList, RefusesPrefix, RefusesSuffix, RefusesTable};
 ghost use Rattle.lua_parser_base.specs.Standing.{FirstFault, FirstFaultOfPrefix};
 ghost use Rattle.lua_parser_base.specs.Standing as Standing;
-ghost use Rattle.lua_parser.specs.Parts.{ReadsGiven, ReadsKey, ReadsNamed};
+ghost use Rattle.lua_parser.specs.Parts.{FirstFaultOfItem, PushesField, ReadsGiven, ReadsKey, ReadsNamed, RefusesItem};
 
 use crate::expressions::expression;
 use crate::pairs::beside;
@@ -292,9 +292,7 @@ pub(crate) fn table(
     let open = parser.take_sign(tokens, Sign::OpenBrace)?;
     let mut items = Items::none(alloc);
     while !parser.at_sign(tokens, Sign::CloseBrace) {
-        let inner = parser.part(tokens, at)?;
-        let item = field(parser, alloc, tokens, inner)?;
-        items.push(item)?;
+        push_field(parser, alloc, tokens, at, &mut items)?;
         if parser.at_sign(tokens, Sign::CloseBrace) {
             parser.take_sign(tokens, Sign::CloseBrace)?;
             return items.into_table(alloc, open);
@@ -303,6 +301,25 @@ pub(crate) fn table(
     }
     parser.take_sign(tokens, Sign::CloseBrace)?;
     items.into_table(alloc, open)
+}
+
+/// Reads a field of a table constructor at `at`, and puts it after others.
+#[cycle(descent)]
+fn push_field(
+    parser: &mut Parser,
+    alloc: Global,
+    tokens: &[Token],
+    at: Nesting,
+    items: &mut Items,
+) -> Result<(), ParseFault>
+    ensures reads { OnOk result (PushesField at items.old (state tokens.now parser.old) items.new (state tokens.now parser.new)) }
+    ensures refuses { IfErr result (RefusesItem at items.old (state tokens.now parser.old) (state tokens.now parser.new)) }
+    ensures order { IfErr result (FirstFaultOfItem at items.old (state tokens.now parser.old) (state tokens.now parser.new)) }
+    ensures forward { OnOk result (Advances tokens.now parser.old parser.new) }
+{
+    let inner = parser.part(tokens, at)?;
+    let item = field(parser, alloc, tokens, inner)?;
+    items.push(item)
 }
 
 /// field ::= `[´ exp `]´ `=´ exp | Name `=´ exp | exp

@@ -8,7 +8,7 @@ use Rattle.lua_lexer.specs.declared.tokens.TokenKind.TheVariants.{Word, Sign, Si
 use Rattle.lua_parser_base.proofs.Arguments.{call_cannot_open, call_refused, call_too_high, method_cannot_open, method_no_name, method_refused, method_too_high, args_no_part, args_open, args_refused, no_args, table_arg_refused}
 use Rattle.lua_parser.proofs.ArmRefusals.{arm_block_refused, test_refused, then_refused, first_arm_refused, next_arm_refused, arms_refused, else_end_refused, else_refused, end_refused}
 use Rattle.lua_parser_base.proofs.Assignments.{function_from, function_read, method_read, local_from, local_function_read, local_read, call_read, first_assigned, target_read, vars_one, assign_after}
-use Rattle.lua_parser.proofs.Beside.{advances_stays, binary_of, done_by, loop_named, memory_by, node_by, on_done, read_by, refused_by, right_read}
+use Rattle.lua_parser.proofs.Beside.{advances_stays, binary_of, done_by, done_node, loop_named, memory_by, never_there, node_by, on_done, read_by, refused_by, right_read}
 use Rattle.lua_parser.proofs.BlockKinds.{block_end, is_statement, nothing_returned, return_next, semicolon_next, values_next, do_kind, for_kind, function_kind, if_kind, local_kind, prefix_begins, repeat_kind, while_kind}
 use Rattle.lua_parser_base.proofs.BlockRefusals.{scoped_refused, scoped_too_deep, last_refused, stat_refused, returned_refused}
 use Rattle.lua_parser_base.proofs.Blocks.{arm_read, arms_more, arms_one, block_last, block_open, do_read, if_else_read, if_read, repeat_read, return_none_read, return_read, scoped_read, stats_more, stats_none, value_read, values_read, while_read}
@@ -42,10 +42,10 @@ use Rattle.lua_parser.proofs.+descent.Goals.{statements::last-then-eq-via-then-e
 use Rattle.lua_parser_base.specs.Kinds.{IsStatement, IsUnary, IsSuffix, IsSeparator, begins_of}
 use Rattle.lua_parser_base.specs.Next.{IsKind, IsMemory, IsTooDeep, Misses, OnAt, ahead, IsNext, OnLocals, MissesMember, IsName, HasNoPart, IsTooHigh, Begin}
 use Rattle.lua_parser_base.specs.Reads.{ReadsExp}
-use Rattle.lua_parser_base.specs.Refusals.{RefusesFrom, RefusesList, RefusesBody, RefusesPrefix, RefusesExp, RefusesSuffix, RefusesArgs, RefusesField}
+use Rattle.lua_parser_base.specs.Refusals.{RefusesFrom, RefusesList, RefusesBody, RefusesPrefix, RefusesExp, RefusesSuffix, RefusesArgs, RefusesField, RefusesTable}
 use Rattle.lua_parser_base.specs.Standing.{FirstFault}
 use Rattle.lua_parser_base.specs.StatementRefusals.{RefusesArm, RefusesArms, RefusesBlock, RefusesLast, RefusesScoped, RefusesStat, RefusesValue, RefusesValues, RefusesNames, RefusesFor, RefusesLoop, RefusesParameters, RefusesFuncName, RefusesInitial, RefusesTarget, RefusesMethod}
-use Rattle.lua_parser_base.specs.States.{state, scope_of}
+use Rattle.lua_parser_base.specs.States.{state, scope_of, State}
 use Rattle.lua_parser_base.specs.declared.nodes.Form.TheVariants.{Variable, Call, Paren}
 use Rattle.std.proofs.Common.{◌≡◌, ◌≤◌, refl, sym, subst, rules, arith, [], length, ◌∷◌, IfErr, ◌∙◌, ◌<◌, ◌+◌, true, false, lit≤, IsTrue, ap}
 use Rattle.std.proofs.lemmas.Result.{err_from_is_err_and}
@@ -54,11 +54,12 @@ use Rattle.lua_parser.proofs.+descent.Goals as goal
 use Rattle.lua_lexer.specs.declared.signs.Sign.TheVariants as sign
 use Rattle.lua_parser_base.specs.Standing as standing
 use Rattle.lua_lexer.specs.declared.words.Word.TheVariants as word
-use Rattle.lua_parser_base.specs.ReadsStatements.{ReadsValue}
-use Rattle.lua_parser_base.specs.Nodes.{IsCalled, IsIndexed, IsMethodCalled, IsParen}
-use Rattle.lua_parser_base.specs.StatementNodes.{Defines, IsNumericFor}
-use Rattle.lua_parser.specs.Parts.{ReadsKey}
+use Rattle.lua_parser_base.specs.ReadsStatements.{ReadsValue, ReadsStat}
+use Rattle.lua_parser_base.specs.Nodes.{IsCalled, IsIndexed, IsMethodCalled, IsParen, AddsItem}
+use Rattle.lua_parser_base.specs.StatementNodes.{Defines, IsNumericFor, IsIf}
+use Rattle.lua_parser.specs.Parts.{AfterArms, AfterItems, PushesField, ReadsKey, RefusesElse, RefusesItem}
 use Rattle.lua_grammar.specs.Limits.{Few}
+use Rattle.lua_ast.specs.declared.statements.Stmt.{Stmt}
 
 pub expressions::expression-loop-infix-init : goal.expressions::expression-loop-infix-init
 expressions::expression-loop-infix-init t c = record {
@@ -814,59 +815,52 @@ suffixes::table-loop-at-init t c = record {
 pub suffixes::table-loop-at-preserved : goal.suffixes::table-loop-at-preserved
 suffixes::table-loop-at-preserved t c =
     let before = c.loop-at.invariant in
+    let pushed = c.in_ok-push_field.ensures.reads in
     record {
-      forward = advances_on _ _ _ _ before.forward (advances_on _ _ _ _ c.in_ok-item.ensures.forward c.in_ok-take_separator.ensures.forward);
+      forward = advances_on _ _ _ _ before.forward (advances_on _ _ _ _ c.in_ok-push_field.ensures.forward c.in_ok-take_separator.ensures.forward);
       reads = (
         before.reads.0,
         before.reads.1,
-        more_fields_read _ _ _ _ _ _ _ _ _ before.reads.2 c.in_ok-inner.ensures c.in_ok-item.ensures.reads c.in_ok-take_separator.ensures.takes c.in_ok-push.ensures,
+        more_fields_read _ _ _ _ _ _ _ _ _ before.reads.2 pushed.part pushed.reads c.in_ok-take_separator.ensures.takes pushed.adds,
       );
     }
 
 pub suffixes::table-returns-then-at_sign-clause-reads : goal.suffixes::table-returns-then-at_sign-clause-reads
 suffixes::table-returns-then-at_sign-clause-reads t c =
     let before = c.loop-at.invariant.reads in
+    let pushed = c.in_ok-push_field.ensures.reads in
     on_node _ c.into_table.ensures (λ b is.
-    ending_read _ _ _ _ _ _ _ _ _ _ _ _ _ before.1 before.2 c.in_ok-inner.ensures c.in_ok-item.ensures.reads c.in_ok-push.ensures c.in_ok-take_sign.ensures.takes is)
+    ending_read _ _ _ _ _ _ _ _ _ _ _ _ _ before.1 before.2 pushed.part pushed.reads pushed.adds c.in_ok-take_sign.ensures.takes is)
 
 pub suffixes::table-returns-clause-reads : goal.suffixes::table-returns-clause-reads
 suffixes::table-returns-clause-reads t c =
     let before = c.loop-at.invariant.reads in
     on_node _ c.into_table-2.ensures (λ b is. separated_read _ _ _ _ _ _ _ _ _ before.1 before.2 c.in_ok-take_sign-2.ensures.takes is)
 
-pub suffixes::table-returns-in_err-inner-clause-refuses : goal.suffixes::table-returns-in_err-inner-clause-refuses
-suffixes::table-returns-in_err-inner-clause-refuses t c = λ next.
+pub suffixes::table-returns-in_err-push_field-clause-refuses : goal.suffixes::table-returns-in_err-push_field-clause-refuses
+suffixes::table-returns-in_err-push_field-clause-refuses t c = λ next.
     let before = c.loop-at.invariant.reads in
-    let h : IfErr c.from_residual-in_err-inner.result (HasNoPart c.args.at (state c.args.tokens.now c.loop-at.parser)) = search rules in
-    on_err c.from_residual-in_err-inner.result h (λ fault none. part_refused c.args.at _ fault _ _ _ _ before.2 before.1 (untested c.at_sign.result _ c.loop-at-test.true c.at_sign.ensures) none)
-
-pub suffixes::table-returns-in_err-item-clause-refuses : goal.suffixes::table-returns-in_err-item-clause-refuses
-suffixes::table-returns-in_err-item-clause-refuses t c = λ next.
-    let before = c.loop-at.invariant.reads in
-    let h : IfErr c.from_residual-in_err-item.result (RefusesField c.in_ok-inner.inner (state c.args.tokens.now c.loop-at.parser) (state c.args.tokens.now c.field.new.parser)) = search rules in
-    on_err c.from_residual-in_err-item.result h (λ fault refuses.
-    field_refused c.args.at c.in_ok-inner.inner _ fault _ _ _ _ _ before.2 before.1 c.in_ok-inner.ensures (untested c.at_sign.result _ c.loop-at-test.true c.at_sign.ensures) refuses)
+    let more = untested c.at_sign.result _ c.loop-at-test.true c.at_sign.ensures in
+    let after : AfterItems c.args.at c.loop-at.items (state c.args.tokens.now c.args.parser.now) (state c.args.tokens.now c.loop-at.parser) =
+    record { open_at = _; inside = before.0; opens = before.1; reads = before.2; more = more } in
+    handed_on (RefusesTable c.args.at (state c.args.tokens.now c.args.parser.now) (state c.args.tokens.now c.push_field.new.parser)) c.from_residual-in_err-push_field.result _ c.from_residual-in_err-push_field.ensures.1
+    (c.in_err-push_field.ensures.refuses _ after)
 
 pub suffixes::table-returns-in_err-take_separator-clause-refuses : goal.suffixes::table-returns-in_err-take_separator-clause-refuses
 suffixes::table-returns-in_err-take_separator-clause-refuses t c = λ next.
     let before = c.loop-at.invariant.reads in
-    let h : IfErr c.from_residual-in_err-take_separator.result (OnAt (Misses IsSeparator (state c.args.tokens.now c.field.new.parser) (state c.args.tokens.now c.take_separator.new.self))) = search rules in
-    on_err c.from_residual-in_err-take_separator.result h (λ fault misses.
-    separator_refused c.args.at c.in_ok-inner.inner _ fault _ _ _ _ _ _ _ before.2 before.1 c.in_ok-item.ensures.reads (untested c.at_sign-in-loop-at.result _ c.if-at_sign.false c.at_sign-in-loop-at.ensures) misses)
+    let pushed = c.in_ok-push_field.ensures.reads in
+    handed_on (RefusesTable c.args.at (state c.args.tokens.now c.args.parser.now) (state c.args.tokens.now c.take_separator.new.self)) c.from_residual-in_err-take_separator.result _ c.from_residual-in_err-take_separator.ensures.1
+    (separator_refused c.args.at pushed.inner _ _ _ _ _ _ _ _ pushed.item before.2 before.1 pushed.reads (untested c.at_sign-in-loop-at.result _ c.if-at_sign.false c.at_sign-in-loop-at.ensures) c.in_err-take_separator.ensures.misses)
 
-pub suffixes::table-returns-in_err-inner-clause-order : goal.suffixes::table-returns-in_err-inner-clause-order
-suffixes::table-returns-in_err-inner-clause-order t c =
+pub suffixes::table-returns-in_err-push_field-clause-order : goal.suffixes::table-returns-in_err-push_field-clause-order
+suffixes::table-returns-in_err-push_field-clause-order t c =
     let before = c.loop-at.invariant.reads in
     let more = untested c.at_sign.result _ c.loop-at-test.true c.at_sign.ensures in
-    handed_on _ c.from_residual-in_err-inner.result _ c.from_residual-in_err-inner.ensures.1
-    (λ start stands. part_breaks _ _ _ _ (few_there _ _) c.in_err-inner.ensures start (standing.in_table stands before.1 before.2 more))
-
-pub suffixes::table-returns-in_err-item-clause-order : goal.suffixes::table-returns-in_err-item-clause-order
-suffixes::table-returns-in_err-item-clause-order t c =
-    let before = c.loop-at.invariant.reads in
-    let more = untested c.at_sign.result _ c.loop-at-test.true c.at_sign.ensures in
-    handed_on _ c.from_residual-in_err-item.result _ c.from_residual-in_err-item.ensures.1
-    (λ start stands. c.in_err-item.ensures.order start (standing.as_part (standing.in_table stands before.1 before.2 more) c.in_ok-inner.ensures))
+    let after : AfterItems c.args.at c.loop-at.items (state c.args.tokens.now c.args.parser.now) (state c.args.tokens.now c.loop-at.parser) =
+    record { open_at = _; inside = before.0; opens = before.1; reads = before.2; more = more } in
+    handed_on _ c.from_residual-in_err-push_field.result _ c.from_residual-in_err-push_field.ensures.1
+    (c.in_err-push_field.ensures.order _ after)
 
 pub suffixes::table-returns-in_err-open-clause-order : goal.suffixes::table-returns-in_err-open-clause-order
 suffixes::table-returns-in_err-open-clause-order t c =
@@ -876,16 +870,50 @@ suffixes::table-returns-in_err-open-clause-order t c =
 pub suffixes::table-returns-in_err-take_separator-clause-order : goal.suffixes::table-returns-in_err-take_separator-clause-order
 suffixes::table-returns-in_err-take_separator-clause-order t c =
     let before = c.loop-at.invariant.reads in
+    let pushed = c.in_ok-push_field.ensures.reads in
     let more = untested c.at_sign.result _ c.loop-at-test.true c.at_sign.ensures in
     handed_on _ c.from_residual-in_err-take_separator.result _ c.from_residual-in_err-take_separator.ensures.1
-    (λ start stands. missing_first _ _ _ _ c.in_err-take_separator.ensures.misses start (standing.after_field (standing.as_part (standing.in_table stands before.1 before.2 more) c.in_ok-inner.ensures) c.in_ok-item.ensures.reads))
+    (λ start stands. missing_first _ _ _ _ c.in_err-take_separator.ensures.misses start (standing.after_field (standing.as_part (standing.in_table stands before.1 before.2 more) pushed.part) pushed.reads))
 
 pub suffixes::table-returns-in_err-take_sign-clause-order : goal.suffixes::table-returns-in_err-take_sign-clause-order
 suffixes::table-returns-in_err-take_sign-clause-order t c =
     let before = c.loop-at.invariant.reads in
+    let pushed = c.in_ok-push_field.ensures.reads in
     let more = untested c.at_sign.result _ c.loop-at-test.true c.at_sign.ensures in
     handed_on _ c.from_residual-in_err-take_sign.result _ c.from_residual-in_err-take_sign.ensures.1
-    (λ start stands. missing_first _ _ _ _ c.in_err-take_sign.ensures.misses start (standing.after_field (standing.as_part (standing.in_table stands before.1 before.2 more) c.in_ok-inner.ensures) c.in_ok-item.ensures.reads))
+    (λ start stands. missing_first _ _ _ _ c.in_err-take_sign.ensures.misses start (standing.after_field (standing.as_part (standing.in_table stands before.1 before.2 more) pushed.part) pushed.reads))
+
+pub suffixes::push_field-returns-clause-reads : goal.suffixes::push_field-returns-clause-reads
+suffixes::push_field-returns-clause-reads t c =
+    let pushed : AddsItem c.args.items.now c.in_ok-item.item c.push.new.self → PushesField c.args.at c.args.items.now (state c.args.tokens.now c.args.parser.now) c.push.new.self (state c.args.tokens.now c.field.new.parser) =
+    λ adds. record { inner = c.in_ok-inner.inner; item = c.in_ok-item.item; part = c.in_ok-inner.ensures; reads = c.in_ok-item.ensures.reads; adds = adds } in
+    done_node _ _ c.push.result c.push.ensures pushed
+
+pub suffixes::push_field-returns-in_err-inner-clause-refuses : goal.suffixes::push_field-returns-in_err-inner-clause-refuses
+suffixes::push_field-returns-in_err-inner-clause-refuses t c =
+    handed_on (RefusesItem c.args.at c.args.items.now (state c.args.tokens.now c.args.parser.now) (state c.args.tokens.now c.args.parser.now)) c.from_residual.result _ c.from_residual.ensures.1
+    (λ s after. part_refused c.args.at _ _ _ _ _ _ after.reads after.opens after.more c.in_err-inner.ensures)
+
+pub suffixes::push_field-returns-in_err-item-clause-refuses : goal.suffixes::push_field-returns-in_err-item-clause-refuses
+suffixes::push_field-returns-in_err-item-clause-refuses t c =
+    handed_on (RefusesItem c.args.at c.args.items.now (state c.args.tokens.now c.args.parser.now) (state c.args.tokens.now c.field.new.parser)) c.from_residual-in_err-item.result _ c.from_residual-in_err-item.ensures.1
+    (λ s after. field_refused c.args.at c.in_ok-inner.inner _ _ _ _ _ _ _ after.reads after.opens c.in_ok-inner.ensures after.more c.in_err-item.ensures.refuses)
+
+pub suffixes::push_field-returns-clause-refuses : goal.suffixes::push_field-returns-clause-refuses
+suffixes::push_field-returns-clause-refuses t c = on_memory _ _ c.push.result (λ s after r k begins none. absurd none) c.push.ensures
+
+pub suffixes::push_field-returns-in_err-inner-clause-order : goal.suffixes::push_field-returns-in_err-inner-clause-order
+suffixes::push_field-returns-in_err-inner-clause-order t c =
+    handed_on _ c.from_residual.result _ c.from_residual.ensures.1
+    (λ s after start stands. part_breaks _ _ _ _ (few_there _ _) c.in_err-inner.ensures start (standing.in_table stands after.opens after.reads after.more))
+
+pub suffixes::push_field-returns-in_err-item-clause-order : goal.suffixes::push_field-returns-in_err-item-clause-order
+suffixes::push_field-returns-in_err-item-clause-order t c =
+    handed_on _ c.from_residual-in_err-item.result _ c.from_residual-in_err-item.ensures.1
+    (λ s after start stands. c.in_err-item.ensures.order start (standing.as_part (standing.in_table stands after.opens after.reads after.more) c.in_ok-inner.ensures))
+
+pub suffixes::push_field-returns-clause-order : goal.suffixes::push_field-returns-clause-order
+suffixes::push_field-returns-clause-order t c = on_memory _ _ c.push.result (λ s after start stands. tt) c.push.ensures
 
 pub suffixes::field-returns-clause-reads : goal.suffixes::field-returns-clause-reads
 suffixes::field-returns-clause-reads t c =
@@ -1360,11 +1388,15 @@ statements::function_statement-returns-in_err-line-clause-order t c =
 
 pub statements::if_statement-returns-clause-reads : goal.statements::if_statement-returns-clause-reads
 statements::if_statement-returns-clause-reads t c =
-    on_node _ c.if_node-2.ensures (λ out is. if_read _ _ _ _ _ _ _ _ _ _ c.in_ok-line.ensures.takes c.in_ok-arms.ensures.reads c.in_ok-take_word-3.ensures.takes c.new.ensures.items is)
+    on_node _ c.if_node.ensures (λ out is. if_read _ _ _ _ _ _ _ _ _ _ c.in_ok-line.ensures.takes c.in_ok-arms.ensures.reads c.in_ok-take_word.ensures.takes c.new.ensures.items is)
 
 pub statements::if_statement-returns-then-at_word-clause-reads : goal.statements::if_statement-returns-then-at_word-clause-reads
 statements::if_statement-returns-then-at_word-clause-reads t c =
-    on_node _ c.if_node.ensures (λ out is. if_else_read _ _ _ _ _ _ _ _ _ _ _ _ _ c.in_ok-line.ensures.takes c.in_ok-arms.ensures.reads c.in_ok-take_word.ensures.takes c.in_ok-otherwise.ensures.reads c.in_ok-take_word-2.ensures.takes is)
+    let after : AfterArms c.args.at c.in_ok-line.line c.in_ok-arms.arms.items (state c.args.tokens.now c.args.parser.now) (state c.args.tokens.now c.arms.new.parser) =
+    record { inside = (state c.args.tokens.now c.take_word.new.self); taken = c.in_ok-line.ensures.takes; reads = c.in_ok-arms.ensures.reads } in
+    let on : (out : Stmt) → ((s : State) → AfterArms c.args.at c.in_ok-line.line c.in_ok-arms.arms.items s (state c.args.tokens.now c.arms.new.parser) → ReadsStat c.args.at s out (state c.args.tokens.now c.else_statement.new.parser)) →
+    ReadsStat c.args.at (state c.args.tokens.now c.args.parser.now) out (state c.args.tokens.now c.else_statement.new.parser) = λ out reads. reads _ after in
+    on_ok c.else_statement.result c.else_statement.ensures.reads on
 
 pub statements::if_statement-returns-in_err-line-clause-refuses : goal.statements::if_statement-returns-in_err-line-clause-refuses
 statements::if_statement-returns-in_err-line-clause-refuses t c = λ next.
@@ -1376,36 +1408,74 @@ statements::if_statement-returns-in_err-arms-clause-refuses t c = λ next.
     let h : IfErr c.from_residual-in_err-arms.result (RefusesArms c.args.at (state c.args.tokens.now c.take_word.new.self) (state c.args.tokens.now c.arms.new.parser)) = search rules in
     on_err c.from_residual-in_err-arms.result h (λ fault refuses. arms_refused c.args.at _ _ _ _ fault c.in_ok-line.ensures.takes refuses)
 
-pub statements::if_statement-returns-in_err-take_word-3-clause-refuses : goal.statements::if_statement-returns-in_err-take_word-3-clause-refuses
-statements::if_statement-returns-in_err-take_word-3-clause-refuses t c = λ next.
-    let h : IfErr c.from_residual-in_err-take_word-3.result (OnAt (Misses (IsKind (Word word.End)) (state c.args.tokens.now c.arms.new.parser) (state c.args.tokens.now c.take_word-2.new.self))) = search rules in
-    on_err c.from_residual-in_err-take_word-3.result h (λ fault missed. end_refused c.args.at _ _ _ _ _ _ fault c.in_ok-line.ensures.takes c.in_ok-arms.ensures.reads c.in_ok-arms.ensures.stops (untested _ _ c.if-at_word.false c.at_word.ensures) missed)
+pub statements::if_statement-returns-in_err-take_word-clause-refuses : goal.statements::if_statement-returns-in_err-take_word-clause-refuses
+statements::if_statement-returns-in_err-take_word-clause-refuses t c = λ next.
+    let h : IfErr c.from_residual-in_err-take_word.result (OnAt (Misses (IsKind (Word word.End)) (state c.args.tokens.now c.arms.new.parser) (state c.args.tokens.now c.take_word-2.new.self))) = search rules in
+    on_err c.from_residual-in_err-take_word.result h (λ fault missed. end_refused c.args.at _ _ _ _ _ _ fault c.in_ok-line.ensures.takes c.in_ok-arms.ensures.reads c.in_ok-arms.ensures.stops (untested _ _ c.if-at_word.false c.at_word.ensures) missed)
 
 pub statements::if_statement-returns-clause-refuses : goal.statements::if_statement-returns-clause-refuses
-statements::if_statement-returns-clause-refuses t c = λ next. on_memory _ _ c.if_node-2.result (λ k never none. absurd none) c.if_node-2.ensures
+statements::if_statement-returns-clause-refuses t c = λ next. on_memory _ _ c.if_node.result (λ k never none. absurd none) c.if_node.ensures
 
 pub statements::if_statement-returns-then-at_word-clause-refuses : goal.statements::if_statement-returns-then-at_word-clause-refuses
-statements::if_statement-returns-then-at_word-clause-refuses t c = λ next. on_memory _ _ c.if_node.result (λ k never none. absurd none) c.if_node.ensures
+statements::if_statement-returns-then-at_word-clause-refuses t c = λ next.
+    let after : AfterArms c.args.at c.in_ok-line.line c.in_ok-arms.arms.items (state c.args.tokens.now c.args.parser.now) (state c.args.tokens.now c.arms.new.parser) =
+    record { inside = (state c.args.tokens.now c.take_word.new.self); taken = c.in_ok-line.ensures.takes; reads = c.in_ok-arms.ensures.reads } in
+    on_err c.else_statement.result (c.else_statement.ensures.refuses (c.at_word.ensures.0 c.if-at_word.true)) (λ fault refuses. refuses _ after)
 
-pub statements::if_statement-returns-in_err-otherwise-clause-refuses : goal.statements::if_statement-returns-in_err-otherwise-clause-refuses
-statements::if_statement-returns-in_err-otherwise-clause-refuses t c = λ next.
-    let h : IfErr c.from_residual-in_err-otherwise.result (RefusesScoped c.args.at (state c.args.tokens.now c.take_word-then-at_word.new.self) (state c.args.tokens.now c.scoped.new.parser)) = search rules in
-    on_err c.from_residual-in_err-otherwise.result h (λ fault refuses. else_refused c.args.at _ _ _ _ _ _ _ _ fault c.in_ok-line.ensures.takes c.in_ok-arms.ensures.reads c.in_ok-take_word.ensures.takes refuses)
+pub statements::if_statement-returns-then-at_word-clause-order : goal.statements::if_statement-returns-then-at_word-clause-order
+statements::if_statement-returns-then-at_word-clause-order t c =
+    let after : AfterArms c.args.at c.in_ok-line.line c.in_ok-arms.arms.items (state c.args.tokens.now c.args.parser.now) (state c.args.tokens.now c.arms.new.parser) =
+    record { inside = (state c.args.tokens.now c.take_word.new.self); taken = c.in_ok-line.ensures.takes; reads = c.in_ok-arms.ensures.reads } in
+    on_err c.else_statement.result c.else_statement.ensures.order (λ fault breaks. breaks _ after)
 
-pub statements::if_statement-returns-in_err-take_word-2-clause-refuses : goal.statements::if_statement-returns-in_err-take_word-2-clause-refuses
-statements::if_statement-returns-in_err-take_word-2-clause-refuses t c = λ next.
-    let h : IfErr c.from_residual-in_err-take_word-2.result (OnAt (Misses (IsKind (Word word.End)) (state c.args.tokens.now c.scoped.new.parser) (state c.args.tokens.now c.take_word-then-at_word-2.new.self))) = search rules in
-    on_err c.from_residual-in_err-take_word-2.result h (λ fault missed. else_end_refused c.args.at _ _ _ _ _ _ _ _ _ _ fault c.in_ok-line.ensures.takes c.in_ok-arms.ensures.reads c.in_ok-take_word.ensures.takes c.in_ok-otherwise.ensures.reads missed)
+pub statements::else_statement-returns-clause-reads : goal.statements::else_statement-returns-clause-reads
+statements::else_statement-returns-clause-reads t c =
+    let on : (out : Stmt) → IsIf c.args.line c.args.arms.items c.in_ok-otherwise.otherwise.items out → (s : State) → AfterArms c.args.at c.args.line c.args.arms.items s (state c.args.tokens.now c.args.parser.now) →
+    ReadsStat c.args.at s out (state c.args.tokens.now c.take_word-2.new.self) =
+    λ out is s after. if_else_read _ _ _ _ _ _ _ _ _ _ _ _ _ after.taken after.reads c.in_ok-take_word.ensures.takes c.in_ok-otherwise.ensures.reads c.in_ok-take_word-2.ensures.takes is in
+    on_node c.if_node.result c.if_node.ensures on
+
+pub statements::else_statement-returns-in_err-take_word-clause-refuses : goal.statements::else_statement-returns-in_err-take_word-clause-refuses
+statements::else_statement-returns-in_err-take_word-clause-refuses t c = λ next.
+    handed_on (RefusesElse c.args.at c.args.line c.args.arms.items (state c.args.tokens.now c.args.parser.now) (state c.args.tokens.now c.take_word.new.self)) c.from_residual.result _ c.from_residual.ensures.1
+    (never_there (IsKind (Word word.Else)) (RefusesElse c.args.at c.args.line c.args.arms.items (state c.args.tokens.now c.args.parser.now) (state c.args.tokens.now c.take_word.new.self)) _ _ _ c.in_err-take_word.ensures.misses next (λ s after k never none. absurd none))
+
+pub statements::else_statement-returns-in_err-otherwise-clause-refuses : goal.statements::else_statement-returns-in_err-otherwise-clause-refuses
+statements::else_statement-returns-in_err-otherwise-clause-refuses t c = λ next.
+    handed_on (RefusesElse c.args.at c.args.line c.args.arms.items (state c.args.tokens.now c.args.parser.now) (state c.args.tokens.now c.scoped.new.parser)) c.from_residual-in_err-otherwise.result _ c.from_residual-in_err-otherwise.ensures.1
+    (λ s after. else_refused c.args.at _ _ _ _ _ _ _ _ _ after.taken after.reads c.in_ok-take_word.ensures.takes c.in_err-otherwise.ensures.refuses)
+
+pub statements::else_statement-returns-in_err-take_word-2-clause-refuses : goal.statements::else_statement-returns-in_err-take_word-2-clause-refuses
+statements::else_statement-returns-in_err-take_word-2-clause-refuses t c = λ next.
+    handed_on (RefusesElse c.args.at c.args.line c.args.arms.items (state c.args.tokens.now c.args.parser.now) (state c.args.tokens.now c.take_word-2.new.self)) c.from_residual-in_err-take_word-2.result _ c.from_residual-in_err-take_word-2.ensures.1
+    (λ s after. else_end_refused c.args.at _ _ _ _ _ _ _ _ _ _ _ after.taken after.reads c.in_ok-take_word.ensures.takes c.in_ok-otherwise.ensures.reads c.in_err-take_word-2.ensures.misses)
+
+pub statements::else_statement-returns-clause-refuses : goal.statements::else_statement-returns-clause-refuses
+statements::else_statement-returns-clause-refuses t c = λ next. on_memory _ _ c.if_node.result (λ s after k never none. absurd none) c.if_node.ensures
+
+pub statements::else_statement-returns-in_err-take_word-clause-order : goal.statements::else_statement-returns-in_err-take_word-clause-order
+statements::else_statement-returns-in_err-take_word-clause-order t c =
+    handed_on _ c.from_residual.result _ c.from_residual.ensures.1
+    (λ s after start stands. missing_first _ _ _ _ c.in_err-take_word.ensures.misses start (standing.after_arms (standing.if_arms stands after.taken) (after.reads 1)))
+
+pub statements::else_statement-returns-in_err-otherwise-clause-order : goal.statements::else_statement-returns-in_err-otherwise-clause-order
+statements::else_statement-returns-in_err-otherwise-clause-order t c =
+    handed_on _ c.from_residual-in_err-otherwise.result _ c.from_residual-in_err-otherwise.ensures.1
+    (λ s after start stands. c.in_err-otherwise.ensures.order start (standing.else_block stands after.taken after.reads c.in_ok-take_word.ensures.takes))
+
+pub statements::else_statement-returns-in_err-take_word-2-clause-order : goal.statements::else_statement-returns-in_err-take_word-2-clause-order
+statements::else_statement-returns-in_err-take_word-2-clause-order t c =
+    handed_on _ c.from_residual-in_err-take_word-2.result _ c.from_residual-in_err-take_word-2.ensures.1
+    (λ s after start stands. missing_first _ _ _ _ c.in_err-take_word-2.ensures.misses start
+    (standing.after_inner_block (standing.else_block stands after.taken after.reads c.in_ok-take_word.ensures.takes) c.in_ok-otherwise.ensures.reads))
+
+pub statements::else_statement-returns-clause-order : goal.statements::else_statement-returns-clause-order
+statements::else_statement-returns-clause-order t c = on_memory _ _ c.if_node.result (λ s after start stands. tt) c.if_node.ensures
 
 pub statements::if_statement-returns-in_err-arms-clause-order : goal.statements::if_statement-returns-in_err-arms-clause-order
 statements::if_statement-returns-in_err-arms-clause-order t c =
     handed_on _ c.from_residual-in_err-arms.result _ c.from_residual-in_err-arms.ensures.1
     (λ start stands. c.in_err-arms.ensures.order start (standing.if_arms stands c.in_ok-line.ensures.takes))
-
-pub statements::if_statement-returns-in_err-otherwise-clause-order : goal.statements::if_statement-returns-in_err-otherwise-clause-order
-statements::if_statement-returns-in_err-otherwise-clause-order t c =
-    handed_on _ c.from_residual-in_err-otherwise.result _ c.from_residual-in_err-otherwise.ensures.1
-    (λ start stands. c.in_err-otherwise.ensures.order start (standing.else_block stands c.in_ok-line.ensures.takes c.in_ok-arms.ensures.reads c.in_ok-take_word.ensures.takes))
 
 pub statements::if_statement-returns-in_err-line-clause-order : goal.statements::if_statement-returns-in_err-line-clause-order
 statements::if_statement-returns-in_err-line-clause-order t c =
@@ -1416,16 +1486,6 @@ pub statements::if_statement-returns-in_err-take_word-clause-order : goal.statem
 statements::if_statement-returns-in_err-take_word-clause-order t c =
     handed_on _ c.from_residual-in_err-take_word.result _ c.from_residual-in_err-take_word.ensures.1
     (λ start stands. missing_first _ _ _ _ c.in_err-take_word.ensures.misses start (standing.after_arms (standing.if_arms stands c.in_ok-line.ensures.takes) (c.in_ok-arms.ensures.reads 1)))
-
-pub statements::if_statement-returns-in_err-take_word-3-clause-order : goal.statements::if_statement-returns-in_err-take_word-3-clause-order
-statements::if_statement-returns-in_err-take_word-3-clause-order t c =
-    handed_on _ c.from_residual-in_err-take_word-3.result _ c.from_residual-in_err-take_word-3.ensures.1
-    (λ start stands. missing_first _ _ _ _ c.in_err-take_word-3.ensures.misses start (standing.after_arms (standing.if_arms stands c.in_ok-line.ensures.takes) (c.in_ok-arms.ensures.reads 1)))
-
-pub statements::if_statement-returns-in_err-take_word-2-clause-order : goal.statements::if_statement-returns-in_err-take_word-2-clause-order
-statements::if_statement-returns-in_err-take_word-2-clause-order t c =
-    handed_on _ c.from_residual-in_err-take_word-2.result _ c.from_residual-in_err-take_word-2.ensures.1
-    (λ start stands. missing_first _ _ _ _ c.in_err-take_word-2.ensures.misses start (standing.after_inner_block (standing.else_block stands c.in_ok-line.ensures.takes c.in_ok-arms.ensures.reads c.in_ok-take_word.ensures.takes) c.in_ok-otherwise.ensures.reads))
 
 pub statements::initial-returns-clause-reads : goal.statements::initial-returns-clause-reads
 statements::initial-returns-clause-reads t c =

@@ -97,6 +97,9 @@ invariant-suffixes::table-loop-at l = record {
 abbrev pub decreases-suffixes::table-loop-at : goal.decreases-suffixes::table-loop-at
 decreases-suffixes::table-loop-at l = length l.tokens - l.parser.index
 
+abbrev pub decreases-suffixes::push_field : goal.decreases-suffixes::push_field
+decreases-suffixes::push_field l = (201 - l.at.depth) * 16 + 0
+
 abbrev pub decreases-suffixes::field : goal.decreases-suffixes::field
 decreases-suffixes::field l = (201 - l.at.depth) * 16 + 10
 
@@ -150,6 +153,9 @@ decreases-statements::function_statement l = (201 - l.at.depth) * 16 + 11
 
 abbrev pub decreases-statements::if_statement : goal.decreases-statements::if_statement
 decreases-statements::if_statement l = (201 - l.at.depth) * 16 + 11
+
+abbrev pub decreases-statements::else_statement : goal.decreases-statements::else_statement
+decreases-statements::else_statement l = (201 - l.at.depth) * 16 + 10
 
 abbrev pub decreases-statements::initial : goal.decreases-statements::initial
 decreases-statements::initial l = (201 - l.at.depth) * 16 + 9
