@@ -17,3 +17,4 @@ pub mod Targets
 pub mod WholeText
 pub mod Declaring
 pub mod Beside
+pub mod InnerBlocks

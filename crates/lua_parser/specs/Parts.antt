@@ -1,6 +1,7 @@
 -- What is read of a part, where what stands before it is kept.
-use Rattle.std.specs.Prelude.{◌≡◌, ◌<◌, ◌≤◌, ℕ, List, min, IfNone}
+use Rattle.std.specs.Prelude.{◌≡◌, ◌<◌, ◌≤◌, ◌⊎◌, ℕ, List, min, IfNone}
 use Rattle.lua_ast.specs.declared.statements.Arm.{Arm}
+use Rattle.lua_ast.specs.declared.statements.Stmt.{Stmt}
 use Rattle.lua_lexer.specs.declared.tokens.TokenKind.TheVariants.{Name as NameKind, Sign as SignKind, Word as WordKind}
 use Rattle.lua_lexer.specs.declared.signs.Sign.TheVariants.{Assign, CloseBrace, CloseBracket, CloseParenthesis, Colon, Comma, OpenBrace, OpenBracket, OpenParenthesis}
 use Rattle.lua_lexer.specs.declared.words.Word.TheVariants.{If}
@@ -21,14 +22,14 @@ use Rattle.lua_parser_base.specs.declared.nodes.Values.{Values}
 use Rattle.lua_parser_base.specs.declared.operators.Infix.{Infix}
 use Rattle.lua_parser_base.specs.declared.statement_nodes.Range.{Range}
 use Rattle.lua_parser_base.specs.Functions.{Enters}
-use Rattle.lua_parser_base.specs.Nesting.{IsPart}
-use Rattle.lua_parser_base.specs.Next.{IsNext, ahead}
+use Rattle.lua_parser_base.specs.Nesting.{IsPart, IsWithin}
+use Rattle.lua_parser_base.specs.Next.{IsNext, IsTooDeep, ahead}
 use Rattle.lua_parser_base.specs.Nodes.{AddsItem}
 use Rattle.lua_parser_base.specs.Reads.{ReadsArgs, ReadsExp, ReadsField, ReadsFields}
 use Rattle.lua_parser_base.specs.ReadsNames.{ReadsParameters}
-use Rattle.lua_parser_base.specs.ReadsStatements.{ReadsArms, ReadsStep, ReadsValue}
+use Rattle.lua_parser_base.specs.ReadsStatements.{ReadsArms, ReadsBlock, ReadsStep, ReadsValue}
 use Rattle.lua_parser_base.specs.Refusals.{RefusesFrom, RefusesTable}
-use Rattle.lua_parser_base.specs.StatementRefusals.{RefusesStat}
+use Rattle.lua_parser_base.specs.StatementRefusals.{RefusesBlock, RefusesStat}
 use Rattle.lua_parser_base.specs.Standing.{FirstFault}
 use Rattle.lua_parser_base.specs.Standing as Standing
 use Rattle.lua_parser_base.specs.States.{OpensOnLine, State, Takes, TakesOperator}
@@ -144,3 +145,13 @@ RefusesItem at items m t fault = (s : State) → AfterItems at items s m → Ref
 
 abbrev pub FirstFaultOfItem : Nesting → Items → State → State → ParseFault → Type 0
 FirstFaultOfItem at items m t fault = (s : State) → AfterItems at items s m → FirstFault (Standing.table at) s t fault
+
+-- a block in another one
+pub record ReadsInner (at : Nesting) (s : State) (out : List Stmt) (t : State) : Type 0 where
+  pub inner : Nesting
+  pub within : IsWithin at inner
+  pub reads : ReadsBlock inner s out t
+
+-- it is one too many, or refused
+abbrev pub RefusesInner : Nesting → State → State → ParseFault → Type 0
+RefusesInner at s t fault = (IsTooDeep at s fault × (t ≡ s)) ⊎ ((inner : Nesting) × IsWithin at inner × RefusesBlock inner s t fault)

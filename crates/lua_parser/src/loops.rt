@@ -14,7 +14,7 @@ ghost use Rattle.lua_parser_base.specs.Standing as Standing;
 ghost use Rattle.lua_parser.specs.Parts.{ReadsRange};
 
 use crate::pairs::beside;
-use crate::statements::{block, scoped, value, values};
+use crate::statements::{inner_block, scoped, value, values};
 use lua_ast::{Expr, Stmt};
 use lua_lexer::{Sign, Token, Word};
 use lua_parser_base::{
@@ -60,8 +60,7 @@ pub(crate) fn repeat_loop(
 {
     let line = parser.take_word(tokens, Word::Repeat)?;
     let count = parser.in_scope();
-    let inner = parser.deeper(tokens, at.looped())?;
-    let body = block(parser, alloc, tokens, inner)?;
+    let body = inner_block(parser, alloc, tokens, at.looped())?;
     parser.take_word(tokens, Word::Until)?;
     let test = value(parser, alloc, tokens, at)?;
     parser.leave(count);
@@ -209,8 +208,7 @@ fn loop_block(
     parser.take_word(tokens, Word::Do)?;
     let count = parser.in_scope();
     let slots = parser.declare(alloc, names, line)?;
-    let inner = parser.deeper(tokens, at.looped())?;
-    let body = block(parser, alloc, tokens, inner)?;
+    let body = inner_block(parser, alloc, tokens, at.looped())?;
     parser.leave(count);
     parser.take_word(tokens, Word::End)?;
     Ok(LoopBlock { slots, body })

@@ -15,7 +15,7 @@ ghost use Rattle.lua_parser_base.specs.Refusals.{RefusesBody};
 ghost use Rattle.lua_parser_base.specs.Standing.{FirstFault, FirstFaultOfAssignment, FirstFaultOfTargets};
 ghost use Rattle.lua_parser_base.specs.Standing as Standing;
 ghost use Rattle.lua_parser_base.specs.declared.nesting.Nesting.{Nesting};
-ghost use Rattle.lua_parser.specs.Parts.{AfterArms, FirstFaultOfElse, ReadsHead, RefusesElse};
+ghost use Rattle.lua_parser.specs.Parts.{AfterArms, FirstFaultOfElse, ReadsHead, ReadsInner, RefusesElse, RefusesInner};
 ghost use Rattle.lua_parser_base.specs.StatementRefusals.{RefusesArm, RefusesArms, RefusesAssignment, RefusesBlock, RefusesInitial, RefusesLast, RefusesLocal};
 ghost use Rattle.lua_parser_base.specs.StatementRefusals.{RefusesMethod, RefusesScoped, RefusesStat, RefusesTarget, RefusesValue, RefusesValues};
 
@@ -94,11 +94,28 @@ pub(crate) fn scoped(
     ensures order { IfErr result (FirstFault (Standing.within Standing.block at) (state tokens.now parser.old) (state tokens.now parser.new)) }
     ensures forward { OnOk result (AdvancesOrStays tokens.now parser.old parser.new) }
 {
-    let inner = parser.deeper(tokens, at)?;
     let count = parser.in_scope();
-    let block = block(parser, alloc, tokens, inner)?;
+    let block = inner_block(parser, alloc, tokens, at)?;
     parser.leave(count);
     Ok(block)
+}
+
+/// block ::= chunk
+/// Reads a block in one at `at`. Its locals stay in scope.
+#[cycle(descent)]
+pub(crate) fn inner_block(
+    parser: &mut Parser,
+    alloc: Global,
+    tokens: &[Token],
+    at: Nesting,
+) -> Result<Vec<Stmt>, ParseFault>
+    ensures reads { IfOk result (λ block. ReadsInner at (state tokens.now parser.old) block.items (state tokens.now parser.new)) }
+    ensures refuses { IfErr result (RefusesInner at (state tokens.now parser.old) (state tokens.now parser.new)) }
+    ensures order { IfErr result (FirstFault (Standing.within Standing.block at) (state tokens.now parser.old) (state tokens.now parser.new)) }
+    ensures forward { OnOk result (AdvancesOrStays tokens.now parser.old parser.new) }
+{
+    let inner = parser.deeper(tokens, at)?;
+    block(parser, alloc, tokens, inner)
 }
 
 /// chunk ::= {stat [`;´]} [laststat [`;´]]

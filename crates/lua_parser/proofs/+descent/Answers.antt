@@ -10,7 +10,7 @@ use Rattle.lua_parser.proofs.ArmRefusals.{arm_block_refused, test_refused, then_
 use Rattle.lua_parser_base.proofs.Assignments.{function_from, function_read, method_read, local_from, local_function_read, local_read, call_read, first_assigned, target_read, vars_one, assign_after}
 use Rattle.lua_parser.proofs.Beside.{advances_stays, binary_of, done_by, done_node, loop_named, memory_by, never_there, node_by, on_done, read_by, refused_by, right_read}
 use Rattle.lua_parser.proofs.BlockKinds.{block_end, is_statement, nothing_returned, return_next, semicolon_next, values_next, do_kind, for_kind, function_kind, if_kind, local_kind, prefix_begins, repeat_kind, while_kind}
-use Rattle.lua_parser_base.proofs.BlockRefusals.{scoped_refused, scoped_too_deep, last_refused, stat_refused, returned_refused}
+use Rattle.lua_parser_base.proofs.BlockRefusals.{last_refused, stat_refused, returned_refused}
 use Rattle.lua_parser_base.proofs.Blocks.{arm_read, arms_more, arms_one, block_last, block_open, do_read, if_else_read, if_read, repeat_read, return_none_read, return_read, scoped_read, stats_more, stats_none, value_read, values_read, while_read}
 use Rattle.lua_parser_base.proofs.Bodies.{body_read, ends_state}
 use Rattle.lua_parser_base.proofs.Breaking.{args_ambiguous, ended_first, missing_first, call_breaks, call_ambiguous, counted_before, deep_breaks, function_breaks, method_breaks, operator_breaks, part_breaks, suffix_breaks}
@@ -25,41 +25,43 @@ use Rattle.lua_parser_base.proofs.FunctionStatements.{function_word, function_na
 use Rattle.lua_parser_base.proofs.Handing.{handed_on}
 use Rattle.lua_parser.proofs.Lists.{first_refused, next_refused}
 use Rattle.lua_parser.proofs.LocalStatements.{local_refused, local_word, local_function_word, local_function_unnamed, local_function_crowded, local_body_refused, locals_state, inside, local_names_refused, local_values_refused, locals_declared, declared_state, initial_refused}
-use Rattle.lua_parser.proofs.LoopRefusals.{while_block_refused, while_do_refused, while_end_refused, while_test_refused, repeat_block_refused, repeat_test_refused, repeat_too_deep, until_refused, do_end_refused, do_refused}
+use Rattle.lua_parser.proofs.LoopRefusals.{while_block_refused, while_do_refused, while_end_refused, while_test_refused, repeat_test_refused, until_refused, do_end_refused, do_refused}
 use Rattle.lua_parser_base.proofs.Next.{on_err, on_memory, on_want, untested}
 use Rattle.lua_parser_base.proofs.OpenFunctions.{few_there}
 use Rattle.lua_parser.proofs.OperandKinds.{unary_kind, closure_kind, table_kind, nil_kind, true_kind, false_kind, vararg_kind, number_next, text_next, next_of}
 use Rattle.lua_parser.proofs.Operands.{exp_ends_there, right_refused, right_no_part, right_too_high, right_low, operand_refused, operand_no_part, prefix_refused, table_refused}
 use Rattle.lua_parser_base.proofs.Prefixes.{suffix_refused, paren_no_part, paren_open, paren_refused, item_no_part, item_open, item_refused, item_too_high}
 use Rattle.lua_parser_base.proofs.Productions.{advances_on, right_fits, operator_none, binary_read, unary_read, closure_read, prefix_exp, table_exp, unary_tight, table_tight, list_one, list_more, paren_read}
-use Rattle.lua_parser.proofs.RefusedLoops.{for_names_refused, for_tail_refused, innermost, many_names, one_name, range_block_refused, range_from_refused, range_step_refused, range_to_refused, range_without_comma, step_refused, list_block_refused, list_refused, list_without_in, crowded_there, loop_crowded, loop_refused, loop_too_deep, loop_without_do, loop_without_end, unread}
+use Rattle.lua_parser.proofs.RefusedLoops.{for_names_refused, for_tail_refused, innermost, many_names, one_name, range_block_refused, range_from_refused, range_step_refused, range_to_refused, range_without_comma, step_refused, list_block_refused, list_refused, list_without_in, crowded_there, loop_crowded, loop_without_do, loop_without_end, unread}
 use Rattle.lua_parser_base.proofs.Refusing.{never_missed, never_missed_ahead}
 use Rattle.lua_parser_base.proofs.Scoping.{left_since, on_node, on_ok, slot_state, declared, slots_state, turned, none_found}
 use Rattle.lua_parser_base.proofs.Tables.{no_fields_read, more_fields_read, separated_read, ending_read, keyed_read, named_read, plain_read}
 use Rattle.lua_parser.proofs.Targets.{assignment_refused, first_target_refused, statement_is_none, assigned_refused, assignment_without_assign, more_vars_on, next_target_refused, no_more_vars, target_is_none, target_refused}
 use Rattle.lua_parser.proofs.ValueRefusals.{value_refused, value_too_deep, values_refused, values_too_deep}
 use Rattle.lua_parser.proofs.+descent.Goals.{statements::last-then-eq-via-then-eq, statements::last-then-eq-via-else-eq+then-at_sign}
-use Rattle.lua_parser_base.specs.Kinds.{IsStatement, IsUnary, IsSuffix, IsSeparator, begins_of}
+use Rattle.lua_parser_base.specs.Kinds.{IsStatement, IsUnary, IsSuffix, begins_of}
 use Rattle.lua_parser_base.specs.Next.{IsKind, IsMemory, IsTooDeep, Misses, OnAt, ahead, IsNext, OnLocals, MissesMember, IsName, HasNoPart, IsTooHigh, Begin}
 use Rattle.lua_parser_base.specs.Reads.{ReadsExp}
 use Rattle.lua_parser_base.specs.Refusals.{RefusesFrom, RefusesList, RefusesBody, RefusesPrefix, RefusesExp, RefusesSuffix, RefusesArgs, RefusesField, RefusesTable}
 use Rattle.lua_parser_base.specs.Standing.{FirstFault}
-use Rattle.lua_parser_base.specs.StatementRefusals.{RefusesArm, RefusesArms, RefusesBlock, RefusesLast, RefusesScoped, RefusesStat, RefusesValue, RefusesValues, RefusesNames, RefusesFor, RefusesLoop, RefusesParameters, RefusesFuncName, RefusesInitial, RefusesTarget, RefusesMethod}
+use Rattle.lua_parser_base.specs.StatementRefusals.{RefusesArm, RefusesArms, RefusesLast, RefusesScoped, RefusesStat, RefusesValue, RefusesValues, RefusesNames, RefusesFor, RefusesLoop, RefusesFuncName, RefusesInitial, RefusesTarget, RefusesMethod}
 use Rattle.lua_parser_base.specs.States.{state, scope_of, State}
 use Rattle.lua_parser_base.specs.declared.nodes.Form.TheVariants.{Variable, Call, Paren}
-use Rattle.std.proofs.Common.{◌≡◌, ◌≤◌, refl, sym, subst, rules, arith, [], length, ◌∷◌, IfErr, ◌∙◌, ◌<◌, ◌+◌, true, false, lit≤, IsTrue, ap}
+use Rattle.std.proofs.Common.{◌≡◌, ◌≤◌, refl, sym, subst, rules, arith, [], length, ◌∷◌, IfErr, ◌∙◌, ◌<◌, ◌+◌, true, false, lit≤, IsTrue, Vec, inl, inr, ap}
 use Rattle.std.proofs.lemmas.Result.{err_from_is_err_and}
 use Rattle.lua_parser_base.specs.declared.beginnings.Begins.TheVariants as begins
 use Rattle.lua_parser.proofs.+descent.Goals as goal
 use Rattle.lua_lexer.specs.declared.signs.Sign.TheVariants as sign
 use Rattle.lua_parser_base.specs.Standing as standing
 use Rattle.lua_lexer.specs.declared.words.Word.TheVariants as word
-use Rattle.lua_parser_base.specs.ReadsStatements.{ReadsValue, ReadsStat}
+use Rattle.lua_parser_base.specs.ReadsStatements.{ReadsValue, ReadsBlock, ReadsStat}
 use Rattle.lua_parser_base.specs.Nodes.{IsCalled, IsIndexed, IsMethodCalled, IsParen, AddsItem}
 use Rattle.lua_parser_base.specs.StatementNodes.{Defines, IsNumericFor, IsIf}
-use Rattle.lua_parser.specs.Parts.{AfterArms, AfterItems, PushesField, ReadsKey, RefusesElse, RefusesItem}
-use Rattle.lua_grammar.specs.Limits.{Few}
+use Rattle.lua_parser.specs.Parts.{AfterArms, AfterItems, PushesField, ReadsInner, ReadsKey, RefusesElse, RefusesInner, RefusesItem}
+use Rattle.lua_parser.proofs.InnerBlocks.{loop_inner, repeat_inner, scoped_inner}
+use Rattle.std.specs.Global.{Global}
 use Rattle.lua_ast.specs.declared.statements.Stmt.{Stmt}
+use Rattle.lua_grammar.specs.Limits.{Few}
 
 pub expressions::expression-loop-infix-init : goal.expressions::expression-loop-infix-init
 expressions::expression-loop-infix-init t c = record {
@@ -1720,8 +1722,8 @@ statements::local_statement-returns-in_err-line-clause-order t c =
 pub loops::loop_block-returns-clause-reads : goal.loops::loop_block-returns-clause-reads
 loops::loop_block-returns-clause-reads t c =
     loop_read _ _ _ _ _ _ _ _ _ _ _ _ _ c.in_ok-take_word.ensures.takes (declared c.args.tokens.now c.take_word.new.self c.declare.new.self _ c.in_ok-slots.ensures.scope c.in_ok-slots.ensures.index c.in_ok-slots.ensures.line)
-    (slots_state c.args.tokens.now c.take_word.new.self _ _ c.in_ok-slots.ensures.slots) c.looped.ensures c.in_ok-inner.ensures c.in_ok-body.ensures.reads
-    (left_since c.args.tokens.now c.take_word.new.self c.block.new.parser c.leave.new.self c.in_scope-count.result c.in_scope-count.ensures.value c.leave.ensures.scope c.leave.ensures.index c.leave.ensures.line) c.in_ok-take_word-2.ensures.takes
+    (slots_state c.args.tokens.now c.take_word.new.self _ _ c.in_ok-slots.ensures.slots) c.looped.ensures c.in_ok-body.ensures.reads.within c.in_ok-body.ensures.reads.reads
+    (left_since c.args.tokens.now c.take_word.new.self c.inner_block.new.parser c.leave.new.self c.in_scope-count.result c.in_scope-count.ensures.value c.leave.ensures.scope c.leave.ensures.index c.leave.ensures.line) c.in_ok-take_word-2.ensures.takes
 
 pub loops::loop_block-returns-in_err-take_word-clause-refuses : goal.loops::loop_block-returns-in_err-take_word-clause-refuses
 loops::loop_block-returns-in_err-take_word-clause-refuses t c =
@@ -1735,44 +1737,29 @@ loops::loop_block-returns-in_err-slots-clause-refuses t c =
     loop_crowded c.args.at c.args.names.items _ fault _ _ _ _ _ (innermost c.args.tokens.now c.args.parser.now) c.in_ok-take_word.ensures.takes
     (unread c.args.tokens.now c.take_word.new.self c.declare.new.self c.in_err-slots.ensures.index) (crowded_there c.args.tokens.now c.take_word.new.self _ fault crowded))
 
-pub loops::loop_block-returns-in_err-inner-clause-refuses : goal.loops::loop_block-returns-in_err-inner-clause-refuses
-loops::loop_block-returns-in_err-inner-clause-refuses t c =
-    let h : IfErr c.from_residual-in_err-inner.result (IsTooDeep c.looped.result (state c.args.tokens.now c.declare.new.self)) = search rules in
-    on_err c.from_residual-in_err-inner.result h (λ fault deep.
-    loop_too_deep c.args.at c.looped.result c.args.names.items _ fault _ _ _ c.in_ok-take_word.ensures.takes
-    (unread c.args.tokens.now c.take_word.new.self c.declare.new.self c.in_ok-slots.ensures.index) c.looped.ensures deep)
-
 pub loops::loop_block-returns-in_err-body-clause-refuses : goal.loops::loop_block-returns-in_err-body-clause-refuses
 loops::loop_block-returns-in_err-body-clause-refuses t c =
-    let h : IfErr c.from_residual-in_err-body.result (RefusesBlock c.in_ok-inner.inner (state c.args.tokens.now c.declare.new.self) (state c.args.tokens.now c.block.new.parser)) = search rules in
-    on_err c.from_residual-in_err-body.result h (λ fault refuses.
-    loop_refused c.args.at c.looped.result c.in_ok-inner.inner c.args.names.items _ fault _ _ _ _ c.in_ok-take_word.ensures.takes
-    (declared c.args.tokens.now c.take_word.new.self c.declare.new.self _ c.in_ok-slots.ensures.scope c.in_ok-slots.ensures.index c.in_ok-slots.ensures.line) c.looped.ensures c.in_ok-inner.ensures refuses)
+    handed_on (RefusesLoop c.args.at c.args.names.items (state c.args.tokens.now c.args.parser.now) (state c.args.tokens.now c.inner_block.new.parser)) c.from_residual-in_err-body.result _ c.from_residual-in_err-body.ensures.1
+    (loop_inner c.args.at c.looped.result c.args.names.items _ _ _ _ _ _ c.in_ok-take_word.ensures.takes (declared c.args.tokens.now c.take_word.new.self c.declare.new.self _ c.in_ok-slots.ensures.scope c.in_ok-slots.ensures.index c.in_ok-slots.ensures.line) c.looped.ensures c.in_err-body.ensures.refuses)
 
 pub loops::loop_block-returns-in_err-take_word-2-clause-refuses : goal.loops::loop_block-returns-in_err-take_word-2-clause-refuses
 loops::loop_block-returns-in_err-take_word-2-clause-refuses t c =
     let h : IfErr c.from_residual-in_err-take_word-2.result (OnAt (Misses (IsKind (Word word.End)) (state c.args.tokens.now c.leave.new.self) (state c.args.tokens.now c.take_word-2.new.self))) = search rules in
     on_err c.from_residual-in_err-take_word-2.result h (λ fault missing.
-    loop_without_end c.args.at c.in_ok-inner.inner c.args.names.items _ fault _ _ _ _ _ _ _ c.in_ok-take_word.ensures.takes
-    (unread c.args.tokens.now c.take_word.new.self c.declare.new.self c.in_ok-slots.ensures.index) c.in_ok-body.ensures.reads
-    (unread c.args.tokens.now c.block.new.parser c.leave.new.self c.leave.ensures.index) missing)
+    loop_without_end c.args.at c.in_ok-body.ensures.reads.inner c.args.names.items _ fault _ _ _ _ _ _ _ c.in_ok-take_word.ensures.takes
+    (unread c.args.tokens.now c.take_word.new.self c.declare.new.self c.in_ok-slots.ensures.index) c.in_ok-body.ensures.reads.reads
+    (unread c.args.tokens.now c.inner_block.new.parser c.leave.new.self c.leave.ensures.index) missing)
 
 pub loops::loop_block-returns-in_err-slots-clause-order : goal.loops::loop_block-returns-in_err-slots-clause-order
 loops::loop_block-returns-in_err-slots-clause-order t c =
     λ few. handed_on _ c.from_residual-in_err-slots.result _ c.from_residual-in_err-slots.ensures.1
     (λ start stands. counted_before start (state c.args.tokens.now c.declare.new.self) _ _ c.in_err-slots.ensures.crowded (few_in_loop c.args.tokens.now c.args.parser.now c.take_word.new.self _ _ _ few c.in_ok-take_word.ensures.takes))
 
-pub loops::loop_block-returns-in_err-inner-clause-order : goal.loops::loop_block-returns-in_err-inner-clause-order
-loops::loop_block-returns-in_err-inner-clause-order t c =
-    λ few. let turn = declared c.args.tokens.now c.take_word.new.self c.declare.new.self _ c.in_ok-slots.ensures.scope c.in_ok-slots.ensures.index c.in_ok-slots.ensures.line in
-    handed_on _ c.from_residual-in_err-inner.result _ c.from_residual-in_err-inner.ensures.1
-    (λ start stands. deep_breaks _ _ _ _ (few_there _ _) c.in_err-inner.ensures start (standing.loop_block stands c.in_ok-take_word.ensures.takes (record { left = turn.left; scope = turn.scope }) c.looped.ensures))
-
 pub loops::loop_block-returns-in_err-body-clause-order : goal.loops::loop_block-returns-in_err-body-clause-order
 loops::loop_block-returns-in_err-body-clause-order t c =
     λ few. let turn = declared c.args.tokens.now c.take_word.new.self c.declare.new.self _ c.in_ok-slots.ensures.scope c.in_ok-slots.ensures.index c.in_ok-slots.ensures.line in
     handed_on _ c.from_residual-in_err-body.result _ c.from_residual-in_err-body.ensures.1
-    (λ start stands. c.in_err-body.ensures.order start (standing.inside (standing.loop_block stands c.in_ok-take_word.ensures.takes (record { left = turn.left; scope = turn.scope }) c.looped.ensures) c.in_ok-inner.ensures))
+    (λ start stands. c.in_err-body.ensures.order start (standing.loop_block stands c.in_ok-take_word.ensures.takes (record { left = turn.left; scope = turn.scope }) c.looped.ensures))
 
 pub loops::loop_block-returns-in_err-take_word-clause-order : goal.loops::loop_block-returns-in_err-take_word-clause-order
 loops::loop_block-returns-in_err-take_word-clause-order t c =
@@ -1782,9 +1769,10 @@ loops::loop_block-returns-in_err-take_word-clause-order t c =
 pub loops::loop_block-returns-in_err-take_word-2-clause-order : goal.loops::loop_block-returns-in_err-take_word-2-clause-order
 loops::loop_block-returns-in_err-take_word-2-clause-order t c =
     λ few. let turn = declared c.args.tokens.now c.take_word.new.self c.declare.new.self _ c.in_ok-slots.ensures.scope c.in_ok-slots.ensures.index c.in_ok-slots.ensures.line in
-    let left = left_since c.args.tokens.now c.take_word.new.self c.block.new.parser c.leave.new.self c.in_scope-count.result c.in_scope-count.ensures.value c.leave.ensures.scope c.leave.ensures.index c.leave.ensures.line in
+    let left = left_since c.args.tokens.now c.take_word.new.self c.inner_block.new.parser c.leave.new.self c.in_scope-count.result c.in_scope-count.ensures.value c.leave.ensures.scope c.leave.ensures.index c.leave.ensures.line in
     handed_on _ c.from_residual-in_err-take_word-2.result _ c.from_residual-in_err-take_word-2.ensures.1
-    (λ start stands. missing_first _ _ _ _ c.in_err-take_word-2.ensures.misses start (standing.after_loop (state c.args.tokens.now c.take_word.new.self).scope (standing.after_block (standing.inside (standing.loop_block stands c.in_ok-take_word.ensures.takes (record { left = turn.left; scope = turn.scope }) c.looped.ensures) c.in_ok-inner.ensures) c.in_ok-body.ensures.reads) left.left left.scope))
+    (λ start stands. missing_first _ _ _ _ c.in_err-take_word-2.ensures.misses start
+    (standing.after_loop (state c.args.tokens.now c.take_word.new.self).scope (standing.after_block (standing.inside (standing.loop_block stands c.in_ok-take_word.ensures.takes (record { left = turn.left; scope = turn.scope }) c.looped.ensures) c.in_ok-body.ensures.reads.within) c.in_ok-body.ensures.reads.reads) left.left left.scope))
 
 pub statements::method_statement-returns-clause-reads : goal.statements::method_statement-returns-clause-reads
 statements::method_statement-returns-clause-reads t c =
@@ -2005,7 +1993,7 @@ loops::range_loop-returns-then-len-ne1-clause-order t c =
 
 pub loops::repeat_loop-returns-clause-reads : goal.loops::repeat_loop-returns-clause-reads
 loops::repeat_loop-returns-clause-reads t c =
-    on_node _ c.repeat_node.ensures (λ out is. repeat_read _ _ _ _ _ _ _ _ _ _ _ _ _ _ c.in_ok-line.ensures.takes c.looped.ensures c.in_ok-inner.ensures c.in_ok-body.ensures.reads c.in_ok-take_word.ensures.takes c.in_ok-test.ensures.reads
+    on_node _ c.repeat_node.ensures (λ out is. repeat_read _ _ _ _ _ _ _ _ _ _ _ _ _ _ c.in_ok-line.ensures.takes c.looped.ensures c.in_ok-body.ensures.reads.within c.in_ok-body.ensures.reads.reads c.in_ok-take_word.ensures.takes c.in_ok-test.ensures.reads
     (left_since c.args.tokens.now c.take_word.new.self c.value.new.parser c.leave.new.self c.in_scope-count.result c.in_scope-count.ensures.value c.leave.ensures.scope c.leave.ensures.index c.leave.ensures.line) is)
 
 pub loops::repeat_loop-returns-in_err-line-clause-refuses : goal.loops::repeat_loop-returns-in_err-line-clause-refuses
@@ -2013,43 +2001,33 @@ loops::repeat_loop-returns-in_err-line-clause-refuses t c = λ next.
     let h : IfErr c.from_residual.result (OnAt (Misses (IsKind (Word word.Repeat)) (state c.args.tokens.now c.args.parser.now) (state c.args.tokens.now c.take_word.new.self))) = search rules in
     on_err c.from_residual.result h (λ fault missed k never suppose. never_missed_ahead fault _ (token (statement k)) (IsKind (Word word.Repeat)) _ _ missed suppose (λ is. cc) next)
 
-pub loops::repeat_loop-returns-in_err-inner-clause-refuses : goal.loops::repeat_loop-returns-in_err-inner-clause-refuses
-loops::repeat_loop-returns-in_err-inner-clause-refuses t c = λ next.
-    let h : IfErr c.from_residual-in_err-inner.result (IsTooDeep c.looped.result (state c.args.tokens.now c.take_word.new.self)) = search rules in
-    on_err c.from_residual-in_err-inner.result h (λ fault none. repeat_too_deep c.args.at c.looped.result _ _ _ fault c.in_ok-line.ensures.takes c.looped.ensures none)
-
 pub loops::repeat_loop-returns-in_err-body-clause-refuses : goal.loops::repeat_loop-returns-in_err-body-clause-refuses
 loops::repeat_loop-returns-in_err-body-clause-refuses t c = λ next.
-    let h : IfErr c.from_residual-in_err-body.result (RefusesBlock c.in_ok-inner.inner (state c.args.tokens.now c.take_word.new.self) (state c.args.tokens.now c.block.new.parser)) = search rules in
-    on_err c.from_residual-in_err-body.result h (λ fault refuses. repeat_block_refused c.args.at c.looped.result c.in_ok-inner.inner _ _ _ _ fault c.in_ok-line.ensures.takes c.looped.ensures c.in_ok-inner.ensures refuses)
+    handed_on (RefusesStat c.args.at (state c.args.tokens.now c.args.parser.now) (state c.args.tokens.now c.inner_block.new.parser)) c.from_residual-in_err-body.result _ c.from_residual-in_err-body.ensures.1
+    (repeat_inner c.args.at c.looped.result _ _ _ _ _ c.in_ok-line.ensures.takes c.looped.ensures c.in_err-body.ensures.refuses)
 
 pub loops::repeat_loop-returns-in_err-take_word-clause-refuses : goal.loops::repeat_loop-returns-in_err-take_word-clause-refuses
 loops::repeat_loop-returns-in_err-take_word-clause-refuses t c = λ next.
-    let h : IfErr c.from_residual-in_err-take_word.result (OnAt (Misses (IsKind (Word word.Until)) (state c.args.tokens.now c.block.new.parser) (state c.args.tokens.now c.take_word-2.new.self))) = search rules in
-    on_err c.from_residual-in_err-take_word.result h (λ fault missed. until_refused c.args.at c.in_ok-inner.inner _ _ _ _ _ _ fault c.in_ok-line.ensures.takes c.in_ok-body.ensures.reads missed)
+    let h : IfErr c.from_residual-in_err-take_word.result (OnAt (Misses (IsKind (Word word.Until)) (state c.args.tokens.now c.inner_block.new.parser) (state c.args.tokens.now c.take_word-2.new.self))) = search rules in
+    on_err c.from_residual-in_err-take_word.result h (λ fault missed. until_refused c.args.at c.in_ok-body.ensures.reads.inner _ _ _ _ _ _ fault c.in_ok-line.ensures.takes c.in_ok-body.ensures.reads.reads missed)
 
 pub loops::repeat_loop-returns-in_err-test-clause-refuses : goal.loops::repeat_loop-returns-in_err-test-clause-refuses
 loops::repeat_loop-returns-in_err-test-clause-refuses t c = λ next.
     let h : IfErr c.from_residual-in_err-test.result (RefusesValue c.args.at (state c.args.tokens.now c.take_word-2.new.self) (state c.args.tokens.now c.value.new.parser)) = search rules in
-    on_err c.from_residual-in_err-test.result h (λ fault refuses. repeat_test_refused c.args.at c.in_ok-inner.inner _ _ _ _ _ _ _ _ fault c.in_ok-line.ensures.takes c.in_ok-body.ensures.reads c.in_ok-take_word.ensures.takes refuses)
+    on_err c.from_residual-in_err-test.result h (λ fault refuses. repeat_test_refused c.args.at c.in_ok-body.ensures.reads.inner _ _ _ _ _ _ _ _ fault c.in_ok-line.ensures.takes c.in_ok-body.ensures.reads.reads c.in_ok-take_word.ensures.takes refuses)
 
 pub loops::repeat_loop-returns-clause-refuses : goal.loops::repeat_loop-returns-clause-refuses
 loops::repeat_loop-returns-clause-refuses t c = λ next. on_memory _ _ c.repeat_node.result (λ k never none. absurd none) c.repeat_node.ensures
 
-pub loops::repeat_loop-returns-in_err-inner-clause-order : goal.loops::repeat_loop-returns-in_err-inner-clause-order
-loops::repeat_loop-returns-in_err-inner-clause-order t c =
-    handed_on _ c.from_residual-in_err-inner.result _ c.from_residual-in_err-inner.ensures.1
-    (λ start stands. deep_breaks _ _ _ _ (few_there _ _) c.in_err-inner.ensures start (standing.repeat_block stands c.in_ok-line.ensures.takes c.looped.ensures))
-
 pub loops::repeat_loop-returns-in_err-body-clause-order : goal.loops::repeat_loop-returns-in_err-body-clause-order
 loops::repeat_loop-returns-in_err-body-clause-order t c =
     handed_on _ c.from_residual-in_err-body.result _ c.from_residual-in_err-body.ensures.1
-    (λ start stands. c.in_err-body.ensures.order start (standing.inside (standing.repeat_block stands c.in_ok-line.ensures.takes c.looped.ensures) c.in_ok-inner.ensures))
+    (λ start stands. c.in_err-body.ensures.order start (standing.repeat_block stands c.in_ok-line.ensures.takes c.looped.ensures))
 
 pub loops::repeat_loop-returns-in_err-test-clause-order : goal.loops::repeat_loop-returns-in_err-test-clause-order
 loops::repeat_loop-returns-in_err-test-clause-order t c =
     handed_on _ c.from_residual-in_err-test.result _ c.from_residual-in_err-test.ensures.1
-    (λ start stands. c.in_err-test.ensures.order start (standing.repeat_test stands c.in_ok-line.ensures.takes c.looped.ensures c.in_ok-inner.ensures c.in_ok-body.ensures.reads c.in_ok-take_word.ensures.takes))
+    (λ start stands. c.in_err-test.ensures.order start (standing.repeat_test stands c.in_ok-line.ensures.takes c.looped.ensures c.in_ok-body.ensures.reads.within c.in_ok-body.ensures.reads.reads c.in_ok-take_word.ensures.takes))
 
 pub loops::repeat_loop-returns-in_err-line-clause-order : goal.loops::repeat_loop-returns-in_err-line-clause-order
 loops::repeat_loop-returns-in_err-line-clause-order t c =
@@ -2059,32 +2037,44 @@ loops::repeat_loop-returns-in_err-line-clause-order t c =
 pub loops::repeat_loop-returns-in_err-take_word-clause-order : goal.loops::repeat_loop-returns-in_err-take_word-clause-order
 loops::repeat_loop-returns-in_err-take_word-clause-order t c =
     handed_on _ c.from_residual-in_err-take_word.result _ c.from_residual-in_err-take_word.ensures.1
-    (λ start stands. missing_first _ _ _ _ c.in_err-take_word.ensures.misses start (standing.after_block (standing.inside (standing.repeat_block stands c.in_ok-line.ensures.takes c.looped.ensures) c.in_ok-inner.ensures) c.in_ok-body.ensures.reads))
+    (λ start stands. missing_first _ _ _ _ c.in_err-take_word.ensures.misses start (standing.after_block (standing.inside (standing.repeat_block stands c.in_ok-line.ensures.takes c.looped.ensures) c.in_ok-body.ensures.reads.within) c.in_ok-body.ensures.reads.reads))
 
 pub statements::scoped-returns-clause-reads : goal.statements::scoped-returns-clause-reads
 statements::scoped-returns-clause-reads t c =
-    scoped_read _ _ _ _ _ _ c.in_ok-inner.ensures c.in_ok-block.ensures.reads
-    (left_since c.args.tokens.now c.args.parser.now c.block.new.parser c.leave.new.self c.in_scope-count.result c.in_scope-count.ensures.value c.leave.ensures.scope c.leave.ensures.index c.leave.ensures.line)
+    let block = c.in_ok-block.ensures.reads in
+    scoped_read _ _ _ _ _ _ block.within block.reads
+    (left_since c.args.tokens.now c.args.parser.now c.inner_block.new.parser c.leave.new.self c.in_scope-count.result c.in_scope-count.ensures.value c.leave.ensures.scope c.leave.ensures.index c.leave.ensures.line)
 
-pub statements::scoped-returns-in_err-inner-clause-refuses : goal.statements::scoped-returns-in_err-inner-clause-refuses
-statements::scoped-returns-in_err-inner-clause-refuses t c =
-    let h : IfErr c.from_residual.result (IsTooDeep c.args.at (state c.args.tokens.now c.args.parser.now)) = search rules in
-    on_err c.from_residual.result h (λ fault none. scoped_too_deep c.args.at _ fault none)
+pub statements::inner_block-returns-in_err-inner-clause-refuses : goal.statements::inner_block-returns-in_err-inner-clause-refuses
+statements::inner_block-returns-in_err-inner-clause-refuses t c =
+    handed_on (RefusesInner c.args.at (state c.args.tokens.now c.args.parser.now) (state c.args.tokens.now c.args.parser.now)) c.from_residual.result _ c.from_residual.ensures.1 (inl (c.in_err-inner.ensures, refl))
+
+pub statements::inner_block-returns-clause-refuses : goal.statements::inner_block-returns-clause-refuses
+statements::inner_block-returns-clause-refuses t c =
+    on_err c.block.result c.block.ensures.refuses (λ fault refuses. inr (c.in_ok-inner.inner, c.in_ok-inner.ensures, refuses))
+
+pub statements::inner_block-returns-clause-reads : goal.statements::inner_block-returns-clause-reads
+statements::inner_block-returns-clause-reads t c =
+    let read : (out : Vec Stmt Global) → ReadsBlock c.in_ok-inner.inner (state c.args.tokens.now c.args.parser.now) out.items (state c.args.tokens.now c.block.new.parser) → ReadsInner c.args.at (state c.args.tokens.now c.args.parser.now) out.items (state c.args.tokens.now c.block.new.parser) =
+    λ out reads. record { inner = c.in_ok-inner.inner; within = c.in_ok-inner.ensures; reads = reads } in
+    on_ok c.block.result c.block.ensures.reads read
 
 pub statements::scoped-returns-in_err-block-clause-refuses : goal.statements::scoped-returns-in_err-block-clause-refuses
 statements::scoped-returns-in_err-block-clause-refuses t c =
-    let h : IfErr c.from_residual-in_err-block.result (RefusesBlock c.in_ok-inner.inner (state c.args.tokens.now c.args.parser.now) (state c.args.tokens.now c.block.new.parser)) = search rules in
-    on_err c.from_residual-in_err-block.result h (λ fault refuses. scoped_refused c.args.at c.in_ok-inner.inner _ _ fault c.in_ok-inner.ensures refuses)
+    handed_on (RefusesScoped c.args.at (state c.args.tokens.now c.args.parser.now) (state c.args.tokens.now c.inner_block.new.parser)) c.from_residual.result _ c.from_residual.ensures.1 (scoped_inner c.args.at _ _ _ c.in_err-block.ensures.refuses)
 
-pub statements::scoped-returns-in_err-inner-clause-order : goal.statements::scoped-returns-in_err-inner-clause-order
-statements::scoped-returns-in_err-inner-clause-order t c =
+pub statements::inner_block-returns-in_err-inner-clause-order : goal.statements::inner_block-returns-in_err-inner-clause-order
+statements::inner_block-returns-in_err-inner-clause-order t c =
     handed_on _ c.from_residual.result _ c.from_residual.ensures.1
     (λ start stands. deep_breaks _ _ _ _ (few_there _ _) c.in_err-inner.ensures start (stands))
 
+pub statements::inner_block-returns-clause-order : goal.statements::inner_block-returns-clause-order
+statements::inner_block-returns-clause-order t c =
+    on_err c.block.result c.block.ensures.order (λ fault breaks start stands. breaks start (standing.inside stands c.in_ok-inner.ensures))
+
 pub statements::scoped-returns-in_err-block-clause-order : goal.statements::scoped-returns-in_err-block-clause-order
 statements::scoped-returns-in_err-block-clause-order t c =
-    handed_on _ c.from_residual-in_err-block.result _ c.from_residual-in_err-block.ensures.1
-    (λ start stands. c.in_err-block.ensures.order start (standing.inside stands c.in_ok-inner.ensures))
+    handed_on _ c.from_residual.result _ c.from_residual.ensures.1 c.in_err-block.ensures.order
 
 pub statements::statement-returns-in-If-clause-refuses : goal.statements::statement-returns-in-If-clause-refuses
 statements::statement-returns-in-If-clause-refuses t c = λ same is. c.if_statement.ensures.refuses (if_kind _ (sym same ∙ c.in-If.is))

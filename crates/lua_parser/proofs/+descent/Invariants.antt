@@ -160,6 +160,9 @@ decreases-statements::else_statement l = (201 - l.at.depth) * 16 + 10
 abbrev pub decreases-statements::initial : goal.decreases-statements::initial
 decreases-statements::initial l = (201 - l.at.depth) * 16 + 9
 
+abbrev pub decreases-statements::inner_block : goal.decreases-statements::inner_block
+decreases-statements::inner_block l = (201 - l.at.depth) * 16 + 0
+
 abbrev pub decreases-statements::last : goal.decreases-statements::last
 decreases-statements::last l = (201 - l.at.depth) * 16 + 13
 
