@@ -16,3 +16,5 @@ pub mod RefusedLoops
 pub mod Targets
 pub mod WholeText
 pub mod Declaring
+pub mod Beside
+pub mod InnerBlocks

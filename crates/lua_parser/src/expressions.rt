@@ -12,7 +12,9 @@ ghost use Rattle.lua_grammar.specs.Stopping.{EndsAt};
 ghost use Rattle.lua_parser_base.specs.Refusals.{RefusesExp, RefusesFrom};
 ghost use Rattle.lua_parser_base.specs.Standing.{FirstFault};
 ghost use Rattle.lua_parser_base.specs.Standing as Standing;
+ghost use Rattle.lua_parser.specs.Parts.{FirstFaultOfRight, ReadsRight, RefusesRight};
 
+use crate::pairs::beside;
 use crate::statements::body;
 use crate::suffixes::{prefix, table};
 use lua_ast::ExprKind;
@@ -61,12 +63,32 @@ pub(crate) fn expression(
 {
     let mut left = operand(parser, alloc, tokens, at)?;
     while let Some(infix) = skip_operator(parser, tokens, left.level, lowest) {
-        at.above(left.height, infix.line)?;
-        let inner = parser.part(tokens, at)?;
-        let right = expression(parser, alloc, tokens, inner, right_level(infix.op))?;
-        left = binary(alloc, left, infix.op, infix.line, right)?;
+        let right = right_operand(parser, alloc, tokens, at, &left, infix);
+        let (before, right) = beside(left, right)?;
+        left = binary(alloc, before, infix.op, infix.line, right)?;
     }
     Ok(left)
+}
+
+/// exp ::= exp binop exp
+/// Reads what stands after the operator, where what stands before it isn't too high.
+#[cycle(descent)]
+fn right_operand(
+    parser: &mut Parser,
+    alloc: Global,
+    tokens: &[Token],
+    at: Nesting,
+    left: &Built,
+    found: Infix,
+) -> Result<Built, ParseFault>
+    ensures reads { IfOk result (λ right. ReadsRight at left.now found (state tokens.now parser.old) right (state tokens.now parser.new)) }
+    ensures refuses { IfErr result (RefusesRight at left.now found (state tokens.now parser.old) (state tokens.now parser.new)) }
+    ensures order { IfErr result (FirstFaultOfRight at left.now found (state tokens.now parser.old) (state tokens.now parser.new)) }
+    ensures forward { OnOk result (Advances tokens.now parser.old parser.new) }
+{
+    at.above(left.height, found.line)?;
+    let inner = parser.part(tokens, at)?;
+    expression(parser, alloc, tokens, inner, right_level(found.op))
 }
 
 /// exp ::= nil | false | true | Number | String | `...´ | function | prefixexp | tableconstructor | unop exp

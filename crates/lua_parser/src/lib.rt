@@ -3,6 +3,7 @@
 
 mod expressions;
 mod loops;
+mod pairs;
 mod parser;
 mod statements;
 mod suffixes;

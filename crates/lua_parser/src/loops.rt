@@ -1,5 +1,5 @@
 //! Loops: `while`, `repeat`, and both kinds of `for`.
-ghost use Rattle.std.specs.Prelude.{◌≡◌, IfErr, IfNone, IfOk, OnOk};
+ghost use Rattle.std.specs.Prelude.{◌≡◌, ℕ, List, length, IfErr, IfNone, IfOk, OnOk};
 ghost use Rattle.lua_lexer.specs.declared.tokens.TokenKind.TheVariants.{Sign as SignKind, Word as WordKind};
 ghost use Rattle.lua_lexer.specs.declared.signs.Sign.TheVariants.{Assign, Comma};
 ghost use Rattle.lua_lexer.specs.declared.words.Word.TheVariants.{For, Repeat, While};
@@ -11,8 +11,10 @@ ghost use Rattle.lua_parser_base.specs.ReadsStatements.{ReadsStat, ReadsLoop, Re
 ghost use Rattle.lua_parser_base.specs.StatementRefusals.{RefusesFor, RefusesLoop, RefusesStat, RefusesStep};
 ghost use Rattle.lua_parser_base.specs.Standing.{FirstFault};
 ghost use Rattle.lua_parser_base.specs.Standing as Standing;
+ghost use Rattle.lua_parser.specs.Parts.{ReadsRange};
 
-use crate::statements::{block, scoped, value, values};
+use crate::pairs::beside;
+use crate::statements::{inner_block, scoped, value, values};
 use lua_ast::{Expr, Stmt};
 use lua_lexer::{Sign, Token, Word};
 use lua_parser_base::{
@@ -37,9 +39,9 @@ pub(crate) fn while_loop(
 {
     let line = parser.take_word(tokens, Word::While)?;
     let test = value(parser, alloc, tokens, at)?;
-    parser.take_word(tokens, Word::Do)?;
-    let body = scoped(parser, alloc, tokens, at.looped())?;
-    parser.take_word(tokens, Word::End)?;
+    let (test, _) = beside(test, parser.take_word(tokens, Word::Do))?;
+    let (test, body) = beside(test, scoped(parser, alloc, tokens, at.looped()))?;
+    let (test, _) = beside(test, parser.take_word(tokens, Word::End))?;
     while_node(alloc, line, test, body)
 }
 
@@ -58,8 +60,7 @@ pub(crate) fn repeat_loop(
 {
     let line = parser.take_word(tokens, Word::Repeat)?;
     let count = parser.in_scope();
-    let inner = parser.deeper(tokens, at.looped())?;
-    let body = block(parser, alloc, tokens, inner)?;
+    let body = inner_block(parser, alloc, tokens, at.looped())?;
     parser.take_word(tokens, Word::Until)?;
     let test = value(parser, alloc, tokens, at)?;
     parser.leave(count);
@@ -108,13 +109,38 @@ fn range_loop(
     if names.len() != 1 {
         return Err(parser.unfit(tokens));
     }
+    let range = range(parser, alloc, tokens, at)?;
+    let block = loop_block(parser, alloc, tokens, at, names, line);
+    let (range, block) = beside(range, block)?;
+    numeric_for(alloc, line, range, block)
+}
+
+/// `=´ exp `,´ exp [`,´ exp]
+/// Reads them after a name.
+#[cycle(descent)]
+fn range(
+    parser: &mut Parser,
+    alloc: Global,
+    tokens: &[Token],
+    at: Nesting,
+) -> Result<Range, ParseFault>
+    ensures reads { IfOk result (λ range. ReadsRange at (state tokens.now parser.old) range (state tokens.now parser.new)) }
+    ensures refuses { (names : List (List ℕ)) → length names ≡ 1
+        → IfErrWhere (IsNext (SignKind Assign)) result (RefusesFor at names) tokens.now parser.old parser.new }
+    ensures order { (names : List (List ℕ)) → length names ≡ 1
+        → IfErr result (FirstFault (Standing.for_tail at names) (state tokens.now parser.old) (state tokens.now parser.new)) }
+    ensures forward { OnOk result (Advances tokens.now parser.old parser.new) }
+{
     parser.take_sign(tokens, Sign::Assign)?;
     let from = value(parser, alloc, tokens, at)?;
-    parser.take_sign(tokens, Sign::Comma)?;
-    let to = value(parser, alloc, tokens, at)?;
-    let step = step(parser, alloc, tokens, at)?;
-    let block = loop_block(parser, alloc, tokens, at, names, line)?;
-    numeric_for(alloc, line, Range { from, to, step }, block)
+    let (from, _) = beside(from, parser.take_sign(tokens, Sign::Comma))?;
+    let (from, to) = beside(from, value(parser, alloc, tokens, at))?;
+    let (ends, step) = beside((from, to), step(parser, alloc, tokens, at))?;
+    Ok(Range {
+        from: ends.0,
+        to: ends.1,
+        step,
+    })
 }
 
 /// [`,´ exp]
@@ -182,8 +208,7 @@ fn loop_block(
     parser.take_word(tokens, Word::Do)?;
     let count = parser.in_scope();
     let slots = parser.declare(alloc, names, line)?;
-    let inner = parser.deeper(tokens, at.looped())?;
-    let body = block(parser, alloc, tokens, inner)?;
+    let body = inner_block(parser, alloc, tokens, at.looped())?;
     parser.leave(count);
     parser.take_word(tokens, Word::End)?;
     Ok(LoopBlock { slots, body })

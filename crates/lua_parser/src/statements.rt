@@ -1,5 +1,6 @@
 //! Blocks, the statements that are no loops, and the bodies of functions.
-ghost use Rattle.std.specs.Prelude.{◌≡◌, ◌≤◌, ◌∷◌, [], ℕ, IfErr, IfNone, IfOk, OnOk, vec_len};
+ghost use Rattle.std.specs.Prelude.{◌≡◌, ◌≤◌, ◌∷◌, [], ℕ, IfErr, IfNone, IfOk, MatchResult, OnOk, vec_len};
+ghost use Rattle.lua_grammar.specs.Resolution.{self_name};
 ghost use Rattle.lua_parser_base.specs.States.{State, state, Advances, AdvancesOrStays, IfErrWhere};
 ghost use Rattle.lua_parser_base.specs.Reads.{ReadsBody};
 ghost use Rattle.lua_parser_base.specs.ReadsStatements.{ReadsBlock, ReadsScoped, ReadsStat, ReadsLast, ReadsValue, ReadsValues, ReadsArm, ReadsArms};
@@ -7,23 +8,26 @@ ghost use Rattle.lua_parser_base.specs.ReadsStatements.{ReadsFuncName, ReadsVars
 ghost use Rattle.lua_lexer.specs.declared.tokens.TokenKind.TheVariants.{Sign as SignKind};
 ghost use Rattle.lua_lexer.specs.declared.tokens.TokenKind.TheVariants.{Word as WordKind};
 ghost use Rattle.lua_lexer.specs.declared.signs.Sign.TheVariants.{Assign, Colon, Comma};
-ghost use Rattle.lua_lexer.specs.declared.words.Word.TheVariants.{Do, ElseIf, Function, If, Local};
-ghost use Rattle.lua_parser_base.specs.Next.{IsNext, ahead, IsAhead, IsNotNext};
+ghost use Rattle.lua_lexer.specs.declared.words.Word.TheVariants.{Do, Else, ElseIf, Function, If, Local};
+ghost use Rattle.lua_parser_base.specs.Next.{IsMemory, IsNext, ahead, IsAhead, IsNotNext};
 ghost use Rattle.lua_parser_base.specs.Kinds.{IsStatement, begins_of, StatementBegins};
 ghost use Rattle.lua_parser_base.specs.Refusals.{RefusesBody};
 ghost use Rattle.lua_parser_base.specs.Standing.{FirstFault, FirstFaultOfAssignment, FirstFaultOfTargets};
 ghost use Rattle.lua_parser_base.specs.Standing as Standing;
+ghost use Rattle.lua_parser_base.specs.declared.nesting.Nesting.{Nesting};
+ghost use Rattle.lua_parser.specs.Parts.{AfterArms, FirstFaultOfElse, ReadsHead, ReadsInner, RefusesElse, RefusesInner};
 ghost use Rattle.lua_parser_base.specs.StatementRefusals.{RefusesArm, RefusesArms, RefusesAssignment, RefusesBlock, RefusesInitial, RefusesLast, RefusesLocal};
 ghost use Rattle.lua_parser_base.specs.StatementRefusals.{RefusesMethod, RefusesScoped, RefusesStat, RefusesTarget, RefusesValue, RefusesValues};
 
 use crate::expressions::expression;
 use crate::loops::{for_loop, repeat_loop, while_loop};
+use crate::pairs::beside;
 use crate::suffixes::{expressions, prefix};
 use lua_ast::{Arm, Expr, Stmt, StmtKind};
 use lua_lexer::{Sign, Token, Word};
 use lua_parser_base::{
-    Begins, Form, FunctionName, Nesting, ParseFault, Parser, Prefix, arm_node, assign_node, define,
-    do_node, if_node, local_node, returned,
+    Begins, Begun, Form, FunctionName, Nesting, ParseFault, Parser, Prefix, arm_node, assign_node,
+    define, do_node, if_node, local_node, returned,
 };
 use resty_base::Bytes;
 use std::alloc::Global;
@@ -46,14 +50,34 @@ pub(crate) fn body(
     ensures order { IfErr result (FirstFault (Standing.body at first.items) (state tokens.now parser.old) (state tokens.now parser.new)) }
     ensures forward { OnOk result (Advances tokens.now parser.old parser.new) }
 {
-    parser.take_sign(tokens, Sign::OpenParenthesis)?;
-    let parameters = parser.parameters(tokens, first)?;
-    parser.take_sign(tokens, Sign::CloseParenthesis)?;
-    let begun = parser.enter(alloc, parameters, line)?;
+    let begun = begin(parser, alloc, tokens, line, first)?;
     let inner = parser.deeper(tokens, at)?.of_function(begun.vararg);
     let block = block(parser, alloc, tokens, inner)?;
     parser.take_word(tokens, Word::End)?;
     parser.end(alloc, begun, block)
+}
+
+/// `(´ [parlist] `)´
+/// Reads the parameters of a function and begins it. `first` are the parameters that stand before those. The word
+/// `function` is on that line.
+fn begin(
+    parser: &mut Parser,
+    alloc: Global,
+    tokens: &[Token],
+    line: u32,
+    first: Vec<Bytes>,
+) -> Result<Begun, ParseFault>
+    requires { vec_len first ≤ 200 }
+    ensures reads { IfOk result (λ begun. ReadsHead line first.items (state tokens.now parser.old) begun (state tokens.now parser.new)) }
+    ensures refuses { (at : Nesting) → IfErr result (RefusesBody at line first.items (state tokens.now parser.old) (state tokens.now parser.new)) }
+    ensures order { (at : Nesting)
+        → IfErr result (FirstFault (Standing.body at first.items) (state tokens.now parser.old) (state tokens.now parser.new)) }
+    ensures forward { OnOk result (Advances tokens.now parser.old parser.new) }
+{
+    parser.take_sign(tokens, Sign::OpenParenthesis)?;
+    let parameters = parser.parameters(tokens, first)?;
+    parser.take_sign(tokens, Sign::CloseParenthesis)?;
+    parser.enter(alloc, parameters, line)
 }
 
 /// block ::= chunk
@@ -70,11 +94,28 @@ pub(crate) fn scoped(
     ensures order { IfErr result (FirstFault (Standing.within Standing.block at) (state tokens.now parser.old) (state tokens.now parser.new)) }
     ensures forward { OnOk result (AdvancesOrStays tokens.now parser.old parser.new) }
 {
-    let inner = parser.deeper(tokens, at)?;
     let count = parser.in_scope();
-    let block = block(parser, alloc, tokens, inner)?;
+    let block = inner_block(parser, alloc, tokens, at)?;
     parser.leave(count);
     Ok(block)
+}
+
+/// block ::= chunk
+/// Reads a block in one at `at`. Its locals stay in scope.
+#[cycle(descent)]
+pub(crate) fn inner_block(
+    parser: &mut Parser,
+    alloc: Global,
+    tokens: &[Token],
+    at: Nesting,
+) -> Result<Vec<Stmt>, ParseFault>
+    ensures reads { IfOk result (λ block. ReadsInner at (state tokens.now parser.old) block.items (state tokens.now parser.new)) }
+    ensures refuses { IfErr result (RefusesInner at (state tokens.now parser.old) (state tokens.now parser.new)) }
+    ensures order { IfErr result (FirstFault (Standing.within Standing.block at) (state tokens.now parser.old) (state tokens.now parser.new)) }
+    ensures forward { OnOk result (AdvancesOrStays tokens.now parser.old parser.new) }
+{
+    let inner = parser.deeper(tokens, at)?;
+    block(parser, alloc, tokens, inner)
 }
 
 /// chunk ::= {stat [`;´]} [laststat [`;´]]
@@ -211,8 +252,8 @@ fn arm(parser: &mut Parser, alloc: Global, tokens: &[Token], at: Nesting) -> Res
     ensures forward { OnOk result (Advances tokens.now parser.old parser.new) }
 {
     let test = value(parser, alloc, tokens, at)?;
-    parser.take_word(tokens, Word::Then)?;
-    let body = scoped(parser, alloc, tokens, at)?;
+    let (test, _) = beside(test, parser.take_word(tokens, Word::Then))?;
+    let (test, body) = beside(test, scoped(parser, alloc, tokens, at))?;
     arm_node(alloc, test, body)
 }
 
@@ -257,13 +298,33 @@ fn if_statement(
     let line = parser.take_word(tokens, Word::If)?;
     let arms = arms(parser, alloc, tokens, at)?;
     if parser.at_word(tokens, Word::Else) {
-        parser.take_word(tokens, Word::Else)?;
-        let otherwise = scoped(parser, alloc, tokens, at)?;
-        parser.take_word(tokens, Word::End)?;
-        return if_node(alloc, line, arms, otherwise);
+        return else_statement(parser, alloc, tokens, at, line, arms);
     }
     parser.take_word(tokens, Word::End)?;
     if_node(alloc, line, arms, Vec::new(alloc))
+}
+
+/// stat ::= if exp then block {elseif exp then block} else block end
+/// Reads it from its `else` on. Its `if` is on that line.
+#[cycle(descent)]
+fn else_statement(
+    parser: &mut Parser,
+    alloc: Global,
+    tokens: &[Token],
+    at: Nesting,
+    line: u32,
+    arms: Vec<Arm>,
+) -> Result<Stmt, ParseFault>
+    ensures reads { IfOk result (λ out. (s : State) → AfterArms at line arms.items s (state tokens.now parser.old)
+        → ReadsStat at s out (state tokens.now parser.new)) }
+    ensures refuses { IfErrWhere (IsNext (WordKind Else)) result (RefusesElse at line arms.items) tokens.now parser.old parser.new }
+    ensures order { IfErr result (FirstFaultOfElse at line arms.items (state tokens.now parser.old) (state tokens.now parser.new)) }
+    ensures forward { OnOk result (Advances tokens.now parser.old parser.new) }
+{
+    parser.take_word(tokens, Word::Else)?;
+    let otherwise = scoped(parser, alloc, tokens, at)?;
+    parser.take_word(tokens, Word::End)?;
+    if_node(alloc, line, arms, otherwise)
 }
 
 /// stat ::= do block end
@@ -304,7 +365,8 @@ fn function_statement(
     if parser.at_sign(tokens, Sign::Colon) {
         return method_statement(parser, alloc, tokens, at, line, name);
     }
-    let number = body(parser, alloc, tokens, at, line, Vec::new(alloc))?;
+    let number = body(parser, alloc, tokens, at, line, Vec::new(alloc));
+    let (name, number) = beside(name, number)?;
     define(alloc, line, name.target, number)
 }
 
@@ -326,9 +388,16 @@ fn method_statement(
     ensures forward { OnOk result (Advances tokens.now parser.old parser.new) }
 {
     let name = parser.name_member(alloc, tokens, Sign::Colon, object)?;
-    let first = vec![in alloc; Bytes::from_static(b"self")]?;
-    let number = body(parser, alloc, tokens, at, line, first)?;
+    let (name, first) = beside(name, self_alone(alloc))?;
+    let (name, number) = beside(name, body(parser, alloc, tokens, at, line, first))?;
     define(alloc, line, name.target, number)
+}
+
+/// The parameter of a method that isn't named there.
+fn self_alone(alloc: Global) -> Result<Vec<Bytes>, ParseFault>
+    ensures { MatchResult result (λ names. names.items ≡ self_name ∷ []) IsMemory }
+{
+    Ok(vec![in alloc; Bytes::from_static(b"self")]?)
 }
 
 /// stat ::= local function Name funcbody | local namelist [`=´ explist]
@@ -442,7 +511,10 @@ fn prefix_statement(
             kind: StmtKind::Call(expr),
         }),
         Form::Variable => assignment(parser, alloc, tokens, at, line, expr),
-        Form::Paren => Err(parser.unfit(tokens)),
+        Form::Paren => {
+            drop(expr);
+            Err(parser.unfit(tokens))
+        }
     }
 }
 
@@ -511,6 +583,9 @@ fn target(
     let Prefix { expr, form, .. } = prefix(parser, alloc, tokens, at.fresh())?;
     match form {
         Form::Variable => Ok(expr),
-        Form::Call | Form::Paren => Err(parser.unfit(tokens)),
+        Form::Call | Form::Paren => {
+            drop(expr);
+            Err(parser.unfit(tokens))
+        }
     }
 }

@@ -4,18 +4,20 @@ ghost use Rattle.lua_lexer.specs.declared.tokens.TokenKind.TheVariants.{Sign as 
 ghost use Rattle.lua_lexer.specs.declared.signs.Sign.TheVariants.{Colon, OpenBrace, OpenBracket};
 ghost use Rattle.lua_parser_base.specs.States.{state, Advances, Stops, IfErrWhere};
 ghost use Rattle.lua_parser_base.specs.Reads.{ReadsPrefix, Extends, ReadsArgs, ReadsList, ReadsTable, ReadsField};
-ghost use Rattle.lua_parser_base.specs.Next.{IsNext, ahead};
+ghost use Rattle.lua_parser_base.specs.Next.{Begin, IsNext, IsNotNext, IsText, ahead};
 ghost use Rattle.lua_parser_base.specs.Kinds.{SuffixBegins, NamedFieldBegins};
 ghost use Rattle.lua_grammar.specs.Stopping.{IsNoComma};
 ghost use Rattle.lua_parser_base.specs.Refusals.{RefusesArgs, RefusesField, RefusesList, RefusesPrefix, RefusesSuffix, RefusesTable};
 ghost use Rattle.lua_parser_base.specs.Standing.{FirstFault, FirstFaultOfPrefix};
 ghost use Rattle.lua_parser_base.specs.Standing as Standing;
+ghost use Rattle.lua_parser.specs.Parts.{FirstFaultOfItem, PushesField, ReadsGiven, ReadsKey, ReadsNamed, RefusesItem};
 
 use crate::expressions::expression;
+use crate::pairs::beside;
 use lua_lexer::{Sign, Token};
 use lua_parser_base::{
-    Built, Item, Items, Nesting, ParseFault, Parser, Prefix, Suffix, Values, called, indexed,
-    method_called, paren,
+    Built, Item, Items, Named, Nesting, ParseFault, Parser, Prefix, Suffix, Values, called,
+    indexed, method_called, paren,
 };
 use std::alloc::Global;
 
@@ -66,7 +68,7 @@ fn primary(
     let open = parser.take_sign(tokens, Sign::OpenParenthesis)?;
     let inner = parser.part(tokens, at)?;
     let built = expression(parser, alloc, tokens, inner, 1)?;
-    parser.take_sign(tokens, Sign::CloseParenthesis)?;
+    let (built, _) = beside(built, parser.take_sign(tokens, Sign::CloseParenthesis))?;
     paren(alloc, built, open)
 }
 
@@ -85,12 +87,32 @@ fn item(
     ensures order { IfErr result (FirstFaultOfPrefix at object (state tokens.now parser.old) (state tokens.now parser.new)) }
     ensures forward { OnOk result (Advances tokens.now parser.old parser.new) }
 {
+    let key = key(parser, alloc, tokens, at, &object);
+    let (object, (key, open)) = beside(object, key)?;
+    indexed(alloc, object, open, key)
+}
+
+/// var ::= prefixexp `[´ exp `]´
+/// Reads the key after a prefix, with the line of its `[`.
+#[cycle(descent)]
+fn key(
+    parser: &mut Parser,
+    alloc: Global,
+    tokens: &[Token],
+    at: Nesting,
+    object: &Prefix,
+) -> Result<(Built, u32), ParseFault>
+    ensures reads { IfOk result (λ key. ReadsKey at object.now (state tokens.now parser.old) key.0 key.1 (state tokens.now parser.new)) }
+    ensures refuses { IfErrWhere (IsNext (SignKind OpenBracket)) result (RefusesSuffix at object.now) tokens.now parser.old parser.new }
+    ensures order { IfErr result (FirstFaultOfPrefix at object.now (state tokens.now parser.old) (state tokens.now parser.new)) }
+    ensures forward { OnOk result (Advances tokens.now parser.old parser.new) }
+{
     let open = parser.take_sign(tokens, Sign::OpenBracket)?;
     at.above(object.height, open)?;
     let inner = parser.part(tokens, at)?;
     let key = expression(parser, alloc, tokens, inner, 1)?;
-    parser.take_sign(tokens, Sign::CloseBracket)?;
-    indexed(alloc, object, open, key)
+    let (key, _) = beside(key, parser.take_sign(tokens, Sign::CloseBracket))?;
+    Ok((key, open))
 }
 
 /// functioncall ::= prefixexp args
@@ -108,10 +130,30 @@ fn call(
     ensures order { IfErrWhere (SuffixBegins Suffix.Arguments) result (FirstFaultOfPrefix at callee) tokens.now parser.old parser.new }
     ensures forward { OnOk result (Advances tokens.now parser.old parser.new) }
 {
+    let given = call_arguments(parser, alloc, tokens, at, &callee);
+    let (callee, (values, line)) = beside(callee, given)?;
+    called(alloc, callee, line, values)
+}
+
+/// functioncall ::= prefixexp args
+/// Reads the arguments after a prefix, with the line on which they begin.
+#[cycle(descent)]
+fn call_arguments(
+    parser: &mut Parser,
+    alloc: Global,
+    tokens: &[Token],
+    at: Nesting,
+    callee: &Prefix,
+) -> Result<(Values, u32), ParseFault>
+    ensures reads { IfOk result (λ given. ReadsGiven at callee.now (state tokens.now parser.old) given.0 given.1 (state tokens.now parser.new)) }
+    ensures refuses { IfErrWhere (SuffixBegins Suffix.Arguments) result (RefusesSuffix at callee.now) tokens.now parser.old parser.new }
+    ensures order { IfErrWhere (SuffixBegins Suffix.Arguments) result (FirstFaultOfPrefix at callee.now) tokens.now parser.old parser.new }
+    ensures forward { OnOk result (Advances tokens.now parser.old parser.new) }
+{
     let line = parser.arguments_line(tokens)?;
     at.above(callee.height, line)?;
     let values = arguments(parser, alloc, tokens, at)?;
-    called(alloc, callee, line, values)
+    Ok((values, line))
 }
 
 /// functioncall ::= prefixexp `:´ Name args
@@ -129,12 +171,32 @@ fn method(
     ensures order { IfErr result (FirstFaultOfPrefix at object (state tokens.now parser.old) (state tokens.now parser.new)) }
     ensures forward { OnOk result (Advances tokens.now parser.old parser.new) }
 {
+    let given = method_arguments(parser, alloc, tokens, at, &object);
+    let (object, (named, values, line)) = beside(object, given)?;
+    method_called(alloc, object, named.name, line, values)
+}
+
+/// functioncall ::= prefixexp `:´ Name args
+/// Reads the name and the arguments after a prefix, with the line on which these begin.
+#[cycle(descent)]
+fn method_arguments(
+    parser: &mut Parser,
+    alloc: Global,
+    tokens: &[Token],
+    at: Nesting,
+    object: &Prefix,
+) -> Result<(Named, Values, u32), ParseFault>
+    ensures reads { IfOk result (λ given. ReadsNamed at object.now (state tokens.now parser.old) given.0 given.1 given.2 (state tokens.now parser.new)) }
+    ensures refuses { IfErrWhere (IsNext (SignKind Colon)) result (RefusesSuffix at object.now) tokens.now parser.old parser.new }
+    ensures order { IfErr result (FirstFaultOfPrefix at object.now (state tokens.now parser.old) (state tokens.now parser.new)) }
+    ensures forward { OnOk result (Advances tokens.now parser.old parser.new) }
+{
     let colon = parser.take_sign(tokens, Sign::Colon)?;
     at.above(object.height, colon)?;
     let named = parser.take_name(tokens)?;
     let line = parser.arguments_line(tokens)?;
     let values = arguments(parser, alloc, tokens, at)?;
-    method_called(alloc, object, named.name, line, values)
+    Ok((named, values, line))
 }
 
 /// args ::= `(´ [explist] `)´ | tableconstructor | String
@@ -160,6 +222,24 @@ fn arguments(
         let text = parser.take_text(tokens)?;
         return Values::text(alloc, text);
     }
+    list_arguments(parser, alloc, tokens, at)
+}
+
+/// args ::= `(´ [explist] `)´
+/// Reads arguments in parentheses. Expressions among them are parts of one at `at`.
+#[cycle(descent)]
+fn list_arguments(
+    parser: &mut Parser,
+    alloc: Global,
+    tokens: &[Token],
+    at: Nesting,
+) -> Result<Values, ParseFault>
+    ensures reads { IfOk result (λ values. ReadsArgs at (state tokens.now parser.old) values (state tokens.now parser.new)) }
+    ensures refuses { (Begin IsText (state tokens.now parser.old).left → ⊥)
+        → IfErrWhere (IsNotNext (SignKind OpenBrace)) result (RefusesArgs at) tokens.now parser.old parser.new }
+    ensures order { IfErr result (FirstFault (Standing.args at) (state tokens.now parser.old) (state tokens.now parser.new)) }
+    ensures forward { OnOk result (Advances tokens.now parser.old parser.new) }
+{
     parser.take_sign(tokens, Sign::OpenParenthesis)?;
     if parser.at_sign(tokens, Sign::CloseParenthesis) {
         parser.take_sign(tokens, Sign::CloseParenthesis)?;
@@ -212,9 +292,7 @@ pub(crate) fn table(
     let open = parser.take_sign(tokens, Sign::OpenBrace)?;
     let mut items = Items::none(alloc);
     while !parser.at_sign(tokens, Sign::CloseBrace) {
-        let inner = parser.part(tokens, at)?;
-        let item = field(parser, alloc, tokens, inner)?;
-        items.push(item)?;
+        push_field(parser, alloc, tokens, at, &mut items)?;
         if parser.at_sign(tokens, Sign::CloseBrace) {
             parser.take_sign(tokens, Sign::CloseBrace)?;
             return items.into_table(alloc, open);
@@ -223,6 +301,25 @@ pub(crate) fn table(
     }
     parser.take_sign(tokens, Sign::CloseBrace)?;
     items.into_table(alloc, open)
+}
+
+/// Reads a field of a table constructor at `at`, and puts it after others.
+#[cycle(descent)]
+fn push_field(
+    parser: &mut Parser,
+    alloc: Global,
+    tokens: &[Token],
+    at: Nesting,
+    items: &mut Items,
+) -> Result<(), ParseFault>
+    ensures reads { OnOk result (PushesField at items.old (state tokens.now parser.old) items.new (state tokens.now parser.new)) }
+    ensures refuses { IfErr result (RefusesItem at items.old (state tokens.now parser.old) (state tokens.now parser.new)) }
+    ensures order { IfErr result (FirstFaultOfItem at items.old (state tokens.now parser.old) (state tokens.now parser.new)) }
+    ensures forward { OnOk result (Advances tokens.now parser.old parser.new) }
+{
+    let inner = parser.part(tokens, at)?;
+    let item = field(parser, alloc, tokens, inner)?;
+    items.push(item)
 }
 
 /// field ::= `[´ exp `]´ `=´ exp | Name `=´ exp | exp
@@ -264,9 +361,9 @@ fn keyed_field(
 {
     parser.take_sign(tokens, Sign::OpenBracket)?;
     let key = expression(parser, alloc, tokens, at, 1)?;
-    parser.take_sign(tokens, Sign::CloseBracket)?;
-    parser.take_sign(tokens, Sign::Assign)?;
-    let value = expression(parser, alloc, tokens, at, 1)?;
+    let (key, _) = beside(key, parser.take_sign(tokens, Sign::CloseBracket))?;
+    let (key, _) = beside(key, parser.take_sign(tokens, Sign::Assign))?;
+    let (key, value) = beside(key, expression(parser, alloc, tokens, at, 1))?;
     Ok(Item::pair(key, value))
 }
 

@@ -1,18 +1,18 @@
-use Rattle.lua_grammar.specs.Operators.{right_level}
 use Rattle.lua_grammar.specs.Reading.{statement, last, after_field, field}
 use Rattle.lua_grammar.specs.Resolution.{self_name}
 use Rattle.lua_grammar.specs.Scopes.{in_scope}
 use Rattle.lua_grammar.specs.Stopping.{EndsAt}
 use Rattle.lua_grammar.specs.Waiting.{token, exp}
-use Rattle.lua_lexer.specs.declared.signs.Sign.TheVariants.{Colon, CloseParenthesis, OpenParenthesis, CloseBracket, OpenBracket}
+use Rattle.lua_lexer.specs.declared.signs.Sign.TheVariants.{Colon, OpenParenthesis, OpenBracket}
 use Rattle.lua_lexer.specs.declared.tokens.TokenKind.TheVariants.{Word, Sign, Sign as SignKind}
 use Rattle.lua_parser_base.proofs.Arguments.{call_cannot_open, call_refused, call_too_high, method_cannot_open, method_no_name, method_refused, method_too_high, args_no_part, args_open, args_refused, no_args, table_arg_refused}
 use Rattle.lua_parser.proofs.ArmRefusals.{arm_block_refused, test_refused, then_refused, first_arm_refused, next_arm_refused, arms_refused, else_end_refused, else_refused, end_refused}
 use Rattle.lua_parser_base.proofs.Assignments.{function_from, function_read, method_read, local_from, local_function_read, local_read, call_read, first_assigned, target_read, vars_one, assign_after}
+use Rattle.lua_parser.proofs.Beside.{advances_stays, binary_of, done_by, done_node, loop_named, memory_by, never_there, node_by, on_done, read_by, refused_by, right_read}
 use Rattle.lua_parser.proofs.BlockKinds.{block_end, is_statement, nothing_returned, return_next, semicolon_next, values_next, do_kind, for_kind, function_kind, if_kind, local_kind, prefix_begins, repeat_kind, while_kind}
-use Rattle.lua_parser_base.proofs.BlockRefusals.{scoped_refused, scoped_too_deep, last_refused, stat_refused, returned_refused}
+use Rattle.lua_parser_base.proofs.BlockRefusals.{last_refused, stat_refused, returned_refused}
 use Rattle.lua_parser_base.proofs.Blocks.{arm_read, arms_more, arms_one, block_last, block_open, do_read, if_else_read, if_read, repeat_read, return_none_read, return_read, scoped_read, stats_more, stats_none, value_read, values_read, while_read}
-use Rattle.lua_parser_base.proofs.Bodies.{body_read, ends_state, enters_state}
+use Rattle.lua_parser_base.proofs.Bodies.{body_read, ends_state}
 use Rattle.lua_parser_base.proofs.Breaking.{args_ambiguous, ended_first, missing_first, call_breaks, call_ambiguous, counted_before, deep_breaks, function_breaks, method_breaks, operator_breaks, part_breaks, suffix_breaks}
 use Rattle.lua_parser_base.proofs.Calls.{ok_extends, item_read, called_read, method_called_read, no_args_read, args_read, table_arg_read, text_arg_read}
 use Rattle.lua_parser.proofs.Closures.{closure_refused}
@@ -20,40 +20,48 @@ use Rattle.lua_parser.proofs.Constructors.{part_refused, field_refused, separato
 use Rattle.lua_parser.proofs.Declaring.{few_after, few_declared, few_in_list, few_in_loop, few_in_range, function_stands, local_there}
 use Rattle.lua_parser.proofs.Fields.{plain_refused, key_refused, bracket_refused, equals_refused, keyed_value_refused, name_never_missed, equals_never_missed, named_value_refused}
 use Rattle.lua_parser_base.proofs.ForLoops.{for_read, range_read, list_read, loop_read}
-use Rattle.lua_parser.proofs.FunctionBodies.{begins_body, body_block_refused, body_too_deep, body_unended, body_unopened, parameters_refused, parameters_unclosed}
+use Rattle.lua_parser.proofs.FunctionBodies.{begins_body, body_block_refused, body_too_deep, body_unended}
 use Rattle.lua_parser_base.proofs.FunctionStatements.{function_word, function_name_refused, function_body_refused, method_statement_refused, method_unnamed, method_body_refused}
 use Rattle.lua_parser_base.proofs.Handing.{handed_on}
 use Rattle.lua_parser.proofs.Lists.{first_refused, next_refused}
 use Rattle.lua_parser.proofs.LocalStatements.{local_refused, local_word, local_function_word, local_function_unnamed, local_function_crowded, local_body_refused, locals_state, inside, local_names_refused, local_values_refused, locals_declared, declared_state, initial_refused}
-use Rattle.lua_parser.proofs.LoopRefusals.{while_block_refused, while_do_refused, while_end_refused, while_test_refused, repeat_block_refused, repeat_test_refused, repeat_too_deep, until_refused, do_end_refused, do_refused}
+use Rattle.lua_parser.proofs.LoopRefusals.{while_block_refused, while_do_refused, while_end_refused, while_test_refused, repeat_test_refused, until_refused, do_end_refused, do_refused}
 use Rattle.lua_parser_base.proofs.Next.{on_err, on_memory, on_want, untested}
 use Rattle.lua_parser_base.proofs.OpenFunctions.{few_there}
 use Rattle.lua_parser.proofs.OperandKinds.{unary_kind, closure_kind, table_kind, nil_kind, true_kind, false_kind, vararg_kind, number_next, text_next, next_of}
 use Rattle.lua_parser.proofs.Operands.{exp_ends_there, right_refused, right_no_part, right_too_high, right_low, operand_refused, operand_no_part, prefix_refused, table_refused}
 use Rattle.lua_parser_base.proofs.Prefixes.{suffix_refused, paren_no_part, paren_open, paren_refused, item_no_part, item_open, item_refused, item_too_high}
 use Rattle.lua_parser_base.proofs.Productions.{advances_on, right_fits, operator_none, binary_read, unary_read, closure_read, prefix_exp, table_exp, unary_tight, table_tight, list_one, list_more, paren_read}
-use Rattle.lua_parser.proofs.RefusedLoops.{for_names_refused, for_tail_refused, innermost, many_names, one_name, range_block_refused, range_from_refused, range_step_refused, range_to_refused, range_without_comma, step_refused, list_block_refused, list_refused, list_without_in, crowded_there, loop_crowded, loop_refused, loop_too_deep, loop_without_do, loop_without_end, unread}
+use Rattle.lua_parser.proofs.RefusedLoops.{for_names_refused, for_tail_refused, innermost, many_names, one_name, range_block_refused, range_from_refused, range_step_refused, range_to_refused, range_without_comma, step_refused, list_block_refused, list_refused, list_without_in, crowded_there, loop_crowded, loop_without_do, loop_without_end, unread}
 use Rattle.lua_parser_base.proofs.Refusing.{never_missed, never_missed_ahead}
 use Rattle.lua_parser_base.proofs.Scoping.{left_since, on_node, on_ok, slot_state, declared, slots_state, turned, none_found}
 use Rattle.lua_parser_base.proofs.Tables.{no_fields_read, more_fields_read, separated_read, ending_read, keyed_read, named_read, plain_read}
 use Rattle.lua_parser.proofs.Targets.{assignment_refused, first_target_refused, statement_is_none, assigned_refused, assignment_without_assign, more_vars_on, next_target_refused, no_more_vars, target_is_none, target_refused}
 use Rattle.lua_parser.proofs.ValueRefusals.{value_refused, value_too_deep, values_refused, values_too_deep}
 use Rattle.lua_parser.proofs.+descent.Goals.{statements::last-then-eq-via-then-eq, statements::last-then-eq-via-else-eq+then-at_sign}
-use Rattle.lua_parser_base.specs.Kinds.{IsStatement, IsUnary, IsSuffix, IsSeparator, begins_of}
+use Rattle.lua_parser_base.specs.Kinds.{IsStatement, IsUnary, IsSuffix, begins_of}
 use Rattle.lua_parser_base.specs.Next.{IsKind, IsMemory, IsTooDeep, Misses, OnAt, ahead, IsNext, OnLocals, MissesMember, IsName, HasNoPart, IsTooHigh, Begin}
 use Rattle.lua_parser_base.specs.Reads.{ReadsExp}
-use Rattle.lua_parser_base.specs.Refusals.{RefusesFrom, RefusesList, RefusesBody, RefusesPrefix, RefusesExp, RefusesSuffix, RefusesArgs, RefusesField}
+use Rattle.lua_parser_base.specs.Refusals.{RefusesFrom, RefusesList, RefusesBody, RefusesPrefix, RefusesExp, RefusesSuffix, RefusesArgs, RefusesField, RefusesTable}
 use Rattle.lua_parser_base.specs.Standing.{FirstFault}
-use Rattle.lua_parser_base.specs.StatementRefusals.{RefusesArm, RefusesArms, RefusesBlock, RefusesLast, RefusesScoped, RefusesStat, RefusesValue, RefusesValues, RefusesNames, RefusesFor, RefusesLoop, RefusesStep, RefusesParameters, RefusesFuncName, RefusesInitial, RefusesTarget}
-use Rattle.lua_parser_base.specs.States.{state, scope_of}
+use Rattle.lua_parser_base.specs.StatementRefusals.{RefusesArm, RefusesArms, RefusesLast, RefusesScoped, RefusesStat, RefusesValue, RefusesValues, RefusesNames, RefusesFor, RefusesLoop, RefusesFuncName, RefusesInitial, RefusesTarget, RefusesMethod}
+use Rattle.lua_parser_base.specs.States.{state, scope_of, State}
 use Rattle.lua_parser_base.specs.declared.nodes.Form.TheVariants.{Variable, Call, Paren}
-use Rattle.std.proofs.Common.{◌≡◌, ◌≤◌, refl, sym, subst, rules, arith, [], length, ◌∷◌, IfErr, ◌∙◌, ◌<◌, ◌+◌, true, false, lit≤, min, IsTrue}
+use Rattle.std.proofs.Common.{◌≡◌, ◌≤◌, refl, sym, subst, rules, arith, [], length, ◌∷◌, IfErr, ◌∙◌, ◌<◌, ◌+◌, true, false, lit≤, IsTrue, Vec, inl, inr, ap}
 use Rattle.std.proofs.lemmas.Result.{err_from_is_err_and}
 use Rattle.lua_parser_base.specs.declared.beginnings.Begins.TheVariants as begins
 use Rattle.lua_parser.proofs.+descent.Goals as goal
 use Rattle.lua_lexer.specs.declared.signs.Sign.TheVariants as sign
 use Rattle.lua_parser_base.specs.Standing as standing
 use Rattle.lua_lexer.specs.declared.words.Word.TheVariants as word
+use Rattle.lua_parser_base.specs.ReadsStatements.{ReadsValue, ReadsBlock, ReadsStat}
+use Rattle.lua_parser_base.specs.Nodes.{IsCalled, IsIndexed, IsMethodCalled, IsParen, AddsItem}
+use Rattle.lua_parser_base.specs.StatementNodes.{Defines, IsNumericFor, IsIf}
+use Rattle.lua_parser.specs.Parts.{AfterArms, AfterItems, PushesField, ReadsInner, ReadsKey, RefusesElse, RefusesInner, RefusesItem}
+use Rattle.lua_parser.proofs.InnerBlocks.{loop_inner, repeat_inner, scoped_inner}
+use Rattle.std.specs.Global.{Global}
+use Rattle.lua_ast.specs.declared.statements.Stmt.{Stmt}
+use Rattle.lua_grammar.specs.Limits.{Few}
 
 pub expressions::expression-loop-infix-init : goal.expressions::expression-loop-infix-init
 expressions::expression-loop-infix-init t c = record {
@@ -66,14 +74,13 @@ pub expressions::expression-loop-infix-preserved : goal.expressions::expression-
 expressions::expression-loop-infix-preserved t c =
     let before = c.loop-infix.invariant in
     let found = c.in-Some.ensures.skips in
-    let right = c.in_ok-right.ensures in
-    let whole = c.in_ok-left-2.ensures in
-    let level : min (right_level c.in-Some.infix.op) 7 ≤ c.in_ok-right.right.level =
-    subst (λ n. min n 7 ≤ c.in_ok-right.right.level) c.right_level.ensures right.level
-    in
+    let both = c.in_ok-before.ensures in
+    let right = read_by _ _ _ both.1 c.right_operand-right.ensures.reads in
+    let forward = done_by _ _ both.1 c.right_operand-right.ensures.forward in
+    let whole = binary_of _ _ _ _ _ _ both.0 c.in_ok-left-2.ensures in
     record {
-      forward = advances_on _ _ _ _ before.forward (advances_on _ _ _ _ c.in-Some.ensures.forward right.forward);
-      reads = binary_read _ _ _ _ _ _ _ _ _ _ _ before.reads found.taken c.in_ok-inner.ensures right.reads (subst (λ n. EndsAt n (ahead (state c.args.tokens.now c.expression.new.parser))) c.right_level.ensures right.ends) found.left_fits (right_fits _ _ level) c.in_ok-above.ensures whole;
+      forward = advances_on _ _ _ _ before.forward (advances_on _ _ _ _ c.in-Some.ensures.forward forward);
+      reads = binary_read _ _ _ _ _ _ _ _ _ _ _ before.reads found.taken right.part right.reads right.ends found.left_fits (right_fits _ _ right.level) right.below whole;
       level = let own = whole.own in let high = found.high_enough in omega (arith, own, high);
     }
 
@@ -95,36 +102,11 @@ expressions::expression-returns-in_err-left-clause-refuses t c = λ low.
     let h : IfErr c.from_residual.result (RefusesExp c.args.at (state c.args.tokens.now c.args.parser.now) (state c.args.tokens.now c.operand.new.parser)) = search rules in
     on_err c.from_residual.result h (λ fault refuses. refuses c.args.lowest)
 
-pub expressions::expression-returns-in_err-above-clause-refuses : goal.expressions::expression-returns-in_err-above-clause-refuses
-expressions::expression-returns-in_err-above-clause-refuses t c = λ low.
-    let h : IfErr c.from_residual-in_err-above.result (IsTooHigh c.args.at c.loop-infix.left.height c.in-Some.infix.line) = search rules in
+pub expressions::expression-returns-in_err-before-clause-refuses : goal.expressions::expression-returns-in_err-before-clause-refuses
+expressions::expression-returns-in_err-before-clause-refuses t c = λ low.
     let before = c.loop-infix.invariant in
-    let found = c.in-Some.ensures.skips in
-    let level = before.level in
-    on_err c.from_residual-in_err-above.result h (λ fault high k suppose.
-    right_too_high c.args.at c.args.lowest k _ _ fault _ _ _ c.loop-infix.left before.reads (omega (arith, level, low)) found.taken found.high_enough suppose high)
-
-pub expressions::expression-returns-in_err-inner-clause-refuses : goal.expressions::expression-returns-in_err-inner-clause-refuses
-expressions::expression-returns-in_err-inner-clause-refuses t c = λ low.
-    let h : IfErr c.from_residual-in_err-inner.result (HasNoPart c.args.at (state c.args.tokens.now c.skip_operator.new.parser)) = search rules in
-    let before = c.loop-infix.invariant in
-    let found = c.in-Some.ensures.skips in
-    let level = before.level in
-    on_err c.from_residual-in_err-inner.result h (λ fault none k suppose.
-    right_no_part c.args.at c.args.lowest k _ _ fault _ _ _ c.loop-infix.left before.reads (omega (arith, level, low)) found.taken found.high_enough suppose none)
-
-pub expressions::expression-returns-in_err-right-clause-refuses : goal.expressions::expression-returns-in_err-right-clause-refuses
-expressions::expression-returns-in_err-right-clause-refuses t c = λ low.
-    let right = c.right_level.ensures in
-    let few = right_low c.in-Some.infix.op in
-    let small : c.right_level.result ≤ 7 = omega (arith, right, few) in
-    let h : IfErr c.from_residual-in_err-right.result (RefusesFrom c.right_level.result c.in_ok-inner.inner (state c.args.tokens.now c.skip_operator.new.parser) (state c.args.tokens.now c.expression.new.parser)) = search rules in
-    let before = c.loop-infix.invariant in
-    let found = c.in-Some.ensures.skips in
-    let level = before.level in
-    on_err c.from_residual-in_err-right.result h (λ fault refuses k suppose.
-    right_refused c.args.at c.in_ok-inner.inner c.args.lowest k _ _ fault _ _ _ _ c.loop-infix.left before.reads (omega (arith, level, low)) found.taken found.high_enough c.in_ok-inner.ensures suppose
-    (subst (λ n. RefusesFrom n c.in_ok-inner.inner (state c.args.tokens.now c.skip_operator.new.parser) (state c.args.tokens.now c.expression.new.parser) fault) right refuses))
+    handed_on (RefusesFrom c.args.lowest c.args.at (state c.args.tokens.now c.args.parser.now) (state c.args.tokens.now c.right_operand-right.new.parser)) c.from_residual-in_err-before.result _ c.from_residual-in_err-before.ensures.1
+    (refused_by _ _ _ c.in_err-before.ensures c.right_operand-right.ensures.refuses c.args.lowest _ _ low before.level before.reads c.in-Some.ensures.skips)
 
 pub expressions::expression-returns-in_err-left-2-clause-refuses : goal.expressions::expression-returns-in_err-left-2-clause-refuses
 expressions::expression-returns-in_err-left-2-clause-refuses t c = λ low.
@@ -136,28 +118,53 @@ expressions::expression-returns-in_err-left-clause-order t c =
     handed_on _ c.from_residual.result _ c.from_residual.ensures.1
     (λ start stands. c.in_err-left.ensures.order c.args.lowest start (stands))
 
-pub expressions::expression-returns-in_err-above-clause-order : goal.expressions::expression-returns-in_err-above-clause-order
-expressions::expression-returns-in_err-above-clause-order t c =
+pub expressions::expression-returns-in_err-before-clause-order : goal.expressions::expression-returns-in_err-before-clause-order
+expressions::expression-returns-in_err-before-clause-order t c =
     let before = c.loop-infix.invariant in
-    let found = c.in-Some.ensures.skips in
-    handed_on _ c.from_residual-in_err-above.result _ c.from_residual-in_err-above.ensures.1
-    (operator_breaks c.args.at c.args.lowest c.loop-infix.left c.in-Some.infix _ _ _ (state c.args.tokens.now c.skip_operator.new.parser) _ (few_there _ _) before.reads found c.in_err-above.ensures)
+    handed_on _ c.from_residual-in_err-before.result _ c.from_residual-in_err-before.ensures.1
+    (refused_by _ _ _ c.in_err-before.ensures c.right_operand-right.ensures.order c.args.lowest _ _ before.reads c.in-Some.ensures.skips)
 
-pub expressions::expression-returns-in_err-inner-clause-order : goal.expressions::expression-returns-in_err-inner-clause-order
-expressions::expression-returns-in_err-inner-clause-order t c =
-    let before = c.loop-infix.invariant in
-    let found = c.in-Some.ensures.skips in
+pub expressions::right_operand-returns-clause-reads : goal.expressions::right_operand-returns-clause-reads
+expressions::right_operand-returns-clause-reads t c =
+    right_read c.args.at c.in_ok-inner.inner c.args.left.now c.args.found _ _ _ c.expression.result c.in_ok-inner.ensures c.in_ok-above.ensures c.right_level.ensures c.expression.ensures.reads c.expression.ensures.level c.expression.ensures.ends
+
+pub expressions::right_operand-returns-in_err-above-clause-refuses : goal.expressions::right_operand-returns-in_err-above-clause-refuses
+expressions::right_operand-returns-in_err-above-clause-refuses t c =
+    let h : IfErr c.from_residual.result (IsTooHigh c.args.at c.args.left.now.height c.args.found.line) = search rules in
+    on_err c.from_residual.result h (λ fault high lowest s a low level read found k suppose.
+    right_too_high c.args.at lowest k _ _ fault _ _ _ c.args.left.now read (omega (arith, level, low)) found.taken found.high_enough suppose high)
+
+pub expressions::right_operand-returns-in_err-inner-clause-refuses : goal.expressions::right_operand-returns-in_err-inner-clause-refuses
+expressions::right_operand-returns-in_err-inner-clause-refuses t c =
+    let h : IfErr c.from_residual-in_err-inner.result (HasNoPart c.args.at (state c.args.tokens.now c.args.parser.now)) = search rules in
+    on_err c.from_residual-in_err-inner.result h (λ fault none lowest s a low level read found k suppose.
+    right_no_part c.args.at lowest k _ _ fault _ _ _ c.args.left.now read (omega (arith, level, low)) found.taken found.high_enough suppose none)
+
+pub expressions::right_operand-returns-clause-refuses : goal.expressions::right_operand-returns-clause-refuses
+expressions::right_operand-returns-clause-refuses t c =
+    let right = c.right_level.ensures in
+    let few = right_low c.args.found.op in
+    let small : c.right_level.result ≤ 7 = omega (arith, right, few) in
+    on_err c.expression.result (c.expression.ensures.refuses small) (λ fault refuses lowest s a low level read found k suppose.
+    right_refused c.args.at c.in_ok-inner.inner lowest k _ _ fault _ _ _ _ c.args.left.now read (omega (arith, level, low)) found.taken found.high_enough c.in_ok-inner.ensures suppose
+    (subst (λ n. RefusesFrom n c.in_ok-inner.inner (state c.args.tokens.now c.args.parser.now) (state c.args.tokens.now c.expression.new.parser) fault) right refuses))
+
+pub expressions::right_operand-returns-in_err-above-clause-order : goal.expressions::right_operand-returns-in_err-above-clause-order
+expressions::right_operand-returns-in_err-above-clause-order t c =
+    handed_on _ c.from_residual.result _ c.from_residual.ensures.1
+    (λ lowest s a read found. operator_breaks c.args.at lowest c.args.left.now c.args.found s a _ (state c.args.tokens.now c.args.parser.now) _
+    (subst (λ z. Few z.enclosing) found.taken.scope (few_there c.args.tokens.now c.args.parser.now)) read found c.in_err-above.ensures)
+
+pub expressions::right_operand-returns-in_err-inner-clause-order : goal.expressions::right_operand-returns-in_err-inner-clause-order
+expressions::right_operand-returns-in_err-inner-clause-order t c =
     handed_on _ c.from_residual-in_err-inner.result _ c.from_residual-in_err-inner.ensures.1
-    (λ start stands. part_breaks _ _ _ _ (few_there _ _) c.in_err-inner.ensures start (standing.right_operand stands before.reads found c.in_ok-above.ensures))
+    (λ lowest s a read found start stands. part_breaks _ _ _ _ (few_there _ _) c.in_err-inner.ensures start (standing.right_operand stands read found c.in_ok-above.ensures))
 
-pub expressions::expression-returns-in_err-right-clause-order : goal.expressions::expression-returns-in_err-right-clause-order
-expressions::expression-returns-in_err-right-clause-order t c =
-    let before = c.loop-infix.invariant in
-    let found = c.in-Some.ensures.skips in
-    handed_on _ c.from_residual-in_err-right.result _ c.from_residual-in_err-right.ensures.1
-    (λ start stands. c.in_err-right.ensures.order start
-    (subst (λ n. standing.Stands start (standing.here (standing.exp n) c.in_ok-inner.inner) (state c.args.tokens.now c.skip_operator.new.parser)) (sym c.right_level.ensures)
-    (standing.as_part (standing.right_operand stands before.reads found c.in_ok-above.ensures) c.in_ok-inner.ensures)))
+pub expressions::right_operand-returns-clause-order : goal.expressions::right_operand-returns-clause-order
+expressions::right_operand-returns-clause-order t c =
+    on_err c.expression.result c.expression.ensures.order (λ fault breaks lowest s a read found start stands. breaks start
+    (subst (λ n. standing.Stands start (standing.here (standing.exp n) c.in_ok-inner.inner) (state c.args.tokens.now c.args.parser.now)) (sym c.right_level.ensures)
+    (standing.as_part (standing.right_operand stands read found c.in_ok-above.ensures) c.in_ok-inner.ensures)))
 
 pub expressions::operand-returns-in-Table-clause-reads : goal.expressions::operand-returns-in-Table-clause-reads
 expressions::operand-returns-in-Table-clause-reads t c = on_ok _ c.table.ensures.reads (λ b read. table_exp _ _ _ _ read)
@@ -385,8 +392,10 @@ suffixes::prefix-returns-in_err-prefix-in-Arguments-clause-order t c =
 
 pub suffixes::primary-returns-clause-reads : goal.suffixes::primary-returns-clause-reads
 suffixes::primary-returns-clause-reads t c =
+    let both = c.in_ok-built-2.ensures in
     on_node _ c.paren.ensures (λ p is.
-    paren_read _ _ _ _ _ _ _ _ _ _ c.in_ok-open.ensures.takes c.in_ok-inner.ensures c.in_ok-built.ensures.reads c.in_ok-take_sign.ensures.takes is)
+    paren_read _ _ _ _ _ _ _ _ _ _ c.in_ok-open.ensures.takes c.in_ok-inner.ensures c.in_ok-built.ensures.reads (read_by _ _ _ both.1 c.take_sign-2.ensures.takes)
+    (subst (λ inner. IsParen inner c.in_ok-open.open p) both.0 is))
 
 pub suffixes::primary-returns-in_err-open-clause-refuses : goal.suffixes::primary-returns-in_err-open-clause-refuses
 suffixes::primary-returns-in_err-open-clause-refuses t c =
@@ -404,16 +413,19 @@ suffixes::primary-returns-in_err-built-clause-refuses t c =
     let h : IfErr c.from_residual-in_err-built.result (RefusesFrom 1 c.in_ok-inner.inner (state c.args.tokens.now c.take_sign.new.self) (state c.args.tokens.now c.expression.new.parser)) = search rules in
     on_err c.from_residual-in_err-built.result h (λ fault refuses. paren_refused c.args.at c.in_ok-inner.inner _ _ _ _ fault c.in_ok-open.ensures.takes c.in_ok-inner.ensures refuses)
 
-pub suffixes::primary-returns-in_err-take_sign-clause-refuses : goal.suffixes::primary-returns-in_err-take_sign-clause-refuses
-suffixes::primary-returns-in_err-take_sign-clause-refuses t c =
-    let h : IfErr c.from_residual-in_err-take_sign.result (OnAt (Misses (IsKind (SignKind CloseParenthesis)) (state c.args.tokens.now c.expression.new.parser) (state c.args.tokens.now c.take_sign-2.new.self))) = search rules in
+pub suffixes::primary-returns-in_err-built-2-clause-refuses : goal.suffixes::primary-returns-in_err-built-2-clause-refuses
+suffixes::primary-returns-in_err-built-2-clause-refuses t c =
     let built = c.in_ok-built.ensures in
     let level = built.level in
-    on_err c.from_residual-in_err-take_sign.result h (λ fault missing.
-    paren_open c.args.at c.in_ok-inner.inner _ _ _ _ _ c.in_ok-built.built fault c.in_ok-open.ensures.takes built.reads (omega (arith, level)) built.ends missing)
+    handed_on (RefusesPrefix c.args.at (state c.args.tokens.now c.args.parser.now) (state c.args.tokens.now c.take_sign-2.new.self)) c.from_residual-in_err-built-2.result _ c.from_residual-in_err-built-2.ensures.1
+    (paren_open c.args.at c.in_ok-inner.inner _ _ _ _ _ c.in_ok-built.built _ c.in_ok-open.ensures.takes built.reads (omega (arith, level)) built.ends
+    (refused_by _ _ _ c.in_err-built-2.ensures c.take_sign-2.ensures.misses))
 
 pub suffixes::primary-returns-clause-refuses : goal.suffixes::primary-returns-clause-refuses
 suffixes::primary-returns-clause-refuses t c = on_memory _ _ c.paren.result (λ k none. absurd none) c.paren.ensures
+
+pub suffixes::primary-returns-clause-forward : goal.suffixes::primary-returns-clause-forward
+suffixes::primary-returns-clause-forward t c = on_done c.paren.result (advances_on _ _ _ _ c.in_ok-open.ensures.forward (advances_on _ _ _ _ c.in_ok-built.ensures.forward (done_by _ _ c.in_ok-built-2.ensures.1 c.take_sign-2.ensures.forward)))
 
 pub suffixes::primary-returns-in_err-inner-clause-order : goal.suffixes::primary-returns-in_err-inner-clause-order
 suffixes::primary-returns-in_err-inner-clause-order t c =
@@ -430,166 +442,242 @@ suffixes::primary-returns-in_err-open-clause-order t c =
     handed_on _ c.from_residual.result _ c.from_residual.ensures.1
     (λ start stands. missing_first _ _ _ _ c.in_err-open.ensures.misses start (standing.before_it stands))
 
-pub suffixes::primary-returns-in_err-take_sign-clause-order : goal.suffixes::primary-returns-in_err-take_sign-clause-order
-suffixes::primary-returns-in_err-take_sign-clause-order t c =
-    handed_on _ c.from_residual-in_err-take_sign.result _ c.from_residual-in_err-take_sign.ensures.1
-    (λ start stands. missing_first _ _ _ _ c.in_err-take_sign.ensures.misses start (standing.after_exp (standing.as_part (standing.in_parentheses stands c.in_ok-open.ensures.takes) c.in_ok-inner.ensures) c.in_ok-built.ensures.reads))
+pub suffixes::primary-returns-in_err-built-2-clause-order : goal.suffixes::primary-returns-in_err-built-2-clause-order
+suffixes::primary-returns-in_err-built-2-clause-order t c =
+    handed_on _ c.from_residual-in_err-built-2.result _ c.from_residual-in_err-built-2.ensures.1
+    (λ start stands. missing_first _ _ _ _ (refused_by _ _ _ c.in_err-built-2.ensures c.take_sign-2.ensures.misses) start
+    (standing.after_exp (standing.as_part (standing.in_parentheses stands c.in_ok-open.ensures.takes) c.in_ok-inner.ensures) c.in_ok-built.ensures.reads))
 
 pub suffixes::item-returns-clause-reads : goal.suffixes::item-returns-clause-reads
 suffixes::item-returns-clause-reads t c =
+    let both = c.in_ok-object.ensures in
+    let key = read_by _ _ _ both.1 c.key-key.ensures.reads in
     ok_extends c.args.at c.args.object (state c.args.tokens.now c.args.parser.now) _ _ _ c.indexed.ensures (λ p s is read.
-    item_read _ _ _ _ _ _ _ _ _ _ _ _ read c.in_ok-open.ensures.takes c.in_ok-inner.ensures c.in_ok-key.ensures.reads c.in_ok-take_sign.ensures.takes c.in_ok-above.ensures is)
+    item_read _ _ _ _ _ _ _ _ _ _ _ _ read key.opens key.part key.reads key.closes key.below (subst (λ object. IsIndexed object c.in_ok-object.open c.in_ok-object.key p) both.0 is))
 
-pub suffixes::item-returns-in_err-open-clause-refuses : goal.suffixes::item-returns-in_err-open-clause-refuses
-suffixes::item-returns-in_err-open-clause-refuses t c = λ next.
+pub suffixes::item-returns-in_err-object-clause-refuses : goal.suffixes::item-returns-in_err-object-clause-refuses
+suffixes::item-returns-in_err-object-clause-refuses t c = λ next.
+    handed_on (RefusesSuffix c.args.at c.args.object (state c.args.tokens.now c.args.parser.now) (state c.args.tokens.now c.key-key.new.parser)) c.from_residual.result _ c.from_residual.ensures.1 (refused_by _ _ _ c.in_err-object.ensures (c.key-key.ensures.refuses next))
+
+pub suffixes::key-returns-in_err-open-clause-refuses : goal.suffixes::key-returns-in_err-open-clause-refuses
+suffixes::key-returns-in_err-open-clause-refuses t c = λ next.
     let h : IfErr c.from_residual.result (OnAt (Misses (IsKind (SignKind OpenBracket)) (state c.args.tokens.now c.args.parser.now) (state c.args.tokens.now c.take_sign.new.self))) = search rules in
     on_err c.from_residual.result h (λ fault missing s read k suppose. never_missed fault _ _ (IsKind (SignKind OpenBracket)) _ _ missing suppose next)
 
-pub suffixes::item-returns-in_err-above-clause-refuses : goal.suffixes::item-returns-in_err-above-clause-refuses
-suffixes::item-returns-in_err-above-clause-refuses t c = λ next.
-    let h : IfErr c.from_residual-in_err-above.result (IsTooHigh c.args.at c.args.object.height c.in_ok-open.open) = search rules in
-    on_err c.from_residual-in_err-above.result h (λ fault high. item_too_high c.args.at _ _ c.args.object _ fault c.in_ok-open.ensures.takes high)
+pub suffixes::key-returns-in_err-above-clause-refuses : goal.suffixes::key-returns-in_err-above-clause-refuses
+suffixes::key-returns-in_err-above-clause-refuses t c = λ next.
+    let h : IfErr c.from_residual-in_err-above.result (IsTooHigh c.args.at c.args.object.now.height c.in_ok-open.open) = search rules in
+    on_err c.from_residual-in_err-above.result h (λ fault high. item_too_high c.args.at _ _ c.args.object.now _ fault c.in_ok-open.ensures.takes high)
 
-pub suffixes::item-returns-in_err-inner-clause-refuses : goal.suffixes::item-returns-in_err-inner-clause-refuses
-suffixes::item-returns-in_err-inner-clause-refuses t c = λ next.
+pub suffixes::key-returns-in_err-inner-clause-refuses : goal.suffixes::key-returns-in_err-inner-clause-refuses
+suffixes::key-returns-in_err-inner-clause-refuses t c = λ next.
     let h : IfErr c.from_residual-in_err-inner.result (HasNoPart c.args.at (state c.args.tokens.now c.take_sign.new.self)) = search rules in
-    on_err c.from_residual-in_err-inner.result h (λ fault none. item_no_part c.args.at _ _ c.args.object _ fault c.in_ok-open.ensures.takes none)
+    on_err c.from_residual-in_err-inner.result h (λ fault none. item_no_part c.args.at _ _ c.args.object.now _ fault c.in_ok-open.ensures.takes none)
 
-pub suffixes::item-returns-in_err-key-clause-refuses : goal.suffixes::item-returns-in_err-key-clause-refuses
-suffixes::item-returns-in_err-key-clause-refuses t c = λ next.
+pub suffixes::key-returns-in_err-key-clause-refuses : goal.suffixes::key-returns-in_err-key-clause-refuses
+suffixes::key-returns-in_err-key-clause-refuses t c = λ next.
     let h : IfErr c.from_residual-in_err-key.result (RefusesFrom 1 c.in_ok-inner.inner (state c.args.tokens.now c.take_sign.new.self) (state c.args.tokens.now c.expression.new.parser)) = search rules in
-    on_err c.from_residual-in_err-key.result h (λ fault refuses. item_refused c.args.at c.in_ok-inner.inner _ _ _ c.args.object _ fault c.in_ok-open.ensures.takes c.in_ok-inner.ensures refuses)
+    on_err c.from_residual-in_err-key.result h (λ fault refuses. item_refused c.args.at c.in_ok-inner.inner _ _ _ c.args.object.now _ fault c.in_ok-open.ensures.takes c.in_ok-inner.ensures refuses)
 
-pub suffixes::item-returns-in_err-take_sign-clause-refuses : goal.suffixes::item-returns-in_err-take_sign-clause-refuses
-suffixes::item-returns-in_err-take_sign-clause-refuses t c = λ next.
-    let Missing = OnAt (Misses (IsKind (SignKind CloseBracket)) (state c.args.tokens.now c.expression.new.parser) (state c.args.tokens.now c.take_sign-2.new.self)) in
-    let h : IfErr c.from_residual-in_err-take_sign.result Missing = handed_on Missing c.from_residual-in_err-take_sign.result _ c.from_residual-in_err-take_sign.ensures.1 c.in_err-take_sign.ensures.misses in
+pub suffixes::key-returns-in_err-key-2-clause-refuses : goal.suffixes::key-returns-in_err-key-2-clause-refuses
+suffixes::key-returns-in_err-key-2-clause-refuses t c = λ next.
     let key = c.in_ok-key.ensures in
     let level = key.level in
-    on_err c.from_residual-in_err-take_sign.result h (λ fault missing.
-    item_open c.args.at c.in_ok-inner.inner _ _ _ _ c.args.object _ c.in_ok-key.key fault c.in_ok-open.ensures.takes key.reads (omega (arith, level)) key.ends missing)
+    handed_on (RefusesSuffix c.args.at c.args.object.now (state c.args.tokens.now c.args.parser.now) (state c.args.tokens.now c.take_sign-2.new.self)) c.from_residual-in_err-key-2.result _ c.from_residual-in_err-key-2.ensures.1
+    (item_open c.args.at c.in_ok-inner.inner _ _ _ _ c.args.object.now _ c.in_ok-key.key _ c.in_ok-open.ensures.takes key.reads (omega (arith, level)) key.ends
+    (refused_by _ _ _ c.in_err-key-2.ensures c.take_sign-2.ensures.misses))
 
 pub suffixes::item-returns-clause-refuses : goal.suffixes::item-returns-clause-refuses
 suffixes::item-returns-clause-refuses t c = λ next. on_memory _ _ c.indexed.result (λ s read k none. absurd none) c.indexed.ensures
 
-pub suffixes::item-returns-in_err-above-clause-order : goal.suffixes::item-returns-in_err-above-clause-order
-suffixes::item-returns-in_err-above-clause-order t c =
-    handed_on _ c.from_residual-in_err-above.result _ c.from_residual-in_err-above.ensures.1
-    (λ s read. suffix_breaks (SignKind OpenBracket) c.args.at _ c.args.object s _ _ (state c.args.tokens.now c.take_sign.new.self) _ (few_there _ _) tt c.in_ok-open.ensures.takes c.in_err-above.ensures read)
+pub suffixes::item-returns-in_err-object-clause-order : goal.suffixes::item-returns-in_err-object-clause-order
+suffixes::item-returns-in_err-object-clause-order t c =
+    handed_on _ c.from_residual.result _ c.from_residual.ensures.1 (refused_by _ _ _ c.in_err-object.ensures c.key-key.ensures.order)
 
-pub suffixes::item-returns-in_err-inner-clause-order : goal.suffixes::item-returns-in_err-inner-clause-order
-suffixes::item-returns-in_err-inner-clause-order t c =
+pub suffixes::item-returns-clause-forward : goal.suffixes::item-returns-clause-forward
+suffixes::item-returns-clause-forward t c = on_done c.indexed.result (done_by _ _ c.in_ok-object.ensures.1 c.key-key.ensures.forward)
+
+pub suffixes::key-returns-clause-reads : goal.suffixes::key-returns-clause-reads
+suffixes::key-returns-clause-reads t c =
+    let both = c.in_ok-key-2.ensures in
+    subst (λ key. ReadsKey c.args.at c.args.object.now (state c.args.tokens.now c.args.parser.now) key c.in_ok-open.open (state c.args.tokens.now c.take_sign-2.new.self)) (sym both.0) (record {
+      inner = c.in_ok-inner.inner;
+      inside = (state c.args.tokens.now c.take_sign.new.self);
+      after = (state c.args.tokens.now c.expression.new.parser);
+      close_at = _;
+      opens = c.in_ok-open.ensures.takes;
+      part = c.in_ok-inner.ensures;
+      reads = c.in_ok-key.ensures.reads;
+      closes = read_by _ _ _ both.1 c.take_sign-2.ensures.takes;
+      below = c.in_ok-above.ensures;
+    })
+
+pub suffixes::key-returns-clause-forward : goal.suffixes::key-returns-clause-forward
+suffixes::key-returns-clause-forward t c = advances_on _ _ _ _ c.in_ok-open.ensures.forward (advances_on _ _ _ _ c.in_ok-key.ensures.forward (done_by _ _ c.in_ok-key-2.ensures.1 c.take_sign-2.ensures.forward))
+
+pub suffixes::key-returns-in_err-above-clause-order : goal.suffixes::key-returns-in_err-above-clause-order
+suffixes::key-returns-in_err-above-clause-order t c =
+    handed_on _ c.from_residual-in_err-above.result _ c.from_residual-in_err-above.ensures.1
+    (λ s read. suffix_breaks (SignKind OpenBracket) c.args.at _ c.args.object.now s _ _ (state c.args.tokens.now c.take_sign.new.self) _ (few_there _ _) tt c.in_ok-open.ensures.takes c.in_err-above.ensures read)
+
+pub suffixes::key-returns-in_err-inner-clause-order : goal.suffixes::key-returns-in_err-inner-clause-order
+suffixes::key-returns-in_err-inner-clause-order t c =
     handed_on _ c.from_residual-in_err-inner.result _ c.from_residual-in_err-inner.ensures.1
     (λ s read start stands. part_breaks _ _ _ _ (few_there _ _) c.in_err-inner.ensures start (standing.key stands read c.in_ok-open.ensures.takes c.in_ok-above.ensures))
 
-pub suffixes::item-returns-in_err-key-clause-order : goal.suffixes::item-returns-in_err-key-clause-order
-suffixes::item-returns-in_err-key-clause-order t c =
+pub suffixes::key-returns-in_err-key-clause-order : goal.suffixes::key-returns-in_err-key-clause-order
+suffixes::key-returns-in_err-key-clause-order t c =
     handed_on _ c.from_residual-in_err-key.result _ c.from_residual-in_err-key.ensures.1
     (λ s read start stands. c.in_err-key.ensures.order start (standing.as_part (standing.key stands read c.in_ok-open.ensures.takes c.in_ok-above.ensures) c.in_ok-inner.ensures))
 
-pub suffixes::item-returns-in_err-open-clause-order : goal.suffixes::item-returns-in_err-open-clause-order
-suffixes::item-returns-in_err-open-clause-order t c =
+pub suffixes::key-returns-in_err-open-clause-order : goal.suffixes::key-returns-in_err-open-clause-order
+suffixes::key-returns-in_err-open-clause-order t c =
     handed_on _ c.from_residual.result _ c.from_residual.ensures.1
     (λ s read start stands. missing_first _ _ _ _ c.in_err-open.ensures.misses start (standing.after_prefix stands read))
 
-pub suffixes::item-returns-in_err-take_sign-clause-order : goal.suffixes::item-returns-in_err-take_sign-clause-order
-suffixes::item-returns-in_err-take_sign-clause-order t c =
-    handed_on _ c.from_residual-in_err-take_sign.result _ c.from_residual-in_err-take_sign.ensures.1
-    (λ s read start stands. missing_first _ _ _ _ c.in_err-take_sign.ensures.misses start (standing.after_exp (standing.as_part (standing.key stands read c.in_ok-open.ensures.takes c.in_ok-above.ensures) c.in_ok-inner.ensures) c.in_ok-key.ensures.reads))
+pub suffixes::key-returns-in_err-key-2-clause-order : goal.suffixes::key-returns-in_err-key-2-clause-order
+suffixes::key-returns-in_err-key-2-clause-order t c =
+    handed_on _ c.from_residual-in_err-key-2.result _ c.from_residual-in_err-key-2.ensures.1
+    (λ s read start stands. missing_first _ _ _ _ (refused_by _ _ _ c.in_err-key-2.ensures c.take_sign-2.ensures.misses) start
+    (standing.after_exp (standing.as_part (standing.key stands read c.in_ok-open.ensures.takes c.in_ok-above.ensures) c.in_ok-inner.ensures) c.in_ok-key.ensures.reads))
 
 pub suffixes::call-returns-clause-reads : goal.suffixes::call-returns-clause-reads
 suffixes::call-returns-clause-reads t c =
+    let both = c.in_ok-callee.ensures in
+    let given = read_by _ _ _ both.1 c.call_arguments-given.ensures.reads in
     ok_extends c.args.at c.args.callee (state c.args.tokens.now c.args.parser.now) _ _ _ c.called.ensures (λ p s is read.
-    called_read _ _ _ _ _ _ _ _ read c.in_ok-values.ensures.reads c.in_ok-line.ensures.same c.in_ok-line.ensures.line c.in_ok-above.ensures is)
+    called_read _ _ _ _ _ _ _ _ read given.reads given.on_line given.begins given.below (subst (λ callee. IsCalled callee c.in_ok-callee.line c.in_ok-callee.values p) both.0 is))
 
-pub suffixes::call-returns-in_err-line-clause-refuses : goal.suffixes::call-returns-in_err-line-clause-refuses
-suffixes::call-returns-in_err-line-clause-refuses t c = λ next.
-    handed_on (RefusesSuffix c.args.at c.args.callee (state c.args.tokens.now c.args.parser.now) (state c.args.tokens.now c.args.parser.now)) c.from_residual.result _ c.from_residual.ensures.1
-    (call_cannot_open c.args.at _ c.args.callee _ next c.in_err-line.ensures.closed)
+pub suffixes::call-returns-in_err-callee-clause-refuses : goal.suffixes::call-returns-in_err-callee-clause-refuses
+suffixes::call-returns-in_err-callee-clause-refuses t c = λ next.
+    handed_on (RefusesSuffix c.args.at c.args.callee (state c.args.tokens.now c.args.parser.now) (state c.args.tokens.now c.call_arguments-given.new.parser)) c.from_residual.result _ c.from_residual.ensures.1 (refused_by _ _ _ c.in_err-callee.ensures (c.call_arguments-given.ensures.refuses next))
 
-pub suffixes::call-returns-in_err-above-clause-refuses : goal.suffixes::call-returns-in_err-above-clause-refuses
-suffixes::call-returns-in_err-above-clause-refuses t c = λ next.
-    handed_on (RefusesSuffix c.args.at c.args.callee (state c.args.tokens.now c.args.parser.now) (state c.args.tokens.now c.args.parser.now)) c.from_residual-in_err-above.result _
-    c.from_residual-in_err-above.ensures.1 (call_too_high _ c.args.at _ c.args.callee _ next c.in_err-above.ensures)
+pub suffixes::call_arguments-returns-in_err-line-clause-refuses : goal.suffixes::call_arguments-returns-in_err-line-clause-refuses
+suffixes::call_arguments-returns-in_err-line-clause-refuses t c = λ next.
+    handed_on (RefusesSuffix c.args.at c.args.callee.now (state c.args.tokens.now c.args.parser.now) (state c.args.tokens.now c.args.parser.now)) c.from_residual.result _ c.from_residual.ensures.1
+    (call_cannot_open c.args.at _ c.args.callee.now _ next c.in_err-line.ensures.closed)
 
-pub suffixes::call-returns-in_err-values-clause-refuses : goal.suffixes::call-returns-in_err-values-clause-refuses
-suffixes::call-returns-in_err-values-clause-refuses t c = λ next.
-    handed_on (RefusesSuffix c.args.at c.args.callee (state c.args.tokens.now c.args.parser.now) (state c.args.tokens.now c.arguments.new.parser)) c.from_residual-in_err-values.result _
-    c.from_residual-in_err-values.ensures.1 (call_refused c.args.at _ _ c.args.callee _ next c.in_err-values.ensures.refuses)
+pub suffixes::call_arguments-returns-in_err-above-clause-refuses : goal.suffixes::call_arguments-returns-in_err-above-clause-refuses
+suffixes::call_arguments-returns-in_err-above-clause-refuses t c = λ next.
+    handed_on (RefusesSuffix c.args.at c.args.callee.now (state c.args.tokens.now c.args.parser.now) (state c.args.tokens.now c.args.parser.now)) c.from_residual-in_err-above.result _
+    c.from_residual-in_err-above.ensures.1 (call_too_high _ c.args.at _ c.args.callee.now _ next c.in_err-above.ensures)
+
+pub suffixes::call_arguments-returns-in_err-values-clause-refuses : goal.suffixes::call_arguments-returns-in_err-values-clause-refuses
+suffixes::call_arguments-returns-in_err-values-clause-refuses t c = λ next.
+    handed_on (RefusesSuffix c.args.at c.args.callee.now (state c.args.tokens.now c.args.parser.now) (state c.args.tokens.now c.arguments.new.parser)) c.from_residual-in_err-values.result _
+    c.from_residual-in_err-values.ensures.1 (call_refused c.args.at _ _ c.args.callee.now _ next c.in_err-values.ensures.refuses)
 
 pub suffixes::call-returns-clause-refuses : goal.suffixes::call-returns-clause-refuses
 suffixes::call-returns-clause-refuses t c = λ next. on_memory _ _ c.called.result (λ s read k none. absurd none) c.called.ensures
 
-pub suffixes::call-returns-in_err-line-clause-order : goal.suffixes::call-returns-in_err-line-clause-order
-suffixes::call-returns-in_err-line-clause-order t c =
+pub suffixes::call-returns-in_err-callee-clause-order : goal.suffixes::call-returns-in_err-callee-clause-order
+suffixes::call-returns-in_err-callee-clause-order t c =
+    λ next. handed_on _ c.from_residual.result _ c.from_residual.ensures.1 (refused_by _ _ _ c.in_err-callee.ensures (c.call_arguments-given.ensures.order next))
+
+pub suffixes::call-returns-clause-forward : goal.suffixes::call-returns-clause-forward
+suffixes::call-returns-clause-forward t c = on_done c.called.result (done_by _ _ c.in_ok-callee.ensures.1 c.call_arguments-given.ensures.forward)
+
+pub suffixes::call_arguments-returns-clause-reads : goal.suffixes::call_arguments-returns-clause-reads
+suffixes::call_arguments-returns-clause-reads t c =
+    record { reads = c.in_ok-values.ensures.reads; on_line = c.in_ok-line.ensures.same; begins = c.in_ok-line.ensures.line; below = c.in_ok-above.ensures }
+
+pub suffixes::call_arguments-returns-in_err-line-clause-order : goal.suffixes::call_arguments-returns-in_err-line-clause-order
+suffixes::call_arguments-returns-in_err-line-clause-order t c =
     λ next. handed_on _ c.from_residual.result _ c.from_residual.ensures.1
-    (λ s read. call_ambiguous c.args.at c.args.callee s _ _ (few_there _ _) c.in_err-line.ensures.closed read)
+    (λ s read. call_ambiguous c.args.at c.args.callee.now s _ _ (few_there _ _) c.in_err-line.ensures.closed read)
 
-pub suffixes::call-returns-in_err-above-clause-order : goal.suffixes::call-returns-in_err-above-clause-order
-suffixes::call-returns-in_err-above-clause-order t c =
+pub suffixes::call_arguments-returns-in_err-above-clause-order : goal.suffixes::call_arguments-returns-in_err-above-clause-order
+suffixes::call_arguments-returns-in_err-above-clause-order t c =
     λ next. handed_on _ c.from_residual-in_err-above.result _ c.from_residual-in_err-above.ensures.1
-    (λ s read. call_breaks c.args.at _ c.args.callee s _ (state c.args.tokens.now c.args.parser.now) _ (few_there _ _) next c.in_ok-line.ensures.line c.in_ok-line.ensures.same c.in_err-above.ensures read)
+    (λ s read. call_breaks c.args.at _ c.args.callee.now s _ (state c.args.tokens.now c.args.parser.now) _ (few_there _ _) next c.in_ok-line.ensures.line c.in_ok-line.ensures.same c.in_err-above.ensures read)
 
-pub suffixes::call-returns-in_err-values-clause-order : goal.suffixes::call-returns-in_err-values-clause-order
-suffixes::call-returns-in_err-values-clause-order t c =
+pub suffixes::call_arguments-returns-in_err-values-clause-order : goal.suffixes::call_arguments-returns-in_err-values-clause-order
+suffixes::call_arguments-returns-in_err-values-clause-order t c =
     λ next. handed_on _ c.from_residual-in_err-values.result _ c.from_residual-in_err-values.ensures.1
     (λ s read start stands. c.in_err-values.ensures.order start (standing.call_args stands read c.in_ok-above.ensures))
 
 pub suffixes::method-returns-clause-reads : goal.suffixes::method-returns-clause-reads
 suffixes::method-returns-clause-reads t c =
+    let both = c.in_ok-object.ensures in
+    let given = read_by _ _ _ both.1 c.method_arguments-given.ensures.reads in
     ok_extends c.args.at c.args.object (state c.args.tokens.now c.args.parser.now) _ _ _ c.method_called.ensures (λ p s is read.
-    method_called_read _ _ _ _ _ _ _ _ _ _ _ _ _ read c.in_ok-colon.ensures.takes c.in_ok-named.ensures.takes c.in_ok-values.ensures.reads c.in_ok-line.ensures.same c.in_ok-line.ensures.line c.in_ok-above.ensures is)
+    method_called_read _ _ _ _ _ _ _ _ _ _ _ _ _ read given.colon given.named given.reads given.on_line given.begins given.below (subst (λ object. IsMethodCalled object c.in_ok-object.named.name c.in_ok-object.line c.in_ok-object.values p) both.0 is))
 
-pub suffixes::method-returns-in_err-colon-clause-refuses : goal.suffixes::method-returns-in_err-colon-clause-refuses
-suffixes::method-returns-in_err-colon-clause-refuses t c = λ next.
-    handed_on (RefusesSuffix c.args.at c.args.object (state c.args.tokens.now c.args.parser.now) (state c.args.tokens.now c.take_sign.new.self)) c.from_residual.result _ c.from_residual.ensures.1
+pub suffixes::method-returns-in_err-object-clause-refuses : goal.suffixes::method-returns-in_err-object-clause-refuses
+suffixes::method-returns-in_err-object-clause-refuses t c = λ next.
+    handed_on (RefusesSuffix c.args.at c.args.object (state c.args.tokens.now c.args.parser.now) (state c.args.tokens.now c.method_arguments-given.new.parser)) c.from_residual.result _ c.from_residual.ensures.1 (refused_by _ _ _ c.in_err-object.ensures (c.method_arguments-given.ensures.refuses next))
+
+pub suffixes::method_arguments-returns-in_err-colon-clause-refuses : goal.suffixes::method_arguments-returns-in_err-colon-clause-refuses
+suffixes::method_arguments-returns-in_err-colon-clause-refuses t c = λ next.
+    handed_on (RefusesSuffix c.args.at c.args.object.now (state c.args.tokens.now c.args.parser.now) (state c.args.tokens.now c.take_sign.new.self)) c.from_residual.result _ c.from_residual.ensures.1
     (λ s read k suppose. never_missed _ _ _ (IsKind (SignKind Colon)) _ _ c.in_err-colon.ensures.misses suppose next)
 
-pub suffixes::method-returns-in_err-above-clause-refuses : goal.suffixes::method-returns-in_err-above-clause-refuses
-suffixes::method-returns-in_err-above-clause-refuses t c = λ next.
-    handed_on (RefusesSuffix c.args.at c.args.object (state c.args.tokens.now c.args.parser.now) (state c.args.tokens.now c.take_sign.new.self)) c.from_residual-in_err-above.result _
-    c.from_residual-in_err-above.ensures.1 (method_too_high c.args.at _ _ c.args.object _ _ c.in_ok-colon.ensures.takes c.in_err-above.ensures)
+pub suffixes::method_arguments-returns-in_err-above-clause-refuses : goal.suffixes::method_arguments-returns-in_err-above-clause-refuses
+suffixes::method_arguments-returns-in_err-above-clause-refuses t c = λ next.
+    handed_on (RefusesSuffix c.args.at c.args.object.now (state c.args.tokens.now c.args.parser.now) (state c.args.tokens.now c.take_sign.new.self)) c.from_residual-in_err-above.result _
+    c.from_residual-in_err-above.ensures.1 (method_too_high c.args.at _ _ c.args.object.now _ _ c.in_ok-colon.ensures.takes c.in_err-above.ensures)
 
-pub suffixes::method-returns-in_err-named-clause-refuses : goal.suffixes::method-returns-in_err-named-clause-refuses
-suffixes::method-returns-in_err-named-clause-refuses t c = λ next.
-    handed_on (RefusesSuffix c.args.at c.args.object (state c.args.tokens.now c.args.parser.now) (state c.args.tokens.now c.take_name.new.self)) c.from_residual-in_err-named.result _
-    c.from_residual-in_err-named.ensures.1 (method_no_name c.args.at _ _ _ c.args.object _ _ c.in_ok-colon.ensures.takes c.in_err-named.ensures.misses)
+pub suffixes::method_arguments-returns-in_err-named-clause-refuses : goal.suffixes::method_arguments-returns-in_err-named-clause-refuses
+suffixes::method_arguments-returns-in_err-named-clause-refuses t c = λ next.
+    handed_on (RefusesSuffix c.args.at c.args.object.now (state c.args.tokens.now c.args.parser.now) (state c.args.tokens.now c.take_name.new.self)) c.from_residual-in_err-named.result _
+    c.from_residual-in_err-named.ensures.1 (method_no_name c.args.at _ _ _ c.args.object.now _ _ c.in_ok-colon.ensures.takes c.in_err-named.ensures.misses)
 
-pub suffixes::method-returns-in_err-line-clause-refuses : goal.suffixes::method-returns-in_err-line-clause-refuses
-suffixes::method-returns-in_err-line-clause-refuses t c = λ next.
-    handed_on (RefusesSuffix c.args.at c.args.object (state c.args.tokens.now c.args.parser.now) (state c.args.tokens.now c.take_name.new.self)) c.from_residual-in_err-line.result _
-    c.from_residual-in_err-line.ensures.1 (method_cannot_open c.args.at _ _ _ c.args.object _ _ _ _ c.in_ok-colon.ensures.takes c.in_ok-named.ensures.takes c.in_err-line.ensures.closed)
+pub suffixes::method_arguments-returns-in_err-line-clause-refuses : goal.suffixes::method_arguments-returns-in_err-line-clause-refuses
+suffixes::method_arguments-returns-in_err-line-clause-refuses t c = λ next.
+    handed_on (RefusesSuffix c.args.at c.args.object.now (state c.args.tokens.now c.args.parser.now) (state c.args.tokens.now c.take_name.new.self)) c.from_residual-in_err-line.result _
+    c.from_residual-in_err-line.ensures.1 (method_cannot_open c.args.at _ _ _ c.args.object.now _ _ _ _ c.in_ok-colon.ensures.takes c.in_ok-named.ensures.takes c.in_err-line.ensures.closed)
 
-pub suffixes::method-returns-in_err-values-clause-refuses : goal.suffixes::method-returns-in_err-values-clause-refuses
-suffixes::method-returns-in_err-values-clause-refuses t c = λ next.
-    handed_on (RefusesSuffix c.args.at c.args.object (state c.args.tokens.now c.args.parser.now) (state c.args.tokens.now c.arguments.new.parser)) c.from_residual-in_err-values.result _
-    c.from_residual-in_err-values.ensures.1 (method_refused c.args.at _ _ _ _ c.args.object _ _ _ _ c.in_ok-colon.ensures.takes c.in_ok-named.ensures.takes c.in_err-values.ensures.refuses)
+pub suffixes::method_arguments-returns-in_err-values-clause-refuses : goal.suffixes::method_arguments-returns-in_err-values-clause-refuses
+suffixes::method_arguments-returns-in_err-values-clause-refuses t c = λ next.
+    handed_on (RefusesSuffix c.args.at c.args.object.now (state c.args.tokens.now c.args.parser.now) (state c.args.tokens.now c.arguments.new.parser)) c.from_residual-in_err-values.result _
+    c.from_residual-in_err-values.ensures.1 (method_refused c.args.at _ _ _ _ c.args.object.now _ _ _ _ c.in_ok-colon.ensures.takes c.in_ok-named.ensures.takes c.in_err-values.ensures.refuses)
 
 pub suffixes::method-returns-clause-refuses : goal.suffixes::method-returns-clause-refuses
 suffixes::method-returns-clause-refuses t c = λ next. on_memory _ _ c.method_called.result (λ s read k none. absurd none) c.method_called.ensures
 
-pub suffixes::method-returns-in_err-above-clause-order : goal.suffixes::method-returns-in_err-above-clause-order
-suffixes::method-returns-in_err-above-clause-order t c =
-    handed_on _ c.from_residual-in_err-above.result _ c.from_residual-in_err-above.ensures.1
-    (λ s read. suffix_breaks (SignKind Colon) c.args.at _ c.args.object s _ _ (state c.args.tokens.now c.take_sign.new.self) _ (few_there _ _) tt c.in_ok-colon.ensures.takes c.in_err-above.ensures read)
+pub suffixes::method-returns-in_err-object-clause-order : goal.suffixes::method-returns-in_err-object-clause-order
+suffixes::method-returns-in_err-object-clause-order t c =
+    handed_on _ c.from_residual.result _ c.from_residual.ensures.1 (refused_by _ _ _ c.in_err-object.ensures c.method_arguments-given.ensures.order)
 
-pub suffixes::method-returns-in_err-line-clause-order : goal.suffixes::method-returns-in_err-line-clause-order
-suffixes::method-returns-in_err-line-clause-order t c =
+pub suffixes::method-returns-clause-forward : goal.suffixes::method-returns-clause-forward
+suffixes::method-returns-clause-forward t c = on_done c.method_called.result (done_by _ _ c.in_ok-object.ensures.1 c.method_arguments-given.ensures.forward)
+
+pub suffixes::method_arguments-returns-clause-reads : goal.suffixes::method_arguments-returns-clause-reads
+suffixes::method_arguments-returns-clause-reads t c =
+    record {
+      inside = (state c.args.tokens.now c.take_sign.new.self);
+      after = (state c.args.tokens.now c.take_name.new.self);
+      colon_at = c.in_ok-colon.colon;
+      colon = c.in_ok-colon.ensures.takes;
+      named = c.in_ok-named.ensures.takes;
+      reads = c.in_ok-values.ensures.reads;
+      on_line = c.in_ok-line.ensures.same;
+      begins = c.in_ok-line.ensures.line;
+      below = c.in_ok-above.ensures;
+    }
+
+pub suffixes::method_arguments-returns-in_err-above-clause-order : goal.suffixes::method_arguments-returns-in_err-above-clause-order
+suffixes::method_arguments-returns-in_err-above-clause-order t c =
+    handed_on _ c.from_residual-in_err-above.result _ c.from_residual-in_err-above.ensures.1
+    (λ s read. suffix_breaks (SignKind Colon) c.args.at _ c.args.object.now s _ _ (state c.args.tokens.now c.take_sign.new.self) _ (few_there _ _) tt c.in_ok-colon.ensures.takes c.in_err-above.ensures read)
+
+pub suffixes::method_arguments-returns-in_err-line-clause-order : goal.suffixes::method_arguments-returns-in_err-line-clause-order
+suffixes::method_arguments-returns-in_err-line-clause-order t c =
     handed_on _ c.from_residual-in_err-line.result _ c.from_residual-in_err-line.ensures.1
     (λ s read start stands. args_ambiguous c.args.at _ _ (few_there _ _) c.in_err-line.ensures.closed start (standing.method_args stands read c.in_ok-colon.ensures.takes c.in_ok-above.ensures c.in_ok-named.ensures.takes))
 
-pub suffixes::method-returns-in_err-values-clause-order : goal.suffixes::method-returns-in_err-values-clause-order
-suffixes::method-returns-in_err-values-clause-order t c =
+pub suffixes::method_arguments-returns-in_err-values-clause-order : goal.suffixes::method_arguments-returns-in_err-values-clause-order
+suffixes::method_arguments-returns-in_err-values-clause-order t c =
     handed_on _ c.from_residual-in_err-values.result _ c.from_residual-in_err-values.ensures.1
     (λ s read start stands. c.in_err-values.ensures.order start (standing.method_args stands read c.in_ok-colon.ensures.takes c.in_ok-above.ensures c.in_ok-named.ensures.takes))
 
-pub suffixes::method-returns-in_err-colon-clause-order : goal.suffixes::method-returns-in_err-colon-clause-order
-suffixes::method-returns-in_err-colon-clause-order t c =
+pub suffixes::method_arguments-returns-in_err-colon-clause-order : goal.suffixes::method_arguments-returns-in_err-colon-clause-order
+suffixes::method_arguments-returns-in_err-colon-clause-order t c =
     handed_on _ c.from_residual.result _ c.from_residual.ensures.1
     (λ s read start stands. missing_first _ _ _ _ c.in_err-colon.ensures.misses start (standing.after_prefix stands read))
 
-pub suffixes::method-returns-in_err-named-clause-order : goal.suffixes::method-returns-in_err-named-clause-order
-suffixes::method-returns-in_err-named-clause-order t c =
+pub suffixes::method_arguments-returns-in_err-named-clause-order : goal.suffixes::method_arguments-returns-in_err-named-clause-order
+suffixes::method_arguments-returns-in_err-named-clause-order t c =
     handed_on _ c.from_residual-in_err-named.result _ c.from_residual-in_err-named.ensures.1
     (λ s read start stands. missing_first _ _ _ _ c.in_err-named.ensures.misses start (standing.after_colon stands read c.in_ok-colon.ensures.takes c.in_ok-above.ensures))
 
@@ -601,12 +689,12 @@ pub suffixes::arguments-returns-then-at_text-clause-reads : goal.suffixes::argum
 suffixes::arguments-returns-then-at_text-clause-reads t c =
     on_node _ c.text.ensures (λ v is. text_arg_read _ _ _ _ _ _ c.in_ok-text.ensures.takes is)
 
-pub suffixes::arguments-returns-then-at_sign-2-clause-reads : goal.suffixes::arguments-returns-then-at_sign-2-clause-reads
-suffixes::arguments-returns-then-at_sign-2-clause-reads t c =
+pub suffixes::list_arguments-returns-then-at_sign-clause-reads : goal.suffixes::list_arguments-returns-then-at_sign-clause-reads
+suffixes::list_arguments-returns-then-at_sign-clause-reads t c =
     no_args_read _ _ _ _ _ _ _ c.in_ok-take_sign.ensures.takes c.in_ok-take_sign-2.ensures.takes c.none.ensures
 
-pub suffixes::arguments-returns-clause-reads : goal.suffixes::arguments-returns-clause-reads
-suffixes::arguments-returns-clause-reads t c =
+pub suffixes::list_arguments-returns-clause-reads : goal.suffixes::list_arguments-returns-clause-reads
+suffixes::list_arguments-returns-clause-reads t c =
     args_read _ _ _ _ _ _ _ _ _ c.in_ok-take_sign.ensures.takes c.in_ok-inner.ensures c.in_ok-values.ensures.reads c.in_ok-take_sign-3.ensures.takes
 
 pub suffixes::arguments-returns-in_err-table-clause-refuses : goal.suffixes::arguments-returns-in_err-table-clause-refuses
@@ -615,28 +703,29 @@ suffixes::arguments-returns-in_err-table-clause-refuses t c =
     handed_on (RefusesArgs c.args.at (state c.args.tokens.now c.args.parser.now) (state c.args.tokens.now c.table.new.parser)) c.from_residual.result _ c.from_residual.ensures.1
     (table_arg_refused c.args.at c.narrower-inner.result _ _ _ c.narrower-inner.ensures (c.in_err-table.ensures.refuses (c.at_sign.ensures.0 is)))
 
-pub suffixes::arguments-returns-in_err-take_sign-clause-refuses : goal.suffixes::arguments-returns-in_err-take_sign-clause-refuses
-suffixes::arguments-returns-in_err-take_sign-clause-refuses t c =
-    let no_table = untested c.at_sign.result _ c.if-at_sign.false c.at_sign.ensures in
-    let no_text = untested c.at_text.result _ c.if-at_text.false c.at_text.ensures in
-    handed_on (RefusesArgs c.args.at (state c.args.tokens.now c.args.parser.now) (state c.args.tokens.now c.take_sign.new.self)) c.from_residual-in_err-take_sign.result _
-    c.from_residual-in_err-take_sign.ensures.1 (no_args c.args.at _ _ _ no_table no_text c.in_err-take_sign.ensures.misses)
+pub suffixes::arguments-returns-clause-refuses : goal.suffixes::arguments-returns-clause-refuses
+suffixes::arguments-returns-clause-refuses t c =
+    c.list_arguments.ensures.refuses (untested c.at_text.result _ c.if-at_text.false c.at_text.ensures) (untested c.at_sign.result _ c.if-at_sign.false c.at_sign.ensures)
 
-pub suffixes::arguments-returns-in_err-inner-clause-refuses : goal.suffixes::arguments-returns-in_err-inner-clause-refuses
-suffixes::arguments-returns-in_err-inner-clause-refuses t c =
-    let open_ = untested c.at_sign-2.result _ c.if-at_sign-2.false c.at_sign-2.ensures in
+pub suffixes::list_arguments-returns-in_err-take_sign-clause-refuses : goal.suffixes::list_arguments-returns-in_err-take_sign-clause-refuses
+suffixes::list_arguments-returns-in_err-take_sign-clause-refuses t c = λ no_text no_table.
+    handed_on (RefusesArgs c.args.at (state c.args.tokens.now c.args.parser.now) (state c.args.tokens.now c.take_sign.new.self)) c.from_residual.result _ c.from_residual.ensures.1 (no_args c.args.at _ _ _ no_table no_text c.in_err-take_sign.ensures.misses)
+
+pub suffixes::list_arguments-returns-in_err-inner-clause-refuses : goal.suffixes::list_arguments-returns-in_err-inner-clause-refuses
+suffixes::list_arguments-returns-in_err-inner-clause-refuses t c = λ no_text no_table.
+    let open_ = untested c.at_sign.result _ c.if-at_sign.false c.at_sign.ensures in
     handed_on (RefusesArgs c.args.at (state c.args.tokens.now c.args.parser.now) (state c.args.tokens.now c.take_sign.new.self)) c.from_residual-in_err-inner.result _
     c.from_residual-in_err-inner.ensures.1 (args_no_part c.args.at _ _ _ _ c.in_ok-take_sign.ensures.takes open_ c.in_err-inner.ensures)
 
-pub suffixes::arguments-returns-in_err-values-clause-refuses : goal.suffixes::arguments-returns-in_err-values-clause-refuses
-suffixes::arguments-returns-in_err-values-clause-refuses t c =
-    let open_ = untested c.at_sign-2.result _ c.if-at_sign-2.false c.at_sign-2.ensures in
+pub suffixes::list_arguments-returns-in_err-values-clause-refuses : goal.suffixes::list_arguments-returns-in_err-values-clause-refuses
+suffixes::list_arguments-returns-in_err-values-clause-refuses t c = λ no_text no_table.
+    let open_ = untested c.at_sign.result _ c.if-at_sign.false c.at_sign.ensures in
     handed_on (RefusesArgs c.args.at (state c.args.tokens.now c.args.parser.now) (state c.args.tokens.now c.expressions.new.parser)) c.from_residual-in_err-values.result _
     c.from_residual-in_err-values.ensures.1 (args_refused c.args.at c.in_ok-inner.inner _ _ _ _ _ c.in_ok-take_sign.ensures.takes open_ c.in_ok-inner.ensures c.in_err-values.ensures.refuses)
 
-pub suffixes::arguments-returns-in_err-take_sign-3-clause-refuses : goal.suffixes::arguments-returns-in_err-take_sign-3-clause-refuses
-suffixes::arguments-returns-in_err-take_sign-3-clause-refuses t c =
-    let open_ = untested c.at_sign-2.result _ c.if-at_sign-2.false c.at_sign-2.ensures in
+pub suffixes::list_arguments-returns-in_err-take_sign-3-clause-refuses : goal.suffixes::list_arguments-returns-in_err-take_sign-3-clause-refuses
+suffixes::list_arguments-returns-in_err-take_sign-3-clause-refuses t c = λ no_text no_table.
+    let open_ = untested c.at_sign.result _ c.if-at_sign.false c.at_sign.ensures in
     let values = c.in_ok-values.ensures in
     handed_on (RefusesArgs c.args.at (state c.args.tokens.now c.args.parser.now) (state c.args.tokens.now c.take_sign-2.new.self)) c.from_residual-in_err-take_sign-3.result _
     c.from_residual-in_err-take_sign-3.ensures.1
@@ -647,15 +736,15 @@ suffixes::arguments-returns-in_err-table-clause-order t c =
     handed_on _ c.from_residual.result _ c.from_residual.ensures.1
     (λ start stands. c.in_err-table.ensures.order start (standing.table_args stands c.narrower-inner.ensures))
 
-pub suffixes::arguments-returns-in_err-inner-clause-order : goal.suffixes::arguments-returns-in_err-inner-clause-order
-suffixes::arguments-returns-in_err-inner-clause-order t c =
-    let open_ = untested c.at_sign-2.result _ c.if-at_sign-2.false c.at_sign-2.ensures in
+pub suffixes::list_arguments-returns-in_err-inner-clause-order : goal.suffixes::list_arguments-returns-in_err-inner-clause-order
+suffixes::list_arguments-returns-in_err-inner-clause-order t c =
+    let open_ = untested c.at_sign.result _ c.if-at_sign.false c.at_sign.ensures in
     handed_on _ c.from_residual-in_err-inner.result _ c.from_residual-in_err-inner.ensures.1
     (λ start stands. part_breaks _ _ _ _ (few_there _ _) c.in_err-inner.ensures start (standing.in_args stands c.in_ok-take_sign.ensures.takes open_))
 
-pub suffixes::arguments-returns-in_err-values-clause-order : goal.suffixes::arguments-returns-in_err-values-clause-order
-suffixes::arguments-returns-in_err-values-clause-order t c =
-    let open_ = untested c.at_sign-2.result _ c.if-at_sign-2.false c.at_sign-2.ensures in
+pub suffixes::list_arguments-returns-in_err-values-clause-order : goal.suffixes::list_arguments-returns-in_err-values-clause-order
+suffixes::list_arguments-returns-in_err-values-clause-order t c =
+    let open_ = untested c.at_sign.result _ c.if-at_sign.false c.at_sign.ensures in
     handed_on _ c.from_residual-in_err-values.result _ c.from_residual-in_err-values.ensures.1
     (λ start stands. c.in_err-values.ensures.order start (standing.as_part (standing.in_args stands c.in_ok-take_sign.ensures.takes open_) c.in_ok-inner.ensures))
 
@@ -664,14 +753,14 @@ suffixes::arguments-returns-in_err-text-clause-order t c =
     handed_on _ c.from_residual-in_err-text.result _ c.from_residual-in_err-text.ensures.1
     (λ start stands. missing_first _ _ _ _ c.in_err-text.ensures.misses start (standing.before_it stands))
 
-pub suffixes::arguments-returns-in_err-take_sign-clause-order : goal.suffixes::arguments-returns-in_err-take_sign-clause-order
-suffixes::arguments-returns-in_err-take_sign-clause-order t c =
-    handed_on _ c.from_residual-in_err-take_sign.result _ c.from_residual-in_err-take_sign.ensures.1
+pub suffixes::list_arguments-returns-in_err-take_sign-clause-order : goal.suffixes::list_arguments-returns-in_err-take_sign-clause-order
+suffixes::list_arguments-returns-in_err-take_sign-clause-order t c =
+    handed_on _ c.from_residual.result _ c.from_residual.ensures.1
     (λ start stands. missing_first _ _ _ _ c.in_err-take_sign.ensures.misses start (standing.before_it stands))
 
-pub suffixes::arguments-returns-in_err-take_sign-3-clause-order : goal.suffixes::arguments-returns-in_err-take_sign-3-clause-order
-suffixes::arguments-returns-in_err-take_sign-3-clause-order t c =
-    let open_ = untested c.at_sign-2.result _ c.if-at_sign-2.false c.at_sign-2.ensures in
+pub suffixes::list_arguments-returns-in_err-take_sign-3-clause-order : goal.suffixes::list_arguments-returns-in_err-take_sign-3-clause-order
+suffixes::list_arguments-returns-in_err-take_sign-3-clause-order t c =
+    let open_ = untested c.at_sign.result _ c.if-at_sign.false c.at_sign.ensures in
     handed_on _ c.from_residual-in_err-take_sign-3.result _ c.from_residual-in_err-take_sign-3.ensures.1
     (λ start stands. missing_first _ _ _ _ c.in_err-take_sign-3.ensures.misses start (standing.after_list (standing.as_part (standing.in_args stands c.in_ok-take_sign.ensures.takes open_) c.in_ok-inner.ensures) c.in_ok-values.ensures.reads))
 
@@ -728,59 +817,52 @@ suffixes::table-loop-at-init t c = record {
 pub suffixes::table-loop-at-preserved : goal.suffixes::table-loop-at-preserved
 suffixes::table-loop-at-preserved t c =
     let before = c.loop-at.invariant in
+    let pushed = c.in_ok-push_field.ensures.reads in
     record {
-      forward = advances_on _ _ _ _ before.forward (advances_on _ _ _ _ c.in_ok-item.ensures.forward c.in_ok-take_separator.ensures.forward);
+      forward = advances_on _ _ _ _ before.forward (advances_on _ _ _ _ c.in_ok-push_field.ensures.forward c.in_ok-take_separator.ensures.forward);
       reads = (
         before.reads.0,
         before.reads.1,
-        more_fields_read _ _ _ _ _ _ _ _ _ before.reads.2 c.in_ok-inner.ensures c.in_ok-item.ensures.reads c.in_ok-take_separator.ensures.takes c.in_ok-push.ensures,
+        more_fields_read _ _ _ _ _ _ _ _ _ before.reads.2 pushed.part pushed.reads c.in_ok-take_separator.ensures.takes pushed.adds,
       );
     }
 
 pub suffixes::table-returns-then-at_sign-clause-reads : goal.suffixes::table-returns-then-at_sign-clause-reads
 suffixes::table-returns-then-at_sign-clause-reads t c =
     let before = c.loop-at.invariant.reads in
+    let pushed = c.in_ok-push_field.ensures.reads in
     on_node _ c.into_table.ensures (λ b is.
-    ending_read _ _ _ _ _ _ _ _ _ _ _ _ _ before.1 before.2 c.in_ok-inner.ensures c.in_ok-item.ensures.reads c.in_ok-push.ensures c.in_ok-take_sign.ensures.takes is)
+    ending_read _ _ _ _ _ _ _ _ _ _ _ _ _ before.1 before.2 pushed.part pushed.reads pushed.adds c.in_ok-take_sign.ensures.takes is)
 
 pub suffixes::table-returns-clause-reads : goal.suffixes::table-returns-clause-reads
 suffixes::table-returns-clause-reads t c =
     let before = c.loop-at.invariant.reads in
     on_node _ c.into_table-2.ensures (λ b is. separated_read _ _ _ _ _ _ _ _ _ before.1 before.2 c.in_ok-take_sign-2.ensures.takes is)
 
-pub suffixes::table-returns-in_err-inner-clause-refuses : goal.suffixes::table-returns-in_err-inner-clause-refuses
-suffixes::table-returns-in_err-inner-clause-refuses t c = λ next.
+pub suffixes::table-returns-in_err-push_field-clause-refuses : goal.suffixes::table-returns-in_err-push_field-clause-refuses
+suffixes::table-returns-in_err-push_field-clause-refuses t c = λ next.
     let before = c.loop-at.invariant.reads in
-    let h : IfErr c.from_residual-in_err-inner.result (HasNoPart c.args.at (state c.args.tokens.now c.loop-at.parser)) = search rules in
-    on_err c.from_residual-in_err-inner.result h (λ fault none. part_refused c.args.at _ fault _ _ _ _ before.2 before.1 (untested c.at_sign.result _ c.loop-at-test.true c.at_sign.ensures) none)
-
-pub suffixes::table-returns-in_err-item-clause-refuses : goal.suffixes::table-returns-in_err-item-clause-refuses
-suffixes::table-returns-in_err-item-clause-refuses t c = λ next.
-    let before = c.loop-at.invariant.reads in
-    let h : IfErr c.from_residual-in_err-item.result (RefusesField c.in_ok-inner.inner (state c.args.tokens.now c.loop-at.parser) (state c.args.tokens.now c.field.new.parser)) = search rules in
-    on_err c.from_residual-in_err-item.result h (λ fault refuses.
-    field_refused c.args.at c.in_ok-inner.inner _ fault _ _ _ _ _ before.2 before.1 c.in_ok-inner.ensures (untested c.at_sign.result _ c.loop-at-test.true c.at_sign.ensures) refuses)
+    let more = untested c.at_sign.result _ c.loop-at-test.true c.at_sign.ensures in
+    let after : AfterItems c.args.at c.loop-at.items (state c.args.tokens.now c.args.parser.now) (state c.args.tokens.now c.loop-at.parser) =
+    record { open_at = _; inside = before.0; opens = before.1; reads = before.2; more = more } in
+    handed_on (RefusesTable c.args.at (state c.args.tokens.now c.args.parser.now) (state c.args.tokens.now c.push_field.new.parser)) c.from_residual-in_err-push_field.result _ c.from_residual-in_err-push_field.ensures.1
+    (c.in_err-push_field.ensures.refuses _ after)
 
 pub suffixes::table-returns-in_err-take_separator-clause-refuses : goal.suffixes::table-returns-in_err-take_separator-clause-refuses
 suffixes::table-returns-in_err-take_separator-clause-refuses t c = λ next.
     let before = c.loop-at.invariant.reads in
-    let h : IfErr c.from_residual-in_err-take_separator.result (OnAt (Misses IsSeparator (state c.args.tokens.now c.field.new.parser) (state c.args.tokens.now c.take_separator.new.self))) = search rules in
-    on_err c.from_residual-in_err-take_separator.result h (λ fault misses.
-    separator_refused c.args.at c.in_ok-inner.inner _ fault _ _ _ _ _ _ _ before.2 before.1 c.in_ok-item.ensures.reads (untested c.at_sign-in-loop-at.result _ c.if-at_sign.false c.at_sign-in-loop-at.ensures) misses)
+    let pushed = c.in_ok-push_field.ensures.reads in
+    handed_on (RefusesTable c.args.at (state c.args.tokens.now c.args.parser.now) (state c.args.tokens.now c.take_separator.new.self)) c.from_residual-in_err-take_separator.result _ c.from_residual-in_err-take_separator.ensures.1
+    (separator_refused c.args.at pushed.inner _ _ _ _ _ _ _ _ pushed.item before.2 before.1 pushed.reads (untested c.at_sign-in-loop-at.result _ c.if-at_sign.false c.at_sign-in-loop-at.ensures) c.in_err-take_separator.ensures.misses)
 
-pub suffixes::table-returns-in_err-inner-clause-order : goal.suffixes::table-returns-in_err-inner-clause-order
-suffixes::table-returns-in_err-inner-clause-order t c =
+pub suffixes::table-returns-in_err-push_field-clause-order : goal.suffixes::table-returns-in_err-push_field-clause-order
+suffixes::table-returns-in_err-push_field-clause-order t c =
     let before = c.loop-at.invariant.reads in
     let more = untested c.at_sign.result _ c.loop-at-test.true c.at_sign.ensures in
-    handed_on _ c.from_residual-in_err-inner.result _ c.from_residual-in_err-inner.ensures.1
-    (λ start stands. part_breaks _ _ _ _ (few_there _ _) c.in_err-inner.ensures start (standing.in_table stands before.1 before.2 more))
-
-pub suffixes::table-returns-in_err-item-clause-order : goal.suffixes::table-returns-in_err-item-clause-order
-suffixes::table-returns-in_err-item-clause-order t c =
-    let before = c.loop-at.invariant.reads in
-    let more = untested c.at_sign.result _ c.loop-at-test.true c.at_sign.ensures in
-    handed_on _ c.from_residual-in_err-item.result _ c.from_residual-in_err-item.ensures.1
-    (λ start stands. c.in_err-item.ensures.order start (standing.as_part (standing.in_table stands before.1 before.2 more) c.in_ok-inner.ensures))
+    let after : AfterItems c.args.at c.loop-at.items (state c.args.tokens.now c.args.parser.now) (state c.args.tokens.now c.loop-at.parser) =
+    record { open_at = _; inside = before.0; opens = before.1; reads = before.2; more = more } in
+    handed_on _ c.from_residual-in_err-push_field.result _ c.from_residual-in_err-push_field.ensures.1
+    (c.in_err-push_field.ensures.order _ after)
 
 pub suffixes::table-returns-in_err-open-clause-order : goal.suffixes::table-returns-in_err-open-clause-order
 suffixes::table-returns-in_err-open-clause-order t c =
@@ -790,16 +872,50 @@ suffixes::table-returns-in_err-open-clause-order t c =
 pub suffixes::table-returns-in_err-take_separator-clause-order : goal.suffixes::table-returns-in_err-take_separator-clause-order
 suffixes::table-returns-in_err-take_separator-clause-order t c =
     let before = c.loop-at.invariant.reads in
+    let pushed = c.in_ok-push_field.ensures.reads in
     let more = untested c.at_sign.result _ c.loop-at-test.true c.at_sign.ensures in
     handed_on _ c.from_residual-in_err-take_separator.result _ c.from_residual-in_err-take_separator.ensures.1
-    (λ start stands. missing_first _ _ _ _ c.in_err-take_separator.ensures.misses start (standing.after_field (standing.as_part (standing.in_table stands before.1 before.2 more) c.in_ok-inner.ensures) c.in_ok-item.ensures.reads))
+    (λ start stands. missing_first _ _ _ _ c.in_err-take_separator.ensures.misses start (standing.after_field (standing.as_part (standing.in_table stands before.1 before.2 more) pushed.part) pushed.reads))
 
 pub suffixes::table-returns-in_err-take_sign-clause-order : goal.suffixes::table-returns-in_err-take_sign-clause-order
 suffixes::table-returns-in_err-take_sign-clause-order t c =
     let before = c.loop-at.invariant.reads in
+    let pushed = c.in_ok-push_field.ensures.reads in
     let more = untested c.at_sign.result _ c.loop-at-test.true c.at_sign.ensures in
     handed_on _ c.from_residual-in_err-take_sign.result _ c.from_residual-in_err-take_sign.ensures.1
-    (λ start stands. missing_first _ _ _ _ c.in_err-take_sign.ensures.misses start (standing.after_field (standing.as_part (standing.in_table stands before.1 before.2 more) c.in_ok-inner.ensures) c.in_ok-item.ensures.reads))
+    (λ start stands. missing_first _ _ _ _ c.in_err-take_sign.ensures.misses start (standing.after_field (standing.as_part (standing.in_table stands before.1 before.2 more) pushed.part) pushed.reads))
+
+pub suffixes::push_field-returns-clause-reads : goal.suffixes::push_field-returns-clause-reads
+suffixes::push_field-returns-clause-reads t c =
+    let pushed : AddsItem c.args.items.now c.in_ok-item.item c.push.new.self → PushesField c.args.at c.args.items.now (state c.args.tokens.now c.args.parser.now) c.push.new.self (state c.args.tokens.now c.field.new.parser) =
+    λ adds. record { inner = c.in_ok-inner.inner; item = c.in_ok-item.item; part = c.in_ok-inner.ensures; reads = c.in_ok-item.ensures.reads; adds = adds } in
+    done_node _ _ c.push.result c.push.ensures pushed
+
+pub suffixes::push_field-returns-in_err-inner-clause-refuses : goal.suffixes::push_field-returns-in_err-inner-clause-refuses
+suffixes::push_field-returns-in_err-inner-clause-refuses t c =
+    handed_on (RefusesItem c.args.at c.args.items.now (state c.args.tokens.now c.args.parser.now) (state c.args.tokens.now c.args.parser.now)) c.from_residual.result _ c.from_residual.ensures.1
+    (λ s after. part_refused c.args.at _ _ _ _ _ _ after.reads after.opens after.more c.in_err-inner.ensures)
+
+pub suffixes::push_field-returns-in_err-item-clause-refuses : goal.suffixes::push_field-returns-in_err-item-clause-refuses
+suffixes::push_field-returns-in_err-item-clause-refuses t c =
+    handed_on (RefusesItem c.args.at c.args.items.now (state c.args.tokens.now c.args.parser.now) (state c.args.tokens.now c.field.new.parser)) c.from_residual-in_err-item.result _ c.from_residual-in_err-item.ensures.1
+    (λ s after. field_refused c.args.at c.in_ok-inner.inner _ _ _ _ _ _ _ after.reads after.opens c.in_ok-inner.ensures after.more c.in_err-item.ensures.refuses)
+
+pub suffixes::push_field-returns-clause-refuses : goal.suffixes::push_field-returns-clause-refuses
+suffixes::push_field-returns-clause-refuses t c = on_memory _ _ c.push.result (λ s after r k begins none. absurd none) c.push.ensures
+
+pub suffixes::push_field-returns-in_err-inner-clause-order : goal.suffixes::push_field-returns-in_err-inner-clause-order
+suffixes::push_field-returns-in_err-inner-clause-order t c =
+    handed_on _ c.from_residual.result _ c.from_residual.ensures.1
+    (λ s after start stands. part_breaks _ _ _ _ (few_there _ _) c.in_err-inner.ensures start (standing.in_table stands after.opens after.reads after.more))
+
+pub suffixes::push_field-returns-in_err-item-clause-order : goal.suffixes::push_field-returns-in_err-item-clause-order
+suffixes::push_field-returns-in_err-item-clause-order t c =
+    handed_on _ c.from_residual-in_err-item.result _ c.from_residual-in_err-item.ensures.1
+    (λ s after start stands. c.in_err-item.ensures.order start (standing.as_part (standing.in_table stands after.opens after.reads after.more) c.in_ok-inner.ensures))
+
+pub suffixes::push_field-returns-clause-order : goal.suffixes::push_field-returns-clause-order
+suffixes::push_field-returns-clause-order t c = on_memory _ _ c.push.result (λ s after start stands. tt) c.push.ensures
 
 pub suffixes::field-returns-clause-reads : goal.suffixes::field-returns-clause-reads
 suffixes::field-returns-clause-reads t c =
@@ -819,8 +935,14 @@ suffixes::field-returns-in_err-value-clause-order t c =
 
 pub suffixes::keyed_field-returns-clause-reads : goal.suffixes::keyed_field-returns-clause-reads
 suffixes::keyed_field-returns-clause-reads t c =
-    keyed_read _ _ _ _ _ _ _ _ _ _ _ _ _ c.in_ok-take_sign.ensures.takes c.in_ok-key.ensures.reads c.in_ok-take_sign-2.ensures.takes c.in_ok-take_sign-3.ensures.takes
-    c.in_ok-value.ensures.reads c.in_ok-value.ensures.ends c.pair.ensures.item c.pair.ensures.height
+    let same = c.in_ok-key-4.ensures.0 ∙ c.in_ok-key-3.ensures.0 ∙ c.in_ok-key-2.ensures.0 in
+    keyed_read _ _ _ _ _ _ _ _ _ _ _ _ _ c.in_ok-take_sign.ensures.takes (subst (λ key. ReadsExp c.args.at (state c.args.tokens.now c.take_sign.new.self) key (state c.args.tokens.now c.expression.new.parser)) (sym same) c.in_ok-key.ensures.reads) (read_by _ _ _ c.in_ok-key-2.ensures.1 c.take_sign-2.ensures.takes) (read_by _ _ _ c.in_ok-key-3.ensures.1 c.take_sign-3.ensures.takes)
+    (read_by _ _ _ c.in_ok-key-4.ensures.1 c.expression-2.ensures.reads) (done_by _ _ c.in_ok-key-4.ensures.1 c.expression-2.ensures.ends) c.pair.ensures.item c.pair.ensures.height
+
+pub suffixes::keyed_field-returns-clause-forward : goal.suffixes::keyed_field-returns-clause-forward
+suffixes::keyed_field-returns-clause-forward t c = advances_on _ _ _ _ c.in_ok-take_sign.ensures.forward (advances_on _ _ _ _ c.in_ok-key.ensures.forward
+    (advances_on _ _ _ _ (done_by _ _ c.in_ok-key-2.ensures.1 c.take_sign-2.ensures.forward)
+    (advances_on _ _ _ _ (done_by _ _ c.in_ok-key-3.ensures.1 c.take_sign-3.ensures.forward) (done_by _ _ c.in_ok-key-4.ensures.1 c.expression-2.ensures.forward))))
 
 pub suffixes::keyed_field-returns-in_err-take_sign-clause-refuses : goal.suffixes::keyed_field-returns-in_err-take_sign-clause-refuses
 suffixes::keyed_field-returns-in_err-take_sign-clause-refuses t c = λ next.
@@ -833,47 +955,48 @@ suffixes::keyed_field-returns-in_err-key-clause-refuses t c = λ next.
     let h : IfErr c.from_residual-in_err-key.result (RefusesFrom 1 c.args.at (state c.args.tokens.now c.take_sign.new.self) (state c.args.tokens.now c.expression.new.parser)) = search rules in
     on_err c.from_residual-in_err-key.result h (λ fault refuses. key_refused c.args.at _ fault _ _ _ c.in_ok-take_sign.ensures.takes refuses)
 
-pub suffixes::keyed_field-returns-in_err-take_sign-2-clause-refuses : goal.suffixes::keyed_field-returns-in_err-take_sign-2-clause-refuses
-suffixes::keyed_field-returns-in_err-take_sign-2-clause-refuses t c = λ next.
-    let h : IfErr c.from_residual-in_err-take_sign-2.result (OnAt (Misses (IsKind (Sign sign.CloseBracket)) (state c.args.tokens.now c.expression.new.parser) (state c.args.tokens.now c.take_sign-2.new.self))) = search rules in
-    on_err c.from_residual-in_err-take_sign-2.result h (λ fault missed. bracket_refused c.args.at _ fault _ _ _ _ _ c.in_ok-take_sign.ensures.takes c.in_ok-key.ensures.reads c.in_ok-key.ensures.ends missed)
+pub suffixes::keyed_field-returns-in_err-key-2-clause-refuses : goal.suffixes::keyed_field-returns-in_err-key-2-clause-refuses
+suffixes::keyed_field-returns-in_err-key-2-clause-refuses t c = λ next.
+    handed_on (RefusesField c.args.at (state c.args.tokens.now c.args.parser.now) (state c.args.tokens.now c.take_sign-2.new.self)) c.from_residual-in_err-key-2.result _ c.from_residual-in_err-key-2.ensures.1
+    (bracket_refused c.args.at _ _ _ _ _ _ _ c.in_ok-take_sign.ensures.takes c.in_ok-key.ensures.reads c.in_ok-key.ensures.ends (refused_by _ _ _ c.in_err-key-2.ensures c.take_sign-2.ensures.misses))
 
-pub suffixes::keyed_field-returns-in_err-take_sign-3-clause-refuses : goal.suffixes::keyed_field-returns-in_err-take_sign-3-clause-refuses
-suffixes::keyed_field-returns-in_err-take_sign-3-clause-refuses t c = λ next.
-    let h : IfErr c.from_residual-in_err-take_sign-3.result (OnAt (Misses (IsKind (Sign sign.Assign)) (state c.args.tokens.now c.take_sign-2.new.self) (state c.args.tokens.now c.take_sign-3.new.self))) = search rules in
-    on_err c.from_residual-in_err-take_sign-3.result h (λ fault missed. equals_refused c.args.at _ _ fault _ _ _ _ _ _ c.in_ok-take_sign.ensures.takes c.in_ok-key.ensures.reads c.in_ok-key.ensures.ends c.in_ok-take_sign-2.ensures.takes missed)
+pub suffixes::keyed_field-returns-in_err-key-3-clause-refuses : goal.suffixes::keyed_field-returns-in_err-key-3-clause-refuses
+suffixes::keyed_field-returns-in_err-key-3-clause-refuses t c = λ next.
+    handed_on (RefusesField c.args.at (state c.args.tokens.now c.args.parser.now) (state c.args.tokens.now c.take_sign-3.new.self)) c.from_residual-in_err-key-3.result _ c.from_residual-in_err-key-3.ensures.1
+    (equals_refused c.args.at _ _ _ _ _ _ _ _ _ c.in_ok-take_sign.ensures.takes c.in_ok-key.ensures.reads c.in_ok-key.ensures.ends (read_by _ _ _ c.in_ok-key-2.ensures.1 c.take_sign-2.ensures.takes) (refused_by _ _ _ c.in_err-key-3.ensures c.take_sign-3.ensures.misses))
 
-pub suffixes::keyed_field-returns-in_err-value-clause-refuses : goal.suffixes::keyed_field-returns-in_err-value-clause-refuses
-suffixes::keyed_field-returns-in_err-value-clause-refuses t c = λ next.
+pub suffixes::keyed_field-returns-in_err-key-4-clause-refuses : goal.suffixes::keyed_field-returns-in_err-key-4-clause-refuses
+suffixes::keyed_field-returns-in_err-key-4-clause-refuses t c = λ next.
     let small : 1 ≤ 7 = lit≤ tt in
-    let h : IfErr c.from_residual-in_err-value.result (RefusesFrom 1 c.args.at (state c.args.tokens.now c.take_sign-3.new.self) (state c.args.tokens.now c.expression-2.new.parser)) = search rules in
-    on_err c.from_residual-in_err-value.result h (λ fault refuses. keyed_value_refused c.args.at _ _ _ fault _ _ _ _ _ _ _ c.in_ok-take_sign.ensures.takes c.in_ok-key.ensures.reads c.in_ok-key.ensures.ends
-    c.in_ok-take_sign-2.ensures.takes c.in_ok-take_sign-3.ensures.takes refuses)
+    handed_on (RefusesField c.args.at (state c.args.tokens.now c.args.parser.now) (state c.args.tokens.now c.expression-2.new.parser)) c.from_residual-in_err-key-4.result _ c.from_residual-in_err-key-4.ensures.1
+    (keyed_value_refused c.args.at _ _ _ _ _ _ _ _ _ _ _ c.in_ok-take_sign.ensures.takes c.in_ok-key.ensures.reads c.in_ok-key.ensures.ends
+    (read_by _ _ _ c.in_ok-key-2.ensures.1 c.take_sign-2.ensures.takes) (read_by _ _ _ c.in_ok-key-3.ensures.1 c.take_sign-3.ensures.takes) (refused_by _ _ _ c.in_err-key-4.ensures (c.expression-2.ensures.refuses small)))
 
 pub suffixes::keyed_field-returns-in_err-key-clause-order : goal.suffixes::keyed_field-returns-in_err-key-clause-order
 suffixes::keyed_field-returns-in_err-key-clause-order t c =
     handed_on _ c.from_residual-in_err-key.result _ c.from_residual-in_err-key.ensures.1
     (λ start stands. c.in_err-key.ensures.order start (standing.field_key stands c.in_ok-take_sign.ensures.takes))
 
-pub suffixes::keyed_field-returns-in_err-value-clause-order : goal.suffixes::keyed_field-returns-in_err-value-clause-order
-suffixes::keyed_field-returns-in_err-value-clause-order t c =
-    handed_on _ c.from_residual-in_err-value.result _ c.from_residual-in_err-value.ensures.1
-    (λ start stands. c.in_err-value.ensures.order start (standing.keyed_value stands c.in_ok-take_sign.ensures.takes c.in_ok-key.ensures.reads c.in_ok-take_sign-2.ensures.takes c.in_ok-take_sign-3.ensures.takes))
+pub suffixes::keyed_field-returns-in_err-key-4-clause-order : goal.suffixes::keyed_field-returns-in_err-key-4-clause-order
+suffixes::keyed_field-returns-in_err-key-4-clause-order t c =
+    handed_on _ c.from_residual-in_err-key-4.result _ c.from_residual-in_err-key-4.ensures.1
+    (λ start stands. refused_by _ _ _ c.in_err-key-4.ensures c.expression-2.ensures.order start
+    (standing.keyed_value stands c.in_ok-take_sign.ensures.takes c.in_ok-key.ensures.reads (read_by _ _ _ c.in_ok-key-2.ensures.1 c.take_sign-2.ensures.takes) (read_by _ _ _ c.in_ok-key-3.ensures.1 c.take_sign-3.ensures.takes)))
 
 pub suffixes::keyed_field-returns-in_err-take_sign-clause-order : goal.suffixes::keyed_field-returns-in_err-take_sign-clause-order
 suffixes::keyed_field-returns-in_err-take_sign-clause-order t c =
     handed_on _ c.from_residual.result _ c.from_residual.ensures.1
     (λ start stands. missing_first _ _ _ _ c.in_err-take_sign.ensures.misses start (standing.before_it stands))
 
-pub suffixes::keyed_field-returns-in_err-take_sign-2-clause-order : goal.suffixes::keyed_field-returns-in_err-take_sign-2-clause-order
-suffixes::keyed_field-returns-in_err-take_sign-2-clause-order t c =
-    handed_on _ c.from_residual-in_err-take_sign-2.result _ c.from_residual-in_err-take_sign-2.ensures.1
-    (λ start stands. missing_first _ _ _ _ c.in_err-take_sign-2.ensures.misses start (standing.after_exp (standing.field_key stands c.in_ok-take_sign.ensures.takes) c.in_ok-key.ensures.reads))
+pub suffixes::keyed_field-returns-in_err-key-2-clause-order : goal.suffixes::keyed_field-returns-in_err-key-2-clause-order
+suffixes::keyed_field-returns-in_err-key-2-clause-order t c =
+    handed_on _ c.from_residual-in_err-key-2.result _ c.from_residual-in_err-key-2.ensures.1
+    (λ start stands. missing_first _ _ _ _ (refused_by _ _ _ c.in_err-key-2.ensures c.take_sign-2.ensures.misses) start (standing.after_exp (standing.field_key stands c.in_ok-take_sign.ensures.takes) c.in_ok-key.ensures.reads))
 
-pub suffixes::keyed_field-returns-in_err-take_sign-3-clause-order : goal.suffixes::keyed_field-returns-in_err-take_sign-3-clause-order
-suffixes::keyed_field-returns-in_err-take_sign-3-clause-order t c =
-    handed_on _ c.from_residual-in_err-take_sign-3.result _ c.from_residual-in_err-take_sign-3.ensures.1
-    (λ start stands. missing_first _ _ _ _ c.in_err-take_sign-3.ensures.misses start (standing.after_key stands c.in_ok-take_sign.ensures.takes c.in_ok-key.ensures.reads c.in_ok-take_sign-2.ensures.takes))
+pub suffixes::keyed_field-returns-in_err-key-3-clause-order : goal.suffixes::keyed_field-returns-in_err-key-3-clause-order
+suffixes::keyed_field-returns-in_err-key-3-clause-order t c =
+    handed_on _ c.from_residual-in_err-key-3.result _ c.from_residual-in_err-key-3.ensures.1
+    (λ start stands. missing_first _ _ _ _ (refused_by _ _ _ c.in_err-key-3.ensures c.take_sign-3.ensures.misses) start (standing.after_key stands c.in_ok-take_sign.ensures.takes c.in_ok-key.ensures.reads (read_by _ _ _ c.in_ok-key-2.ensures.1 c.take_sign-2.ensures.takes)))
 
 pub suffixes::named_field-returns-clause-reads : goal.suffixes::named_field-returns-clause-reads
 suffixes::named_field-returns-clause-reads t c =
@@ -907,40 +1030,46 @@ suffixes::named_field-returns-in_err-named-clause-order t c =
 
 pub statements::arm-returns-clause-reads : goal.statements::arm-returns-clause-reads
 statements::arm-returns-clause-reads t c =
-    on_node _ c.arm_node.ensures (λ arm is. arm_read _ _ _ _ _ _ _ _ _ c.in_ok-test.ensures.reads c.in_ok-take_word.ensures.takes c.in_ok-body.ensures.reads is)
+    let same = c.in_ok-test-3.ensures.0 ∙ c.in_ok-test-2.ensures.0 in
+    on_node _ c.arm_node.ensures (λ arm is. arm_read _ _ _ _ _ _ _ _ _ (subst (λ test. ReadsValue c.args.at (state c.args.tokens.now c.args.parser.now) test (state c.args.tokens.now c.value.new.parser)) (sym same) c.in_ok-test.ensures.reads) (read_by _ _ _ c.in_ok-test-2.ensures.1 c.take_word.ensures.takes)
+    (read_by _ _ _ c.in_ok-test-3.ensures.1 c.scoped.ensures.reads) is)
 
 pub statements::arm-returns-in_err-test-clause-refuses : goal.statements::arm-returns-in_err-test-clause-refuses
 statements::arm-returns-in_err-test-clause-refuses t c =
     let h : IfErr c.from_residual.result (RefusesValue c.args.at (state c.args.tokens.now c.args.parser.now) (state c.args.tokens.now c.value.new.parser)) = search rules in
     on_err c.from_residual.result h (λ fault refuses. test_refused c.args.at _ _ fault refuses)
 
-pub statements::arm-returns-in_err-take_word-clause-refuses : goal.statements::arm-returns-in_err-take_word-clause-refuses
-statements::arm-returns-in_err-take_word-clause-refuses t c =
-    let h : IfErr c.from_residual-in_err-take_word.result (OnAt (Misses (IsKind (Word word.Then)) (state c.args.tokens.now c.value.new.parser) (state c.args.tokens.now c.take_word.new.self))) = search rules in
-    on_err c.from_residual-in_err-take_word.result h (λ fault missed. then_refused c.args.at _ _ _ _ fault c.in_ok-test.ensures.reads missed)
+pub statements::arm-returns-in_err-test-2-clause-refuses : goal.statements::arm-returns-in_err-test-2-clause-refuses
+statements::arm-returns-in_err-test-2-clause-refuses t c =
+    handed_on (RefusesArm c.args.at (state c.args.tokens.now c.args.parser.now) (state c.args.tokens.now c.take_word.new.self)) c.from_residual-in_err-test-2.result _ c.from_residual-in_err-test-2.ensures.1
+    (then_refused c.args.at _ _ _ _ _ c.in_ok-test.ensures.reads (refused_by _ _ _ c.in_err-test-2.ensures c.take_word.ensures.misses))
 
-pub statements::arm-returns-in_err-body-clause-refuses : goal.statements::arm-returns-in_err-body-clause-refuses
-statements::arm-returns-in_err-body-clause-refuses t c =
-    let h : IfErr c.from_residual-in_err-body.result (RefusesScoped c.args.at (state c.args.tokens.now c.take_word.new.self) (state c.args.tokens.now c.scoped.new.parser)) = search rules in
-    on_err c.from_residual-in_err-body.result h (λ fault refuses. arm_block_refused c.args.at _ _ _ _ _ _ fault c.in_ok-test.ensures.reads c.in_ok-take_word.ensures.takes refuses)
+pub statements::arm-returns-in_err-test-3-clause-refuses : goal.statements::arm-returns-in_err-test-3-clause-refuses
+statements::arm-returns-in_err-test-3-clause-refuses t c =
+    handed_on (RefusesArm c.args.at (state c.args.tokens.now c.args.parser.now) (state c.args.tokens.now c.scoped.new.parser)) c.from_residual-in_err-test-3.result _ c.from_residual-in_err-test-3.ensures.1
+    (arm_block_refused c.args.at _ _ _ _ _ _ _ c.in_ok-test.ensures.reads (read_by _ _ _ c.in_ok-test-2.ensures.1 c.take_word.ensures.takes) (refused_by _ _ _ c.in_err-test-3.ensures c.scoped.ensures.refuses))
 
 pub statements::arm-returns-clause-refuses : goal.statements::arm-returns-clause-refuses
 statements::arm-returns-clause-refuses t c = on_memory _ _ c.arm_node.result (λ k not none. absurd none) c.arm_node.ensures
+
+pub statements::arm-returns-clause-forward : goal.statements::arm-returns-clause-forward
+statements::arm-returns-clause-forward t c = on_done c.arm_node.result
+    (advances_stays _ _ _ _ (advances_on _ _ _ _ c.in_ok-test.ensures.forward (done_by _ _ c.in_ok-test-2.ensures.1 c.take_word.ensures.forward)) (done_by _ _ c.in_ok-test-3.ensures.1 c.scoped.ensures.forward))
 
 pub statements::arm-returns-in_err-test-clause-order : goal.statements::arm-returns-in_err-test-clause-order
 statements::arm-returns-in_err-test-clause-order t c =
     handed_on _ c.from_residual.result _ c.from_residual.ensures.1
     (λ start stands. c.in_err-test.ensures.order start (standing.arm_test stands))
 
-pub statements::arm-returns-in_err-body-clause-order : goal.statements::arm-returns-in_err-body-clause-order
-statements::arm-returns-in_err-body-clause-order t c =
-    handed_on _ c.from_residual-in_err-body.result _ c.from_residual-in_err-body.ensures.1
-    (λ start stands. c.in_err-body.ensures.order start (standing.arm_block stands c.in_ok-test.ensures.reads c.in_ok-take_word.ensures.takes))
+pub statements::arm-returns-in_err-test-3-clause-order : goal.statements::arm-returns-in_err-test-3-clause-order
+statements::arm-returns-in_err-test-3-clause-order t c =
+    handed_on _ c.from_residual-in_err-test-3.result _ c.from_residual-in_err-test-3.ensures.1
+    (λ start stands. refused_by _ _ _ c.in_err-test-3.ensures c.scoped.ensures.order start (standing.arm_block stands c.in_ok-test.ensures.reads (read_by _ _ _ c.in_ok-test-2.ensures.1 c.take_word.ensures.takes)))
 
-pub statements::arm-returns-in_err-take_word-clause-order : goal.statements::arm-returns-in_err-take_word-clause-order
-statements::arm-returns-in_err-take_word-clause-order t c =
-    handed_on _ c.from_residual-in_err-take_word.result _ c.from_residual-in_err-take_word.ensures.1
-    (λ start stands. missing_first _ _ _ _ c.in_err-take_word.ensures.misses start (standing.after_value (standing.arm_test stands) c.in_ok-test.ensures.reads))
+pub statements::arm-returns-in_err-test-2-clause-order : goal.statements::arm-returns-in_err-test-2-clause-order
+statements::arm-returns-in_err-test-2-clause-order t c =
+    handed_on _ c.from_residual-in_err-test-2.result _ c.from_residual-in_err-test-2.ensures.1
+    (λ start stands. missing_first _ _ _ _ (refused_by _ _ _ c.in_err-test-2.ensures c.take_word.ensures.misses) start (standing.after_value (standing.arm_test stands) c.in_ok-test.ensures.reads))
 
 pub statements::arms-loop-alloc-init : goal.statements::arms-loop-alloc-init
 statements::arms-loop-alloc-init t c =
@@ -1065,92 +1194,57 @@ statements::block-returns-in_err-statement-in_default-clause-order t c =
 
 pub statements::body-returns-clause-reads : goal.statements::body-returns-clause-reads
 statements::body-returns-clause-reads t c =
-    let opens = enters_state c.args.tokens.now c.take_sign-2.new.self c.enter.new.self _ _ _ c.in_ok-begun.ensures.enters in
-    let same = turned c.args.tokens.now c.take_sign-2.new.self c.enter.new.self _ c.in_ok-begun.ensures.index c.in_ok-begun.ensures.line refl in
+    let head = c.in_ok-begun.ensures.reads in
     let done = turned c.args.tokens.now c.take_word.new.self c.end.new.self _ c.end.ensures.index c.end.ensures.line refl in
-    on_ok _ c.end.ensures.ends (λ number ends. body_read _ _ _ _ _ _ _ _ _ _ _ _ _ _ _ _ _ _ _ _ c.in_ok-take_sign.ensures.takes c.in_ok-parameters.ensures.reads c.in_ok-take_sign-2.ensures.takes opens same.left
+    on_ok _ c.end.ensures.ends (λ number ends. body_read _ _ _ _ _ _ _ _ _ _ _ _ _ _ _ _ _ _ _ _ head.opens head.reads head.closes head.enters head.left
     c.in_ok-deeper.ensures c.of_function-inner.ensures c.in_ok-block.ensures.reads c.in_ok-take_word.ensures.takes (ends_state c.args.tokens.now c.take_word.new.self c.end.new.self _ _ _ ends) done.left)
 
-pub statements::body-returns-in_err-take_sign-clause-refuses : goal.statements::body-returns-in_err-take_sign-clause-refuses
-statements::body-returns-in_err-take_sign-clause-refuses t c =
-    let h : IfErr c.from_residual.result (OnAt (Misses (IsKind (Sign sign.OpenParenthesis)) (state c.args.tokens.now c.args.parser.now) (state c.args.tokens.now c.take_sign.new.self))) = search rules in
-    on_err c.from_residual.result h (λ fault missed. body_unopened c.args.at c.args.line c.args.first.items fault _ _ missed)
-
-pub statements::body-returns-in_err-parameters-clause-refuses : goal.statements::body-returns-in_err-parameters-clause-refuses
-statements::body-returns-in_err-parameters-clause-refuses t c =
-    let h : IfErr c.from_residual-in_err-parameters.result (RefusesParameters c.args.first.items (state c.args.tokens.now c.take_sign.new.self) (state c.args.tokens.now c.parameters.new.self)) = search rules in
-    on_err c.from_residual-in_err-parameters.result h (λ fault refuses. parameters_refused c.args.at c.args.line c.args.first.items fault _ _ _ _ c.in_ok-take_sign.ensures.takes refuses)
-
-pub statements::body-returns-in_err-take_sign-2-clause-refuses : goal.statements::body-returns-in_err-take_sign-2-clause-refuses
-statements::body-returns-in_err-take_sign-2-clause-refuses t c =
-    let h : IfErr c.from_residual-in_err-take_sign-2.result (OnAt (Misses (IsKind (Sign sign.CloseParenthesis)) (state c.args.tokens.now c.parameters.new.self) (state c.args.tokens.now c.take_sign-2.new.self))) = search rules in
-    on_err c.from_residual-in_err-take_sign-2.result h (λ fault missed.
-    parameters_unclosed c.args.at c.args.line c.args.first.items fault _ _ _ _ _ _ c.in_ok-take_sign.ensures.takes c.in_ok-parameters.ensures.reads missed)
+pub statements::body-returns-in_err-begun-clause-refuses : goal.statements::body-returns-in_err-begun-clause-refuses
+statements::body-returns-in_err-begun-clause-refuses t c =
+    handed_on (RefusesBody c.args.at c.args.line c.args.first.items (state c.args.tokens.now c.args.parser.now) (state c.args.tokens.now c.begin.new.parser)) c.from_residual.result _ c.from_residual.ensures.1 (c.in_err-begun.ensures.refuses c.args.at)
 
 pub statements::body-returns-in_err-deeper-clause-refuses : goal.statements::body-returns-in_err-deeper-clause-refuses
 statements::body-returns-in_err-deeper-clause-refuses t c =
-    let h : IfErr c.from_residual-in_err-deeper.result (IsTooDeep c.args.at (state c.args.tokens.now c.enter.new.self)) = search rules in
-    let opens = enters_state c.args.tokens.now c.take_sign-2.new.self c.enter.new.self _ _ _ c.in_ok-begun.ensures.enters in
-    let same = turned c.args.tokens.now c.take_sign-2.new.self c.enter.new.self _ c.in_ok-begun.ensures.index c.in_ok-begun.ensures.line refl in
-    let begins = begins_body _ _ _ _ _ _ _ _ _ _ _ c.in_ok-take_sign.ensures.takes c.in_ok-parameters.ensures.reads c.in_ok-take_sign-2.ensures.takes opens same.left in
-    on_err c.from_residual-in_err-deeper.result h (λ fault deep. body_too_deep c.args.at c.args.line c.args.first.items _ fault _ _ begins deep)
+    let head = c.in_ok-begun.ensures.reads in
+    handed_on (RefusesBody c.args.at c.args.line c.args.first.items (state c.args.tokens.now c.args.parser.now) (state c.args.tokens.now c.begin.new.parser)) c.from_residual-in_err-deeper.result _ c.from_residual-in_err-deeper.ensures.1
+    (body_too_deep c.args.at c.args.line c.args.first.items _ _ _ _ (begins_body _ _ _ _ _ _ _ _ _ _ _ head.opens head.reads head.closes head.enters head.left) c.in_err-deeper.ensures)
 
 pub statements::body-returns-in_err-block-clause-refuses : goal.statements::body-returns-in_err-block-clause-refuses
 statements::body-returns-in_err-block-clause-refuses t c =
-    let h : IfErr c.from_residual-in_err-block.result (RefusesBlock c.of_function-inner.result (state c.args.tokens.now c.enter.new.self) (state c.args.tokens.now c.block.new.parser)) = search rules in
-    let opens = enters_state c.args.tokens.now c.take_sign-2.new.self c.enter.new.self _ _ _ c.in_ok-begun.ensures.enters in
-    let same = turned c.args.tokens.now c.take_sign-2.new.self c.enter.new.self _ c.in_ok-begun.ensures.index c.in_ok-begun.ensures.line refl in
-    let begins = begins_body _ _ _ _ _ _ _ _ _ _ _ c.in_ok-take_sign.ensures.takes c.in_ok-parameters.ensures.reads c.in_ok-take_sign-2.ensures.takes opens same.left in
-    on_err c.from_residual-in_err-block.result h (λ fault refuses.
-    body_block_refused c.args.at c.in_ok-deeper.field-0 c.of_function-inner.result c.args.line c.args.first.items _ fault _ _ _ begins c.in_ok-deeper.ensures c.of_function-inner.ensures refuses)
+    let head = c.in_ok-begun.ensures.reads in
+    handed_on (RefusesBody c.args.at c.args.line c.args.first.items (state c.args.tokens.now c.args.parser.now) (state c.args.tokens.now c.block.new.parser)) c.from_residual-in_err-block.result _ c.from_residual-in_err-block.ensures.1
+    (body_block_refused c.args.at c.in_ok-deeper.field-0 c.of_function-inner.result c.args.line c.args.first.items _ _ _ _ _ (begins_body _ _ _ _ _ _ _ _ _ _ _ head.opens head.reads head.closes head.enters head.left) c.in_ok-deeper.ensures c.of_function-inner.ensures c.in_err-block.ensures.refuses)
 
 pub statements::body-returns-in_err-take_word-clause-refuses : goal.statements::body-returns-in_err-take_word-clause-refuses
 statements::body-returns-in_err-take_word-clause-refuses t c =
-    let h : IfErr c.from_residual-in_err-take_word.result (OnAt (Misses (IsKind (Word word.End)) (state c.args.tokens.now c.block.new.parser) (state c.args.tokens.now c.take_word.new.self))) = search rules in
-    let opens = enters_state c.args.tokens.now c.take_sign-2.new.self c.enter.new.self _ _ _ c.in_ok-begun.ensures.enters in
-    let same = turned c.args.tokens.now c.take_sign-2.new.self c.enter.new.self _ c.in_ok-begun.ensures.index c.in_ok-begun.ensures.line refl in
-    let begins = begins_body _ _ _ _ _ _ _ _ _ _ _ c.in_ok-take_sign.ensures.takes c.in_ok-parameters.ensures.reads c.in_ok-take_sign-2.ensures.takes opens same.left in
-    on_err c.from_residual-in_err-take_word.result h (λ fault missed.
-    body_unended c.args.at c.of_function-inner.result c.args.line c.args.first.items _ fault _ _ _ _ _ begins c.in_ok-block.ensures.reads missed)
+    let head = c.in_ok-begun.ensures.reads in
+    handed_on (RefusesBody c.args.at c.args.line c.args.first.items (state c.args.tokens.now c.args.parser.now) (state c.args.tokens.now c.take_word.new.self)) c.from_residual-in_err-take_word.result _ c.from_residual-in_err-take_word.ensures.1
+    (body_unended c.args.at c.of_function-inner.result c.args.line c.args.first.items _ _ _ _ _ _ _ (begins_body _ _ _ _ _ _ _ _ _ _ _ head.opens head.reads head.closes head.enters head.left) c.in_ok-block.ensures.reads c.in_err-take_word.ensures.misses)
 
 pub statements::body-returns-clause-refuses : goal.statements::body-returns-clause-refuses
 statements::body-returns-clause-refuses t c = on_want _ c.end.result (λ k never none. absurd none) (search rules)
 
-pub statements::body-returns-in_err-parameters-clause-order : goal.statements::body-returns-in_err-parameters-clause-order
-statements::body-returns-in_err-parameters-clause-order t c =
-    handed_on _ c.from_residual-in_err-parameters.result _ c.from_residual-in_err-parameters.ensures.1
-    (λ start stands. c.in_err-parameters.ensures.order start (standing.of_parameters stands c.in_ok-take_sign.ensures.takes))
+pub statements::body-returns-in_err-begun-clause-order : goal.statements::body-returns-in_err-begun-clause-order
+statements::body-returns-in_err-begun-clause-order t c =
+    handed_on _ c.from_residual.result _ c.from_residual.ensures.1 (c.in_err-begun.ensures.order c.args.at)
 
 pub statements::body-returns-in_err-deeper-clause-order : goal.statements::body-returns-in_err-deeper-clause-order
 statements::body-returns-in_err-deeper-clause-order t c =
-    let opens = enters_state c.args.tokens.now c.take_sign-2.new.self c.enter.new.self _ _ _ c.in_ok-begun.ensures.enters in
-    let same = turned c.args.tokens.now c.take_sign-2.new.self c.enter.new.self _ c.in_ok-begun.ensures.index c.in_ok-begun.ensures.line refl in
+    let head = c.in_ok-begun.ensures.reads in
     handed_on _ c.from_residual-in_err-deeper.result _ c.from_residual-in_err-deeper.ensures.1
-    (λ start stands. function_breaks _ _ _ _ (few_there _ _) c.in_err-deeper.ensures start (function_stands opens same.left stands c.in_ok-take_sign.ensures.takes c.in_ok-parameters.ensures.reads c.in_ok-take_sign-2.ensures.takes))
+    (λ start stands. function_breaks _ _ _ _ (few_there _ _) c.in_err-deeper.ensures start (function_stands head.enters head.left stands head.opens head.reads head.closes))
 
 pub statements::body-returns-in_err-block-clause-order : goal.statements::body-returns-in_err-block-clause-order
 statements::body-returns-in_err-block-clause-order t c =
-    let opens = enters_state c.args.tokens.now c.take_sign-2.new.self c.enter.new.self _ _ _ c.in_ok-begun.ensures.enters in
-    let same = turned c.args.tokens.now c.take_sign-2.new.self c.enter.new.self _ c.in_ok-begun.ensures.index c.in_ok-begun.ensures.line refl in
+    let head = c.in_ok-begun.ensures.reads in
     handed_on _ c.from_residual-in_err-block.result _ c.from_residual-in_err-block.ensures.1
-    (λ start stands. c.in_err-block.ensures.order start (standing.its_block (function_stands opens same.left stands c.in_ok-take_sign.ensures.takes c.in_ok-parameters.ensures.reads c.in_ok-take_sign-2.ensures.takes) c.in_ok-deeper.ensures c.of_function-inner.ensures))
-
-pub statements::body-returns-in_err-take_sign-clause-order : goal.statements::body-returns-in_err-take_sign-clause-order
-statements::body-returns-in_err-take_sign-clause-order t c =
-    handed_on _ c.from_residual.result _ c.from_residual.ensures.1
-    (λ start stands. missing_first _ _ _ _ c.in_err-take_sign.ensures.misses start (standing.before_it stands))
-
-pub statements::body-returns-in_err-take_sign-2-clause-order : goal.statements::body-returns-in_err-take_sign-2-clause-order
-statements::body-returns-in_err-take_sign-2-clause-order t c =
-    handed_on _ c.from_residual-in_err-take_sign-2.result _ c.from_residual-in_err-take_sign-2.ensures.1
-    (λ start stands. missing_first _ _ _ _ c.in_err-take_sign-2.ensures.misses start (standing.after_parameters (standing.of_parameters stands c.in_ok-take_sign.ensures.takes) c.in_ok-parameters.ensures.reads))
+    (λ start stands. c.in_err-block.ensures.order start (standing.its_block (function_stands head.enters head.left stands head.opens head.reads head.closes) c.in_ok-deeper.ensures c.of_function-inner.ensures))
 
 pub statements::body-returns-in_err-take_word-clause-order : goal.statements::body-returns-in_err-take_word-clause-order
 statements::body-returns-in_err-take_word-clause-order t c =
-    let opens = enters_state c.args.tokens.now c.take_sign-2.new.self c.enter.new.self _ _ _ c.in_ok-begun.ensures.enters in
-    let same = turned c.args.tokens.now c.take_sign-2.new.self c.enter.new.self _ c.in_ok-begun.ensures.index c.in_ok-begun.ensures.line refl in
+    let head = c.in_ok-begun.ensures.reads in
     handed_on _ c.from_residual-in_err-take_word.result _ c.from_residual-in_err-take_word.ensures.1
-    (λ start stands. missing_first _ _ _ _ c.in_err-take_word.ensures.misses start (standing.after_block (standing.its_block (function_stands opens same.left stands c.in_ok-take_sign.ensures.takes c.in_ok-parameters.ensures.reads c.in_ok-take_sign-2.ensures.takes) c.in_ok-deeper.ensures c.of_function-inner.ensures) c.in_ok-block.ensures.reads))
+    (λ start stands. missing_first _ _ _ _ c.in_err-take_word.ensures.misses start (standing.after_block (standing.its_block (function_stands head.enters head.left stands head.opens head.reads head.closes) c.in_ok-deeper.ensures c.of_function-inner.ensures) c.in_ok-block.ensures.reads))
 
 pub statements::do_block-returns-clause-reads : goal.statements::do_block-returns-clause-reads
 statements::do_block-returns-clause-reads t c =
@@ -1240,7 +1334,10 @@ loops::for_loop-returns-in_err-line-clause-order t c =
 
 pub statements::function_statement-returns-clause-reads : goal.statements::function_statement-returns-clause-reads
 statements::function_statement-returns-clause-reads t c =
-    on_node _ c.define.ensures (λ out is. function_read _ _ _ _ _ _ _ _ _ c.in_ok-line.ensures.takes c.in_ok-name.ensures.reads (rw c.new.ensures.items at c.in_ok-number.ensures.reads) is)
+    let both = c.in_ok-name-2.ensures in
+    let number = read_by _ _ _ both.1 c.body-number.ensures.reads in
+    on_node _ c.define.ensures (λ out is. function_read _ _ _ _ _ _ _ _ _ c.in_ok-line.ensures.takes c.in_ok-name.ensures.reads (rw c.new.ensures.items at number)
+    (subst (λ name. Defines c.in_ok-line.line name.target c.in_ok-name-2.number out) both.0 is))
 
 pub statements::function_statement-returns-then-at_sign-clause-reads : goal.statements::function_statement-returns-then-at_sign-clause-reads
 statements::function_statement-returns-then-at_sign-clause-reads t c =
@@ -1261,14 +1358,16 @@ statements::function_statement-returns-then-at_sign-clause-refuses t c = λ next
     on_err c.method_statement.result (c.method_statement.ensures.refuses (c.at_sign.ensures.0 c.if-at_sign.true)) (λ fault refuses.
     method_statement_refused c.args.at fault _ _ _ _ _ c.in_ok-name.name c.in_ok-line.ensures.takes c.in_ok-name.ensures.reads c.in_ok-name.ensures.stops refuses)
 
-pub statements::function_statement-returns-in_err-number-clause-refuses : goal.statements::function_statement-returns-in_err-number-clause-refuses
-statements::function_statement-returns-in_err-number-clause-refuses t c = λ next.
-    let h : IfErr c.from_residual-in_err-number.result (RefusesBody c.args.at c.in_ok-line.line c.new.result.items (state c.args.tokens.now c.function_name.new.self) (state c.args.tokens.now c.body.new.parser)) = search rules in
-    on_err c.from_residual-in_err-number.result h (λ fault refuses.
-    function_body_refused c.args.at c.new.result.items fault _ _ _ _ _ c.in_ok-name.name c.in_ok-line.ensures.takes c.in_ok-name.ensures.reads c.in_ok-name.ensures.stops (untested _ _ c.if-at_sign.false c.at_sign.ensures) c.new.ensures.items refuses)
+pub statements::function_statement-returns-in_err-name-2-clause-refuses : goal.statements::function_statement-returns-in_err-name-2-clause-refuses
+statements::function_statement-returns-in_err-name-2-clause-refuses t c = λ next.
+    handed_on (RefusesStat c.args.at (state c.args.tokens.now c.args.parser.now) (state c.args.tokens.now c.body-number.new.parser)) c.from_residual-in_err-name-2.result _ c.from_residual-in_err-name-2.ensures.1
+    (function_body_refused c.args.at c.new.result.items _ _ _ _ _ _ c.in_ok-name.name c.in_ok-line.ensures.takes c.in_ok-name.ensures.reads c.in_ok-name.ensures.stops (untested _ _ c.if-at_sign.false c.at_sign.ensures) c.new.ensures.items (refused_by _ _ _ c.in_err-name-2.ensures c.body-number.ensures.refuses))
 
 pub statements::function_statement-returns-clause-refuses : goal.statements::function_statement-returns-clause-refuses
 statements::function_statement-returns-clause-refuses t c = λ next. on_memory _ _ c.define.result (λ k never none. absurd none) c.define.ensures
+
+pub statements::function_statement-returns-clause-forward : goal.statements::function_statement-returns-clause-forward
+statements::function_statement-returns-clause-forward t c = on_done c.define.result (advances_on _ _ _ _ c.in_ok-line.ensures.forward (advances_on _ _ _ _ c.in_ok-name.ensures.forward (done_by _ _ c.in_ok-name-2.ensures.1 c.body-number.ensures.forward)))
 
 pub statements::function_statement-returns-in_err-name-clause-order : goal.statements::function_statement-returns-in_err-name-clause-order
 statements::function_statement-returns-in_err-name-clause-order t c =
@@ -1279,10 +1378,10 @@ pub statements::function_statement-returns-then-at_sign-clause-order : goal.stat
 statements::function_statement-returns-then-at_sign-clause-order t c =
     on_err c.method_statement.result c.method_statement.ensures.order (λ fault breaks start stands. breaks start (standing.after_name stands c.in_ok-line.ensures.takes c.in_ok-name.ensures.reads))
 
-pub statements::function_statement-returns-in_err-number-clause-order : goal.statements::function_statement-returns-in_err-number-clause-order
-statements::function_statement-returns-in_err-number-clause-order t c =
-    handed_on _ c.from_residual-in_err-number.result _ c.from_residual-in_err-number.ensures.1
-    (λ start stands. c.in_err-number.ensures.order start (subst (λ first. standing.Stands start (standing.body c.args.at first) (state c.args.tokens.now c.function_name.new.self)) (sym c.new.ensures.items) (standing.named_body (standing.after_name stands c.in_ok-line.ensures.takes c.in_ok-name.ensures.reads))))
+pub statements::function_statement-returns-in_err-name-2-clause-order : goal.statements::function_statement-returns-in_err-name-2-clause-order
+statements::function_statement-returns-in_err-name-2-clause-order t c =
+    handed_on _ c.from_residual-in_err-name-2.result _ c.from_residual-in_err-name-2.ensures.1
+    (λ start stands. refused_by _ _ _ c.in_err-name-2.ensures c.body-number.ensures.order start (subst (λ first. standing.Stands start (standing.body c.args.at first) (state c.args.tokens.now c.function_name.new.self)) (sym c.new.ensures.items) (standing.named_body (standing.after_name stands c.in_ok-line.ensures.takes c.in_ok-name.ensures.reads))))
 
 pub statements::function_statement-returns-in_err-line-clause-order : goal.statements::function_statement-returns-in_err-line-clause-order
 statements::function_statement-returns-in_err-line-clause-order t c =
@@ -1291,11 +1390,15 @@ statements::function_statement-returns-in_err-line-clause-order t c =
 
 pub statements::if_statement-returns-clause-reads : goal.statements::if_statement-returns-clause-reads
 statements::if_statement-returns-clause-reads t c =
-    on_node _ c.if_node-2.ensures (λ out is. if_read _ _ _ _ _ _ _ _ _ _ c.in_ok-line.ensures.takes c.in_ok-arms.ensures.reads c.in_ok-take_word-3.ensures.takes c.new.ensures.items is)
+    on_node _ c.if_node.ensures (λ out is. if_read _ _ _ _ _ _ _ _ _ _ c.in_ok-line.ensures.takes c.in_ok-arms.ensures.reads c.in_ok-take_word.ensures.takes c.new.ensures.items is)
 
 pub statements::if_statement-returns-then-at_word-clause-reads : goal.statements::if_statement-returns-then-at_word-clause-reads
 statements::if_statement-returns-then-at_word-clause-reads t c =
-    on_node _ c.if_node.ensures (λ out is. if_else_read _ _ _ _ _ _ _ _ _ _ _ _ _ c.in_ok-line.ensures.takes c.in_ok-arms.ensures.reads c.in_ok-take_word.ensures.takes c.in_ok-otherwise.ensures.reads c.in_ok-take_word-2.ensures.takes is)
+    let after : AfterArms c.args.at c.in_ok-line.line c.in_ok-arms.arms.items (state c.args.tokens.now c.args.parser.now) (state c.args.tokens.now c.arms.new.parser) =
+    record { inside = (state c.args.tokens.now c.take_word.new.self); taken = c.in_ok-line.ensures.takes; reads = c.in_ok-arms.ensures.reads } in
+    let on : (out : Stmt) → ((s : State) → AfterArms c.args.at c.in_ok-line.line c.in_ok-arms.arms.items s (state c.args.tokens.now c.arms.new.parser) → ReadsStat c.args.at s out (state c.args.tokens.now c.else_statement.new.parser)) →
+    ReadsStat c.args.at (state c.args.tokens.now c.args.parser.now) out (state c.args.tokens.now c.else_statement.new.parser) = λ out reads. reads _ after in
+    on_ok c.else_statement.result c.else_statement.ensures.reads on
 
 pub statements::if_statement-returns-in_err-line-clause-refuses : goal.statements::if_statement-returns-in_err-line-clause-refuses
 statements::if_statement-returns-in_err-line-clause-refuses t c = λ next.
@@ -1307,36 +1410,74 @@ statements::if_statement-returns-in_err-arms-clause-refuses t c = λ next.
     let h : IfErr c.from_residual-in_err-arms.result (RefusesArms c.args.at (state c.args.tokens.now c.take_word.new.self) (state c.args.tokens.now c.arms.new.parser)) = search rules in
     on_err c.from_residual-in_err-arms.result h (λ fault refuses. arms_refused c.args.at _ _ _ _ fault c.in_ok-line.ensures.takes refuses)
 
-pub statements::if_statement-returns-in_err-take_word-3-clause-refuses : goal.statements::if_statement-returns-in_err-take_word-3-clause-refuses
-statements::if_statement-returns-in_err-take_word-3-clause-refuses t c = λ next.
-    let h : IfErr c.from_residual-in_err-take_word-3.result (OnAt (Misses (IsKind (Word word.End)) (state c.args.tokens.now c.arms.new.parser) (state c.args.tokens.now c.take_word-2.new.self))) = search rules in
-    on_err c.from_residual-in_err-take_word-3.result h (λ fault missed. end_refused c.args.at _ _ _ _ _ _ fault c.in_ok-line.ensures.takes c.in_ok-arms.ensures.reads c.in_ok-arms.ensures.stops (untested _ _ c.if-at_word.false c.at_word.ensures) missed)
+pub statements::if_statement-returns-in_err-take_word-clause-refuses : goal.statements::if_statement-returns-in_err-take_word-clause-refuses
+statements::if_statement-returns-in_err-take_word-clause-refuses t c = λ next.
+    let h : IfErr c.from_residual-in_err-take_word.result (OnAt (Misses (IsKind (Word word.End)) (state c.args.tokens.now c.arms.new.parser) (state c.args.tokens.now c.take_word-2.new.self))) = search rules in
+    on_err c.from_residual-in_err-take_word.result h (λ fault missed. end_refused c.args.at _ _ _ _ _ _ fault c.in_ok-line.ensures.takes c.in_ok-arms.ensures.reads c.in_ok-arms.ensures.stops (untested _ _ c.if-at_word.false c.at_word.ensures) missed)
 
 pub statements::if_statement-returns-clause-refuses : goal.statements::if_statement-returns-clause-refuses
-statements::if_statement-returns-clause-refuses t c = λ next. on_memory _ _ c.if_node-2.result (λ k never none. absurd none) c.if_node-2.ensures
+statements::if_statement-returns-clause-refuses t c = λ next. on_memory _ _ c.if_node.result (λ k never none. absurd none) c.if_node.ensures
 
 pub statements::if_statement-returns-then-at_word-clause-refuses : goal.statements::if_statement-returns-then-at_word-clause-refuses
-statements::if_statement-returns-then-at_word-clause-refuses t c = λ next. on_memory _ _ c.if_node.result (λ k never none. absurd none) c.if_node.ensures
+statements::if_statement-returns-then-at_word-clause-refuses t c = λ next.
+    let after : AfterArms c.args.at c.in_ok-line.line c.in_ok-arms.arms.items (state c.args.tokens.now c.args.parser.now) (state c.args.tokens.now c.arms.new.parser) =
+    record { inside = (state c.args.tokens.now c.take_word.new.self); taken = c.in_ok-line.ensures.takes; reads = c.in_ok-arms.ensures.reads } in
+    on_err c.else_statement.result (c.else_statement.ensures.refuses (c.at_word.ensures.0 c.if-at_word.true)) (λ fault refuses. refuses _ after)
 
-pub statements::if_statement-returns-in_err-otherwise-clause-refuses : goal.statements::if_statement-returns-in_err-otherwise-clause-refuses
-statements::if_statement-returns-in_err-otherwise-clause-refuses t c = λ next.
-    let h : IfErr c.from_residual-in_err-otherwise.result (RefusesScoped c.args.at (state c.args.tokens.now c.take_word-then-at_word.new.self) (state c.args.tokens.now c.scoped.new.parser)) = search rules in
-    on_err c.from_residual-in_err-otherwise.result h (λ fault refuses. else_refused c.args.at _ _ _ _ _ _ _ _ fault c.in_ok-line.ensures.takes c.in_ok-arms.ensures.reads c.in_ok-take_word.ensures.takes refuses)
+pub statements::if_statement-returns-then-at_word-clause-order : goal.statements::if_statement-returns-then-at_word-clause-order
+statements::if_statement-returns-then-at_word-clause-order t c =
+    let after : AfterArms c.args.at c.in_ok-line.line c.in_ok-arms.arms.items (state c.args.tokens.now c.args.parser.now) (state c.args.tokens.now c.arms.new.parser) =
+    record { inside = (state c.args.tokens.now c.take_word.new.self); taken = c.in_ok-line.ensures.takes; reads = c.in_ok-arms.ensures.reads } in
+    on_err c.else_statement.result c.else_statement.ensures.order (λ fault breaks. breaks _ after)
 
-pub statements::if_statement-returns-in_err-take_word-2-clause-refuses : goal.statements::if_statement-returns-in_err-take_word-2-clause-refuses
-statements::if_statement-returns-in_err-take_word-2-clause-refuses t c = λ next.
-    let h : IfErr c.from_residual-in_err-take_word-2.result (OnAt (Misses (IsKind (Word word.End)) (state c.args.tokens.now c.scoped.new.parser) (state c.args.tokens.now c.take_word-then-at_word-2.new.self))) = search rules in
-    on_err c.from_residual-in_err-take_word-2.result h (λ fault missed. else_end_refused c.args.at _ _ _ _ _ _ _ _ _ _ fault c.in_ok-line.ensures.takes c.in_ok-arms.ensures.reads c.in_ok-take_word.ensures.takes c.in_ok-otherwise.ensures.reads missed)
+pub statements::else_statement-returns-clause-reads : goal.statements::else_statement-returns-clause-reads
+statements::else_statement-returns-clause-reads t c =
+    let on : (out : Stmt) → IsIf c.args.line c.args.arms.items c.in_ok-otherwise.otherwise.items out → (s : State) → AfterArms c.args.at c.args.line c.args.arms.items s (state c.args.tokens.now c.args.parser.now) →
+    ReadsStat c.args.at s out (state c.args.tokens.now c.take_word-2.new.self) =
+    λ out is s after. if_else_read _ _ _ _ _ _ _ _ _ _ _ _ _ after.taken after.reads c.in_ok-take_word.ensures.takes c.in_ok-otherwise.ensures.reads c.in_ok-take_word-2.ensures.takes is in
+    on_node c.if_node.result c.if_node.ensures on
+
+pub statements::else_statement-returns-in_err-take_word-clause-refuses : goal.statements::else_statement-returns-in_err-take_word-clause-refuses
+statements::else_statement-returns-in_err-take_word-clause-refuses t c = λ next.
+    handed_on (RefusesElse c.args.at c.args.line c.args.arms.items (state c.args.tokens.now c.args.parser.now) (state c.args.tokens.now c.take_word.new.self)) c.from_residual.result _ c.from_residual.ensures.1
+    (never_there (IsKind (Word word.Else)) (RefusesElse c.args.at c.args.line c.args.arms.items (state c.args.tokens.now c.args.parser.now) (state c.args.tokens.now c.take_word.new.self)) _ _ _ c.in_err-take_word.ensures.misses next (λ s after k never none. absurd none))
+
+pub statements::else_statement-returns-in_err-otherwise-clause-refuses : goal.statements::else_statement-returns-in_err-otherwise-clause-refuses
+statements::else_statement-returns-in_err-otherwise-clause-refuses t c = λ next.
+    handed_on (RefusesElse c.args.at c.args.line c.args.arms.items (state c.args.tokens.now c.args.parser.now) (state c.args.tokens.now c.scoped.new.parser)) c.from_residual-in_err-otherwise.result _ c.from_residual-in_err-otherwise.ensures.1
+    (λ s after. else_refused c.args.at _ _ _ _ _ _ _ _ _ after.taken after.reads c.in_ok-take_word.ensures.takes c.in_err-otherwise.ensures.refuses)
+
+pub statements::else_statement-returns-in_err-take_word-2-clause-refuses : goal.statements::else_statement-returns-in_err-take_word-2-clause-refuses
+statements::else_statement-returns-in_err-take_word-2-clause-refuses t c = λ next.
+    handed_on (RefusesElse c.args.at c.args.line c.args.arms.items (state c.args.tokens.now c.args.parser.now) (state c.args.tokens.now c.take_word-2.new.self)) c.from_residual-in_err-take_word-2.result _ c.from_residual-in_err-take_word-2.ensures.1
+    (λ s after. else_end_refused c.args.at _ _ _ _ _ _ _ _ _ _ _ after.taken after.reads c.in_ok-take_word.ensures.takes c.in_ok-otherwise.ensures.reads c.in_err-take_word-2.ensures.misses)
+
+pub statements::else_statement-returns-clause-refuses : goal.statements::else_statement-returns-clause-refuses
+statements::else_statement-returns-clause-refuses t c = λ next. on_memory _ _ c.if_node.result (λ s after k never none. absurd none) c.if_node.ensures
+
+pub statements::else_statement-returns-in_err-take_word-clause-order : goal.statements::else_statement-returns-in_err-take_word-clause-order
+statements::else_statement-returns-in_err-take_word-clause-order t c =
+    handed_on _ c.from_residual.result _ c.from_residual.ensures.1
+    (λ s after start stands. missing_first _ _ _ _ c.in_err-take_word.ensures.misses start (standing.after_arms (standing.if_arms stands after.taken) (after.reads 1)))
+
+pub statements::else_statement-returns-in_err-otherwise-clause-order : goal.statements::else_statement-returns-in_err-otherwise-clause-order
+statements::else_statement-returns-in_err-otherwise-clause-order t c =
+    handed_on _ c.from_residual-in_err-otherwise.result _ c.from_residual-in_err-otherwise.ensures.1
+    (λ s after start stands. c.in_err-otherwise.ensures.order start (standing.else_block stands after.taken after.reads c.in_ok-take_word.ensures.takes))
+
+pub statements::else_statement-returns-in_err-take_word-2-clause-order : goal.statements::else_statement-returns-in_err-take_word-2-clause-order
+statements::else_statement-returns-in_err-take_word-2-clause-order t c =
+    handed_on _ c.from_residual-in_err-take_word-2.result _ c.from_residual-in_err-take_word-2.ensures.1
+    (λ s after start stands. missing_first _ _ _ _ c.in_err-take_word-2.ensures.misses start
+    (standing.after_inner_block (standing.else_block stands after.taken after.reads c.in_ok-take_word.ensures.takes) c.in_ok-otherwise.ensures.reads))
+
+pub statements::else_statement-returns-clause-order : goal.statements::else_statement-returns-clause-order
+statements::else_statement-returns-clause-order t c = on_memory _ _ c.if_node.result (λ s after start stands. tt) c.if_node.ensures
 
 pub statements::if_statement-returns-in_err-arms-clause-order : goal.statements::if_statement-returns-in_err-arms-clause-order
 statements::if_statement-returns-in_err-arms-clause-order t c =
     handed_on _ c.from_residual-in_err-arms.result _ c.from_residual-in_err-arms.ensures.1
     (λ start stands. c.in_err-arms.ensures.order start (standing.if_arms stands c.in_ok-line.ensures.takes))
-
-pub statements::if_statement-returns-in_err-otherwise-clause-order : goal.statements::if_statement-returns-in_err-otherwise-clause-order
-statements::if_statement-returns-in_err-otherwise-clause-order t c =
-    handed_on _ c.from_residual-in_err-otherwise.result _ c.from_residual-in_err-otherwise.ensures.1
-    (λ start stands. c.in_err-otherwise.ensures.order start (standing.else_block stands c.in_ok-line.ensures.takes c.in_ok-arms.ensures.reads c.in_ok-take_word.ensures.takes))
 
 pub statements::if_statement-returns-in_err-line-clause-order : goal.statements::if_statement-returns-in_err-line-clause-order
 statements::if_statement-returns-in_err-line-clause-order t c =
@@ -1347,16 +1488,6 @@ pub statements::if_statement-returns-in_err-take_word-clause-order : goal.statem
 statements::if_statement-returns-in_err-take_word-clause-order t c =
     handed_on _ c.from_residual-in_err-take_word.result _ c.from_residual-in_err-take_word.ensures.1
     (λ start stands. missing_first _ _ _ _ c.in_err-take_word.ensures.misses start (standing.after_arms (standing.if_arms stands c.in_ok-line.ensures.takes) (c.in_ok-arms.ensures.reads 1)))
-
-pub statements::if_statement-returns-in_err-take_word-3-clause-order : goal.statements::if_statement-returns-in_err-take_word-3-clause-order
-statements::if_statement-returns-in_err-take_word-3-clause-order t c =
-    handed_on _ c.from_residual-in_err-take_word-3.result _ c.from_residual-in_err-take_word-3.ensures.1
-    (λ start stands. missing_first _ _ _ _ c.in_err-take_word-3.ensures.misses start (standing.after_arms (standing.if_arms stands c.in_ok-line.ensures.takes) (c.in_ok-arms.ensures.reads 1)))
-
-pub statements::if_statement-returns-in_err-take_word-2-clause-order : goal.statements::if_statement-returns-in_err-take_word-2-clause-order
-statements::if_statement-returns-in_err-take_word-2-clause-order t c =
-    handed_on _ c.from_residual-in_err-take_word-2.result _ c.from_residual-in_err-take_word-2.ensures.1
-    (λ start stands. missing_first _ _ _ _ c.in_err-take_word-2.ensures.misses start (standing.after_inner_block (standing.else_block stands c.in_ok-line.ensures.takes c.in_ok-arms.ensures.reads c.in_ok-take_word.ensures.takes) c.in_ok-otherwise.ensures.reads))
 
 pub statements::initial-returns-clause-reads : goal.statements::initial-returns-clause-reads
 statements::initial-returns-clause-reads t c =
@@ -1591,8 +1722,8 @@ statements::local_statement-returns-in_err-line-clause-order t c =
 pub loops::loop_block-returns-clause-reads : goal.loops::loop_block-returns-clause-reads
 loops::loop_block-returns-clause-reads t c =
     loop_read _ _ _ _ _ _ _ _ _ _ _ _ _ c.in_ok-take_word.ensures.takes (declared c.args.tokens.now c.take_word.new.self c.declare.new.self _ c.in_ok-slots.ensures.scope c.in_ok-slots.ensures.index c.in_ok-slots.ensures.line)
-    (slots_state c.args.tokens.now c.take_word.new.self _ _ c.in_ok-slots.ensures.slots) c.looped.ensures c.in_ok-inner.ensures c.in_ok-body.ensures.reads
-    (left_since c.args.tokens.now c.take_word.new.self c.block.new.parser c.leave.new.self c.in_scope-count.result c.in_scope-count.ensures.value c.leave.ensures.scope c.leave.ensures.index c.leave.ensures.line) c.in_ok-take_word-2.ensures.takes
+    (slots_state c.args.tokens.now c.take_word.new.self _ _ c.in_ok-slots.ensures.slots) c.looped.ensures c.in_ok-body.ensures.reads.within c.in_ok-body.ensures.reads.reads
+    (left_since c.args.tokens.now c.take_word.new.self c.inner_block.new.parser c.leave.new.self c.in_scope-count.result c.in_scope-count.ensures.value c.leave.ensures.scope c.leave.ensures.index c.leave.ensures.line) c.in_ok-take_word-2.ensures.takes
 
 pub loops::loop_block-returns-in_err-take_word-clause-refuses : goal.loops::loop_block-returns-in_err-take_word-clause-refuses
 loops::loop_block-returns-in_err-take_word-clause-refuses t c =
@@ -1606,44 +1737,29 @@ loops::loop_block-returns-in_err-slots-clause-refuses t c =
     loop_crowded c.args.at c.args.names.items _ fault _ _ _ _ _ (innermost c.args.tokens.now c.args.parser.now) c.in_ok-take_word.ensures.takes
     (unread c.args.tokens.now c.take_word.new.self c.declare.new.self c.in_err-slots.ensures.index) (crowded_there c.args.tokens.now c.take_word.new.self _ fault crowded))
 
-pub loops::loop_block-returns-in_err-inner-clause-refuses : goal.loops::loop_block-returns-in_err-inner-clause-refuses
-loops::loop_block-returns-in_err-inner-clause-refuses t c =
-    let h : IfErr c.from_residual-in_err-inner.result (IsTooDeep c.looped.result (state c.args.tokens.now c.declare.new.self)) = search rules in
-    on_err c.from_residual-in_err-inner.result h (λ fault deep.
-    loop_too_deep c.args.at c.looped.result c.args.names.items _ fault _ _ _ c.in_ok-take_word.ensures.takes
-    (unread c.args.tokens.now c.take_word.new.self c.declare.new.self c.in_ok-slots.ensures.index) c.looped.ensures deep)
-
 pub loops::loop_block-returns-in_err-body-clause-refuses : goal.loops::loop_block-returns-in_err-body-clause-refuses
 loops::loop_block-returns-in_err-body-clause-refuses t c =
-    let h : IfErr c.from_residual-in_err-body.result (RefusesBlock c.in_ok-inner.inner (state c.args.tokens.now c.declare.new.self) (state c.args.tokens.now c.block.new.parser)) = search rules in
-    on_err c.from_residual-in_err-body.result h (λ fault refuses.
-    loop_refused c.args.at c.looped.result c.in_ok-inner.inner c.args.names.items _ fault _ _ _ _ c.in_ok-take_word.ensures.takes
-    (declared c.args.tokens.now c.take_word.new.self c.declare.new.self _ c.in_ok-slots.ensures.scope c.in_ok-slots.ensures.index c.in_ok-slots.ensures.line) c.looped.ensures c.in_ok-inner.ensures refuses)
+    handed_on (RefusesLoop c.args.at c.args.names.items (state c.args.tokens.now c.args.parser.now) (state c.args.tokens.now c.inner_block.new.parser)) c.from_residual-in_err-body.result _ c.from_residual-in_err-body.ensures.1
+    (loop_inner c.args.at c.looped.result c.args.names.items _ _ _ _ _ _ c.in_ok-take_word.ensures.takes (declared c.args.tokens.now c.take_word.new.self c.declare.new.self _ c.in_ok-slots.ensures.scope c.in_ok-slots.ensures.index c.in_ok-slots.ensures.line) c.looped.ensures c.in_err-body.ensures.refuses)
 
 pub loops::loop_block-returns-in_err-take_word-2-clause-refuses : goal.loops::loop_block-returns-in_err-take_word-2-clause-refuses
 loops::loop_block-returns-in_err-take_word-2-clause-refuses t c =
     let h : IfErr c.from_residual-in_err-take_word-2.result (OnAt (Misses (IsKind (Word word.End)) (state c.args.tokens.now c.leave.new.self) (state c.args.tokens.now c.take_word-2.new.self))) = search rules in
     on_err c.from_residual-in_err-take_word-2.result h (λ fault missing.
-    loop_without_end c.args.at c.in_ok-inner.inner c.args.names.items _ fault _ _ _ _ _ _ _ c.in_ok-take_word.ensures.takes
-    (unread c.args.tokens.now c.take_word.new.self c.declare.new.self c.in_ok-slots.ensures.index) c.in_ok-body.ensures.reads
-    (unread c.args.tokens.now c.block.new.parser c.leave.new.self c.leave.ensures.index) missing)
+    loop_without_end c.args.at c.in_ok-body.ensures.reads.inner c.args.names.items _ fault _ _ _ _ _ _ _ c.in_ok-take_word.ensures.takes
+    (unread c.args.tokens.now c.take_word.new.self c.declare.new.self c.in_ok-slots.ensures.index) c.in_ok-body.ensures.reads.reads
+    (unread c.args.tokens.now c.inner_block.new.parser c.leave.new.self c.leave.ensures.index) missing)
 
 pub loops::loop_block-returns-in_err-slots-clause-order : goal.loops::loop_block-returns-in_err-slots-clause-order
 loops::loop_block-returns-in_err-slots-clause-order t c =
     λ few. handed_on _ c.from_residual-in_err-slots.result _ c.from_residual-in_err-slots.ensures.1
     (λ start stands. counted_before start (state c.args.tokens.now c.declare.new.self) _ _ c.in_err-slots.ensures.crowded (few_in_loop c.args.tokens.now c.args.parser.now c.take_word.new.self _ _ _ few c.in_ok-take_word.ensures.takes))
 
-pub loops::loop_block-returns-in_err-inner-clause-order : goal.loops::loop_block-returns-in_err-inner-clause-order
-loops::loop_block-returns-in_err-inner-clause-order t c =
-    λ few. let turn = declared c.args.tokens.now c.take_word.new.self c.declare.new.self _ c.in_ok-slots.ensures.scope c.in_ok-slots.ensures.index c.in_ok-slots.ensures.line in
-    handed_on _ c.from_residual-in_err-inner.result _ c.from_residual-in_err-inner.ensures.1
-    (λ start stands. deep_breaks _ _ _ _ (few_there _ _) c.in_err-inner.ensures start (standing.loop_block stands c.in_ok-take_word.ensures.takes (record { left = turn.left; scope = turn.scope }) c.looped.ensures))
-
 pub loops::loop_block-returns-in_err-body-clause-order : goal.loops::loop_block-returns-in_err-body-clause-order
 loops::loop_block-returns-in_err-body-clause-order t c =
     λ few. let turn = declared c.args.tokens.now c.take_word.new.self c.declare.new.self _ c.in_ok-slots.ensures.scope c.in_ok-slots.ensures.index c.in_ok-slots.ensures.line in
     handed_on _ c.from_residual-in_err-body.result _ c.from_residual-in_err-body.ensures.1
-    (λ start stands. c.in_err-body.ensures.order start (standing.inside (standing.loop_block stands c.in_ok-take_word.ensures.takes (record { left = turn.left; scope = turn.scope }) c.looped.ensures) c.in_ok-inner.ensures))
+    (λ start stands. c.in_err-body.ensures.order start (standing.loop_block stands c.in_ok-take_word.ensures.takes (record { left = turn.left; scope = turn.scope }) c.looped.ensures))
 
 pub loops::loop_block-returns-in_err-take_word-clause-order : goal.loops::loop_block-returns-in_err-take_word-clause-order
 loops::loop_block-returns-in_err-take_word-clause-order t c =
@@ -1653,45 +1769,58 @@ loops::loop_block-returns-in_err-take_word-clause-order t c =
 pub loops::loop_block-returns-in_err-take_word-2-clause-order : goal.loops::loop_block-returns-in_err-take_word-2-clause-order
 loops::loop_block-returns-in_err-take_word-2-clause-order t c =
     λ few. let turn = declared c.args.tokens.now c.take_word.new.self c.declare.new.self _ c.in_ok-slots.ensures.scope c.in_ok-slots.ensures.index c.in_ok-slots.ensures.line in
-    let left = left_since c.args.tokens.now c.take_word.new.self c.block.new.parser c.leave.new.self c.in_scope-count.result c.in_scope-count.ensures.value c.leave.ensures.scope c.leave.ensures.index c.leave.ensures.line in
+    let left = left_since c.args.tokens.now c.take_word.new.self c.inner_block.new.parser c.leave.new.self c.in_scope-count.result c.in_scope-count.ensures.value c.leave.ensures.scope c.leave.ensures.index c.leave.ensures.line in
     handed_on _ c.from_residual-in_err-take_word-2.result _ c.from_residual-in_err-take_word-2.ensures.1
-    (λ start stands. missing_first _ _ _ _ c.in_err-take_word-2.ensures.misses start (standing.after_loop (state c.args.tokens.now c.take_word.new.self).scope (standing.after_block (standing.inside (standing.loop_block stands c.in_ok-take_word.ensures.takes (record { left = turn.left; scope = turn.scope }) c.looped.ensures) c.in_ok-inner.ensures) c.in_ok-body.ensures.reads) left.left left.scope))
+    (λ start stands. missing_first _ _ _ _ c.in_err-take_word-2.ensures.misses start
+    (standing.after_loop (state c.args.tokens.now c.take_word.new.self).scope (standing.after_block (standing.inside (standing.loop_block stands c.in_ok-take_word.ensures.takes (record { left = turn.left; scope = turn.scope }) c.looped.ensures) c.in_ok-body.ensures.reads.within) c.in_ok-body.ensures.reads.reads) left.left left.scope))
 
 pub statements::method_statement-returns-clause-reads : goal.statements::method_statement-returns-clause-reads
 statements::method_statement-returns-clause-reads t c =
-    let first : c.in_ok-first.first.items ≡ self_name ∷ [] = search rules in
-    on_node _ c.define.ensures (method_read _ _ _ _ _ _ _ _ _ c.in_ok-name.ensures.reads first c.in_ok-number.ensures.reads)
+    let named = c.in_ok-name-2.ensures in
+    let first : c.in_ok-name-2.first.items ≡ self_name ∷ [] = node_by _ _ _ _ named.1 c.self_alone.ensures in
+    let both = c.in_ok-name-3.ensures in
+    on_node _ c.define.ensures (λ out is. method_read _ _ _ _ _ _ _ _ _ c.in_ok-name.ensures.reads first (read_by _ _ _ both.1 c.body.ensures.reads) out
+    (subst (λ name. Defines c.args.line name.target c.in_ok-name-3.number out) (both.0 ∙ named.0) is))
 
 pub statements::method_statement-returns-in_err-name-clause-refuses : goal.statements::method_statement-returns-in_err-name-clause-refuses
 statements::method_statement-returns-in_err-name-clause-refuses t c = λ next.
     let h : IfErr c.from_residual.result (MissesMember Colon c.args.object.height (state c.args.tokens.now c.args.parser.now) (state c.args.tokens.now c.name_member.new.self)) = search rules in
     on_err c.from_residual.result h (λ fault missed. method_unnamed c.args.at c.args.line fault _ _ c.args.object next missed)
 
-pub statements::method_statement-returns-in_err-first-clause-refuses : goal.statements::method_statement-returns-in_err-first-clause-refuses
-statements::method_statement-returns-in_err-first-clause-refuses t c = λ next.
-    let h : IfErr c.from_residual-in_err-first.result IsMemory = search rules in
-    on_want _ c.from_residual-in_err-first.result (λ s read k never none. absurd none) h
+pub statements::method_statement-returns-in_err-name-2-clause-refuses : goal.statements::method_statement-returns-in_err-name-2-clause-refuses
+statements::method_statement-returns-in_err-name-2-clause-refuses t c = λ next.
+    handed_on _ c.from_residual-in_err-name-2.result _ c.from_residual-in_err-name-2.ensures.1
+    (subst (RefusesMethod c.args.at c.args.line c.args.object (state c.args.tokens.now c.args.parser.now) (state c.args.tokens.now c.name_member.new.self)) (sym (memory_by _ _ _ c.in_err-name-2.ensures c.self_alone.ensures)) (λ s read k never none. absurd none))
 
-pub statements::method_statement-returns-in_err-number-clause-refuses : goal.statements::method_statement-returns-in_err-number-clause-refuses
-statements::method_statement-returns-in_err-number-clause-refuses t c = λ next.
-    let first : c.in_ok-first.first.items ≡ self_name ∷ [] = search rules in
-    let h : IfErr c.from_residual-in_err-number.result (RefusesBody c.args.at c.args.line c.in_ok-first.first.items (state c.args.tokens.now c.name_member.new.self) (state c.args.tokens.now c.body.new.parser)) = search rules in
-    on_err c.from_residual-in_err-number.result h (λ fault refuses.
-    method_body_refused c.args.at c.args.line c.in_ok-first.first.items fault _ _ _ c.args.object c.in_ok-name.name c.in_ok-name.ensures.reads first refuses)
+pub statements::method_statement-returns-in_err-name-3-clause-refuses : goal.statements::method_statement-returns-in_err-name-3-clause-refuses
+statements::method_statement-returns-in_err-name-3-clause-refuses t c = λ next.
+    let named = c.in_ok-name-2.ensures in
+    let first : c.in_ok-name-2.first.items ≡ self_name ∷ [] = node_by _ _ _ _ named.1 c.self_alone.ensures in
+    handed_on (RefusesMethod c.args.at c.args.line c.args.object (state c.args.tokens.now c.args.parser.now) (state c.args.tokens.now c.body.new.parser)) c.from_residual-in_err-name-3.result _ c.from_residual-in_err-name-3.ensures.1
+    (method_body_refused c.args.at c.args.line c.in_ok-name-2.first.items _ _ _ _ c.args.object c.in_ok-name.name c.in_ok-name.ensures.reads first (refused_by _ _ _ c.in_err-name-3.ensures c.body.ensures.refuses))
 
 pub statements::method_statement-returns-clause-refuses : goal.statements::method_statement-returns-clause-refuses
 statements::method_statement-returns-clause-refuses t c = λ next. on_memory _ _ c.define.result (λ s read k never none. absurd none) c.define.ensures
+
+pub statements::method_statement-returns-clause-forward : goal.statements::method_statement-returns-clause-forward
+statements::method_statement-returns-clause-forward t c = on_done c.define.result (advances_on _ _ _ _ c.in_ok-name.ensures.forward (done_by _ _ c.in_ok-name-3.ensures.1 c.body.ensures.forward))
 
 pub statements::method_statement-returns-in_err-name-clause-order : goal.statements::method_statement-returns-in_err-name-clause-order
 statements::method_statement-returns-in_err-name-clause-order t c =
     handed_on _ c.from_residual.result _ c.from_residual.ensures.1
     (method_breaks c.args.at c.args.object _ _ _ (few_there _ _) c.in_err-name.ensures.misses)
 
-pub statements::method_statement-returns-in_err-number-clause-order : goal.statements::method_statement-returns-in_err-number-clause-order
-statements::method_statement-returns-in_err-number-clause-order t c =
-    let first : c.in_ok-first.first.items ≡ self_name ∷ [] = search rules in
-    handed_on _ c.from_residual-in_err-number.result _ c.from_residual-in_err-number.ensures.1
-    (λ start stands. c.in_err-number.ensures.order start (subst (λ first. standing.Stands start (standing.body c.args.at first) (state c.args.tokens.now c.name_member.new.self)) (sym first) (standing.method_body stands c.in_ok-name.ensures.reads)))
+pub statements::method_statement-returns-in_err-name-2-clause-order : goal.statements::method_statement-returns-in_err-name-2-clause-order
+statements::method_statement-returns-in_err-name-2-clause-order t c =
+    handed_on _ c.from_residual-in_err-name-2.result _ c.from_residual-in_err-name-2.ensures.1
+    (subst (FirstFault (standing.function_tail c.args.at c.args.object) (state c.args.tokens.now c.args.parser.now) (state c.args.tokens.now c.name_member.new.self)) (sym (memory_by _ _ _ c.in_err-name-2.ensures c.self_alone.ensures)) (λ start stands. tt))
+
+pub statements::method_statement-returns-in_err-name-3-clause-order : goal.statements::method_statement-returns-in_err-name-3-clause-order
+statements::method_statement-returns-in_err-name-3-clause-order t c =
+    let named = c.in_ok-name-2.ensures in
+    let first : c.in_ok-name-2.first.items ≡ self_name ∷ [] = node_by _ _ _ _ named.1 c.self_alone.ensures in
+    handed_on _ c.from_residual-in_err-name-3.result _ c.from_residual-in_err-name-3.ensures.1
+    (λ start stands. refused_by _ _ _ c.in_err-name-3.ensures c.body.ensures.order start (subst (λ first. standing.Stands start (standing.body c.args.at first) (state c.args.tokens.now c.name_member.new.self)) (sym first) (standing.method_body stands c.in_ok-name.ensures.reads)))
 
 pub statements::prefix_statement-returns-in-Call-clause-reads : goal.statements::prefix_statement-returns-in-Call-clause-reads
 statements::prefix_statement-returns-in-Call-clause-reads t c =
@@ -1744,7 +1873,13 @@ statements::prefix_statement-returns-in-Paren-clause-order t c =
 pub loops::range_loop-returns-clause-reads : goal.loops::range_loop-returns-clause-reads
 loops::range_loop-returns-clause-reads t c =
     let one : length c.args.names.items ≡ 1 = search rules in
-    on_node _ c.numeric_for.ensures (range_read _ _ _ _ _ _ _ _ _ _ _ _ _ _ _ _ one c.in_ok-take_sign.ensures.takes c.in_ok-from.ensures.reads c.in_ok-take_sign-2.ensures.takes c.in_ok-to.ensures.reads c.in_ok-step.ensures.reads c.in_ok-block.ensures.reads)
+    let range = c.in_ok-range.ensures.reads in
+    let both = c.in_ok-range-2.ensures in
+    on_node _ c.numeric_for.ensures (λ out is. range_read _ _ _ _ _ _ _ _ _ _ _ _ _ _ _ _ one range.equals range.from range.comma range.to range.step (read_by _ _ _ both.1 c.loop_block-block.ensures.reads) out
+    (subst (λ range. IsNumericFor c.args.line range c.in_ok-range-2.block out) both.0 is))
+
+pub loops::range_loop-returns-clause-forward : goal.loops::range_loop-returns-clause-forward
+loops::range_loop-returns-clause-forward t c = on_done c.numeric_for.result (advances_on _ _ _ _ c.in_ok-range.ensures.forward (done_by _ _ c.in_ok-range-2.ensures.1 c.loop_block-block.ensures.forward))
 
 pub loops::range_loop-returns-then-len-ne1-clause-refuses : goal.loops::range_loop-returns-then-len-ne1-clause-refuses
 loops::range_loop-returns-then-len-ne1-clause-refuses t c = λ next.
@@ -1752,79 +1887,105 @@ loops::range_loop-returns-then-len-ne1-clause-refuses t c = λ next.
     subst (RefusesFor c.args.at c.args.names.items (state c.args.tokens.now c.args.parser.now) (state c.args.tokens.now c.args.parser.now)) (sym c.unfit.ensures)
     (many_names c.args.at c.args.names.items c.args.tokens.now c.args.parser.now many next)
 
-pub loops::range_loop-returns-in_err-from-clause-refuses : goal.loops::range_loop-returns-in_err-from-clause-refuses
-loops::range_loop-returns-in_err-from-clause-refuses t c = λ next.
+pub loops::range_loop-returns-in_err-range-clause-refuses : goal.loops::range_loop-returns-in_err-range-clause-refuses
+loops::range_loop-returns-in_err-range-clause-refuses t c = λ next.
     let one : length c.args.names.items ≡ 1 = search rules in
+    handed_on (RefusesFor c.args.at c.args.names.items (state c.args.tokens.now c.args.parser.now) (state c.args.tokens.now c.range.new.parser)) c.from_residual.result _ c.from_residual.ensures.1 (c.in_err-range.ensures.refuses c.args.names.items one next)
+
+pub loops::range-returns-in_err-from-clause-refuses : goal.loops::range-returns-in_err-from-clause-refuses
+loops::range-returns-in_err-from-clause-refuses t c = λ names one next.
     let h : IfErr c.from_residual-in_err-from.result (RefusesValue c.args.at (state c.args.tokens.now c.take_sign.new.self) (state c.args.tokens.now c.value.new.parser)) = search rules in
-    on_err c.from_residual-in_err-from.result h (λ fault refuses. one_name c.args.at c.args.names.items _ _ fault one (λ f l n is.
+    on_err c.from_residual-in_err-from.result h (λ fault refuses. one_name c.args.at names _ _ fault one (λ f l n is.
     range_from_refused c.args.at f l n _ fault _ _ _ c.in_ok-take_sign.ensures.takes refuses))
 
-pub loops::range_loop-returns-in_err-take_sign-2-clause-refuses : goal.loops::range_loop-returns-in_err-take_sign-2-clause-refuses
-loops::range_loop-returns-in_err-take_sign-2-clause-refuses t c = λ next.
-    let one : length c.args.names.items ≡ 1 = search rules in
-    let h : IfErr c.from_residual-in_err-take_sign-2.result (OnAt (Misses (IsKind (Sign sign.Comma)) (state c.args.tokens.now c.value.new.parser) (state c.args.tokens.now c.take_sign-2.new.self))) = search rules in
-    on_err c.from_residual-in_err-take_sign-2.result h (λ fault refuses. one_name c.args.at c.args.names.items _ _ fault one (λ f l n is.
-    range_without_comma c.args.at f l n _ fault _ _ _ _ _ c.in_ok-take_sign.ensures.takes c.in_ok-from.ensures.reads refuses))
+pub loops::range-returns-in_err-from-2-clause-refuses : goal.loops::range-returns-in_err-from-2-clause-refuses
+loops::range-returns-in_err-from-2-clause-refuses t c = λ names one next.
+    handed_on (RefusesFor c.args.at names (state c.args.tokens.now c.args.parser.now) (state c.args.tokens.now c.take_sign-2.new.self)) c.from_residual-in_err-from-2.result _ c.from_residual-in_err-from-2.ensures.1
+    (one_name c.args.at names _ _ _ one (λ f l n is.
+    range_without_comma c.args.at f l n _ _ _ _ _ _ _ c.in_ok-take_sign.ensures.takes c.in_ok-from.ensures.reads (refused_by _ _ _ c.in_err-from-2.ensures c.take_sign-2.ensures.misses)))
 
-pub loops::range_loop-returns-in_err-to-clause-refuses : goal.loops::range_loop-returns-in_err-to-clause-refuses
-loops::range_loop-returns-in_err-to-clause-refuses t c = λ next.
-    let one : length c.args.names.items ≡ 1 = search rules in
-    let h : IfErr c.from_residual-in_err-to.result (RefusesValue c.args.at (state c.args.tokens.now c.take_sign-2.new.self) (state c.args.tokens.now c.value-2.new.parser)) = search rules in
-    on_err c.from_residual-in_err-to.result h (λ fault refuses. one_name c.args.at c.args.names.items _ _ fault one (λ f l n is.
-    range_to_refused c.args.at f l n _ _ fault _ _ _ _ _ _ c.in_ok-take_sign.ensures.takes c.in_ok-from.ensures.reads c.in_ok-take_sign-2.ensures.takes refuses))
+pub loops::range-returns-in_err-from-3-clause-refuses : goal.loops::range-returns-in_err-from-3-clause-refuses
+loops::range-returns-in_err-from-3-clause-refuses t c = λ names one next.
+    handed_on (RefusesFor c.args.at names (state c.args.tokens.now c.args.parser.now) (state c.args.tokens.now c.value-2.new.parser)) c.from_residual-in_err-from-3.result _ c.from_residual-in_err-from-3.ensures.1
+    (one_name c.args.at names _ _ _ one (λ f l n is.
+    range_to_refused c.args.at f l n _ _ _ _ _ _ _ _ _ c.in_ok-take_sign.ensures.takes c.in_ok-from.ensures.reads (read_by _ _ _ c.in_ok-from-2.ensures.1 c.take_sign-2.ensures.takes) (refused_by _ _ _ c.in_err-from-3.ensures c.value-2.ensures.refuses)))
 
-pub loops::range_loop-returns-in_err-step-clause-refuses : goal.loops::range_loop-returns-in_err-step-clause-refuses
-loops::range_loop-returns-in_err-step-clause-refuses t c = λ next.
-    let one : length c.args.names.items ≡ 1 = search rules in
-    let p = err_from_is_err_and c.from_residual-in_err-step.result c.from_residual-in_err-step.ensures.1 in
-    let h : IfErr c.from_residual-in_err-step.result (RefusesStep c.args.at (state c.args.tokens.now c.value-2.new.parser) (state c.args.tokens.now c.step.new.parser)) = rw (p.1, p.2) (c.in_err-step.ensures.refuses) in
-    on_err c.from_residual-in_err-step.result h (λ fault refuses. one_name c.args.at c.args.names.items _ _ fault one (λ f l n is.
-    range_step_refused c.args.at f l n _ _ fault _ _ _ _ _ _ _ _ c.in_ok-take_sign.ensures.takes c.in_ok-from.ensures.reads c.in_ok-take_sign-2.ensures.takes c.in_ok-to.ensures.reads refuses))
+pub loops::range-returns-in_err-ends-clause-refuses : goal.loops::range-returns-in_err-ends-clause-refuses
+loops::range-returns-in_err-ends-clause-refuses t c = λ names one next.
+    handed_on (RefusesFor c.args.at names (state c.args.tokens.now c.args.parser.now) (state c.args.tokens.now c.step.new.parser)) c.from_residual-in_err-ends.result _ c.from_residual-in_err-ends.ensures.1
+    (one_name c.args.at names _ _ _ one (λ f l n is.
+    range_step_refused c.args.at f l n _ _ _ _ _ _ _ _ _ _ _ c.in_ok-take_sign.ensures.takes c.in_ok-from.ensures.reads (read_by _ _ _ c.in_ok-from-2.ensures.1 c.take_sign-2.ensures.takes) (read_by _ _ _ c.in_ok-from-3.ensures.1 c.value-2.ensures.reads) (refused_by _ _ _ c.in_err-ends.ensures c.step.ensures.refuses)))
 
-pub loops::range_loop-returns-in_err-block-clause-refuses : goal.loops::range_loop-returns-in_err-block-clause-refuses
-loops::range_loop-returns-in_err-block-clause-refuses t c = λ next.
+pub loops::range_loop-returns-in_err-range-2-clause-refuses : goal.loops::range_loop-returns-in_err-range-2-clause-refuses
+loops::range_loop-returns-in_err-range-2-clause-refuses t c = λ next.
     let one : length c.args.names.items ≡ 1 = search rules in
-    let p = err_from_is_err_and c.from_residual-in_err-block.result c.from_residual-in_err-block.ensures.1 in
-    let h : IfErr c.from_residual-in_err-block.result (RefusesLoop c.args.at c.args.names.items (state c.args.tokens.now c.step.new.parser) (state c.args.tokens.now c.loop_block.new.parser)) = rw (p.1, p.2) (c.in_err-block.ensures.refuses) in
-    on_err c.from_residual-in_err-block.result h (λ fault refuses. one_name c.args.at c.args.names.items _ _ fault one (λ f l n is.
-    range_block_refused c.args.at f l n _ _ fault _ _ c.in_ok-step.step _ _ _ _ _ _ _ c.in_ok-take_sign.ensures.takes c.in_ok-from.ensures.reads c.in_ok-take_sign-2.ensures.takes c.in_ok-to.ensures.reads c.in_ok-step.ensures.reads c.in_ok-step.ensures.stops
-    (subst (λ names. RefusesLoop c.args.at names (state c.args.tokens.now c.step.new.parser) (state c.args.tokens.now c.loop_block.new.parser) fault) is refuses)))
+    let range = c.in_ok-range.ensures.reads in
+    let refuses = refused_by _ _ _ c.in_err-range-2.ensures c.loop_block-block.ensures.refuses in
+    handed_on (RefusesFor c.args.at c.args.names.items (state c.args.tokens.now c.args.parser.now) (state c.args.tokens.now c.loop_block-block.new.parser)) c.from_residual-in_err-range-2.result _ c.from_residual-in_err-range-2.ensures.1
+    (one_name c.args.at c.args.names.items _ _ _ one (λ f l n is.
+    range_block_refused c.args.at f l n _ _ _ _ _ c.in_ok-range.range.step _ _ _ _ _ _ _ range.equals range.from range.comma range.to range.step range.stops
+    (loop_named c.args.at c.args.names.items _ (state c.args.tokens.now c.range.new.parser) (state c.args.tokens.now c.loop_block-block.new.parser) _ is refuses)))
 
-pub loops::range_loop-returns-in_err-from-clause-order : goal.loops::range_loop-returns-in_err-from-clause-order
-loops::range_loop-returns-in_err-from-clause-order t c =
+pub loops::range_loop-returns-in_err-range-clause-order : goal.loops::range_loop-returns-in_err-range-clause-order
+loops::range_loop-returns-in_err-range-clause-order t c =
     λ few. let one : length c.args.names.items ≡ 1 = search rules in
+    handed_on _ c.from_residual.result _ c.from_residual.ensures.1 (c.in_err-range.ensures.order c.args.names.items one)
+
+pub loops::range-returns-in_err-from-clause-order : goal.loops::range-returns-in_err-from-clause-order
+loops::range-returns-in_err-from-clause-order t c = λ names one.
     handed_on _ c.from_residual-in_err-from.result _ c.from_residual-in_err-from.ensures.1
     (λ start stands. c.in_err-from.ensures.order start (standing.for_first stands one c.in_ok-take_sign.ensures.takes))
 
-pub loops::range_loop-returns-in_err-to-clause-order : goal.loops::range_loop-returns-in_err-to-clause-order
-loops::range_loop-returns-in_err-to-clause-order t c =
-    λ few. let one : length c.args.names.items ≡ 1 = search rules in
-    handed_on _ c.from_residual-in_err-to.result _ c.from_residual-in_err-to.ensures.1
-    (λ start stands. c.in_err-to.ensures.order start (standing.for_limit stands one c.in_ok-take_sign.ensures.takes c.in_ok-from.ensures.reads c.in_ok-take_sign-2.ensures.takes))
+pub loops::range-returns-in_err-from-3-clause-order : goal.loops::range-returns-in_err-from-3-clause-order
+loops::range-returns-in_err-from-3-clause-order t c = λ names one.
+    handed_on _ c.from_residual-in_err-from-3.result _ c.from_residual-in_err-from-3.ensures.1
+    (λ start stands. refused_by _ _ _ c.in_err-from-3.ensures c.value-2.ensures.order start (standing.for_limit stands one c.in_ok-take_sign.ensures.takes c.in_ok-from.ensures.reads (read_by _ _ _ c.in_ok-from-2.ensures.1 c.take_sign-2.ensures.takes)))
 
-pub loops::range_loop-returns-in_err-step-clause-order : goal.loops::range_loop-returns-in_err-step-clause-order
-loops::range_loop-returns-in_err-step-clause-order t c =
-    λ few. let one : length c.args.names.items ≡ 1 = search rules in
-    handed_on _ c.from_residual-in_err-step.result _ c.from_residual-in_err-step.ensures.1
-    (λ start stands. c.in_err-step.ensures.order start (standing.for_step stands one c.in_ok-take_sign.ensures.takes c.in_ok-from.ensures.reads c.in_ok-take_sign-2.ensures.takes c.in_ok-to.ensures.reads))
+pub loops::range-returns-in_err-ends-clause-order : goal.loops::range-returns-in_err-ends-clause-order
+loops::range-returns-in_err-ends-clause-order t c = λ names one.
+    handed_on _ c.from_residual-in_err-ends.result _ c.from_residual-in_err-ends.ensures.1
+    (λ start stands. refused_by _ _ _ c.in_err-ends.ensures c.step.ensures.order start (standing.for_step stands one c.in_ok-take_sign.ensures.takes c.in_ok-from.ensures.reads (read_by _ _ _ c.in_ok-from-2.ensures.1 c.take_sign-2.ensures.takes) (read_by _ _ _ c.in_ok-from-3.ensures.1 c.value-2.ensures.reads)))
 
-pub loops::range_loop-returns-in_err-block-clause-order : goal.loops::range_loop-returns-in_err-block-clause-order
-loops::range_loop-returns-in_err-block-clause-order t c =
+pub loops::range_loop-returns-in_err-range-2-clause-order : goal.loops::range_loop-returns-in_err-range-2-clause-order
+loops::range_loop-returns-in_err-range-2-clause-order t c =
     λ few. let one : length c.args.names.items ≡ 1 = search rules in
-    handed_on _ c.from_residual-in_err-block.result _ c.from_residual-in_err-block.ensures.1
-    (λ start stands. c.in_err-block.ensures.order (few_in_range c.args.at _ _ _ _ _ _ _ _ _ _ _ _ _ c.in_ok-step.step few c.in_ok-take_sign.ensures.takes c.in_ok-from.ensures.reads c.in_ok-take_sign-2.ensures.takes c.in_ok-to.ensures.reads c.in_ok-step.ensures.reads) start
-    (standing.for_range c.in_ok-step.step stands one c.in_ok-take_sign.ensures.takes c.in_ok-from.ensures.reads c.in_ok-take_sign-2.ensures.takes c.in_ok-to.ensures.reads c.in_ok-step.ensures.reads))
+    let range = c.in_ok-range.ensures.reads in
+    handed_on _ c.from_residual-in_err-range-2.result _ c.from_residual-in_err-range-2.ensures.1
+    (λ start stands. refused_by _ _ _ c.in_err-range-2.ensures (c.loop_block-block.ensures.order (few_in_range c.args.at _ _ _ _ _ _ _ _ _ _ _ _ _ c.in_ok-range.range.step few range.equals range.from range.comma range.to range.step)) start
+    (standing.for_range c.in_ok-range.range.step stands one range.equals range.from range.comma range.to range.step))
 
-pub loops::range_loop-returns-in_err-take_sign-clause-order : goal.loops::range_loop-returns-in_err-take_sign-clause-order
-loops::range_loop-returns-in_err-take_sign-clause-order t c =
-    λ few. handed_on _ c.from_residual.result _ c.from_residual.ensures.1
+pub loops::range-returns-clause-reads : goal.loops::range-returns-clause-reads
+loops::range-returns-clause-reads t c =
+    let from : c.in_ok-ends.ends.0 ≡ c.in_ok-from.from = ap (λ ends. ends.0) c.in_ok-ends.ensures.0 ∙ c.in_ok-from-3.ensures.0 ∙ c.in_ok-from-2.ensures.0 in
+    let to : c.in_ok-ends.ends.1 ≡ c.in_ok-from-3.to = ap (λ ends. ends.1) c.in_ok-ends.ensures.0 in
+    record {
+      equals_at = _;
+      comma_at = _;
+      first = (state c.args.tokens.now c.take_sign.new.self);
+      second = (state c.args.tokens.now c.value.new.parser);
+      third = (state c.args.tokens.now c.take_sign-2.new.self);
+      last = (state c.args.tokens.now c.value-2.new.parser);
+      equals = c.in_ok-take_sign.ensures.takes;
+      from = subst (λ e. ReadsValue c.args.at (state c.args.tokens.now c.take_sign.new.self) e (state c.args.tokens.now c.value.new.parser)) (sym from) c.in_ok-from.ensures.reads;
+      comma = (read_by _ _ _ c.in_ok-from-2.ensures.1 c.take_sign-2.ensures.takes);
+      to = subst (λ e. ReadsValue c.args.at (state c.args.tokens.now c.take_sign-2.new.self) e (state c.args.tokens.now c.value-2.new.parser)) (sym to) (read_by _ _ _ c.in_ok-from-3.ensures.1 c.value-2.ensures.reads);
+      step = read_by _ _ _ c.in_ok-ends.ensures.1 c.step.ensures.reads;
+      stops = read_by _ _ _ c.in_ok-ends.ensures.1 c.step.ensures.stops;
+    }
+
+pub loops::range-returns-clause-forward : goal.loops::range-returns-clause-forward
+loops::range-returns-clause-forward t c = advances_stays _ _ _ _ (advances_on _ _ _ _ c.in_ok-take_sign.ensures.forward (advances_on _ _ _ _ c.in_ok-from.ensures.forward
+    (advances_on _ _ _ _ (done_by _ _ c.in_ok-from-2.ensures.1 c.take_sign-2.ensures.forward) (done_by _ _ c.in_ok-from-3.ensures.1 c.value-2.ensures.forward)))) (done_by _ _ c.in_ok-ends.ensures.1 c.step.ensures.forward)
+
+pub loops::range-returns-in_err-take_sign-clause-order : goal.loops::range-returns-in_err-take_sign-clause-order
+loops::range-returns-in_err-take_sign-clause-order t c = λ names one.
+    handed_on _ c.from_residual.result _ c.from_residual.ensures.1
     (λ start stands. missing_first _ _ _ _ c.in_err-take_sign.ensures.misses start (standing.before_it stands))
 
-pub loops::range_loop-returns-in_err-take_sign-2-clause-order : goal.loops::range_loop-returns-in_err-take_sign-2-clause-order
-loops::range_loop-returns-in_err-take_sign-2-clause-order t c =
-    λ few. let one : length c.args.names.items ≡ 1 = search rules in
-    handed_on _ c.from_residual-in_err-take_sign-2.result _ c.from_residual-in_err-take_sign-2.ensures.1
-    (λ start stands. missing_first _ _ _ _ c.in_err-take_sign-2.ensures.misses start (standing.after_value (standing.for_first stands one c.in_ok-take_sign.ensures.takes) c.in_ok-from.ensures.reads))
+pub loops::range-returns-in_err-from-2-clause-order : goal.loops::range-returns-in_err-from-2-clause-order
+loops::range-returns-in_err-from-2-clause-order t c = λ names one.
+    handed_on _ c.from_residual-in_err-from-2.result _ c.from_residual-in_err-from-2.ensures.1
+    (λ start stands. missing_first _ _ _ _ (refused_by _ _ _ c.in_err-from-2.ensures c.take_sign-2.ensures.misses) start (standing.after_value (standing.for_first stands one c.in_ok-take_sign.ensures.takes) c.in_ok-from.ensures.reads))
 
 pub loops::range_loop-returns-then-len-ne1-clause-order : goal.loops::range_loop-returns-then-len-ne1-clause-order
 loops::range_loop-returns-then-len-ne1-clause-order t c =
@@ -1832,7 +1993,7 @@ loops::range_loop-returns-then-len-ne1-clause-order t c =
 
 pub loops::repeat_loop-returns-clause-reads : goal.loops::repeat_loop-returns-clause-reads
 loops::repeat_loop-returns-clause-reads t c =
-    on_node _ c.repeat_node.ensures (λ out is. repeat_read _ _ _ _ _ _ _ _ _ _ _ _ _ _ c.in_ok-line.ensures.takes c.looped.ensures c.in_ok-inner.ensures c.in_ok-body.ensures.reads c.in_ok-take_word.ensures.takes c.in_ok-test.ensures.reads
+    on_node _ c.repeat_node.ensures (λ out is. repeat_read _ _ _ _ _ _ _ _ _ _ _ _ _ _ c.in_ok-line.ensures.takes c.looped.ensures c.in_ok-body.ensures.reads.within c.in_ok-body.ensures.reads.reads c.in_ok-take_word.ensures.takes c.in_ok-test.ensures.reads
     (left_since c.args.tokens.now c.take_word.new.self c.value.new.parser c.leave.new.self c.in_scope-count.result c.in_scope-count.ensures.value c.leave.ensures.scope c.leave.ensures.index c.leave.ensures.line) is)
 
 pub loops::repeat_loop-returns-in_err-line-clause-refuses : goal.loops::repeat_loop-returns-in_err-line-clause-refuses
@@ -1840,43 +2001,33 @@ loops::repeat_loop-returns-in_err-line-clause-refuses t c = λ next.
     let h : IfErr c.from_residual.result (OnAt (Misses (IsKind (Word word.Repeat)) (state c.args.tokens.now c.args.parser.now) (state c.args.tokens.now c.take_word.new.self))) = search rules in
     on_err c.from_residual.result h (λ fault missed k never suppose. never_missed_ahead fault _ (token (statement k)) (IsKind (Word word.Repeat)) _ _ missed suppose (λ is. cc) next)
 
-pub loops::repeat_loop-returns-in_err-inner-clause-refuses : goal.loops::repeat_loop-returns-in_err-inner-clause-refuses
-loops::repeat_loop-returns-in_err-inner-clause-refuses t c = λ next.
-    let h : IfErr c.from_residual-in_err-inner.result (IsTooDeep c.looped.result (state c.args.tokens.now c.take_word.new.self)) = search rules in
-    on_err c.from_residual-in_err-inner.result h (λ fault none. repeat_too_deep c.args.at c.looped.result _ _ _ fault c.in_ok-line.ensures.takes c.looped.ensures none)
-
 pub loops::repeat_loop-returns-in_err-body-clause-refuses : goal.loops::repeat_loop-returns-in_err-body-clause-refuses
 loops::repeat_loop-returns-in_err-body-clause-refuses t c = λ next.
-    let h : IfErr c.from_residual-in_err-body.result (RefusesBlock c.in_ok-inner.inner (state c.args.tokens.now c.take_word.new.self) (state c.args.tokens.now c.block.new.parser)) = search rules in
-    on_err c.from_residual-in_err-body.result h (λ fault refuses. repeat_block_refused c.args.at c.looped.result c.in_ok-inner.inner _ _ _ _ fault c.in_ok-line.ensures.takes c.looped.ensures c.in_ok-inner.ensures refuses)
+    handed_on (RefusesStat c.args.at (state c.args.tokens.now c.args.parser.now) (state c.args.tokens.now c.inner_block.new.parser)) c.from_residual-in_err-body.result _ c.from_residual-in_err-body.ensures.1
+    (repeat_inner c.args.at c.looped.result _ _ _ _ _ c.in_ok-line.ensures.takes c.looped.ensures c.in_err-body.ensures.refuses)
 
 pub loops::repeat_loop-returns-in_err-take_word-clause-refuses : goal.loops::repeat_loop-returns-in_err-take_word-clause-refuses
 loops::repeat_loop-returns-in_err-take_word-clause-refuses t c = λ next.
-    let h : IfErr c.from_residual-in_err-take_word.result (OnAt (Misses (IsKind (Word word.Until)) (state c.args.tokens.now c.block.new.parser) (state c.args.tokens.now c.take_word-2.new.self))) = search rules in
-    on_err c.from_residual-in_err-take_word.result h (λ fault missed. until_refused c.args.at c.in_ok-inner.inner _ _ _ _ _ _ fault c.in_ok-line.ensures.takes c.in_ok-body.ensures.reads missed)
+    let h : IfErr c.from_residual-in_err-take_word.result (OnAt (Misses (IsKind (Word word.Until)) (state c.args.tokens.now c.inner_block.new.parser) (state c.args.tokens.now c.take_word-2.new.self))) = search rules in
+    on_err c.from_residual-in_err-take_word.result h (λ fault missed. until_refused c.args.at c.in_ok-body.ensures.reads.inner _ _ _ _ _ _ fault c.in_ok-line.ensures.takes c.in_ok-body.ensures.reads.reads missed)
 
 pub loops::repeat_loop-returns-in_err-test-clause-refuses : goal.loops::repeat_loop-returns-in_err-test-clause-refuses
 loops::repeat_loop-returns-in_err-test-clause-refuses t c = λ next.
     let h : IfErr c.from_residual-in_err-test.result (RefusesValue c.args.at (state c.args.tokens.now c.take_word-2.new.self) (state c.args.tokens.now c.value.new.parser)) = search rules in
-    on_err c.from_residual-in_err-test.result h (λ fault refuses. repeat_test_refused c.args.at c.in_ok-inner.inner _ _ _ _ _ _ _ _ fault c.in_ok-line.ensures.takes c.in_ok-body.ensures.reads c.in_ok-take_word.ensures.takes refuses)
+    on_err c.from_residual-in_err-test.result h (λ fault refuses. repeat_test_refused c.args.at c.in_ok-body.ensures.reads.inner _ _ _ _ _ _ _ _ fault c.in_ok-line.ensures.takes c.in_ok-body.ensures.reads.reads c.in_ok-take_word.ensures.takes refuses)
 
 pub loops::repeat_loop-returns-clause-refuses : goal.loops::repeat_loop-returns-clause-refuses
 loops::repeat_loop-returns-clause-refuses t c = λ next. on_memory _ _ c.repeat_node.result (λ k never none. absurd none) c.repeat_node.ensures
 
-pub loops::repeat_loop-returns-in_err-inner-clause-order : goal.loops::repeat_loop-returns-in_err-inner-clause-order
-loops::repeat_loop-returns-in_err-inner-clause-order t c =
-    handed_on _ c.from_residual-in_err-inner.result _ c.from_residual-in_err-inner.ensures.1
-    (λ start stands. deep_breaks _ _ _ _ (few_there _ _) c.in_err-inner.ensures start (standing.repeat_block stands c.in_ok-line.ensures.takes c.looped.ensures))
-
 pub loops::repeat_loop-returns-in_err-body-clause-order : goal.loops::repeat_loop-returns-in_err-body-clause-order
 loops::repeat_loop-returns-in_err-body-clause-order t c =
     handed_on _ c.from_residual-in_err-body.result _ c.from_residual-in_err-body.ensures.1
-    (λ start stands. c.in_err-body.ensures.order start (standing.inside (standing.repeat_block stands c.in_ok-line.ensures.takes c.looped.ensures) c.in_ok-inner.ensures))
+    (λ start stands. c.in_err-body.ensures.order start (standing.repeat_block stands c.in_ok-line.ensures.takes c.looped.ensures))
 
 pub loops::repeat_loop-returns-in_err-test-clause-order : goal.loops::repeat_loop-returns-in_err-test-clause-order
 loops::repeat_loop-returns-in_err-test-clause-order t c =
     handed_on _ c.from_residual-in_err-test.result _ c.from_residual-in_err-test.ensures.1
-    (λ start stands. c.in_err-test.ensures.order start (standing.repeat_test stands c.in_ok-line.ensures.takes c.looped.ensures c.in_ok-inner.ensures c.in_ok-body.ensures.reads c.in_ok-take_word.ensures.takes))
+    (λ start stands. c.in_err-test.ensures.order start (standing.repeat_test stands c.in_ok-line.ensures.takes c.looped.ensures c.in_ok-body.ensures.reads.within c.in_ok-body.ensures.reads.reads c.in_ok-take_word.ensures.takes))
 
 pub loops::repeat_loop-returns-in_err-line-clause-order : goal.loops::repeat_loop-returns-in_err-line-clause-order
 loops::repeat_loop-returns-in_err-line-clause-order t c =
@@ -1886,32 +2037,44 @@ loops::repeat_loop-returns-in_err-line-clause-order t c =
 pub loops::repeat_loop-returns-in_err-take_word-clause-order : goal.loops::repeat_loop-returns-in_err-take_word-clause-order
 loops::repeat_loop-returns-in_err-take_word-clause-order t c =
     handed_on _ c.from_residual-in_err-take_word.result _ c.from_residual-in_err-take_word.ensures.1
-    (λ start stands. missing_first _ _ _ _ c.in_err-take_word.ensures.misses start (standing.after_block (standing.inside (standing.repeat_block stands c.in_ok-line.ensures.takes c.looped.ensures) c.in_ok-inner.ensures) c.in_ok-body.ensures.reads))
+    (λ start stands. missing_first _ _ _ _ c.in_err-take_word.ensures.misses start (standing.after_block (standing.inside (standing.repeat_block stands c.in_ok-line.ensures.takes c.looped.ensures) c.in_ok-body.ensures.reads.within) c.in_ok-body.ensures.reads.reads))
 
 pub statements::scoped-returns-clause-reads : goal.statements::scoped-returns-clause-reads
 statements::scoped-returns-clause-reads t c =
-    scoped_read _ _ _ _ _ _ c.in_ok-inner.ensures c.in_ok-block.ensures.reads
-    (left_since c.args.tokens.now c.args.parser.now c.block.new.parser c.leave.new.self c.in_scope-count.result c.in_scope-count.ensures.value c.leave.ensures.scope c.leave.ensures.index c.leave.ensures.line)
+    let block = c.in_ok-block.ensures.reads in
+    scoped_read _ _ _ _ _ _ block.within block.reads
+    (left_since c.args.tokens.now c.args.parser.now c.inner_block.new.parser c.leave.new.self c.in_scope-count.result c.in_scope-count.ensures.value c.leave.ensures.scope c.leave.ensures.index c.leave.ensures.line)
 
-pub statements::scoped-returns-in_err-inner-clause-refuses : goal.statements::scoped-returns-in_err-inner-clause-refuses
-statements::scoped-returns-in_err-inner-clause-refuses t c =
-    let h : IfErr c.from_residual.result (IsTooDeep c.args.at (state c.args.tokens.now c.args.parser.now)) = search rules in
-    on_err c.from_residual.result h (λ fault none. scoped_too_deep c.args.at _ fault none)
+pub statements::inner_block-returns-in_err-inner-clause-refuses : goal.statements::inner_block-returns-in_err-inner-clause-refuses
+statements::inner_block-returns-in_err-inner-clause-refuses t c =
+    handed_on (RefusesInner c.args.at (state c.args.tokens.now c.args.parser.now) (state c.args.tokens.now c.args.parser.now)) c.from_residual.result _ c.from_residual.ensures.1 (inl (c.in_err-inner.ensures, refl))
+
+pub statements::inner_block-returns-clause-refuses : goal.statements::inner_block-returns-clause-refuses
+statements::inner_block-returns-clause-refuses t c =
+    on_err c.block.result c.block.ensures.refuses (λ fault refuses. inr (c.in_ok-inner.inner, c.in_ok-inner.ensures, refuses))
+
+pub statements::inner_block-returns-clause-reads : goal.statements::inner_block-returns-clause-reads
+statements::inner_block-returns-clause-reads t c =
+    let read : (out : Vec Stmt Global) → ReadsBlock c.in_ok-inner.inner (state c.args.tokens.now c.args.parser.now) out.items (state c.args.tokens.now c.block.new.parser) → ReadsInner c.args.at (state c.args.tokens.now c.args.parser.now) out.items (state c.args.tokens.now c.block.new.parser) =
+    λ out reads. record { inner = c.in_ok-inner.inner; within = c.in_ok-inner.ensures; reads = reads } in
+    on_ok c.block.result c.block.ensures.reads read
 
 pub statements::scoped-returns-in_err-block-clause-refuses : goal.statements::scoped-returns-in_err-block-clause-refuses
 statements::scoped-returns-in_err-block-clause-refuses t c =
-    let h : IfErr c.from_residual-in_err-block.result (RefusesBlock c.in_ok-inner.inner (state c.args.tokens.now c.args.parser.now) (state c.args.tokens.now c.block.new.parser)) = search rules in
-    on_err c.from_residual-in_err-block.result h (λ fault refuses. scoped_refused c.args.at c.in_ok-inner.inner _ _ fault c.in_ok-inner.ensures refuses)
+    handed_on (RefusesScoped c.args.at (state c.args.tokens.now c.args.parser.now) (state c.args.tokens.now c.inner_block.new.parser)) c.from_residual.result _ c.from_residual.ensures.1 (scoped_inner c.args.at _ _ _ c.in_err-block.ensures.refuses)
 
-pub statements::scoped-returns-in_err-inner-clause-order : goal.statements::scoped-returns-in_err-inner-clause-order
-statements::scoped-returns-in_err-inner-clause-order t c =
+pub statements::inner_block-returns-in_err-inner-clause-order : goal.statements::inner_block-returns-in_err-inner-clause-order
+statements::inner_block-returns-in_err-inner-clause-order t c =
     handed_on _ c.from_residual.result _ c.from_residual.ensures.1
     (λ start stands. deep_breaks _ _ _ _ (few_there _ _) c.in_err-inner.ensures start (stands))
 
+pub statements::inner_block-returns-clause-order : goal.statements::inner_block-returns-clause-order
+statements::inner_block-returns-clause-order t c =
+    on_err c.block.result c.block.ensures.order (λ fault breaks start stands. breaks start (standing.inside stands c.in_ok-inner.ensures))
+
 pub statements::scoped-returns-in_err-block-clause-order : goal.statements::scoped-returns-in_err-block-clause-order
 statements::scoped-returns-in_err-block-clause-order t c =
-    handed_on _ c.from_residual-in_err-block.result _ c.from_residual-in_err-block.ensures.1
-    (λ start stands. c.in_err-block.ensures.order start (standing.inside stands c.in_ok-inner.ensures))
+    handed_on _ c.from_residual.result _ c.from_residual.ensures.1 c.in_err-block.ensures.order
 
 pub statements::statement-returns-in-If-clause-refuses : goal.statements::statement-returns-in-If-clause-refuses
 statements::statement-returns-in-If-clause-refuses t c = λ same is. c.if_statement.ensures.refuses (if_kind _ (sym same ∙ c.in-If.is))
@@ -2057,7 +2220,9 @@ statements::values-returns-in_err-values-clause-order t c =
 
 pub loops::while_loop-returns-clause-reads : goal.loops::while_loop-returns-clause-reads
 loops::while_loop-returns-clause-reads t c =
-    on_node _ c.while_node.ensures (λ out is. while_read _ _ _ _ _ _ _ _ _ _ _ _ _ _ c.in_ok-line.ensures.takes c.in_ok-test.ensures.reads c.in_ok-take_word.ensures.takes c.looped.ensures c.in_ok-body.ensures.reads c.in_ok-take_word-2.ensures.takes is)
+    let same = c.in_ok-test-4.ensures.0 ∙ c.in_ok-test-3.ensures.0 ∙ c.in_ok-test-2.ensures.0 in
+    on_node _ c.while_node.ensures (λ out is. while_read _ _ _ _ _ _ _ _ _ _ _ _ _ _ c.in_ok-line.ensures.takes (subst (λ test. ReadsValue c.args.at (state c.args.tokens.now c.take_word.new.self) test (state c.args.tokens.now c.value.new.parser)) (sym same) c.in_ok-test.ensures.reads)
+    (read_by _ _ _ c.in_ok-test-2.ensures.1 c.take_word-2.ensures.takes) c.looped.ensures (read_by _ _ _ c.in_ok-test-3.ensures.1 c.scoped.ensures.reads) (read_by _ _ _ c.in_ok-test-4.ensures.1 c.take_word-3.ensures.takes) is)
 
 pub loops::while_loop-returns-in_err-line-clause-refuses : goal.loops::while_loop-returns-in_err-line-clause-refuses
 loops::while_loop-returns-in_err-line-clause-refuses t c = λ next.
@@ -2069,45 +2234,49 @@ loops::while_loop-returns-in_err-test-clause-refuses t c = λ next.
     let h : IfErr c.from_residual-in_err-test.result (RefusesValue c.args.at (state c.args.tokens.now c.take_word.new.self) (state c.args.tokens.now c.value.new.parser)) = search rules in
     on_err c.from_residual-in_err-test.result h (λ fault refuses. while_test_refused c.args.at _ _ _ _ fault c.in_ok-line.ensures.takes refuses)
 
-pub loops::while_loop-returns-in_err-take_word-clause-refuses : goal.loops::while_loop-returns-in_err-take_word-clause-refuses
-loops::while_loop-returns-in_err-take_word-clause-refuses t c = λ next.
-    let h : IfErr c.from_residual-in_err-take_word.result (OnAt (Misses (IsKind (Word word.Do)) (state c.args.tokens.now c.value.new.parser) (state c.args.tokens.now c.take_word-2.new.self))) = search rules in
-    on_err c.from_residual-in_err-take_word.result h (λ fault missed. while_do_refused c.args.at _ _ _ _ _ _ fault c.in_ok-line.ensures.takes c.in_ok-test.ensures.reads missed)
+pub loops::while_loop-returns-in_err-test-2-clause-refuses : goal.loops::while_loop-returns-in_err-test-2-clause-refuses
+loops::while_loop-returns-in_err-test-2-clause-refuses t c = λ next.
+    handed_on (RefusesStat c.args.at (state c.args.tokens.now c.args.parser.now) (state c.args.tokens.now c.take_word-2.new.self)) c.from_residual-in_err-test-2.result _ c.from_residual-in_err-test-2.ensures.1
+    (while_do_refused c.args.at _ _ _ _ _ _ _ c.in_ok-line.ensures.takes c.in_ok-test.ensures.reads (refused_by _ _ _ c.in_err-test-2.ensures c.take_word-2.ensures.misses))
 
-pub loops::while_loop-returns-in_err-body-clause-refuses : goal.loops::while_loop-returns-in_err-body-clause-refuses
-loops::while_loop-returns-in_err-body-clause-refuses t c = λ next.
-    let h : IfErr c.from_residual-in_err-body.result (RefusesScoped c.looped.result (state c.args.tokens.now c.take_word-2.new.self) (state c.args.tokens.now c.scoped.new.parser)) = search rules in
-    on_err c.from_residual-in_err-body.result h (λ fault refuses. while_block_refused c.args.at c.looped.result _ _ _ _ _ _ _ _ fault c.in_ok-line.ensures.takes c.in_ok-test.ensures.reads c.in_ok-take_word.ensures.takes c.looped.ensures refuses)
+pub loops::while_loop-returns-in_err-test-3-clause-refuses : goal.loops::while_loop-returns-in_err-test-3-clause-refuses
+loops::while_loop-returns-in_err-test-3-clause-refuses t c = λ next.
+    handed_on (RefusesStat c.args.at (state c.args.tokens.now c.args.parser.now) (state c.args.tokens.now c.scoped.new.parser)) c.from_residual-in_err-test-3.result _ c.from_residual-in_err-test-3.ensures.1
+    (while_block_refused c.args.at c.looped.result _ _ _ _ _ _ _ _ _ c.in_ok-line.ensures.takes c.in_ok-test.ensures.reads (read_by _ _ _ c.in_ok-test-2.ensures.1 c.take_word-2.ensures.takes) c.looped.ensures (refused_by _ _ _ c.in_err-test-3.ensures c.scoped.ensures.refuses))
 
-pub loops::while_loop-returns-in_err-take_word-2-clause-refuses : goal.loops::while_loop-returns-in_err-take_word-2-clause-refuses
-loops::while_loop-returns-in_err-take_word-2-clause-refuses t c = λ next.
-    let h : IfErr c.from_residual-in_err-take_word-2.result (OnAt (Misses (IsKind (Word word.End)) (state c.args.tokens.now c.scoped.new.parser) (state c.args.tokens.now c.take_word-3.new.self))) = search rules in
-    on_err c.from_residual-in_err-take_word-2.result h (λ fault missed. while_end_refused c.args.at c.looped.result _ _ _ _ _ _ _ _ _ _ fault c.in_ok-line.ensures.takes c.in_ok-test.ensures.reads c.in_ok-take_word.ensures.takes c.in_ok-body.ensures.reads missed)
+pub loops::while_loop-returns-in_err-test-4-clause-refuses : goal.loops::while_loop-returns-in_err-test-4-clause-refuses
+loops::while_loop-returns-in_err-test-4-clause-refuses t c = λ next.
+    handed_on (RefusesStat c.args.at (state c.args.tokens.now c.args.parser.now) (state c.args.tokens.now c.take_word-3.new.self)) c.from_residual-in_err-test-4.result _ c.from_residual-in_err-test-4.ensures.1
+    (while_end_refused c.args.at c.looped.result _ _ _ _ _ _ _ _ _ _ _ c.in_ok-line.ensures.takes c.in_ok-test.ensures.reads (read_by _ _ _ c.in_ok-test-2.ensures.1 c.take_word-2.ensures.takes) (read_by _ _ _ c.in_ok-test-3.ensures.1 c.scoped.ensures.reads) (refused_by _ _ _ c.in_err-test-4.ensures c.take_word-3.ensures.misses))
 
 pub loops::while_loop-returns-clause-refuses : goal.loops::while_loop-returns-clause-refuses
 loops::while_loop-returns-clause-refuses t c = λ next. on_memory _ _ c.while_node.result (λ k never none. absurd none) c.while_node.ensures
+
+pub loops::while_loop-returns-clause-forward : goal.loops::while_loop-returns-clause-forward
+loops::while_loop-returns-clause-forward t c = on_done c.while_node.result (advances_on _ _ _ _
+    (advances_stays _ _ _ _ (advances_on _ _ _ _ c.in_ok-line.ensures.forward (advances_on _ _ _ _ c.in_ok-test.ensures.forward (done_by _ _ c.in_ok-test-2.ensures.1 c.take_word-2.ensures.forward))) (done_by _ _ c.in_ok-test-3.ensures.1 c.scoped.ensures.forward)) (done_by _ _ c.in_ok-test-4.ensures.1 c.take_word-3.ensures.forward))
 
 pub loops::while_loop-returns-in_err-test-clause-order : goal.loops::while_loop-returns-in_err-test-clause-order
 loops::while_loop-returns-in_err-test-clause-order t c =
     handed_on _ c.from_residual-in_err-test.result _ c.from_residual-in_err-test.ensures.1
     (λ start stands. c.in_err-test.ensures.order start (standing.while_test stands c.in_ok-line.ensures.takes))
 
-pub loops::while_loop-returns-in_err-body-clause-order : goal.loops::while_loop-returns-in_err-body-clause-order
-loops::while_loop-returns-in_err-body-clause-order t c =
-    handed_on _ c.from_residual-in_err-body.result _ c.from_residual-in_err-body.ensures.1
-    (λ start stands. c.in_err-body.ensures.order start (standing.while_block stands c.in_ok-line.ensures.takes c.in_ok-test.ensures.reads c.in_ok-take_word.ensures.takes c.looped.ensures))
+pub loops::while_loop-returns-in_err-test-3-clause-order : goal.loops::while_loop-returns-in_err-test-3-clause-order
+loops::while_loop-returns-in_err-test-3-clause-order t c =
+    handed_on _ c.from_residual-in_err-test-3.result _ c.from_residual-in_err-test-3.ensures.1
+    (λ start stands. refused_by _ _ _ c.in_err-test-3.ensures c.scoped.ensures.order start (standing.while_block stands c.in_ok-line.ensures.takes c.in_ok-test.ensures.reads (read_by _ _ _ c.in_ok-test-2.ensures.1 c.take_word-2.ensures.takes) c.looped.ensures))
 
 pub loops::while_loop-returns-in_err-line-clause-order : goal.loops::while_loop-returns-in_err-line-clause-order
 loops::while_loop-returns-in_err-line-clause-order t c =
     handed_on _ c.from_residual.result _ c.from_residual.ensures.1
     (λ start stands. missing_first _ _ _ _ c.in_err-line.ensures.misses start (standing.before_it stands))
 
-pub loops::while_loop-returns-in_err-take_word-clause-order : goal.loops::while_loop-returns-in_err-take_word-clause-order
-loops::while_loop-returns-in_err-take_word-clause-order t c =
-    handed_on _ c.from_residual-in_err-take_word.result _ c.from_residual-in_err-take_word.ensures.1
-    (λ start stands. missing_first _ _ _ _ c.in_err-take_word.ensures.misses start (standing.after_value (standing.while_test stands c.in_ok-line.ensures.takes) c.in_ok-test.ensures.reads))
+pub loops::while_loop-returns-in_err-test-2-clause-order : goal.loops::while_loop-returns-in_err-test-2-clause-order
+loops::while_loop-returns-in_err-test-2-clause-order t c =
+    handed_on _ c.from_residual-in_err-test-2.result _ c.from_residual-in_err-test-2.ensures.1
+    (λ start stands. missing_first _ _ _ _ (refused_by _ _ _ c.in_err-test-2.ensures c.take_word-2.ensures.misses) start (standing.after_value (standing.while_test stands c.in_ok-line.ensures.takes) c.in_ok-test.ensures.reads))
 
-pub loops::while_loop-returns-in_err-take_word-2-clause-order : goal.loops::while_loop-returns-in_err-take_word-2-clause-order
-loops::while_loop-returns-in_err-take_word-2-clause-order t c =
-    handed_on _ c.from_residual-in_err-take_word-2.result _ c.from_residual-in_err-take_word-2.ensures.1
-    (λ start stands. missing_first _ _ _ _ c.in_err-take_word-2.ensures.misses start (standing.after_inner_block (standing.while_block stands c.in_ok-line.ensures.takes c.in_ok-test.ensures.reads c.in_ok-take_word.ensures.takes c.looped.ensures) c.in_ok-body.ensures.reads))
+pub loops::while_loop-returns-in_err-test-4-clause-order : goal.loops::while_loop-returns-in_err-test-4-clause-order
+loops::while_loop-returns-in_err-test-4-clause-order t c =
+    handed_on _ c.from_residual-in_err-test-4.result _ c.from_residual-in_err-test-4.ensures.1
+    (λ start stands. missing_first _ _ _ _ (refused_by _ _ _ c.in_err-test-4.ensures c.take_word-3.ensures.misses) start (standing.after_inner_block (standing.while_block stands c.in_ok-line.ensures.takes c.in_ok-test.ensures.reads (read_by _ _ _ c.in_ok-test-2.ensures.1 c.take_word-2.ensures.takes) c.looped.ensures) (read_by _ _ _ c.in_ok-test-3.ensures.1 c.scoped.ensures.reads)))

@@ -7,7 +7,7 @@ use Rattle.std.proofs.Common.{ℕ, ◌+◌, ◌-◌, ◌*◌, ◌≤◌, [], ◌
 use Rattle.lua_parser.proofs.+descent.Given as goal
 
 abbrev pub decreases-expressions::expression : goal.decreases-expressions::expression
-decreases-expressions::expression l = (201 - l.at.depth) * 16 + 7
+decreases-expressions::expression l = (201 - l.at.depth) * 16 + 8
 
 abbrev pub invariant-expressions::expression-loop-infix : goal.invariant-expressions::expression-loop-infix
 invariant-expressions::expression-loop-infix l = record {
@@ -19,8 +19,11 @@ invariant-expressions::expression-loop-infix l = record {
 abbrev pub decreases-expressions::expression-loop-infix : goal.decreases-expressions::expression-loop-infix
 decreases-expressions::expression-loop-infix l = length l.tokens - l.parser.index
 
+abbrev pub decreases-expressions::right_operand : goal.decreases-expressions::right_operand
+decreases-expressions::right_operand l = (201 - l.at.depth) * 16 + 7
+
 abbrev pub decreases-expressions::operand : goal.decreases-expressions::operand
-decreases-expressions::operand l = (201 - l.at.depth) * 16 + 6
+decreases-expressions::operand l = (201 - l.at.depth) * 16 + 7
 
 abbrev pub decreases-expressions::unary_operand : goal.decreases-expressions::unary_operand
 decreases-expressions::unary_operand l = (201 - l.at.depth) * 16 + 5
@@ -29,10 +32,10 @@ abbrev pub decreases-expressions::closure : goal.decreases-expressions::closure
 decreases-expressions::closure l = (201 - l.at.depth) * 16 + 5
 
 abbrev pub decreases-expressions::prefix_operand : goal.decreases-expressions::prefix_operand
-decreases-expressions::prefix_operand l = (201 - l.at.depth) * 16 + 5
+decreases-expressions::prefix_operand l = (201 - l.at.depth) * 16 + 6
 
 abbrev pub decreases-suffixes::prefix : goal.decreases-suffixes::prefix
-decreases-suffixes::prefix l = (201 - l.at.depth) * 16 + 4
+decreases-suffixes::prefix l = (201 - l.at.depth) * 16 + 5
 
 abbrev pub invariant-suffixes::prefix-loop-suffix : goal.invariant-suffixes::prefix-loop-suffix
 invariant-suffixes::prefix-loop-suffix l = record {
@@ -47,19 +50,31 @@ abbrev pub decreases-suffixes::primary : goal.decreases-suffixes::primary
 decreases-suffixes::primary l = (201 - l.at.depth) * 16 + 3
 
 abbrev pub decreases-suffixes::item : goal.decreases-suffixes::item
-decreases-suffixes::item l = (201 - l.at.depth) * 16 + 3
+decreases-suffixes::item l = (201 - l.at.depth) * 16 + 4
+
+abbrev pub decreases-suffixes::key : goal.decreases-suffixes::key
+decreases-suffixes::key l = (201 - l.at.depth) * 16 + 3
 
 abbrev pub decreases-suffixes::call : goal.decreases-suffixes::call
-decreases-suffixes::call l = (201 - l.at.depth) * 16 + 3
+decreases-suffixes::call l = (201 - l.at.depth) * 16 + 4
+
+abbrev pub decreases-suffixes::call_arguments : goal.decreases-suffixes::call_arguments
+decreases-suffixes::call_arguments l = (201 - l.at.depth) * 16 + 3
 
 abbrev pub decreases-suffixes::method : goal.decreases-suffixes::method
-decreases-suffixes::method l = (201 - l.at.depth) * 16 + 3
+decreases-suffixes::method l = (201 - l.at.depth) * 16 + 4
+
+abbrev pub decreases-suffixes::method_arguments : goal.decreases-suffixes::method_arguments
+decreases-suffixes::method_arguments l = (201 - l.at.depth) * 16 + 3
 
 abbrev pub decreases-suffixes::arguments : goal.decreases-suffixes::arguments
 decreases-suffixes::arguments l = (201 - l.at.depth) * 16 + 2
 
+abbrev pub decreases-suffixes::list_arguments : goal.decreases-suffixes::list_arguments
+decreases-suffixes::list_arguments l = (201 - l.at.depth) * 16 + 1
+
 abbrev pub decreases-suffixes::expressions : goal.decreases-suffixes::expressions
-decreases-suffixes::expressions l = (201 - l.at.depth) * 16 + 8
+decreases-suffixes::expressions l = (201 - l.at.depth) * 16 + 9
 
 abbrev pub invariant-suffixes::expressions-loop-alloc : goal.invariant-suffixes::expressions-loop-alloc
 invariant-suffixes::expressions-loop-alloc l = record {
@@ -82,14 +97,17 @@ invariant-suffixes::table-loop-at l = record {
 abbrev pub decreases-suffixes::table-loop-at : goal.decreases-suffixes::table-loop-at
 decreases-suffixes::table-loop-at l = length l.tokens - l.parser.index
 
+abbrev pub decreases-suffixes::push_field : goal.decreases-suffixes::push_field
+decreases-suffixes::push_field l = (201 - l.at.depth) * 16 + 0
+
 abbrev pub decreases-suffixes::field : goal.decreases-suffixes::field
-decreases-suffixes::field l = (201 - l.at.depth) * 16 + 9
+decreases-suffixes::field l = (201 - l.at.depth) * 16 + 10
 
 abbrev pub decreases-suffixes::keyed_field : goal.decreases-suffixes::keyed_field
-decreases-suffixes::keyed_field l = (201 - l.at.depth) * 16 + 8
+decreases-suffixes::keyed_field l = (201 - l.at.depth) * 16 + 9
 
 abbrev pub decreases-suffixes::named_field : goal.decreases-suffixes::named_field
-decreases-suffixes::named_field l = (201 - l.at.depth) * 16 + 8
+decreases-suffixes::named_field l = (201 - l.at.depth) * 16 + 9
 
 abbrev pub decreases-statements::arm : goal.decreases-statements::arm
 decreases-statements::arm l = (201 - l.at.depth) * 16 + 9
@@ -128,7 +146,7 @@ abbrev pub decreases-statements::do_block : goal.decreases-statements::do_block
 decreases-statements::do_block l = (201 - l.at.depth) * 16 + 11
 
 abbrev pub decreases-loops::for_loop : goal.decreases-loops::for_loop
-decreases-loops::for_loop l = (201 - l.at.depth) * 16 + 11
+decreases-loops::for_loop l = (201 - l.at.depth) * 16 + 12
 
 abbrev pub decreases-statements::function_statement : goal.decreases-statements::function_statement
 decreases-statements::function_statement l = (201 - l.at.depth) * 16 + 11
@@ -136,8 +154,14 @@ decreases-statements::function_statement l = (201 - l.at.depth) * 16 + 11
 abbrev pub decreases-statements::if_statement : goal.decreases-statements::if_statement
 decreases-statements::if_statement l = (201 - l.at.depth) * 16 + 11
 
+abbrev pub decreases-statements::else_statement : goal.decreases-statements::else_statement
+decreases-statements::else_statement l = (201 - l.at.depth) * 16 + 10
+
 abbrev pub decreases-statements::initial : goal.decreases-statements::initial
 decreases-statements::initial l = (201 - l.at.depth) * 16 + 9
+
+abbrev pub decreases-statements::inner_block : goal.decreases-statements::inner_block
+decreases-statements::inner_block l = (201 - l.at.depth) * 16 + 0
 
 abbrev pub decreases-statements::last : goal.decreases-statements::last
 decreases-statements::last l = (201 - l.at.depth) * 16 + 13
@@ -164,7 +188,10 @@ abbrev pub decreases-statements::prefix_statement : goal.decreases-statements::p
 decreases-statements::prefix_statement l = (201 - l.at.depth) * 16 + 12
 
 abbrev pub decreases-loops::range_loop : goal.decreases-loops::range_loop
-decreases-loops::range_loop l = (201 - l.at.depth) * 16 + 10
+decreases-loops::range_loop l = (201 - l.at.depth) * 16 + 11
+
+abbrev pub decreases-loops::range : goal.decreases-loops::range
+decreases-loops::range l = (201 - l.at.depth) * 16 + 10
 
 abbrev pub decreases-loops::repeat_loop : goal.decreases-loops::repeat_loop
 decreases-loops::repeat_loop l = (201 - l.at.depth) * 16 + 11
