@@ -17,7 +17,7 @@ use crate::bodies::{End, Plan, block_end, plan_of};
 use crate::numbers::{Counted, LEVELS, number_of};
 use crate::operators::computed;
 use crate::places::{Seen, Valued, seen_of, value_of};
-use crate::statements::{put, put_value};
+use crate::statements::{take_number, take_value};
 use crate::steps::affords;
 use lua_ast::{BinOp, Expr, ExprKind, Function, Program, Stmt, StmtKind};
 use lua_meaning::Slot;
@@ -38,13 +38,6 @@ pub struct Site<'a> {
 #[derive(Drop)]
 struct Called {
     value: Option<Value>,
-    steps: u64,
-}
-
-/// The arguments of a call as local variables, and how many steps their expressions count.
-#[derive(Drop)]
-struct Given {
-    slots: Vec<Slot>,
     steps: u64,
 }
 
@@ -184,12 +177,9 @@ fn called_of(
     let callee = callee_of(site, slots, store, f)?;
     match callee.value {
         Value::Closure(c) => {
-            let given = given_of(site, slots, store, xs.as_slice(), levels - 1)?;
-            let Given {
-                slots: given,
-                steps,
-            } = given;
-            let end = closure_end(site, store, *c, given, levels - 1)?;
+            let mut given = Vec::new(site.alloc);
+            let steps = give(site, slots, store, xs.as_slice(), levels - 1, &mut given)?;
+            let end = closure_end(site, store, *c, &mut given, levels - 1)?;
             Some(Called {
                 value: end.value,
                 steps: callee.steps + steps + end.steps,
@@ -215,28 +205,35 @@ fn push(slots: &mut Vec<Slot>, value: Value) -> bool
     slots.push(Slot::Plain(value)).is_ok()
 }
 
-/// The arguments of a call.
+/// The arguments of a call become local variables, of which there were none. Returns how many steps their expressions count.
 #[cycle(calls)]
-fn given_of(site: &Site, slots: &[Slot], store: &Store, xs: &[Expr], levels: u8) -> Option<Given>
-    ensures gives { IfSome result (λ g. GivesList site.now levels xs.now slots.now store.now.heap g.slots.items g.steps) }
-    ensures few { IfSome result (λ g. g.steps < step_limit) }
+fn give(
+    site: &Site,
+    slots: &[Slot],
+    store: &Store,
+    xs: &[Expr],
+    levels: u8,
+    given: &mut Vec<Slot>,
+) -> Option<u64>
+    requires { given.old.items ≡ [] }
+    ensures gives { IfSome result (λ n. GivesList site.now levels xs.now slots.now store.now.heap given.new.items n) }
+    ensures few { IfSome result (λ n. n < step_limit) }
 {
-    let mut given = Vec::new(site.alloc);
     let mut steps = 0u64;
     let mut i = 0usize;
     while i < xs.len() {
         let x = expr_at(xs, i)?;
         let Valued { value, steps: more } = value_at(site, slots, store, x, levels)?;
+        if !push(given, value) {
+            return None;
+        }
         steps += more;
-        if steps >= STEP_LIMIT || !push(&mut given, value) {
+        if steps >= STEP_LIMIT {
             return None;
         }
         i += 1;
     }
-    Some(Given {
-        slots: given,
-        steps,
-    })
+    Some(steps)
 }
 
 /// Nil for each variable that is missing in so many.
@@ -271,21 +268,26 @@ fn given_by(end: End) -> Option<Value>
     }
 }
 
-/// How a call of a closure ends with these arguments.
+/// How a call of a closure ends, with its arguments as the first of its local variables.
 #[cycle(calls)]
-fn closure_end(site: &Site, store: &Store, c: u32, given: Vec<Slot>, levels: u8) -> Option<Called>
-    ensures gives { IfSome result (λ r. (vs : List LuaValue) → given.items ≡ map Plain vs
+fn closure_end(
+    site: &Site,
+    store: &Store,
+    c: u32,
+    slots: &mut Vec<Slot>,
+    levels: u8,
+) -> Option<Called>
+    ensures gives { IfSome result (λ r. (vs : List LuaValue) → slots.old.items ≡ map Plain vs
         → CallReturns site.now.program.now levels c vs store.now.heap (all_of r.value) r.steps) }
     ensures few { IfSome result (λ r. r.steps < step_limit + 2) }
 {
     let (number, cells) = store.closure(c)?;
     let f = site.program.functions.get(number as usize)?;
-    let mut slots = given;
-    if !fill(f, &mut slots) {
+    if !fill(f, slots) {
         return None;
     }
     let inner = Site { cells, ..*site };
-    let ended = block_end(&inner, &mut slots, store, f.body.as_slice(), levels)?;
+    let ended = block_end(&inner, slots, store, f.body.as_slice(), levels)?;
     Some(Called {
         value: given_by(ended.end),
         steps: ended.steps + 1,
@@ -334,27 +336,10 @@ fn run_plan(
 {
     match plan {
         Plan::Sets(slot, x, more) => match number_of(slots, store, x, LEVELS) {
-            Some(n) => {
-                let steps = n.steps + more;
-                if !affords(store, steps) {
-                    return false;
-                }
-                put(slots, slot, n.number);
-                let _ = store.count(steps);
-                true
-            }
+            Some(n) => take_number(slots, store, slot, n.number, n.steps + more),
             None => match value_at(site, slots, store, x, site.levels) {
                 None => false,
-                Some(v) => {
-                    let Valued { value, steps } = v;
-                    let steps = steps + more;
-                    if !affords(store, steps) {
-                        return false;
-                    }
-                    put_value(slots, slot, value);
-                    let _ = store.count(steps);
-                    true
-                }
+                Some(v) => take_value(slots, store, slot, v, more),
             },
         },
         Plan::Counts(steps) => {
