@@ -268,21 +268,21 @@ fn stmt_end(
     if let StmtKind::If(arms, last) = &stmt.kind {
         return if_end(site, slots, store, arms, last, levels);
     }
-    let plan = plain_plan(slots, stmt)?;
-    match plan {
-        Plan::Leaves => Some(Ended {
+    match plain_plan(slots, stmt) {
+        None => None,
+        Some(Plan::Leaves) => Some(Ended {
             end: End::Returned(None),
             steps: 1,
         }),
-        Plan::Gives(x) => match value_at(site, slots, store, x, levels) {
+        Some(Plan::Gives(x)) => match value_at(site, slots, store, x, levels) {
             Some(given) => Some(given_end(given)),
             None => None,
         },
-        Plan::Sets(slot, x, more) => match value_at(site, slots, store, x, levels) {
+        Some(Plan::Sets(slot, x, more)) => match value_at(site, slots, store, x, levels) {
             Some(given) => Some(set_end(slots, slot, given, more)),
             None => None,
         },
-        Plan::Counts(more) => Some(Ended {
+        Some(Plan::Counts(more)) => Some(Ended {
             end: End::Went,
             steps: more,
         }),

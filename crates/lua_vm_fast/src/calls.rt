@@ -3,7 +3,7 @@
 ghost use Rattle.std.specs.Prelude.{◌≡◌, ◌<◌, ◌+◌, ◌*◌, ◌++◌, ◌-◌, ◌∷◌, [], ℕ, true, List, length, map, replicate, slice_get, IfSome, MatchOption, drop};
 ghost use Rattle.lua_ast.specs.declared.statements.Stmt.{Stmt as LuaStmt};
 ghost use Rattle.lua_values.specs.declared.values.Value.{Value as LuaValue};
-ghost use Rattle.lua_values.specs.declared.values.Value.TheVariants.{Nil, Number};
+ghost use Rattle.lua_values.specs.declared.values.Value.TheVariants.{Closure, Nil, Number};
 ghost use Rattle.lua_ast.specs.declared.statements.StmtKind.TheVariants.{Call};
 ghost use Rattle.lua_values.specs.Heap.{step_limit};
 ghost use Rattle.lua_meaning.specs.declared.slots.Slot.TheVariants.{Plain};
@@ -11,7 +11,7 @@ ghost use Rattle.lua_meaning.specs.Variables.{in_cell};
 ghost use Rattle.lua_meaning.specs.Works.{Values};
 ghost use Rattle.lua_meaning.specs.Calls.{function_end, slots_from};
 ghost use Rattle.lua_vm_fast.specs.Bodies.{Follows, more_of, sign_of};
-ghost use Rattle.lua_vm_fast.specs.Calls.{GivesAt, CallGives, GivesCall, GivesList, BinaryGives, CallReturns, RunsAt, IsCall, all_of};
+ghost use Rattle.lua_vm_fast.specs.Calls.{GivesAt, CallGives, GivesCall, GivesList, BinaryGives, CallReturns, RunsAt, IsBody, IsCall, all_of};
 
 use crate::bodies::{End, Plan, block_end, plan_of};
 use crate::numbers::{Counted, LEVELS, number_of};
@@ -32,6 +32,20 @@ pub struct Site<'a> {
     pub program: &'a Program,
     pub cells: &'a [u32],
     pub levels: u8,
+}
+
+/// A closure that is called, and how many steps its expression counts.
+#[derive(Clone, Copy)]
+struct Callee {
+    closure: u32,
+    steps: u64,
+}
+
+/// The function of a closure, and the cells that it captured.
+#[derive(Clone, Copy)]
+struct Body<'a> {
+    function: &'a Function,
+    cells: &'a [u32],
 }
 
 /// What a call gives, no value or one, and how many steps it counts.
@@ -64,6 +78,32 @@ fn callee_of<'a>(site: &Site, slots: &'a [Slot], store: &'a Store, x: &Expr) -> 
         ExprKind::Captured(i) => seen_captured(site, store, *i),
         _ => seen_of(slots, store, x, LEVELS),
     }
+}
+
+/// The closure that an expression gives.
+#[inline(always)]
+fn closure_of(site: &Site, slots: &[Slot], store: &Store, x: &Expr) -> Option<Callee>
+    ensures gives { IfSome result (λ callee. (levels : ℕ) → GivesAt site.now levels x.now slots.now store.now.heap (Closure callee.closure) callee.steps) }
+    ensures few { IfSome result (λ callee. callee.steps < step_limit) }
+{
+    let callee = callee_of(site, slots, store, x)?;
+    match callee.value {
+        Value::Closure(closure) => Some(Callee {
+            closure: *closure,
+            steps: callee.steps,
+        }),
+        _ => None,
+    }
+}
+
+/// The function of a closure, and the cells that it captured.
+#[inline(always)]
+fn body_of<'a>(program: &'a Program, store: &'a Store, c: u32) -> Option<Body<'a>>
+    ensures { IfSome result (λ body. IsBody program.now store.now.heap c body.function.now body.cells.now) }
+{
+    let (number, cells) = store.closure(c)?;
+    let function = program.functions.get(number as usize)?;
+    Some(Body { function, cells })
 }
 
 /// The value of an expression at a site.
@@ -174,19 +214,14 @@ fn called_of(
     if levels == 0 {
         return None;
     }
-    let callee = callee_of(site, slots, store, f)?;
-    match callee.value {
-        Value::Closure(c) => {
-            let mut given = Vec::new(site.alloc);
-            let steps = give(site, slots, store, xs.as_slice(), levels - 1, &mut given)?;
-            let end = closure_end(site, store, *c, &mut given, levels - 1)?;
-            Some(Called {
-                value: end.value,
-                steps: callee.steps + steps + end.steps,
-            })
-        }
-        _ => None,
-    }
+    let callee = closure_of(site, slots, store, f)?;
+    let mut given = Vec::new(site.alloc);
+    let steps = give(site, slots, store, xs.as_slice(), levels - 1, &mut given)?;
+    let end = closure_end(site, store, callee.closure, &mut given, levels - 1)?;
+    Some(Called {
+        value: end.value,
+        steps: callee.steps + steps + end.steps,
+    })
 }
 
 /// The expression at an index, if it is there.
@@ -281,13 +316,15 @@ fn closure_end(
         → CallReturns site.now.program.now levels c vs store.now.heap (all_of r.value) r.steps) }
     ensures few { IfSome result (λ r. r.steps < step_limit + 2) }
 {
-    let (number, cells) = store.closure(c)?;
-    let f = site.program.functions.get(number as usize)?;
-    if !fill(f, slots) {
+    let body = body_of(site.program, store, c)?;
+    if !fill(body.function, slots) {
         return None;
     }
-    let inner = Site { cells, ..*site };
-    let ended = block_end(&inner, slots, store, f.body.as_slice(), levels)?;
+    let inner = Site {
+        cells: body.cells,
+        ..*site
+    };
+    let ended = block_end(&inner, slots, store, body.function.body.as_slice(), levels)?;
     Some(Called {
         value: given_by(ended.end),
         steps: ended.steps + 1,
