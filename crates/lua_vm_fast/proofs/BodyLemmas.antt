@@ -23,10 +23,11 @@ use Rattle.lua_meaning.specs.Blocks.{block}
 use Rattle.lua_meaning.specs.Nodes.{eval}
 use Rattle.lua_meaning.proofs.Running.{Does, stmt, seq, count, target, end}
 use Rattle.lua_vm_fast.specs.declared.calls.Site.{Site}
+use Rattle.lua_vm_fast.specs.declared.bodies.Ended.{Ended as BodyEnd}
 use Rattle.lua_vm_fast.specs.Gives.{later}
 use Rattle.lua_vm_fast.specs.Runs.{IsLocals, IsAssignments, is_plain}
 use Rattle.lua_vm_fast.specs.Calls.{Allows, GivesAt, IsReturn}
-use Rattle.lua_vm_fast.specs.Bodies.{StmtEnds, BlockEnds}
+use Rattle.lua_vm_fast.specs.Bodies.{StmtEnds, BlockEnds, sign_of}
 use Rattle.lua_vm_fast.proofs.RunLemmas.{dropped_all, plain_there, written}
 use Rattle.lua_vm_fast.proofs.CallLemmas.{nothing_returned}
 
@@ -109,6 +110,11 @@ returns site levels stmts st i s s' s'' h vs n m k at g ends sum = record {
   where
     added : (t : ℕ) → t + n + m ≡ t + k
     added t = omega (arith, sum)
+
+pub returned_ends : (site : Site) (levels : ℕ) (stmts : List Stmt) (s s' : Slots) (h : Heap) (vs : List Value) (k : ℕ) (r : Option BodyEnd) → BlockEnds site levels stmts s h (Return vs) s' k → IfSome r (λ e. sign_of e.end ≡ Return vs)
+    → IfSome r (λ e. e.steps ≡ k) → IfSome r (λ e. BlockEnds site levels stmts s h (sign_of e.end) s' e.steps)
+returned_ends site levels stmts s s' h vs k (Some e) ends sign steps = rw (sign, steps) ends
+returned_ends site levels stmts s s' h vs k None ends sign steps = tt
 
 pub over : (site : Site) (levels : ℕ) (stmts : List Stmt) (i : ℕ) (s s' : Slots) (h : Heap) (n : ℕ) → length stmts ≤ i → Going site levels stmts i s s' h n → BlockEnds site levels stmts s h (Values []) s' n
 over site levels stmts i s s' h n all g = record {

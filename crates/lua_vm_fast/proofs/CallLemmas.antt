@@ -1,5 +1,5 @@
 -- Calls that are done at once.
-use Rattle.std.specs.Prelude.{◌≡◌, ℕ, suc, zero, ◌+◌, ◌-◌, ◌≤◌, ◌<◌, nat_lt, Bool, true, false, if◌then◌else◌, List, [], ◌∷◌, ◌++◌, length, drop, map, replicate, slice_get, Option, Some, None, IfSome, ℤ, refl}
+use Rattle.std.specs.Prelude.{◌≡◌, ℕ, suc, zero, ◌+◌, ◌-◌, ◌≤◌, ◌<◌, nat_lt, Bool, true, false, if◌then◌else◌, List, [], ◌∷◌, ◌++◌, length, drop, map, replicate, slice_get, slice_set, Option, Some, None, IfSome, ℤ, refl}
 use Rattle.std.specs.declared.rc.Rc.{Rc}
 use Rattle.std.specs.declared.vec.Vec.{Vec}
 use Rattle.std.specs.declared.alloc.Global.{Global}
@@ -45,7 +45,7 @@ use Rattle.lua_vm_fast.specs.declared.calls.Site.{Site}
 use Rattle.lua_vm_fast.specs.declared.places.Seen.{Seen}
 use Rattle.lua_vm_fast.specs.declared.places.Valued.{Valued}
 use Rattle.lua_vm_fast.specs.Gives.{counting, later, Gives, Operates}
-use Rattle.lua_vm_fast.specs.Runs.{state, RunsIf}
+use Rattle.lua_vm_fast.specs.Runs.{state, RunsIf, SetsIf}
 use Rattle.lua_vm_fast.specs.Calls.{Allows, GivesAt, GivesList, GivesCall, CallGives, BinaryGives, Returns, CallReturns, RunsAt, IsCall, IsReturn}
 use Rattle.lua_vm_fast.specs.Bodies.{StmtEnds, BlockEnds}
 use Rattle.lua_vm_fast.proofs.RunLemmas.{dropped_all}
@@ -426,6 +426,11 @@ call_kind st x f args is calls = record { call = x; left = f; args = args; is_ca
 pub change_runs : (site : Site) (levels : ℕ) (st : Stmt) (s s' s'' : Slots) (before store : StoreView) (n : ℕ) → StmtEnds site levels st s before.heap (Values []) s' n → s'' ≡ s' → nat_lt (before.steps + n) step_limit ≡ true → store ≡ counting n before → RunsAt site levels true st s before s'' store
 change_runs site levels st s s' s'' before store n g put few steps S p rs a =
     g.is S p (state before rs) a refl (ltb-true _ _ few) ∙ ap (λ (t : Slots). Ended (Values []) t (state (counting n before) rs)) (sym put) ∙ ap (λ (t : StoreView). Ended (Values []) s'' (state t rs)) (sym steps)
+
+pub change_sets : (site : Site) (levels : ℕ) (st : Stmt) (i n : ℕ) (v : Value) (r : Bool) (s s' : Slots) (before store : StoreView) → StmtEnds site levels st s before.heap (Values []) (slice_set s i (Plain v)) n → SetsIf r i v n s before s' store
+    → RunsAt site levels r st s before s' store
+change_sets site levels st i n v true s s' before store g t = change_runs site levels st s (slice_set s i (Plain v)) s' before store n g t.set (lt-ltb _ _ t.few) t.is
+change_sets site levels st i n v false s s' before store g t = t
 
 -- a statement that was run without calls, and one that was not
 pub runs_anywhere : (site : Site) (levels : ℕ) (st : Stmt) (s s' : Slots) (before store : StoreView) → RunsIf true st s before s' store → RunsAt site levels true st s before s' store

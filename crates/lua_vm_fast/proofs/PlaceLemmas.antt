@@ -28,7 +28,7 @@ use Rattle.lua_meaning.proofs.DirectLemmas.{index-is}
 use Rattle.lua_meaning.proofs.Running.{Does, val, exp, seq, look, node}
 use Rattle.lua_vm_fast.specs.declared.places.Seen.{Seen}
 use Rattle.lua_vm_fast.specs.declared.places.Valued.{Valued}
-use Rattle.lua_vm_fast.specs.Gives.{later, Gives, GivesGlobal, GivesIndex, HasAt, HasAfter}
+use Rattle.lua_vm_fast.specs.Gives.{later, Gives, GivesGlobal, GivesIndex, HasAt, HasAfter, HasIn}
 use Rattle.lua_vm_fast.proofs.ValueLemmas.{slot_gives, text_gives}
 
 -- local variables
@@ -116,12 +116,21 @@ index_seen a b s h t object key i j before (Some c) table ga gb sum has = λ x l
     (index_gives x left right s h t key c.value.now i j has.links is (subst (λ (z : Expr). Gives z s h (Table t) i) (sym l) (subst (λ (o : Value). Gives a s h o i) table ga)) (subst (λ (z : Expr). Gives z s h key j) (sym r) gb) has.has)
 index_seen a b s h t object key i j before None table ga gb sum has = tt
 
--- the same at a text
-pub named_seen : (a b : Expr) (s : Slots) (h : Heap) (t : ℕ) (name : List ℕ) (object : Value) (i before : ℕ) (r : Option Seen) → b.kind ≡ v.Text name → object ≡ Table t → Gives a s h object i → before ≡ i + 2
-    → IfSome r (λ c. HasAfter h t (Text name) c.value.now before c.steps) → IfSome r (λ c. GivesIndex a b s h c.value.now c.steps)
-named_seen a b s h t name object i before r is table ga sum has =
-    let sums : before ≡ i + 1 + 1 = omega (arith, sum) in
-    index_seen a b s h t object (Text name) i 1 before r table ga (text_gives b s h name is) sums has
+-- the same, where the key is found out last
+pub in_seen : (a b : Expr) (s : Slots) (h : Heap) (t : ℕ) (object : Value) (i : ℕ) (r : Option Seen) → object ≡ Table t → Gives a s h object i → IfSome r (λ c. HasIn h t b s c.value.now i c.steps) → IfSome r (λ c. GivesIndex a b s h c.value.now c.steps)
+in_seen a b s h t object i (Some c) table ga has = index_seen a b s h t object has.key i has.key_steps (i + has.key_steps + 1) (Some c) table ga has.gives refl has.has
+in_seen a b s h t object i None table ga has = tt
+
+pub key_seen : (b : Expr) (s : Slots) (h : Heap) (t : ℕ) (key : Value) (j before : ℕ) (r : Option Seen) → Gives b s h key j → IfSome r (λ c. HasAfter h t key c.value.now (before + j + 1) c.steps) → IfSome r (λ c. HasIn h t b s c.value.now before c.steps)
+key_seen b s h t key j before (Some c) g has = record { key = key; key_steps = j; gives = g; has = has }
+key_seen b s h t key j before None g has = tt
+
+-- and at a text
+pub named_seen : (b : Expr) (s : Slots) (h : Heap) (t : ℕ) (name : List ℕ) (before : ℕ) (r : Option Seen) → b.kind ≡ v.Text name → IfSome r (λ c. HasAfter h t (Text name) c.value.now (before + 2) c.steps)
+    → IfSome r (λ c. HasIn h t b s c.value.now before c.steps)
+named_seen b s h t name before r is has =
+    let sums : before + 2 ≡ before + 1 + 1 = omega arith in
+    key_seen b s h t (Text name) 1 before r (text_gives b s h name is) (subst (λ (k : ℕ). IfSome r (λ c. HasAfter h t (Text name) c.value.now k c.steps)) sums has)
 
 pub index_found : (x : Expr) (a b : Rc Expr Global) (y z : Expr) (s : Slots) (h : Heap) (r : Option Seen) → x.kind ≡ v.Index a b → y ≡ a.value → z ≡ b.value → IfSome r (λ c. GivesIndex y z s h c.value.now c.steps) → IfSome r (λ c. Gives x s h c.value.now c.steps)
 index_found x a b y z s h (Some c) is l r g = g x a b (rw (is, outs-Index a b) refl) (sym l) (sym r)

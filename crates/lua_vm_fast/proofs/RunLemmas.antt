@@ -38,7 +38,7 @@ use Rattle.lua_vm_fast.specs.declared.calls.Site.{Site}
 use Rattle.lua_vm_fast.specs.declared.loops.LoopEnd.{LoopEnd}
 use Rattle.lua_vm_fast.specs.Gives.{counting, later, Gives, Tells}
 use Rattle.lua_vm_fast.specs.Calls.{Allows, RunsAt}
-use Rattle.lua_vm_fast.specs.Runs.{state, Becomes, RunsIf, IsLocals, IsAssignments, IsAssignment, Tests, left_of, is_plain}
+use Rattle.lua_vm_fast.specs.Runs.{state, Becomes, RunsIf, IsLocals, IsAssignments, IsAssignment, SetsIf, Tests, left_of, is_plain}
 
 -- counted steps that stay below the limit
 pub counted : (n : ℕ) (before store : StoreView) → store ≡ record { heap = before.heap; steps = min step_limit (before.steps + n) } → nat_lt (before.steps + n) step_limit ≡ true → store ≡ counting n before
@@ -117,6 +117,20 @@ assignment_runs st x i n v s s' before store is g few had set steps S p rs =
 
     sums : before.steps + 1 + 1 + n ≡ before.steps + (n + 2)
     sums = omega arith
+
+-- a slot has a value, and steps are counted
+pub sets : (i n : ℕ) (v : Value) (s s' : Slots) (before store : StoreView) → nat_lt (before.steps + n) step_limit ≡ true → store ≡ record { heap = before.heap; steps = min step_limit (before.steps + n) } → s' ≡ slice_set s i (Plain v)
+    → SetsIf true i v n s before s' store
+sets i n v s s' before store few steps set = record { few = ltb-true _ _ few; set = set; is = counted n before store steps few }
+
+pub local_sets : (st : Stmt) (x : Expr) (i n : ℕ) (v : Value) (r : Bool) (s s' : Slots) (before store : StoreView) → IsLocals (i ∷ []) (x ∷ []) st → Gives x s before.heap v n → SetsIf r i v (n + 1) s before s' store → RunsIf r st s before s' store
+local_sets st x i n v true s s' before store is g t = local_runs st x i n v s s' before store is g (lt-ltb _ _ t.few) t.set t.is
+local_sets st x i n v false s s' before store is g t = t
+
+pub assignment_sets : (st : Stmt) (x : Expr) (i n : ℕ) (v : Value) (r : Bool) (s s' : Slots) (before store : StoreView) → IsAssignment i x st → Gives x s before.heap v n → is_plain (slice_get s i) ≡ true → SetsIf r i v (n + 2) s before s' store
+    → RunsIf r st s before s' store
+assignment_sets st x i n v true s s' before store is g had t = assignment_runs st x i n v s s' before store is g (lt-ltb _ _ t.few) had t.set t.is
+assignment_sets st x i n v false s s' before store is g had t = t
 
 -- a statement more of a block was run
 pub block_goes : (site : Site) (levels : ℕ) (S : Setting) (p : Places) (q : Work) (st : Stmt) (stmts : List Stmt) (next : ℕ) (s s' : Slots) (first before store : StoreView) → drop next stmts ≡ st ∷ drop (next + 1) stmts

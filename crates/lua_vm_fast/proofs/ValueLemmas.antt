@@ -34,8 +34,9 @@ use Rattle.lua_meaning.specs.Operators.{binary_work}
 use Rattle.lua_meaning.specs.Nodes.{eval}
 use Rattle.lua_meaning.proofs.Running.{Does, val, exp, seq, look, end}
 use Rattle.lua_vm_fast.specs.declared.numbers.Counted.{Counted}
+use Rattle.lua_vm_fast.specs.declared.places.Valued.{Valued}
 use Rattle.lua_vm_fast.specs.declared.tests.Tested.{Tested}
-use Rattle.lua_vm_fast.specs.Gives.{later, Gives, Operates, GivesBinary, Tells, Equates, text_steps}
+use Rattle.lua_vm_fast.specs.Gives.{later, Gives, Operates, GivesBinary, Tells, TellsJoined, Compares, Equates, text_steps}
 
 -- literals
 pub nil_gives : (x : Expr) (s : Slots) (h : Heap) → x.kind ≡ v.Nil → Gives x s h Nil 1
@@ -197,27 +198,21 @@ and_work a b p s = value a p s (λ u s'. if is_truthy u then value b p s' give_o
 abbrev or_work : Expr → Expr → Places → Slots → Work
 or_work a b p s = value a p s (λ u s'. if is_truthy u then give_one u s' else value b p s' give_one)
 
-and_gives : (x : Expr) (a b : Rc Expr Global) (s : Slots) (h : Heap) (u : Value) (k : ℕ) → x.kind ≡ v.And a b → 0 < k
+and_gives : (x : Expr) (a b : Rc Expr Global) (s : Slots) (h : Heap) (u : Value) (k : ℕ) → out-ExprKind x.kind ≡ e.And a b → 0 < k
     → ((S : Setting) (p : Places) (w : State) → w.store.heap ≡ h → w.store.steps + k < step_limit → do_work (eval S) (and_work a.value b.value p s) (later 1 w) ≡ Ended (Values (u ∷ [])) s (later k w)) → Gives x s h u k
 and_gives x a b s h u k is some does = record {
-  one = λ S p w heap few. (val {S = S} {x = x} {k = e.And a b} {p = p} {s = s} {w = w} kind (lt-ltb _ _ (omega (arith, few, some))) (record { is = does S p w heap few })).is;
-  all = λ S p w heap few. (exp {S = S} {x = x} {k = e.And a b} {p = p} {s = s} {w = w} kind (lt-ltb _ _ (omega (arith, few, some))) (record { is = does S p w heap few })).is;
+  one = λ S p w heap few. (val {S = S} {x = x} {k = e.And a b} {p = p} {s = s} {w = w} is (lt-ltb _ _ (omega (arith, few, some))) (record { is = does S p w heap few })).is;
+  all = λ S p w heap few. (exp {S = S} {x = x} {k = e.And a b} {p = p} {s = s} {w = w} is (lt-ltb _ _ (omega (arith, few, some))) (record { is = does S p w heap few })).is;
 }
-  where
-    kind : out-ExprKind x.kind ≡ e.And a b
-    kind = rw (is, outs-And a b) refl
 
-or_gives : (x : Expr) (a b : Rc Expr Global) (s : Slots) (h : Heap) (u : Value) (k : ℕ) → x.kind ≡ v.Or a b → 0 < k
+or_gives : (x : Expr) (a b : Rc Expr Global) (s : Slots) (h : Heap) (u : Value) (k : ℕ) → out-ExprKind x.kind ≡ e.Or a b → 0 < k
     → ((S : Setting) (p : Places) (w : State) → w.store.heap ≡ h → w.store.steps + k < step_limit → do_work (eval S) (or_work a.value b.value p s) (later 1 w) ≡ Ended (Values (u ∷ [])) s (later k w)) → Gives x s h u k
 or_gives x a b s h u k is some does = record {
-  one = λ S p w heap few. (val {S = S} {x = x} {k = e.Or a b} {p = p} {s = s} {w = w} kind (lt-ltb _ _ (omega (arith, few, some))) (record { is = does S p w heap few })).is;
-  all = λ S p w heap few. (exp {S = S} {x = x} {k = e.Or a b} {p = p} {s = s} {w = w} kind (lt-ltb _ _ (omega (arith, few, some))) (record { is = does S p w heap few })).is;
+  one = λ S p w heap few. (val {S = S} {x = x} {k = e.Or a b} {p = p} {s = s} {w = w} is (lt-ltb _ _ (omega (arith, few, some))) (record { is = does S p w heap few })).is;
+  all = λ S p w heap few. (exp {S = S} {x = x} {k = e.Or a b} {p = p} {s = s} {w = w} is (lt-ltb _ _ (omega (arith, few, some))) (record { is = does S p w heap few })).is;
 }
-  where
-    kind : out-ExprKind x.kind ≡ e.Or a b
-    kind = rw (is, outs-Or a b) refl
 
-pub and_stops : (x : Expr) (a b : Rc Expr Global) (y : Expr) (s : Slots) (h : Heap) (n k : ℕ) → x.kind ≡ v.And a b → y ≡ a.value → Tells y s h false n → k ≡ n + 1 → Tells x s h false k
+pub and_stops : (x : Expr) (a b : Rc Expr Global) (y : Expr) (s : Slots) (h : Heap) (n k : ℕ) → out-ExprKind x.kind ≡ e.And a b → y ≡ a.value → Tells y s h false n → k ≡ n + 1 → Tells x s h false k
 and_stops x a b y s h n k is same t sum = record {
   value = t.value;
   gives = and_gives x a b s h t.value k is (omega (arith, sum)) (λ S p w heap few.
@@ -230,7 +225,7 @@ and_stops x a b y s h n k is same t sum = record {
     sums : (j : ℕ) → j + 1 + n ≡ j + k
     sums j = omega (arith, sum)
 
-pub and_goes : (x : Expr) (a b : Rc Expr Global) (y z : Expr) (s : Slots) (h : Heap) (holds : Bool) (n m k : ℕ) → x.kind ≡ v.And a b → y ≡ a.value → z ≡ b.value → Tells y s h true n → Tells z s h holds m → k ≡ n + m + 1 → Tells x s h holds k
+pub and_goes : (x : Expr) (a b : Rc Expr Global) (y z : Expr) (s : Slots) (h : Heap) (holds : Bool) (n m k : ℕ) → out-ExprKind x.kind ≡ e.And a b → y ≡ a.value → z ≡ b.value → Tells y s h true n → Tells z s h holds m → k ≡ n + m + 1 → Tells x s h holds k
 and_goes x a b y z s h holds n m k is first_is second_is t r sum = record {
   value = r.value;
   gives = and_gives x a b s h r.value k is (omega (arith, sum)) (λ S p w heap few.
@@ -244,7 +239,7 @@ and_goes x a b y z s h holds n m k is first_is second_is t r sum = record {
     sums : (j : ℕ) → j + 1 + n + m ≡ j + k
     sums j = omega (arith, sum)
 
-pub or_stops : (x : Expr) (a b : Rc Expr Global) (y : Expr) (s : Slots) (h : Heap) (n k : ℕ) → x.kind ≡ v.Or a b → y ≡ a.value → Tells y s h true n → k ≡ n + 1 → Tells x s h true k
+pub or_stops : (x : Expr) (a b : Rc Expr Global) (y : Expr) (s : Slots) (h : Heap) (n k : ℕ) → out-ExprKind x.kind ≡ e.Or a b → y ≡ a.value → Tells y s h true n → k ≡ n + 1 → Tells x s h true k
 or_stops x a b y s h n k is same t sum = record {
   value = t.value;
   gives = or_gives x a b s h t.value k is (omega (arith, sum)) (λ S p w heap few.
@@ -257,7 +252,7 @@ or_stops x a b y s h n k is same t sum = record {
     sums : (j : ℕ) → j + 1 + n ≡ j + k
     sums j = omega (arith, sum)
 
-pub or_goes : (x : Expr) (a b : Rc Expr Global) (y z : Expr) (s : Slots) (h : Heap) (holds : Bool) (n m k : ℕ) → x.kind ≡ v.Or a b → y ≡ a.value → z ≡ b.value → Tells y s h false n → Tells z s h holds m → k ≡ n + m + 1 → Tells x s h holds k
+pub or_goes : (x : Expr) (a b : Rc Expr Global) (y z : Expr) (s : Slots) (h : Heap) (holds : Bool) (n m k : ℕ) → out-ExprKind x.kind ≡ e.Or a b → y ≡ a.value → z ≡ b.value → Tells y s h false n → Tells z s h holds m → k ≡ n + m + 1 → Tells x s h holds k
 or_goes x a b y z s h holds n m k is first_is second_is t r sum = record {
   value = r.value;
   gives = or_gives x a b s h r.value k is (omega (arith, sum)) (λ S p w heap few.
@@ -304,3 +299,37 @@ equal_gives o x y s h u t wanted same i j k op gx gy told sum z left right is l 
       where
         asked : Setting → List Caller → Work
         asked S callers = Look (λ g. if is_nil (handler_of_both g u t Eq) then give_truth wanted false s else call_for_truth callers (handler_of_both g u t Eq) u t wanted s)
+
+-- and of what its comparison says
+pub compared_gives : (o : BinOp) (x y : Expr) (s : Slots) (h : Heap) (a b : Valued) (wanted : Bool) (r : Option Tested) → Equates o wanted → Gives x s h a.value a.steps → Gives y s h b.value b.steps → IfSome r (Compares wanted a b)
+    → IfSome r (λ t. GivesBinary o x y s h (Truth t.holds) t.steps)
+compared_gives o x y s h a b wanted (Some t) op gx gy c = rw c.holds (equal_gives o x y s h a.value b.value wanted c.same a.steps b.steps t.steps op gx gy c.told c.steps)
+compared_gives o x y s h a b wanted None op gx gy c = tt
+
+-- `and` and `or` as tests
+pub joined_stops : (goes : Bool) (y z : Expr) (s : Slots) (h : Heap) (holds : Bool) (n : ℕ) → (if goes then holds else not holds) ≡ false → Tells y s h holds n → TellsJoined goes y z s h holds (n + 1)
+joined_stops true y z s h false n stops t = λ x a b is l r. and_stops x a b y s h n (n + 1) is (sym l) t refl
+joined_stops true y z s h true n stops t = absurd (cc)
+joined_stops false y z s h true n stops t = λ x a b is l r. or_stops x a b y s h n (n + 1) is (sym l) t refl
+joined_stops false y z s h false n stops t = absurd (cc)
+
+pub joined_goes : (goes : Bool) (y z : Expr) (s : Slots) (h : Heap) (first holds : Bool) (n m : ℕ) → (if goes then first else not first) ≡ true → Tells y s h first n → Tells z s h holds m → TellsJoined goes y z s h holds (n + m + 1)
+joined_goes true y z s h true holds n m goes t u = λ x a b is l r. and_goes x a b y z s h holds n m (n + m + 1) is (sym l) (sym r) t u refl
+joined_goes true y z s h false holds n m goes t u = absurd (cc)
+joined_goes false y z s h false holds n m goes t u = λ x a b is l r. or_goes x a b y z s h holds n m (n + m + 1) is (sym l) (sym r) t u refl
+joined_goes false y z s h true holds n m goes t u = absurd (cc)
+
+pub joined_so : (goes : Bool) (y z : Expr) (s : Slots) (h : Heap) (holds : Bool) (k : ℕ) (r : Option Tested) → TellsJoined goes y z s h holds k → IfSome r (λ t. t.holds ≡ holds) → IfSome r (λ t. t.steps ≡ k)
+    → IfSome r (λ t. TellsJoined goes y z s h t.holds t.steps)
+joined_so goes y z s h holds k (Some t) tells is steps = rw (is, steps) tells
+joined_so goes y z s h holds k None tells is steps = tt
+
+pub and_tells : (x : Expr) (a b : Rc Expr Global) (y z : Expr) (s : Slots) (h : Heap) (r : Option Tested) → x.kind ≡ v.And a b → y ≡ a.value → z ≡ b.value → IfSome r (λ t. TellsJoined true y z s h t.holds t.steps)
+    → IfSome r (λ t. Tells x s h t.holds t.steps)
+and_tells x a b y z s h (Some t) is l r tells = tells x a b (rw (is, outs-And a b) refl) (sym l) (sym r)
+and_tells x a b y z s h None is l r tells = tt
+
+pub or_tells : (x : Expr) (a b : Rc Expr Global) (y z : Expr) (s : Slots) (h : Heap) (r : Option Tested) → x.kind ≡ v.Or a b → y ≡ a.value → z ≡ b.value → IfSome r (λ t. TellsJoined false y z s h t.holds t.steps)
+    → IfSome r (λ t. Tells x s h t.holds t.steps)
+or_tells x a b y z s h (Some t) is l r tells = tells x a b (rw (is, outs-Or a b) refl) (sym l) (sym r)
+or_tells x a b y z s h None is l r tells = tt

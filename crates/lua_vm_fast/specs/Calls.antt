@@ -1,5 +1,5 @@
 -- Calls of functions that only give values, which are done at once (Lua 5.1 Reference Manual, 2.5.8).
-use Rattle.std.specs.Prelude.{◌≡◌, ℕ, ◌+◌, ◌<◌, Bool, true, false, List, [], ◌∷◌, length, map, Option, Some, None}
+use Rattle.std.specs.Prelude.{◌≡◌, ℕ, ◌+◌, ◌<◌, Bool, true, false, List, [], ◌∷◌, length, map, slice_get, Option, Some, None}
 use Rattle.std.specs.declared.rc.Rc.{Rc}
 use Rattle.std.specs.declared.vec.Vec.{Vec}
 use Rattle.std.specs.declared.alloc.Global.{Global}
@@ -7,6 +7,7 @@ use Rattle.lua_ast.specs.declared.expressions.BinOp.{BinOp}
 use Rattle.lua_ast.specs.declared.expressions.Expr.{Expr}
 use Rattle.lua_ast.specs.declared.expressions.ExprKind.{out-ExprKind}
 use Rattle.lua_ast.specs.declared.expressions.ExprKind.TheOpen as e
+use Rattle.lua_ast.specs.declared.programs.Function.{Function}
 use Rattle.lua_ast.specs.declared.programs.Program.{Program}
 use Rattle.lua_ast.specs.declared.statements.Stmt.{Stmt}
 use Rattle.lua_ast.specs.declared.statements.StmtKind.{out-StmtKind}
@@ -73,6 +74,12 @@ pub record Returns (site : Site) (levels : ℕ) (stmts : List Stmt) (s : Slots) 
 pub record CallReturns (program : Program) (levels : ℕ) (c : ℕ) (args : List Value) (h : Heap) (vs : List Value) (n : ℕ) : Type 0 where
   pub is : (S : Setting) (callers : List Caller) (w : State) → S.program ≡ program → length callers + levels < most_callers → w.store.heap ≡ h
       → w.store.steps + n < step_limit → eval S (ACall (Closure c) args) (calling callers false) [] w ≡ Ended (Values vs) [] (later n w)
+
+-- a closure has this function of the program, and captured these cells
+pub record IsBody (program : Program) (h : Heap) (c : ℕ) (f : Function) (cells : List ℕ) : Type 0 where
+  pub number : ℕ
+  pub closure : slice_get h.closures c ≡ Some (record { function = number; cells = cells })
+  pub there : slice_get program.functions.items number ≡ Some f
 
 -- no value, or one
 abbrev pub all_of : Option Value → List Value

@@ -1,5 +1,5 @@
 -- Statements and loops that are run at once (Lua 5.1 Reference Manual, 2.4).
-use Rattle.std.specs.Prelude.{◌≡◌, ℕ, Bool, true, false, List, [], ◌∷◌, drop, Option, Some, if◌then◌else◌}
+use Rattle.std.specs.Prelude.{◌≡◌, ◌+◌, ◌<◌, ℕ, Bool, true, false, List, [], ◌∷◌, drop, slice_set, Option, Some, if◌then◌else◌}
 use Rattle.std.specs.declared.rc.Rc.{Rc}
 use Rattle.std.specs.declared.vec.Vec.{Vec}
 use Rattle.std.specs.declared.alloc.Global.{Global}
@@ -9,7 +9,8 @@ use Rattle.lua_ast.specs.declared.expressions.ExprKind.TheOpen as e
 use Rattle.lua_ast.specs.declared.statements.Stmt.{Stmt}
 use Rattle.lua_ast.specs.declared.statements.StmtKind.{out-StmtKind}
 use Rattle.lua_ast.specs.declared.statements.StmtKind.TheOpen as k
-use Rattle.lua_values.specs.Heap.{StoreView}
+use Rattle.lua_values.specs.declared.values.Value.{Value}
+use Rattle.lua_values.specs.Heap.{StoreView, step_limit}
 use Rattle.lua_meaning.specs.declared.slots.Slot.{Slot}
 use Rattle.lua_meaning.specs.declared.slots.Slot.TheVariants.{Plain}
 use Rattle.lua_meaning.specs.Works.{Places, Slots, AStmt, Values, Work, and_then}
@@ -19,6 +20,7 @@ use Rattle.lua_meaning.specs.Signs.{give}
 use Rattle.lua_meaning.specs.Blocks.{block}
 use Rattle.lua_meaning.specs.Loops.{after_body, while_work, turn_work}
 use Rattle.lua_meaning.specs.Nodes.{eval}
+use Rattle.lua_vm_fast.specs.Gives.{counting}
 use Rattle.lua_vm_fast.specs.declared.loops.LoopEnd.{LoopEnd}
 use Rattle.lua_vm_fast.specs.declared.loops.LoopEnd.TheVariants as loop_end
 
@@ -34,6 +36,17 @@ abbrev pub RunsIf : Bool → Stmt → Slots → StoreView → Slots → StoreVie
 RunsIf true st s before s' store =
     (S : Setting) (p : Places) (resumes : List Resume) → eval S (AStmt st) p s (state before resumes) ≡ Ended (Values []) s' (state store resumes)
 RunsIf false st s before s' store = (s' ≡ s) × (store ≡ before)
+
+-- a slot got a value of its own, and n steps are counted
+pub record Sets (i : ℕ) (v : Value) (n : ℕ) (s : Slots) (before : StoreView) (s' : Slots) (store : StoreView) : Type 0 where
+  pub few : before.steps + n < step_limit
+  pub set : s' ≡ slice_set s i (Plain v)
+  pub is : store ≡ counting n before
+
+-- or nothing was changed
+abbrev pub SetsIf : Bool → ℕ → Value → ℕ → Slots → StoreView → Slots → StoreView → Type 0
+SetsIf true i v n s before s' store = Sets i v n s before s' store
+SetsIf false i v n s before s' store = (s' ≡ s) × (store ≡ before)
 
 -- `local NAMES = VALUES`, of the variables in these slots
 pub record IsLocals (places : List ℕ) (xs : List Expr) (st : Stmt) : Type 0 where

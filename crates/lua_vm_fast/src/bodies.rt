@@ -1,11 +1,12 @@
 //! Blocks that give values to variables of their own function alone, which are run at once.
 
-ghost use Rattle.std.specs.Prelude.{◌≡◌, ◌<◌, ◌+◌, ◌*◌, ◌∷◌, [], IfSome};
+ghost use Rattle.std.specs.Prelude.{◌≡◌, ◌<◌, ◌+◌, ◌*◌, ◌∷◌, [], slice_set, IfSome};
 ghost use Rattle.lua_ast.specs.declared.statements.Stmt.{Stmt as LuaStmt};
 ghost use Rattle.lua_values.specs.Heap.{Heap, step_limit};
-ghost use Rattle.lua_meaning.specs.Works.{Slots};
+ghost use Rattle.lua_meaning.specs.declared.slots.Slot.TheVariants.{Plain};
+ghost use Rattle.lua_meaning.specs.Works.{Slots, Values, Return};
 ghost use Rattle.lua_vm_fast.specs.Runs.{IsLocals, IsAssignments};
-ghost use Rattle.lua_vm_fast.specs.Calls.{IsReturn};
+ghost use Rattle.lua_vm_fast.specs.Calls.{IsReturn, all_of};
 ghost use Rattle.lua_vm_fast.specs.Bodies.{Follows, StmtEnds, BlockEnds, more_of, sign_of};
 ghost use Rattle.lua_vm_fast.specs.Branches.{IsIf};
 
@@ -180,6 +181,53 @@ pub(crate) fn plan_of<'a>(slots: &[Slot], store: &Store, stmt: &'a Stmt) -> Opti
     }
 }
 
+/// How `return` of a value ends.
+#[inline(always)]
+fn given_end(given: Valued) -> Ended
+    requires { given.steps < step_limit }
+    ensures end { sign_of result.end ≡ Return (given.value ∷ []) }
+    ensures steps { result.steps ≡ given.steps + 1 }
+{
+    let Valued { value, steps } = given;
+    Ended {
+        end: End::Returned(Some(value)),
+        steps: steps + 1,
+    }
+}
+
+/// How an assignment ends: a slot has the value, and so many steps more are counted.
+#[inline(always)]
+fn set_end(slots: &mut Vec<Slot>, i: u8, given: Valued, more: u64) -> Ended
+    requires steps { given.steps < step_limit }
+    requires more { more < 3 }
+    ensures sets { slots.new.items ≡ slice_set slots.old.items i (Plain given.value) }
+    ensures end { sign_of result.end ≡ Values [] }
+    ensures steps { result.steps ≡ given.steps + more }
+{
+    let Valued { value, steps } = given;
+    put_value(slots, i, value);
+    Ended {
+        end: End::Went,
+        steps: steps + more,
+    }
+}
+
+/// A return of no value or one after so many steps, if these are few enough for a run.
+#[inline(always)]
+fn returned(value: Option<Value>, steps: u64) -> Option<Ended>
+    ensures end { IfSome result (λ r. sign_of r.end ≡ Return (all_of value)) }
+    ensures steps { IfSome result (λ r. r.steps ≡ steps) }
+    ensures few { IfSome result (λ r. r.steps < step_limit) }
+{
+    if steps >= STEP_LIMIT {
+        return None;
+    }
+    Some(Ended {
+        end: End::Returned(value),
+        steps,
+    })
+}
+
 /// How an `if` ends.
 #[cycle(calls)]
 fn if_end(
@@ -220,28 +268,21 @@ fn stmt_end(
     if let StmtKind::If(arms, last) = &stmt.kind {
         return if_end(site, slots, store, arms, last, levels);
     }
-    let plan = plain_plan(slots, stmt)?;
-    match plan {
-        Plan::Leaves => Some(Ended {
+    match plain_plan(slots, stmt) {
+        None => None,
+        Some(Plan::Leaves) => Some(Ended {
             end: End::Returned(None),
             steps: 1,
         }),
-        Plan::Gives(x) => {
-            let Valued { value, steps } = value_at(site, slots, store, x, levels)?;
-            Some(Ended {
-                end: End::Returned(Some(value)),
-                steps: steps + 1,
-            })
-        }
-        Plan::Sets(slot, x, more) => {
-            let Valued { value, steps } = value_at(site, slots, store, x, levels)?;
-            put_value(slots, slot, value);
-            Some(Ended {
-                end: End::Went,
-                steps: steps + more,
-            })
-        }
-        Plan::Counts(more) => Some(Ended {
+        Some(Plan::Gives(x)) => match value_at(site, slots, store, x, levels) {
+            Some(given) => Some(given_end(given)),
+            None => None,
+        },
+        Some(Plan::Sets(slot, x, more)) => match value_at(site, slots, store, x, levels) {
+            Some(given) => Some(set_end(slots, slot, given, more)),
+            None => None,
+        },
+        Some(Plan::Counts(more)) => Some(Ended {
             end: End::Went,
             steps: more,
         }),
@@ -266,17 +307,14 @@ pub(crate) fn block_end(
         let stmt = stmt_at(stmts, i)?;
         let Ended { end, steps: more } = stmt_end(site, slots, store, stmt, levels)?;
         steps += more;
-        if steps >= STEP_LIMIT {
-            return None;
-        }
         match end {
-            End::Went => i += 1,
-            End::Returned(value) => {
-                return Some(Ended {
-                    end: End::Returned(value),
-                    steps,
-                });
+            End::Went => {
+                if steps >= STEP_LIMIT {
+                    return None;
+                }
+                i += 1;
             }
+            End::Returned(value) => return returned(value, steps),
         }
     }
     Some(Ended {

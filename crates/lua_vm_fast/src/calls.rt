@@ -3,7 +3,7 @@
 ghost use Rattle.std.specs.Prelude.{◌≡◌, ◌<◌, ◌+◌, ◌*◌, ◌++◌, ◌-◌, ◌∷◌, [], ℕ, true, List, length, map, replicate, slice_get, IfSome, MatchOption, drop};
 ghost use Rattle.lua_ast.specs.declared.statements.Stmt.{Stmt as LuaStmt};
 ghost use Rattle.lua_values.specs.declared.values.Value.{Value as LuaValue};
-ghost use Rattle.lua_values.specs.declared.values.Value.TheVariants.{Nil, Number};
+ghost use Rattle.lua_values.specs.declared.values.Value.TheVariants.{Closure, Nil, Number};
 ghost use Rattle.lua_ast.specs.declared.statements.StmtKind.TheVariants.{Call};
 ghost use Rattle.lua_values.specs.Heap.{step_limit};
 ghost use Rattle.lua_meaning.specs.declared.slots.Slot.TheVariants.{Plain};
@@ -11,13 +11,13 @@ ghost use Rattle.lua_meaning.specs.Variables.{in_cell};
 ghost use Rattle.lua_meaning.specs.Works.{Values};
 ghost use Rattle.lua_meaning.specs.Calls.{function_end, slots_from};
 ghost use Rattle.lua_vm_fast.specs.Bodies.{Follows, more_of, sign_of};
-ghost use Rattle.lua_vm_fast.specs.Calls.{GivesAt, CallGives, GivesCall, GivesList, BinaryGives, CallReturns, RunsAt, IsCall, all_of};
+ghost use Rattle.lua_vm_fast.specs.Calls.{GivesAt, CallGives, GivesCall, GivesList, BinaryGives, CallReturns, RunsAt, IsBody, IsCall, all_of};
 
 use crate::bodies::{End, Plan, block_end, plan_of};
 use crate::numbers::{Counted, LEVELS, number_of};
 use crate::operators::computed;
 use crate::places::{Seen, Valued, seen_of, value_of};
-use crate::statements::{put, put_value};
+use crate::statements::{take_number, take_value};
 use crate::steps::affords;
 use lua_ast::{BinOp, Expr, ExprKind, Function, Program, Stmt, StmtKind};
 use lua_meaning::Slot;
@@ -34,17 +34,24 @@ pub struct Site<'a> {
     pub levels: u8,
 }
 
+/// A closure that is called, and how many steps its expression counts.
+#[derive(Clone, Copy)]
+struct Callee {
+    closure: u32,
+    steps: u64,
+}
+
+/// The function of a closure, and the cells that it captured.
+#[derive(Clone, Copy)]
+struct Body<'a> {
+    function: &'a Function,
+    cells: &'a [u32],
+}
+
 /// What a call gives, no value or one, and how many steps it counts.
 #[derive(Drop)]
 struct Called {
     value: Option<Value>,
-    steps: u64,
-}
-
-/// The arguments of a call as local variables, and how many steps their expressions count.
-#[derive(Drop)]
-struct Given {
-    slots: Vec<Slot>,
     steps: u64,
 }
 
@@ -71,6 +78,32 @@ fn callee_of<'a>(site: &Site, slots: &'a [Slot], store: &'a Store, x: &Expr) -> 
         ExprKind::Captured(i) => seen_captured(site, store, *i),
         _ => seen_of(slots, store, x, LEVELS),
     }
+}
+
+/// The closure that an expression gives.
+#[inline(always)]
+fn closure_of(site: &Site, slots: &[Slot], store: &Store, x: &Expr) -> Option<Callee>
+    ensures gives { IfSome result (λ callee. (levels : ℕ) → GivesAt site.now levels x.now slots.now store.now.heap (Closure callee.closure) callee.steps) }
+    ensures few { IfSome result (λ callee. callee.steps < step_limit) }
+{
+    let callee = callee_of(site, slots, store, x)?;
+    match callee.value {
+        Value::Closure(closure) => Some(Callee {
+            closure: *closure,
+            steps: callee.steps,
+        }),
+        _ => None,
+    }
+}
+
+/// The function of a closure, and the cells that it captured.
+#[inline(always)]
+fn body_of<'a>(program: &'a Program, store: &'a Store, c: u32) -> Option<Body<'a>>
+    ensures { IfSome result (λ body. IsBody program.now store.now.heap c body.function.now body.cells.now) }
+{
+    let (number, cells) = store.closure(c)?;
+    let function = program.functions.get(number as usize)?;
+    Some(Body { function, cells })
 }
 
 /// The value of an expression at a site.
@@ -181,22 +214,14 @@ fn called_of(
     if levels == 0 {
         return None;
     }
-    let callee = callee_of(site, slots, store, f)?;
-    match callee.value {
-        Value::Closure(c) => {
-            let given = given_of(site, slots, store, xs.as_slice(), levels - 1)?;
-            let Given {
-                slots: given,
-                steps,
-            } = given;
-            let end = closure_end(site, store, *c, given, levels - 1)?;
-            Some(Called {
-                value: end.value,
-                steps: callee.steps + steps + end.steps,
-            })
-        }
-        _ => None,
-    }
+    let callee = closure_of(site, slots, store, f)?;
+    let mut given = Vec::new(site.alloc);
+    let steps = give(site, slots, store, xs.as_slice(), levels - 1, &mut given)?;
+    let end = closure_end(site, store, callee.closure, &mut given, levels - 1)?;
+    Some(Called {
+        value: end.value,
+        steps: callee.steps + steps + end.steps,
+    })
 }
 
 /// The expression at an index, if it is there.
@@ -215,28 +240,35 @@ fn push(slots: &mut Vec<Slot>, value: Value) -> bool
     slots.push(Slot::Plain(value)).is_ok()
 }
 
-/// The arguments of a call.
+/// The arguments of a call become local variables, of which there were none. Returns how many steps their expressions count.
 #[cycle(calls)]
-fn given_of(site: &Site, slots: &[Slot], store: &Store, xs: &[Expr], levels: u8) -> Option<Given>
-    ensures gives { IfSome result (λ g. GivesList site.now levels xs.now slots.now store.now.heap g.slots.items g.steps) }
-    ensures few { IfSome result (λ g. g.steps < step_limit) }
+fn give(
+    site: &Site,
+    slots: &[Slot],
+    store: &Store,
+    xs: &[Expr],
+    levels: u8,
+    given: &mut Vec<Slot>,
+) -> Option<u64>
+    requires { given.old.items ≡ [] }
+    ensures gives { IfSome result (λ n. GivesList site.now levels xs.now slots.now store.now.heap given.new.items n) }
+    ensures few { IfSome result (λ n. n < step_limit) }
 {
-    let mut given = Vec::new(site.alloc);
     let mut steps = 0u64;
     let mut i = 0usize;
     while i < xs.len() {
         let x = expr_at(xs, i)?;
         let Valued { value, steps: more } = value_at(site, slots, store, x, levels)?;
+        if !push(given, value) {
+            return None;
+        }
         steps += more;
-        if steps >= STEP_LIMIT || !push(&mut given, value) {
+        if steps >= STEP_LIMIT {
             return None;
         }
         i += 1;
     }
-    Some(Given {
-        slots: given,
-        steps,
-    })
+    Some(steps)
 }
 
 /// Nil for each variable that is missing in so many.
@@ -271,21 +303,28 @@ fn given_by(end: End) -> Option<Value>
     }
 }
 
-/// How a call of a closure ends with these arguments.
+/// How a call of a closure ends, with its arguments as the first of its local variables.
 #[cycle(calls)]
-fn closure_end(site: &Site, store: &Store, c: u32, given: Vec<Slot>, levels: u8) -> Option<Called>
-    ensures gives { IfSome result (λ r. (vs : List LuaValue) → given.items ≡ map Plain vs
+fn closure_end(
+    site: &Site,
+    store: &Store,
+    c: u32,
+    slots: &mut Vec<Slot>,
+    levels: u8,
+) -> Option<Called>
+    ensures gives { IfSome result (λ r. (vs : List LuaValue) → slots.old.items ≡ map Plain vs
         → CallReturns site.now.program.now levels c vs store.now.heap (all_of r.value) r.steps) }
     ensures few { IfSome result (λ r. r.steps < step_limit + 2) }
 {
-    let (number, cells) = store.closure(c)?;
-    let f = site.program.functions.get(number as usize)?;
-    let mut slots = given;
-    if !fill(f, &mut slots) {
+    let body = body_of(site.program, store, c)?;
+    if !fill(body.function, slots) {
         return None;
     }
-    let inner = Site { cells, ..*site };
-    let ended = block_end(&inner, &mut slots, store, f.body.as_slice(), levels)?;
+    let inner = Site {
+        cells: body.cells,
+        ..*site
+    };
+    let ended = block_end(&inner, slots, store, body.function.body.as_slice(), levels)?;
     Some(Called {
         value: given_by(ended.end),
         steps: ended.steps + 1,
@@ -334,27 +373,10 @@ fn run_plan(
 {
     match plan {
         Plan::Sets(slot, x, more) => match number_of(slots, store, x, LEVELS) {
-            Some(n) => {
-                let steps = n.steps + more;
-                if !affords(store, steps) {
-                    return false;
-                }
-                put(slots, slot, n.number);
-                let _ = store.count(steps);
-                true
-            }
+            Some(n) => take_number(slots, store, slot, n.number, n.steps + more),
             None => match value_at(site, slots, store, x, site.levels) {
                 None => false,
-                Some(v) => {
-                    let Valued { value, steps } = v;
-                    let steps = steps + more;
-                    if !affords(store, steps) {
-                        return false;
-                    }
-                    put_value(slots, slot, value);
-                    let _ = store.count(steps);
-                    true
-                }
+                Some(v) => take_value(slots, store, slot, v, more),
             },
         },
         Plan::Counts(steps) => {

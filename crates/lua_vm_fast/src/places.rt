@@ -7,7 +7,7 @@ ghost use Rattle.lua_values.specs.Values.{is_nil};
 ghost use Rattle.lua_operators.specs.declared.events.Event.TheVariants.{Index};
 ghost use Rattle.lua_meaning.specs.Metatables.{handler};
 ghost use Rattle.lua_meaning.specs.Variables.{in_slot};
-ghost use Rattle.lua_vm_fast.specs.Gives.{Gives, GivesGlobal, GivesIndex, HasAfter};
+ghost use Rattle.lua_vm_fast.specs.Gives.{Gives, GivesGlobal, GivesIndex, HasAfter, HasIn};
 
 use crate::numbers::{LEVELS, number_of};
 use lua_ast::{Expr, ExprKind};
@@ -103,18 +103,36 @@ fn seen_at<'a>(
     }
     let object = seen_of(slots, store, a, levels - 1)?;
     match object.value {
-        Value::Table(t) => match &b.kind {
-            ExprKind::Slot(i) => {
-                let key = seen_in_slot(slots, store, *i)?;
-                found(store, *t, key.value, object.steps + key.steps + 1)
-            }
-            ExprKind::Text(name) => named(store, *t, name, object.steps + 2),
-            _ => {
-                let key = value_of(slots, store, b, levels - 1)?;
-                found(store, *t, &key.value, object.steps + key.steps + 1)
-            }
-        },
+        Value::Table(t) => seen_in(slots, store, *t, b, object.steps, levels - 1),
         _ => None,
+    }
+}
+
+/// What a table has at the value of an expression, with so many steps before it.
+#[cycle(numbers)]
+#[inline(always)]
+fn seen_in<'a>(
+    slots: &'a [Slot],
+    store: &'a Store,
+    t: u32,
+    b: &Expr,
+    steps: u64,
+    levels: u8,
+) -> Option<Seen<'a>>
+    requires { steps < step_limit }
+    ensures has { IfSome result (λ seen. HasIn store.now.heap t b.now slots.now seen.value.now steps seen.steps) }
+    ensures few { IfSome result (λ seen. seen.steps < step_limit) }
+{
+    match &b.kind {
+        ExprKind::Slot(i) => {
+            let key = seen_in_slot(slots, store, *i)?;
+            found(store, t, key.value, steps + key.steps + 1)
+        }
+        ExprKind::Text(name) => named(store, t, name, steps + 2),
+        _ => {
+            let key = value_of(slots, store, b, levels)?;
+            found(store, t, &key.value, steps + key.steps + 1)
+        }
     }
 }
 

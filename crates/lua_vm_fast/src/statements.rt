@@ -10,7 +10,7 @@ ghost use Rattle.lua_meaning.specs.Blocks.{block};
 ghost use Rattle.lua_values.specs.Heap.{step_limit};
 ghost use Rattle.lua_vm_fast.specs.Gives.{Gives};
 ghost use Rattle.lua_vm_fast.specs.Calls.{Allows, RunsAt};
-ghost use Rattle.lua_vm_fast.specs.Runs.{Becomes, RunsIf, IsLocals, IsAssignments, IsAssignment, is_plain};
+ghost use Rattle.lua_vm_fast.specs.Runs.{Becomes, RunsIf, IsLocals, IsAssignments, IsAssignment, SetsIf, is_plain};
 
 use crate::calls::{Site, run_with_calls};
 use crate::concatenation::{run_joined_assignment, run_joined_local};
@@ -66,6 +66,47 @@ pub(crate) fn is_plain(slots: &[Slot], i: u8) -> bool
     }
 }
 
+/// A slot gets a number, and steps are counted, if so many are left; if not, nothing is changed.
+#[inline(always)]
+pub(crate) fn take_number(
+    slots: &mut Vec<Slot>,
+    store: &mut Store,
+    i: u8,
+    number: Whole,
+    steps: u64,
+) -> bool
+    ensures { SetsIf result i (Number number) steps slots.old.items store.old slots.new.items store.new }
+{
+    if !affords(store, steps) {
+        return false;
+    }
+    put(slots, i, number);
+    let _ = store.count(steps);
+    true
+}
+
+/// A slot gets a value, and its steps are counted, with so many more, if these are left; if not, nothing is changed.
+#[inline(always)]
+pub(crate) fn take_value(
+    slots: &mut Vec<Slot>,
+    store: &mut Store,
+    i: u8,
+    valued: Valued,
+    more: u64,
+) -> bool
+    requires steps { valued.steps < step_limit }
+    requires more { more < step_limit + 3 }
+    ensures { SetsIf result i valued.value (valued.steps + more) slots.old.items store.old slots.new.items store.new }
+{
+    let Valued { value, steps } = valued;
+    if !affords(store, steps + more) {
+        return false;
+    }
+    put_value(slots, i, value);
+    let _ = store.count(steps + more);
+    true
+}
+
 /// The value of an expression that is no expression of numbers, as `value_of` has it.
 fn other_value_of(slots: &[Slot], store: &Store, x: &Expr) -> Option<Valued>
     ensures gives { IfSome result (λ v. Gives x.now slots.now store.now.heap v.value v.steps) }
@@ -95,14 +136,7 @@ fn run_local(slots: &mut Vec<Slot>, store: &mut Store, i: u8, x: &Expr) -> bool
     }
     match number_of(slots, store, x, LEVELS) {
         None => run_other_local(slots, store, i, x),
-        Some(n) => {
-            if !affords(store, n.steps + 1) {
-                return false;
-            }
-            put(slots, i, n.number);
-            let _ = store.count(n.steps + 1);
-            true
-        }
+        Some(n) => take_number(slots, store, i, n.number, n.steps + 1),
     }
 }
 
@@ -135,15 +169,7 @@ fn run_other_local(slots: &mut Vec<Slot>, store: &mut Store, i: u8, x: &Expr) ->
 {
     match other_value_of(slots, store, x) {
         None => run_joined_local(slots, store, i, x),
-        Some(v) => {
-            let Valued { value, steps } = v;
-            if !affords(store, steps + 1) {
-                return false;
-            }
-            put_value(slots, i, value);
-            let _ = store.count(steps + 1);
-            true
-        }
+        Some(v) => take_value(slots, store, i, v, 1),
     }
 }
 
@@ -160,14 +186,7 @@ fn run_assignment(slots: &mut Vec<Slot>, store: &mut Store, i: u8, x: &Expr) -> 
     }
     match number_of(slots, store, x, LEVELS) {
         None => run_other_assignment(slots, store, i, x),
-        Some(n) => {
-            if !affords(store, n.steps + 2) {
-                return false;
-            }
-            put(slots, i, n.number);
-            let _ = store.count(n.steps + 2);
-            true
-        }
+        Some(n) => take_number(slots, store, i, n.number, n.steps + 2),
     }
 }
 
@@ -202,15 +221,7 @@ fn run_other_assignment(slots: &mut Vec<Slot>, store: &mut Store, i: u8, x: &Exp
 {
     match other_value_of(slots, store, x) {
         None => run_joined_assignment(slots, store, i, x),
-        Some(v) => {
-            let Valued { value, steps } = v;
-            if !affords(store, steps + 2) {
-                return false;
-            }
-            put_value(slots, i, value);
-            let _ = store.count(steps + 2);
-            true
-        }
+        Some(v) => take_value(slots, store, i, v, 2),
     }
 }
 

@@ -4,12 +4,12 @@ ghost use Rattle.std.specs.Prelude.{◌≡◌, ◌<◌, ◌+◌, ◌*◌, not, I
 ghost use Rattle.lua_values.specs.declared.values.Value.TheVariants.{Truth};
 ghost use Rattle.lua_values.specs.Heap.{step_limit};
 ghost use Rattle.lua_operators.specs.declared.outcome.Outcome.TheVariants.{Gives};
-ghost use Rattle.lua_vm_fast.specs.Gives.{Equates, GivesBinary, Tells, text_steps};
+ghost use Rattle.lua_vm_fast.specs.Gives.{Compares, Equates, GivesBinary, Tells, TellsJoined, text_steps};
 ghost use Rattle.lua_vm_fast.specs.Runs.{Tests};
 
 use crate::numbers::{LEVELS, number_of};
 use crate::operators::compared;
-use crate::places::{found_of, value_of};
+use crate::places::{Valued, found_of, value_of};
 use crate::steps::affords;
 use lua_ast::{BinOp, Expr, ExprKind, UnOp};
 use lua_meaning::Slot;
@@ -81,14 +81,14 @@ fn text_steps(a: &Value, b: &Value) -> u64
     }
 }
 
-/// Whether `==` or `~=` holds of the values of two expressions, if no metatable is asked; `None` of any other operator.
-fn equal_of(slots: &[Slot], store: &Store, operator: BinOp, a: &Expr, b: &Expr) -> Option<Tested>
-    ensures gives { IfSome result (λ t. GivesBinary operator a.now b.now slots.now store.now.heap (Truth t.holds) t.steps) }
+/// Whether two values are the same, or whether they aren't where false is wanted; `None` where a metatable is asked.
+#[inline(always)]
+fn equated(wanted: bool, a: &Valued, b: &Valued) -> Option<Tested>
+    requires a { a.now.steps < step_limit }
+    requires b { b.now.steps < step_limit }
+    ensures compares { IfSome result (Compares wanted a.now b.now) }
     ensures few { IfSome result (λ t. t.steps < 4 * step_limit) }
 {
-    let wanted = wanted_of(operator)?;
-    let a = value_of(slots, store, a, LEVELS)?;
-    let b = value_of(slots, store, b, LEVELS)?;
     let texts = text_steps(&a.value, &b.value);
     if texts >= STEP_LIMIT {
         return None;
@@ -98,6 +98,17 @@ fn equal_of(slots: &[Slot], store: &Store, operator: BinOp, a: &Expr, b: &Expr) 
         holds: as_wanted(wanted, same),
         steps: a.steps + b.steps + 1 + texts,
     })
+}
+
+/// Whether `==` or `~=` holds of the values of two expressions, if no metatable is asked; `None` of any other operator.
+fn equal_of(slots: &[Slot], store: &Store, operator: BinOp, a: &Expr, b: &Expr) -> Option<Tested>
+    ensures gives { IfSome result (λ t. GivesBinary operator a.now b.now slots.now store.now.heap (Truth t.holds) t.steps) }
+    ensures few { IfSome result (λ t. t.steps < 4 * step_limit) }
+{
+    let wanted = wanted_of(operator)?;
+    let a = value_of(slots, store, a, LEVELS)?;
+    let b = value_of(slots, store, b, LEVELS)?;
+    equated(wanted, &a, &b)
 }
 
 /// Whether an operator gives true on two expressions.
@@ -186,24 +197,32 @@ fn made_test_of(slots: &[Slot], store: &Store, x: &Expr, levels: u8) -> Option<T
             let test = made_test_of(slots, store, a, levels - 1)?;
             counted_test(test.holds, test.steps + 1)
         }
-        ExprKind::And(a, b) => {
-            let first = made_test_of(slots, store, a, levels - 1)?;
-            if !first.holds {
-                return counted_test(false, first.steps + 1);
-            }
-            let second = made_test_of(slots, store, b, levels - 1)?;
-            counted_test(second.holds, first.steps + second.steps + 1)
-        }
-        ExprKind::Or(a, b) => {
-            let first = made_test_of(slots, store, a, levels - 1)?;
-            if first.holds {
-                return counted_test(true, first.steps + 1);
-            }
-            let second = made_test_of(slots, store, b, levels - 1)?;
-            counted_test(second.holds, first.steps + second.steps + 1)
-        }
+        ExprKind::And(a, b) => joined_test_of(slots, store, true, a, b, levels - 1),
+        ExprKind::Or(a, b) => joined_test_of(slots, store, false, a, b, levels - 1),
         _ => plain_test_of(slots, store, x),
     }
+}
+
+/// Whether `a and b` holds, or `a or b` where false is given: b is asked where a holds, or where it doesn't.
+#[cycle(made)]
+#[inline(always)]
+fn joined_test_of(
+    slots: &[Slot],
+    store: &Store,
+    goes_on: bool,
+    a: &Expr,
+    b: &Expr,
+    levels: u8,
+) -> Option<Tested>
+    ensures tells { IfSome result (λ t. TellsJoined goes_on a.now b.now slots.now store.now.heap t.holds t.steps) }
+    ensures few { IfSome result (λ t. t.steps < 4 * step_limit) }
+{
+    let first = made_test_of(slots, store, a, levels)?;
+    if !as_wanted(goes_on, first.holds) {
+        return counted_test(first.holds, first.steps + 1);
+    }
+    let second = made_test_of(slots, store, b, levels)?;
+    counted_test(second.holds, first.steps + second.steps + 1)
 }
 
 /// Whether a test holds, if that is there at once.

@@ -1,10 +1,10 @@
 use Rattle.std.proofs.Common.{◌≡◌, ◌∙◌, ◌+◌, ◌-◌, ap, refl, subst, arith, List, Vec, Global}
-use Rattle.std.proofs.lemmas.Option.{slice_get_read}
 use Rattle.lua_ast.specs.declared.expressions.Expr.{Expr}
 use Rattle.lua_ast.specs.declared.statements.Stmt.{Stmt}
+use Rattle.lua_values.specs.declared.values.Value.TheVariants.{Closure}
 use Rattle.lua_vm_fast.specs.Calls.{GivesList}
 use Rattle.lua_vm_fast.proofs.CallLemmas.{none_given, one_given, all_given, call_gives, binary_gives, call_does, closure_returns, block_returns}
-use Rattle.lua_vm_fast.proofs.BodyLemmas.{goes, returns, if_some}
+use Rattle.lua_vm_fast.proofs.BodyLemmas.{goes, returns, returned_ends, if_some}
 use Rattle.lua_vm_fast.proofs.BranchLemmas.{if_ends, if_kind}
 use Rattle.lua_vm_fast.proofs.+calls.Goals as goal
 
@@ -17,8 +17,9 @@ bodies::block_end-loop-i-preserved t c = (
 
 pub bodies::block_end-returns-in-Returned-clause-gives : goal.bodies::block_end-returns-in-Returned-clause-gives
 bodies::block_end-returns-in-Returned-clause-gives t c =
-    returns c.args.site.now c.args.levels c.args.stmts.now c.in_ok-stmt.stmt.now c.loop-i.i c.args.slots.now.items c.loop-i.slots.items c.stmt_end.new.slots.items c.args.store.now.heap _ c.loop-i.steps c.in_ok-end.field-0.steps (c.loop-i.steps + c.in_ok-end.field-0.steps)
-    c.in_ok-stmt.ensures c.loop-i.invariant.0 (rw c.in-Returned.is at c.in_ok-end.ensures.gives) refl
+    returned_ends c.args.site.now c.args.levels c.args.stmts.now c.args.slots.now.items c.stmt_end.new.slots.items c.args.store.now.heap _ (c.loop-i.steps + c.in_ok-end.field-0.steps) c.returned.result
+    (returns c.args.site.now c.args.levels c.args.stmts.now c.in_ok-stmt.stmt.now c.loop-i.i c.args.slots.now.items c.loop-i.slots.items c.stmt_end.new.slots.items c.args.store.now.heap _ c.loop-i.steps c.in_ok-end.field-0.steps (c.loop-i.steps + c.in_ok-end.field-0.steps)
+    c.in_ok-stmt.ensures c.loop-i.invariant.0 (rw c.in-Returned.is at c.in_ok-end.ensures.gives) refl) c.returned.ensures.end c.returned.ensures.steps
 
 pub bodies::if_end-returns-clause-gives : goal.bodies::if_end-returns-clause-gives
 bodies::if_end-returns-clause-gives t c = λ st is.
@@ -29,53 +30,54 @@ pub bodies::stmt_end-returns-in-If-clause-gives : goal.bodies::stmt_end-returns-
 bodies::stmt_end-returns-in-If-clause-gives t c =
     if_some c.if_end.result _ _ (λ r ends. ends c.args.stmt.now (if_kind c.args.stmt.now c.in-If.arms c.in-If.last c.in-If.is)) c.if_end.ensures.gives
 
-pub bodies::stmt_end-returns-in-Leaves-clause-gives : goal.bodies::stmt_end-returns-in-Leaves-clause-gives
-bodies::stmt_end-returns-in-Leaves-clause-gives t c =
-    let follows = rw (c.in-Leaves.is, c.deref.ensures.value) at (c.in_ok-plan.ensures.follows c.args.store.now.heap) in
-    follows c.args.site.now c.args.levels
+pub bodies::stmt_end-returns-in-Some-Leaves : goal.bodies::stmt_end-returns-in-Some-Leaves
+bodies::stmt_end-returns-in-Some-Leaves t c =
+    let follows = rw (c.in-Some-Leaves.field-0-is, c.deref.ensures.value) at (c.in-Some-Leaves.ensures.follows c.args.store.now.heap) in
+    record { gives = follows c.args.site.now c.args.levels; few = omega arith }
 
-pub bodies::stmt_end-returns-in_ok-value-in-Gives-clause-gives : goal.bodies::stmt_end-returns-in_ok-value-in-Gives-clause-gives
-bodies::stmt_end-returns-in_ok-value-in-Gives-clause-gives t c =
-    let follows = rw (c.in-Gives.is, c.deref.ensures.value) at (c.in_ok-plan.ensures.follows c.args.store.now.heap) in
-    follows c.args.site.now c.args.levels c.in_ok-value-in-Gives.field-0.value c.in_ok-value-in-Gives.field-0.steps (rw c.deref-in-Gives.ensures.value at c.in_ok-value-in-Gives.ensures.gives)
+pub bodies::stmt_end-returns-in-Some-clause-gives : goal.bodies::stmt_end-returns-in-Some-clause-gives
+bodies::stmt_end-returns-in-Some-clause-gives t c =
+    let follows = rw (c.in-Some-Gives.field-0-is, c.deref.ensures.value) at (c.in-Some-Gives.ensures.follows c.args.store.now.heap) in
+    rw (c.given_end.ensures.end, c.given_end.ensures.steps) (follows c.args.site.now c.args.levels c.in-Some.given.value c.in-Some.given.steps (rw c.deref-in-Some-Gives.ensures.value at c.in-Some.ensures.gives))
 
-pub bodies::stmt_end-returns-in_ok-value-in-Sets-clause-gives : goal.bodies::stmt_end-returns-in_ok-value-in-Sets-clause-gives
-bodies::stmt_end-returns-in_ok-value-in-Sets-clause-gives t c =
-    let follows = rw (c.in-Sets.is, c.deref.ensures.value) at (c.in_ok-plan.ensures.follows c.args.store.now.heap) in
-    rw (c.put_value.ensures) (follows c.args.site.now c.args.levels c.in_ok-value-in-Sets.field-0.value c.in_ok-value-in-Sets.field-0.steps (rw c.deref-in-Sets.ensures.value at c.in_ok-value-in-Sets.ensures.gives))
+pub bodies::stmt_end-returns-in-Some-value_at-clause-gives : goal.bodies::stmt_end-returns-in-Some-value_at-clause-gives
+bodies::stmt_end-returns-in-Some-value_at-clause-gives t c =
+    let follows = rw (c.in-Some-Sets.field-0-is, c.deref.ensures.value) at (c.in-Some-Sets.ensures.follows c.args.store.now.heap) in
+    rw (c.set_end.ensures.end, c.set_end.ensures.steps, c.set_end.ensures.sets) (follows c.args.site.now c.args.levels c.in-Some-value_at.given.value c.in-Some-value_at.given.steps (rw c.deref-in-Some-Sets.ensures.value at c.in-Some-value_at.ensures.gives))
 
-pub bodies::stmt_end-returns-in-Counts-clause-gives : goal.bodies::stmt_end-returns-in-Counts-clause-gives
-bodies::stmt_end-returns-in-Counts-clause-gives t c =
-    let follows = rw (c.in-Counts.is, c.deref.ensures.value) at (c.in_ok-plan.ensures.follows c.args.store.now.heap) in
-    follows c.args.site.now c.args.levels
+pub bodies::stmt_end-returns-in-Some-Counts : goal.bodies::stmt_end-returns-in-Some-Counts
+bodies::stmt_end-returns-in-Some-Counts t c =
+    let follows = rw (c.in-Some-Counts.field-0-is, c.deref.ensures.value) at (c.in-Some-Counts.ensures.follows c.args.store.now.heap) in
+    let few = rw c.in-Some-Counts.field-0-is at c.in-Some-Counts.ensures.few in
+    record { gives = follows c.args.site.now c.args.levels; few = omega (arith, few) }
 
-pub calls::called_of-returns-in_ok-end-in-Closure-clause-gives : goal.calls::called_of-returns-in_ok-end-in-Closure-clause-gives
-calls::called_of-returns-in_ok-end-in-Closure-clause-gives t c =
+pub calls::called_of-returns-clause-gives : goal.calls::called_of-returns-clause-gives
+calls::called_of-returns-clause-gives t c =
     let same : c.as_slice.result.now ≡ c.args.xs.now.value.items = c.as_slice.ensures.value ∙ ap (λ (v : Vec Expr Global). v.items) c.deref.ensures in
-    call_does c.args.site.now c.args.levels (c.args.levels - 1) c.args.f.now c.args.xs.now.value.items c.args.slots.now c.args.store.now.heap c.in_ok-callee.callee.value.now c.in-Closure.c c.in_ok-given-in-Closure.given.slots.items _ c.in_ok-callee.callee.steps c.in_ok-given-in-Closure.given.steps c.in_ok-end-in-Closure.end.steps _
-    c.in-Closure.is c.in_ok-callee.ensures.gives
-    (subst (λ (ys : List Expr). GivesList c.args.site.now (c.args.levels - 1) ys c.args.slots.now c.args.store.now.heap c.in_ok-given-in-Closure.given.slots.items c.in_ok-given-in-Closure.given.steps) same c.in_ok-given-in-Closure.ensures.gives)
-    c.in_ok-end-in-Closure.ensures.gives (omega (arith, c.if-levels-eq0.false)) refl
+    call_does c.args.site.now c.args.levels (c.args.levels - 1) c.args.f.now c.args.xs.now.value.items c.args.slots.now c.args.store.now.heap (Closure c.in_ok-callee.callee.closure) c.in_ok-callee.callee.closure c.give.new.given.items _ c.in_ok-callee.callee.steps c.in_ok-steps.steps c.in_ok-end.end.steps _
+    refl c.in_ok-callee.ensures.gives
+    (subst (λ (ys : List Expr). GivesList c.args.site.now (c.args.levels - 1) ys c.args.slots.now c.args.store.now.heap c.give.new.given.items c.in_ok-steps.steps) same c.in_ok-steps.ensures.gives)
+    c.in_ok-end.ensures.gives (omega (arith, c.if-levels-eq0.false)) refl
 
 pub calls::closure_end-returns-clause-gives : goal.calls::closure_end-returns-clause-gives
 calls::closure_end-returns-clause-gives t c = λ vs plain.
-    let got = rw c.deref.ensures.value at c.in_ok-f.ensures.lookup in
-    closure_returns _ c.args.site.now.program.now c.args.levels c.args.c c.in_ok-number.number c.in_ok-number.cells.now c.in_ok-f.f.now vs c.fill.new.slots.items c.as_slice.result.now c.args.store.now.heap _ c.in_ok-ended.ended.steps (c.in_ok-ended.ended.steps + 1)
-    c.in_ok-number.ensures (slice_get_read _ _ _ _ refl got.3.0 got.1) (c.fill.ensures vs c.if-not-fill.false plain) refl refl (c.as_slice.ensures.value ∙ ap (λ (v : Vec Stmt Global). v.items) c.deref-2.ensures)
+    let found = c.in_ok-body.ensures in
+    closure_returns _ c.args.site.now.program.now c.args.levels c.args.c found.number c.in_ok-body.body.cells.now c.in_ok-body.body.function.now vs c.fill.new.slots.items c.as_slice.result.now c.args.store.now.heap _ c.in_ok-ended.ended.steps (c.in_ok-ended.ended.steps + 1)
+    found.closure found.there (c.fill.ensures vs c.if-not-fill.false plain) refl refl (c.as_slice.ensures.value ∙ ap (λ (v : Vec Stmt Global). v.items) c.deref.ensures)
     (block_returns _ c.args.levels c.as_slice.result.now c.fill.new.slots.items c.block_end.new.slots.items c.args.store.now.heap _ _ c.in_ok-ended.ended.steps c.in_ok-ended.ensures.gives c.given_by.ensures) refl
 
-pub calls::given_of-loop-i-init : goal.calls::given_of-loop-i-init
-calls::given_of-loop-i-init t c = (none_given c.args.site.now c.args.levels c.args.xs.now c.args.slots.now c.args.store.now.heap c.new-given.result.items c.new-given.ensures.items, omega arith)
+pub calls::give-loop-i-init : goal.calls::give-loop-i-init
+calls::give-loop-i-init t c = (none_given c.args.site.now c.args.levels c.args.xs.now c.args.slots.now c.args.store.now.heap c.args.given.now.items c.requires, omega arith)
 
-pub calls::given_of-loop-i-preserved : goal.calls::given_of-loop-i-preserved
-calls::given_of-loop-i-preserved t c = (
+pub calls::give-loop-i-preserved : goal.calls::give-loop-i-preserved
+calls::give-loop-i-preserved t c = (
   one_given c.args.site.now c.args.levels c.args.xs.now c.in_ok-x.x.now c.loop-i.i c.args.slots.now c.args.store.now.heap c.loop-i.given.items c.push.new.slots.items c.in_ok-value.field-0.value c.loop-i.steps c.in_ok-value.field-0.steps (c.loop-i.steps + c.in_ok-value.field-0.steps)
       c.in_ok-x.ensures c.loop-i.invariant.0 c.in_ok-value.ensures.gives (c.push.ensures c.if-not-push.false) refl,
   omega (arith, c.if-steps-ge-STEP_LIMIT.false),
 )
 
-pub calls::given_of-returns-clause-gives : goal.calls::given_of-returns-clause-gives
-calls::given_of-returns-clause-gives t c = all_given c.args.site.now c.args.levels c.args.xs.now c.loop-i.i c.args.slots.now c.args.store.now.heap c.loop-i.given.items c.loop-i.steps (omega (arith, c.loop-i-test.false)) c.loop-i.invariant.0
+pub calls::give-returns-clause-gives : goal.calls::give-returns-clause-gives
+calls::give-returns-clause-gives t c = all_given c.args.site.now c.args.levels c.args.xs.now c.loop-i.i c.args.slots.now c.args.store.now.heap c.loop-i.given.items c.loop-i.steps (omega (arith, c.loop-i-test.false)) c.loop-i.invariant.0
 
 pub calls::one_called-returns-in-Some-clause-gives : goal.calls::one_called-returns-in-Some-clause-gives
 calls::one_called-returns-in-Some-clause-gives t c =

@@ -19,8 +19,8 @@ decreases-calls::value_at l = 10 * l.levels + 2
 abbrev pub decreases-calls::number_at : goal.decreases-calls::number_at
 decreases-calls::number_at l = 10 * l.levels + 3
 
-abbrev pub decreases-calls::given_of : goal.decreases-calls::given_of
-decreases-calls::given_of l = 10 * l.levels + 3
+abbrev pub decreases-calls::give : goal.decreases-calls::give
+decreases-calls::give l = 10 * l.levels + 3
 
 abbrev pub decreases-bodies::stmt_end : goal.decreases-bodies::stmt_end
 decreases-bodies::stmt_end l = 10 * l.levels + 3
@@ -31,11 +31,11 @@ decreases-bodies::block_end l = 10 * l.levels + 4
 abbrev pub decreases-calls::closure_end : goal.decreases-calls::closure_end
 decreases-calls::closure_end l = 10 * l.levels + 5
 
-abbrev pub invariant-calls::given_of-loop-i : goal.invariant-calls::given_of-loop-i
-invariant-calls::given_of-loop-i l = GivesSome l.site l.levels l.xs l.i l.slots l.store.heap l.given.items l.steps × (l.steps < step_limit)
+abbrev pub invariant-calls::give-loop-i : goal.invariant-calls::give-loop-i
+invariant-calls::give-loop-i l = GivesSome l.site l.levels l.xs l.i l.slots l.store.heap l.given.items l.steps × (l.steps < step_limit)
 
-abbrev pub decreases-calls::given_of-loop-i : goal.decreases-calls::given_of-loop-i
-decreases-calls::given_of-loop-i l = length l.xs - l.i
+abbrev pub decreases-calls::give-loop-i : goal.decreases-calls::give-loop-i
+decreases-calls::give-loop-i l = length l.xs - l.i
 
 abbrev pub invariant-bodies::block_end-loop-i : goal.invariant-bodies::block_end-loop-i
 invariant-bodies::block_end-loop-i l = Going l.site l.levels l.stmts l.i l.fn.slots.items l.slots.items l.store.heap l.steps × (l.steps < step_limit)

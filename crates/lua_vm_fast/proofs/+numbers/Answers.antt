@@ -1,6 +1,6 @@
-use Rattle.std.proofs.Common.{Some, ◌+◌, refl}
+use Rattle.std.proofs.Common.{Some}
 use Rattle.lua_vm_fast.proofs.ValueLemmas.{nil_gives, true_gives, false_gives, number_gives, slot_counted, with_counted}
-use Rattle.lua_vm_fast.proofs.PlaceLemmas.{slot_seen, global_seen, index_seen, named_seen, text_seen}
+use Rattle.lua_vm_fast.proofs.PlaceLemmas.{slot_seen, global_seen, in_seen, key_seen, named_seen, text_seen}
 use Rattle.lua_vm_fast.proofs.+numbers.Goals as goal
 
 pub numbers::number_of-returns-in-Number-clause-gives : goal.numbers::number_of-returns-in-Number-clause-gives
@@ -21,25 +21,25 @@ pub places::seen_of-returns-in-Global-clause-gives : goal.places::seen_of-return
 places::seen_of-returns-in-Global-clause-gives t c =
     global_seen c.args.x.now c.args.slots.now c.args.store.now.heap c.in-Global.name c.seen_global.result c.in-Global.is c.seen_global.ensures.gives
 
-pub places::seen_at-returns-in_ok-key-in-Slot-clause-gives : goal.places::seen_at-returns-in_ok-key-in-Slot-clause-gives
-places::seen_at-returns-in_ok-key-in-Slot-clause-gives t c =
-    index_seen c.args.a.now c.args.b.now c.args.slots.now c.args.store.now.heap c.in-Table.t c.in_ok-object.object.value.now c.in_ok-key-in-Slot.key.value.now c.in_ok-object.object.steps c.in_ok-key-in-Slot.key.steps
-    (c.in_ok-object.object.steps + c.in_ok-key-in-Slot.key.steps + 1) c.found.result c.in-Table.is c.in_ok-object.ensures.gives
-    (slot_seen c.args.b.now c.args.slots.now c.args.store.now.heap c.in-Slot.i (Some c.in_ok-key-in-Slot.key) c.in-Slot.is c.in_ok-key-in-Slot.ensures.value c.in_ok-key-in-Slot.ensures.steps)
-    refl c.found.ensures.has
+pub places::seen_at-returns-in-Table-clause-gives : goal.places::seen_at-returns-in-Table-clause-gives
+places::seen_at-returns-in-Table-clause-gives t c =
+    in_seen c.args.a.now c.args.b.now c.args.slots.now c.args.store.now.heap c.in-Table.t c.in_ok-object.object.value.now c.in_ok-object.object.steps c.seen_in.result c.in-Table.is c.in_ok-object.ensures.gives c.seen_in.ensures.has
 
-pub places::seen_at-returns-in-Text-clause-gives : goal.places::seen_at-returns-in-Text-clause-gives
-places::seen_at-returns-in-Text-clause-gives t c =
-    named_seen c.args.a.now c.args.b.now c.args.slots.now c.args.store.now.heap c.in-Table.t c.in-Text.name c.in_ok-object.object.value.now c.in_ok-object.object.steps (c.in_ok-object.object.steps + 2) c.named.result
-    c.in-Text.is c.in-Table.is c.in_ok-object.ensures.gives refl c.named.ensures.has
+pub places::seen_in-returns-in_ok-key-in-Slot-clause-has : goal.places::seen_in-returns-in_ok-key-in-Slot-clause-has
+places::seen_in-returns-in_ok-key-in-Slot-clause-has t c =
+    key_seen c.args.b.now c.args.slots.now c.args.store.now.heap c.args.t c.in_ok-key-in-Slot.key.value.now c.in_ok-key-in-Slot.key.steps c.args.steps c.found.result
+    (slot_seen c.args.b.now c.args.slots.now c.args.store.now.heap c.in-Slot.i (Some c.in_ok-key-in-Slot.key) c.in-Slot.is c.in_ok-key-in-Slot.ensures.value c.in_ok-key-in-Slot.ensures.steps) c.found.ensures.has
 
-pub places::seen_at-returns-in_ok-key-in_default-kind : goal.places::seen_at-returns-in_ok-key-in_default-kind
-places::seen_at-returns-in_ok-key-in_default-kind t c = record {
-  gives =
-      index_seen c.args.a.now c.args.b.now c.args.slots.now c.args.store.now.heap c.in-Table.t c.in_ok-object.object.value.now c.in_ok-key-in_default-kind.key.value c.in_ok-object.object.steps c.in_ok-key-in_default-kind.key.steps
-      (c.in_ok-object.object.steps + c.in_ok-key-in_default-kind.key.steps + 1) c.found-in_default-kind.result c.in-Table.is c.in_ok-object.ensures.gives c.in_ok-key-in_default-kind.ensures.gives
-      refl c.found-in_default-kind.ensures.has;
-  few = c.found-in_default-kind.ensures.few;
+pub places::seen_in-returns-in-Text-clause-has : goal.places::seen_in-returns-in-Text-clause-has
+places::seen_in-returns-in-Text-clause-has t c =
+    named_seen c.args.b.now c.args.slots.now c.args.store.now.heap c.args.t c.in-Text.name c.args.steps c.named.result c.in-Text.is c.named.ensures.has
+
+pub places::seen_in-returns-in_ok-key-in_default : goal.places::seen_in-returns-in_ok-key-in_default
+places::seen_in-returns-in_ok-key-in_default t c = record {
+  has =
+      key_seen c.args.b.now c.args.slots.now c.args.store.now.heap c.args.t c.in_ok-key-in_default.key.value c.in_ok-key-in_default.key.steps c.args.steps c.found-in_default.result
+      c.in_ok-key-in_default.ensures.gives c.found-in_default.ensures.has;
+  few = c.found-in_default.ensures.few;
 }
 
 pub places::value_of-returns-in-Nil-clause-gives : goal.places::value_of-returns-in-Nil-clause-gives

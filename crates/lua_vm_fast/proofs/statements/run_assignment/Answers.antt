@@ -1,10 +1,9 @@
-use Rattle.std.proofs.Common.{sym, ◌∙◌, ◌+◌}
+use Rattle.std.proofs.Common.{sym, ◌∙◌}
 use Rattle.lua_values.specs.declared.values.Value.TheVariants.{Number}
-use Rattle.lua_vm_fast.proofs.RunLemmas.{counted, assignment_runs}
+use Rattle.lua_vm_fast.proofs.RunLemmas.{assignment_sets}
 use Rattle.lua_vm_fast.proofs.statements.run_assignment.Goals as goal
 
-pub returns-else-not-affords : goal.returns-else-not-affords
-returns-else-not-affords c = λ st is.
-    assignment_runs st c.args.x.now c.args.i c.in-Some.n.steps (Number c.in-Some.n.number) c.args.slots.now.items c.put.new.slots.items c.args.store.now c.count.new.self
-    is (rw (c.in-Some.is, c.deref-2.ensures.value) at c.number_of.ensures.gives) (sym c.affords.ensures ∙ c.if-not-affords.false) (rw c.deref.ensures.value at (sym c.is_plain.ensures ∙ c.if-not-is_plain.false)) c.put.ensures
-    (counted (c.in-Some.n.steps + 2) c.args.store.now c.count.new.self c.count.ensures.counted (sym c.affords.ensures ∙ c.if-not-affords.false))
+pub returns-in-Some : goal.returns-in-Some
+returns-in-Some c = λ st is.
+    assignment_sets st c.args.x.now c.args.i c.in-Some.n.steps (Number c.in-Some.n.number) c.take_number.result c.args.slots.now.items c.take_number.new.slots.items c.args.store.now c.take_number.new.store
+    is (rw (c.in-Some.is, c.deref-2.ensures.value) at c.number_of.ensures.gives) (rw c.deref.ensures.value at (sym c.is_plain.ensures ∙ c.if-not-is_plain.false)) c.take_number.ensures
