@@ -5,7 +5,7 @@ use std::fmt;
 
 /// Why a text is no configuration. Lines are numbered from 1; that of `At` is the line of what stands at the wrong place,
 /// or of the last token where the text ends too soon, and the other ones are those of the directive's name.
-#[derive(Clone, Copy, PartialEq, Eq)]
+#[derive(Clone, Copy)]
 pub enum ConfFault {
     At(usize),
     Unknown(usize),
