@@ -7,7 +7,7 @@ use engine::Ended;
 use site_load::SiteFault;
 
 /// How the program ended; its exit code is the index in this list, from 0.
-#[derive(Clone, Copy, Debug, PartialEq, Eq)]
+#[derive(Clone, Copy)]
 pub enum Status {
     Done,
     /// The configuration is refused.

@@ -1,5 +1,5 @@
 -- Dictionaries as the entries of a map.
-use Rattle.std.proofs.Common.{◌≡◌, ℕ, Bool, true, false, cond, ◌||◌, List, [], ◌∷◌, ◌++◌, Option, None, Some, is_some, map, bytes_eq, if◌then◌else◌, true≢false, refl, sym, ap, ◌∙◌, append_assoc}
+use Rattle.std.proofs.Common.{◌≡◌, ℕ, Bool, true, false, cond, ◌||◌, List, [], ◌∷◌, ◌++◌, Option, Some, is_some, map, bytes_eq, if◌then◌else◌, true≢false, refl, sym, ap, ◌∙◌, append_assoc}
 use Rattle.std.specs.Map.{lookup}
 use Rattle.indexmap.specs.IndexMap.{insert_entry}
 use Rattle.conf.specs.Entries.{zone_of}

@@ -5,7 +5,7 @@ use Rattle.std.proofs.lemmas.Grind.{common_steps}
 use Rattle.std.proofs.lemmas.Bool.Decides.{nat_tests}
 use Rattle.std.specs.List.{fold, position_or_len}
 use Rattle.std.specs.Option.{option_map_or}
-use Rattle.conf.specs.Routes.{rank, best_rank, location_for, server_for, IsFirst, IsLocationFor, IsRoute, route_of}
+use Rattle.conf.specs.Routes.{rank, best_rank, location_for, server_for, IsLocationFor, IsRoute, route_of}
 use Rattle.conf.specs.declared.routes.Route.{Route}
 use Rattle.conf.specs.declared.sites.Conf.{Conf}
 use Rattle.conf.specs.declared.sites.LocationConf.{LocationConf}

@@ -13,21 +13,21 @@ use std::alloc::{AllocError, Global};
 pub(crate) const DEFAULT_PORT: u16 = 8080;
 
 /// A directive with what it says.
-#[derive(Debug, Drop)]
+#[derive(Drop)]
 pub(crate) struct Said {
     pub(crate) directive: Directive,
     pub(crate) effect: Effect,
 }
 
 /// A block `location`.
-#[derive(Debug, Drop)]
+#[derive(Drop)]
 pub(crate) struct LocationBlock {
     pub(crate) kind: LocationKind,
     pub(crate) said: Listing<Said>,
 }
 
 /// A block `server`, with the line of its name.
-#[derive(Debug, Drop)]
+#[derive(Drop)]
 pub(crate) struct ServerBlock {
     pub(crate) line: usize,
     pub(crate) names: Listing<Bytes>,
@@ -40,7 +40,7 @@ pub(crate) struct ServerBlock {
 }
 
 /// The blocks that stand so far. `server` and `location` are those that are open; where none is, they are empty.
-#[derive(Debug, Drop)]
+#[derive(Drop)]
 pub(crate) struct Nest {
     /// The innermost open block.
     pub(crate) place: Place,

@@ -116,12 +116,12 @@ impl<'a> Scope<'a> {
         block_of(self.innermost(directive))
     }
 
-    /// The settings there.
-    pub(crate) fn settings(&self) -> Result<Settings, AllocError>
-        ensures { IfOk result (λ settings. settings ≡ spec.settings_of self.now.location.now self.now.server.now self.now.http.now) }
+    /// The settings there, with this type.
+    fn settings_with(&self, default_type: Bytes) -> Settings
+        ensures { result ≡ record (spec.settings_of self.now.location.now self.now.server.now self.now.http.now) { default_type = default_type } }
     {
-        Ok(Settings {
-            default_type: text_or(b"text/plain", self.innermost(Directive::DefaultType))?,
+        Settings {
+            default_type,
             max_body: size_or(DEFAULT_BODY, self.innermost(Directive::ClientMaxBodySize)),
             keepalive_timeout: time_or(
                 DEFAULT_KEEPALIVE,
@@ -140,6 +140,14 @@ impl<'a> Scope<'a> {
             header_filter: self.handler(Directive::HeaderFilterByLua),
             body_filter: self.handler(Directive::BodyFilterByLua),
             log: self.handler(Directive::LogByLua),
-        })
+        }
+    }
+
+    /// The settings there.
+    pub(crate) fn settings(&self) -> Result<Settings, AllocError>
+        ensures { IfOk result (λ settings. settings ≡ spec.settings_of self.now.location.now self.now.server.now self.now.http.now) }
+    {
+        let default_type = text_or(b"text/plain", self.innermost(Directive::DefaultType))?;
+        Ok(self.settings_with(default_type))
     }
 }

@@ -13,7 +13,6 @@ mod sites;
 mod steps;
 mod zones;
 
-pub use conf_rules::LocationKind;
 pub use faults::ConfFault;
 pub use laws::{
     a_refused_text_has_one_fault, a_request_has_one_route, a_text_has_one_configuration,

@@ -2,9 +2,10 @@
 
 use std::alloc::{AllocError, Global};
 use std::marker::Model;
+use std::mem;
 
 /// A list of fewer than 2^32 items, numbered from 0, which contracts see as a list.
-#[derive(Debug, Drop)]
+#[derive(Drop)]
 pub struct Listing<T> {
     items: Vec<T>,
 }
@@ -66,6 +67,14 @@ impl<T: Drop> Listing<T> {
             self.push(item)?;
         }
         Ok(())
+    }
+
+    /// Takes the items out, so that none is left; takes no memory.
+    pub(crate) fn take(&mut self, alloc: Global) -> Listing<T>
+        ensures taken { result ≡ self.old }
+        ensures left { self.new ≡ [] }
+    {
+        mem::replace(self, Listing::new(alloc))
     }
 
     /// The items as a `Vec`; takes no memory.

@@ -72,10 +72,10 @@ fn server_conf(alloc: Global, http: &[Said], server: ServerBlock) -> Result<Serv
         http,
     };
     Ok(ServerConf {
-        names: ByteLists::of(names.into_vec()),
         header_timeout: scope.time(Directive::ClientHeaderTimeout),
-        settings: scope.settings()?,
         locations: location_confs(alloc, said.as_slice(), http, locations)?,
+        settings: scope.settings()?,
+        names: ByteLists::of(names.into_vec()),
     })
 }
 
@@ -124,41 +124,58 @@ fn log_level(http: &[Said], main: &[Said]) -> u8
     }
 }
 
-/// The whole configuration.
-pub(crate) fn conf_of(alloc: Global, nest: Nest) -> Result<Conf, AllocError>
-    requires { 0 < length nest.servers }
-    ensures value { IfOk result (λ conf. conf ≡ spec.conf_of nest) }
+/// What a configuration says by numbers.
+#[derive(Clone, Copy)]
+struct Numbers {
+    port: u16,
+    connections: u32,
+    log_level: u8,
+    init: Option<u32>,
+    default_server: u32,
+}
+
+/// The numbers of a configuration.
+fn numbers_of(nest: &Nest) -> Numbers
+    ensures port { result.port ≡ (spec.conf_of nest.now).port }
+    ensures connections { result.connections ≡ (spec.conf_of nest.now).connections }
+    ensures level { result.log_level ≡ (spec.conf_of nest.now).log_level }
+    ensures init { result.init ≡ (spec.conf_of nest.now).init }
+    ensures default { result.default_server ≡ (spec.conf_of nest.now).default_server }
+    ensures there { 0 < length nest.now.servers → result.default_server < length nest.now.servers }
+{
+    let http = nest.http.as_slice();
+    Numbers {
+        port: nest.port.unwrap_or(DEFAULT_PORT),
+        connections: count_or(
+            DEFAULT_CONNECTIONS,
+            effect_in(nest.events.as_slice(), Directive::WorkerConnections),
+        ),
+        log_level: log_level(http, nest.main.as_slice()),
+        init: block_of(effect_in(http, Directive::InitByLua)),
+        default_server: default_server(nest.servers.as_slice()),
+    }
+}
+
+/// The whole configuration, whose dictionaries, blocks of Lua and servers are taken out of the nest.
+pub(crate) fn conf_of(alloc: Global, nest: &mut Nest) -> Result<Conf, AllocError>
+    requires { 0 < length nest.old.servers }
+    ensures value { IfOk result (λ conf. conf ≡ spec.conf_of nest.old) }
     ensures whole { IfOk result IsWhole }
 {
-    let Nest {
-        main,
-        events,
-        http,
-        zones,
-        blocks,
-        port,
-        servers,
-        ..
-    } = nest;
-    let (main, events, http) = (main.as_slice(), events.as_slice(), http.as_slice());
-    let port = port.unwrap_or(DEFAULT_PORT);
-    let connections = count_or(
-        DEFAULT_CONNECTIONS,
-        effect_in(events, Directive::WorkerConnections),
-    );
+    let numbers = numbers_of(nest);
+    let http = nest.http.as_slice();
+    let servers = server_confs(alloc, http, nest.servers.take(alloc))?;
+    let zones = nest.zones.take_listing(alloc)?;
     let package = text_or(b"lua/?.lua", effect_in(http, Directive::LuaPackagePath))?;
-    let init = block_of(effect_in(http, Directive::InitByLua));
-    let default_server = default_server(servers.as_slice());
-    let log_level = log_level(http, main);
     Ok(Conf {
-        port,
-        connections,
-        log_level,
-        zones: zones.into_listing(alloc)?,
+        port: numbers.port,
+        connections: numbers.connections,
+        log_level: numbers.log_level,
+        zones,
         package,
-        blocks,
-        init,
-        default_server,
-        servers: server_confs(alloc, http, servers)?,
+        blocks: nest.blocks.take(alloc),
+        init: numbers.init,
+        default_server: numbers.default_server,
+        servers,
     })
 }

@@ -1,6 +1,6 @@
 //! Reading a configuration item by item.
 
-ghost use Rattle.std.specs.Prelude.{◌≡◌, IfOk, IfErr};
+ghost use Rattle.std.specs.Prelude.{◌≡◌, IfOk, IfErr, OnOk};
 ghost use Rattle.conf.specs.Blocks.{start};
 ghost use Rattle.conf.specs.Reading.{Fit, IsConf, IsFault, IsFaultIn, IsWhole};
 
@@ -10,18 +10,18 @@ use crate::{Conf, ConfFault};
 use conf_text::{Item, items_of};
 use std::alloc::Global;
 
-/// The blocks that items make one after another.
-fn nest_of(alloc: Global, items: Vec<Item>) -> Result<Nest, ConfFault>
-    ensures ok { IfOk result (Fit start items.items) }
+/// Takes items one after another, where none was taken.
+fn take_items(alloc: Global, nest: &mut Nest, items: Vec<Item>) -> Result<(), ConfFault>
+    requires { nest.old ≡ start }
+    ensures ok { OnOk result (Fit start items.items nest.new) }
     ensures err { IfErr result (IsFaultIn items.items) }
 {
-    let mut nest = Nest::new(alloc);
     for item in items {
         if let Err(fault) = nest.take(alloc, item) {
             return Err(fault);
         }
     }
-    Ok(nest)
+    Ok(())
 }
 
 /// Reads the text of a site.
@@ -31,6 +31,16 @@ pub fn site_text_of(alloc: Global, text: &[u8]) -> Result<Conf, ConfFault>
     ensures refused { IfErr result (IsFault text.now) }
 {
     let items = items_of(alloc, text)?;
-    let nest = nest_of(alloc, items)?;
-    Ok(conf_of(alloc, nest)?)
+    let mut nest = Nest::new(alloc);
+    match take_items(alloc, &mut nest, items) {
+        Ok(()) => {
+            let conf = conf_of(alloc, &mut nest);
+            drop(nest);
+            Ok(conf?)
+        }
+        Err(fault) => {
+            drop(nest);
+            Err(fault)
+        }
+    }
 }

@@ -4,11 +4,12 @@ ghost use Rattle.std.specs.Prelude.{◌≡◌, ◌<◌, ◌^◌, length, positio
 ghost use Rattle.conf.specs.Reading.{IsWhole};
 ghost use Rattle.conf.specs.Routes as spec;
 
-use crate::{Conf, LocationConf, LocationKind, ServerConf};
+use crate::{Conf, LocationConf, ServerConf};
+use conf_rules::LocationKind;
 use http_base::same_name;
 
 /// The server and the location that a request is for, by their numbers.
-#[derive(Clone, Copy, Debug, PartialEq, Eq)]
+#[derive(Clone, Copy)]
 pub struct Route {
     pub server: u32,
     /// None where no location of the server fits the path.

@@ -5,7 +5,7 @@ use conf_rules::LocationKind;
 use resty_base::{ByteLists, Bytes, Ms};
 
 /// What the text of a site says. Servers, locations and blocks of Lua are numbered from 0 in the order of the text.
-#[derive(Debug, Drop)]
+#[derive(Drop)]
 pub struct Conf {
     /// The port of all servers.
     pub port: u16,
@@ -39,7 +39,7 @@ pub struct Block {
 }
 
 /// A server; its settings are those of requests without a location.
-#[derive(Debug, Drop)]
+#[derive(Drop)]
 pub struct ServerConf {
     /// In lower case.
     pub names: ByteLists,
@@ -49,7 +49,7 @@ pub struct ServerConf {
 }
 
 /// A location.
-#[derive(Debug, Drop)]
+#[derive(Drop)]
 pub struct LocationConf {
     pub kind: LocationKind,
     /// Requests from outside don't find it.
@@ -59,7 +59,7 @@ pub struct LocationConf {
 
 /// What holds for a request: what the location says, else its server, else `http`, else the default. A handler is the
 /// number of its block.
-#[derive(Debug, Drop)]
+#[derive(Drop)]
 pub struct Settings {
     /// Empty where replies have no type of their own.
     pub default_type: Bytes,

@@ -157,15 +157,18 @@ impl Nest {
         ensures ok { OnOk result (spec.saying self.old directive effect line ≡ Ok self.new) }
         ensures err { IfErr result (Refuses (spec.saying self.old directive effect line)) }
     {
-        match effect {
-            Effect::Opens(place) => self.open(alloc, directive, place, line)?,
-            Effect::Location(kind) => self.locate(alloc, kind),
-            Effect::Listen(port, is_default) => self.listen(port, is_default, line)?,
-            Effect::Names(names) => self.name(names)?,
-            Effect::Dictionary(name, size) => self.add_zone(name, size, line)?,
-            other => self.say(directive, other)?,
-        }
-        Ok(())
+        let taken = match effect {
+            Effect::Listen(port, is_default) => return self.listen(port, is_default, line),
+            Effect::Dictionary(name, size) => return self.add_zone(name, size, line),
+            Effect::Location(kind) => {
+                self.locate(alloc, kind);
+                Ok(())
+            }
+            Effect::Opens(place) => self.open(alloc, directive, place, line),
+            Effect::Names(names) => self.name(names),
+            other => self.say(directive, other),
+        };
+        Ok(taken?)
     }
 
     /// A directive has a block of Lua, whose first brace stands on a line.
@@ -248,24 +251,24 @@ impl Nest {
         }
     }
 
-    /// Takes what an item says, with the item's ending.
-    fn take_said(&mut self, alloc: Global, said: Said, item: Item) -> Result<(), ConfFault>
-        ensures ok { OnOk result (spec.ended self.old said.directive said.effect item item.ending ≡ Ok self.new) }
-        ensures err { IfErr result (Refuses (spec.ended self.old said.directive said.effect item item.ending)) }
+    /// Takes what an item says, with the item's ending, of which a block of Lua is taken out.
+    fn take_said(&mut self, alloc: Global, said: Said, item: &mut Item) -> Result<(), ConfFault>
+        ensures ok { OnOk result (spec.ended self.old said.directive said.effect item.old item.old.ending ≡ Ok self.new) }
+        ensures err { IfErr result (Refuses (spec.ended self.old said.directive said.effect item.old item.old.ending)) }
     {
         let Said { directive, effect } = said;
-        let Item {
-            words: _words,
-            line,
-            ending,
-            ending_line,
-        } = item;
-        match ending {
-            Ending::Lua(text) => self.take_block(directive, text, ending_line)?,
-            Ending::Unclosed => return Err(ConfFault::Block(line)),
-            _ => self.take_effect(alloc, directive, effect, line)?,
+        match &mut item.ending {
+            Ending::Lua(text) => {
+                drop(effect);
+                let text = mem::replace(text, Bytes::new());
+                Ok(self.take_block(directive, text, item.ending_line)?)
+            }
+            Ending::Unclosed => {
+                drop(effect);
+                Err(ConfFault::Block(item.line))
+            }
+            _ => self.take_effect(alloc, directive, effect, item.line),
         }
-        Ok(())
     }
 
     /// What an item says by its words, where its name is that of a directive that may stand here and ends so.
@@ -290,16 +293,18 @@ impl Nest {
     }
 
     /// Takes an item.
-    pub(crate) fn take(&mut self, alloc: Global, item: Item) -> Result<(), ConfFault>
+    pub(crate) fn take(&mut self, alloc: Global, mut item: Item) -> Result<(), ConfFault>
         ensures ok { OnOk result (spec.step self.old item ≡ Ok self.new) }
         ensures err { IfErr result (Refuses (spec.step self.old item)) }
     {
-        match item.words.as_slice().split_first() {
-            Some((name, words)) => {
-                let said = self.said_by(alloc, name, words, &item)?;
-                self.take_said(alloc, said, item)
-            }
+        let taken = match item.words.as_slice().split_first() {
+            Some((name, words)) => match self.said_by(alloc, name, words, &item) {
+                Ok(said) => self.take_said(alloc, said, &mut item),
+                Err(fault) => Err(fault),
+            },
             None => self.take_bare(alloc, &item.ending, item.ending_line),
-        }
+        };
+        drop(item);
+        taken
     }
 }

@@ -9,9 +9,10 @@ use indexmap::IndexMap;
 use resty_base::Bytes;
 use std::alloc::{AllocError, Global};
 use std::marker::Model;
+use std::mem;
 
 /// Dictionaries of different names in the order of the text, which contracts see as a list.
-#[derive(Debug, Drop)]
+#[derive(Drop)]
 pub(crate) struct Zones {
     sizes: IndexMap<Bytes, u64>,
 }
@@ -55,11 +56,11 @@ impl Zones {
         Ok(())
     }
 
-    /// The dictionaries as a list.
-    pub(crate) fn into_listing(self, alloc: Global) -> Result<Listing<ZoneConf>, AllocError>
-        ensures { IfOk result (λ zones. zones ≡ self) }
+    /// Takes the dictionaries out as a list.
+    pub(crate) fn take_listing(&mut self, alloc: Global) -> Result<Listing<ZoneConf>, AllocError>
+        ensures { IfOk result (λ zones. zones ≡ self.old) }
     {
-        let Zones { sizes } = self;
+        let sizes = mem::replace(&mut self.sizes, IndexMap::new(alloc));
         listing_of(alloc, sizes)
     }
 }

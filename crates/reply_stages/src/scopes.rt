@@ -39,7 +39,7 @@ fn location_at(server: &ServerConf, number: Option<u32>) -> Option<&LocationConf
 }
 
 /// The server that a request is for, and its location there.
-#[derive(Debug, Drop)]
+#[derive(Drop)]
 pub struct Scope<'a> {
     pub server: &'a ServerConf,
     pub location: Option<&'a LocationConf>,

@@ -9,7 +9,7 @@ use lua_parser::ParseFault;
 use std::alloc::AllocFailed;
 
 /// Why a text is no site: its configuration is refused, or a block of Lua is, by its tokens or by its grammar.
-#[derive(Clone, Copy, Debug, PartialEq, Eq)]
+#[derive(Clone, Copy)]
 pub enum CheckFault {
     Conf(ConfFault),
     Lex(LexFault),

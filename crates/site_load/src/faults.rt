@@ -5,7 +5,7 @@ use site_check::CheckFault;
 use std::alloc::{AllocError, AllocFailed};
 
 /// Why files hold no site. A file is told by its name, and a line is numbered from 1.
-#[derive(Debug, Drop)]
+#[derive(Drop)]
 pub enum SiteFault {
     /// There is no such file.
     Missing(Bytes),

@@ -2,7 +2,7 @@ use Rattle.std.proofs.Common.{◌≡◌, ◌++◌}
 use Rattle.std.specs.Vec.Iter.{into_iter_items}
 use Rattle.conf.specs.Blocks.{start}
 use Rattle.conf.specs.Reading.{Fit}
-use Rattle.conf.proofs.reading.nest_of.Given as goal
+use Rattle.conf.proofs.reading.take_items.Given as goal
 
 abbrev pub invariant-loop-item : goal.invariant-loop-item
 invariant-loop-item l = record {

@@ -2,7 +2,7 @@
 use Rattle.std.proofs.Common.{◌≡◌, ◌∷◌}
 use Rattle.std.specs.Vec.Iter.{into_iter_items}
 use Rattle.conf.proofs.Walks.{fit_more, one_by_one, fault_in, left_here}
-use Rattle.conf.proofs.reading.nest_of.Goals as goal
+use Rattle.conf.proofs.reading.take_items.Goals as goal
 
 pub returns-in-Err-clause-err : goal.returns-in-Err-clause-err
 returns-in-Err-clause-err c =
