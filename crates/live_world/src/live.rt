@@ -125,7 +125,15 @@ impl<'a, R: Net + Clock, W: Write> Live<'a, R, W> {
         if now > self.moment {
             return Some(self.moment_at(now));
         }
-        match sockets.next(alloc, now) {
+        let next = sockets.next(alloc, now);
+        self.given(next)
+    }
+
+    /// The event that the first in the line gives.
+    fn given(&mut self, next: Next) -> Option<Event>
+        ensures { book_of self.new.accounts ≡ book_of self.old.accounts }
+    {
+        match next {
             Next::Nothing => None,
             Next::Accepted(socket) => self.register(socket),
             Next::Seen(token, seen) => event_of(id_of(token), seen),
@@ -172,11 +180,27 @@ impl<'a, R: Net + Clock, W: Write> Live<'a, R, W> {
     fn register(&mut self, socket: TcpStream) -> Option<Event>
         ensures { book_of self.new.accounts ≡ book_of self.old.accounts }
     {
+        let Some((number, token)) = self.next_arrival() else {
+            drop(socket);
+            return None;
+        };
+        let Some(sockets) = &mut self.sockets else {
+            drop(socket);
+            return None;
+        };
+        match sockets.register(token, socket) {
+            Ok(()) => Some(Event::Arrive(number)),
+            Err(_) => None,
+        }
+    }
+
+    /// The number of the next connection and its token, once there is memory for it.
+    fn next_arrival(&mut self) -> Option<(u64, usize)>
+        ensures { book_of self.new.accounts ≡ book_of self.old.accounts }
+    {
         let number = self.accounts.reserve()?;
         let token = token_of(Id::Conn(number))?;
-        let sockets = self.sockets.as_mut()?;
-        sockets.register(token, socket).ok()?;
-        Some(Event::Arrive(number))
+        Some((number, token))
     }
 }
 

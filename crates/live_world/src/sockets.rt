@@ -1,6 +1,6 @@
 //! The sockets of the world: what the poll reports of them stands in a line, each once, and the first gives one event.
 
-use crate::stream::{Drained, Seen, Stream};
+use crate::stream::{Drained, Report, Seen, Stream};
 use indexmap::IndexMap;
 use mio::net::{TcpListener, TcpStream};
 use mio::{Events, Interest, Poll, Token};
@@ -54,7 +54,7 @@ pub struct Sockets {
 }
 
 /// Why there are no sockets.
-#[derive(Drop)]
+#[derive(Clone, Copy)]
 pub enum Failure {
     Memory,
     Failed,
@@ -76,13 +76,9 @@ impl Sockets {
     /// Listens on the port of the loopback address.
     pub fn listen(net: &impl Net, alloc: Global, port: u16) -> Result<Sockets, Failure> {
         let buffer = vec![in alloc; 0; PIECE]?;
-        let mut line = VecDeque::new(alloc);
-        line.reserve(1)?;
+        let line = line_of_one(alloc)?;
         let events = Events::with_capacity(alloc, REPORTS)?;
-        let poll = Poll::new(net)?;
-        let mut listener = TcpListener::bind(net, SocketAddr::from((Ipv4Addr::LOCALHOST, port)))?;
-        poll.registry()
-            .register(&mut listener, Token(LISTENER), Interest::READABLE)?;
+        let (poll, listener) = polled_listener(net, port)?;
         Ok(Sockets {
             poll,
             events,
@@ -150,23 +146,16 @@ impl Sockets {
     fn take_reports(&mut self) {
         for event in self.events.iter() {
             let token = event.token().0;
-            let reads = event.is_readable() || event.is_error();
-            let writes = event.is_writable() || event.is_error();
-            let closes = event.is_read_closed() || event.is_error();
             if token == LISTENER {
                 if !self.is_listener_in_line && self.paused_until.is_none() {
                     self.is_listener_in_line = self.line.push_back(LISTENER).is_ok();
                 }
             } else if let Some(stream) = self.streams.get_mut(&token) {
-                stream.report(reads, writes, closes);
-                if !stream.is_in_line && stream.is_ready() {
-                    stream.is_in_line = self.line.push_back(token).is_ok();
-                }
+                stream.report(Report::of(event));
+                stream.line_up(&mut self.line, token);
             } else if let Some(drained) = self.drained.get_mut(&token) {
-                drained.can_read |= reads || closes;
-                if !drained.is_in_line && drained.can_read {
-                    drained.is_in_line = self.line.push_back(token).is_ok();
-                }
+                drained.report(Report::of(event));
+                drained.line_up(&mut self.line, token);
             }
         }
     }
@@ -252,8 +241,22 @@ impl Sockets {
         self.add(token, Stream::connecting(socket))
     }
 
-    /// Each socket that is open or drained has room in the line, and one more is the listener.
+    /// Adds a socket that can be polled; another one is closed.
     fn add(&mut self, token: usize, mut stream: Stream) -> Result<(), Failure> {
+        match self.admit(token, &mut stream) {
+            Ok(()) => {
+                drop(self.streams.insert(token, stream));
+                Ok(())
+            }
+            Err(failure) => {
+                drop(stream);
+                Err(failure)
+            }
+        }
+    }
+
+    /// Lets the poll report a socket. Each that is open or drained has room in the line, and one more is the listener.
+    fn admit(&mut self, token: usize, stream: &mut Stream) -> Result<(), Failure> {
         self.streams.reserve(1)?;
         self.line.reserve(
             self.streams
@@ -262,8 +265,7 @@ impl Sockets {
                 .saturating_add(2),
         )?;
         stream.register(&self.poll, token)?;
-        stream.is_in_line = stream.is_ready() && self.line.push_back(token).is_ok();
-        let _ = self.streams.insert(token, stream);
+        stream.line_up(&mut self.line, token);
         Ok(())
     }
 
@@ -281,9 +283,7 @@ impl Sockets {
             return;
         };
         stream.want(wanted);
-        if !stream.is_in_line && stream.is_ready() {
-            stream.is_in_line = self.line.push_back(token).is_ok();
-        }
+        stream.line_up(&mut self.line, token);
     }
 
     /// Closes a socket: where the peer may still send, what it sends is drained for a while.
@@ -305,10 +305,48 @@ impl Sockets {
         if self.drained.len() >= DRAINED {
             self.drained.shift_remove_index(0);
         }
-        if !drained.is_in_line && drained.can_read {
-            drained.is_in_line = self.line.push_back(token).is_ok();
-        }
+        drained.line_up(&mut self.line, token);
         let _ = self.drained.insert(token, drained);
+    }
+}
+
+/// A line with room for the listener.
+fn line_of_one(alloc: Global) -> Result<VecDeque<usize>, AllocError> {
+    let mut line = VecDeque::new(alloc);
+    match line.reserve(1) {
+        Ok(()) => Ok(line),
+        Err(AllocError) => {
+            drop(line);
+            Err(AllocError)
+        }
+    }
+}
+
+/// A poll, and the listener of the port of the loopback address that it reports.
+fn polled_listener(net: &impl Net, port: u16) -> io::Result<(Poll, TcpListener)> {
+    let poll = Poll::new(net)?;
+    match listener_on(net, &poll, port) {
+        Ok(listener) => Ok((poll, listener)),
+        Err(fault) => {
+            drop(poll);
+            Err(fault)
+        }
+    }
+}
+
+/// The listener of the port of the loopback address, which the poll reports.
+fn listener_on(net: &impl Net, poll: &Poll, port: u16) -> io::Result<TcpListener> {
+    let mut listener = TcpListener::bind(net, SocketAddr::from((Ipv4Addr::LOCALHOST, port)))?;
+    let token = Token(LISTENER);
+    match poll
+        .registry()
+        .register(&mut listener, token, Interest::READABLE)
+    {
+        Ok(()) => Ok(listener),
+        Err(fault) => {
+            drop(listener);
+            Err(fault)
+        }
     }
 }
 
