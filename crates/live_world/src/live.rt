@@ -112,9 +112,8 @@ impl<'a, R: Net + Clock, W: Write> Live<'a, R, W> {
         ensures { book_of self.new.accounts ≡ book_of self.old.accounts }
     {
         let now = self.now();
-        match until {
-            Some(until) if until.0 <= now => return Some(self.moment_at(now)),
-            _ => {}
+        if has_come(until, now) {
+            return self.moment_at(now);
         }
         let Some(sockets) = &mut self.sockets else {
             return Some(Event::Fault);
@@ -123,7 +122,7 @@ impl<'a, R: Net + Clock, W: Write> Live<'a, R, W> {
             return poll(sockets, now, until);
         }
         if now > self.moment {
-            return Some(self.moment_at(now));
+            return self.moment_at(now);
         }
         let next = sockets.next(alloc, now);
         self.given(next)
@@ -169,11 +168,11 @@ impl<'a, R: Net + Clock, W: Write> Live<'a, R, W> {
     }
 
     /// The moment is given.
-    fn moment_at(&mut self, now: u64) -> Event
+    fn moment_at(&mut self, now: u64) -> Option<Event>
         ensures { self.new.accounts ≡ self.old.accounts }
     {
         self.moment = now;
-        Event::Moment(Ms(now))
+        Some(Event::Moment(Ms(now)))
     }
 
     /// Registers a connection that was accepted, which arrives; without memory for it, or where it can't be polled, it is closed unseen.
@@ -201,6 +200,14 @@ impl<'a, R: Net + Clock, W: Write> Live<'a, R, W> {
         let number = self.accounts.reserve()?;
         let token = token_of(Id::Conn(number))?;
         Some((number, token))
+    }
+}
+
+/// Whether a moment that may not be there has come.
+fn has_come(moment: Option<Ms>, now: u64) -> bool {
+    match moment {
+        Some(moment) => moment.0 <= now,
+        None => false,
     }
 }
 

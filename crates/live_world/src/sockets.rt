@@ -53,6 +53,29 @@ pub struct Sockets {
     buffer: Vec<u8>,
 }
 
+/// The memory that sockets take before they listen.
+#[derive(Drop)]
+struct Room {
+    buffer: Vec<u8>,
+    /// It has room for the listener.
+    line: VecDeque<usize>,
+    events: Events<Global>,
+}
+
+impl Room {
+    fn new(alloc: Global) -> Result<Room, AllocError> {
+        let buffer = vec![in alloc; 0; PIECE]?;
+        let mut line = VecDeque::new(alloc);
+        line.reserve(1)?;
+        let events = Events::with_capacity(alloc, REPORTS)?;
+        Ok(Room {
+            buffer,
+            line,
+            events,
+        })
+    }
+}
+
 /// Why there are no sockets.
 #[derive(Clone, Copy)]
 pub enum Failure {
@@ -75,22 +98,30 @@ impl From<io::Error> for Failure {
 impl Sockets {
     /// Listens on the port of the loopback address.
     pub fn listen(net: &impl Net, alloc: Global, port: u16) -> Result<Sockets, Failure> {
-        let buffer = vec![in alloc; 0; PIECE]?;
-        let line = line_of_one(alloc)?;
-        let events = Events::with_capacity(alloc, REPORTS)?;
-        let (poll, listener) = polled_listener(net, port)?;
-        Ok(Sockets {
+        let room = Room::new(alloc)?;
+        match polled_listener(net, port) {
+            Ok((poll, listener)) => Ok(Sockets::of(alloc, room, poll, listener)),
+            Err(fault) => {
+                drop(room);
+                Err(Failure::from(fault))
+            }
+        }
+    }
+
+    /// Those of a listener, and of no connection yet; takes no memory.
+    fn of(alloc: Global, room: Room, poll: Poll, listener: TcpListener) -> Sockets {
+        Sockets {
             poll,
-            events,
+            events: room.events,
             listener,
             streams: IndexMap::new(alloc),
             drained: IndexMap::new(alloc),
-            line,
+            line: room.line,
             round: 0,
             is_listener_in_line: false,
             paused_until: None,
-            buffer,
-        })
+            buffer: room.buffer,
+        }
     }
 
     /// The port that it listens on.
@@ -146,16 +177,15 @@ impl Sockets {
     fn take_reports(&mut self) {
         for event in self.events.iter() {
             let token = event.token().0;
+            let report = Report::of(event);
             if token == LISTENER {
                 if !self.is_listener_in_line && self.paused_until.is_none() {
                     self.is_listener_in_line = self.line.push_back(LISTENER).is_ok();
                 }
             } else if let Some(stream) = self.streams.get_mut(&token) {
-                stream.report(Report::of(event));
-                stream.line_up(&mut self.line, token);
+                stream.report(report, &mut self.line, token);
             } else if let Some(drained) = self.drained.get_mut(&token) {
-                drained.report(Report::of(event));
-                drained.line_up(&mut self.line, token);
+                drained.report(report, &mut self.line, token);
             }
         }
     }
@@ -307,18 +337,6 @@ impl Sockets {
         }
         drained.line_up(&mut self.line, token);
         let _ = self.drained.insert(token, drained);
-    }
-}
-
-/// A line with room for the listener.
-fn line_of_one(alloc: Global) -> Result<VecDeque<usize>, AllocError> {
-    let mut line = VecDeque::new(alloc);
-    match line.reserve(1) {
-        Ok(()) => Ok(line),
-        Err(AllocError) => {
-            drop(line);
-            Err(AllocError)
-        }
     }
 }
 

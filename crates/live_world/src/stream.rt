@@ -110,11 +110,12 @@ impl Stream {
             .register(&mut self.socket, Token(token), both)
     }
 
-    /// The poll reports it.
-    pub fn report(&mut self, report: Report) {
+    /// The poll reports it, under this token.
+    pub fn report(&mut self, report: Report, line: &mut VecDeque<usize>, token: usize) {
         self.can_read |= report.reads || report.closes;
         self.can_write |= report.writes;
         self.is_closing |= report.closes;
+        self.line_up(line, token);
     }
 
     /// Puts it into the line, where a look at it may give something and it isn't there.
@@ -260,9 +261,10 @@ pub struct Drained {
 }
 
 impl Drained {
-    /// The poll reports it.
-    pub fn report(&mut self, report: Report) {
+    /// The poll reports it, under this token.
+    pub fn report(&mut self, report: Report, line: &mut VecDeque<usize>, token: usize) {
         self.can_read |= report.reads || report.closes;
+        self.line_up(line, token);
     }
 
     /// Puts it into the line, where something may come and it isn't there.
