@@ -115,6 +115,13 @@ impl<'a, R: Net + Clock, W: Write> Live<'a, R, W> {
         if has_come(until, now) {
             return self.moment_at(now);
         }
+        self.attend(alloc, now, until)
+    }
+
+    /// What comes of the sockets now, up to the given moment.
+    fn attend(&mut self, alloc: Global, now: u64, until: Option<Ms>) -> Option<Event>
+        ensures { book_of self.new.accounts ≡ book_of self.old.accounts }
+    {
         let Some(sockets) = &mut self.sockets else {
             return Some(Event::Fault);
         };

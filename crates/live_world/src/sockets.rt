@@ -179,13 +179,14 @@ impl Sockets {
             let token = event.token().0;
             let report = Report::of(event);
             if token == LISTENER {
-                if !self.is_listener_in_line && self.paused_until.is_none() {
+                let stays_out = self.is_listener_in_line | self.paused_until.is_some();
+                if !stays_out {
                     self.is_listener_in_line = self.line.push_back(LISTENER).is_ok();
                 }
             } else if let Some(stream) = self.streams.get_mut(&token) {
                 stream.report(report, &mut self.line, token);
-            } else if let Some(drained) = self.drained.get_mut(&token) {
-                drained.report(report, &mut self.line, token);
+            } else {
+                report_drained(&mut self.drained, &mut self.line, token, report);
             }
         }
     }
@@ -337,6 +338,18 @@ impl Sockets {
         }
         drained.line_up(&mut self.line, token);
         let _ = self.drained.insert(token, drained);
+    }
+}
+
+/// The poll reports a socket that is drained, if there is one of this token.
+fn report_drained(
+    drained: &mut IndexMap<usize, Drained>,
+    line: &mut VecDeque<usize>,
+    token: usize,
+    report: Report,
+) {
+    if let Some(drained) = drained.get_mut(&token) {
+        drained.report(report, line, token);
     }
 }
 
