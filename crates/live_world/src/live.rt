@@ -112,10 +112,16 @@ impl<'a, R: Net + Clock, W: Write> Live<'a, R, W> {
         ensures { book_of self.new.accounts ≡ book_of self.old.accounts }
     {
         let now = self.now();
-        match until {
-            Some(until) if until.0 <= now => return Some(self.moment_at(now)),
-            _ => {}
+        if has_come(until, now) {
+            return self.moment_at(now);
         }
+        self.attend(alloc, now, until)
+    }
+
+    /// What comes of the sockets now, up to the given moment.
+    fn attend(&mut self, alloc: Global, now: u64, until: Option<Ms>) -> Option<Event>
+        ensures { book_of self.new.accounts ≡ book_of self.old.accounts }
+    {
         let Some(sockets) = &mut self.sockets else {
             return Some(Event::Fault);
         };
@@ -123,9 +129,17 @@ impl<'a, R: Net + Clock, W: Write> Live<'a, R, W> {
             return poll(sockets, now, until);
         }
         if now > self.moment {
-            return Some(self.moment_at(now));
+            return self.moment_at(now);
         }
-        match sockets.next(alloc, now) {
+        let next = sockets.next(alloc, now);
+        self.given(next)
+    }
+
+    /// The event that the first in the line gives.
+    fn given(&mut self, next: Next) -> Option<Event>
+        ensures { book_of self.new.accounts ≡ book_of self.old.accounts }
+    {
+        match next {
             Next::Nothing => None,
             Next::Accepted(socket) => self.register(socket),
             Next::Seen(token, seen) => event_of(id_of(token), seen),
@@ -161,22 +175,46 @@ impl<'a, R: Net + Clock, W: Write> Live<'a, R, W> {
     }
 
     /// The moment is given.
-    fn moment_at(&mut self, now: u64) -> Event
+    fn moment_at(&mut self, now: u64) -> Option<Event>
         ensures { self.new.accounts ≡ self.old.accounts }
     {
         self.moment = now;
-        Event::Moment(Ms(now))
+        Some(Event::Moment(Ms(now)))
     }
 
     /// Registers a connection that was accepted, which arrives; without memory for it, or where it can't be polled, it is closed unseen.
     fn register(&mut self, socket: TcpStream) -> Option<Event>
         ensures { book_of self.new.accounts ≡ book_of self.old.accounts }
     {
+        let Some((number, token)) = self.next_arrival() else {
+            drop(socket);
+            return None;
+        };
+        let Some(sockets) = &mut self.sockets else {
+            drop(socket);
+            return None;
+        };
+        match sockets.register(token, socket) {
+            Ok(()) => Some(Event::Arrive(number)),
+            Err(_) => None,
+        }
+    }
+
+    /// The number of the next connection and its token, once there is memory for it.
+    fn next_arrival(&mut self) -> Option<(u64, usize)>
+        ensures { book_of self.new.accounts ≡ book_of self.old.accounts }
+    {
         let number = self.accounts.reserve()?;
         let token = token_of(Id::Conn(number))?;
-        let sockets = self.sockets.as_mut()?;
-        sockets.register(token, socket).ok()?;
-        Some(Event::Arrive(number))
+        Some((number, token))
+    }
+}
+
+/// Whether a moment that may not be there has come.
+fn has_come(moment: Option<Ms>, now: u64) -> bool {
+    match moment {
+        Some(moment) => moment.0 <= now,
+        None => false,
     }
 }
 

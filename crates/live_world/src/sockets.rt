@@ -1,6 +1,6 @@
 //! The sockets of the world: what the poll reports of them stands in a line, each once, and the first gives one event.
 
-use crate::stream::{Drained, Seen, Stream};
+use crate::stream::{Drained, Report, Seen, Stream};
 use indexmap::IndexMap;
 use mio::net::{TcpListener, TcpStream};
 use mio::{Events, Interest, Poll, Token};
@@ -53,8 +53,31 @@ pub struct Sockets {
     buffer: Vec<u8>,
 }
 
-/// Why there are no sockets.
+/// The memory that sockets take before they listen.
 #[derive(Drop)]
+struct Room {
+    buffer: Vec<u8>,
+    /// It has room for the listener.
+    line: VecDeque<usize>,
+    events: Events<Global>,
+}
+
+impl Room {
+    fn new(alloc: Global) -> Result<Room, AllocError> {
+        let buffer = vec![in alloc; 0; PIECE]?;
+        let mut line = VecDeque::new(alloc);
+        line.reserve(1)?;
+        let events = Events::with_capacity(alloc, REPORTS)?;
+        Ok(Room {
+            buffer,
+            line,
+            events,
+        })
+    }
+}
+
+/// Why there are no sockets.
+#[derive(Clone, Copy)]
 pub enum Failure {
     Memory,
     Failed,
@@ -75,26 +98,30 @@ impl From<io::Error> for Failure {
 impl Sockets {
     /// Listens on the port of the loopback address.
     pub fn listen(net: &impl Net, alloc: Global, port: u16) -> Result<Sockets, Failure> {
-        let buffer = vec![in alloc; 0; PIECE]?;
-        let mut line = VecDeque::new(alloc);
-        line.reserve(1)?;
-        let events = Events::with_capacity(alloc, REPORTS)?;
-        let poll = Poll::new(net)?;
-        let mut listener = TcpListener::bind(net, SocketAddr::from((Ipv4Addr::LOCALHOST, port)))?;
-        poll.registry()
-            .register(&mut listener, Token(LISTENER), Interest::READABLE)?;
-        Ok(Sockets {
+        let room = Room::new(alloc)?;
+        match polled_listener(net, port) {
+            Ok((poll, listener)) => Ok(Sockets::of(alloc, room, poll, listener)),
+            Err(fault) => {
+                drop(room);
+                Err(Failure::from(fault))
+            }
+        }
+    }
+
+    /// Those of a listener, and of no connection yet; takes no memory.
+    fn of(alloc: Global, room: Room, poll: Poll, listener: TcpListener) -> Sockets {
+        Sockets {
             poll,
-            events,
+            events: room.events,
             listener,
             streams: IndexMap::new(alloc),
             drained: IndexMap::new(alloc),
-            line,
+            line: room.line,
             round: 0,
             is_listener_in_line: false,
             paused_until: None,
-            buffer,
-        })
+            buffer: room.buffer,
+        }
     }
 
     /// The port that it listens on.
@@ -150,23 +177,16 @@ impl Sockets {
     fn take_reports(&mut self) {
         for event in self.events.iter() {
             let token = event.token().0;
-            let reads = event.is_readable() || event.is_error();
-            let writes = event.is_writable() || event.is_error();
-            let closes = event.is_read_closed() || event.is_error();
+            let report = Report::of(event);
             if token == LISTENER {
-                if !self.is_listener_in_line && self.paused_until.is_none() {
+                let stays_out = self.is_listener_in_line | self.paused_until.is_some();
+                if !stays_out {
                     self.is_listener_in_line = self.line.push_back(LISTENER).is_ok();
                 }
             } else if let Some(stream) = self.streams.get_mut(&token) {
-                stream.report(reads, writes, closes);
-                if !stream.is_in_line && stream.is_ready() {
-                    stream.is_in_line = self.line.push_back(token).is_ok();
-                }
-            } else if let Some(drained) = self.drained.get_mut(&token) {
-                drained.can_read |= reads || closes;
-                if !drained.is_in_line && drained.can_read {
-                    drained.is_in_line = self.line.push_back(token).is_ok();
-                }
+                stream.report(report, &mut self.line, token);
+            } else {
+                report_drained(&mut self.drained, &mut self.line, token, report);
             }
         }
     }
@@ -252,8 +272,22 @@ impl Sockets {
         self.add(token, Stream::connecting(socket))
     }
 
-    /// Each socket that is open or drained has room in the line, and one more is the listener.
+    /// Adds a socket that can be polled; another one is closed.
     fn add(&mut self, token: usize, mut stream: Stream) -> Result<(), Failure> {
+        match self.admit(token, &mut stream) {
+            Ok(()) => {
+                drop(self.streams.insert(token, stream));
+                Ok(())
+            }
+            Err(failure) => {
+                drop(stream);
+                Err(failure)
+            }
+        }
+    }
+
+    /// Lets the poll report a socket. Each that is open or drained has room in the line, and one more is the listener.
+    fn admit(&mut self, token: usize, stream: &mut Stream) -> Result<(), Failure> {
         self.streams.reserve(1)?;
         self.line.reserve(
             self.streams
@@ -262,8 +296,7 @@ impl Sockets {
                 .saturating_add(2),
         )?;
         stream.register(&self.poll, token)?;
-        stream.is_in_line = stream.is_ready() && self.line.push_back(token).is_ok();
-        let _ = self.streams.insert(token, stream);
+        stream.line_up(&mut self.line, token);
         Ok(())
     }
 
@@ -281,9 +314,7 @@ impl Sockets {
             return;
         };
         stream.want(wanted);
-        if !stream.is_in_line && stream.is_ready() {
-            stream.is_in_line = self.line.push_back(token).is_ok();
-        }
+        stream.line_up(&mut self.line, token);
     }
 
     /// Closes a socket: where the peer may still send, what it sends is drained for a while.
@@ -305,10 +336,48 @@ impl Sockets {
         if self.drained.len() >= DRAINED {
             self.drained.shift_remove_index(0);
         }
-        if !drained.is_in_line && drained.can_read {
-            drained.is_in_line = self.line.push_back(token).is_ok();
-        }
+        drained.line_up(&mut self.line, token);
         let _ = self.drained.insert(token, drained);
+    }
+}
+
+/// The poll reports a socket that is drained, if there is one of this token.
+fn report_drained(
+    drained: &mut IndexMap<usize, Drained>,
+    line: &mut VecDeque<usize>,
+    token: usize,
+    report: Report,
+) {
+    if let Some(drained) = drained.get_mut(&token) {
+        drained.report(report, line, token);
+    }
+}
+
+/// A poll, and the listener of the port of the loopback address that it reports.
+fn polled_listener(net: &impl Net, port: u16) -> io::Result<(Poll, TcpListener)> {
+    let poll = Poll::new(net)?;
+    match listener_on(net, &poll, port) {
+        Ok(listener) => Ok((poll, listener)),
+        Err(fault) => {
+            drop(poll);
+            Err(fault)
+        }
+    }
+}
+
+/// The listener of the port of the loopback address, which the poll reports.
+fn listener_on(net: &impl Net, poll: &Poll, port: u16) -> io::Result<TcpListener> {
+    let mut listener = TcpListener::bind(net, SocketAddr::from((Ipv4Addr::LOCALHOST, port)))?;
+    let token = Token(LISTENER);
+    match poll
+        .registry()
+        .register(&mut listener, token, Interest::READABLE)
+    {
+        Ok(()) => Ok(listener),
+        Err(fault) => {
+            drop(listener);
+            Err(fault)
+        }
     }
 }
 

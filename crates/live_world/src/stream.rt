@@ -1,10 +1,12 @@
 //! A socket of the world, and what is known of its readiness.
 
+use mio::event::Event;
 use mio::net::TcpStream;
 use mio::{Interest, Poll, Token};
 use resty_base::Bytes;
 use resty_world::Wrote;
 use std::alloc::Global;
+use std::collections::VecDeque;
 use std::io;
 use std::io::{ErrorKind, Read, Write};
 use std::net::Shutdown;
@@ -22,6 +24,29 @@ pub enum Seen {
     Ready,
     Connected,
     Refused,
+}
+
+/// What the poll reports of a socket.
+#[derive(Clone, Copy)]
+pub struct Report {
+    /// It can be read.
+    reads: bool,
+    /// It can be written.
+    writes: bool,
+    /// Its peer sends no more.
+    closes: bool,
+}
+
+impl Report {
+    /// The report that an event is; a fault is reported as all of them.
+    pub fn of(event: &Event) -> Report {
+        let has_fault = event.is_error();
+        Report {
+            reads: event.is_readable() || has_fault,
+            writes: event.is_writable() || has_fault,
+            closes: event.is_read_closed() || has_fault,
+        }
+    }
 }
 
 /// A socket that is open.
@@ -85,11 +110,19 @@ impl Stream {
             .register(&mut self.socket, Token(token), both)
     }
 
-    /// The poll reports it.
-    pub fn report(&mut self, reads: bool, writes: bool, closes: bool) {
-        self.can_read |= reads || closes;
-        self.can_write |= writes;
-        self.is_closing |= closes;
+    /// The poll reports it, under this token.
+    pub fn report(&mut self, report: Report, line: &mut VecDeque<usize>, token: usize) {
+        self.can_read |= report.reads || report.closes;
+        self.can_write |= report.writes;
+        self.is_closing |= report.closes;
+        self.line_up(line, token);
+    }
+
+    /// Puts it into the line, where a look at it may give something and it isn't there.
+    pub fn line_up(&mut self, line: &mut VecDeque<usize>, token: usize) {
+        if !self.is_in_line && self.is_ready() {
+            self.is_in_line = line.push_back(token).is_ok();
+        }
     }
 
     pub fn want(&mut self, wanted: bool) {
@@ -228,6 +261,19 @@ pub struct Drained {
 }
 
 impl Drained {
+    /// The poll reports it, under this token.
+    pub fn report(&mut self, report: Report, line: &mut VecDeque<usize>, token: usize) {
+        self.can_read |= report.reads || report.closes;
+        self.line_up(line, token);
+    }
+
+    /// Puts it into the line, where something may come and it isn't there.
+    pub fn line_up(&mut self, line: &mut VecDeque<usize>, token: usize) {
+        if !self.is_in_line && self.can_read {
+            self.is_in_line = line.push_back(token).is_ok();
+        }
+    }
+
     /// Throws away what is there: whether more may come.
     pub fn drain(&mut self, buffer: &mut [u8]) -> bool {
         match self.socket.read(buffer) {

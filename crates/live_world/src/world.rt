@@ -23,7 +23,7 @@ impl<R: Net + Clock, W: Write> World for Live<'_, R, W> {
     fn listen(&mut self, alloc: Global, port: u16) -> Listened {
         match Sockets::listen(self.rt, alloc, port) {
             Ok(sockets) => {
-                self.sockets = Some(sockets);
+                let _ = self.sockets.insert(sockets);
                 self.accounts.listens(port);
                 Listened::Up
             }

@@ -152,8 +152,8 @@ reached-unended text rest lines n before out numbered = record {
 }
 
 -- what the end of the reading returns
-pub finished : (text after : List ℕ) (more : List SchedLine) (r : Result (List SchedLine) SchedFault)
-    → MatchResult r (λ s. (after ≡ []) × (s ≡ more)) (λ f. (after ≢ []) × (f ≡ fault.BadLine (length more + 1)))
-    → (after ≡ [] → IsRead text more) → (after ≢ [] → IsRefusedAt text (length more + 1)) → MatchResult r (IsRead text) (IsScheduleFault text)
-finished text after more (Ok s) known read refused = subst (IsRead text) (sym known.1) (read known.0)
+pub finished : {A : Type 0} (text after : List ℕ) (more : List SchedLine) (r : Result A SchedFault)
+    → MatchResult r (λ done. (after ≡ []) × Unit {0}) (λ f. (after ≢ []) × (f ≡ fault.BadLine (length more + 1)))
+    → (after ≡ [] → IsRead text more) → (after ≢ [] → IsRefusedAt text (length more + 1)) → MatchResult r (λ done. IsRead text more) (IsScheduleFault text)
+finished text after more (Ok done) known read refused = read known.0
 finished text after more (Err f) known read refused = subst (IsScheduleFault text) (sym known.1) (refused known.0)

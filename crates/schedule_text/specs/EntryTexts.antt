@@ -105,13 +105,20 @@ timer_text (timer.Job n) = codes "t" ++ decimal n
 timer_text timer.Full = codes "full"
 timer_text timer.Exiting = codes "exiting"
 
+-- an entry that isn't of what a strand did, without the end of its line; those that are have no text here
+abbrev pub plain_text : Entry → List ℕ
+plain_text (entry.Given e) = event_text e
+plain_text (entry.Put i bytes) = codes "put " ++ id_text i ++ codes " " ++ quoted bytes
+plain_text (entry.Later i) = codes "later " ++ id_text i
+plain_text (entry.Lost i) = codes "lost " ++ id_text i
+plain_text (entry.Close i) = codes "close " ++ id_text i
+plain_text (entry.Start n) = codes "start t" ++ decimal n
+plain_text (entry.Turned c) = codes "turned c" ++ decimal c
+plain_text (entry.Dropped who) = codes "dropped " ++ strand_text who
+plain_text e = []
+
 -- an entry, without the end of its line
 abbrev pub entry_text : Entry → List ℕ
-entry_text (entry.Given e) = event_text e
-entry_text (entry.Put i bytes) = codes "put " ++ id_text i ++ codes " " ++ quoted bytes
-entry_text (entry.Later i) = codes "later " ++ id_text i
-entry_text (entry.Lost i) = codes "lost " ++ id_text i
-entry_text (entry.Close i) = codes "close " ++ id_text i
 entry_text (entry.Dial who host port n) =
     codes "dial " ++ strand_text who ++ codes " " ++ host_text host ++ codes " " ++ decimal port ++ codes " " ++ socket_or (codes "failed") n
 entry_text (entry.Log who text written) = codes "log " ++ strand_text who ++ codes " " ++ failed_text written ++ quoted text
@@ -121,9 +128,7 @@ entry_text (entry.Take who key got) = codes "take " ++ strand_text who ++ codes 
 entry_text (entry.Keep who n key idle size closed) =
     codes "keep " ++ strand_text who ++ codes " s" ++ decimal n ++ codes " " ++ quoted key ++ codes " " ++ pool_text idle.0 size closed
 entry_text (entry.Timer who due answer) = codes "timer " ++ strand_text who ++ codes " " ++ decimal due.0 ++ codes " = " ++ timer_text answer
-entry_text (entry.Start n) = codes "start t" ++ decimal n
-entry_text (entry.Turned c) = codes "turned c" ++ decimal c
-entry_text (entry.Dropped who) = codes "dropped " ++ strand_text who
+entry_text e = plain_text e
 
 -- an entry with the end of its line
 abbrev pub entry_line : Entry → List ℕ

@@ -156,19 +156,24 @@ IsTimer (timer.Job n) = IsOrdinal n
 IsTimer timer.Full = Unit {0}
 IsTimer timer.Exiting = Unit {0}
 
+-- an entry of a history that isn't of what a strand did
+abbrev pub IsPlain : Entry → Type 0
+IsPlain (entry.Given e) = IsEvent e
+IsPlain (entry.Put i bytes) = IsId i × IsBytes bytes
+IsPlain (entry.Later i) = IsId i
+IsPlain (entry.Lost i) = IsId i
+IsPlain (entry.Close i) = IsId i
+IsPlain (entry.Start n) = IsOrdinal n
+IsPlain (entry.Turned c) = IsOrdinal c
+IsPlain (entry.Dropped who) = IsStrand who
+IsPlain e = ⊥
+
 -- an entry of a history
 abbrev pub IsEntry : Entry → Type 0
-IsEntry (entry.Given e) = IsEvent e
-IsEntry (entry.Put i bytes) = IsId i × IsBytes bytes
-IsEntry (entry.Later i) = IsId i
-IsEntry (entry.Lost i) = IsId i
-IsEntry (entry.Close i) = IsId i
 IsEntry (entry.Dial who host port n) = IsStrand who × IsHost host × (port ≤ 65_535) × IsSocket n
 IsEntry (entry.Log who text written) = IsStrand who × IsBytes text
 IsEntry (entry.Dict who zone call answer) = IsStrand who × IsZone zone × IsCall call × IsAnswer answer
 IsEntry (entry.Take who key got) = IsStrand who × IsBytes key × IsTaken got
 IsEntry (entry.Keep who n key idle size closed) = IsStrand who × IsOrdinal n × IsBytes key × IsNumber idle.0 × IsSmall size × IsSocket closed
 IsEntry (entry.Timer who due answer) = IsStrand who × IsNumber due.0 × IsTimer answer
-IsEntry (entry.Start n) = IsOrdinal n
-IsEntry (entry.Turned c) = IsOrdinal c
-IsEntry (entry.Dropped who) = IsStrand who
+IsEntry e = IsPlain e

@@ -36,11 +36,11 @@ fn is_id(id: Id) -> bool
     }
 }
 
-fn is_strand(strand: StrandId) -> bool
-    ensures { IsTrue result ↔ IsStrand strand }
+fn is_strand(strand: &StrandId) -> bool
+    ensures { IsTrue result ↔ IsStrand strand.now }
 {
     match strand {
-        StrandId::Conn(number) | StrandId::Job(number) => is_ordinal(number),
+        StrandId::Conn(number) | StrandId::Job(number) => is_ordinal(*number),
     }
 }
 

@@ -1,5 +1,5 @@
 //! Reading a schedule line by line.
-ghost use Rattle.std.specs.Prelude.{◌≡◌, ◌+◌, MatchResult, length};
+ghost use Rattle.std.specs.Prelude.{◌≡◌, ◌+◌, [], MatchResult, length};
 ghost use Rattle.schedule_text.specs.Accepted.{AcceptsSchedule, IsScheduleFault, IsRead};
 ghost use Rattle.schedule_text.specs.Lines as lines;
 ghost use Rattle.schedule_text.specs.Reading.{ReadsToEnd};
@@ -31,14 +31,23 @@ pub fn schedule_of(alloc: Global, text: &[u8]) -> Result<Schedule, SchedFault>
     ensures accepted { AcceptsSchedule text.now result }
 {
     let mut spelling = Vec::new(alloc);
-    read_lines(alloc, &mut spelling, text)
+    let mut reader = Reader::new(alloc);
+    match read_lines(alloc, &mut reader, &mut spelling, text) {
+        Ok(()) => Ok(Schedule::new(reader.into_lines())),
+        Err(fault) => Err(fault),
+    }
 }
 
 /// Reads the lines one after another; `spelling` is room to work in.
-fn read_lines(alloc: Global, spelling: &mut Vec<u8>, text: &[u8]) -> Result<Schedule, SchedFault>
-    ensures { MatchResult result (IsRead text.now) (IsScheduleFault text.now) }
+fn read_lines(
+    alloc: Global,
+    reader: &mut Reader,
+    spelling: &mut Vec<u8>,
+    text: &[u8],
+) -> Result<(), SchedFault>
+    requires { reader.old.lines.items ≡ [] }
+    ensures { MatchResult result (λ done. IsRead text.now reader.new.lines.items) (IsScheduleFault text.now) }
 {
-    let mut reader = Reader::new(alloc);
     if reader.reserve(most_lines(text)).is_err() {
         return Err(SchedFault::Memory);
     }
@@ -68,12 +77,12 @@ fn is_stop(line: &SchedLine) -> bool
     matches!(line, SchedLine::Given(Event::Stop))
 }
 
-/// The schedule that was read up to its `stop`, after which nothing may stand.
-fn finish(reader: Reader, rest: &[u8]) -> Result<Schedule, SchedFault>
-    ensures { ReadsToEnd rest.now (length reader.lines.items + 1) (λ schedule. schedule ≡ reader.lines.items) result }
+/// Whether the schedule that was read up to its `stop` is all of the text: nothing may stand after that.
+fn finish(reader: &Reader, rest: &[u8]) -> Result<(), SchedFault>
+    ensures { ReadsToEnd rest.now (length reader.now.lines.items + 1) (λ done. Unit {0}) result }
 {
     if rest.is_empty() {
-        Ok(Schedule::new(reader.into_lines()))
+        Ok(())
     } else {
         Err(SchedFault::BadLine(reader.next_number()))
     }

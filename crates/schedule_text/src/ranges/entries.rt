@@ -1,11 +1,12 @@
 //! Whether an entry of a history is within its ranges. Tests are joined by `&`, since all of them can be made: none has to hold
 //! for another, and the proof then has one way through each arm.
-ghost use Rattle.std.specs.Prelude.{◌≡◌, ◌↔◌, ◌≤◌, All, IsTrue};
-ghost use Rattle.schedule_text.specs.Ranges.{IsAnswer, IsBytes, IsCall, IsEntry, IsHost, IsInit, IsInteger, IsNumber, IsSmall, IsSocket};
+ghost use Rattle.std.specs.Prelude.{◌≡◌, ◌↔◌, All, IsTrue};
+ghost use Rattle.resty_world.specs.declared.entry.Entry.TheVariants.{Dial, Keep};
+ghost use Rattle.schedule_text.specs.Ranges.{IsAnswer, IsBytes, IsCall, IsEntry, IsInit, IsInteger, IsPlain, IsSmall, IsSocket};
 ghost use Rattle.schedule_text.specs.Ranges.{IsTaken, IsTimer, IsValue, IsZone, is_zone_byte as zone_byte};
 
 use crate::ranges::{LAST_NUMBER, is_event, is_id, is_number, is_ordinal, is_strand};
-use resty_base::{Bytes, DictAnswer, DictCall, DictValue, Ms};
+use resty_base::{Bytes, DictAnswer, DictCall, DictValue, Ms, StrandId};
 use resty_world::{Entry, TimerAnswer};
 
 /// Whether they are bytes, which the type has already.
@@ -22,13 +23,6 @@ fn is_small(number: u32) -> bool
 {
     let _number = number;
     true
-}
-
-/// Whether the port and the numbers of the host are in their ranges, which the types have already.
-fn is_address(host: &[u8; 4], port: u16) -> bool
-    ensures { IsTrue result ↔ (IsHost host.now × (port ≤ 65_535)) }
-{
-    are_bytes(host.as_slice()) & (port <= u16::MAX)
 }
 
 fn are_names(names: &[Bytes]) -> bool
@@ -144,34 +138,59 @@ pub fn is_entry(entry: &Entry) -> bool
     ensures { IsTrue result ↔ IsEntry entry.now }
 {
     match entry {
-        Entry::Given(event) => is_event(event),
-        Entry::Put(id, bytes) => is_id(*id) & are_bytes(bytes.as_slice()),
-        Entry::Later(id) | Entry::Lost(id) | Entry::Close(id) => is_id(*id),
-        Entry::Dial(who, host, port, socket) => {
-            is_strand(*who) & is_address(host, *port) & is_socket(*socket)
-        }
-        Entry::Log(who, text, _) => is_strand(*who) & are_bytes(text.as_slice()),
+        Entry::Dial(who, host, port, socket) => { is_dial(who, host, *port, *socket) }
+        Entry::Log(who, text, _) => is_strand(who) & are_bytes(text.as_slice()),
         Entry::Dict(who, zone, call, answer) => {
-            is_strand(*who)
+            is_strand(who)
                 & is_zone(zone.as_slice())
                 & is_call(call.get())
                 & is_answer(answer.get())
         }
-        Entry::Take(who, key, got) => {
-            is_strand(*who) & are_bytes(key.as_slice()) & is_taken(*got)
-        }
+        Entry::Take(who, key, got) => is_strand(who) & are_bytes(key.as_slice()) & is_taken(*got),
         Entry::Keep(who, socket, key, idle, size, closed) => {
-            is_strand(*who) & is_ordinal(*socket) & is_kept(key.as_slice(), *idle, *size, *closed)
+            is_keep(who, *socket, key, *idle, *size, *closed)
         }
-        Entry::Timer(who, due, answer) => { is_strand(*who) & is_number(due.0) & is_timer(*answer) }
-        Entry::Start(number) | Entry::Turned(number) => is_ordinal(*number),
-        Entry::Dropped(who) => is_strand(*who),
+        Entry::Timer(who, due, answer) => { is_strand(who) & is_number(due.0) & is_timer(*answer) }
+        _ => is_plain(entry),
     }
 }
 
-/// Whether the key, the idle time and the size of a pool, and the socket that was closed, are in their ranges.
-fn is_kept(key: &[u8], idle: Ms, size: u32, closed: Option<u64>) -> bool
-    ensures { IsTrue result ↔ (IsBytes key.now × IsNumber idle.0 × IsSmall size × IsSocket closed) }
+/// The same of an entry that isn't of what a strand did.
+fn is_plain(entry: &Entry) -> bool
+    ensures { IsTrue result ↔ IsPlain entry.now }
 {
-    are_bytes(key) & is_number(idle.0) & is_small(size) & is_socket(closed)
+    match entry {
+        Entry::Given(event) => is_event(event),
+        Entry::Put(id, bytes) => is_id(*id) & are_bytes(bytes.as_slice()),
+        Entry::Later(id) | Entry::Lost(id) | Entry::Close(id) => is_id(*id),
+        Entry::Start(number) | Entry::Turned(number) => is_ordinal(*number),
+        Entry::Dropped(who) => is_strand(who),
+        _ => false,
+    }
+}
+
+/// Whether a dial is within its ranges: those of the port and of the numbers of the host are those of their types.
+fn is_dial(who: &StrandId, host: &[u8; 4], port: u16, socket: Option<u64>) -> bool
+    ensures { IsTrue result ↔ IsEntry (Dial who.now host.now port socket) }
+{
+    is_strand(who) & are_bytes(host.as_slice()) & (port <= u16::MAX) & is_socket(socket)
+}
+
+/// Whether the keeping of a socket is within its ranges.
+fn is_keep(
+    who: &StrandId,
+    socket: u64,
+    key: &Bytes,
+    idle: Ms,
+    size: u32,
+    closed: Option<u64>,
+) -> bool
+    ensures { IsTrue result ↔ IsEntry (Keep who.now socket key.now idle size closed) }
+{
+    is_strand(who)
+        & is_ordinal(socket)
+        & are_bytes(key.as_slice())
+        & is_number(idle.0)
+        & is_small(size)
+        & is_socket(closed)
 }

@@ -62,11 +62,12 @@ pub fn read_entry(
 ) -> Result<Option<Entry>, AllocError>
     ensures { IfOk result (ReadsEntry text.now) }
 {
-    let Ok(entry) = entry_in(alloc, text) else {
-        return Err(AllocError);
-    };
-    let Ok(spelled) = entry_is_spelled(spelling, &entry, text) else {
-        return Err(AllocError);
-    };
-    Ok(spelled.then_some(entry))
+    let entry = entry_in(alloc, text)?;
+    match entry_is_spelled(spelling, &entry, text) {
+        Ok(spelled) => Ok(spelled.then_some(entry)),
+        Err(AllocError) => {
+            drop(entry);
+            Err(AllocError)
+        }
+    }
 }

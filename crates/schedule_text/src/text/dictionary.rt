@@ -1,14 +1,13 @@
 //! The calls of a dictionary, and its answers.
-ghost use Rattle.std.specs.Prelude.{◌≡◌, ◌++◌, OnOk, codes, decimal};
-ghost use Rattle.std.specs.Fmt.{signed_decimal};
-ghost use Rattle.schedule_text.specs.EntryTexts.{answer_text, call_text, forcible_text, how_text, init_text, name_text, value_text};
-ghost use Rattle.schedule_text.specs.Words.{quoted};
-ghost use Rattle.std.specs.List.{flat_map};
+ghost use Rattle.std.specs.Prelude.{◌≡◌, ◌++◌, OnOk};
+ghost use Rattle.resty_base.specs.declared.dictionary.DictAnswer.TheVariants.{Found, Names, Number};
+ghost use Rattle.resty_base.specs.declared.dictionary.DictCall.TheVariants.{Incr, Store};
+ghost use Rattle.schedule_text.specs.EntryTexts.{answer_text, call_text, forcible_text, how_text, init_text, value_text};
 
 use crate::text::words::{
-    put, put_integer, put_numbered, put_quoted, put_with_integer, put_with_quoted,
+    put, put_integer, put_numbered, put_quoted, put_small, put_with_integer, put_with_quoted,
 };
-use resty_base::{Bytes, DictAnswer, DictCall, DictValue, How};
+use resty_base::{ByteLists, Bytes, DictAnswer, DictCall, DictValue, How};
 use std::alloc::AllocError;
 
 fn put_value(out: &mut Vec<u8>, value: &DictValue) -> Result<(), AllocError>
@@ -53,28 +52,36 @@ fn put_init(out: &mut Vec<u8>, init: Option<i64>, ttl: u64) -> Result<(), AllocE
     }
 }
 
-/// Puts how a value is stored, under which key, and the value.
-fn put_stored(out: &mut Vec<u8>, how: How, key: &[u8], value: &DictValue) -> Result<(), AllocError>
-    ensures { OnOk result (out.new.items ≡ out.old.items ++ how_text how ++ quoted key.now ++ codes " " ++ value_text value.now) }
+/// Puts the storing of a value.
+fn put_store(
+    out: &mut Vec<u8>,
+    how: How,
+    key: &Bytes,
+    value: &DictValue,
+    ttl: u64,
+    flags: u32,
+) -> Result<(), AllocError>
+    ensures { OnOk result (out.new.items ≡ out.old.items ++ call_text (Store how key.now value.now ttl flags)) }
 {
-    put_with_quoted(out, word_of(how), key)?;
-    put_with_value(out, b" ", value)
-}
-
-/// Puts the time to live of a value, and its flags.
-fn put_limits(out: &mut Vec<u8>, ttl: u64, flags: u32) -> Result<(), AllocError>
-    ensures { OnOk result (out.new.items ≡ out.old.items ++ codes " " ++ decimal ttl ++ codes " " ++ decimal flags) }
-{
+    put_with_quoted(out, word_of(how), key.as_slice())?;
+    put_with_value(out, b" ", value)?;
     put_numbered(out, b" ", ttl)?;
-    put_numbered(out, b" ", flags as u64)
+    put_small(out, b" ", flags)
 }
 
-/// Puts to which key how much is added.
-fn put_added(out: &mut Vec<u8>, key: &[u8], by: i64) -> Result<(), AllocError>
-    ensures { OnOk result (out.new.items ≡ out.old.items ++ codes "incr " ++ quoted key.now ++ codes " " ++ signed_decimal by) }
+/// Puts the adding to a number.
+fn put_incr(
+    out: &mut Vec<u8>,
+    key: &Bytes,
+    by: i64,
+    init: Option<i64>,
+    ttl: u64,
+) -> Result<(), AllocError>
+    ensures { OnOk result (out.new.items ≡ out.old.items ++ call_text (Incr key.now by init ttl)) }
 {
-    put_with_quoted(out, b"incr ", key)?;
-    put_with_integer(out, b" ", by)
+    put_with_quoted(out, b"incr ", key.as_slice())?;
+    put_with_integer(out, b" ", by)?;
+    put_init(out, init, ttl)
 }
 
 /// Puts a call of a dictionary.
@@ -89,18 +96,12 @@ pub fn put_call(out: &mut Vec<u8>, call: &DictCall) -> Result<(), AllocError>
             value,
             ttl,
             flags,
-        } => {
-            put_stored(out, *how, key.as_slice(), value)?;
-            put_limits(out, *ttl, *flags)
-        }
+        } => put_store(out, *how, key, value, *ttl, *flags),
         DictCall::Delete(key) => put_with_quoted(out, b"delete ", key.as_slice()),
-        DictCall::Incr { key, by, init, ttl } => {
-            put_added(out, key.as_slice(), *by)?;
-            put_init(out, *init, *ttl)
-        }
+        DictCall::Incr { key, by, init, ttl } => put_incr(out, key, *by, *init, *ttl),
         DictCall::FlushAll => put(out, b"flush_all"),
-        DictCall::FlushExpired(most) => put_numbered(out, b"flush_expired ", *most as u64),
-        DictCall::Keys(most) => put_numbered(out, b"get_keys ", *most as u64),
+        DictCall::FlushExpired(most) => put_small(out, b"flush_expired ", *most),
+        DictCall::Keys(most) => put_small(out, b"get_keys ", *most),
     }
 }
 
@@ -116,13 +117,31 @@ fn put_forcible(out: &mut Vec<u8>, text: &[u8], forcible: bool) -> Result<(), Al
     }
 }
 
-fn put_names(out: &mut Vec<u8>, names: &[Bytes]) -> Result<(), AllocError>
-    ensures { OnOk result (out.new.items ≡ out.old.items ++ flat_map name_text names.now) }
+/// Puts keys.
+fn put_names(out: &mut Vec<u8>, names: &ByteLists) -> Result<(), AllocError>
+    ensures { OnOk result (out.new.items ≡ out.old.items ++ answer_text (Names names.now)) }
 {
-    for name in names {
+    put(out, b"keys")?;
+    for name in names.as_slice() {
         put_with_quoted(out, b" ", name.as_slice())?;
     }
     Ok(())
+}
+
+/// Puts a value that was found, and its flags.
+fn put_found(out: &mut Vec<u8>, value: &DictValue, flags: u32) -> Result<(), AllocError>
+    ensures { OnOk result (out.new.items ≡ out.old.items ++ answer_text (Found value.now flags)) }
+{
+    put_with_value(out, b"found ", value)?;
+    put_small(out, b" ", flags)
+}
+
+/// Puts the number that an adding made.
+fn put_sum(out: &mut Vec<u8>, number: i64, forcible: bool) -> Result<(), AllocError>
+    ensures { OnOk result (out.new.items ≡ out.old.items ++ answer_text (Number number forcible)) }
+{
+    put_with_integer(out, b"number ", number)?;
+    put_forcible(out, b"", forcible)
 }
 
 /// Puts the answer of a dictionary.
@@ -130,10 +149,7 @@ pub fn put_answer(out: &mut Vec<u8>, answer: &DictAnswer) -> Result<(), AllocErr
     ensures { OnOk result (out.new.items ≡ out.old.items ++ answer_text answer.now) }
 {
     match answer {
-        DictAnswer::Found(value, flags) => {
-            put_with_value(out, b"found ", value)?;
-            put_numbered(out, b" ", *flags as u64)
-        }
+        DictAnswer::Found(value, flags) => put_found(out, value, *flags),
         DictAnswer::Nothing => put(out, b"none"),
         DictAnswer::Done(forcible) => put_forcible(out, b"done", *forcible),
         DictAnswer::Exists => put(out, b"exists"),
@@ -141,14 +157,8 @@ pub fn put_answer(out: &mut Vec<u8>, answer: &DictAnswer) -> Result<(), AllocErr
         DictAnswer::NoMemory(forcible) => put_forcible(out, b"no memory", *forcible),
         DictAnswer::NotNumber => put(out, b"not a number"),
         DictAnswer::OutOfRange => put(out, b"range"),
-        DictAnswer::Number(number, forcible) => {
-            put_with_integer(out, b"number ", *number)?;
-            put_forcible(out, b"", *forcible)
-        }
-        DictAnswer::Count(count) => put_numbered(out, b"count ", *count as u64),
-        DictAnswer::Names(names) => {
-            put(out, b"keys")?;
-            put_names(out, names.as_slice())
-        }
+        DictAnswer::Number(number, forcible) => put_sum(out, *number, *forcible),
+        DictAnswer::Count(count) => put_small(out, b"count ", *count),
+        DictAnswer::Names(names) => put_names(out, names),
     }
 }

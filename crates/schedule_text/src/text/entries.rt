@@ -1,12 +1,14 @@
 //! The entries of a history.
 ghost use Rattle.std.specs.Prelude.{◌≡◌, ◌++◌, OnOk, codes, decimal};
-ghost use Rattle.resty_world.specs.declared.entry.Entry.TheVariants.{Dial, Dict, Log, Take, Timer};
-ghost use Rattle.schedule_text.specs.EntryTexts.{entry_line, entry_text, host_text, pool_text, socket_or, taken_text, timer_text};
+ghost use Rattle.resty_world.specs.declared.entry.Entry.TheVariants.{Dial, Dict, Keep, Log, Take, Timer};
+ghost use Rattle.schedule_text.specs.EntryTexts.{entry_line, entry_text, host_text, plain_text, pool_text, socket_or, taken_text, timer_text};
 ghost use Rattle.schedule_text.specs.Words.{quoted, strand_text};
 
 use crate::text::dictionary::{put_answer, put_call};
 use crate::text::events::put_event;
-use crate::text::words::{put, put_named, put_named_bytes, put_numbered, put_who, put_with_quoted};
+use crate::text::words::{
+    put, put_named, put_named_bytes, put_numbered, put_small, put_who, put_with_quoted,
+};
 use resty_base::{Boxed, Bytes, DictAnswer, DictCall, Ms, StrandId};
 use resty_world::{Entry, TimerAnswer};
 use std::alloc::AllocError;
@@ -24,29 +26,38 @@ pub fn put_entry_body(out: &mut Vec<u8>, entry: &Entry) -> Result<(), AllocError
     ensures { OnOk result (out.new.items ≡ out.old.items ++ entry_text entry.now) }
 {
     match entry {
-        Entry::Given(event) => put_event(out, event),
-        Entry::Put(id, bytes) => put_named_bytes(out, b"put ", *id, bytes.as_slice()),
-        Entry::Later(id) => put_named(out, b"later ", *id),
-        Entry::Lost(id) => put_named(out, b"lost ", *id),
-        Entry::Close(id) => put_named(out, b"close ", *id),
-        Entry::Dial(who, host, port, number) => put_dial(out, *who, *host, *port, *number),
-        Entry::Log(who, text, written) => put_log(out, *who, text.as_slice(), *written),
-        Entry::Dict(who, zone, call, answer) => put_dict(out, *who, zone, call, answer),
-        Entry::Take(who, key, got) => put_take(out, *who, key.as_slice(), *got),
+        Entry::Dial(who, host, port, number) => put_dial(out, who, host, *port, *number),
+        Entry::Log(who, text, written) => put_log(out, who, text, *written),
+        Entry::Dict(who, zone, call, answer) => put_dict(out, who, zone, call, answer),
+        Entry::Take(who, key, got) => put_take(out, who, key, *got),
         Entry::Keep(who, number, key, idle, size, closed) => {
-            put_kept(out, *who, *number, key.as_slice())?;
-            put_pool(out, *idle, *size, *closed)
+            put_keep(out, who, *number, key, *idle, *size, *closed)
         }
-        Entry::Timer(who, due, answer) => put_timer(out, *who, *due, *answer),
+        Entry::Timer(who, due, answer) => put_timer(out, who, *due, *answer),
+        _ => put_plain_entry(out, entry),
+    }
+}
+
+/// Puts an entry that isn't of what a strand did; those that are have no text here.
+fn put_plain_entry(out: &mut Vec<u8>, entry: &Entry) -> Result<(), AllocError>
+    ensures { OnOk result (out.new.items ≡ out.old.items ++ plain_text entry.now) }
+{
+    match entry {
+        Entry::Given(event) => put_event(out, event),
+        Entry::Put(id, bytes) => put_named_bytes(out, b"put ", id, bytes),
+        Entry::Later(id) => put_named(out, b"later ", id),
+        Entry::Lost(id) => put_named(out, b"lost ", id),
+        Entry::Close(id) => put_named(out, b"close ", id),
         Entry::Start(number) => put_numbered(out, b"start t", *number),
         Entry::Turned(number) => put_numbered(out, b"turned c", *number),
-        Entry::Dropped(who) => put_who(out, b"dropped ", *who),
+        Entry::Dropped(who) => put_who(out, b"dropped ", who),
+        _ => Ok(()),
     }
 }
 
 /// Puts a space and a host, as four numbers with dots.
-fn put_host(out: &mut Vec<u8>, host: [u8; 4]) -> Result<(), AllocError>
-    ensures { OnOk result (out.new.items ≡ out.old.items ++ codes " " ++ host_text host) }
+fn put_host(out: &mut Vec<u8>, host: &[u8; 4]) -> Result<(), AllocError>
+    ensures { OnOk result (out.new.items ≡ out.old.items ++ codes " " ++ host_text host.now) }
 {
     put_numbered(out, b" ", host[0] as u64)?;
     put_numbered(out, b".", host[1] as u64)?;
@@ -57,12 +68,12 @@ fn put_host(out: &mut Vec<u8>, host: [u8; 4]) -> Result<(), AllocError>
 /// Puts a dial, and the socket that was dialled.
 fn put_dial(
     out: &mut Vec<u8>,
-    who: StrandId,
-    host: [u8; 4],
+    who: &StrandId,
+    host: &[u8; 4],
     port: u16,
     number: Option<u64>,
 ) -> Result<(), AllocError>
-    ensures { OnOk result (out.new.items ≡ out.old.items ++ entry_text (Dial who host port number)) }
+    ensures { OnOk result (out.new.items ≡ out.old.items ++ entry_text (Dial who.now host.now port number)) }
 {
     put_who(out, b"dial ", who)?;
     put_host(out, host)?;
@@ -81,26 +92,26 @@ fn put_dialled(out: &mut Vec<u8>, number: Option<u64>) -> Result<(), AllocError>
 }
 
 /// Puts a log line.
-fn put_log(out: &mut Vec<u8>, who: StrandId, text: &[u8], written: bool) -> Result<(), AllocError>
-    ensures { OnOk result (out.new.items ≡ out.old.items ++ entry_text (Log who text.now written)) }
+fn put_log(out: &mut Vec<u8>, who: &StrandId, text: &Bytes, written: bool) -> Result<(), AllocError>
+    ensures { OnOk result (out.new.items ≡ out.old.items ++ entry_text (Log who.now text.now written)) }
 {
     put_who(out, b"log ", who)?;
     if written {
-        put_with_quoted(out, b" ", text)
+        put_with_quoted(out, b" ", text.as_slice())
     } else {
-        put_with_quoted(out, b" failed ", text)
+        put_with_quoted(out, b" failed ", text.as_slice())
     }
 }
 
 /// Puts the call of a dictionary with its answer.
 fn put_dict(
     out: &mut Vec<u8>,
-    who: StrandId,
+    who: &StrandId,
     zone: &Bytes,
     call: &Boxed<DictCall>,
     answer: &Boxed<DictAnswer>,
 ) -> Result<(), AllocError>
-    ensures { OnOk result (out.new.items ≡ out.old.items ++ entry_text (Dict who zone.now call.now answer.now)) }
+    ensures { OnOk result (out.new.items ≡ out.old.items ++ entry_text (Dict who.now zone.now call.now answer.now)) }
 {
     put_who(out, b"dict ", who)?;
     put_spaced(out, zone.as_slice())?;
@@ -121,14 +132,14 @@ fn put_spaced(out: &mut Vec<u8>, text: &[u8]) -> Result<(), AllocError>
 /// Puts the taking of a socket from a pool.
 fn put_take(
     out: &mut Vec<u8>,
-    who: StrandId,
-    key: &[u8],
+    who: &StrandId,
+    key: &Bytes,
     got: Option<(u64, u32)>,
 ) -> Result<(), AllocError>
-    ensures { OnOk result (out.new.items ≡ out.old.items ++ entry_text (Take who key.now got)) }
+    ensures { OnOk result (out.new.items ≡ out.old.items ++ entry_text (Take who.now key.now got)) }
 {
     put_who(out, b"take ", who)?;
-    put_with_quoted(out, b" ", key)?;
+    put_with_quoted(out, b" ", key.as_slice())?;
     put_taken(out, got)
 }
 
@@ -140,14 +151,30 @@ fn put_taken(out: &mut Vec<u8>, got: Option<(u64, u32)>) -> Result<(), AllocErro
         None => put(out, b" = none"),
         Some((number, uses)) => {
             put_numbered(out, b" = s", number)?;
-            put_numbered(out, b" ", uses as u64)
+            put_small(out, b" ", uses)
         }
     }
 }
 
+/// Puts the keeping of a socket.
+fn put_keep(
+    out: &mut Vec<u8>,
+    who: &StrandId,
+    number: u64,
+    key: &Bytes,
+    idle: Ms,
+    size: u32,
+    closed: Option<u64>,
+) -> Result<(), AllocError>
+    ensures { OnOk result (out.new.items ≡ out.old.items ++ entry_text (Keep who.now number key.now idle size closed)) }
+{
+    put_kept(out, who, number, key.as_slice())?;
+    put_pool(out, idle, size, closed)
+}
+
 /// Puts a socket that was kept, and its key.
-fn put_kept(out: &mut Vec<u8>, who: StrandId, number: u64, key: &[u8]) -> Result<(), AllocError>
-    ensures { OnOk result (out.new.items ≡ out.old.items ++ codes "keep " ++ strand_text who ++ codes " s" ++ decimal number ++ codes " " ++ quoted key.now) }
+fn put_kept(out: &mut Vec<u8>, who: &StrandId, number: u64, key: &[u8]) -> Result<(), AllocError>
+    ensures { OnOk result (out.new.items ≡ out.old.items ++ codes "keep " ++ strand_text who.now ++ codes " s" ++ decimal number ++ codes " " ++ quoted key.now) }
 {
     put_who(out, b"keep ", who)?;
     put_numbered(out, b" s", number)?;
@@ -159,7 +186,7 @@ fn put_pool(out: &mut Vec<u8>, idle: Ms, size: u32, closed: Option<u64>) -> Resu
     ensures { OnOk result (out.new.items ≡ out.old.items ++ codes " " ++ pool_text idle.0 size closed) }
 {
     put_numbered(out, b" ", idle.0)?;
-    put_numbered(out, b" ", size as u64)?;
+    put_small(out, b" ", size)?;
     match closed {
         None => put(out, b" = kept"),
         Some(number) => put_numbered(out, b" = kept s", number),
@@ -169,11 +196,11 @@ fn put_pool(out: &mut Vec<u8>, idle: Ms, size: u32, closed: Option<u64>) -> Resu
 /// Puts the asking for a timer.
 fn put_timer(
     out: &mut Vec<u8>,
-    who: StrandId,
+    who: &StrandId,
     due: Ms,
     answer: TimerAnswer,
 ) -> Result<(), AllocError>
-    ensures { OnOk result (out.new.items ≡ out.old.items ++ entry_text (Timer who due answer)) }
+    ensures { OnOk result (out.new.items ≡ out.old.items ++ entry_text (Timer who.now due answer)) }
 {
     put_who(out, b"timer ", who)?;
     put_numbered(out, b" ", due.0)?;

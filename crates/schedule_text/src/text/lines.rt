@@ -22,7 +22,7 @@ pub fn put_line_body(out: &mut Vec<u8>, line: &SchedLine) -> Result<(), AllocErr
     match line {
         SchedLine::Given(event) => put_event(out, event),
         SchedLine::Room(id, room) => {
-            put_named(out, b"room ", *id)?;
+            put_named(out, b"room ", id)?;
             match room {
                 None => put(out, b" all"),
                 Some(count) => put_numbered(out, b" ", *count),
@@ -32,6 +32,6 @@ pub fn put_line_body(out: &mut Vec<u8>, line: &SchedLine) -> Result<(), AllocErr
         SchedLine::FailDial => put(out, b"fail dial"),
         SchedLine::FailLog => put(out, b"fail log"),
         SchedLine::FailListen => put(out, b"fail listen"),
-        SchedLine::FailPut(id) => put_named(out, b"fail put ", *id),
+        SchedLine::FailPut(id) => put_named(out, b"fail put ", id),
     }
 }

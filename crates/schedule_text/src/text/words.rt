@@ -4,7 +4,7 @@ ghost use Rattle.std.specs.Fmt.{signed_decimal};
 ghost use Rattle.schedule_text.specs.Words.{hex_digit, id_text, quoted, quoted_byte, strand_text};
 
 use itoa::Buffer;
-use resty_base::{Id, StrandId};
+use resty_base::{Bytes, Id, StrandId};
 use std::alloc::AllocError;
 
 /// Puts a text as it is.
@@ -31,22 +31,22 @@ pub fn put_integer(out: &mut Vec<u8>, number: i64) -> Result<(), AllocError>
 }
 
 /// Puts a connection or a socket.
-pub fn put_id(out: &mut Vec<u8>, id: Id) -> Result<(), AllocError>
-    ensures { OnOk result (out.new.items ≡ out.old.items ++ id_text id) }
+pub fn put_id(out: &mut Vec<u8>, id: &Id) -> Result<(), AllocError>
+    ensures { OnOk result (out.new.items ≡ out.old.items ++ id_text id.now) }
 {
     match id {
-        Id::Conn(number) => put_numbered(out, b"c", number),
-        Id::Sock(number) => put_numbered(out, b"s", number),
+        Id::Conn(number) => put_numbered(out, b"c", *number),
+        Id::Sock(number) => put_numbered(out, b"s", *number),
     }
 }
 
 /// Puts a strand.
-pub fn put_strand(out: &mut Vec<u8>, strand: StrandId) -> Result<(), AllocError>
-    ensures { OnOk result (out.new.items ≡ out.old.items ++ strand_text strand) }
+pub fn put_strand(out: &mut Vec<u8>, strand: &StrandId) -> Result<(), AllocError>
+    ensures { OnOk result (out.new.items ≡ out.old.items ++ strand_text strand.now) }
 {
     match strand {
-        StrandId::Conn(number) => put_numbered(out, b"c", number),
-        StrandId::Job(number) => put_numbered(out, b"t", number),
+        StrandId::Conn(number) => put_numbered(out, b"c", *number),
+        StrandId::Job(number) => put_numbered(out, b"t", *number),
     }
 }
 
@@ -95,6 +95,13 @@ pub fn put_numbered(out: &mut Vec<u8>, text: &[u8], number: u64) -> Result<(), A
     put_number(out, number)
 }
 
+/// Puts a text and a number of at most 32 bits.
+pub fn put_small(out: &mut Vec<u8>, text: &[u8], number: u32) -> Result<(), AllocError>
+    ensures { OnOk result (out.new.items ≡ out.old.items ++ text.now ++ decimal number) }
+{
+    put_numbered(out, text, number as u64)
+}
+
 /// Puts a text and a number that may be below 0.
 pub fn put_with_integer(out: &mut Vec<u8>, text: &[u8], number: i64) -> Result<(), AllocError>
     ensures { OnOk result (out.new.items ≡ out.old.items ++ text.now ++ signed_decimal number) }
@@ -104,16 +111,16 @@ pub fn put_with_integer(out: &mut Vec<u8>, text: &[u8], number: i64) -> Result<(
 }
 
 /// Puts a text and a connection or a socket.
-pub fn put_named(out: &mut Vec<u8>, text: &[u8], id: Id) -> Result<(), AllocError>
-    ensures { OnOk result (out.new.items ≡ out.old.items ++ text.now ++ id_text id) }
+pub fn put_named(out: &mut Vec<u8>, text: &[u8], id: &Id) -> Result<(), AllocError>
+    ensures { OnOk result (out.new.items ≡ out.old.items ++ text.now ++ id_text id.now) }
 {
     put(out, text)?;
     put_id(out, id)
 }
 
 /// Puts a text and a strand.
-pub fn put_who(out: &mut Vec<u8>, text: &[u8], who: StrandId) -> Result<(), AllocError>
-    ensures { OnOk result (out.new.items ≡ out.old.items ++ text.now ++ strand_text who) }
+pub fn put_who(out: &mut Vec<u8>, text: &[u8], who: &StrandId) -> Result<(), AllocError>
+    ensures { OnOk result (out.new.items ≡ out.old.items ++ text.now ++ strand_text who.now) }
 {
     put(out, text)?;
     put_strand(out, who)
@@ -131,11 +138,11 @@ pub fn put_with_quoted(out: &mut Vec<u8>, text: &[u8], bytes: &[u8]) -> Result<(
 pub fn put_named_bytes(
     out: &mut Vec<u8>,
     text: &[u8],
-    id: Id,
-    bytes: &[u8],
+    id: &Id,
+    bytes: &Bytes,
 ) -> Result<(), AllocError>
-    ensures { OnOk result (out.new.items ≡ out.old.items ++ text.now ++ id_text id ++ codes " " ++ quoted bytes.now) }
+    ensures { OnOk result (out.new.items ≡ out.old.items ++ text.now ++ id_text id.now ++ codes " " ++ quoted bytes.now) }
 {
     put_named(out, text, id)?;
-    put_with_quoted(out, b" ", bytes)
+    put_with_quoted(out, b" ", bytes.as_slice())
 }

@@ -2,8 +2,8 @@ use Rattle.std.proofs.Common.{arith}
 use Rattle.std.proofs.lemmas.Grind.{common_steps}
 use Rattle.schedule_text.proofs.text.dictionary.put_answer.Goals as goal
 
-pub returns-in_ok-put_with_value-in-Found : goal.returns-in_ok-put_with_value-in-Found
-returns-in_ok-put_with_value-in-Found c = grind (arith, common_steps)
+pub returns-in-Found : goal.returns-in-Found
+returns-in-Found c = grind (arith, common_steps)
 
 pub returns-in-Nothing : goal.returns-in-Nothing
 returns-in-Nothing c = grind (arith, common_steps)
@@ -26,11 +26,11 @@ returns-in-NotNumber c = grind (arith, common_steps)
 pub returns-in-OutOfRange : goal.returns-in-OutOfRange
 returns-in-OutOfRange c = grind (arith, common_steps)
 
-pub returns-in_ok-put_with_integer-in-Number : goal.returns-in_ok-put_with_integer-in-Number
-returns-in_ok-put_with_integer-in-Number c = grind (arith, common_steps)
+pub returns-in-Number : goal.returns-in-Number
+returns-in-Number c = grind (arith, common_steps)
 
 pub returns-in-Count : goal.returns-in-Count
 returns-in-Count c = grind (arith, common_steps)
 
-pub returns-in_ok-put-in-Names : goal.returns-in_ok-put-in-Names
-returns-in_ok-put-in-Names c = grind (arith, common_steps)
+pub returns-in-Names : goal.returns-in-Names
+returns-in-Names c = grind (arith, common_steps)
