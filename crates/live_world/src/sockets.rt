@@ -179,14 +179,17 @@ impl Sockets {
             let token = event.token().0;
             let report = Report::of(event);
             if token == LISTENER {
-                let stays_out = self.is_listener_in_line | self.paused_until.is_some();
-                if !stays_out {
+                if !self.is_listener_in_line && self.paused_until.is_none() {
                     self.is_listener_in_line = self.line.push_back(LISTENER).is_ok();
                 }
-            } else if let Some(stream) = self.streams.get_mut(&token) {
-                stream.report(report, &mut self.line, token);
             } else {
-                report_drained(&mut self.drained, &mut self.line, token, report);
+                report_to(
+                    &mut self.streams,
+                    &mut self.drained,
+                    &mut self.line,
+                    token,
+                    report,
+                );
             }
         }
     }
@@ -341,14 +344,17 @@ impl Sockets {
     }
 }
 
-/// The poll reports a socket that is drained, if there is one of this token.
-fn report_drained(
+/// The poll reports a socket, open or drained, if there is one of this token.
+fn report_to(
+    streams: &mut IndexMap<usize, Stream>,
     drained: &mut IndexMap<usize, Drained>,
     line: &mut VecDeque<usize>,
     token: usize,
     report: Report,
 ) {
-    if let Some(drained) = drained.get_mut(&token) {
+    if let Some(stream) = streams.get_mut(&token) {
+        stream.report(report, line, token);
+    } else if let Some(drained) = drained.get_mut(&token) {
         drained.report(report, line, token);
     }
 }
