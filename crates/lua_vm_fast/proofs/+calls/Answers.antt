@@ -1,4 +1,5 @@
 use Rattle.std.proofs.Common.{◌≡◌, ◌∙◌, ◌+◌, ◌-◌, ap, refl, subst, arith, List, Vec, Global}
+use Rattle.std.proofs.lemmas.Grind.{common_steps}
 use Rattle.lua_ast.specs.declared.expressions.Expr.{Expr}
 use Rattle.lua_ast.specs.declared.statements.Stmt.{Stmt}
 use Rattle.lua_values.specs.declared.values.Value.TheVariants.{Closure}
@@ -87,3 +88,57 @@ pub calls::operated_at-returns-clause-gives : goal.calls::operated_at-returns-cl
 calls::operated_at-returns-clause-gives t c =
     binary_gives c.args.site.now c.args.levels (c.args.levels - 1) c.args.operator c.args.a.now c.args.b.now c.args.slots.now c.args.store.now.heap c.in_ok-a.a.number c.in_ok-b.b.number c.in_ok-number.number c.in_ok-a.a.steps c.in_ok-b.b.steps _
     c.in_ok-a.ensures.gives c.in_ok-b.ensures.gives c.in_ok-number.ensures (omega (arith, c.if-levels-eq0.false)) refl
+
+pub calls::value_at-operated_at-requires : goal.calls::value_at-operated_at-requires
+calls::value_at-operated_at-requires t c = grind (arith, common_steps)
+
+pub calls::value_at-one_called-requires : goal.calls::value_at-one_called-requires
+calls::value_at-one_called-requires t c = grind (arith, common_steps)
+
+pub calls::operated_at-number_at-requires : goal.calls::operated_at-number_at-requires
+calls::operated_at-number_at-requires t c = grind (arith, common_steps)
+
+pub calls::operated_at-number_at-requires-2 : goal.calls::operated_at-number_at-requires-2
+calls::operated_at-number_at-requires-2 t c = grind (arith, common_steps)
+
+pub calls::one_called-called_of-requires : goal.calls::one_called-called_of-requires
+calls::one_called-called_of-requires t c = grind (arith, common_steps)
+
+pub calls::number_at-value_at-requires : goal.calls::number_at-value_at-requires
+calls::number_at-value_at-requires t c = grind (arith, common_steps)
+
+pub calls::give-value_at-requires : goal.calls::give-value_at-requires
+calls::give-value_at-requires t c = grind (arith, common_steps)
+
+pub calls::closure_end-block_end-requires : goal.calls::closure_end-block_end-requires
+calls::closure_end-block_end-requires t c = grind (arith, common_steps)
+
+pub calls::called_of-give-requires : goal.calls::called_of-give-requires
+calls::called_of-give-requires t c = grind (arith, common_steps)
+
+pub calls::called_of-closure_end-requires : goal.calls::called_of-closure_end-requires
+calls::called_of-closure_end-requires t c = grind (arith, common_steps)
+
+pub bodies::stmt_end-if_end-requires : goal.bodies::stmt_end-if_end-requires
+bodies::stmt_end-if_end-requires t c = grind (arith, common_steps)
+
+pub bodies::if_end-block_end-requires : goal.bodies::if_end-block_end-requires
+bodies::if_end-block_end-requires t c = grind (arith, common_steps)
+
+pub bodies::block_end-stmt_end-requires : goal.bodies::block_end-stmt_end-requires
+bodies::block_end-stmt_end-requires t c = grind (arith, common_steps)
+
+pub calls::called_of-returns-clause-few : goal.calls::called_of-returns-clause-few
+calls::called_of-returns-clause-few t c = grind (arith, common_steps)
+
+pub calls::operated_at-returns-clause-few : goal.calls::operated_at-returns-clause-few
+calls::operated_at-returns-clause-few t c = grind (arith, common_steps)
+
+pub calls::closure_end-returns-clause-few : goal.calls::closure_end-returns-clause-few
+calls::closure_end-returns-clause-few t c = grind (arith, common_steps)
+
+pub bodies::if_end-returns-clause-few : goal.bodies::if_end-returns-clause-few
+bodies::if_end-returns-clause-few t c = grind (arith, common_steps)
+
+pub calls::give-returns-clause-few : goal.calls::give-returns-clause-few
+calls::give-returns-clause-few t c = grind (arith, common_steps)
