@@ -5,6 +5,7 @@ ghost use Rattle.resty_world.specs.Calls.{IsPiece};
 ghost use Rattle.live_world.specs.Accounts.{book_of, IsNew};
 
 use crate::accounts::Accounts;
+use crate::reckoning::Reckoning;
 use crate::sockets::{Failure, Next, Sockets};
 use crate::stream::Seen;
 use mio::net::TcpStream;
@@ -23,8 +24,11 @@ use std::time::Clock;
 pub struct Live<'a, R: Net + Clock, W: Write> {
     pub(crate) rt: &'a R,
     pub(crate) log: W,
+    /// No socket can get the number of a standard descriptor.
+    pub(crate) may_listen: bool,
     pub(crate) accounts: Accounts,
     pub(crate) sockets: Option<Sockets>,
+    pub(crate) reckoning: Reckoning,
     /// The last moment that was given, in milliseconds since 1970.
     pub(crate) moment: u64,
 }
@@ -67,15 +71,18 @@ fn event_of(id: Id, seen: Seen) -> Option<Event> {
 }
 
 impl<'a, R: Net + Clock, W: Write> Live<'a, R, W> {
-    /// A world at which nothing has happened; takes no memory.
-    pub fn new(alloc: Global, rt: &'a R, log: W) -> Live<'a, R, W>
+    /// A world at which nothing has happened; takes no memory. It may listen where the standard descriptors are open: else a socket gets
+    /// the number of one, and what is written there.
+    pub fn new(alloc: Global, rt: &'a R, log: W, may_listen: bool) -> Live<'a, R, W>
         ensures { IsNew (book_of result.accounts) }
     {
         Live {
             rt,
             log,
+            may_listen,
             accounts: Accounts::new(alloc),
             sockets: None,
+            reckoning: Reckoning::new(),
             moment: 0,
         }
     }
@@ -95,16 +102,11 @@ impl<'a, R: Net + Clock, W: Write> Live<'a, R, W> {
         self.accounts.standings.at(id).is_open
     }
 
-    /// The moment by the clock, which doesn't fall: a clock that was set back stands still.
-    pub(crate) fn now(&self) -> u64 {
-        let Ok(since) = self.rt.since_1970() else {
-            return self.moment;
-        };
-        let millis = since
-            .as_secs()
-            .saturating_mul(1_000)
-            .saturating_add(u64::from(since.subsec_millis()));
-        millis.min(LAST_MOMENT).max(self.moment)
+    /// The moment by the clocks, which doesn't fall.
+    pub(crate) fn now(&mut self) -> u64
+        ensures { self.new.accounts ≡ self.old.accounts }
+    {
+        self.reckoning.read(self.rt).min(LAST_MOMENT).max(self.moment)
     }
 
     /// What comes next: an event, or nothing, and then it is to be called again.

@@ -12,8 +12,8 @@ use std::io::ErrorKind;
 use std::net::{Ipv4Addr, Net, SocketAddr};
 use std::time::Duration;
 
-/// The most bytes that are read at a time.
-const PIECE: usize = 16_384;
+/// The most bytes that are read at a time: what a client has sent at once doesn't keep the others waiting for all of it.
+const PIECE: usize = 4_096;
 
 /// How many reports a poll gives at most.
 const REPORTS: usize = 1_024;

@@ -1,6 +1,7 @@
 //! The live world as a world.
 
 use crate::live::{Live, token_of};
+use crate::log::write_whole;
 use crate::sockets::{Failure, Sockets};
 use resty_base::{Id, Ms, StrandId};
 use resty_world::{Dial, Entry, Event, History, Listened, Logged, Noted, World, Wrote};
@@ -21,7 +22,12 @@ impl<R: Net + Clock, W: Write> World for Live<'_, R, W> {
     ghost joins = { λ _ _ _ _ _. tt };
 
     fn listen(&mut self, alloc: Global, port: u16) -> Listened {
-        match Sockets::listen(self.rt, alloc, port) {
+        let listening = if self.may_listen {
+            Sockets::listen(self.rt, alloc, port)
+        } else {
+            Err(Failure::Failed)
+        };
+        match listening {
             Ok(sockets) => {
                 let _ = self.sockets.insert(sockets);
                 self.accounts.listens(port);
@@ -86,7 +92,7 @@ impl<R: Net + Clock, W: Write> World for Live<'_, R, W> {
         let Ok(text) = line_of(alloc, line) else {
             return Logged::Memory;
         };
-        if self.log.write_all(text.as_slice()).is_err() {
+        if !write_whole(self.rt, &mut self.log, text.as_slice()) {
             self.accounts.logs_in_vain();
             return Logged::Failed;
         }

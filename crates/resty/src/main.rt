@@ -2,7 +2,7 @@
 #![tactic(auto)]
 
 use commands::{Status, put_out_of_memory, put_usage, resty};
-use live_world::Live;
+use live_world::{Live, open_standard};
 use resty_base::{DiskFiles, Sink, StdSink};
 use std::env;
 use std::io::{self, ErrorKind};
@@ -31,9 +31,11 @@ fn words_of(rt: &HostRuntime) -> io::Result<Vec<String>> {
     Ok(words.collect(rt.alloc())?)
 }
 
-/// Does what the words say with the files, the sockets and the clock of the system. Log lines go to the standard error.
+/// Does what the words say with the files, the sockets and the clock of the system. Log lines go to the standard error; a standard descriptor that is
+/// closed is opened first.
 fn run_words<E: Sink>(rt: &HostRuntime, words: &[String], err: &mut E) -> Status {
-    let mut live = Live::new(rt.alloc(), rt, rt.stderr());
+    let may_listen = open_standard(rt).is_ok();
+    let mut live = Live::new(rt.alloc(), rt, rt.stderr(), may_listen);
     let mut files = DiskFiles::new(rt);
     let mut out = StdSink::new(rt.stdout());
     resty(rt.alloc(), words, &mut files, &mut live, &mut out, err)

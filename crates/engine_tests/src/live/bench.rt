@@ -42,7 +42,7 @@ pub fn loopback(port: u16) -> SocketAddr {
 impl<'a, A: Abort> Bench<'a, A> {
     /// A world that listens on a free port.
     pub fn new(rt: &'a A, host: &'a HostRuntime) -> Bench<'a, A> {
-        let mut live = Live::new(host.alloc(), host, Vec::new(host.alloc()));
+        let mut live = Live::new(host.alloc(), host, Vec::new(host.alloc()), true);
         let listened = live.listen(host.alloc(), 0);
         assert!(rt; listened == Listened::Up);
         let port = live.port().expect(rt, "no port");

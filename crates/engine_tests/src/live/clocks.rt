@@ -1,4 +1,4 @@
-//! Moments, by the clock of the system and by one that is set back.
+//! Moments, by the clock of the system and by clocks that are set.
 
 use super::bench::{Bench, now};
 use live_world::Live;
@@ -11,20 +11,21 @@ use std::net::{Net, SocketAddr, TcpListener, TcpStream};
 use std::process::Abort;
 use std::time::{Clock, Duration};
 
-/// The sockets of the system, and a clock that stands where it is set.
+/// The sockets of the system, and clocks that stand where they are set, in milliseconds.
 #[derive(Drop)]
 struct SetClock<'a> {
     rt: &'a HostRuntime,
-    millis: Cell<u64>,
+    monotonic: Cell<u64>,
+    wall: Cell<u64>,
 }
 
 impl Clock for SetClock<'_> {
     fn monotonic(&self) -> io::Result<Duration> {
-        self.rt.monotonic()
+        Ok(Duration::from_millis(self.monotonic.get()))
     }
 
     fn since_1970(&self) -> io::Result<Duration> {
-        Ok(Duration::from_millis(self.millis.get()))
+        Ok(Duration::from_millis(self.wall.get()))
     }
 }
 
@@ -62,28 +63,32 @@ fn is_moment_from(event: &Event, least: u64) -> bool {
     }
 }
 
-/// The next event of a world over a clock that is set, until a moment, is this moment.
-fn gives_moment(
-    rt: &impl Abort,
-    alloc: Global,
-    live: &mut Live<'_, SetClock<'_>, Vec<u8>>,
-    until: u64,
-    due: u64,
-) {
-    let event = live.next_event(alloc, Some(Ms(until)));
-    assert!(rt; event == Event::Moment(Ms(due)));
-}
+/// What the monotonic clock and the wall clock say, and the moment that comes then: by the wall clock, and from where that is set back at nine tenths
+/// of the time that passes, until they meet.
+const READINGS: [(u64, u64, u64); 9] = [
+    (70_000, 5_000, 5_000),
+    (71_000, 6_000, 6_000),
+    (72_000, 1_000, 6_900),
+    (73_000, 2_000, 7_800),
+    (73_001, 2_001, 7_800),
+    (74_000, 8_650, 8_700),
+    (74_100, 8_800, 8_800),
+    (75_000, 200_000_000_000_000, 99_999_999_999_999),
+    (76_000, 10_000, 99_999_999_999_999),
+];
 
 #[test]
-fn a_clock_that_is_set_back_stands_still(rt: HostRuntime) {
+fn moments_go_on_where_the_clock_is_set(rt: HostRuntime) {
     let clock = SetClock {
         rt: &rt,
-        millis: Cell::new(5_000),
+        monotonic: Cell::new(0),
+        wall: Cell::new(0),
     };
-    let mut live = Live::new(rt.alloc(), &clock, Vec::<u8>::new(rt.alloc()));
-    gives_moment(&rt, rt.alloc(), &mut live, 5_000, 5_000);
-    clock.millis.set(1_000);
-    gives_moment(&rt, rt.alloc(), &mut live, 4_000, 5_000);
-    clock.millis.set(200_000_000_000_000);
-    gives_moment(&rt, rt.alloc(), &mut live, 4_000, 99_999_999_999_999);
+    let mut live = Live::new(rt.alloc(), &clock, Vec::<u8>::new(rt.alloc()), true);
+    for (monotonic, wall, moment) in READINGS {
+        clock.monotonic.set(monotonic);
+        clock.wall.set(wall);
+        let event = live.next_event(rt.alloc(), Some(Ms(0)));
+        assert!(&rt; event == Event::Moment(Ms(moment)));
+    }
 }

@@ -131,7 +131,7 @@ pub(super) fn dialled<A: Abort>(rt: &A, host: &HostRuntime, bench: &mut Bench<'_
 }
 
 pub(super) fn in_use<A: Abort>(rt: &A, host: &HostRuntime, bench: &mut Bench<'_, A>) {
-    let mut other = Live::new(host.alloc(), host, Vec::<u8>::new(host.alloc()));
+    let mut other = Live::new(host.alloc(), host, Vec::<u8>::new(host.alloc()), true);
     let listened = other.listen(host.alloc(), bench.port());
     assert!(rt; listened == Listened::Failed);
 }
