@@ -24,6 +24,10 @@ only words = if length words == 1 then Some (word words 0) else None
 abbrev pub bare : List (List ℕ) → Option Effect
 bare words = if length words == 0 then Some effect.Nothing else None
 
+-- a directive without effect, if it has as many words as nginx has it take
+abbrev pub idle : Bool → Option Effect
+idle fits = if fits then Some effect.Nothing else None
+
 -- a directive without words that has a block of directives
 abbrev pub opens : Place → List (List ℕ) → Option Effect
 opens place words = if length words == 0 then Some (effect.Opens place) else None
@@ -128,14 +132,14 @@ location words =
 
 -- what a directive says by the words after its name
 unfoldable pub effect_of : Directive → List (List ℕ) → Option Effect
-effect_of directive.WorkerProcesses words = Some effect.Nothing
-effect_of directive.Daemon words = Some effect.Nothing
-effect_of directive.Pid words = Some effect.Nothing
-effect_of directive.User words = Some effect.Nothing
-effect_of directive.AccessLog words = Some effect.Nothing
-effect_of directive.Sendfile words = Some effect.Nothing
-effect_of directive.TcpNopush words = Some effect.Nothing
-effect_of directive.TcpNodelay words = Some effect.Nothing
+effect_of directive.WorkerProcesses words = idle (length words == 1)
+effect_of directive.Daemon words = idle (length words == 1)
+effect_of directive.Pid words = idle (length words == 1)
+effect_of directive.User words = idle (length words == 1 || length words == 2)
+effect_of directive.AccessLog words = idle (nat_lt 0 (length words))
+effect_of directive.Sendfile words = idle (length words == 1)
+effect_of directive.TcpNopush words = idle (length words == 1)
+effect_of directive.TcpNodelay words = idle (length words == 1)
 effect_of directive.Events words = opens place.Events words
 effect_of directive.Http words = opens place.Http words
 effect_of directive.Server words = opens place.Server words

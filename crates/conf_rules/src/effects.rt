@@ -76,6 +76,13 @@ fn bare(words: &[Bytes]) -> Option<Effect>
     }
 }
 
+/// What a directive without effect says, if it has as many words as nginx has it take.
+fn idle(fits: bool) -> Option<Effect>
+    ensures { result ≡ spec.idle fits }
+{
+    if fits { Some(Effect::Nothing) } else { None }
+}
+
 /// What a directive without words says that has a block of directives.
 fn opens(place: Place, words: &[Bytes]) -> Option<Effect>
     ensures { result ≡ spec.opens place words.now }
@@ -315,11 +322,11 @@ pub fn effect_of(
         Directive::WorkerProcesses
         | Directive::Daemon
         | Directive::Pid
-        | Directive::User
-        | Directive::AccessLog
         | Directive::Sendfile
         | Directive::TcpNopush
-        | Directive::TcpNodelay => Ok(Some(Effect::Nothing)),
+        | Directive::TcpNodelay => Ok(idle(words.len() == 1)),
+        Directive::User => Ok(idle(words.len() == 1 || words.len() == 2)),
+        Directive::AccessLog => Ok(idle(!words.is_empty())),
         Directive::Events => Ok(opens(Place::Events, words)),
         Directive::Http => Ok(opens(Place::Http, words)),
         Directive::Server => Ok(opens(Place::Server, words)),

@@ -21,8 +21,10 @@ pub(crate) fn said(alloc: Global, text: &str) -> Result<String, AllocError> {
 /// Words have values.
 pub(super) const WORDS: &str = r#"says frob 1 2; => unknown
 says Listen 80; => unknown
-says user a b c; => Some(Nothing)
-says pid; => Some(Nothing)
+says user a b; => Some(Nothing)
+says user a b c; => None
+says access_log a b c; => Some(Nothing)
+says pid; => None
 says internal on; => None
 says http { => Some(Opens(Http))
 says server x { => None

@@ -31,7 +31,10 @@ fault events { worker_connections 9999999999; } http { server { } } => ok
 fault events { worker_connections 0; } http { server { } } => Value(1)
 fault events { }|events { } http { server { } } => Twice(2)
 fault events { http { } } => Place(1)
-fault pid; user a b c; http { server { } } => ok
+fault pid a; user a b; http { server { } } => ok
+fault pid; http { server { } } => Value(1)
+fault user a b c; http { server { } } => Value(1)
+fault worker_processes 1|http { server { } } => At(2)
 fault error_log x crit; http { error_log y debug; server { } } => ok";
 
 pub(super) const PORTS: &str = "\

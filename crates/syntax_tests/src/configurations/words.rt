@@ -7,14 +7,14 @@ use std::process::Abort;
 
 /// Directives with as few words as they may have.
 const ENOUGH: &str = "\
-worker_processes;
-daemon;
-pid;
-user;
-access_log;
-sendfile;
-tcp_nopush;
-tcp_nodelay;
+worker_processes x;
+daemon x;
+pid x;
+user x;
+access_log x;
+sendfile x;
+tcp_nopush x;
+tcp_nodelay x;
 error_log x;
 events {
 worker_connections 1;
@@ -35,6 +35,14 @@ log_by_lua_block { }";
 
 /// Directives with one word too few.
 const TOO_FEW: &str = "\
+worker_processes;
+daemon;
+pid;
+user;
+access_log;
+sendfile;
+tcp_nopush;
+tcp_nodelay;
 error_log;
 worker_connections;
 listen;
@@ -48,6 +56,13 @@ lua_socket_pool_size;";
 
 /// Directives with one word too many.
 const TOO_MANY: &str = "\
+worker_processes x y;
+daemon x y;
+pid x y;
+user x y z;
+sendfile x y;
+tcp_nopush x y;
+tcp_nodelay x y;
 error_log x warn y;
 events x {
 worker_connections 1 2;
