@@ -1,9 +1,10 @@
 -- What a site of Lua answers a request with (RFC 9110, 15).
-use Rattle.std.specs.Prelude.{ℕ, Bool, false, nat_lt, List, [], Option, Some, None, Result, Ok, Err, if◌then◌else◌}
+use Rattle.std.specs.Prelude.{ℕ, Bool, false, ◌&&◌, nat_lt, List, [], Option, Some, None, Result, Ok, Err, if◌then◌else◌}
 use Rattle.http_in.specs.declared.framing.BodyKind.{BodyKind}
 use Rattle.http_in.specs.declared.framing.BodyKind.TheVariants as body
 use Rattle.conf.specs.declared.sites.Conf.{Conf}
 use Rattle.conf.specs.declared.sites.LocationConf.{LocationConf}
+use Rattle.conf.specs.declared.sites.Settings.{Settings}
 use Rattle.lua_machine.specs.Finishes.{Finish}
 use Rattle.lua_values.specs.Heap.{StoreView}
 use Rattle.request_api.specs.declared.requests.Req.{Req}
@@ -52,8 +53,14 @@ abbrev pub replied : Site → Req → List ℕ → Result ℕ ℕ → ℕ → Re
 replied site req default_type (Ok number) now = replied_by site.conf.log_level default_type (handled (site.handler number) site.store req) now
 replied site req default_type (Err status) now = replied_status req default_type status now
 
+-- a connection that has no time for a next request isn't kept
+abbrev pub with_keepalive : Settings → Req → Req
+with_keepalive settings req = record req { head = record req.head { keep = req.head.keep && nat_lt 0 settings.keepalive_timeout.0 } }
+
 abbrev pub reply_in : Site → Req → Scope → ℕ → Replied
-reply_in site req scope now = replied site req (settings_of scope).default_type (answer_in req.head.body scope) now
+reply_in site req scope now =
+    let settings = settings_of scope in
+    replied site (with_keepalive settings req) settings.default_type (answer_in req.head.body scope) now
 
 -- of a request to a site at a moment; a site has a server for each
 abbrev pub reply_by : Site → Req → Option Scope → ℕ → Replied

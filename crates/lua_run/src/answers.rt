@@ -7,7 +7,7 @@ ghost use Rattle.lua_run.specs.Views.{handler_at, site_seen};
 ghost use Rattle.reply_stages.specs.Views.{scope_seen};
 
 use crate::sites::Site;
-use conf::LocationConf;
+use conf::{LocationConf, Settings};
 use http_in::BodyKind;
 use lua_machine::Machine;
 use lua_values::Value;
@@ -101,6 +101,14 @@ fn replied_status(
     })
 }
 
+/// The request, whose connection isn't kept where it has no time for a next one.
+fn with_keepalive(settings: &Settings, mut req: Req) -> Req
+    ensures { result ≡ spec.with_keepalive settings.now req }
+{
+    req.head.keep = req.head.keep && settings.keepalive_timeout.0 > 0;
+    req
+}
+
 /// The reply to a request.
 pub(crate) fn reply_of<M: Machine>(
     alloc: Global,
@@ -111,9 +119,11 @@ pub(crate) fn reply_of<M: Machine>(
     ensures { IfOk result (λ r. r ≡ spec.reply_of (site_seen M.life site.now) req now.0) }
 {
     let scope = scope_of(&site.conf, &req.target);
-    let default_type = &scope.settings().default_type;
-    match answer_in(req.head.body, &scope) {
-        Ok(number) => replied_by(alloc, site, req, default_type, number, now),
-        Err(status) => replied_status(alloc, req, default_type, status, now),
+    let settings = scope.settings();
+    let answer = answer_in(req.head.body, &scope);
+    let req = with_keepalive(settings, req);
+    match answer {
+        Ok(number) => replied_by(alloc, site, req, &settings.default_type, number, now),
+        Err(status) => replied_status(alloc, req, &settings.default_type, status, now),
     }
 }

@@ -97,6 +97,7 @@ stop"#;
 /// A site with times of its own: those of a head are of the default server, the others of the location.
 pub(super) const TIMES: &str = r#"http { client_header_timeout 1; server {
 location / { keepalive_timeout 2; client_body_timeout 3000ms; send_timeout 4; content_by_lua_block { ngx.say("hi") } }
+location /last { keepalive_timeout 0; content_by_lua_block { ngx.say("hi") } }
 } server { client_header_timeout 5; } }"#;
 
 pub(super) const OWN: &str = r#"arrive c1
@@ -127,5 +128,11 @@ bytes c1 "<get>"
 > later c1
 moment 3999
 moment 4000
+> close c1
+stop
+
+arrive c1
+bytes c1 "GET /last HTTP/1.1\r\nHost: a\r\n\r\n<get>"
+> put c1 "<last><hi>"
 > close c1
 stop"#;

@@ -6,5 +6,6 @@ use Rattle.lua_run.proofs.answers.reply_of.Goals as goal
 
 pub returns-in-Ok : goal.returns-in-Ok
 returns-in-Ok g c =
-    reply-is c.replied_by.result (site_seen g.M.Machine.life c.args.site.now) c.args.req c.args.now.0 (scope_seen c.scope_of-scope.result) c.settings.result.now (Ok c.in-Ok.number)
-    c.scope_of-scope.ensures c.settings.ensures c.in-Ok.ensures.ok c.replied_by.ensures
+    reply-is c.replied_by.result (site_seen g.M.Machine.life c.args.site.now) c.args.req c.with_keepalive-req.result c.args.now.0 (scope_seen c.scope_of-scope.result)
+    c.settings-settings.result.now (Ok c.in-Ok.number)
+    c.scope_of-scope.ensures c.settings-settings.ensures c.in-Ok.ensures.ok c.with_keepalive-req.ensures c.replied_by.ensures
