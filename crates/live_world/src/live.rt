@@ -106,7 +106,10 @@ impl<'a, R: Net + Clock, W: Write> Live<'a, R, W> {
     pub(crate) fn now(&mut self) -> u64
         ensures { self.new.accounts ≡ self.old.accounts }
     {
-        self.reckoning.read(self.rt).min(LAST_MOMENT).max(self.moment)
+        self.reckoning
+            .read(self.rt)
+            .min(LAST_MOMENT)
+            .max(self.moment)
     }
 
     /// What comes next: an event, or nothing, and then it is to be called again.

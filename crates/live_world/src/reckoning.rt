@@ -23,7 +23,9 @@ impl Reckoning {
     /// Reads the clocks, and returns the moment in milliseconds since 1970: that of the wall clock, where it isn't behind.
     pub fn read(&mut self, clock: &impl Clock) -> u64 {
         let passed = self.passed(clock);
-        let least = self.moment.saturating_add(passed.saturating_sub(passed / 10));
+        let least = self
+            .moment
+            .saturating_add(passed.saturating_sub(passed / 10));
         self.moment = match clock.since_1970() {
             Ok(wall) => wall.max(least),
             Err(_) => least,
