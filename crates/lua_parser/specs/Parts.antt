@@ -71,6 +71,14 @@ pub record ReadsGiven (at : Nesting) (callee : Prefix) (m : State) (values : Val
   pub begins : line ≡ first_line m.left
   pub below : callee.height < at.room
 
+-- the name of a method after a prefix
+pub record ReadsMethodName (at : Nesting) (object : Prefix) (m : State) (name : Named) (t : State) : Type 0 where
+  pub inside : State
+  pub colon_at : Line
+  pub colon : Takes (SignKind Colon) colon_at m inside
+  pub named : Takes (NameKind name.name) name.line inside t
+  pub below : object.height < at.room
+
 -- the name of a method and arguments after a prefix
 pub record ReadsNamed (at : Nesting) (object : Prefix) (m : State) (name : Named) (values : Values) (line : Line) (t : State) : Type 0 where
   pub inside : State

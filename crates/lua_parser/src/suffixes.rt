@@ -10,7 +10,7 @@ ghost use Rattle.lua_grammar.specs.Stopping.{IsNoComma};
 ghost use Rattle.lua_parser_base.specs.Refusals.{RefusesArgs, RefusesField, RefusesList, RefusesPrefix, RefusesSuffix, RefusesTable};
 ghost use Rattle.lua_parser_base.specs.Standing.{FirstFault, FirstFaultOfPrefix};
 ghost use Rattle.lua_parser_base.specs.Standing as Standing;
-ghost use Rattle.lua_parser.specs.Parts.{FirstFaultOfItem, PushesField, ReadsGiven, ReadsKey, ReadsNamed, RefusesItem};
+ghost use Rattle.lua_parser.specs.Parts.{FirstFaultOfItem, PushesField, ReadsGiven, ReadsKey, ReadsMethodName, ReadsNamed, RefusesItem};
 
 use crate::expressions::expression;
 use crate::pairs::beside;
@@ -191,12 +191,28 @@ fn method_arguments(
     ensures order { IfErr result (FirstFaultOfPrefix at object.now (state tokens.now parser.old) (state tokens.now parser.new)) }
     ensures forward { OnOk result (Advances tokens.now parser.old parser.new) }
 {
-    let colon = parser.take_sign(tokens, Sign::Colon)?;
-    at.above(object.height, colon)?;
-    let named = parser.take_name(tokens)?;
+    let named = method_name(parser, tokens, at, object)?;
     let line = parser.arguments_line(tokens)?;
     let values = arguments(parser, alloc, tokens, at)?;
     Ok((named, values, line))
+}
+
+/// `:´ Name
+/// Reads the name of a method after a prefix.
+fn method_name(
+    parser: &mut Parser,
+    tokens: &[Token],
+    at: Nesting,
+    object: &Prefix,
+) -> Result<Named, ParseFault>
+    ensures reads { IfOk result (λ named. ReadsMethodName at object.now (state tokens.now parser.old) named (state tokens.now parser.new)) }
+    ensures refuses { IfErrWhere (IsNext (SignKind Colon)) result (RefusesSuffix at object.now) tokens.now parser.old parser.new }
+    ensures order { IfErr result (FirstFaultOfPrefix at object.now (state tokens.now parser.old) (state tokens.now parser.new)) }
+    ensures forward { OnOk result (Advances tokens.now parser.old parser.new) }
+{
+    let colon = parser.take_sign(tokens, Sign::Colon)?;
+    at.above(object.height, colon)?;
+    parser.take_name(tokens)
 }
 
 /// args ::= `(´ [explist] `)´ | tableconstructor | String

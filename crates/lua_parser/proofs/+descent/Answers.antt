@@ -5,7 +5,7 @@ use Rattle.lua_grammar.specs.Stopping.{EndsAt}
 use Rattle.lua_grammar.specs.Waiting.{token, exp}
 use Rattle.lua_lexer.specs.declared.signs.Sign.TheVariants.{Colon, OpenParenthesis, OpenBracket}
 use Rattle.lua_lexer.specs.declared.tokens.TokenKind.TheVariants.{Word, Sign, Sign as SignKind}
-use Rattle.lua_parser_base.proofs.Arguments.{call_cannot_open, call_refused, call_too_high, method_cannot_open, method_no_name, method_refused, method_too_high, args_no_part, args_open, args_refused, no_args, table_arg_refused}
+use Rattle.lua_parser_base.proofs.Arguments.{call_cannot_open, call_refused, call_too_high, method_cannot_open, method_refused, args_no_part, args_open, args_refused, no_args, table_arg_refused}
 use Rattle.lua_parser.proofs.ArmRefusals.{arm_block_refused, test_refused, then_refused, first_arm_refused, next_arm_refused, arms_refused, else_end_refused, else_refused, end_refused}
 use Rattle.lua_parser_base.proofs.Assignments.{function_from, function_read, method_read, local_from, local_function_read, local_read, call_read, first_assigned, target_read, vars_one, assign_after}
 use Rattle.lua_parser.proofs.Beside.{advances_stays, binary_of, done_by, done_node, loop_named, memory_by, never_there, node_by, on_done, read_by, refused_by, right_read}
@@ -607,30 +607,22 @@ pub suffixes::method-returns-in_err-object-clause-refuses : goal.suffixes::metho
 suffixes::method-returns-in_err-object-clause-refuses t c = λ next.
     handed_on (RefusesSuffix c.args.at c.args.object (state c.args.tokens.now c.args.parser.now) (state c.args.tokens.now c.method_arguments-given.new.parser)) c.from_residual.result _ c.from_residual.ensures.1 (refused_by _ _ _ c.in_err-object.ensures (c.method_arguments-given.ensures.refuses next))
 
-pub suffixes::method_arguments-returns-in_err-colon-clause-refuses : goal.suffixes::method_arguments-returns-in_err-colon-clause-refuses
-suffixes::method_arguments-returns-in_err-colon-clause-refuses t c = λ next.
-    handed_on (RefusesSuffix c.args.at c.args.object.now (state c.args.tokens.now c.args.parser.now) (state c.args.tokens.now c.take_sign.new.self)) c.from_residual.result _ c.from_residual.ensures.1
-    (λ s read k suppose. never_missed _ _ _ (IsKind (SignKind Colon)) _ _ c.in_err-colon.ensures.misses suppose next)
-
-pub suffixes::method_arguments-returns-in_err-above-clause-refuses : goal.suffixes::method_arguments-returns-in_err-above-clause-refuses
-suffixes::method_arguments-returns-in_err-above-clause-refuses t c = λ next.
-    handed_on (RefusesSuffix c.args.at c.args.object.now (state c.args.tokens.now c.args.parser.now) (state c.args.tokens.now c.take_sign.new.self)) c.from_residual-in_err-above.result _
-    c.from_residual-in_err-above.ensures.1 (method_too_high c.args.at _ _ c.args.object.now _ _ c.in_ok-colon.ensures.takes c.in_err-above.ensures)
-
 pub suffixes::method_arguments-returns-in_err-named-clause-refuses : goal.suffixes::method_arguments-returns-in_err-named-clause-refuses
 suffixes::method_arguments-returns-in_err-named-clause-refuses t c = λ next.
-    handed_on (RefusesSuffix c.args.at c.args.object.now (state c.args.tokens.now c.args.parser.now) (state c.args.tokens.now c.take_name.new.self)) c.from_residual-in_err-named.result _
-    c.from_residual-in_err-named.ensures.1 (method_no_name c.args.at _ _ _ c.args.object.now _ _ c.in_ok-colon.ensures.takes c.in_err-named.ensures.misses)
+    handed_on (RefusesSuffix c.args.at c.args.object.now (state c.args.tokens.now c.args.parser.now) (state c.args.tokens.now c.method_name.new.parser)) c.from_residual.result _ c.from_residual.ensures.1
+    (c.in_err-named.ensures.refuses next)
 
 pub suffixes::method_arguments-returns-in_err-line-clause-refuses : goal.suffixes::method_arguments-returns-in_err-line-clause-refuses
 suffixes::method_arguments-returns-in_err-line-clause-refuses t c = λ next.
-    handed_on (RefusesSuffix c.args.at c.args.object.now (state c.args.tokens.now c.args.parser.now) (state c.args.tokens.now c.take_name.new.self)) c.from_residual-in_err-line.result _
-    c.from_residual-in_err-line.ensures.1 (method_cannot_open c.args.at _ _ _ c.args.object.now _ _ _ _ c.in_ok-colon.ensures.takes c.in_ok-named.ensures.takes c.in_err-line.ensures.closed)
+    let name = c.in_ok-named.ensures.reads in
+    handed_on (RefusesSuffix c.args.at c.args.object.now (state c.args.tokens.now c.args.parser.now) (state c.args.tokens.now c.method_name.new.parser)) c.from_residual-in_err-line.result _
+    c.from_residual-in_err-line.ensures.1 (method_cannot_open c.args.at _ _ _ c.args.object.now _ _ _ _ name.colon name.named c.in_err-line.ensures.closed)
 
 pub suffixes::method_arguments-returns-in_err-values-clause-refuses : goal.suffixes::method_arguments-returns-in_err-values-clause-refuses
 suffixes::method_arguments-returns-in_err-values-clause-refuses t c = λ next.
+    let name = c.in_ok-named.ensures.reads in
     handed_on (RefusesSuffix c.args.at c.args.object.now (state c.args.tokens.now c.args.parser.now) (state c.args.tokens.now c.arguments.new.parser)) c.from_residual-in_err-values.result _
-    c.from_residual-in_err-values.ensures.1 (method_refused c.args.at _ _ _ _ c.args.object.now _ _ _ _ c.in_ok-colon.ensures.takes c.in_ok-named.ensures.takes c.in_err-values.ensures.refuses)
+    c.from_residual-in_err-values.ensures.1 (method_refused c.args.at _ _ _ _ c.args.object.now _ _ _ _ name.colon name.named c.in_err-values.ensures.refuses)
 
 pub suffixes::method-returns-clause-refuses : goal.suffixes::method-returns-clause-refuses
 suffixes::method-returns-clause-refuses t c = λ next. on_memory _ _ c.method_called.result (λ s read k none. absurd none) c.method_called.ensures
@@ -644,42 +636,34 @@ suffixes::method-returns-clause-forward t c = on_done c.method_called.result (do
 
 pub suffixes::method_arguments-returns-clause-reads : goal.suffixes::method_arguments-returns-clause-reads
 suffixes::method_arguments-returns-clause-reads t c =
+    let name = c.in_ok-named.ensures.reads in
     record {
-      inside = (state c.args.tokens.now c.take_sign.new.self);
-      after = (state c.args.tokens.now c.take_name.new.self);
-      colon_at = c.in_ok-colon.colon;
-      colon = c.in_ok-colon.ensures.takes;
-      named = c.in_ok-named.ensures.takes;
+      inside = name.inside;
+      after = (state c.args.tokens.now c.method_name.new.parser);
+      colon_at = name.colon_at;
+      colon = name.colon;
+      named = name.named;
       reads = c.in_ok-values.ensures.reads;
       on_line = c.in_ok-line.ensures.same;
       begins = c.in_ok-line.ensures.line;
-      below = c.in_ok-above.ensures;
+      below = name.below;
     }
-
-pub suffixes::method_arguments-returns-in_err-above-clause-order : goal.suffixes::method_arguments-returns-in_err-above-clause-order
-suffixes::method_arguments-returns-in_err-above-clause-order t c =
-    handed_on _ c.from_residual-in_err-above.result _ c.from_residual-in_err-above.ensures.1
-    (λ s read. suffix_breaks (SignKind Colon) c.args.at _ c.args.object.now s _ _ (state c.args.tokens.now c.take_sign.new.self) _ (few_there _ _) tt c.in_ok-colon.ensures.takes c.in_err-above.ensures read)
 
 pub suffixes::method_arguments-returns-in_err-line-clause-order : goal.suffixes::method_arguments-returns-in_err-line-clause-order
 suffixes::method_arguments-returns-in_err-line-clause-order t c =
+    let name = c.in_ok-named.ensures.reads in
     handed_on _ c.from_residual-in_err-line.result _ c.from_residual-in_err-line.ensures.1
-    (λ s read start stands. args_ambiguous c.args.at _ _ (few_there _ _) c.in_err-line.ensures.closed start (standing.method_args stands read c.in_ok-colon.ensures.takes c.in_ok-above.ensures c.in_ok-named.ensures.takes))
+    (λ s read start stands. args_ambiguous c.args.at _ _ (few_there _ _) c.in_err-line.ensures.closed start (standing.method_args stands read name.colon name.below name.named))
 
 pub suffixes::method_arguments-returns-in_err-values-clause-order : goal.suffixes::method_arguments-returns-in_err-values-clause-order
 suffixes::method_arguments-returns-in_err-values-clause-order t c =
+    let name = c.in_ok-named.ensures.reads in
     handed_on _ c.from_residual-in_err-values.result _ c.from_residual-in_err-values.ensures.1
-    (λ s read start stands. c.in_err-values.ensures.order start (standing.method_args stands read c.in_ok-colon.ensures.takes c.in_ok-above.ensures c.in_ok-named.ensures.takes))
-
-pub suffixes::method_arguments-returns-in_err-colon-clause-order : goal.suffixes::method_arguments-returns-in_err-colon-clause-order
-suffixes::method_arguments-returns-in_err-colon-clause-order t c =
-    handed_on _ c.from_residual.result _ c.from_residual.ensures.1
-    (λ s read start stands. missing_first _ _ _ _ c.in_err-colon.ensures.misses start (standing.after_prefix stands read))
+    (λ s read start stands. c.in_err-values.ensures.order start (standing.method_args stands read name.colon name.below name.named))
 
 pub suffixes::method_arguments-returns-in_err-named-clause-order : goal.suffixes::method_arguments-returns-in_err-named-clause-order
 suffixes::method_arguments-returns-in_err-named-clause-order t c =
-    handed_on _ c.from_residual-in_err-named.result _ c.from_residual-in_err-named.ensures.1
-    (λ s read start stands. missing_first _ _ _ _ c.in_err-named.ensures.misses start (standing.after_colon stands read c.in_ok-colon.ensures.takes c.in_ok-above.ensures))
+    handed_on _ c.from_residual.result _ c.from_residual.ensures.1 c.in_err-named.ensures.order
 
 pub suffixes::arguments-returns-then-at_sign-clause-reads : goal.suffixes::arguments-returns-then-at_sign-clause-reads
 suffixes::arguments-returns-then-at_sign-clause-reads t c =
