@@ -5,7 +5,7 @@ use crate::sights::{Event, Sight, Taking, sight_of};
 use crate::state::{Connection, Turn};
 use client_line::LineOut;
 use connection_plan::ServiceContract;
-use resty_base::Ms;
+use resty_base::{Bytes, Ms};
 use run_contract::{RunSeen, SockSeen};
 use std::alloc::{AllocError, Global};
 use strand_contract::Seen;
@@ -103,6 +103,23 @@ impl<R: ServiceContract> Connection<R> {
             LineOut::Memory => Err(AllocError),
             out => self.hear_at(turn, alloc, site, now, out),
         }
+    }
+
+    /// Takes the turn that begins with bytes of the client.
+    fn take_bytes(
+        &mut self,
+        turn: &mut Turn<R::Job>,
+        alloc: Global,
+        site: &R::Site,
+        now: Ms,
+        bytes: Bytes,
+    ) -> Result<(), AllocError>
+        requires { IsWithin (R.plan site.now) (R.holds site.now) (R.stands site.now) self.old turn.old }
+        ensures { IfOk result (λ done. Ends (R.plan site.now) (R.holds site.now) (R.stands site.now)
+            (Look (λ b s. came_at (service_of (R.plan site.now) (R.serving site.now)) now.0 s.client.stage (fed s.client.came bytes) s))
+            self.old turn.old self.new turn.new) }
+    {
+        self.came(turn, alloc, site, now, &bytes)
     }
 
     /// The client sends no more: what it asked for is still answered.
@@ -300,7 +317,7 @@ impl<R: ServiceContract> Connection<R> {
     {
         match sight_of(seen) {
             Sight::Sock(k, shown) => self.sock(turn, alloc, site, now, k, shown),
-            Sight::Bytes(bytes) => self.came(turn, alloc, site, now, &bytes),
+            Sight::Bytes(bytes) => self.take_bytes(turn, alloc, site, now, bytes),
             Sight::Taking(taking) => self.see_taking(turn, alloc, site, now, taking),
             Sight::Event(event) => self.see_event(turn, alloc, site, now, event),
         }

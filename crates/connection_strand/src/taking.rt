@@ -219,12 +219,14 @@ impl<R: ServiceContract> Connection<R> {
         ensures costs { runs.is_own_turn seen ≡ true → (self.old.run ≡ None → ⊥) →
             IfOk result (λ on. Pays R.left R.bound unit self.old turn.old self.new turn.new) }
     {
-        let Some(run) = &mut self.run else {
-            return Ok(false);
-        };
-        self.waits = self.waits.told(&seen);
-        let next = run.given(alloc, site, now, seen);
-        self.adopt_next(turn, site, now, next)
+        match &mut self.run {
+            Some(run) => {
+                self.waits = self.waits.told(&seen);
+                let next = run.given(alloc, site, now, seen);
+                self.adopt_next(turn, site, now, next)
+            }
+            None => Ok(false),
+        }
     }
 
     /// Gives the run the answer to its question, and takes its turn.
@@ -243,10 +245,12 @@ impl<R: ServiceContract> Connection<R> {
             → Went (R.plan site.now) (R.holds site.now) (R.stands site.now) on did self.new turn.new m) }
         ensures costs { (self.old.run ≡ None → ⊥) → IfOk result (λ on. Pays R.left R.bound unit self.old turn.old self.new turn.new) }
     {
-        let Some(run) = &mut self.run else {
-            return Ok(false);
-        };
-        let next = run.answer(alloc, site, now, answer);
-        self.adopt_next(turn, site, now, next)
+        match &mut self.run {
+            Some(run) => {
+                let next = run.answer(alloc, site, now, answer);
+                self.adopt_next(turn, site, now, next)
+            }
+            None => Ok(false),
+        }
     }
 }

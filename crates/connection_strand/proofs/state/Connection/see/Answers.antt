@@ -1,14 +1,9 @@
 use Rattle.std.proofs.Common.{◌≡◌, true, false, refl, sym, ap, ◌∙◌, subst}
 use Rattle.strand_contract.specs.declared.turns.Seen.{Seen}
 use Rattle.strand_contract.specs.Calls.{is_own_turn}
-use Rattle.client_line.specs.Feeding.{fed}
-use Rattle.strand_plans.specs.Moves.{Look}
-use Rattle.connection_plan.specs.Connections.{came_at}
 use Rattle.connection_plan.specs.Serving.{service_of}
-use Rattle.connection_strand.specs.Standing.{plain}
 use Rattle.connection_strand.specs.Shown.{Shown, seen_of}
 use Rattle.connection_strand.proofs.Ends.{ok-map}
-use Rattle.connection_strand.proofs.Losing.{To}
 use Rattle.connection_strand.proofs.Falling.{own-sock}
 use Rattle.connection_strand.proofs.Showing.{shown-bytes}
 use Rattle.connection_strand.proofs.state.Connection.see.Goals as goal
@@ -34,8 +29,8 @@ returns-in-Sock-clause-moves g c =
 pub returns-in-Sock-clause-falls : goal.returns-in-Sock-clause-falls
 returns-in-Sock-clause-falls g c own = c.sock.ensures.falls (sym (own-sock c.in-Sock.k c.in-Sock.shown) ∙ sym (ap is_own_turn (c.sight_of.ensures ∙ ap seen_of c.in-Sock.is)) ∙ own)
 
-pub came-requires : goal.came-requires
-came-requires g c =
+pub take_bytes-requires : goal.take_bytes-requires
+take_bytes-requires g c =
     let site = c.args.site.now in
     let r = g.R.RunContract in
     let met = g.met.R.RunContract in
@@ -52,10 +47,10 @@ returns-in-Bytes-clause-moves g c =
     let met = g.met.R.RunContract in
     let service = service_of (r.plan site) (g.R.ServiceContract.serving site) in
     let now = c.args.now.0 in
-    ok-map c.came.result _ _ (λ done ends. λ did h.
+    ok-map c.take_bytes.result _ _ (λ done ends. λ did h.
     let k = (subst (λ (s : Seen). Shown service (r.holds site) (r.stands site) now s did c.args.self.now c.args.turn.now) (c.sight_of.ensures ∙ ap seen_of c.in-Bytes.is) h) in
     ends k.inner.client.stage did
-    (subst (λ bytes. To service (r.holds site) (r.stands site) (plain k.inner.client.stage) did c.args.self.now c.args.turn.now (Look (λ b s. came_at service now s.client.stage (fed s.client.came bytes) s))) (sym c.deref.ensures) (shown-bytes service (r.holds site) (r.stands site) (met.meets site) (met.apart site) now c.in-Bytes.bytes did c.args.self.now c.args.turn.now k))) c.came.ensures
+    (shown-bytes service (r.holds site) (r.stands site) (met.meets site) (met.apart site) now c.in-Bytes.bytes did c.args.self.now c.args.turn.now k)) c.take_bytes.ensures
 
 pub returns-in-Bytes-clause-falls : goal.returns-in-Bytes-clause-falls
 returns-in-Bytes-clause-falls g c own = absurd (let e : false ≡ true = sym (ap is_own_turn (c.sight_of.ensures ∙ ap seen_of c.in-Bytes.is)) ∙ own in cc)
