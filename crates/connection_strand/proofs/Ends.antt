@@ -103,3 +103,18 @@ module _ {J : Type 0} where
 pub ok-map : {T F : Type 0} (r : Result T F) (P Q : T → Type 0) → ((x : T) → P x → Q x) → IfOk r P → IfOk r Q
 ok-map (Ok x) P Q f h = f x h
 ok-map (Err e) P Q f h = tt
+
+pub ok-both : {T F : Type 0} (r : Result T F) (P Q S : T → Type 0) → ((x : T) → P x → Q x → S x) → IfOk r P → IfOk r Q → IfOk r S
+ok-both (Ok x) P Q S f h k = f x h k
+ok-both (Err e) P Q S f h k = tt
+
+pub of-ok : {T F : Type 0} (r : Result T F) (x : T) (P : T → Type 0) → r ≡ Ok x → IfOk r P → P x
+of-ok r x P is h = subst (λ o. IfOk o P) is h
+
+-- a value beside that of a result
+abbrev pub beside : {S T F : Type 0} → S → Result T F → Result (S × T) F
+beside s (Ok x) = Ok (s, x)
+beside s (Err e) = Err e
+
+pub of-beside : {S T F : Type 0} (s : S) (r : Result T F) (x : T) → r ≡ Ok x → beside s r ≡ Ok (s, x)
+of-beside s r x is = ap (beside s) is

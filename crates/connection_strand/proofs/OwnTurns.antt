@@ -1,6 +1,6 @@
 -- A turn of the run within its connection's.
 use Rattle.std.proofs.Common.{◌≡◌, ℕ, ◌≤◌, ◌||◌, List, [], ◌∷◌, ◌++◌, length, Option, Some, None, refl, sym, ap, ◌∙◌, subst, append_assoc, append-nil, arith}
-use Rattle.std.specs.Prelude.{is_some}
+use Rattle.std.specs.Prelude.{Bool, true, false, is_some}
 use Rattle.strand_contract.specs.declared.turns.Act.{Act}
 use Rattle.strand_contract.specs.declared.turns.Place.TheVariants as place
 use Rattle.strand_plans.specs.Questions.{Question, asking_if}
@@ -23,8 +23,8 @@ use Rattle.connection_strand.specs.declared.state.Connection.{Connection}
 use Rattle.connection_strand.specs.declared.state.Turn.{Turn}
 use Rattle.connection_strand.specs.Acts.{kept_socket, done_of, question_in, sockets_after}
 use Rattle.connection_strand.specs.Kept.{kept, kept_of, waits_of}
-use Rattle.connection_strand.specs.Standing.{asks_at, speaking, HasRun, Serves, Within, Toward, Came, Says, before, places, asking, kept_sock}
-use Rattle.connection_strand.specs.Turns.{Took}
+use Rattle.connection_strand.specs.Standing.{asks_at, speaking, HasRun, Serves, Within, Toward, Came, Went, Says, before, places, asking, kept_sock}
+use Rattle.connection_strand.specs.Turns.{Took, Asks}
 use Rattle.connection_strand.proofs.Sockets.{opens, done-all, done-before, question-is, question-none, none-awaits}
 
 -- what is kept of a client is as it was
@@ -226,3 +226,15 @@ module _ {R J I : Type 0} (site : Service J I) (holds : Ledger J → I → Type 
       let k = asks site holds stands now next did c c' u u' m h x a some in
       let t = spoken (Some k.question) k.said Done k.toward in
       asked site holds stands t.0 k.question a k.said did c'' d u'' v t.1 k.is k.leads client run waits sockets count taking keeping acts
+
+  -- the question is asked, or the turn goes on
+  pub takes : (on : Bool) (q : Option (Act J)) (d : Connection R) (v : Turn J) → q ≡ question_in next.acts.items → Asks on q c'' u'' d v → Went site.runs holds stands on did d v m
+  takes true q d v is a =
+      let t = takes-on (sym is ∙ a.0) in (
+        t.0,
+        subst (λ (w : Turn J). Toward site.runs holds stands (asks_at t.0 None) did d w m) (sym a.2)
+            (subst (λ (k : Connection R). Toward site.runs holds stands (asks_at t.0 None) did k u'' m) (sym a.1) t.1),
+      )
+  takes false q d v is a = takes-asking a.0 d v (sym is ∙ a.1)
+      (ap (λ (k : Connection R). k.client) a.2) (ap (λ (k : Connection R). k.run) a.2) (ap (λ (k : Connection R). k.waits) a.2) (ap (λ (k : Connection R). k.sockets) a.2)
+      (ap (λ (k : Connection R). k.count) a.2) (ap (λ (k : Connection R). k.is_taking) a.2) (ap (λ (k : Connection R). k.keeping) a.2) a.3

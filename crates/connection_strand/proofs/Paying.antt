@@ -1,6 +1,6 @@
 -- What pays for words and turns of a run, and for requests that are held.
 use Rattle.std.specs.Prelude.{filter, ◌^◌}
-use Rattle.std.proofs.Common.{◌≡◌, ℕ, ◌≤◌, ◌<◌, ◌+◌, ◌-◌, ◌*◌, ◌==◌, Bool, true, false, not, List, [], ◌∷◌, ◌++◌, length, take, drop, Some, None, if◌then◌else◌, refl, ap, ◌∙◌, arith, length-append}
+use Rattle.std.proofs.Common.{◌≡◌, ℕ, ◌≤◌, ◌<◌, ◌+◌, ◌-◌, ◌*◌, ◌==◌, Bool, true, false, not, List, [], ◌∷◌, ◌++◌, length, take, drop, Option, Some, None, if◌then◌else◌, refl, sym, ap, ◌∙◌, subst, arith, length-append}
 use Rattle.std.proofs.lemmas.List.{take_all}
 use Rattle.strand_contract.specs.declared.turns.Act.{Act}
 use Rattle.strand_contract.specs.declared.turns.Act.TheVariants as act
@@ -12,6 +12,7 @@ use Rattle.connection_strand.specs.declared.state.Connection.{Connection}
 use Rattle.connection_strand.specs.declared.state.Turn.{Turn}
 use Rattle.connection_strand.specs.Kept.{kept}
 use Rattle.connection_strand.specs.Acts.{is_question, done_of, question_in, without_all, sockets_after}
+use Rattle.connection_strand.specs.Turns.{Asks}
 use Rattle.connection_strand.specs.Costs.{unit, weight_if, client_left, run_left, units, whole, Spends, Pays}
 use Rattle.connection_strand.proofs.Costing.{spends-client, one-longer}
 
@@ -147,6 +148,15 @@ module _ {R J : Type 0} (left : R → ℕ) (bound : ℕ) where
       → Spends left bound (unit * (length acts + length said)) c u c' w
   takes-asking acts said q c d c' u v u' w asks h k last =
       let e = unit-and (length acts) (length said) in let f = unit-over (length acts) in let g = done-asking acts q asks in let l = one-longer u'.acts.items w.acts.items q last in omega arith
+
+  pub takes-costs : (acts : List (Act J)) (said : List Said) (on : Bool) (q : Option (Act J)) (c d c' e : Connection R) (u v u' w : Turn J) → q ≡ question_in acts
+      → Spends left bound (length (done_of acts)) c u d v → Spends left bound (unit * length said) d v c' u' → Asks on q c' u' e w
+      → Spends left bound (unit * (length acts + length said)) c u e w
+  takes-costs acts said true q c d c' e u v u' w is h k a =
+      subst (λ (z : Turn J). Spends left bound (unit * (length acts + length said)) c u e z) (sym a.2)
+      (subst (λ (x : Connection R). Spends left bound (unit * (length acts + length said)) c u x u') (sym a.1) (takes-on acts said c d c' u v u' h k))
+  takes-costs acts said false q c d c' e u v u' w is h k a =
+      subst (λ (x : Connection R). Spends left bound (unit * (length acts + length said)) c u x w) (sym a.2) (takes-asking acts said a.0 c d c' u v u' w (sym is ∙ a.1) h k a.3)
 
   pub tells-costs : (n : ℕ) (old new : R) (c d c' : Connection R) (u u' : Turn J) → c.run ≡ Some old → d.run ≡ Some new → d.client ≡ c.client → d.sockets ≡ c.sockets
       → left new + n < left old → Spends left bound (unit * n) d u c' u' → Pays left bound unit c u c' u'

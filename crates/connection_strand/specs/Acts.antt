@@ -29,6 +29,16 @@ abbrev pub question_in : {J : Type 0} → List (Act J) → Option (Act J)
 question_in [] = None
 question_in (a ∷ acts) = if is_question a then Some a else question_in acts
 
+-- the first of them
+abbrev pub head : {A : Type 0} → List A → Option A
+head [] = None
+head (x ∷ xs) = Some x
+
+-- whether an act comes next that isn't a question
+abbrev pub begins_with_deed : {J : Type 0} → List (Act J) → Bool
+begins_with_deed [] = false
+begins_with_deed (a ∷ acts) = not (is_question a)
+
 -- numbers without one of them
 abbrev pub without_all : ℕ → List ℕ → List ℕ
 without_all k ks = filter (λ j. not (j == k)) ks

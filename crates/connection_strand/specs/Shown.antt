@@ -21,6 +21,10 @@ use Rattle.connection_plan.specs.Clients as stage
 use Rattle.connection_plan.specs.Turns.{is_there, await_body, heard_by, settle}
 use Rattle.connection_plan.specs.Connections.{connection_plan, connection_turn, to_run}
 use Rattle.connection_plan.specs.Conditions.{Agrees}
+use Rattle.connection_strand.specs.declared.sights.Taking.{Taking}
+use Rattle.connection_strand.specs.declared.sights.Taking.TheVariants as taking
+use Rattle.connection_strand.specs.declared.sights.Event.{Event}
+use Rattle.connection_strand.specs.declared.sights.Event.TheVariants as event
 use Rattle.connection_strand.specs.declared.sights.Sight.{Sight}
 use Rattle.connection_strand.specs.declared.sights.Sight.TheVariants as sight
 use Rattle.connection_strand.specs.declared.state.Connection.{Connection}
@@ -41,18 +45,24 @@ sock_seen k at.Dialled = seen.Dialled k
 sock_seen k at.Refused = seen.Refused k
 
 -- what is shown, by the code's words for it
+abbrev pub seen_of_taking : Taking → Seen
+seen_of_taking taking.Ready = seen.Ready place.Client
+seen_of_taking (taking.Took n) = seen.Took place.Client n
+seen_of_taking taking.Later = seen.Later place.Client
+seen_of_taking taking.Lost = seen.Lost place.Client
+
+abbrev pub seen_of_event : Event → Seen
+seen_of_event event.Ended = seen.Ended place.Client
+seen_of_event event.Broken = seen.Broken place.Client
+seen_of_event (event.Due n) = seen.Due n
+seen_of_event (event.Run k) = seen.Run k
+seen_of_event event.Stop = seen.Stop
+
 abbrev pub seen_of : Sight → Seen
 seen_of (sight.Sock k shown) = sock_seen k shown
 seen_of (sight.Bytes bytes) = seen.Bytes place.Client bytes
-seen_of sight.Ended = seen.Ended place.Client
-seen_of sight.Broken = seen.Broken place.Client
-seen_of sight.Ready = seen.Ready place.Client
-seen_of (sight.Took n) = seen.Took place.Client n
-seen_of sight.Later = seen.Later place.Client
-seen_of sight.Lost = seen.Lost place.Client
-seen_of (sight.Due n) = seen.Due n
-seen_of (sight.Run k) = seen.Run k
-seen_of sight.Stop = seen.Stop
+seen_of (sight.Taking of_client) = seen_of_taking of_client
+seen_of (sight.Event other) = seen_of_event other
 
 -- the action that is shown: of a write, the bytes that were taken of the next piece
 abbrev pub action_by : {J : Type 0} → Ledger J → Seen → Action J

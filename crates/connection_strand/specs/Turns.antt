@@ -1,9 +1,10 @@
 -- What turns of a run come to within those of their connection.
-use Rattle.std.specs.Prelude.{◌≡◌, ℕ, Some}
+use Rattle.std.specs.Prelude.{◌≡◌, ℕ, Bool, true, false, Option, Some, None, [], ◌∷◌, ◌++◌}
 use Rattle.client_line.specs.declared.requests.LineOut.{LineOut}
 use Rattle.client_line.specs.declared.requests.LineOut.TheVariants as out
 use Rattle.client_line.specs.Records.{At}
 use Rattle.client_line.specs.Records as line
+use Rattle.strand_contract.specs.declared.turns.Act.{Act}
 use Rattle.strand_contract.specs.declared.turns.Answer.{Answer}
 use Rattle.strand_contract.specs.Actions.{Action, Did}
 use Rattle.strand_contract.specs.Calls.{answered}
@@ -21,6 +22,7 @@ use Rattle.connection_plan.specs.Services.{Service, Both}
 use Rattle.connection_plan.specs.Turns.{run_turn, tell}
 use Rattle.connection_strand.specs.declared.state.Connection.{Connection}
 use Rattle.connection_strand.specs.declared.state.Turn.{Turn}
+use Rattle.connection_strand.specs.Acts.{kept_socket}
 use Rattle.connection_strand.specs.Kept.{waits_of}
 use Rattle.connection_strand.specs.Standing.{Serves, before}
 
@@ -33,6 +35,11 @@ IsRefusedAt at = ⊥
 abbrev pub IsAnswered : LineOut → At → Type 0
 IsAnswered (out.Refused code) at = IsRefusedAt at
 IsAnswered answer at = Unit {0}
+
+-- the question is asked, or there is none
+abbrev pub Asks : {R J : Type 0} → Bool → Option (Act J) → Connection R → Turn J → Connection R → Turn J → Type 0
+Asks true q c u c' u' = (q ≡ None) × (c' ≡ c) × (u' ≡ u)
+Asks {R} {J} false q c u c' u' = (a : Act J) × (q ≡ Some a) × (c' ≡ record c { keeping = kept_socket a }) × (u'.acts.items ≡ u.acts.items ++ a ∷ [])
 
 module _ {R J I : Type 0} (site : Service J I) (holds : Ledger J → I → Type 0) (stands : R → Ledger J → I → Type 0) (now : ℕ) where
   -- a turn of the connection in which its run is told this; the ledger is that before it was entered

@@ -147,12 +147,15 @@ impl<R: ServiceContract> Connection<R> {
     {
         let times = R::times_of(site, &head, &target);
         let expects = head.expects;
-        let (run, first) = R::begin(alloc, site, now, self.count, head, target)?;
-        self.end_timer(turn, site, Timer::Header)?;
-        self.client.begin_request(times, expects);
-        self.run = Some(run);
-        self.waits = Waits::at_first(true);
-        self.adopt_turn(turn, site, now, first)
+        let begun = R::begin(alloc, site, now, self.count, head, target);
+        match self.end_timer(turn, site, Timer::Header) {
+            Ok(()) => {
+                self.client.begin_request(times, expects);
+                self.waits = Waits::at_first(true);
+                self.adopt_run(turn, site, now, begun)
+            }
+            Err(error) => Err(error),
+        }
     }
 
     /// Sends the reply to a head that is refused.

@@ -33,8 +33,10 @@ impl<R: ServiceContract> Connection<R> {
             (λ again. tell_body (service_of (R.plan site.now) (R.serving site.now)) now.0 again (Some seen)) self.old turn.old self.new turn.new) }
         ensures costs { IfOk result (λ on. Pays R.left R.bound unit self.old turn.old self.new turn.new) }
     {
-        self.end_timer(turn, site, Timer::Body)?;
-        self.tell(turn, alloc, site, now, seen)
+        match self.end_timer(turn, site, Timer::Body) {
+            Ok(()) => self.tell(turn, alloc, site, now, seen),
+            Err(error) => Err(error),
+        }
     }
 
     /// The run gets the body that it waits for, or its refusal, unless more may come.
@@ -74,8 +76,10 @@ impl<R: ServiceContract> Connection<R> {
             return self.tell(turn, alloc, site, now, RunSeen::AllTaken);
         }
         if self.client.is_to_close() {
-            self.lose(turn, alloc, site, now)?;
-            return Ok(false);
+            return match self.lose(turn, alloc, site, now) {
+                Ok(()) => Ok(false),
+                Err(error) => Err(error),
+            };
         }
         if self.waits.body {
             return self.ask_body(turn, alloc, site, now);

@@ -1,11 +1,11 @@
 //! What a connection is shown: its client, its sockets, its run's threads and deadlines.
 
 use crate::client::{Stage, Timer};
-use crate::sights::{Sight, sight_of};
+use crate::sights::{Event, Sight, Taking, sight_of};
 use crate::state::{Connection, Turn};
 use client_line::LineOut;
 use connection_plan::ServiceContract;
-use resty_base::Ms;
+use resty_base::{Bytes, Ms};
 use run_contract::{RunSeen, SockSeen};
 use std::alloc::{AllocError, Global};
 use strand_contract::Seen;
@@ -28,7 +28,7 @@ impl<R: ServiceContract> Connection<R> {
     ghost use Rattle.connection_strand.specs.Standing.{Ends, Hears, IsWithin, IsFreeAt};
     ghost use Rattle.connection_strand.specs.Turns.{IsAnswered};
     ghost use Rattle.connection_plan.specs.Turns.{heard_by, settle};
-    ghost use Rattle.connection_strand.specs.Shown.{heard_at, sock_seen, MayShow, Shows, MayTellRun, TellsRun, MayGoOn, GoesOn};
+    ghost use Rattle.connection_strand.specs.Shown.{heard_at, seen_of_event, seen_of_taking, sock_seen, MayShow, Shows, MayTellRun, TellsRun, MayGoOn, GoesOn};
 
     /// The answer to what came is heard, and what is there is settled.
     fn hear(
@@ -71,8 +71,10 @@ impl<R: ServiceContract> Connection<R> {
         match self.client.stage {
             Stage::Busy => {
                 let_go(out);
-                self.await_body(turn, site, now)?;
-                self.settle_all(turn, alloc, site, now)
+                match self.await_body(turn, site, now) {
+                    Ok(()) => self.settle_all(turn, alloc, site, now),
+                    Err(error) => Err(error),
+                }
             }
             Stage::Head => self.hear(turn, alloc, site, now, false, out),
             Stage::Idle | Stage::Drop => self.hear(turn, alloc, site, now, true, out),
@@ -101,6 +103,23 @@ impl<R: ServiceContract> Connection<R> {
             LineOut::Memory => Err(AllocError),
             out => self.hear_at(turn, alloc, site, now, out),
         }
+    }
+
+    /// Takes the turn that begins with bytes of the client.
+    fn take_bytes(
+        &mut self,
+        turn: &mut Turn<R::Job>,
+        alloc: Global,
+        site: &R::Site,
+        now: Ms,
+        bytes: Bytes,
+    ) -> Result<(), AllocError>
+        requires { IsWithin (R.plan site.now) (R.holds site.now) (R.stands site.now) self.old turn.old }
+        ensures { IfOk result (λ done. Ends (R.plan site.now) (R.holds site.now) (R.stands site.now)
+            (Look (λ b s. came_at (service_of (R.plan site.now) (R.serving site.now)) now.0 s.client.stage (fed s.client.came bytes) s))
+            self.old turn.old self.new turn.new) }
+    {
+        self.came(turn, alloc, site, now, &bytes)
     }
 
     /// The client sends no more: what it asked for is still answered.
@@ -298,16 +317,56 @@ impl<R: ServiceContract> Connection<R> {
     {
         match sight_of(seen) {
             Sight::Sock(k, shown) => self.sock(turn, alloc, site, now, k, shown),
-            Sight::Bytes(bytes) => self.came(turn, alloc, site, now, &bytes),
-            Sight::Ended => self.hear_end(turn, alloc, site, now),
-            Sight::Broken => self.lose(turn, alloc, site, now),
-            Sight::Ready => self.resume(turn, site, now),
-            Sight::Took(count) => self.took(turn, alloc, site, now, count),
-            Sight::Later => self.put_off(turn, site, now),
-            Sight::Lost => self.lose(turn, alloc, site, now),
-            Sight::Due(number) => self.due(turn, alloc, site, now, number),
-            Sight::Run(thread) => self.go_on(turn, alloc, site, now, RunSeen::Run(thread)),
-            Sight::Stop => self.finish(turn, site),
+            Sight::Bytes(bytes) => self.take_bytes(turn, alloc, site, now, bytes),
+            Sight::Taking(taking) => self.see_taking(turn, alloc, site, now, taking),
+            Sight::Event(event) => self.see_event(turn, alloc, site, now, event),
+        }
+    }
+
+    /// Takes the turn that begins with how its client takes bytes.
+    fn see_taking(
+        &mut self,
+        turn: &mut Turn<R::Job>,
+        alloc: Global,
+        site: &R::Site,
+        now: Ms,
+        taking: Taking,
+    ) -> Result<(), AllocError>
+        requires { MayShow (service_of (R.plan site.now) (R.serving site.now)) (R.holds site.now) (R.stands site.now) now.0
+            (seen_of_taking taking) self.old turn.old }
+        ensures moves { IfOk result (λ done. Shows (service_of (R.plan site.now) (R.serving site.now)) (R.holds site.now) (R.stands site.now) now.0
+            (seen_of_taking taking) self.old turn.old self.new turn.new) }
+        ensures falls { is_own_turn (seen_of_taking taking) ≡ true → IfOk result (λ done. Falls R.left R.bound self.old turn.old self.new turn.new) }
+    {
+        match taking {
+            Taking::Ready => self.resume(turn, site, now),
+            Taking::Took(count) => self.took(turn, alloc, site, now, count),
+            Taking::Later => self.put_off(turn, site, now),
+            Taking::Lost => self.lose(turn, alloc, site, now),
+        }
+    }
+
+    /// Takes the turn that begins with what is of its client or of itself, but for bytes.
+    fn see_event(
+        &mut self,
+        turn: &mut Turn<R::Job>,
+        alloc: Global,
+        site: &R::Site,
+        now: Ms,
+        event: Event,
+    ) -> Result<(), AllocError>
+        requires { MayShow (service_of (R.plan site.now) (R.serving site.now)) (R.holds site.now) (R.stands site.now) now.0
+            (seen_of_event event) self.old turn.old }
+        ensures moves { IfOk result (λ done. Shows (service_of (R.plan site.now) (R.serving site.now)) (R.holds site.now) (R.stands site.now) now.0
+            (seen_of_event event) self.old turn.old self.new turn.new) }
+        ensures falls { is_own_turn (seen_of_event event) ≡ true → IfOk result (λ done. Falls R.left R.bound self.old turn.old self.new turn.new) }
+    {
+        match event {
+            Event::Ended => self.hear_end(turn, alloc, site, now),
+            Event::Broken => self.lose(turn, alloc, site, now),
+            Event::Due(number) => self.due(turn, alloc, site, now, number),
+            Event::Run(thread) => self.go_on(turn, alloc, site, now, RunSeen::Run(thread)),
+            Event::Stop => self.finish(turn, site),
         }
     }
 }

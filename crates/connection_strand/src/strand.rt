@@ -1,6 +1,6 @@
 //! The connection meets the contract of a strand: what it is shown, and the answers that it gets.
 
-ghost use Rattle.std.specs.Prelude.{◌≡◌};
+ghost use Rattle.std.specs.Prelude.{◌≡◌, IfOk, Ok};
 ghost use Rattle.connection_strand.specs.Following.{is_client};
 ghost use Rattle.connection_strand.specs.Shown.{takes_as};
 
@@ -22,6 +22,16 @@ fn is_client<J>(start: &Start<J>) -> bool
     ensures { result ≡ is_client start.now }
 {
     matches!(start, Start::Client(_))
+}
+
+/// The two, where there was the memory for the second.
+fn paired<T: Drop, U: Drop>(first: T, second: Result<U, AllocError>) -> Result<(T, U), AllocError>
+    ensures { IfOk result (λ pair. (pair.0 ≡ first) × (second ≡ Ok pair.1)) }
+{
+    match second {
+        Ok(second) => Ok((first, second)),
+        Err(error) => Err(error),
+    }
 }
 
 /// Whether the turn begins as the client takes bytes: its offer goes on.
@@ -87,10 +97,9 @@ impl<R: ServiceContract> Connection<R> {
                 Ok(true)
             }
             Start::Job(_, premature, job) => {
-                let (run, first) = R::begin_job(alloc, site, now, premature, job)?;
+                let begun = R::begin_job(alloc, site, now, premature, job);
                 self.client.stage = Stage::Busy;
-                self.run = Some(run);
-                self.adopt_turn(turn, site, now, first)
+                self.adopt_run(turn, site, now, begun)
             }
         }
     }
@@ -261,8 +270,8 @@ impl<R: ServiceContract> StrandContract for Connection<R> {
             × (r.1.items ≡ (connection_behavior service).acts (Did (Began now.0 start) ∷ []))) }
     {
         let mut connection = Connection::new(alloc, site, is_client(&start));
-        let acts = connection.start(alloc, site, now, start)?;
-        Ok((connection, acts))
+        let acts = connection.start(alloc, site, now, start);
+        paired(connection, acts)
     }
 
     fn given(

@@ -54,8 +54,8 @@ returns-then-self-clause-costs g c =
 pub lose-requires : goal.lose-requires
 lose-requires g c = (stage.Busy, c.requires)
 
-pub returns-then-is_to_close-clause-moves : goal.returns-then-is_to_close-clause-moves
-returns-then-is_to_close-clause-moves g c = λ did m h.
+pub returns-in-Ok-clause-moves : goal.returns-in-Ok-clause-moves
+returns-in-Ok-clause-moves g c = λ did m h.
     let site = c.args.site.now in
     let r = g.R.RunContract in
     let met = g.met.R.RunContract in
@@ -67,7 +67,7 @@ returns-then-is_to_close-clause-moves g c = λ did m h.
       | else-is_all_taken-via-then-is_all_taken+else-self w ↦ ap (λ x. x && self.waits.taken) (sym w.if-is_all_taken.ensures) ∙ w.if-self.false
       | else-is_all_taken-via-else-is_all_taken w ↦ ap (λ x. x && self.waits.taken) (sym w.if-is_all_taken.ensures)
     ] in
-    c.in_ok-lose.ensures.moves stage.Busy did (busy-closes service (r.holds site) (r.stands site) (met.meets site) (met.apart site) now m did self turn h not (sym c.if-is_to_close.ensures))
+    c.in-Ok.ensures.moves stage.Busy did (busy-closes service (r.holds site) (r.stands site) (met.meets site) (met.apart site) now m did self turn h not (sym c.if-is_to_close.ensures))
 
 pub returns-then-self-2-clause-moves : goal.returns-then-self-2-clause-moves
 returns-then-self-2-clause-moves g c =

@@ -20,11 +20,11 @@ settle_all-requires g c =
     let x = from-here service (r.holds site) (r.stands site) (met.meets site) (met.apart site) c.requires.within.0 c.args.self.now c.args.turn.now c.requires.within.1
     (Look (λ b s. heard_at service now s.client.stage c.args.out s.client.came s.client.ended)) in
     let t = hears-at service (r.holds site) (r.stands site) (met.meets site) (met.apart site) now stage.Busy c.args.out c.requires.within.0 x.0 c.args.self.now c.args.turn.now (ap stage_of c.in-Busy.is) x.1 in
-    let h = c.in_ok-await_body-in-Busy.ensures.moves None false x.0 (settle service now) (record { ledger = t.ledger; inner = t.inner; within = t.within; leads = t.leads }) in
+    let h = c.in-Ok.ensures.moves None false x.0 (settle service now) (record { ledger = t.ledger; inner = t.inner; within = t.within; leads = t.leads }) in
     (stage.Busy, (h.ledger, h.inner, h.within))
 
-pub returns-in_ok-await_body-in-Busy : goal.returns-in_ok-await_body-in-Busy
-returns-in_ok-await_body-in-Busy g c =
+pub returns-in-Ok : goal.returns-in-Ok
+returns-in-Ok g c =
     let site = c.args.site.now in
     let r = g.R.RunContract in
     let met = g.met.R.RunContract in
@@ -32,7 +32,7 @@ returns-in_ok-await_body-in-Busy g c =
     let now = c.args.now.0 in
     ok-map c.settle_all.result _ _ (λ done ends. λ st did h.
     let t = hears-at service (r.holds site) (r.stands site) (met.meets site) (met.apart site) now stage.Busy c.args.out st did c.args.self.now c.args.turn.now (ap stage_of c.in-Busy.is) h in
-    ends stage.Busy did (c.in_ok-await_body-in-Busy.ensures.moves None false did (settle service now) (record { ledger = t.ledger; inner = t.inner; within = t.within; leads = t.leads }))) c.settle_all.ensures.moves
+    ends stage.Busy did (c.in-Ok.ensures.moves None false did (settle service now) (record { ledger = t.ledger; inner = t.inner; within = t.within; leads = t.leads }))) c.settle_all.ensures.moves
 
 pub hear-requires-clause-within : goal.hear-requires-clause-within
 hear-requires-clause-within g c =

@@ -6,7 +6,7 @@ use Rattle.connection_plan.specs.Serving.{service_of}
 use Rattle.connection_strand.specs.declared.client.Stage.TheVariants as code
 use Rattle.connection_strand.specs.Following.{IsNew, is_client}
 use Rattle.connection_strand.specs.Standing.{plain, Went}
-use Rattle.connection_strand.proofs.Ends.{ok-map}
+use Rattle.connection_strand.proofs.Ends.{ok-map, of-ok}
 use Rattle.connection_strand.proofs.Beginning.{begun, begins-client, begins-job}
 use Rattle.connection_strand.proofs.state.Connection.take_first_turn.Goals as goal
 
@@ -25,8 +25,8 @@ returns-in_ok-begin_timer-in-Client g c =
           (begins-client service (r.holds site) (r.stands site) now c.in-Client.field-0 c.args.self.now c.args.turn.now new.client new.sockets new.count new.keeping new.taking c.requires.acts c.requires.offered),
     )
 
-pub returns-in_ok-run-in-Job : goal.returns-in_ok-run-in-Job
-returns-in_ok-run-in-Job g c =
+pub returns-in-Job : goal.returns-in-Job
+returns-in-Job g c =
     let site = c.args.site.now in
     let r = g.R.RunContract in
     let met = g.met.R.RunContract in
@@ -34,10 +34,9 @@ returns-in_ok-run-in-Job g c =
     let now = c.args.now.0 in
     let begin = start.Job c.in-Job.field-0 c.in-Job.premature c.in-Job.job in
     let old = c.args.self.now in
-    let connection = record old { client = record old.client { stage = code.Busy }; run = Some c.in_ok-run-in-Job.run' } in
     let new = subst (λ begin. IsNew service.default_times (is_client begin) c.args.self.now) c.in-Job.is c.requires.connection in
-    ok-map c.adopt_turn.result _ _ (λ on takes.
-    subst (λ begin. Went (r.plan site) (r.holds site) (r.stands site) on (begun service (r.holds site) (r.stands site) now begin) c.adopt_turn.new.self c.adopt_turn.new.turn Done) (sym c.in-Job.is)
-    (takes (begun service (r.holds site) (r.stands site) now begin) Done
-    (begins-job service (r.holds site) (r.stands site) now (met.meets site) c.in-Job.field-0 c.in-Job.premature c.in-Job.job c.in_ok-run-in-Job.run' c.in_ok-run-in-Job.first old connection c.args.turn.now c.in_ok-run-in-Job.ensures
-    new.client new.waits new.sockets new.count new.keeping refl refl refl refl refl refl c.requires.acts))) c.adopt_turn.ensures.moves
+    ok-map c.adopt_run.result _ _ (λ on x.
+    subst (λ begin. Went (r.plan site) (r.holds site) (r.stands site) on (begun service (r.holds site) (r.stands site) now begin) c.adopt_run.new.self c.adopt_run.new.turn Done) (sym c.in-Job.is)
+    (x.3 (begun service (r.holds site) (r.stands site) now begin) Done
+    (begins-job service (r.holds site) (r.stands site) now (met.meets site) c.in-Job.field-0 c.in-Job.premature c.in-Job.job x.0 x.1 old (record old { client = record old.client { stage = code.Busy }; run = Some x.0 }) c.args.turn.now (of-ok c.begin_job-begun.result (x.0, x.1) _ x.2 c.begin_job-begun.ensures)
+    new.client new.waits new.sockets new.count new.keeping refl refl refl refl refl refl c.requires.acts))) c.adopt_run.ensures

@@ -1,25 +1,25 @@
 use Rattle.std.proofs.Common.{refl}
-use Rattle.strand_contract.proofs.Results.{if-ok}
 use Rattle.connection_strand.proofs.Telling.{told-takes, no-run}
 use Rattle.connection_plan.specs.Serving.{service_of}
 use Rattle.std.proofs.Common.{length, ◌+◌, Some}
+use Rattle.connection_strand.proofs.Ends.{ok-map, of-ok}
 use Rattle.connection_strand.proofs.Paying.{tells-costs}
 use Rattle.connection_strand.proofs.state.Connection.tell.Goals as goal
 
-pub returns-clause-moves : goal.returns-clause-moves
-returns-clause-moves g c =
+pub returns-in-Some-clause-moves : goal.returns-in-Some-clause-moves
+returns-in-Some-clause-moves g c =
     let site = c.args.site.now in
     let r = g.R.RunContract in
     let met = g.met.R.RunContract in
-    if-ok c.adopt_turn.result _ _ c.adopt_turn.ensures.moves (λ on takes did m h. takes did m
-    (told-takes (service_of (r.plan site) (g.R.ServiceContract.serving site)) (r.holds site) (r.stands site) (met.meets site) c.args.now.0 c.args.seen c.in_ok-next.next did c.args.self.now _ c.args.turn.now m c.in-Some.run' c.given.new.self
-    c.in-Some.is refl c.in_ok-next.ensures.turn (record { client = refl; sockets = refl; count = refl; keeping = refl; taking = refl })
-    c.told-self.ensures h))
+    ok-map c.adopt_next.result _ _ (λ on x. λ did m h. x.2 did m
+    (told-takes (service_of (r.plan site) (g.R.ServiceContract.serving site)) (r.holds site) (r.stands site) (met.meets site) c.args.now.0 c.args.seen x.0 did c.args.self.now _ c.args.turn.now m c.in-Some.run' c.given-next.new.self
+    c.in-Some.is refl (of-ok c.given-next.result x.0 _ x.1 c.given-next.ensures.turn) (record { client = refl; sockets = refl; count = refl; keeping = refl; taking = refl })
+    c.told-self.ensures h)) c.adopt_next.ensures
 
-pub returns-in_default-clause-moves : goal.returns-in_default-clause-moves
-returns-in_default-clause-moves g c = λ did m h. no-run c.args.self.now.run h.run c.in_default.is h.is
+pub returns-in-None-clause-moves : goal.returns-in-None-clause-moves
+returns-in-None-clause-moves g c = λ did m h. no-run c.args.self.now.run h.run c.in-None.is h.is
 
-pub returns-clause-costs : goal.returns-clause-costs
-returns-clause-costs g c own has = if-ok c.adopt_turn.result _ _ c.adopt_turn.ensures.costs (λ on spends.
-    tells-costs g.R.RunContract.left g.R.ServiceContract.bound (length c.in_ok-next.next.acts.items + length c.in_ok-next.next.said.items) c.in-Some.run' c.given.new.self c.args.self.now (record c.args.self.now { run = Some c.given.new.self; waits = c.told-self.result }) c.adopt_turn.new.self c.args.turn.now c.adopt_turn.new.turn
-    c.in-Some.is refl refl refl (c.in_ok-next.ensures.left own) spends)
+pub returns-in-Some-clause-costs : goal.returns-in-Some-clause-costs
+returns-in-Some-clause-costs g c own has = ok-map c.adopt_next.result _ _ (λ on x.
+    tells-costs g.R.RunContract.left g.R.ServiceContract.bound (length x.0.acts.items + length x.0.said.items) c.in-Some.run' c.given-next.new.self c.args.self.now (record c.args.self.now { run = Some c.given-next.new.self; waits = c.told-self.result }) c.adopt_next.new.self c.args.turn.now c.adopt_next.new.turn
+    c.in-Some.is refl refl refl (of-ok c.given-next.result x.0 _ x.1 (c.given-next.ensures.left own)) x.3) c.adopt_next.ensures

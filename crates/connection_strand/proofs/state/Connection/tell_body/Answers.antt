@@ -17,25 +17,25 @@ tell-requires g c =
     let r = g.R.RunContract in
     let service = service_of (r.plan site) (g.R.ServiceContract.serving site) in
     may-tell service (r.holds site) (r.stands site) c.args.now.0 c.args.seen c.end_timer.new.self c.end_timer.new.turn
-    (may-be-asked service (r.holds site) (r.stands site) c.args.now.0 c.requires.seen.0 c.args.seen c.end_timer.new.self c.requires.seen.1 (ap (λ w. w.body) c.in_ok-end_timer.ensures.waits ∙ c.requires.body))
-    (goes-at service (r.holds site) (r.stands site) (end_timer service 0 timer.Body) stage.Busy _ _ _ _ c.in_ok-end_timer.ensures.moves c.requires.within)
+    (may-be-asked service (r.holds site) (r.stands site) c.args.now.0 c.requires.seen.0 c.args.seen c.end_timer.new.self c.requires.seen.1 (ap (λ w. w.body) c.in-Ok.ensures.waits ∙ c.requires.body))
+    (goes-at service (r.holds site) (r.stands site) (end_timer service 0 timer.Body) stage.Busy _ _ _ _ c.in-Ok.ensures.moves c.requires.within)
 
-pub returns-clause-moves : goal.returns-clause-moves
-returns-clause-moves g c =
+pub returns-in-Ok-clause-moves : goal.returns-in-Ok-clause-moves
+returns-in-Ok-clause-moves g c =
     let site = c.args.site.now in
     let r = g.R.RunContract in
     let service = service_of (r.plan site) (g.R.ServiceContract.serving site) in
     ok-map c.tell.result _ _ (λ on told. λ did m h. told did m
     (tells service (r.holds site) (r.stands site) c.args.now.0 c.args.seen did c.end_timer.new.self c.end_timer.new.turn m
-    (may-be-asked service (r.holds site) (r.stands site) c.args.now.0 c.requires.seen.0 c.args.seen c.end_timer.new.self c.requires.seen.1 (ap (λ w. w.body) c.in_ok-end_timer.ensures.waits ∙ c.requires.body))
-    (c.in_ok-end_timer.ensures.moves (plain stage.Busy) did (tell service c.args.now.0 c.args.seen m) h))) c.tell.ensures.moves
+    (may-be-asked service (r.holds site) (r.stands site) c.args.now.0 c.requires.seen.0 c.args.seen c.end_timer.new.self c.requires.seen.1 (ap (λ w. w.body) c.in-Ok.ensures.waits ∙ c.requires.body))
+    (c.in-Ok.ensures.moves (plain stage.Busy) did (tell service c.args.now.0 c.args.seen m) h))) c.tell.ensures.moves
 
-pub returns-clause-costs : goal.returns-clause-costs
-returns-clause-costs g c =
+pub returns-in-Ok-clause-costs : goal.returns-in-Ok-clause-costs
+returns-in-Ok-clause-costs g c =
     let site = c.args.site.now in
     let r = g.R.RunContract in
     let service = service_of (r.plan site) (g.R.ServiceContract.serving site) in
     ok-map c.tell.result _ _ (λ on paid. pays-after g.R.RunContract.left g.R.ServiceContract.bound unit c.args.self.now c.end_timer.new.self c.tell.new.self c.args.turn.now c.end_timer.new.turn c.tell.new.turn
-    c.in_ok-end_timer.ensures.costs paid)
+    c.in-Ok.ensures.costs paid)
     (c.tell.ensures.costs (is-own c.requires.seen.0 c.args.seen c.requires.seen.1) (has-run service (r.holds site) (r.stands site) c.end_timer.new.self c.end_timer.new.turn
-    (goes-at service (r.holds site) (r.stands site) (end_timer service 0 timer.Body) stage.Busy _ _ _ _ c.in_ok-end_timer.ensures.moves c.requires.within)))
+    (goes-at service (r.holds site) (r.stands site) (end_timer service 0 timer.Body) stage.Busy _ _ _ _ c.in-Ok.ensures.moves c.requires.within)))
