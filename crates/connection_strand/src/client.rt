@@ -179,7 +179,8 @@ impl Client {
 
     /// A request begins: its times, and whether the client waits for a 100 reply.
     pub(crate) fn begin_request(&mut self, times: Times, expects: bool)
-        ensures { kept self.new ≡ record (kept self.old) { stage = stage.Busy; times = serving.times times; reply = stage.Unsent; expects = expects; waited = false } }
+        ensures { kept self.new
+            ≡ record (kept self.old) { stage = stage.Busy; times = serving.times times; reply = stage.Unsent; expects = expects; waited = false } }
     {
         self.stage = Stage::Busy;
         self.times = times;

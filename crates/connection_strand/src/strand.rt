@@ -89,7 +89,8 @@ impl<R: ServiceContract> Connection<R> {
         requires acts { turn.old.acts.items ≡ [] }
         requires offered { turn.old.is_offered ≡ false }
         ensures { let plan = connection_plan (service_of (R.plan site.now) (R.serving site.now)) in IfOk result (λ on.
-            Went (R.plan site.now) (R.holds site.now) (R.stands site.now) on (stepped plan now.0 (Did (Began now.0 start)) (unborn_state plan)) self.new turn.new Done) }
+            Went (R.plan site.now) (R.holds site.now) (R.stands site.now) on
+            (stepped plan now.0 (Did (Began now.0 start)) (unborn_state plan)) self.new turn.new Done) }
     {
         match start {
             Start::Client(_) => {

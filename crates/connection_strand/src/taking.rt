@@ -191,7 +191,8 @@ impl<R: ServiceContract> Connection<R> {
             → Took (service_of (R.plan site.now) (R.serving site.now)) (R.holds site.now) (R.stands site.now) now.0 first did
             (record self.old { run = Some run }) turn.old m
             → Went (R.plan site.now) (R.holds site.now) (R.stands site.now) on did self.new turn.new m)
-            × Spends R.left R.bound (unit * (length first.acts.items + length first.said.items)) (record self.old { run = Some run }) turn.old self.new turn.new) }
+            × Spends R.left R.bound (unit * (length first.acts.items + length first.said.items))
+            (record self.old { run = Some run }) turn.old self.new turn.new) }
     {
         match begun {
             Ok((run, first)) => {

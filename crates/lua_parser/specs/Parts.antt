@@ -3,7 +3,8 @@ use Rattle.std.specs.Prelude.{◌≡◌, ◌<◌, ◌≤◌, ◌⊎◌, ℕ, Lis
 use Rattle.lua_ast.specs.declared.statements.Arm.{Arm}
 use Rattle.lua_ast.specs.declared.statements.Stmt.{Stmt}
 use Rattle.lua_lexer.specs.declared.tokens.TokenKind.TheVariants.{Name as NameKind, Sign as SignKind, Word as WordKind}
-use Rattle.lua_lexer.specs.declared.signs.Sign.TheVariants.{Assign, CloseBrace, CloseBracket, CloseParenthesis, Colon, Comma, OpenBrace, OpenBracket, OpenParenthesis}
+use Rattle.lua_lexer.specs.declared.signs.Sign.TheVariants.{Assign, Colon, Comma, OpenBrace, OpenBracket, OpenParenthesis}
+use Rattle.lua_lexer.specs.declared.signs.Sign.TheVariants.{CloseBrace, CloseBracket, CloseParenthesis}
 use Rattle.lua_lexer.specs.declared.words.Word.TheVariants.{If}
 use Rattle.lua_grammar.specs.Grammar.{first_line}
 use Rattle.lua_grammar.specs.Operators.{right_level}
@@ -46,11 +47,13 @@ pub record ReadsRight (at : Nesting) (left : Built) (found : Infix) (m : State) 
 -- however what stands before the operator was read
 abbrev pub RefusesRight : Nesting → Built → Infix → State → State → ParseFault → Type 0
 RefusesRight at left found m t fault =
-    (lowest : ℕ) (s a : State) → lowest ≤ 7 → min lowest 7 ≤ left.level → ReadsExp at s left a → TakesOperator left.level lowest found a m → RefusesFrom lowest at s t fault
+    (lowest : ℕ) (s a : State) → lowest ≤ 7 → min lowest 7 ≤ left.level → ReadsExp at s left a → TakesOperator left.level lowest found a m
+    → RefusesFrom lowest at s t fault
 
 abbrev pub FirstFaultOfRight : Nesting → Built → Infix → State → State → ParseFault → Type 0
 FirstFaultOfRight at left found m t fault =
-    (lowest : ℕ) (s a : State) → ReadsExp at s left a → TakesOperator left.level lowest found a m → FirstFault (Standing.here (Standing.exp lowest) at) s t fault
+    (lowest : ℕ) (s a : State) → ReadsExp at s left a → TakesOperator left.level lowest found a m
+    → FirstFault (Standing.here (Standing.exp lowest) at) s t fault
 
 -- a key in brackets after a prefix
 pub record ReadsKey (at : Nesting) (object : Prefix) (m : State) (key : Built) (open_at : Line) (t : State) : Type 0 where

@@ -174,7 +174,8 @@ fn put_keep(
 
 /// Puts a socket that was kept, and its key.
 fn put_kept(out: &mut Vec<u8>, who: &StrandId, number: u64, key: &[u8]) -> Result<(), AllocError>
-    ensures { OnOk result (out.new.items ≡ out.old.items ++ codes "keep " ++ strand_text who.now ++ codes " s" ++ decimal number ++ codes " " ++ quoted key.now) }
+    ensures { OnOk result (out.new.items ≡ out.old.items
+        ++ codes "keep " ++ strand_text who.now ++ codes " s" ++ decimal number ++ codes " " ++ quoted key.now) }
 {
     put_who(out, b"keep ", who)?;
     put_numbered(out, b" s", number)?;
