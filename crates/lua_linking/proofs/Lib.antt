@@ -1,4 +1,5 @@
 mod Lists
+mod After
 mod Nodes
 mod Wholes
 mod WholeStatements

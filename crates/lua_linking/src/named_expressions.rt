@@ -1,11 +1,12 @@
 //! What expressions mention, in the order of the text.
 
-ghost use Rattle.std.specs.Prelude.{◌≡◌, ◌++◌, OnOk, flat_map};
+ghost use Rattle.std.specs.Prelude.{◌≡◌, ◌++◌, IsOk, OnOk, flat_map};
 ghost use Rattle.lua_linking.specs.Mentions as spec;
 
 use crate::mentions::{Mention, mention_function, mention_module};
 use lua_ast::{Expr, ExprKind, TableItem};
 use std::alloc::AllocError;
+use std::rc::Rc;
 
 /// Notes what an expression mentions.
 #[cycle(mentions)]
@@ -15,30 +16,17 @@ pub(crate) fn mentions_in(expr: &Expr, mentions: &mut Vec<Mention>) -> Result<()
 {
     match &expr.kind {
         ExprKind::Function(number) => mention_function(*number, mentions),
-        ExprKind::Index(a, b) => {
-            mentions_in(a, mentions)?;
-            mentions_in(b, mentions)
-        }
-        ExprKind::Binary(_, a, b) => {
-            mentions_in(a, mentions)?;
-            mentions_in(b, mentions)
-        }
-        ExprKind::And(a, b) => {
-            mentions_in(a, mentions)?;
-            mentions_in(b, mentions)
-        }
-        ExprKind::Or(a, b) => {
-            mentions_in(a, mentions)?;
-            mentions_in(b, mentions)
-        }
+        ExprKind::Index(a, b) => mentions_after(mentions_in(a, mentions), b, mentions),
+        ExprKind::Binary(_, a, b) => mentions_after(mentions_in(a, mentions), b, mentions),
+        ExprKind::And(a, b) => mentions_after(mentions_in(a, mentions), b, mentions),
+        ExprKind::Or(a, b) => mentions_after(mentions_in(a, mentions), b, mentions),
         ExprKind::Call(callee, values) => {
-            mention_module(callee, values, mentions)?;
-            mentions_in(callee, mentions)?;
-            mentions_in_each(values, mentions)
+            let done = mention_module(callee, values, mentions);
+            let done = mentions_after(done, callee, mentions);
+            each_after(done, values, mentions)
         }
         ExprKind::Method(object, _, values) => {
-            mentions_in(object, mentions)?;
-            mentions_in_each(values, mentions)
+            each_after(mentions_in(object, mentions), values, mentions)
         }
         ExprKind::Unary(_, operand) => mentions_in(operand, mentions),
         ExprKind::Paren(inner) => mentions_in(inner, mentions),
@@ -46,6 +34,38 @@ pub(crate) fn mentions_in(expr: &Expr, mentions: &mut Vec<Mention>) -> Result<()
         ExprKind::Nil | ExprKind::True | ExprKind::False | ExprKind::Vararg => Ok(()),
         ExprKind::Number(_) | ExprKind::Text(_) | ExprKind::Global(_) => Ok(()),
         ExprKind::Slot(_) | ExprKind::Captured(_) => Ok(()),
+    }
+}
+
+/// Notes what an expression mentions, where what comes before it in the text is noted.
+#[cycle(mentions)]
+pub(crate) fn mentions_after(
+    before: Result<(), AllocError>,
+    expr: &Rc<Expr>,
+    mentions: &mut Vec<Mention>,
+) -> Result<(), AllocError>
+    ensures before { OnOk result (IsOk before) }
+    ensures notes { OnOk result (mentions.new.items ≡ mentions.old.items ++ spec.mentions_in expr.now.value) }
+{
+    match before {
+        Ok(()) => mentions_in(expr, mentions),
+        Err(e) => Err(e),
+    }
+}
+
+/// Notes what each of these expressions mentions, where what comes before them in the text is noted.
+#[cycle(mentions)]
+pub(crate) fn each_after(
+    before: Result<(), AllocError>,
+    exprs: &Rc<Vec<Expr>>,
+    mentions: &mut Vec<Mention>,
+) -> Result<(), AllocError>
+    ensures before { OnOk result (IsOk before) }
+    ensures notes { OnOk result (mentions.new.items ≡ mentions.old.items ++ flat_map spec.mentions_in exprs.now.value.items) }
+{
+    match before {
+        Ok(()) => mentions_in_each(exprs, mentions),
+        Err(e) => Err(e),
     }
 }
 
