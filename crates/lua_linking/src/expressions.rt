@@ -39,9 +39,7 @@ pub(crate) fn raise_expr(expr: &mut Expr, by: u32) -> Result<(), AllocError>
         ExprKind::Unary(_, operand) => raise_shared(operand, by),
         ExprKind::Paren(inner) => raise_shared(inner, by),
         ExprKind::Table(items) => raise_items(items, by),
-        ExprKind::Nil | ExprKind::True | ExprKind::False | ExprKind::Vararg => Ok(()),
-        ExprKind::Number(_) | ExprKind::Text(_) | ExprKind::Global(_) => Ok(()),
-        ExprKind::Slot(_) | ExprKind::Captured(_) => Ok(()),
+        _ => Ok(()),
     }
 }
 

@@ -3,7 +3,7 @@
 ghost use Rattle.std.specs.Prelude.{◌≡◌, ◌++◌, IsOk, OnOk, flat_map};
 ghost use Rattle.lua_linking.specs.Mentions as spec;
 
-use crate::mentions::{Mention, mention_function, mention_module};
+use crate::mentions::{Mention, mention_call, mention_function};
 use lua_ast::{Expr, ExprKind, TableItem};
 use std::alloc::AllocError;
 use std::rc::Rc;
@@ -16,25 +16,35 @@ pub(crate) fn mentions_in(expr: &Expr, mentions: &mut Vec<Mention>) -> Result<()
 {
     match &expr.kind {
         ExprKind::Function(number) => mention_function(*number, mentions),
-        ExprKind::Index(a, b) => mentions_after(mentions_in(a, mentions), b, mentions),
-        ExprKind::Binary(_, a, b) => mentions_after(mentions_in(a, mentions), b, mentions),
-        ExprKind::And(a, b) => mentions_after(mentions_in(a, mentions), b, mentions),
-        ExprKind::Or(a, b) => mentions_after(mentions_in(a, mentions), b, mentions),
+        ExprKind::Index(a, b)
+        | ExprKind::Binary(_, a, b)
+        | ExprKind::And(a, b)
+        | ExprKind::Or(a, b) => mentions_after(mentions_in_shared(a, mentions), b, mentions),
         ExprKind::Call(callee, values) => {
-            let done = mention_module(callee, values, mentions);
+            let done = mention_call(callee, values, mentions);
             let done = mentions_after(done, callee, mentions);
             each_after(done, values, mentions)
         }
         ExprKind::Method(object, _, values) => {
-            each_after(mentions_in(object, mentions), values, mentions)
+            each_after(mentions_in_shared(object, mentions), values, mentions)
         }
-        ExprKind::Unary(_, operand) => mentions_in(operand, mentions),
-        ExprKind::Paren(inner) => mentions_in(inner, mentions),
-        ExprKind::Table(items) => mentions_in_items(items, mentions),
-        ExprKind::Nil | ExprKind::True | ExprKind::False | ExprKind::Vararg => Ok(()),
-        ExprKind::Number(_) | ExprKind::Text(_) | ExprKind::Global(_) => Ok(()),
-        ExprKind::Slot(_) | ExprKind::Captured(_) => Ok(()),
+        ExprKind::Unary(_, operand) | ExprKind::Paren(operand) => {
+            mentions_in_shared(operand, mentions)
+        }
+        ExprKind::Table(items) => mentions_in_table(items, mentions),
+        _ => Ok(()),
     }
+}
+
+/// Notes what an expression that is a part of another mentions.
+#[cycle(mentions)]
+pub(crate) fn mentions_in_shared(
+    expr: &Rc<Expr>,
+    mentions: &mut Vec<Mention>,
+) -> Result<(), AllocError>
+    ensures { OnOk result (mentions.new.items ≡ mentions.old.items ++ spec.mentions_in expr.now.value) }
+{
+    mentions_in(expr, mentions)
 }
 
 /// Notes what an expression mentions, where what comes before it in the text is noted.
@@ -81,6 +91,27 @@ pub(crate) fn mentions_in_each(
         mentions_in(expr, mentions)?;
     }
     Ok(())
+}
+
+/// Notes what the expressions of a list mention.
+pub(crate) fn mentions_in_list(
+    exprs: &Rc<Vec<Expr>>,
+    mentions: &mut Vec<Mention>,
+) -> Result<(), AllocError>
+    ensures { OnOk result (mentions.new.items ≡ mentions.old.items ++ flat_map spec.mentions_in exprs.now.value.items) }
+{
+    mentions_in_each(exprs, mentions)
+}
+
+/// Notes what the items of a table constructor mention.
+#[cycle(mentions)]
+fn mentions_in_table(
+    items: &Rc<Vec<TableItem>>,
+    mentions: &mut Vec<Mention>,
+) -> Result<(), AllocError>
+    ensures { OnOk result (mentions.new.items ≡ mentions.old.items ++ flat_map spec.mentions_in_item items.now.value.items) }
+{
+    mentions_in_items(items, mentions)
 }
 
 /// Notes what each of these items mentions.

@@ -4,7 +4,9 @@ ghost use Rattle.std.specs.Prelude.{◌≡◌, ◌++◌, IsOk, OnOk, [], MatchOp
 ghost use Rattle.lua_linking.specs.Mentions as spec;
 
 use crate::mentions::{Mention, mention_function};
-use crate::named_expressions::{each_after, mentions_after, mentions_in, mentions_in_each};
+use crate::named_expressions::{
+    each_after, mentions_after, mentions_in, mentions_in_list, mentions_in_shared,
+};
 use lua_ast::{Arm, Expr, Stmt, StmtKind};
 use std::alloc::AllocError;
 use std::rc::Rc;
@@ -16,16 +18,18 @@ fn mentions_in_stmt(stmt: &Stmt, mentions: &mut Vec<Mention>) -> Result<(), Allo
     ensures { OnOk result (mentions.new.items ≡ mentions.old.items ++ spec.mentions_in_stmt stmt.now) }
 {
     match &stmt.kind {
-        StmtKind::Local(_, values) => mentions_in_each(values, mentions),
+        StmtKind::Local(_, values) | StmtKind::Return(values) => mentions_in_list(values, mentions),
         StmtKind::LocalFunction(_, number) => mention_function(*number, mentions),
         StmtKind::Assign(targets, values) => {
-            each_after(mentions_in_each(targets, mentions), values, mentions)
+            each_after(mentions_in_list(targets, mentions), values, mentions)
         }
         StmtKind::Call(call) => mentions_in(call, mentions),
-        StmtKind::Do(body) => mentions_in_block(body, mentions),
-        StmtKind::While(test, body) => { block_after(mentions_in(test, mentions), body, mentions) }
+        StmtKind::Do(body) => mentions_in_body(body, mentions),
+        StmtKind::While(test, body) => {
+            block_after(mentions_in_shared(test, mentions), body, mentions)
+        }
         StmtKind::Repeat(body, test) => {
-            mentions_after(mentions_in_block(body, mentions), test, mentions)
+            mentions_after(mentions_in_body(body, mentions), test, mentions)
         }
         StmtKind::If(arms, otherwise) => {
             block_after(mentions_in_arms(arms, mentions), otherwise, mentions)
@@ -41,10 +45,17 @@ fn mentions_in_stmt(stmt: &Stmt, mentions: &mut Vec<Mention>) -> Result<(), Allo
             slots: _,
             values,
             body,
-        } => block_after(mentions_in_each(values, mentions), body, mentions),
-        StmtKind::Return(values) => mentions_in_each(values, mentions),
+        } => block_after(mentions_in_list(values, mentions), body, mentions),
         StmtKind::Break => Ok(()),
     }
+}
+
+/// Notes what the statements of a body mention.
+#[cycle(statement)]
+fn mentions_in_body(body: &Rc<Vec<Stmt>>, mentions: &mut Vec<Mention>) -> Result<(), AllocError>
+    ensures { OnOk result (mentions.new.items ≡ mentions.old.items ++ flat_map spec.mentions_in_stmt body.now.value.items) }
+{
+    mentions_in_block(body, mentions)
 }
 
 /// Notes what each statement of a block mentions, where what comes before them in the text is noted.

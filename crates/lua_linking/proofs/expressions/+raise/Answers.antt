@@ -3,8 +3,9 @@ use denote.Hole.Carrier.{out}
 use Rattle.std.specs.List.{AllZip}
 use Rattle.std.proofs.lemmas.Result.{on_ok_weaker}
 use Rattle.lua_ast.specs.declared.expressions.ExprKind as kind
-use Rattle.lua_linking.specs.Raising.{RaisedExpr, RaisedItem}
+use Rattle.lua_linking.specs.Raising.{RaisedExpr, RaisedItem, RaisedKind}
 use Rattle.lua_linking.proofs.After.{both}
+use Rattle.lua_linking.proofs.Leaves.{leaf}
 use Rattle.lua_linking.proofs.Lists.{zipped}
 use Rattle.lua_linking.proofs.Nodes.{index_raised, binary_raised, and_raised, or_raised, unary_raised, paren_raised, call_raised, method_raised, table_raised}
 use Rattle.lua_linking.proofs.expressions.+raise.Goals as goal
@@ -74,6 +75,13 @@ raise_expr-returns-in-Table t c =
     let q : OnOk c.raise_items.result (AllZip (RaisedItem c.args.by) c.in-Table.items.value.items c.raise_items.new.items.value.items) =
     search (rules, kind.the_lemmas) in
     on_ok_weaker c.raise_items.result (λ h. (refl, rw c.in-Table.is (table_raised c.args.by c.in-Table.items c.raise_items.new.items h))) q
+
+pub raise_expr-returns-in_default : goal.raise_expr-returns-in_default
+raise_expr-returns-in_default t c = (
+  refl,
+  leaf (λ k. RaisedKind c.args.by k k) refl refl refl (λ n. refl) (λ t. refl) refl (λ n. refl) (λ n. refl) (λ name. refl) c.args.expr.now.kind
+      c.in_default.not-Function c.in_default.not-Index c.in_default.not-Call c.in_default.not-Method c.in_default.not-Unary c.in_default.not-Binary c.in_default.not-And c.in_default.not-Or c.in_default.not-Paren c.in_default.not-Table,
+)
 
 pub raise_item-returns-in-Item : goal.raise_item-returns-in-Item
 raise_item-returns-in-Item t c = on_ok_weaker c.raise_expr.result (λ h. rw c.in-Item.is (c.raise_expr.new.expr, refl, h)) c.raise_expr.ensures
