@@ -1,10 +1,12 @@
 //! What statements mention, in the order of the text.
 
-ghost use Rattle.std.specs.Prelude.{◌≡◌, ◌++◌, OnOk, [], MatchOption, flat_map};
+ghost use Rattle.std.specs.Prelude.{◌≡◌, ◌++◌, IsOk, OnOk, [], MatchOption, flat_map};
 ghost use Rattle.lua_linking.specs.Mentions as spec;
 
 use crate::mentions::{Mention, mention_function};
-use crate::named_expressions::{mentions_in, mentions_in_each};
+use crate::named_expressions::{
+    each_after, mentions_after, mentions_in, mentions_in_list, mentions_in_shared,
+};
 use lua_ast::{Arm, Expr, Stmt, StmtKind};
 use std::alloc::AllocError;
 use std::rc::Rc;
@@ -16,25 +18,21 @@ fn mentions_in_stmt(stmt: &Stmt, mentions: &mut Vec<Mention>) -> Result<(), Allo
     ensures { OnOk result (mentions.new.items ≡ mentions.old.items ++ spec.mentions_in_stmt stmt.now) }
 {
     match &stmt.kind {
-        StmtKind::Local(_, values) => mentions_in_each(values, mentions),
+        StmtKind::Local(_, values) | StmtKind::Return(values) => mentions_in_list(values, mentions),
         StmtKind::LocalFunction(_, number) => mention_function(*number, mentions),
         StmtKind::Assign(targets, values) => {
-            mentions_in_each(targets, mentions)?;
-            mentions_in_each(values, mentions)
+            each_after(mentions_in_list(targets, mentions), values, mentions)
         }
         StmtKind::Call(call) => mentions_in(call, mentions),
-        StmtKind::Do(body) => mentions_in_block(body, mentions),
+        StmtKind::Do(body) => mentions_in_body(body, mentions),
         StmtKind::While(test, body) => {
-            mentions_in(test, mentions)?;
-            mentions_in_block(body, mentions)
+            block_after(mentions_in_shared(test, mentions), body, mentions)
         }
         StmtKind::Repeat(body, test) => {
-            mentions_in_block(body, mentions)?;
-            mentions_in(test, mentions)
+            mentions_after(mentions_in_body(body, mentions), test, mentions)
         }
         StmtKind::If(arms, otherwise) => {
-            mentions_in_arms(arms, mentions)?;
-            mentions_in_block(otherwise, mentions)
+            block_after(mentions_in_arms(arms, mentions), otherwise, mentions)
         }
         StmtKind::NumericFor {
             slot: _,
@@ -42,20 +40,37 @@ fn mentions_in_stmt(stmt: &Stmt, mentions: &mut Vec<Mention>) -> Result<(), Allo
             to,
             step,
             body,
-        } => {
-            mentions_in_range(from, to, step, mentions)?;
-            mentions_in_block(body, mentions)
-        }
+        } => block_after(mentions_in_range(from, to, step, mentions), body, mentions),
         StmtKind::GenericFor {
             slots: _,
             values,
             body,
-        } => {
-            mentions_in_each(values, mentions)?;
-            mentions_in_block(body, mentions)
-        }
-        StmtKind::Return(values) => mentions_in_each(values, mentions),
+        } => block_after(mentions_in_list(values, mentions), body, mentions),
         StmtKind::Break => Ok(()),
+    }
+}
+
+/// Notes what the statements of a body mention.
+#[cycle(statement)]
+fn mentions_in_body(body: &Rc<Vec<Stmt>>, mentions: &mut Vec<Mention>) -> Result<(), AllocError>
+    ensures { OnOk result (mentions.new.items ≡ mentions.old.items ++ flat_map spec.mentions_in_stmt body.now.value.items) }
+{
+    mentions_in_block(body, mentions)
+}
+
+/// Notes what each statement of a block mentions, where what comes before them in the text is noted.
+#[cycle(statement)]
+fn block_after(
+    before: Result<(), AllocError>,
+    block: &Rc<Vec<Stmt>>,
+    mentions: &mut Vec<Mention>,
+) -> Result<(), AllocError>
+    ensures before { OnOk result (IsOk before) }
+    ensures notes { OnOk result (mentions.new.items ≡ mentions.old.items ++ flat_map spec.mentions_in_stmt block.now.value.items) }
+{
+    match before {
+        Ok(()) => mentions_in_block(block, mentions),
+        Err(e) => Err(e),
     }
 }
 
@@ -106,6 +121,5 @@ fn mentions_in_arms(arms: &[Arm], mentions: &mut Vec<Mention>) -> Result<(), All
 fn mentions_in_arm(arm: &Arm, mentions: &mut Vec<Mention>) -> Result<(), AllocError>
     ensures { OnOk result (mentions.new.items ≡ mentions.old.items ++ spec.mentions_in_arm arm.now) }
 {
-    mentions_in(&arm.test, mentions)?;
-    mentions_in_block(&arm.body, mentions)
+    block_after(mentions_in(&arm.test, mentions), &arm.body, mentions)
 }

@@ -1,10 +1,12 @@
 //! Numbers of functions in statements, raised in place.
 
-ghost use Rattle.std.specs.Prelude.{OnOk};
+ghost use Rattle.std.specs.Prelude.{IsOk, OnOk};
 ghost use Rattle.std.specs.List.{AllZip};
-ghost use Rattle.lua_linking.specs.Raising.{RaisedArm, RaisedStep, RaisedStmt};
+ghost use Rattle.lua_linking.specs.Raising.{RaisedArm, RaisedExpr, RaisedStep, RaisedStmt};
 
-use crate::expressions::{raise_expr, raise_list, raise_number, raise_shared};
+use crate::expressions::{
+    raise_after, raise_expr, raise_list, raise_list_after, raise_number, raise_shared,
+};
 use lua_ast::{Arm, Expr, Stmt, StmtKind};
 use std::alloc::AllocError;
 use std::rc::Rc;
@@ -17,47 +19,43 @@ fn raise_stmt(stmt: &mut Stmt, by: u32) -> Result<(), AllocError>
     match &mut stmt.kind {
         StmtKind::Local(_, values) => raise_list(values, by),
         StmtKind::LocalFunction(_, number) => raise_number(number, by),
-        StmtKind::Assign(targets, values) => {
-            raise_list(targets, by)?;
-            raise_list(values, by)
-        }
+        StmtKind::Assign(targets, values) => raise_list_after(raise_list(targets, by), values, by),
         StmtKind::Call(call) => raise_expr(call, by),
         StmtKind::Do(body) => raise_block(body, by),
-        StmtKind::While(test, body) => {
-            raise_shared(test, by)?;
-            raise_block(body, by)
-        }
-        StmtKind::Repeat(body, test) => {
-            raise_block(body, by)?;
-            raise_shared(test, by)
-        }
-        StmtKind::If(arms, otherwise) => {
-            raise_arms(arms, by)?;
-            raise_block(otherwise, by)
-        }
+        StmtKind::While(test, body) => raise_block_after(raise_shared(test, by), body, by),
+        StmtKind::Repeat(body, test) => raise_after(raise_block(body, by), test, by),
+        StmtKind::If(arms, otherwise) => raise_block_after(raise_arms(arms, by), otherwise, by),
         StmtKind::NumericFor {
             slot: _,
             from,
             to,
             step,
             body,
-        } => {
-            raise_shared(from, by)?;
-            raise_shared(to, by)?;
-            raise_step(step, by)?;
-            raise_block(body, by)
-        }
+        } => raise_block_after(raise_range(from, to, step, by), body, by),
         StmtKind::GenericFor {
             slots: _,
             values,
             body,
-        } => {
-            raise_list(values, by)?;
-            raise_block(body, by)
-        }
+        } => raise_block_after(raise_list(values, by), body, by),
         StmtKind::Return(values) => raise_list(values, by),
         StmtKind::Break => Ok(()),
     }
+}
+
+/// The same of the numbers of a loop: the first, the last, and the step if there is one.
+fn raise_range(
+    from: &mut Rc<Expr>,
+    to: &mut Rc<Expr>,
+    step: &mut Option<Rc<Expr>>,
+    by: u32,
+) -> Result<(), AllocError>
+    ensures from { OnOk result (RaisedExpr by from.old.value from.new.value) }
+    ensures to { OnOk result (RaisedExpr by to.old.value to.new.value) }
+    ensures step { OnOk result (RaisedStep by step.old step.new) }
+{
+    raise_shared(from, by)?;
+    raise_shared(to, by)?;
+    raise_step(step, by)
 }
 
 /// The same of the step of a loop, if it has one.
@@ -84,6 +82,22 @@ pub(crate) fn raise_block(block: &mut Rc<Vec<Stmt>>, by: u32) -> Result<(), Allo
     Ok(())
 }
 
+/// The same, where what stands before them is raised.
+#[cycle(raise_block)]
+fn raise_block_after(
+    before: Result<(), AllocError>,
+    block: &mut Rc<Vec<Stmt>>,
+    by: u32,
+) -> Result<(), AllocError>
+    ensures before { OnOk result (IsOk before) }
+    ensures raised { OnOk result (AllZip (RaisedStmt by) block.old.value.items block.new.value.items) }
+{
+    match before {
+        Ok(()) => raise_block(block, by),
+        Err(e) => Err(e),
+    }
+}
+
 /// The same of each arm of an `if`.
 #[cycle(raise_block)]
 fn raise_arms(arms: &mut Rc<Vec<Arm>>, by: u32) -> Result<(), AllocError>
@@ -103,6 +117,5 @@ fn raise_arms(arms: &mut Rc<Vec<Arm>>, by: u32) -> Result<(), AllocError>
 fn raise_arm(arm: &mut Arm, by: u32) -> Result<(), AllocError>
     ensures { OnOk result (RaisedArm by arm.old arm.new) }
 {
-    raise_expr(&mut arm.test, by)?;
-    raise_block(&mut arm.body, by)
+    raise_block_after(raise_expr(&mut arm.test, by), &mut arm.body, by)
 }

@@ -1,4 +1,4 @@
-use Rattle.std.proofs.Common.{◌≡◌, ◌∙◌, length, OnOk, arith, refl, rules, subst, sym}
+use Rattle.std.proofs.Common.{◌≡◌, ◌∙◌, length, IsOk, OnOk, arith, refl, rules, subst, sym}
 use denote.Hole.Carrier.{out}
 use Rattle.std.specs.List.{AllZip}
 use Rattle.std.proofs.lemmas.Result.{on_ok_weaker}
@@ -6,6 +6,7 @@ use Rattle.lua_ast.specs.declared.statements.Arm.{out-Arm, roll-Arm}
 use Rattle.lua_ast.specs.declared.statements.Arm as arm
 use Rattle.lua_ast.specs.declared.statements.StmtKind as stmt
 use Rattle.lua_linking.specs.Raising.{RaisedArm, RaisedExpr, RaisedStep, RaisedStmt}
+use Rattle.lua_linking.proofs.After.{both}
 use Rattle.lua_linking.proofs.Lists.{zipped}
 use Rattle.lua_linking.proofs.Nodes.{arm_raised, assign_raised, call_statement_raised, do_raised, generic_raised, if_raised, local_raised, numeric_raised}
 use Rattle.lua_linking.proofs.Nodes.{repeat_raised, return_raised, while_raised}
@@ -32,17 +33,12 @@ raise_stmt-returns-in-Local t c =
     search (rules, stmt.the_lemmas) in
     on_ok_weaker c.raise_list.result (λ h. (refl, rw c.in-Local.is (local_raised c.args.by c.in-Local.values c.raise_list.new.exprs h c.in-Local.field-0))) z
 
-pub raise_stmt-returns-in_ok-raise_list-in-Assign : goal.raise_stmt-returns-in_ok-raise_list-in-Assign
-raise_stmt-returns-in_ok-raise_list-in-Assign t c =
-    let p : AllZip (RaisedExpr c.args.by) c.in-Assign.targets.value.items c.raise_list-in-Assign.new.exprs.value.items = search (rules, stmt.the_lemmas) in
-    let z : OnOk c.raise_list-in-Assign-2.result (AllZip (RaisedExpr c.args.by) c.in-Assign.values.value.items c.raise_list-in-Assign-2.new.exprs.value.items) =
-    search (rules, stmt.the_lemmas) in
-    on_ok_weaker c.raise_list-in-Assign-2.result
-    (λ h. (
-      refl,
-      rw c.in-Assign.is (assign_raised c.args.by c.in-Assign.targets c.raise_list-in-Assign.new.exprs p c.in-Assign.values
-          c.raise_list-in-Assign-2.new.exprs h),
-    )) z
+pub raise_stmt-returns-in-Assign : goal.raise_stmt-returns-in-Assign
+raise_stmt-returns-in-Assign t c =
+    let p : OnOk c.raise_list-in-Assign.result (AllZip (RaisedExpr c.args.by) c.in-Assign.targets.value.items c.raise_list-in-Assign.new.exprs.value.items) = search (rules, stmt.the_lemmas) in
+    let q : OnOk c.raise_list_after.result (AllZip (RaisedExpr c.args.by) c.in-Assign.values.value.items c.raise_list_after.new.exprs.value.items) = search (rules, stmt.the_lemmas) in
+    on_ok_weaker c.raise_list_after.result (λ h. (refl, rw c.in-Assign.is (assign_raised c.args.by c.in-Assign.targets c.raise_list-in-Assign.new.exprs h.0 c.in-Assign.values c.raise_list_after.new.exprs h.1)))
+    (both _ _ c.raise_list-in-Assign.result c.raise_list_after.result c.raise_list_after.ensures.before p q)
 
 pub raise_stmt-returns-in-Call : goal.raise_stmt-returns-in-Call
 unfolding stmt.out-StmtKind out
@@ -57,62 +53,49 @@ raise_stmt-returns-in-Do t c =
     search (rules, stmt.the_lemmas) in
     on_ok_weaker c.raise_block.result (λ h. (refl, rw c.in-Do.is (do_raised c.args.by c.in-Do.body c.raise_block.new.block h))) z
 
-pub raise_stmt-returns-in_ok-raise_shared-in-While : goal.raise_stmt-returns-in_ok-raise_shared-in-While
-raise_stmt-returns-in_ok-raise_shared-in-While t c =
-    let p : RaisedExpr c.args.by c.in-While.test.value c.raise_shared.new.expr.value = search (rules, stmt.the_lemmas) in
-    let z : OnOk c.raise_block-in-While.result (AllZip (RaisedStmt c.args.by) c.in-While.body.value.items c.raise_block-in-While.new.block.value.items) =
-    search (rules, stmt.the_lemmas) in
-    on_ok_weaker c.raise_block-in-While.result
-    (λ h. (refl, rw c.in-While.is (while_raised c.args.by c.in-While.body c.raise_block-in-While.new.block h c.in-While.test c.raise_shared.new.expr p))) z
+pub raise_stmt-returns-in-While : goal.raise_stmt-returns-in-While
+raise_stmt-returns-in-While t c =
+    let p : OnOk c.raise_shared.result (RaisedExpr c.args.by c.in-While.test.value c.raise_shared.new.expr.value) = search (rules, stmt.the_lemmas) in
+    let q : OnOk c.raise_block_after.result (AllZip (RaisedStmt c.args.by) c.in-While.body.value.items c.raise_block_after.new.block.value.items) = search (rules, stmt.the_lemmas) in
+    on_ok_weaker c.raise_block_after.result (λ h. (refl, rw c.in-While.is (while_raised c.args.by c.in-While.body c.raise_block_after.new.block h.1 c.in-While.test c.raise_shared.new.expr h.0)))
+    (both _ _ c.raise_shared.result c.raise_block_after.result c.raise_block_after.ensures.before p q)
 
-pub raise_stmt-returns-in_ok-raise_block-in-Repeat : goal.raise_stmt-returns-in_ok-raise_block-in-Repeat
-raise_stmt-returns-in_ok-raise_block-in-Repeat t c =
-    let p : AllZip (RaisedStmt c.args.by) c.in-Repeat.body.value.items c.raise_block-in-Repeat.new.block.value.items = search (rules, stmt.the_lemmas) in
-    let z : OnOk c.raise_shared-in-Repeat.result (RaisedExpr c.args.by c.in-Repeat.test.value c.raise_shared-in-Repeat.new.expr.value) =
-    search (rules, stmt.the_lemmas) in
-    on_ok_weaker c.raise_shared-in-Repeat.result
+pub raise_stmt-returns-in-Repeat : goal.raise_stmt-returns-in-Repeat
+raise_stmt-returns-in-Repeat t c =
+    let p : OnOk c.raise_block-in-Repeat.result (AllZip (RaisedStmt c.args.by) c.in-Repeat.body.value.items c.raise_block-in-Repeat.new.block.value.items) = search (rules, stmt.the_lemmas) in
+    let q : OnOk c.raise_after.result (RaisedExpr c.args.by c.in-Repeat.test.value c.raise_after.new.expr.value) = search (rules, stmt.the_lemmas) in
+    on_ok_weaker c.raise_after.result (λ h. (refl, rw c.in-Repeat.is (repeat_raised c.args.by c.in-Repeat.body c.raise_block-in-Repeat.new.block h.0 c.in-Repeat.test c.raise_after.new.expr h.1)))
+    (both _ _ c.raise_block-in-Repeat.result c.raise_after.result c.raise_after.ensures.before p q)
+
+pub raise_stmt-returns-in-If : goal.raise_stmt-returns-in-If
+raise_stmt-returns-in-If t c =
+    let p : OnOk c.raise_arms.result (AllZip (RaisedArm c.args.by) c.in-If.arms.value.items c.raise_arms.new.arms.value.items) = search (rules, stmt.the_lemmas) in
+    let q : OnOk c.raise_block_after-in-If.result (AllZip (RaisedStmt c.args.by) c.in-If.otherwise.value.items c.raise_block_after-in-If.new.block.value.items) = search (rules, stmt.the_lemmas) in
+    on_ok_weaker c.raise_block_after-in-If.result (λ h. (refl, rw c.in-If.is (if_raised c.args.by c.in-If.otherwise c.raise_block_after-in-If.new.block h.1 c.in-If.arms c.raise_arms.new.arms h.0)))
+    (both _ _ c.raise_arms.result c.raise_block_after-in-If.result c.raise_block_after-in-If.ensures.before p q)
+
+pub raise_stmt-returns-in-NumericFor : goal.raise_stmt-returns-in-NumericFor
+unfolding stmt.out-StmtKind out
+raise_stmt-returns-in-NumericFor t c =
+    let from : OnOk c.raise_range.result (RaisedExpr c.args.by c.in-NumericFor.from.value c.raise_range.new.from.value) = search (rules, stmt.the_lemmas) in
+    let to : OnOk c.raise_range.result (RaisedExpr c.args.by c.in-NumericFor.to.value c.raise_range.new.to.value) = search (rules, stmt.the_lemmas) in
+    let step : OnOk c.raise_range.result (RaisedStep c.args.by c.in-NumericFor.step c.raise_range.new.step) = search (rules, stmt.the_lemmas) in
+    let q : OnOk c.raise_block_after-in-NumericFor.result (AllZip (RaisedStmt c.args.by) c.in-NumericFor.body.value.items c.raise_block_after-in-NumericFor.new.block.value.items) = search (rules, stmt.the_lemmas) in
+    let done : OnOk c.raise_block_after-in-NumericFor.result (IsOk c.raise_range.result) = c.raise_block_after-in-NumericFor.ensures.before in
+    on_ok_weaker c.raise_block_after-in-NumericFor.result
     (λ h. (
       refl,
-      rw c.in-Repeat.is (repeat_raised c.args.by c.in-Repeat.body c.raise_block-in-Repeat.new.block p c.in-Repeat.test
-          c.raise_shared-in-Repeat.new.expr h),
-    )) z
+      rw c.in-NumericFor.is (numeric_raised c.args.by c.in-NumericFor.body c.raise_block_after-in-NumericFor.new.block h.1.1.1 c.in-NumericFor.slot c.in-NumericFor.from c.in-NumericFor.to c.raise_range.new.from c.raise_range.new.to c.in-NumericFor.step c.raise_range.new.step h.0 h.1.0 h.1.1.0),
+    ))
+    (both _ _ c.raise_range.result c.raise_block_after-in-NumericFor.result done from (both _ _ c.raise_range.result c.raise_block_after-in-NumericFor.result done to (both _ _ c.raise_range.result c.raise_block_after-in-NumericFor.result done step q)))
 
-pub raise_stmt-returns-in_ok-raise_arms-in-If : goal.raise_stmt-returns-in_ok-raise_arms-in-If
-raise_stmt-returns-in_ok-raise_arms-in-If t c =
-    let p : AllZip (RaisedArm c.args.by) c.in-If.arms.value.items c.raise_arms.new.arms.value.items = search (rules, stmt.the_lemmas) in
-    let z : OnOk c.raise_block-in-If.result (AllZip (RaisedStmt c.args.by) c.in-If.otherwise.value.items c.raise_block-in-If.new.block.value.items) =
-    search (rules, stmt.the_lemmas) in
-    on_ok_weaker c.raise_block-in-If.result (λ h.
-    (refl, rw c.in-If.is (if_raised c.args.by c.in-If.otherwise c.raise_block-in-If.new.block h c.in-If.arms c.raise_arms.new.arms p))) z
-
-pub raise_stmt-returns-in_ok-raise_step-in-NumericFor : goal.raise_stmt-returns-in_ok-raise_step-in-NumericFor
+pub raise_stmt-returns-in-GenericFor : goal.raise_stmt-returns-in-GenericFor
 unfolding stmt.out-StmtKind out
-raise_stmt-returns-in_ok-raise_step-in-NumericFor t c =
-    let p : RaisedExpr c.args.by c.in-NumericFor.from.value c.raise_shared-in-NumericFor.new.expr.value = search (rules, stmt.the_lemmas) in
-    let q : RaisedExpr c.args.by c.in-NumericFor.to.value c.raise_shared-in-NumericFor-2.new.expr.value = search (rules, stmt.the_lemmas) in
-    let r : RaisedStep c.args.by c.in-NumericFor.step c.raise_step.new.step = search (rules, stmt.the_lemmas) in
-    let z : OnOk c.raise_block-in-NumericFor.result
-    (AllZip (RaisedStmt c.args.by) c.in-NumericFor.body.value.items c.raise_block-in-NumericFor.new.block.value.items) = search (rules, stmt.the_lemmas) in
-    on_ok_weaker c.raise_block-in-NumericFor.result (λ h. (
-      refl,
-      rw c.in-NumericFor.is (numeric_raised c.args.by c.in-NumericFor.body c.raise_block-in-NumericFor.new.block h c.in-NumericFor.slot c.in-NumericFor.from
-          c.in-NumericFor.to
-          c.raise_shared-in-NumericFor.new.expr c.raise_shared-in-NumericFor-2.new.expr c.in-NumericFor.step c.raise_step.new.step p q r),
-    )) z
-
-pub raise_stmt-returns-in_ok-raise_list-in-GenericFor : goal.raise_stmt-returns-in_ok-raise_list-in-GenericFor
-unfolding stmt.out-StmtKind out
-raise_stmt-returns-in_ok-raise_list-in-GenericFor t c =
-    let p : AllZip (RaisedExpr c.args.by) c.in-GenericFor.values.value.items c.raise_list-in-GenericFor.new.exprs.value.items =
-    search (rules, stmt.the_lemmas) in
-    let z : OnOk c.raise_block-in-GenericFor.result
-    (AllZip (RaisedStmt c.args.by) c.in-GenericFor.body.value.items c.raise_block-in-GenericFor.new.block.value.items) = search (rules, stmt.the_lemmas) in
-    on_ok_weaker c.raise_block-in-GenericFor.result
-    (λ h. (
-      refl,
-      rw c.in-GenericFor.is (generic_raised c.args.by c.in-GenericFor.body c.raise_block-in-GenericFor.new.block h c.in-GenericFor.slots
-          c.in-GenericFor.values c.raise_list-in-GenericFor.new.exprs p),
-    )) z
+raise_stmt-returns-in-GenericFor t c =
+    let p : OnOk c.raise_list-in-GenericFor.result (AllZip (RaisedExpr c.args.by) c.in-GenericFor.values.value.items c.raise_list-in-GenericFor.new.exprs.value.items) = search (rules, stmt.the_lemmas) in
+    let q : OnOk c.raise_block_after-in-GenericFor.result (AllZip (RaisedStmt c.args.by) c.in-GenericFor.body.value.items c.raise_block_after-in-GenericFor.new.block.value.items) = search (rules, stmt.the_lemmas) in
+    on_ok_weaker c.raise_block_after-in-GenericFor.result (λ h. (refl, rw c.in-GenericFor.is (generic_raised c.args.by c.in-GenericFor.body c.raise_block_after-in-GenericFor.new.block h.1 c.in-GenericFor.slots c.in-GenericFor.values c.raise_list-in-GenericFor.new.exprs h.0)))
+    (both _ _ c.raise_list-in-GenericFor.result c.raise_block_after-in-GenericFor.result c.raise_block_after-in-GenericFor.ensures.before p q)
 
 pub raise_stmt-returns-in-Return : goal.raise_stmt-returns-in-Return
 unfolding stmt.out-StmtKind out
@@ -124,6 +107,9 @@ raise_stmt-returns-in-Return t c =
 
 pub raise_arm-returns : goal.raise_arm-returns
 raise_arm-returns t c =
-    let z : OnOk c.raise_block.result (AllZip (RaisedStmt c.args.by) (out-Arm c.args.arm.now).body.value.items c.raise_block.new.block.value.items) =
+    let p : OnOk c.raise_expr.result (RaisedExpr c.args.by (out-Arm c.args.arm.now).test c.raise_expr.new.expr) = search (rules, arm.the_lemmas) in
+    let q : OnOk c.raise_block_after.result (AllZip (RaisedStmt c.args.by) (out-Arm c.args.arm.now).body.value.items c.raise_block_after.new.block.value.items) =
     search (rules, arm.the_lemmas) in
-    on_ok_weaker c.raise_block.result (λ h. arm_raised c.args.by c.args.arm.now _ (search (rules, arm.the_lemmas)) (search (rules, arm.the_lemmas))) z
+    on_ok_weaker c.raise_block_after.result
+    (λ h. let test = h.0 in let body = h.1 in arm_raised c.args.by c.args.arm.now _ (search (rules, arm.the_lemmas)) (search (rules, arm.the_lemmas)))
+    (both _ _ c.raise_expr.result c.raise_block_after.result c.raise_block_after.ensures.before p q)

@@ -1,0 +1,10 @@
+-- Two calls, of which the second does its work only where the first went well.
+use Rattle.std.proofs.Common.{◌≡◌, Result, IsOk, OnOk, true≢false, sym}
+use Rattle.std.specs.Prelude.{Ok, Err}
+use Rattle.std.proofs.lemmas.Result.{on_ok_weaker}
+
+-- where the second went well, what both promise holds
+pub both : {E : Type 0} (P Q : Type 0) (q r : Result (Unit {0}) E) → OnOk r (IsOk q) → OnOk q P → OnOk r Q → OnOk r (P × Q)
+both P Q (Ok u) r done p s = on_ok_weaker r (λ h. (p, h)) s
+both P Q (Err d) (Ok u) done p s = absurd (true≢false (sym done))
+both P Q (Err d) (Err e) done p s = tt
