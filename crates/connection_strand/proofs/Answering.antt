@@ -43,7 +43,7 @@ use Rattle.connection_strand.specs.Acts.{sockets_with, count_with}
 use Rattle.connection_strand.specs.Costs.{whole, left_of}
 use Rattle.connection_strand.specs.Standing.{IsOn, HasRun, Toward, Came, Went, plain, places, kept_sock, before}
 use Rattle.connection_strand.specs.Following.{Follows, turn_begun}
-use Rattle.connection_strand.specs.Turns.{Answered}
+use Rattle.connection_strand.specs.Turns.{Answered, IsGiven}
 use Rattle.connection_strand.proofs.Bridge.{queued-so, on-left}
 use Rattle.connection_strand.proofs.Sockets.{places-without}
 use Rattle.connection_strand.proofs.Turning.{or-false, or-true, turned, turned-is}
@@ -271,13 +271,11 @@ module _ {R J I : Type 0} (site : Service J I) (holds : Ledger J → I → Type 
 
   -- ---- the turn
 
-  pub may-answer : (now : ℕ) (x : Answer) (a : Action J) (es : List (LocalAction J)) (c d : Connection R) (u : Turn J) → Follows site stands c es → now ≡ moment es
+  pub may-answer : (now : ℕ) (x : Answer) (a : Action J) (es : List (LocalAction J)) (c : Connection R) (u : Turn J) → Follows site stands c es → now ≡ moment es
       → answered (todo (connection_behavior site) es) x ≡ Some a → IsExecution (connection_behavior site) (Did a ∷ es)
-      → d ≡ record c { sockets = d.sockets; count = d.count; keeping = None }
-      → d.sockets.items ≡ sockets_with x c.keeping c.count c.sockets.items → d.count ≡ count_with x c.count
       → u.is_offered ≡ (c.is_taking || wants_offer (kept c.client)) → u.acts.items ≡ []
-      → Answered site holds stands now x (turned site a es) d u (settle site now)
-  may-answer now x a es c d u follows at e f same socks count offered acts =
+      → IsGiven site holds stands now x (turned site a es) c u
+  may-answer now x a es c u follows at e f offered acts d took =
       let st = state_of (connection_plan site) es in
       let b = st.ledger in
       let asks = answered-asks (todo (connection_behavior site) es) x a e in
@@ -301,15 +299,15 @@ module _ {R J I : Type 0} (site : Service J I) (holds : Ledger J → I → Type 
         action = a;
         answers = ap (λ o. answered (asking_if o) x) asked ∙ ap (λ acts. answered acts x) (sym t) ∙ e;
         serves = record {
-          client = ap (λ (k : Connection R). kept k.client) same ∙ y.client ∙ sym (i.client st.inner.client);
-          sockets = i.sockets (is_there b) c.sockets.items y.sockets ∙ sym (ap (λ o. places o d.sockets.items) i.there ∙ ap (places (is_there b)) (socks
+          client = ap (λ (k : Connection R). kept k.client) took.kept ∙ y.client ∙ sym (i.client st.inner.client);
+          sockets = i.sockets (is_there b) c.sockets.items y.sockets ∙ sym (ap (λ o. places o d.sockets.items) i.there ∙ ap (places (is_there b)) (took.sockets
               ∙ ap (λ o. sockets_with x o c.count c.sockets.items) (y.keeping ∙ ap kept_sock asked) ∙ ap (λ n. sockets_with x (kept_sock (Some q)) n c.sockets.items) y.count));
-          count = count ∙ ap (count_with x) y.count ∙ i.count;
-          keeping = ap (λ (k : Connection R). k.keeping) same;
+          count = took.count ∙ ap (count_with x) y.count ∙ i.count;
+          keeping = ap (λ (k : Connection R). k.keeping) took.kept;
           offered = λ there. offered ∙ ap (λ k. c.is_taking || wants_offer k) y.client
               ∙ offers b tidy (g.served place.Client) (sym i.there ∙ there) c.is_taking (taking there)
               ∙ sym (ap (λ ps. has place.Client ps || is_place place.Client c'.begun) i.places_are ∙ ap (λ o. has place.Client b.places || is_place place.Client o) i.begun);
-          taking = λ there. ap (λ (k : Connection R). k.is_taking) same ∙ taking there ∙ sym (ap (is_place place.Client) i.begun);
+          taking = λ there. ap (λ (k : Connection R). k.is_taking) took.kept ∙ taking there ∙ sym (ap (is_place place.Client) i.begun);
           counted = i.counted (tidy.counted place.Client);
           once = subst (λ ds. NumbersOnce (numbers ds)) (sym i.armed) (deadlines (connection_plan site) es);
           none_asked = i.none_asked;
@@ -317,24 +315,14 @@ module _ {R J I : Type 0} (site : Service J I) (holds : Ledger J → I → Type 
         };
         busy = busy;
         run = run.0;
-        is = ap (λ (k : Connection R). k.run) same ∙ run.1;
+        is = ap (λ (k : Connection R). k.run) took.kept ∙ run.1;
         standing = run.2;
-        waits = ap (λ (k : Connection R). waits_of k.waits) same ∙ run.3;
+        waits = ap (λ (k : Connection R). waits_of k.waits) took.kept ∙ run.3;
         known = subst (λ st'. Agrees holds st' b st.inner.run) busy g.inner;
         leads = turned-is site now a es i.turn m ∙ ap (λ m'. perform m' c' st.inner) (i.moves now c' st.inner)
             ∙ ap (λ st'. perform (answers site now st' a c' st.inner) c' st.inner) busy
             ∙ ap (λ acts'. before acts' (perform (run_turn site now (site.runs.answered now a c' st.inner.run) (settle site now)) c' st.inner)) (sym acts);
       }
-
-  -- the run is given it
-  pub may-be-answered : (now : ℕ) (x : Answer) (did : Performed J (Both I)) (d : Connection R) (u : Turn J) (m : Move J (Both I)) → Answered site holds stands now x did d u m
-      → (run : R) → d.run ≡ Some run → runs.MayBeAnswered site.runs holds stands x run
-  may-be-answered now x did d u m h run is =
-      (h.ledger, h.inner.run, h.action, subst (λ run. stands run h.ledger h.inner.run) (some-some h.run run (sym h.is ∙ is)) h.standing, h.known, h.answers)
-
-  -- there is a run
-  pub answered-runs : (now : ℕ) (x : Answer) (did : Performed J (Both I)) (d : Connection R) (u : Turn J) (m : Move J (Both I)) → Answered site holds stands now x did d u m → d.run ≡ None → ⊥
-  answered-runs now x did d u m h none = none-some h.run (sym none ∙ h.is)
 
   -- what is answered is no still action
   pub answer-turn : (x : Answer) (a : Action J) (es : List (LocalAction J)) → answered (todo (connection_behavior site) es) x ≡ Some a → is_still (Did a) ≡ false
@@ -352,8 +340,18 @@ module _ {R J I : Type 0} (site : Service J I) (holds : Ledger J → I → Type 
       let y = follows.stays (going es asks.0 f.0 asks.1) in
       on-left site holds stands lawful left bound c (subst IsOn (sym (ap (λ (k : Kept). k.stage) y.client)) y.on)
 
--- its turn comes to its end where the run's does, or else settles
 module _ {R J I : Type 0} (site : Service J I) (holds : Ledger J → I → Type 0) (stands : R → Ledger J → I → Type 0) where
+  -- the run is given it
+  pub may-be-answered : (now : ℕ) (x : Answer) (did : Performed J (Both I)) (d : Connection R) (u : Turn J) (m : Move J (Both I)) → Answered site holds stands now x did d u m
+      → (run : R) → d.run ≡ Some run → runs.MayBeAnswered site.runs holds stands x run
+  may-be-answered now x did d u m h run is =
+      (h.ledger, h.inner.run, h.action, subst (λ run. stands run h.ledger h.inner.run) (some-some h.run run (sym h.is ∙ is)) h.standing, h.known, h.answers)
+
+  -- there is a run
+  pub answered-runs : (now : ℕ) (x : Answer) (did : Performed J (Both I)) (d : Connection R) (u : Turn J) (m : Move J (Both I)) → Answered site holds stands now x did d u m → d.run ≡ None → ⊥
+  answered-runs now x did d u m h none = none-some h.run (sym none ∙ h.is)
+
+  -- its turn comes to its end where the run's does, or else settles
   pub went-toward : (on : Bool) (did : Performed J (Both I)) (c : Connection R) (u : Turn J) (m : Move J (Both I)) → on ≡ true → Went site.runs holds stands on did c u m
       → (st : Stage) × Toward site.runs holds stands (plain st) did c u m
   went-toward on did c u m e h = subst (λ on. Went site.runs holds stands on did c u m) e h

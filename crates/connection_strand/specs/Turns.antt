@@ -19,12 +19,12 @@ use Rattle.run_contract.specs.Forms.{IsOwn}
 use Rattle.run_contract.specs.Conditions.{entered_as, MayCome, IsLeft}
 use Rattle.connection_plan.specs.Clients as stage
 use Rattle.connection_plan.specs.Services.{Service, Both}
-use Rattle.connection_plan.specs.Turns.{run_turn, tell}
+use Rattle.connection_plan.specs.Turns.{run_turn, tell, settle}
 use Rattle.connection_strand.specs.declared.state.Connection.{Connection}
 use Rattle.connection_strand.specs.declared.state.Turn.{Turn}
-use Rattle.connection_strand.specs.Acts.{kept_socket}
+use Rattle.connection_strand.specs.Acts.{kept_socket, sockets_with, count_with}
 use Rattle.connection_strand.specs.Kept.{waits_of}
-use Rattle.connection_strand.specs.Standing.{Serves, before}
+use Rattle.connection_strand.specs.Standing.{Serves, Came, before}
 
 -- a refusal leads to the end of what is read, or to a fault in a body that is dropped
 abbrev pub IsRefusedAt : At → Type 0
@@ -40,6 +40,12 @@ IsAnswered answer at = Unit {0}
 abbrev pub Asks : {R J : Type 0} → Bool → Option (Act J) → Connection R → Turn J → Connection R → Turn J → Type 0
 Asks true q c u c' u' = (q ≡ None) × (c' ≡ c) × (u' ≡ u)
 Asks {R} {J} false q c u c' u' = (a : Act J) × (q ≡ Some a) × (c' ≡ record c { keeping = kept_socket a }) × (u'.acts.items ≡ u.acts.items ++ a ∷ [])
+
+-- it is as before, but for what the answer does to its sockets
+pub record TookIn {R : Type 0} (given : Answer) (c d : Connection R) : Type 0 where
+  pub sockets : d.sockets.items ≡ sockets_with given c.keeping c.count c.sockets.items
+  pub count : d.count ≡ count_with given c.count
+  pub kept : d ≡ record c { sockets = d.sockets; count = d.count; keeping = None }
 
 module _ {R J I : Type 0} (site : Service J I) (holds : Ledger J → I → Type 0) (stands : R → Ledger J → I → Type 0) (now : ℕ) where
   -- a turn of the connection in which its run is told this; the ledger is that before it was entered
@@ -87,3 +93,13 @@ module _ {R J I : Type 0} (site : Service J I) (holds : Ledger J → I → Type 
     pub left : IsLeft site.runs holds (waits_of c.waits) turn.said (performed turn ledger inner.run)
     pub own : IsOwn turn.moves
     pub leads : did ≡ before u.acts.items (perform (run_turn site now turn m) ledger inner)
+
+  -- its turn begins with this answer, and comes to its end: the run is given it once the sockets are as the answer has them, and what is there is settled
+  abbrev pub IsGiven : Answer → Performed J (Both I) → Connection R → Turn J → Type 0
+  IsGiven given did c u = (d : Connection R) → TookIn given c d → Answered given did d u (settle site now)
+
+  abbrev pub MayTakeAnswer : Answer → Connection R → Turn J → Type 0
+  MayTakeAnswer given c u = (did : Performed J (Both I)) × IsGiven given did c u
+
+  abbrev pub TakesAnswer : Answer → Connection R → Turn J → Connection R → Turn J → Type 0
+  TakesAnswer given c u c' u' = (did : Performed J (Both I)) → IsGiven given did c u → Came site.runs holds stands did c' u'

@@ -53,7 +53,9 @@ impl<R: ServiceContract> Connection<R> {
     ghost use Rattle.connection_strand.specs.Following.{IsNew, Follows, is_client};
     ghost use Rattle.connection_strand.specs.Kept.{kept, fresh, waits_of, wants_offer};
     ghost use Rattle.connection_strand.specs.Acts.{sockets_with, count_with};
+    ghost use Rattle.connection_strand.specs.Costs.{Falls};
     ghost use Rattle.connection_strand.specs.Shown.{HasPieceAt, offered_as};
+    ghost use Rattle.connection_strand.specs.Turns.{MayTakeAnswer, TakesAnswer};
 
     /// A connection that begins, with or without a client; takes no memory.
     fn new(alloc: Global, site: &R::Site, is_open: bool) -> Connection<R>
@@ -168,6 +170,30 @@ impl<R: ServiceContract> Connection<R> {
                 (),
             ),
         }
+    }
+
+    /// Takes the turn that begins with the answer to its question.
+    fn take_answer(
+        &mut self,
+        turn: &mut Turn<R::Job>,
+        alloc: Global,
+        site: &R::Site,
+        now: Ms,
+        answer: Answer,
+    ) -> Result<(), AllocError>
+        requires { MayTakeAnswer (service_of (R.plan site.now) (R.serving site.now)) (R.holds site.now) (R.stands site.now) now.0
+            answer self.old turn.old }
+        ensures moves { IfOk result (λ done. TakesAnswer (service_of (R.plan site.now) (R.serving site.now)) (R.holds site.now) (R.stands site.now) now.0
+            answer self.old turn.old self.new turn.new) }
+        ensures falls { IfOk result (λ done. Falls R.left R.bound self.old turn.old self.new turn.new) }
+    {
+        self.take_in(&answer)?;
+        self.keeping = None;
+        let goes_on = self.answered(turn, alloc, site, now, answer)?;
+        if !goes_on {
+            return Ok(());
+        }
+        self.settle_all(turn, alloc, site, now)
     }
 
     /// Whether an offer of the client is queued or goes on as the turn begins.
@@ -299,18 +325,11 @@ impl<R: ServiceContract> StrandContract for Connection<R> {
         now: Ms,
         answer: Answer,
     ) -> Result<Acts<R::Job>, AllocError> {
-        let is_offered = self.is_still_offered();
-        self.take_in(&answer)?;
-        self.keeping = None;
         let mut turn = Turn {
             acts: VecDeque::new(alloc),
-            is_offered,
+            is_offered: self.is_still_offered(),
         };
-        let goes_on = self.answered(&mut turn, alloc, site, now, answer)?;
-        if !goes_on {
-            return Ok(turn.acts);
-        }
-        self.settle_all(&mut turn, alloc, site, now)?;
+        self.take_answer(&mut turn, alloc, site, now, answer)?;
         Ok(turn.acts)
     }
 
