@@ -47,7 +47,7 @@ use Rattle.lua_parser_base.specs.Next.{IsKind, IsMemory, IsTooDeep, Misses, OnAt
 use Rattle.lua_parser_base.specs.Reads.{ReadsExp, ReadsPrefix}
 use Rattle.lua_parser_base.specs.Refusals.{RefusesFrom, RefusesList, RefusesBody, RefusesPrefix, RefusesExp, RefusesSuffix, RefusesArgs, RefusesField, RefusesTable}
 use Rattle.lua_parser_base.specs.Standing.{FirstFault}
-use Rattle.lua_parser_base.specs.StatementRefusals.{RefusesArm, RefusesBlock, RefusesArms, RefusesLast, RefusesScoped, RefusesStat, RefusesValue, RefusesValues, RefusesNames, RefusesFor, RefusesLoop, RefusesFuncName, RefusesInitial, RefusesTarget, RefusesMethod}
+use Rattle.lua_parser_base.specs.StatementRefusals.{RefusesArm, RefusesBlock, RefusesArms, RefusesScoped, RefusesStat, RefusesValue, RefusesValues, RefusesNames, RefusesFor, RefusesLoop, RefusesFuncName, RefusesInitial, RefusesTarget, RefusesMethod}
 use Rattle.lua_parser_base.specs.States.{state, scope_of, Advances, State}
 use Rattle.lua_parser_base.specs.declared.nodes.Form.TheVariants.{Variable, Call, Paren}
 use Rattle.std.proofs.Common.{◌≡◌, ◌≤◌, refl, sym, subst, rules, arith, [], length, ◌∷◌, IfErr, IfOk, OnOk, ◌∙◌, ◌<◌, ◌+◌, true, false, lit≤, IsTrue, Vec, inl, inr, ap}

@@ -1,4 +1,4 @@
-use Rattle.std.proofs.Common.{◌≡◌, ◌∷◌, [], ◌∙◌, ap, refl, rules}
+use Rattle.std.proofs.Common.{◌≡◌, ◌∷◌, [], ◌∙◌, ap, refl}
 use Rattle.std.proofs.lemmas.Result.{err_from_is_err_and}
 use Rattle.lua_parser.proofs.WholeText.{block_broken, block_refused, block_unfit, token_unfit, too_many_tokens}
 use Rattle.lua_parser_base.proofs.Bodies.{chunk_read}
