@@ -1,5 +1,5 @@
 -- Two calls, of which the second does its work only where the first went well.
-use Rattle.std.proofs.Common.{◌≡◌, Result, IsOk, OnOk, true≢false, sym}
+use Rattle.std.proofs.Common.{Result, IsOk, OnOk, true≢false, sym}
 use Rattle.std.specs.Prelude.{Ok, Err}
 use Rattle.std.proofs.lemmas.Result.{on_ok_weaker}
 
