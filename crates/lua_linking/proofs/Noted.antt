@@ -20,7 +20,7 @@ use Rattle.lua_linking.proofs.Rows.{pair_is, operand_is, list_is, call_is, metho
 -- the mentions that were there, and those after each part; the second part is noted only where the first is
 module _ {E : Type 0} (q r : Result (Unit {0}) E) (a b c : List Mention) (done : OnOk r (IsOk q)) where
   -- two parts
-  two : (xs ys all : List Mention) → all ≡ xs ++ ys → OnOk q (b ≡ a ++ xs) → OnOk r (c ≡ b ++ ys) → OnOk r (c ≡ a ++ all)
+  pub two : (xs ys all : List Mention) → all ≡ xs ++ ys → OnOk q (b ≡ a ++ xs) → OnOk r (c ≡ b ++ ys) → OnOk r (c ≡ a ++ all)
   two xs ys all e p s =
       on_ok_weaker r (λ h. h.1 ∙ (ap (λ l. l ++ ys) h.0 ∙ (append_assoc a xs ys ∙ ap (λ l. a ++ l) (sym e)))) (both _ _ q r done p s)
 
@@ -35,52 +35,54 @@ module _ {E : Type 0} (q r : Result (Unit {0}) E) (a b c : List Mention) (done :
   method_noted k object name values is p s =
       two (mentions_in object.value) (flat_map mentions_in values.value.items) (kind_mentions k) (rw is (method_is object name values)) p s
 
-  pub assign_noted : (k : StmtKind) (targets values : Rc (Vec Expr Global) Global) → k ≡ stmt.Assign targets values
-      → OnOk q (b ≡ a ++ flat_map mentions_in targets.value.items) → OnOk r (c ≡ b ++ flat_map mentions_in values.value.items) → OnOk r (c ≡ a ++ stmt_mentions k)
-  assign_noted k targets values is p s =
-      two (flat_map mentions_in targets.value.items) (flat_map mentions_in values.value.items) (stmt_mentions k) (rw is refl) p s
-
-  pub while_noted : (k : StmtKind) (test : Rc Expr Global) (body : Rc (Vec Stmt Global) Global)
-      → k ≡ stmt.While test body → OnOk q (b ≡ a ++ mentions_in test.value) → OnOk r (c ≡ b ++ flat_map mentions_in_stmt body.value.items)
-      → OnOk r (c ≡ a ++ stmt_mentions k)
-  while_noted k test body is p s = two (mentions_in test.value) (flat_map mentions_in_stmt body.value.items) (stmt_mentions k) (rw is (while_is test body)) p s
-
   pub repeat_noted : (k : StmtKind) (body : Rc (Vec Stmt Global) Global) (test : Rc Expr Global)
       → k ≡ stmt.Repeat body test → OnOk q (b ≡ a ++ flat_map mentions_in_stmt body.value.items) → OnOk r (c ≡ b ++ mentions_in test.value)
       → OnOk r (c ≡ a ++ stmt_mentions k)
   repeat_noted k body test is p s = two (flat_map mentions_in_stmt body.value.items) (mentions_in test.value) (stmt_mentions k) (rw is (repeat_is body test)) p s
 
-  pub if_noted : (k : StmtKind) (arms : Rc (Vec Arm Global) Global) (body : Rc (Vec Stmt Global) Global) (those : List Arm)
-      → k ≡ stmt.If arms body → those ≡ arms.value.items → OnOk q (b ≡ a ++ flat_map mentions_in_arm those) → OnOk r (c ≡ b ++ flat_map mentions_in_stmt body.value.items)
+  pub if_noted : (k : StmtKind) (arms : Rc (Vec Arm Global) Global) (body : Rc (Vec Stmt Global) Global)
+      → k ≡ stmt.If arms body → OnOk q (b ≡ a ++ flat_map mentions_in_arm arms.value.items) → OnOk r (c ≡ b ++ flat_map mentions_in_stmt body.value.items)
       → OnOk r (c ≡ a ++ stmt_mentions k)
-  if_noted k arms body those is d p s =
-      two (flat_map mentions_in_arm those) (flat_map mentions_in_stmt body.value.items) (stmt_mentions k) (rw (is, d) (if_is arms body)) p s
-
-  pub numeric_noted : (k : StmtKind) (slot : ℕ) (from to : Rc Expr Global) (step : Option (Rc Expr Global)) (body : Rc (Vec Stmt Global) Global) (x y : Expr)
-      → k ≡ stmt.NumericFor slot from to step body → x ≡ from.value → y ≡ to.value → OnOk q (b ≡ a ++ mentions_in_range x y step)
-      → OnOk r (c ≡ b ++ flat_map mentions_in_stmt body.value.items) → OnOk r (c ≡ a ++ stmt_mentions k)
-  numeric_noted k slot from to step body x y is d e p s =
-      two (mentions_in_range x y step) (flat_map mentions_in_stmt body.value.items) (stmt_mentions k) (rw (is, d, e) (numeric_is slot from to step body)) p s
-
-  pub generic_noted : (k : StmtKind) (slots : Rc (Vec ℕ Global) Global) (values : Rc (Vec Expr Global) Global) (body : Rc (Vec Stmt Global) Global)
-      → k ≡ stmt.GenericFor slots values body → OnOk q (b ≡ a ++ flat_map mentions_in values.value.items)
-      → OnOk r (c ≡ b ++ flat_map mentions_in_stmt body.value.items) → OnOk r (c ≡ a ++ stmt_mentions k)
-  generic_noted k slots values body is p s =
-      two (flat_map mentions_in values.value.items) (flat_map mentions_in_stmt body.value.items) (stmt_mentions k) (rw is (generic_is slots values body)) p s
+  if_noted k arms body is p s =
+      two (flat_map mentions_in_arm arms.value.items) (flat_map mentions_in_stmt body.value.items) (stmt_mentions k) (rw is (if_is arms body)) p s
 
   pub arm_noted : (arm : Arm) → OnOk q (b ≡ a ++ mentions_in (out-Arm arm).test) → OnOk r (c ≡ b ++ flat_map mentions_in_stmt (out-Arm arm).body.value.items)
       → OnOk r (c ≡ a ++ mentions_in_arm arm)
   arm_noted arm p s = two (mentions_in (out-Arm arm).test) (flat_map mentions_in_stmt (out-Arm arm).body.value.items) (mentions_in_arm arm) (arm_is arm) p s
 
 -- one part
+one : {E : Type 0} (r : Result (Unit {0}) E) (a b xs all : List Mention) → all ≡ xs → OnOk r (b ≡ a ++ xs) → OnOk r (b ≡ a ++ all)
+one r a b xs all e p = on_ok_weaker r (λ h. h ∙ ap (λ l. a ++ l) (sym e)) p
+
+pub assign_noted : {E : Type 0} (r : Result (Unit {0}) E) (a b : List Mention) (k : StmtKind) (targets values : Rc (Vec Expr Global) Global) → k ≡ stmt.Assign targets values
+    → OnOk r (b ≡ a ++ (flat_map mentions_in targets.value.items ++ flat_map mentions_in values.value.items)) → OnOk r (b ≡ a ++ stmt_mentions k)
+assign_noted r a b k targets values is p =
+    one r a b (flat_map mentions_in targets.value.items ++ flat_map mentions_in values.value.items) (stmt_mentions k) (rw is refl) p
+
+pub while_noted : {E : Type 0} (r : Result (Unit {0}) E) (a b : List Mention) (k : StmtKind) (test : Rc Expr Global) (body : Rc (Vec Stmt Global) Global) → k ≡ stmt.While test body
+    → OnOk r (b ≡ a ++ (mentions_in test.value ++ flat_map mentions_in_stmt body.value.items)) → OnOk r (b ≡ a ++ stmt_mentions k)
+while_noted r a b k test body is p = one r a b (mentions_in test.value ++ flat_map mentions_in_stmt body.value.items) (stmt_mentions k) (rw is (while_is test body)) p
+
+pub numeric_noted : {E : Type 0} (r : Result (Unit {0}) E) (a b : List Mention) (k : StmtKind) (slot : ℕ) (from to : Rc Expr Global) (step : Option (Rc Expr Global))
+    (body : Rc (Vec Stmt Global) Global) → k ≡ stmt.NumericFor slot from to step body
+    → OnOk r (b ≡ a ++ (mentions_in_range from.value to.value step ++ flat_map mentions_in_stmt body.value.items)) → OnOk r (b ≡ a ++ stmt_mentions k)
+numeric_noted r a b k slot from to step body is p =
+    one r a b (mentions_in_range from.value to.value step ++ flat_map mentions_in_stmt body.value.items) (stmt_mentions k) (rw is (numeric_is slot from to step body)) p
+
+pub generic_noted : {E : Type 0} (r : Result (Unit {0}) E) (a b : List Mention) (k : StmtKind) (slots : Rc (Vec ℕ Global) Global) (values : Rc (Vec Expr Global) Global)
+    (body : Rc (Vec Stmt Global) Global) → k ≡ stmt.GenericFor slots values body
+    → OnOk r (b ≡ a ++ (flat_map mentions_in values.value.items ++ flat_map mentions_in_stmt body.value.items)) → OnOk r (b ≡ a ++ stmt_mentions k)
+generic_noted r a b k slots values body is p =
+    one r a b (flat_map mentions_in values.value.items ++ flat_map mentions_in_stmt body.value.items) (stmt_mentions k) (rw is (generic_is slots values body)) p
+
 pub operand_noted : {E : Type 0} (r : Result (Unit {0}) E) (a b : List Mention) (k : ExprKind) (v : Rc Expr Global) → ((op : UnOp) × (k ≡ kind.Unary op v)) ⊎ (k ≡ kind.Paren v)
     → OnOk r (b ≡ a ++ mentions_in v.value) → OnOk r (b ≡ a ++ kind_mentions k)
-operand_noted r a b k v is p = on_ok_weaker r (λ h. h ∙ ap (λ l. a ++ l) (sym (operand_is k v is))) p
+operand_noted r a b k v is p = one r a b (mentions_in v.value) (kind_mentions k) (operand_is k v is) p
 
 pub list_noted : {E : Type 0} (r : Result (Unit {0}) E) (a b : List Mention) (k : StmtKind) (values : Rc (Vec Expr Global) Global)
     → ((slots : Rc (Vec ℕ Global) Global) × (k ≡ stmt.Local slots values)) ⊎ (k ≡ stmt.Return values)
     → OnOk r (b ≡ a ++ flat_map mentions_in values.value.items) → OnOk r (b ≡ a ++ stmt_mentions k)
-list_noted r a b k values is p = on_ok_weaker r (λ h. h ∙ ap (λ l. a ++ l) (sym (list_is k values is))) p
+list_noted r a b k values is p = one r a b (flat_map mentions_in values.value.items) (stmt_mentions k) (list_is k values is) p
 
 -- three parts of a call
 pub call_noted : {E : Type 0} (o q r : Result (Unit {0}) E) (a b c d : List Mention) (k : ExprKind) (callee : Rc Expr Global) (values : Rc (Vec Expr Global) Global)

@@ -2,7 +2,7 @@
 
 ghost use Rattle.std.specs.Prelude.{◌≡◌, ◌+◌, IsOk, OnOk};
 ghost use Rattle.std.specs.List.{AllZip};
-ghost use Rattle.lua_linking.specs.Raising.{RaisedExpr, RaisedItem};
+ghost use Rattle.lua_linking.specs.Raising.{RaisedExpr, RaisedItem, RaisedKind};
 
 use lua_ast::{Expr, ExprKind, TableItem};
 use std::alloc::AllocError;
@@ -26,7 +26,15 @@ pub(crate) fn raise_number(number: &mut u32, by: u32) -> Result<(), AllocError>
 pub(crate) fn raise_expr(expr: &mut Expr, by: u32) -> Result<(), AllocError>
     ensures { OnOk result (RaisedExpr by expr.old expr.new) }
 {
-    match &mut expr.kind {
+    raise_kind(&mut expr.kind, by)
+}
+
+/// The same of what an expression is.
+#[cycle(raise)]
+fn raise_kind(kind: &mut ExprKind, by: u32) -> Result<(), AllocError>
+    ensures { OnOk result (RaisedKind by kind.old kind.new) }
+{
+    match kind {
         ExprKind::Function(number) => raise_number(number, by),
         ExprKind::Index(a, b) => raise_after(raise_shared(a, by), b, by),
         ExprKind::Binary(_, a, b) => raise_after(raise_shared(a, by), b, by),

@@ -20,19 +20,15 @@ fn mentions_in_stmt(stmt: &Stmt, mentions: &mut Vec<Mention>) -> Result<(), Allo
     match &stmt.kind {
         StmtKind::Local(_, values) | StmtKind::Return(values) => mentions_in_list(values, mentions),
         StmtKind::LocalFunction(_, number) => mention_function(*number, mentions),
-        StmtKind::Assign(targets, values) => {
-            each_after(mentions_in_list(targets, mentions), values, mentions)
-        }
+        StmtKind::Assign(targets, values) => mentions_in_lists(targets, values, mentions),
         StmtKind::Call(call) => mentions_in(call, mentions),
         StmtKind::Do(body) => mentions_in_body(body, mentions),
-        StmtKind::While(test, body) => {
-            block_after(mentions_in_shared(test, mentions), body, mentions)
-        }
+        StmtKind::While(test, body) => mentions_in_while(body, test, mentions),
         StmtKind::Repeat(body, test) => {
             mentions_after(mentions_in_body(body, mentions), test, mentions)
         }
         StmtKind::If(arms, otherwise) => {
-            block_after(mentions_in_arms(arms, mentions), otherwise, mentions)
+            block_after(mentions_in_choices(arms, mentions), otherwise, mentions)
         }
         StmtKind::NumericFor {
             slot: _,
@@ -40,12 +36,12 @@ fn mentions_in_stmt(stmt: &Stmt, mentions: &mut Vec<Mention>) -> Result<(), Allo
             to,
             step,
             body,
-        } => block_after(mentions_in_range(from, to, step, mentions), body, mentions),
+        } => mentions_in_numeric(body, from, to, step, mentions),
         StmtKind::GenericFor {
             slots: _,
             values,
             body,
-        } => block_after(mentions_in_list(values, mentions), body, mentions),
+        } => mentions_in_generic(body, values, mentions),
         StmtKind::Break => Ok(()),
     }
 }
@@ -72,6 +68,59 @@ fn block_after(
         Ok(()) => mentions_in_block(block, mentions),
         Err(e) => Err(e),
     }
+}
+
+/// Notes what two lists of expressions mention.
+fn mentions_in_lists(
+    targets: &Rc<Vec<Expr>>,
+    values: &Rc<Vec<Expr>>,
+    mentions: &mut Vec<Mention>,
+) -> Result<(), AllocError>
+    ensures { OnOk result (mentions.new.items ≡ mentions.old.items
+        ++ (flat_map spec.mentions_in targets.now.value.items ++ flat_map spec.mentions_in values.now.value.items)) }
+{
+    each_after(mentions_in_list(targets, mentions), values, mentions)
+}
+
+/// Notes what the test and the body of a loop mention.
+#[cycle(statement)]
+fn mentions_in_while(
+    body: &Rc<Vec<Stmt>>,
+    test: &Rc<Expr>,
+    mentions: &mut Vec<Mention>,
+) -> Result<(), AllocError>
+    ensures { OnOk result (mentions.new.items ≡ mentions.old.items
+        ++ (spec.mentions_in test.now.value ++ flat_map spec.mentions_in_stmt body.now.value.items)) }
+{
+    block_after(mentions_in_shared(test, mentions), body, mentions)
+}
+
+/// Notes what the numbers and the body of a loop mention.
+#[cycle(statement)]
+fn mentions_in_numeric(
+    body: &Rc<Vec<Stmt>>,
+    from: &Rc<Expr>,
+    to: &Rc<Expr>,
+    step: &Option<Rc<Expr>>,
+    mentions: &mut Vec<Mention>,
+) -> Result<(), AllocError>
+    ensures { OnOk result (mentions.new.items ≡ mentions.old.items
+        ++ (spec.mentions_in_range from.now.value to.now.value step.now ++ flat_map spec.mentions_in_stmt body.now.value.items)) }
+{
+    block_after(mentions_in_range(from, to, step, mentions), body, mentions)
+}
+
+/// Notes what the values and the body of a loop mention.
+#[cycle(statement)]
+fn mentions_in_generic(
+    body: &Rc<Vec<Stmt>>,
+    values: &Rc<Vec<Expr>>,
+    mentions: &mut Vec<Mention>,
+) -> Result<(), AllocError>
+    ensures { OnOk result (mentions.new.items ≡ mentions.old.items
+        ++ (flat_map spec.mentions_in values.now.value.items ++ flat_map spec.mentions_in_stmt body.now.value.items)) }
+{
+    block_after(mentions_in_list(values, mentions), body, mentions)
 }
 
 /// Notes what the numbers of a loop mention: the first, the last, and the step if there is one.
@@ -103,6 +152,14 @@ pub(crate) fn mentions_in_block(
         mentions_in_stmt(stmt, mentions)?;
     }
     Ok(())
+}
+
+/// Notes what the arms of an `if` mention.
+#[cycle(statement)]
+fn mentions_in_choices(arms: &Rc<Vec<Arm>>, mentions: &mut Vec<Mention>) -> Result<(), AllocError>
+    ensures { OnOk result (mentions.new.items ≡ mentions.old.items ++ flat_map spec.mentions_in_arm arms.now.value.items) }
+{
+    mentions_in_arms(arms, mentions)
 }
 
 /// Notes what each arm of an `if` mentions.
