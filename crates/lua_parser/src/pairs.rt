@@ -25,7 +25,8 @@ pub(crate) fn push_read<T: Drop>(
     list: &mut Vec<T>,
     read: Result<T, ParseFault>,
 ) -> Result<(), ParseFault>
-    ensures { MatchResult result (λ _. (last : T) × (read ≡ Ok last) × (list.new.items ≡ list.old.items ++ last ∷ [])) (λ fault. (read ≡ Err fault) ⊎ IsMemory fault) }
+    ensures { MatchResult result (λ _. (last : T) × (read ≡ Ok last) × (list.new.items ≡ list.old.items ++ last ∷ []))
+        (λ fault. (read ≡ Err fault) ⊎ IsMemory fault) }
 {
     list.push(read?)?;
     Ok(())
