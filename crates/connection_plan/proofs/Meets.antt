@@ -46,7 +46,7 @@ use Rattle.connection_plan.specs.Conditions.{Agrees, Knows, MayAsk}
 use Rattle.connection_plan.proofs.Alike.{still-alike, AtClient, client-alike, due-alike}
 use Rattle.connection_plan.proofs.Lifted.{SameRun, lifted-wakes}
 use Rattle.connection_plan.proofs.Steps.{Follows, begins-leads, ends-leads, sends-leads, awaits-leads, turn-leads}
-use Rattle.connection_plan.proofs.Stays.{Mid, Known, Answered, IsAfter, settled-so, mid-of, answered-of, mid-alike, mid-follows, finishes, turn-keeps, told-keeps, done-keeps, lose-keeps, heard-keeps, settle-keeps}
+use Rattle.connection_plan.proofs.Stays.{Known, Answered, IsAfter, settled-so, within-of, answered-of, within-alike, within-follows, finishes, turn-keeps, told-keeps, done-keeps, lose-keeps, heard-keeps, settle-keeps}
 
 none-some : {A C : Type 0} (x : A) → None ≡ Some x → C
 none-some x e = absurd (let g : None ≡ Some x = e in cc)
@@ -88,7 +88,7 @@ module _ {J R : Type 0} (site : Service J R) (now : ℕ) (holds : Ledger J → R
   On m b s = Knows site.runs holds (perform m b s).state
 
   agrees-alike : (st : Stage) (b c : Ledger J) (r : R) → AreAlike b c → Agrees site.runs holds st b r → Agrees site.runs holds st c r
-  agrees-alike st b c r same h = settled-so site.runs holds st c r (mid-alike site now holds run st b c r same (mid-of site.runs holds st b r h)) (answered-of site.runs holds st b r h)
+  agrees-alike st b c r same h = settled-so site.runs holds st c r (within-alike site now holds run st b c r same (within-of site.runs holds st b r h)) (answered-of site.runs holds st b r h)
 
   agrees-follows : (b c : Ledger J) (s t : Both R) (st : Stage) → Follows b s st c t → Agrees site.runs holds st b s.run → Agrees site.runs holds t.client.stage c t.run
   agrees-follows b c s t st x h =
@@ -193,7 +193,7 @@ module _ {J R : Type 0} (site : Service J R) (now : ℕ) (holds : Ledger J → R
       (agrees-alike st.inner.client.stage st.ledger (entered (Did x) st.ledger) st.inner.run same h, sym same.asked ∙ none)
 
   known-of : (b : Ledger J) (s : Both R) → Agrees site.runs holds s.client.stage b s.run → b.asked ≡ None → Known site.runs holds b s
-  known-of b s h none = (mid-of site.runs holds s.client.stage b s.run h, none)
+  known-of b s h none = (within-of site.runs holds s.client.stage b s.run h, none)
 
   loses : (b : Ledger J) (s : Both R) → Agrees site.runs holds s.client.stage b s.run → b.asked ≡ None → On (lose site now) b s
   loses b s h none = lose-keeps site now holds run b s (known-of b s h none) (answered-of site.runs holds s.client.stage b s.run h)
@@ -207,7 +207,7 @@ module _ {J R : Type 0} (site : Service J R) (now : ℕ) (holds : Ledger J → R
       by : (st : Stage) → s.client.stage ≡ st → Knows site.runs holds (perform (came_at site now st f s) b s).state
       by stage.Busy e = let t = record s { client = record s.client { came = f.after } } in
           awaits-leads site now (Knows site.runs holds) (settle site now) b t
-          (λ c u x. settle-keeps site now holds run c u (mid-follows site now holds run b c t u s.client.stage x (mid-of site.runs holds s.client.stage b s.run h), sym x.same.alike.asked ∙ none))
+          (λ c u x. settle-keeps site now holds run c u (within-follows site now holds run b c t u s.client.stage x (within-of site.runs holds s.client.stage b s.run h), sym x.same.alike.asked ∙ none))
       by stage.Head e = heard-keeps site now holds run false (settle site now) s.client.ended f b s h (here stage.Head e) (λ head target a c u k came. settle-keeps site now holds run c u k)
       by stage.Idle e = heard-keeps site now holds run true (settle site now) s.client.ended f b s h (here stage.Idle e) (λ head target a c u k came. settle-keeps site now holds run c u k)
       by stage.Drop e = heard-keeps site now holds run true (settle site now) s.client.ended f b s h (here stage.Drop e) (λ head target a c u k came. settle-keeps site now holds run c u k)

@@ -34,7 +34,7 @@ use Rattle.connection_plan.proofs.Alike.{alike-refl, blank-alike, cancelled-alik
 use Rattle.connection_plan.specs.Lifts.{lifted}
 use Rattle.connection_plan.proofs.Lifted.{same-run-refl}
 use Rattle.connection_plan.proofs.Steps.{Follows, own-number, deeds-lead, waits-leads}
-use Rattle.connection_plan.proofs.Stays.{Mid, Known, IsAfter, IsDone, goes-on, body-answers, body-waits, taken-answers, taken-waits, asks-some}
+use Rattle.connection_plan.proofs.Stays.{Known, IsAfter, IsDone, goes-on, body-answers, body-waits, taken-answers, taken-waits, asks-some}
 use Rattle.connection_plan.proofs.Fewer.{next-fewer}
 use Rattle.connection_plan.proofs.Prefixes.{before, went, wait_more-precedes, deeds-precede}
 
@@ -205,7 +205,7 @@ module _ {J R : Type 0} (site : Service J R) (now : ℕ) (holds : Ledger J → R
   waiting-agrees m n b s at h answered same = first (is_all_taken b && (site.runs.waits s.run).taken) refl
     where
       k : holds b s.run
-      k = subst (λ (st : Stage). Mid site.runs holds st b s.run) at h.0
+      k = subst (λ (st : Stage). AgreesWithin holds st b s.run) at h.0
 
       third : (c : Bool) → (site.runs.waits s.run).body ≡ c → perform (if c then ask_body site now m b s.client else Done) b s ≡ perform (if c then ask_body site now n b s.client else Done) b s
       third true e =
@@ -230,7 +230,7 @@ module _ {J R : Type 0} (site : Service J R) (now : ℕ) (holds : Ledger J → R
   busy-agrees m n b s at h same = by (site.runs.waits s.run).asks refl
     where
       k : holds b s.run
-      k = subst (λ (st : Stage). Mid site.runs holds st b s.run) at h.0
+      k = subst (λ (st : Stage). AgreesWithin holds st b s.run) at h.0
 
       all : (site.runs.waits s.run).asks ≡ Some asking.AllTaken → (c : Bool)
           → perform (tell site now (if c then seen.AllTaken else seen.NotYet) m) b s ≡ perform (tell site now (if c then seen.AllTaken else seen.NotYet) n) b s
@@ -283,7 +283,7 @@ module _ {J R : Type 0} (site : Service J R) (now : ℕ) (holds : Ledger J → R
     where
       by : (st : Stage) → s.client.stage ≡ st → perform (settled_at site now st again rest b s) b s ≡ perform (settled_at site now st more others b s) b s
       by stage.Busy e = busy-agrees again more b s e h tells-same
-      by stage.Flush e = flush-agrees rest others b s (subst (λ (st : Stage). Mid site.runs holds st b s.run) e h.0) same
+      by stage.Flush e = flush-agrees rest others b s (subst (λ (st : Stage). AgreesWithin holds st b s.run) e h.0) same
       by stage.Idle e = refl
       by stage.Head e = refl
       by stage.Drop e = refl

@@ -91,21 +91,15 @@ deeds-ask-nothing (Log line ∷ ds) b = deeds-ask-nothing ds b
 deeds-ask-nothing (Say w ∷ ds) b = deeds-ask-nothing ds b
 
 module _ {J R : Type 0} (runs : RunPlan J R) (holds : Ledger J → R → Type 0) where
-  -- what is known while a turn is taken, in which the run may have asked its connection something
-  abbrev pub Mid : Stage → Ledger J → R → Type 0
-  Mid stage.Busy b r = holds b r
-  Mid stage.Over b r = (b.asked ≡ None) × ((k : ℕ) → has (place.Sock k) b.opened ≡ false)
-  Mid st b r = IsBlank b
-
   abbrev pub Known : Ledger J → Both R → Type 0
-  Known b s = Mid s.client.stage b s.run × (b.asked ≡ None)
+  Known b s = AgreesWithin holds s.client.stage b s.run × (b.asked ≡ None)
 
   -- where the run goes on, it has its answer
   abbrev pub Answered : Stage → R → Type 0
   Answered stage.Busy r = (runs.waits r).asks ≡ None
   Answered st r = Unit {0}
 
-  pub settled-so : (st : Stage) (b : Ledger J) (r : R) → Mid st b r → Answered st r → Agrees runs holds st b r
+  pub settled-so : (st : Stage) (b : Ledger J) (r : R) → AgreesWithin holds st b r → Answered st r → Agrees runs holds st b r
   settled-so stage.Busy b r h e = (h, e)
   settled-so stage.Over b r h e = h
   settled-so stage.Idle b r h e = h
@@ -113,13 +107,13 @@ module _ {J R : Type 0} (runs : RunPlan J R) (holds : Ledger J → R → Type 0)
   settled-so stage.Flush b r h e = h
   settled-so stage.Drop b r h e = h
 
-  pub mid-of : (st : Stage) (b : Ledger J) (r : R) → Agrees runs holds st b r → Mid st b r
-  mid-of stage.Busy b r h = h.0
-  mid-of stage.Over b r h = h
-  mid-of stage.Idle b r h = h
-  mid-of stage.Head b r h = h
-  mid-of stage.Flush b r h = h
-  mid-of stage.Drop b r h = h
+  pub within-of : (st : Stage) (b : Ledger J) (r : R) → Agrees runs holds st b r → AgreesWithin holds st b r
+  within-of stage.Busy b r h = h.0
+  within-of stage.Over b r h = h
+  within-of stage.Idle b r h = h
+  within-of stage.Head b r h = h
+  within-of stage.Flush b r h = h
+  within-of stage.Drop b r h = h
 
   pub answered-of : (st : Stage) (b : Ledger J) (r : R) → Agrees runs holds st b r → Answered st r
   answered-of stage.Busy b r h = h.1
@@ -145,26 +139,26 @@ module _ {J R : Type 0} (site : Service J R) (now : ℕ) (holds : Ledger J → R
   abbrev pub LeadsOn : Move J (Both R) → Ledger J → Both R → Type 0
   LeadsOn m b s = Knowing (perform m b s).state
 
-  pub mid-alike : (st : Stage) (b c : Ledger J) (r : R) → AreAlike b c → Mid site.runs holds st b r → Mid site.runs holds st c r
-  mid-alike stage.Busy b c r same h = run.apart b c r same h
-  mid-alike stage.Over b c r same h = (sym same.asked ∙ h.0, λ k. sym (same.opened k) ∙ h.1 k)
-  mid-alike stage.Idle b c r same h = blank-alike b c same h
-  mid-alike stage.Head b c r same h = blank-alike b c same h
-  mid-alike stage.Flush b c r same h = blank-alike b c same h
-  mid-alike stage.Drop b c r same h = blank-alike b c same h
+  pub within-alike : (st : Stage) (b c : Ledger J) (r : R) → AreAlike b c → AgreesWithin holds st b r → AgreesWithin holds st c r
+  within-alike stage.Busy b c r same h = run.apart b c r same h
+  within-alike stage.Over b c r same h = (sym same.asked ∙ h.0, λ k. sym (same.opened k) ∙ h.1 k)
+  within-alike stage.Idle b c r same h = blank-alike b c same h
+  within-alike stage.Head b c r same h = blank-alike b c same h
+  within-alike stage.Flush b c r same h = blank-alike b c same h
+  within-alike stage.Drop b c r same h = blank-alike b c same h
 
-  pub mid-follows : (b c : Ledger J) (s t : Both R) (st : Stage) → Follows b s st c t → Mid site.runs holds st b s.run → Mid site.runs holds t.client.stage c t.run
-  mid-follows b c s t st x h =
-      subst (λ (st : Stage). Mid site.runs holds st c t.run) (sym x.stage)
-      (mid-alike st b c t.run x.same.alike (subst (λ (r : R). Mid site.runs holds st b r) (sym x.run) h))
+  pub within-follows : (b c : Ledger J) (s t : Both R) (st : Stage) → Follows b s st c t → AgreesWithin holds st b s.run → AgreesWithin holds t.client.stage c t.run
+  within-follows b c s t st x h =
+      subst (λ (st : Stage). AgreesWithin holds st c t.run) (sym x.stage)
+      (within-alike st b c t.run x.same.alike (subst (λ (r : R). AgreesWithin holds st b r) (sym x.run) h))
 
   -- ---- a turn of the run
 
   -- what it leaves at the stage to which its words lead
-  mid-over : (ds : List Deed) (b : Ledger J) (r : R) → holds b r → (says_over ds ≡ true → IsBlank b) → Mid site.runs holds (stage_did ds stage.Busy) b r
-  mid-over ds b r h over = subst (λ (st : Stage). Mid site.runs holds st b r) (sym (stage-over ds stage.Busy)) (by (says_over ds) over)
+  within-over : (ds : List Deed) (b : Ledger J) (r : R) → holds b r → (says_over ds ≡ true → IsBlank b) → AgreesWithin holds (stage_did ds stage.Busy) b r
+  within-over ds b r h over = subst (λ (st : Stage). AgreesWithin holds st b r) (sym (stage-over ds stage.Busy)) (by (says_over ds) over)
     where
-      by : (c : Bool) → (c ≡ true → IsBlank b) → Mid site.runs holds (if c then stage.Flush else stage.Busy) b r
+      by : (c : Bool) → (c ≡ true → IsBlank b) → AgreesWithin holds (if c then stage.Flush else stage.Busy) b r
       by true f = f refl
       by false f = h
 
@@ -190,12 +184,12 @@ module _ {J R : Type 0} (site : Service J R) (now : ℕ) (holds : Ledger J → R
     asked u r = ap (λ (r : R). (site.runs.waits r).asks) r ∙ ap (λ (w : Waits). w.asks) left.waits
 
     mid : (d : Ledger J) (u : Both R) (a : Asks J) → t.asks ≡ a → AreAlike (ledger_asking a (ledger_after t.does b)) d → u.run ≡ t.run → u.client.stage ≡ stage_did t.does stage.Busy
-        → Mid site.runs holds u.client.stage d u.run
+        → AgreesWithin holds u.client.stage d u.run
     mid d u a e x r st =
         let b2 = (taken t b).ledger in
-        let h = mid-over t.does b2 t.run left.known (λ o. (left.over o).0) in
-        let g = mid-alike (stage_did t.does stage.Busy) b2 d t.run (subst (λ (a : Asks J). AreAlike (ledger_asking a (ledger_after t.does b)) d) (sym e) x) h in
-        subst (λ (st : Stage). Mid site.runs holds st d u.run) (sym st) (subst (λ (r : R). Mid site.runs holds (stage_did t.does stage.Busy) d r) (sym r) g)
+        let h = within-over t.does b2 t.run left.known (λ o. (left.over o).0) in
+        let g = within-alike (stage_did t.does stage.Busy) b2 d t.run (subst (λ (a : Asks J). AreAlike (ledger_asking a (ledger_after t.does b)) d) (sym e) x) h in
+        subst (λ (st : Stage). AgreesWithin holds st d u.run) (sym st) (subst (λ (r : R). AgreesWithin holds (stage_did t.does stage.Busy) d r) (sym r) g)
 
     -- where nothing is asked of the outside it goes on from what is known
     pub goes-on : (d : Ledger J) (u : Both R) → IsDone t b s d u → (a : Asks J) → t.asks ≡ a → ((x : Question J) → a ≡ Outside x → asked_of x d ≡ None) → IsAfter t s d u
@@ -269,15 +263,15 @@ module _ {J R : Type 0} (site : Service J R) (now : ℕ) (holds : Ledger J → R
       at : (st : Stage) → s.client.stage ≡ st → LeadsOn (lose_at site now st s) b s
       at stage.Busy e =
           let c0 = hung_up place.Client b in
-          let h0 : Mid site.runs holds s.client.stage c0 s.run = mid-alike s.client.stage b c0 s.run (hung-up-alike b) h.0 in
+          let h0 : AgreesWithin holds s.client.stage c0 s.run = within-alike s.client.stage b c0 s.run (hung-up-alike b) h.0 in
           let a : (site.runs.waits s.run).asks ≡ None = subst (λ (st : Stage). Answered site.runs holds st s.run) e answered in
           let told = if (site.runs.waits s.run).client then tell site now seen.ClientGone Done else Done in
           ends-leads site now Knowing timer.Body (end_timer site now timer.Send told) c0 s
           (λ c t x. ends-leads site now Knowing timer.Send told c t
-          (λ d u y. let k = mid-follows c d t u t.client.stage y (mid-follows c0 c s t s.client.stage x h0) in
+          (λ d u y. let k = within-follows c d t u t.client.stage y (within-follows c0 c s t s.client.stage x h0) in
           let f = y.stage ∙ x.stage ∙ e in
           let same = y.run ∙ x.run in
-          gone d u f (subst (λ (st : Stage). Mid site.runs holds st d u.run) f k) (sym y.same.alike.asked ∙ sym x.same.alike.asked ∙ h.1)
+          gone d u f (subst (λ (st : Stage). AgreesWithin holds st d u.run) f k) (sym y.same.alike.asked ∙ sym x.same.alike.asked ∙ h.1)
           (ap (λ (r : R). (site.runs.waits r).asks) same ∙ a) (site.runs.waits s.run).client refl same))
       at stage.Idle e = finishes b s h.1
       at stage.Head e = finishes b s h.1
@@ -451,7 +445,7 @@ module _ {J R : Type 0} (site : Service J R) (now : ℕ) (holds : Ledger J → R
   waiting-keeps again b s at h answered keeps = first (is_all_taken b && (site.runs.waits s.run).taken) refl
     where
       k : holds b s.run
-      k = subst (λ (st : Stage). Mid site.runs holds st b s.run) at h.0
+      k = subst (λ (st : Stage). AgreesWithin holds st b s.run) at h.0
 
       third : (c : Bool) → (site.runs.waits s.run).body ≡ c → LeadsOn (if c then ask_body site now again b s.client else Done) b s
       third true e = body-keeps (is_there b && not s.client.ended) s.client (body_answer s.client.came s.client.limit) again b s
@@ -473,7 +467,7 @@ module _ {J R : Type 0} (site : Service J R) (now : ℕ) (holds : Ledger J → R
   busy-keeps again b s at h keeps = by (site.runs.waits s.run).asks refl
     where
       k : holds b s.run
-      k = subst (λ (st : Stage). Mid site.runs holds st b s.run) at h.0
+      k = subst (λ (st : Stage). AgreesWithin holds st b s.run) at h.0
 
       all : (site.runs.waits s.run).asks ≡ Some asking.AllTaken → (c : Bool) → LeadsOn (tell site now (if c then seen.AllTaken else seen.NotYet) again) b s
       all e true = tell-less seen.AllTaken again b s s at k refl (omega arith) (h.1, taken-answers (site.runs.waits s.run).asks (site.runs.waits s.run).taken e) refl h.1 refl keeps
@@ -512,7 +506,7 @@ module _ {J R : Type 0} (site : Service J R) (now : ℕ) (holds : Ledger J → R
 
       by : (st : Stage) → s.client.stage ≡ st → LeadsOn (settled_at site now st again rest b s) b s
       by stage.Busy e = busy-keeps again b s e h keeps
-      by stage.Flush e = flush-keeps rest b s e (subst (λ (st : Stage). Mid site.runs holds st b s.run) e h.0) rests
+      by stage.Flush e = flush-keeps rest b s e (subst (λ (st : Stage). AgreesWithin holds st b s.run) e h.0) rests
       by stage.Idle e = at stage.Idle e tt
       by stage.Head e = at stage.Head e tt
       by stage.Drop e = at stage.Drop e tt

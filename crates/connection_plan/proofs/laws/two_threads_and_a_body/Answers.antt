@@ -1,4 +1,4 @@
-use Rattle.connection_plan.proofs.Pairs as row
+use Rattle.connection_plan.proofs.Scripted as row
 use Rattle.connection_plan.proofs.laws.two_threads_and_a_body.Goals as goal
 
 pub returns-clause-at_once : goal.returns-clause-at_once
