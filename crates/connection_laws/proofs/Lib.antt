@@ -1,4 +1,5 @@
 pub mod Owns
+pub mod Leaving
 pub mod Saying
 pub mod Places
 pub mod Going

@@ -7,7 +7,8 @@ ghost use Rattle.uri_args.specs.declared.targets.Target.{Target};
 ghost use Rattle.http_in.specs.declared.heads.Head.{Head};
 ghost use Rattle.strand_contract.specs.declared.turns.Answer.TheVariants as answer;
 ghost use Rattle.strand_contract.specs.Alone.{IsExecution};
-ghost use Rattle.strand_contract.specs.Actions.{LocalAction, Dict};
+ghost use Rattle.strand_contract.specs.declared.turns.Start.TheVariants as start;
+ghost use Rattle.strand_contract.specs.Actions.{LocalAction, Did, Began, Dict};
 ghost use Rattle.strand_plans.specs.Ledgers.{Ledger};
 ghost use Rattle.strand_plans.specs.Plans.{state_of};
 ghost use Rattle.run_contract.specs.declared.turns.RunSeen.TheVariants as seen;
@@ -15,6 +16,7 @@ ghost use Rattle.run_contract.specs.Runs.{RunPlan};
 ghost use Rattle.run_contract.specs.Conditions.{IsRun};
 ghost use Rattle.run_contract.specs.Stored.{stored_plan, given_text};
 ghost use Rattle.connection_plan.specs.Clients.{Exchange};
+ghost use Rattle.connection_plan.specs.Clients as stage;
 ghost use Rattle.connection_plan.specs.Services.{Service};
 ghost use Rattle.connection_plan.specs.Connections.{connection_plan, connection_behavior};
 ghost use Rattle.connection_plan.specs.Examples.{echo_plan, echo_site};
@@ -22,7 +24,7 @@ ghost use Rattle.connection_plan.specs.Recalls.{recalls_plan};
 ghost use Rattle.connection_laws.specs.Own.{MindsItsOwn};
 ghost use Rattle.connection_laws.specs.Alone.{Beginning, Seen, Given, let_first, reply_alone};
 ghost use Rattle.connection_laws.specs.Examples.{NeverLooks};
-ghost use Rattle.connection_laws.specs.Replies.{IsSaidAlone, HaveOwnReplies, LearnTheSame};
+ghost use Rattle.connection_laws.specs.Replies.{lines_by, IsSaidAlone, HaveOwnReplies, HaveOwnLines, IsJobAlone, LearnTheSame};
 
 /// A site whose runs are lawful and mind their own.
 pub trait Minding {
@@ -54,6 +56,21 @@ pub fn replies_of_the_rows_are_said_alone<J>()
         → HaveOwnReplies es (echo_site reads) (state_of (connection_plan {J = J} (echo_site reads)) es).inner.client.exchanges }
 {}
 
+/// In each execution that begins with a client the lines that are logged are those of its runs, in order, each run's as it logs them alone: no run logs
+/// what another's request, its bytes or its reply would tell.
+pub fn lines_are_logged_alone<S: Minding>()
+    ensures { (es : List (LocalAction S.Job)) (now client : ℕ) → let all = es ++ Did (Began now (start.Client client)) ∷ [] in
+        IsExecution (connection_behavior S.service) all
+        → HaveOwnLines all S.service (state_of (connection_plan S.service) all).inner.client.exchanges (lines_by (connection_behavior S.service) all) }
+{}
+
+/// A timer job logs what it logs alone, and while it goes on its threads, deadlines and sockets are those of the job alone.
+pub fn job_alone<S: Minding>()
+    ensures { (es : List (LocalAction S.Job)) (now n : ℕ) (premature : Bool) (job : S.Job) → let all = es ++ Did (Began now (start.Job n premature job)) ∷ [] in
+        let st = state_of (connection_plan S.service) all in IsExecution (connection_behavior S.service) all
+        → IsJobAlone all S.service now premature job (st.inner.client.stage ≡ stage.Busy) st.ledger (lines_by (connection_behavior S.service) all) }
+{}
+
 /// Two requests that ask the same, and whose runs learn the same, get the same reply, on whatever connections and after whatever else.
 pub fn who_asks_and_learns_the_same_gets_the_same<S: Minding>()
     ensures { (es fs : List (LocalAction S.Job)) (older others : List Exchange) (head : Head) (target : Target) (reply other : List ℕ)
@@ -61,7 +78,7 @@ pub fn who_asks_and_learns_the_same_gets_the_same<S: Minding>()
         → LearnTheSame {site = S.service} x y → reply ≡ other }
 {}
 
-/// A run that looks at no ledger minds its own; and so do the runs of the examples, but for the one that tells what was sent before.
+/// A run whose turns are the same for all ledgers minds its own; and so do the runs of the examples, but for the one that tells what was sent before.
 pub fn runs_that_never_look_mind_their_own<J, R>()
     ensures minds { (p : RunPlan J R) → NeverLooks p → MindsItsOwn p }
     ensures stored { (name key otherwise : List ℕ) → MindsItsOwn {J = J} (stored_plan name key otherwise) }
