@@ -8,3 +8,4 @@ pub mod Coming
 pub mod Executing
 pub mod Said
 pub mod Blind
+pub mod Hanging

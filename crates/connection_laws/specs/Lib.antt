@@ -2,4 +2,5 @@ pub mod Own
 pub mod Alone
 pub mod Bodies
 pub mod Replies
+pub mod Taken
 pub mod Examples

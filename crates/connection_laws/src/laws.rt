@@ -24,6 +24,7 @@ ghost use Rattle.connection_plan.specs.Recalls.{recalls_plan};
 ghost use Rattle.connection_laws.specs.Own.{MindsItsOwn};
 ghost use Rattle.connection_laws.specs.Alone.{Beginning, Seen, Given, let_first, reply_alone};
 ghost use Rattle.connection_laws.specs.Examples.{NeverLooks};
+ghost use Rattle.connection_laws.specs.Taken.{TookAllBefore};
 ghost use Rattle.connection_laws.specs.Replies.{lines_by, IsSaidAlone, HaveOwnReplies, HaveOwnLines, IsJobAlone, LearnTheSame};
 
 /// A site whose runs are lawful and mind their own.
@@ -69,6 +70,12 @@ pub fn job_alone<S: Minding>()
     ensures { (es : List (LocalAction S.Job)) (now n : ℕ) (premature : Bool) (job : S.Job) → let all = es ++ Did (Began now (start.Job n premature job)) ∷ [] in
         let st = state_of (connection_plan S.service) all in IsExecution (connection_behavior S.service) all
         → IsJobAlone all S.service now premature job (st.inner.client.stage ≡ stage.Busy) st.ledger (lines_by (connection_behavior S.service) all) }
+{}
+
+/// A client is hung up only once it took all that was sent to it, unless a timer of its connection runs out, it breaks, a write to it breaks, or Stop comes.
+/// So it is of every site.
+pub fn who_is_hung_up_took_all<J, R>()
+    ensures { (site : Service J R) (es : List (LocalAction J)) → IsExecution (connection_behavior site) es → TookAllBefore (connection_behavior site) es }
 {}
 
 /// Two requests that ask the same, and whose runs learn the same, get the same reply, on whatever connections and after whatever else.
