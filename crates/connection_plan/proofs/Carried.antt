@@ -1,10 +1,10 @@
 -- The deeds of a run within its connection are what its code makes of them, one after the other: each act as it is, each word as it is heard.
-use Rattle.std.proofs.Common.{◌≡◌, ℕ, suc, not, Bool, true, false, List, [], ◌∷◌, ◌++◌, if◌then◌else◌, refl, sym, ap, ◌∙◌}
+use Rattle.std.proofs.Common.{◌≡◌, ℕ, not, Bool, true, false, List, [], ◌∷◌, ◌++◌, refl}
 use Rattle.strand_contract.specs.declared.turns.Act.{Act}
 use Rattle.strand_contract.specs.declared.turns.Act.TheVariants as act
 use Rattle.strand_contract.specs.declared.turns.Place.TheVariants as place
 use Rattle.strand_plans.specs.Ledgers.{Ledger, has, has_number, wants_offer}
-use Rattle.strand_plans.specs.Moves.{Move, Done, State, Performed, with_sent, with_offer, with_thread, without_thread, with_deadline, without_deadline, hung_up, after_act, after_act_if, perform}
+use Rattle.strand_plans.specs.Moves.{Move, Performed, with_sent, with_offer, with_thread, hung_up, after_act_if, perform}
 use Rattle.run_contract.specs.declared.turns.RunAct.{RunAct}
 use Rattle.run_contract.specs.declared.turns.RunAct.TheVariants as made
 use Rattle.run_contract.specs.Deeds as deed

@@ -1,14 +1,13 @@
 -- What the deeds of a run come to within its connection: the words between them change nothing that a run's acts depend on.
 use Rattle.std.proofs.Common.{◌≡◌, ℕ, suc, ◌==◌, ◌||◌, ◌&&◌, not, Bool, true, false, List, [], ◌∷◌, ◌++◌, drop, if◌then◌else◌, refl, sym, ap, ◌∙◌, subst, eqb-true, append-nil, arith}
 use Rattle.std.specs.Prelude.{nat_lt}
-use Rattle.resty_base.specs.declared.names.Ms.{Ms}
 use Rattle.strand_contract.specs.declared.turns.Place.{Place}
 use Rattle.strand_contract.specs.declared.turns.Place.TheVariants as place
 use Rattle.strand_contract.specs.Actions.{same_place}
 use Rattle.strand_contract.specs.declared.turns.Act.TheVariants as act
 use Rattle.strand_contract.specs.Alone.{is_some_left, without, without_place, disarmed}
-use Rattle.strand_plans.specs.Ledgers.{Ledger, has, has_number, is_place, left_at, wants_offer}
-use Rattle.strand_plans.specs.Moves.{Move, added_if, with_sent, with_offer, with_thread, without_thread, with_deadline, without_deadline, hung_up}
+use Rattle.strand_plans.specs.Ledgers.{Ledger, has, has_number, is_place, wants_offer}
+use Rattle.strand_plans.specs.Moves.{Move, added_if, with_sent, with_offer}
 use Rattle.strand_plans.specs.Conditions.{OnlyWakes}
 use Rattle.strand_plans.proofs.Places.{has-without, has-append}
 use Rattle.run_contract.specs.Alike.{AreAlike, own_deadlines}
@@ -126,7 +125,13 @@ pub deed-same : {J : Type 0} (d : Deed) (b c : Ledger J) → SameRun b c → Sam
 deed-same (Ready k) b c x = record {
   alike = record {
     threads = ap (λ (ts : List ℕ). added_if (not (has_number k ts)) k ts) x.alike.threads;
-    armed = x.alike.armed; put_off = x.alike.put_off; taken = x.alike.taken; sent = x.alike.sent; opened = x.alike.opened; count = x.alike.count; asked = x.alike.asked;
+    armed = x.alike.armed;
+    put_off = x.alike.put_off;
+    taken = x.alike.taken;
+    sent = x.alike.sent;
+    opened = x.alike.opened;
+    count = x.alike.count;
+    asked = x.alike.asked;
   };
   places = x.places;
   begun = x.begun;
@@ -134,7 +139,13 @@ deed-same (Ready k) b c x = record {
 deed-same (Unready k) b c x = record {
   alike = record {
     threads = ap (without k) x.alike.threads;
-    armed = x.alike.armed; put_off = x.alike.put_off; taken = x.alike.taken; sent = x.alike.sent; opened = x.alike.opened; count = x.alike.count; asked = x.alike.asked;
+    armed = x.alike.armed;
+    put_off = x.alike.put_off;
+    taken = x.alike.taken;
+    sent = x.alike.sent;
+    opened = x.alike.opened;
+    count = x.alike.count;
+    asked = x.alike.asked;
   };
   places = x.places;
   begun = x.begun;
@@ -142,7 +153,13 @@ deed-same (Unready k) b c x = record {
 deed-same (Arm k at) b c x = record {
   alike = record {
     armed = own-arms k at.0 b.armed c.armed x.alike.armed;
-    threads = x.alike.threads; put_off = x.alike.put_off; taken = x.alike.taken; sent = x.alike.sent; opened = x.alike.opened; count = x.alike.count; asked = x.alike.asked;
+    threads = x.alike.threads;
+    put_off = x.alike.put_off;
+    taken = x.alike.taken;
+    sent = x.alike.sent;
+    opened = x.alike.opened;
+    count = x.alike.count;
+    asked = x.alike.asked;
   };
   places = x.places;
   begun = x.begun;
@@ -150,7 +167,13 @@ deed-same (Arm k at) b c x = record {
 deed-same (Cancel k) b c x = record {
   alike = record {
     armed = own-cancels k b.armed c.armed x.alike.armed;
-    threads = x.alike.threads; put_off = x.alike.put_off; taken = x.alike.taken; sent = x.alike.sent; opened = x.alike.opened; count = x.alike.count; asked = x.alike.asked;
+    threads = x.alike.threads;
+    put_off = x.alike.put_off;
+    taken = x.alike.taken;
+    sent = x.alike.sent;
+    opened = x.alike.opened;
+    count = x.alike.count;
+    asked = x.alike.asked;
   };
   places = x.places;
   begun = x.begun;
@@ -158,7 +181,13 @@ deed-same (Cancel k) b c x = record {
 deed-same (HangUp k) b c x = record {
   alike = record {
     opened = λ j. shut-same k j b.opened c.opened (x.alike.opened j);
-    armed = x.alike.armed; threads = x.alike.threads; put_off = x.alike.put_off; taken = x.alike.taken; sent = x.alike.sent; count = x.alike.count; asked = x.alike.asked;
+    armed = x.alike.armed;
+    threads = x.alike.threads;
+    put_off = x.alike.put_off;
+    taken = x.alike.taken;
+    sent = x.alike.sent;
+    count = x.alike.count;
+    asked = x.alike.asked;
   };
   places = x.places;
   begun = x.begun;

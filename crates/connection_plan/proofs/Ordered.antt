@@ -20,7 +20,6 @@ use Rattle.strand_contract.specs.declared.turns.Start.TheVariants as start
 use Rattle.strand_contract.specs.Actions.{LocalAction, Told, Did, Began, Bytes, Ended, Broken, Ready, Dialled, Refused, same_place}
 use Rattle.strand_contract.specs.Actions.{Action, Put, Later, Lost, Close, Log, Dict, Take, Dial, Keep, Timer, Dropped, Run, Offer, Due, Halted, Gone}
 use Rattle.strand_contract.specs.Alone.{moment, is_open, Enabled, IsExecution}
-use Rattle.strand_plans.specs.Questions.{Question}
 use Rattle.strand_plans.specs.Ledgers.{Ledger, has, has_number, numbers, entered}
 use Rattle.strand_plans.specs.Moves.{Move, Done, Unready, Send, Arm, Cancel, HangUp, Set, Look, Ask, End, with_sent, with_offer, with_thread, without_thread}
 use Rattle.strand_plans.specs.Moves.{with_deadline, without_deadline, hung_up, asked_of, ended, perform}
@@ -35,14 +34,14 @@ use Rattle.run_contract.specs.Deeds as deed
 use Rattle.run_contract.specs.Deeds.{Deed, Say, Asks, Turn}
 use Rattle.run_contract.specs.declared.turns.Asking.TheVariants as asking
 use Rattle.run_contract.specs.declared.turns.Asking as questions
-use Rattle.connection_plan.specs.Clients.{Stage, Reply, Client, Exchange, Unsent, Begun, Whole, Times, new_client, exchange, with_more, closes_after}
+use Rattle.connection_plan.specs.Clients.{Stage, Reply, Client, Exchange, Unsent, Begun, Whole, with_more, closes_after}
 use Rattle.connection_plan.specs.Clients as stage
 use Rattle.connection_plan.specs.Services.{Service, Both}
 use Rattle.connection_plan.specs.Timers as timer
 use Rattle.connection_plan.specs.Turns.{continue_reply, is_there, is_all_taken, is_to_close, may_come, wait_more, waits_of, asks_then, answer_body, taken_answer, waiting, busy_at, change, finish, send, begin_timer, end_timer}
 use Rattle.connection_plan.specs.Turns.{let_send, await_body, says, run_turn, tell, lose_at, lose, begin, close_if_taken, refuse, wait_for, heard_by, heard}
 use Rattle.connection_plan.specs.Turns.{tell_body, ask_body, busy, flush, settled_at, tells, settle_for, settle}
-use Rattle.connection_plan.specs.Connections.{starts, came_at, ends_at, to_run, is_due, connection_plan, connection_behavior}
+use Rattle.connection_plan.specs.Connections.{came_at, ends_at, to_run, is_due, connection_plan, connection_behavior}
 use Rattle.connection_plan.specs.Connections as turns
 use Rattle.connection_plan.specs.Asked.{bytes_of, asked_so_far, AsksInOrder}
 use Rattle.connection_plan.specs.InStep.{IsInStep}

@@ -22,14 +22,14 @@ use Rattle.run_contract.specs.declared.turns.Asking.TheVariants as asking
 use Rattle.run_contract.specs.Deeds.{Turn, Asks, Nothing, Outside, Within}
 use Rattle.run_contract.specs.Runs.{Waits, waits_at_first, waits_told, is_of_client}
 use Rattle.run_contract.specs.Alike.{AreAlike}
-use Rattle.run_contract.specs.Conditions.{IsBlank, IsRun, MayCome, MayHear, Leaves, asks_body, asks_taken, entered_as}
-use Rattle.connection_plan.specs.Clients.{Stage, Reply, Client, Unsent, Begun, Whole, with_request, with_more, begun, closes_after}
+use Rattle.run_contract.specs.Conditions.{IsBlank, IsRun, MayCome, MayHear, Leaves, asks_body, entered_as}
+use Rattle.connection_plan.specs.Clients.{Stage, Client, with_request, closes_after}
 use Rattle.connection_plan.specs.Clients as stage
 use Rattle.connection_plan.specs.Services.{Service, Both}
 use Rattle.connection_plan.specs.Timers.{Timer, number_of}
 use Rattle.connection_plan.specs.Timers as timer
-use Rattle.connection_plan.specs.Turns.{is_there, is_all_taken, asks_then, says, wait_more, answer_body, answer_asked, waiting, busy_at, let_send, begin_timer, end_timer, finish, run_turn, tell, lose, begin, heard_by, next, body_told, tell_body, ask_body, is_to_close, busy, flush, settled_at, tells, settle_for, settle}
-use Rattle.connection_plan.specs.Conditions.{Agrees}
+use Rattle.connection_plan.specs.Turns.{is_there, is_all_taken, asks_then, says, wait_more, answer_body, waiting, busy_at, end_timer, finish, run_turn, tell, lose, begin, heard_by, next, body_told, tell_body, ask_body, is_to_close, busy, flush, settled_at, tells, settle_for, settle}
+use Rattle.connection_plan.specs.Conditions.{AgreesWithin}
 use Rattle.connection_plan.proofs.Alike.{alike-refl, blank-alike, cancelled-alike}
 use Rattle.connection_plan.specs.Lifts.{lifted}
 use Rattle.connection_plan.proofs.Lifted.{same-run-refl}

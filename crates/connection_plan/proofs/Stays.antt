@@ -15,30 +15,28 @@ use Rattle.client_line.specs.Lines.{came_at, body_so_far, taken_count, after_ask
 use Rattle.client_line.specs.Feeding.{Fed, fed}
 use Rattle.strand_contract.specs.declared.turns.Place.TheVariants as place
 use Rattle.strand_plans.specs.Questions.{Question}
-use Rattle.strand_plans.specs.Ledgers.{Ledger, has}
+use Rattle.strand_plans.specs.Ledgers.{Ledger}
 use Rattle.strand_plans.specs.Moves.{Move, Done, Ask, State, asked_of, hung_up, perform}
 use Rattle.run_contract.specs.declared.turns.RunSeen.{RunSeen}
 use Rattle.run_contract.specs.declared.turns.RunSeen.TheVariants as seen
-use Rattle.run_contract.specs.declared.turns.Said.{Said}
 use Rattle.run_contract.specs.declared.turns.Said.TheVariants as said
 use Rattle.run_contract.specs.declared.turns.Asking.{Asking}
 use Rattle.run_contract.specs.declared.turns.Asking.TheVariants as asking
 use Rattle.run_contract.specs.Deeds.{Deed, Ready, Unready, Arm, Cancel, HangUp, Send, Log, Say, Asks, Nothing, Outside, Within, Turn, ledger_by, ledger_after, ledger_asking, within, taken, says_over}
-use Rattle.run_contract.specs.Runs.{RunPlan, Waits, waits_at_first, waits_told, waits_after, is_of_client}
+use Rattle.run_contract.specs.Runs.{RunPlan, Waits, waits_at_first, waits_told, is_of_client}
 use Rattle.run_contract.specs.Alike.{AreAlike}
 use Rattle.run_contract.specs.Conditions.{IsBlank, IsRun, MayCome, MayHear, Leaves, asks_body, asks_taken, entered_as}
 use Rattle.connection_plan.specs.Clients.{Stage, Client, with_request, with_refusal, closes_after}
 use Rattle.connection_plan.specs.Clients as stage
 use Rattle.connection_plan.specs.Services.{Service, Both}
 use Rattle.connection_plan.specs.Timers as timer
-use Rattle.connection_plan.specs.Turns.{is_there, is_all_taken, wait_more, end_timer, finish, ask, asks_then, run_turn, tell, lose_at, lose, begin, close_if_taken, refuse, wait_for, heard_by, heard, next, body_told, tell_body, ask_body, answer_body, taken_answer, answer_asked, waiting, busy_at, is_to_close, busy, flush, settled_at, tells, settle_for, settle}
-use Rattle.connection_plan.specs.Conditions.{Agrees, Knows}
+use Rattle.connection_plan.specs.Turns.{is_there, is_all_taken, wait_more, end_timer, finish, asks_then, run_turn, tell, lose_at, lose, begin, close_if_taken, refuse, wait_for, heard_by, heard, next, body_told, tell_body, ask_body, answer_body, waiting, busy_at, is_to_close, busy, flush, settled_at, tells, settle_for, settle}
+use Rattle.connection_plan.specs.Conditions.{AgreesWithin, Agrees, Knows}
 use Rattle.connection_plan.proofs.Alike as alike
 use Rattle.connection_plan.proofs.Alike.{alike-trans, blank-alike, hung-up-alike, asking-alike, unasked-alike}
 use Rattle.connection_plan.proofs.Fewer.{next-fewer}
 use Rattle.connection_plan.proofs.Lifted.{SameRun}
-use Rattle.connection_plan.proofs.Steps.{stage_word, stage_did, Follows, begins-leads, ends-leads, speaks-leads, waits-leads, turn-leads}
-
+use Rattle.connection_plan.proofs.Steps.{stage_did, Follows, begins-leads, ends-leads, speaks-leads, waits-leads, turn-leads}
 
 asked-fewer : (at : At) (bytes : List ℕ) (max : ℕ) → length (after_asked (came_at at bytes) max).held ≤ length bytes
 asked-fewer line.Head bytes max = omega arith

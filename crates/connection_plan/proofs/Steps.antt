@@ -5,7 +5,7 @@ use Rattle.strand_contract.specs.declared.turns.Place.{Place}
 use Rattle.strand_plans.proofs.Places.{has-append}
 use Rattle.strand_contract.specs.declared.turns.Place.TheVariants as place
 use Rattle.strand_plans.specs.Ledgers.{Ledger, has, has_number, numbers, wants_offer}
-use Rattle.strand_plans.specs.Moves.{Move, Done, Cancel, State, added_if, with_sent, with_offer, with_deadline, without_deadline, perform}
+use Rattle.strand_plans.specs.Moves.{Move, Cancel, State, added_if, with_sent, with_offer, with_deadline, without_deadline, perform}
 use Rattle.strand_plans.specs.Moves as move
 use Rattle.client_line.specs.Records.{Came}
 use Rattle.run_contract.specs.declared.turns.Said.{Said}

@@ -23,10 +23,9 @@ use Rattle.run_contract.specs.declared.turns.RunSeen.{RunSeen}
 use Rattle.run_contract.specs.declared.turns.RunSeen.TheVariants as seen
 use Rattle.run_contract.specs.declared.turns.Said.{Said}
 use Rattle.run_contract.specs.declared.turns.Said.TheVariants as said
-use Rattle.run_contract.specs.declared.turns.LocationTimes.{LocationTimes}
 use Rattle.run_contract.specs.declared.turns.Asking.{Asking}
 use Rattle.run_contract.specs.declared.turns.Asking.TheVariants as asking
-use Rattle.run_contract.specs.Deeds.{Turn, Asks, Nothing, Outside, Within}
+use Rattle.run_contract.specs.Deeds.{Turn, Asks, Outside}
 use Rattle.run_contract.specs.Runs.{Waits}
 use Rattle.connection_plan.specs.Clients.{Stage, Reply, Client, Unsent, Whole, with_more, with_request, with_refusal, with_times, begun, closes_after, is_last}
 use Rattle.connection_plan.specs.Clients as stage

@@ -6,7 +6,6 @@ use Rattle.strand_contract.specs.Actions.{Action}
 use Rattle.strand_plans.specs.Ledgers.{Ledger}
 use Rattle.run_contract.specs.declared.turns.RunSeen.{RunSeen}
 use Rattle.run_contract.specs.declared.turns.RunSeen.TheVariants as seen
-use Rattle.run_contract.specs.declared.turns.Said.{Said}
 use Rattle.run_contract.specs.declared.turns.Said.TheVariants as said
 use Rattle.run_contract.specs.declared.turns.Asking.{Asking}
 use Rattle.run_contract.specs.declared.turns.Asking.TheVariants as asking
