@@ -9,7 +9,14 @@ use Rattle.client_line.specs.declared.line.Held.{Held}
 use Rattle.client_line.specs.declared.line.Held.TheVariants as held
 use Rattle.client_line.specs.Records.{At as LineAt, Came}
 use Rattle.client_line.specs.Records as line
-use Rattle.client_line.specs.Lines.{after_asked, body_answer, done, held_in}
+use Rattle.client_line.specs.Lines.{nothing, came_at as came_so, after_body, settled, answer_dropping, LeadsAt, IsFed, after_asked, body_answer, done, held_in}
+use Rattle.client_line.specs.Messages.{AreRequests}
+use Rattle.client_line.specs.Readings.{ReadsOn}
+use Rattle.client_line.proofs.FeedAnswers.{is-fed}
+use Rattle.http_in.specs.declared.heads.HeadRead.TheVariants as read
+use Rattle.http_bodies.specs.declared.states.BodyState.{BodyState}
+use Rattle.http_bodies.specs.declared.states.BodyState.TheVariants as state
+use Rattle.http_bodies.specs.Skips.{skipped, skip_count}
 use Rattle.client_line.specs.Feeding.{Fed, fed}
 use Rattle.strand_contract.specs.declared.turns.Place.{Place}
 use Rattle.strand_contract.specs.declared.turns.Place.TheVariants as place
@@ -45,6 +52,10 @@ use Rattle.connection_plan.specs.Turns.{is_there, is_all_taken, is_to_close, cha
 use Rattle.connection_plan.specs.Connections.{came_at, ends_at, to_run, is_due, connection_plan, connection_behavior}
 use Rattle.connection_plan.specs.Connections as turns
 use Rattle.connection_plan.proofs.OwnMoves.{deed-leaves-client}
+use Rattle.connection_plan.specs.Asked.{bytes_of, asked_so_far, asked_in}
+use Rattle.connection_plan.proofs.Readings.{fed-has-room, asks-all}
+use Rattle.connection_plan.proofs.Ordered.{AwaitsBytes, reads-next}
+use Rattle.connection_laws.specs.Between.{is_between, IsBetweenRequests}
 use Rattle.connection_laws.specs.Taken.{cuts_off, hangs_up_client, TookAllBefore}
 
 -- nothing of what was sent to the client is left
@@ -162,6 +173,22 @@ is_serving stage.Busy = true
 is_serving stage.Flush = true
 is_serving st = false
 
+awaits : (st : Stage) → is_between st ≡ true → AwaitsBytes st
+awaits stage.Idle h = tt
+awaits stage.Head h = tt
+awaits stage.Drop h = tt
+awaits stage.Busy h = absurd (let e : false ≡ true = h in cc)
+awaits stage.Flush h = absurd (let e : false ≡ true = h in cc)
+awaits stage.Over h = absurd (let e : false ≡ true = h in cc)
+
+not-serving : (st : Stage) → is_between st ≡ true → is_serving st ≡ false
+not-serving stage.Idle h = refl
+not-serving stage.Head h = refl
+not-serving stage.Drop h = refl
+not-serving stage.Busy h = absurd (let e : false ≡ true = h in cc)
+not-serving stage.Flush h = absurd (let e : false ≡ true = h in cc)
+not-serving stage.Over h = refl
+
 -- all that was sent is taken, where the client is there and nothing is left
 all-taken : (x y : Bool) → x ≡ true → not (x && y) ≡ true → y ≡ false
 all-taken true true e h = absurd (let f : false ≡ true = h in cc)
@@ -172,13 +199,73 @@ and-left : (x y : Bool) → (x && y) ≡ true → x ≡ true
 and-left true y h = refl
 and-left false y h = h
 
+-- the bytes that are held ask nothing more
+abbrev IsRead : Came → Type 0
+IsRead came = ReadsOn came [] [] out.Waiting
+
+-- of a client that isn't served: nothing is left for it, and where its next bytes are waited for those that are held ask nothing
+pub record IsRested {J R : Type 0} (b : Ledger J) (s : Both R) : Type 0 where
+  pub taken : IsTaken b
+  pub read : is_there b ≡ true → is_between s.client.stage ≡ true → IsRead s.client.came
+
+nothing-asks : IsRead nothing
+nothing-asks = AreRequests.waits (read.More, refl, refl)
+
+-- a body that is dropped has had all bytes
+dropping-holds-none : (at : LineAt) (bytes : List ℕ) (far : BodyState) → (settled at bytes).at ≡ line.Dropping far → (settled at bytes).held ≡ []
+dropping-holds-none line.Head bytes far e = absurd (cc)
+dropping-holds-none (line.Present body kind skips) bytes far e = absurd (cc)
+dropping-holds-none (line.Over code) bytes far e = refl
+dropping-holds-none (line.Dropping was) bytes far e = by (skipped was bytes) (drop (skip_count was bytes) bytes) e
+  where
+    by : (y : BodyState) (rest : List ℕ) → (after_body y rest).at ≡ line.Dropping far → (after_body y rest).held ≡ []
+    by state.Whole rest e = absurd (cc)
+    by (state.Refused code) rest e = refl
+    by (state.Data more of) rest e = refl
+    by (state.Digits size n) rest e = refl
+    by (state.Blanks size n) rest e = refl
+    by (state.Extension size n) rest e = refl
+    by (state.Return size n) rest e = refl
+    by state.DataEnd rest e = refl
+    by state.DataReturn rest e = refl
+    by (state.Trailers n) rest e = refl
+    by (state.TrailersReturn n) rest e = refl
+    by (state.TrailersLine n) rest e = refl
+
+still-dropped : (far : BodyState) → out.Waiting ≡ answer_dropping far → IsRead (came_so (line.Dropping far) [])
+still-dropped state.Whole h = nothing-asks
+still-dropped (state.Refused code) h = absurd (let e : out.Waiting ≡ out.Refused 400 = h in cc)
+still-dropped (state.Data more of) h = (refl, refl)
+still-dropped (state.Digits size n) h = (refl, refl)
+still-dropped (state.Blanks size n) h = (refl, refl)
+still-dropped (state.Extension size n) h = (refl, refl)
+still-dropped (state.Return size n) h = (refl, refl)
+still-dropped state.DataEnd h = (refl, refl)
+still-dropped state.DataReturn h = (refl, refl)
+still-dropped (state.Trailers n) h = (refl, refl)
+still-dropped (state.TrailersReturn n) h = (refl, refl)
+still-dropped (state.TrailersLine n) h = (refl, refl)
+
+-- so it is where they are answered by waiting
+waiting-asks : (came after : Came) (piece : List ℕ) → IsFed came piece out.Waiting after → IsRead after
+waiting-asks came after piece is = by (settled came.at (came.held ++ piece)).at (settled came.at (came.held ++ piece)).held is (dropping-holds-none came.at (came.held ++ piece))
+  where
+    by : (at : LineAt) (bytes : List ℕ) → LeadsAt at bytes out.Waiting after → ((far : BodyState) → at ≡ line.Dropping far → bytes ≡ []) → IsRead after
+    by line.Head bytes h none = subst IsRead (sym h.1) (subst (λ (bs : List ℕ). AreRequests bs [] out.Waiting) (sym (append-nil bytes)) (AreRequests.waits h.0))
+    by (line.Present body kind skips) bytes h none = subst IsRead (sym h.1) (refl, refl)
+    by (line.Dropping far) bytes h none = subst IsRead (sym (h.1 ∙ ap (came_so (line.Dropping far)) (none far refl))) (still-dropped far h.0)
+    by (line.Over code) bytes h none = absurd (let e : out.Waiting ≡ out.Refused code = h.0 in cc)
+
+never : {A : Type 0} (x : Bool) → x ≡ false → x ≡ true → A
+never x h k = absurd (let e : false ≡ true = sym h ∙ k in cc)
+
 module _ {J R : Type 0} (site : Service J R) (now : ℕ) where
   abbrev IsServing : Ledger J → Both R → Type 0
   IsServing b s = (is_there b ≡ true) × (is_serving s.client.stage ≡ true)
 
   -- a client that is there is served, or nothing is left for it
   abbrev IsTidy : State J (Both R) → Type 0
-  IsTidy st = IsServing st.ledger st.inner ⊎ IsTaken st.ledger
+  IsTidy st = IsServing st.ledger st.inner ⊎ IsRested st.ledger st.inner
 
   abbrev Tidies : Move J (Both R) → Ledger J → Both R → Type 0
   Tidies m b s = IsTidy (perform m b s).state
@@ -276,7 +363,7 @@ module _ {J R : Type 0} (site : Service J R) (now : ℕ) where
   -- ---- the client's end, where nothing is left for it
 
   finishes : (b : Ledger J) (s : Both R) → IsTaken b → Tidies finish b s
-  finishes b s k = inr k
+  finishes b s k = inr (record { taken = k; read = λ l e. never false refl l })
 
   loses : (b : Ledger J) (s : Both R) → IsTaken b → Tidies (lose site now) b s
   loses b s k = by s.client.stage
@@ -284,7 +371,8 @@ module _ {J R : Type 0} (site : Service J R) (now : ℕ) where
       by : (st : Stage) → Tidies (lose_at site now st s) b s
       by stage.Busy =
           let rest = end_timer site now timer.Body (end_timer site now timer.Send (if (waits_of site now s).client then tell site now seen.ClientGone Done else Done)) in
-          inr (ap is_some_left (gone-stays rest (hung_up place.Client b) s (has-without place.Client place.Client b.opened)).1 ∙ k)
+          let gone = gone-stays rest (hung_up place.Client b) s (has-without place.Client place.Client b.opened) in
+          inr (record { taken = ap is_some_left gone.1 ∙ k; read = λ l e. never (is_there (perform rest (hung_up place.Client b) s).state.ledger) gone.0 l })
       by stage.Idle = finishes b s k
       by stage.Head = finishes b s k
       by stage.Flush = finishes b s k
@@ -307,32 +395,36 @@ module _ {J R : Type 0} (site : Service J R) (now : ℕ) where
   refuses (line.Present body kind skips) code b s there k = finishes b s k
   refuses (line.Dropping far) code b s there k = finishes b s k
 
-  waits-for : (w : Held) (b : Ledger J) (s : Both R) → IsTaken b → Tidies (wait_for site now w) b s
-  waits-for held.Body b s k = inr k
-  waits-for held.Nothing b s k = inr k
-  waits-for held.Begun b s k = inr k
-  waits-for held.Request b s k = inr k
+  waits-for : (w : Held) (b : Ledger J) (s : Both R) → IsTaken b → IsRead s.client.came → Tidies (wait_for site now w) b s
+  waits-for held.Body b s k r = inr (record { taken = k; read = λ l e. r })
+  waits-for held.Nothing b s k r = inr (record { taken = k; read = λ l e. r })
+  waits-for held.Begun b s k r = inr (record { taken = k; read = λ l e. r })
+  waits-for held.Request b s k r = inr (record { taken = k; read = λ l e. r })
 
   begins : (rest : Move J (Both R)) (head : Head) (target : Target) → Keeps rest → (b : Ledger J) (s : Both R) → is_there b ≡ true → Tidies (begin site now rest head target) b s
   begins rest head target f b s there =
       turn-keeps (site.runs.begun now head target b) rest f b (record { client = with_request head target (site.times_of head target) s.client; run = site.runs.unborn }) (there, refl)
 
-  hears : (anew : Bool) (rest : Move J (Both R)) (ended : Bool) (f : Fed) → Keeps rest → (b : Ledger J) (s : Both R) → is_there b ≡ true → IsTaken b → Tidies (heard site now anew rest ended f) b s
-  hears anew rest ended f fine b s there k = by f.answer
+  hears : (anew : Bool) (rest : Move J (Both R)) (ended : Bool) (came : Came) (piece : List ℕ) → Keeps rest → (b : Ledger J) (s : Both R) → is_there b ≡ true → IsTaken b
+      → Tidies (heard site now anew rest ended (fed came piece)) b s
+  hears anew rest ended came piece fine b s there k = by f.answer refl
     where
+      f : Fed
+      f = fed came piece
+
       t : Both R
       t = record s { client = record s.client { came = f.after } }
 
-      more : (c d : Bool) → Tidies (if c then finish else (if d then wait_for site now (held_in f.after.at f.after.held) else Done)) b t
-      more true d = finishes b t k
-      more false true = waits-for (held_in f.after.at f.after.held) b t k
-      more false false = inr k
+      more : IsRead f.after → (c d : Bool) → Tidies (if c then finish else (if d then wait_for site now (held_in f.after.at f.after.held) else Done)) b t
+      more r true d = finishes b t k
+      more r false true = waits-for (held_in f.after.at f.after.held) b t k r
+      more r false false = inr (record { taken = k; read = λ l e. r })
 
-      by : (answer : LineOut) → Tidies (heard_by site now anew rest f.after ended answer) b t
-      by (out.Request head target) = ends-from timer.Header (begin site now rest head target) b t (begins rest head target fine (without_deadline (number_of timer.Header) b) t there) (begins rest head target fine b t there)
-      by (out.Refused code) = ends-from timer.Header (refuse site now f.after.at code) b t (refuses f.after.at code (without_deadline (number_of timer.Header) b) t there k) (refuses f.after.at code b t there k)
-      by out.Waiting = more ended anew
-      by out.Memory = more ended anew
+      by : (answer : LineOut) → f.answer ≡ answer → Tidies (heard_by site now anew rest f.after ended answer) b t
+      by (out.Request head target) e = ends-from timer.Header (begin site now rest head target) b t (begins rest head target fine (without_deadline (number_of timer.Header) b) t there) (begins rest head target fine b t there)
+      by (out.Refused code) e = ends-from timer.Header (refuse site now f.after.at code) b t (refuses f.after.at code (without_deadline (number_of timer.Header) b) t there k) (refuses f.after.at code b t there k)
+      by out.Waiting e = more (waiting-asks came f.after piece (subst (λ (a : LineOut). IsFed came piece a f.after) e (is-fed came piece))) ended anew
+      by out.Memory e = absurd (fed-has-room came piece e)
 
   -- ---- what a run asks, and what it waits for
 
@@ -377,7 +469,7 @@ module _ {J R : Type 0} (site : Service J R) (now : ℕ) where
       by : (c : Bool) → is_all_taken b ≡ c → (d : Bool) → Tidies (if not c then Done else (if d then finish else next site now rest s.client)) b s
       by false e d = inl h
       by true e true = finishes b s (all-taken (is_there b) (is_some_left (left_at place.Client b)) h.0 e)
-      by true e false = hears true rest s.client.ended (fed (done s.client.came) []) f b s h.0 (all-taken (is_there b) (is_some_left (left_at place.Client b)) h.0 e)
+      by true e false = hears true rest s.client.ended (done s.client.came) [] f b s h.0 (all-taken (is_there b) (is_some_left (left_at place.Client b)) h.0 e)
 
   -- at a stage at which nothing is settled it is as before
   settled-keeps : (st : Stage) (again rest : Move J (Both R)) → Keeps again → Keeps rest → (b : Ledger J) (s : Both R) → s.client.stage ≡ st → is_there b ≡ true → IsTidy (record { ledger = b; inner = s })
@@ -411,7 +503,7 @@ module _ {J R : Type 0} (site : Service J R) (now : ℕ) where
 
   -- a client that is there and isn't served has nothing left
   abbrev IsReady : Ledger J → Both R → Type 0
-  IsReady b s = (is_there b ≡ true) × (is_serving s.client.stage ≡ false → IsTaken b)
+  IsReady b s = (is_there b ≡ true) × (is_serving s.client.stage ≡ false → IsRested b s)
 
   tidy-so : (b : Ledger J) (s : Both R) → IsReady b s → IsTidy (record { ledger = b; inner = s })
   tidy-so b s h = by (is_serving s.client.stage) refl
@@ -443,19 +535,22 @@ module _ {J R : Type 0} (site : Service J R) (now : ℕ) where
       by stage.Drop e = tidy-so b s h
       by stage.Over e = tidy-so b s h
 
-  comes : (f : Fed) (b : Ledger J) (s : Both R) → IsReady b s → Tidies (came_at site now s.client.stage f s) b s
-  comes f b s h = by s.client.stage refl
+  comes : (piece : List ℕ) (b : Ledger J) (s : Both R) → IsReady b s → Tidies (came_at site now s.client.stage (fed s.client.came piece) s) b s
+  comes piece b s h = by s.client.stage refl
     where
+      f : Fed
+      f = fed s.client.came piece
+
       t : Both R
       t = record s { client = record s.client { came = f.after } }
 
       by : (st : Stage) → s.client.stage ≡ st → Tidies (came_at site now st f s) b s
       by stage.Busy e = awaits-keeps (settle site now) settle-keeps b t (h.0, ap is_serving e)
-      by stage.Head e = hears false (settle site now) s.client.ended f settle-keeps b s h.0 (h.1 (ap is_serving e))
-      by stage.Idle e = hears true (settle site now) s.client.ended f settle-keeps b s h.0 (h.1 (ap is_serving e))
-      by stage.Drop e = hears true (settle site now) s.client.ended f settle-keeps b s h.0 (h.1 (ap is_serving e))
-      by stage.Flush e = tidy-so b t h
-      by stage.Over e = tidy-so b t h
+      by stage.Head e = hears false (settle site now) s.client.ended s.client.came piece settle-keeps b s h.0 (h.1 (ap is_serving e)).taken
+      by stage.Idle e = hears true (settle site now) s.client.ended s.client.came piece settle-keeps b s h.0 (h.1 (ap is_serving e)).taken
+      by stage.Drop e = hears true (settle site now) s.client.ended s.client.came piece settle-keeps b s h.0 (h.1 (ap is_serving e)).taken
+      by stage.Flush e = inl (h.0, ap is_serving e)
+      by stage.Over e = inr (record { taken = (h.1 (ap is_serving e)).taken; read = λ l g. never (is_between s.client.stage) (ap is_between e) g })
 
   client-ends : (b : Ledger J) (s : Both R) → IsReady b s → Tidies (ends_at site now s.client.stage s) b s
   client-ends b s h = by s.client.stage refl
@@ -469,17 +564,17 @@ module _ {J R : Type 0} (site : Service J R) (now : ℕ) where
 
       by : (st : Stage) → s.client.stage ≡ st → Tidies (ends_at site now st s) b s
       by stage.Busy e = goes (ap is_serving e) (waits_of site now s).client
-      by stage.Flush e = tidy-so b t h
-      by stage.Head e = finishes b s (h.1 (ap is_serving e))
-      by stage.Idle e = finishes b s (h.1 (ap is_serving e))
-      by stage.Drop e = finishes b s (h.1 (ap is_serving e))
-      by stage.Over e = finishes b s (h.1 (ap is_serving e))
+      by stage.Flush e = inl (h.0, ap is_serving e)
+      by stage.Head e = finishes b s (h.1 (ap is_serving e)).taken
+      by stage.Idle e = finishes b s (h.1 (ap is_serving e)).taken
+      by stage.Drop e = finishes b s (h.1 (ap is_serving e)).taken
+      by stage.Over e = finishes b s (h.1 (ap is_serving e)).taken
 
   -- an offer is asked for
   offers : (b : Ledger J) (s : Both R) → IsReady b s → Tidies (Send place.Client [] Done) b s
   offers b s h = elim (tidy-so b s h) [
     | inl k ↦ inl k
-    | inr k ↦ inr (by (has place.Client b.opened) k)
+    | inr k ↦ inr (record { taken = by (has place.Client b.opened) k.taken; read = k.read })
   ]
     where
       by : (c : Bool) → is_some_left (left_at place.Client b) ≡ false
@@ -488,17 +583,21 @@ module _ {J R : Type 0} (site : Service J R) (now : ℕ) where
       by false k = k
 
   ends-send : (b : Ledger J) (s : Both R) → IsReady b s → Tidies (end_timer site now timer.Send (Send place.Client [] Done)) b s
-  ends-send b s h = ends-from timer.Send (Send place.Client [] Done) b s (offers (without_deadline (number_of timer.Send) b) s h) (offers b s h)
+  ends-send b s h = ends-from timer.Send (Send place.Client [] Done) b s
+      (offers (without_deadline (number_of timer.Send) b) s (h.0, λ e. let k = h.1 e in record { taken = k.taken; read = k.read })) (offers b s h)
 
   later-keeps : (t : timer.Timer) (b : Ledger J) (s : Both R) → IsReady b s → Tidies (begin_timer site now t Done) b s
-  later-keeps t b s h = tidy-so (with_deadline (number_of t) (later now (time_of site.default_times s.client.times t)) b) s h
+  later-keeps t b s h = elim (tidy-so b s h) [
+    | inl k ↦ inl k
+    | inr k ↦ inr (record { taken = k.taken; read = k.read })
+  ]
 
   -- a turn that nothing cuts off
   turn-tidies : (a : LocalAction J) (b : Ledger J) (s : Both R) → IsReady b s → cuts_off a ≡ false → Tidies (turns.connection_turn site now a b s) b s
   turn-tidies (Did (Began at (start.Client c))) b s h cut = later-keeps timer.Header b s h
   turn-tidies (Did (Began at (start.Job n premature job))) b s h cut =
       turn-keeps (site.runs.begun_job now premature job b) Done done-keeps b (record s { client = record s.client { stage = stage.Busy } }) (h.0, refl)
-  turn-tidies (Did (Bytes place.Client bytes)) b s h cut = comes (fed s.client.came bytes) b s h
+  turn-tidies (Did (Bytes place.Client bytes)) b s h cut = comes bytes b s h
   turn-tidies (Did (Ended place.Client)) b s h cut = client-ends b s h
   turn-tidies (Did (Ready place.Client)) b s h cut = ends-send b s h
   turn-tidies (Did (Put place.Client bytes)) b s h cut = settle-tidy b s h.0 (tidy-so b s h)
@@ -559,30 +658,28 @@ module _ {J R : Type 0} (site : Service J R) (now : ℕ) where
   turn-cuts (Did (Lost (place.Sock k))) b s cut = absurd (let e : false ≡ true = cut in cc)
   turn-cuts a b s cut = absurd (let e : false ≡ true = cut in cc)
 
-never : {A : Type 0} (x : Bool) → x ≡ false → x ≡ true → A
-never x h k = absurd (let e : false ≡ true = sym h ∙ k in cc)
-
 module _ {J R : Type 0} (site : Service J R) where
   abbrev At : List (LocalAction J) → State J (Both R)
   At es = state_of (connection_plan site) es
 
   -- a client that is there and isn't served has nothing left
   abbrev IsKept : List (LocalAction J) → Type 0
-  IsKept es = is_there (At es).ledger ≡ true → is_serving (At es).inner.client.stage ≡ false → IsTaken (At es).ledger
+  IsKept es = is_there (At es).ledger ≡ true → is_serving (At es).inner.client.stage ≡ false → IsRested (At es).ledger (At es).inner
 
   abbrev Enters : LocalAction J → List (LocalAction J) → Type 0
-  Enters a es = is_there (entered a (At es).ledger) ≡ true → is_serving (At es).inner.client.stage ≡ false → IsTaken (entered a (At es).ledger)
+  Enters a es = is_there (entered a (At es).ledger) ≡ true → is_serving (At es).inner.client.stage ≡ false → IsRested (entered a (At es).ledger) (At es).inner
 
   enters : (a : LocalAction J) (es : List (LocalAction J)) → Enabled (connection_behavior site) es a → IsKept es → Enters a es
-  enters (Did (Began at begin)) es en h = subst (λ (xs : List (LocalAction J)). Enters (Did (Began at begin)) xs) (sym en) (λ there e. refl)
-  enters (Did (Put place.Client bytes)) es en h = λ there e. drop-more ((At es).ledger.taken place.Client) (length bytes) ((At es).ledger.sent place.Client) (h there e)
-  enters (Did (Put (place.Sock k) bytes)) es en h = h
-  enters (Did (Dial host port true)) es en h = λ there e. let b = (At es).ledger in h (sym (has-append place.Client (place.Sock b.count) b.opened) ∙ there) e
-  enters (Did (Dial host port false)) es en h = h
-  enters (Did (Take key (Some uses))) es en h = λ there e. let b = (At es).ledger in h (sym (has-append place.Client (place.Sock b.count) b.opened) ∙ there) e
-  enters (Did (Take key None)) es en h = h
-  enters (Did (Keep k key idle size)) es en h = λ there e. h (sym (has-without place.Client (place.Sock k) (At es).ledger.opened) ∙ there) e
-  enters a es en h = h
+  enters (Did (Began at begin)) es en h = subst (λ (xs : List (LocalAction J)). Enters (Did (Began at begin)) xs) (sym en) (λ there e. record { taken = refl; read = λ l g. nothing-asks })
+  enters (Did (Put place.Client bytes)) es en h = λ there e. let k = h there e in
+      record { taken = drop-more ((At es).ledger.taken place.Client) (length bytes) ((At es).ledger.sent place.Client) k.taken; read = k.read }
+  enters (Did (Dial host port true)) es en h = λ there e. let same = sym (has-append place.Client (place.Sock (At es).ledger.count) (At es).ledger.opened) in
+      let k = h (same ∙ there) e in record { taken = k.taken; read = λ l g. k.read (same ∙ l) g }
+  enters (Did (Take key (Some uses))) es en h = λ there e. let same = sym (has-append place.Client (place.Sock (At es).ledger.count) (At es).ledger.opened) in
+      let k = h (same ∙ there) e in record { taken = k.taken; read = λ l g. k.read (same ∙ l) g }
+  enters (Did (Keep k key idle size)) es en h = λ there e. let same = sym (has-without place.Client (place.Sock k) (At es).ledger.opened) in
+      let r = h (same ∙ there) e in record { taken = r.taken; read = λ l g. r.read (same ∙ l) g }
+  enters a es en h = λ there e. let k = h there e in record { taken = k.taken; read = k.read }
 
   -- what is no turn does nothing, and its moves say the same
   abbrev NextTurn : LocalAction J → List (LocalAction J) → Move J (Both R)
@@ -625,5 +722,12 @@ module _ {J R : Type 0} (site : Service J R) where
       let h = hung-up (NextTurn a es) (entered a (At es).ledger) (At es).inner hangs in
       elim (tidied a es x.1 (kept es x.0) h.0 cut) [
         | inl k ↦ never (is_there (At (a ∷ es)).ledger) h.1 k.0
-        | inr k ↦ none-left _ (subst (λ (n : ℕ). is_some_left (drop n ((At (a ∷ es)).ledger.sent place.Client)) ≡ false) (sym (taken-is (connection_plan site) place.Client (a ∷ es))) k)
+        | inr k ↦ none-left _ (subst (λ (n : ℕ). is_some_left (drop n ((At (a ∷ es)).ledger.sent place.Client)) ≡ false) (sym (taken-is (connection_plan site) place.Client (a ∷ es))) k.taken)
       ]
+
+  pub asks-all-between : (es : List (LocalAction J)) → IsExecution (connection_behavior site) es → IsBetweenRequests (At es) → asked_so_far (At es).inner.client.exchanges ≡ asked_in (bytes_of es)
+  asks-all-between es x h =
+      asks-all (At es).inner.client.came (bytes_of es) (asked_so_far (At es).inner.client.exchanges) (reads-next site es x (At es).inner.client.stage refl (awaits (At es).inner.client.stage h.waits)) ((kept es x h.there (not-serving (At es).inner.client.stage h.waits)).read h.there h.waits)
+
+  pub takes-all-between : (es : List (LocalAction J)) → IsExecution (connection_behavior site) es → IsBetweenRequests (At es) → left_at place.Client (At es).ledger ≡ []
+  takes-all-between es x h = none-left _ (kept es x h.there (not-serving (At es).inner.client.stage h.waits)).taken

@@ -3,4 +3,5 @@ pub mod Alone
 pub mod Bodies
 pub mod Replies
 pub mod Taken
+pub mod Between
 pub mod Examples

@@ -9,12 +9,14 @@ ghost use Rattle.strand_contract.specs.declared.turns.Answer.TheVariants as answ
 ghost use Rattle.strand_contract.specs.Alone.{IsExecution};
 ghost use Rattle.strand_contract.specs.declared.turns.Start.TheVariants as start;
 ghost use Rattle.strand_contract.specs.Actions.{LocalAction, Did, Began, Dict};
-ghost use Rattle.strand_plans.specs.Ledgers.{Ledger};
+ghost use Rattle.strand_plans.specs.Ledgers.{Ledger, left_at};
+ghost use Rattle.strand_contract.specs.declared.turns.Place.TheVariants as place;
 ghost use Rattle.strand_plans.specs.Plans.{state_of};
 ghost use Rattle.run_contract.specs.declared.turns.RunSeen.TheVariants as seen;
 ghost use Rattle.run_contract.specs.Runs.{RunPlan};
 ghost use Rattle.run_contract.specs.Conditions.{IsRun};
 ghost use Rattle.run_contract.specs.Stored.{stored_plan, given_text};
+ghost use Rattle.connection_plan.specs.Asked.{bytes_of, asked_so_far, asked_in};
 ghost use Rattle.connection_plan.specs.Clients.{Exchange};
 ghost use Rattle.connection_plan.specs.Clients as stage;
 ghost use Rattle.connection_plan.specs.Services.{Service};
@@ -25,6 +27,7 @@ ghost use Rattle.connection_laws.specs.Own.{MindsItsOwn};
 ghost use Rattle.connection_laws.specs.Alone.{Beginning, Seen, Given, let_first, reply_alone};
 ghost use Rattle.connection_laws.specs.Examples.{NeverLooks};
 ghost use Rattle.connection_laws.specs.Taken.{TookAllBefore};
+ghost use Rattle.connection_laws.specs.Between.{IsBetweenRequests};
 ghost use Rattle.connection_laws.specs.Replies.{lines_by, IsSaidAlone, HaveOwnReplies, HaveOwnLines, IsJobAlone, LearnTheSame};
 
 /// A site whose runs are lawful and mind their own.
@@ -76,6 +79,15 @@ pub fn job_alone<S: Minding>()
 /// So it is of every site.
 pub fn who_is_hung_up_took_all<J, R>()
     ensures { (site : Service J R) (es : List (LocalAction J)) → IsExecution (connection_behavior site) es → TookAllBefore (connection_behavior site) es }
+{}
+
+/// Where a connection waits for its client's next bytes, and no run goes on, all that the bytes ask was begun, and all that was sent was taken: no request waits
+/// for more bytes than its own. So it is of every site.
+pub fn all_that_was_asked_is_answered<J, R>()
+    ensures begun { (site : Service J R) (es : List (LocalAction J)) → IsExecution (connection_behavior site) es → IsBetweenRequests (state_of (connection_plan site) es)
+        → asked_so_far (state_of (connection_plan site) es).inner.client.exchanges ≡ asked_in (bytes_of es) }
+    ensures taken { (site : Service J R) (es : List (LocalAction J)) → IsExecution (connection_behavior site) es → IsBetweenRequests (state_of (connection_plan site) es)
+        → left_at place.Client (state_of (connection_plan site) es).ledger ≡ [] }
 {}
 
 /// Two requests that ask the same, and whose runs learn the same, get the same reply, on whatever connections and after whatever else.
