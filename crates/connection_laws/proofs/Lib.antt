@@ -9,3 +9,4 @@ pub mod Executing
 pub mod Said
 pub mod Blind
 pub mod Hanging
+pub mod Numbering

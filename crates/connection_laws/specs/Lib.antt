@@ -4,4 +4,5 @@ pub mod Bodies
 pub mod Replies
 pub mod Taken
 pub mod Between
+pub mod Numbers
 pub mod Examples

@@ -28,6 +28,7 @@ ghost use Rattle.connection_laws.specs.Alone.{Beginning, Seen, Given, let_first,
 ghost use Rattle.connection_laws.specs.Examples.{NeverLooks};
 ghost use Rattle.connection_laws.specs.Taken.{TookAllBefore};
 ghost use Rattle.connection_laws.specs.Between.{IsBetweenRequests};
+ghost use Rattle.connection_laws.specs.Numbers.{DoTheSame};
 ghost use Rattle.connection_laws.specs.Replies.{lines_by, IsSaidAlone, HaveOwnReplies, HaveOwnLines, IsJobAlone, LearnTheSame};
 
 /// A site whose runs are lawful and mind their own.
@@ -88,6 +89,15 @@ pub fn all_that_was_asked_is_answered<J, R>()
         → asked_so_far (state_of (connection_plan site) es).inner.client.exchanges ≡ asked_in (bytes_of es) }
     ensures taken { (site : Service J R) (es : List (LocalAction J)) → IsExecution (connection_behavior site) es → IsBetweenRequests (state_of (connection_plan site) es)
         → left_at place.Client (state_of (connection_plan site) es).ledger ≡ [] }
+{}
+
+/// A connection and a job don't know their numbers: two whose beginnings differ in the number alone, and to which the same happens, do and send the same. So it
+/// is of every site.
+pub fn its_number_changes_nothing<J, R>()
+    ensures client { (site : Service J R) (es : List (LocalAction J)) (now c d : ℕ) → DoTheSame (connection_behavior site)
+        (es ++ Did (Began now (start.Client c)) ∷ []) (es ++ Did (Began now (start.Client d)) ∷ []) }
+    ensures job { (site : Service J R) (es : List (LocalAction J)) (now m n : ℕ) (premature : Bool) (job : J) → DoTheSame (connection_behavior site)
+        (es ++ Did (Began now (start.Job m premature job)) ∷ []) (es ++ Did (Began now (start.Job n premature job)) ∷ []) }
 {}
 
 /// Two requests that ask the same, and whose runs learn the same, get the same reply, on whatever connections and after whatever else.
