@@ -513,7 +513,8 @@ module _ {J R : Type 0} (site : Service J R) (es : List (LocalAction J)) (all : 
     is = q.is;
     olds = q.olds;
     old_lines = q.old_lines;
-    old_whole = q.old_whole; no_job = q.no_job;
+    old_whole = q.old_whole;
+    no_job = q.no_job;
     lines_are = m.lines ∙ q.lines_are;
     learned_them = q.learned_them;
     reads = m.reads q.older q.beginning.head q.beginning.target q.reads;
@@ -587,12 +588,33 @@ module _ {J R : Type 0} (site : Service J R) (es : List (LocalAction J)) (all : 
       by : (first : Alone J R) (news : List (News J)) (words : List Said) (logs : List (List ℕ)) → Origin first news words logs (site.runs.waits s.run).client (here_at b s ls)
           → Origin first news words logs (site.runs.waits s.run).client (here_at (record b { asked = o }) s ls)
       by first news words logs (Request q) = Request (record {
-        beginning = q.beginning; older = q.older; is = q.is; olds = q.olds; old_lines = q.old_lines; old_whole = q.old_whole; no_job = q.no_job; lines_are = q.lines_are; learned_them = q.learned_them;
-        reads = q.reads; newest = q.newest; has = q.has; says = q.says;
+        beginning = q.beginning;
+        older = q.older;
+        is = q.is;
+        olds = q.olds;
+        old_lines = q.old_lines;
+        old_whole = q.old_whole;
+        no_job = q.no_job;
+        lines_are = q.lines_are;
+        learned_them = q.learned_them;
+        reads = q.reads;
+        newest = q.newest;
+        has = q.has;
+        says = q.says;
       })
       by first news words logs (Job j) = Job (record {
-        began = j.began; number = j.number; premature = j.premature; job = j.job; is = j.is; starts = j.starts; learned_them = j.learned_them; lines_are = j.lines_are;
-        read = j.read; none = j.none; gone = j.gone; no_client = j.no_client;
+        began = j.began;
+        number = j.number;
+        premature = j.premature;
+        job = j.job;
+        is = j.is;
+        starts = j.starts;
+        learned_them = j.learned_them;
+        lines_are = j.lines_are;
+        read = j.read;
+        none = j.none;
+        gone = j.gone;
+        no_client = j.no_client;
       })
 
   -- ---- a turn, and the same turn of the run alone; before it the run waited so
@@ -745,7 +767,8 @@ module _ {J R : Type 0} (site : Service J R) (now : ℕ) (es : List (LocalAction
         is = q.is;
         olds = q.olds;
         old_lines = q.old_lines;
-        old_whole = q.old_whole; no_job = q.no_job;
+        old_whole = q.old_whole;
+        no_job = q.no_job;
         lines_are = led.logged ∙ ap (λ (js : List (List ℕ)). js ++ lines_of t.does) q.lines_are ∙ append_assoc q.old_lines k.logs (lines_of t.does);
         learned_them = q.learned_them;
         reads = subst (λ (c : Came). Reads site es all q.older q.beginning.head q.beginning.target c) (sym led.read) q.reads;
@@ -793,7 +816,8 @@ module _ {J R : Type 0} (site : Service J R) (now : ℕ) (es : List (LocalAction
       is = q.is;
       olds = q.olds;
       old_lines = q.old_lines;
-      old_whole = q.old_whole; no_job = q.no_job;
+      old_whole = q.old_whole;
+      no_job = q.no_job;
       lines_are = q.lines_are;
       learned_them = (es, here es, h.0, q.learned_them);
       reads = q.reads;

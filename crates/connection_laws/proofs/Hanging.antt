@@ -48,7 +48,8 @@ use Rattle.connection_plan.specs.Services.{Service, Both}
 use Rattle.connection_plan.specs.Timers.{number_of, time_of, later}
 use Rattle.connection_plan.specs.Timers as timer
 use Rattle.connection_plan.specs.Lifts.{lifted}
-use Rattle.connection_plan.specs.Turns.{is_there, is_all_taken, is_to_close, change, finish, send, begin_timer, end_timer, continue_reply, let_send, may_come, wait_more, waits_of, await_body, says, asks_then, run_turn, tell, lose_at, lose, begin, close_if_taken, refuse, wait_for, heard_by, heard, next, body_told, tell_body, ask_body, answer_body, answer_asked, waiting, busy_at, busy, flush, settled_at, tells, settle_for, settle}
+use Rattle.connection_plan.specs.Turns.{is_there, is_all_taken, is_to_close, change, finish, send, begin_timer, end_timer, continue_reply, let_send, may_come, wait_more, waits_of, await_body, says, asks_then, run_turn, tell, lose_at, lose}
+use Rattle.connection_plan.specs.Turns.{begin, close_if_taken, refuse, wait_for, heard_by, heard, next, body_told, tell_body, ask_body, answer_body, answer_asked, waiting, busy_at, busy, flush, settled_at, tells, settle_for, settle}
 use Rattle.connection_plan.specs.Connections.{came_at, ends_at, to_run, is_due, connection_plan, connection_behavior}
 use Rattle.connection_plan.specs.Connections as turns
 use Rattle.connection_plan.proofs.OwnMoves.{deed-leaves-client}

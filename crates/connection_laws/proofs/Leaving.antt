@@ -24,7 +24,6 @@ module _ {J : Type 0} where
   no-line true a acts h = h
   no-line false a acts h = refl
 
-
   asking-logs : (o : Option (Question J)) → lines_in (asking_if o) ≡ []
   asking-logs None = refl
   asking-logs (Some (question.Dict zone call)) = refl

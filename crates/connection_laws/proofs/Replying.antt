@@ -424,9 +424,11 @@ module _ {J R : Type 0} (site : Service J R) (now : ℕ) (es : List (LocalAction
         of : (first : Alone J R) (news : List (News J)) (words : List Said) (logs : List (List ℕ)) (o : Origin site es (bytes_of es) first news words logs (site.runs.waits s.run).client (here_at b s ls))
             → LearnsOf site now es (bytes_of es) holds run minds (Seen now (seen.Body (content (after_asked was max).at) waited)) o
         of first news words logs (Request q) = (
-          (moment_is,
-          subst (λ (bs : List ℕ). IsOwnBody bs q.older q.beginning.head (content (after_asked was max).at)) whole-bytes
-          (told-own (bytes_of es) q.older q.beginning.head was.at was.held max n e (subst (λ (x : Came). BodyAt (bytes_of es) q.older q.beginning.head.body x) read q.reads.body) [])),
+          (
+            moment_is,
+            subst (λ (bs : List ℕ). IsOwnBody bs q.older q.beginning.head (content (after_asked was max).at)) whole-bytes
+                (told-own (bytes_of es) q.older q.beginning.head was.at was.held max n e (subst (λ (x : Came). BodyAt (bytes_of es) q.older q.beginning.head.body x) read q.reads.body) []),
+          ),
           λ l. refl,
         )
         of first news words logs (Job j) = (moment_is, ap (λ (c : Came). content (after_asked c max).at) (jobs j.read))
@@ -437,9 +439,11 @@ module _ {J R : Type 0} (site : Service J R) (now : ℕ) (es : List (LocalAction
         of : (first : Alone J R) (news : List (News J)) (words : List Said) (logs : List (List ℕ)) (o : Origin site es (bytes_of es) first news words logs (site.runs.waits s.run).client (here_at b s ls))
             → LearnsOf site now es (bytes_of es) holds run minds (Seen now (seen.BodyRefused code)) o
         of first news words logs (Request q) = (
-          (moment_is,
-          inl (subst (λ (bs : List ℕ). IsOwnFault bs q.older q.beginning.head code) whole-bytes
-          (told-fault (bytes_of es) q.older q.beginning.head was.at was.held max code e (subst (λ (x : Came). BodyAt (bytes_of es) q.older q.beginning.head.body x) read q.reads.body) []))),
+          (
+            moment_is,
+            inl (subst (λ (bs : List ℕ). IsOwnFault bs q.older q.beginning.head code) whole-bytes
+                (told-fault (bytes_of es) q.older q.beginning.head was.at was.held max code e (subst (λ (x : Came). BodyAt (bytes_of es) q.older q.beginning.head.body x) read q.reads.body) [])),
+          ),
           λ l. refl,
         )
         of first news words logs (Job j) =

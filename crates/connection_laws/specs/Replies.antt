@@ -185,4 +185,5 @@ module _ {J R : Type 0} (es : List (LocalAction J)) (site : Service J R) where
 -- two runs begin alike and learn the same: at the same moments, after as many sockets, and their clients are let send their bodies in both cases or in none
 abbrev pub LearnTheSame : {J R : Type 0} {site : Service J R} {es fs : List (LocalAction J)} {older others : List Exchange} {head : Head} {target : Target}
     {reply other : List ℕ} → IsSaidAlone es site older head target reply → IsSaidAlone fs site others head target other → Type 0
-LearnTheSame x y = (x.of.beginning.now ≡ y.of.beginning.now) × (x.of.beginning.sockets ≡ y.of.beginning.sockets) × (x.of.news ≡ y.of.news) × (x.continues ≡ y.continues)
+LearnTheSame x y = (x.of.beginning.now ≡ y.of.beginning.now) × (x.of.beginning.sockets ≡ y.of.beginning.sockets) × (x.of.news ≡ y.of.news)
+    × (x.continues ≡ y.continues)

@@ -25,4 +25,5 @@ hangs_up_client (a ∷ acts) = hangs_up_client acts
 -- where the newest turn hangs it up, and nothing cut it off, nothing of what was sent to it is left
 abbrev pub TookAllBefore : {J : Type 0} → Behavior J → List (LocalAction J) → Type 0
 TookAllBefore b [] = Unit {0}
-TookAllBefore b (a ∷ es) = cuts_off a ≡ false → hangs_up_client (b.acts (a ∷ es)) ≡ true → drop (taken place.Client (a ∷ es)) (b.sent place.Client (a ∷ es)) ≡ []
+TookAllBefore b (a ∷ es) = cuts_off a ≡ false → hangs_up_client (b.acts (a ∷ es)) ≡ true
+    → drop (taken place.Client (a ∷ es)) (b.sent place.Client (a ∷ es)) ≡ []

@@ -82,13 +82,13 @@ pub fn who_is_hung_up_took_all<J, R>()
     ensures { (site : Service J R) (es : List (LocalAction J)) → IsExecution (connection_behavior site) es → TookAllBefore (connection_behavior site) es }
 {}
 
-/// Where a connection waits for its client's next bytes, and no run goes on, all that the bytes ask was begun, and all that was sent was taken: no request waits
-/// for more bytes than its own. So it is of every site.
+/// Where a connection waits for its client's next bytes and no run goes on, all that the bytes ask was begun, and all that was sent was taken: no request
+/// waits for more bytes than its own. So it is of every site.
 pub fn all_that_was_asked_is_answered<J, R>()
-    ensures begun { (site : Service J R) (es : List (LocalAction J)) → IsExecution (connection_behavior site) es → IsBetweenRequests (state_of (connection_plan site) es)
-        → asked_so_far (state_of (connection_plan site) es).inner.client.exchanges ≡ asked_in (bytes_of es) }
-    ensures taken { (site : Service J R) (es : List (LocalAction J)) → IsExecution (connection_behavior site) es → IsBetweenRequests (state_of (connection_plan site) es)
-        → left_at place.Client (state_of (connection_plan site) es).ledger ≡ [] }
+    ensures begun { (site : Service J R) (es : List (LocalAction J)) → let st = state_of (connection_plan site) es in
+        IsExecution (connection_behavior site) es → IsBetweenRequests st → asked_so_far st.inner.client.exchanges ≡ asked_in (bytes_of es) }
+    ensures taken { (site : Service J R) (es : List (LocalAction J)) → let st = state_of (connection_plan site) es in
+        IsExecution (connection_behavior site) es → IsBetweenRequests st → left_at place.Client st.ledger ≡ [] }
 {}
 
 /// A connection and a job don't know their numbers: two whose beginnings differ in the number alone, and to which the same happens, do and send the same. So it
