@@ -25,7 +25,7 @@ ghost use Rattle.connection_plan.specs.Examples.{echo_plan, echo_site};
 ghost use Rattle.connection_plan.specs.Recalls.{recalls_plan};
 ghost use Rattle.connection_laws.specs.Own.{MindsItsOwn};
 ghost use Rattle.connection_laws.specs.Alone.{Beginning, Seen, Given, let_first, reply_alone};
-ghost use Rattle.connection_laws.specs.Examples.{NeverLooks};
+ghost use Rattle.connection_laws.specs.Examples.{NeverLooks, tells_in_a_line, tells_in_a_question};
 ghost use Rattle.connection_laws.specs.Taken.{TookAllBefore};
 ghost use Rattle.connection_laws.specs.Between.{IsBetweenRequests};
 ghost use Rattle.connection_laws.specs.Numbers.{DoTheSame};
@@ -107,12 +107,15 @@ pub fn who_asks_and_learns_the_same_gets_the_same<S: Minding>()
         → LearnTheSame {site = S.service} x y → reply ≡ other }
 {}
 
-/// A run whose turns are the same for all ledgers minds its own; and so do the runs of the examples, but for the one that tells what was sent before.
+/// A run whose turns are the same for all ledgers minds its own; and so do the runs of the examples, but for those that tell what was sent before: in their
+/// reply, in a log line, or in a question.
 pub fn runs_that_never_look_mind_their_own<J, R>()
     ensures minds { (p : RunPlan J R) → NeverLooks p → MindsItsOwn p }
     ensures stored { (name key otherwise : List ℕ) → MindsItsOwn {J = J} (stored_plan name key otherwise) }
     ensures echo { (reads : Bool) → MindsItsOwn {J = J} (echo_plan reads) }
     ensures recalling { MindsItsOwn {J = J} recalls_plan → ⊥ }
+    ensures telling_in_a_line { MindsItsOwn {J = J} tells_in_a_line → ⊥ }
+    ensures telling_in_a_question { MindsItsOwn {J = J} tells_in_a_question → ⊥ }
 {}
 
 /// What runs of the examples say alone: the path, the body, or what a dictionary keeps.
