@@ -29,7 +29,10 @@ use Rattle.connection_plan.specs.Clients.{Stage, Reply, Client, Exchange, Unsent
 use Rattle.connection_plan.specs.Clients as stage
 use Rattle.connection_plan.specs.Services.{Service, Both}
 use Rattle.connection_plan.specs.Timers as timer
-use Rattle.connection_plan.specs.Turns.{continue_reply, is_there, is_all_taken, is_to_close, may_come, wait_more, waits_of, asks_then, change, finish, send, begin_timer, end_timer, let_send, await_body, says, run_turn, tell, lose_at, lose, begin, close_if_taken, refuse, wait_for, heard_by, heard, tell_body, ask_body, answer_body, taken_answer, waiting, busy_at, busy, flush, settled_at, tells, settle_for, settle}
+use Rattle.connection_plan.specs.Turns.{continue_reply, is_there, is_all_taken, is_to_close, may_come, wait_more, waits_of, asks_then, change, finish, send}
+use Rattle.connection_plan.specs.Turns.{begin_timer, end_timer, let_send, await_body, says, run_turn, tell, lose_at, lose, begin, close_if_taken, refuse}
+use Rattle.connection_plan.specs.Turns.{wait_for, heard_by, heard, tell_body, ask_body, answer_body, taken_answer, waiting, busy_at, busy, flush}
+use Rattle.connection_plan.specs.Turns.{settled_at, tells, settle_for, settle}
 use Rattle.connection_plan.specs.Connections.{came_at, ends_at, to_run, is_due, connection_plan}
 use Rattle.connection_plan.specs.Connections as turns
 use Rattle.connection_plan.specs.Accounts.{Accounts}
@@ -111,7 +114,7 @@ module _ {J R : Type 0} (site : Service J R) (now : ℕ) where
   says-fair said.Over m f b s h =
       end-timer-fair timer.Body (change (λ c. record c { stage = stage.Flush }) m) (λ c t k. f c (record t { client = record t.client { stage = stage.Flush } }) k) b s h
 
-  -- the deeds of a run
+  -- deeds leave the account right: only words send to the client
   lifted-fair : (ds : List Deed) (m : Move J (Both R)) → Fair m → Fair (lifted (says site now) ds m)
   lifted-fair [] m f b s h = f b s h
   lifted-fair (Say w ∷ ds) m f b s h = says-fair w (lifted (says site now) ds m) (lifted-fair ds m f) b s h

@@ -95,7 +95,7 @@ module _ {J R : Type 0} (site : Service J R) (now : ℕ) (holds : Ledger J → R
       subst (λ (st : Stage). Agrees site.runs holds st c t.run) (sym x.stage)
       (agrees-alike st b c t.run x.same.alike (subst (λ (r : R). Agrees site.runs holds st b r) (sym x.run) h))
 
-  -- what settles goes on from wherever a turn leads
+  -- a turn, and settling after it
   settles : (t : Turn J R) (s : Both R) (c : Ledger J) (u : Both R) → IsAfter site now holds run t s c u → On (settle site now) c u
   settles t s c u x = settle-keeps site now holds run c u x.known
 

@@ -101,7 +101,7 @@ Runs job all c = (c.stage ≡ stage.Busy) × AtStage stage.Busy job all c
 runs-hold : (job : Bool) (all : List ℕ) (c : Client) → Runs job all c → Holds job all c
 runs-hold job all c r = subst (λ (st : Stage). AtStage st job all c) (sym r.0) r.1
 
--- a run goes on, or has just said that it is over
+-- the stage while deeds are done: busy, or past the word that ends the run
 abbrev Going : Bool → List ℕ → Client → Type 0
 Going job all c = ((c.stage ≡ stage.Busy) ⊎ (c.stage ≡ stage.Flush)) × AtStage stage.Busy job all c
 
@@ -269,7 +269,7 @@ module _ {J R : Type 0} (site : Service J R) (now : ℕ) (job : Bool) (all : Lis
       end-timer-from (Going job all) timer.Body (change (λ c. record c { stage = stage.Flush }) m)
       (λ c t k q. f c (record t { client = record t.client { stage = stage.Flush } }) k (inr refl, q.1)) b s k r
 
-  -- the deeds of a run
+  -- deeds keep the order: their words send for the newest exchange
   lifted-from : (ds : List Deed) (m : Move J (Both R)) → Leads (Holds job all) m → Leads (Going job all) (lifted (says site now) ds m)
   lifted-from [] m f b s k q = f b s k (going-hold job all s.client q)
   lifted-from (Say w ∷ ds) m f b s k q = says-from w (lifted (says site now) ds m) (lifted-from ds m f) b s k q

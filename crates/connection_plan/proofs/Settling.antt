@@ -124,7 +124,7 @@ module _ {J R : Type 0} (site : Service J R) (now : ℕ) (holds : Ledger J → R
 
   -- ---- what a run waits for
 
-  -- it is told of its body, after the timer of that ended
+  -- the body's timer ends, and the run is told
   told-agrees : (x : RunSeen) (m n : Move J (Both R)) (b : Ledger J) (s : Both R) → s.client.stage ≡ stage.Busy → holds b s.run → b.asked ≡ None
       → is_of_client x ≡ true → ((d : Ledger J) → d.asked ≡ None → MayCome site.runs now x d s.run) → ((d : Ledger J) → entered_as x d ≡ d) → Agree (LessOften (held s) (left s)) m n
       → perform (end_timer site now timer.Body (tell site now x m)) b s ≡ perform (end_timer site now timer.Body (tell site now x n)) b s
@@ -154,7 +154,7 @@ module _ {J R : Type 0} (site : Service J R) (now : ℕ) (holds : Ledger J → R
       by body.More = waiting_so may
       by body.Memory = waiting_so may
 
-  -- it is told that the body isn't there yet, and more of it is waited for
+  -- more of the body is waited for, and the run is told so
   not-yet-agrees : (max : ℕ) (m n : Move J (Both R)) (b : Ledger J) (s : Both R) → s.client.stage ≡ stage.Busy → holds b s.run → b.asked ≡ None
       → (site.runs.waits s.run).asks ≡ Some (asking.Body max) → Agree (LessOften (held s) (left s)) m n
       → perform (wait_more site now s.client (tell site now seen.NotYet m)) b s ≡ perform (wait_more site now s.client (tell site now seen.NotYet n)) b s

@@ -1,4 +1,4 @@
--- A run as a plan: what each thing that it is told makes it do, say and ask.
+-- A run as a plan: the turn that it takes with each thing that it is told, and what it waits for.
 use Rattle.std.specs.Prelude.{ℕ, nat_lt, Bool, true, false, List, [], ◌∷◌, Option, Some, None, if◌then◌else◌}
 use Rattle.uri_args.specs.declared.targets.Target.{Target}
 use Rattle.http_in.specs.declared.heads.Head.{Head}

@@ -82,7 +82,7 @@ pub runs-once : {J : Type 0} (name key otherwise : List ℕ) (now k : ℕ) (b : 
     → MayCome (stored_plan name key otherwise) now (seen.Run k) b r → r.progress ≡ Queued
 runs-once name key otherwise now k b r h x = queued-runs k x.0.0 b.threads r.progress (sym x.0.1) h.threads
 
--- otherwise it is only told that its client ends or is gone
+-- else all that it is told is that its client ends or is gone
 abbrev pub IsElse : RunSeen → Type 0
 IsElse (seen.Run k) = ⊥
 IsElse seen.ClientEnded = ⊥
