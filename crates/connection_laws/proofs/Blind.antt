@@ -5,7 +5,6 @@ use Rattle.resty_base.specs.declared.names.Ms.{Ms}
 use Rattle.http_in.specs.declared.framing.BodyKind.TheVariants as kind
 use Rattle.strand_contract.specs.declared.turns.Place.{Place}
 use Rattle.strand_contract.specs.declared.turns.Place.TheVariants as place
-use Rattle.strand_contract.specs.declared.turns.Act.{Act}
 use Rattle.strand_contract.specs.declared.turns.Act.TheVariants as act
 use Rattle.strand_contract.specs.Actions.{Action, Dict, same_place}
 use Rattle.strand_contract.specs.Alone.{disarmed, without}

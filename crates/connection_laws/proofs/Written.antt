@@ -1,11 +1,11 @@
 -- What a strand wrote in the log is what its turns had logged, as far as that was carried out.
-use Rattle.std.proofs.Common.{◌≡◌, ℕ, Bool, true, false, List, [], ◌∷◌, ◌++◌, drop, refl, sym, ap, ◌∙◌, subst, append-nil, append_assoc, inl, inr, ◌⊎◌}
+use Rattle.std.proofs.Common.{◌≡◌, ℕ, Bool, true, false, List, [], ◌∷◌, ◌++◌, drop, refl, sym, ap, ◌∙◌, subst, append-nil, append_assoc, inl, inr}
 use Rattle.strand_contract.specs.declared.turns.Act.{Act}
 use Rattle.strand_contract.specs.declared.turns.Act.TheVariants as act
-use Rattle.strand_contract.specs.Actions.{LocalAction, Told, Did, Began, Bytes, Ended, Broken, Ready, Dialled, Refused}
-use Rattle.strand_contract.specs.Actions.{Put, Later, Lost, Close, Log, Dict, Take, Dial, Keep, Timer, Dropped, Run, Offer, Due, Halted, Gone}
+use Rattle.strand_contract.specs.Actions.{LocalAction, Did, Began}
+use Rattle.strand_contract.specs.Actions.{Close, Log, Dict, Take, Dial, Keep, Timer, Dropped, Gone}
 use Rattle.strand_contract.specs.Behaviors.{Behavior}
-use Rattle.strand_contract.specs.Alone.{lives, was_dropped, todo, left_by, carried, Enabled, IsNextAct, IsExecution, IsPrefixOf}
+use Rattle.strand_contract.specs.Alone.{lives, was_dropped, todo, left_by, carried, Enabled, IsExecution, IsPrefixOf}
 use Rattle.strand_contract.specs.Laws.{IsQuiet}
 use Rattle.strand_plans.proofs.PlanLaws.{dead}
 use Rattle.connection_laws.specs.Replies.{lines_in, lines_by, lines_written}

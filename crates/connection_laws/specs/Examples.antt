@@ -20,7 +20,11 @@ pub record NeverLooks {J R : Type 0} (p : RunPlan J R) : Type 0 where
 
 -- As they begin, two tell of what was sent to their client before: one in a log line, the other in a question.
 abbrev pub tells_in_a_line : {J : Type 0} → RunPlan J Bool
-tells_in_a_line = record recalls_plan { begun = λ now head target b. record { does = Log (b.sent place.Client) ∷ Ready 0 ∷ []; asks = Nothing; run = true } }
+tells_in_a_line = record recalls_plan {
+  begun = λ now head target b. record { does = Log (b.sent place.Client) ∷ Ready 0 ∷ []; asks = Nothing; run = true };
+}
 
 abbrev pub tells_in_a_question : {J : Type 0} → RunPlan J Bool
-tells_in_a_question = record recalls_plan { begun = λ now head target b. record { does = []; asks = Outside (question.Take (b.sent place.Client)); run = true } }
+tells_in_a_question = record recalls_plan {
+  begun = λ now head target b. record { does = []; asks = Outside (question.Take (b.sent place.Client)); run = true };
+}

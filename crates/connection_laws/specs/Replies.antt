@@ -5,10 +5,9 @@ use Rattle.http_in.specs.declared.heads.Head.{Head}
 use Rattle.client_line.specs.declared.requests.LineOut.{LineOut}
 use Rattle.client_line.specs.declared.requests.LineOut.TheVariants as out
 use Rattle.strand_contract.specs.declared.turns.Place.TheVariants as place
-use Rattle.strand_contract.specs.declared.turns.Start.TheVariants as start
 use Rattle.strand_contract.specs.declared.turns.Act.{Act}
 use Rattle.strand_contract.specs.declared.turns.Act.TheVariants as act
-use Rattle.strand_contract.specs.Actions.{Action, LocalAction, Did, Began, Bytes, Ended, Broken, Ready, Dialled, Refused, Put, Later, Lost, Log, Run, Due}
+use Rattle.strand_contract.specs.Actions.{Action, LocalAction, Did, Bytes, Ended, Broken, Ready, Dialled, Refused, Put, Later, Lost, Log, Run, Due}
 use Rattle.strand_contract.specs.Behaviors.{Behavior}
 use Rattle.strand_contract.specs.Alone.{moment, socket_count}
 use Rattle.strand_plans.specs.Ledgers.{Ledger}
